@@ -1,0 +1,68 @@
+//! A host in memory.
+
+ghost use Rattle.std.specs.Prelude.{◌≡◌};
+
+use crate::narrow_sink::NarrowSink;
+use cvl_base::Memory;
+use shell::{Host, Sink, SinkFault};
+
+/// A host with files of its own.
+#[derive(Drop)]
+pub struct SmallHost<'a, A: Memory> {
+    /// The names and the bytes of its files.
+    pub files: &'a [(&'a str, &'a str)],
+    /// Standard output.
+    pub output: NarrowSink<A>,
+    /// Standard error.
+    pub errors: Vec<u8, A>,
+    /// Whether a flush succeeds.
+    pub flushes: bool,
+    /// Where the files are read to.
+    pub alloc: A,
+}
+
+impl<'a, A: Memory> SmallHost<'a, A> {
+    /// A host with these files, on which all succeeds.
+    pub fn new(alloc: A, files: &'a [(&'a str, &'a str)]) -> SmallHost<'a, A>
+        ensures { result.output.failures ≡ 0 }
+    {
+        SmallHost {
+            files,
+            output: NarrowSink::new(alloc, u64::MAX),
+            errors: Vec::new(alloc),
+            flushes: true,
+            alloc,
+        }
+    }
+}
+
+impl<A: Memory> Sink for SmallHost<'_, A> {
+    ghost use Rattle.std.specs.Prelude.{Some};
+
+    ghost taken = { λ h. Some h.output.taken.items };
+
+    ghost failures = { λ h. h.output.failures };
+
+    fn put(&mut self, bytes: &[u8]) -> Result<usize, SinkFault> {
+        self.output.put(bytes)
+    }
+}
+
+impl<A: Memory> Host<A> for SmallHost<'_, A> {
+    fn read_file(&mut self, name: &str) -> Option<Vec<u8, A>> {
+        for (file, bytes) in self.files {
+            if *file == name {
+                return Vec::from_slice(self.alloc, bytes.as_bytes()).ok();
+            }
+        }
+        None
+    }
+
+    fn flush(&mut self) -> Result<(), SinkFault> {
+        if self.flushes { Ok(()) } else { Err(SinkFault) }
+    }
+
+    fn put_error(&mut self, bytes: &[u8]) {
+        let _ = self.errors.extend_from_slice(bytes);
+    }
+}

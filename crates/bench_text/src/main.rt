@@ -1,0 +1,94 @@
+//! Measures how fast inputs are read and texts are written, in bytes a second. It does so where its argument is the word `measure`, and else
+//! it does nothing.
+#![tactic(auto)]
+
+use call_reader::{put_value, read_vector};
+use cvl_base::Value;
+use itoa::Buffer;
+use std::alloc::{AllocError, Global};
+use std::time::{Duration, Instant};
+use std::{env, io};
+
+/// How many numbers a case has: as many as a vector may have.
+const NUMBERS: usize = 4_194_304;
+
+/// How often a case is measured. The best time counts.
+const ROUNDS: usize = 20;
+
+/// An input of numbers of random size, with a space behind each.
+fn random_input(alloc: Global) -> Result<Vec<u8>, AllocError> {
+    let mut input = Vec::with_capacity(alloc, 12 * NUMBERS)?;
+    let mut buffer = Buffer::new();
+    let mut state: u64 = 1;
+    for _ in 0..NUMBERS {
+        // the multiplier and the increment of Knuth's MMIX
+        state = state
+            .wrapping_mul(6_364_136_223_846_793_005)
+            .wrapping_add(1_442_695_040_888_963_407);
+        let number = (state >> 32) as i64 - 2_147_483_648;
+        input.extend_from_slice(buffer.format(number).as_bytes())?;
+        input.push(b' ')?;
+    }
+    Ok(input)
+}
+
+/// Reads the input several times, and gives the best time.
+fn best_reading(rt: &HostRuntime, input: &[u8]) -> io::Result<Duration> {
+    let mut best = Duration::MAX;
+    for _ in 0..ROUNDS {
+        let start = Instant::now(rt)?;
+        let answer = read_vector(rt.alloc(), input);
+        let time = start.elapsed(rt)?;
+        match answer {
+            Ok(_numbers) => best = best.min(time),
+            Err(refused) => println!(rt; "not read: {refused:?}")?,
+        }
+    }
+    Ok(best)
+}
+
+/// Prints a case's line.
+fn print_rate(rt: &HostRuntime, case: &str, bytes: usize, time: Duration) -> io::Result<()> {
+    let micros = time.as_micros().max(1);
+    let rate = bytes as u128 * 1_000_000 / micros;
+    println!(rt; "{case}: {rate} bytes a second ({bytes} bytes in {micros} microseconds)")?;
+    Ok(())
+}
+
+/// Writes the numbers of the input several times, and prints the best rate.
+fn write_case(rt: &HostRuntime, input: &[u8]) -> io::Result<()> {
+    let Ok(numbers) = read_vector(rt.alloc(), input) else {
+        println!(rt; "not written: the input was not read")?;
+        return Ok(());
+    };
+    let value = Value::Integers(numbers);
+    let mut best = Duration::MAX;
+    let mut bytes = 0;
+    for _ in 0..ROUNDS {
+        let mut text = Vec::new(rt.alloc());
+        let start = Instant::now(rt)?;
+        let answer = put_value(&value, None, &mut text);
+        let time = start.elapsed(rt)?;
+        match answer {
+            Ok(()) => best = best.min(time),
+            Err(refused) => println!(rt; "not written: {refused:?}")?,
+        }
+        bytes = text.len();
+    }
+    print_rate(rt, "writing a vector", bytes, best)
+}
+
+fn main(rt: HostRuntime) -> io::Result<()> {
+    let mut arguments = env::args(&rt)?;
+    let _program = arguments.next();
+    if arguments
+        .next()
+        .is_some_and(|word| word.as_str() == "measure")
+    {
+        let input = random_input(rt.alloc())?;
+        let time = best_reading(&rt, &input)?;
+        print_rate(&rt, "reading an input", input.len(), time)?;
+        write_case(&rt, &input)?;
+    }
+    Ok(())
+}

@@ -1,0 +1,147 @@
+-- An input, read from the front: how many tokens there are, and the numbers so far.
+use Rattle.std.proofs.Common.{◌≡◌, ℕ, ◌+◌, ◌*◌, ◌<◌, ◌≤◌, Bool, true, false, ◌&&◌, List, [], ◌∷◌, ◌++◌, length, get_or, take, drop, refl, ap, sym, ◌∙◌, arith, Ok, Err, Option, Some, None, append_assoc, ℤ}
+use Rattle.std.specs.Int.{from_bool}
+use Rattle.std.specs.Prelude.{Result, if◌then◌else◌, not, ◌==◌, option_and_then}
+use Rattle.std.specs.List.{list_all}
+use Rattle.std.specs.Char.{is_ascii_digit}
+use Rattle.std.specs.Str.Parse.{digits_value}
+use Rattle.std.proofs.lemmas.Bool.Decides.{nat_tests}
+use Rattle.std.proofs.lemmas.Bool.{false≢true}
+use Rattle.std.proofs.lemmas.List.{at_drop_more, append-nil, take-append-drop}
+use Rattle.cvl_base.specs.declared.fault.Fault.{Fault}
+use Rattle.cvl_base.specs.declared.fault.FaultNo.TheVariants.{BadInput}
+use Rattle.cvl_base.specs.Faults.{fault_at}
+use Rattle.cvl_base.specs.Gives.{◌>>=◌}
+use Rattle.call_reader.specs.declared.token.ByteClass.TheVariants.{Blank, Part}
+use Rattle.call_reader.specs.Tokens.{tokens_by, with_byte, is_part, begins_with_part}
+use Rattle.call_reader.specs.Numbers.{magnitude_of, positive_of, negative_of, with_sign, number_of}
+use Rattle.call_reader.specs.Inputs.{is_white_space, input_class, numbers_from}
+use Rattle.call_reader.proofs.TokenWalk.{both_true, run_first}
+
+pub at_most_one : (one : ℕ) (b : Bool) → one ≡ from_bool b → one ≤ 1
+at_most_one one true e = omega arith
+at_most_one one false e = omega arith
+
+abbrev pub count_of : List ℕ → ℕ
+count_of bytes = length (tokens_by input_class bytes)
+
+-- whether bytes that stand behind white space, or not, go on with a run that began before them
+abbrev pub goes_on : Bool → List ℕ → Bool
+goes_on behind_white_space bytes = not behind_white_space && begins_with_part input_class bytes
+
+begun_at : (white runs_on : Bool) (b : ℕ) (tokens : List (List ℕ)) → is_part (if white then Blank else Part) ≡ true
+    → 1 ≤ length (with_byte (if white then Blank else Part) runs_on b tokens)
+begun_at true runs_on b tokens e = absurd (false≢true e)
+begun_at false true b [] e = omega arith
+begun_at false true b (token ∷ tokens) e = omega arith
+begun_at false false b tokens e = omega arith
+
+-- where a run begins there is a token
+begun : (bytes : List ℕ) → begins_with_part input_class bytes ≡ true → 1 ≤ count_of bytes
+begun [] e = absurd (false≢true e)
+begun (b ∷ bs) e = begun_at (is_white_space b) (begins_with_part input_class bs) b (tokens_by input_class bs) e
+
+-- a run counts at its first byte
+count_at : (count total b : ℕ) (behind_white_space white runs_on : Bool) (tokens : List (List ℕ)) → (runs_on ≡ true → 1 ≤ length tokens)
+    → count + length (with_byte (if white then Blank else Part) runs_on b tokens)
+    ≡ total + from_bool (not behind_white_space && is_part (if white then Blank else Part))
+    → (count + from_bool (behind_white_space && not white)) + length tokens ≡ total + from_bool (not white && runs_on)
+count_at count total b true true runs_on tokens some so_far = omega arith
+count_at count total b false true runs_on tokens some so_far = omega arith
+count_at count total b behind_white_space false true [] some so_far = absurd (omega (arith, some refl))
+count_at count total b true false true (token ∷ tokens) some so_far = omega arith
+count_at count total b false false true (token ∷ tokens) some so_far = omega arith
+count_at count total b true false false tokens some so_far = omega arith
+count_at count total b false false false tokens some so_far = omega arith
+
+-- the count with one byte more
+pub count_more : (bytes : List ℕ) (i count total one : ℕ) (behind_white_space white : Bool) → i < length bytes
+    → count + count_of (drop i bytes) ≡ total + from_bool (goes_on behind_white_space (drop i bytes))
+    → one ≡ from_bool (behind_white_space && not white) → white ≡ is_white_space (get_or bytes i 0)
+    → (count + one) + count_of (drop (i + 1) bytes) ≡ total + from_bool (goes_on white (drop (i + 1) bytes))
+count_more bytes i count total one behind_white_space white h so_far one_is white_is =
+    let b = get_or bytes i 0 in
+    let bs = drop (i + 1) bytes in
+    rw (one_is, white_is) (count_at count total b behind_white_space (is_white_space b) (begins_with_part input_class bs) (tokens_by input_class bs) (begun bs)
+    (sym (at_drop_more (λ bs. count + count_of bs) bytes i 0 h) ∙ so_far ∙ at_drop_more (λ bs. total + from_bool (goes_on behind_white_space bs)) bytes i 0 h))
+
+room_at : (white runs_on : Bool) (b : ℕ) (tokens : List (List ℕ)) (len : ℕ) → (runs_on ≡ true → 1 ≤ length tokens) → 2 * length tokens ≤ len + from_bool runs_on
+    → 2 * length (with_byte (if white then Blank else Part) runs_on b tokens) ≤ (len + 1) + from_bool (is_part (if white then Blank else Part))
+room_at true true b tokens len some h = omega arith
+room_at true false b tokens len some h = omega arith
+room_at false true b [] len some h = absurd (omega (arith, some refl))
+room_at false true b (token ∷ tokens) len some h = omega arith
+room_at false false b tokens len some h = omega arith
+
+room_for_run : (bytes : List ℕ) → 2 * count_of bytes ≤ length bytes + from_bool (begins_with_part input_class bytes)
+room_for_run [] = omega arith
+room_for_run (b ∷ bs) =
+    let more = room_at (is_white_space b) (begins_with_part input_class bs) b (tokens_by input_class bs) (length bs) (begun bs) (room_for_run bs) in
+    omega (arith, more)
+
+-- there is white space between tokens
+pub room_for_tokens : (bytes : List ℕ) → 2 * count_of bytes ≤ length bytes + 1
+room_for_tokens bytes =
+    let small : from_bool (begins_with_part input_class bytes) ≤ 1 = at_most_one _ (begins_with_part input_class bytes) refl in
+    omega (arith, room_for_run bytes)
+
+-- the numbers read so far, and behind them what the others give
+abbrev pub behind : List ℤ → Result (List ℤ) Fault → Result (List ℤ) Fault
+behind numbers others = others >>= λ ns. Ok (numbers ++ ns)
+
+pub behind_none : (others : Result (List ℤ) Fault) → others ≡ behind [] others
+behind_none (Ok ns) = refl
+behind_none (Err f) = refl
+
+behind_one : (numbers : List ℤ) (n : ℤ) (others : Result (List ℤ) Fault)
+    → behind numbers (others >>= λ ns. Ok (n ∷ ns)) ≡ behind (numbers ++ n ∷ []) others
+behind_one numbers n (Ok ns) = ap Ok (sym (append_assoc numbers (n ∷ []) ns))
+behind_one numbers n (Err f) = refl
+
+-- one token more, which is a number
+pub behind_number : (numbers : List ℤ) (place : ℕ) (token : List ℕ) (tokens : List (List ℕ)) (n : ℤ) → Some n ≡ number_of token
+    → behind numbers (numbers_from place (token ∷ tokens)) ≡ behind (numbers ++ n ∷ []) (numbers_from (place + 1) tokens)
+behind_number numbers place token tokens n e = rw (← e) (behind_one numbers n (numbers_from (place + 1) tokens))
+
+-- one token more, which is none
+pub behind_other : (numbers : List ℤ) (place : ℕ) (token : List ℕ) (tokens : List (List ℕ)) → None ≡ number_of token
+    → behind numbers (numbers_from place (token ∷ tokens)) ≡ Err (fault_at BadInput place)
+behind_other numbers place token tokens e = rw (← e) refl
+
+-- no token more
+pub behind_all : (numbers : List ℤ) (place : ℕ) (tokens : List (List ℕ)) → tokens ≡ [] → behind numbers (numbers_from place tokens) ≡ Ok numbers
+behind_all numbers place tokens e = rw e (ap Ok (append-nil numbers))
+
+digit_is_part : (b : ℕ) → is_ascii_digit b ≡ true → is_part (input_class b) ≡ true
+digit_is_part b e = grind (arith, nat_tests)
+
+digits_are_part : (digits : List ℕ) → list_all is_ascii_digit digits ≡ true → list_all (λ b. is_part (input_class b)) digits ≡ true
+digits_are_part [] all = refl
+digits_are_part (d ∷ ds) all =
+    let parts = both_true (is_ascii_digit d) (list_all is_ascii_digit ds) all in
+    rw (digit_is_part d parts.0) (digits_are_part ds parts.1)
+
+some_where : (b : Bool) (v : ℕ) (f : ℕ → Option ℤ) (n : ℤ) → option_and_then f (if b then Some v else None) ≡ Some n → b ≡ true
+some_where true v f n e = refl
+some_where false v f n e = cc
+
+magnitude_digits : (digits : List ℕ) (f : ℕ → Option ℤ) (n : ℤ) → option_and_then f (magnitude_of digits) ≡ Some n → list_all is_ascii_digit digits ≡ true
+magnitude_digits [] f n e = refl
+magnitude_digits (d ∷ ds) f n e = some_where (list_all is_ascii_digit (d ∷ ds)) (digits_value 10 (d ∷ ds)) f n e
+
+signed_run : (sign : Bool) (b : ℕ) (bs : List ℕ) (n : ℤ) → (sign ≡ true → b ≡ 45) → with_sign sign (b ∷ bs) bs ≡ Some n
+    → list_all (λ b. is_part (input_class b)) (b ∷ bs) ≡ true
+signed_run true b bs n minus e = rw (minus refl) (digits_are_part bs (magnitude_digits bs negative_of n e))
+signed_run false b bs n minus e = digits_are_part (b ∷ bs) (magnitude_digits (b ∷ bs) positive_of n e)
+
+-- a number has no white space in it, and it has a byte
+number_is_run : (token : List ℕ) (n : ℤ) → number_of token ≡ Some n → (list_all (λ b. is_part (input_class b)) token ≡ true) × (0 < length token)
+number_is_run [] n e = cc
+number_is_run (b ∷ bs) n e = (signed_run (b == 45) b bs n (λ h. grind (arith, nat_tests)) e, omega arith)
+
+-- a number with no part of a run behind it is the first token
+pub number_first : (bytes : List ℕ) (k : ℕ) (n : ℤ) → number_of (take k bytes) ≡ Some n → begins_with_part input_class (drop k bytes) ≡ false
+    → tokens_by input_class bytes ≡ take k bytes ∷ tokens_by input_class (drop k bytes)
+number_first bytes k n e ends =
+    let run = number_is_run (take k bytes) n e in
+    ap (tokens_by input_class) (sym (take-append-drop k bytes)) ∙ run_first input_class (take k bytes) (drop k bytes) run.0 run.1 ends

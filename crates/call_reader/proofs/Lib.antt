@@ -1,0 +1,7 @@
+pub mod Arguments
+pub mod Bindings
+pub mod Comments
+pub mod InputWalk
+pub mod NumberWalk
+pub mod Spaces
+pub mod TokenWalk

@@ -1,0 +1,8 @@
+use Rattle.std.proofs.Common.{◌≡◌, ◌+◌, ◌≤◌, drop}
+use Rattle.std.specs.Int.{from_bool}
+use Rattle.call_reader.proofs.InputWalk.{count_of, goes_on}
+use Rattle.call_reader.proofs.inputs.token_count.Given as goal
+
+abbrev pub invariant-loop-byte : goal.invariant-loop-byte
+invariant-loop-byte l =
+    (l.count ≤ l.byte-index) × (l.count + count_of (drop l.byte-index l.bytes) ≡ count_of l.bytes + from_bool (goes_on l.behind_white_space (drop l.byte-index l.bytes)))

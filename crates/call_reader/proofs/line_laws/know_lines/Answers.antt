@@ -1,0 +1,30 @@
+-- Each line reads as it does by computation, once the table of the calls' names is opened.
+use Rattle.std.proofs.Common.{refl}
+use Rattle.cvl_base.specs.Spellings.{any_op_of, op_of}
+use Rattle.call_reader.proofs.line_laws.know_lines.Goals as goal
+
+pub returns : goal.returns
+unfolding any_op_of op_of
+returns c = record {
+  empty = refl;
+  comment = refl;
+  reads = refl;
+  reads_unspaced = refl;
+  reads_to_comment = refl;
+  reads_zeros = refl;
+  reads_minus_zero = refl;
+  reads_names = refl;
+  reads_write = refl;
+  no_call = refl;
+  bound_write = refl;
+  written_truth = refl;
+  written_number = refl;
+  plus_sign = refl;
+  long_name = refl;
+  longest_name = refl;
+  unknown = refl;
+  too_few = refl;
+  nothing_written = refl;
+  three_written = refl;
+  large_number = refl;
+}

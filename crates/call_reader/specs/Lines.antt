@@ -1,0 +1,90 @@
+-- The grammar of a line of a script, by cases on its tokens. The order of checks is the line's form, the call's name,
+-- the number of arguments, the line's numbers.
+-- Source: this library's script format.
+use Rattle.std.specs.Prelude.{ℕ, Bool, false, not, ◌&&◌, ◌||◌, ◌==◌, List, [], ◌∷◌, length, codes, Option, Some, None, option_map, Result, Ok, Err, if◌then◌else◌, ok_or}
+use Rattle.std.specs.List.{list_all, before_first}
+use Rattle.std.specs.Char.{is_ascii_digit}
+use Rattle.cvl_base.specs.declared.fault.Fault.{Fault}
+use Rattle.cvl_base.specs.declared.fault.FaultNo.TheVariants.{BadLine, UnknownCall, WrongArgumentCount, BadNumber}
+use Rattle.cvl_base.specs.declared.call.Arg.{Arg}
+use Rattle.cvl_base.specs.declared.call.Arg.TheVariants as arg
+use Rattle.cvl_base.specs.declared.call.Call.{Call}
+use Rattle.cvl_base.specs.declared.operation.Op.{Op}
+use Rattle.cvl_base.specs.declared.operation.Op.TheVariants.{Write}
+use Rattle.cvl_base.specs.Calls.{takes_of}
+use Rattle.cvl_base.specs.Spellings.{op_of}
+use Rattle.cvl_base.specs.Faults.{fault}
+use Rattle.cvl_base.specs.Gives.{◌>>=◌, fault_if}
+use Rattle.cvl_base.specs.Words.{is_text, is_word, is_name}
+use Rattle.call_reader.specs.declared.token.ByteClass.{ByteClass}
+use Rattle.call_reader.specs.declared.token.ByteClass.TheVariants.{Blank, Alone, Part}
+use Rattle.call_reader.specs.Tokens.{tokens_by}
+use Rattle.call_reader.specs.Numbers.{number_of}
+
+-- space and tab stand between tokens, and `=` (61) is a token of its own
+abbrev pub line_class : ℕ → ByteClass
+line_class b = if (b == 32) || (b == 9) then Blank else (if b == 61 then Alone else Part)
+
+abbrev pub line_tokens : List ℕ → List (List ℕ)
+line_tokens bytes = tokens_by line_class bytes
+
+-- a number token begins with a digit or `-` (45)
+abbrev pub is_number_token : List ℕ → Bool
+is_number_token [] = false
+is_number_token (b ∷ bs) = is_ascii_digit b || b == 45
+
+abbrev pub is_truth_token : List ℕ → Bool
+is_truth_token token = is_text (codes "T") token || is_text (codes "F") token
+
+-- a name, `T`, `F` or a number token
+abbrev pub is_arg : List ℕ → Bool
+is_arg token = is_name token || is_truth_token token || is_number_token token
+
+-- what an argument token stands for; none for a number token that is malformed or outside 32 bits
+abbrev pub arg_of : List ℕ → Option Arg
+arg_of token =
+    if is_name token then Some (arg.Name token)
+    else (if is_truth_token token then Some (arg.Boolean (is_text (codes "T") token))
+    else option_map arg.Integer (number_of token))
+
+abbrev pub args_of : List (List ℕ) → Result (List Arg) Fault
+args_of [] = Ok []
+args_of (token ∷ tokens) =
+    ok_or (arg_of token) (fault BadNumber) >>= λ a. args_of tokens >>= λ others. Ok (a ∷ others)
+
+-- what stands before the first `#` (35)
+abbrev pub before_comment : List ℕ → List ℕ
+before_comment line = before_first (λ b. b == 35) line
+
+abbrev pub begins_with_equals : List (List ℕ) → Bool
+begins_with_equals [] = false
+begins_with_equals (token ∷ tokens) = is_text (codes "=") token
+
+module _ {A : Type 0} where
+  abbrev pub with_op : Option (List ℕ) → Option Op → List (List ℕ) → Result (Option (Call A)) Fault
+  with_op target None args = Err (fault UnknownCall)
+  with_op target (Some op) args =
+      fault_if (not (takes_of op (length args))) (fault WrongArgumentCount)
+      (args_of args >>= λ read. Ok (Some (record { target = target; op = op; args = read })))
+
+  -- `NAME = CALL ARG ..`
+  abbrev pub binding : List (List ℕ) → Result (Option (Call A)) Fault
+  binding (target ∷ equals ∷ call ∷ args) =
+      fault_if (not (is_name target && is_text (codes "=") equals && is_word call && list_all is_arg args)) (fault BadLine)
+      (with_op (Some target) (op_of call) args)
+  binding _ = Err (fault BadLine)
+
+  -- `write NAME` or `write NAME NAME`
+  abbrev pub write_line : List (List ℕ) → Result (Option (Call A)) Fault
+  write_line names = fault_if (not (list_all is_name names)) (fault BadLine) (with_op None (Some Write) names)
+
+  abbrev pub form_of : List (List ℕ) → Result (Option (Call A)) Fault
+  form_of [] = Ok None
+  form_of (first ∷ others) =
+      if is_text (codes "write") first && not (begins_with_equals others)
+      then write_line others
+      else binding (first ∷ others)
+
+  -- what stands before the comment, read by its tokens: nothing, a call, or the first fault
+  abbrev pub call_of : List ℕ → Result (Option (Call A)) Fault
+  call_of line = form_of (line_tokens (before_comment line))

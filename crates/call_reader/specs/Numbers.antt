@@ -1,0 +1,36 @@
+-- The numbers that tokens write.
+-- Source: this library's script and input formats.
+use Rattle.std.specs.Prelude.{ℕ, ◌^◌, Bool, true, false, ◌&&◌, not, ◌==◌, nat_le, nat_lt, List, [], ◌∷◌, Option, Some, None, ℤ, pos, neg_ℤ, if◌then◌else◌}
+use Rattle.std.specs.Option.{option_and_then}
+use Rattle.std.specs.List.{list_all}
+use Rattle.std.specs.Char.{is_ascii_digit}
+use Rattle.std.specs.Str.Parse.{digits_value}
+
+abbrev pub is_empty : List ℕ → Bool
+is_empty [] = true
+is_empty (b ∷ bs) = false
+
+-- the number that the digits write, in decimal; none where there is no digit or another byte
+abbrev pub magnitude_of : List ℕ → Option ℕ
+magnitude_of digits =
+    if not (is_empty digits) && list_all is_ascii_digit digits then Some (digits_value 10 digits) else None
+
+-- the number, where an integer of 32 bits may have this magnitude
+abbrev pub fitting : ℕ → Option ℕ
+fitting n = if nat_le n (2 ^ 31) then Some n else None
+
+-- the integer of 32 bits with this magnitude, where it fits
+abbrev pub positive_of : ℕ → Option ℤ
+positive_of n = if nat_lt n (2 ^ 31) then Some (pos n) else None
+
+abbrev pub negative_of : ℕ → Option ℤ
+negative_of n = if nat_le n (2 ^ 31) then Some (neg_ℤ (pos n)) else None
+
+abbrev pub with_sign : Bool → List ℕ → List ℕ → Option ℤ
+with_sign true token digits = option_and_then negative_of (magnitude_of digits)
+with_sign false token digits = option_and_then positive_of (magnitude_of token)
+
+-- an optional `-` (45) and at least one digit, inside 32 bits
+abbrev pub number_of : List ℕ → Option ℤ
+number_of [] = None
+number_of (b ∷ bs) = with_sign (b == 45) (b ∷ bs) bs

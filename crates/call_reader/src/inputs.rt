@@ -1,0 +1,204 @@
+//! Inputs.
+
+ghost use Rattle.std.specs.Prelude.{◌≡◌, ◌<◌, ◌≤◌, ◌+◌, [], ◌∷◌, length, codes, Ok, Err, pos, neg_ℤ, nat_lt, if◌then◌else◌, MatchOption, IfSome};
+ghost use Rattle.cvl_base.specs.declared.fault.FaultNo.TheVariants.{TooLong, BadInput};
+ghost use Rattle.cvl_base.specs.Faults.{fault, fault_at};
+ghost use Rattle.cvl_base.specs.Gives.{Gives};
+ghost use Rattle.cvl_base.specs.Limits.{most_elements};
+ghost use Rattle.call_reader.specs.Tokens.{tokens_by, begins_with_part};
+ghost use Rattle.call_reader.specs.Numbers.{number_of};
+ghost use Rattle.call_reader.specs.Inputs.{is_white_space, input_class, input_of};
+
+use crate::number::{leading_number, number};
+use crate::token::{ByteClass, Classes, blanks, first_token};
+use cvl_base::limits::MOST_ELEMENTS;
+use cvl_base::{Fault, FaultNo, Ints, Memory, Refused};
+
+/// Whether a byte is white space: a space, a tab, a line feed or a carriage return.
+#[inline(always)]
+fn is_white_space(byte: u8) -> bool
+    ensures { result ≡ is_white_space byte }
+{
+    // most bytes need one test alone
+    byte <= b' ' && matches!(byte, b' ' | b'\t' | b'\n' | b'\r')
+}
+
+/// The classes of an input's bytes: white space is blank.
+enum InputBytes {}
+
+impl Classes for InputBytes {
+    ghost class_of = { input_class };
+
+    #[inline(always)]
+    fn class_of(byte: u8) -> ByteClass {
+        if is_white_space(byte) {
+            ByteClass::Blank
+        } else {
+            ByteClass::Part
+        }
+    }
+}
+
+/// How many tokens an input has.
+fn token_count(bytes: &[u8]) -> usize
+    ensures { result ≡ length (tokens_by input_class bytes.now) }
+{
+    let mut count = 0;
+    let mut behind_white_space = true;
+    for byte in bytes {
+        let is_white_space = is_white_space(*byte);
+        count += usize::from(behind_white_space & !is_white_space);
+        behind_white_space = is_white_space;
+    }
+    count
+}
+
+/// The fault of an input whose token at this place, counted from 0, is no number, where the bytes from that token on
+/// are the rest: `TooLong` where there are more tokens than the limit in all, and else `BadInput` at the place.
+fn fault_at_token(place: usize, rest: &[u8]) -> Fault
+    requires { place ≤ most_elements }
+    ensures { result ≡ (if nat_lt most_elements (place + length (tokens_by input_class rest.now)) then fault TooLong else fault_at BadInput place) }
+{
+    if token_count(rest) > MOST_ELEMENTS - place {
+        Fault::new(FaultNo::TooLong)
+    } else {
+        Fault::at(FaultNo::BadInput, place as u32)
+    }
+}
+
+/// Whether the bytes begin with one that is no white space.
+#[inline(always)]
+fn begins_with_token(bytes: &[u8]) -> bool
+    ensures { result ≡ begins_with_part input_class bytes.now }
+{
+    match bytes.first() {
+        Some(byte) => !is_white_space(*byte),
+        None => false,
+    }
+}
+
+/// The first token of the bytes, the integer that it writes, and what stands behind it; none where there is no token.
+#[inline(always)]
+fn first_number(bytes: &[u8]) -> Option<(&[u8], Option<i32>, &[u8])>
+    ensures tokens { MatchOption result (tokens_by input_class bytes.now ≡ []) (λ t. tokens_by input_class bytes.now ≡ t.0.now ∷ tokens_by input_class t.2.now) }
+    ensures number { IfSome result (λ t. t.1 ≡ number_of t.0.now) }
+    ensures shorter { IfSome result (λ t. length t.2.now < length bytes.now) }
+{
+    let (_blank, rest) = bytes.split_at(blanks::<InputBytes>(bytes));
+    // nearly every token is an integer that one walk finds and reads
+    if let Some((value, length)) = leading_number(rest) {
+        let (token, behind) = rest.split_at(length);
+        if !begins_with_token(behind) {
+            return Some((token, Some(value), behind));
+        }
+    }
+    let (token, behind) = first_token::<InputBytes>(rest)?;
+    Some((token, number(token), behind))
+}
+
+/// Reads an input: signed decimals between white space.
+///
+/// Its faults are `TooLong`, without a place, where there are more tokens than 4,194,304, whatever they are, and else
+/// `BadInput` at the first token that is no integer of 32 bits, counted from 0.
+pub fn read_vector<A: Memory>(alloc: A, bytes: &[u8]) -> Result<Ints<A>, Refused>
+    ensures { Gives (λ numbers. numbers) result (input_of bytes.now) }
+{
+    // each token but the last has white space behind it
+    let room = bytes.len().div_ceil(2).min(MOST_ELEMENTS);
+    let mut numbers = Vec::with_capacity(alloc, room)?;
+    let mut rest = bytes;
+    while let Some((_token, number, behind)) = first_number(rest) {
+        if numbers.len() == MOST_ELEMENTS {
+            return Err(Refused::Fault(Fault::new(FaultNo::TooLong)));
+        }
+        match number {
+            None => return Err(Refused::Fault(fault_at_token(numbers.len(), rest))),
+            Some(number) => numbers.push_reserved(number),
+        }
+        rest = behind;
+    }
+    Ok(Ints::from_vec(numbers))
+}
+
+/// Worked inputs. It does nothing: its contract is what the definition says of them.
+pub fn worked_inputs()
+    ensures plus_sign { input_of (codes "1 +2 3") ≡ Err (fault_at BadInput 1) }
+    ensures above_range { input_of (codes "2147483648") ≡ Err (fault_at BadInput 0) }
+    ensures below_range { input_of (codes "-2147483649") ≡ Err (fault_at BadInput 0) }
+    ensures least { input_of (codes "-2147483648") ≡ Ok (neg_ℤ (pos 2147483648) ∷ []) }
+    ensures greatest { input_of (codes "2147483647") ≡ Ok (pos 2147483647 ∷ []) }
+    ensures empty { input_of [] ≡ Ok [] }
+    ensures white_space { input_of (codes " \t\r\n") ≡ Ok [] }
+    ensures leading_zeros { input_of (codes "007 -0") ≡ Ok (pos 7 ∷ pos 0 ∷ []) }
+    ensures sign_alone { input_of (codes "4 - 5") ≡ Err (fault_at BadInput 1) }
+    ensures zero_byte { input_of (49 ∷ 32 ∷ 0 ∷ []) ≡ Err (fault_at BadInput 1) }
+{}
+
+#[cfg(test)]
+mod tests {
+    use super::*;
+    use std::alloc::Global;
+    use std::test::Fail;
+
+    fn fault_of(alloc: Global, input: &[u8]) -> Option<Refused> {
+        read_vector(alloc, input).err()
+    }
+
+    fn bad_at(place: u32) -> Option<Refused> {
+        Some(Refused::Fault(Fault::at(FaultNo::BadInput, place)))
+    }
+
+    /// The word so many times, with a space behind each.
+    fn repeated(alloc: Global, word: &[u8], times: usize) -> Result<Vec<u8>, Fail> {
+        let mut input = Vec::new(alloc);
+        for _ in 0..times {
+            input.extend_from_slice(word)?;
+            input.push(b' ')?;
+        }
+        Ok(input)
+    }
+
+    #[test]
+    fn reads_numbers(rt: HostRuntime) -> Result<(), Fail> {
+        let numbers = read_vector(rt.alloc(), b"3 1\t7\r\n0\n-2147483648 2147483647 007 -0 ")?;
+        let wanted = [3, 1, 7, 0, -2147483648, 2147483647, 7, 0];
+        assert_eq!(rt; numbers.as_slice(), wanted.as_slice());
+        assert!(rt; read_vector(rt.alloc(), b"")?.is_empty());
+        assert!(rt; read_vector(rt.alloc(), b" \r\n\t")?.is_empty());
+        Ok(())
+    }
+
+    #[test]
+    fn names_the_first_bad_token(rt: HostRuntime) {
+        assert_eq!(rt; fault_of(rt.alloc(), b"1 +2 3"), bad_at(1));
+        assert_eq!(rt; fault_of(rt.alloc(), b"2147483648"), bad_at(0));
+        assert_eq!(rt; fault_of(rt.alloc(), b"0 -2147483649"), bad_at(1));
+        assert_eq!(rt; fault_of(rt.alloc(), b"1 \0"), bad_at(1));
+        assert_eq!(rt; fault_of(rt.alloc(), b"1 2 - 3"), bad_at(2));
+        assert_eq!(rt; fault_of(rt.alloc(), b"1 2-3"), bad_at(1));
+        assert_eq!(rt; fault_of(rt.alloc(), b"1\x0b2"), bad_at(0));
+    }
+
+    #[test]
+    fn long_tokens(rt: HostRuntime) -> Result<(), Fail> {
+        let mut zeros = vec![in rt.alloc(); b'0'; 1_000_000]?;
+        zeros.push(b'5')?;
+        let numbers = read_vector(rt.alloc(), &zeros)?;
+        assert_eq!(rt; numbers.as_slice(), [5].as_slice());
+        let nines = vec![in rt.alloc(); b'9'; 1_000_000]?;
+        assert_eq!(rt; fault_of(rt.alloc(), &nines), bad_at(0));
+        Ok(())
+    }
+
+    #[test]
+    fn counts_tokens_first(rt: HostRuntime) -> Result<(), Fail> {
+        let most = repeated(rt.alloc(), b"7", MOST_ELEMENTS)?;
+        assert_eq!(rt; read_vector(rt.alloc(), &most)?.len(), 4_194_304);
+        let bad = repeated(rt.alloc(), b"+", MOST_ELEMENTS)?;
+        assert_eq!(rt; fault_of(rt.alloc(), &bad), bad_at(0));
+        let more = repeated(rt.alloc(), b"+", MOST_ELEMENTS + 1)?;
+        let too_long = Some(Refused::Fault(Fault::new(FaultNo::TooLong)));
+        assert_eq!(rt; fault_of(rt.alloc(), &more), too_long);
+        Ok(())
+    }
+}

@@ -1,0 +1,32 @@
+//! Worked texts, each a function that takes and gives nothing and whose contract they are.
+
+ghost use Rattle.std.specs.Prelude.{◌≡◌, true, false, [], ◌∷◌, codes, pos, negsuc, Some, None};
+ghost use Rattle.cvl_base.specs.declared.value.Value.TheVariants as value;
+ghost use Rattle.call_reader.specs.Texts.{text_of, text_beside};
+
+use std::alloc::Allocator;
+
+/// The text of each kind of value.
+pub fn text_values<A: Allocator>()
+    ensures integers { text_of {A = A} (value.Integers (pos 0 ∷ (pos 3 ∷ (pos 4 ∷ [])))) ≡ codes "[0 3 4]" }
+    ensures no_integers { text_of {A = A} (value.Integers []) ≡ codes "[]" }
+    ensures booleans { text_of {A = A} (value.Booleans (true ∷ (true ∷ (false ∷ [])))) ≡ codes "[T T F]" }
+    ensures no_booleans { text_of {A = A} (value.Booleans []) ≡ codes "[]" }
+    ensures descriptor { text_of {A = A} (value.Descriptor (0 ∷ (0 ∷ (2 ∷ [])))) ≡ codes "[0 0 2]" }
+    ensures no_segments { text_of {A = A} (value.Descriptor []) ≡ codes "[]" }
+    ensures negative { text_of {A = A} (value.Integer (negsuc 6)) ≡ codes "-7" }
+    ensures least { text_of {A = A} (value.Integer (negsuc 2147483647)) ≡ codes "-2147483648" }
+    ensures greatest { text_of {A = A} (value.Integer (pos 2147483647)) ≡ codes "2147483647" }
+    ensures yes { text_of {A = A} (value.Boolean true) ≡ codes "T" }
+    ensures no { text_of {A = A} (value.Boolean false) ≡ codes "F" }
+{}
+
+/// The text of vectors beside a descriptor, with empty segments before, between and after others, and of no segments
+/// at all.
+pub fn nested_text_values<A: Allocator>()
+    ensures integers { text_beside {A = A} (Some (0 ∷ (2 ∷ (0 ∷ (3 ∷ (0 ∷ [])))))) (value.Integers (pos 5 ∷ (pos 1 ∷ (pos 7 ∷ (pos 7 ∷ (pos 1 ∷ [])))))) ≡ codes "[[] [5 1] [] [7 7 1] []]" }
+    ensures booleans { text_beside {A = A} (Some (1 ∷ (2 ∷ []))) (value.Booleans (true ∷ (false ∷ (true ∷ [])))) ≡ codes "[[T] [F T]]" }
+    ensures no_segments { text_beside {A = A} (Some []) (value.Integers []) ≡ codes "[]" }
+    ensures empty_segment { text_beside {A = A} (Some (0 ∷ [])) (value.Integers []) ≡ codes "[[]]" }
+    ensures alone { text_beside {A = A} None (value.Integers (pos 12 ∷ (negsuc 0 ∷ []))) ≡ codes "[12 -1]" }
+{}

@@ -1,0 +1,21 @@
+use Rattle.std.proofs.Common.{◌≡◌, ℕ, ◌≤◌, pos, map, replicate, ap, le-ltb, lt-ltb, Ok, ◌+ℤ◌, ◌*ℤ◌}
+use Rattle.std.specs.List.{range_with_len}
+use Rattle.cvl_base.specs.declared.fault.FaultNo.TheVariants as no
+use Rattle.cvl_base.specs.Distributes.{as_length}
+use Rattle.cvl_base.specs.Faults.{fault}
+use Rattle.cvl_base.specs.Gives.{◌>>=◌, fault_if}
+use Rattle.cvl_base.specs.Integers.{wrap}
+use Rattle.cvl_base.specs.Limits.{most_elements}
+use Rattle.cvl_base.proofs.distribute_laws.count_law.Goals as goal
+
+in_limit : (n : ℕ) → n ≤ most_elements → as_length (pos n) ≡ Ok n
+in_limit n few = ap (λ b. fault_if b (fault no.TooLong) (Ok n)) (le-ltb most_elements n few)
+
+pub returns-clause-copies : goal.returns-clause-copies
+returns-clause-copies g c = λ value n few. ap (λ r. r >>= λ n. Ok (replicate n value)) (in_limit n few)
+
+pub returns-clause-steps : goal.returns-clause-steps
+returns-clause-steps g c = λ init stride n few. ap (λ r. r >>= λ n. Ok (map (λ k. wrap (init +ℤ pos k *ℤ stride)) (range_with_len 0 n))) (in_limit n few)
+
+pub returns-clause-above_limit : goal.returns-clause-above_limit
+returns-clause-above_limit g c = λ n many. ap (λ b. fault_if b (fault no.TooLong) (Ok n)) (lt-ltb most_elements n many)

@@ -1,0 +1,14 @@
+use Rattle.cvl_base.proofs.Packing.{pack-filter, pack-push, pack-counted, pack-mismatch}
+use Rattle.cvl_base.proofs.pack_laws.pack_law.Goals as goal
+
+pub returns-clause-filter : goal.returns-clause-filter
+returns-clause-filter g c = pack-filter
+
+pub returns-clause-one_more : goal.returns-clause-one_more
+returns-clause-one_more g c = pack-push
+
+pub returns-clause-counted : goal.returns-clause-counted
+returns-clause-counted g c = pack-counted
+
+pub returns-clause-mismatch : goal.returns-clause-mismatch
+returns-clause-mismatch g c = pack-mismatch

@@ -1,0 +1,8 @@
+use Rattle.cvl_base.proofs.Segments.{joined-meaning, joined-first_fault}
+use Rattle.cvl_base.proofs.segment_laws.segmented_lists_law.Goals as goal
+
+pub returns-clause-results : goal.returns-clause-results
+returns-clause-results g c = joined-meaning
+
+pub returns-clause-first_fault : goal.returns-clause-first_fault
+returns-clause-first_fault g c = joined-first_fault

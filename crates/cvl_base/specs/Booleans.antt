@@ -1,0 +1,14 @@
+-- The operators on booleans, by their truth tables.
+use Rattle.std.specs.Prelude.{Bool, true, false, not}
+
+abbrev pub both : Bool → Bool → Bool
+both true b = b
+both false b = false
+
+abbrev pub either : Bool → Bool → Bool
+either true b = true
+either false b = b
+
+abbrev pub differ : Bool → Bool → Bool
+differ true b = not b
+differ false b = b

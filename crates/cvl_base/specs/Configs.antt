@@ -1,0 +1,16 @@
+-- Which tile lengths and numbers of workers a configuration takes.
+use Rattle.std.specs.Prelude.{◌≡◌, ℕ, ◌≤◌, Result, Ok, Err, Bool, nat_le, ◌&&◌, if◌then◌else◌}
+use Rattle.cvl_base.specs.Limits.{longest_tile, most_workers}
+use Rattle.cvl_base.specs.declared.config.BadConfig.{BadConfig}
+use Rattle.cvl_base.specs.declared.config.BadConfig.TheVariants.{Tile, Workers}
+
+-- a number from 1 to the greatest
+abbrev pub is_from_one_to : ℕ → ℕ → Bool
+is_from_one_to greatest n = nat_le 1 n && nat_le n greatest
+
+-- the tile's range is checked first
+abbrev pub config_of : ℕ → ℕ → Result (ℕ × ℕ) BadConfig
+config_of tile workers =
+    if is_from_one_to longest_tile tile
+    then (if is_from_one_to most_workers workers then Ok (tile, workers) else Err Workers)
+    else Err Tile

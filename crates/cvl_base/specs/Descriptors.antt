@@ -1,0 +1,23 @@
+-- Descriptors of segmented vectors: the lengths of the segments, in order.
+-- Source: CVL's segment descriptors.
+use Rattle.std.specs.Prelude.{◌≡◌, ℕ, ◌≤◌, ℤ, pos, Result, Ok, option_map, List, length, map, sum, unsigned_abs, position, nat_lt}
+use Rattle.std.specs.Int.{is_negative}
+use Rattle.cvl_base.specs.declared.fault.Fault.{Fault}
+use Rattle.cvl_base.specs.declared.fault.FaultNo.TheVariants as no
+use Rattle.cvl_base.specs.Faults.{fault, fault_at}
+use Rattle.cvl_base.specs.Gives.{unless, fault_if}
+use Rattle.cvl_base.specs.Limits.{most_elements}
+
+-- the numbers are the lengths of a descriptor: none is negative, and their number and their total are in the limit
+pub record AreLengths (numbers : List ℤ) : Type 0 where
+  pub none_negative : numbers ≡ map pos (map unsigned_abs numbers)
+  pub few : length numbers ≤ most_elements
+  pub in_limit : sum (map unsigned_abs numbers) ≤ most_elements
+
+-- making a descriptor (CVL's make-descriptor, with this library's limit): a fault at the first negative number, else
+-- a fault where the total is above the limit, else the lengths
+abbrev pub descriptor_of : List ℤ → Result (List ℕ) Fault
+descriptor_of numbers =
+    unless (option_map (fault_at no.NegativeLength) (position is_negative numbers))
+    (fault_if (nat_lt most_elements (sum (map unsigned_abs numbers))) (fault no.TooLong)
+    (Ok (map unsigned_abs numbers)))

@@ -1,0 +1,27 @@
+-- How the answer of a call stands to its definition, and how definitions that may have a fault are chained.
+use Rattle.std.specs.Prelude.{◌≡◌, Result, Ok, Err, Option, Some, None, Bool, true, false}
+use Rattle.cvl_base.specs.declared.fault.Fault.{Fault}
+use Rattle.cvl_base.specs.declared.refused.Refused.{Refused}
+use Rattle.cvl_base.specs.declared.refused.Refused.TheVariants as refused
+
+-- The call gave the value that the definition gives, seen by `view`, or its very fault, or met want of memory.
+abbrev pub Gives : {X Y : Type 0} → (X → Y) → Result X Refused → Result Y Fault → Type 0
+Gives view (Ok x) meaning = meaning ≡ Ok (view x)
+Gives view (Err (refused.Fault f)) meaning = meaning ≡ Err f
+Gives view (Err refused.NoResources) meaning = Unit {0}
+
+infixl 20 ◌>>=◌
+-- the next definition at the value, or the first fault: `?`
+abbrev pub ◌>>=◌ : {X Y : Type 0} → Result X Fault → (X → Result Y Fault) → Result Y Fault
+Ok x >>= next = next x
+Err e >>= next = Err e
+
+-- the fault where there is one, else what follows
+abbrev pub unless : {Y : Type 0} → Option Fault → Result Y Fault → Result Y Fault
+unless (Some f) rest = Err f
+unless None rest = rest
+
+-- the fault where the test holds, else what follows
+abbrev pub fault_if : {Y : Type 0} → Bool → Fault → Result Y Fault → Result Y Fault
+fault_if true f rest = Err f
+fault_if false f rest = rest

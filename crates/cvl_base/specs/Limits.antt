@@ -1,0 +1,26 @@
+-- The limits that a fault or a type speaks of, as numbers.
+use Rattle.std.specs.Prelude.{ℕ}
+
+-- the most elements of a vector, and the greatest total of a descriptor: 2^22
+abbrev pub most_elements : ℕ
+most_elements = 4194304
+
+-- the most names bound
+abbrev pub most_names : ℕ
+most_names = 4096
+
+-- the most bytes of a script: 2^20
+abbrev pub most_script_bytes : ℕ
+most_script_bytes = 1048576
+
+-- the most bytes of a word
+abbrev pub most_word_bytes : ℕ
+most_word_bytes = 32
+
+-- the longest tile, in elements
+abbrev pub longest_tile : ℕ
+longest_tile = 65536
+
+-- the most workers
+abbrev pub most_workers : ℕ
+most_workers = 64

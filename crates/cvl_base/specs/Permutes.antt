@@ -1,0 +1,83 @@
+-- Permutes as sets of pairs: in the pair (d, k) element k of the source goes to place d of the result.
+-- Source: CVL's permute and back permute; select, default and the faults are this library's profile.
+use Rattle.std.specs.Prelude.{ℕ, ◌+◌, ℤ, pos, negsuc, Bool, true, false, not, nat_lt, if◌then◌else◌, List, [], ◌∷◌, length, map, find, filter_map, Option, Some, None, unwrap_or, option_map, Result, Ok}
+use Rattle.std.specs.List.{zip, list_any, range_with_len, enumerate_from}
+use Rattle.std.specs.Ordering.{int_eq}
+use Rattle.cvl_base.specs.declared.fault.Fault.{Fault}
+use Rattle.cvl_base.specs.declared.fault.FaultNo.{FaultNo}
+use Rattle.cvl_base.specs.declared.fault.FaultNo.TheVariants.{IndexOutOfRange, IndexRepeated}
+use Rattle.cvl_base.specs.Elementwise.{if_as_long, values_from}
+use Rattle.cvl_base.specs.Extracts.{element_at}
+use Rattle.cvl_base.specs.Faults.{fault_at}
+use Rattle.cvl_base.specs.Folds.{fronts}
+use Rattle.cvl_base.specs.Gives.{unless}
+use Rattle.cvl_base.specs.Packs.{count_of}
+
+-- ---- the pairs: the target of a place k is its index where k takes part, and then (index, k) is a pair
+
+abbrev pub all_targets : List ℤ → List (Option ℤ)
+all_targets index = map (λ i. Some i) index
+
+abbrev pub target_if : ℤ → Bool → Option ℤ
+target_if i true = Some i
+target_if i false = None
+
+abbrev pub flagged_targets : List ℤ → List Bool → List (Option ℤ)
+flagged_targets index flags = map (λ p. target_if p.0 p.1) (zip index flags)
+
+abbrev pub is_target : ℤ → Option ℤ → Bool
+is_target d None = false
+is_target d (Some i) = int_eq i d
+
+-- ---- bad places
+
+-- whether it is one of the places 0 to m - 1
+abbrev pub is_place : ℕ → ℤ → Bool
+is_place m (pos d) = nat_lt d m
+is_place m (negsuc d) = false
+
+-- what is wrong with a place's target where the result has m places and the earlier places have those targets
+abbrev pub wrong_at : ℕ → List (Option ℤ) → Option ℤ → Option FaultNo
+wrong_at m earlier None = None
+wrong_at m earlier (Some i) =
+    if not (is_place m i) then Some IndexOutOfRange else if list_any (is_target i) earlier then Some IndexRepeated else None
+
+-- what is wrong with each place
+abbrev pub wrongs : ℕ → List (Option ℤ) → List (Option FaultNo)
+wrongs m targets = map (λ p. wrong_at m p.0 p.1) (zip (fronts targets) targets)
+
+-- the fault of the least bad place, where the first stands at the place given
+abbrev pub first_fault : ℕ → List (Option FaultNo) → Option Fault
+first_fault place [] = None
+first_fault place (None ∷ others) = first_fault (place + 1) others
+first_fault place (Some number ∷ others) = Some (fault_at number place)
+
+-- ---- the results
+
+-- the source's element k of the pair (d, k), if there is such a pair
+abbrev pub sent_to : {X : Type 0} → List X → List (Option ℤ) → ℕ → Option X
+sent_to source targets d = option_map (λ p. p.1) (find (λ p. is_target (pos d) p.0) (zip targets source))
+
+-- what was sent to the places 0 to m - 1
+abbrev pub sent_to_all : {X : Type 0} → List X → List (Option ℤ) → ℕ → Result (List X) Fault
+sent_to_all source targets m = unless (first_fault 0 (wrongs m targets)) (Ok (filter_map (sent_to source targets) (range_with_len 0 m)))
+
+-- what was sent to each place, or the default there
+abbrev pub sent_over : {X : Type 0} → List X → List (Option ℤ) → List X → Result (List X) Fault
+sent_over source targets defaults =
+    unless (first_fault 0 (wrongs (length defaults) targets))
+    (Ok (map (λ p. unwrap_or (sent_to source targets p.0) p.1) (enumerate_from 0 defaults)))
+
+abbrev pub simple_of : {X : Type 0} → List X → List ℤ → Result (List X) Fault
+simple_of source index = if_as_long source index (sent_to_all source (all_targets index) (length index))
+
+abbrev pub select_of : {X : Type 0} → List X → List ℤ → List Bool → Result (List X) Fault
+select_of source index flags =
+    if_as_long source index (if_as_long index flags (sent_to_all source (flagged_targets index flags) (count_of flags)))
+
+abbrev pub default_of : {X : Type 0} → List X → List ℤ → List X → Result (List X) Fault
+default_of source index defaults = if_as_long source index (sent_over source (all_targets index) defaults)
+
+-- each place takes the source's element at its index
+abbrev pub back_of : {X : Type 0} → List X → List ℤ → Result (List X) Fault
+back_of source index = values_from IndexOutOfRange 0 (map (element_at source) index)

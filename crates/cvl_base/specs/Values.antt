@@ -1,0 +1,13 @@
+-- The five kinds of values: an integer list, a boolean list, a descriptor (its list of lengths), an integer, a boolean.
+use Rattle.std.specs.Prelude.{ℕ, List, Option, Some, None, option_map}
+use Rattle.cvl_base.specs.declared.kind.Kind.{Kind}
+use Rattle.cvl_base.specs.declared.kind.Kind.TheVariants as kind
+use Rattle.cvl_base.specs.declared.value.Value.{Value}
+use Rattle.cvl_base.specs.declared.value.Value.TheVariants as value
+
+abbrev pub kind_of : {A : Type 0} → Value A → Kind
+kind_of (value.Integers xs) = kind.Integers
+kind_of (value.Booleans xs) = kind.Booleans
+kind_of (value.Descriptor lengths) = kind.Descriptor
+kind_of (value.Integer n) = kind.Integer
+kind_of (value.Boolean b) = kind.Boolean

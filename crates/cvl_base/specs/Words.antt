@@ -1,0 +1,25 @@
+-- Words and names of a script.
+use Rattle.std.specs.Prelude.{ℕ, Bool, false, not, ◌&&◌, ◌||◌, ◌==◌, nat_le, nat_eq, List, [], ◌∷◌, length, codes}
+use Rattle.std.specs.Char.{is_ascii_alphabetic, is_ascii_alphanumeric}
+use Rattle.std.specs.List.{list_all}
+use Rattle.std.specs.Cmp.Lexicographic.{pointwise}
+use Rattle.cvl_base.specs.Limits.{most_word_bytes}
+
+-- the bytes are this very text
+abbrev pub is_text : List ℕ → List ℕ → Bool
+is_text text bytes = pointwise nat_eq bytes text
+
+-- a letter, a digit or an underscore of ASCII
+abbrev pub is_word_byte : ℕ → Bool
+is_word_byte b = is_ascii_alphanumeric b || b == 95
+
+-- a letter of ASCII followed by letters, digits and underscores, 1 to 32 bytes in all
+abbrev pub is_word : List ℕ → Bool
+is_word [] = false
+is_word (first ∷ others) =
+    is_ascii_alphabetic first && list_all is_word_byte others && nat_le (length (first ∷ others)) most_word_bytes
+
+-- a word that stands for nothing else in a line
+abbrev pub is_name : List ℕ → Bool
+is_name bytes =
+    is_word bytes && not (is_text (codes "write") bytes || is_text (codes "T") bytes || is_text (codes "F") bytes)

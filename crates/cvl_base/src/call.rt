@@ -1,0 +1,84 @@
+//! Calls, as a line of a script asks for them.
+
+ghost use Rattle.std.specs.Prelude.{◌≡◌, ◌==◌, length};
+
+use crate::name::Name;
+use crate::operation::Op;
+use std::alloc::Allocator;
+use std::marker::Model;
+
+/// An argument of a call.
+#[derive(Clone, Copy, Debug)]
+pub enum Arg {
+    /// The value that is bound to a name.
+    Name(Name),
+    /// A number of the line.
+    Integer(i32),
+    /// `T` or `F`.
+    Boolean(bool),
+}
+
+/// The arguments of a call, seen as their list. They are made from a `Vec` and give it back without taking memory.
+#[derive(Drop)]
+#[derive_where(Debug; A)]
+pub struct Args<A: Allocator> {
+    items: Vec<Arg, A>,
+}
+
+impl<A: Allocator> Model for Args<A> {
+    ghost use Rattle.std.specs.Prelude.{List};
+    ghost use Rattle.cvl_base.specs.declared.call.Arg.{Arg};
+
+    ghost Value = { List Arg };
+
+    ghost view = { λ a. a.items.items };
+}
+
+impl<A: Allocator> Args<A> {
+    /// The arguments in a `Vec`.
+    pub fn from_vec(items: Vec<Arg, A>) -> Args<A>
+        ensures { result ≡ items.items }
+    {
+        Args { items }
+    }
+
+    /// The arguments as a `Vec`.
+    pub fn into_vec(self) -> Vec<Arg, A>
+        ensures { result.items ≡ self }
+    {
+        self.items
+    }
+
+    /// The arguments, in the order of the line.
+    pub fn as_slice(&self) -> &[Arg]
+        ensures { result.now ≡ self.now }
+    {
+        self.items.as_slice()
+    }
+
+    /// How many arguments there are.
+    pub fn len(&self) -> usize
+        ensures { result ≡ length self.now }
+    {
+        self.items.len()
+    }
+
+    /// Whether there is no argument.
+    pub fn is_empty(&self) -> bool
+        ensures { result ≡ (length self.now == 0) }
+    {
+        self.items.is_empty()
+    }
+}
+
+/// What a line of a script asks for.
+#[derive(Drop)]
+#[derive_where(Debug; A)]
+pub struct Call<A: Allocator> {
+    /// The name that the result is bound to; none for `write`.
+    pub target: Option<Name>,
+    /// The call of the table, or `write`.
+    pub op: Op,
+    /// The arguments.
+    pub args: Args<A>,
+}

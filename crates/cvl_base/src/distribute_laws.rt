@@ -1,0 +1,19 @@
+//! Laws of the calls that make a vector of a given length, as a function that takes and gives nothing and whose contract
+//! is the law.
+
+ghost use Rattle.std.specs.Prelude.{◌≡◌, ◌≤◌, ◌<◌, ◌+ℤ◌, ◌*ℤ◌, ℕ, ℤ, pos, negsuc, map, replicate};
+ghost use Rattle.std.specs.List.{range_with_len};
+ghost use Rattle.cvl_base.specs.declared.fault.FaultNo.TheVariants as no;
+ghost use Rattle.cvl_base.specs.Distributes.{as_length, distribute_of, index_of};
+ghost use Rattle.cvl_base.specs.Faults.{fault};
+ghost use Rattle.cvl_base.specs.Integers.{wrap};
+ghost use Rattle.cvl_base.specs.Limits.{most_elements};
+
+/// A count up to the limit gives a vector of that length; a greater or a negative one is a fault without a place.
+pub fn count_law<T>()
+    ensures copies { (value : T) (n : ℕ) → n ≤ most_elements → distribute_of value (pos n) ≡ Ok (replicate n value) }
+    ensures steps { (init stride : ℤ) (n : ℕ) → n ≤ most_elements →
+        index_of init stride (pos n) ≡ Ok (map (λ k. wrap (init +ℤ pos k *ℤ stride)) (range_with_len 0 n)) }
+    ensures above_limit { (n : ℕ) → most_elements < n → as_length (pos n) ≡ Err (fault no.TooLong) }
+    ensures negative { (n : ℕ) → as_length (negsuc n) ≡ Err (fault no.NegativeLength) }
+{}

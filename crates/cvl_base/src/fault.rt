@@ -1,0 +1,143 @@
+//! Faults: what is wrong with a script, an input or a call's arguments, and where.
+
+ghost use Rattle.std.specs.Prelude.{◌≡◌};
+
+use std::fmt;
+
+/// The kinds of faults, in the order of their numbers.
+#[derive(Clone, Copy, Debug, PartialEq, Eq, Hash)]
+pub enum FaultNo {
+    /// The line has none of the forms of a line.
+    BadLine,
+    /// No call has this name.
+    UnknownCall,
+    /// The call takes another number of arguments.
+    WrongArgumentCount,
+    /// The name is not bound.
+    UnknownName,
+    /// The argument is of another kind than the call takes.
+    WrongKind,
+    /// The number is malformed or does not fit 32 bits.
+    BadNumber,
+    /// Lengths that must agree differ.
+    LengthMismatch,
+    /// A divisor is 0.
+    DivideByZero,
+    /// A shift is outside 0 to 31.
+    ShiftOutOfRange,
+    /// An index lies outside of what it counts in.
+    IndexOutOfRange,
+    /// An earlier index of the permute is the same.
+    IndexRepeated,
+    /// A length or a count is negative.
+    NegativeLength,
+    /// A vector, a total or a count is above the limit.
+    TooLong,
+    /// No input has this number.
+    NoSuchInput,
+    /// A token of the input is no integer of 32 bits.
+    BadInput,
+    /// As many names as may be are bound already.
+    TooManyNames,
+    /// The script has more bytes than it may have.
+    ScriptTooLong,
+    /// A sum that may not wrap does not fit 32 bits.
+    Overflow,
+}
+
+impl FaultNo {
+    ghost use Rattle.cvl_base.specs.Faults.{number_of, name_of};
+
+    /// The number that the fault is printed with, from 1 to 18.
+    pub fn number(self) -> u32
+        ensures { result ≡ number_of self }
+    {
+        match self {
+            FaultNo::BadLine => 1,
+            FaultNo::UnknownCall => 2,
+            FaultNo::WrongArgumentCount => 3,
+            FaultNo::UnknownName => 4,
+            FaultNo::WrongKind => 5,
+            FaultNo::BadNumber => 6,
+            FaultNo::LengthMismatch => 7,
+            FaultNo::DivideByZero => 8,
+            FaultNo::ShiftOutOfRange => 9,
+            FaultNo::IndexOutOfRange => 10,
+            FaultNo::IndexRepeated => 11,
+            FaultNo::NegativeLength => 12,
+            FaultNo::TooLong => 13,
+            FaultNo::NoSuchInput => 14,
+            FaultNo::BadInput => 15,
+            FaultNo::TooManyNames => 16,
+            FaultNo::ScriptTooLong => 17,
+            FaultNo::Overflow => 18,
+        }
+    }
+
+    /// The name that the fault is printed with.
+    pub fn name(self) -> &'static str
+        ensures { result.now ≡ name_of self }
+    {
+        match self {
+            FaultNo::BadLine => "BadLine",
+            FaultNo::UnknownCall => "UnknownCall",
+            FaultNo::WrongArgumentCount => "WrongArgumentCount",
+            FaultNo::UnknownName => "UnknownName",
+            FaultNo::WrongKind => "WrongKind",
+            FaultNo::BadNumber => "BadNumber",
+            FaultNo::LengthMismatch => "LengthMismatch",
+            FaultNo::DivideByZero => "DivideByZero",
+            FaultNo::ShiftOutOfRange => "ShiftOutOfRange",
+            FaultNo::IndexOutOfRange => "IndexOutOfRange",
+            FaultNo::IndexRepeated => "IndexRepeated",
+            FaultNo::NegativeLength => "NegativeLength",
+            FaultNo::TooLong => "TooLong",
+            FaultNo::NoSuchInput => "NoSuchInput",
+            FaultNo::BadInput => "BadInput",
+            FaultNo::TooManyNames => "TooManyNames",
+            FaultNo::ScriptTooLong => "ScriptTooLong",
+            FaultNo::Overflow => "Overflow",
+        }
+    }
+}
+
+impl fmt::Display for FaultNo {
+    fn fmt<W: fmt::Write>(&self, f: &mut fmt::Formatter<W>) -> fmt::Result {
+        let number = self.number();
+        let name = self.name();
+        write!(f, "fault {number} {name}")
+    }
+}
+
+/// A fault with its place.
+#[derive(Clone, Copy, Debug, PartialEq, Eq, Hash)]
+pub struct Fault {
+    /// Which fault it is.
+    pub number: FaultNo,
+    /// The element, index, token or segment at fault, counted from 0; none where the whole call or line is at fault.
+    pub place: Option<u32>,
+}
+
+impl Fault {
+    ghost use Rattle.cvl_base.specs.Faults.{fault, fault_at};
+
+    /// A fault of the whole call or line.
+    pub fn new(number: FaultNo) -> Fault
+        ensures { result ≡ fault number }
+    {
+        Fault {
+            number,
+            place: None,
+        }
+    }
+
+    /// A fault at a place, counted from 0.
+    pub fn at(number: FaultNo, place: u32) -> Fault
+        ensures { result ≡ fault_at number place }
+    {
+        Fault {
+            number,
+            place: Some(place),
+        }
+    }
+}

@@ -1,0 +1,50 @@
+//! What every layer of the vector library speaks of: numbers, operators, monoids, faults, values and calls.
+#![tactic(auto)]
+
+pub mod boolean;
+pub mod call;
+pub mod config;
+pub mod descriptor_laws;
+pub mod distribute_laws;
+pub mod elements;
+pub mod elementwise_laws;
+pub mod families;
+pub mod fault;
+pub mod folds;
+pub mod integer;
+pub mod kind;
+pub mod laws;
+pub mod lengths;
+pub mod limits;
+pub mod memory;
+pub mod monoid;
+pub mod monoids;
+pub mod name;
+pub mod nest_laws;
+mod operands;
+pub mod operation;
+pub mod pack_laws;
+pub mod permute_laws;
+pub mod refused;
+pub mod scan_laws;
+pub mod seg;
+pub mod segment_laws;
+pub mod spelling;
+pub mod tile_sums;
+pub mod value;
+
+pub use call::{Arg, Args, Call};
+pub use config::{BadConfig, Config};
+pub use elements::{Bools, Elements, Ints};
+pub use families::{BoolBinary, Comparison, Cut, Element, Form, IntBinary, IntMonoid, Unary};
+pub use fault::{Fault, FaultNo};
+pub use kind::Kind;
+pub use lengths::Lengths;
+pub use memory::Memory;
+pub use monoid::{Monoid, Packed};
+pub use name::Name;
+pub use operation::Op;
+pub use refused::{NoResources, Refused};
+pub use seg::Seg;
+pub use spelling::op_of;
+pub use value::Value;

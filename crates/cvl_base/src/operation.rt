@@ -1,0 +1,307 @@
+//! The calls of a script by families, with the operands that each takes and what it gives.
+
+ghost use Rattle.std.specs.Prelude.{◌≡◌};
+ghost use Rattle.cvl_base.specs.Calls.{operands_of, result_of, each_of, vector_of, is_done, is_write, takes_of, accepts_of, write_accepts, same_kind, is_vector};
+
+use crate::families::{BoolBinary, Comparison, Cut, Element, Form, IntBinary, IntMonoid, Unary};
+use crate::kind::Kind;
+use crate::operands;
+
+/// What a line of a script asks for: one call of the library, or `write`.
+///
+/// Each family's calls take and give the same kinds of values, and are performed by one kernel.
+#[derive(Clone, Copy, Debug, PartialEq, Eq, Hash)]
+pub enum Op {
+    /// `input`: the vector of an input, by its number from 1.
+    Input,
+    /// `add_wuz` and its like: an operator on two integer vectors, element by element.
+    Ints2(IntBinary),
+    /// `not_wuz`, `cpy_wuz`: an operator on one integer vector, element by element.
+    Ints1(Unary),
+    /// `grt_wuz` and its like: a comparison of two integer vectors, element by element.
+    Compare(Comparison),
+    /// `and_wub` and its like: an operator on two boolean vectors, element by element.
+    Bools2(BoolBinary),
+    /// `not_wub`, `cpy_wub`: an operator on one boolean vector, element by element.
+    Bools1(Unary),
+    /// `sel_wuz`, `sel_wub`: the first vector's element where the flag is true, else the second's.
+    Choose(Element),
+    /// `int_wub`: 1 for true and 0 for false.
+    IntFromBool,
+    /// `boo_wuz`: true where the number isn't 0.
+    BoolFromInt,
+    /// `add_suz` and its like: the exclusive scan of an integer vector.
+    Scan(IntMonoid, Cut),
+    /// `add_ruz` and its like: all elements of an integer vector, or of each segment, in one.
+    Reduce(IntMonoid, Cut),
+    /// `and_sub` and its like: the exclusive scan of a boolean vector.
+    BoolScan(BoolBinary, Cut),
+    /// `and_rub` and its like: all elements of a boolean vector, or of each segment, in one.
+    BoolReduce(BoolBinary, Cut),
+    /// `smp_puz` and its like: the elements of a source moved by an index vector.
+    Permute(Form, Cut, Element),
+    /// `len_luz`, `len_lub`: the number of elements.
+    Length(Element),
+    /// `cnt_lub`, `cnt_leb`: the number of true flags.
+    Count(Cut),
+    /// `pck_luz` and its like: the elements whose flag is true, in order.
+    Pack(Cut, Element),
+    /// `pck_fov`: the descriptor of what a segmented pack keeps.
+    PackedLengths,
+    /// `dis_vuz` and its like: copies of one value.
+    Distribute(Cut, Element),
+    /// `ind_luz`, `ind_lez`: numbers from a first one on, by a stride.
+    Index(Cut),
+    /// `ext_vuz` and its like: the element at an index.
+    Extract(Cut, Element),
+    /// `rep_vuz` and its like: the vector with the element at an index changed.
+    Replace(Cut, Element),
+    /// `mke_fov`: the descriptor with these lengths.
+    MakeDescriptor,
+    /// `len_fos`: the lengths of a descriptor.
+    DescriptorLengths,
+    /// `write`: the text of a value; a line of its own form, and no call.
+    Write,
+}
+
+impl Op {
+    /// The kinds of the arguments that the call takes, in the order of the script.
+    ///
+    /// Empty for `write`, whose arguments `takes` and `accepts` describe.
+    pub fn operands(self) -> &'static [Kind]
+        ensures { result.now ≡ operands_of self }
+    {
+        operands::of(self)
+    }
+
+    /// The kind of the value that the call gives; `write` gives none.
+    pub fn gives(self) -> Option<Kind>
+        ensures { result ≡ result_of self }
+    {
+        match self {
+            Op::Input
+            | Op::Ints2(_)
+            | Op::Ints1(_)
+            | Op::IntFromBool
+            | Op::Scan(_, _)
+            | Op::Index(_)
+            | Op::DescriptorLengths => Some(Kind::Integers),
+            Op::Compare(_) | Op::Bools2(_) | Op::Bools1(_) | Op::BoolFromInt | Op::BoolScan(_, _) =>
+                { Some(Kind::Booleans) }
+            Op::Choose(element)
+            | Op::Permute(_, _, element)
+            | Op::Pack(_, element)
+            | Op::Distribute(_, element)
+            | Op::Replace(_, element) => Some(vector_kind(element)),
+            Op::Reduce(_, cut) | Op::Count(cut) => Some(each_kind(cut, Element::Integer)),
+            Op::BoolReduce(_, cut) => Some(each_kind(cut, Element::Boolean)),
+            Op::Extract(cut, element) => Some(each_kind(cut, element)),
+            Op::Length(_) => Some(Kind::Integer),
+            Op::PackedLengths | Op::MakeDescriptor => Some(Kind::Descriptor),
+            Op::Write => None,
+        }
+    }
+
+    /// Whether `count` arguments are as many as it takes: a call one for each operand, `write` one or two.
+    pub fn takes(self, count: usize) -> bool
+        ensures { result ≡ takes_of self count }
+    {
+        if self.is_write() {
+            count == 1 || count == 2
+        } else {
+            count == self.operands().len()
+        }
+    }
+
+    /// Whether, among `count` arguments, the one at `place`, counted from 0, may have this kind.
+    ///
+    /// A call wants at each place the kind of its operand there. `write` takes alone a value of any kind, and of two
+    /// arguments a vector first and then a descriptor.
+    pub fn accepts(self, count: usize, place: usize, kind: Kind) -> bool
+        ensures { result ≡ accepts_of self count place kind }
+    {
+        if self.is_write() {
+            accepted_by_write(count, place, kind)
+        } else {
+            match self.operands().get(place) {
+                Some(wanted) => is_same_kind(*wanted, kind),
+                None => false,
+            }
+        }
+    }
+
+    /// Whether the library performs the call today.
+    pub fn is_done(self) -> bool
+        ensures { result ≡ is_done self }
+    {
+        match self {
+            Op::Input => true,
+            Op::Ints2(operator) => matches!(operator, IntBinary::Add),
+            Op::Ints1(_) => false,
+            Op::Compare(_) => false,
+            Op::Bools2(_) => false,
+            Op::Bools1(_) => false,
+            Op::Choose(_) => false,
+            Op::IntFromBool => false,
+            Op::BoolFromInt => false,
+            Op::Scan(operator, cut) => matches!((operator, cut), (IntMonoid::Add, Cut::Flat)),
+            Op::Reduce(_, _) => false,
+            Op::BoolScan(_, _) => false,
+            Op::BoolReduce(_, _) => false,
+            Op::Permute(_, _, _) => false,
+            Op::Length(_) => false,
+            Op::Count(_) => false,
+            Op::Pack(_, _) => false,
+            Op::PackedLengths => false,
+            Op::Distribute(_, _) => false,
+            Op::Index(_) => false,
+            Op::Extract(_, _) => false,
+            Op::Replace(_, _) => false,
+            Op::MakeDescriptor => true,
+            Op::DescriptorLengths => true,
+            Op::Write => false,
+        }
+    }
+
+    /// Whether it is `write`, which is no call.
+    pub fn is_write(self) -> bool
+        ensures { result ≡ is_write self }
+    {
+        matches!(self, Op::Write)
+    }
+}
+
+/// The kind of a vector of such elements.
+fn vector_kind(element: Element) -> Kind
+    ensures { result ≡ vector_of element }
+{
+    match element {
+        Element::Integer => Kind::Integers,
+        Element::Boolean => Kind::Booleans,
+    }
+}
+
+/// The kind of one value for the whole vector, or of one for each segment.
+fn each_kind(cut: Cut, element: Element) -> Kind
+    ensures { result ≡ each_of cut element }
+{
+    match (cut, element) {
+        (Cut::Flat, Element::Integer) => Kind::Integer,
+        (Cut::Flat, Element::Boolean) => Kind::Boolean,
+        (Cut::Segmented, Element::Integer) => Kind::Integers,
+        (Cut::Segmented, Element::Boolean) => Kind::Booleans,
+    }
+}
+
+/// Whether two kinds are the same.
+fn is_same_kind(a: Kind, b: Kind) -> bool
+    ensures { result ≡ same_kind a b }
+{
+    match (a, b) {
+        (Kind::Integers, Kind::Integers) => true,
+        (Kind::Booleans, Kind::Booleans) => true,
+        (Kind::Descriptor, Kind::Descriptor) => true,
+        (Kind::Integer, Kind::Integer) => true,
+        (Kind::Boolean, Kind::Boolean) => true,
+        _ => false,
+    }
+}
+
+/// What `Op::accepts` says of `write`.
+fn accepted_by_write(count: usize, place: usize, kind: Kind) -> bool
+    ensures { result ≡ write_accepts count place kind }
+{
+    (count == 1 && place == 0)
+        || (count == 2 && place == 0 && matches!(kind, Kind::Integers | Kind::Booleans))
+        || (count == 2 && place == 1 && matches!(kind, Kind::Descriptor))
+}
+
+#[cfg(test)]
+mod tests {
+    use super::Op;
+    use crate::families::{
+        BoolBinary, Comparison, Cut, Element, Form, IntBinary, IntMonoid, Unary,
+    };
+    use crate::kind::Kind::{Boolean, Booleans, Descriptor, Integer, Integers};
+
+    #[test]
+    fn operands_of_some_calls(rt: HostRuntime) {
+        let sel_wuz = Op::Choose(Element::Integer);
+        assert_eq!(rt;
+            sel_wuz.operands(),
+            [Booleans, Integers, Integers].as_slice()
+        );
+        let bck_pez = Op::Permute(Form::Back, Cut::Segmented, Element::Integer);
+        assert_eq!(rt;
+            bck_pez.operands(),
+            [Integers, Integers, Descriptor, Descriptor].as_slice()
+        );
+        let rep_veb = Op::Replace(Cut::Segmented, Element::Boolean);
+        assert_eq!(rt;
+            rep_veb.operands(),
+            [Booleans, Integers, Booleans, Descriptor].as_slice()
+        );
+    }
+
+    #[test]
+    fn counts_and_results_of_one_call_a_family(rt: HostRuntime) {
+        let table = [
+            (Op::Input, 1, Integers),
+            (Op::Ints2(IntBinary::Div), 2, Integers),
+            (Op::Ints1(Unary::Not), 1, Integers),
+            (Op::Compare(Comparison::Less), 2, Booleans),
+            (Op::Bools2(BoolBinary::Xor), 2, Booleans),
+            (Op::Bools1(Unary::Copy), 1, Booleans),
+            (Op::Choose(Element::Boolean), 3, Booleans),
+            (Op::IntFromBool, 1, Integers),
+            (Op::BoolFromInt, 1, Booleans),
+            (Op::Scan(IntMonoid::Mul, Cut::Segmented), 2, Integers),
+            (Op::Reduce(IntMonoid::Min, Cut::Flat), 1, Integer),
+            (Op::BoolScan(BoolBinary::And, Cut::Flat), 1, Booleans),
+            (Op::BoolReduce(BoolBinary::Ior, Cut::Flat), 1, Boolean),
+            (
+                Op::Permute(Form::Default, Cut::Segmented, Element::Integer),
+                5,
+                Integers,
+            ),
+            (Op::Length(Element::Boolean), 1, Integer),
+            (Op::Count(Cut::Segmented), 2, Integers),
+            (Op::Pack(Cut::Segmented, Element::Boolean), 3, Booleans),
+            (Op::PackedLengths, 2, Descriptor),
+            (Op::Distribute(Cut::Flat, Element::Boolean), 2, Booleans),
+            (Op::Index(Cut::Flat), 3, Integers),
+            (Op::Extract(Cut::Flat, Element::Boolean), 2, Boolean),
+            (Op::Replace(Cut::Flat, Element::Integer), 3, Integers),
+            (Op::MakeDescriptor, 1, Descriptor),
+            (Op::DescriptorLengths, 1, Integers),
+        ];
+        for (op, count, result_kind) in table {
+            assert_eq!(rt; op.operands().len(), count, "{op:?}");
+            assert!(rt; op.takes(count) && !op.takes(count + 1), "{op:?}");
+            assert_eq!(rt; op.gives(), Some(result_kind), "{op:?}");
+            assert!(rt; !op.is_write());
+        }
+        assert_eq!(rt; Op::Write.gives(), None);
+    }
+
+    #[test]
+    fn arguments_of_write(rt: HostRuntime) {
+        for (count, is_taken) in [(0, false), (1, true), (2, true), (3, false)] {
+            assert_eq!(rt; Op::Write.takes(count), is_taken, "{count}");
+        }
+        let kinds = [Integers, Booleans, Descriptor, Integer, Boolean];
+        for kind in kinds {
+            assert!(rt; Op::Write.accepts(1, 0, kind));
+            assert_eq!(rt;
+                Op::Write.accepts(2, 0, kind),
+                kind == Integers || kind == Booleans
+            );
+            assert_eq!(rt; Op::Write.accepts(2, 1, kind), kind == Descriptor);
+            assert_eq!(rt;
+                Op::Extract(Cut::Flat, Element::Boolean).accepts(2, 1, kind),
+                kind == Integer
+            );
+        }
+        assert!(rt; Op::DescriptorLengths.is_done() && !Op::Length(Element::Integer).is_done());
+    }
+}

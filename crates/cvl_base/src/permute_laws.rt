@@ -1,0 +1,52 @@
+//! Laws of permutes, each a function that takes and gives nothing and whose contract is the law.
+
+ghost use Rattle.std.specs.Prelude.{◌≡◌, ◌↔◌, ◌<◌, ℕ, ℤ, pos, Bool, false, true, Option, List, length, slice_get};
+ghost use Rattle.cvl_base.specs.declared.fault.FaultNo.TheVariants as no;
+ghost use Rattle.cvl_base.specs.Faults.{fault_at};
+ghost use Rattle.cvl_base.specs.Permuted.{IsBackPermute, IsDefaultPermute, IsGoodBefore, IsSelectPermute, IsSimplePermute};
+ghost use Rattle.cvl_base.specs.Permutes.{back_of, default_of, first_fault, is_place, select_of, simple_of, wrongs};
+
+/// A simple permute gives the one vector in which element k of the source stands at the index of k, and gives it exactly
+/// where the indices are the places of the source, each once. So each place of the result is the index of some place,
+/// and a back permute of the result by the same index gives the source again.
+pub fn simple_permute_law<T>()
+    ensures meaning { (source : List T) (index : List ℤ) (result : List T) →
+        (simple_of source index ≡ Ok result) ↔ IsSimplePermute source index result }
+    ensures onto { (source : List T) (index : List ℤ) (result : List T) → simple_of source index ≡ Ok result →
+        (d : ℕ) → d < length result → (k : ℕ) × (slice_get index k ≡ Some (pos d)) }
+    ensures back_again { (source : List T) (index : List ℤ) (result : List T) → simple_of source index ≡ Ok result →
+        back_of result index ≡ Ok source }
+{}
+
+/// A back permute gives the one vector that has at each place the source's element at the place's index.
+pub fn back_permute_law<T>()
+    ensures { (source : List T) (index : List ℤ) (result : List T) →
+        (back_of source index ≡ Ok result) ↔ IsBackPermute source index result }
+{}
+
+/// A select permute gives the one vector, as long as there are true flags, in which the elements whose flag is true stand
+/// at their indices, and gives it exactly where these indices are its places, each once.
+pub fn select_permute_law<T>()
+    ensures { (source : List T) (index : List ℤ) (flags : List Bool) (result : List T) →
+        (select_of source index flags ≡ Ok result) ↔ IsSelectPermute source index flags result }
+{}
+
+/// A default permute gives the one vector, as long as the defaults, in which each element stands at its index, and the
+/// default where no index points, and gives it exactly where the indices are places of the defaults, none of them twice.
+pub fn default_permute_law<T>()
+    ensures { (source : List T) (index : List ℤ) (defaults result : List T) →
+        (default_of source index defaults ≡ Ok result) ↔ IsDefaultPermute source index defaults result }
+{}
+
+/// The fault of simple, select and default permutes is that of the first bad place: one whose target lies outside of the
+/// result, or else is that of an earlier place.
+pub fn first_bad_place_law()
+    ensures none { (m : ℕ) (targets : List (Option ℤ)) → IsGoodBefore m targets (length targets) →
+        first_fault 0 (wrongs m targets) ≡ None }
+    ensures outside { (m : ℕ) (targets : List (Option ℤ)) (k : ℕ) (i : ℤ) → IsGoodBefore m targets k →
+        slice_get targets k ≡ Some (Some i) → is_place m i ≡ false →
+        first_fault 0 (wrongs m targets) ≡ Some (fault_at no.IndexOutOfRange k) }
+    ensures again { (m : ℕ) (targets : List (Option ℤ)) (j k : ℕ) (i : ℤ) → IsGoodBefore m targets k →
+        j < k → slice_get targets j ≡ Some (Some i) → slice_get targets k ≡ Some (Some i) → is_place m i ≡ true →
+        first_fault 0 (wrongs m targets) ≡ Some (fault_at no.IndexRepeated k) }
+{}

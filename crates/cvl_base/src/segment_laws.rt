@@ -1,0 +1,55 @@
+//! Laws of segmented calls, each a function that takes and gives nothing and whose contract is the law.
+
+ghost use Rattle.std.specs.Prelude.{◌≡◌, ◌↔◌, ℕ, ℤ, Bool, Result, List, [], ◌∷◌, ◌++◌, length, map};
+ghost use Rattle.cvl_base.specs.declared.fault.Fault.{Fault};
+ghost use Rattle.cvl_base.specs.Folds.{reduce_of, scan_of};
+ghost use Rattle.cvl_base.specs.Nests.{joined};
+ghost use Rattle.cvl_base.specs.Packs.{count_of, pack_of};
+ghost use Rattle.cvl_base.specs.Permutes.{back_of, default_of, select_of, simple_of};
+ghost use Rattle.cvl_base.specs.Segmented.{end_to_end, moved, one_each};
+ghost use Rattle.cvl_base.specs.SegmentedCalls.{seg_back_of, seg_count_of, seg_default_of, seg_pack_of, seg_reduce_of, seg_scan_of, seg_select_of, seg_simple_of};
+
+use crate::monoid::Monoid;
+
+/// A segmented call has results exactly where the flat call has one on each segment, and they are these, one for each.
+/// Its fault is the flat fault of the first segment that has one, at its place in the whole.
+pub fn segmented_call_law<S, R>()
+    ensures results { (place : ℕ → ℕ → ℕ) (call : S → Result R Fault) (segments : List S) (results : List R) →
+        (one_each place call (Ok segments) ≡ Ok results) ↔ (map call segments ≡ map (λ r. Ok r) results) }
+    ensures first_fault { (place : ℕ → ℕ → ℕ) (call : S → Result R Fault) (good : List S) (bad : S) (others : List S) (results : List R) (f : Fault) →
+        map call good ≡ map (λ r. Ok r) results → call bad ≡ Err f →
+        one_each place call (Ok (good ++ bad ∷ others)) ≡ moved (place (length good)) (Err f) }
+{}
+
+/// The same of a call whose flat results are lists: they follow one after another.
+pub fn segmented_lists_law<S, T>()
+    ensures results { (place : ℕ → ℕ → ℕ) (call : S → Result (List T) Fault) (segments : List S) (result : List T) →
+        (end_to_end place call (Ok segments) ≡ Ok result)
+        ↔ ((lists : List (List T)) × (map call segments ≡ map (λ r. Ok r) lists) × (result ≡ joined lists)) }
+    ensures first_fault { (place : ℕ → ℕ → ℕ) (call : S → Result (List T) Fault) (good : List S) (bad : S) (others : List S) (lists : List (List T)) (f : Fault) →
+        map call good ≡ map (λ r. Ok r) lists → call bad ≡ Err f →
+        end_to_end place call (Ok (good ++ bad ∷ others)) ≡ moved (place (length good)) (Err f) }
+{}
+
+/// On one segment a segmented scan or reduce is the flat one.
+pub fn one_segment_scanned<M: Monoid>()
+    ensures scan { (xs : List M.Item) →
+        seg_scan_of M.join M.unit xs (length xs ∷ []) ≡ Ok (scan_of M.join M.unit xs) }
+    ensures reduce { (xs : List M.Item) →
+        seg_reduce_of M.join M.unit xs (length xs ∷ []) ≡ Ok (reduce_of M.join M.unit xs ∷ []) }
+{}
+
+/// On one segment a segmented permute, pack or count is the flat one, its faults too.
+pub fn one_segment_moved<T>()
+    ensures simple { (source : List T) (index : List ℤ) →
+        seg_simple_of source index (length source ∷ []) ≡ simple_of source index }
+    ensures back { (source : List T) (index : List ℤ) →
+        seg_back_of source index (length source ∷ []) (length index ∷ []) ≡ back_of source index }
+    ensures select { (source : List T) (index : List ℤ) (flags : List Bool) →
+        seg_select_of source index flags (length source ∷ []) ≡ select_of source index flags }
+    ensures default_into { (source : List T) (index : List ℤ) (defaults : List T) →
+        seg_default_of source index defaults (length source ∷ []) (length defaults ∷ []) ≡ default_of source index defaults }
+    ensures pack { (xs : List T) (flags : List Bool) →
+        seg_pack_of xs flags (length xs ∷ []) ≡ pack_of xs flags }
+    ensures count { (flags : List Bool) → seg_count_of flags (length flags ∷ []) ≡ Ok (count_of flags ∷ []) }
+{}

@@ -1,0 +1,85 @@
+//! The calls whose result is an integer vector, but `select`.
+
+ghost use Rattle.std.specs.Prelude.{◌≡◌, ◌≤◌, IfOk, length, vec_len};
+ghost use Rattle.cvl_base.specs.Elementwise.{ints_from_bools, ints1_of, ints2_of};
+ghost use Rattle.cvl_base.specs.Gives.{Gives};
+ghost use Rattle.cvl_base.specs.Limits.{most_elements};
+
+use crate::on_each::values_on_each;
+use crate::on_pairs::values_on_pairs;
+use crate::on_pairs_or::values_on_pairs_or;
+use crate::partials::{Div, Lsh, Mod, Rsh};
+use crate::singles::{IntOfBool, NotInt};
+use crate::totals::{Add, And, Ior, Max, Min, Mul, Sub, Xor};
+use cvl_base::{Config, Fault, FaultNo, IntBinary, Memory, NoResources, Refused, Unary};
+use std::thread::Threads;
+
+/// The operator on each two elements at the same place: `add_wuz` and its like.
+///
+/// The vectors have at most 4,194,304 elements, and the result is as long as they are. The faults are, in this order,
+/// `LengthMismatch`, without a place, where one is longer, and `DivideByZero` or `ShiftOutOfRange` at the least place,
+/// counted from 0, where a quotient, a remainder or a shift has no value. Source: CVL's elementwise calls.
+pub fn int2<R: Threads + Sync, A: Memory>(
+    rt: &R,
+    alloc: A,
+    _config: Config,
+    op: IntBinary,
+    a: &[i32],
+    b: &[i32],
+) -> Result<Vec<i32, A>, Refused>
+    requires in_limit { length a.now ≤ most_elements }
+    ensures values { Gives (λ v. v.items) result (ints2_of op a.now b.now) }
+    ensures as_long { IfOk result (λ v. vec_len v ≡ length a.now) }
+{
+    if a.len() != b.len() {
+        return Err(Refused::Fault(Fault::new(FaultNo::LengthMismatch)));
+    }
+    match op {
+        IntBinary::Add => Ok(values_on_pairs::<Add, i32, i32, i32, R, A>(rt, alloc, a, b)?),
+        IntBinary::Sub => Ok(values_on_pairs::<Sub, i32, i32, i32, R, A>(rt, alloc, a, b)?),
+        IntBinary::Mul => Ok(values_on_pairs::<Mul, i32, i32, i32, R, A>(rt, alloc, a, b)?),
+        IntBinary::Div => values_on_pairs_or::<Div, A>(alloc, a, b),
+        IntBinary::Mod => values_on_pairs_or::<Mod, A>(alloc, a, b),
+        IntBinary::Min => Ok(values_on_pairs::<Min, i32, i32, i32, R, A>(rt, alloc, a, b)?),
+        IntBinary::Max => Ok(values_on_pairs::<Max, i32, i32, i32, R, A>(rt, alloc, a, b)?),
+        IntBinary::Lsh => values_on_pairs_or::<Lsh, A>(alloc, a, b),
+        IntBinary::Rsh => values_on_pairs_or::<Rsh, A>(alloc, a, b),
+        IntBinary::And => Ok(values_on_pairs::<And, i32, i32, i32, R, A>(rt, alloc, a, b)?),
+        IntBinary::Ior => Ok(values_on_pairs::<Ior, i32, i32, i32, R, A>(rt, alloc, a, b)?),
+        IntBinary::Xor => Ok(values_on_pairs::<Xor, i32, i32, i32, R, A>(rt, alloc, a, b)?),
+    }
+}
+
+/// The operator on each element: `not_wuz` and `cpy_wuz`.
+///
+/// The result is as long as `a`. There is no fault. Source: CVL's elementwise calls.
+pub fn int1<R: Threads + Sync, A: Memory>(
+    rt: &R,
+    alloc: A,
+    _config: Config,
+    op: Unary,
+    a: &[i32],
+) -> Result<Vec<i32, A>, NoResources>
+    ensures values { IfOk result (λ v. v.items ≡ ints1_of op a.now) }
+    ensures as_long { IfOk result (λ v. vec_len v ≡ length a.now) }
+{
+    match op {
+        Unary::Not => values_on_each::<NotInt, i32, i32, R, A>(rt, alloc, a),
+        Unary::Copy => Ok(Vec::from_slice(alloc, a)?),
+    }
+}
+
+/// 1 at each place where the boolean is true, and 0 where it is false: `int_wub`.
+///
+/// The result is as long as `a`. There is no fault. Source: CVL's conversions.
+pub fn int_from_bool<R: Threads + Sync, A: Memory>(
+    rt: &R,
+    alloc: A,
+    _config: Config,
+    a: &[bool],
+) -> Result<Vec<i32, A>, NoResources>
+    ensures values { IfOk result (λ v. v.items ≡ ints_from_bools a.now) }
+    ensures as_long { IfOk result (λ v. vec_len v ≡ length a.now) }
+{
+    values_on_each::<IntOfBool, bool, i32, R, A>(rt, alloc, a)
+}

@@ -1,0 +1,152 @@
+//! Values worked out by hand, and a long vector for each walk that several threads share.
+
+use super::*;
+use cvl_base::{BoolBinary, Comparison, Config, Fault, FaultNo, IntBinary, Refused, Unary};
+
+/// As many elements as a vector may have.
+const LONGEST: usize = 4_194_304;
+
+#[test]
+fn two_integer_vectors(rt: HostRuntime) {
+    let config = Config::new(4096, 4).expect(&rt, "in range");
+    for (op, a, b, values) in [
+        (
+            IntBinary::Add,
+            [2147483647, -5, 7],
+            [1, 2, -7],
+            [-2147483648, -3, 0],
+        ),
+        (
+            IntBinary::Div,
+            [-7, -2147483648, 7],
+            [2, -1, 1],
+            [-3, -2147483648, 7],
+        ),
+        (
+            IntBinary::Mod,
+            [-7, -2147483648, 7],
+            [2, -1, -2],
+            [-1, 0, 1],
+        ),
+        (
+            IntBinary::Lsh,
+            [1, 3, -1],
+            [31, 31, 1],
+            [-2147483648, -2147483648, -2],
+        ),
+        (IntBinary::Rsh, [-7, 7, 1], [1, 1, 0], [-4, 3, 1]),
+    ] {
+        let answer = int2(&rt, rt.alloc(), config, op, a.as_slice(), b.as_slice()).expect(
+            &rt, "no fault",
+        );
+        assert_eq!(rt; answer.as_slice(), values.as_slice(), "{op:?}");
+    }
+}
+
+#[test]
+fn faults(rt: HostRuntime) {
+    let config = Config::new(4096, 4).expect(&rt, "in range");
+    let least = int2(
+        &rt,
+        rt.alloc(),
+        config,
+        IntBinary::Div,
+        &[8, 6, 4, 2],
+        &[2, 0, 0, 1],
+    );
+    assert_eq!(rt;
+        least.err(),
+        Some(Refused::Fault(Fault::at(FaultNo::DivideByZero, 1)))
+    );
+    let shifted = int2(&rt, rt.alloc(), config, IntBinary::Lsh, &[1, 1], &[0, 32]);
+    assert_eq!(rt;
+        shifted.err(),
+        Some(Refused::Fault(Fault::at(FaultNo::ShiftOutOfRange, 1)))
+    );
+    let shorter = int2(&rt, rt.alloc(), config, IntBinary::Div, &[1, 2], &[0]);
+    assert_eq!(rt;
+        shorter.err(),
+        Some(Refused::Fault(Fault::new(FaultNo::LengthMismatch)))
+    );
+}
+
+#[test]
+fn comparison_choice_and_conversions(rt: HostRuntime) {
+    let config = Config::new(4096, 4).expect(&rt, "in range");
+    let alloc = rt.alloc();
+    let greater = compare(
+        &rt,
+        alloc,
+        config,
+        Comparison::Greater,
+        &[5, 0, 5],
+        &[1, 1, 1],
+    )
+    .expect(&rt, "equally long");
+    assert_eq!(rt; greater.as_slice(), [true, false, true].as_slice());
+    let chosen = select(&rt, alloc, config, &greater, &[1, 2, 3], &[4, 5, 6]).expect(
+        &rt,
+        "equally long",
+    );
+    assert_eq!(rt; chosen.as_slice(), [1, 5, 3].as_slice());
+    let truths = bool_from_int(&rt, alloc, config, &[0, -3, 0]).expect(&rt, "memory");
+    assert_eq!(rt; truths.as_slice(), [false, true, false].as_slice());
+    let numbers = int_from_bool(&rt, alloc, config, &truths).expect(&rt, "memory");
+    assert_eq!(rt; numbers.as_slice(), [0, 1, 0].as_slice());
+    let turned = bool1(&rt, alloc, config, Unary::Not, &truths).expect(&rt, "memory");
+    assert_eq!(rt; turned.as_slice(), [true, false, true].as_slice());
+    let both = bool2(&rt, alloc, config, BoolBinary::And, &truths, &turned).expect(
+        &rt,
+        "equally long",
+    );
+    assert_eq!(rt; both.as_slice(), [false, false, false].as_slice());
+    let not = int1(&rt, alloc, config, Unary::Not, &[1, 2, 3]).expect(&rt, "memory");
+    assert_eq!(rt; not.as_slice(), [-2, -3, -4].as_slice());
+    let copy = int1(&rt, alloc, config, Unary::Copy, &[1, 2, 3]).expect(&rt, "memory");
+    assert_eq!(rt; copy.as_slice(), [1, 2, 3].as_slice());
+}
+
+#[test]
+fn long_vectors(rt: HostRuntime) {
+    let config = Config::new(4096, 4).expect(&rt, "in range");
+    let alloc = rt.alloc();
+    let mut places = Vec::with_capacity(alloc, LONGEST).expect(&rt, "memory");
+    for place in 0..LONGEST {
+        places.push(place as i32).expect(&rt, "memory");
+    }
+    assert!(rt; places.len() <= LONGEST);
+    let twice = int2(&rt, alloc, config, IntBinary::Add, &places, &places).expect(
+        &rt,
+        "equally long",
+    );
+    let even = int2(&rt, alloc, config, IntBinary::And, &places, &twice).expect(
+        &rt,
+        "equally long",
+    );
+    let flags = compare(&rt, alloc, config, Comparison::Greater, &places, &even).expect(
+        &rt,
+        "equally long",
+    );
+    let turned = int1(&rt, alloc, config, Unary::Not, &places).expect(&rt, "memory");
+    let chosen = select(&rt, alloc, config, &flags, &places, &turned).expect(&rt, "equally long");
+    let long = [
+        twice.len(),
+        even.len(),
+        flags.len(),
+        turned.len(),
+        chosen.len(),
+    ];
+    assert_eq!(rt; long, [LONGEST; 5]);
+    for (place, sum, flag, choice) in [
+        (0, 0, false, -1),
+        (1, 2, true, 1),
+        (65_535, 131_070, true, 65_535),
+        (65_536, 131_072, true, 65_536),
+        (3_000_001, 6_000_002, true, 3_000_001),
+        (4_194_303, 8_388_606, true, 4_194_303),
+    ] {
+        assert_eq!(rt; twice.get(place), Some(&sum));
+        assert_eq!(rt; flags.get(place), Some(&flag));
+        assert_eq!(rt; chosen.get(place), Some(&choice));
+    }
+}

@@ -1,0 +1,39 @@
+//! The operators on two booleans.
+
+ghost use Rattle.cvl_base.specs.Booleans.{both, either, differ};
+
+use crate::on_pairs::Binary;
+use cvl_base::boolean;
+
+/// Both are true.
+pub(crate) struct Both;
+
+impl Binary<bool, bool, bool> for Both {
+    ghost value = { both };
+
+    fn apply(a: bool, b: bool) -> bool {
+        boolean::and(a, b)
+    }
+}
+
+/// At least one is true.
+pub(crate) struct Either;
+
+impl Binary<bool, bool, bool> for Either {
+    ghost value = { either };
+
+    fn apply(a: bool, b: bool) -> bool {
+        boolean::ior(a, b)
+    }
+}
+
+/// Exactly one is true.
+pub(crate) struct Differ;
+
+impl Binary<bool, bool, bool> for Differ {
+    ghost value = { differ };
+
+    fn apply(a: bool, b: bool) -> bool {
+        boolean::xor(a, b)
+    }
+}

@@ -1,0 +1,6 @@
+-- The rule that an allocator refuses by.
+use Rattle.refusing_memory.specs.declared.rule.Refusal.{Refusal}
+use Rattle.refusing_memory.specs.declared.Refusing.{Refusing}
+
+abbrev pub rule_of : {B : Type 0} → Refusing B → Refusal
+rule_of heap = heap.calls.refusal

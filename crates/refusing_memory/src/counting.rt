@@ -1,0 +1,61 @@
+//! The counts of what was asked of an allocator, which several threads may add to at once.
+ghost use Rattle.std.specs.Prelude.{◌≡◌};
+
+use crate::rule::Refusal;
+use std::sync::atomic::{AtomicU64, Ordering};
+
+/// The requests and frees so far, and the rule by which requests are refused.
+#[derive(Drop)]
+pub struct Calls {
+    refusal: Refusal,
+    requests: AtomicU64,
+    refused: AtomicU64,
+    frees: AtomicU64,
+}
+
+impl Calls {
+    /// Nothing counted so far.
+    pub fn new(refusal: Refusal) -> Calls
+        ensures { result.refusal ≡ refusal }
+    {
+        Calls {
+            refusal,
+            requests: AtomicU64::new(0),
+            refused: AtomicU64::new(0),
+            frees: AtomicU64::new(0),
+        }
+    }
+
+    /// Counts a request, and says whether it is refused.
+    pub fn refuses(&self) -> bool {
+        let request = self.requests.fetch_add(1, Ordering::SeqCst);
+        let refused = self.refusal.refuses(request);
+        if refused {
+            self.refused.fetch_add(1, Ordering::SeqCst);
+        }
+        refused
+    }
+
+    /// Counts a block that is given back.
+    pub fn free(&self) {
+        self.frees.fetch_add(1, Ordering::SeqCst);
+    }
+
+    pub fn rule(&self) -> Refusal
+        ensures { result ≡ self.now.refusal }
+    {
+        self.refusal
+    }
+
+    pub fn requests(&self) -> u64 {
+        self.requests.load(Ordering::SeqCst)
+    }
+
+    pub fn refused(&self) -> u64 {
+        self.refused.load(Ordering::SeqCst)
+    }
+
+    pub fn frees(&self) -> u64 {
+        self.frees.load(Ordering::SeqCst)
+    }
+}

@@ -1,0 +1,81 @@
+-- The front of a list of numbers that was checked: none of it is negative, and its total is known.
+use Rattle.std.proofs.Common.{◌≡◌, ℕ, suc, ◌*◌, ◌<◌, ◌≤◌, Bool, true, false, ℤ, pos, negsuc, List, [], ◌∷◌, length, get_or, take, map, sum, unsigned_abs, refl, ap, ◌∙◌, subst, arith}
+use Rattle.std.specs.Prelude.{position, Option, Some, None, Ok, Err, cond, nat_lt, option_map}
+use Rattle.std.specs.Int.{is_negative}
+use Rattle.std.specs.List.{position_or_len}
+use Rattle.std.proofs.lemmas.Bool.{lt-ltb, le-ltb}
+use Rattle.std.proofs.lemmas.List.Sums.{position_or_len_is}
+use Rattle.std.proofs.Math.Seq.{take-length}
+use Rattle.cvl_base.specs.declared.fault.FaultNo.TheVariants as no
+use Rattle.cvl_base.specs.Descriptors.{AreLengths, descriptor_of}
+use Rattle.cvl_base.specs.Faults.{fault, fault_at}
+use Rattle.cvl_base.specs.Gives.{unless, fault_if}
+use Rattle.cvl_base.specs.Limits.{most_elements}
+
+pub record IsCheckedTo (i : ℕ) (numbers : List ℤ) (total : ℕ) : Type 0 where
+  pub none_negative : (k : ℕ) → k < i → is_negative (get_or numbers k (pos 0)) ≡ false
+  pub is_total : total ≡ sum (map unsigned_abs (take i numbers))
+  pub small : total ≤ i * 2147483648
+
+-- numbers of which none is negative are natural numbers
+natural : (numbers : List ℤ) → ((k : ℕ) → k < length numbers → is_negative (get_or numbers k (pos 0)) ≡ false) → numbers ≡ map pos (map unsigned_abs numbers)
+natural [] h = refl
+natural (pos n ∷ ns) h = ap (λ tail. pos n ∷ tail) (natural ns (λ k lt. h (suc k) (omega arith)))
+natural (negsuc n ∷ ns) h = let e = h 0 (omega arith) in cc
+
+-- the definition at what the two checks found
+made : (numbers : List ℤ) (p : Option ℕ) (b : Bool) → position is_negative numbers ≡ p → nat_lt most_elements (sum (map unsigned_abs numbers)) ≡ b
+    → descriptor_of numbers ≡ unless (option_map (fault_at no.NegativeLength) p) (fault_if b (fault no.TooLong) (Ok (map unsigned_abs numbers)))
+made numbers p b e f =
+    λ i. unless (option_map (fault_at no.NegativeLength) (e i)) (fault_if (f i) (fault no.TooLong) (Ok (map unsigned_abs numbers)))
+
+position-at : (numbers : List ℤ) (i : ℕ) → i < length numbers → position_or_len is_negative numbers ≡ i → position is_negative numbers ≡ Some i
+position-at numbers i lt e =
+    (λ j. cond (nat_lt (e j) (length numbers)) (Some (e j)) None) ∙ ap (λ b. cond b (Some i) None) (lt-ltb i (length numbers) lt)
+
+position-none : (numbers : List ℤ) → position_or_len is_negative numbers ≡ length numbers → position is_negative numbers ≡ None
+position-none numbers e =
+    (λ j. cond (nat_lt (e j) (length numbers)) (Some (e j)) None)
+    ∙ ap (λ b. cond b (Some (length numbers)) None) (le-ltb (length numbers) (length numbers) (omega arith))
+
+pub negative_at : (i : ℕ) (numbers : List ℤ) (total : ℕ) → IsCheckedTo i numbers total → i < length numbers → is_negative (get_or numbers i (pos 0)) ≡ true
+    → descriptor_of numbers ≡ Err (fault_at no.NegativeLength i)
+negative_at i numbers total checked lt e =
+    made numbers (Some i) (nat_lt most_elements (sum (map unsigned_abs numbers)))
+    (position-at numbers i lt (position_or_len_is is_negative numbers i (pos 0) (omega arith) checked.none_negative (λ _. e)))
+    refl
+
+-- ---- all numbers were checked
+
+checked-all : (i : ℕ) (numbers : List ℤ) (total : ℕ) → IsCheckedTo i numbers total → i ≤ length numbers → length numbers ≤ i → IsCheckedTo (length numbers) numbers total
+checked-all i numbers total checked le ge =
+    let same : i ≡ length numbers = omega arith in subst (λ (n : ℕ). IsCheckedTo n numbers total) same checked
+
+is-whole : (numbers : List ℤ) (total : ℕ) → IsCheckedTo (length numbers) numbers total → total ≡ sum (map unsigned_abs numbers)
+is-whole numbers total checked = checked.is_total ∙ ap (λ ns. sum (map unsigned_abs ns)) (take-length numbers)
+
+none-negative : (numbers : List ℤ) (total : ℕ) → IsCheckedTo (length numbers) numbers total → position is_negative numbers ≡ None
+none-negative numbers total checked =
+    position-none numbers (position_or_len_is is_negative numbers (length numbers) (pos 0) (omega arith) checked.none_negative (λ lt. absurd (omega arith)))
+
+pub too_long : (i : ℕ) (numbers : List ℤ) (total : ℕ) → IsCheckedTo i numbers total → i ≤ length numbers → length numbers ≤ i → most_elements < total
+    → descriptor_of numbers ≡ Err (fault no.TooLong)
+too_long i numbers total checked le ge long =
+    let all = checked-all i numbers total checked le ge in
+    made numbers None true (none-negative numbers total all) (lt-ltb most_elements (sum (map unsigned_abs numbers)) (omega (arith, is-whole numbers total all)))
+
+pub in_limit : (i : ℕ) (numbers : List ℤ) (total : ℕ) → IsCheckedTo i numbers total → i ≤ length numbers → length numbers ≤ i → total ≤ most_elements
+    → descriptor_of numbers ≡ Ok (map unsigned_abs numbers)
+in_limit i numbers total checked le ge short =
+    let all = checked-all i numbers total checked le ge in
+    made numbers None false (none-negative numbers total all) (le-ltb most_elements (sum (map unsigned_abs numbers)) (omega (arith, is-whole numbers total all)))
+
+pub are-lengths : (i : ℕ) (numbers : List ℤ) (total : ℕ) → IsCheckedTo i numbers total → i ≤ length numbers → length numbers ≤ i → total ≤ most_elements
+    → length numbers ≤ most_elements → AreLengths numbers
+are-lengths i numbers total checked le ge short few =
+    let all = checked-all i numbers total checked le ge in
+    record {
+      none_negative = natural numbers all.none_negative;
+      few = few;
+      in_limit = omega (arith, is-whole numbers total all);
+    }

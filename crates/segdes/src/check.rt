@@ -1,0 +1,37 @@
+//! The check that numbers are the lengths of a descriptor.
+
+ghost use Rattle.std.specs.Prelude.{◌≡◌, ◌≤◌, length, map, unsigned_abs, IfOk, MatchResult};
+ghost use Rattle.std.specs.Int.{is_negative};
+ghost use Rattle.cvl_base.specs.Descriptors.{AreLengths, descriptor_of};
+ghost use Rattle.cvl_base.specs.Limits.{most_elements};
+
+use cvl_base::limits::MOST_ELEMENTS;
+use cvl_base::{Fault, FaultNo};
+
+/// Whether a number is negative.
+fn is_below_zero(number: &i32) -> bool
+    ensures { result ≡ is_negative number.now }
+{
+    *number < 0
+}
+
+/// Checks in one pass that the numbers are the lengths of a descriptor: none is negative, else NegativeLength at the
+/// first that is, and their total is at most 4,194,304, else TooLong.
+pub(crate) fn check_lengths(numbers: &[i32]) -> Result<(), Fault>
+    requires { length numbers.now ≤ most_elements }
+    ensures meaning { MatchResult result (λ _. descriptor_of numbers.now ≡ Ok (map unsigned_abs numbers.now)) (λ f. descriptor_of numbers.now ≡ Err f) }
+    ensures lengths { IfOk result (λ _. AreLengths numbers.now) }
+{
+    // The total of at most 2^22 numbers below 2^31 fits 64 bits, so the limit is tested once, after the loop.
+    let mut total: u64 = 0;
+    for (place, number) in numbers.iter().enumerate() {
+        if is_below_zero(number) {
+            return Err(Fault::at(FaultNo::NegativeLength, place as u32));
+        }
+        total += *number as u64;
+    }
+    if total > MOST_ELEMENTS as u64 {
+        return Err(Fault::new(FaultNo::TooLong));
+    }
+    Ok(())
+}

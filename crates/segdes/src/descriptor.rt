@@ -1,0 +1,125 @@
+//! Descriptors.
+
+ghost use Rattle.std.specs.Prelude.{◌≡◌, ◌+◌, ◌<◌, ◌≤◌, pos, length, map, sum, slice_index, IfOk};
+ghost use Rattle.cvl_base.specs.Descriptors.{AreLengths, descriptor_of};
+ghost use Rattle.cvl_base.specs.Gives.{Gives};
+ghost use Rattle.cvl_base.specs.Limits.{most_elements};
+ghost use Rattle.segdes.specs.Starts.{start_of};
+
+use crate::check::check_lengths;
+use crate::starts::starts_and_total;
+use cvl_base::{Lengths, Memory, NoResources, Refused};
+use std::alloc::Allocator;
+use std::marker::Model;
+
+/// The descriptor of a segmented vector, seen as the list of its segments' lengths: at most 4,194,304 segments with
+/// at most 4,194,304 elements in all.
+///
+/// It keeps the start of each segment and the total, so that each question is answered in constant time and without
+/// memory. Segments and elements are counted by `usize`, since they index slices.
+#[derive(Drop)]
+#[derive_where(Debug; A)]
+pub struct SegDes<A: Allocator> {
+    lengths: Lengths<A>,
+    starts: Vec<u32, A>,
+    total: u32,
+}
+
+impl<A: Allocator> Model for SegDes<A> {
+    ghost use Rattle.std.specs.Prelude.{ℕ, List};
+    ghost use Rattle.segdes.specs.Starts.{IsKept};
+
+    ghost Value = { List ℕ };
+
+    ghost view = { λ d. d.lengths };
+
+    ghost invariant = { λ d. IsKept d.lengths d.starts.items d.total };
+}
+
+impl<A: Memory> SegDes<A> {
+    /// The descriptor of segments with these lengths (CVL's make-descriptor): NegativeLength at the first length that
+    /// is negative; TooLong, without a place, where none is and the total is above 4,194,304.
+    ///
+    /// The lengths are at most 4,194,304 themselves, as the elements of every vector are.
+    pub fn from_lengths(alloc: A, lengths: &[i32]) -> Result<SegDes<A>, Refused>
+        requires { length lengths.now ≤ most_elements }
+        ensures { Gives (λ d. d) result (descriptor_of lengths.now) }
+    {
+        check_lengths(lengths)?;
+        let lengths = Lengths::from_vec(Vec::from_slice(alloc, lengths)?);
+        Ok(SegDes::new(alloc, lengths)?)
+    }
+
+    /// The descriptor of segments with the lengths of a descriptor value, which are copied.
+    #[tactic(auto, using(crate::proofs::Sums::abs_pos))]
+    pub fn of(alloc: A, lengths: &Lengths<A>) -> Result<SegDes<A>, NoResources>
+        ensures { IfOk result (λ d. d ≡ lengths.now) }
+    {
+        let lengths = Lengths::from_vec(Vec::from_slice(alloc, lengths.as_slice())?);
+        SegDes::new(alloc, lengths)
+    }
+}
+
+impl<A: Allocator> SegDes<A> {
+    /// The descriptor of segments with these lengths, which it keeps.
+    pub fn new(alloc: A, lengths: Lengths<A>) -> Result<SegDes<A>, NoResources>
+        ensures { IfOk result (λ d. d ≡ lengths) }
+    {
+        let (starts, total) = starts_and_total(alloc, &lengths)?;
+        Ok(SegDes {
+            lengths,
+            starts,
+            total,
+        })
+    }
+
+    /// How many segments there are, empty ones included.
+    pub fn count(&self) -> usize
+        ensures value { result ≡ length self.now }
+        ensures in_limit { result ≤ most_elements }
+    {
+        self.lengths.as_slice().len()
+    }
+
+    /// How many elements segment `s` has, which is below `count`.
+    #[tactic(auto, using(crate::proofs::Sums::length_at))]
+    pub fn length(&self, s: usize) -> usize
+        requires { s < length self.now }
+        ensures { result ≡ slice_index self.now s }
+    {
+        self.lengths.as_slice()[s] as usize
+    }
+
+    /// Where segment `s`, which is below `count`, starts: the sum of the lengths before it. All of the segment lies
+    /// within the total.
+    pub fn start(&self, s: usize) -> usize
+        requires { s < length self.now }
+        ensures value { result ≡ start_of self.now s }
+        ensures within { result + slice_index self.now s ≤ sum self.now }
+    {
+        self.starts[s] as usize
+    }
+
+    /// How many elements the segments have in all.
+    pub fn total(&self) -> usize
+        ensures value { result ≡ sum self.now }
+        ensures in_limit { result ≤ most_elements }
+    {
+        self.total as usize
+    }
+
+    /// The lengths of the segments.
+    pub fn lengths(&self) -> &[i32]
+        ensures value { result.now ≡ map pos self.now }
+        ensures lengths { AreLengths result.now }
+    {
+        self.lengths.as_slice()
+    }
+
+    /// The lengths of the segments as a descriptor value, without taking memory.
+    pub fn into_lengths(self) -> Lengths<A>
+        ensures { result ≡ self }
+    {
+        self.lengths
+    }
+}

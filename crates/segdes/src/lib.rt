@@ -1,0 +1,14 @@
+//! Descriptors of segmented vectors: how long the segments are and where each one starts.
+//!
+//! A segmented vector is a flat vector beside a descriptor. Its segments lie one after another in the flat vector, so
+//! segment s starts at the sum of the lengths of the segments before it. Segments and elements are counted from 0.
+#![tactic(auto)]
+
+mod check;
+pub mod descriptor;
+mod starts;
+
+pub use descriptor::SegDes;
+
+#[cfg(test)]
+mod tests;

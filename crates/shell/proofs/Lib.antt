@@ -1,0 +1,4 @@
+mod Appended
+mod Cuts
+mod Taken
+mod Underway

@@ -1,0 +1,11 @@
+use Rattle.std.proofs.Common.{◌∙◌, arith}
+use Rattle.shell.proofs.Taken.{front_taken}
+use Rattle.shell.proofs.puts.put_all.Goals as goal
+
+pub loop-put-preserved : goal.loop-put-preserved
+loop-put-preserved g c =
+    let put = c.in_ok-put.ensures in (
+      omega (arith, put.0, c.split_at.ensures.back_len),
+      front_taken _ _ _ _ _ _ c.loop-put.invariant.1 (rw c.split_at.ensures.back at put.2),
+      put.3 ∙ c.loop-put.invariant.2,
+    )

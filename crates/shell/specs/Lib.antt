@@ -1,0 +1,7 @@
+pub mod Ends
+pub mod LineRuns
+pub mod LinesLeft
+pub mod Meaning
+pub mod MemSinks
+pub mod Sinks
+pub mod StopTexts

@@ -1,0 +1,21 @@
+//! The shell: scripts are run over inputs, and their text goes to a sink.
+#![tactic(auto)]
+
+pub mod host;
+mod lines;
+pub mod mem_sink;
+pub mod programs;
+mod puts;
+pub mod runs;
+pub mod sink;
+pub mod stop;
+mod stop_parts;
+#[cfg(test)]
+mod tests;
+
+pub use host::Host;
+pub use mem_sink::MemSink;
+pub use programs::program;
+pub use runs::run;
+pub use sink::{Sink, SinkFault};
+pub use stop::{Stop, put_stop};

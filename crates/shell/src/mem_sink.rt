@@ -1,0 +1,83 @@
+//! A sink that keeps the text in memory.
+
+use crate::sink::{Sink, SinkFault};
+use cvl_base::{Memory, NoResources};
+use std::alloc::Allocator;
+use std::marker::Model;
+
+/// A sink that keeps all bytes in memory, and fails where there is no memory for them.
+#[derive(Drop)]
+#[derive_where(Debug; A)]
+pub struct MemSink<A: Allocator> {
+    bytes: Vec<u8, A>,
+    failures: u64,
+}
+
+impl<A: Allocator> Model for MemSink<A> {
+    ghost use Rattle.shell.specs.MemSinks.{Kept};
+
+    ghost Value = { Kept };
+
+    ghost view = { λ s. record { bytes = s.bytes.items; failures = s.failures } };
+}
+
+impl<A: Allocator> MemSink<A> {
+    ghost use Rattle.std.specs.Prelude.{◌≡◌, [], IfOk};
+
+    /// A sink that has taken nothing.
+    pub fn new(alloc: A) -> MemSink<A>
+        ensures bytes { result.bytes ≡ [] }
+        ensures failures { result.failures ≡ 0 }
+    {
+        MemSink {
+            bytes: Vec::new(alloc),
+            failures: 0,
+        }
+    }
+
+    /// A sink that has taken nothing, with room for as many bytes.
+    pub fn with_room(alloc: A, room: usize) -> Result<MemSink<A>, NoResources>
+        ensures bytes { IfOk result (λ sink. sink.bytes ≡ []) }
+        ensures failures { IfOk result (λ sink. sink.failures ≡ 0) }
+    {
+        Ok(MemSink {
+            bytes: Vec::with_capacity(alloc, room)?,
+            failures: 0,
+        })
+    }
+
+    /// The bytes taken so far.
+    pub fn bytes(&self) -> &[u8]
+        ensures { result.now ≡ self.now.bytes }
+    {
+        self.bytes.as_slice()
+    }
+
+    /// The bytes taken, as a `Vec`.
+    pub fn into_vec(self) -> Vec<u8, A>
+        ensures { result.items ≡ self.bytes }
+    {
+        self.bytes
+    }
+}
+
+impl<A: Allocator> Sink for MemSink<A> {
+    ghost use Rattle.std.specs.Prelude.{Some};
+
+    ghost taken = { λ s. Some s.bytes };
+
+    ghost failures = { λ s. s.failures };
+
+    fn put(&mut self, bytes: &[u8]) -> Result<usize, SinkFault> {
+        if bytes.is_empty() {
+            return Ok(0);
+        }
+        match self.bytes.extend_from_slice(bytes) {
+            Ok(()) => Ok(bytes.len()),
+            Err(_) => {
+                self.failures += 1;
+                Err(SinkFault)
+            }
+        }
+    }
+}

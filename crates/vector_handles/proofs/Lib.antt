@@ -1,0 +1,2 @@
+pub mod ArgumentFaults
+pub mod BoundNames

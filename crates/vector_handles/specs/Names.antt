@@ -1,0 +1,24 @@
+-- The bound names: a finite map from names to values, as the list of its entries in the order of the names.
+use Rattle.std.specs.Prelude.{ℕ, Bool, List, length, nat_lt, Option, ◌||◌, is_some}
+use Rattle.std.specs.Ordering.{nat_cmp}
+use Rattle.std.specs.Cmp.Lexicographic.{slice_cmp}
+use Rattle.std.specs.Map.{lookup}
+use Rattle.std.specs.BTreeMap.{insert_entry, is_at}
+use Rattle.cvl_base.specs.declared.value.Value.{Value}
+use Rattle.cvl_base.specs.Limits.{most_names}
+
+abbrev pub Entries : Type 0 → Type 0
+Entries A = List (List ℕ × Value A)
+
+module _ {A : Type 0} where
+  -- the value that is bound to a name
+  abbrev pub value_at : Entries A → List ℕ → Option (Value A)
+  value_at names name = lookup (is_at (slice_cmp nat_cmp name)) names
+
+  -- the same names, with the value at this one in place of what was bound there
+  abbrev pub bind : Entries A → List ℕ → Value A → Entries A
+  bind names name bound = insert_entry (slice_cmp nat_cmp) names name bound
+
+  -- a name that is bound may be bound again, and a new one where fewer than 4,096 are
+  abbrev pub has_room : Entries A → List ℕ → Bool
+  has_room names name = is_some (value_at names name) || nat_lt (length names) most_names

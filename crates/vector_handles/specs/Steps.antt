@@ -1,0 +1,60 @@
+-- The meaning of a line: from the bound names and the inputs, either the new names with the text of the line, or the
+-- first fault in the order of checks. A binding changes its one name, and a write changes none.
+-- Source: this library's script format.
+use Rattle.std.specs.Prelude.{ℕ, not, List, [], ◌∷◌, ◌++◌, length, codes, slice_get, Option, Some, None, Result, Ok}
+use Rattle.cvl_base.specs.declared.value.Value.{Value}
+use Rattle.cvl_base.specs.declared.call.Arg.{Arg}
+use Rattle.cvl_base.specs.declared.call.Arg.TheVariants as arg
+use Rattle.cvl_base.specs.declared.call.Call.{Call}
+use Rattle.cvl_base.specs.declared.operation.Op.{Op}
+use Rattle.cvl_base.specs.declared.fault.Fault.{Fault}
+use Rattle.cvl_base.specs.declared.fault.FaultNo.TheVariants.{TooManyNames, LengthMismatch}
+use Rattle.cvl_base.specs.Faults.{fault}
+use Rattle.cvl_base.specs.Gives.{◌>>=◌, unless, fault_if}
+use Rattle.call_reader.specs.Texts.{text_of, nested_text_of, is_cut_by}
+use Rattle.vector_handles.specs.declared.input.Input.{Input}
+use Rattle.vector_handles.specs.CallValues.{call_value}
+use Rattle.vector_handles.specs.Names.{Entries, value_at, bind, has_room}
+use Rattle.vector_handles.specs.Arguments.{args_fault, argument_at, lengths_in}
+
+-- what a line leaves: the bound names, and the text where it is a write
+pub record Stepped (A : Type 0) : Type 0 where
+  pub names : Entries A
+  pub shown : Option (List ℕ)
+
+-- the name of an argument; a literal has none
+abbrev pub name_in : Option Arg → List ℕ
+name_in (Some (arg.Name name)) = name
+name_in _ = []
+
+-- bytes, and behind them a text where there is one
+abbrev pub after_bytes : List ℕ → Result (List ℕ) Fault → Result (List ℕ) Fault
+after_bytes bytes text = text >>= λ added. Ok (bytes ++ added)
+
+module _ {A : Type 0} where
+  -- the text of a vector as its segments, where the lengths add up to the vector's
+  abbrev pub cut_text : List ℕ → Value A → Result (List ℕ) Fault
+  cut_text lengths v = fault_if (not (is_cut_by lengths v)) (fault LengthMismatch) (Ok (nested_text_of lengths v))
+
+  -- the value's text, or that of a vector beside its descriptor
+  abbrev pub value_text : Option (Value A) → Option (Value A) → Result (List ℕ) Fault
+  value_text None beside = Ok []
+  value_text (Some v) None = Ok (text_of v)
+  value_text (Some v) (Some d) = cut_text (lengths_in (Some d)) v
+
+  -- the name, ` = `, the value and a line feed (10)
+  abbrev pub written : Entries A → List Arg → Result (List ℕ) Fault
+  written names args =
+      value_text (argument_at names args 0) (argument_at names args 1)
+      >>= λ text. Ok (name_in (slice_get args 0) ++ codes " = " ++ text ++ (10 ∷ []))
+
+  -- what is done once the arguments are right
+  abbrev pub performed : Entries A → List (Input A) → Option (List ℕ) → Op → List Arg → Result (Stepped A) Fault
+  performed names inputs None op args = written names args >>= λ text. Ok (record { names = names; shown = Some text })
+  performed names inputs (Some target) op args =
+      fault_if (not (has_room names target)) (fault TooManyNames)
+      (call_value inputs op (argument_at names args) >>= λ v. Ok (record { names = bind names target v; shown = None }))
+
+  abbrev pub step : Entries A → List (Input A) → Call A → Result (Stepped A) Fault
+  step names inputs call =
+      unless (args_fault names call.op (length call.args) 0 call.args) (performed names inputs call.target call.op call.args)

@@ -1,0 +1,96 @@
+//! The value that a call gives, family by family.
+
+ghost use Rattle.cvl_base.specs.Gives.{Gives};
+ghost use Rattle.cvl_base.specs.declared.families.Cut.TheVariants.{Flat};
+ghost use Rattle.cvl_base.specs.declared.operation.Op.TheVariants as op;
+ghost use Rattle.vector_handles.specs.Arguments.{argument_at};
+ghost use Rattle.vector_handles.specs.CallValues.{call_value, table_value};
+
+use crate::lookups::{integer_at, integers_at, lengths_at};
+use crate::numbered::{input_numbered, integers_of_input};
+use crate::session::Session;
+use cvl_base::{Arg, Cut, Fault, FaultNo, IntBinary, IntMonoid, Ints, Memory, Op, Refused, Value};
+use elementwise::int2;
+use scan_ops::int_scan;
+use segdes::SegDes;
+use std::thread::Threads;
+
+impl<A: Memory> Session<A> {
+    /// The value that a call gives; `UnknownCall` where the library performs no such call.
+    pub(crate) fn value_of_call<R: Threads + Sync>(
+        &self,
+        rt: &R,
+        op: Op,
+        args: &[Arg],
+    ) -> Result<Value<A>, Refused>
+        ensures { Gives (λ v. v) result (call_value self.now.inputs op (argument_at self.now.names args.now)) }
+    {
+        if !op.is_done() {
+            return Err(Refused::Fault(Fault::new(FaultNo::UnknownCall)));
+        }
+        match op {
+            Op::Input => self.value_of_input(args),
+            Op::Ints2(operator) => self.value_of_ints2(rt, operator, args),
+            Op::Scan(operator, Cut::Flat) => self.value_of_scan(rt, operator, args),
+            Op::MakeDescriptor => self.new_descriptor(args),
+            Op::DescriptorLengths => self.lengths_of_descriptor(args),
+            _ => Err(Refused::Fault(Fault::new(FaultNo::UnknownCall))),
+        }
+    }
+
+    /// `input`: `NoSuchInput` where no input has that number, and the faults of reading it.
+    fn value_of_input(&self, args: &[Arg]) -> Result<Value<A>, Refused>
+        ensures { Gives (λ v. v) result (table_value self.now.inputs op.Input (argument_at self.now.names args.now)) }
+    {
+        let number = integer_at(&self.names, args, 0);
+        match input_numbered(self.inputs.as_slice(), &number) {
+            Some(input) => Ok(Value::Integers(integers_of_input(self.alloc, input)?)),
+            None => Err(Refused::Fault(Fault::new(FaultNo::NoSuchInput))),
+        }
+    }
+
+    /// An operator on two integer vectors.
+    fn value_of_ints2<R: Threads + Sync>(
+        &self,
+        rt: &R,
+        operator: IntBinary,
+        args: &[Arg],
+    ) -> Result<Value<A>, Refused>
+        ensures { Gives (λ v. v) result (table_value self.now.inputs (op.Ints2 operator) (argument_at self.now.names args.now)) }
+    {
+        let a = integers_at(&self.names, args, 0);
+        let b = integers_at(&self.names, args, 1);
+        let values = int2(rt, self.alloc, self.config, operator, a, b)?;
+        Ok(Value::Integers(Ints::from_vec(values)))
+    }
+
+    /// A scan of an integer vector.
+    fn value_of_scan<R: Threads + Sync>(
+        &self,
+        rt: &R,
+        operator: IntMonoid,
+        args: &[Arg],
+    ) -> Result<Value<A>, Refused>
+        ensures { Gives (λ v. v) result (table_value self.now.inputs (op.Scan operator Flat) (argument_at self.now.names args.now)) }
+    {
+        let a = integers_at(&self.names, args, 0);
+        let sums = int_scan(rt, self.alloc, self.config, operator, a)?;
+        Ok(Value::Integers(Ints::from_vec(sums)))
+    }
+
+    /// `mke_fov`: the descriptor with these lengths.
+    fn new_descriptor(&self, args: &[Arg]) -> Result<Value<A>, Refused>
+        ensures { Gives (λ v. v) result (table_value self.now.inputs op.MakeDescriptor (argument_at self.now.names args.now)) }
+    {
+        let descriptor = SegDes::from_lengths(self.alloc, integers_at(&self.names, args, 0))?;
+        Ok(Value::Descriptor(descriptor.into_lengths()))
+    }
+
+    /// `len_fos`: the lengths of a descriptor.
+    fn lengths_of_descriptor(&self, args: &[Arg]) -> Result<Value<A>, Refused>
+        ensures { Gives (λ v. v) result (table_value self.now.inputs op.DescriptorLengths (argument_at self.now.names args.now)) }
+    {
+        let lengths = Vec::from_slice(self.alloc, lengths_at(&self.names, args, 0))?;
+        Ok(Value::Integers(Ints::from_vec(lengths)))
+    }
+}

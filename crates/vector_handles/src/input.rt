@@ -1,0 +1,14 @@
+//! The inputs of a script.
+
+use cvl_base::Ints;
+use std::alloc::Allocator;
+
+/// An input of a script.
+#[derive(Drop)]
+#[derive_where(Debug; A)]
+pub enum Input<A: Allocator> {
+    /// The bytes of a file: integers in decimal between white space, read when the script asks for them.
+    Bytes(Vec<u8, A>),
+    /// A vector of integers.
+    Vector(Ints<A>),
+}

@@ -1,0 +1,18 @@
+//! The bound names of a script and the calls on them.
+#![tactic(auto)]
+
+mod arguments;
+mod bindings;
+mod calls;
+pub mod input;
+pub mod laws;
+mod lookups;
+mod names;
+mod numbered;
+pub mod session;
+pub mod shown;
+mod writes;
+
+pub use input::Input;
+pub use session::Session;
+pub use shown::Shown;

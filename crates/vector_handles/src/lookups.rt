@@ -1,0 +1,78 @@
+//! What the arguments of a call hold, by their places. Of a missing argument, or one of another kind, nothing.
+
+ghost use Rattle.std.specs.Prelude.{◌≡◌, ◌≤◌, length, map, option_copied, pos};
+ghost use Rattle.cvl_base.specs.Limits.{most_elements};
+ghost use Rattle.vector_handles.specs.Arguments.{argument_at, integer_in, integers_in, lengths_in};
+
+use crate::names::{Names, value_of};
+use cvl_base::{Arg, Memory, Value};
+
+/// The integers of a vector.
+pub(crate) fn integers_at<'a, A: Memory>(
+    names: &'a Names<A>,
+    args: &[Arg],
+    place: usize,
+) -> &'a [i32]
+    ensures value { result.now ≡ integers_in (argument_at names.now.entries args.now place) }
+    ensures in_limit { length result.now ≤ most_elements }
+{
+    match args.get(place) {
+        Some(Arg::Name(name)) => integers_of(value_of(names, name)),
+        _ => &[],
+    }
+}
+
+/// An integer.
+pub(crate) fn integer_at<A: Memory>(names: &Names<A>, args: &[Arg], place: usize) -> i32
+    ensures { result ≡ integer_in (argument_at names.now.entries args.now place) }
+{
+    match args.get(place) {
+        Some(Arg::Name(name)) => integer_of(value_of(names, name)),
+        Some(Arg::Integer(n)) => *n,
+        _ => 0,
+    }
+}
+
+fn integers_of<'a, A: Memory>(value: Option<&'a Value<A>>) -> &'a [i32]
+    ensures value { result.now ≡ integers_in (option_copied value.entry) }
+    ensures in_limit { length result.now ≤ most_elements }
+{
+    match value {
+        Some(Value::Integers(xs)) => xs.as_slice(),
+        _ => &[],
+    }
+}
+
+fn integer_of<A: Memory>(value: Option<&Value<A>>) -> i32
+    ensures { result ≡ integer_in (option_copied value.entry) }
+{
+    match value {
+        Some(Value::Integer(n)) => *n,
+        _ => 0,
+    }
+}
+
+/// The lengths of a descriptor.
+pub(crate) fn lengths_at<'a, A: Memory>(
+    names: &'a Names<A>,
+    args: &[Arg],
+    place: usize,
+) -> &'a [i32]
+    ensures value { result.now ≡ map pos (lengths_in (argument_at names.now.entries args.now place)) }
+    ensures in_limit { length result.now ≤ most_elements }
+{
+    match args.get(place) {
+        Some(Arg::Name(name)) => lengths_of(value_of(names, name)),
+        _ => &[],
+    }
+}
+
+fn lengths_of<'a, A: Memory>(value: Option<&'a Value<A>>) -> &'a [i32]
+    ensures value { result.now ≡ map pos (lengths_in (option_copied value.entry)) }
+    ensures in_limit { length result.now ≤ most_elements }
+{
+    match value {
+        Some(Value::Descriptor(lengths)) => lengths.as_slice(),
+        _ => &[],
+    }
+}

@@ -1,0 +1,88 @@
+//! Sessions: bound names and inputs, on which calls are made.
+
+ghost use Rattle.std.specs.Prelude.{◌≡◌, [], IfOk, OnErr, option_copied};
+
+use crate::arguments::fault_of_args;
+use crate::input::Input;
+use crate::names::{Names, value_of};
+use crate::shown::Shown;
+use cvl_base::{Call, Config, Memory, Name, NoResources, Refused, Value};
+use std::collections::BTreeMap;
+use std::marker::Model;
+use std::thread::Threads;
+
+/// The names that a script has bound, with their values, and its inputs.
+#[derive(Drop)]
+pub struct Session<A: Memory> {
+    pub(crate) config: Config,
+    pub(crate) names: Names<A>,
+    pub(crate) inputs: Vec<Input<A>, A>,
+    pub(crate) alloc: A,
+}
+
+impl<A: Memory> Model for Session<A> {
+    ghost use Rattle.vector_handles.specs.Sessions.{State};
+
+    ghost Value = { State A };
+
+    ghost view = { λ s. record { names = s.names.entries; inputs = s.inputs.items } };
+}
+
+impl<A: Memory> Session<A> {
+    ghost use Rattle.vector_handles.specs.Names.{value_at};
+    ghost use Rattle.vector_handles.specs.Sessions.{text_shown};
+    ghost use Rattle.vector_handles.specs.Steps.{Stepped, step};
+    ghost use Rattle.cvl_base.specs.Gives.{Gives};
+
+    /// A session with no name bound, over these inputs, which a script counts from 1.
+    pub fn new(
+        alloc: A,
+        config: Config,
+        inputs: Vec<Input<A>, A>,
+    ) -> Result<Session<A>, NoResources>
+        ensures names { IfOk result (λ session. session.names ≡ []) }
+        ensures inputs { IfOk result (λ session. session.inputs ≡ inputs.items) }
+    {
+        Ok(Session {
+            config,
+            names: BTreeMap::new(alloc),
+            inputs,
+            alloc,
+        })
+    }
+
+    /// Makes one call, as a line of a script asks for it: a binding binds its one name to what the call gives and shows
+    /// nothing, and a write shows its text and binds nothing.
+    ///
+    /// The first fault is told, in this order: for each argument from left to right `UnknownName` and then `WrongKind`;
+    /// `TooManyNames` where the target is a new name and 4,096 are bound; then those of the call, or `LengthMismatch`
+    /// where the lengths of a written descriptor don't add up to the vector's. After a refusal no name has changed, so
+    /// that the same call can be made again. Source: this library's script format.
+    pub fn apply<R: Threads + Sync>(&mut self, rt: &R, call: &Call<A>) -> Result<Shown<A>, Refused>
+        ensures meaning { Gives (λ shown. record { names = self.new.names; shown = text_shown shown }) result (step self.old.names self.old.inputs call.now) }
+        ensures inputs { self.new.inputs ≡ self.old.inputs }
+        ensures refused { OnErr result (self.new.names ≡ self.old.names) }
+    {
+        let args = call.args.as_slice();
+        if let Some(fault) = fault_of_args(&self.names, call.op, args) {
+            return Err(Refused::Fault(fault));
+        }
+        match call.target {
+            None => Ok(Shown::Text(self.text_of_write(args)?)),
+            Some(target) => {
+                self.bind(rt, &target, call.op, args)?;
+                Ok(Shown::Nothing)
+            }
+        }
+    }
+
+    /// The value that is bound to a name.
+    pub fn get(&self, name: &Name) -> Option<&Value<A>>
+        ensures { option_copied result ≡ value_at self.now.names name.now }
+    {
+        value_of(&self.names, name)
+    }
+}
+
+#[cfg(test)]
+mod tests;

@@ -1,0 +1,15 @@
+use Rattle.std.proofs.Common.{refl}
+use Rattle.std.specs.Int.{int_wrap}
+use Rattle.worked_values.proofs.elementwise.operators.Goals as goal
+
+pub returns-clause-sums : goal.returns-clause-sums
+unfolding int_wrap
+returns-clause-sums c = refl
+
+pub returns-clause-differences : goal.returns-clause-differences
+unfolding int_wrap
+returns-clause-differences c = refl
+
+pub returns-clause-products : goal.returns-clause-products
+unfolding int_wrap
+returns-clause-products c = refl
