@@ -3,7 +3,6 @@
 use Rattle.std.specs.Prelude.{ℕ, Bool, true, false, if◌then◌else◌, ◌&&◌, ◌||◌, ◌==◌, List, [], ◌∷◌, ◌++◌, length, slice_get, Option, Some, None}
 use Rattle.cvl_base.specs.declared.kind.Kind.{Kind}
 use Rattle.cvl_base.specs.declared.kind.Kind.TheVariants.{Integers, Booleans, Descriptor, Integer, Boolean}
-use Rattle.cvl_base.specs.declared.families.IntBinary.TheVariants.{Add}
 use Rattle.cvl_base.specs.declared.families.IntMonoid.TheVariants as monoid
 use Rattle.cvl_base.specs.declared.families.Form.TheVariants.{Simple, Back, Select, Default}
 use Rattle.cvl_base.specs.declared.families.Cut.{Cut}
@@ -138,15 +137,14 @@ accepts_of op count place kind = if is_write op then write_accepts count place k
 -- the calls that the library performs today
 abbrev pub is_done : Op → Bool
 is_done Input = true
-is_done (Ints2 Add) = true
-is_done (Ints2 _) = false
-is_done (Ints1 operator) = false
-is_done (Compare operator) = false
-is_done (Bools2 operator) = false
-is_done (Bools1 operator) = false
-is_done (Choose element) = false
-is_done IntFromBool = false
-is_done BoolFromInt = false
+is_done (Ints2 operator) = true
+is_done (Ints1 operator) = true
+is_done (Compare operator) = true
+is_done (Bools2 operator) = true
+is_done (Bools1 operator) = true
+is_done (Choose element) = true
+is_done IntFromBool = true
+is_done BoolFromInt = true
 is_done (Scan monoid.Add Flat) = true
 is_done (Scan _ _) = false
 is_done (Reduce operator cut) = false

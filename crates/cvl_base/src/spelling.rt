@@ -317,7 +317,9 @@ mod tests {
     fn only_names_of_done_calls_are_read(rt: HostRuntime) {
         let table = [
             ("input", Some(Op::Input)),
-            ("add_wuz", Some(Op::Ints2(IntBinary::Add))),
+            ("div_wuz", Some(Op::Ints2(IntBinary::Div))),
+            ("sel_wub", Some(Op::Choose(Element::Boolean))),
+            ("int_wub", Some(Op::IntFromBool)),
             ("add_suz", Some(Op::Scan(IntMonoid::Add, Cut::Flat))),
             ("mke_fov", Some(Op::MakeDescriptor)),
             ("len_fos", Some(Op::DescriptorLengths)),

@@ -9,8 +9,7 @@ ghost use Rattle.vector_handles.specs.CallValues.{call_value, table_value};
 use crate::lookups::{integer_at, integers_at, lengths_at};
 use crate::numbered::{input_numbered, integers_of_input};
 use crate::session::Session;
-use cvl_base::{Arg, Cut, Fault, FaultNo, IntBinary, IntMonoid, Ints, Memory, Op, Refused, Value};
-use elementwise::int2;
+use cvl_base::{Arg, Cut, Fault, FaultNo, IntMonoid, Ints, Memory, Op, Refused, Value};
 use scan_ops::int_scan;
 use segdes::SegDes;
 use std::thread::Threads;
@@ -31,6 +30,13 @@ impl<A: Memory> Session<A> {
         match op {
             Op::Input => self.value_of_input(args),
             Op::Ints2(operator) => self.value_of_ints2(rt, operator, args),
+            Op::Ints1(operator) => self.value_of_ints1(rt, operator, args),
+            Op::Compare(operator) => self.value_of_compare(rt, operator, args),
+            Op::Bools2(operator) => self.value_of_bools2(rt, operator, args),
+            Op::Bools1(operator) => self.value_of_bools1(rt, operator, args),
+            Op::Choose(element) => self.value_of_choose(rt, element, args),
+            Op::IntFromBool => self.value_of_int_from_bool(rt, args),
+            Op::BoolFromInt => self.value_of_bool_from_int(rt, args),
             Op::Scan(operator, Cut::Flat) => self.value_of_scan(rt, operator, args),
             Op::MakeDescriptor => self.new_descriptor(args),
             Op::DescriptorLengths => self.lengths_of_descriptor(args),
@@ -47,21 +53,6 @@ impl<A: Memory> Session<A> {
             Some(input) => Ok(Value::Integers(integers_of_input(self.alloc, input)?)),
             None => Err(Refused::Fault(Fault::new(FaultNo::NoSuchInput))),
         }
-    }
-
-    /// An operator on two integer vectors.
-    fn value_of_ints2<R: Threads + Sync>(
-        &self,
-        rt: &R,
-        operator: IntBinary,
-        args: &[Arg],
-    ) -> Result<Value<A>, Refused>
-        ensures { Gives (λ v. v) result (table_value self.now.inputs (op.Ints2 operator) (argument_at self.now.names args.now)) }
-    {
-        let a = integers_at(&self.names, args, 0);
-        let b = integers_at(&self.names, args, 1);
-        let values = int2(rt, self.alloc, self.config, operator, a, b)?;
-        Ok(Value::Integers(Ints::from_vec(values)))
     }
 
     /// A scan of an integer vector.

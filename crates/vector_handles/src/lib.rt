@@ -4,6 +4,7 @@
 mod arguments;
 mod bindings;
 mod calls;
+mod elementwise_calls;
 pub mod input;
 pub mod laws;
 mod lookups;

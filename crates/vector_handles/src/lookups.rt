@@ -2,7 +2,7 @@
 
 ghost use Rattle.std.specs.Prelude.{◌≡◌, ◌≤◌, length, map, option_copied, pos};
 ghost use Rattle.cvl_base.specs.Limits.{most_elements};
-ghost use Rattle.vector_handles.specs.Arguments.{argument_at, integer_in, integers_in, lengths_in};
+ghost use Rattle.vector_handles.specs.Arguments.{argument_at, booleans_in, integer_in, integers_in, lengths_in};
 
 use crate::names::{Names, value_of};
 use cvl_base::{Arg, Memory, Value};
@@ -18,6 +18,31 @@ pub(crate) fn integers_at<'a, A: Memory>(
 {
     match args.get(place) {
         Some(Arg::Name(name)) => integers_of(value_of(names, name)),
+        _ => &[],
+    }
+}
+
+/// The booleans of a vector.
+pub(crate) fn booleans_at<'a, A: Memory>(
+    names: &'a Names<A>,
+    args: &[Arg],
+    place: usize,
+) -> &'a [bool]
+    ensures value { result.now ≡ booleans_in (argument_at names.now.entries args.now place) }
+    ensures in_limit { length result.now ≤ most_elements }
+{
+    match args.get(place) {
+        Some(Arg::Name(name)) => booleans_of(value_of(names, name)),
+        _ => &[],
+    }
+}
+
+fn booleans_of<'a, A: Memory>(value: Option<&'a Value<A>>) -> &'a [bool]
+    ensures value { result.now ≡ booleans_in (option_copied value.entry) }
+    ensures in_limit { length result.now ≤ most_elements }
+{
+    match value {
+        Some(Value::Booleans(bs)) => bs.as_slice(),
         _ => &[],
     }
 }

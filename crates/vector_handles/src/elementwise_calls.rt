@@ -1,0 +1,143 @@
+//! The value that an elementwise call gives, shape by shape.
+
+ghost use Rattle.cvl_base.specs.Gives.{Gives};
+ghost use Rattle.cvl_base.specs.declared.operation.Op.TheVariants as op;
+ghost use Rattle.vector_handles.specs.Arguments.{argument_at};
+ghost use Rattle.vector_handles.specs.CallValues.{table_value};
+
+use crate::lookups::{booleans_at, integers_at};
+use crate::session::Session;
+use cvl_base::{
+    Arg, BoolBinary, Bools, Comparison, Element, IntBinary, Ints, Memory, Refused, Unary, Value,
+};
+use elementwise::{
+    bool_from_int, bool1, bool2, compare, int_from_bool, int1, int2, select,
+};
+use std::thread::Threads;
+
+impl<A: Memory> Session<A> {
+    /// An operator on two integer vectors.
+    pub(crate) fn value_of_ints2<R: Threads + Sync>(
+        &self,
+        rt: &R,
+        operator: IntBinary,
+        args: &[Arg],
+    ) -> Result<Value<A>, Refused>
+        ensures { Gives (λ v. v) result (table_value self.now.inputs (op.Ints2 operator) (argument_at self.now.names args.now)) }
+    {
+        let a = integers_at(&self.names, args, 0);
+        let b = integers_at(&self.names, args, 1);
+        let values = int2(rt, self.alloc, self.config, operator, a, b)?;
+        Ok(Value::Integers(Ints::from_vec(values)))
+    }
+
+    /// An operator on an integer vector.
+    pub(crate) fn value_of_ints1<R: Threads + Sync>(
+        &self,
+        rt: &R,
+        operator: Unary,
+        args: &[Arg],
+    ) -> Result<Value<A>, Refused>
+        ensures { Gives (λ v. v) result (table_value self.now.inputs (op.Ints1 operator) (argument_at self.now.names args.now)) }
+    {
+        let a = integers_at(&self.names, args, 0);
+        let values = int1(rt, self.alloc, self.config, operator, a)?;
+        Ok(Value::Integers(Ints::from_vec(values)))
+    }
+
+    /// A comparison of two integer vectors.
+    pub(crate) fn value_of_compare<R: Threads + Sync>(
+        &self,
+        rt: &R,
+        operator: Comparison,
+        args: &[Arg],
+    ) -> Result<Value<A>, Refused>
+        ensures { Gives (λ v. v) result (table_value self.now.inputs (op.Compare operator) (argument_at self.now.names args.now)) }
+    {
+        let a = integers_at(&self.names, args, 0);
+        let b = integers_at(&self.names, args, 1);
+        let values = compare(rt, self.alloc, self.config, operator, a, b)?;
+        Ok(Value::Booleans(Bools::from_vec(values)))
+    }
+
+    /// An operator on two boolean vectors.
+    pub(crate) fn value_of_bools2<R: Threads + Sync>(
+        &self,
+        rt: &R,
+        operator: BoolBinary,
+        args: &[Arg],
+    ) -> Result<Value<A>, Refused>
+        ensures { Gives (λ v. v) result (table_value self.now.inputs (op.Bools2 operator) (argument_at self.now.names args.now)) }
+    {
+        let a = booleans_at(&self.names, args, 0);
+        let b = booleans_at(&self.names, args, 1);
+        let values = bool2(rt, self.alloc, self.config, operator, a, b)?;
+        Ok(Value::Booleans(Bools::from_vec(values)))
+    }
+
+    /// An operator on a boolean vector.
+    pub(crate) fn value_of_bools1<R: Threads + Sync>(
+        &self,
+        rt: &R,
+        operator: Unary,
+        args: &[Arg],
+    ) -> Result<Value<A>, Refused>
+        ensures { Gives (λ v. v) result (table_value self.now.inputs (op.Bools1 operator) (argument_at self.now.names args.now)) }
+    {
+        let a = booleans_at(&self.names, args, 0);
+        let values = bool1(rt, self.alloc, self.config, operator, a)?;
+        Ok(Value::Booleans(Bools::from_vec(values)))
+    }
+
+    /// A choice between two vectors by flags.
+    pub(crate) fn value_of_choose<R: Threads + Sync>(
+        &self,
+        rt: &R,
+        element: Element,
+        args: &[Arg],
+    ) -> Result<Value<A>, Refused>
+        ensures { Gives (λ v. v) result (table_value self.now.inputs (op.Choose element) (argument_at self.now.names args.now)) }
+    {
+        let flags = booleans_at(&self.names, args, 0);
+        match element {
+            Element::Integer => {
+                let a = integers_at(&self.names, args, 1);
+                let b = integers_at(&self.names, args, 2);
+                let values = select(rt, self.alloc, self.config, flags, a, b)?;
+                Ok(Value::Integers(Ints::from_vec(values)))
+            }
+            Element::Boolean => {
+                let a = booleans_at(&self.names, args, 1);
+                let b = booleans_at(&self.names, args, 2);
+                let values = select(rt, self.alloc, self.config, flags, a, b)?;
+                Ok(Value::Booleans(Bools::from_vec(values)))
+            }
+        }
+    }
+
+    /// The integers 1 and 0 for the booleans of a vector.
+    pub(crate) fn value_of_int_from_bool<R: Threads + Sync>(
+        &self,
+        rt: &R,
+        args: &[Arg],
+    ) -> Result<Value<A>, Refused>
+        ensures { Gives (λ v. v) result (table_value self.now.inputs op.IntFromBool (argument_at self.now.names args.now)) }
+    {
+        let a = booleans_at(&self.names, args, 0);
+        let values = int_from_bool(rt, self.alloc, self.config, a)?;
+        Ok(Value::Integers(Ints::from_vec(values)))
+    }
+
+    /// Which integers of a vector aren't 0.
+    pub(crate) fn value_of_bool_from_int<R: Threads + Sync>(
+        &self,
+        rt: &R,
+        args: &[Arg],
+    ) -> Result<Value<A>, Refused>
+        ensures { Gives (λ v. v) result (table_value self.now.inputs op.BoolFromInt (argument_at self.now.names args.now)) }
+    {
+        let a = integers_at(&self.names, args, 0);
+        let values = bool_from_int(rt, self.alloc, self.config, a)?;
+        Ok(Value::Booleans(Bools::from_vec(values)))
+    }
+}
