@@ -4,6 +4,8 @@
 #[cfg(test)]
 mod descriptors;
 #[cfg(test)]
+mod elementwise;
+#[cfg(test)]
 mod faults;
 #[cfg(test)]
 mod narrow_sink;
@@ -12,7 +14,11 @@ mod programs;
 #[cfg(test)]
 mod refusals;
 #[cfg(test)]
+mod refused_elementwise;
+#[cfg(test)]
 mod refused_reading;
+#[cfg(test)]
+mod refused_writing;
 #[cfg(test)]
 mod scripts;
 #[cfg(test)]

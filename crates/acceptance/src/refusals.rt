@@ -7,10 +7,30 @@ use std::alloc::Global;
 use std::test::Fail;
 use std::thread::Threads;
 
-const SCRIPT: &[u8] =
-    b"l = input 1\nv = input 2\nd = mke_fov l\nwrite v d\nwrite d\nm = len_fos d\ns = add_suz v\nt = add_wuz v s\nwrite t\n";
+/// A script with its inputs and its text.
+struct Case {
+    script: &'static [u8],
+    inputs: [&'static str; 2],
+    text: &'static str,
+}
 
-const TEXT: &str = "v = [[] [5 1] [] [7 7 1] []]\nd = [0 2 0 3 0]\nt = [5 6 13 20 21]\n";
+const SUM: Case = Case {
+    script: b"a = input 1\nb = input 2\nc = add_wuz a b\ns = add_suz c\nwrite c\nwrite s\n",
+    inputs: ["3 1 7 0 4", "1 1 1 1 1"],
+    text: "c = [4 2 8 1 5]\ns = [0 4 6 14 15]\n",
+};
+
+const SEGMENTS: Case = Case {
+    script: b"l = input 1\nv = input 2\nd = mke_fov l\nwrite v d\nwrite d\nm = len_fos d\ns = add_suz v\nt = add_wuz v s\nwrite t\n",
+    inputs: ["0 2 0 3 0", "5 1 7 7 1"],
+    text: "v = [[] [5 1] [] [7 7 1] []]\nd = [0 2 0 3 0]\nt = [5 6 13 20 21]\n",
+};
+
+const FLAGS: Case = Case {
+    script: b"a = input 1\nb = input 2\nf = grt_wuz a b\nc = sel_wuz f a b\nn = not_wub f\ng = ior_wub f n\ni = int_wub n\nk = not_wuz i\nq = boo_wuz i\nh = sel_wub q f g\nm = mod_wuz a b\nwrite c\nwrite g\nwrite k\nwrite h\nwrite m\n",
+    inputs: ["5 0 5", "1 1 2"],
+    text: "c = [5 1 5]\ng = [T T T]\nk = [-1 -2 -1]\nh = [T F T]\nm = [0 0 1]\n",
+};
 
 /// How a run ended.
 #[derive(Clone, Copy, PartialEq, Eq, Debug)]
@@ -23,19 +43,20 @@ enum Ended {
     Wrong,
 }
 
-/// Runs the script on this memory, with the text going to memory that refuses nothing.
+/// Runs the case on this memory, with the text going to memory that refuses nothing.
 fn run_on<R: Threads + Sync, A: Memory>(
     rt: &R,
     alloc: A,
     config: Config,
     plenty: Global,
+    case: &Case,
 ) -> Result<Ended, NoResources> {
     let mut sink = MemSink::with_room(plenty, 1024)?;
-    let inputs = inputs_of(alloc, &["0 2 0 3 0", "5 1 7 7 1"])?;
-    let ended = match run(rt, alloc, config, SCRIPT, inputs, &mut sink) {
-        Ok(()) if sink.bytes() == TEXT.as_bytes() => Ended::Whole,
-        Err(Stop::NoResources { .. }) if TEXT.as_bytes().starts_with(sink.bytes()) =>
-            Ended::Beginning,
+    let inputs = inputs_of(alloc, case.inputs.as_slice())?;
+    let text = case.text.as_bytes();
+    let ended = match run(rt, alloc, config, case.script, inputs, &mut sink) {
+        Ok(()) if sink.bytes() == text => Ended::Whole,
+        Err(Stop::NoResources { .. }) if text.starts_with(sink.bytes()) => Ended::Beginning,
         _ => Ended::Wrong,
     };
     Ok(ended)
@@ -53,17 +74,19 @@ fn is_allowed(answer: &Result<Ended, NoResources>, met: bool) -> bool {
 #[test]
 fn each_growth_refused(rt: HostRuntime) -> Result<(), Fail> {
     let config = Config::new(2, 3)?;
-    refuse_each(
-        rt.alloc(),
-        Refusal::Only,
-        |heap| run_on(&rt, heap, config, rt.alloc()),
-        |answer, met| is_allowed(answer, met),
-    )?;
-    refuse_each(
-        rt.alloc(),
-        Refusal::From,
-        |heap| run_on(&rt, heap, config, rt.alloc()),
-        |answer, met| is_allowed(answer, met),
-    )?;
+    for case in [SUM, SEGMENTS, FLAGS] {
+        refuse_each(
+            rt.alloc(),
+            Refusal::Only,
+            |heap| run_on(&rt, heap, config, rt.alloc(), &case),
+            |answer, met| is_allowed(answer, met),
+        )?;
+        refuse_each(
+            rt.alloc(),
+            Refusal::From,
+            |heap| run_on(&rt, heap, config, rt.alloc(), &case),
+            |answer, met| is_allowed(answer, met),
+        )?;
+    }
     Ok(())
 }

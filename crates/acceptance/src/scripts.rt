@@ -42,11 +42,24 @@ pub fn assert_runs<R: Abort + Threads + Sync>(
     text: &str,
     answer: Result<(), Stop>,
 ) -> Result<(), Fail> {
+    assert_runs_on(rt, alloc, Config::new(2, 3)?, script, inputs, text, answer)
+}
+
+/// Asserts that the script writes this text and has this answer, on these tiles and workers.
+pub fn assert_runs_on<R: Abort + Threads + Sync>(
+    rt: &R,
+    alloc: Global,
+    config: Config,
+    script: &[u8],
+    inputs: &[&str],
+    text: &str,
+    answer: Result<(), Stop>,
+) -> Result<(), Fail> {
     let mut sink = MemSink::new(alloc);
     let ran = run(
         rt,
         alloc,
-        Config::new(2, 3)?,
+        config,
         script,
         inputs_of(alloc, inputs)?,
         &mut sink,

@@ -76,10 +76,7 @@ fn measure_pairs<R: Print + Clock + Threads + Sync>(
     let call = best(rt, || compare(rt, alloc, config, Comparison::Greater, a, b))?;
     let loop_time = best(rt, || plain::greater(alloc, a, b))?;
     print_times(rt, "compare", n, call, loop_time)?;
-    let call = best(
-        rt,
-        || bool2(rt, alloc, config, BoolBinary::And, flags, flags),
-    )?;
+    let call = best(rt, || bool2(alloc, config, BoolBinary::And, flags, flags))?;
     let loop_time = best(rt, || plain::both(alloc, flags, flags))?;
     print_times(rt, "bool2 and", n, call, loop_time)?;
     let call = best(rt, || select(rt, alloc, config, flags, a, b))?;
@@ -96,16 +93,16 @@ fn measure_singles<R: Print + Clock + Threads + Sync>(
     flags: &[bool],
 ) -> io::Result<()> {
     let n = a.len();
-    let call = best(rt, || int1(rt, alloc, config, Unary::Not, a))?;
+    let call = best(rt, || int1(alloc, config, Unary::Not, a))?;
     let loop_time = best(rt, || plain::turned(alloc, a))?;
     print_times(rt, "int1 not", n, call, loop_time)?;
-    let call = best(rt, || bool1(rt, alloc, config, Unary::Not, flags))?;
+    let call = best(rt, || bool1(alloc, config, Unary::Not, flags))?;
     let loop_time = best(rt, || plain::opposites(alloc, flags))?;
     print_times(rt, "bool1 not", n, call, loop_time)?;
-    let call = best(rt, || int_from_bool(rt, alloc, config, flags))?;
+    let call = best(rt, || int_from_bool(alloc, config, flags))?;
     let loop_time = best(rt, || plain::ints(alloc, flags))?;
     print_times(rt, "int_from_bool", n, call, loop_time)?;
-    let call = best(rt, || bool_from_int(rt, alloc, config, a))?;
+    let call = best(rt, || bool_from_int(alloc, config, a))?;
     let loop_time = best(rt, || plain::bools(alloc, a))?;
     print_times(rt, "bool_from_int", n, call, loop_time)
 }

@@ -6,7 +6,7 @@ ghost use Rattle.cvl_base.specs.Gives.{Gives};
 
 use crate::comparisons::{AtLeast, AtMost, Equal, Greater, Less, Unequal};
 use crate::on_each::values_on_each;
-use crate::on_pairs::values_on_pairs;
+use crate::on_pairs::{values_by_one_thread, values_on_pairs};
 use crate::singles::{BoolOfInt, NotBool};
 use crate::truths::{Both, Differ, Either};
 use cvl_base::{
@@ -47,8 +47,7 @@ pub fn compare<R: Threads + Sync, A: Memory>(
 ///
 /// The result is as long as the vectors. The one fault is `LengthMismatch`, without a place, where one is longer.
 /// Source: CVL's elementwise calls.
-pub fn bool2<R: Threads + Sync, A: Memory>(
-    rt: &R,
+pub fn bool2<A: Memory>(
     alloc: A,
     _config: Config,
     op: BoolBinary,
@@ -62,9 +61,9 @@ pub fn bool2<R: Threads + Sync, A: Memory>(
         return Err(Refused::Fault(Fault::new(FaultNo::LengthMismatch)));
     }
     let truths = match op {
-        BoolBinary::And => values_on_pairs::<Both, bool, bool, bool, R, A>(rt, alloc, a, b)?,
-        BoolBinary::Ior => values_on_pairs::<Either, bool, bool, bool, R, A>(rt, alloc, a, b)?,
-        BoolBinary::Xor => values_on_pairs::<Differ, bool, bool, bool, R, A>(rt, alloc, a, b)?,
+        BoolBinary::And => values_by_one_thread::<Both, bool, bool, bool, A>(alloc, a, b)?,
+        BoolBinary::Ior => values_by_one_thread::<Either, bool, bool, bool, A>(alloc, a, b)?,
+        BoolBinary::Xor => values_by_one_thread::<Differ, bool, bool, bool, A>(alloc, a, b)?,
     };
     Ok(truths)
 }
@@ -72,8 +71,7 @@ pub fn bool2<R: Threads + Sync, A: Memory>(
 /// The operator on each boolean: `not_wub` and `cpy_wub`.
 ///
 /// The result is as long as `a`. There is no fault. Source: CVL's elementwise calls.
-pub fn bool1<R: Threads + Sync, A: Memory>(
-    rt: &R,
+pub fn bool1<A: Memory>(
     alloc: A,
     _config: Config,
     op: Unary,
@@ -83,7 +81,7 @@ pub fn bool1<R: Threads + Sync, A: Memory>(
     ensures as_long { IfOk result (λ v. vec_len v ≡ length a.now) }
 {
     match op {
-        Unary::Not => values_on_each::<NotBool, bool, bool, R, A>(rt, alloc, a),
+        Unary::Not => values_on_each::<NotBool, bool, bool, A>(alloc, a),
         Unary::Copy => Ok(Vec::from_slice(alloc, a)?),
     }
 }
@@ -91,8 +89,7 @@ pub fn bool1<R: Threads + Sync, A: Memory>(
 /// True at each place where the number isn't 0: `boo_wuz`.
 ///
 /// The result is as long as `a`. There is no fault. Source: CVL's conversions.
-pub fn bool_from_int<R: Threads + Sync, A: Memory>(
-    rt: &R,
+pub fn bool_from_int<A: Memory>(
     alloc: A,
     _config: Config,
     a: &[i32],
@@ -100,5 +97,5 @@ pub fn bool_from_int<R: Threads + Sync, A: Memory>(
     ensures values { IfOk result (λ v. v.items ≡ bools_from_ints a.now) }
     ensures as_long { IfOk result (λ v. vec_len v ≡ length a.now) }
 {
-    values_on_each::<BoolOfInt, i32, bool, R, A>(rt, alloc, a)
+    values_on_each::<BoolOfInt, i32, bool, A>(alloc, a)
 }

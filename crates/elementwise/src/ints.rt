@@ -53,8 +53,7 @@ pub fn int2<R: Threads + Sync, A: Memory>(
 /// The operator on each element: `not_wuz` and `cpy_wuz`.
 ///
 /// The result is as long as `a`. There is no fault. Source: CVL's elementwise calls.
-pub fn int1<R: Threads + Sync, A: Memory>(
-    rt: &R,
+pub fn int1<A: Memory>(
     alloc: A,
     _config: Config,
     op: Unary,
@@ -64,7 +63,7 @@ pub fn int1<R: Threads + Sync, A: Memory>(
     ensures as_long { IfOk result (λ v. vec_len v ≡ length a.now) }
 {
     match op {
-        Unary::Not => values_on_each::<NotInt, i32, i32, R, A>(rt, alloc, a),
+        Unary::Not => values_on_each::<NotInt, i32, i32, A>(alloc, a),
         Unary::Copy => Ok(Vec::from_slice(alloc, a)?),
     }
 }
@@ -72,8 +71,7 @@ pub fn int1<R: Threads + Sync, A: Memory>(
 /// 1 at each place where the boolean is true, and 0 where it is false: `int_wub`.
 ///
 /// The result is as long as `a`. There is no fault. Source: CVL's conversions.
-pub fn int_from_bool<R: Threads + Sync, A: Memory>(
-    rt: &R,
+pub fn int_from_bool<A: Memory>(
     alloc: A,
     _config: Config,
     a: &[bool],
@@ -81,5 +79,5 @@ pub fn int_from_bool<R: Threads + Sync, A: Memory>(
     ensures values { IfOk result (λ v. v.items ≡ ints_from_bools a.now) }
     ensures as_long { IfOk result (λ v. vec_len v ≡ length a.now) }
 {
-    values_on_each::<IntOfBool, bool, i32, R, A>(rt, alloc, a)
+    values_on_each::<IntOfBool, bool, i32, A>(alloc, a)
 }

@@ -17,6 +17,26 @@ pub(crate) trait Binary<X, Y, Z>: Send + Sync {
         ensures { result ≡ value a b };
 }
 
+/// The operator's values on the pairs of elements of two equally long vectors, by one thread.
+///
+/// Results of a byte an element are made so at any length: see [`crate::on_each::values_on_each`].
+pub(crate) fn values_by_one_thread<O: Binary<X, Y, Z>, X: Copy, Y: Copy, Z: Copy, A: Memory>(
+    alloc: A,
+    a: &[X],
+    b: &[Y],
+) -> Result<Vec<Z, A>, NoResources>
+    requires as_long { length a.now ≡ length b.now }
+    ensures values { IfOk result (λ v. v.items ≡ map (λ p. O.value p.0 p.1) (zip a.now b.now)) }
+    ensures as_long { IfOk result (λ v. vec_len v ≡ length a.now) }
+{
+    Ok(
+        a.iter()
+            .zip(b)
+            .map(|(x, y)| O::apply(*x, *y))
+            .collect(alloc)?,
+    )
+}
+
 /// The operator's values on the pairs of elements of two equally long vectors. Long vectors are cut into chunks, which
 /// several threads write into one vector.
 pub(crate) fn values_on_pairs<
@@ -32,12 +52,7 @@ pub(crate) fn values_on_pairs<
     ensures as_long { IfOk result (λ v. vec_len v ≡ length a.now) }
 {
     if a.len() < FORKED {
-        return Ok(
-            a.iter()
-                .zip(b)
-                .map(|(x, y)| O::apply(*x, *y))
-                .collect(alloc)?,
-        );
+        return values_by_one_thread::<O, X, Y, Z, A>(alloc, a, b);
     }
     // a value to begin with; the chunks are written over it
     let mut values = filled_like(alloc, a, O::apply(a[0], b[0]))?;

@@ -89,20 +89,17 @@ fn comparison_choice_and_conversions(rt: HostRuntime) {
         "equally long",
     );
     assert_eq!(rt; chosen.as_slice(), [1, 5, 3].as_slice());
-    let truths = bool_from_int(&rt, alloc, config, &[0, -3, 0]).expect(&rt, "memory");
+    let truths = bool_from_int(alloc, config, &[0, -3, 0]).expect(&rt, "memory");
     assert_eq!(rt; truths.as_slice(), [false, true, false].as_slice());
-    let numbers = int_from_bool(&rt, alloc, config, &truths).expect(&rt, "memory");
+    let numbers = int_from_bool(alloc, config, &truths).expect(&rt, "memory");
     assert_eq!(rt; numbers.as_slice(), [0, 1, 0].as_slice());
-    let turned = bool1(&rt, alloc, config, Unary::Not, &truths).expect(&rt, "memory");
+    let turned = bool1(alloc, config, Unary::Not, &truths).expect(&rt, "memory");
     assert_eq!(rt; turned.as_slice(), [true, false, true].as_slice());
-    let both = bool2(&rt, alloc, config, BoolBinary::And, &truths, &turned).expect(
-        &rt,
-        "equally long",
-    );
+    let both = bool2(alloc, config, BoolBinary::And, &truths, &turned).expect(&rt, "equally long");
     assert_eq!(rt; both.as_slice(), [false, false, false].as_slice());
-    let not = int1(&rt, alloc, config, Unary::Not, &[1, 2, 3]).expect(&rt, "memory");
+    let not = int1(alloc, config, Unary::Not, &[1, 2, 3]).expect(&rt, "memory");
     assert_eq!(rt; not.as_slice(), [-2, -3, -4].as_slice());
-    let copy = int1(&rt, alloc, config, Unary::Copy, &[1, 2, 3]).expect(&rt, "memory");
+    let copy = int1(alloc, config, Unary::Copy, &[1, 2, 3]).expect(&rt, "memory");
     assert_eq!(rt; copy.as_slice(), [1, 2, 3].as_slice());
 }
 
@@ -127,7 +124,7 @@ fn long_vectors(rt: HostRuntime) {
         &rt,
         "equally long",
     );
-    let turned = int1(&rt, alloc, config, Unary::Not, &places).expect(&rt, "memory");
+    let turned = int1(alloc, config, Unary::Not, &places).expect(&rt, "memory");
     let chosen = select(&rt, alloc, config, &flags, &places, &turned).expect(&rt, "equally long");
     let long = [
         twice.len(),
@@ -148,5 +145,34 @@ fn long_vectors(rt: HostRuntime) {
         assert_eq!(rt; twice.get(place), Some(&sum));
         assert_eq!(rt; flags.get(place), Some(&flag));
         assert_eq!(rt; chosen.get(place), Some(&choice));
+    }
+}
+
+#[test]
+fn long_vectors_of_flags(rt: HostRuntime) {
+    let config = Config::new(4096, 4).expect(&rt, "in range");
+    let alloc = rt.alloc();
+    let mut numbers = Vec::with_capacity(alloc, LONGEST).expect(&rt, "memory");
+    for place in 0..LONGEST {
+        numbers.push((place % 3) as i32).expect(&rt, "memory");
+    }
+    let flags = bool_from_int(alloc, config, &numbers).expect(&rt, "memory");
+    let turned = bool1(alloc, config, Unary::Not, &flags).expect(&rt, "memory");
+    let either = bool2(alloc, config, BoolBinary::Ior, &flags, &turned).expect(&rt, "equally long");
+    let ones = int_from_bool(alloc, config, &turned).expect(&rt, "memory");
+    assert_eq!(rt;
+        [flags.len(), turned.len(), either.len(), ones.len()],
+        [LONGEST; 4]
+    );
+    for (place, flag, one) in [
+        (0, false, 1),
+        (1, true, 0),
+        (65_536, true, 0),
+        (3_000_000, false, 1),
+        (4_194_303, false, 1),
+    ] {
+        assert_eq!(rt; flags.get(place), Some(&flag));
+        assert_eq!(rt; either.get(place), Some(&true));
+        assert_eq!(rt; ones.get(place), Some(&one));
     }
 }

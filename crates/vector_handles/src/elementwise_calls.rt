@@ -10,9 +10,7 @@ use crate::session::Session;
 use cvl_base::{
     Arg, BoolBinary, Bools, Comparison, Element, IntBinary, Ints, Memory, Refused, Unary, Value,
 };
-use elementwise::{
-    bool_from_int, bool1, bool2, compare, int_from_bool, int1, int2, select,
-};
+use elementwise::{bool_from_int, bool1, bool2, compare, int_from_bool, int1, int2, select};
 use std::thread::Threads;
 
 impl<A: Memory> Session<A> {
@@ -32,16 +30,11 @@ impl<A: Memory> Session<A> {
     }
 
     /// An operator on an integer vector.
-    pub(crate) fn value_of_ints1<R: Threads + Sync>(
-        &self,
-        rt: &R,
-        operator: Unary,
-        args: &[Arg],
-    ) -> Result<Value<A>, Refused>
+    pub(crate) fn value_of_ints1(&self, operator: Unary, args: &[Arg]) -> Result<Value<A>, Refused>
         ensures { Gives (λ v. v) result (table_value self.now.inputs (op.Ints1 operator) (argument_at self.now.names args.now)) }
     {
         let a = integers_at(&self.names, args, 0);
-        let values = int1(rt, self.alloc, self.config, operator, a)?;
+        let values = int1(self.alloc, self.config, operator, a)?;
         Ok(Value::Integers(Ints::from_vec(values)))
     }
 
@@ -61,9 +54,8 @@ impl<A: Memory> Session<A> {
     }
 
     /// An operator on two boolean vectors.
-    pub(crate) fn value_of_bools2<R: Threads + Sync>(
+    pub(crate) fn value_of_bools2(
         &self,
-        rt: &R,
         operator: BoolBinary,
         args: &[Arg],
     ) -> Result<Value<A>, Refused>
@@ -71,21 +63,16 @@ impl<A: Memory> Session<A> {
     {
         let a = booleans_at(&self.names, args, 0);
         let b = booleans_at(&self.names, args, 1);
-        let values = bool2(rt, self.alloc, self.config, operator, a, b)?;
+        let values = bool2(self.alloc, self.config, operator, a, b)?;
         Ok(Value::Booleans(Bools::from_vec(values)))
     }
 
     /// An operator on a boolean vector.
-    pub(crate) fn value_of_bools1<R: Threads + Sync>(
-        &self,
-        rt: &R,
-        operator: Unary,
-        args: &[Arg],
-    ) -> Result<Value<A>, Refused>
+    pub(crate) fn value_of_bools1(&self, operator: Unary, args: &[Arg]) -> Result<Value<A>, Refused>
         ensures { Gives (λ v. v) result (table_value self.now.inputs (op.Bools1 operator) (argument_at self.now.names args.now)) }
     {
         let a = booleans_at(&self.names, args, 0);
-        let values = bool1(rt, self.alloc, self.config, operator, a)?;
+        let values = bool1(self.alloc, self.config, operator, a)?;
         Ok(Value::Booleans(Bools::from_vec(values)))
     }
 
@@ -116,28 +103,20 @@ impl<A: Memory> Session<A> {
     }
 
     /// The integers 1 and 0 for the booleans of a vector.
-    pub(crate) fn value_of_int_from_bool<R: Threads + Sync>(
-        &self,
-        rt: &R,
-        args: &[Arg],
-    ) -> Result<Value<A>, Refused>
+    pub(crate) fn value_of_int_from_bool(&self, args: &[Arg]) -> Result<Value<A>, Refused>
         ensures { Gives (λ v. v) result (table_value self.now.inputs op.IntFromBool (argument_at self.now.names args.now)) }
     {
         let a = booleans_at(&self.names, args, 0);
-        let values = int_from_bool(rt, self.alloc, self.config, a)?;
+        let values = int_from_bool(self.alloc, self.config, a)?;
         Ok(Value::Integers(Ints::from_vec(values)))
     }
 
     /// Which integers of a vector aren't 0.
-    pub(crate) fn value_of_bool_from_int<R: Threads + Sync>(
-        &self,
-        rt: &R,
-        args: &[Arg],
-    ) -> Result<Value<A>, Refused>
+    pub(crate) fn value_of_bool_from_int(&self, args: &[Arg]) -> Result<Value<A>, Refused>
         ensures { Gives (λ v. v) result (table_value self.now.inputs op.BoolFromInt (argument_at self.now.names args.now)) }
     {
         let a = integers_at(&self.names, args, 0);
-        let values = bool_from_int(rt, self.alloc, self.config, a)?;
+        let values = bool_from_int(self.alloc, self.config, a)?;
         Ok(Value::Booleans(Bools::from_vec(values)))
     }
 }

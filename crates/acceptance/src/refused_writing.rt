@@ -1,0 +1,97 @@
+//! Each request for memory refused in turn while a text is written: after a refusal it is as it was before.
+
+use call_reader::put_value;
+use cvl_base::limits::MOST_ELEMENTS;
+use cvl_base::{Ints, Memory, NoResources, Refused, Value};
+use refusing_memory::withstands_refusals;
+use segdes::SegDes;
+use std::alloc::{AllocError, Global};
+use std::test::Fail;
+
+const BEFORE: &str = "c = ";
+
+/// So many elements that the text grows more than once.
+const COUNT: usize = 3_000;
+
+/// Whether the whole text stands, and `NoResources` where a growth was refused and the text is as before.
+fn judge(answer: Result<(), NoResources>, text: &[u8], whole: &[u8]) -> Result<bool, Refused> {
+    match answer {
+        Ok(()) => Ok(text == whole),
+        Err(refused) if text == BEFORE.as_bytes() => Err(refused.into()),
+        Err(_) => Ok(false),
+    }
+}
+
+/// Writes the numbers behind a text.
+fn vector_after<A: Memory>(heap: A, numbers: &[i32], whole: &[u8]) -> Result<bool, Refused> {
+    if numbers.len() > MOST_ELEMENTS {
+        return Ok(false);
+    }
+    let value = Value::Integers(Ints::from_vec(Vec::from_slice(heap, numbers)?));
+    let mut text = Vec::from_slice(heap, BEFORE.as_bytes())?;
+    let descriptor: Option<SegDes<A>> = None;
+    let answer = put_value(&value, descriptor.as_ref(), &mut text);
+    judge(answer, &text, whole)
+}
+
+/// Writes the numbers, cut by the lengths, behind a text.
+fn nest_after<A: Memory>(
+    heap: A,
+    numbers: &[i32],
+    lengths: &[i32],
+    whole: &[u8],
+) -> Result<bool, Refused> {
+    if numbers.len() > MOST_ELEMENTS || lengths.len() > MOST_ELEMENTS {
+        return Ok(false);
+    }
+    let descriptor = SegDes::from_lengths(heap, lengths)?;
+    if descriptor.total() != numbers.len() {
+        return Ok(false);
+    }
+    let value = Value::Integers(Ints::from_vec(Vec::from_slice(heap, numbers)?));
+    let mut text = Vec::from_slice(heap, BEFORE.as_bytes())?;
+    let answer = put_value(&value, Some(&descriptor), &mut text);
+    judge(answer, &text, whole)
+}
+
+/// A text of [`COUNT`] times a piece between two others.
+fn repeated(alloc: Global, first: &str, piece: &str, last: &str) -> Result<String, AllocError> {
+    let mut text = String::new(alloc);
+    text.push_str(first)?;
+    for _ in 1..COUNT {
+        text.push_str(piece)?;
+    }
+    text.push_str(last)?;
+    Ok(text)
+}
+
+#[test]
+fn a_vector(rt: HostRuntime) -> Result<(), Fail> {
+    let numbers = vec![in rt.alloc(); -7; COUNT]?;
+    let whole = repeated(rt.alloc(), "c = [", "-7 ", "-7]")?;
+    let requests = withstands_refusals(
+        rt.alloc(),
+        |heap| vector_after(heap, &numbers, whole.as_bytes()),
+        Ok(true),
+        Err(Refused::NoResources),
+    )?;
+    // the numbers, the text, and more than one growth of it
+    assert!(rt; requests > 3);
+    Ok(())
+}
+
+#[test]
+fn a_nest(rt: HostRuntime) -> Result<(), Fail> {
+    let numbers = vec![in rt.alloc(); -7; COUNT]?;
+    let lengths = vec![in rt.alloc(); 1; COUNT]?;
+    let whole = repeated(rt.alloc(), "c = [", "[-7] ", "[-7]]")?;
+    let requests = withstands_refusals(
+        rt.alloc(),
+        |heap| nest_after(heap, &numbers, &lengths, whole.as_bytes()),
+        Ok(true),
+        Err(Refused::NoResources),
+    )?;
+    // the lengths and the starts of the descriptor too
+    assert!(rt; requests > 4);
+    Ok(())
+}
