@@ -1,5 +1,6 @@
--- The table of faults: each fault's number and name, and the places that faults have.
-use Rattle.std.specs.Prelude.{ℕ, List, codes, Option, Some, None}
+-- The table of faults: each fault's number, name and text, and the places that faults have.
+use Rattle.std.specs.Prelude.{ℕ, List, ◌++◌, codes, Option, Some, None}
+use Rattle.std.specs.Fmt.{decimal}
 use Rattle.cvl_base.specs.declared.fault.FaultNo.{FaultNo}
 use Rattle.cvl_base.specs.declared.fault.FaultNo.TheVariants as no
 use Rattle.cvl_base.specs.declared.fault.Fault.{Fault}
@@ -43,6 +44,10 @@ name_of no.BadInput = codes "BadInput"
 name_of no.TooManyNames = codes "TooManyNames"
 name_of no.ScriptTooLong = codes "ScriptTooLong"
 name_of no.Overflow = codes "Overflow"
+
+-- how a fault is printed: its number and its name
+abbrev pub number_text : FaultNo → List ℕ
+number_text number = codes "fault " ++ decimal (number_of number) ++ codes " " ++ name_of number
 
 -- a fault of the whole call or line
 abbrev pub fault : FaultNo → Fault

@@ -1,6 +1,6 @@
 //! Faults: what is wrong with a script, an input or a call's arguments, and where.
 
-ghost use Rattle.std.specs.Prelude.{◌≡◌};
+ghost use Rattle.std.specs.Prelude.{◌≡◌, Some};
 
 use std::fmt;
 
@@ -102,6 +102,10 @@ impl FaultNo {
 }
 
 impl fmt::Display for FaultNo {
+    ghost use Rattle.cvl_base.specs.Faults.{number_text};
+
+    ghost output = { λ number. Some (number_text number) };
+
     fn fmt<W: fmt::Write>(&self, f: &mut fmt::Formatter<W>) -> fmt::Result {
         let number = self.number();
         let name = self.name();

@@ -3,18 +3,14 @@
 use Rattle.std.specs.Prelude.{◌≡◌, ℕ, List, [], ◌∷◌, ◌++◌, length, take, codes, Option, Some, None, Result, Ok, Err}
 use Rattle.std.specs.Fmt.{decimal}
 use Rattle.cvl_base.specs.declared.fault.Fault.{Fault}
-use Rattle.cvl_base.specs.declared.fault.FaultNo.{FaultNo}
 use Rattle.cvl_base.specs.declared.refused.NoResources.{NoResources}
-use Rattle.cvl_base.specs.Faults.{number_of, name_of}
+use Rattle.cvl_base.specs.Faults.{number_text}
 use Rattle.shell.specs.declared.stop.Stop.{Stop}
 use Rattle.shell.specs.declared.stop.Stop.TheVariants as stop
 
 abbrev pub place_text : Option ℕ → List ℕ
 place_text None = []
 place_text (Some place) = codes " at " ++ decimal place
-
-abbrev pub number_text : FaultNo → List ℕ
-number_text number = codes "fault " ++ decimal (number_of number) ++ codes " " ++ name_of number
 
 abbrev pub fault_text : Fault → List ℕ
 fault_text f = number_text f.number ++ place_text f.place
