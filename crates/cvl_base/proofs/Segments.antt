@@ -1,20 +1,24 @@
 -- Segmented calls by their flat calls, and on one segment.
-use Rattle.std.proofs.Common.{◌≡◌, ◌≢◌, ℕ, ◌+◌, Bool, List, [], ◌∷◌, ◌++◌, length, take, map, sum, refl, sym, ap, ◌∙◌, arith, inl, inr, ℤ, option_map, Some, None, Ok, Err, Option, Result}
+use Rattle.std.proofs.Common.{◌≡◌, ◌≢◌, ℕ, ◌+◌, Bool, List, [], ◌∷◌, ◌++◌, length, take, map, sum, refl, sym, ap, ◌∙◌, arith, inl, inr, ℤ, pos, option_map, Some, None, Ok, Err, Option, Result}
+use Rattle.std.specs.Option.{ok_or}
 use Rattle.std.specs.Prelude.{◌↔◌}
+use Rattle.std.specs.Result.{result_map_both}
 use Rattle.std.proofs.lemmas.Bool.Decides.{eqb_tells}
 use Rattle.std.proofs.lemmas.List.{append-nil, take_all}
 use Rattle.std.proofs.lemmas.List.Sums.{sum_by-cons}
 use Rattle.cvl_base.specs.declared.fault.Fault.{Fault}
 use Rattle.cvl_base.specs.declared.fault.FaultNo.TheVariants as no
+use Rattle.cvl_base.specs.Distributes.{distribute_of, index_of}
 use Rattle.cvl_base.specs.Elementwise.{if_as_long}
-use Rattle.cvl_base.specs.Faults.{fault}
+use Rattle.cvl_base.specs.Extracts.{element_at, with_element_at, extract_of, replace_of}
+use Rattle.cvl_base.specs.Faults.{fault, fault_at}
 use Rattle.cvl_base.specs.Folds.{scan_of, reduce_of}
 use Rattle.cvl_base.specs.Gives.{◌>>=◌}
 use Rattle.cvl_base.specs.Nests.{nest, joined}
 use Rattle.cvl_base.specs.Packs.{count_of, pack_of}
 use Rattle.cvl_base.specs.Permutes.{simple_of, back_of, select_of, default_of, sent_to_all, sent_over, all_targets, flagged_targets}
-use Rattle.cvl_base.specs.Segmented.{beside, of_two, of_three, in_vector, moved, results_from, one_each, end_to_end}
-use Rattle.cvl_base.specs.SegmentedCalls.{seg_scan_of, seg_reduce_of, seg_simple_of, seg_back_of, seg_select_of, seg_default_of, seg_pack_of, seg_count_of}
+use Rattle.cvl_base.specs.Segmented.{beside, of_two, of_three, in_vector, at_segment, moved, results_from, one_each, end_to_end}
+use Rattle.cvl_base.specs.SegmentedCalls.{seg_scan_of, seg_reduce_of, seg_simple_of, seg_back_of, seg_select_of, seg_default_of, seg_pack_of, seg_count_of, seg_distribute_of, seg_index_of, seg_extract_of, seg_replace_of}
 use Rattle.cvl_base.proofs.Cuts.{nest-fits, nest-mismatch}
 use Rattle.cvl_base.proofs.Packing.{pack-mismatch}
 use Rattle.cvl_base.proofs.Sending.{if_as_long-fits, if_as_long-mismatch}
@@ -167,6 +171,30 @@ select-again {X = X} source index flags =
 
 pub count-again : (flags : List Bool) → seg_count_of flags (length flags ∷ []) ≡ Ok (count_of flags ∷ [])
 count-again flags = ap (one_each (in_vector (length flags ∷ [])) (λ fs. Ok (count_of fs))) (nest_one flags)
+
+pub distribute-again : {X : Type 0} (value : X) (n : ℕ) → seg_distribute_of (value ∷ []) (n ∷ []) ≡ distribute_of value (pos n)
+distribute-again value n = flat-again (n ∷ []) (of_two (λ value n. distribute_of value (pos n))) (value, n)
+
+pub index-again : (init stride : ℤ) (n : ℕ) → seg_index_of (init ∷ []) (stride ∷ []) (n ∷ []) ≡ index_of init stride (pos n)
+index-again init stride n = flat-again (n ∷ []) (of_three (λ init stride n. index_of init stride (pos n))) ((init, stride), n)
+
+-- where a fault of one segment stands at the segment, its place is 0 as the flat one's
+extract-one : {X : Type 0} (o : Option X) → (moved (at_segment 0) (ok_or o (fault_at no.IndexOutOfRange 0)) >>= λ x. Ok [] >>= λ xs. Ok (x ∷ xs)) ≡ result_map_both (λ x. x ∷ []) (λ f. f) (ok_or o (fault_at no.IndexOutOfRange 0))
+extract-one None = refl
+extract-one (Some x) = refl
+
+pub extract-again : {X : Type 0} (xs : List X) (index : ℤ) → seg_extract_of xs (index ∷ []) (length xs ∷ []) ≡ result_map_both (λ x. x ∷ []) (λ f. f) (extract_of xs index)
+extract-again xs index =
+    ap (λ a. one_each at_segment (of_two extract_of) (beside a (Ok (index ∷ [])))) (nest_one xs) ∙ extract-one (element_at xs index)
+
+replace-one : {X : Type 0} (o : Option (List X)) → ((moved (at_segment 0) (ok_or o (fault_at no.IndexOutOfRange 0)) >>= λ ys. Ok [] >>= λ lists. Ok (ys ∷ lists)) >>= λ lists. Ok (joined lists)) ≡ ok_or o (fault_at no.IndexOutOfRange 0)
+replace-one None = refl
+replace-one (Some ys) = ap Ok (append-nil ys)
+
+pub replace-again : {X : Type 0} (xs : List X) (index : ℤ) (value : X) → seg_replace_of xs (index ∷ []) (value ∷ []) (length xs ∷ []) ≡ replace_of xs index value
+replace-again xs index value =
+    ap (λ a. end_to_end at_segment (of_three replace_of) (beside (beside a (Ok (index ∷ []))) (Ok (value ∷ [])))) (nest_one xs)
+    ∙ replace-one (with_element_at xs index value)
 
 module _ {Item : Type 0} (join : Item → Item → Item) (unit : Item) where
   pub scan-again : (xs : List Item) → seg_scan_of join unit xs (length xs ∷ []) ≡ Ok (scan_of join unit xs)

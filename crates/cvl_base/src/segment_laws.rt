@@ -1,13 +1,16 @@
 //! Laws of segmented calls, each a function that takes and gives nothing and whose contract is the law.
 
-ghost use Rattle.std.specs.Prelude.{◌≡◌, ◌↔◌, ℕ, ℤ, Bool, Result, List, [], ◌∷◌, ◌++◌, length, map};
+ghost use Rattle.std.specs.Prelude.{◌≡◌, ◌↔◌, ℕ, ℤ, pos, Bool, Result, List, [], ◌∷◌, ◌++◌, length, map};
+ghost use Rattle.std.specs.Result.{result_map_both};
 ghost use Rattle.cvl_base.specs.declared.fault.Fault.{Fault};
+ghost use Rattle.cvl_base.specs.Distributes.{distribute_of, index_of};
+ghost use Rattle.cvl_base.specs.Extracts.{extract_of, replace_of};
 ghost use Rattle.cvl_base.specs.Folds.{reduce_of, scan_of};
 ghost use Rattle.cvl_base.specs.Nests.{joined};
 ghost use Rattle.cvl_base.specs.Packs.{count_of, pack_of};
 ghost use Rattle.cvl_base.specs.Permutes.{back_of, default_of, select_of, simple_of};
 ghost use Rattle.cvl_base.specs.Segmented.{end_to_end, moved, one_each};
-ghost use Rattle.cvl_base.specs.SegmentedCalls.{seg_back_of, seg_count_of, seg_default_of, seg_pack_of, seg_reduce_of, seg_scan_of, seg_select_of, seg_simple_of};
+ghost use Rattle.cvl_base.specs.SegmentedCalls.{packed_lengths_of, seg_back_of, seg_count_of, seg_default_of, seg_distribute_of, seg_extract_of, seg_index_of, seg_pack_of, seg_reduce_of, seg_replace_of, seg_scan_of, seg_select_of, seg_simple_of};
 
 use crate::monoid::Monoid;
 
@@ -39,7 +42,7 @@ pub fn one_segment_scanned<M: Monoid>()
         seg_reduce_of M.join M.unit xs (length xs ∷ []) ≡ Ok (reduce_of M.join M.unit xs ∷ []) }
 {}
 
-/// On one segment a segmented permute, pack or count is the flat one, its faults too.
+/// On one segment a segmented permute, pack or count is the flat one, its faults too, and the packed lengths are its count.
 pub fn one_segment_moved<T>()
     ensures simple { (source : List T) (index : List ℤ) →
         seg_simple_of source index (length source ∷ []) ≡ simple_of source index }
@@ -52,4 +55,20 @@ pub fn one_segment_moved<T>()
     ensures pack { (xs : List T) (flags : List Bool) →
         seg_pack_of xs flags (length xs ∷ []) ≡ pack_of xs flags }
     ensures count { (flags : List Bool) → seg_count_of flags (length flags ∷ []) ≡ Ok (count_of flags ∷ []) }
+    ensures packed_lengths { (flags : List Bool) → packed_lengths_of flags (length flags ∷ []) ≡ Ok (count_of flags ∷ []) }
+{}
+
+/// On one segment a segmented distribute or index is the flat one with the segment's length for its count, its fault too.
+pub fn one_segment_made<T>()
+    ensures distribute { (value : T) (n : ℕ) → seg_distribute_of (value ∷ []) (n ∷ []) ≡ distribute_of value (pos n) }
+    ensures index { (init stride : ℤ) (n : ℕ) → seg_index_of (init ∷ []) (stride ∷ []) (n ∷ []) ≡ index_of init stride (pos n) }
+{}
+
+/// On one segment a segmented extract or replace is the flat one, its fault too: the extract gives the one element in a
+/// list.
+pub fn one_segment_changed<T>()
+    ensures extract { (xs : List T) (index : ℤ) →
+        seg_extract_of xs (index ∷ []) (length xs ∷ []) ≡ result_map_both (λ x. x ∷ []) (λ f. f) (extract_of xs index) }
+    ensures replace { (xs : List T) (index : ℤ) (value : T) →
+        seg_replace_of xs (index ∷ []) (value ∷ []) (length xs ∷ []) ≡ replace_of xs index value }
 {}
