@@ -1,6 +1,7 @@
 pub mod BackPermutes
 mod Cuts
 pub mod Defaulting
+pub mod ElementPlaces
 pub mod FirstBadPlaces
 pub mod Joined
 pub mod LeastFaults

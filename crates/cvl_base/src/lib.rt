@@ -6,6 +6,7 @@ pub mod call;
 pub mod config;
 pub mod descriptor_laws;
 pub mod distribute_laws;
+pub mod element_laws;
 pub mod elements;
 pub mod elementwise_laws;
 pub mod families;

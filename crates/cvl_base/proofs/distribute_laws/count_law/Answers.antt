@@ -1,15 +1,12 @@
-use Rattle.std.proofs.Common.{◌≡◌, ℕ, ◌≤◌, pos, map, replicate, ap, le-ltb, lt-ltb, Ok, ◌+ℤ◌, ◌*ℤ◌}
+use Rattle.std.proofs.Common.{pos, map, replicate, ap, lt-ltb, Ok, ◌+ℤ◌, ◌*ℤ◌}
 use Rattle.std.specs.List.{range_with_len}
 use Rattle.cvl_base.specs.declared.fault.FaultNo.TheVariants as no
-use Rattle.cvl_base.specs.Distributes.{as_length}
 use Rattle.cvl_base.specs.Faults.{fault}
 use Rattle.cvl_base.specs.Gives.{◌>>=◌, fault_if}
 use Rattle.cvl_base.specs.Integers.{wrap}
 use Rattle.cvl_base.specs.Limits.{most_elements}
+use Rattle.cvl_base.proofs.ElementPlaces.{in_limit}
 use Rattle.cvl_base.proofs.distribute_laws.count_law.Goals as goal
-
-in_limit : (n : ℕ) → n ≤ most_elements → as_length (pos n) ≡ Ok n
-in_limit n few = ap (λ b. fault_if b (fault no.TooLong) (Ok n)) (le-ltb most_elements n few)
 
 pub returns-clause-copies : goal.returns-clause-copies
 returns-clause-copies g c = λ value n few. ap (λ r. r >>= λ n. Ok (replicate n value)) (in_limit n few)
