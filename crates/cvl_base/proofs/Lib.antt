@@ -1,4 +1,5 @@
 pub mod BackPermutes
+pub mod CutResults
 mod Cuts
 pub mod Defaulting
 pub mod ElementPlaces

@@ -2,6 +2,7 @@ pub mod Booleans
 pub mod Calls
 pub mod Configs
 pub mod Conversions
+pub mod CutAgain
 pub mod Descriptors
 pub mod Distributes
 pub mod Elementwise

@@ -1,3 +1,4 @@
+use Rattle.cvl_base.proofs.CutResults.{cut-again}
 use Rattle.cvl_base.proofs.Segments.{joined-meaning, joined-first_fault}
 use Rattle.cvl_base.proofs.segment_laws.segmented_lists_law.Goals as goal
 
@@ -6,3 +7,6 @@ returns-clause-results g c = joined-meaning
 
 pub returns-clause-first_fault : goal.returns-clause-first_fault
 returns-clause-first_fault g c = joined-first_fault
+
+pub returns-clause-cut_again : goal.returns-clause-cut_again
+returns-clause-cut_again g c = cut-again
