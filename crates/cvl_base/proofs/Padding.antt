@@ -1,6 +1,6 @@
 -- A name's bytes, written over the front of a row of zeros.
-use Rattle.std.proofs.Common.{◌≡◌, ℕ, ◌≤◌, ◌-◌, Bool, true, false, ◌&&◌, List, [], ◌∷◌, length, take, drop, ◌++◌, refl, ap, sym, subst, ◌∙◌, arith, nat_le}
-use Rattle.std.specs.Prelude.{replicate, IsTrue, not}
+use Rattle.std.proofs.Common.{◌≡◌, ℕ, ◌≤◌, Bool, true, false, ◌&&◌, List, [], ◌∷◌, length, take, drop, ◌++◌, refl, ap, sym, subst, ◌∙◌, arith, nat_le}
+use Rattle.std.specs.Prelude.{replicate, IsTrue}
 use Rattle.std.proofs.lemmas.List.{drop-replicate}
 use Rattle.std.proofs.Math.Seq.{take-append_seam}
 use Rattle.std.specs.List.{list_all}

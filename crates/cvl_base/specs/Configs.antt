@@ -1,5 +1,5 @@
 -- Which tile lengths and numbers of workers a configuration takes.
-use Rattle.std.specs.Prelude.{◌≡◌, ℕ, ◌≤◌, Result, Ok, Err, Bool, nat_le, ◌&&◌, if◌then◌else◌}
+use Rattle.std.specs.Prelude.{ℕ, Result, Ok, Err, Bool, nat_le, ◌&&◌, if◌then◌else◌}
 use Rattle.cvl_base.specs.Limits.{longest_tile, most_workers}
 use Rattle.cvl_base.specs.declared.config.BadConfig.{BadConfig}
 use Rattle.cvl_base.specs.declared.config.BadConfig.TheVariants.{Tile, Workers}

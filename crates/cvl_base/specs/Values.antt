@@ -1,5 +1,4 @@
 -- The five kinds of values: an integer list, a boolean list, a descriptor (its list of lengths), an integer, a boolean.
-use Rattle.std.specs.Prelude.{ℕ, List, Option, Some, None, option_map}
 use Rattle.cvl_base.specs.declared.kind.Kind.{Kind}
 use Rattle.cvl_base.specs.declared.kind.Kind.TheVariants as kind
 use Rattle.cvl_base.specs.declared.value.Value.{Value}
