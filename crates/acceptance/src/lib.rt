@@ -8,6 +8,8 @@ mod elementwise;
 #[cfg(test)]
 mod faults;
 #[cfg(test)]
+mod limits;
+#[cfg(test)]
 mod narrow_sink;
 #[cfg(test)]
 mod programs;
@@ -15,6 +17,8 @@ mod programs;
 mod refusals;
 #[cfg(test)]
 mod refused_elementwise;
+#[cfg(test)]
+mod refused_programs;
 #[cfg(test)]
 mod refused_reading;
 #[cfg(test)]

@@ -8,6 +8,7 @@ use std::test::Fail;
 use std::thread::Threads;
 
 /// A script with its inputs and its text.
+#[derive(Clone, Copy, Drop)]
 struct Case {
     script: &'static [u8],
     inputs: [&'static str; 2],

@@ -2,9 +2,10 @@
 
 use call_reader::put_value;
 use cvl_base::limits::MOST_ELEMENTS;
-use cvl_base::{Ints, Memory, NoResources, Refused, Value};
+use cvl_base::{Bools, Fault, FaultNo, Ints, Memory, NoResources, Refused, Value};
 use refusing_memory::withstands_refusals;
 use segdes::SegDes;
+use shell::{MemSink, Stop, put_stop};
 use std::alloc::{AllocError, Global};
 use std::test::Fail;
 
@@ -54,6 +55,36 @@ fn nest_after<A: Memory>(
     judge(answer, &text, whole)
 }
 
+/// Writes a value of another kind behind a text.
+fn value_after<A: Memory>(heap: A, value: &Value<A>, whole: &[u8]) -> Result<bool, Refused> {
+    let mut text = Vec::from_slice(heap, BEFORE.as_bytes())?;
+    let descriptor: Option<SegDes<A>> = None;
+    let answer = put_value(value, descriptor.as_ref(), &mut text);
+    judge(answer, &text, whole)
+}
+
+/// Writes [`COUNT`] flags behind a text.
+fn flags_after<A: Memory>(heap: A, whole: &[u8]) -> Result<bool, Refused> {
+    let flags = vec![in heap; true; COUNT]?;
+    value_after(heap, &Value::Booleans(Bools::from_vec(flags)), whole)
+}
+
+/// Writes [`COUNT`] lengths behind a text.
+fn lengths_after<A: Memory>(heap: A, lengths: &[i32], whole: &[u8]) -> Result<bool, Refused> {
+    if lengths.len() > MOST_ELEMENTS {
+        return Ok(false);
+    }
+    let descriptor = SegDes::from_lengths(heap, lengths)?;
+    value_after(heap, &Value::Descriptor(descriptor.into_lengths()), whole)
+}
+
+/// Writes what is told of a stop behind a text.
+fn stop_after<A: Memory>(heap: A, stop: &Stop, whole: &[u8]) -> Result<bool, Refused> {
+    let mut text = Vec::from_slice(heap, BEFORE.as_bytes())?;
+    let answer = put_stop(stop, &mut text);
+    judge(answer, &text, whole)
+}
+
 /// A text of [`COUNT`] times a piece between two others.
 fn repeated(alloc: Global, first: &str, piece: &str, last: &str) -> Result<String, AllocError> {
     let mut text = String::new(alloc);
@@ -93,5 +124,62 @@ fn a_nest(rt: HostRuntime) -> Result<(), Fail> {
     )?;
     // the lengths and the starts of the descriptor too
     assert!(rt; requests > 4);
+    Ok(())
+}
+
+#[test]
+fn values_of_the_other_kinds(rt: HostRuntime) -> Result<(), Fail> {
+    let ones = vec![in rt.alloc(); 1; COUNT]?;
+    let flags = repeated(rt.alloc(), "c = [", "T ", "T]")?;
+    let lengths = repeated(rt.alloc(), "c = [", "1 ", "1]")?;
+    let requests = withstands_refusals(
+        rt.alloc(),
+        |heap| flags_after(heap, flags.as_bytes()),
+        Ok(true),
+        Err(Refused::NoResources),
+    )?;
+    assert!(rt; requests > 3);
+    let requests = withstands_refusals(
+        rt.alloc(),
+        |heap| lengths_after(heap, &ones, lengths.as_bytes()),
+        Ok(true),
+        Err(Refused::NoResources),
+    )?;
+    assert!(rt; requests > 3);
+    let requests = withstands_refusals(
+        rt.alloc(),
+        |heap| value_after(heap, &Value::Integer(-2147483648), b"c = -2147483648"),
+        Ok(true),
+        Err(Refused::NoResources),
+    )?;
+    assert!(rt; requests > 1);
+    Ok(())
+}
+
+#[test]
+fn a_stop(rt: HostRuntime) -> Result<(), Fail> {
+    let stop = Stop::Script {
+        line: 12,
+        fault: Fault::at(FaultNo::DivideByZero, 345),
+    };
+    let requests = withstands_refusals(
+        rt.alloc(),
+        |heap| stop_after(heap, &stop, b"c = line 12: fault 8 DivideByZero at 345\n"),
+        Ok(true),
+        Err(Refused::NoResources),
+    )?;
+    assert!(rt; requests > 1);
+    Ok(())
+}
+
+#[test]
+fn room_of_a_sink(rt: HostRuntime) -> Result<(), Fail> {
+    let requests = withstands_refusals(
+        rt.alloc(),
+        |heap| Ok(MemSink::with_room(heap, 64)?.bytes().len()),
+        Ok(0),
+        Err(NoResources),
+    )?;
+    assert_eq!(rt; requests, 1);
     Ok(())
 }

@@ -1,9 +1,9 @@
 //! A host in memory.
 
-ghost use Rattle.std.specs.Prelude.{◌≡◌};
+ghost use Rattle.std.specs.Prelude.{◌≡◌, IfOk};
 
 use crate::narrow_sink::NarrowSink;
-use cvl_base::Memory;
+use cvl_base::{Memory, NoResources};
 use shell::{Host, Sink, SinkFault};
 
 /// A host with files of its own.
@@ -33,6 +33,20 @@ impl<'a, A: Memory> SmallHost<'a, A> {
             flushes: true,
             alloc,
         }
+    }
+
+    /// A host with these files and room for so many bytes of output and of errors, on which all succeeds.
+    pub fn with_room(
+        alloc: A,
+        files: &'a [(&'a str, &'a str)],
+        room: usize,
+    ) -> Result<SmallHost<'a, A>, NoResources>
+        ensures { IfOk result (λ host. host.output.failures ≡ 0) }
+    {
+        let mut host = SmallHost::new(alloc, files);
+        host.output.taken = Vec::with_capacity(alloc, room)?;
+        host.errors = Vec::with_capacity(alloc, room)?;
+        Ok(host)
     }
 }
 

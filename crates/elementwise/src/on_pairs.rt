@@ -19,7 +19,8 @@ pub(crate) trait Binary<X, Y, Z>: Send + Sync {
 
 /// The operator's values on the pairs of elements of two equally long vectors, by one thread.
 ///
-/// Results of a byte an element are made so at any length: see [`crate::on_each::values_on_each`].
+/// Calls on two boolean vectors take this at any length, for the reason that stands at
+/// [`crate::on_each::values_on_each`].
 pub(crate) fn values_by_one_thread<O: Binary<X, Y, Z>, X: Copy, Y: Copy, Z: Copy, A: Memory>(
     alloc: A,
     a: &[X],

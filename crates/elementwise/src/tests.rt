@@ -1,7 +1,12 @@
-//! Values worked out by hand, and a long vector for each walk that several threads share.
+//! Values worked out by hand, and the longest vectors for each shape of call.
+
+ghost use Rattle.std.specs.Prelude.{◌≤◌, vec_len};
+ghost use Rattle.cvl_base.specs.Limits.{most_elements};
 
 use super::*;
 use cvl_base::{BoolBinary, Comparison, Config, Fault, FaultNo, IntBinary, Refused, Unary};
+use std::alloc::Global;
+use std::process::Abort;
 
 /// As many elements as a vector may have.
 const LONGEST: usize = 4_194_304;
@@ -103,15 +108,23 @@ fn comparison_choice_and_conversions(rt: HostRuntime) {
     assert_eq!(rt; copy.as_slice(), [1, 2, 3].as_slice());
 }
 
+/// The places of the longest vector, each the element at its own place.
+fn places<R: Abort>(rt: &R, alloc: Global) -> Vec<i32>
+    ensures { vec_len result ≤ most_elements }
+{
+    let mut places = Vec::with_capacity(alloc, LONGEST).expect(rt, "memory");
+    for place in 0..LONGEST {
+        places.push(place as i32).expect(rt, "memory");
+    }
+    assert!(rt; places.len() <= LONGEST);
+    places
+}
+
 #[test]
 fn long_vectors(rt: HostRuntime) {
     let config = Config::new(4096, 4).expect(&rt, "in range");
     let alloc = rt.alloc();
-    let mut places = Vec::with_capacity(alloc, LONGEST).expect(&rt, "memory");
-    for place in 0..LONGEST {
-        places.push(place as i32).expect(&rt, "memory");
-    }
-    assert!(rt; places.len() <= LONGEST);
+    let places = places(&rt, alloc);
     let twice = int2(&rt, alloc, config, IntBinary::Add, &places, &places).expect(
         &rt,
         "equally long",
@@ -175,4 +188,30 @@ fn long_vectors_of_flags(rt: HostRuntime) {
         assert_eq!(rt; either.get(place), Some(&true));
         assert_eq!(rt; ones.get(place), Some(&one));
     }
+}
+
+#[test]
+fn long_quotients(rt: HostRuntime) {
+    let config = Config::new(4096, 4).expect(&rt, "in range");
+    let alloc = rt.alloc();
+    let places = places(&rt, alloc);
+    let mut divisors = vec![in alloc; 2; LONGEST].expect(&rt, "memory");
+    let halves = int2(&rt, alloc, config, IntBinary::Div, &places, &divisors).expect(
+        &rt, "no fault",
+    );
+    assert_eq!(rt; halves.len(), LONGEST);
+    for (place, half) in [
+        (0, 0),
+        (3, 1),
+        (3_000_001, 1_500_000),
+        (4_194_303, 2_097_151),
+    ] {
+        assert_eq!(rt; halves.get(place), Some(&half));
+    }
+    divisors[LONGEST - 1] = 0;
+    let answer = int2(&rt, alloc, config, IntBinary::Div, &places, &divisors);
+    assert_eq!(rt;
+        answer.err(),
+        Some(Refused::Fault(Fault::at(FaultNo::DivideByZero, 4_194_303)))
+    );
 }
