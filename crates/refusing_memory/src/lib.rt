@@ -7,9 +7,9 @@
 //! withstands_refusals(rt.alloc(), |heap| sum_of_squares(heap, 9), Ok(285), Err(AllocError))?;
 //! ```
 //!
-//! Proved: the allocator is safe, each block goes back to the allocator that gave it, in any thread, and a rule refuses
-//! the numbers that it says. That the counts are those of the requests and the frees, also across threads, is tested:
-//! no clause speaks of a number that other threads change.
+//! Proved: the allocator is safe, a block goes back to no other allocator than the one that gave it, in any thread, and a
+//! rule refuses the numbers that it says. That the counts are those of the requests and the frees, also across threads,
+//! and that no block is kept, is tested: no clause speaks of a number that other threads change.
 #![tactic(auto)]
 
 ghost use Rattle.std.specs.Prelude.{◌≡◌};
