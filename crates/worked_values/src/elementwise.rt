@@ -38,7 +38,10 @@ pub fn quotients_and_remainders()
     ensures first_zero_divisor { ints2 Div (pos 8 ∷ pos 6 ∷ pos 4 ∷ pos 2 ∷ []) (pos 2 ∷ pos 0 ∷ pos 0 ∷ pos 1 ∷ []) ≡ Err (fault_at no.DivideByZero 1) }
     ensures quotients { ints2 Div (negsuc 6 ∷ negsuc 2147483647 ∷ []) (pos 2 ∷ negsuc 0 ∷ []) ≡ Ok (negsuc 2 ∷ negsuc 2147483647 ∷ []) }
     ensures remainders { ints2 Mod (negsuc 6 ∷ negsuc 2147483647 ∷ []) (pos 2 ∷ negsuc 0 ∷ []) ≡ Ok (negsuc 0 ∷ pos 0 ∷ []) }
+    ensures sign_of_the_dividend { ints2 Mod (pos 7 ∷ negsuc 6 ∷ []) (negsuc 1 ∷ negsuc 1 ∷ []) ≡ Ok (pos 1 ∷ negsuc 0 ∷ []) }
+    ensures first_zero_modulus { ints2 Mod (pos 8 ∷ pos 6 ∷ pos 4 ∷ []) (pos 3 ∷ pos 5 ∷ pos 0 ∷ []) ≡ Err (fault_at no.DivideByZero 2) }
     ensures lengths_before_divisors { ints2 Div (pos 1 ∷ pos 2 ∷ []) (pos 0 ∷ []) ≡ Err (fault no.LengthMismatch) }
+    ensures lengths_before_moduli { ints2 Mod (pos 1 ∷ []) (pos 0 ∷ pos 0 ∷ []) ≡ Err (fault no.LengthMismatch) }
 {}
 
 /// A left shift drops high bits, a right shift copies the sign, and a shift by 32 has no value.
@@ -46,6 +49,11 @@ pub fn shifts()
     ensures high_bits_dropped { ints2 Lsh (pos 1 ∷ pos 3 ∷ negsuc 0 ∷ []) (pos 31 ∷ pos 31 ∷ pos 1 ∷ []) ≡ Ok (negsuc 2147483647 ∷ negsuc 2147483647 ∷ negsuc 1 ∷ []) }
     ensures sign_copied { ints2 Rsh (negsuc 6 ∷ pos 7 ∷ []) (pos 1 ∷ pos 1 ∷ []) ≡ Ok (negsuc 3 ∷ pos 3 ∷ []) }
     ensures by_32 { ints2 Lsh (pos 1 ∷ pos 1 ∷ []) (pos 0 ∷ pos 32 ∷ []) ≡ Err (fault_at no.ShiftOutOfRange 1) }
+    ensures right_by_32 { ints2 Rsh (pos 1 ∷ pos 1 ∷ []) (pos 31 ∷ pos 32 ∷ []) ≡ Err (fault_at no.ShiftOutOfRange 1) }
+    ensures by_negative { ints2 Lsh (pos 5 ∷ pos 5 ∷ pos 5 ∷ []) (pos 0 ∷ negsuc 0 ∷ pos 40 ∷ []) ≡ Err (fault_at no.ShiftOutOfRange 1) }
+    ensures right_by_negative { ints2 Rsh (pos 5 ∷ pos 5 ∷ pos 5 ∷ []) (pos 0 ∷ negsuc 0 ∷ pos 40 ∷ []) ≡ Err (fault_at no.ShiftOutOfRange 1) }
+    ensures lengths_before_amounts { ints2 Lsh (pos 1 ∷ pos 2 ∷ []) (pos 32 ∷ []) ≡ Err (fault no.LengthMismatch) }
+    ensures lengths_before_amounts_to_the_right { ints2 Rsh (pos 1 ∷ pos 2 ∷ []) (pos 32 ∷ []) ≡ Err (fault no.LengthMismatch) }
 {}
 
 /// Each number but 0 is true, and true is 1.
@@ -58,10 +66,36 @@ pub fn conversions()
 pub fn flags()
     ensures compared { compare Greater (pos 5 ∷ pos 0 ∷ pos 5 ∷ []) (pos 1 ∷ pos 1 ∷ pos 1 ∷ []) ≡ Ok (true ∷ false ∷ true ∷ []) }
     ensures chosen { choose (true ∷ false ∷ true ∷ []) (pos 1 ∷ pos 2 ∷ pos 3 ∷ []) (pos 4 ∷ pos 5 ∷ pos 6 ∷ []) ≡ Ok (pos 1 ∷ pos 5 ∷ pos 3 ∷ []) }
+    ensures chosen_of_booleans { choose (true ∷ false ∷ true ∷ false ∷ []) (true ∷ true ∷ false ∷ false ∷ []) (false ∷ false ∷ true ∷ true ∷ []) ≡ Ok (true ∷ false ∷ false ∷ true ∷ []) }
     ensures turned_round { bools1 Not (true ∷ false ∷ true ∷ []) ≡ Ok (false ∷ true ∷ false ∷ []) }
+    ensures copied { bools1 Copy (true ∷ false ∷ true ∷ []) ≡ Ok (true ∷ false ∷ true ∷ []) }
     ensures both_ways { bools2 truth.And (true ∷ false ∷ true ∷ []) (false ∷ true ∷ false ∷ []) ≡ Ok (false ∷ false ∷ false ∷ []) }
     ensures either_way { bools2 truth.Ior (true ∷ true ∷ false ∷ []) (true ∷ false ∷ false ∷ []) ≡ Ok (true ∷ true ∷ false ∷ []) }
     ensures one_way { bools2 truth.Xor (true ∷ true ∷ false ∷ []) (true ∷ false ∷ false ∷ []) ≡ Ok (false ∷ true ∷ false ∷ []) }
     ensures bits_turned_round { ints1 Not (pos 1 ∷ pos 2 ∷ pos 3 ∷ []) ≡ Ok (negsuc 1 ∷ negsuc 2 ∷ negsuc 3 ∷ []) }
+{}
+
+/// Vectors of one call are equally long, whatever the operator.
+pub fn mismatched_lengths()
+    ensures sums { ints2 Add (pos 1 ∷ pos 2 ∷ []) (pos 1 ∷ []) ≡ Err (fault no.LengthMismatch) }
+    ensures differences { ints2 Sub (pos 1 ∷ []) (pos 1 ∷ pos 2 ∷ []) ≡ Err (fault no.LengthMismatch) }
+    ensures products { ints2 Mul (pos 1 ∷ pos 2 ∷ []) [] ≡ Err (fault no.LengthMismatch) }
+    ensures lesser { ints2 Min (pos 1 ∷ pos 2 ∷ []) (pos 1 ∷ []) ≡ Err (fault no.LengthMismatch) }
+    ensures greater { ints2 Max (pos 1 ∷ []) (pos 1 ∷ pos 2 ∷ []) ≡ Err (fault no.LengthMismatch) }
+    ensures common_bits { ints2 And (pos 1 ∷ pos 2 ∷ []) (pos 1 ∷ []) ≡ Err (fault no.LengthMismatch) }
+    ensures bits_of_either { ints2 Ior (pos 1 ∷ []) (pos 1 ∷ pos 2 ∷ []) ≡ Err (fault no.LengthMismatch) }
+    ensures bits_of_one { ints2 Xor [] (pos 1 ∷ []) ≡ Err (fault no.LengthMismatch) }
+    ensures greater_than { compare Greater (pos 1 ∷ pos 2 ∷ []) (pos 1 ∷ []) ≡ Err (fault no.LengthMismatch) }
+    ensures less_than { compare Less (pos 1 ∷ []) (pos 1 ∷ pos 2 ∷ []) ≡ Err (fault no.LengthMismatch) }
+    ensures at_least { compare AtLeast (pos 1 ∷ pos 2 ∷ []) (pos 1 ∷ []) ≡ Err (fault no.LengthMismatch) }
+    ensures at_most { compare AtMost (pos 1 ∷ []) (pos 1 ∷ pos 2 ∷ []) ≡ Err (fault no.LengthMismatch) }
+    ensures equal { compare Equal (pos 1 ∷ pos 2 ∷ []) (pos 1 ∷ []) ≡ Err (fault no.LengthMismatch) }
+    ensures unequal { compare Unequal (pos 1 ∷ []) (pos 1 ∷ pos 2 ∷ []) ≡ Err (fault no.LengthMismatch) }
+    ensures both_ways { bools2 truth.And (true ∷ false ∷ []) (true ∷ []) ≡ Err (fault no.LengthMismatch) }
+    ensures either_way { bools2 truth.Ior (true ∷ []) (true ∷ false ∷ []) ≡ Err (fault no.LengthMismatch) }
+    ensures one_way { bools2 truth.Xor [] (true ∷ []) ≡ Err (fault no.LengthMismatch) }
     ensures one_choice_short { choose (true ∷ false ∷ []) (pos 1 ∷ pos 2 ∷ []) (pos 4 ∷ []) ≡ Err (fault no.LengthMismatch) }
+    ensures other_choice_short { choose (true ∷ false ∷ []) (pos 1 ∷ []) (pos 4 ∷ pos 5 ∷ []) ≡ Err (fault no.LengthMismatch) }
+    ensures one_flag_short { choose (true ∷ []) (pos 1 ∷ pos 2 ∷ []) (pos 4 ∷ pos 5 ∷ []) ≡ Err (fault no.LengthMismatch) }
+    ensures one_boolean_choice_short { choose (true ∷ false ∷ []) (true ∷ true ∷ []) (false ∷ []) ≡ Err (fault no.LengthMismatch) }
 {}
