@@ -79,6 +79,15 @@ mod tests {
     use super::{BadConfig, Config};
 
     #[test]
+    fn tells_what_it_was_made_of(rt: HostRuntime) {
+        let parts = match Config::new(4_096, 7) {
+            Ok(config) => Some((config.tile(), config.workers())),
+            Err(_) => None,
+        };
+        assert_eq!(rt; parts, Some((4_096, 7)));
+    }
+
+    #[test]
     fn ranges_and_their_order(rt: HostRuntime) {
         let table = [
             (0, 65, Some(BadConfig::Tile)),

@@ -145,3 +145,16 @@ impl Fault {
         }
     }
 }
+
+#[cfg(test)]
+mod tests {
+    use super::FaultNo;
+    use std::test::Fail;
+
+    #[test]
+    fn shows_its_number_and_name(rt: HostRuntime) -> Result<(), Fail> {
+        let shown = format!(in rt.alloc(); "{}", FaultNo::DivideByZero)?;
+        assert_eq!(rt; shown.as_str(), "fault 8 DivideByZero");
+        Ok(())
+    }
+}

@@ -270,9 +270,9 @@ mod tests {
     use crate::operation::Op;
     use std::test::Fail;
 
-    #[test]
-    fn names_read_as_their_calls(rt: HostRuntime) -> Result<(), Fail> {
-        let table = [
+    /// A name of each family of calls, and its call.
+    fn named() -> [(&'static str, Op); 25] {
+        [
             ("input", Op::Input),
             ("rsh_wuz", Op::Ints2(IntBinary::Rsh)),
             ("cpy_wuz", Op::Ints1(Unary::Copy)),
@@ -304,8 +304,12 @@ mod tests {
             ("rep_veb", Op::Replace(Cut::Segmented, Element::Boolean)),
             ("mke_fov", Op::MakeDescriptor),
             ("len_fos", Op::DescriptorLengths),
-        ];
-        for (name, op) in table {
+        ]
+    }
+
+    #[test]
+    fn names_read_as_their_calls(rt: HostRuntime) -> Result<(), Fail> {
+        for (name, op) in named() {
             assert_eq!(rt; any_op_of(name.as_bytes()), Some(op), "{name}");
             let shown = format!(in rt.alloc(); "{}", op.spelling())?;
             assert_eq!(rt; shown.as_str(), name);
