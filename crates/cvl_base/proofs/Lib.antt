@@ -2,8 +2,10 @@ pub mod BackPermutes
 pub mod CutResults
 mod Cuts
 pub mod Defaulting
+pub mod Dividing
 pub mod ElementPlaces
 pub mod FirstBadPlaces
+pub mod FirstNegatives
 pub mod Joined
 pub mod LeastFaults
 pub mod Packing

@@ -1,6 +1,6 @@
 -- Descriptors of segmented vectors: the lengths of the segments, in order.
 -- Source: CVL's segment descriptors.
-use Rattle.std.specs.Prelude.{◌≡◌, ℕ, ◌≤◌, ℤ, pos, Result, Ok, option_map, List, length, map, sum, unsigned_abs, position, nat_lt}
+use Rattle.std.specs.Prelude.{◌≡◌, ℕ, ◌<◌, ◌≤◌, ℤ, pos, negsuc, slice_get, Some, Result, Ok, option_map, List, length, map, sum, unsigned_abs, position, nat_lt}
 use Rattle.std.specs.Int.{is_negative}
 use Rattle.cvl_base.specs.declared.fault.Fault.{Fault}
 use Rattle.cvl_base.specs.declared.fault.FaultNo.TheVariants as no
@@ -21,3 +21,8 @@ descriptor_of numbers =
     unless (option_map (fault_at no.NegativeLength) (position is_negative numbers))
     (fault_if (nat_lt most_elements (sum (map unsigned_abs numbers))) (fault no.TooLong)
     (Ok (map unsigned_abs numbers)))
+
+-- the first negative number stands at place k: before it there are lengths alone
+pub record IsFirstNegative (numbers : List ℤ) (k : ℕ) : Type 0 where
+  pub before : (j : ℕ) → j < k → (n : ℕ) × (slice_get numbers j ≡ Some (pos n))
+  pub here : (n : ℕ) × (slice_get numbers k ≡ Some (negsuc n))

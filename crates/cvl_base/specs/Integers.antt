@@ -1,7 +1,7 @@
 -- The operators on 32-bit integers in two's complement, as functions on whole numbers.
 -- Source: two's complement arithmetic; the names and the faults are those of CVL's elementwise calls in this library's profile.
-use Rattle.std.specs.Prelude.{◌≡◌, ℕ, ◌^◌, ◌/◌, Bool, not, Option, Some, None, ℤ, pos, negsuc, ◌+ℤ◌, ◌-ℤ◌, ◌*ℤ◌, if◌then◌else◌, nat_lt, int_lt, FitsSigned, int_div, int_rem}
-use Rattle.std.specs.Int.{w32, int_wrap, int_min, int_max, int_bit_and, int_bit_or, int_bit_xor, int_bit_not}
+use Rattle.std.specs.Prelude.{◌≡◌, ℕ, ◌<◌, ◌⊎◌, unsigned_abs, ◌^◌, ◌/◌, Bool, not, Option, Some, None, ℤ, pos, negsuc, ◌+ℤ◌, ◌-ℤ◌, ◌*ℤ◌, if◌then◌else◌, nat_lt, int_lt, FitsSigned, int_div, int_rem}
+use Rattle.std.specs.Int.{w32, is_negative, int_wrap, int_min, int_max, int_bit_and, int_bit_or, int_bit_xor, int_bit_not}
 use Rattle.std.specs.Ordering.{int_eq}
 
 -- the number from -2147483648 to 2147483647 that is congruent to x modulo 2^32
@@ -29,6 +29,12 @@ quotient_of a b = if int_eq b (pos 0) then None else Some (wrap (int_div a b))
 -- the remainder of that quotient, with the sign of the dividend
 abbrev pub remainder_of : ℤ → ℤ → Option ℤ
 remainder_of a b = if int_eq b (pos 0) then None else Some (int_rem a b)
+
+-- a divided by b, truncated toward zero: q is the quotient, before any wrapping, and r is what it leaves
+pub record IsDivided (a b q r : ℤ) : Type 0 where
+  pub again : a ≡ q *ℤ b +ℤ r
+  pub smaller : unsigned_abs r < unsigned_abs b
+  pub sign : (r ≡ pos 0) ⊎ (is_negative r ≡ is_negative a)
 
 abbrev pub lesser_of : ℤ → ℤ → ℤ
 lesser_of a b = int_min a b

@@ -1,9 +1,22 @@
-//! Worked values of making a descriptor, each a function that takes and gives nothing and whose contract they are.
+//! The law of making a descriptor and worked values of it, each a function that takes and gives nothing and whose
+//! contract they are.
 
-ghost use Rattle.std.specs.Prelude.{◌≡◌, negsuc, pos, [], ◌∷◌};
+ghost use Rattle.std.specs.Prelude.{◌≡◌, ◌↔◌, ◌<◌, ◌≤◌, ℕ, ℤ, negsuc, pos, List, [], ◌∷◌, length, map, sum};
 ghost use Rattle.cvl_base.specs.declared.fault.FaultNo.TheVariants as no;
-ghost use Rattle.cvl_base.specs.Descriptors.{descriptor_of};
+ghost use Rattle.cvl_base.specs.Descriptors.{AreLengths, IsFirstNegative, descriptor_of};
 ghost use Rattle.cvl_base.specs.Faults.{fault, fault_at};
+ghost use Rattle.cvl_base.specs.Limits.{most_elements};
+
+/// Of at most 4,194,304 numbers the lengths are made exactly where none is negative and the total is in the limit. Else the
+/// first negative number is at fault, at its place; and where there is none, the total is, without a place.
+pub fn descriptor_law()
+    ensures made { (numbers : List ℤ) (sizes : List ℕ) → length numbers ≤ most_elements →
+        (descriptor_of numbers ≡ Ok sizes) ↔ (AreLengths numbers × (numbers ≡ map pos sizes)) }
+    ensures first_negative { (numbers : List ℤ) (k : ℕ) →
+        (descriptor_of numbers ≡ Err (fault_at no.NegativeLength k)) ↔ IsFirstNegative numbers k }
+    ensures too_long { (numbers : List ℤ) → (descriptor_of numbers ≡ Err (fault no.TooLong))
+        ↔ ((sizes : List ℕ) × (numbers ≡ map pos sizes) × (most_elements < sum sizes)) }
+{}
 
 /// The first negative number is at fault, and only where there is none the total.
 pub fn descriptor_values()

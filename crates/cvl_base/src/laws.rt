@@ -1,7 +1,7 @@
 //! Laws of the operators, each a function that takes and gives nothing and whose contract is the law.
 
-ghost use Rattle.std.specs.Prelude.{◌≡◌, negsuc, pos, ℤ};
-ghost use Rattle.cvl_base.specs.Integers.{IsWrapped, left_shift_of, product_of, quotient_of, remainder_of, right_shift_of, sum_of, wrap};
+ghost use Rattle.std.specs.Prelude.{◌≡◌, ◌≢◌, negsuc, pos, ℤ};
+ghost use Rattle.cvl_base.specs.Integers.{IsDivided, IsWrapped, left_shift_of, product_of, quotient_of, remainder_of, right_shift_of, sum_of, wrap};
 
 /// `wrap` gives, of each whole number, the one number that fits 32 bits and is congruent to it modulo 2^32.
 pub fn wrap_law()
@@ -24,6 +24,13 @@ pub fn division_values()
     ensures least_remainder { remainder_of (negsuc 2147483647) (negsuc 0) ≡ Some (pos 0) }
     ensures no_quotient { (a : ℤ) → quotient_of a (pos 0) ≡ None }
     ensures no_remainder { (a : ℤ) → remainder_of a (pos 0) ≡ None }
+{}
+
+/// Where the divisor isn't 0, the quotient, before it is wrapped, times the divisor and with the remainder is the dividend
+/// again; the remainder is nearer to 0 than the divisor, and is 0 or has the dividend's sign.
+pub fn division_law()
+    ensures { (a b : ℤ) → b ≢ pos 0 →
+        (q r : ℤ) × (quotient_of a b ≡ Some (wrap q)) × (remainder_of a b ≡ Some r) × IsDivided a b q r }
 {}
 
 /// Worked values of the shifts: by the most places, a sign copied, and places out of range.
