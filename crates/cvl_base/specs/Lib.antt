@@ -33,4 +33,3 @@ pub mod TileSums
 pub mod TruthLaws
 pub mod Values
 pub mod Words
-pub mod WorkedSums

@@ -1,6 +1,6 @@
 -- The sums of tiles. A tile is a run of elements of a segmented vector, each with whether a segment starts at it.
 -- Source: Merrill and Garland, Single-pass Parallel Prefix Scan with Decoupled Look-back.
-use Rattle.std.specs.Prelude.{ℕ, zero, suc, ◌+◌, ◌-◌, Bool, List, [], take, drop, slice_index_or}
+use Rattle.std.specs.Prelude.{ℕ, zero, suc, ◌+◌, ◌-◌, ℤ, pos, Bool, true, false, List, [], ◌∷◌, take, drop, slice_index_or}
 use Rattle.std.specs.List.{flat_map, All, AllPass}
 use Rattle.cvl_base.specs.Folds.{fold_of}
 use Rattle.cvl_base.specs.SegmentMonoid.{seg_unit, seg_join}
@@ -33,3 +33,7 @@ between join unit tiles first t = sum_of_tiles join unit (take (t - first) (drop
 -- each element of each tile is an item
 abbrev pub AllTilesPass : {Element : Type 0} → (Element → Bool) → List (List Element) → Type 0
 AllTilesPass is_item tiles = All (AllPass is_item) tiles
+
+-- the tiles of the worked values: segments of lengths 2 and 3 over the numbers 5 1 7 7 1, in tiles of two elements
+abbrev pub worked_tiles : List (List (Bool × ℤ))
+worked_tiles = ((true, pos 5) ∷ (false, pos 1) ∷ []) ∷ ((true, pos 7) ∷ (false, pos 7) ∷ []) ∷ ((false, pos 1) ∷ []) ∷ []

@@ -1,9 +1,10 @@
 //! The laws of the sums of tiles, for code that is generic over its monoid.
 
-ghost use Rattle.std.specs.Prelude.{◌≡◌, ℕ, ◌+◌, ◌<◌, ◌≤◌, Bool, List, take, map, IsTrue};
-ghost use Rattle.cvl_base.specs.Folds.{fold_of};
+ghost use Rattle.std.specs.Prelude.{◌≡◌, ℕ, ◌+◌, ◌<◌, ◌≤◌, pos, Bool, true, false, List, [], ◌∷◌, take, map, IsTrue};
+ghost use Rattle.cvl_base.specs.Folds.{fold_of, fronts, scan_of};
+ghost use Rattle.cvl_base.specs.Integers.{sum_of};
 ghost use Rattle.cvl_base.specs.SegmentMonoid.{is_seg_item, seg_unit, seg_join};
-ghost use Rattle.cvl_base.specs.TileSums.{sum_at, upto, before, between, AllTilesPass};
+ghost use Rattle.cvl_base.specs.TileSums.{sum_at, upto, before, between, worked_tiles, AllTilesPass};
 
 use crate::monoid::Monoid;
 
@@ -50,4 +51,18 @@ pub fn know_sums_are_items<M: Monoid>()
         IsTrue (is_seg_item M.is_item (before M.join M.unit tiles t)) }
     ensures middle { (tiles : List (List (Bool × M.Item))) (first t : ℕ) → AllTilesPass (is_seg_item M.is_item) tiles →
         IsTrue (is_seg_item M.is_item (between M.join M.unit tiles first t)) }
+{}
+
+/// Worked values of the sums of tiles: a tile in which a segment starts doesn't count in what stood before it.
+pub fn tile_sum_values()
+    ensures fronts_of_three { fronts (pos 3 ∷ (pos 1 ∷ (pos 7 ∷ []))) ≡ [] ∷ ((pos 3 ∷ []) ∷ ((pos 3 ∷ (pos 1 ∷ [])) ∷ [])) }
+    ensures before_each { scan_of (seg_join sum_of) (seg_unit (pos 0)) ((true, pos 5) ∷ ((false, pos 1) ∷ ((true, pos 7) ∷ [])))
+        ≡ (false, pos 0) ∷ ((true, pos 5) ∷ ((true, pos 6) ∷ [])) }
+    ensures of_second { sum_at sum_of (pos 0) worked_tiles 1 ≡ (true, pos 14) }
+    ensures of_third { sum_at sum_of (pos 0) worked_tiles 2 ≡ (false, pos 1) }
+    ensures upto_first { upto sum_of (pos 0) worked_tiles 0 ≡ (true, pos 6) }
+    ensures upto_third { upto sum_of (pos 0) worked_tiles 2 ≡ (true, pos 15) }
+    ensures before_first { before sum_of (pos 0) worked_tiles 0 ≡ (false, pos 0) }
+    ensures before_third { before sum_of (pos 0) worked_tiles 2 ≡ (true, pos 14) }
+    ensures between_first_and_third { between sum_of (pos 0) worked_tiles 1 2 ≡ (true, pos 14) }
 {}
