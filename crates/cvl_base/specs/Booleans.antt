@@ -1,4 +1,5 @@
 -- The operators on booleans, by their truth tables.
+-- Source: the truth tables of conjunction, disjunction and exclusive disjunction.
 use Rattle.std.specs.Prelude.{Bool, true, false, not}
 
 abbrev pub both : Bool → Bool → Bool

@@ -1,4 +1,5 @@
 -- Which tile lengths and numbers of workers a configuration takes.
+-- Source: this library's profile.
 use Rattle.std.specs.Prelude.{ℕ, Result, Ok, Err, Bool, nat_le, ◌&&◌, if◌then◌else◌}
 use Rattle.cvl_base.specs.Limits.{longest_tile, most_workers}
 use Rattle.cvl_base.specs.declared.config.BadConfig.{BadConfig}

@@ -1,4 +1,5 @@
 -- What it means that the result of a segmented call, cut again by lengths, is the flat results of the segments.
+-- Source: CVL's segmented vectors; the relation is this library's.
 use Rattle.std.specs.Prelude.{◌≡◌, ℕ, List, map, Result, Ok}
 use Rattle.cvl_base.specs.declared.fault.Fault.{Fault}
 use Rattle.cvl_base.specs.Nests.{nest}

@@ -1,4 +1,5 @@
 -- The table of faults: each fault's number, name and text, and the places that faults have.
+-- Source: this library's profile.
 use Rattle.std.specs.Prelude.{ℕ, List, ◌++◌, codes, Some, None}
 use Rattle.std.specs.Fmt.{decimal}
 use Rattle.cvl_base.specs.declared.fault.FaultNo.{FaultNo}

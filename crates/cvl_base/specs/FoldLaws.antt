@@ -1,4 +1,5 @@
 -- What follows from the definitions of folds and scans, first for any operator, then for a monoid.
+-- Source: what the definitions of Folds and Monoid imply.
 use Rattle.std.proofs.Common.{◌≡◌, refl, sym, ap, ◌∙◌, ℕ, zero, suc, ◌+◌, ◌<◌, List, [], ◌∷◌, ◌++◌, length, take, map, get_or, IsTrue, Bool, Some, true, slice_get, arith}
 use Rattle.std.specs.List.{fold, AllPass}
 use Rattle.std.specs.Option.{option_map}

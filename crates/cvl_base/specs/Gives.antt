@@ -1,4 +1,5 @@
 -- How the answer of a call stands to its definition, and how definitions that may have a fault are chained.
+-- Source: this library's profile: which answers a call may give.
 use Rattle.std.specs.Prelude.{◌≡◌, Result, Ok, Err, Option, Some, None, Bool, true, false}
 use Rattle.cvl_base.specs.declared.fault.Fault.{Fault}
 use Rattle.cvl_base.specs.declared.refused.Refused.{Refused}

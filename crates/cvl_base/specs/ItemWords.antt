@@ -1,4 +1,5 @@
 -- The items of the operators' monoids, and the 32-bit word that stands for each.
+-- Source: two's complement for integers; the words of truth values are this library's profile.
 use Rattle.std.specs.Prelude.{◌≡◌, ◌^◌, Bool, true, false, not, IsTrue, ℤ, pos, negsuc, nat_lt, FitsSigned}
 use Rattle.std.specs.Int.{w32}
 use Rattle.std.specs.Ordering.{int_eq}

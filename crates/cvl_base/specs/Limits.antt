@@ -1,4 +1,5 @@
 -- The limits that a fault or a type speaks of, as numbers.
+-- Source: this library's profile.
 use Rattle.std.specs.Prelude.{ℕ}
 
 -- the most elements of a vector, and the greatest total of a descriptor: 2^22

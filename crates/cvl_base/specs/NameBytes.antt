@@ -1,4 +1,5 @@
 -- How a name's bytes lie in memory.
+-- Source: this library's own layout.
 use Rattle.std.specs.Prelude.{ℕ, ◌-◌, ◌++◌, List, length, replicate}
 use Rattle.cvl_base.specs.Limits.{most_word_bytes}
 

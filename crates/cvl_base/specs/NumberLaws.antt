@@ -1,4 +1,5 @@
 -- The laws of the seven operators on numbers that fit 32 bits.
+-- Source: what the definitions of Integers and Monoid imply.
 use Rattle.std.proofs.Common.{◌≡◌, refl, sym, ap, ◌∙◌, ℕ, ◌-◌, ◌^◌, ◌<◌, max, IsTrue, ℤ, pos, negsuc, ◌+ℤ◌, ◌*ℤ◌, FitsSigned, arith}
 use Rattle.std.specs.Int.{w32, bit_at, int_wrap, int_min, int_max, cast_signed, cast_unsigned}
 use Rattle.std.specs.Int.Bits.{bit_and, bit_or, bit_xor, xor_assoc, xor_zero_l, xor_zero_r, or_zero_l, or_zero_r, and_lt, or_lt, xor_lt, and_mask, and_comm}

@@ -1,4 +1,5 @@
 -- The laws of the monoid on runs of a segmented vector, over any monoid.
+-- Source: what the definitions of SegmentMonoid and Monoid imply.
 use Rattle.std.proofs.Common.{◌≡◌, refl, ap, Bool, true, false, IsTrue}
 use Rattle.cvl_base.specs.Monoid.{MonoidLaws}
 use Rattle.cvl_base.specs.SegmentMonoid.{is_seg_item, seg_unit, seg_join}

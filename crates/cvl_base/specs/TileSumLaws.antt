@@ -1,4 +1,5 @@
 -- How the sums of tiles hang together, over any monoid.
+-- Source: what the definitions of TileSums and Monoid imply.
 use Rattle.std.proofs.Common.{◌≡◌, refl, sym, ap, ◌∙◌, ℕ, zero, suc, ◌+◌, ◌-◌, ◌<◌, ◌≤◌, Bool, true, List, [], ◌∷◌, ◌++◌, take, drop, map, get_or, IsTrue, arith, take-add}
 use Rattle.std.specs.List.{AllPass}
 use Rattle.std.proofs.lemmas.List.{append-nil, append_assoc}

@@ -1,4 +1,5 @@
 -- The laws of the three operators on truth values.
+-- Source: what the definitions of Booleans and Monoid imply.
 use Rattle.std.proofs.Common.{◌≡◌, refl, Bool, true, false, FitsSigned, arith}
 use Rattle.std.specs.Int.{w32}
 use Rattle.std.proofs.lemmas.Int.{ints}

@@ -54,6 +54,7 @@ pub struct Name {
 
 impl Model for Name {
     ghost use Rattle.std.specs.Prelude.{◌≡◌, ℕ, ◌-◌, ◌≤◌, ◌++◌, List, length, take, drop, replicate, IsTrue};
+    ghost use Rattle.cvl_base.specs.Limits.{most_word_bytes};
     ghost use Rattle.cvl_base.specs.Words.{is_name};
     ghost use Rattle.cvl_base.specs.NameBytes.{padded};
 
@@ -61,7 +62,7 @@ impl Model for Name {
 
     ghost view = { λ n. take n.len n.bytes };
 
-    ghost invariant = { λ n. (n.len ≤ 32) × (n.bytes ≡ padded (take n.len n.bytes)) × (n.len ≡ length (take n.len n.bytes)) × IsTrue (is_name (take n.len n.bytes)) };
+    ghost invariant = { λ n. (n.len ≤ most_word_bytes) × (n.bytes ≡ padded (take n.len n.bytes)) × (n.len ≡ length (take n.len n.bytes)) × IsTrue (is_name (take n.len n.bytes)) };
 
     ghost inverse = { λ bytes. record { bytes = padded bytes; len = length bytes } };
 

@@ -1,4 +1,5 @@
 -- Which requests for memory are refused, counted from 0.
+-- Source: this library's own test allocator.
 use Rattle.std.specs.Prelude.{ℕ, Bool, false, ◌==◌, not, nat_lt}
 use Rattle.refusing_memory.specs.declared.rule.Refusal.{Refusal}
 use Rattle.refusing_memory.specs.declared.rule.Refusal.TheVariants.{Never, Only, From}

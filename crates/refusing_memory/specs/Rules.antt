@@ -1,4 +1,5 @@
 -- The rule that an allocator refuses by.
+-- Source: this library's own test allocator.
 use Rattle.refusing_memory.specs.declared.rule.Refusal.{Refusal}
 use Rattle.refusing_memory.specs.declared.Refusing.{Refusing}
 

@@ -41,20 +41,24 @@ impl Calls {
         self.frees.fetch_add(1, Ordering::SeqCst);
     }
 
+    /// The rule by which requests are refused.
     pub fn rule(&self) -> Refusal
         ensures { result ≡ self.now.refusal }
     {
         self.refusal
     }
 
+    /// How many requests were made so far, refused ones among them.
     pub fn requests(&self) -> u64 {
         self.requests.load(Ordering::SeqCst)
     }
 
+    /// How many of the requests were refused.
     pub fn refused(&self) -> u64 {
         self.refused.load(Ordering::SeqCst)
     }
 
+    /// How many blocks were given back.
     pub fn frees(&self) -> u64 {
         self.frees.load(Ordering::SeqCst)
     }
