@@ -3,7 +3,7 @@
 #![tactic(auto)]
 
 use call_reader::{put_value, read_vector};
-use cvl_base::Value;
+use cvl_base::{Ints, Value};
 use itoa::Buffer;
 use std::alloc::{AllocError, Global};
 use std::time::{Duration, Instant};
@@ -62,7 +62,7 @@ fn write_case(rt: &HostRuntime, case: &str, input: &[u8]) -> io::Result<()> {
         println!(rt; "not written: the input was not read")?;
         return Ok(());
     };
-    let value = Value::Integers(numbers);
+    let value = Value::Integers(Ints::from_vec(numbers));
     let mut best = Duration::MAX;
     let mut bytes = 0;
     for _ in 0..ROUNDS {

@@ -1,6 +1,6 @@
 //! Inputs.
 
-ghost use Rattle.std.specs.Prelude.{◌≡◌, ◌<◌, ◌≤◌, ◌+◌, [], ◌∷◌, length, codes, Ok, Err, pos, neg_ℤ, nat_lt, if◌then◌else◌, MatchOption, IfSome};
+ghost use Rattle.std.specs.Prelude.{◌≡◌, ◌<◌, ◌≤◌, ◌+◌, [], ◌∷◌, length, codes, Ok, Err, pos, neg_ℤ, nat_lt, if◌then◌else◌, MatchOption, IfSome, IfOk, vec_len};
 ghost use Rattle.cvl_base.specs.declared.fault.FaultNo.TheVariants.{TooLong, BadInput};
 ghost use Rattle.cvl_base.specs.Faults.{fault, fault_at};
 ghost use Rattle.cvl_base.specs.Gives.{Gives};
@@ -12,7 +12,7 @@ ghost use Rattle.call_reader.specs.Inputs.{is_white_space, input_class, input_of
 use crate::number::{leading_number, number};
 use crate::token::{ByteClass, Classes, blanks, first_token};
 use cvl_base::limits::MOST_ELEMENTS;
-use cvl_base::{Fault, FaultNo, Ints, Memory, Refused};
+use cvl_base::{Fault, FaultNo, Memory, Refused};
 
 /// Whether a byte is white space: a space, a tab, a line feed or a carriage return.
 #[inline(always)]
@@ -100,8 +100,9 @@ fn first_number(bytes: &[u8]) -> Option<(&[u8], Option<i32>, &[u8])>
 ///
 /// Its faults are `TooLong`, without a place, where there are more tokens than 4,194,304, whatever they are, and else
 /// `BadInput` at the first token that is no integer of 32 bits, counted from 0.
-pub fn read_vector<A: Memory>(alloc: A, bytes: &[u8]) -> Result<Ints<A>, Refused>
-    ensures { Gives (λ numbers. numbers) result (input_of bytes.now) }
+pub fn read_vector<A: Memory>(alloc: A, bytes: &[u8]) -> Result<Vec<i32, A>, Refused>
+    ensures values { Gives (λ v. v.items) result (input_of bytes.now) }
+    ensures in_limit { IfOk result (λ v. vec_len v ≤ most_elements) }
 {
     // each token but the last has white space behind it
     let room = bytes.len().div_ceil(2).min(MOST_ELEMENTS);
@@ -117,7 +118,7 @@ pub fn read_vector<A: Memory>(alloc: A, bytes: &[u8]) -> Result<Ints<A>, Refused
         }
         rest = behind;
     }
-    Ok(Ints::from_vec(numbers))
+    Ok(numbers)
 }
 
 /// Worked inputs. It does nothing: its contract is what the definition says of them.

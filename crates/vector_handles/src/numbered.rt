@@ -25,7 +25,7 @@ pub(crate) fn integers_of_input<A: Memory>(alloc: A, input: &Input<A>) -> Result
     ensures { Gives (λ xs. xs) result (integers_of input.now) }
 {
     match input {
-        Input::Bytes(bytes) => read_vector(alloc, bytes.as_slice()),
+        Input::Bytes(bytes) => Ok(Ints::from_vec(read_vector(alloc, bytes.as_slice())?)),
         Input::Vector(xs) => Ok(Ints::from_vec(Vec::from_slice(alloc, xs.as_slice())?)),
     }
 }
