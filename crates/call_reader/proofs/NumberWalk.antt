@@ -1,15 +1,17 @@
 -- The number of a token's digits, read from the front. The walk ends where the number has grown too great.
-use Rattle.std.proofs.Common.{◌≡◌, ℕ, suc, ◌+◌, ◌-◌, ◌*◌, ◌^◌, ◌<◌, ◌≤◌, Bool, true, false, List, [], ◌∷◌, length, get_or, take, drop, refl, ap, sym, ◌∙◌, arith, Option, Some, None, ℤ, pos, neg_ℤ}
-use Rattle.std.specs.Prelude.{option_and_then, if◌then◌else◌}
+use Rattle.std.proofs.Common.{◌≡◌, ℕ, zero, suc, ◌+◌, ◌-◌, ◌*◌, ◌^◌, ◌<◌, ◌≤◌, Bool, true, false, List, [], ◌∷◌, length, get_or, take, drop, refl, ap, sym, ◌∙◌, arith, Option, Some, None, ℤ, ◌≤ℤ◌, ◌<ℤ◌, pos, neg_ℤ, cond, nat_lt, FitsSigned, w32}
+use Rattle.std.specs.Prelude.{option_and_then, if◌then◌else◌, ◌==◌}
 use Rattle.std.proofs.lemmas.List.{at_drop_more, at_drop_all, length-take-le}
 use Rattle.std.proofs.lemmas.Bool.Decides.{nat_tests}
-use Rattle.std.specs.List.{list_all}
+use Rattle.std.specs.List.{list_all, take_while, prefix_len}
 use Rattle.std.specs.Int.{from_bool}
 use Rattle.std.specs.Char.{is_ascii_digit, digit_value}
 use Rattle.std.specs.Str.Parse.{digits_value, digits_value_after}
 use Rattle.std.proofs.lemmas.List.Folds.{list_all_more}
+use Rattle.std.proofs.lemmas.List.Sums.{take_while-cons}
 use Rattle.std.proofs.lemmas.Int.Digits.{digits_value_more}
-use Rattle.call_reader.specs.Numbers.{fitting, magnitude_of, number_of}
+use Rattle.call_reader.specs.Numbers.{fitting, magnitude_of, positive_of, negative_of, with_sign, number_of, signed_digits}
+use Rattle.call_reader.proofs.TokenWalk.{both_true}
 
 -- the fitting magnitude that digits write behind others, whose number is n
 abbrev pub read_on : ℕ → List ℕ → Option ℕ
@@ -48,11 +50,11 @@ read_on_unfit n digits h =
       | false ↦ refl
     ]
 
-fits : (n : ℕ) → n ≤ 2 ^ 31 → fitting n ≡ Some n
-fits n h = grind (arith, nat_tests)
+fits_at_most : (n : ℕ) → n ≤ 2 ^ 31 → fitting n ≡ Some n
+fits_at_most n h = grind (arith, nat_tests)
 
 pub read_on_all : (n : ℕ) (digits : List ℕ) (i : ℕ) → length digits ≤ i → n ≤ 2 ^ 31 → read_on n (drop i digits) ≡ Some n
-read_on_all n digits i h small = at_drop_all (read_on n) digits i h ∙ fits n small
+read_on_all n digits i h small = at_drop_all (read_on n) digits i h ∙ fits_at_most n small
 
 -- with one digit more
 pub digits_more : (bytes : List ℕ) (i : ℕ) → i < length bytes → list_all is_ascii_digit (take i bytes) ≡ true → is_ascii_digit (get_or bytes i 0) ≡ true
@@ -64,50 +66,117 @@ pub value_more : (bytes : List ℕ) (i value : ℕ) → i < length bytes → val
 value_more bytes i value h so_far e =
     rw (so_far, ← digit_value_is (get_or bytes i 0) e) (sym (digits_value_more 10 bytes i h))
 
--- digits alone, and behind a sign
-pub positive_read : (digits : List ℕ) → 0 < length digits → list_all is_ascii_digit digits ≡ true → digits_value 10 digits < 2 ^ 31
-    → number_of digits ≡ Some (pos (digits_value 10 digits))
-positive_read [] some all small = absurd (omega arith)
-positive_read (d ∷ ds) some all small = grind (arith, nat_tests)
+-- the digits at the front are digits
+all_digits : (bytes : List ℕ) → list_all is_ascii_digit (take_while is_ascii_digit bytes) ≡ true
+all_digits [] = refl
+all_digits (b ∷ bs) = ap (list_all is_ascii_digit) (take_while-cons is_ascii_digit b bs) ∙ with_byte (is_ascii_digit b) refl (all_digits bs)
+  where
+    with_byte : (digit : Bool) → is_ascii_digit b ≡ digit → list_all is_ascii_digit (take_while is_ascii_digit bs) ≡ true
+        → list_all is_ascii_digit (cond digit (b ∷ take_while is_ascii_digit bs) []) ≡ true
+    with_byte true e others = rw (e, others) refl
+    with_byte false e others = refl
 
-pub negative_read : (digits : List ℕ) → 0 < length digits → list_all is_ascii_digit digits ≡ true → digits_value 10 digits < 2 ^ 31
-    → number_of (45 ∷ digits) ≡ Some (neg_ℤ (pos (digits_value 10 digits)))
-negative_read [] some all small = absurd (omega arith)
-negative_read (d ∷ ds) some all small = grind (arith, nat_tests)
+-- some of them write no more than all
+value_grows : (n : ℕ) (bytes : List ℕ) (count : ℕ) → list_all is_ascii_digit (take count bytes) ≡ true
+    → digits_value_after 10 n (take count bytes) ≤ digits_value_after 10 n (take_while is_ascii_digit bytes)
+value_grows n bytes zero all = grows n (take_while is_ascii_digit bytes)
+value_grows n [] (suc count) all = omega arith
+value_grows n (b ∷ bs) (suc count) all =
+    let parts = both_true (is_ascii_digit b) (list_all is_ascii_digit (take count bs)) all in
+    let front_is = take_while-cons is_ascii_digit b bs ∙ ap (λ d. cond d (b ∷ take_while is_ascii_digit bs) []) parts.0 in
+    rw front_is (value_grows (n * 10 + digit_value b) bs count parts.1)
 
--- digits in front of other bytes
-front_read : (bytes : List ℕ) (count : ℕ) → 0 < count → count ≤ length bytes → list_all is_ascii_digit (take count bytes) ≡ true
-    → digits_value 10 (take count bytes) < 2 ^ 31 → number_of (take count bytes) ≡ Some (pos (digits_value 10 (take count bytes)))
-front_read bytes count some within all small = positive_read (take count bytes) (rw length-take-le some) all small
+-- the integer of 32 bits with this sign and magnitude
+abbrev pub fit : Bool → ℕ → Option ℤ
+fit true m = negative_of m
+fit false m = positive_of m
 
--- and behind a sign
-front_read_behind_minus : (others : List ℕ) (count : ℕ) → 0 < count → count ≤ length others → list_all is_ascii_digit (take count others) ≡ true
-    → digits_value 10 (take count others) < 2 ^ 31 → number_of (take (1 + count) (45 ∷ others)) ≡ Some (neg_ℤ (pos (digits_value 10 (take count others))))
-front_read_behind_minus others count some within all small =
+too_great : (sign : Bool) (m : ℕ) → 2 ^ 31 < m → fit sign m ≡ None
+too_great true m h = grind (arith, nat_tests)
+too_great false m h = grind (arith, nat_tests)
+
+-- digits behind a sign, or without one
+sign_read : (sign : Bool) (digits : List ℕ) → 0 < length digits → list_all is_ascii_digit digits ≡ true → with_sign sign digits digits ≡ fit sign (digits_value 10 digits)
+sign_read sign [] some all = absurd (omega arith)
+sign_read true (d ∷ ds) some all = rw all refl
+sign_read false (d ∷ ds) some all = rw all refl
+
+some_digit : (digits : List ℕ) → 0 < digits_value 10 digits → 0 < length digits
+some_digit [] h = absurd (omega arith)
+some_digit (d ∷ ds) h = omega arith
+
+-- all the digits at the front, where a walk over the first of them found this magnitude and went on while it was no greater than 2^31
+pub digits_read : (sign : Bool) (digits : List ℕ) (count magnitude : ℕ) → 0 < count → count ≤ length digits → list_all is_ascii_digit (take count digits) ≡ true
+    → magnitude ≡ digits_value 10 (take count digits) → (magnitude ≤ 2 ^ 31 → count ≡ prefix_len is_ascii_digit digits)
+    → with_sign sign (take_while is_ascii_digit digits) (take_while is_ascii_digit digits) ≡ fit sign magnitude
+digits_read sign digits count magnitude some within all value whole = by (nat_lt (2 ^ 31) magnitude) refl
+  where
+    front : List ℕ
+    front = take_while is_ascii_digit digits
+
+    by : (great : Bool) → nat_lt (2 ^ 31) magnitude ≡ great → with_sign sign front front ≡ fit sign magnitude
+    by false e =
+        let front_is : take count digits ≡ front = ap (λ (k : ℕ). take k digits) (whole (grind arith)) in
+        ap (λ (ds : List ℕ). with_sign sign ds ds) (sym front_is) ∙ sign_read sign (take count digits) (rw length-take-le some) all ∙ ap (fit sign) (sym value)
+    by true e =
+        let great : 2 ^ 31 < magnitude = grind arith in
+        let more : 2 ^ 31 < digits_value 10 front = omega (arith, value, value_grows 0 digits count all) in
+        sign_read sign front (some_digit front (omega arith)) (all_digits digits) ∙ too_great sign _ more ∙ sym (too_great sign magnitude great)
+
+unsigned_read : (digit : Bool) (b : ℕ) (digits : List ℕ) → (b == 45) ≡ false
+    → number_of (cond digit (b ∷ digits) []) ≡ with_sign false (cond digit (b ∷ digits) []) (cond digit (b ∷ digits) [])
+unsigned_read true b digits e = rw e refl
+unsigned_read false b digits e = refl
+
+-- the front with its sign, by the digits behind the sign
+signed_read_at : (first : ℕ) (others : List ℕ) (sign : Bool) → sign ≡ (first == 45)
+    → number_of (signed_digits (first ∷ others))
+    ≡ with_sign sign (take_while is_ascii_digit (drop (from_bool sign) (first ∷ others))) (take_while is_ascii_digit (drop (from_bool sign) (first ∷ others)))
+signed_read_at first others true e = rw (← e, ← e) refl
+signed_read_at first others false e =
+    rw (← e, take_while-cons is_ascii_digit first others) (unsigned_read (is_ascii_digit first) first (take_while is_ascii_digit others) (sym e))
+
+signed_front_at : (first : ℕ) (others : List ℕ) (sign : Bool) (count : ℕ) → sign ≡ (first == 45)
+    → count ≡ prefix_len is_ascii_digit (drop (from_bool sign) (first ∷ others)) → take (from_bool sign + count) (first ∷ others) ≡ signed_digits (first ∷ others)
+signed_front_at first others true count e whole =
     let one_more : 1 + count ≡ suc count = omega arith in
-    ap (λ (k : ℕ). number_of (take k (45 ∷ others))) one_more ∙ negative_read (take count others) (rw length-take-le some) all small
+    rw (← e) (ap (λ (k : ℕ). take k (first ∷ others)) one_more ∙ ap (λ (k : ℕ). first ∷ take k others) whole)
+signed_front_at first others false count e whole =
+    let no_more : 0 + count ≡ count = omega arith in
+    rw (← e) (ap (λ (k : ℕ). take k (first ∷ others)) (no_more ∙ whole))
 
-signed_front : (bytes : List ℕ) (first : ℕ) (others : List ℕ) (sign : Bool) (sign_length : ℕ) (digits : List ℕ) (count : ℕ) → bytes ≡ first ∷ others
-    → (sign ≡ true → first ≡ 45) → sign_length ≡ from_bool sign → digits ≡ drop sign_length bytes → 0 < count → count ≤ length digits
-    → list_all is_ascii_digit (take count digits) ≡ true → digits_value 10 (take count digits) < 2 ^ 31
-    → number_of (take (sign_length + count) bytes) ≡ Some (if sign then neg_ℤ (pos (digits_value 10 (take count digits))) else pos (digits_value 10 (take count digits)))
-signed_front bytes first others true sign_length digits count same minus len is some within all small =
-    let digits_are : digits ≡ others = is ∙ ap (λ (k : ℕ). drop k bytes) len ∙ ap (drop 1) same in
-    let bytes_are : bytes ≡ 45 ∷ digits = same ∙ ap (λ (b : ℕ). b ∷ others) (minus refl) ∙ ap (λ (bs : List ℕ). 45 ∷ bs) (sym digits_are) in
-    ap (λ (k : ℕ). number_of (take (k + count) bytes)) len
-    ∙ ap (λ (bs : List ℕ). number_of (take (1 + count) bs)) bytes_are ∙ front_read_behind_minus digits count some within all small
-signed_front bytes first others false sign_length digits count same minus len is some within all small =
-    let digits_are : digits ≡ bytes = is ∙ ap (λ (k : ℕ). drop k bytes) len in
-    let no_more : sign_length + count ≡ count = omega (arith, len) in
-    ap (λ (k : ℕ). number_of (take k bytes)) no_more
-    ∙ ap (λ (bs : List ℕ). number_of (take count bs)) (sym digits_are) ∙ front_read digits count some within all small
+-- an integer by its sign and magnitude
+pub fits : (sign : Bool) (m : ℕ) (n : ℤ) → n ≡ (if sign then neg_ℤ (pos m) else pos m) → neg_ℤ (pos (2 ^ 31)) ≤ℤ n → n <ℤ pos (2 ^ 31) → fit sign m ≡ Some n
+fits true m n e low high = grind (arith, nat_tests)
+fits false m n e low high = grind (arith, nat_tests)
 
--- the number in front, with the sign or without one
-pub signed_read : (bytes : List ℕ) (first : ℕ) (others : List ℕ) (sign : Bool) (sign_length : ℕ) (digits : List ℕ) (count magnitude : ℕ) (n : ℤ)
-    → bytes ≡ first ∷ others → (sign ≡ true → first ≡ 45) → sign_length ≡ from_bool sign → digits ≡ drop sign_length bytes → 0 < count → count ≤ length digits
-    → list_all is_ascii_digit (take count digits) ≡ true → magnitude ≡ digits_value 10 (take count digits) → magnitude < 2 ^ 31
-    → n ≡ (if sign then neg_ℤ (pos magnitude) else pos magnitude) → number_of (take (sign_length + count) bytes) ≡ Some n
-signed_read bytes first others sign sign_length digits count magnitude n same minus len is some within all value small n_is =
-    let fits : digits_value 10 (take count digits) < 2 ^ 31 = omega (arith, value) in
-    signed_front bytes first others sign sign_length digits count same minus len is some within all fits
-    ∙ ap (λ (m : ℕ). Some (if sign then neg_ℤ (pos m) else pos m)) (sym value) ∙ ap Some (sym n_is)
+pub unfit_outside : (sign : Bool) (m : ℕ) (n : ℤ) → n ≡ (if sign then neg_ℤ (pos m) else pos m) → ¬ (FitsSigned w32 n) → fit sign m ≡ None
+unfit_outside true m n e outside = grind (arith, nat_tests)
+unfit_outside false m n e outside = grind (arith, nat_tests)
+
+pub within_32 : (sign : Bool) (m : ℕ) (n : ℤ) → n ≡ (if sign then neg_ℤ (pos m) else pos m) → neg_ℤ (pos (2 ^ 31)) ≤ℤ n → n <ℤ pos (2 ^ 31) → m ≤ 2 ^ 31
+within_32 true m n e low high = grind arith
+within_32 false m n e low high = grind arith
+
+-- the bytes' first one is split off, and the digits stand behind the sign
+abbrev pub IsSplit : List ℕ → ℕ → List ℕ → Bool → ℕ → List ℕ → Type 0
+IsSplit bytes first others sign sign_length digits =
+    (bytes ≡ first ∷ others) × (sign ≡ (first == 45)) × (sign_length ≡ from_bool sign) × (digits ≡ drop sign_length bytes)
+
+digits_are : (bytes : List ℕ) (first : ℕ) (others : List ℕ) (sign : Bool) (sign_length : ℕ) (digits : List ℕ) → IsSplit bytes first others sign sign_length digits
+    → digits ≡ drop (from_bool sign) (first ∷ others)
+digits_are bytes first others sign sign_length digits (same, minus, len, is) = is ∙ ap (λ (k : ℕ). drop k bytes) len ∙ ap (drop (from_bool sign)) same
+
+pub signed_read : (bytes : List ℕ) (first : ℕ) (others : List ℕ) (sign : Bool) (sign_length : ℕ) (digits : List ℕ) → IsSplit bytes first others sign sign_length digits
+    → number_of (signed_digits bytes) ≡ with_sign sign (take_while is_ascii_digit digits) (take_while is_ascii_digit digits)
+signed_read bytes first others sign sign_length digits (same, minus, len, is) =
+    ap (λ (bs : List ℕ). number_of (signed_digits bs)) same ∙ signed_read_at first others sign minus
+    ∙ ap (λ (ds : List ℕ). with_sign sign (take_while is_ascii_digit ds) (take_while is_ascii_digit ds))
+    (sym (digits_are bytes first others sign sign_length digits (same, minus, len, is)))
+
+pub signed_front : (bytes : List ℕ) (first : ℕ) (others : List ℕ) (sign : Bool) (sign_length : ℕ) (digits : List ℕ) (count : ℕ)
+    → IsSplit bytes first others sign sign_length digits → count ≡ prefix_len is_ascii_digit digits → take (sign_length + count) bytes ≡ signed_digits bytes
+signed_front bytes first others sign sign_length digits count (same, minus, len, is) whole =
+    let digits_is = digits_are bytes first others sign sign_length digits (same, minus, len, is) in
+    ap (λ (k : ℕ). take (k + count) bytes) len ∙ ap (take (from_bool sign + count)) same
+    ∙ signed_front_at first others sign count minus (whole ∙ ap (prefix_len is_ascii_digit) digits_is) ∙ ap signed_digits (sym same)

@@ -2,7 +2,7 @@
 -- Source: this library's script and input formats.
 use Rattle.std.specs.Prelude.{ℕ, ◌^◌, Bool, true, false, ◌&&◌, not, ◌==◌, nat_le, nat_lt, List, [], ◌∷◌, Option, Some, None, ℤ, pos, neg_ℤ, if◌then◌else◌}
 use Rattle.std.specs.Option.{option_and_then}
-use Rattle.std.specs.List.{list_all}
+use Rattle.std.specs.List.{list_all, take_while}
 use Rattle.std.specs.Char.{is_ascii_digit}
 use Rattle.std.specs.Str.Parse.{digits_value}
 
@@ -34,3 +34,8 @@ with_sign false token digits = option_and_then positive_of (magnitude_of token)
 abbrev pub number_of : List ℕ → Option ℤ
 number_of [] = None
 number_of (b ∷ bs) = with_sign (b == 45) (b ∷ bs) bs
+
+-- the `-` (45), if there is one, and all the digits behind it, with which the bytes begin
+abbrev pub signed_digits : List ℕ → List ℕ
+signed_digits [] = []
+signed_digits (b ∷ bs) = if b == 45 then b ∷ take_while is_ascii_digit bs else take_while is_ascii_digit (b ∷ bs)

@@ -2,17 +2,17 @@
 #![tactic(auto)]
 
 mod args;
-pub mod inputs;
+mod inputs;
 pub mod line_laws;
 mod line_tokens;
-pub mod lines;
-pub mod number;
+mod lines;
+mod number;
 pub mod text_laws;
-pub mod texts;
+mod texts;
 pub mod token;
 mod vector_text;
 mod written;
 
-pub use inputs::read_vector;
+pub use inputs::{read_vector, worked_inputs};
 pub use lines::read_line;
 pub use texts::put_value;

@@ -30,7 +30,7 @@ pub trait Classes {
 
 /// How many blanks the bytes begin with.
 #[inline(always)]
-pub fn blanks<C: Classes>(bytes: &[u8]) -> usize
+pub(crate) fn blanks<C: Classes>(bytes: &[u8]) -> usize
     ensures within { result ≤ length bytes.now }
     ensures tokens { tokens_by C.class_of (drop result bytes.now) ≡ tokens_by C.class_of bytes.now }
     ensures longest { begins_with_blank C.class_of (drop result bytes.now) ≡ false }
@@ -59,7 +59,7 @@ fn run_length<C: Classes>(bytes: &[u8]) -> usize
 }
 
 /// The first token of the bytes, and what stands behind it; none where there is no token.
-pub fn first_token<C: Classes>(bytes: &[u8]) -> Option<(&[u8], &[u8])>
+pub(crate) fn first_token<C: Classes>(bytes: &[u8]) -> Option<(&[u8], &[u8])>
     ensures tokens { MatchOption result (tokens_by C.class_of bytes.now ≡ []) (λ t. tokens_by C.class_of bytes.now ≡ t.0.now ∷ tokens_by C.class_of t.1.now) }
     ensures shorter { IfSome result (λ t. length t.1.now < length bytes.now) }
     ensures first { IfSome result (λ t. 0 < length t.0.now) }

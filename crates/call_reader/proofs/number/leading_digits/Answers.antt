@@ -1,5 +1,6 @@
 use Rattle.std.proofs.Common.{◌≡◌, ℕ, ◌+◌, ◌*◌, get_or, true, sym, ap, ◌∙◌, arith}
 use Rattle.std.specs.Char.{is_ascii_digit}
+use Rattle.std.proofs.lemmas.List.Sums.{prefix_len-drop_yes}
 use Rattle.call_reader.proofs.NumberWalk.{digits_more, value_more}
 use Rattle.call_reader.proofs.number.leading_digits.Goals as goal
 
@@ -12,4 +13,5 @@ loop-i-preserved c =
       small = grind arith;
       digits = digits_more bytes i (omega arith) c.loop-i.invariant.digits e;
       value = ap (λ (d : ℕ). c.loop-i.value * 10 + d) c.from.ensures ∙ value_more bytes i c.loop-i.value (omega arith) c.loop-i.invariant.value e;
+      whole = omega (arith, c.loop-i.invariant.whole, prefix_len-drop_yes is_ascii_digit bytes i 0 (omega arith) e);
     }
