@@ -65,7 +65,8 @@ fn put_beside<A: Memory>(
 /// as `[]`, a descriptor as its lengths, and a vector beside a descriptor as the vectors of its segments, `[[] [5 1]]`.
 ///
 /// Beside a descriptor the value is a vector as long as the descriptor's total. The text grows by the bytes of up to
-/// 1,024 elements at a time; where a growth is refused it is as before. The form is this library's text format.
+/// 1,024 elements of a vector or of a segment at a time; where a growth is refused it is as before. The form is this
+/// library's text format.
 pub fn put_value<A: Memory>(
     value: &Value<A>,
     descriptor: Option<&SegDes<A>>,
