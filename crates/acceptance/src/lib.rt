@@ -4,7 +4,7 @@
 #[cfg(test)]
 mod descriptors;
 #[cfg(test)]
-mod elementwise;
+mod elementwise_calls;
 #[cfg(test)]
 mod faults;
 #[cfg(test)]
