@@ -35,20 +35,23 @@ enum Ended {
     Wrong,
 }
 
-/// Runs the program on this memory.
-fn run_on<R: Threads + Sync, A: Memory>(rt: &R, heap: A) -> Result<Ended, NoResources> {
-    let mut host = SmallHost::with_room(heap, FILES, 64)?;
-    let status = program(rt, heap, &["cvl", "scan", "numbers"], &mut host);
-    let output = host.output.taken.as_slice();
-    let errors = host.errors.as_slice();
-    let ended = match status {
+/// Judges how the program ended by its status and what it wrote.
+fn judge(status: u8, output: &[u8], errors: &[u8]) -> Ended {
+    match status {
         0 if output == TEXT.as_bytes() && errors.is_empty() => Ended::Whole,
         3
             if TEXT.as_bytes().starts_with(output)
                 && TOLD.iter().any(|told| errors == told.as_bytes()) => Ended::Told,
         _ => Ended::Wrong,
-    };
-    Ok(ended)
+    }
+}
+
+/// Runs the program on this memory.
+fn run_on<R: Threads + Sync, A: Memory>(rt: &R, heap: A) -> Result<Ended, NoResources> {
+    let mut host = SmallHost::with_room(heap, FILES, 64)?;
+    let words = ["cvl", "scan", "numbers"];
+    let status = program(rt, heap, words.as_slice(), &mut host);
+    Ok(judge(status, host.output.taken.as_slice(), host.errors.as_slice()))
 }
 
 fn is_allowed(answer: &Result<Ended, NoResources>, met: bool) -> bool {

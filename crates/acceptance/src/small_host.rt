@@ -43,10 +43,19 @@ impl<'a, A: Memory> SmallHost<'a, A> {
     ) -> Result<SmallHost<'a, A>, NoResources>
         ensures { IfOk result (λ host. host.output.failures ≡ 0) }
     {
-        let mut host = SmallHost::new(alloc, files);
-        host.output.taken = Vec::with_capacity(alloc, room)?;
-        host.errors = Vec::with_capacity(alloc, room)?;
-        Ok(host)
+        let taken = Vec::with_capacity(alloc, room)?;
+        let errors = Vec::with_capacity(alloc, room)?;
+        Ok(SmallHost {
+            files,
+            output: NarrowSink {
+                taken,
+                puts_left: u64::MAX,
+                failures: 0,
+            },
+            errors,
+            flushes: true,
+            alloc,
+        })
     }
 }
 
