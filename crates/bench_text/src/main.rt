@@ -15,8 +15,8 @@ const NUMBERS: usize = 4_194_304;
 /// How often a case is measured. The best time counts.
 const ROUNDS: usize = 20;
 
-/// An input of random numbers of 32 bits, with a space behind each.
-fn random_input(alloc: Global) -> Result<Vec<u8>, AllocError> {
+/// An input of random numbers with a space behind each, all of 32 bits, or each of a random number of bits.
+fn random_input(alloc: Global, are_all_long: bool) -> Result<Vec<u8>, AllocError> {
     let mut input = Vec::with_capacity(alloc, 12 * NUMBERS)?;
     let mut buffer = Buffer::new();
     let mut state: u64 = 1;
@@ -25,7 +25,8 @@ fn random_input(alloc: Global) -> Result<Vec<u8>, AllocError> {
         state = state
             .wrapping_mul(6_364_136_223_846_793_005)
             .wrapping_add(1_442_695_040_888_963_407);
-        let number = (state >> 32) as i64 - 2_147_483_648;
+        let bits_less = if are_all_long { 0 } else { (state >> 27) % 32 };
+        let number = ((state >> 32) as i64 - 2_147_483_648) >> bits_less;
         input.extend_from_slice(buffer.format(number).as_bytes())?;
         input.push(b' ')?;
     }
@@ -56,7 +57,7 @@ fn print_rate(rt: &HostRuntime, case: &str, bytes: usize, time: Duration) -> io:
 }
 
 /// Writes the numbers of the input several times, and prints the best rate.
-fn write_case(rt: &HostRuntime, input: &[u8]) -> io::Result<()> {
+fn write_case(rt: &HostRuntime, case: &str, input: &[u8]) -> io::Result<()> {
     let Ok(numbers) = read_vector(rt.alloc(), input) else {
         println!(rt; "not written: the input was not read")?;
         return Ok(());
@@ -75,7 +76,7 @@ fn write_case(rt: &HostRuntime, input: &[u8]) -> io::Result<()> {
         }
         bytes = text.len();
     }
-    print_rate(rt, "writing a vector", bytes, best)
+    print_rate(rt, case, bytes, best)
 }
 
 fn main(rt: HostRuntime) -> io::Result<()> {
@@ -85,10 +86,19 @@ fn main(rt: HostRuntime) -> io::Result<()> {
         .next()
         .is_some_and(|word| word.as_str() == "measure")
     {
-        let input = random_input(rt.alloc())?;
-        let time = best_reading(&rt, &input)?;
-        print_rate(&rt, "reading an input", input.len(), time)?;
-        write_case(&rt, &input)?;
+        for (are_all_long, reading, writing) in [
+            (true, "reading long numbers", "writing long numbers"),
+            (
+                false,
+                "reading numbers of any length",
+                "writing numbers of any length",
+            ),
+        ] {
+            let input = random_input(rt.alloc(), are_all_long)?;
+            let time = best_reading(&rt, &input)?;
+            print_rate(&rt, reading, input.len(), time)?;
+            write_case(&rt, writing, &input)?;
+        }
     }
     Ok(())
 }
