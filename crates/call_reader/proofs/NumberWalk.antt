@@ -67,7 +67,7 @@ value_more bytes i value h so_far e =
     rw (so_far, ← digit_value_is (get_or bytes i 0) e) (sym (digits_value_more 10 bytes i h))
 
 -- the digits at the front are digits
-all_digits : (bytes : List ℕ) → list_all is_ascii_digit (take_while is_ascii_digit bytes) ≡ true
+pub all_digits : (bytes : List ℕ) → list_all is_ascii_digit (take_while is_ascii_digit bytes) ≡ true
 all_digits [] = refl
 all_digits (b ∷ bs) = ap (list_all is_ascii_digit) (take_while-cons is_ascii_digit b bs) ∙ with_byte (is_ascii_digit b) refl (all_digits bs)
   where

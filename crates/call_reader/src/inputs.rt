@@ -170,6 +170,20 @@ mod tests {
     }
 
     #[test]
+    fn reads_numbers_of_each_length(rt: HostRuntime) -> Result<(), Fail> {
+        let input = b"1 -22 333 -4444 55555 -666666 7777777 -88888888 999999999 -1000000000 \
+            000000000000015 0000000000000016 -00000000000000017 1000000000 -9";
+        let numbers = read_vector(rt.alloc(), input)?;
+        let short = [1, -22, 333, -4444, 55555, -666666, 7777777, -88888888];
+        let long = [999999999, -1000000000, 15, 16, -17, 1000000000, -9];
+        assert_eq!(rt;
+            numbers.as_slice().split_at(8),
+            (short.as_slice(), long.as_slice())
+        );
+        Ok(())
+    }
+
+    #[test]
     fn names_the_first_bad_token(rt: HostRuntime) {
         assert_eq!(rt; fault_of(rt.alloc(), b"1 +2 3"), bad_at(1));
         assert_eq!(rt; fault_of(rt.alloc(), b"2147483648"), bad_at(0));
@@ -178,6 +192,20 @@ mod tests {
         assert_eq!(rt; fault_of(rt.alloc(), b"1 2 - 3"), bad_at(2));
         assert_eq!(rt; fault_of(rt.alloc(), b"1 2-3"), bad_at(1));
         assert_eq!(rt; fault_of(rt.alloc(), b"1\x0b2"), bad_at(0));
+        // the bytes just outside the digits, where more than sixteen follow
+        assert_eq!(rt;
+            fault_of(rt.alloc(), b"7 12:45 0123456789012345"),
+            bad_at(1)
+        );
+        assert_eq!(rt;
+            fault_of(rt.alloc(), b"7 12/45 0123456789012345"),
+            bad_at(1)
+        );
+        assert_eq!(rt; fault_of(rt.alloc(), b"7 - 0 0123456789012345"), bad_at(1));
+        assert_eq!(rt;
+            fault_of(rt.alloc(), b"7 123456789012345 012345"),
+            bad_at(1)
+        );
     }
 
     #[test]

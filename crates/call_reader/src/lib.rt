@@ -2,6 +2,7 @@
 #![tactic(auto)]
 
 mod args;
+mod digits;
 mod inputs;
 pub mod line_laws;
 mod line_tokens;

@@ -6,6 +6,9 @@ ghost use Rattle.std.specs.Char.{is_ascii_digit};
 ghost use Rattle.std.specs.Str.Parse.{digits_value};
 ghost use Rattle.call_reader.specs.Numbers.{number_of, magnitude_of, fitting, signed_digits};
 
+use crate::digits::{LANES, decimal, digit_run, moved};
+use std::simd::prelude::*;
+
 /// The greatest magnitude of an integer of 32 bits: that of -2147483648.
 const GREATEST_MAGNITUDE: u64 = 2_147_483_648;
 
@@ -45,10 +48,9 @@ pub(crate) fn number(token: &[u8]) -> Option<i32>
     }
 }
 
-/// How many digits the bytes begin with, and the number that these write. The walk also ends where that number is
-/// greater than 2,147,483,648.
-#[inline(always)]
-fn leading_digits(bytes: &[u8]) -> (usize, u64)
+/// How many digits the bytes begin with, and the number that these write, read one by one. The walk also ends where
+/// that number is greater than 2,147,483,648.
+fn walked_digits(bytes: &[u8]) -> (usize, u64)
     ensures within { result.0 ≤ length bytes.now }
     ensures digits { IsTrue (list_all is_ascii_digit (take result.0 bytes.now)) }
     ensures value { result.1 ≡ digits_value 10 (take result.0 bytes.now) }
@@ -63,6 +65,27 @@ fn leading_digits(bytes: &[u8]) -> (usize, u64)
         value = value * 10 + u64::from(*byte - b'0');
     }
     (bytes.len(), value)
+}
+
+/// How many digits the bytes begin with, and the number that these write. Where that number is greater than
+/// 2,147,483,648, it may be that of the first digits alone.
+#[inline(always)]
+fn leading_digits(bytes: &[u8]) -> (usize, u64)
+    ensures within { result.0 ≤ length bytes.now }
+    ensures digits { IsTrue (list_all is_ascii_digit (take result.0 bytes.now)) }
+    ensures value { result.1 ≡ digits_value 10 (take result.0 bytes.now) }
+    ensures whole { result.1 ≤ 2 ^ 31 → result.0 ≡ prefix_len is_ascii_digit bytes.now }
+    ensures small { result.1 < 2 ^ 63 }
+{
+    // nearly every number has fewer digits than there are lanes
+    if bytes.len() >= LANES {
+        let digits = u8x16::from_slice(bytes) - u8x16::splat(b'0');
+        let count = digit_run(digits);
+        if 0 < count && count < LANES {
+            return (count, decimal(moved(digits, LANES - count)));
+        }
+    }
+    walked_digits(bytes)
 }
 
 /// The integer of this sign and magnitude.

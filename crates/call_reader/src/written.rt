@@ -1,6 +1,7 @@
 //! Elements of vectors, which have texts.
 
 ghost use Rattle.std.specs.Prelude.{◌≡◌, ◌+◌, ◌≤◌, ◌++◌, length, drop};
+ghost use Rattle.std.specs.Fmt.{decimal};
 
 /// The most bytes of an element's text, which `-2147483648` has.
 pub(crate) const MOST_TEXT_BYTES: usize = 11;
@@ -19,6 +20,26 @@ pub(crate) trait Written {
         ensures within { result ≤ end };
 }
 
+/// The least number of eleven digits, one more than the magnitude of an element has at most.
+const LEAST_OF_ELEVEN_DIGITS: u64 = 10_000_000_000;
+
+/// How many digits a number has in decimal.
+#[inline(always)]
+fn digit_count(number: u32) -> usize
+    ensures { result ≡ length (decimal number) }
+{
+    // a sum, since a processor can't foresee which of several branches a number takes
+    1 + usize::from(number >= 10)
+        + usize::from(number >= 100)
+        + usize::from(number >= 1_000)
+        + usize::from(number >= 10_000)
+        + usize::from(number >= 100_000)
+        + usize::from(number >= 1_000_000)
+        + usize::from(number >= 10_000_000)
+        + usize::from(number >= 100_000_000)
+        + usize::from(number >= 1_000_000_000)
+}
+
 /// An integer's text is its decimal.
 impl Written for i32 {
     ghost use Rattle.std.specs.Fmt.{signed_decimal};
@@ -27,12 +48,12 @@ impl Written for i32 {
 
     fn write_before(&self, page: &mut [u8], end: usize) -> usize {
         let number = *self;
-        let start = itoa::write_digits(number.unsigned_abs() as u64, page, end);
-        if number >= 0 {
-            return start;
-        }
+        let magnitude = number.unsigned_abs();
+        // eleven digits and a sign for every number, of which its text is the end: with no branch on its length or sign
+        itoa::write_digits(LEAST_OF_ELEVEN_DIGITS + u64::from(magnitude), page, end);
+        let start = end - digit_count(magnitude);
         page[start - 1] = b'-';
-        start - 1
+        start - usize::from(number < 0)
     }
 }
 

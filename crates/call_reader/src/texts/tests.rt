@@ -71,6 +71,42 @@ fn nested_booleans(
 }
 
 #[test]
+fn numbers_of_each_length(rt: HostRuntime) -> Result<(), Fail> {
+    let numbers = [
+        0,
+        -1,
+        9,
+        10,
+        -10,
+        99,
+        100,
+        999,
+        1_000,
+        -1_000,
+        9_999,
+        10_000,
+        99_999,
+        100_000,
+        999_999,
+        1_000_000,
+        9_999_999,
+        10_000_000,
+        -99_999_999,
+        100_000_000,
+        999_999_999,
+        1_000_000_000,
+        2_147_483_647,
+        -2_147_483_648,
+    ];
+    let value = integers(rt.alloc(), &numbers)?;
+    let text = b"a = [0 -1 9 10 -10 99 100 999 1000 -1000 9999 10000 99999 100000 999999 \
+        1000000 9999999 10000000 -99999999 100000000 999999999 1000000000 \
+        2147483647 -2147483648]";
+    assert_eq!(rt; written(rt.alloc(), &value)?.as_slice(), text.as_slice());
+    Ok(())
+}
+
+#[test]
 fn vectors(rt: HostRuntime) -> Result<(), Fail> {
     let value = integers(rt.alloc(), &[0, 3, 4, 11, 11])?;
     assert_eq!(rt;

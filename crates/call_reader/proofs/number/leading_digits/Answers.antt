@@ -1,17 +1,26 @@
-use Rattle.std.proofs.Common.{◌≡◌, ℕ, ◌+◌, ◌*◌, get_or, true, sym, ap, ◌∙◌, arith}
-use Rattle.std.specs.Char.{is_ascii_digit}
-use Rattle.std.proofs.lemmas.List.Sums.{prefix_len-drop_yes}
-use Rattle.call_reader.proofs.NumberWalk.{digits_more, value_more}
+use Rattle.std.proofs.Common.{◌∙◌, arith}
+use Rattle.call_reader.proofs.DigitLanes.{IsRead, lanes_read}
 use Rattle.call_reader.proofs.number.leading_digits.Goals as goal
 
-pub loop-i-preserved : goal.loop-i-preserved
-loop-i-preserved c =
-    let bytes = c.args.bytes.now in
-    let i = c.loop-i.i in
-    let e : is_ascii_digit (get_or bytes i 0) ≡ true = sym c.is_ascii_digit.ensures.value ∙ c.if-not-is_ascii_digit.false in
-    record {
-      small = grind arith;
-      digits = digits_more bytes i (omega arith) c.loop-i.invariant.digits e;
-      value = ap (λ (d : ℕ). c.loop-i.value * 10 + d) c.from.ensures ∙ value_more bytes i c.loop-i.value (omega arith) c.loop-i.invariant.value e;
-      whole = omega (arith, c.loop-i.invariant.whole, prefix_len-drop_yes is_ascii_digit bytes i 0 (omega arith) e);
-    }
+read : (c : goal.After-moved) → IsRead c.args.bytes.now c.digit_run-count.result c.moved.result
+read c =
+    lanes_read c.args.bytes.now c.digit_run-count.result c.moved.result c.if-bytes-ge-LANES.true c.type_inv.bytes c.digit_run-count.ensures c.if-count-lt-LANES.true c.moved.ensures
+
+pub decimal-requires : goal.decimal-requires
+decimal-requires c = (read c).below
+
+read_all : (c : goal.After-decimal) → IsRead c.args.bytes.now c.digit_run-count.result c.moved.result
+read_all c =
+    lanes_read c.args.bytes.now c.digit_run-count.result c.moved.result c.if-bytes-ge-LANES.true c.type_inv.bytes c.digit_run-count.ensures c.if-count-lt-LANES.true c.moved.ensures
+
+pub returns-then-count-lt-LANES-clause-digits : goal.returns-then-count-lt-LANES-clause-digits
+returns-then-count-lt-LANES-clause-digits c = (read_all c).digits
+
+pub returns-then-count-lt-LANES-clause-value : goal.returns-then-count-lt-LANES-clause-value
+returns-then-count-lt-LANES-clause-value c = c.decimal.ensures ∙ (read_all c).value
+
+pub returns-then-count-lt-LANES-clause-whole : goal.returns-then-count-lt-LANES-clause-whole
+returns-then-count-lt-LANES-clause-whole c = λ _. (read_all c).whole
+
+pub returns-then-count-lt-LANES-clause-small : goal.returns-then-count-lt-LANES-clause-small
+returns-then-count-lt-LANES-clause-small c = omega (arith, c.decimal.ensures, (read_all c).value, (read_all c).small)

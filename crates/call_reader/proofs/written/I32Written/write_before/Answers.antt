@@ -1,39 +1,44 @@
-use Rattle.std.proofs.Common.{◌≡◌, ℕ, ◌+◌, ◌-◌, ◌^◌, ◌<◌, ◌≤◌, false, ◌∷◌, ◌++◌, length, drop, ℤ, pos, negsuc, int_le, unsigned_abs, ap, true≢false, ◌∙◌, sym, arith, rules, to_z, of_z, w32}
-use lib.Dec.{leb-zero}
+use Rattle.std.proofs.Common.{◌≡◌, ℕ, ◌+◌, ◌-◌, ◌^◌, ◌<◌, ◌≤◌, ◌++◌, length, drop, ℤ, pos, int_lt, unsigned_abs, slice_set, ap, sym, ◌∙◌, arith, rules, to_z, of_z, w32}
+use Rattle.std.specs.Int.{from_bool}
 use Rattle.std.proofs.lemmas.Fmt.{length-decimal-le}
-use Rattle.std.proofs.lemmas.List.{drop-set}
-use Rattle.std.specs.Fmt.{decimal, signed_decimal}
+use Rattle.std.specs.Fmt.{decimal}
+use Rattle.call_reader.proofs.DecimalTexts.{digits_at_end, with_sign, from_bool_small}
 use Rattle.call_reader.proofs.written.I32Written.write_before.Goals as goal
 
 short : (n : ℕ) → n < 2 ^ 32 → length (decimal n) ≤ 10
 short n h = length-decimal-le 10 n (omega arith) (omega arith) (omega arith)
 
--- a negative number's text is a minus sign and its magnitude
-minus_first : (n : ℕ) (z : ℤ) → n ≡ unsigned_abs z → int_le (pos 0) z ≡ false → 45 ∷ decimal n ≡ signed_decimal z
-minus_first n (pos k) e h = absurd (true≢false (sym (leb-zero k) ∙ h))
-minus_first n (negsuc k) e h = ap (λ m. 45 ∷ decimal m) e
+pub write_digits-requires : goal.write_digits-requires
+write_digits-requires c =
+    let number : 10 ^ 10 + c.from.result < 10 ^ 11 = omega (arith, c.from.ensures) in
+    (omega (arith, length-decimal-le 11 (10 ^ 10 + c.from.result) (omega arith) number (omega (arith, number))), omega arith)
 
-pub write_digits-start-requires : goal.write_digits-start-requires
-write_digits-start-requires c = (omega (arith, short c.unsigned_abs.result (omega arith)), omega arith)
-
-pub returns-then-number-ge0-clause-short : goal.returns-then-number-ge0-clause-short
-returns-then-number-ge0-clause-short c = omega (arith, short c.unsigned_abs.result (omega arith))
+pub overflow_sub-start : goal.overflow_sub-start
+overflow_sub-start c = omega (arith, c.digit_count.ensures, short c.unsigned_abs-magnitude.result (omega arith))
 
 pub overflow_sub-page : goal.overflow_sub-page
-overflow_sub-page c = omega (arith, short c.unsigned_abs.result (omega arith))
+overflow_sub-page c = omega (arith, c.digit_count.ensures, short c.unsigned_abs-magnitude.result (omega arith))
 
 pub overflow_sub-result : goal.overflow_sub-result
-overflow_sub-result c = omega (arith, short c.unsigned_abs.result (omega arith))
+overflow_sub-result c =
+    omega (arith, c.digit_count.ensures, short c.unsigned_abs-magnitude.result (omega arith), c.from-2.ensures, from_bool_small (int_lt (to_z w32 (of_z w32 c.args.self.now)) (pos 0)))
 
 pub returns-clause-short : goal.returns-clause-short
-returns-clause-short c = omega (arith, short c.unsigned_abs.result (omega arith))
+returns-clause-short c =
+    omega (arith, c.digit_count.ensures, short c.unsigned_abs-magnitude.result (omega arith), c.from-2.ensures, from_bool_small (int_lt (to_z w32 (of_z w32 c.args.self.now)) (pos 0)))
 
 pub returns-clause-written : goal.returns-clause-written
 returns-clause-written c =
-    let w = c.write_digits-start in
-    let long : length (decimal c.unsigned_abs.result) ≤ 10 = short c.unsigned_abs.result (omega arith) in
-    let e : w.result - 1 + 1 ≡ w.result = omega arith in
+    let page = c.write_digits.new.buf in
+    let rest = drop c.args.end c.args.page.now in
+    let magnitude = c.unsigned_abs-magnitude.result in
+    let start = c.args.end - c.digit_count.result in
     let back : to_z w32 (of_z w32 c.args.self.now) ≡ c.args.self.now = search rules in
-    let minus = minus_first c.unsigned_abs.result c.args.self.now (rw back at c.unsigned_abs.ensures.value) (rw back at c.if-number-ge0.false) in
-    rw (drop-set w.new.buf (w.result - 1) 45 (omega arith), e, w.ensures.written)
-    (ap (λ bs. bs ++ drop c.args.end c.args.page.now) minus)
+    let same = ap (λ (n : ℕ). 10 ^ 10 + n) c.from.ensures in
+    let at = ap (λ (n : ℕ). c.write_digits.result + length (decimal n)) (sym same) ∙ c.write_digits.ensures.start in
+    let digits = digits_at_end magnitude c.write_digits.result c.args.end page rest (omega arith) at (c.write_digits.ensures.written ∙ ap (λ (n : ℕ). decimal n ++ rest) same) in
+    let counted = ap (λ (n : ℕ). drop (c.args.end - n) page) c.digit_count.ensures ∙ digits ∙ ap (λ (n : ℕ). decimal n ++ rest) (c.unsigned_abs-magnitude.ensures.value ∙ ap unsigned_abs back) in
+    let sign = c.from-2.ensures ∙ ap (λ (z : ℤ). from_bool (int_lt z (pos 0))) back in
+    let long = short magnitude (omega arith) in
+    ap (λ (k : ℕ). drop (start - k) (slice_set page (start - 1) 45)) sign
+    ∙ with_sign c.args.self.now start page rest (omega (arith, c.digit_count.ensures, long)) (omega arith) counted
