@@ -6,7 +6,7 @@ ghost use Rattle.cvl_base.specs.Elementwise.{choose_of, chosen};
 ghost use Rattle.cvl_base.specs.Gives.{Gives};
 ghost use Rattle.elementwise.specs.Standing.{StandFrom};
 
-use crate::chunks::{CHUNK, FORKED, filled_like};
+use crate::chunks::{FORKED, chunk_length, filled_like};
 use cvl_base::{Config, Fault, FaultNo, Memory, NoResources, Refused};
 use rayon::prelude::*;
 use std::thread::Threads;
@@ -63,7 +63,7 @@ fn values_chosen<T: Copy + Send + Sync, R: Threads + Sync, A: Memory>(
     par_chunks_mut_for_each(
         rt,
         values.as_mut_slice(),
-        CHUNK,
+        chunk_length(flags.len()),
         |start: usize, chunk: &mut [T]|
             requires { (start + length chunk.now ≤ length flags.now) × (length flags.now ≡ length a.now) × (length flags.now ≡ length b.now) }
             ensures { StandFrom (map (λ p. chosen p.0 p.1) (zip flags.entry.now (zip a.entry.now b.entry.now))) start (length chunk.old) chunk.new }

@@ -4,7 +4,7 @@ ghost use Rattle.std.specs.Prelude.{◌≡◌, ◌+◌, ◌≤◌, IfOk, length,
 ghost use Rattle.std.specs.List.{zip};
 ghost use Rattle.elementwise.specs.Standing.{StandFrom};
 
-use crate::chunks::{CHUNK, FORKED, filled_like};
+use crate::chunks::{FORKED, chunk_length, filled_like};
 use cvl_base::{Memory, NoResources};
 use rayon::prelude::*;
 use std::thread::Threads;
@@ -44,7 +44,7 @@ pub(crate) fn values_on_pairs<
     O: Binary<X, Y, Z>,
     X: Copy + Send + Sync,
     Y: Copy + Send + Sync,
-    Z: Copy + Send + Sync,
+    Z: Copy + Default + Send + Sync,
     R: Threads + Sync,
     A: Memory,
 >(rt: &R, alloc: A, a: &[X], b: &[Y]) -> Result<Vec<Z, A>, NoResources>
@@ -55,12 +55,12 @@ pub(crate) fn values_on_pairs<
     if a.len() < FORKED {
         return values_by_one_thread::<O, X, Y, Z, A>(alloc, a, b);
     }
-    // a value to begin with; the chunks are written over it
-    let mut values = filled_like(alloc, a, O::apply(a[0], b[0]))?;
+    // the chunks are written over these; a compiler fills memory with zeros faster than with other numbers
+    let mut values = filled_like(alloc, a, Z::default())?;
     par_chunks_mut_for_each(
         rt,
         values.as_mut_slice(),
-        CHUNK,
+        chunk_length(a.len()),
         |start: usize, chunk: &mut [Z]|
             requires { (start + length chunk.now ≤ length a.now) × (length a.now ≡ length b.now) }
             ensures { StandFrom (map (λ p. O.value p.0 p.1) (zip a.entry.now b.entry.now)) start (length chunk.old) chunk.new }

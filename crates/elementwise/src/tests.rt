@@ -150,14 +150,34 @@ fn long_vectors(rt: HostRuntime) {
     for (place, sum, flag, choice) in [
         (0, 0, false, -1),
         (1, 2, true, 1),
-        (65_535, 131_070, true, 65_535),
-        (65_536, 131_072, true, 65_536),
+        (1_048_575, 2_097_150, true, 1_048_575),
+        (1_048_576, 2_097_152, true, 1_048_576),
         (3_000_001, 6_000_002, true, 3_000_001),
         (4_194_303, 8_388_606, true, 4_194_303),
     ] {
         assert_eq!(rt; twice.get(place), Some(&sum));
         assert_eq!(rt; flags.get(place), Some(&flag));
         assert_eq!(rt; chosen.get(place), Some(&choice));
+    }
+}
+
+#[test]
+fn a_shorter_last_chunk(rt: HostRuntime) {
+    let config = Config::new(4096, 4).expect(&rt, "in range");
+    let alloc = rt.alloc();
+    let places = places(&rt, alloc);
+    assert!(rt; places.len() > 600_001);
+    let (front, _others) = places.split_at(600_001);
+    let sums = int2(&rt, alloc, config, IntBinary::Add, front, front).expect(&rt, "equally long");
+    assert_eq!(rt; sums.len(), 600_001);
+    for (place, sum) in [
+        (0, 0),
+        (150_000, 300_000),
+        (150_001, 300_002),
+        (450_003, 900_006),
+        (600_000, 1_200_000),
+    ] {
+        assert_eq!(rt; sums.get(place), Some(&sum));
     }
 }
 
