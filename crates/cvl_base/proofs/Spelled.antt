@@ -10,8 +10,8 @@ use Rattle.cvl_base.specs.declared.families.Cut.TheVariants.{Flat, Segmented}
 use Rattle.cvl_base.specs.declared.families.Element.TheVariants.{Integer, Boolean}
 use Rattle.cvl_base.specs.declared.operation.Op.{Op}
 use Rattle.cvl_base.specs.declared.operation.Op.TheVariants.{Input, Ints2, Ints1, Compare, Bools2, Bools1, Choose, IntFromBool, BoolFromInt, Scan, Reduce, BoolScan, BoolReduce, Permute, Length, Count, Pack, PackedLengths, Distribute, Index, Extract, Replace, MakeDescriptor, DescriptorLengths, Write}
-use Rattle.cvl_base.specs.Calls.{is_write}
-use Rattle.cvl_base.specs.Spellings.{spelling_of, any_op_of}
+use Rattle.cvl_base.specs.Calls.{spelling_of, is_write}
+use Rattle.cvl_base.specs.Spellings.{any_op_of}
 
 pub read_back : (op : Op) → is_write op ≡ false → any_op_of (spelling_of op) ≡ Some op
 unfolding any_op_of

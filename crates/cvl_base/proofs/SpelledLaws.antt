@@ -3,8 +3,8 @@ use Rattle.std.proofs.Common.{◌≡◌, ◌≢◌, ℕ, Bool, true, false, List
 use Rattle.std.proofs.lemmas.Slice.Eq.{bytes_eq-Decides}
 use Rattle.cvl_base.specs.declared.operation.Op.{Op}
 use Rattle.cvl_base.specs.declared.operation.Op.TheVariants.{Write}
-use Rattle.cvl_base.specs.Calls.{is_write, is_done}
-use Rattle.cvl_base.specs.Spellings.{spelling_of, is_spelled, calls, any_op_of, if_done, op_of}
+use Rattle.cvl_base.specs.Calls.{spelling_of, is_write, is_done}
+use Rattle.cvl_base.specs.Spellings.{is_spelled, calls, any_op_of, if_done, op_of}
 use Rattle.cvl_base.proofs.Spelled.{read_back}
 
 passes_at : {X : Type 0} (test : X → Bool) (y x : X) (xs : List X) (b : Bool) → test y ≡ b → cond b (Some y) (find test xs) ≡ Some x → (find test xs ≡ Some x → test x ≡ true) → test x ≡ true

@@ -1,9 +1,10 @@
--- The table of calls: the kinds of the arguments that each call takes, in their order, and the kind that it gives.
+-- The table of calls: the name of each, the kinds of the arguments that it takes, in their order, and the kind that it gives.
 -- Source: the calls of CVL, the C Vector Library; their names, orders and exceptions are this library's profile.
-use Rattle.std.specs.Prelude.{ℕ, Bool, true, false, if◌then◌else◌, ◌&&◌, ◌||◌, ◌==◌, List, [], ◌∷◌, ◌++◌, length, slice_get, Option, Some, None}
+use Rattle.std.specs.Prelude.{ℕ, Bool, true, false, if◌then◌else◌, ◌&&◌, ◌||◌, ◌==◌, List, [], ◌∷◌, ◌++◌, length, slice_get, codes, Option, Some, None}
 use Rattle.cvl_base.specs.declared.kind.Kind.{Kind}
 use Rattle.cvl_base.specs.declared.kind.Kind.TheVariants.{Integers, Booleans, Descriptor, Integer, Boolean}
 use Rattle.cvl_base.specs.declared.families.IntMonoid.TheVariants as monoid
+use Rattle.cvl_base.specs.declared.families.Form.{Form}
 use Rattle.cvl_base.specs.declared.families.Form.TheVariants.{Simple, Back, Select, Default}
 use Rattle.cvl_base.specs.declared.families.Cut.{Cut}
 use Rattle.cvl_base.specs.declared.families.Cut.TheVariants.{Flat, Segmented}
@@ -11,6 +12,7 @@ use Rattle.cvl_base.specs.declared.families.Element.{Element}
 use Rattle.cvl_base.specs.declared.families.Element.TheVariants as elements
 use Rattle.cvl_base.specs.declared.operation.Op.{Op}
 use Rattle.cvl_base.specs.declared.operation.Op.TheVariants.{Input, Ints2, Ints1, Compare, Bools2, Bools1, Choose, IntFromBool, BoolFromInt, Scan, Reduce, BoolScan, BoolReduce, Permute, Length, Count, Pack, PackedLengths, Distribute, Index, Extract, Replace, MakeDescriptor, DescriptorLengths, Write}
+use Rattle.cvl_base.specs.Letters.{int_binary_letters, unary_letters, comparison_letters, bool_binary_letters, int_monoid_letters, form_letters, call_name_of}
 
 -- a single value, and a vector of such values
 abbrev pub single_of : Element → Kind
@@ -39,64 +41,58 @@ cut_by Segmented = Descriptor ∷ []
 abbrev pub cut_by_both : Cut → List Kind
 cut_by_both cut = cut_by cut ++ cut_by cut
 
--- the arguments of each call in the order of the script; of `write` see `accepts_of`
-abbrev pub operands_of : Op → List Kind
-operands_of Input = Integer ∷ []
-operands_of (Ints2 operator) = Integers ∷ Integers ∷ []
-operands_of (Ints1 operator) = Integers ∷ []
-operands_of (Compare operator) = Integers ∷ Integers ∷ []
-operands_of (Bools2 operator) = Booleans ∷ Booleans ∷ []
-operands_of (Bools1 operator) = Booleans ∷ []
-operands_of (Choose element) = Booleans ∷ vector_of element ∷ vector_of element ∷ []
-operands_of IntFromBool = Booleans ∷ []
-operands_of BoolFromInt = Integers ∷ []
-operands_of (Scan operator cut) = Integers ∷ cut_by cut
-operands_of (Reduce operator cut) = Integers ∷ cut_by cut
-operands_of (BoolScan operator cut) = Booleans ∷ cut_by cut
-operands_of (BoolReduce operator cut) = Booleans ∷ cut_by cut
-operands_of (Permute Simple cut element) = vector_of element ∷ Integers ∷ cut_by cut
-operands_of (Permute Back cut element) = vector_of element ∷ Integers ∷ cut_by_both cut
-operands_of (Permute Select cut element) = vector_of element ∷ Integers ∷ Booleans ∷ cut_by cut
-operands_of (Permute Default cut element) = vector_of element ∷ Integers ∷ vector_of element ∷ cut_by_both cut
-operands_of (Length element) = vector_of element ∷ []
-operands_of (Count cut) = Booleans ∷ cut_by cut
-operands_of (Pack cut element) = vector_of element ∷ Booleans ∷ cut_by cut
-operands_of PackedLengths = Booleans ∷ Descriptor ∷ []
-operands_of (Distribute cut element) = each_of cut element ∷ extent_of cut ∷ []
-operands_of (Index cut) = each_of cut elements.Integer ∷ each_of cut elements.Integer ∷ extent_of cut ∷ []
-operands_of (Extract cut element) = vector_of element ∷ each_of cut elements.Integer ∷ cut_by cut
-operands_of (Replace cut element) = vector_of element ∷ each_of cut elements.Integer ∷ each_of cut element ∷ cut_by cut
-operands_of MakeDescriptor = Integers ∷ []
-operands_of DescriptorLengths = Descriptor ∷ []
-operands_of Write = []
+-- the arguments of a permute: a source and an index vector; flags, or a vector of defaults; and what cuts them
+abbrev permuted_by : Form → Cut → Element → List Kind
+permuted_by Simple cut element = vector_of element ∷ Integers ∷ cut_by cut
+permuted_by Back cut element = vector_of element ∷ Integers ∷ cut_by_both cut
+permuted_by Select cut element = vector_of element ∷ Integers ∷ Booleans ∷ cut_by cut
+permuted_by Default cut element = vector_of element ∷ Integers ∷ vector_of element ∷ cut_by_both cut
 
--- what each call gives; `write` gives no value
+-- a row of the table: a call's name, its arguments in the order of the script, and what it gives
+pub record Row : Type 0 where
+  pub name : List ℕ
+  pub operands : List Kind
+  pub result : Option Kind
+
+abbrev row : List ℕ → List Kind → Option Kind → Row
+row name operands result = record { name = name; operands = operands; result = result }
+
+-- the table; `write` is no call, gives no value, and takes what `accepts_of` says
+abbrev pub row_of : Op → Row
+row_of Input = row (codes "input") (Integer ∷ []) (Some Integers)
+row_of (Ints2 operator) = row (call_name_of (int_binary_letters operator) (codes "_w") Flat elements.Integer) (Integers ∷ Integers ∷ []) (Some Integers)
+row_of (Ints1 operator) = row (call_name_of (unary_letters operator) (codes "_w") Flat elements.Integer) (Integers ∷ []) (Some Integers)
+row_of (Compare operator) = row (call_name_of (comparison_letters operator) (codes "_w") Flat elements.Integer) (Integers ∷ Integers ∷ []) (Some Booleans)
+row_of (Bools2 operator) = row (call_name_of (bool_binary_letters operator) (codes "_w") Flat elements.Boolean) (Booleans ∷ Booleans ∷ []) (Some Booleans)
+row_of (Bools1 operator) = row (call_name_of (unary_letters operator) (codes "_w") Flat elements.Boolean) (Booleans ∷ []) (Some Booleans)
+row_of (Choose element) = row (call_name_of (codes "sel") (codes "_w") Flat element) (Booleans ∷ vector_of element ∷ vector_of element ∷ []) (Some (vector_of element))
+row_of IntFromBool = row (call_name_of (codes "int") (codes "_w") Flat elements.Boolean) (Booleans ∷ []) (Some Integers)
+row_of BoolFromInt = row (call_name_of (codes "boo") (codes "_w") Flat elements.Integer) (Integers ∷ []) (Some Booleans)
+row_of (Scan operator cut) = row (call_name_of (int_monoid_letters operator) (codes "_s") cut elements.Integer) (Integers ∷ cut_by cut) (Some Integers)
+row_of (Reduce operator cut) = row (call_name_of (int_monoid_letters operator) (codes "_r") cut elements.Integer) (Integers ∷ cut_by cut) (Some (each_of cut elements.Integer))
+row_of (BoolScan operator cut) = row (call_name_of (bool_binary_letters operator) (codes "_s") cut elements.Boolean) (Booleans ∷ cut_by cut) (Some Booleans)
+row_of (BoolReduce operator cut) = row (call_name_of (bool_binary_letters operator) (codes "_r") cut elements.Boolean) (Booleans ∷ cut_by cut) (Some (each_of cut elements.Boolean))
+row_of (Permute form cut element) = row (call_name_of (form_letters form) (codes "_p") cut element) (permuted_by form cut element) (Some (vector_of element))
+row_of (Length element) = row (call_name_of (codes "len") (codes "_l") Flat element) (vector_of element ∷ []) (Some Integer)
+row_of (Count cut) = row (call_name_of (codes "cnt") (codes "_l") cut elements.Boolean) (Booleans ∷ cut_by cut) (Some (each_of cut elements.Integer))
+row_of (Pack cut element) = row (call_name_of (codes "pck") (codes "_l") cut element) (vector_of element ∷ Booleans ∷ cut_by cut) (Some (vector_of element))
+row_of PackedLengths = row (codes "pck_fov") (Booleans ∷ Descriptor ∷ []) (Some Descriptor)
+row_of (Distribute cut element) = row (call_name_of (codes "dis") (codes "_v") cut element) (each_of cut element ∷ extent_of cut ∷ []) (Some (vector_of element))
+row_of (Index cut) = row (call_name_of (codes "ind") (codes "_l") cut elements.Integer) (each_of cut elements.Integer ∷ each_of cut elements.Integer ∷ extent_of cut ∷ []) (Some Integers)
+row_of (Extract cut element) = row (call_name_of (codes "ext") (codes "_v") cut element) (vector_of element ∷ each_of cut elements.Integer ∷ cut_by cut) (Some (each_of cut element))
+row_of (Replace cut element) = row (call_name_of (codes "rep") (codes "_v") cut element) (vector_of element ∷ each_of cut elements.Integer ∷ each_of cut element ∷ cut_by cut) (Some (vector_of element))
+row_of MakeDescriptor = row (codes "mke_fov") (Integers ∷ []) (Some Descriptor)
+row_of DescriptorLengths = row (codes "len_fos") (Descriptor ∷ []) (Some Integers)
+row_of Write = row (codes "write") [] None
+
+abbrev pub spelling_of : Op → List ℕ
+spelling_of op = (row_of op).name
+
+abbrev pub operands_of : Op → List Kind
+operands_of op = (row_of op).operands
+
 abbrev pub result_of : Op → Option Kind
-result_of Input = Some Integers
-result_of (Ints2 operator) = Some Integers
-result_of (Ints1 operator) = Some Integers
-result_of (Compare operator) = Some Booleans
-result_of (Bools2 operator) = Some Booleans
-result_of (Bools1 operator) = Some Booleans
-result_of (Choose element) = Some (vector_of element)
-result_of IntFromBool = Some Integers
-result_of BoolFromInt = Some Booleans
-result_of (Scan operator cut) = Some Integers
-result_of (Reduce operator cut) = Some (each_of cut elements.Integer)
-result_of (BoolScan operator cut) = Some Booleans
-result_of (BoolReduce operator cut) = Some (each_of cut elements.Boolean)
-result_of (Permute form cut element) = Some (vector_of element)
-result_of (Length element) = Some Integer
-result_of (Count cut) = Some (each_of cut elements.Integer)
-result_of (Pack cut element) = Some (vector_of element)
-result_of PackedLengths = Some Descriptor
-result_of (Distribute cut element) = Some (vector_of element)
-result_of (Index cut) = Some Integers
-result_of (Extract cut element) = Some (each_of cut element)
-result_of (Replace cut element) = Some (vector_of element)
-result_of MakeDescriptor = Some Descriptor
-result_of DescriptorLengths = Some Integers
-result_of Write = None
+result_of op = (row_of op).result
 
 -- whether it is `write`, which is no call
 abbrev pub is_write : Op → Bool

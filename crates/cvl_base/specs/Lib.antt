@@ -13,6 +13,7 @@ pub mod Folds
 pub mod Gives
 pub mod Integers
 pub mod ItemWords
+pub mod Letters
 pub mod Limits
 pub mod Meanings
 pub mod Monoid

@@ -1,7 +1,7 @@
 //! In what the calls of one family differ: the operator, the form, the cut and the elements, with their letters in names.
 
 ghost use Rattle.std.specs.Prelude.{◌≡◌};
-ghost use Rattle.cvl_base.specs.Spellings.{int_binary_letters, unary_letters, comparison_letters, bool_binary_letters, int_monoid_letters, form_letters, cut_and_element_letters};
+ghost use Rattle.cvl_base.specs.Letters.{int_binary_letters, unary_letters, comparison_letters, bool_binary_letters, int_monoid_letters, form_letters, cut_and_element_letters};
 
 /// An operator on two integer vectors, element by element, whose result is an integer vector.
 #[derive(Clone, Copy, Debug, PartialEq, Eq, Hash)]

@@ -2,8 +2,9 @@
 
 ghost use Rattle.std.specs.Prelude.{◌≡◌, ◌≢◌, ◌++◌, ℕ, List, Some, true, false, bytes_eq, find};
 ghost use Rattle.cvl_base.specs.declared.operation.Op.{Op};
-ghost use Rattle.cvl_base.specs.Calls.{is_write, is_done};
-ghost use Rattle.cvl_base.specs.Spellings.{bytes_of, spelling_of, call_name_of, is_spelled, any_op_of, op_of};
+ghost use Rattle.cvl_base.specs.Letters.{call_name_of};
+ghost use Rattle.cvl_base.specs.Calls.{spelling_of, is_write, is_done};
+ghost use Rattle.cvl_base.specs.Spellings.{bytes_of, is_spelled, any_op_of, op_of};
 
 use crate::families::{
     BoolBinary, Comparison, Cut, Element, Form, IntBinary, IntMonoid, Unary, cut_and_element,
