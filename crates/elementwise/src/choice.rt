@@ -6,7 +6,7 @@ ghost use Rattle.cvl_base.specs.Elementwise.{choose_of, chosen};
 ghost use Rattle.cvl_base.specs.Gives.{Gives};
 ghost use Rattle.elementwise.specs.Standing.{StandFrom};
 
-use crate::chunks::{FORKED, chunk_length, filled_like};
+use crate::chunks::{chunk_length, filled_like};
 use cvl_base::{Config, Fault, FaultNo, Memory, NoResources, Refused};
 use rayon::prelude::*;
 use std::thread::Threads;
@@ -49,7 +49,7 @@ fn values_chosen<T: Copy + Send + Sync, R: Threads + Sync, A: Memory>(
     ensures values { IfOk result (λ v. v.items ≡ map (λ p. chosen p.0 p.1) (zip flags.now (zip a.now b.now))) }
     ensures as_long { IfOk result (λ v. vec_len v ≡ length flags.now) }
 {
-    if flags.len() < FORKED {
+    let Some(chunk_length) = chunk_length(rt, flags.len()) else {
         return Ok(
             flags
                 .iter()
@@ -57,13 +57,13 @@ fn values_chosen<T: Copy + Send + Sync, R: Threads + Sync, A: Memory>(
                 .map(|(flag, (x, y))| choose(*flag, *x, *y))
                 .collect(alloc)?,
         );
-    }
+    };
     // an element to begin with; the chunks are written over it
     let mut values = filled_like(alloc, flags, a[0])?;
     par_chunks_mut_for_each(
         rt,
         values.as_mut_slice(),
-        chunk_length(flags.len()),
+        chunk_length,
         |start: usize, chunk: &mut [T]|
             requires { (start + length chunk.now ≤ length flags.now) × (length flags.now ≡ length a.now) × (length flags.now ≡ length b.now) }
             ensures { StandFrom (map (λ p. chosen p.0 p.1) (zip flags.entry.now (zip a.entry.now b.entry.now))) start (length chunk.old) chunk.new }

@@ -1,22 +1,31 @@
 //! How a long vector is shared among threads.
 
-ghost use Rattle.std.specs.Prelude.{◌≡◌, ◌<◌, IfOk, length, vec_len};
+ghost use Rattle.std.specs.Prelude.{◌≡◌, ◌<◌, IfOk, IfSome, length, vec_len};
 
 use cvl_base::{Memory, NoResources};
+use rayon::current_num_threads;
+use std::thread::Threads;
 
-/// Into how many chunks a shared call's result is cut: few, since a thread is started for each but one.
-const CHUNKS: usize = 4;
+/// Into how many chunks a shared call's result is cut at most: few, since a thread is started for each but one.
+const MOST_CHUNKS: usize = 4;
 
 /// From how many elements on several threads share a call. Below it one thread is done before they would be, for it
-/// needn't fill the vector before it writes the values.
-pub(crate) const FORKED: usize = 524_288;
+/// needn't fill the vector before it writes the values. The tests of long vectors and of refused growths go past it.
+const FORKED: usize = 524_288;
 
-/// How long the chunks of a result of so many elements are; the last one may be shorter.
-pub(crate) fn chunk_length(elements: usize) -> usize
-    requires { 0 < elements }
-    ensures { 0 < result }
+/// How many elements each thread writes of a result of so many; the last one may write fewer. None where one thread
+/// writes them all, since they are few or since there is one processor.
+pub(crate) fn chunk_length<R: Threads>(rt: &R, elements: usize) -> Option<usize>
+    ensures { IfSome result (λ chunk. (0 < chunk) × (0 < elements)) }
 {
-    elements.div_ceil(CHUNKS)
+    if elements < FORKED {
+        return None;
+    }
+    let threads = current_num_threads(rt).min(MOST_CHUNKS);
+    if threads == 1 {
+        return None;
+    }
+    Some(elements.div_ceil(threads))
 }
 
 /// A vector of one value, as long as `a`, to be written over. It takes less time than `vec![in alloc; value; n]`.

@@ -4,7 +4,7 @@ ghost use Rattle.std.specs.Prelude.{◌≡◌, ◌+◌, ◌≤◌, IfOk, length,
 ghost use Rattle.std.specs.List.{zip};
 ghost use Rattle.elementwise.specs.Standing.{StandFrom};
 
-use crate::chunks::{FORKED, chunk_length, filled_like};
+use crate::chunks::{chunk_length, filled_like};
 use cvl_base::{Memory, NoResources};
 use rayon::prelude::*;
 use std::thread::Threads;
@@ -52,15 +52,15 @@ pub(crate) fn values_on_pairs<
     ensures values { IfOk result (λ v. v.items ≡ map (λ p. O.value p.0 p.1) (zip a.now b.now)) }
     ensures as_long { IfOk result (λ v. vec_len v ≡ length a.now) }
 {
-    if a.len() < FORKED {
+    let Some(chunk_length) = chunk_length(rt, a.len()) else {
         return values_by_one_thread::<O, X, Y, Z, A>(alloc, a, b);
-    }
-    // the chunks are written over these; a compiler fills memory with zeros faster than with other numbers
+    };
+    // the chunks are written over these, of which a fill with zeros takes the least time
     let mut values = filled_like(alloc, a, Z::default())?;
     par_chunks_mut_for_each(
         rt,
         values.as_mut_slice(),
-        chunk_length(a.len()),
+        chunk_length,
         |start: usize, chunk: &mut [Z]|
             requires { (start + length chunk.now ≤ length a.now) × (length a.now ≡ length b.now) }
             ensures { StandFrom (map (λ p. O.value p.0 p.1) (zip a.entry.now b.entry.now)) start (length chunk.old) chunk.new }
