@@ -1,8 +1,10 @@
 -- The meaning of a line: from the bound names and the inputs, either the new names with the text of the line, or the
 -- first fault in the order of checks. A binding changes its one name, and a write changes none.
 -- Source: this library's script format.
-use Rattle.std.specs.Prelude.{ℕ, not, List, [], ◌∷◌, ◌++◌, length, codes, slice_get, Option, Some, None, Result, Ok}
+use Rattle.std.specs.Prelude.{ℕ, not, List, [], ◌∷◌, ◌++◌, length, codes, slice_get, Option, Some, None, Result, Ok, Err}
+use Rattle.std.specs.Fmt.{signed_decimal}
 use Rattle.cvl_base.specs.declared.value.Value.{Value}
+use Rattle.cvl_base.specs.declared.value.Value.TheVariants as value
 use Rattle.cvl_base.specs.declared.call.Arg.{Arg}
 use Rattle.cvl_base.specs.declared.call.Arg.TheVariants as arg
 use Rattle.cvl_base.specs.declared.call.Call.{Call}
@@ -11,10 +13,11 @@ use Rattle.cvl_base.specs.declared.fault.Fault.{Fault}
 use Rattle.cvl_base.specs.declared.fault.FaultNo.TheVariants.{TooManyNames, LengthMismatch}
 use Rattle.cvl_base.specs.Faults.{fault}
 use Rattle.cvl_base.specs.Gives.{◌>>=◌, unless, fault_if}
-use Rattle.call_reader.specs.Texts.{text_of, nested_text_of, is_cut_by}
+use Rattle.cvl_base.specs.Nests.{nest}
+use Rattle.call_reader.specs.Texts.{boolean_text, nest_text, text_of}
 use Rattle.vector_handles.specs.declared.input.Input.{Input}
 use Rattle.vector_handles.specs.CallValues.{call_value}
-use Rattle.vector_handles.specs.Names.{Entries, value_at, bind, has_room}
+use Rattle.vector_handles.specs.Names.{Entries, bind, has_room}
 use Rattle.vector_handles.specs.Arguments.{args_fault, argument_at, lengths_in}
 
 -- what a line leaves: the bound names, and the text where it is a write
@@ -32,9 +35,11 @@ abbrev pub after_bytes : List ℕ → Result (List ℕ) Fault → Result (List �
 after_bytes bytes text = text >>= λ added. Ok (bytes ++ added)
 
 module _ {A : Type 0} where
-  -- the text of a vector as its segments, where the lengths add up to the vector's
+  -- the text of a vector's nest, where it has one; no other value has a nest
   abbrev pub cut_text : List ℕ → Value A → Result (List ℕ) Fault
-  cut_text lengths v = fault_if (not (is_cut_by lengths v)) (fault LengthMismatch) (Ok (nested_text_of lengths v))
+  cut_text lengths (value.Integers xs) = nest lengths xs >>= λ lists. Ok (nest_text signed_decimal lists)
+  cut_text lengths (value.Booleans bs) = nest lengths bs >>= λ lists. Ok (nest_text boolean_text lists)
+  cut_text lengths other = Err (fault LengthMismatch)
 
   -- the value's text, or that of a vector beside its descriptor
   abbrev pub value_text : Option (Value A) → Option (Value A) → Result (List ℕ) Fault
