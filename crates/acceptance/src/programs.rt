@@ -6,13 +6,23 @@ use std::test::Fail;
 const FILES: &[(&str, &str)] = &[
     ("scan", "a = input 1\nb = add_suz a\nwrite b\n"),
     ("late", "a = input 1\nwrite a\nb = xyz_wuz a\n"),
+    (
+        "choose",
+        "a = input 1\nb = input 2\nf = grt_wuz a b\nc = sel_wuz f a b\nwrite c\n",
+    ),
+    (
+        "nest",
+        "a = input 1\nl = input 2\nd = mke_fov l\nwrite a d\n",
+    ),
     ("numbers", "3 1 7 0 4\n"),
+    ("others", "2 2 2 2 2\n"),
+    ("lengths", "2 0 3\n"),
     ("empty", ""),
 ];
 
 #[test]
 fn statuses_and_texts(rt: HostRuntime) -> Result<(), Fail> {
-    let rows: [(&[&str], &str, &str, u8); 7] = [
+    let rows: [(&[&str], &str, &str, u8); 9] = [
         (&["cvl", "empty"], "", "", 0),
         (&["cvl", "scan", "numbers"], "b = [0 3 4 11 11]\n", "", 0),
         (
@@ -20,6 +30,18 @@ fn statuses_and_texts(rt: HostRuntime) -> Result<(), Fail> {
             "a = [3 1 7 0 4]\n",
             "line 3: fault 2 UnknownCall\n",
             1,
+        ),
+        (
+            &["cvl", "choose", "numbers", "others"],
+            "c = [3 2 7 2 4]\n",
+            "",
+            0,
+        ),
+        (
+            &["cvl", "nest", "numbers", "lengths"],
+            "a = [[3 1] [] [7 0 4]]\n",
+            "",
+            0,
         ),
         (&["cvl", "scan"], "", "line 1: fault 14 NoSuchInput\n", 1),
         (&["cvl", "nofile"], "", "cannot read nofile\n", 3),
@@ -52,7 +74,10 @@ fn command_lines_that_are_refused(rt: HostRuntime) -> Result<(), Fail> {
         let mut host = SmallHost::new(rt.alloc(), FILES);
         assert_eq!(rt; program(&rt, rt.alloc(), words, &mut host), 2);
         assert!(rt; host.output.taken.is_empty());
-        assert!(rt; !host.errors.is_empty());
+        assert_eq!(rt;
+            host.errors.as_slice(),
+            b"usage: cvl SCRIPT [INPUT ..]\n".as_slice()
+        );
     }
     Ok(())
 }

@@ -1,4 +1,6 @@
-//! Each request for memory of each shape of elementwise call refused in turn, on vectors that several threads share.
+//! Each request for memory of each shape of elementwise call refused in turn. The one request of a call is that of its
+//! result, of which several threads write those of sums and their like, of comparisons and of choices.
+
 use cvl_base::limits::MOST_ELEMENTS;
 use cvl_base::{BoolBinary, Comparison, Config, IntBinary, Memory, NoResources, Refused, Unary};
 use elementwise::{bool_from_int, bool1, bool2, compare, int_from_bool, int1, int2, select};
@@ -7,7 +9,7 @@ use std::process::Abort;
 use std::test::Fail;
 use std::thread::Threads;
 
-/// How long the vectors are: more than one thread writes a result of this length.
+/// How long the vectors are: so long that calls fork.
 const LENGTH: usize = 1_048_576;
 
 /// The last element of the result, and how long it is.
@@ -40,7 +42,7 @@ fn operators_on_integers(rt: HostRuntime) -> Result<(), Fail> {
             Ok((LENGTH, Some(value))),
             Err(Refused::NoResources),
         )?;
-        assert!(rt; requests > 0);
+        assert_eq!(rt; requests, 1);
     }
     Ok(())
 }
@@ -56,14 +58,14 @@ fn comparisons_and_choices(rt: HostRuntime) -> Result<(), Fail> {
         Ok((LENGTH, Some(true))),
         Err(Refused::NoResources),
     )?;
-    assert!(rt; requests > 0);
+    assert_eq!(rt; requests, 1);
     let requests = withstands_refusals(
         rt.alloc(),
         |heap| Ok(last_of(&select(&rt, heap, config, &flags, &a, &a)?)),
         Ok((LENGTH, Some(3))),
         Err(Refused::NoResources),
     )?;
-    assert!(rt; requests > 0);
+    assert_eq!(rt; requests, 1);
     Ok(())
 }
 
@@ -77,14 +79,14 @@ fn operators_on_booleans(rt: HostRuntime) -> Result<(), Fail> {
         Ok((LENGTH, Some(false))),
         Err(Refused::NoResources),
     )?;
-    assert!(rt; requests > 0);
+    assert_eq!(rt; requests, 1);
     let requests = withstands_refusals(
         rt.alloc(),
         |heap| Ok(last_of(&bool1(heap, config, Unary::Not, &flags)?)),
         Ok((LENGTH, Some(false))),
         Err(NoResources),
     )?;
-    assert!(rt; requests > 0);
+    assert_eq!(rt; requests, 1);
     Ok(())
 }
 
@@ -100,7 +102,7 @@ fn calls_on_one_vector(rt: HostRuntime) -> Result<(), Fail> {
             Ok((LENGTH, Some(value))),
             Err(NoResources),
         )?;
-        assert!(rt; requests > 0);
+        assert_eq!(rt; requests, 1);
     }
     let requests = withstands_refusals(
         rt.alloc(),
@@ -108,13 +110,13 @@ fn calls_on_one_vector(rt: HostRuntime) -> Result<(), Fail> {
         Ok((LENGTH, Some(1))),
         Err(NoResources),
     )?;
-    assert!(rt; requests > 0);
+    assert_eq!(rt; requests, 1);
     let requests = withstands_refusals(
         rt.alloc(),
         |heap| Ok(last_of(&bool_from_int(heap, config, &a)?)),
         Ok((LENGTH, Some(true))),
         Err(NoResources),
     )?;
-    assert!(rt; requests > 0);
+    assert_eq!(rt; requests, 1);
     Ok(())
 }

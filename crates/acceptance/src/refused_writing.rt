@@ -55,6 +55,22 @@ fn nest_after<A: Memory>(
     judge(answer, &text, whole)
 }
 
+/// Writes [`COUNT`] flags, cut by the lengths, behind a text.
+fn nested_flags_after<A: Memory>(heap: A, lengths: &[i32], whole: &[u8]) -> Result<bool, Refused> {
+    if lengths.len() > MOST_ELEMENTS {
+        return Ok(false);
+    }
+    let descriptor = SegDes::from_lengths(heap, lengths)?;
+    let flags = vec![in heap; true; COUNT]?;
+    if descriptor.total() != flags.len() {
+        return Ok(false);
+    }
+    let value = Value::Booleans(Bools::from_vec(flags));
+    let mut text = Vec::from_slice(heap, BEFORE.as_bytes())?;
+    let answer = put_value(&value, Some(&descriptor), &mut text);
+    judge(answer, &text, whole)
+}
+
 /// Writes a value of another kind behind a text.
 fn value_after<A: Memory>(heap: A, value: &Value<A>, whole: &[u8]) -> Result<bool, Refused> {
     let mut text = Vec::from_slice(heap, BEFORE.as_bytes())?;
@@ -124,6 +140,14 @@ fn a_nest(rt: HostRuntime) -> Result<(), Fail> {
     )?;
     // the lengths and the starts of the descriptor too
     assert!(rt; requests > 4);
+    let whole = repeated(rt.alloc(), "c = [", "[T] ", "[T]]")?;
+    let requests = withstands_refusals(
+        rt.alloc(),
+        |heap| nested_flags_after(heap, &lengths, whole.as_bytes()),
+        Ok(true),
+        Err(Refused::NoResources),
+    )?;
+    assert!(rt; requests > 4);
     Ok(())
 }
 
@@ -149,6 +173,13 @@ fn values_of_the_other_kinds(rt: HostRuntime) -> Result<(), Fail> {
     let requests = withstands_refusals(
         rt.alloc(),
         |heap| value_after(heap, &Value::Integer(-2147483648), b"c = -2147483648"),
+        Ok(true),
+        Err(Refused::NoResources),
+    )?;
+    assert!(rt; requests > 1);
+    let requests = withstands_refusals(
+        rt.alloc(),
+        |heap| value_after(heap, &Value::Boolean(true), b"c = T"),
         Ok(true),
         Err(Refused::NoResources),
     )?;

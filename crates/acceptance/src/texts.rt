@@ -43,7 +43,13 @@ fn lengths_that_differ(rt: HostRuntime) -> Result<(), Fail> {
 
 #[test]
 fn carriage_returns_and_comments(rt: HostRuntime) -> Result<(), Fail> {
-    let script = b"a=input 1 # two\r\n\r\nwrite a";
+    let script = b"a=input 1 # two\r\nwrite a";
+    assert_runs(&rt, rt.alloc(), script, &["0 1"], "a = [0 1]\n", Ok(()))
+}
+
+#[test]
+fn lines_of_a_carriage_return_alone(rt: HostRuntime) -> Result<(), Fail> {
+    let script = b"\r\na = input 1\r\n\r\nwrite a\r\n\r";
     assert_runs(&rt, rt.alloc(), script, &["0 1"], "a = [0 1]\n", Ok(()))
 }
 
