@@ -10,6 +10,7 @@ pub mod Joined
 pub mod LeastFaults
 pub mod Packing
 pub mod Padding
+pub mod PermuteFaults
 pub mod Places
 pub mod Segments
 pub mod Selecting

@@ -1,8 +1,9 @@
 //! Laws of permutes, each a function that takes and gives nothing and whose contract is the law.
 
-ghost use Rattle.std.specs.Prelude.{◌≡◌, ◌↔◌, ◌<◌, ℕ, ℤ, pos, Bool, false, true, Option, List, length, slice_get};
+ghost use Rattle.std.specs.Prelude.{◌≡◌, ◌≢◌, ◌↔◌, ◌<◌, ℕ, ℤ, pos, Bool, false, true, IsTrue, Option, List, length, slice_get};
 ghost use Rattle.cvl_base.specs.declared.fault.FaultNo.TheVariants as no;
-ghost use Rattle.cvl_base.specs.Faults.{fault_at};
+ghost use Rattle.cvl_base.specs.Faults.{fault, fault_at};
+ghost use Rattle.cvl_base.specs.Packs.{count_of};
 ghost use Rattle.cvl_base.specs.Permuted.{IsBackPermute, IsDefaultPermute, IsGoodBefore, IsSelectPermute, IsSimplePermute};
 ghost use Rattle.cvl_base.specs.Permutes.{back_of, default_of, first_fault, is_place, select_of, simple_of, wrongs};
 
@@ -49,4 +50,22 @@ pub fn first_bad_place_law()
     ensures again { (m : ℕ) (targets : List (Option ℤ)) (j k : ℕ) (i : ℤ) → IsGoodBefore m targets k →
         j < k → slice_get targets j ≡ Some (Some i) → slice_get targets k ≡ Some (Some i) → is_place m i ≡ true →
         first_fault 0 (wrongs m targets) ≡ Some (fault_at no.IndexRepeated k) }
+{}
+
+/// The faults of a simple permute. With another number of indices than elements it is `LengthMismatch`. Else, where the
+/// indices before place k are places of the result and no two are the same, an index at k that is no place of the result
+/// is `IndexOutOfRange` at k, and one that stands at an earlier place too is `IndexRepeated` at k.
+pub fn simple_fault_law<T>()
+    ensures mismatch { (source : List T) (index : List ℤ) → length source ≢ length index →
+        simple_of source index ≡ Err (fault no.LengthMismatch) }
+    ensures outside { (source : List T) (index : List ℤ) (k : ℕ) (i : ℤ) → length source ≡ length index →
+        ((j : ℕ) (e : ℤ) → j < k → slice_get index j ≡ Some e → IsTrue (is_place (length index) e)) →
+        ((h j : ℕ) (e : ℤ) → h < j → j < k → slice_get index h ≡ Some e → slice_get index j ≢ Some e) →
+        slice_get index k ≡ Some i → is_place (length index) i ≡ false →
+        simple_of source index ≡ Err (fault_at no.IndexOutOfRange k) }
+    ensures again { (source : List T) (index : List ℤ) (g k : ℕ) (i : ℤ) → length source ≡ length index →
+        ((j : ℕ) (e : ℤ) → j < k → slice_get index j ≡ Some e → IsTrue (is_place (length index) e)) →
+        ((h j : ℕ) (e : ℤ) → h < j → j < k → slice_get index h ≡ Some e → slice_get index j ≢ Some e) →
+        g < k → slice_get index g ≡ Some i → slice_get index k ≡ Some i →
+        simple_of source index ≡ Err (fault_at no.IndexRepeated k) }
 {}
