@@ -9,11 +9,16 @@ ghost use Rattle.cvl_base.specs.Faults.{fault};
 ghost use Rattle.cvl_base.specs.Integers.{wrap};
 ghost use Rattle.cvl_base.specs.Limits.{most_elements};
 
-/// A count up to the limit gives a vector of that length; a greater or a negative one is a fault without a place.
+/// A count up to the limit gives a vector of that length: copies of a value, or the numbers that go by steps of a stride. A
+/// greater count is `TooLong` and a negative one `NegativeLength`, without a place.
 pub fn count_law<T>()
     ensures copies { (value : T) (n : ℕ) → n ≤ most_elements → distribute_of value (pos n) ≡ Ok (replicate n value) }
     ensures steps { (init stride : ℤ) (n : ℕ) → n ≤ most_elements →
         index_of init stride (pos n) ≡ Ok (map (λ k. wrap (init +ℤ pos k *ℤ stride)) (range_with_len 0 n)) }
+    ensures copies_above_limit { (value : T) (n : ℕ) → most_elements < n → distribute_of value (pos n) ≡ Err (fault no.TooLong) }
+    ensures copies_negative { (value : T) (n : ℕ) → distribute_of value (negsuc n) ≡ Err (fault no.NegativeLength) }
+    ensures steps_above_limit { (init stride : ℤ) (n : ℕ) → most_elements < n → index_of init stride (pos n) ≡ Err (fault no.TooLong) }
+    ensures steps_negative { (init stride : ℤ) (n : ℕ) → index_of init stride (negsuc n) ≡ Err (fault no.NegativeLength) }
     ensures above_limit { (n : ℕ) → most_elements < n → as_length (pos n) ≡ Err (fault no.TooLong) }
     ensures negative { (n : ℕ) → as_length (negsuc n) ≡ Err (fault no.NegativeLength) }
 {}
