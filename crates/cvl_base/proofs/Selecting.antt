@@ -14,13 +14,13 @@ use Rattle.cvl_base.proofs.Sending.{IsSent, if_as_long-Ok, if_as_long-fits, sent
 use Rattle.cvl_base.proofs.Targets.{IsRight, named, once-from_right, right-from_once, tail-IsRight}
 
 -- a place takes part where its flag is true
-flagged-here : (index : List ℤ) (flags : List Bool) (k : ℕ) (i : ℤ) → slice_get flags k ≡ Some true → slice_get index k ≡ Some i → slice_get (flagged_targets index flags) k ≡ Some (Some i)
+pub flagged-here : (index : List ℤ) (flags : List Bool) (k : ℕ) (i : ℤ) → slice_get flags k ≡ Some true → slice_get index k ≡ Some i → slice_get (flagged_targets index flags) k ≡ Some (Some i)
 flagged-here [] flags k i flagged here = absurd (none-some i here)
 flagged-here (j ∷ index) [] k i flagged here = absurd (none-some true flagged)
 flagged-here (j ∷ index) (flag ∷ flags) zero i flagged here = λ t. Some (target_if (same_Some j i here t) (same_Some flag true flagged t))
 flagged-here (j ∷ index) (flag ∷ flags) (suc k) i flagged here = flagged-here index flags k i flagged here
 
-here-flagged : (index : List ℤ) (flags : List Bool) (k : ℕ) (i : ℤ) → slice_get (flagged_targets index flags) k ≡ Some (Some i) → (slice_get flags k ≡ Some true) × (slice_get index k ≡ Some i)
+pub here-flagged : (index : List ℤ) (flags : List Bool) (k : ℕ) (i : ℤ) → slice_get (flagged_targets index flags) k ≡ Some (Some i) → (slice_get flags k ≡ Some true) × (slice_get index k ≡ Some i)
 here-flagged [] flags k i here = absurd (none-some (Some i) here)
 here-flagged (j ∷ index) [] k i here = absurd (none-some (Some i) here)
 here-flagged (j ∷ index) (true ∷ flags) zero i here = (refl, same_Some (Some j) (Some i) here)

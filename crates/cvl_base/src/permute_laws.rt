@@ -69,3 +69,51 @@ pub fn simple_fault_law<T>()
         g < k → slice_get index g ≡ Some i → slice_get index k ≡ Some i →
         simple_of source index ≡ Err (fault_at no.IndexRepeated k) }
 {}
+
+/// The faults of a select permute. With another number of indices than elements or of flags than indices it is
+/// `LengthMismatch`. Else only the places whose flag is true count: where their indices before place k are places of the
+/// result and no two are the same, an index at k that is no place of the result is `IndexOutOfRange` at k, and one that
+/// stands at an earlier of these places too is `IndexRepeated` at k.
+pub fn select_fault_law<T>()
+    ensures index_mismatch { (source : List T) (index : List ℤ) (flags : List Bool) → length source ≢ length index →
+        select_of source index flags ≡ Err (fault no.LengthMismatch) }
+    ensures flag_mismatch { (source : List T) (index : List ℤ) (flags : List Bool) → length index ≢ length flags →
+        select_of source index flags ≡ Err (fault no.LengthMismatch) }
+    ensures outside { (source : List T) (index : List ℤ) (flags : List Bool) (k : ℕ) (i : ℤ) →
+        length source ≡ length index → length index ≡ length flags →
+        ((j : ℕ) (e : ℤ) → j < k → slice_get flags j ≡ Some true → slice_get index j ≡ Some e → IsTrue (is_place (count_of flags) e)) →
+        ((h j : ℕ) (e : ℤ) → h < j → j < k → slice_get flags h ≡ Some true → slice_get flags j ≡ Some true → slice_get index h ≡ Some e → slice_get index j ≢ Some e) →
+        slice_get flags k ≡ Some true → slice_get index k ≡ Some i → is_place (count_of flags) i ≡ false →
+        select_of source index flags ≡ Err (fault_at no.IndexOutOfRange k) }
+    ensures again { (source : List T) (index : List ℤ) (flags : List Bool) (g k : ℕ) (i : ℤ) →
+        length source ≡ length index → length index ≡ length flags →
+        ((j : ℕ) (e : ℤ) → j < k → slice_get flags j ≡ Some true → slice_get index j ≡ Some e → IsTrue (is_place (count_of flags) e)) →
+        ((h j : ℕ) (e : ℤ) → h < j → j < k → slice_get flags h ≡ Some true → slice_get flags j ≡ Some true → slice_get index h ≡ Some e → slice_get index j ≢ Some e) →
+        g < k → slice_get flags g ≡ Some true → slice_get flags k ≡ Some true →
+        slice_get index g ≡ Some i → slice_get index k ≡ Some i →
+        select_of source index flags ≡ Err (fault_at no.IndexRepeated k) }
+{}
+
+/// The faults of a default permute: those of a simple permute, but the result is as long as the defaults.
+pub fn default_fault_law<T>()
+    ensures mismatch { (source : List T) (index : List ℤ) (defaults : List T) → length source ≢ length index →
+        default_of source index defaults ≡ Err (fault no.LengthMismatch) }
+    ensures outside { (source : List T) (index : List ℤ) (defaults : List T) (k : ℕ) (i : ℤ) → length source ≡ length index →
+        ((j : ℕ) (e : ℤ) → j < k → slice_get index j ≡ Some e → IsTrue (is_place (length defaults) e)) →
+        ((h j : ℕ) (e : ℤ) → h < j → j < k → slice_get index h ≡ Some e → slice_get index j ≢ Some e) →
+        slice_get index k ≡ Some i → is_place (length defaults) i ≡ false →
+        default_of source index defaults ≡ Err (fault_at no.IndexOutOfRange k) }
+    ensures again { (source : List T) (index : List ℤ) (defaults : List T) (g k : ℕ) (i : ℤ) → length source ≡ length index →
+        ((j : ℕ) (e : ℤ) → j < k → slice_get index j ≡ Some e → IsTrue (is_place (length defaults) e)) →
+        ((h j : ℕ) (e : ℤ) → h < j → j < k → slice_get index h ≡ Some e → slice_get index j ≢ Some e) →
+        g < k → slice_get index g ≡ Some i → slice_get index k ≡ Some i →
+        default_of source index defaults ≡ Err (fault_at no.IndexRepeated k) }
+{}
+
+/// The fault of a back permute is that of the first index that is no place of the source: `IndexOutOfRange` there.
+pub fn back_fault_law<T>()
+    ensures { (source : List T) (index : List ℤ) (k : ℕ) (i : ℤ) →
+        ((j : ℕ) (e : ℤ) → j < k → slice_get index j ≡ Some e → IsTrue (is_place (length source) e)) →
+        slice_get index k ≡ Some i → is_place (length source) i ≡ false →
+        back_of source index ≡ Err (fault_at no.IndexOutOfRange k) }
+{}
