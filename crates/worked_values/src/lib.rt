@@ -1,7 +1,9 @@
 //! Worked values of the library's calls: small vectors, and what each call gives of them by its meaning.
 //!
-//! Each function takes and gives nothing, and its contract lists the values. They are computed from the definitions
-//! alone, so a definition that is read wrongly is refused here, before any code stands on it.
+//! There is one function for each family of calls, for the scans and the reduces of integers a second one by segments,
+//! and for the permutes one for each form. It takes and gives nothing, and its contract is the list of the family's
+//! values and faults. They are computed from the definitions alone, so a definition that is read wrongly is refused
+//! here, before any code stands on it.
 #![tactic(auto)]
 
 pub mod descriptors;
@@ -10,6 +12,5 @@ pub mod elementwise;
 pub mod extracts;
 pub mod packs;
 pub mod permutes;
+pub mod reduces;
 pub mod scans;
-pub mod segmented_permutes;
-pub mod segmented_scans;

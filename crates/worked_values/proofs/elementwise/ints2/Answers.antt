@@ -1,6 +1,6 @@
 use Rattle.std.proofs.Common.{refl}
 use Rattle.std.specs.Int.{int_wrap}
-use Rattle.worked_values.proofs.elementwise.operators.Goals as goal
+use Rattle.worked_values.proofs.elementwise.ints2.Goals as goal
 
 pub returns-clause-sums : goal.returns-clause-sums
 unfolding int_wrap
@@ -13,3 +13,11 @@ returns-clause-differences c = refl
 pub returns-clause-products : goal.returns-clause-products
 unfolding int_wrap
 returns-clause-products c = refl
+
+pub returns-clause-quotients : goal.returns-clause-quotients
+unfolding int_wrap
+returns-clause-quotients c = refl
+
+pub returns-clause-left_shifts_drop_high_bits : goal.returns-clause-left_shifts_drop_high_bits
+unfolding int_wrap
+returns-clause-left_shifts_drop_high_bits c = refl
