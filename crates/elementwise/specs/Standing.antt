@@ -1,4 +1,5 @@
 -- Where the values of a part of a vector stand among those of the whole.
+-- Source: this library.
 use Rattle.std.specs.Prelude.{◌≡◌, ℕ, ◌+◌, ◌<◌, List, slice_index_or}
 
 -- the first n elements of zs are those of vs from place `start` on

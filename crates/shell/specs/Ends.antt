@@ -1,4 +1,5 @@
 -- How a run may end: with the meaning of its script, or cut off within it by want of memory or by a failing sink.
+-- Source: this library.
 use Rattle.std.specs.Prelude.{◌≡◌, ℕ, ◌+◌, ◌-◌, ◌≤◌, ◌<◌, ◌==◌, List, [], ◌++◌, length, take, slice_get, Option, Some, None, unwrap_or, option_map, Result, Ok, Err, if◌then◌else◌}
 use Rattle.std.specs.List.{concat}
 use Rattle.shell.specs.declared.stop.Stop.{Stop}

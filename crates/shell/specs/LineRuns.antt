@@ -1,5 +1,6 @@
 -- How the run of one line may end: with its text whole in the sink and the names that it leaves, or as a run of the
 -- script ends at this line.
+-- Source: this library.
 use Rattle.std.specs.Prelude.{◌≡◌, ℕ, ◌+◌, ◌<◌, List, [], ◌++◌, length, take, Option, unwrap_or, option_map, Result, Ok, Err}
 use Rattle.cvl_base.specs.declared.fault.Fault.{Fault}
 use Rattle.cvl_base.specs.declared.refused.Refused.{Refused}

@@ -1,5 +1,6 @@
 -- What is left of a script while its lines are taken one after the other: the bytes behind the last line feed, or
 -- nothing once the last line was taken.
+-- Source: this library.
 use Rattle.std.specs.Prelude.{ℕ, ◌+◌, List, [], length, Option, Some, None}
 use Rattle.shell.specs.Meaning.{lines_of}
 

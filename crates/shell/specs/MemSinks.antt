@@ -1,4 +1,5 @@
 -- What callers see of a sink in memory.
+-- Source: this library.
 use Rattle.std.specs.Prelude.{ℕ, List}
 
 -- the bytes that it has taken, and how often it failed

@@ -1,5 +1,6 @@
 -- What a sink does: of bytes that are not none it takes a front of one or more, or it fails, takes none and counts one
 -- failure; of no bytes it takes none and does not fail.
+-- Source: this library.
 use Rattle.std.specs.Prelude.{◌≡◌, ℕ, ◌+◌, ◌≤◌, ◌<◌, List, ◌++◌, length, take, Option, option_map, Result, Ok, Err}
 use Rattle.shell.specs.declared.sink.SinkFault.{SinkFault}
 

@@ -1,4 +1,5 @@
 -- The arguments of a call as values, and the check of their kinds.
+-- Source: this library's script format.
 use Rattle.std.specs.Prelude.{ℕ, ◌+◌, Bool, false, List, [], ◌∷◌, slice_get, Option, Some, None, option_and_then, option_map, ℤ, pos, if◌then◌else◌}
 use Rattle.cvl_base.specs.declared.value.Value.{Value}
 use Rattle.cvl_base.specs.declared.value.Value.TheVariants as value

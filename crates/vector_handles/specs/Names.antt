@@ -1,4 +1,5 @@
 -- The bound names: a finite map from names to values, as the list of its entries in the order of the names.
+-- Source: this library's script format.
 use Rattle.std.specs.Prelude.{ℕ, Bool, List, length, nat_lt, Option, ◌||◌, is_some}
 use Rattle.std.specs.Ordering.{nat_cmp}
 use Rattle.std.specs.Cmp.Lexicographic.{slice_cmp}

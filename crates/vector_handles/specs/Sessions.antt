@@ -1,4 +1,5 @@
 -- What callers see of a session.
+-- Source: this library.
 use Rattle.std.specs.Prelude.{ℕ, List, Option, Some, None}
 use Rattle.vector_handles.specs.declared.input.Input.{Input}
 use Rattle.vector_handles.specs.declared.shown.Shown.{Shown}
