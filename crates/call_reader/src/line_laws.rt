@@ -8,7 +8,7 @@ ghost use Rattle.cvl_base.specs.declared.operation.Op.TheVariants.{Input, Ints2,
 ghost use Rattle.cvl_base.specs.Faults.{fault};
 ghost use Rattle.call_reader.specs.Lines.{call_of};
 
-/// The lines of a manual, each with what it reads as.
+/// Worked lines, each with what it reads as. It does nothing: its contract is what the definition says of them.
 pub fn know_lines()
     ensures empty { call_of {A = ℕ} [] ≡ Ok None }
     ensures comment { call_of {A = ℕ} (codes "# a = input 1") ≡ Ok None }

@@ -19,7 +19,7 @@ use cvl_base::{Call, Fault, FaultNo, Memory, Name, Op, Refused};
 ///
 /// Its faults, in this order, are all without a place: `BadLine` where the line has none of the forms of a line,
 /// `UnknownCall` where the library has no such call, `WrongArgumentCount`, and `BadNumber` where a number is
-/// malformed or does not fit 32 bits.
+/// malformed or does not fit 32 bits. Where the room for the arguments is refused, it answers `NoResources`.
 pub fn read_line<A: Memory>(alloc: A, line: &[u8]) -> Result<Option<Call<A>>, Refused>
     ensures { Gives (λ call. call) result (call_of line.now) }
 {

@@ -20,7 +20,7 @@ pub(crate) trait Written {
         ensures within { result ≤ end };
 }
 
-/// The least number of eleven digits, one more than the magnitude of an element has at most.
+/// The least number of eleven digits, which are one digit more than the magnitude of an element has at most.
 const LEAST_OF_ELEVEN_DIGITS: u64 = 10_000_000_000;
 
 /// How many digits a number has in decimal.
