@@ -1,10 +1,9 @@
 -- An input, read from the front: how many tokens there are, and the numbers so far.
-use Rattle.std.proofs.Common.{◌≡◌, ℕ, ◌+◌, ◌*◌, ◌<◌, ◌≤◌, Bool, true, false, ◌&&◌, List, [], ◌∷◌, ◌++◌, length, get_or, take, drop, refl, ap, sym, ◌∙◌, arith, Ok, Err, Option, Some, None, append_assoc, ℤ}
+use Rattle.std.proofs.Common.{◌≡◌, ℕ, ◌+◌, ◌*◌, ◌<◌, ◌≤◌, Bool, true, false, ◌&&◌, List, [], ◌∷◌, ◌++◌, length, get_or, take, drop, refl, ap, sym, ◌∙◌, arith, Ok, Err, Some, None, append_assoc, ℤ}
 use Rattle.std.specs.Int.{from_bool}
-use Rattle.std.specs.Prelude.{Result, if◌then◌else◌, not, ◌==◌, option_and_then}
+use Rattle.std.specs.Prelude.{Result, if◌then◌else◌, not, ◌==◌}
 use Rattle.std.specs.List.{list_all}
 use Rattle.std.specs.Char.{is_ascii_digit}
-use Rattle.std.specs.Str.Parse.{digits_value}
 use Rattle.std.proofs.lemmas.Bool.Decides.{nat_tests}
 use Rattle.std.proofs.lemmas.Bool.{false≢true}
 use Rattle.std.proofs.lemmas.List.{at_drop_more, append-nil, take-append-drop}
@@ -14,9 +13,10 @@ use Rattle.cvl_base.specs.Faults.{fault_at}
 use Rattle.cvl_base.specs.Gives.{◌>>=◌}
 use Rattle.call_reader.specs.declared.token.ByteClass.TheVariants.{Blank, Part}
 use Rattle.call_reader.specs.Tokens.{tokens_by, with_byte, is_part, begins_with_part}
-use Rattle.call_reader.specs.Numbers.{magnitude_of, positive_of, negative_of, with_sign, number_of}
+use Rattle.call_reader.specs.Numbers.{positive_of, negative_of, with_sign, number_of}
 use Rattle.call_reader.specs.Inputs.{is_white_space, input_class, numbers_from}
 use Rattle.call_reader.proofs.TokenWalk.{both_true, run_first}
+use Rattle.call_reader.proofs.NumberWalk.{magnitude_digits}
 
 pub at_most_one : (one : ℕ) (b : Bool) → one ≡ from_bool b → one ≤ 1
 at_most_one one true e = omega arith
@@ -120,14 +120,6 @@ digits_are_part [] all = refl
 digits_are_part (d ∷ ds) all =
     let parts = both_true (is_ascii_digit d) (list_all is_ascii_digit ds) all in
     rw (digit_is_part d parts.0) (digits_are_part ds parts.1)
-
-some_where : (b : Bool) (v : ℕ) (f : ℕ → Option ℤ) (n : ℤ) → option_and_then f (if b then Some v else None) ≡ Some n → b ≡ true
-some_where true v f n e = refl
-some_where false v f n e = cc
-
-magnitude_digits : (digits : List ℕ) (f : ℕ → Option ℤ) (n : ℤ) → option_and_then f (magnitude_of digits) ≡ Some n → list_all is_ascii_digit digits ≡ true
-magnitude_digits [] f n e = refl
-magnitude_digits (d ∷ ds) f n e = some_where (list_all is_ascii_digit (d ∷ ds)) (digits_value 10 (d ∷ ds)) f n e
 
 signed_run : (sign : Bool) (b : ℕ) (bs : List ℕ) (n : ℤ) → (sign ≡ true → b ≡ 45) → with_sign sign (b ∷ bs) bs ≡ Some n
     → list_all (λ b. is_part (input_class b)) (b ∷ bs) ≡ true

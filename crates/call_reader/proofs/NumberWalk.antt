@@ -1,7 +1,7 @@
 -- The number of a token's digits, read from the front. The walk ends where the number has grown too great.
 use Rattle.std.proofs.Common.{◌≡◌, ℕ, zero, suc, ◌+◌, ◌-◌, ◌*◌, ◌^◌, ◌<◌, ◌≤◌, Bool, true, false, List, [], ◌∷◌, length, get_or, take, drop, refl, ap, sym, ◌∙◌, arith, Option, Some, None, ℤ, ◌≤ℤ◌, ◌<ℤ◌, pos, neg_ℤ, cond, nat_lt, FitsSigned, w32}
 use Rattle.std.specs.Prelude.{option_and_then, if◌then◌else◌, ◌==◌}
-use Rattle.std.proofs.lemmas.List.{at_drop_more, at_drop_all, length-take-le}
+use Rattle.std.proofs.lemmas.List.{length-take-le}
 use Rattle.std.proofs.lemmas.Bool.Decides.{nat_tests}
 use Rattle.std.specs.List.{list_all, take_while, prefix_len}
 use Rattle.std.specs.Int.{from_bool}
@@ -10,51 +10,15 @@ use Rattle.std.specs.Str.Parse.{digits_value, digits_value_after}
 use Rattle.std.proofs.lemmas.List.Folds.{list_all_more}
 use Rattle.std.proofs.lemmas.List.Sums.{take_while-cons}
 use Rattle.std.proofs.lemmas.Int.Digits.{digits_value_more}
-use Rattle.call_reader.specs.Numbers.{fitting, magnitude_of, positive_of, negative_of, with_sign, number_of, signed_digits}
+use Rattle.call_reader.specs.Numbers.{magnitude_of, positive_of, negative_of, with_sign, number_of, signed_digits}
 use Rattle.call_reader.proofs.TokenWalk.{both_true}
-
--- the fitting magnitude that digits write behind others, whose number is n
-abbrev pub read_on : ℕ → List ℕ → Option ℕ
-read_on n digits = option_and_then fitting (if list_all is_ascii_digit digits then Some (digits_value_after 10 n digits) else None)
-
-pub read_on_whole : (digits : List ℕ) → 0 < length digits → read_on 0 digits ≡ option_and_then fitting (magnitude_of digits)
-read_on_whole [] h = absurd (omega arith)
-read_on_whole (d ∷ digits) h = refl
 
 digit_value_is : (d : ℕ) → is_ascii_digit d ≡ true → digit_value d ≡ d - 48
 digit_value_is d e = grind (arith, nat_tests)
 
-read_on_cons : (n d : ℕ) (digits : List ℕ) → is_ascii_digit d ≡ true → read_on n (d ∷ digits) ≡ read_on (n * 10 + (d - 48)) digits
-read_on_cons n d digits e =
-    rw e (ap (λ v. option_and_then fitting (if list_all is_ascii_digit digits then Some (digits_value_after 10 (n * 10 + v) digits) else None)) (digit_value_is d e))
-
-pub read_on_digit : (n : ℕ) (digits : List ℕ) (i : ℕ) → i < length digits → is_ascii_digit (get_or digits i 0) ≡ true
-    → read_on n (drop i digits) ≡ read_on (n * 10 + (get_or digits i 0 - 48)) (drop (i + 1) digits)
-read_on_digit n digits i h e = at_drop_more (read_on n) digits i 0 h ∙ read_on_cons n (get_or digits i 0) (drop (i + 1) digits) e
-
-pub read_on_other : (n : ℕ) (digits : List ℕ) (i : ℕ) → i < length digits → is_ascii_digit (get_or digits i 0) ≡ false
-    → read_on n (drop i digits) ≡ None
-read_on_other n digits i h e = at_drop_more (read_on n) digits i 0 h ∙ rw e refl
-
 grows : (n : ℕ) (digits : List ℕ) → n ≤ digits_value_after 10 n digits
 grows n [] = omega arith
 grows n (d ∷ digits) = omega (arith, grows (n * 10 + digit_value d) digits)
-
-unfit : (n : ℕ) → 2 ^ 31 < n → fitting n ≡ None
-unfit n h = grind (arith, nat_tests)
-
-pub read_on_unfit : (n : ℕ) (digits : List ℕ) → 2 ^ 31 < n → read_on n digits ≡ None
-read_on_unfit n digits h =
-    elim (list_all is_ascii_digit digits) as (λ b. option_and_then fitting (if b then Some (digits_value_after 10 n digits) else None) ≡ None) [
-      | true ↦ unfit _ (omega (arith, grows n digits))
-      | false ↦ refl
-    ]
-
-fits_at_most : (n : ℕ) → n ≤ 2 ^ 31 → fitting n ≡ Some n
-fits_at_most n h = grind (arith, nat_tests)
-
-pub read_on_all : (n : ℕ) (digits : List ℕ) (i : ℕ) → length digits ≤ i → n ≤ 2 ^ 31 → read_on n (drop i digits) ≡ Some n
-read_on_all n digits i h small = at_drop_all (read_on n) digits i h ∙ fits_at_most n small
 
 -- with one digit more
 pub digits_more : (bytes : List ℕ) (i : ℕ) → i < length bytes → list_all is_ascii_digit (take i bytes) ≡ true → is_ascii_digit (get_or bytes i 0) ≡ true
@@ -180,3 +144,45 @@ signed_front bytes first others sign sign_length digits count (same, minus, len,
     let digits_is = digits_are bytes first others sign sign_length digits (same, minus, len, is) in
     ap (λ (k : ℕ). take (k + count) bytes) len ∙ ap (take (from_bool sign + count)) same
     ∙ signed_front_at first others sign count minus (whole ∙ ap (prefix_len is_ascii_digit) digits_is) ∙ ap signed_digits (sym same)
+
+some_where : (b : Bool) (v : ℕ) (f : ℕ → Option ℤ) (n : ℤ) → option_and_then f (if b then Some v else None) ≡ Some n → b ≡ true
+some_where true v f n e = refl
+some_where false v f n e = cc
+
+-- what has a magnitude is digits
+pub magnitude_digits : (digits : List ℕ) (f : ℕ → Option ℤ) (n : ℤ) → option_and_then f (magnitude_of digits) ≡ Some n → list_all is_ascii_digit digits ≡ true
+magnitude_digits [] f n e = refl
+magnitude_digits (d ∷ ds) f n e = some_where (list_all is_ascii_digit (d ∷ ds)) (digits_value 10 (d ∷ ds)) f n e
+
+front_of_digits : (digits : List ℕ) → list_all is_ascii_digit digits ≡ true → take_while is_ascii_digit digits ≡ digits
+front_of_digits [] all = refl
+front_of_digits (d ∷ ds) all =
+    let parts = both_true (is_ascii_digit d) (list_all is_ascii_digit ds) all in
+    take_while-cons is_ascii_digit d ds ∙ rw parts.0 (ap (λ (others : List ℕ). d ∷ others) (front_of_digits ds parts.1))
+
+signed_whole : (sign : Bool) (b : ℕ) (bs : List ℕ) (n : ℤ) → sign ≡ (b == 45) → with_sign sign (b ∷ bs) bs ≡ Some n → signed_digits (b ∷ bs) ≡ b ∷ bs
+signed_whole true b bs n minus e = rw (← minus) (ap (λ (others : List ℕ). b ∷ others) (front_of_digits bs (magnitude_digits bs negative_of n e)))
+signed_whole false b bs n minus e = rw (← minus) (front_of_digits (b ∷ bs) (magnitude_digits (b ∷ bs) positive_of n e))
+
+-- a number is its sign and its leading digits, and nothing else
+number_whole : (token : List ℕ) (n : ℤ) → number_of token ≡ Some n → signed_digits token ≡ token
+number_whole [] n e = refl
+number_whole (b ∷ bs) n e = signed_whole (b == 45) b bs n refl e
+
+-- no number without one at the front
+pub none_at_front : (token : List ℕ) → number_of (signed_digits token) ≡ None → number_of token ≡ None
+none_at_front token none = by (number_of token) refl
+  where
+    by : (found : Option ℤ) → number_of token ≡ found → found ≡ None
+    by None e = refl
+    by (Some n) e =
+        let never : None ≡ Some n = sym none ∙ ap number_of (number_whole token n e) ∙ e in
+        cc
+
+-- no number with bytes behind the one at the front
+pub none_with_more : (token : List ℕ) (k : ℕ) → k < length token → take k token ≡ signed_digits token → number_of token ≡ None
+none_with_more token k more front = by (number_of token) refl
+  where
+    by : (found : Option ℤ) → number_of token ≡ found → found ≡ None
+    by None e = refl
+    by (Some n) e = absurd (omega (arith, ap length (front ∙ number_whole token n e), length-take-le k token (omega arith)))

@@ -15,10 +15,6 @@ abbrev pub magnitude_of : List ℕ → Option ℕ
 magnitude_of digits =
     if not (is_empty digits) && list_all is_ascii_digit digits then Some (digits_value 10 digits) else None
 
--- the number, where an integer of 32 bits may have this magnitude
-abbrev pub fitting : ℕ → Option ℕ
-fitting n = if nat_le n (2 ^ 31) then Some n else None
-
 -- the integer of 32 bits with this magnitude, where it fits
 abbrev pub positive_of : ℕ → Option ℤ
 positive_of n = if nat_lt n (2 ^ 31) then Some (pos n) else None

@@ -1,52 +1,16 @@
 //! The numbers that tokens write.
 
-ghost use Rattle.std.specs.Prelude.{◌≡◌, ◌<◌, ◌≤◌, ◌^◌, length, take, IfSome, IsTrue, option_and_then, option_map, pos, neg_ℤ, if◌then◌else◌};
+ghost use Rattle.std.specs.Prelude.{◌≡◌, ◌<◌, ◌≤◌, ◌^◌, length, take, IfSome, IsTrue, option_map, pos, neg_ℤ, if◌then◌else◌};
 ghost use Rattle.std.specs.List.{list_all, prefix_len};
 ghost use Rattle.std.specs.Char.{is_ascii_digit};
 ghost use Rattle.std.specs.Str.Parse.{digits_value};
-ghost use Rattle.call_reader.specs.Numbers.{number_of, magnitude_of, fitting, signed_digits};
+ghost use Rattle.call_reader.specs.Numbers.{number_of, signed_digits};
 
 use crate::digits::{LANES, decimal, digit_run, moved};
 use std::simd::prelude::*;
 
 /// The greatest magnitude of an integer of 32 bits: that of -2147483648.
 const GREATEST_MAGNITUDE: u64 = 2_147_483_648;
-
-/// The number that the digits write, where it is at most 2,147,483,648. The walk ends at the first byte that is no
-/// digit, and where the number is greater.
-fn magnitude(digits: &[u8]) -> Option<u64>
-    ensures { result ≡ option_and_then fitting (magnitude_of digits.now) }
-{
-    if digits.is_empty() {
-        return None;
-    }
-    let mut value: u64 = 0;
-    for digit in digits {
-        if !digit.is_ascii_digit() {
-            return None;
-        }
-        value = value * 10 + u64::from(*digit - b'0');
-        if value > GREATEST_MAGNITUDE {
-            return None;
-        }
-    }
-    Some(value)
-}
-
-/// The integer that a token writes: an optional `-` and at least one digit, inside 32 bits. A token of any length
-/// costs one pass over it; leading zeros and `-0` are numbers, and `+2` is none.
-pub(crate) fn number(token: &[u8]) -> Option<i32>
-    ensures { result ≡ number_of token.now }
-{
-    let (first, others) = token.split_first()?;
-    if *first == b'-' {
-        let value = magnitude(others)?;
-        Some((-(value as i64)) as i32)
-    } else {
-        let value = magnitude(token)?;
-        i32::try_from(value).ok()
-    }
-}
 
 /// How many digits the bytes begin with, and the number that these write, read one by one. The walk also ends where
 /// that number is greater than 2,147,483,648.
@@ -117,4 +81,17 @@ pub(crate) fn leading_number(bytes: &[u8]) -> Option<(i32, usize)>
     }
     let value = i32::try_from(signed(is_negative, magnitude)).ok()?;
     Some((value, sign_length + count))
+}
+
+/// The integer that a token writes: an optional `-` and at least one digit, inside 32 bits. A token of any length
+/// costs one pass over it; leading zeros and `-0` are numbers, and `+2` is none.
+#[tactic(auto, using(crate::proofs::NumberWalk::none_at_front, crate::proofs::NumberWalk::none_with_more))]
+pub(crate) fn number(token: &[u8]) -> Option<i32>
+    ensures { result ≡ number_of token.now }
+{
+    let (value, length) = leading_number(token)?;
+    if length < token.len() {
+        return None;
+    }
+    Some(value)
 }
