@@ -31,6 +31,7 @@ pub mod scan_laws;
 pub mod seg;
 pub mod segment_laws;
 pub mod spelling;
+mod table;
 pub mod tile_sums;
 pub mod value;
 

@@ -1,11 +1,11 @@
 //! The calls of a script by families, with the operands that each takes and what it gives.
 
 ghost use Rattle.std.specs.Prelude.{◌≡◌};
-ghost use Rattle.cvl_base.specs.Calls.{operands_of, result_of, each_of, vector_of, is_done, is_write, takes_of, accepts_of, write_accepts, same_kind, is_vector};
+ghost use Rattle.cvl_base.specs.Calls.{operands_of, result_of, is_done, is_write, takes_of, accepts_of, write_accepts, same_kind, is_vector};
 
 use crate::families::{BoolBinary, Comparison, Cut, Element, Form, IntBinary, IntMonoid, Unary};
 use crate::kind::Kind;
-use crate::operands;
+use crate::table::row_of;
 
 /// What a line of a script asks for: one call of the library, or `write`.
 ///
@@ -71,35 +71,14 @@ impl Op {
     pub fn operands(self) -> &'static [Kind]
         ensures { result.now ≡ operands_of self }
     {
-        operands::of(self)
+        row_of(self).operands
     }
 
     /// The kind of the value that the call gives; `write` gives none.
     pub fn gives(self) -> Option<Kind>
         ensures { result ≡ result_of self }
     {
-        match self {
-            Op::Input
-            | Op::Ints2(_)
-            | Op::Ints1(_)
-            | Op::IntFromBool
-            | Op::Scan(_, _)
-            | Op::Index(_)
-            | Op::DescriptorLengths => Some(Kind::Integers),
-            Op::Compare(_) | Op::Bools2(_) | Op::Bools1(_) | Op::BoolFromInt | Op::BoolScan(_, _) =>
-                { Some(Kind::Booleans) }
-            Op::Choose(element)
-            | Op::Permute(_, _, element)
-            | Op::Pack(_, element)
-            | Op::Distribute(_, element)
-            | Op::Replace(_, element) => Some(vector_kind(element)),
-            Op::Reduce(_, cut) | Op::Count(cut) => Some(each_kind(cut, Element::Integer)),
-            Op::BoolReduce(_, cut) => Some(each_kind(cut, Element::Boolean)),
-            Op::Extract(cut, element) => Some(each_kind(cut, element)),
-            Op::Length(_) => Some(Kind::Integer),
-            Op::PackedLengths | Op::MakeDescriptor => Some(Kind::Descriptor),
-            Op::Write => None,
-        }
+        row_of(self).gives
     }
 
     /// Whether `count` arguments are as many as it takes: a call one for each operand, `write` one or two.
@@ -168,28 +147,6 @@ impl Op {
         ensures { result ≡ is_write self }
     {
         matches!(self, Op::Write)
-    }
-}
-
-/// The kind of a vector of such elements.
-fn vector_kind(element: Element) -> Kind
-    ensures { result ≡ vector_of element }
-{
-    match element {
-        Element::Integer => Kind::Integers,
-        Element::Boolean => Kind::Booleans,
-    }
-}
-
-/// The kind of one value for the whole vector, or of one for each segment.
-fn each_kind(cut: Cut, element: Element) -> Kind
-    ensures { result ≡ each_of cut element }
-{
-    match (cut, element) {
-        (Cut::Flat, Element::Integer) => Kind::Integer,
-        (Cut::Flat, Element::Boolean) => Kind::Boolean,
-        (Cut::Segmented, Element::Integer) => Kind::Integers,
-        (Cut::Segmented, Element::Boolean) => Kind::Booleans,
     }
 }
 

@@ -10,6 +10,7 @@ use crate::families::{
     BoolBinary, Comparison, Cut, Element, Form, IntBinary, IntMonoid, Unary, cut_and_element,
 };
 use crate::operation::Op;
+use crate::table::row_of;
 use std::fmt;
 
 /// A call's name in its parts, which `Display` writes one after the other.
@@ -28,33 +29,7 @@ impl Op {
     pub fn spelling(self) -> Spelling
         ensures { bytes_of result ≡ spelling_of self }
     {
-        match self {
-            Op::Input => whole("input"),
-            Op::Ints2(operator) => named(operator.letters(), "_w", Cut::Flat, Element::Integer),
-            Op::Ints1(operator) => named(operator.letters(), "_w", Cut::Flat, Element::Integer),
-            Op::Compare(operator) => named(operator.letters(), "_w", Cut::Flat, Element::Integer),
-            Op::Bools2(operator) => named(operator.letters(), "_w", Cut::Flat, Element::Boolean),
-            Op::Bools1(operator) => named(operator.letters(), "_w", Cut::Flat, Element::Boolean),
-            Op::Choose(element) => named("sel", "_w", Cut::Flat, element),
-            Op::IntFromBool => named("int", "_w", Cut::Flat, Element::Boolean),
-            Op::BoolFromInt => named("boo", "_w", Cut::Flat, Element::Integer),
-            Op::Scan(operator, cut) => named(operator.letters(), "_s", cut, Element::Integer),
-            Op::Reduce(operator, cut) => named(operator.letters(), "_r", cut, Element::Integer),
-            Op::BoolScan(operator, cut) => named(operator.letters(), "_s", cut, Element::Boolean),
-            Op::BoolReduce(operator, cut) => named(operator.letters(), "_r", cut, Element::Boolean),
-            Op::Permute(form, cut, element) => named(form.letters(), "_p", cut, element),
-            Op::Length(element) => named("len", "_l", Cut::Flat, element),
-            Op::Count(cut) => named("cnt", "_l", cut, Element::Boolean),
-            Op::Pack(cut, element) => named("pck", "_l", cut, element),
-            Op::PackedLengths => whole("pck_fov"),
-            Op::Distribute(cut, element) => named("dis", "_v", cut, element),
-            Op::Index(cut) => named("ind", "_l", cut, Element::Integer),
-            Op::Extract(cut, element) => named("ext", "_v", cut, element),
-            Op::Replace(cut, element) => named("rep", "_v", cut, element),
-            Op::MakeDescriptor => whole("mke_fov"),
-            Op::DescriptorLengths => whole("len_fos"),
-            Op::Write => whole("write"),
-        }
+        row_of(self).name
     }
 
     /// Whether a word is the name of this call.
@@ -82,7 +57,7 @@ fn is_joined(word: &[u8], front: &str, back: &str) -> bool
 }
 
 /// A name that is not put together.
-fn whole(name: &'static str) -> Spelling
+pub(crate) fn whole(name: &'static str) -> Spelling
     ensures { bytes_of result ≡ name.now }
 {
     Spelling {
@@ -93,7 +68,12 @@ fn whole(name: &'static str) -> Spelling
 }
 
 /// A name of three parts.
-fn named(operator: &'static str, class: &'static str, cut: Cut, element: Element) -> Spelling
+pub(crate) fn named(
+    operator: &'static str,
+    class: &'static str,
+    cut: Cut,
+    element: Element,
+) -> Spelling
     ensures { bytes_of result ≡ call_name_of operator.now class.now cut element }
 {
     Spelling {
