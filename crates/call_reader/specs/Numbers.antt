@@ -1,8 +1,8 @@
 -- The numbers that tokens write.
 -- Source: this library's script and input formats.
-use Rattle.std.specs.Prelude.{ℕ, ◌^◌, Bool, true, false, ◌&&◌, not, ◌==◌, nat_le, nat_lt, List, [], ◌∷◌, Option, Some, None, ℤ, pos, neg_ℤ, if◌then◌else◌}
+use Rattle.std.specs.Prelude.{◌≡◌, ℕ, ◌≤◌, ◌<◌, ◌^◌, length, take, IsTrue, Bool, true, false, ◌&&◌, not, ◌==◌, nat_le, nat_lt, List, [], ◌∷◌, Option, Some, None, ℤ, pos, neg_ℤ, if◌then◌else◌}
 use Rattle.std.specs.Option.{option_and_then}
-use Rattle.std.specs.List.{list_all, take_while}
+use Rattle.std.specs.List.{list_all, take_while, prefix_len}
 use Rattle.std.specs.Char.{is_ascii_digit}
 use Rattle.std.specs.Str.Parse.{digits_value}
 
@@ -35,3 +35,11 @@ number_of (b ∷ bs) = with_sign (b == 45) (b ∷ bs) bs
 abbrev pub signed_digits : List ℕ → List ℕ
 signed_digits [] = []
 signed_digits (b ∷ bs) = if b == 45 then b ∷ take_while is_ascii_digit bs else take_while is_ascii_digit (b ∷ bs)
+
+-- so many digits with which the bytes begin, and the number that they write; all of them, where that number is at most 2^31
+pub record AreLeading (bytes : List ℕ) (count number : ℕ) : Type 0 where
+  pub within : count ≤ length bytes
+  pub digits : IsTrue (list_all is_ascii_digit (take count bytes))
+  pub value : number ≡ digits_value 10 (take count bytes)
+  pub whole : number ≤ 2 ^ 31 → count ≡ prefix_len is_ascii_digit bytes
+  pub small : number < 2 ^ 63

@@ -4,7 +4,7 @@ ghost use Rattle.std.specs.Prelude.{◌≡◌, ◌<◌, ◌≤◌, ◌^◌, leng
 ghost use Rattle.std.specs.List.{list_all, prefix_len};
 ghost use Rattle.std.specs.Char.{is_ascii_digit};
 ghost use Rattle.std.specs.Str.Parse.{digits_value};
-ghost use Rattle.call_reader.specs.Numbers.{number_of, signed_digits};
+ghost use Rattle.call_reader.specs.Numbers.{number_of, signed_digits, AreLeading};
 
 use crate::digits::{LANES, decimal, digit_run, moved};
 use std::simd::prelude::*;
@@ -15,11 +15,7 @@ const GREATEST_MAGNITUDE: u64 = 2_147_483_648;
 /// How many digits the bytes begin with, and the number that these write, read one by one. The walk also ends where
 /// that number is greater than 2,147,483,648.
 fn walked_digits(bytes: &[u8]) -> (usize, u64)
-    ensures within { result.0 ≤ length bytes.now }
-    ensures digits { IsTrue (list_all is_ascii_digit (take result.0 bytes.now)) }
-    ensures value { result.1 ≡ digits_value 10 (take result.0 bytes.now) }
-    ensures whole { result.1 ≤ 2 ^ 31 → result.0 ≡ prefix_len is_ascii_digit bytes.now }
-    ensures small { result.1 < 2 ^ 63 }
+    ensures { AreLeading bytes.now result.0 result.1 }
 {
     let mut value: u64 = 0;
     for (i, byte) in bytes.iter().enumerate() {
@@ -35,11 +31,7 @@ fn walked_digits(bytes: &[u8]) -> (usize, u64)
 /// 2,147,483,648, it may be that of the first digits alone.
 #[inline(always)]
 fn leading_digits(bytes: &[u8]) -> (usize, u64)
-    ensures within { result.0 ≤ length bytes.now }
-    ensures digits { IsTrue (list_all is_ascii_digit (take result.0 bytes.now)) }
-    ensures value { result.1 ≡ digits_value 10 (take result.0 bytes.now) }
-    ensures whole { result.1 ≤ 2 ^ 31 → result.0 ≡ prefix_len is_ascii_digit bytes.now }
-    ensures small { result.1 < 2 ^ 63 }
+    ensures { AreLeading bytes.now result.0 result.1 }
 {
     // nearly every number has fewer digits than there are lanes
     if bytes.len() >= LANES {
