@@ -36,7 +36,8 @@ abbrev pub signed_digits : List ℕ → List ℕ
 signed_digits [] = []
 signed_digits (b ∷ bs) = if b == 45 then b ∷ take_while is_ascii_digit bs else take_while is_ascii_digit (b ∷ bs)
 
--- so many digits with which the bytes begin, and the number that they write; all of them, where that number is at most 2^31
+-- so many digits with which the bytes begin, and the number that they write, below 2^63; all of them, where that number
+-- is at most 2^31
 pub record AreLeading (bytes : List ℕ) (count number : ℕ) : Type 0 where
   pub within : count ≤ length bytes
   pub digits : IsTrue (list_all is_ascii_digit (take count bytes))

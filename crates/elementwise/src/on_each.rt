@@ -15,7 +15,7 @@ pub(crate) trait Single<X, Z> {
 /// The operator's values on the elements.
 ///
 /// One thread writes them. Several would have to wait until one had filled the fresh vector, for only then may they share
-/// it, and that takes as long as this walk.
+/// it, and with the start of the threads that takes longer than this walk.
 pub(crate) fn values_on_each<O: Single<X, Z>, X: Copy, Z: Copy, A: Memory>(
     alloc: A,
     a: &[X],

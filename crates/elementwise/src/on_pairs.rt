@@ -55,7 +55,7 @@ pub(crate) fn values_on_pairs<
     let Some(chunk_length) = chunk_length(rt, a.len()) else {
         return values_by_one_thread::<O, X, Y, Z, A>(alloc, a, b);
     };
-    // the chunks are written over these, of which a fill with zeros takes the least time
+    // the chunks are written over these; zeros take the least time to fill in
     let mut values = filled_like(alloc, a, Z::default())?;
     par_chunks_mut_for_each(
         rt,
