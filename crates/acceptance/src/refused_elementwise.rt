@@ -113,7 +113,7 @@ fn calls_on_one_vector(rt: HostRuntime) -> Result<(), Fail> {
     assert_eq!(rt; requests, 1);
     let requests = withstands_refusals(
         rt.alloc(),
-        |heap| Ok(last_of(&bool_from_int(heap, config, &a)?)),
+        |heap| Ok(last_of(&bool_from_int(&rt, heap, config, &a)?)),
         Ok((LENGTH, Some(true))),
         Err(NoResources),
     )?;

@@ -102,7 +102,7 @@ fn measure_singles<R: Print + Clock + Threads + Sync>(
     let call = best(rt, || int_from_bool(alloc, config, flags))?;
     let loop_time = best(rt, || plain::ints(alloc, flags))?;
     print_times(rt, "int_from_bool", n, call, loop_time)?;
-    let call = best(rt, || bool_from_int(alloc, config, a))?;
+    let call = best(rt, || bool_from_int(rt, alloc, config, a))?;
     let loop_time = best(rt, || plain::bools(alloc, a))?;
     print_times(rt, "bool_from_int", n, call, loop_time)
 }

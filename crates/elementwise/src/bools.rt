@@ -5,13 +5,12 @@ ghost use Rattle.cvl_base.specs.Elementwise.{bools_from_ints, bools1_of, bools2_
 ghost use Rattle.cvl_base.specs.Gives.{Gives};
 
 use crate::comparisons::{AtLeast, AtMost, Equal, Greater, Less, Unequal};
-use crate::on_each::values_on_each;
-use crate::on_pairs::{values_by_one_thread, values_on_pairs};
+use crate::lengths::as_long;
+use crate::on_each::{each_by_one_thread, values_on_each};
+use crate::on_pairs::{pairs_by_one_thread, values_on_pairs};
 use crate::singles::{BoolOfInt, NotBool};
 use crate::truths::{Both, Differ, Either};
-use cvl_base::{
-    BoolBinary, Comparison, Config, Fault, FaultNo, Memory, NoResources, Refused, Unary,
-};
+use cvl_base::{BoolBinary, Comparison, Config, Memory, NoResources, Refused, Unary};
 use std::thread::Threads;
 
 /// The comparison of each two elements at the same place, on signed numbers: `grt_wuz` and its like.
@@ -29,9 +28,7 @@ pub fn compare<R: Threads + Sync, A: Memory>(
     ensures values { Gives (λ v. v.items) result (compare_of op a.now b.now) }
     ensures as_long { IfOk result (λ v. vec_len v ≡ length a.now) }
 {
-    if a.len() != b.len() {
-        return Err(Refused::Fault(Fault::new(FaultNo::LengthMismatch)));
-    }
+    as_long(a, b)?;
     let truths = match op {
         Comparison::Greater => values_on_pairs::<Greater, i32, i32, bool, R, A>(rt, alloc, a, b)?,
         Comparison::Less => values_on_pairs::<Less, i32, i32, bool, R, A>(rt, alloc, a, b)?,
@@ -57,13 +54,11 @@ pub fn bool2<A: Memory>(
     ensures values { Gives (λ v. v.items) result (bools2_of op a.now b.now) }
     ensures as_long { IfOk result (λ v. vec_len v ≡ length a.now) }
 {
-    if a.len() != b.len() {
-        return Err(Refused::Fault(Fault::new(FaultNo::LengthMismatch)));
-    }
+    as_long(a, b)?;
     let truths = match op {
-        BoolBinary::And => values_by_one_thread::<Both, bool, bool, bool, A>(alloc, a, b)?,
-        BoolBinary::Ior => values_by_one_thread::<Either, bool, bool, bool, A>(alloc, a, b)?,
-        BoolBinary::Xor => values_by_one_thread::<Differ, bool, bool, bool, A>(alloc, a, b)?,
+        BoolBinary::And => pairs_by_one_thread::<Both, bool, bool, bool, A>(alloc, a, b)?,
+        BoolBinary::Ior => pairs_by_one_thread::<Either, bool, bool, bool, A>(alloc, a, b)?,
+        BoolBinary::Xor => pairs_by_one_thread::<Differ, bool, bool, bool, A>(alloc, a, b)?,
     };
     Ok(truths)
 }
@@ -81,7 +76,7 @@ pub fn bool1<A: Memory>(
     ensures as_long { IfOk result (λ v. vec_len v ≡ length a.now) }
 {
     match op {
-        Unary::Not => values_on_each::<NotBool, bool, bool, A>(alloc, a),
+        Unary::Not => each_by_one_thread::<NotBool, bool, bool, A>(alloc, a),
         Unary::Copy => Ok(Vec::from_slice(alloc, a)?),
     }
 }
@@ -89,7 +84,8 @@ pub fn bool1<A: Memory>(
 /// True at each place where the number isn't 0: `boo_wuz`.
 ///
 /// The result is as long as `a`. There is no fault. Source: CVL's conversions.
-pub fn bool_from_int<A: Memory>(
+pub fn bool_from_int<R: Threads + Sync, A: Memory>(
+    rt: &R,
     alloc: A,
     _config: Config,
     a: &[i32],
@@ -97,5 +93,5 @@ pub fn bool_from_int<A: Memory>(
     ensures values { IfOk result (λ v. v.items ≡ bools_from_ints a.now) }
     ensures as_long { IfOk result (λ v. vec_len v ≡ length a.now) }
 {
-    values_on_each::<BoolOfInt, i32, bool, A>(alloc, a)
+    values_on_each::<BoolOfInt, i32, bool, R, A>(rt, alloc, a)
 }

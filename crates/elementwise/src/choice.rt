@@ -7,7 +7,8 @@ ghost use Rattle.cvl_base.specs.Gives.{Gives};
 ghost use Rattle.elementwise.specs.Standing.{StandFrom};
 
 use crate::chunks::{chunk_length, filled_like};
-use cvl_base::{Config, Fault, FaultNo, Memory, NoResources, Refused};
+use crate::lengths::as_long;
+use cvl_base::{Config, Memory, NoResources, Refused};
 use rayon::prelude::*;
 use std::thread::Threads;
 
@@ -26,12 +27,8 @@ pub fn select<T: Copy + Send + Sync, R: Threads + Sync, A: Memory>(
     ensures values { Gives (λ v. v.items) result (choose_of flags.now a.now b.now) }
     ensures as_long { IfOk result (λ v. vec_len v ≡ length flags.now) }
 {
-    if flags.len() != a.len() {
-        return Err(Refused::Fault(Fault::new(FaultNo::LengthMismatch)));
-    }
-    if flags.len() != b.len() {
-        return Err(Refused::Fault(Fault::new(FaultNo::LengthMismatch)));
-    }
+    as_long(flags, a)?;
+    as_long(flags, b)?;
     Ok(values_chosen(rt, alloc, flags, a, b)?)
 }
 

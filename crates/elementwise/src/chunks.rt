@@ -6,8 +6,9 @@ use cvl_base::{Memory, NoResources};
 use rayon::current_num_threads;
 use std::thread::Threads;
 
-/// Into how many chunks a shared call's result is cut at most: few, since a thread is started for each but one.
-const MOST_CHUNKS: usize = 4;
+/// Into how many chunks a shared call's result is cut at most: few, since a thread is started for each but one. On four
+/// processors three chunks were written as soon as four.
+const MOST_CHUNKS: usize = 3;
 
 /// From how many elements on several threads share a call. Below it one thread is done before they would be, for it
 /// needn't fill the vector before it writes the values. The tests of long vectors and of refused growths go past it.

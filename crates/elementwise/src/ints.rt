@@ -5,13 +5,14 @@ ghost use Rattle.cvl_base.specs.Elementwise.{ints_from_bools, ints1_of, ints2_of
 ghost use Rattle.cvl_base.specs.Gives.{Gives};
 ghost use Rattle.cvl_base.specs.Limits.{most_elements};
 
-use crate::on_each::values_on_each;
+use crate::lengths::as_long;
+use crate::on_each::each_by_one_thread;
 use crate::on_pairs::values_on_pairs;
 use crate::on_pairs_or::values_on_pairs_or;
 use crate::partials::{Div, Lsh, Mod, Rsh};
 use crate::singles::{IntOfBool, NotInt};
 use crate::totals::{Add, And, Ior, Max, Min, Mul, Sub, Xor};
-use cvl_base::{Config, Fault, FaultNo, IntBinary, Memory, NoResources, Refused, Unary};
+use cvl_base::{Config, IntBinary, Memory, NoResources, Refused, Unary};
 use std::thread::Threads;
 
 /// The operator on each two elements at the same place: `add_wuz` and its like.
@@ -31,9 +32,7 @@ pub fn int2<R: Threads + Sync, A: Memory>(
     ensures values { Gives (λ v. v.items) result (ints2_of op a.now b.now) }
     ensures as_long { IfOk result (λ v. vec_len v ≡ length a.now) }
 {
-    if a.len() != b.len() {
-        return Err(Refused::Fault(Fault::new(FaultNo::LengthMismatch)));
-    }
+    as_long(a, b)?;
     match op {
         IntBinary::Add => Ok(values_on_pairs::<Add, i32, i32, i32, R, A>(rt, alloc, a, b)?),
         IntBinary::Sub => Ok(values_on_pairs::<Sub, i32, i32, i32, R, A>(rt, alloc, a, b)?),
@@ -63,7 +62,7 @@ pub fn int1<A: Memory>(
     ensures as_long { IfOk result (λ v. vec_len v ≡ length a.now) }
 {
     match op {
-        Unary::Not => values_on_each::<NotInt, i32, i32, A>(alloc, a),
+        Unary::Not => each_by_one_thread::<NotInt, i32, i32, A>(alloc, a),
         Unary::Copy => Ok(Vec::from_slice(alloc, a)?),
     }
 }
@@ -79,5 +78,5 @@ pub fn int_from_bool<A: Memory>(
     ensures values { IfOk result (λ v. v.items ≡ ints_from_bools a.now) }
     ensures as_long { IfOk result (λ v. vec_len v ≡ length a.now) }
 {
-    values_on_each::<IntOfBool, bool, i32, A>(alloc, a)
+    each_by_one_thread::<IntOfBool, bool, i32, A>(alloc, a)
 }

@@ -1,22 +1,26 @@
 //! The walk over one vector by an operator on one element.
 
-ghost use Rattle.std.specs.Prelude.{◌≡◌, IfOk, length, map, vec_len};
+ghost use Rattle.std.specs.Prelude.{◌≡◌, ◌+◌, ◌≤◌, IfOk, length, map, vec_len};
+ghost use Rattle.elementwise.specs.Standing.{StandFrom};
 
+use crate::chunks::{chunk_length, filled_like};
 use cvl_base::{Memory, NoResources};
+use rayon::prelude::*;
+use std::thread::Threads;
 
 /// An operator on one element.
-pub(crate) trait Single<X, Z> {
+pub(crate) trait Single<X, Z>: Send + Sync {
     ghost value: { X → Z };
 
     fn apply(a: X) -> Z
         ensures { result ≡ value a };
 }
 
-/// The operator's values on the elements.
+/// The operator's values on the elements, by one thread.
 ///
-/// One thread writes them. Several would have to wait until one had filled the fresh vector, for only then may they share
-/// it, and with the start of the threads that takes longer than this walk.
-pub(crate) fn values_on_each<O: Single<X, Z>, X: Copy, Z: Copy, A: Memory>(
+/// Calls whose result has as many bytes as the vector, or more, take this at any length. Several threads would have to
+/// wait until one had filled the fresh vector, for only then may they share it, and that takes as long as this walk.
+pub(crate) fn each_by_one_thread<O: Single<X, Z>, X: Copy, Z: Copy, A: Memory>(
     alloc: A,
     a: &[X],
 ) -> Result<Vec<Z, A>, NoResources>
@@ -24,4 +28,43 @@ pub(crate) fn values_on_each<O: Single<X, Z>, X: Copy, Z: Copy, A: Memory>(
     ensures as_long { IfOk result (λ v. vec_len v ≡ length a.now) }
 {
     Ok(a.iter().map(|x| O::apply(*x)).collect(alloc)?)
+}
+
+/// The operator's values on the elements. Long vectors are cut into chunks, which several threads write into one vector.
+pub(crate) fn values_on_each<
+    O: Single<X, Z>,
+    X: Copy + Send + Sync,
+    Z: Copy + Default + Send + Sync,
+    R: Threads + Sync,
+    A: Memory,
+>(rt: &R, alloc: A, a: &[X]) -> Result<Vec<Z, A>, NoResources>
+    ensures values { IfOk result (λ v. v.items ≡ map O.value a.now) }
+    ensures as_long { IfOk result (λ v. vec_len v ≡ length a.now) }
+{
+    let Some(chunk_length) = chunk_length(rt, a.len()) else {
+        return each_by_one_thread::<O, X, Z, A>(alloc, a);
+    };
+    // the chunks are written over these
+    let mut values = filled_like(alloc, a, Z::default())?;
+    par_chunks_mut_for_each(
+        rt,
+        values.as_mut_slice(),
+        chunk_length,
+        |start: usize, chunk: &mut [Z]|
+            requires { start + length chunk.now ≤ length a.now }
+            ensures { StandFrom (map O.value a.entry.now) start (length chunk.old) chunk.new }
+        { write_each::<O, X, Z>(a, start, chunk) },
+    );
+    Ok(values)
+}
+
+/// Writes the values on the elements from place `start` on, as many as `values` is long.
+fn write_each<O: Single<X, Z>, X: Copy, Z: Copy>(a: &[X], start: usize, values: &mut [Z])
+    requires in_a { start + length values.old ≤ length a.now }
+    ensures { StandFrom (map O.value a.now) start (length values.old) values.new }
+{
+    let (_, xs) = a.split_at(start);
+    for k in 0..values.len() {
+        values[k] = O::apply(xs[k]);
+    }
 }

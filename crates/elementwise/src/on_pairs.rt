@@ -19,9 +19,8 @@ pub(crate) trait Binary<X, Y, Z>: Send + Sync {
 
 /// The operator's values on the pairs of elements of two equally long vectors, by one thread.
 ///
-/// Calls on two boolean vectors take this at any length, for the reason that stands at
-/// [`crate::on_each::values_on_each`].
-pub(crate) fn values_by_one_thread<O: Binary<X, Y, Z>, X: Copy, Y: Copy, Z: Copy, A: Memory>(
+/// Calls on two boolean vectors take this at any length: they have too few bytes to pay for the start of threads.
+pub(crate) fn pairs_by_one_thread<O: Binary<X, Y, Z>, X: Copy, Y: Copy, Z: Copy, A: Memory>(
     alloc: A,
     a: &[X],
     b: &[Y],
@@ -53,7 +52,7 @@ pub(crate) fn values_on_pairs<
     ensures as_long { IfOk result (λ v. vec_len v ≡ length a.now) }
 {
     let Some(chunk_length) = chunk_length(rt, a.len()) else {
-        return values_by_one_thread::<O, X, Y, Z, A>(alloc, a, b);
+        return pairs_by_one_thread::<O, X, Y, Z, A>(alloc, a, b);
     };
     // the chunks are written over these; zeros take the least time to fill in
     let mut values = filled_like(alloc, a, Z::default())?;

@@ -94,7 +94,7 @@ fn comparison_choice_and_conversions(rt: HostRuntime) {
         "equally long",
     );
     assert_eq!(rt; chosen.as_slice(), [1, 5, 3].as_slice());
-    let truths = bool_from_int(alloc, config, &[0, -3, 0]).expect(&rt, "memory");
+    let truths = bool_from_int(&rt, alloc, config, &[0, -3, 0]).expect(&rt, "memory");
     assert_eq!(rt; truths.as_slice(), [false, true, false].as_slice());
     let numbers = int_from_bool(alloc, config, &truths).expect(&rt, "memory");
     assert_eq!(rt; numbers.as_slice(), [0, 1, 0].as_slice());
@@ -152,8 +152,12 @@ fn long_vectors(rt: HostRuntime) {
         (1, 2, true, 1),
         (1_048_575, 2_097_150, true, 1_048_575),
         (1_048_576, 2_097_152, true, 1_048_576),
+        (1_398_101, 2_796_202, true, 1_398_101),
+        (1_398_102, 2_796_204, true, 1_398_102),
         (2_097_151, 4_194_302, true, 2_097_151),
         (2_097_152, 4_194_304, true, 2_097_152),
+        (2_796_203, 5_592_406, true, 2_796_203),
+        (2_796_204, 5_592_408, true, 2_796_204),
         (3_000_001, 6_000_002, true, 3_000_001),
         (4_194_303, 8_388_606, true, 4_194_303),
     ] {
@@ -174,9 +178,12 @@ fn a_shorter_last_chunk(rt: HostRuntime) {
     assert_eq!(rt; sums.len(), 600_001);
     for (place, sum) in [
         (0, 0),
-        (150_000, 300_000),
-        (150_001, 300_002),
-        (450_003, 900_006),
+        (200_000, 400_000),
+        (200_001, 400_002),
+        (300_000, 600_000),
+        (300_001, 600_002),
+        (400_001, 800_002),
+        (400_002, 800_004),
         (600_000, 1_200_000),
     ] {
         assert_eq!(rt; sums.get(place), Some(&sum));
@@ -191,7 +198,7 @@ fn long_vectors_of_flags(rt: HostRuntime) {
     for place in 0..LONGEST {
         numbers.push((place % 3) as i32).expect(&rt, "memory");
     }
-    let flags = bool_from_int(alloc, config, &numbers).expect(&rt, "memory");
+    let flags = bool_from_int(&rt, alloc, config, &numbers).expect(&rt, "memory");
     let turned = bool1(alloc, config, Unary::Not, &flags).expect(&rt, "memory");
     let either = bool2(alloc, config, BoolBinary::Ior, &flags, &turned).expect(&rt, "equally long");
     let ones = int_from_bool(alloc, config, &turned).expect(&rt, "memory");
@@ -203,6 +210,12 @@ fn long_vectors_of_flags(rt: HostRuntime) {
         (0, false, 1),
         (1, true, 0),
         (65_536, true, 0),
+        (1_398_101, true, 0),
+        (1_398_102, false, 1),
+        (2_097_151, true, 0),
+        (2_097_152, true, 0),
+        (2_796_203, true, 0),
+        (2_796_204, false, 1),
         (3_000_000, false, 1),
         (4_194_303, false, 1),
     ] {

@@ -36,7 +36,7 @@ impl<A: Memory> Session<A> {
             Op::Bools1(operator) => self.value_of_bools1(operator, args),
             Op::Choose(element) => self.value_of_choose(rt, element, args),
             Op::IntFromBool => self.value_of_int_from_bool(args),
-            Op::BoolFromInt => self.value_of_bool_from_int(args),
+            Op::BoolFromInt => self.value_of_bool_from_int(rt, args),
             Op::Scan(operator, Cut::Flat) => self.value_of_scan(rt, operator, args),
             Op::MakeDescriptor => self.new_descriptor(args),
             Op::DescriptorLengths => self.lengths_of_descriptor(args),

@@ -112,11 +112,15 @@ impl<A: Memory> Session<A> {
     }
 
     /// Which integers of a vector aren't 0.
-    pub(crate) fn value_of_bool_from_int(&self, args: &[Arg]) -> Result<Value<A>, Refused>
+    pub(crate) fn value_of_bool_from_int<R: Threads + Sync>(
+        &self,
+        rt: &R,
+        args: &[Arg],
+    ) -> Result<Value<A>, Refused>
         ensures { Gives (λ v. v) result (table_value self.now.inputs op.BoolFromInt (argument_at self.now.names args.now)) }
     {
         let a = integers_at(&self.names, args, 0);
-        let values = bool_from_int(self.alloc, self.config, a)?;
+        let values = bool_from_int(rt, self.alloc, self.config, a)?;
         Ok(Value::Booleans(Bools::from_vec(values)))
     }
 }
