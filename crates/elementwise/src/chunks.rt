@@ -12,7 +12,7 @@ const MOST_CHUNKS: usize = 3;
 
 /// From how many elements on several threads share a call. Below it one thread is done before they would be, for it
 /// needn't fill the vector before it writes the values. The tests of long vectors and of refused growths go past it.
-const FORKED: usize = 524_288;
+const FORKED: usize = 1_048_576;
 
 /// How many elements each thread writes of a result of so many; the last one may write fewer. None where one thread
 /// writes them all, since they are few or since there is one processor.

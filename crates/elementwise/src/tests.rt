@@ -172,19 +172,19 @@ fn a_shorter_last_chunk(rt: HostRuntime) {
     let config = Config::new(4096, 4).expect(&rt, "in range");
     let alloc = rt.alloc();
     let places = places(&rt, alloc);
-    assert!(rt; places.len() > 600_001);
-    let (front, _others) = places.split_at(600_001);
+    assert!(rt; places.len() > 1_200_001);
+    let (front, _others) = places.split_at(1_200_001);
     let sums = int2(&rt, alloc, config, IntBinary::Add, front, front).expect(&rt, "equally long");
-    assert_eq!(rt; sums.len(), 600_001);
+    assert_eq!(rt; sums.len(), 1_200_001);
     for (place, sum) in [
         (0, 0),
-        (200_000, 400_000),
-        (200_001, 400_002),
-        (300_000, 600_000),
-        (300_001, 600_002),
+        (400_000, 800_000),
         (400_001, 800_002),
-        (400_002, 800_004),
         (600_000, 1_200_000),
+        (600_001, 1_200_002),
+        (800_001, 1_600_002),
+        (800_002, 1_600_004),
+        (1_200_000, 2_400_000),
     ] {
         assert_eq!(rt; sums.get(place), Some(&sum));
     }
