@@ -3,6 +3,7 @@
 
 ghost use Rattle.std.specs.Prelude.{◌≡◌, ◌+◌, ◌^◌, ◌<◌, ◌-◌};
 
+use shell::programs::{COMMAND_LINE, FAILED};
 use shell::{Host, Sink, SinkFault, program};
 use std::alloc::Global;
 use std::io::{ErrorKind, Write};
@@ -10,12 +11,6 @@ use std::process::ExitCode;
 use std::rt::{Env, Files};
 use std::thread::Threads;
 use std::{env, fs, io};
-
-/// The status of a command line that is refused.
-const COMMAND_LINE: u8 = 2;
-
-/// The status where memory is wanting.
-const FAILED: u8 = 3;
 
 /// The system's files, with a writer for standard output and one for standard error.
 #[derive(Drop)]

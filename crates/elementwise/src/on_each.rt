@@ -19,7 +19,8 @@ pub(crate) trait Single<X, Z>: Send + Sync {
 /// The operator's values on the elements, by one thread.
 ///
 /// Calls whose result has as many bytes as the vector, or more, take this at any length. Several threads would have to
-/// wait until one had filled the fresh vector, for only then may they share it, and that takes as long as this walk.
+/// wait until one had filled the fresh vector, for only then may they share it, and that takes most of the time of this
+/// walk.
 pub(crate) fn each_by_one_thread<O: Single<X, Z>, X: Copy, Z: Copy, A: Memory>(
     alloc: A,
     a: &[X],

@@ -19,7 +19,8 @@ pub(crate) trait Binary<X, Y, Z>: Send + Sync {
 
 /// The operator's values on the pairs of elements of two equally long vectors, by one thread.
 ///
-/// Calls on two boolean vectors take this at any length: they have too few bytes to pay for the start of threads.
+/// Calls on two boolean vectors take this at any length: to fill a vector of booleans for several threads takes more than
+/// half of the time of this walk, and to start the threads takes the rest.
 pub(crate) fn pairs_by_one_thread<O: Binary<X, Y, Z>, X: Copy, Y: Copy, Z: Copy, A: Memory>(
     alloc: A,
     a: &[X],

@@ -17,10 +17,10 @@ const FINE: u8 = 0;
 const SCRIPT_FAULT: u8 = 1;
 
 /// The status of a command line that is refused.
-const COMMAND_LINE: u8 = 2;
+pub const COMMAND_LINE: u8 = 2;
 
 /// The status where a file cannot be read, memory is wanting or a write fails.
-const FAILED: u8 = 3;
+pub const FAILED: u8 = 3;
 
 /// The length of tiles, in elements.
 const TILE: u32 = 4096;

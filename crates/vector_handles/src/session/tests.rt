@@ -122,40 +122,32 @@ fn refuse_calls<R: Abort + Threads + Sync>(rt: &R, alloc: Global) {
     let q = Arg::Name(name(rt, b"q"));
     let one = Arg::Integer(1);
     let add = Op::Ints2(IntBinary::Add);
-    let told = bind(
-        rt,
-        alloc,
-        &mut session,
-        b"a",
-        Op::Ints2(IntBinary::Div),
-        &a,
-        Some(&a),
-    );
-    assert_eq!(rt;
-        told,
-        Some(Refused::Fault(Fault::at(FaultNo::DivideByZero, 1)))
-    );
-    let told = bind(rt, alloc, &mut session, b"a", add, &q, Some(&one));
-    assert_eq!(rt;
-        told,
-        Some(Refused::Fault(Fault::new(FaultNo::UnknownName)))
-    );
-    let told = bind(rt, alloc, &mut session, b"a", add, &one, Some(&q));
-    assert_eq!(rt; told, Some(Refused::Fault(Fault::new(FaultNo::WrongKind))));
-    for number in [0, 2, -1] {
-        let told = bind(
-            rt,
-            alloc,
-            &mut session,
-            b"a",
+    let div = Op::Ints2(IntBinary::Div);
+    for (op, first, second, fault) in [
+        (div, &a, Some(&a), Fault::at(FaultNo::DivideByZero, 1)),
+        (add, &q, Some(&one), Fault::new(FaultNo::UnknownName)),
+        (add, &one, Some(&q), Fault::new(FaultNo::WrongKind)),
+        (
             Op::Input,
-            &Arg::Integer(number),
+            &Arg::Integer(0),
             None,
-        );
-        assert_eq!(rt;
-            told,
-            Some(Refused::Fault(Fault::new(FaultNo::NoSuchInput)))
-        );
+            Fault::new(FaultNo::NoSuchInput),
+        ),
+        (
+            Op::Input,
+            &Arg::Integer(2),
+            None,
+            Fault::new(FaultNo::NoSuchInput),
+        ),
+        (
+            Op::Input,
+            &Arg::Integer(-1),
+            None,
+            Fault::new(FaultNo::NoSuchInput),
+        ),
+    ] {
+        let told = bind(rt, alloc, &mut session, b"a", op, first, second);
+        assert_eq!(rt; told, Some(Refused::Fault(fault)));
     }
     assert_bound(rt, &session, b"a", &[1, 0]);
 }
