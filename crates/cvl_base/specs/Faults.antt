@@ -1,6 +1,6 @@
 -- The table of faults: each fault's number, name and text, and the places that faults have.
 -- Source: this library's profile.
-use Rattle.std.specs.Prelude.{ℕ, List, ◌++◌, codes, Some, None}
+use Rattle.std.specs.Prelude.{ℕ, List, [], ◌++◌, codes, Option, Some, None}
 use Rattle.std.specs.Fmt.{decimal}
 use Rattle.cvl_base.specs.declared.fault.FaultNo.{FaultNo}
 use Rattle.cvl_base.specs.declared.fault.FaultNo.TheVariants as no
@@ -57,3 +57,12 @@ fault number = record { number = number; place = None }
 -- a fault of one element, counted from 0
 abbrev pub fault_at : FaultNo → ℕ → Fault
 fault_at number place = record { number = number; place = Some place }
+
+-- how a place is printed behind a fault
+abbrev pub place_text : Option ℕ → List ℕ
+place_text None = []
+place_text (Some place) = codes " at " ++ decimal place
+
+-- how a fault is printed with its place
+abbrev pub fault_text : Fault → List ℕ
+fault_text f = number_text f.number ++ place_text f.place

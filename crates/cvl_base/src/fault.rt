@@ -113,7 +113,7 @@ impl fmt::Display for FaultNo {
     }
 }
 
-/// A fault with its place.
+/// A fault with its place. It is shown as its number and name, and then its place, where it has one.
 #[derive(Clone, Copy, Debug, PartialEq, Eq, Hash)]
 pub struct Fault {
     /// Which fault it is.
@@ -146,10 +146,33 @@ impl Fault {
     }
 }
 
+impl fmt::Display for Fault {
+    ghost use Rattle.cvl_base.specs.Faults.{fault_text};
+
+    ghost output = { λ fault. Some (fault_text fault) };
+
+    fn fmt<W: fmt::Write>(&self, f: &mut fmt::Formatter<W>) -> fmt::Result {
+        let number = self.number;
+        match self.place {
+            None => write!(f, "{number}"),
+            Some(place) => write!(f, "{number} at {place}"),
+        }
+    }
+}
+
 #[cfg(test)]
 mod tests {
-    use super::FaultNo;
+    use super::{Fault, FaultNo};
     use std::test::Fail;
+
+    #[test]
+    fn shows_its_place_where_it_has_one(rt: HostRuntime) -> Result<(), Fail> {
+        let shown = format!(in rt.alloc(); "{}", Fault::at(FaultNo::DivideByZero, 3))?;
+        assert_eq!(rt; shown.as_str(), "fault 8 DivideByZero at 3");
+        let shown = format!(in rt.alloc(); "{}", Fault::new(FaultNo::BadLine))?;
+        assert_eq!(rt; shown.as_str(), "fault 1 BadLine");
+        Ok(())
+    }
 
     #[test]
     fn shows_its_number_and_name(rt: HostRuntime) -> Result<(), Fail> {

@@ -1,19 +1,11 @@
 -- The text of a stop.
 -- Source: this library's program.
-use Rattle.std.specs.Prelude.{◌≡◌, ℕ, List, [], ◌∷◌, ◌++◌, length, take, codes, Option, Some, None, Result, Ok, Err}
+use Rattle.std.specs.Prelude.{◌≡◌, ℕ, List, [], ◌∷◌, ◌++◌, length, take, codes, Result, Ok, Err}
 use Rattle.std.specs.Fmt.{decimal}
-use Rattle.cvl_base.specs.declared.fault.Fault.{Fault}
 use Rattle.cvl_base.specs.declared.refused.NoResources.{NoResources}
-use Rattle.cvl_base.specs.Faults.{number_text}
+use Rattle.cvl_base.specs.Faults.{fault_text}
 use Rattle.shell.specs.declared.stop.Stop.{Stop}
 use Rattle.shell.specs.declared.stop.Stop.TheVariants as stop
-
-abbrev pub place_text : Option ℕ → List ℕ
-place_text None = []
-place_text (Some place) = codes " at " ++ decimal place
-
-abbrev pub fault_text : Fault → List ℕ
-fault_text f = number_text f.number ++ place_text f.place
 
 abbrev pub stopped_at : ℕ → List ℕ → List ℕ
 stopped_at line what = codes "line " ++ decimal line ++ codes ": " ++ what ++ (10 ∷ [])

@@ -11,7 +11,7 @@ use thiserror::Error;
 #[derive(Clone, Copy, Debug, PartialEq, Eq, Hash, Error)]
 pub enum Stop {
     /// A line has a fault.
-    #[error("line {line}: {}", .fault.number)]
+    #[error("line {line}: {fault}")]
     Script {
         /// The line at fault; 0 where the script is too long.
         line: u32,

@@ -2,8 +2,8 @@
 
 ghost use Rattle.std.specs.Prelude.{codes};
 ghost use Rattle.std.specs.Fmt.{decimal};
-ghost use Rattle.cvl_base.specs.Faults.{number_text};
-ghost use Rattle.shell.specs.StopTexts.{Appends, place_text, fault_text, what_text, stopped_at};
+ghost use Rattle.cvl_base.specs.Faults.{fault_text, number_text, place_text};
+ghost use Rattle.shell.specs.StopTexts.{Appends, what_text, stopped_at};
 
 use crate::stop::Stop;
 use cvl_base::{Fault, FaultNo, Memory, NoResources};

@@ -22,8 +22,11 @@ fn texts_of_stops(rt: HostRuntime) -> Result<(), Fail> {
         Stop::WriteFailed { line: 7 },
     ];
     let mut text = Vec::new(rt.alloc());
+    let mut shown = Vec::new(rt.alloc());
     for stop in &stops {
         put_stop(stop, &mut text)?;
+        let line = format!(in rt.alloc(); "{stop}\n")?;
+        shown.extend_from_slice(line.as_bytes())?;
     }
     let expected = "line 7: fault 10 IndexOutOfRange at 3
 line 2: fault 1 BadLine
@@ -32,6 +35,7 @@ line 7: no resources
 line 7: write failed
 ";
     assert_eq!(rt; text.as_slice(), expected.as_bytes());
+    assert_eq!(rt; shown.as_slice(), expected.as_bytes());
     Ok(())
 }
 

@@ -1,5 +1,4 @@
-use Rattle.cvl_base.specs.Faults.{number_text}
-use Rattle.shell.specs.StopTexts.{place_text}
+use Rattle.cvl_base.specs.Faults.{number_text, place_text}
 use Rattle.shell.proofs.Appended.{then_appends}
 use Rattle.shell.proofs.stop_parts.put_fault.Goals as goal
 
