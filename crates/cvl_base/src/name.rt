@@ -132,15 +132,24 @@ impl Ord for Name {
     }
 }
 
+/// As the text of its bytes, which are ASCII.
 impl fmt::Debug for Name {
     fn fmt<W: fmt::Write>(&self, f: &mut fmt::Formatter<W>) -> fmt::Result {
-        fmt::Debug::fmt(self.as_bytes(), f)
+        fmt::Debug::fmt(str::from_utf8(self.as_bytes()).unwrap_or(""), f)
     }
 }
 
 #[cfg(test)]
 mod tests {
     use super::Name;
+    use std::test::Fail;
+
+    #[test]
+    fn shown_as_text(rt: HostRuntime) -> Result<(), Fail> {
+        let shown = format!(in rt.alloc(); "{:?}", Name::new(b"ab_9"))?;
+        assert_eq!(rt; shown.as_str(), "Some(\"ab_9\")");
+        Ok(())
+    }
 
     #[test]
     fn names_and_other_words(rt: HostRuntime) {
