@@ -1,5 +1,5 @@
 -- The faults of the permutes, told by the places of their operands.
-use Rattle.std.proofs.Common.{◌≡◌, ◌≢◌, ℕ, zero, suc, ◌+◌, ◌<◌, true, false, Bool, IsTrue, List, [], ◌∷◌, length, filter_map, map, refl, ap, ◌∙◌, arith, inl, inr, ℤ, pos, negsuc, slice_get, Some, None, Ok, Err, Option}
+use Rattle.std.proofs.Common.{◌≡◌, ◌≢◌, ℕ, zero, suc, ◌+◌, ◌<◌, true, false, Bool, List, [], ◌∷◌, length, filter_map, map, refl, ap, ◌∙◌, arith, inl, inr, ℤ, pos, negsuc, slice_get, Some, None, Ok, Err, Option}
 use Rattle.std.specs.List.{enumerate_from, range_with_len}
 use Rattle.std.specs.Prelude.{unwrap_or}
 use Rattle.std.proofs.lemmas.Bool.{false≢true, ltb-true, ltb-false}
@@ -13,19 +13,13 @@ use Rattle.cvl_base.specs.Faults.{fault, fault_at}
 use Rattle.cvl_base.specs.Gives.{◌>>=◌, unless}
 use Rattle.cvl_base.specs.Packs.{count_of}
 use Rattle.cvl_base.specs.Permutes.{all_targets, back_of, default_of, first_fault, flagged_targets, is_place, select_of, sent_over, sent_to, sent_to_all, simple_of, wrongs}
-use Rattle.cvl_base.specs.Permuted.{IsGoodBefore}
+use Rattle.cvl_base.specs.Permuted.{AreOnce, AreOnceFlagged, AreWithin, AreWithinFlagged, IsGoodBefore}
 use Rattle.cvl_base.proofs.FirstBadPlaces.{fault-again, fault-outside}
 use Rattle.cvl_base.proofs.Places.{there}
 use Rattle.cvl_base.proofs.Selecting.{flagged-here, here-flagged}
 use Rattle.cvl_base.proofs.Sending.{if_as_long-fits, if_as_long-mismatch, index-here, target-here}
 
 -- ---- the indices before a place, where each place takes part
-
-abbrev pub AreWithin : ℕ → List ℤ → ℕ → Type 0
-AreWithin m index k = (j : ℕ) (i : ℤ) → j < k → slice_get index j ≡ Some i → IsTrue (is_place m i)
-
-abbrev pub AreOnce : List ℤ → ℕ → Type 0
-AreOnce index k = (h j : ℕ) (i : ℤ) → h < j → j < k → slice_get index h ≡ Some i → slice_get index j ≢ Some i
 
 all_good : (m : ℕ) (index : List ℤ) (k : ℕ) → AreWithin m index k → AreOnce index k → IsGoodBefore m (all_targets index) k
 all_good m index k within once = record {
@@ -62,12 +56,6 @@ simple-again source index g k i long within once below first here =
     simple-fault source index (fault_at IndexRepeated k) long (all-again (length index) index g k i within once below first here)
 
 -- ---- the select permute
-
-abbrev pub AreWithinFlagged : ℕ → List ℤ → List Bool → ℕ → Type 0
-AreWithinFlagged m index flags k = (j : ℕ) (i : ℤ) → j < k → slice_get flags j ≡ Some true → slice_get index j ≡ Some i → IsTrue (is_place m i)
-
-abbrev pub AreOnceFlagged : List ℤ → List Bool → ℕ → Type 0
-AreOnceFlagged index flags k = (h j : ℕ) (i : ℤ) → h < j → j < k → slice_get flags h ≡ Some true → slice_get flags j ≡ Some true → slice_get index h ≡ Some i → slice_get index j ≢ Some i
 
 flagged_good : (m : ℕ) (index : List ℤ) (flags : List Bool) (k : ℕ) → AreWithinFlagged m index flags k → AreOnceFlagged index flags k → IsGoodBefore m (flagged_targets index flags) k
 flagged_good m index flags k within once = record {

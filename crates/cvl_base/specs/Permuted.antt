@@ -40,3 +40,21 @@ pub record IsBackPermute {X : Type 0} (source : List X) (index : List ℤ) (resu
 pub record IsGoodBefore (m : ℕ) (targets : List (Option ℤ)) (k : ℕ) : Type 0 where
   pub within : (j : ℕ) (i : ℤ) → j < k → slice_get targets j ≡ Some (Some i) → IsTrue (is_place m i)
   pub once : (h j : ℕ) (i : ℤ) → h < j → j < k → slice_get targets h ≡ Some (Some i) → slice_get targets j ≢ Some (Some i)
+
+-- the indices before place k are places of a result of m elements
+abbrev pub AreWithin : ℕ → List ℤ → ℕ → Type 0
+AreWithin m index k = (j : ℕ) (i : ℤ) → j < k → slice_get index j ≡ Some i → IsTrue (is_place m i)
+
+-- no two of the indices before place k are the same
+abbrev pub AreOnce : List ℤ → ℕ → Type 0
+AreOnce index k = (h j : ℕ) (i : ℤ) → h < j → j < k → slice_get index h ≡ Some i → slice_get index j ≢ Some i
+
+-- the same of those indices alone whose flag is true
+abbrev pub AreWithinFlagged : ℕ → List ℤ → List Bool → ℕ → Type 0
+AreWithinFlagged m index flags k =
+    (j : ℕ) (i : ℤ) → j < k → slice_get flags j ≡ Some true → slice_get index j ≡ Some i → IsTrue (is_place m i)
+
+abbrev pub AreOnceFlagged : List ℤ → List Bool → ℕ → Type 0
+AreOnceFlagged index flags k =
+    (h j : ℕ) (i : ℤ) → h < j → j < k → slice_get flags h ≡ Some true → slice_get flags j ≡ Some true →
+    slice_get index h ≡ Some i → slice_get index j ≢ Some i

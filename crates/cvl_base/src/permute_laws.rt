@@ -1,10 +1,10 @@
 //! Laws of permutes, each a function that takes and gives nothing and whose contract is the law.
 
-ghost use Rattle.std.specs.Prelude.{◌≡◌, ◌≢◌, ◌↔◌, ◌<◌, ℕ, ℤ, pos, Bool, false, true, IsTrue, Option, List, length, slice_get};
+ghost use Rattle.std.specs.Prelude.{◌≡◌, ◌≢◌, ◌↔◌, ◌<◌, ℕ, ℤ, pos, Bool, false, true, Option, List, length, slice_get};
 ghost use Rattle.cvl_base.specs.declared.fault.FaultNo.TheVariants as no;
 ghost use Rattle.cvl_base.specs.Faults.{fault, fault_at};
 ghost use Rattle.cvl_base.specs.Packs.{count_of};
-ghost use Rattle.cvl_base.specs.Permuted.{IsBackPermute, IsDefaultPermute, IsGoodBefore, IsSelectPermute, IsSimplePermute};
+ghost use Rattle.cvl_base.specs.Permuted.{AreOnce, AreOnceFlagged, AreWithin, AreWithinFlagged, IsBackPermute, IsDefaultPermute, IsGoodBefore, IsSelectPermute, IsSimplePermute};
 ghost use Rattle.cvl_base.specs.Permutes.{back_of, default_of, first_fault, is_place, select_of, simple_of, wrongs};
 
 /// A simple permute gives the one vector in which element k of the source stands at the index of k, and gives it exactly
@@ -59,13 +59,11 @@ pub fn simple_fault_law<T>()
     ensures mismatch { (source : List T) (index : List ℤ) → length source ≢ length index →
         simple_of source index ≡ Err (fault no.LengthMismatch) }
     ensures outside { (source : List T) (index : List ℤ) (k : ℕ) (i : ℤ) → length source ≡ length index →
-        ((j : ℕ) (e : ℤ) → j < k → slice_get index j ≡ Some e → IsTrue (is_place (length index) e)) →
-        ((h j : ℕ) (e : ℤ) → h < j → j < k → slice_get index h ≡ Some e → slice_get index j ≢ Some e) →
+        AreWithin (length index) index k → AreOnce index k →
         slice_get index k ≡ Some i → is_place (length index) i ≡ false →
         simple_of source index ≡ Err (fault_at no.IndexOutOfRange k) }
     ensures again { (source : List T) (index : List ℤ) (g k : ℕ) (i : ℤ) → length source ≡ length index →
-        ((j : ℕ) (e : ℤ) → j < k → slice_get index j ≡ Some e → IsTrue (is_place (length index) e)) →
-        ((h j : ℕ) (e : ℤ) → h < j → j < k → slice_get index h ≡ Some e → slice_get index j ≢ Some e) →
+        AreWithin (length index) index k → AreOnce index k →
         g < k → slice_get index g ≡ Some i → slice_get index k ≡ Some i →
         simple_of source index ≡ Err (fault_at no.IndexRepeated k) }
 {}
@@ -81,14 +79,12 @@ pub fn select_fault_law<T>()
         select_of source index flags ≡ Err (fault no.LengthMismatch) }
     ensures outside { (source : List T) (index : List ℤ) (flags : List Bool) (k : ℕ) (i : ℤ) →
         length source ≡ length index → length index ≡ length flags →
-        ((j : ℕ) (e : ℤ) → j < k → slice_get flags j ≡ Some true → slice_get index j ≡ Some e → IsTrue (is_place (count_of flags) e)) →
-        ((h j : ℕ) (e : ℤ) → h < j → j < k → slice_get flags h ≡ Some true → slice_get flags j ≡ Some true → slice_get index h ≡ Some e → slice_get index j ≢ Some e) →
+        AreWithinFlagged (count_of flags) index flags k → AreOnceFlagged index flags k →
         slice_get flags k ≡ Some true → slice_get index k ≡ Some i → is_place (count_of flags) i ≡ false →
         select_of source index flags ≡ Err (fault_at no.IndexOutOfRange k) }
     ensures again { (source : List T) (index : List ℤ) (flags : List Bool) (g k : ℕ) (i : ℤ) →
         length source ≡ length index → length index ≡ length flags →
-        ((j : ℕ) (e : ℤ) → j < k → slice_get flags j ≡ Some true → slice_get index j ≡ Some e → IsTrue (is_place (count_of flags) e)) →
-        ((h j : ℕ) (e : ℤ) → h < j → j < k → slice_get flags h ≡ Some true → slice_get flags j ≡ Some true → slice_get index h ≡ Some e → slice_get index j ≢ Some e) →
+        AreWithinFlagged (count_of flags) index flags k → AreOnceFlagged index flags k →
         g < k → slice_get flags g ≡ Some true → slice_get flags k ≡ Some true →
         slice_get index g ≡ Some i → slice_get index k ≡ Some i →
         select_of source index flags ≡ Err (fault_at no.IndexRepeated k) }
@@ -99,13 +95,11 @@ pub fn default_fault_law<T>()
     ensures mismatch { (source : List T) (index : List ℤ) (defaults : List T) → length source ≢ length index →
         default_of source index defaults ≡ Err (fault no.LengthMismatch) }
     ensures outside { (source : List T) (index : List ℤ) (defaults : List T) (k : ℕ) (i : ℤ) → length source ≡ length index →
-        ((j : ℕ) (e : ℤ) → j < k → slice_get index j ≡ Some e → IsTrue (is_place (length defaults) e)) →
-        ((h j : ℕ) (e : ℤ) → h < j → j < k → slice_get index h ≡ Some e → slice_get index j ≢ Some e) →
+        AreWithin (length defaults) index k → AreOnce index k →
         slice_get index k ≡ Some i → is_place (length defaults) i ≡ false →
         default_of source index defaults ≡ Err (fault_at no.IndexOutOfRange k) }
     ensures again { (source : List T) (index : List ℤ) (defaults : List T) (g k : ℕ) (i : ℤ) → length source ≡ length index →
-        ((j : ℕ) (e : ℤ) → j < k → slice_get index j ≡ Some e → IsTrue (is_place (length defaults) e)) →
-        ((h j : ℕ) (e : ℤ) → h < j → j < k → slice_get index h ≡ Some e → slice_get index j ≢ Some e) →
+        AreWithin (length defaults) index k → AreOnce index k →
         g < k → slice_get index g ≡ Some i → slice_get index k ≡ Some i →
         default_of source index defaults ≡ Err (fault_at no.IndexRepeated k) }
 {}
@@ -113,7 +107,7 @@ pub fn default_fault_law<T>()
 /// The fault of a back permute is that of the first index that is no place of the source: `IndexOutOfRange` there.
 pub fn back_fault_law<T>()
     ensures { (source : List T) (index : List ℤ) (k : ℕ) (i : ℤ) →
-        ((j : ℕ) (e : ℤ) → j < k → slice_get index j ≡ Some e → IsTrue (is_place (length source) e)) →
+        AreWithin (length source) index k →
         slice_get index k ≡ Some i → is_place (length source) i ≡ false →
         back_of source index ≡ Err (fault_at no.IndexOutOfRange k) }
 {}
