@@ -1,5 +1,5 @@
 //! Each request for memory of each shape of elementwise call refused in turn. The one request of a call is that of its
-//! result, of which several threads write those of sums and their like, of comparisons and of choices.
+//! result, of which several threads write those of sums and their like, of comparisons, of choices and of tests for 0.
 
 use cvl_base::limits::MOST_ELEMENTS;
 use cvl_base::{BoolBinary, Comparison, Config, IntBinary, Memory, NoResources, Refused, Unary};
