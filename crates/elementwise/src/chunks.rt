@@ -7,7 +7,7 @@ use rayon::current_num_threads;
 use std::thread::Threads;
 
 /// Into how many chunks a shared call's result is cut at most: few, since a thread is started for each but one. On four
-/// processors three chunks were written as soon as four.
+/// processors three chunks took about as long as four.
 const MOST_CHUNKS: usize = 3;
 
 /// From how many elements on several threads share a call. Below it one thread is done before they would be, for it

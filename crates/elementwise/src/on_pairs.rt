@@ -20,7 +20,7 @@ pub(crate) trait Binary<X, Y, Z>: Send + Sync {
 /// The operator's values on the pairs of elements of two equally long vectors, by one thread.
 ///
 /// Calls on two boolean vectors take this at any length: to fill a vector of booleans for several threads takes more than
-/// half of the time of this walk, and to start the threads takes the rest.
+/// half of the time of this walk, and the rest of it does not pay for their start.
 pub(crate) fn pairs_by_one_thread<O: Binary<X, Y, Z>, X: Copy, Y: Copy, Z: Copy, A: Memory>(
     alloc: A,
     a: &[X],
