@@ -1,5 +1,5 @@
 //! Each request for memory of each shape of elementwise call refused in turn. The one request of a call is that of its
-//! result, of which several threads write those of sums and their like, of comparisons, of choices and of tests for 0.
+//! result, which several threads write, but those of quotients and their like and of most calls on one vector.
 
 use cvl_base::limits::MOST_ELEMENTS;
 use cvl_base::{BoolBinary, Comparison, Config, IntBinary, Memory, NoResources, Refused, Unary};
@@ -10,7 +10,7 @@ use std::test::Fail;
 use std::thread::Threads;
 
 /// How long the vectors are: so long that calls fork.
-const LENGTH: usize = 1_048_576;
+const LENGTH: usize = 3_145_728;
 
 /// The last element of the result, and how long it is.
 fn last_of<T: Copy, A: Memory>(values: &Vec<T, A>) -> (usize, Option<T>) {
@@ -75,7 +75,7 @@ fn operators_on_booleans(rt: HostRuntime) -> Result<(), Fail> {
     let flags = vec![in rt.alloc(); true; LENGTH]?;
     let requests = withstands_refusals(
         rt.alloc(),
-        |heap| Ok(last_of(&bool2(heap, config, BoolBinary::Xor, &flags, &flags)?)),
+        |heap| Ok(last_of(&bool2(&rt, heap, config, BoolBinary::Xor, &flags, &flags)?)),
         Ok((LENGTH, Some(false))),
         Err(Refused::NoResources),
     )?;

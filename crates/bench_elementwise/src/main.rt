@@ -65,6 +65,7 @@ fn measure_pairs<R: Print + Clock + Threads + Sync>(
     a: &[i32],
     b: &[i32],
     flags: &[bool],
+    others: &[bool],
 ) -> io::Result<()> {
     let n = a.len();
     let call = best(rt, || on_ints(rt, alloc, config, IntBinary::Add, a, b))?;
@@ -76,8 +77,8 @@ fn measure_pairs<R: Print + Clock + Threads + Sync>(
     let call = best(rt, || compare(rt, alloc, config, Comparison::Greater, a, b))?;
     let loop_time = best(rt, || plain::greater(alloc, a, b))?;
     print_times(rt, "compare", n, call, loop_time)?;
-    let call = best(rt, || bool2(alloc, config, BoolBinary::And, flags, flags))?;
-    let loop_time = best(rt, || plain::both(alloc, flags, flags))?;
+    let call = best(rt, || bool2(rt, alloc, config, BoolBinary::And, flags, others))?;
+    let loop_time = best(rt, || plain::both(alloc, flags, others))?;
     print_times(rt, "bool2 and", n, call, loop_time)?;
     let call = best(rt, || select(rt, alloc, config, flags, a, b))?;
     let loop_time = best(rt, || plain::chosen(alloc, flags, a, b))?;
@@ -117,6 +118,7 @@ fn measure<R: Print + Clock + Threads + Sync>(
     let mut a = vec![in alloc; 0; length]?;
     let mut b = vec![in alloc; 0; length]?;
     let mut flags = vec![in alloc; false; length]?;
+    let mut others = vec![in alloc; false; length]?;
     let mut state: i32 = 1;
     for place in 0..length {
         // the multiplier and the increment of Numerical Recipes
@@ -124,8 +126,9 @@ fn measure<R: Print + Clock + Threads + Sync>(
         a[place] = state;
         b[place] = state | 1;
         flags[place] = state > 0;
+        others[place] = state % 3 == 0;
     }
-    measure_pairs(rt, alloc, config, &a, &b, &flags)?;
+    measure_pairs(rt, alloc, config, &a, &b, &flags, &others)?;
     measure_singles(rt, alloc, config, &a, &flags)
 }
 
@@ -137,7 +140,7 @@ fn main(rt: HostRuntime) -> io::Result<()> {
         .is_some_and(|word| word.as_str() == "measure")
     {
         if let Ok(config) = Config::new(4096, 4) {
-            for length in [4_194_304, 65_536, 1_000] {
+            for length in [4_194_304, 3_145_728, 1_048_576, 65_536, 1_000] {
                 measure(&rt, rt.alloc(), config, length)?;
             }
         }

@@ -1,13 +1,15 @@
 //! The calls whose result is a boolean vector, but `select`.
 
-ghost use Rattle.std.specs.Prelude.{◌≡◌, IfOk, length, vec_len};
+ghost use Rattle.std.specs.Prelude.{◌≡◌, IfOk, length, map, vec_len};
+ghost use Rattle.std.specs.List.{zip};
 ghost use Rattle.cvl_base.specs.Elementwise.{bools_from_ints, bools1_of, bools2_of, compare_of};
 ghost use Rattle.cvl_base.specs.Gives.{Gives};
 
+use crate::chunks::FORKED_BOOLEANS;
 use crate::comparisons::{AtLeast, AtMost, Equal, Greater, Less, Unequal};
 use crate::lengths::as_long;
 use crate::on_each::{each_by_one_thread, values_on_each};
-use crate::on_pairs::{pairs_by_one_thread, values_on_pairs};
+use crate::on_pairs::{Binary, pairs_by_one_thread, values_on_pairs};
 use crate::singles::{BoolOfInt, NotBool};
 use crate::truths::{Both, Differ, Either};
 use cvl_base::{BoolBinary, Comparison, Config, Memory, NoResources, Refused, Unary};
@@ -44,7 +46,8 @@ pub fn compare<R: Threads + Sync, A: Memory>(
 ///
 /// The result is as long as the vectors. The one fault is `LengthMismatch`, without a place, where one is longer.
 /// Source: CVL's elementwise calls.
-pub fn bool2<A: Memory>(
+pub fn bool2<R: Threads + Sync, A: Memory>(
+    rt: &R,
     alloc: A,
     _config: Config,
     op: BoolBinary,
@@ -56,11 +59,29 @@ pub fn bool2<A: Memory>(
 {
     as_long(a, b)?;
     let truths = match op {
-        BoolBinary::And => pairs_by_one_thread::<Both, bool, bool, bool, A>(alloc, a, b)?,
-        BoolBinary::Ior => pairs_by_one_thread::<Either, bool, bool, bool, A>(alloc, a, b)?,
-        BoolBinary::Xor => pairs_by_one_thread::<Differ, bool, bool, bool, A>(alloc, a, b)?,
+        BoolBinary::And => truths_on_pairs::<Both, R, A>(rt, alloc, a, b)?,
+        BoolBinary::Ior => truths_on_pairs::<Either, R, A>(rt, alloc, a, b)?,
+        BoolBinary::Xor => truths_on_pairs::<Differ, R, A>(rt, alloc, a, b)?,
     };
     Ok(truths)
+}
+
+/// The operator's values on the pairs of two equally long vectors. Booleans have few bytes, so that only longer vectors
+/// of them than of integers pay for threads.
+fn truths_on_pairs<O: Binary<bool, bool, bool>, R: Threads + Sync, A: Memory>(
+    rt: &R,
+    alloc: A,
+    a: &[bool],
+    b: &[bool],
+) -> Result<Vec<bool, A>, NoResources>
+    requires as_long { length a.now ≡ length b.now }
+    ensures values { IfOk result (λ v. v.items ≡ map (λ p. O.value p.0 p.1) (zip a.now b.now)) }
+    ensures as_long { IfOk result (λ v. vec_len v ≡ length a.now) }
+{
+    if a.len() < FORKED_BOOLEANS {
+        return pairs_by_one_thread::<O, bool, bool, bool, A>(alloc, a, b);
+    }
+    values_on_pairs::<O, bool, bool, bool, R, A>(rt, alloc, a, b)
 }
 
 /// The operator on each boolean: `not_wub` and `cpy_wub`.

@@ -3,7 +3,7 @@
 ghost use Rattle.std.specs.Prelude.{◌≡◌, ◌+◌, ◌≤◌, IfOk, length, map, vec_len};
 ghost use Rattle.elementwise.specs.Standing.{StandFrom};
 
-use crate::chunks::{chunk_length, filled_like};
+use crate::chunks::{Shared, chunk_length};
 use cvl_base::{Memory, NoResources};
 use rayon::prelude::*;
 use std::thread::Threads;
@@ -19,8 +19,8 @@ pub(crate) trait Single<X, Z>: Send + Sync {
 /// The operator's values on the elements, by one thread.
 ///
 /// Calls whose result has as many bytes as the vector, or more, take this at any length. Several threads would have to
-/// wait until one had filled the fresh vector, for only then may they share it, and that takes most of the time of this
-/// walk.
+/// wait until one had filled the fresh vector, for only then may they share it, and that takes about half of the time of
+/// this walk, or more.
 pub(crate) fn each_by_one_thread<O: Single<X, Z>, X: Copy, Z: Copy, A: Memory>(
     alloc: A,
     a: &[X],
@@ -35,7 +35,7 @@ pub(crate) fn each_by_one_thread<O: Single<X, Z>, X: Copy, Z: Copy, A: Memory>(
 pub(crate) fn values_on_each<
     O: Single<X, Z>,
     X: Copy + Send + Sync,
-    Z: Copy + Default + Send + Sync,
+    Z: Shared,
     R: Threads + Sync,
     A: Memory,
 >(rt: &R, alloc: A, a: &[X]) -> Result<Vec<Z, A>, NoResources>
@@ -45,8 +45,7 @@ pub(crate) fn values_on_each<
     let Some(chunk_length) = chunk_length(rt, a.len()) else {
         return each_by_one_thread::<O, X, Z, A>(alloc, a);
     };
-    // the chunks are written over these
-    let mut values = filled_like(alloc, a, Z::default())?;
+    let mut values = Z::fresh_like(alloc, a)?;
     par_chunks_mut_for_each(
         rt,
         values.as_mut_slice(),

@@ -4,7 +4,7 @@ ghost use Rattle.std.specs.Prelude.{◌≡◌, ◌+◌, ◌≤◌, IfOk, length,
 ghost use Rattle.std.specs.List.{zip};
 ghost use Rattle.elementwise.specs.Standing.{StandFrom};
 
-use crate::chunks::{chunk_length, filled_like};
+use crate::chunks::{Shared, chunk_length};
 use cvl_base::{Memory, NoResources};
 use rayon::prelude::*;
 use std::thread::Threads;
@@ -18,9 +18,6 @@ pub(crate) trait Binary<X, Y, Z>: Send + Sync {
 }
 
 /// The operator's values on the pairs of elements of two equally long vectors, by one thread.
-///
-/// Calls on two boolean vectors take this at any length: to fill a vector of booleans for several threads takes more than
-/// half of the time of this walk, and the rest of it does not pay for their start.
 pub(crate) fn pairs_by_one_thread<O: Binary<X, Y, Z>, X: Copy, Y: Copy, Z: Copy, A: Memory>(
     alloc: A,
     a: &[X],
@@ -44,7 +41,7 @@ pub(crate) fn values_on_pairs<
     O: Binary<X, Y, Z>,
     X: Copy + Send + Sync,
     Y: Copy + Send + Sync,
-    Z: Copy + Default + Send + Sync,
+    Z: Shared,
     R: Threads + Sync,
     A: Memory,
 >(rt: &R, alloc: A, a: &[X], b: &[Y]) -> Result<Vec<Z, A>, NoResources>
@@ -55,8 +52,7 @@ pub(crate) fn values_on_pairs<
     let Some(chunk_length) = chunk_length(rt, a.len()) else {
         return pairs_by_one_thread::<O, X, Y, Z, A>(alloc, a, b);
     };
-    // the chunks are written over these; zeros take the least time to fill in
-    let mut values = filled_like(alloc, a, Z::default())?;
+    let mut values = Z::fresh_like(alloc, a)?;
     par_chunks_mut_for_each(
         rt,
         values.as_mut_slice(),

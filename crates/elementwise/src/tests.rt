@@ -1,6 +1,6 @@
 //! Values worked out by hand, and the longest vectors for each shape of call.
 
-ghost use Rattle.std.specs.Prelude.{◌≤◌, vec_len};
+ghost use Rattle.std.specs.Prelude.{◌<◌, ◌≤◌, vec_len};
 ghost use Rattle.cvl_base.specs.Limits.{most_elements};
 
 use super::*;
@@ -100,7 +100,7 @@ fn comparison_choice_and_conversions(rt: HostRuntime) {
     assert_eq!(rt; numbers.as_slice(), [0, 1, 0].as_slice());
     let turned = bool1(alloc, config, Unary::Not, &truths).expect(&rt, "memory");
     assert_eq!(rt; turned.as_slice(), [true, false, true].as_slice());
-    let both = bool2(alloc, config, BoolBinary::And, &truths, &turned).expect(&rt, "equally long");
+    let both = bool2(&rt, alloc, config, BoolBinary::And, &truths, &turned).expect(&rt, "equally long");
     assert_eq!(rt; both.as_slice(), [false, false, false].as_slice());
     let not = int1(alloc, config, Unary::Not, &[1, 2, 3]).expect(&rt, "memory");
     assert_eq!(rt; not.as_slice(), [-2, -3, -4].as_slice());
@@ -190,37 +190,48 @@ fn a_shorter_last_chunk(rt: HostRuntime) {
     }
 }
 
+/// The remainders of the places of the longest vector.
+fn remainders<R: Abort>(rt: &R, alloc: Global, divisor: usize) -> Vec<i32>
+    requires { 0 < divisor }
+{
+    let mut remainders = Vec::with_capacity(alloc, LONGEST).expect(rt, "memory");
+    for place in 0..LONGEST {
+        remainders.push((place % divisor) as i32).expect(rt, "memory");
+    }
+    remainders
+}
+
 #[test]
 fn long_vectors_of_flags(rt: HostRuntime) {
     let config = Config::new(4096, 4).expect(&rt, "in range");
     let alloc = rt.alloc();
-    let mut numbers = Vec::with_capacity(alloc, LONGEST).expect(&rt, "memory");
-    for place in 0..LONGEST {
-        numbers.push((place % 3) as i32).expect(&rt, "memory");
-    }
-    let flags = bool_from_int(&rt, alloc, config, &numbers).expect(&rt, "memory");
+    let thirds = remainders(&rt, alloc, 3);
+    let halves = remainders(&rt, alloc, 2);
+    let flags = bool_from_int(&rt, alloc, config, &thirds).expect(&rt, "memory");
+    let odd = bool_from_int(&rt, alloc, config, &halves).expect(&rt, "memory");
     let turned = bool1(alloc, config, Unary::Not, &flags).expect(&rt, "memory");
-    let either = bool2(alloc, config, BoolBinary::Ior, &flags, &turned).expect(&rt, "equally long");
+    let both = bool2(&rt, alloc, config, BoolBinary::And, &flags, &odd).expect(&rt, "equally long");
     let ones = int_from_bool(alloc, config, &turned).expect(&rt, "memory");
     assert_eq!(rt;
-        [flags.len(), turned.len(), either.len(), ones.len()],
+        [flags.len(), turned.len(), both.len(), ones.len()],
         [LONGEST; 4]
     );
-    for (place, flag, one) in [
-        (0, false, 1),
-        (1, true, 0),
-        (65_536, true, 0),
-        (1_398_101, true, 0),
-        (1_398_102, false, 1),
-        (2_097_151, true, 0),
-        (2_097_152, true, 0),
-        (2_796_203, true, 0),
-        (2_796_204, false, 1),
-        (3_000_000, false, 1),
-        (4_194_303, false, 1),
+    for (place, flag, one, flag_and_odd) in [
+        (0, false, 1, false),
+        (1, true, 0, true),
+        (65_536, true, 0, false),
+        (1_398_101, true, 0, true),
+        (1_398_102, false, 1, false),
+        (2_097_151, true, 0, true),
+        (2_097_152, true, 0, false),
+        (2_796_203, true, 0, true),
+        (2_796_204, false, 1, false),
+        (3_000_000, false, 1, false),
+        (4_194_301, true, 0, true),
+        (4_194_303, false, 1, false),
     ] {
         assert_eq!(rt; flags.get(place), Some(&flag));
-        assert_eq!(rt; either.get(place), Some(&true));
+        assert_eq!(rt; both.get(place), Some(&flag_and_odd));
         assert_eq!(rt; ones.get(place), Some(&one));
     }
 }

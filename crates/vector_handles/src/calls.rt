@@ -32,7 +32,7 @@ impl<A: Memory> Session<A> {
             Op::Ints2(operator) => self.value_of_ints2(rt, operator, args),
             Op::Ints1(operator) => self.value_of_ints1(operator, args),
             Op::Compare(operator) => self.value_of_compare(rt, operator, args),
-            Op::Bools2(operator) => self.value_of_bools2(operator, args),
+            Op::Bools2(operator) => self.value_of_bools2(rt, operator, args),
             Op::Bools1(operator) => self.value_of_bools1(operator, args),
             Op::Choose(element) => self.value_of_choose(rt, element, args),
             Op::IntFromBool => self.value_of_int_from_bool(args),

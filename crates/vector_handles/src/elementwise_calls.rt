@@ -54,8 +54,9 @@ impl<A: Memory> Session<A> {
     }
 
     /// An operator on two boolean vectors.
-    pub(crate) fn value_of_bools2(
+    pub(crate) fn value_of_bools2<R: Threads + Sync>(
         &self,
+        rt: &R,
         operator: BoolBinary,
         args: &[Arg],
     ) -> Result<Value<A>, Refused>
@@ -63,7 +64,7 @@ impl<A: Memory> Session<A> {
     {
         let a = booleans_at(&self.names, args, 0);
         let b = booleans_at(&self.names, args, 1);
-        let values = bool2(self.alloc, self.config, operator, a, b)?;
+        let values = bool2(rt, self.alloc, self.config, operator, a, b)?;
         Ok(Value::Booleans(Bools::from_vec(values)))
     }
 
