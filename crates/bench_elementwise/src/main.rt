@@ -77,7 +77,10 @@ fn measure_pairs<R: Print + Clock + Threads + Sync>(
     let call = best(rt, || compare(rt, alloc, config, Comparison::Greater, a, b))?;
     let loop_time = best(rt, || plain::greater(alloc, a, b))?;
     print_times(rt, "compare", n, call, loop_time)?;
-    let call = best(rt, || bool2(rt, alloc, config, BoolBinary::And, flags, others))?;
+    let call = best(
+        rt,
+        || bool2(rt, alloc, config, BoolBinary::And, flags, others),
+    )?;
     let loop_time = best(rt, || plain::both(alloc, flags, others))?;
     print_times(rt, "bool2 and", n, call, loop_time)?;
     let call = best(rt, || select(rt, alloc, config, flags, a, b))?;

@@ -51,7 +51,7 @@ pub(crate) trait Shared: Copy + Send + Sync {
         ensures { IfOk result (λ v. vec_len v ≡ length a.now) };
 }
 
-/// Four million zeros take less time one by one than by `vec!`.
+/// By an iterator: on one kind of processor four million zeros take less time so than by `vec!`, on another about as much.
 impl Shared for i32 {
     fn fresh_like<X, A: Memory>(alloc: A, a: &[X]) -> Result<Vec<i32, A>, NoResources> {
         let values = a.iter().map(|_| 0).collect(alloc)?;
@@ -59,7 +59,7 @@ impl Shared for i32 {
     }
 }
 
-/// As many booleans, a quarter of the bytes, take less by `vec!`.
+/// By `vec!`, which takes less time than an iterator over as many booleans.
 impl Shared for bool {
     fn fresh_like<X, A: Memory>(alloc: A, a: &[X]) -> Result<Vec<bool, A>, NoResources> {
         let values = vec![in alloc; false; a.len()]?;

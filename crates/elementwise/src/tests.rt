@@ -100,7 +100,10 @@ fn comparison_choice_and_conversions(rt: HostRuntime) {
     assert_eq!(rt; numbers.as_slice(), [0, 1, 0].as_slice());
     let turned = bool1(alloc, config, Unary::Not, &truths).expect(&rt, "memory");
     assert_eq!(rt; turned.as_slice(), [true, false, true].as_slice());
-    let both = bool2(&rt, alloc, config, BoolBinary::And, &truths, &turned).expect(&rt, "equally long");
+    let both = bool2(&rt, alloc, config, BoolBinary::And, &truths, &turned).expect(
+        &rt,
+        "equally long",
+    );
     assert_eq!(rt; both.as_slice(), [false, false, false].as_slice());
     let not = int1(alloc, config, Unary::Not, &[1, 2, 3]).expect(&rt, "memory");
     assert_eq!(rt; not.as_slice(), [-2, -3, -4].as_slice());
@@ -196,7 +199,9 @@ fn remainders<R: Abort>(rt: &R, alloc: Global, divisor: usize) -> Vec<i32>
 {
     let mut remainders = Vec::with_capacity(alloc, LONGEST).expect(rt, "memory");
     for place in 0..LONGEST {
-        remainders.push((place % divisor) as i32).expect(rt, "memory");
+        remainders
+            .push((place % divisor) as i32)
+            .expect(rt, "memory");
     }
     remainders
 }
