@@ -1,5 +1,5 @@
 //! Each request for memory of each shape of elementwise call refused in turn. The one request of a call is that of its
-//! result, which several threads write, but those of quotients and their like and of most calls on one vector.
+//! result. Several threads write it, except for quotients and their like and for most calls on one vector.
 
 use cvl_base::limits::MOST_ELEMENTS;
 use cvl_base::{BoolBinary, Comparison, Config, IntBinary, Memory, NoResources, Refused, Unary};
