@@ -51,7 +51,7 @@ pub(crate) trait Shared: Copy + Send + Sync {
         ensures { IfOk result (λ v. vec_len v ≡ length a.now) };
 }
 
-/// By an iterator: on one kind of processor four million zeros take less time so than by `vec!`, on another about as much.
+/// By an iterator: over four million integers `vec!` took longer when first measured, and about as long later.
 impl Shared for i32 {
     fn fresh_like<X, A: Memory>(alloc: A, a: &[X]) -> Result<Vec<i32, A>, NoResources> {
         let values = a.iter().map(|_| 0).collect(alloc)?;
