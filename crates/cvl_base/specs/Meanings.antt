@@ -4,11 +4,11 @@
 -- Source: CVL's calls, in this library's profile.
 use Rattle.std.specs.Prelude.{ℕ, ℤ, pos, Bool, List, length, map, Result, Ok}
 use Rattle.cvl_base.specs.declared.fault.Fault.{Fault}
-use Rattle.cvl_base.specs.declared.families.IntBinary.{IntBinary}
-use Rattle.cvl_base.specs.declared.families.Unary.{Unary}
-use Rattle.cvl_base.specs.declared.families.Comparison.{Comparison}
-use Rattle.cvl_base.specs.declared.families.BoolBinary.{BoolBinary}
-use Rattle.cvl_base.specs.declared.families.IntMonoid.{IntMonoid}
+use Rattle.call_table.specs.declared.families.IntBinary.{IntBinary}
+use Rattle.call_table.specs.declared.families.Unary.{Unary}
+use Rattle.call_table.specs.declared.families.Comparison.{Comparison}
+use Rattle.call_table.specs.declared.families.BoolBinary.{BoolBinary}
+use Rattle.call_table.specs.declared.families.IntMonoid.{IntMonoid}
 use Rattle.cvl_base.specs.Descriptors.{descriptor_of}
 use Rattle.cvl_base.specs.Distributes.{distribute_of, index_of}
 use Rattle.cvl_base.specs.Elementwise.{ints2_of, ints1_of, compare_of, bools2_of, bools1_of, choose_of, ints_from_bools, bools_from_ints}
