@@ -1,21 +1,9 @@
-//! Tests of what every layer speaks of: operators, monoids, the table of calls, names, configurations and faults.
+//! Tests of what every layer speaks of: monoids, the small types over vectors, and texts.
 #![tactic(auto)]
 
 #[cfg(test)]
-mod booleans;
-#[cfg(test)]
-mod configs;
-#[cfg(test)]
-mod faults;
-#[cfg(test)]
-mod integers;
-#[cfg(test)]
 mod monoids;
 #[cfg(test)]
-mod names;
-#[cfg(test)]
-mod operands;
-#[cfg(test)]
-mod spellings;
+mod texts;
 #[cfg(test)]
 mod vectors;

@@ -1,4 +1,4 @@
--- The letters of the calls' names: an operator, a class, and how the vectors are cut and what they hold, as `add_wuz`.
+-- The letters of the calls' names: an operator, a class, and how the vectors are cut and what they hold: `add_wuz`, for example.
 -- Source: the naming of CVL's calls, in this library's profile.
 use Rattle.std.specs.Prelude.{ℕ, List, ◌++◌, codes}
 use Rattle.call_table.specs.declared.families.IntBinary.{IntBinary}

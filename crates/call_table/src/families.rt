@@ -57,7 +57,7 @@ impl IntBinary {
 /// An operator on one vector, element by element.
 #[derive(Clone, Copy, Debug, PartialEq, Eq, Hash)]
 pub enum Unary {
-    /// Each bit, or each boolean, turned round.
+    /// Each bit, or each boolean, inverted.
     Not,
     /// The same vector again.
     Copy,
@@ -175,9 +175,9 @@ pub enum Form {
     Simple,
     /// Each place of the result takes the source element that its index names.
     Back,
-    /// As `Simple`, for the places alone whose flag is true.
+    /// The same as `Simple`, for the places alone whose flag is true.
     Select,
-    /// As `Simple`, into a copy of a vector of defaults.
+    /// The same as `Simple`, into a copy of a vector of defaults.
     Default,
 }
 

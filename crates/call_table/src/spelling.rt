@@ -16,11 +16,11 @@ use std::fmt;
 /// A call's name in its parts, which `Display` writes one after the other.
 #[derive(Clone, Copy, Debug)]
 pub struct Spelling {
-    /// The letters of the operator, as `add`, or a whole name.
+    /// The letters of the operator, for example `add`, or a whole name.
     pub operator: &'static str,
-    /// The letter of the class, as `_w`, or nothing after a whole name.
+    /// The letter of the class, for example `_w`, or nothing after a whole name.
     pub class: &'static str,
-    /// How the call takes its vectors and what they hold, as `uz`, or nothing after a whole name.
+    /// How the call takes its vectors and what they hold, for example `uz`, or nothing after a whole name.
     pub cut_and_element: &'static str,
 }
 

@@ -47,7 +47,7 @@ pub fn is_name_text(bytes: &[u8]) -> bool
 /// are ordered, and takes no memory.
 #[derive(Clone, Copy)]
 pub struct Name {
-    /// The bytes of the name, and zeros behind them.
+    /// The bytes of the name, and zeros after them.
     bytes: [u8; MOST_WORD_BYTES],
     len: usize,
 }

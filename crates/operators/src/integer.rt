@@ -122,7 +122,7 @@ pub fn xor(a: i32, b: i32) -> i32
     a ^ b
 }
 
-/// The 32 bits of `a`, each turned round.
+/// The 32 bits of `a`, each inverted.
 #[inline]
 pub fn not(a: i32) -> i32
     ensures { result ≡ not_of a }
