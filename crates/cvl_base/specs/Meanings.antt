@@ -17,7 +17,7 @@ use Rattle.cvl_base.specs.Gives.{◌>>=◌}
 use Rattle.cvl_base.specs.Packs.{count_of, pack_of}
 use Rattle.cvl_base.specs.Permutes.{simple_of, back_of, select_of, default_of}
 use Rattle.cvl_base.specs.Scans.{int_join_of, int_unit_of, int_scan_of, int_reduce_of, bool_join_of, bool_unit_of, bool_scan_of, bool_reduce_of}
-use Rattle.cvl_base.specs.SegmentedCalls.{seg_scan_of, seg_reduce_of, seg_simple_of, seg_back_of, seg_select_of, seg_default_of, seg_count_of, seg_pack_of, packed_lengths_of, seg_distribute_of, seg_index_of, seg_extract_of, seg_replace_of}
+use Rattle.cvl_base.specs.SegmentedCalls.{seg_scan_of, seg_reduce_of, seg_simple_of, seg_back_of, seg_select_of, seg_default_of, seg_count_of, seg_pack_of, seg_distribute_of, seg_index_of, seg_extract_of, seg_replace_of}
 
 -- ---- elementwise
 
@@ -115,7 +115,7 @@ abbrev pub seg_pack : {X : Type 0} → List X → List Bool → List ℕ → Res
 seg_pack xs flags lengths = seg_pack_of xs flags lengths
 
 abbrev pub packed_lengths : List Bool → List ℕ → Result (List ℕ) Fault
-packed_lengths flags lengths = packed_lengths_of flags lengths
+packed_lengths flags lengths = seg_count_of flags lengths
 
 -- ---- distribute, index, extract, replace
 
