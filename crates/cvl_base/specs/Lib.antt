@@ -15,7 +15,6 @@ pub mod Integers
 pub mod ItemWords
 pub mod Letters
 pub mod Limits
-pub mod Meanings
 pub mod Monoid
 pub mod NameBytes
 pub mod Nests
