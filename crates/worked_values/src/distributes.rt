@@ -15,31 +15,27 @@ pub fn distribute()
     ensures count_at_limit { as_length (pos 4194304) ≡ Ok 4194304 }
     ensures too_many_integers { distribute_of (pos 7) (pos 4194305) ≡ Err (fault no.TooLong) }
     ensures too_many_booleans { distribute_of true (pos 4194305) ≡ Err (fault no.TooLong) }
-    ensures negative_count_of_integers {
-        distribute_of (pos 7) (negsuc 0)
+    ensures negative_count_of_integers { distribute_of (pos 7) (negsuc 0)
         ≡ Err (fault no.NegativeLength) }
-    ensures negative_count_of_booleans {
-        distribute_of true (negsuc 0)
+    ensures negative_count_of_booleans { distribute_of true (negsuc 0)
         ≡ Err (fault no.NegativeLength) }
-    ensures integers_in_segments {
-        seg_distribute_of (pos 7 ∷ pos 8 ∷ pos 9 ∷ []) (2 ∷ 0 ∷ 3 ∷ [])
+    ensures integers_in_segments { seg_distribute_of (pos 7 ∷ pos 8 ∷ pos 9 ∷ []) (2 ∷ 0 ∷ 3 ∷ [])
         ≡ Ok (pos 7 ∷ pos 7 ∷ pos 9 ∷ pos 9 ∷ pos 9 ∷ []) }
-    ensures booleans_in_segments {
-        seg_distribute_of (true ∷ true ∷ false ∷ []) (2 ∷ 0 ∷ 3 ∷ [])
+    ensures booleans_in_segments { seg_distribute_of (true ∷ true ∷ false ∷ []) (2 ∷ 0 ∷ 3 ∷ [])
         ≡ Ok (true ∷ true ∷ false ∷ false ∷ false ∷ []) }
     ensures no_segments { seg_distribute_of {X = ℤ} [] [] ≡ Ok [] }
-    ensures one_value_short {
-        seg_distribute_of (pos 7 ∷ pos 8 ∷ []) (2 ∷ 0 ∷ 3 ∷ [])
+    ensures one_value_short { seg_distribute_of (pos 7 ∷ pos 8 ∷ []) (2 ∷ 0 ∷ 3 ∷ [])
         ≡ Err (fault no.LengthMismatch) }
-    ensures one_value_more {
-        seg_distribute_of (pos 7 ∷ pos 8 ∷ pos 9 ∷ pos 9 ∷ []) (2 ∷ 0 ∷ 3 ∷ [])
+    ensures one_value_more { seg_distribute_of (pos 7 ∷ pos 8 ∷ pos 9 ∷ pos 9 ∷ []) (2 ∷ 0 ∷ 3 ∷ [])
         ≡ Err (fault no.LengthMismatch) }
-    ensures one_boolean_short {
-        seg_distribute_of (true ∷ false ∷ []) (2 ∷ 0 ∷ 3 ∷ [])
+    ensures one_boolean_short { seg_distribute_of (true ∷ false ∷ []) (2 ∷ 0 ∷ 3 ∷ [])
         ≡ Err (fault no.LengthMismatch) }
-    ensures value_for_no_segment {
-        seg_distribute_of (pos 7 ∷ []) []
+    ensures value_for_no_segment { seg_distribute_of (pos 7 ∷ []) []
         ≡ Err (fault no.LengthMismatch) }
+    ensures no_value_for_an_empty_segment { seg_distribute_of {X = ℤ} [] (0 ∷ [])
+        ≡ Err (fault no.LengthMismatch) }
+    ensures nothing_for_empty_segments { seg_distribute_of (pos 7 ∷ pos 8 ∷ []) (0 ∷ 0 ∷ [])
+        ≡ Ok [] }
 {}
 
 /// Numbers at equal distances, which wrap; by segments there are as many beginnings and
@@ -47,38 +43,35 @@ pub fn distribute()
 pub fn index()
     ensures steps { index_of (pos 0) (pos 1) (pos 3) ≡ Ok (pos 0 ∷ pos 1 ∷ pos 2 ∷ []) }
     ensures no_steps { index_of (pos 5) (pos 1) (pos 0) ≡ Ok [] }
-    ensures wrapped {
-        index_of (pos 2147483647) (pos 1) (pos 2)
+    ensures wrapped { index_of (pos 2147483647) (pos 1) (pos 2)
         ≡ Ok (pos 2147483647 ∷ negsuc 2147483647 ∷ []) }
     ensures too_many_steps { index_of (pos 0) (pos 1) (pos 4194305) ≡ Err (fault no.TooLong) }
     ensures negative_count { index_of (pos 0) (pos 1) (negsuc 0) ≡ Err (fault no.NegativeLength) }
-    ensures steps_in_segments {
-        seg_index_of (pos 0 ∷ pos 5 ∷ pos 10 ∷ []) (pos 1 ∷ pos 1 ∷ negsuc 1 ∷ []) (2 ∷ 0 ∷ 3 ∷ [])
+    ensures steps_in_segments { seg_index_of (pos 0 ∷ pos 5 ∷ pos 10 ∷ []) (pos 1 ∷ pos 1 ∷ negsuc 1 ∷ []) (2 ∷ 0 ∷ 3 ∷ [])
         ≡ Ok (pos 0 ∷ pos 1 ∷ pos 10 ∷ pos 8 ∷ pos 6 ∷ []) }
-    ensures wrapped_in_segments {
-        seg_index_of (pos 2147483647 ∷ pos 0 ∷ pos 5 ∷ []) (pos 1 ∷ pos 0 ∷ negsuc 4 ∷ [])
+    ensures wrapped_in_segments { seg_index_of (pos 2147483647 ∷ pos 0 ∷ pos 5 ∷ []) (pos 1 ∷ pos 0 ∷ negsuc 4 ∷ [])
         (2 ∷ 0 ∷ 3 ∷ [])
         ≡ Ok (pos 2147483647 ∷ negsuc 2147483647 ∷ pos 5 ∷ pos 0 ∷ negsuc 4 ∷ []) }
     ensures no_segments { seg_index_of [] [] [] ≡ Ok [] }
-    ensures one_beginning_short {
-        seg_index_of (pos 0 ∷ pos 5 ∷ []) (pos 1 ∷ pos 1 ∷ negsuc 1 ∷ []) (2 ∷ 0 ∷ 3 ∷ [])
+    ensures one_beginning_short { seg_index_of (pos 0 ∷ pos 5 ∷ []) (pos 1 ∷ pos 1 ∷ negsuc 1 ∷ []) (2 ∷ 0 ∷ 3 ∷ [])
         ≡ Err (fault no.LengthMismatch) }
-    ensures one_beginning_more {
-        seg_index_of (pos 0 ∷ pos 5 ∷ pos 10 ∷ pos 15 ∷ []) (pos 1 ∷ pos 1 ∷ negsuc 1 ∷ [])
+    ensures one_beginning_more { seg_index_of (pos 0 ∷ pos 5 ∷ pos 10 ∷ pos 15 ∷ []) (pos 1 ∷ pos 1 ∷ negsuc 1 ∷ [])
         (2 ∷ 0 ∷ 3 ∷ [])
         ≡ Err (fault no.LengthMismatch) }
-    ensures one_stride_short {
-        seg_index_of (pos 0 ∷ pos 5 ∷ pos 10 ∷ []) (pos 1 ∷ pos 1 ∷ []) (2 ∷ 0 ∷ 3 ∷ [])
+    ensures one_stride_short { seg_index_of (pos 0 ∷ pos 5 ∷ pos 10 ∷ []) (pos 1 ∷ pos 1 ∷ []) (2 ∷ 0 ∷ 3 ∷ [])
         ≡ Err (fault no.LengthMismatch) }
-    ensures one_stride_more {
-        seg_index_of (pos 0 ∷ pos 5 ∷ pos 10 ∷ []) (pos 1 ∷ pos 1 ∷ negsuc 1 ∷ pos 4 ∷ [])
+    ensures one_stride_more { seg_index_of (pos 0 ∷ pos 5 ∷ pos 10 ∷ []) (pos 1 ∷ pos 1 ∷ negsuc 1 ∷ pos 4 ∷ [])
         (2 ∷ 0 ∷ 3 ∷ [])
         ≡ Err (fault no.LengthMismatch) }
-    ensures one_of_both_short {
-        seg_index_of (pos 0 ∷ pos 5 ∷ []) (pos 1 ∷ pos 1 ∷ []) (2 ∷ 0 ∷ 3 ∷ [])
+    ensures one_of_both_short { seg_index_of (pos 0 ∷ pos 5 ∷ []) (pos 1 ∷ pos 1 ∷ []) (2 ∷ 0 ∷ 3 ∷ [])
         ≡ Err (fault no.LengthMismatch) }
-    ensures one_of_both_more {
-        seg_index_of (pos 0 ∷ pos 5 ∷ pos 10 ∷ pos 15 ∷ []) (pos 1 ∷ pos 1 ∷ negsuc 1 ∷ pos 4 ∷ [])
+    ensures one_of_both_more { seg_index_of (pos 0 ∷ pos 5 ∷ pos 10 ∷ pos 15 ∷ []) (pos 1 ∷ pos 1 ∷ negsuc 1 ∷ pos 4 ∷ [])
         (2 ∷ 0 ∷ 3 ∷ [])
+        ≡ Err (fault no.LengthMismatch) }
+    ensures steps_down { index_of (pos 10) (negsuc 1) (pos 3) ≡ Ok (pos 10 ∷ pos 8 ∷ pos 6 ∷ []) }
+    ensures no_stride { index_of (pos 5) (pos 0) (pos 2) ≡ Ok (pos 5 ∷ pos 5 ∷ []) }
+    ensures strides_wrapped { index_of (pos 0) (pos 2147483647) (pos 3)
+        ≡ Ok (pos 0 ∷ pos 2147483647 ∷ negsuc 1 ∷ []) }
+    ensures none_for_an_empty_segment { seg_index_of [] [] (0 ∷ [])
         ≡ Err (fault no.LengthMismatch) }
 {}
