@@ -12,7 +12,7 @@ use Rattle.cvl_base.specs.Distributes.{distribute_of, index_of}
 use Rattle.cvl_base.specs.Elementwise.{if_as_long}
 use Rattle.cvl_base.specs.Extracts.{element_at, with_element_at, extract_of, replace_of}
 use Rattle.cvl_base.specs.Faults.{fault, fault_at}
-use Rattle.cvl_base.specs.Folds.{scan_of, reduce_of}
+use Rattle.cvl_base.specs.Folds.{scan_of, fold_of}
 use Rattle.cvl_base.specs.Gives.{◌>>=◌}
 use Rattle.cvl_base.specs.Nests.{nest, joined}
 use Rattle.cvl_base.specs.Packs.{count_of, pack_of}
@@ -200,5 +200,5 @@ module _ {Item : Type 0} (join : Item → Item → Item) (unit : Item) where
   pub scan-again : (xs : List Item) → seg_scan_of join unit xs (length xs ∷ []) ≡ Ok (scan_of join unit xs)
   scan-again xs = ap (end_to_end (in_vector (length xs ∷ [])) (λ ys. Ok (scan_of join unit ys))) (nest_one xs) ∙ flat-again (length xs ∷ []) (λ ys. Ok (scan_of join unit ys)) xs
 
-  pub reduce-again : (xs : List Item) → seg_reduce_of join unit xs (length xs ∷ []) ≡ Ok (reduce_of join unit xs ∷ [])
-  reduce-again xs = ap (one_each (in_vector (length xs ∷ [])) (λ ys. Ok (reduce_of join unit ys))) (nest_one xs)
+  pub reduce-again : (xs : List Item) → seg_reduce_of join unit xs (length xs ∷ []) ≡ Ok (fold_of join unit xs ∷ [])
+  reduce-again xs = ap (one_each (in_vector (length xs ∷ [])) (λ ys. Ok (fold_of join unit ys))) (nest_one xs)

@@ -7,12 +7,12 @@ ghost use Rattle.cvl_base.specs.declared.fault.Fault.{Fault};
 ghost use Rattle.call_laws.specs.CutAgain.{IsCutInto};
 ghost use Rattle.cvl_base.specs.Distributes.{distribute_of, index_of};
 ghost use Rattle.cvl_base.specs.Extracts.{extract_of, replace_of};
-ghost use Rattle.cvl_base.specs.Folds.{reduce_of, scan_of};
+ghost use Rattle.cvl_base.specs.Folds.{fold_of, scan_of};
 ghost use Rattle.cvl_base.specs.Nests.{joined, nest};
 ghost use Rattle.cvl_base.specs.Packs.{count_of, pack_of};
 ghost use Rattle.cvl_base.specs.Permutes.{back_of, default_of, select_of, simple_of};
 ghost use Rattle.cvl_base.specs.Segmented.{end_to_end, moved, of_three, of_two, one_each};
-ghost use Rattle.cvl_base.specs.SegmentedCalls.{packed_lengths_of, seg_back_of, seg_count_of, seg_default_of, seg_distribute_of, seg_extract_of, seg_index_of, seg_pack_of, seg_reduce_of, seg_replace_of, seg_scan_of, seg_select_of, seg_simple_of};
+ghost use Rattle.cvl_base.specs.SegmentedCalls.{seg_back_of, seg_count_of, seg_default_of, seg_distribute_of, seg_extract_of, seg_index_of, seg_pack_of, seg_reduce_of, seg_replace_of, seg_scan_of, seg_select_of, seg_simple_of};
 
 use cvl_base::monoid::Monoid;
 
@@ -58,7 +58,7 @@ pub fn result_cut_again<T>()
         IsCutInto (of_three replace_of) (zip (zip lists index) values) lengths result }
     ensures pack { (xs result : List T) (flags : List Bool) (lengths counts : List ℕ) (lists : List (List T)) (flag_lists : List (List Bool)) →
         nest lengths xs ≡ Ok lists → nest lengths flags ≡ Ok flag_lists →
-        packed_lengths_of flags lengths ≡ Ok counts → seg_pack_of xs flags lengths ≡ Ok result →
+        seg_count_of flags lengths ≡ Ok counts → seg_pack_of xs flags lengths ≡ Ok result →
         IsCutInto (of_two pack_of) (zip lists flag_lists) counts result }
 {}
 
@@ -88,10 +88,10 @@ pub fn one_segment_scanned<M: Monoid>()
     ensures scan { (xs : List M.Item) →
         seg_scan_of M.join M.unit xs (length xs ∷ []) ≡ Ok (scan_of M.join M.unit xs) }
     ensures reduce { (xs : List M.Item) →
-        seg_reduce_of M.join M.unit xs (length xs ∷ []) ≡ Ok (reduce_of M.join M.unit xs ∷ []) }
+        seg_reduce_of M.join M.unit xs (length xs ∷ []) ≡ Ok (fold_of M.join M.unit xs ∷ []) }
 {}
 
-/// On one segment a segmented permute, pack or count is the flat one, its faults too, and the packed lengths are its count.
+/// On one segment a segmented permute, pack or count is the flat one, its faults too.
 pub fn one_segment_moved<T>()
     ensures simple { (source : List T) (index : List ℤ) →
         seg_simple_of source index (length source ∷ []) ≡ simple_of source index }
@@ -104,7 +104,6 @@ pub fn one_segment_moved<T>()
     ensures pack { (xs : List T) (flags : List Bool) →
         seg_pack_of xs flags (length xs ∷ []) ≡ pack_of xs flags }
     ensures count { (flags : List Bool) → seg_count_of flags (length flags ∷ []) ≡ Ok (count_of flags ∷ []) }
-    ensures packed_lengths { (flags : List Bool) → packed_lengths_of flags (length flags ∷ []) ≡ Ok (count_of flags ∷ []) }
 {}
 
 /// On one segment a segmented distribute or index is the flat one with the segment's length for its count, its fault too.

@@ -6,7 +6,6 @@ pub mod Extracts
 pub mod Faults
 pub mod Gives
 pub mod Limits
-pub mod Meanings
 pub mod NameBytes
 pub mod Nests
 pub mod Packs

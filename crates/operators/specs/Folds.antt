@@ -2,13 +2,9 @@
 -- Source: Blelloch, Vector Models for Data-Parallel Computing, prescan: that of a0, a1, a2, .. under an operator with identity e is e, a0, a0 + a1, ..
 use Rattle.std.specs.Prelude.{List, [], ◌∷◌, map, fold}
 
--- the unit of no elements, and one element more is joined on the right
+-- all elements joined, which a reduce gives: the unit of no elements, and one element more is joined on the right
 abbrev pub fold_of : {Item : Type 0} → (Item → Item → Item) → Item → List Item → Item
 fold_of join unit xs = fold join unit xs
-
--- a reduce combines all elements
-abbrev pub reduce_of : {Item : Type 0} → (Item → Item → Item) → Item → List Item → Item
-reduce_of join unit xs = fold_of join unit xs
 
 -- the fronts of a list that are shorter than the list, shortest first
 abbrev pub fronts : {Item : Type 0} → List Item → List (List Item)

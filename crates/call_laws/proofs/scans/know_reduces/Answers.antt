@@ -5,8 +5,8 @@ use Rattle.cvl_base.specs.Folds.{fold_of, scan_of}
 use Rattle.operators.proofs.FoldLaws.{fold_of_push, slice_get-scan_of}
 use Rattle.call_laws.proofs.scans.know_reduces.Goals as goal
 
-pub returns-clause-from_scan : goal.returns-clause-from_scan
-returns-clause-from_scan g c = λ xs x before here.
+pub returns : goal.returns
+returns g c = λ xs x before here.
     let join = g.M.Monoid.join in
     let unit = g.M.Monoid.unit in
     let long = length_push xs x in

@@ -18,6 +18,3 @@ returns-clause-select g c = select-again
 
 pub returns-clause-default_into : goal.returns-clause-default_into
 returns-clause-default_into g c = default-again
-
-pub returns-clause-packed_lengths : goal.returns-clause-packed_lengths
-returns-clause-packed_lengths g c = count-again
