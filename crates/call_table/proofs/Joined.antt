@@ -1,5 +1,7 @@
 -- When a word is one text and then another.
-use Rattle.std.proofs.Common.{◌≡◌, ℕ, Bool, true, false, ◌&&◌, List, [], ◌∷◌, ◌++◌, length, take, drop, refl, bytes_eq, eqb}
+use Rattle.std.proofs.Common.{◌≡◌, ℕ, Bool, true, false, ◌&&◌, List, [], ◌∷◌, ◌++◌, length, take, drop, find, refl, sym, ◌∙◌, Option, bytes_eq, eqb}
+use Rattle.std.specs.Option.{option_or}
+use Rattle.std.proofs.lemmas.List.Folds.{find-append}
 
 regroup : (b p q r : Bool) → p ≡ (q && r) → (b && p) ≡ ((b && q) && r)
 regroup true p q r h = h
@@ -10,3 +12,8 @@ pub joined : (word front back : List ℕ) → bytes_eq word (front ++ back) ≡ 
 joined word [] back = refl
 joined [] (x ∷ front) back = refl
 joined (y ∷ word) (x ∷ front) back = regroup (eqb y x) _ _ _ (joined word front back)
+
+-- what is found in two lists, one after the other, is found in the first, or else in the second
+pub in_turn : {X : Type 0} {found first second : Option X} (test : X → Bool) (xs ys : List X)
+    → found ≡ option_or first second → first ≡ find test xs → second ≡ find test ys → found ≡ find test (xs ++ ys)
+in_turn test xs ys found first second = found ∙ (λ i. option_or (first i) (second i)) ∙ sym (find-append test xs ys)

@@ -4,7 +4,7 @@ use Rattle.std.proofs.lemmas.Slice.Eq.{bytes_eq-Decides}
 use Rattle.call_table.specs.declared.operation.Op.{Op}
 use Rattle.call_table.specs.declared.operation.Op.TheVariants.{Write}
 use Rattle.call_table.specs.Calls.{spelling_of, is_write, is_done}
-use Rattle.call_table.specs.Spellings.{is_spelled, calls, any_op_of, if_done, op_of}
+use Rattle.call_table.specs.Spellings.{is_spelled, calls, any_op_of, if_done, op_of, int_binaries, unaries, comparisons, bool_binaries, int_monoids, forms, elements}
 use Rattle.call_table.proofs.Spelled.{read_back}
 
 passes_at : {X : Type 0} (test : X → Bool) (y x : X) (xs : List X) (b : Bool) → test y ≡ b → cond b (Some y) (find test xs) ≡ Some x → (find test xs ≡ Some x → test x ≡ true) → test x ≡ true
@@ -18,11 +18,11 @@ find_passes test (y ∷ xs) x h = passes_at test y x xs (test y) refl h (find_pa
 
 -- the call that a word names is spelled so
 pub any_read : (word : List ℕ) (op : Op) → any_op_of word ≡ Some op → spelling_of op ≡ word
-unfolding any_op_of
+unfolding any_op_of int_binaries unaries comparisons bool_binaries int_monoids forms elements
 any_read word op h = sym ((bytes_eq-Decides word (spelling_of op)).0 (find_passes (is_spelled word) calls op h))
 
 write_unread : any_op_of (spelling_of Write) ≡ None
-unfolding any_op_of
+unfolding any_op_of int_binaries unaries comparisons bool_binaries int_monoids forms elements
 write_unread = refl
 
 unwritten : (op : Op) → any_op_of (spelling_of op) ≡ Some op → is_write op ≡ false

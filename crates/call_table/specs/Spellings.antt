@@ -1,6 +1,6 @@
 -- The calls by their names: which call a word means.
 -- Source: the naming of CVL's calls, in this library's profile.
-use Rattle.std.specs.Prelude.{ℕ, Bool, if◌then◌else◌, List, [], ◌∷◌, ◌++◌, map, find, flat_map, Option, Some, None, option_and_then, bytes_eq}
+use Rattle.std.specs.Prelude.{ℕ, Bool, if◌then◌else◌, List, [], ◌∷◌, ◌++◌, map, find, Option, Some, None, option_and_then, bytes_eq}
 use Rattle.call_table.specs.declared.families.IntBinary.{IntBinary}
 use Rattle.call_table.specs.declared.families.IntBinary.TheVariants as int
 use Rattle.call_table.specs.declared.families.Unary.{Unary}
@@ -27,47 +27,54 @@ abbrev pub bytes_of : Spelling → List ℕ
 bytes_of spelling = spelling.operator.now ++ (spelling.class.now ++ spelling.cut_and_element.now)
 
 -- all operators, forms, cuts and elements, each once
-abbrev pub int_binaries : List IntBinary
+unfoldable pub int_binaries : List IntBinary
 int_binaries = int.Add ∷ int.Sub ∷ int.Mul ∷ int.Div ∷ int.Mod ∷ int.Min ∷ int.Max ∷ int.Lsh ∷ int.Rsh ∷ int.And ∷ int.Ior ∷ int.Xor ∷ []
 
-abbrev pub unaries : List Unary
+unfoldable pub unaries : List Unary
 unaries = Not ∷ Copy ∷ []
 
-abbrev pub comparisons : List Comparison
+unfoldable pub comparisons : List Comparison
 comparisons = Greater ∷ Less ∷ AtLeast ∷ AtMost ∷ Equal ∷ Unequal ∷ []
 
-abbrev pub bool_binaries : List BoolBinary
+unfoldable pub bool_binaries : List BoolBinary
 bool_binaries = bool.And ∷ bool.Ior ∷ bool.Xor ∷ []
 
-abbrev pub int_monoids : List IntMonoid
+unfoldable pub int_monoids : List IntMonoid
 int_monoids = monoid.Add ∷ monoid.Mul ∷ monoid.Min ∷ monoid.Max ∷ monoid.And ∷ monoid.Ior ∷ monoid.Xor ∷ []
 
-abbrev pub forms : List Form
+unfoldable pub forms : List Form
 forms = Simple ∷ Back ∷ Select ∷ Default ∷ []
 
-abbrev pub cuts : List Cut
-cuts = Flat ∷ Segmented ∷ []
-
-abbrev pub elements : List Element
+unfoldable pub elements : List Element
 elements = Integer ∷ Boolean ∷ []
 
--- all pairs, in the order of the first
-abbrev pub each_with : {X Y Z : Type 0} → (X → Y → Z) → List X → List Y → List Z
-each_with make xs ys = flat_map (λ x. map (make x) ys) xs
-
--- the calls, family by family
-abbrev pub calls : List Op
-calls =
-    Input ∷ map Ints2 int_binaries ++ map Ints1 unaries ++ map Compare comparisons
+-- the calls, family by family: those that work place by place
+abbrev pub elementwise_calls : List Op
+elementwise_calls =
+    map Ints2 int_binaries ++ map Ints1 unaries ++ map Compare comparisons
     ++ map Bools2 bool_binaries ++ map Bools1 unaries ++ map Choose elements
     ++ IntFromBool ∷ BoolFromInt ∷ []
-    ++ each_with Scan int_monoids cuts ++ each_with Reduce int_monoids cuts
-    ++ each_with BoolScan bool_binaries cuts ++ each_with BoolReduce bool_binaries cuts
-    ++ flat_map (λ form. each_with (Permute form) cuts elements) forms
-    ++ map Length elements ++ map Count cuts ++ each_with Pack cuts elements ++ PackedLengths ∷ []
-    ++ each_with Distribute cuts elements ++ map Index cuts
-    ++ each_with Extract cuts elements ++ each_with Replace cuts elements
-    ++ MakeDescriptor ∷ DescriptorLengths ∷ []
+
+-- those that take their vectors whole or by segments, over integers or booleans
+abbrev pub element_calls : Cut → Element → List Op
+element_calls cut element =
+    map (λ form. Permute form cut element) forms
+    ++ Pack cut element ∷ Distribute cut element ∷ Extract cut element ∷ Replace cut element ∷ []
+
+-- all that take their vectors whole, or all that take them by segments
+abbrev pub cut_calls : Cut → List Op
+cut_calls cut =
+    map (λ o. Scan o cut) int_monoids ++ map (λ o. Reduce o cut) int_monoids
+    ++ map (λ o. BoolScan o cut) bool_binaries ++ map (λ o. BoolReduce o cut) bool_binaries
+    ++ element_calls cut Integer ++ element_calls cut Boolean
+    ++ Count cut ∷ Index cut ∷ []
+
+-- those that read an input or a length, or that make and read descriptors
+abbrev pub other_calls : List Op
+other_calls = map Length elements ++ Input ∷ PackedLengths ∷ MakeDescriptor ∷ DescriptorLengths ∷ []
+
+abbrev pub calls : List Op
+calls = elementwise_calls ++ cut_calls Flat ++ cut_calls Segmented ++ other_calls
 
 -- is it spelled so?
 abbrev pub is_spelled : List ℕ → Op → Bool

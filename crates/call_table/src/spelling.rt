@@ -1,10 +1,11 @@
 //! The names of the calls, and the call that a name means.
 
-ghost use Rattle.std.specs.Prelude.{◌≡◌, ◌≢◌, ◌++◌, ℕ, List, Some, true, false, bytes_eq, find};
+ghost use Rattle.std.specs.Prelude.{◌≡◌, ◌≢◌, ◌++◌, ℕ, List, Some, true, false, bytes_eq, find, map};
 ghost use Rattle.call_table.specs.declared.operation.Op.{Op};
+ghost use Rattle.call_table.specs.declared.operation.Op.TheVariants as op;
 ghost use Rattle.call_table.specs.Letters.{call_name_of};
 ghost use Rattle.call_table.specs.Calls.{spelling_of, is_write, is_done};
-ghost use Rattle.call_table.specs.Spellings.{bytes_of, is_spelled, any_op_of, op_of};
+ghost use Rattle.call_table.specs.Spellings.{bytes_of, is_spelled, int_binaries, unaries, comparisons, bool_binaries, int_monoids, forms, elements, elementwise_calls, element_calls, cut_calls, other_calls, any_op_of, op_of};
 
 use crate::families::{
     BoolBinary, Comparison, Cut, Element, Form, IntBinary, IntMonoid, Unary, cut_and_element,
@@ -91,121 +92,6 @@ impl fmt::Display for Spelling {
     }
 }
 
-/// All calls, family by family.
-const CALLS: [Op; 111] = [
-    Op::Input,
-    Op::Ints2(IntBinary::Add),
-    Op::Ints2(IntBinary::Sub),
-    Op::Ints2(IntBinary::Mul),
-    Op::Ints2(IntBinary::Div),
-    Op::Ints2(IntBinary::Mod),
-    Op::Ints2(IntBinary::Min),
-    Op::Ints2(IntBinary::Max),
-    Op::Ints2(IntBinary::Lsh),
-    Op::Ints2(IntBinary::Rsh),
-    Op::Ints2(IntBinary::And),
-    Op::Ints2(IntBinary::Ior),
-    Op::Ints2(IntBinary::Xor),
-    Op::Ints1(Unary::Not),
-    Op::Ints1(Unary::Copy),
-    Op::Compare(Comparison::Greater),
-    Op::Compare(Comparison::Less),
-    Op::Compare(Comparison::AtLeast),
-    Op::Compare(Comparison::AtMost),
-    Op::Compare(Comparison::Equal),
-    Op::Compare(Comparison::Unequal),
-    Op::Bools2(BoolBinary::And),
-    Op::Bools2(BoolBinary::Ior),
-    Op::Bools2(BoolBinary::Xor),
-    Op::Bools1(Unary::Not),
-    Op::Bools1(Unary::Copy),
-    Op::Choose(Element::Integer),
-    Op::Choose(Element::Boolean),
-    Op::IntFromBool,
-    Op::BoolFromInt,
-    Op::Scan(IntMonoid::Add, Cut::Flat),
-    Op::Scan(IntMonoid::Add, Cut::Segmented),
-    Op::Scan(IntMonoid::Mul, Cut::Flat),
-    Op::Scan(IntMonoid::Mul, Cut::Segmented),
-    Op::Scan(IntMonoid::Min, Cut::Flat),
-    Op::Scan(IntMonoid::Min, Cut::Segmented),
-    Op::Scan(IntMonoid::Max, Cut::Flat),
-    Op::Scan(IntMonoid::Max, Cut::Segmented),
-    Op::Scan(IntMonoid::And, Cut::Flat),
-    Op::Scan(IntMonoid::And, Cut::Segmented),
-    Op::Scan(IntMonoid::Ior, Cut::Flat),
-    Op::Scan(IntMonoid::Ior, Cut::Segmented),
-    Op::Scan(IntMonoid::Xor, Cut::Flat),
-    Op::Scan(IntMonoid::Xor, Cut::Segmented),
-    Op::Reduce(IntMonoid::Add, Cut::Flat),
-    Op::Reduce(IntMonoid::Add, Cut::Segmented),
-    Op::Reduce(IntMonoid::Mul, Cut::Flat),
-    Op::Reduce(IntMonoid::Mul, Cut::Segmented),
-    Op::Reduce(IntMonoid::Min, Cut::Flat),
-    Op::Reduce(IntMonoid::Min, Cut::Segmented),
-    Op::Reduce(IntMonoid::Max, Cut::Flat),
-    Op::Reduce(IntMonoid::Max, Cut::Segmented),
-    Op::Reduce(IntMonoid::And, Cut::Flat),
-    Op::Reduce(IntMonoid::And, Cut::Segmented),
-    Op::Reduce(IntMonoid::Ior, Cut::Flat),
-    Op::Reduce(IntMonoid::Ior, Cut::Segmented),
-    Op::Reduce(IntMonoid::Xor, Cut::Flat),
-    Op::Reduce(IntMonoid::Xor, Cut::Segmented),
-    Op::BoolScan(BoolBinary::And, Cut::Flat),
-    Op::BoolScan(BoolBinary::And, Cut::Segmented),
-    Op::BoolScan(BoolBinary::Ior, Cut::Flat),
-    Op::BoolScan(BoolBinary::Ior, Cut::Segmented),
-    Op::BoolScan(BoolBinary::Xor, Cut::Flat),
-    Op::BoolScan(BoolBinary::Xor, Cut::Segmented),
-    Op::BoolReduce(BoolBinary::And, Cut::Flat),
-    Op::BoolReduce(BoolBinary::And, Cut::Segmented),
-    Op::BoolReduce(BoolBinary::Ior, Cut::Flat),
-    Op::BoolReduce(BoolBinary::Ior, Cut::Segmented),
-    Op::BoolReduce(BoolBinary::Xor, Cut::Flat),
-    Op::BoolReduce(BoolBinary::Xor, Cut::Segmented),
-    Op::Permute(Form::Simple, Cut::Flat, Element::Integer),
-    Op::Permute(Form::Simple, Cut::Flat, Element::Boolean),
-    Op::Permute(Form::Simple, Cut::Segmented, Element::Integer),
-    Op::Permute(Form::Simple, Cut::Segmented, Element::Boolean),
-    Op::Permute(Form::Back, Cut::Flat, Element::Integer),
-    Op::Permute(Form::Back, Cut::Flat, Element::Boolean),
-    Op::Permute(Form::Back, Cut::Segmented, Element::Integer),
-    Op::Permute(Form::Back, Cut::Segmented, Element::Boolean),
-    Op::Permute(Form::Select, Cut::Flat, Element::Integer),
-    Op::Permute(Form::Select, Cut::Flat, Element::Boolean),
-    Op::Permute(Form::Select, Cut::Segmented, Element::Integer),
-    Op::Permute(Form::Select, Cut::Segmented, Element::Boolean),
-    Op::Permute(Form::Default, Cut::Flat, Element::Integer),
-    Op::Permute(Form::Default, Cut::Flat, Element::Boolean),
-    Op::Permute(Form::Default, Cut::Segmented, Element::Integer),
-    Op::Permute(Form::Default, Cut::Segmented, Element::Boolean),
-    Op::Length(Element::Integer),
-    Op::Length(Element::Boolean),
-    Op::Count(Cut::Flat),
-    Op::Count(Cut::Segmented),
-    Op::Pack(Cut::Flat, Element::Integer),
-    Op::Pack(Cut::Flat, Element::Boolean),
-    Op::Pack(Cut::Segmented, Element::Integer),
-    Op::Pack(Cut::Segmented, Element::Boolean),
-    Op::PackedLengths,
-    Op::Distribute(Cut::Flat, Element::Integer),
-    Op::Distribute(Cut::Flat, Element::Boolean),
-    Op::Distribute(Cut::Segmented, Element::Integer),
-    Op::Distribute(Cut::Segmented, Element::Boolean),
-    Op::Index(Cut::Flat),
-    Op::Index(Cut::Segmented),
-    Op::Extract(Cut::Flat, Element::Integer),
-    Op::Extract(Cut::Flat, Element::Boolean),
-    Op::Extract(Cut::Segmented, Element::Integer),
-    Op::Extract(Cut::Segmented, Element::Boolean),
-    Op::Replace(Cut::Flat, Element::Integer),
-    Op::Replace(Cut::Flat, Element::Boolean),
-    Op::Replace(Cut::Segmented, Element::Integer),
-    Op::Replace(Cut::Segmented, Element::Boolean),
-    Op::MakeDescriptor,
-    Op::DescriptorLengths,
-];
-
 /// The first of these calls whose name is the word.
 fn first_spelled(calls: &[Op], word: &[u8]) -> Option<Op>
     ensures { result ≡ find (is_spelled word.now) calls.now }
@@ -213,12 +99,188 @@ fn first_spelled(calls: &[Op], word: &[u8]) -> Option<Op>
     calls.iter().copied().find(|op| op.is_spelled(word))
 }
 
+/// The operator on two integer vectors with this name.
+fn ints2_named(word: &[u8]) -> Option<Op>
+    ensures { result ≡ find (is_spelled word.now) (map op.Ints2 int_binaries) }
+{
+    IntBinary::all()
+        .iter()
+        .map(|o| Op::Ints2(*o))
+        .find(|op| op.is_spelled(word))
+}
+
+/// The operator on one integer vector with this name.
+fn ints1_named(word: &[u8]) -> Option<Op>
+    ensures { result ≡ find (is_spelled word.now) (map op.Ints1 unaries) }
+{
+    Unary::all()
+        .iter()
+        .map(|o| Op::Ints1(*o))
+        .find(|op| op.is_spelled(word))
+}
+
+/// The comparison with this name.
+fn compare_named(word: &[u8]) -> Option<Op>
+    ensures { result ≡ find (is_spelled word.now) (map op.Compare comparisons) }
+{
+    Comparison::all()
+        .iter()
+        .map(|o| Op::Compare(*o))
+        .find(|op| op.is_spelled(word))
+}
+
+/// The operator on two boolean vectors with this name.
+fn bools2_named(word: &[u8]) -> Option<Op>
+    ensures { result ≡ find (is_spelled word.now) (map op.Bools2 bool_binaries) }
+{
+    BoolBinary::all()
+        .iter()
+        .map(|o| Op::Bools2(*o))
+        .find(|op| op.is_spelled(word))
+}
+
+/// The operator on one boolean vector with this name.
+fn bools1_named(word: &[u8]) -> Option<Op>
+    ensures { result ≡ find (is_spelled word.now) (map op.Bools1 unaries) }
+{
+    Unary::all()
+        .iter()
+        .map(|o| Op::Bools1(*o))
+        .find(|op| op.is_spelled(word))
+}
+
+/// The choice with this name.
+fn choose_named(word: &[u8]) -> Option<Op>
+    ensures { result ≡ find (is_spelled word.now) (map op.Choose elements) }
+{
+    Element::all()
+        .iter()
+        .map(|e| Op::Choose(*e))
+        .find(|op| op.is_spelled(word))
+}
+
+/// The elementwise call with this name.
+fn elementwise_named(word: &[u8]) -> Option<Op>
+    ensures { result ≡ find (is_spelled word.now) elementwise_calls }
+{
+    let conversion = first_spelled(&[Op::IntFromBool, Op::BoolFromInt], word);
+    ints2_named(word)
+        .or(ints1_named(word))
+        .or(compare_named(word))
+        .or(bools2_named(word))
+        .or(bools1_named(word))
+        .or(choose_named(word))
+        .or(conversion)
+}
+
+/// The scan of integers with this name, flat or by segments.
+fn scan_named(cut: Cut, word: &[u8]) -> Option<Op>
+    ensures { result ≡ find (is_spelled word.now) (map (λ o. op.Scan o cut) int_monoids) }
+{
+    IntMonoid::all()
+        .iter()
+        .map(|o| Op::Scan(*o, cut))
+        .find(|op| op.is_spelled(word))
+}
+
+/// The reduce of integers with this name, flat or by segments.
+fn reduce_named(cut: Cut, word: &[u8]) -> Option<Op>
+    ensures { result ≡ find (is_spelled word.now) (map (λ o. op.Reduce o cut) int_monoids) }
+{
+    IntMonoid::all()
+        .iter()
+        .map(|o| Op::Reduce(*o, cut))
+        .find(|op| op.is_spelled(word))
+}
+
+/// The scan of booleans with this name, flat or by segments.
+fn bool_scan_named(cut: Cut, word: &[u8]) -> Option<Op>
+    ensures { result ≡ find (is_spelled word.now) (map (λ o. op.BoolScan o cut) bool_binaries) }
+{
+    BoolBinary::all()
+        .iter()
+        .map(|o| Op::BoolScan(*o, cut))
+        .find(|op| op.is_spelled(word))
+}
+
+/// The reduce of booleans with this name, flat or by segments.
+fn bool_reduce_named(cut: Cut, word: &[u8]) -> Option<Op>
+    ensures { result ≡ find (is_spelled word.now) (map (λ o. op.BoolReduce o cut) bool_binaries) }
+{
+    BoolBinary::all()
+        .iter()
+        .map(|o| Op::BoolReduce(*o, cut))
+        .find(|op| op.is_spelled(word))
+}
+
+/// The permute with this name, flat or by segments, of such elements.
+fn permute_named(cut: Cut, element: Element, word: &[u8]) -> Option<Op>
+    ensures { result ≡ find (is_spelled word.now) (map (λ form. op.Permute form cut element) forms) }
+{
+    Form::all()
+        .iter()
+        .map(|form| Op::Permute(*form, cut, element))
+        .find(|op| op.is_spelled(word))
+}
+
+/// The call with this name on such elements, flat or by segments.
+fn element_call_named(cut: Cut, element: Element, word: &[u8]) -> Option<Op>
+    ensures { result ≡ find (is_spelled word.now) (element_calls cut element) }
+{
+    let others = [
+        Op::Pack(cut, element),
+        Op::Distribute(cut, element),
+        Op::Extract(cut, element),
+        Op::Replace(cut, element),
+    ];
+    permute_named(cut, element, word).or(first_spelled(&others, word))
+}
+
+/// The call with this name of those that take their vectors whole, or of those that take them by segments.
+fn cut_call_named(cut: Cut, word: &[u8]) -> Option<Op>
+    ensures { result ≡ find (is_spelled word.now) (cut_calls cut) }
+{
+    let others = first_spelled(&[Op::Count(cut), Op::Index(cut)], word);
+    scan_named(cut, word)
+        .or(reduce_named(cut, word))
+        .or(bool_scan_named(cut, word))
+        .or(bool_reduce_named(cut, word))
+        .or(element_call_named(cut, Element::Integer, word))
+        .or(element_call_named(cut, Element::Boolean, word))
+        .or(others)
+}
+
+/// The length with this name.
+fn length_named(word: &[u8]) -> Option<Op>
+    ensures { result ≡ find (is_spelled word.now) (map op.Length elements) }
+{
+    Element::all()
+        .iter()
+        .map(|e| Op::Length(*e))
+        .find(|op| op.is_spelled(word))
+}
+
+/// The call with this name that reads an input or a length, or makes or reads a descriptor.
+fn other_call_named(word: &[u8]) -> Option<Op>
+    ensures { result ≡ find (is_spelled word.now) other_calls }
+{
+    let others = [
+        Op::Input,
+        Op::PackedLengths,
+        Op::MakeDescriptor,
+        Op::DescriptorLengths,
+    ];
+    length_named(word).or(first_spelled(&others, word))
+}
+
 /// The call with this name, whether the library performs it or not; `write` is no call.
-#[tactic(auto, unfolding(crate::specs::Spellings::any_op_of))]
 fn any_op_of(word: &[u8]) -> Option<Op>
     ensures { result ≡ any_op_of word.now }
 {
-    first_spelled(&CALLS, word)
+    elementwise_named(word)
+        .or(cut_call_named(Cut::Flat, word))
+        .or(cut_call_named(Cut::Segmented, word))
+        .or(other_call_named(word))
 }
 
 /// The call with this name, or none where the library performs no such call; `write` is no call.
