@@ -6,6 +6,7 @@ pub mod Dividing
 pub mod ElementPlaces
 pub mod FirstBadPlaces
 pub mod FirstNegatives
+pub mod Flooring
 pub mod Joined
 pub mod LeastFaults
 pub mod Packing
