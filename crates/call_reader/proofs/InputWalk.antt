@@ -1,5 +1,5 @@
 -- An input, read from the front: how many tokens there are, and the numbers so far.
-use Rattle.std.proofs.Common.{◌≡◌, ℕ, ◌+◌, ◌*◌, ◌<◌, ◌≤◌, Bool, true, false, ◌&&◌, List, [], ◌∷◌, ◌++◌, length, get_or, take, drop, refl, ap, sym, ◌∙◌, arith, Ok, Err, Some, None, append_assoc, ℤ}
+use Rattle.std.proofs.Common.{◌≡◌, ℕ, ◌+◌, ◌*◌, ◌<◌, ◌≤◌, Bool, true, false, ◌&&◌, List, [], ◌∷◌, ◌++◌, length, map, get_or, take, drop, refl, ap, sym, ◌∙◌, arith, Ok, Err, Some, None, append_assoc, ℤ}
 use Rattle.std.specs.Int.{from_bool}
 use Rattle.std.specs.Prelude.{Result, if◌then◌else◌, not, ◌==◌}
 use Rattle.std.specs.List.{list_all}
@@ -9,12 +9,13 @@ use Rattle.std.proofs.lemmas.Bool.{false≢true}
 use Rattle.std.proofs.lemmas.List.{at_drop_more, append-nil, take-append-drop}
 use Rattle.cvl_base.specs.declared.fault.Fault.{Fault}
 use Rattle.cvl_base.specs.declared.fault.FaultNo.TheVariants.{BadInput}
+use Rattle.cvl_base.specs.Elementwise.{values_from}
 use Rattle.cvl_base.specs.Faults.{fault_at}
 use Rattle.cvl_base.specs.Gives.{◌>>=◌}
 use Rattle.call_reader.specs.declared.token.ByteClass.TheVariants.{Blank, Part}
 use Rattle.call_reader.specs.Tokens.{tokens_by, with_byte, is_part, begins_with_part}
 use Rattle.call_reader.specs.Numbers.{positive_of, negative_of, with_sign, number_of}
-use Rattle.call_reader.specs.Inputs.{is_white_space, input_class, numbers_from}
+use Rattle.call_reader.specs.Inputs.{is_white_space, input_class}
 use Rattle.call_reader.proofs.TokenWalk.{both_true, run_first}
 use Rattle.call_reader.proofs.NumberWalk.{magnitude_digits}
 
@@ -84,6 +85,10 @@ pub room_for_tokens : (bytes : List ℕ) → 2 * count_of bytes ≤ length bytes
 room_for_tokens bytes =
     let small : from_bool (begins_with_part input_class bytes) ≤ 1 = at_most_one _ (begins_with_part input_class bytes) refl in
     omega (arith, room_for_run bytes)
+
+-- the numbers of the tokens, of which the first stands at the place given
+abbrev pub numbers_from : ℕ → List (List ℕ) → Result (List ℤ) Fault
+numbers_from place tokens = values_from BadInput place (map number_of tokens)
 
 -- the numbers read so far, and behind them what the others give
 abbrev pub behind : List ℤ → Result (List ℤ) Fault → Result (List ℤ) Fault

@@ -5,5 +5,6 @@ pub mod DecimalTexts
 pub mod DigitLanes
 pub mod InputWalk
 pub mod NumberWalk
+pub mod ReadBack
 pub mod Spaces
 pub mod TokenWalk

@@ -60,7 +60,7 @@ too_great true m h = grind (arith, nat_tests)
 too_great false m h = grind (arith, nat_tests)
 
 -- digits behind a sign, or without one
-sign_read : (sign : Bool) (digits : List ℕ) → 0 < length digits → list_all is_ascii_digit digits ≡ true → with_sign sign digits digits ≡ fit sign (digits_value 10 digits)
+pub sign_read : (sign : Bool) (digits : List ℕ) → 0 < length digits → list_all is_ascii_digit digits ≡ true → with_sign sign digits digits ≡ fit sign (digits_value 10 digits)
 sign_read sign [] some all = absurd (omega arith)
 sign_read true (d ∷ ds) some all = rw all refl
 sign_read false (d ∷ ds) some all = rw all refl

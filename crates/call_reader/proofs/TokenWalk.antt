@@ -1,6 +1,6 @@
 -- The tokens of bytes, found from the front: blanks are skipped, and a longest run or a lone byte is a token.
-use Rattle.std.proofs.Common.{◌≡◌, ℕ, ◌+◌, ◌<◌, Bool, true, false, ◌&&◌, List, [], ◌∷◌, ◌++◌, length, get_or, take, drop, refl, ap, sym, ◌∙◌, arith, ◌⊎◌, inl, inr, suc, zero}
-use Rattle.std.proofs.lemmas.List.{drop_more, take-append-drop}
+use Rattle.std.proofs.Common.{◌≡◌, ℕ, ◌+◌, ◌<◌, ◌≤◌, Bool, true, false, ◌&&◌, List, [], ◌∷◌, ◌++◌, length, get_or, take, drop, refl, ap, sym, ◌∙◌, arith, ◌⊎◌, inl, inr, suc, zero}
+use Rattle.std.proofs.lemmas.List.{append-nil, drop_more, take-append-drop}
 use Rattle.std.proofs.lemmas.Bool.{false≢true}
 use Rattle.std.specs.Prelude.{not, if◌then◌else◌, filter}
 use Rattle.std.specs.List.{concat, list_all}
@@ -90,3 +90,51 @@ some_with Part false b tokens e = e
 pub none_empty : (class_of : ℕ → ByteClass) (bytes : List ℕ) → list_all (λ token. not (is_empty token)) (tokens_by class_of bytes) ≡ true
 none_empty class_of [] = refl
 none_empty class_of (b ∷ bs) = some_with (class_of b) (begins_with_part class_of bs) b (tokens_by class_of bs) (none_empty class_of bs)
+
+-- where a run begins there is a token
+some_tokens_at : (c : ByteClass) (runs_on : Bool) (b : ℕ) (tokens : List (List ℕ)) → is_part c ≡ true → 1 ≤ length (with_byte c runs_on b tokens)
+some_tokens_at Part true b [] e = omega arith
+some_tokens_at Part true b (token ∷ tokens) e = omega arith
+some_tokens_at Part false b tokens e = omega arith
+some_tokens_at Blank runs_on b tokens e = absurd (false≢true e)
+some_tokens_at Alone runs_on b tokens e = absurd (false≢true e)
+
+some_tokens : (class_of : ℕ → ByteClass) (bs : List ℕ) → begins_with_part class_of bs ≡ true → 1 ≤ length (tokens_by class_of bs)
+some_tokens class_of [] e = absurd (false≢true e)
+some_tokens class_of (b ∷ bs) e = some_tokens_at (class_of b) (begins_with_part class_of bs) b (tokens_by class_of bs) e
+
+-- a byte before tokens changes the first of them alone
+with_byte_before : (c : ByteClass) (runs_on : Bool) (b : ℕ) (tokens more : List (List ℕ)) → (runs_on ≡ true → 1 ≤ length tokens)
+    → with_byte c runs_on b (tokens ++ more) ≡ with_byte c runs_on b tokens ++ more
+with_byte_before Blank runs_on b tokens more some = refl
+with_byte_before Alone runs_on b tokens more some = refl
+with_byte_before Part true b [] more some = absurd (omega (arith, some refl))
+with_byte_before Part true b (token ∷ tokens) more some = refl
+with_byte_before Part false b tokens more some = refl
+
+-- where what stands behind begins with no part of a run, it changes nothing before it
+cut_before : (class_of : ℕ → ByteClass) (before behind : List ℕ) → begins_with_part class_of behind ≡ false
+    → tokens_by class_of (before ++ behind) ≡ tokens_by class_of before ++ tokens_by class_of behind
+cut_before class_of [] behind e = refl
+cut_before class_of (b ∷ bs) behind e =
+    let runs_on : begins_with_part class_of (bs ++ behind) ≡ begins_with_part class_of bs = begins bs in
+    ap (λ (on : Bool). with_byte (class_of b) on b (tokens_by class_of (bs ++ behind))) runs_on
+    ∙ ap (with_byte (class_of b) (begins_with_part class_of bs) b) (cut_before class_of bs behind e)
+    ∙ with_byte_before (class_of b) (begins_with_part class_of bs) b (tokens_by class_of bs) (tokens_by class_of behind) (some_tokens class_of bs)
+  where
+    begins : (bs : List ℕ) → begins_with_part class_of (bs ++ behind) ≡ begins_with_part class_of bs
+    begins [] = e
+    begins (c ∷ cs) = refl
+
+pub cut_at_blank : (class_of : ℕ → ByteClass) (before after : List ℕ) (b : ℕ) → class_of b ≡ Blank
+    → tokens_by class_of (before ++ b ∷ after) ≡ tokens_by class_of before ++ tokens_by class_of after
+cut_at_blank class_of before after b e =
+    cut_before class_of before (b ∷ after) (rw e refl) ∙ ap (λ others. tokens_by class_of before ++ others) (rw e refl)
+
+pub cut_at_lone : (class_of : ℕ → ByteClass) (before after : List ℕ) (b : ℕ) → class_of b ≡ Alone
+    → tokens_by class_of (before ++ b ∷ after) ≡ tokens_by class_of before ++ (b ∷ []) ∷ tokens_by class_of after
+cut_at_lone class_of before after b e =
+    cut_before class_of before (b ∷ after) (rw e refl) ∙ ap (λ others. tokens_by class_of before ++ others) (rw e refl)
+
+pub run_alone : (class_of : ℕ → ByteClass) (bs : List ℕ) → 0 < length bs → list_all (λ b. is_part (class_of b)) bs ≡ true → tokens_by class_of bs ≡ bs ∷ []
+run_alone class_of bs some all = ap (tokens_by class_of) (sym (append-nil bs)) ∙ run_first class_of bs [] all some refl

@@ -1,12 +1,11 @@
 -- The grammar of an input: signed decimals between white space.
 -- Source: this library's input format.
-use Rattle.std.specs.Prelude.{ℕ, ◌+◌, Bool, ◌||◌, ◌==◌, nat_lt, List, [], ◌∷◌, length, ℤ, if◌then◌else◌}
-use Rattle.std.specs.Prelude.{Result, Ok}
-use Rattle.std.specs.Option.{ok_or}
+use Rattle.std.specs.Prelude.{ℕ, Bool, ◌||◌, ◌==◌, nat_lt, List, length, map, ℤ, Result, if◌then◌else◌}
 use Rattle.cvl_base.specs.declared.fault.Fault.{Fault}
 use Rattle.cvl_base.specs.declared.fault.FaultNo.TheVariants.{TooLong, BadInput}
-use Rattle.cvl_base.specs.Faults.{fault, fault_at}
-use Rattle.cvl_base.specs.Gives.{◌>>=◌, fault_if}
+use Rattle.cvl_base.specs.Elementwise.{values_from}
+use Rattle.cvl_base.specs.Faults.{fault}
+use Rattle.cvl_base.specs.Gives.{fault_if}
 use Rattle.cvl_base.specs.Limits.{most_elements}
 use Rattle.call_reader.specs.declared.token.ByteClass.{ByteClass}
 use Rattle.call_reader.specs.declared.token.ByteClass.TheVariants.{Blank, Part}
@@ -20,14 +19,9 @@ is_white_space b = (b == 32) || (b == 9) || (b == 10) || (b == 13)
 abbrev pub input_class : ℕ → ByteClass
 input_class b = if is_white_space b then Blank else Part
 
--- the tokens' numbers, or the fault of the first token that is none; the first token stands at the place given
-abbrev pub numbers_from : ℕ → List (List ℕ) → Result (List ℤ) Fault
-numbers_from place [] = Ok []
-numbers_from place (token ∷ tokens) =
-    ok_or (number_of token) (fault_at BadInput place) >>= λ n. numbers_from (place + 1) tokens >>= λ ns. Ok (n ∷ ns)
-
--- more tokens than a vector may have are a fault whatever they are
+-- the tokens' numbers, or the fault at the first token that is none; more tokens than a vector may have are a fault
+-- whatever they are
 abbrev pub input_of : List ℕ → Result (List ℤ) Fault
 input_of bytes =
     let tokens = tokens_by input_class bytes in
-    fault_if (nat_lt most_elements (length tokens)) (fault TooLong) (numbers_from 0 tokens)
+    fault_if (nat_lt most_elements (length tokens)) (fault TooLong) (values_from BadInput 0 (map number_of tokens))

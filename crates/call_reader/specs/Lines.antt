@@ -1,9 +1,10 @@
 -- The grammar of a line of a script, by cases on its tokens. The order of checks is the line's form, the call's name,
 -- the number of arguments, the line's numbers.
 -- Source: this library's script format.
-use Rattle.std.specs.Prelude.{ℕ, Bool, false, not, ◌&&◌, ◌||◌, ◌==◌, List, [], ◌∷◌, length, codes, Option, Some, None, option_map, Result, Ok, Err, if◌then◌else◌, ok_or}
+use Rattle.std.specs.Prelude.{ℕ, Bool, false, not, ◌&&◌, ◌||◌, ◌==◌, nat_eq, List, [], ◌∷◌, length, codes, Option, Some, None, option_map, Result, Ok, Err, if◌then◌else◌, ok_or}
 use Rattle.std.specs.List.{list_all, before_first}
 use Rattle.std.specs.Char.{is_ascii_digit}
+use Rattle.std.specs.Cmp.Lexicographic.{pointwise}
 use Rattle.cvl_base.specs.declared.fault.Fault.{Fault}
 use Rattle.cvl_base.specs.declared.fault.FaultNo.TheVariants.{BadLine, UnknownCall, WrongArgumentCount, BadNumber}
 use Rattle.cvl_base.specs.declared.call.Arg.{Arg}
@@ -15,7 +16,7 @@ use Rattle.cvl_base.specs.Calls.{takes_of}
 use Rattle.cvl_base.specs.Spellings.{op_of}
 use Rattle.cvl_base.specs.Faults.{fault}
 use Rattle.cvl_base.specs.Gives.{◌>>=◌, fault_if}
-use Rattle.cvl_base.specs.Words.{is_text, is_word, is_name}
+use Rattle.cvl_base.specs.Words.{is_word, is_name}
 use Rattle.call_reader.specs.declared.token.ByteClass.{ByteClass}
 use Rattle.call_reader.specs.declared.token.ByteClass.TheVariants.{Blank, Alone, Part}
 use Rattle.call_reader.specs.Tokens.{tokens_by}
@@ -34,7 +35,7 @@ is_number_token [] = false
 is_number_token (b ∷ bs) = is_ascii_digit b || b == 45
 
 abbrev pub is_truth_token : List ℕ → Bool
-is_truth_token token = is_text (codes "T") token || is_text (codes "F") token
+is_truth_token token = pointwise nat_eq token (codes "T") || pointwise nat_eq token (codes "F")
 
 -- a name, `T`, `F` or a number token
 abbrev pub is_arg : List ℕ → Bool
@@ -44,7 +45,7 @@ is_arg token = is_name token || is_truth_token token || is_number_token token
 abbrev pub arg_of : List ℕ → Option Arg
 arg_of token =
     if is_name token then Some (arg.Name token)
-    else (if is_truth_token token then Some (arg.Boolean (is_text (codes "T") token))
+    else (if is_truth_token token then Some (arg.Boolean (pointwise nat_eq token (codes "T")))
     else option_map arg.Integer (number_of token))
 
 abbrev pub args_of : List (List ℕ) → Result (List Arg) Fault
@@ -58,7 +59,7 @@ before_comment line = before_first (λ b. b == 35) line
 
 abbrev pub begins_with_equals : List (List ℕ) → Bool
 begins_with_equals [] = false
-begins_with_equals (token ∷ tokens) = is_text (codes "=") token
+begins_with_equals (token ∷ tokens) = pointwise nat_eq token (codes "=")
 
 module _ {A : Type 0} where
   abbrev pub with_op : Option (List ℕ) → Option Op → List (List ℕ) → Result (Option (Call A)) Fault
@@ -70,7 +71,7 @@ module _ {A : Type 0} where
   -- `NAME = CALL ARG ..`
   abbrev pub binding : List (List ℕ) → Result (Option (Call A)) Fault
   binding (target ∷ equals ∷ call ∷ args) =
-      fault_if (not (is_name target && is_text (codes "=") equals && is_word call && list_all is_arg args)) (fault BadLine)
+      fault_if (not (is_name target && pointwise nat_eq equals (codes "=") && is_word call && list_all is_arg args)) (fault BadLine)
       (with_op (Some target) (op_of call) args)
   binding _ = Err (fault BadLine)
 
@@ -81,7 +82,7 @@ module _ {A : Type 0} where
   abbrev pub form_of : List (List ℕ) → Result (Option (Call A)) Fault
   form_of [] = Ok None
   form_of (first ∷ others) =
-      if is_text (codes "write") first && not (begins_with_equals others)
+      if pointwise nat_eq first (codes "write") && not (begins_with_equals others)
       then write_line others
       else binding (first ∷ others)
 

@@ -1,12 +1,16 @@
 -- The text of a value: integers in decimal, booleans `T` and `F`, vectors `[0 3 4]`, the empty vector `[]`, a
 -- descriptor as its lengths, a vector with a descriptor as the vectors of its segments, `[[] [5 1]]`.
 -- Source: this library's text format.
-use Rattle.std.specs.Prelude.{ℕ, ◌==◌, Bool, true, false, List, ◌∷◌, ◌++◌, length, map, sum, codes, Option, Some, None}
+use Rattle.std.specs.Prelude.{ℕ, Bool, true, false, List, ◌∷◌, ◌++◌, map, codes, Option, Some, None, Result, Ok, Err}
 use Rattle.std.specs.List.{flat_map, join_with_byte}
 use Rattle.std.specs.Fmt.{decimal, signed_decimal}
+use Rattle.cvl_base.specs.declared.fault.Fault.{Fault}
+use Rattle.cvl_base.specs.declared.fault.FaultNo.TheVariants.{LengthMismatch}
 use Rattle.cvl_base.specs.declared.value.Value.{Value}
 use Rattle.cvl_base.specs.declared.value.Value.TheVariants as value
-use Rattle.cvl_base.specs.Nests.{cut_of}
+use Rattle.cvl_base.specs.Faults.{fault}
+use Rattle.cvl_base.specs.Gives.{◌>>=◌}
+use Rattle.cvl_base.specs.Nests.{nest}
 
 abbrev pub boolean_text : Bool → List ℕ
 boolean_text true = codes "T"
@@ -34,19 +38,18 @@ text_of (value.Descriptor lengths) = vector_text decimal lengths
 text_of (value.Integer n) = signed_decimal n
 text_of (value.Boolean b) = boolean_text b
 
--- the text of a vector that is cut by the lengths of a descriptor; of another value its own text
-abbrev pub nested_text_of : {A : Type 0} → List ℕ → Value A → List ℕ
-nested_text_of lengths (value.Integers xs) = nest_text signed_decimal (cut_of lengths xs)
-nested_text_of lengths (value.Booleans bs) = nest_text boolean_text (cut_of lengths bs)
-nested_text_of lengths other = text_of other
+-- bytes, and after them a text where there is one
+abbrev pub after_bytes : List ℕ → Result (List ℕ) Fault → Result (List ℕ) Fault
+after_bytes bytes text = text >>= λ added. Ok (bytes ++ added)
 
--- the text beside a descriptor, where there is one
-abbrev pub text_beside : {A : Type 0} → Option (List ℕ) → Value A → List ℕ
-text_beside None v = text_of v
-text_beside (Some lengths) v = nested_text_of lengths v
+module _ {A : Type 0} where
+  -- the text of a vector's nest, where the lengths add up to the vector; no other value has a nest
+  abbrev pub cut_text : List ℕ → Value A → Result (List ℕ) Fault
+  cut_text lengths (value.Integers xs) = nest lengths xs >>= λ lists. Ok (nest_text signed_decimal lists)
+  cut_text lengths (value.Booleans bs) = nest lengths bs >>= λ lists. Ok (nest_text boolean_text lists)
+  cut_text lengths other = Err (fault LengthMismatch)
 
--- whether the lengths cut this value: it is a vector, as long as they add up to
-abbrev pub is_cut_by : {A : Type 0} → List ℕ → Value A → Bool
-is_cut_by lengths (value.Integers xs) = sum lengths == length xs
-is_cut_by lengths (value.Booleans bs) = sum lengths == length bs
-is_cut_by lengths other = false
+  -- the text of a value, or that of a vector beside a descriptor of these lengths
+  abbrev pub value_text : Option (List ℕ) → Value A → Result (List ℕ) Fault
+  value_text None v = Ok (text_of v)
+  value_text (Some lengths) v = cut_text lengths v

@@ -1,7 +1,8 @@
 -- How bytes are cut into tokens, by the class of each byte: a blank byte stands between tokens, a lone byte is a token
 -- of its own, and a longest run of the other bytes is a token.
 -- Source: this library's script and input formats.
-use Rattle.std.specs.Prelude.{ℕ, Bool, true, false, List, [], ◌∷◌}
+use Rattle.std.specs.Prelude.{◌≡◌, ◌<◌, ℕ, Bool, true, false, List, [], ◌∷◌, ◌++◌, length, IsTrue}
+use Rattle.std.specs.List.{list_all}
 use Rattle.call_reader.specs.declared.token.ByteClass.{ByteClass}
 use Rattle.call_reader.specs.declared.token.ByteClass.TheVariants.{Blank, Alone, Part}
 
@@ -40,3 +41,12 @@ begins_with_blank class_of (b ∷ bs) = is_blank (class_of b)
 abbrev pub tokens_by : (ℕ → ByteClass) → List ℕ → List (List ℕ)
 tokens_by class_of [] = []
 tokens_by class_of (b ∷ bs) = with_byte (class_of b) (begins_with_part class_of bs) b (tokens_by class_of bs)
+
+-- what it means to cut bytes into tokens: a run is one token, and at a blank or a lone byte the bytes are cut in two,
+-- with the lone byte as a token between them
+pub record AreTokens (class_of : ℕ → ByteClass) (tokens_of : List ℕ → List (List ℕ)) : Type 0 where
+  pub nothing : tokens_of [] ≡ []
+  pub run : (bs : List ℕ) → 0 < length bs → IsTrue (list_all (λ b. is_part (class_of b)) bs) → tokens_of bs ≡ bs ∷ []
+  pub blank : (before after : List ℕ) (b : ℕ) → class_of b ≡ Blank → tokens_of (before ++ b ∷ after) ≡ tokens_of before ++ tokens_of after
+  pub alone : (before after : List ℕ) (b : ℕ) → class_of b ≡ Alone
+      → tokens_of (before ++ b ∷ after) ≡ tokens_of before ++ (b ∷ []) ∷ tokens_of after

@@ -1,8 +1,9 @@
 //! Worked texts, each a function that takes and gives nothing and whose contract they are.
 
-ghost use Rattle.std.specs.Prelude.{◌≡◌, true, false, [], ◌∷◌, codes, pos, negsuc, Some, None};
+ghost use Rattle.std.specs.Prelude.{◌≡◌, true, false, [], ◌∷◌, codes, pos, negsuc, Some, None, Ok};
 ghost use Rattle.cvl_base.specs.declared.value.Value.TheVariants as value;
-ghost use Rattle.call_reader.specs.Texts.{text_of, text_beside};
+ghost use Rattle.call_reader.specs.Numbers.{number_of};
+ghost use Rattle.call_reader.specs.Texts.{text_of, value_text};
 
 use std::alloc::Allocator;
 
@@ -24,9 +25,16 @@ pub fn text_values<A: Allocator>()
 /// The text of vectors beside a descriptor, with empty segments before, between and after others, and of no segments
 /// at all.
 pub fn nested_text_values<A: Allocator>()
-    ensures integers { text_beside {A = A} (Some (0 ∷ (2 ∷ (0 ∷ (3 ∷ (0 ∷ [])))))) (value.Integers (pos 5 ∷ (pos 1 ∷ (pos 7 ∷ (pos 7 ∷ (pos 1 ∷ [])))))) ≡ codes "[[] [5 1] [] [7 7 1] []]" }
-    ensures booleans { text_beside {A = A} (Some (1 ∷ (2 ∷ []))) (value.Booleans (true ∷ (false ∷ (true ∷ [])))) ≡ codes "[[T] [F T]]" }
-    ensures no_segments { text_beside {A = A} (Some []) (value.Integers []) ≡ codes "[]" }
-    ensures empty_segment { text_beside {A = A} (Some (0 ∷ [])) (value.Integers []) ≡ codes "[[]]" }
-    ensures alone { text_beside {A = A} None (value.Integers (pos 12 ∷ (negsuc 0 ∷ []))) ≡ codes "[12 -1]" }
+    ensures integers { value_text {A = A} (Some (0 ∷ (2 ∷ (0 ∷ (3 ∷ (0 ∷ [])))))) (value.Integers (pos 5 ∷ (pos 1 ∷ (pos 7 ∷ (pos 7 ∷ (pos 1 ∷ [])))))) ≡ Ok (codes "[[] [5 1] [] [7 7 1] []]") }
+    ensures booleans { value_text {A = A} (Some (1 ∷ (2 ∷ []))) (value.Booleans (true ∷ (false ∷ (true ∷ [])))) ≡ Ok (codes "[[T] [F T]]") }
+    ensures no_segments { value_text {A = A} (Some []) (value.Integers []) ≡ Ok (codes "[]") }
+    ensures empty_segment { value_text {A = A} (Some (0 ∷ [])) (value.Integers []) ≡ Ok (codes "[[]]") }
+    ensures alone { value_text {A = A} None (value.Integers (pos 12 ∷ (negsuc 0 ∷ []))) ≡ Ok (codes "[12 -1]") }
 {}
+
+/// The text of an integer, read as a number, is that integer. It does nothing: its contract says so of the definitions.
+pub fn integer_reads_back<A: Allocator>(number: i32)
+    ensures { number_of (text_of {A = A} (value.Integer number)) ≡ Some number }
+{
+    let _number = number;
+}

@@ -1,8 +1,8 @@
 //! The text of values.
 
-ghost use Rattle.std.specs.Prelude.{◌≡◌, ◌++◌, length, map, take, unsigned_abs, IsTrue, OnOk, OnErr};
+ghost use Rattle.std.specs.Prelude.{◌≡◌, ◌++◌, length, map, take, unsigned_abs, IsOk, Ok, OnOk, OnErr};
 ghost use Rattle.std.specs.Option.{ForSome, option_copied};
-ghost use Rattle.call_reader.specs.Texts.{text_of, nested_text_of, text_beside, is_cut_by};
+ghost use Rattle.call_reader.specs.Texts.{after_bytes, cut_text, text_of, value_text};
 
 use crate::vector_text::{PAGE_BYTES, Page, put_element, put_nest, put_vector};
 use cvl_base::{Memory, NoResources, Value};
@@ -33,8 +33,8 @@ fn put_nested<A: Memory>(
     page: &mut Page,
     text: &mut Vec<u8, A>,
 ) -> Result<(), NoResources>
-    requires { IsTrue (is_cut_by (map unsigned_abs lengths.now) value.now) }
-    ensures ok { OnOk result (text.new.items ≡ text.old.items ++ nested_text_of (map unsigned_abs lengths.now) value.now) }
+    requires { IsOk (cut_text (map unsigned_abs lengths.now) value.now) }
+    ensures ok { OnOk result (after_bytes text.old.items (cut_text (map unsigned_abs lengths.now) value.now) ≡ Ok text.new.items) }
     ensures begins { take (length text.old.items) text.new.items ≡ text.old.items }
 {
     match value {
@@ -50,8 +50,8 @@ fn put_beside<A: Memory>(
     descriptor: Option<&SegDes<A>>,
     text: &mut Vec<u8, A>,
 ) -> Result<(), NoResources>
-    requires { ForSome descriptor (λ d. IsTrue (is_cut_by d.now value.now)) }
-    ensures ok { OnOk result (text.new.items ≡ text.old.items ++ text_beside (option_copied descriptor.entry) value.now) }
+    requires { ForSome descriptor (λ d. IsOk (cut_text d.now value.now)) }
+    ensures ok { OnOk result (after_bytes text.old.items (value_text (option_copied descriptor.entry) value.now) ≡ Ok text.new.items) }
     ensures begins { take (length text.old.items) text.new.items ≡ text.old.items }
 {
     let mut page = [0; PAGE_BYTES];
@@ -72,8 +72,8 @@ pub fn put_value<A: Memory>(
     descriptor: Option<&SegDes<A>>,
     text: &mut Vec<u8, A>,
 ) -> Result<(), NoResources>
-    requires { ForSome descriptor (λ d. IsTrue (is_cut_by d.now value.now)) }
-    ensures ok { OnOk result (text.new.items ≡ text.old.items ++ text_beside (option_copied descriptor.entry) value.now) }
+    requires { ForSome descriptor (λ d. IsOk (cut_text d.now value.now)) }
+    ensures ok { OnOk result (after_bytes text.old.items (value_text (option_copied descriptor.entry) value.now) ≡ Ok text.new.items) }
     ensures err { OnErr result (text.new.items ≡ text.old.items) }
 {
     let len = text.len();
@@ -83,6 +83,3 @@ pub fn put_value<A: Memory>(
     }
     outcome
 }
-
-#[cfg(test)]
-mod tests;

@@ -3,7 +3,7 @@
 ghost use Rattle.std.specs.Prelude.{◌≡◌, ◌<◌, ◌≤◌, [], ◌∷◌, length, take, drop, filter, false, not, IsTrue, MatchOption, IfSome};
 ghost use Rattle.std.specs.List.{concat, list_all};
 ghost use Rattle.call_reader.specs.Numbers.{is_empty};
-ghost use Rattle.call_reader.specs.Tokens.{tokens_by, is_blank, is_part, begins_with_part, begins_with_blank};
+ghost use Rattle.call_reader.specs.Tokens.{tokens_by, AreTokens, is_blank, is_part, begins_with_part, begins_with_blank};
 
 /// What a byte is to the tokens.
 #[derive(Clone, Copy, Debug, PartialEq, Eq, Hash)]
@@ -73,9 +73,11 @@ pub(crate) fn first_token<C: Classes>(bytes: &[u8]) -> Option<(&[u8], &[u8])>
     Some(behind.split_at(length))
 }
 
-/// What the tokens of any bytes are: all bytes that aren't blank, in their order, in lists of which none is empty. It
-/// does nothing: its contract says so of the definition.
+/// What the tokens of any bytes are: all bytes that aren't blank, in their order, in lists of which none is empty. A
+/// blank stands between tokens, a lone byte is a token of its own, and a longest run is one token. It does nothing: its
+/// contract says so of the definition.
 pub fn token_laws<C: Classes>(bytes: &[u8])
+    ensures classes { AreTokens C.class_of (tokens_by C.class_of) }
     ensures whole { concat (tokens_by C.class_of bytes.now) ≡ filter (λ b. not (is_blank (C.class_of b))) bytes.now }
     ensures none_empty { IsTrue (list_all (λ token. not (is_empty token)) (tokens_by C.class_of bytes.now)) }
 {

@@ -1,13 +1,13 @@
 -- Scans and reduces of integers and booleans: each operator of the table with its identity.
 -- Source: CVL's scans and reduces.
 use Rattle.std.specs.Prelude.{Bool, true, false, ℤ, pos, negsuc, List}
-use Rattle.cvl_base.specs.declared.families.IntMonoid.{IntMonoid}
-use Rattle.cvl_base.specs.declared.families.IntMonoid.TheVariants.{Add, Mul, Min, Max, And, Ior, Xor}
-use Rattle.cvl_base.specs.declared.families.BoolBinary.{BoolBinary}
-use Rattle.cvl_base.specs.declared.families.BoolBinary.TheVariants as truth
-use Rattle.cvl_base.specs.Booleans.{both, either, differ}
-use Rattle.cvl_base.specs.Integers.{sum_of, product_of, lesser_of, greater_of, and_of, ior_of, xor_of}
-use Rattle.cvl_base.specs.Folds.{fold_of, scan_of}
+use Rattle.call_table.specs.declared.families.IntMonoid.{IntMonoid}
+use Rattle.call_table.specs.declared.families.IntMonoid.TheVariants.{Add, Mul, Min, Max, And, Ior, Xor}
+use Rattle.call_table.specs.declared.families.BoolBinary.{BoolBinary}
+use Rattle.call_table.specs.declared.families.BoolBinary.TheVariants as truth
+use Rattle.operators.specs.Booleans.{both, either, differ}
+use Rattle.operators.specs.Integers.{sum_of, product_of, lesser_of, greater_of, and_of, ior_of, xor_of}
+use Rattle.operators.specs.Folds.{fold_of, scan_of}
 
 abbrev pub int_join_of : IntMonoid → ℤ → ℤ → ℤ
 int_join_of Add = sum_of

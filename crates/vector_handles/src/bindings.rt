@@ -1,8 +1,7 @@
 //! The binding of a name to what a call gives.
 
-ghost use Rattle.std.specs.Prelude.{◌≡◌, OnErr, Some, None};
-ghost use Rattle.cvl_base.specs.Gives.{Gives};
-ghost use Rattle.vector_handles.specs.Steps.{Stepped, performed};
+ghost use Rattle.std.specs.Prelude.{◌≡◌, OnErr};
+ghost use Rattle.vector_handles.specs.Answers.{IsBinding};
 
 use crate::names::is_room;
 use crate::session::Session;
@@ -19,7 +18,7 @@ impl<A: Memory> Session<A> {
         op: Op,
         args: &[Arg],
     ) -> Result<(), Refused>
-        ensures meaning { Gives (λ _. record { names = self.new.names; shown = None }) result (performed self.old.names self.old.inputs (Some target.now) op args.now) }
+        ensures meaning { IsBinding self.old target.now op args.now self.new result }
         ensures inputs { self.new.inputs ≡ self.old.inputs }
         ensures refused { OnErr result (self.new.names ≡ self.old.names) }
     {

@@ -1,10 +1,8 @@
 //! The value that a call gives, family by family.
 
-ghost use Rattle.cvl_base.specs.Gives.{Gives};
 ghost use Rattle.cvl_base.specs.declared.families.Cut.TheVariants.{Flat};
 ghost use Rattle.cvl_base.specs.declared.operation.Op.TheVariants as op;
-ghost use Rattle.vector_handles.specs.Arguments.{argument_at};
-ghost use Rattle.vector_handles.specs.CallValues.{call_value, table_value};
+ghost use Rattle.vector_handles.specs.Answers.{IsCallValue, IsTableValue};
 
 use crate::lookups::{integer_at, integers_at, lengths_at};
 use crate::numbered::{input_numbered, integers_of_input};
@@ -22,7 +20,7 @@ impl<A: Memory> Session<A> {
         op: Op,
         args: &[Arg],
     ) -> Result<Value<A>, Refused>
-        ensures { Gives (λ v. v) result (call_value self.now.inputs op (argument_at self.now.names args.now)) }
+        ensures { IsCallValue self.now op args.now result }
     {
         if !op.is_done() {
             return Err(Refused::Fault(Fault::new(FaultNo::UnknownCall)));
@@ -46,7 +44,7 @@ impl<A: Memory> Session<A> {
 
     /// `input`: `NoSuchInput` where no input has that number, and the faults of reading it.
     fn value_of_input(&self, args: &[Arg]) -> Result<Value<A>, Refused>
-        ensures { Gives (λ v. v) result (table_value self.now.inputs op.Input (argument_at self.now.names args.now)) }
+        ensures { IsTableValue self.now op.Input args.now result }
     {
         let number = integer_at(&self.names, args, 0);
         match input_numbered(self.inputs.as_slice(), &number) {
@@ -62,7 +60,7 @@ impl<A: Memory> Session<A> {
         operator: IntMonoid,
         args: &[Arg],
     ) -> Result<Value<A>, Refused>
-        ensures { Gives (λ v. v) result (table_value self.now.inputs (op.Scan operator Flat) (argument_at self.now.names args.now)) }
+        ensures { IsTableValue self.now (op.Scan operator Flat) args.now result }
     {
         let a = integers_at(&self.names, args, 0);
         let sums = int_scan(rt, self.alloc, self.config, operator, a)?;
@@ -71,7 +69,7 @@ impl<A: Memory> Session<A> {
 
     /// `mke_fov`: the descriptor with these lengths.
     fn new_descriptor(&self, args: &[Arg]) -> Result<Value<A>, Refused>
-        ensures { Gives (λ v. v) result (table_value self.now.inputs op.MakeDescriptor (argument_at self.now.names args.now)) }
+        ensures { IsTableValue self.now op.MakeDescriptor args.now result }
     {
         let descriptor = SegDes::from_lengths(self.alloc, integers_at(&self.names, args, 0))?;
         Ok(Value::Descriptor(descriptor.into_lengths()))
@@ -79,7 +77,7 @@ impl<A: Memory> Session<A> {
 
     /// `len_fos`: the lengths of a descriptor.
     fn lengths_of_descriptor(&self, args: &[Arg]) -> Result<Value<A>, Refused>
-        ensures { Gives (λ v. v) result (table_value self.now.inputs op.DescriptorLengths (argument_at self.now.names args.now)) }
+        ensures { IsTableValue self.now op.DescriptorLengths args.now result }
     {
         let lengths = Vec::from_slice(self.alloc, lengths_at(&self.names, args, 0))?;
         Ok(Value::Integers(Ints::from_vec(lengths)))

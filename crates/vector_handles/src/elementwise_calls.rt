@@ -1,9 +1,7 @@
 //! The value that an elementwise call gives, shape by shape.
 
-ghost use Rattle.cvl_base.specs.Gives.{Gives};
 ghost use Rattle.cvl_base.specs.declared.operation.Op.TheVariants as op;
-ghost use Rattle.vector_handles.specs.Arguments.{argument_at};
-ghost use Rattle.vector_handles.specs.CallValues.{table_value};
+ghost use Rattle.vector_handles.specs.Answers.{IsTableValue};
 
 use crate::lookups::{booleans_at, integers_at};
 use crate::session::Session;
@@ -21,7 +19,7 @@ impl<A: Memory> Session<A> {
         operator: IntBinary,
         args: &[Arg],
     ) -> Result<Value<A>, Refused>
-        ensures { Gives (λ v. v) result (table_value self.now.inputs (op.Ints2 operator) (argument_at self.now.names args.now)) }
+        ensures { IsTableValue self.now (op.Ints2 operator) args.now result }
     {
         let a = integers_at(&self.names, args, 0);
         let b = integers_at(&self.names, args, 1);
@@ -31,7 +29,7 @@ impl<A: Memory> Session<A> {
 
     /// An operator on an integer vector.
     pub(crate) fn value_of_ints1(&self, operator: Unary, args: &[Arg]) -> Result<Value<A>, Refused>
-        ensures { Gives (λ v. v) result (table_value self.now.inputs (op.Ints1 operator) (argument_at self.now.names args.now)) }
+        ensures { IsTableValue self.now (op.Ints1 operator) args.now result }
     {
         let a = integers_at(&self.names, args, 0);
         let values = int1(self.alloc, self.config, operator, a)?;
@@ -45,7 +43,7 @@ impl<A: Memory> Session<A> {
         operator: Comparison,
         args: &[Arg],
     ) -> Result<Value<A>, Refused>
-        ensures { Gives (λ v. v) result (table_value self.now.inputs (op.Compare operator) (argument_at self.now.names args.now)) }
+        ensures { IsTableValue self.now (op.Compare operator) args.now result }
     {
         let a = integers_at(&self.names, args, 0);
         let b = integers_at(&self.names, args, 1);
@@ -60,7 +58,7 @@ impl<A: Memory> Session<A> {
         operator: BoolBinary,
         args: &[Arg],
     ) -> Result<Value<A>, Refused>
-        ensures { Gives (λ v. v) result (table_value self.now.inputs (op.Bools2 operator) (argument_at self.now.names args.now)) }
+        ensures { IsTableValue self.now (op.Bools2 operator) args.now result }
     {
         let a = booleans_at(&self.names, args, 0);
         let b = booleans_at(&self.names, args, 1);
@@ -70,7 +68,7 @@ impl<A: Memory> Session<A> {
 
     /// An operator on a boolean vector.
     pub(crate) fn value_of_bools1(&self, operator: Unary, args: &[Arg]) -> Result<Value<A>, Refused>
-        ensures { Gives (λ v. v) result (table_value self.now.inputs (op.Bools1 operator) (argument_at self.now.names args.now)) }
+        ensures { IsTableValue self.now (op.Bools1 operator) args.now result }
     {
         let a = booleans_at(&self.names, args, 0);
         let values = bool1(self.alloc, self.config, operator, a)?;
@@ -84,7 +82,7 @@ impl<A: Memory> Session<A> {
         element: Element,
         args: &[Arg],
     ) -> Result<Value<A>, Refused>
-        ensures { Gives (λ v. v) result (table_value self.now.inputs (op.Choose element) (argument_at self.now.names args.now)) }
+        ensures { IsTableValue self.now (op.Choose element) args.now result }
     {
         let flags = booleans_at(&self.names, args, 0);
         match element {
@@ -105,7 +103,7 @@ impl<A: Memory> Session<A> {
 
     /// The integers 1 and 0 for the booleans of a vector.
     pub(crate) fn value_of_int_from_bool(&self, args: &[Arg]) -> Result<Value<A>, Refused>
-        ensures { Gives (λ v. v) result (table_value self.now.inputs op.IntFromBool (argument_at self.now.names args.now)) }
+        ensures { IsTableValue self.now op.IntFromBool args.now result }
     {
         let a = booleans_at(&self.names, args, 0);
         let values = int_from_bool(self.alloc, self.config, a)?;
@@ -118,7 +116,7 @@ impl<A: Memory> Session<A> {
         rt: &R,
         args: &[Arg],
     ) -> Result<Value<A>, Refused>
-        ensures { Gives (λ v. v) result (table_value self.now.inputs op.BoolFromInt (argument_at self.now.names args.now)) }
+        ensures { IsTableValue self.now op.BoolFromInt args.now result }
     {
         let a = integers_at(&self.names, args, 0);
         let values = bool_from_int(rt, self.alloc, self.config, a)?;

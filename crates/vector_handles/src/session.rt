@@ -30,9 +30,7 @@ impl<A: Memory> Model for Session<A> {
 
 impl<A: Memory> Session<A> {
     ghost use Rattle.vector_handles.specs.Names.{value_at};
-    ghost use Rattle.vector_handles.specs.Sessions.{text_shown};
-    ghost use Rattle.vector_handles.specs.Steps.{Stepped, step};
-    ghost use Rattle.cvl_base.specs.Gives.{Gives};
+    ghost use Rattle.vector_handles.specs.Answers.{IsStep};
 
     /// A session with no name bound, over these inputs, which a script counts from 1.
     pub fn new(
@@ -59,7 +57,7 @@ impl<A: Memory> Session<A> {
     /// where the lengths of a written descriptor don't add up to the vector's. After a refusal no name has changed, so
     /// that the same call can be made again. Source: this library's script format.
     pub fn apply<R: Threads + Sync>(&mut self, rt: &R, call: &Call<A>) -> Result<Shown<A>, Refused>
-        ensures meaning { Gives (λ shown. record { names = self.new.names; shown = text_shown shown }) result (step self.old.names self.old.inputs call.now) }
+        ensures meaning { IsStep self.old call.now self.new result }
         ensures inputs { self.new.inputs ≡ self.old.inputs }
         ensures refused { OnErr result (self.new.names ≡ self.old.names) }
     {

@@ -1,8 +1,0 @@
-use Rattle.cvl_base.proofs.Flooring.{is_floor, only_floor}
-use Rattle.cvl_base.proofs.laws.floor_law.Goals as goal
-
-pub returns-clause-floor : goal.returns-clause-floor
-returns-clause-floor c = is_floor
-
-pub returns-clause-only : goal.returns-clause-only
-returns-clause-only c = only_floor

@@ -1,0 +1,37 @@
+//! Laws of the operators, each a function that takes and gives nothing and whose contract is the law.
+
+ghost use Rattle.std.specs.Prelude.{◌≡◌, ◌≢◌, ◌≤◌, ◌<◌, ◌^◌, ◌*ℤ◌, ℕ, negsuc, pos, ℤ};
+ghost use Rattle.operators.specs.Integers.{IsDivided, IsFloor, IsWrapped, floor_of, left_shift_of, quotient_of, remainder_of, right_shift_of, wrap};
+
+/// `wrap` gives, of each whole number, the one number that fits 32 bits and is congruent to it modulo 2^32.
+pub fn wrap_law()
+    ensures wrapped { (x : ℤ) → IsWrapped x (wrap x) }
+    ensures only { (x wrapped : ℤ) → IsWrapped x wrapped → wrapped ≡ wrap x }
+{}
+
+/// Where the divisor isn't 0, the quotient, before it is wrapped, times the divisor and with the remainder is the dividend
+/// again; the remainder is nearer to 0 than the divisor, and is 0 or has the dividend's sign. By 0 there is neither.
+pub fn division_law()
+    ensures divided { (a b : ℤ) → b ≢ pos 0 →
+        (q r : ℤ) × (quotient_of a b ≡ Some (wrap q)) × (remainder_of a b ≡ Some r) × IsDivided a b q r }
+    ensures no_quotient { (a : ℤ) → quotient_of a (pos 0) ≡ None }
+    ensures no_remainder { (a : ℤ) → remainder_of a (pos 0) ≡ None }
+{}
+
+/// The floor of a quotient by a number above 0 is the one number whose product with the divisor is at most the dividend
+/// and less than the divisor away from it.
+pub fn floor_law()
+    ensures floor { (a : ℤ) (n : ℕ) → 0 < n → IsFloor a n (floor_of a n) }
+    ensures only { (a q : ℤ) (n : ℕ) → IsFloor a n q → q ≡ floor_of a n }
+{}
+
+/// By 0 to 31 places a left shift gives the product with that power of two, wrapped, and a right shift the floor of the
+/// quotient by it. By less than 0 places, and by more than 31, there is neither.
+pub fn shift_law()
+    ensures left { (a : ℤ) (s : ℕ) → s < 32 → left_shift_of a (pos s) ≡ Some (wrap (a *ℤ pos (2 ^ s))) }
+    ensures right { (a : ℤ) (s : ℕ) → s < 32 → (q : ℤ) × (right_shift_of a (pos s) ≡ Some q) × IsFloor a (2 ^ s) q }
+    ensures no_left { (a : ℤ) (s : ℕ) → 32 ≤ s → left_shift_of a (pos s) ≡ None }
+    ensures no_right { (a : ℤ) (s : ℕ) → 32 ≤ s → right_shift_of a (pos s) ≡ None }
+    ensures no_left_by_less { (a : ℤ) (n : ℕ) → left_shift_of a (negsuc n) ≡ None }
+    ensures no_right_by_less { (a : ℤ) (n : ℕ) → right_shift_of a (negsuc n) ≡ None }
+{}

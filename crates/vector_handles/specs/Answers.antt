@@ -1,0 +1,40 @@
+-- How the answers of a session's calls stand to their definitions.
+-- Source: this library.
+use Rattle.std.specs.Prelude.{ℕ, List, Option, Some, None, Result}
+use Rattle.cvl_base.specs.declared.call.Arg.{Arg}
+use Rattle.cvl_base.specs.declared.call.Call.{Call}
+use Rattle.cvl_base.specs.declared.operation.Op.{Op}
+use Rattle.cvl_base.specs.declared.refused.Refused.{Refused}
+use Rattle.cvl_base.specs.declared.value.Value.{Value}
+use Rattle.cvl_base.specs.Gives.{Gives}
+use Rattle.vector_handles.specs.declared.shown.Shown.{Shown}
+use Rattle.vector_handles.specs.Arguments.{argument_at}
+use Rattle.vector_handles.specs.CallValues.{call_value, table_value}
+use Rattle.vector_handles.specs.Sessions.{State, text_shown}
+use Rattle.vector_handles.specs.Steps.{Stepped, performed, step}
+
+module _ {A : Type 0} where
+  -- the answer is the value that the table gives the call
+  abbrev pub IsTableValue : State A → Op → List Arg → Result (Value A) Refused → Type 0
+  IsTableValue session op args answer =
+      Gives (λ v. v) answer (table_value session.inputs op (argument_at session.names args))
+
+  -- the same, of the calls alone that the library performs
+  abbrev pub IsCallValue : State A → Op → List Arg → Result (Value A) Refused → Type 0
+  IsCallValue session op args answer =
+      Gives (λ v. v) answer (call_value session.inputs op (argument_at session.names args))
+
+  -- what a call leaves: the names after it, and the text that it shows
+  abbrev pub left_by : State A → Option (List ℕ) → Stepped A
+  left_by after shown = record { names = after.names; shown = shown }
+
+  -- the answer to a binding, by the session before it and after it
+  abbrev pub IsBinding : {U : Type 0} →
+      State A → List ℕ → Op → List Arg → State A → Result U Refused → Type 0
+  IsBinding before target op args after answer =
+      Gives (λ _. left_by after None) answer (performed before.names before.inputs (Some target) op args)
+
+  -- the answer to a line's call is its meaning
+  abbrev pub IsStep : State A → Call A → State A → Result (Shown A) Refused → Type 0
+  IsStep before call after answer =
+      Gives (λ shown. left_by after (text_shown shown)) answer (step before.names before.inputs call)
