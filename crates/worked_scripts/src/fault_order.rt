@@ -1,6 +1,6 @@
 //! Which fault counts where one line has several.
 
-ghost use Rattle.std.specs.Prelude.{◌≡◌, pos, codes, [], ◌∷◌};
+ghost use Rattle.std.specs.Prelude.{◌≡◌, pos, codes, take, [], ◌∷◌};
 ghost use Rattle.cvl_base.specs.declared.fault.FaultNo.TheVariants as no;
 ghost use Rattle.cvl_base.specs.Faults.{fault};
 ghost use Rattle.worked_scripts.specs.BoundNames.{full, step_over};
@@ -27,13 +27,16 @@ pub fn arguments()
         ≡ ([], Some (3, fault no.WrongKind)) }
 {}
 
-/// Where 4,096 names are bound a new one is refused after the arguments are checked and before the call is made. A name
-/// that is bound may be bound again, and then the call's own fault counts.
+/// Where 4,096 names are bound a new one is refused after the arguments are checked and before the call is made. Where
+/// there is room, or the name is bound already, the call's own fault counts.
 pub fn too_many_names()
     ensures unknown_name_first { step_over full (codes "c = not_wuz q") ≡ Err (fault no.UnknownName) }
     ensures wrong_kind_first { step_over full (codes "c = not_wuz 1") ≡ Err (fault no.WrongKind) }
     ensures before_missing_input { step_over full (codes "c = input 1") ≡ Err (fault no.TooManyNames) }
     ensures before_lengths { step_over full (codes "c = add_wuz n0000 n0001") ≡ Err (fault no.TooManyNames) }
+    ensures lengths_where_one_name_is_free {
+        step_over (take 4095 full) (codes "c = add_wuz n0000 n0001")
+        ≡ Err (fault no.LengthMismatch) }
     ensures missing_input_of_a_bound_name { step_over full (codes "n7777 = input 1") ≡ Err (fault no.NoSuchInput) }
     ensures lengths_of_a_bound_name { step_over full (codes "n7777 = add_wuz n0000 n0001") ≡ Err (fault no.LengthMismatch) }
 {}

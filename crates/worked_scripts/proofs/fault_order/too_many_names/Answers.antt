@@ -27,3 +27,7 @@ returns-clause-missing_input_of_a_bound_name c = refl
 pub returns-clause-lengths_of_a_bound_name : goal.returns-clause-lengths_of_a_bound_name
 unfolding any_op_of op_of digits int_wrap
 returns-clause-lengths_of_a_bound_name c = refl
+
+pub returns-clause-lengths_where_one_name_is_free : goal.returns-clause-lengths_where_one_name_is_free
+unfolding any_op_of op_of digits int_wrap
+returns-clause-lengths_where_one_name_is_free c = refl
