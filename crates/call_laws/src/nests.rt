@@ -1,6 +1,6 @@
-//! Laws of nests, each a function that takes and gives nothing and whose contract is the law.
+//! The law of nests, a function that takes and gives nothing and whose contract is the law.
 
-ghost use Rattle.std.specs.Prelude.{◌≡◌, ◌≢◌, ◌↔◌, ℕ, List, [], ◌∷◌, length, sum, IsOk};
+ghost use Rattle.std.specs.Prelude.{◌≡◌, ◌≢◌, ◌↔◌, ℕ, List, length, sum, IsOk};
 ghost use Rattle.cvl_base.specs.declared.fault.FaultNo.TheVariants as no;
 ghost use Rattle.cvl_base.specs.Faults.{fault};
 ghost use Rattle.cvl_base.specs.Nests.{IsNest, nest};
@@ -13,13 +13,4 @@ pub fn nest_law<T>()
     ensures exists { (lengths : List ℕ) (xs : List T) → sum lengths ≡ length xs → IsOk (nest lengths xs) }
     ensures mismatch { (lengths : List ℕ) (xs : List T) → sum lengths ≢ length xs → nest lengths xs ≡ Err (fault no.LengthMismatch) }
     ensures none { (lengths : List ℕ) (xs : List T) (lists : List (List T)) → sum lengths ≢ length xs → ¬ (IsNest lengths xs lists) }
-{}
-
-/// Worked values: empty segments before, between and after others, no segments at all, and totals that are not the
-/// length.
-pub fn nest_values()
-    ensures empty_segments { nest {X = ℕ} (0 ∷ (2 ∷ (0 ∷ (3 ∷ (0 ∷ []))))) (5 ∷ (1 ∷ (7 ∷ (7 ∷ (1 ∷ []))))) ≡ Ok ([] ∷ ((5 ∷ (1 ∷ [])) ∷ ([] ∷ ((7 ∷ (7 ∷ (1 ∷ []))) ∷ ([] ∷ []))))) }
-    ensures no_segments { nest {X = ℕ} [] [] ≡ Ok [] }
-    ensures too_short { nest {X = ℕ} (2 ∷ (2 ∷ [])) (5 ∷ (1 ∷ (7 ∷ []))) ≡ Err (fault no.LengthMismatch) }
-    ensures too_long { nest {X = ℕ} [] (5 ∷ []) ≡ Err (fault no.LengthMismatch) }
 {}

@@ -1,4 +1,5 @@
 pub mod Dividing
+pub mod Flooring
 pub mod FoldLaws
 pub mod TileSumLaws
 pub mod Wrapping

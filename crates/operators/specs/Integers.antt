@@ -52,6 +52,12 @@ abbrev pub floor_of : ℤ → ℕ → ℤ
 floor_of (pos a) n = pos (a / n)
 floor_of (negsuc a) n = negsuc (a / n)
 
+-- q is the floor of a / n: q times n is at most a, and less than n away from it
+pub record IsFloor (a : ℤ) (n : ℕ) (q : ℤ) : Type 0 where
+  pub left : ℕ
+  pub again : a ≡ q *ℤ pos n +ℤ pos left
+  pub smaller : left < n
+
 -- the floor of a / 2^s; none where s is not in 0..31
 abbrev pub right_shift_of : ℤ → ℤ → Option ℤ
 right_shift_of a (pos s) = if nat_lt s 32 then Some (floor_of a (2 ^ s)) else None

@@ -1,7 +1,7 @@
 //! Laws of the operators, each a function that takes and gives nothing and whose contract is the law.
 
-ghost use Rattle.std.specs.Prelude.{◌≡◌, ◌≢◌, negsuc, pos, ℤ};
-ghost use Rattle.operators.specs.Integers.{IsDivided, IsWrapped, left_shift_of, product_of, quotient_of, remainder_of, right_shift_of, sum_of, wrap};
+ghost use Rattle.std.specs.Prelude.{◌≡◌, ◌≢◌, ◌≤◌, ◌<◌, ◌^◌, ◌*ℤ◌, ℕ, negsuc, pos, ℤ};
+ghost use Rattle.operators.specs.Integers.{IsDivided, IsFloor, IsWrapped, floor_of, left_shift_of, quotient_of, remainder_of, right_shift_of, wrap};
 
 /// `wrap` gives, of each whole number, the one number that fits 32 bits and is congruent to it modulo 2^32.
 pub fn wrap_law()
@@ -9,36 +9,29 @@ pub fn wrap_law()
     ensures only { (x wrapped : ℤ) → IsWrapped x wrapped → wrapped ≡ wrap x }
 {}
 
-/// Worked values of the operators that wrap: past either end the count goes on from the other.
-pub fn wrapping_values()
-    ensures past_the_top { sum_of (pos 2147483647) (pos 1) ≡ negsuc 2147483647 }
-    ensures past_the_bottom { sum_of (negsuc 2147483647) (negsuc 0) ≡ pos 2147483647 }
-    ensures opposite_of_least { product_of (negsuc 2147483647) (negsuc 0) ≡ negsuc 2147483647 }
-{}
-
-/// Worked values of the quotient and its remainder: -7 by 2, the least number by -1, and a divisor of 0.
-pub fn division_values()
-    ensures quotient { quotient_of (negsuc 6) (pos 2) ≡ Some (negsuc 2) }
-    ensures remainder { remainder_of (negsuc 6) (pos 2) ≡ Some (negsuc 0) }
-    ensures least_quotient { quotient_of (negsuc 2147483647) (negsuc 0) ≡ Some (negsuc 2147483647) }
-    ensures least_remainder { remainder_of (negsuc 2147483647) (negsuc 0) ≡ Some (pos 0) }
+/// Where the divisor isn't 0, the quotient, before it is wrapped, times the divisor and with the remainder is the dividend
+/// again; the remainder is nearer to 0 than the divisor, and is 0 or has the dividend's sign. By 0 there is neither.
+pub fn division_law()
+    ensures divided { (a b : ℤ) → b ≢ pos 0 →
+        (q r : ℤ) × (quotient_of a b ≡ Some (wrap q)) × (remainder_of a b ≡ Some r) × IsDivided a b q r }
     ensures no_quotient { (a : ℤ) → quotient_of a (pos 0) ≡ None }
     ensures no_remainder { (a : ℤ) → remainder_of a (pos 0) ≡ None }
 {}
 
-/// Where the divisor isn't 0, the quotient, before it is wrapped, times the divisor and with the remainder is the dividend
-/// again; the remainder is nearer to 0 than the divisor, and is 0 or has the dividend's sign.
-pub fn division_law()
-    ensures { (a b : ℤ) → b ≢ pos 0 →
-        (q r : ℤ) × (quotient_of a b ≡ Some (wrap q)) × (remainder_of a b ≡ Some r) × IsDivided a b q r }
+/// The floor of a quotient by a number above 0 is the one number whose product with the divisor is at most the dividend
+/// and less than the divisor away from it.
+pub fn floor_law()
+    ensures floor { (a : ℤ) (n : ℕ) → 0 < n → IsFloor a n (floor_of a n) }
+    ensures only { (a q : ℤ) (n : ℕ) → IsFloor a n q → q ≡ floor_of a n }
 {}
 
-/// Worked values of the shifts: by the most places, a sign copied, and places out of range.
-pub fn shift_values()
-    ensures high_bits_dropped { left_shift_of (pos 3) (pos 31) ≡ Some (negsuc 2147483647) }
-    ensures sign_copied { right_shift_of (negsuc 6) (pos 1) ≡ Some (negsuc 3) }
-    ensures no_left_shift_by_32 { (a : ℤ) → left_shift_of a (pos 32) ≡ None }
-    ensures no_left_shift_by_less { (a : ℤ) → left_shift_of a (negsuc 0) ≡ None }
-    ensures no_right_shift_by_32 { (a : ℤ) → right_shift_of a (pos 32) ≡ None }
-    ensures no_right_shift_by_less { (a : ℤ) → right_shift_of a (negsuc 0) ≡ None }
+/// By 0 to 31 places a left shift gives the product with that power of two, wrapped, and a right shift the floor of the
+/// quotient by it. By less than 0 places, and by more than 31, there is neither.
+pub fn shift_law()
+    ensures left { (a : ℤ) (s : ℕ) → s < 32 → left_shift_of a (pos s) ≡ Some (wrap (a *ℤ pos (2 ^ s))) }
+    ensures right { (a : ℤ) (s : ℕ) → s < 32 → (q : ℤ) × (right_shift_of a (pos s) ≡ Some q) × IsFloor a (2 ^ s) q }
+    ensures no_left { (a : ℤ) (s : ℕ) → 32 ≤ s → left_shift_of a (pos s) ≡ None }
+    ensures no_right { (a : ℤ) (s : ℕ) → 32 ≤ s → right_shift_of a (pos s) ≡ None }
+    ensures no_left_by_less { (a : ℤ) (n : ℕ) → left_shift_of a (negsuc n) ≡ None }
+    ensures no_right_by_less { (a : ℤ) (n : ℕ) → right_shift_of a (negsuc n) ≡ None }
 {}

@@ -1,0 +1,2 @@
+pub mod BoundNames
+pub mod Outcomes

@@ -1,0 +1,16 @@
+//! Worked values of scripts: which argument of a line goes where in its call, what a script writes, and which of two
+//! faults counts.
+//!
+//! Each function takes and gives nothing, and its contract is a list of calls, lines or scripts with what comes of them.
+//! They are computed from the definitions alone, so a definition that is read wrongly is refused here, before any code
+//! stands on it.
+#![tactic(auto)]
+
+pub mod elements;
+pub mod fault_order;
+pub mod packs;
+pub mod permutes;
+pub mod pointwise;
+pub mod scans;
+pub mod scripts;
+pub mod writes;
