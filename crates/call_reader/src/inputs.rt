@@ -5,7 +5,7 @@ ghost use Rattle.cvl_base.specs.declared.fault.FaultNo.TheVariants.{TooLong, Bad
 ghost use Rattle.cvl_base.specs.Faults.{fault, fault_at};
 ghost use Rattle.cvl_base.specs.Gives.{Gives};
 ghost use Rattle.cvl_base.specs.Limits.{most_elements};
-ghost use Rattle.call_reader.specs.Tokens.{tokens_by, begins_with_part};
+ghost use Rattle.call_reader.specs.Tokens.{tokens_by, IsFirstToken, begins_with_part};
 ghost use Rattle.call_reader.specs.Numbers.{number_of};
 ghost use Rattle.call_reader.specs.Inputs.{is_white_space, input_class, input_of};
 
@@ -57,7 +57,8 @@ fn token_count(bytes: &[u8]) -> usize
 /// are the rest: `TooLong` where there are more tokens than the limit in all, and else `BadInput` at the place.
 fn fault_at_token(place: usize, rest: &[u8]) -> Fault
     requires { place ≤ most_elements }
-    ensures { result ≡ (if nat_lt most_elements (place + length (tokens_by input_class rest.now)) then fault TooLong else fault_at BadInput place) }
+    ensures { result ≡ (if nat_lt most_elements (place + length (tokens_by input_class rest.now))
+        then fault TooLong else fault_at BadInput place) }
 {
     if token_count(rest) > MOST_ELEMENTS - place {
         Fault::new(FaultNo::TooLong)
@@ -80,7 +81,8 @@ fn begins_with_token(bytes: &[u8]) -> bool
 /// The first token of the bytes, the integer that it writes, and what stands behind it; none where there is no token.
 #[inline(always)]
 fn first_number(bytes: &[u8]) -> Option<(&[u8], Option<i32>, &[u8])>
-    ensures tokens { MatchOption result (tokens_by input_class bytes.now ≡ []) (λ t. tokens_by input_class bytes.now ≡ t.0.now ∷ tokens_by input_class t.2.now) }
+    ensures tokens { MatchOption result (tokens_by input_class bytes.now ≡ [])
+        (λ t. IsFirstToken input_class bytes.now t.0.now t.2.now) }
     ensures number { IfSome result (λ t. t.1 ≡ number_of t.0.now) }
     ensures shorter { IfSome result (λ t. length t.2.now < length bytes.now) }
 {
