@@ -58,20 +58,20 @@ fn run_length<C: Classes>(bytes: &[u8]) -> usize
     bytes.len()
 }
 
-/// The first token of the bytes, and what stands behind it; none where there is no token.
+/// The first token of the bytes, and what stands after it; none where there is no token.
 pub(crate) fn first_token<C: Classes>(bytes: &[u8]) -> Option<(&[u8], &[u8])>
     ensures tokens { MatchOption result (tokens_by C.class_of bytes.now ≡ [])
         (λ t. IsFirstToken C.class_of bytes.now t.0.now t.1.now) }
     ensures shorter { IfSome result (λ t. length t.1.now < length bytes.now) }
     ensures first { IfSome result (λ t. 0 < length t.0.now) }
 {
-    let (_blank, behind) = bytes.split_at(blanks::<C>(bytes));
-    let (first, _others) = behind.split_first()?;
+    let (_blank, rest) = bytes.split_at(blanks::<C>(bytes));
+    let (first, _others) = rest.split_first()?;
     let length = match C::class_of(*first) {
-        ByteClass::Part => run_length::<C>(behind),
+        ByteClass::Part => run_length::<C>(rest),
         ByteClass::Alone | ByteClass::Blank => 1,
     };
-    Some(behind.split_at(length))
+    Some(rest.split_at(length))
 }
 
 /// What the tokens of any bytes are: all bytes that aren't blank, in their order, in lists of which none is empty. A
