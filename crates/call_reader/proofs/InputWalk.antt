@@ -16,7 +16,7 @@ use Rattle.call_reader.specs.declared.token.ByteClass.TheVariants.{Blank, Part}
 use Rattle.call_reader.specs.Tokens.{tokens_by, with_byte, is_part, begins_with_part}
 use Rattle.call_reader.specs.Numbers.{positive_of, negative_of, with_sign, number_of}
 use Rattle.call_reader.specs.Inputs.{is_white_space, input_class}
-use Rattle.call_reader.proofs.TokenWalk.{both_true, run_first}
+use Rattle.call_reader.proofs.TokenWalk.{both_true, run_first, some_tokens}
 use Rattle.call_reader.proofs.NumberWalk.{magnitude_digits}
 
 pub at_most_one : (one : ℕ) (b : Bool) → one ≡ from_bool b → one ≤ 1
@@ -29,18 +29,6 @@ count_of bytes = length (tokens_by input_class bytes)
 -- whether bytes that stand behind white space, or not, go on with a run that began before them
 abbrev pub goes_on : Bool → List ℕ → Bool
 goes_on behind_white_space bytes = not behind_white_space && begins_with_part input_class bytes
-
-begun_at : (white runs_on : Bool) (b : ℕ) (tokens : List (List ℕ)) → is_part (if white then Blank else Part) ≡ true
-    → 1 ≤ length (with_byte (if white then Blank else Part) runs_on b tokens)
-begun_at true runs_on b tokens e = absurd (false≢true e)
-begun_at false true b [] e = omega arith
-begun_at false true b (token ∷ tokens) e = omega arith
-begun_at false false b tokens e = omega arith
-
--- where a run begins there is a token
-begun : (bytes : List ℕ) → begins_with_part input_class bytes ≡ true → 1 ≤ count_of bytes
-begun [] e = absurd (false≢true e)
-begun (b ∷ bs) e = begun_at (is_white_space b) (begins_with_part input_class bs) b (tokens_by input_class bs) e
 
 -- a run counts at its first byte
 count_at : (count total b : ℕ) (behind_white_space white runs_on : Bool) (tokens : List (List ℕ)) → (runs_on ≡ true → 1 ≤ length tokens)
@@ -63,7 +51,7 @@ pub count_more : (bytes : List ℕ) (i count total one : ℕ) (behind_white_spac
 count_more bytes i count total one behind_white_space white h so_far one_is white_is =
     let b = get_or bytes i 0 in
     let bs = drop (i + 1) bytes in
-    rw (one_is, white_is) (count_at count total b behind_white_space (is_white_space b) (begins_with_part input_class bs) (tokens_by input_class bs) (begun bs)
+    rw (one_is, white_is) (count_at count total b behind_white_space (is_white_space b) (begins_with_part input_class bs) (tokens_by input_class bs) (some_tokens input_class bs)
     (sym (at_drop_more (λ bs. count + count_of bs) bytes i 0 h) ∙ so_far ∙ at_drop_more (λ bs. total + from_bool (goes_on behind_white_space bs)) bytes i 0 h))
 
 room_at : (white runs_on : Bool) (b : ℕ) (tokens : List (List ℕ)) (len : ℕ) → (runs_on ≡ true → 1 ≤ length tokens) → 2 * length tokens ≤ len + from_bool runs_on
@@ -77,7 +65,7 @@ room_at false false b tokens len some h = omega arith
 room_for_run : (bytes : List ℕ) → 2 * count_of bytes ≤ length bytes + from_bool (begins_with_part input_class bytes)
 room_for_run [] = omega arith
 room_for_run (b ∷ bs) =
-    let more = room_at (is_white_space b) (begins_with_part input_class bs) b (tokens_by input_class bs) (length bs) (begun bs) (room_for_run bs) in
+    let more = room_at (is_white_space b) (begins_with_part input_class bs) b (tokens_by input_class bs) (length bs) (some_tokens input_class bs) (room_for_run bs) in
     omega (arith, more)
 
 -- there is white space between tokens

@@ -99,7 +99,7 @@ some_tokens_at Part false b tokens e = omega arith
 some_tokens_at Blank runs_on b tokens e = absurd (false≢true e)
 some_tokens_at Alone runs_on b tokens e = absurd (false≢true e)
 
-some_tokens : (class_of : ℕ → ByteClass) (bs : List ℕ) → begins_with_part class_of bs ≡ true → 1 ≤ length (tokens_by class_of bs)
+pub some_tokens : (class_of : ℕ → ByteClass) (bs : List ℕ) → begins_with_part class_of bs ≡ true → 1 ≤ length (tokens_by class_of bs)
 some_tokens class_of [] e = absurd (false≢true e)
 some_tokens class_of (b ∷ bs) e = some_tokens_at (class_of b) (begins_with_part class_of bs) b (tokens_by class_of bs) e
 
