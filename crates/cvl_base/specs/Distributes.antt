@@ -6,7 +6,7 @@ use Rattle.cvl_base.specs.declared.fault.Fault.{Fault}
 use Rattle.cvl_base.specs.declared.fault.FaultNo.TheVariants as no
 use Rattle.cvl_base.specs.Faults.{fault}
 use Rattle.cvl_base.specs.Gives.{◌>>=◌, fault_if}
-use Rattle.cvl_base.specs.Integers.{wrap}
+use Rattle.operators.specs.Integers.{wrap}
 use Rattle.cvl_base.specs.Limits.{most_elements}
 
 -- the length that a single count asks for

@@ -7,19 +7,19 @@ use Rattle.std.specs.List.{zip}
 use Rattle.cvl_base.specs.declared.fault.Fault.{Fault}
 use Rattle.cvl_base.specs.declared.fault.FaultNo.{FaultNo}
 use Rattle.cvl_base.specs.declared.fault.FaultNo.TheVariants.{LengthMismatch, DivideByZero, ShiftOutOfRange}
-use Rattle.cvl_base.specs.declared.families.IntBinary.{IntBinary}
-use Rattle.cvl_base.specs.declared.families.IntBinary.TheVariants.{Add, Sub, Mul, Div, Mod, Min, Max, Lsh, Rsh, And, Ior, Xor}
-use Rattle.cvl_base.specs.declared.families.Unary.{Unary}
-use Rattle.cvl_base.specs.declared.families.Unary.TheVariants.{Not, Copy}
-use Rattle.cvl_base.specs.declared.families.Comparison.{Comparison}
-use Rattle.cvl_base.specs.declared.families.Comparison.TheVariants.{Greater, Less, AtLeast, AtMost, Equal, Unequal}
-use Rattle.cvl_base.specs.declared.families.BoolBinary.{BoolBinary}
-use Rattle.cvl_base.specs.declared.families.BoolBinary.TheVariants as truth
-use Rattle.cvl_base.specs.Booleans.{both, either, differ}
-use Rattle.cvl_base.specs.Conversions.{integer_of, boolean_of}
+use Rattle.call_table.specs.declared.families.IntBinary.{IntBinary}
+use Rattle.call_table.specs.declared.families.IntBinary.TheVariants.{Add, Sub, Mul, Div, Mod, Min, Max, Lsh, Rsh, And, Ior, Xor}
+use Rattle.call_table.specs.declared.families.Unary.{Unary}
+use Rattle.call_table.specs.declared.families.Unary.TheVariants.{Not, Copy}
+use Rattle.call_table.specs.declared.families.Comparison.{Comparison}
+use Rattle.call_table.specs.declared.families.Comparison.TheVariants.{Greater, Less, AtLeast, AtMost, Equal, Unequal}
+use Rattle.call_table.specs.declared.families.BoolBinary.{BoolBinary}
+use Rattle.call_table.specs.declared.families.BoolBinary.TheVariants as truth
+use Rattle.operators.specs.Booleans.{both, either, differ}
+use Rattle.operators.specs.Conversions.{integer_of, boolean_of}
 use Rattle.cvl_base.specs.Faults.{fault, fault_at}
 use Rattle.cvl_base.specs.Gives.{◌>>=◌, fault_if}
-use Rattle.cvl_base.specs.Integers.{sum_of, difference_of, product_of, quotient_of, remainder_of, lesser_of, greater_of, left_shift_of, right_shift_of, and_of, ior_of, xor_of, not_of, is_greater, is_less, is_at_least, is_at_most, is_equal, is_unequal}
+use Rattle.operators.specs.Integers.{sum_of, difference_of, product_of, quotient_of, remainder_of, lesser_of, greater_of, left_shift_of, right_shift_of, and_of, ior_of, xor_of, not_of, is_greater, is_less, is_at_least, is_at_most, is_equal, is_unequal}
 
 -- all the values, or the fault at the least place that has none, where the first stands at the place given
 abbrev pub values_from : {Y : Type 0} → FaultNo → ℕ → List (Option Y) → Result (List Y) Fault

@@ -58,7 +58,7 @@ fault number = record { number = number; place = None }
 abbrev pub fault_at : FaultNo → ℕ → Fault
 fault_at number place = record { number = number; place = Some place }
 
--- how a place is printed behind a fault
+-- how a place is printed after a fault
 abbrev pub place_text : Option ℕ → List ℕ
 place_text None = []
 place_text (Some place) = codes " at " ++ decimal place

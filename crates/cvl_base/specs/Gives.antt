@@ -5,7 +5,7 @@ use Rattle.cvl_base.specs.declared.fault.Fault.{Fault}
 use Rattle.cvl_base.specs.declared.refused.Refused.{Refused}
 use Rattle.cvl_base.specs.declared.refused.Refused.TheVariants as refused
 
--- The call gave the value that the definition gives, seen by `view`, or its very fault, or met want of memory.
+-- The call gave the value that the definition gives, seen by `view`, or its very fault, or was out of memory.
 abbrev pub Gives : {X Y : Type 0} → (X → Y) → Result X Refused → Result Y Fault → Type 0
 Gives view (Ok x) meaning = meaning ≡ Ok (view x)
 Gives view (Err (refused.Fault f)) meaning = meaning ≡ Err f

@@ -9,7 +9,7 @@ use Rattle.cvl_base.specs.declared.fault.FaultNo.TheVariants.{IndexOutOfRange, I
 use Rattle.cvl_base.specs.Elementwise.{if_as_long, values_from}
 use Rattle.cvl_base.specs.Extracts.{element_at}
 use Rattle.cvl_base.specs.Faults.{fault_at}
-use Rattle.cvl_base.specs.Folds.{fronts}
+use Rattle.operators.specs.Folds.{fronts}
 use Rattle.cvl_base.specs.Gives.{unless}
 use Rattle.cvl_base.specs.Packs.{count_of}
 

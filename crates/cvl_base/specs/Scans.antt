@@ -1,13 +1,13 @@
 -- Scans and reduces of integers and booleans: each operator of the table with its identity.
 -- Source: CVL's scans and reduces.
 use Rattle.std.specs.Prelude.{Bool, true, false, ℤ, pos, negsuc, List}
-use Rattle.cvl_base.specs.declared.families.IntMonoid.{IntMonoid}
-use Rattle.cvl_base.specs.declared.families.IntMonoid.TheVariants.{Add, Mul, Min, Max, And, Ior, Xor}
-use Rattle.cvl_base.specs.declared.families.BoolBinary.{BoolBinary}
-use Rattle.cvl_base.specs.declared.families.BoolBinary.TheVariants as truth
-use Rattle.cvl_base.specs.Booleans.{both, either, differ}
-use Rattle.cvl_base.specs.Integers.{sum_of, product_of, lesser_of, greater_of, and_of, ior_of, xor_of}
-use Rattle.cvl_base.specs.Folds.{scan_of, reduce_of}
+use Rattle.call_table.specs.declared.families.IntMonoid.{IntMonoid}
+use Rattle.call_table.specs.declared.families.IntMonoid.TheVariants.{Add, Mul, Min, Max, And, Ior, Xor}
+use Rattle.call_table.specs.declared.families.BoolBinary.{BoolBinary}
+use Rattle.call_table.specs.declared.families.BoolBinary.TheVariants as truth
+use Rattle.operators.specs.Booleans.{both, either, differ}
+use Rattle.operators.specs.Integers.{sum_of, product_of, lesser_of, greater_of, and_of, ior_of, xor_of}
+use Rattle.operators.specs.Folds.{fold_of, scan_of}
 
 abbrev pub int_join_of : IntMonoid → ℤ → ℤ → ℤ
 int_join_of Add = sum_of
@@ -31,7 +31,7 @@ abbrev pub int_scan_of : IntMonoid → List ℤ → List ℤ
 int_scan_of operator xs = scan_of (int_join_of operator) (int_unit_of operator) xs
 
 abbrev pub int_reduce_of : IntMonoid → List ℤ → ℤ
-int_reduce_of operator xs = reduce_of (int_join_of operator) (int_unit_of operator) xs
+int_reduce_of operator xs = fold_of (int_join_of operator) (int_unit_of operator) xs
 
 abbrev pub bool_join_of : BoolBinary → Bool → Bool → Bool
 bool_join_of truth.And = both
@@ -47,4 +47,4 @@ abbrev pub bool_scan_of : BoolBinary → List Bool → List Bool
 bool_scan_of operator xs = scan_of (bool_join_of operator) (bool_unit_of operator) xs
 
 abbrev pub bool_reduce_of : BoolBinary → List Bool → Bool
-bool_reduce_of operator xs = reduce_of (bool_join_of operator) (bool_unit_of operator) xs
+bool_reduce_of operator xs = fold_of (bool_join_of operator) (bool_unit_of operator) xs

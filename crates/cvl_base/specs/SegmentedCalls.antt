@@ -4,7 +4,7 @@ use Rattle.std.specs.Prelude.{ℕ, ℤ, pos, Bool, List, Result, Ok}
 use Rattle.cvl_base.specs.declared.fault.Fault.{Fault}
 use Rattle.cvl_base.specs.Distributes.{distribute_of, index_of}
 use Rattle.cvl_base.specs.Extracts.{extract_of, replace_of}
-use Rattle.cvl_base.specs.Folds.{scan_of, reduce_of}
+use Rattle.operators.specs.Folds.{fold_of, scan_of}
 use Rattle.cvl_base.specs.Nests.{nest}
 use Rattle.cvl_base.specs.Packs.{count_of, pack_of}
 use Rattle.cvl_base.specs.Permutes.{simple_of, back_of, select_of, default_of}
@@ -16,7 +16,7 @@ abbrev pub seg_scan_of : {Item : Type 0} → (Item → Item → Item) → Item �
 seg_scan_of join unit xs lengths = end_to_end (in_vector lengths) (λ ys. Ok (scan_of join unit ys)) (nest lengths xs)
 
 abbrev pub seg_reduce_of : {Item : Type 0} → (Item → Item → Item) → Item → List Item → List ℕ → Result (List Item) Fault
-seg_reduce_of join unit xs lengths = one_each (in_vector lengths) (λ ys. Ok (reduce_of join unit ys)) (nest lengths xs)
+seg_reduce_of join unit xs lengths = one_each (in_vector lengths) (λ ys. Ok (fold_of join unit ys)) (nest lengths xs)
 
 -- ---- permutes; a fault stands at its place in the index
 
@@ -38,15 +38,12 @@ seg_default_of source index defaults source_lengths default_lengths =
 
 -- ---- pack and count
 
+-- they are also the lengths of what a segmented pack keeps, or a segmented select permute
 abbrev pub seg_count_of : List Bool → List ℕ → Result (List ℕ) Fault
 seg_count_of flags lengths = one_each (in_vector lengths) (λ fs. Ok (count_of fs)) (nest lengths flags)
 
 abbrev pub seg_pack_of : {X : Type 0} → List X → List Bool → List ℕ → Result (List X) Fault
 seg_pack_of xs flags lengths = end_to_end (in_vector lengths) (of_two pack_of) (beside (nest lengths xs) (nest lengths flags))
-
--- the lengths of what a segmented pack keeps
-abbrev pub packed_lengths_of : List Bool → List ℕ → Result (List ℕ) Fault
-packed_lengths_of flags lengths = seg_count_of flags lengths
 
 -- ---- distribute and index: the count of a segment is its length
 

@@ -1,7 +1,7 @@
 -- The five kinds of values: an integer list, a boolean list, a descriptor (its list of lengths), an integer, a boolean.
 -- Source: CVL's vectors, segment descriptors and scalars; that these five are all is this library's profile.
-use Rattle.cvl_base.specs.declared.kind.Kind.{Kind}
-use Rattle.cvl_base.specs.declared.kind.Kind.TheVariants as kind
+use Rattle.call_table.specs.declared.kind.Kind.{Kind}
+use Rattle.call_table.specs.declared.kind.Kind.TheVariants as kind
 use Rattle.cvl_base.specs.declared.value.Value.{Value}
 use Rattle.cvl_base.specs.declared.value.Value.TheVariants as value
 

@@ -3,7 +3,7 @@
 ghost use Rattle.std.specs.Prelude.{◌≡◌, ◌==◌, length};
 
 use crate::name::Name;
-use crate::operation::Op;
+use call_table::Op;
 use std::alloc::Allocator;
 use std::marker::Model;
 

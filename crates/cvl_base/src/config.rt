@@ -73,36 +73,3 @@ impl Config {
         self.workers
     }
 }
-
-#[cfg(test)]
-mod tests {
-    use super::{BadConfig, Config};
-
-    #[test]
-    fn tells_what_it_was_made_of(rt: HostRuntime) {
-        let parts = match Config::new(4_096, 7) {
-            Ok(config) => Some((config.tile(), config.workers())),
-            Err(_) => None,
-        };
-        assert_eq!(rt; parts, Some((4_096, 7)));
-    }
-
-    #[test]
-    fn ranges_and_their_order(rt: HostRuntime) {
-        let table = [
-            (0, 65, Some(BadConfig::Tile)),
-            (1, 65, Some(BadConfig::Workers)),
-            (65_537, 4, Some(BadConfig::Tile)),
-            (4_096, 0, Some(BadConfig::Workers)),
-            (1, 1, None),
-            (65_536, 64, None),
-        ];
-        for (tile, workers, wanted) in table {
-            assert_eq!(rt;
-                Config::new(tile, workers).err(),
-                wanted,
-                "{tile} {workers}"
-            );
-        }
-    }
-}

@@ -1,52 +1,33 @@
 //! What every layer of the vector library speaks of: numbers, operators, monoids, faults, values and calls.
+//!
+//! Numbers, operators and monoids stand in the crate `operators`, and the table of calls in `call_table`; both are
+//! handed on here under their names.
 #![tactic(auto)]
 
-pub mod boolean;
 pub mod call;
 pub mod config;
-pub mod descriptor_laws;
-pub mod distribute_laws;
-pub mod element_laws;
 pub mod elements;
-pub mod elementwise_laws;
-pub mod families;
 pub mod fault;
-pub mod folds;
-pub mod integer;
-pub mod kind;
-pub mod laws;
 pub mod lengths;
 pub mod limits;
 pub mod memory;
-pub mod monoid;
-pub mod monoids;
 pub mod name;
-pub mod nest_laws;
-mod operands;
-pub mod operation;
-pub mod pack_laws;
-pub mod permute_laws;
 pub mod refused;
-pub mod scan_laws;
-pub mod seg;
-pub mod segment_laws;
-pub mod spelling;
-mod table;
-pub mod tile_sums;
 pub mod value;
 
 pub use call::{Arg, Args, Call};
+pub use call_table::{
+    BoolBinary, Comparison, Cut, Element, Form, IntBinary, IntMonoid, Kind, Op, Unary, families,
+    kind, op_of, operation, spelling,
+};
 pub use config::{BadConfig, Config};
 pub use elements::{Bools, Elements, Ints};
-pub use families::{BoolBinary, Comparison, Cut, Element, Form, IntBinary, IntMonoid, Unary};
 pub use fault::{Fault, FaultNo};
-pub use kind::Kind;
 pub use lengths::Lengths;
 pub use memory::Memory;
-pub use monoid::{Monoid, Packed};
 pub use name::Name;
-pub use operation::Op;
+pub use operators::{
+    Monoid, Packed, Seg, boolean, folds, integer, laws, monoid, monoids, seg, tile_sums,
+};
 pub use refused::{NoResources, Refused};
-pub use seg::Seg;
-pub use spelling::op_of;
 pub use value::Value;

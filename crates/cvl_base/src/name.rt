@@ -47,7 +47,7 @@ pub fn is_name_text(bytes: &[u8]) -> bool
 /// are ordered, and takes no memory.
 #[derive(Clone, Copy)]
 pub struct Name {
-    /// The bytes of the name, and zeros behind them.
+    /// The bytes of the name, and zeros after them.
     bytes: [u8; MOST_WORD_BYTES],
     len: usize,
 }
@@ -136,40 +136,5 @@ impl Ord for Name {
 impl fmt::Debug for Name {
     fn fmt<W: fmt::Write>(&self, f: &mut fmt::Formatter<W>) -> fmt::Result {
         fmt::Debug::fmt(str::from_utf8(self.as_bytes()).unwrap_or(""), f)
-    }
-}
-
-#[cfg(test)]
-mod tests {
-    use super::Name;
-    use std::test::Fail;
-
-    #[test]
-    fn shown_as_text(rt: HostRuntime) -> Result<(), Fail> {
-        let shown = format!(in rt.alloc(); "{:?}", Name::new(b"ab_9"))?;
-        assert_eq!(rt; shown.as_str(), "Some(\"ab_9\")");
-        Ok(())
-    }
-
-    #[test]
-    fn names_and_other_words(rt: HostRuntime) {
-        let table: [(&[u8], bool); 11] = [
-            (b"a", true),
-            (b"Z9_", true),
-            (b"input", true),
-            (b"a2345678901234567890123456789012", true),
-            (b"a23456789012345678901234567890123", false),
-            (b"", false),
-            (b"9a", false),
-            (b"_a", false),
-            (b"a-b", false),
-            (b"T", false),
-            (b"write", false),
-        ];
-        for (bytes, wanted) in table {
-            assert_eq!(rt; Name::new(bytes).is_some(), wanted, "{bytes:?}");
-        }
-        assert!(rt; Name::new(b"ab") < Name::new(b"b"));
-        assert!(rt; Name::new(b"a") < Name::new(b"a0"));
     }
 }

@@ -1,4 +1,4 @@
-//! Why a call has no value: a fault, or want of memory.
+//! Why a call has no value: a fault, or no memory left for it.
 
 ghost use Rattle.std.specs.Prelude.{◌≡◌};
 ghost use Rattle.cvl_base.specs.declared.refused.Refused.TheVariants as refused;

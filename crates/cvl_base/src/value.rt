@@ -4,7 +4,7 @@ ghost use Rattle.std.specs.Prelude.{◌≡◌};
 ghost use Rattle.cvl_base.specs.Values.{kind_of};
 
 use crate::elements::{Bools, Ints};
-use crate::kind::Kind;
+use call_table::Kind;
 use crate::lengths::Lengths;
 use std::alloc::Allocator;
 

@@ -1,4 +1,3 @@
-mod Appended
 mod Cuts
 mod Taken
 mod Underway

@@ -17,7 +17,7 @@ pub trait Host<A: Memory>: Sink {
         ensures taken { Self.taken self.new ≡ Self.taken self.old }
         ensures failures { Self.failures self.new ≡ Self.failures self.old };
 
-    /// Writes to standard error, whose own failures are dropped.
+    /// Writes one message to standard error, whose own failures are dropped.
     fn put_error(&mut self, bytes: &[u8])
         ensures taken { Self.taken self.new ≡ Self.taken self.old }
         ensures failures { Self.failures self.new ≡ Self.failures self.old };

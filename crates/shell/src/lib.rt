@@ -9,9 +9,6 @@ mod puts;
 pub mod runs;
 pub mod sink;
 pub mod stop;
-mod stop_parts;
-#[cfg(test)]
-mod tests;
 
 pub use host::Host;
 pub use mem_sink::MemSink;

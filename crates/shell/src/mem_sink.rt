@@ -14,15 +14,16 @@ pub struct MemSink<A: Allocator> {
 }
 
 impl<A: Allocator> Model for MemSink<A> {
+    ghost use Rattle.std.specs.Prelude.{vec_capacity};
     ghost use Rattle.shell.specs.MemSinks.{Kept};
 
     ghost Value = { Kept };
 
-    ghost view = { λ s. record { bytes = s.bytes.items; failures = s.failures } };
+    ghost view = { λ s. record { bytes = s.bytes.items; failures = s.failures; room = vec_capacity s.bytes } };
 }
 
 impl<A: Allocator> MemSink<A> {
-    ghost use Rattle.std.specs.Prelude.{◌≡◌, [], IfOk};
+    ghost use Rattle.std.specs.Prelude.{◌≡◌, ◌≤◌, [], IfOk};
 
     /// A sink that has taken nothing.
     pub fn new(alloc: A) -> MemSink<A>
@@ -35,8 +36,9 @@ impl<A: Allocator> MemSink<A> {
         }
     }
 
-    /// A sink that has taken nothing, with room for as many bytes.
+    /// A sink that has taken nothing, with room for as many bytes: it takes these without asking for memory.
     pub fn with_room(alloc: A, room: usize) -> Result<MemSink<A>, NoResources>
+        ensures room { IfOk result (λ sink. room ≤ sink.room) }
         ensures bytes { IfOk result (λ sink. sink.bytes ≡ []) }
         ensures failures { IfOk result (λ sink. sink.failures ≡ 0) }
     {
@@ -61,14 +63,22 @@ impl<A: Allocator> MemSink<A> {
     }
 }
 
+/// It takes all the bytes or fails, and takes them where there is room for them.
 impl<A: Allocator> Sink for MemSink<A> {
-    ghost use Rattle.std.specs.Prelude.{Some};
+    ghost use Rattle.std.specs.Prelude.{◌≡◌, ◌+◌, ◌-◌, ◌^◌, ◌<◌, ◌≤◌, length, Some, IfOk, IsOk};
+    ghost use Rattle.shell.specs.Sinks.{Puts};
 
     ghost taken = { λ s. Some s.bytes };
 
     ghost failures = { λ s. s.failures };
 
-    fn put(&mut self, bytes: &[u8]) -> Result<usize, SinkFault> {
+    fn put(&mut self, bytes: &[u8]) -> Result<usize, SinkFault>
+        requires { self.old.failures < 2 ^ 64 - 1 }
+        ensures puts { Puts (Some self.old.bytes, self.old.failures) bytes.now result (Some self.new.bytes, self.new.failures) }
+        ensures whole { IfOk result (λ n. n ≡ length bytes.now) }
+        ensures in_room { length self.old.bytes + length bytes.now ≤ self.old.room → IsOk result }
+        ensures room { self.old.room ≤ self.new.room }
+    {
         if bytes.is_empty() {
             return Ok(0);
         }

@@ -19,7 +19,7 @@ const SCRIPT_FAULT: u8 = 1;
 /// The status of a command line that is refused.
 pub const COMMAND_LINE: u8 = 2;
 
-/// The status where a file cannot be read, memory is wanting or a write fails.
+/// The status where a file cannot be read, memory is refused or a write fails.
 pub const FAILED: u8 = 3;
 
 /// The length of tiles, in elements.
@@ -47,7 +47,7 @@ fn file_names<'a, 'b>(words: &'a [&'b str]) -> Option<&'a [&'b str]> {
     }
 }
 
-/// Reads the inputs in their order, or names the first that cannot be read, for want of memory too.
+/// Reads the inputs in their order, or names the first that cannot be read, also where there is no memory for it.
 fn read_inputs<'a, A: Memory, H: Host<A>>(
     alloc: A,
     names: &[&'a str],
@@ -69,10 +69,11 @@ fn read_inputs<'a, A: Memory, H: Host<A>>(
     Ok(inputs)
 }
 
-fn tell_unreadable<A: Memory, H: Host<A>>(name: &str, host: &mut H) -> u8 {
-    host.put_error(b"cannot read ");
-    host.put_error(name.as_bytes());
-    host.put_error(b"\n");
+/// Writes the line that tells of a file that cannot be read, where there is memory for it, and answers the status.
+fn tell_unreadable<A: Memory, H: Host<A>>(alloc: A, name: &str, host: &mut H) -> u8 {
+    if let Ok(message) = format!(in alloc; "cannot read {name}\n") {
+        host.put_error(message.as_bytes());
+    }
     FAILED
 }
 
@@ -127,9 +128,9 @@ fn run_files<R: Threads + Sync, A: Memory, H: Host<A>>(
     requires { H.failures host.old < 2 ^ 64 - 1 }
 {
     match host.read_file(script) {
-        None => tell_unreadable::<A, H>(script, host),
+        None => tell_unreadable(alloc, script, host),
         Some(text) => match read_inputs(alloc, inputs, host) {
-            Err(name) => tell_unreadable::<A, H>(name, host),
+            Err(name) => tell_unreadable(alloc, name, host),
             Ok(inputs) => run_and_tell(rt, alloc, &text, inputs, host),
         },
     }
@@ -138,9 +139,9 @@ fn run_files<R: Threads + Sync, A: Memory, H: Host<A>>(
 /// The whole program: reads a script and its inputs, runs it, and answers the status.
 ///
 /// The first word is the program's own name, the second names the script's file, and the others name those of the
-/// inputs. The text of the script goes to standard output, and a line that tells why the run stopped to standard error;
-/// it is left out where there is no memory for it. The status is 0 where there is no fault, 1 at a fault of the script,
-/// 2 where no script is named or a word begins with `-`, and 3 where a file cannot be read, memory is wanting or a
+/// inputs. The text of the script goes to standard output, and a line that tells why the run stopped to standard error,
+/// in one piece; it is left out where there is no memory for it. The status is 0 where there is no fault, 1 at a fault of the script,
+/// 2 where no script is named or a word begins with `-`, and 3 where a file cannot be read, memory is refused or a
 /// write fails.
 pub fn program<R: Threads + Sync, A: Memory, H: Host<A>>(
     rt: &R,

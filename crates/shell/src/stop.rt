@@ -1,17 +1,16 @@
 //! Why a run stopped.
 
-ghost use Rattle.std.specs.Prelude.{◌≡◌, ◌++◌, OnOk, OnErr};
-ghost use Rattle.shell.specs.StopTexts.{line_of, stop_text};
+ghost use Rattle.std.specs.Prelude.{◌≡◌, ◌++◌, codes, OnOk, OnErr};
+ghost use Rattle.shell.specs.StopTexts.{stop_text};
 
-use crate::stop_parts::put_stopped_at;
 use cvl_base::{Fault, Memory, NoResources};
+use std::fmt;
 use thiserror::Error;
 
 /// Why a run stopped before the end of its script. Lines count from 1, and line 0 is before the first.
 #[derive(Clone, Copy, Debug, PartialEq, Eq, Hash, Error)]
 pub enum Stop {
     /// A line has a fault.
-    #[error("line {line}: {fault}")]
     Script {
         /// The line at fault; 0 where the script is too long.
         line: u32,
@@ -19,40 +18,39 @@ pub enum Stop {
         fault: Fault,
     },
     /// A growth was refused.
-    #[error("line {line}: no resources")]
     NoResources {
         /// The line that was run.
         line: u32,
     },
     /// The sink failed.
-    #[error("line {line}: write failed")]
     WriteFailed {
         /// The line whose text was written.
         line: u32,
     },
 }
 
-fn line_of(stop: &Stop) -> u32
-    ensures { result ≡ line_of stop.now }
-{
-    match stop {
-        Stop::Script { line, .. } => *line,
-        Stop::NoResources { line } => *line,
-        Stop::WriteFailed { line } => *line,
+/// A stop is shown as its line and why the run stopped there.
+impl fmt::Display for Stop {
+    ghost use Rattle.std.specs.Prelude.{Some};
+
+    ghost output = { λ stop. Some (stop_text stop) };
+
+    fn fmt<W: fmt::Write>(&self, f: &mut fmt::Formatter<W>) -> fmt::Result {
+        match self {
+            Stop::Script { line, fault } => write!(f, "line {line}: {fault}"),
+            Stop::NoResources { line } => write!(f, "line {line}: no resources"),
+            Stop::WriteFailed { line } => write!(f, "line {line}: write failed"),
+        }
     }
 }
 
-/// Appends the line of text that tells of a stop. After a refusal the text is as before.
+/// Appends the line of text that tells of a stop: the stop as it is shown, and a line feed. After a refusal the text is
+/// as before.
 pub fn put_stop<A: Memory>(stop: &Stop, text: &mut Vec<u8, A>) -> Result<(), NoResources>
-    ensures ok { OnOk result (text.new.items ≡ text.old.items ++ stop_text stop.now) }
+    ensures ok { OnOk result (text.new.items ≡ text.old.items ++ stop_text stop.now ++ codes "\n") }
     ensures err { OnErr result (text.new.items ≡ text.old.items) }
 {
-    let before = text.len();
-    match put_stopped_at(line_of(stop), stop, text) {
-        Ok(()) => Ok(()),
-        Err(refused) => {
-            text.truncate(before);
-            Err(refused)
-        }
-    }
+    let line = format!(in *text.allocator(); "{stop}\n")?;
+    text.extend_from_slice(line.as_bytes())?;
+    Ok(())
 }

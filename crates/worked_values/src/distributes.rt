@@ -2,45 +2,76 @@
 
 ghost use Rattle.std.specs.Prelude.{◌≡◌, negsuc, pos, true, false, ℤ, [], ◌∷◌};
 ghost use Rattle.cvl_base.specs.declared.fault.FaultNo.TheVariants as no;
-ghost use Rattle.cvl_base.specs.Distributes.{as_length};
+ghost use Rattle.cvl_base.specs.Distributes.{as_length, distribute_of, index_of};
 ghost use Rattle.cvl_base.specs.Faults.{fault};
-ghost use Rattle.cvl_base.specs.Meanings.{distribute, index, seg_distribute, seg_index};
+ghost use Rattle.cvl_base.specs.SegmentedCalls.{seg_distribute_of, seg_index_of};
 
 /// As many copies of a value as a count says, which may be as great as the limit and is else at fault without a place;
 /// by segments one value for each, the empty one too.
 pub fn distribute()
-    ensures integers { distribute (pos 7) (pos 3) ≡ Ok (pos 7 ∷ pos 7 ∷ pos 7 ∷ []) }
-    ensures booleans { distribute true (pos 3) ≡ Ok (true ∷ true ∷ true ∷ []) }
-    ensures no_copies { distribute (pos 7) (pos 0) ≡ Ok [] }
+    ensures integers { distribute_of (pos 7) (pos 3) ≡ Ok (pos 7 ∷ pos 7 ∷ pos 7 ∷ []) }
+    ensures booleans { distribute_of true (pos 3) ≡ Ok (true ∷ true ∷ true ∷ []) }
+    ensures no_copies { distribute_of (pos 7) (pos 0) ≡ Ok [] }
     ensures count_at_limit { as_length (pos 4194304) ≡ Ok 4194304 }
-    ensures too_many_integers { distribute (pos 7) (pos 4194305) ≡ Err (fault no.TooLong) }
-    ensures too_many_booleans { distribute true (pos 4194305) ≡ Err (fault no.TooLong) }
-    ensures negative_count_of_integers { distribute (pos 7) (negsuc 0) ≡ Err (fault no.NegativeLength) }
-    ensures negative_count_of_booleans { distribute true (negsuc 0) ≡ Err (fault no.NegativeLength) }
-    ensures integers_in_segments { seg_distribute (pos 7 ∷ pos 8 ∷ pos 9 ∷ []) (2 ∷ 0 ∷ 3 ∷ []) ≡ Ok (pos 7 ∷ pos 7 ∷ pos 9 ∷ pos 9 ∷ pos 9 ∷ []) }
-    ensures booleans_in_segments { seg_distribute (true ∷ true ∷ false ∷ []) (2 ∷ 0 ∷ 3 ∷ []) ≡ Ok (true ∷ true ∷ false ∷ false ∷ false ∷ []) }
-    ensures no_segments { seg_distribute {X = ℤ} [] [] ≡ Ok [] }
-    ensures one_value_short { seg_distribute (pos 7 ∷ pos 8 ∷ []) (2 ∷ 0 ∷ 3 ∷ []) ≡ Err (fault no.LengthMismatch) }
-    ensures one_value_more { seg_distribute (pos 7 ∷ pos 8 ∷ pos 9 ∷ pos 9 ∷ []) (2 ∷ 0 ∷ 3 ∷ []) ≡ Err (fault no.LengthMismatch) }
-    ensures one_boolean_short { seg_distribute (true ∷ false ∷ []) (2 ∷ 0 ∷ 3 ∷ []) ≡ Err (fault no.LengthMismatch) }
-    ensures value_for_no_segment { seg_distribute (pos 7 ∷ []) [] ≡ Err (fault no.LengthMismatch) }
+    ensures too_many_integers { distribute_of (pos 7) (pos 4194305) ≡ Err (fault no.TooLong) }
+    ensures too_many_booleans { distribute_of true (pos 4194305) ≡ Err (fault no.TooLong) }
+    ensures negative_count_of_integers { distribute_of (pos 7) (negsuc 0)
+        ≡ Err (fault no.NegativeLength) }
+    ensures negative_count_of_booleans { distribute_of true (negsuc 0)
+        ≡ Err (fault no.NegativeLength) }
+    ensures integers_in_segments { seg_distribute_of (pos 7 ∷ pos 8 ∷ pos 9 ∷ []) (2 ∷ 0 ∷ 3 ∷ [])
+        ≡ Ok (pos 7 ∷ pos 7 ∷ pos 9 ∷ pos 9 ∷ pos 9 ∷ []) }
+    ensures booleans_in_segments { seg_distribute_of (true ∷ true ∷ false ∷ []) (2 ∷ 0 ∷ 3 ∷ [])
+        ≡ Ok (true ∷ true ∷ false ∷ false ∷ false ∷ []) }
+    ensures no_segments { seg_distribute_of {X = ℤ} [] [] ≡ Ok [] }
+    ensures one_value_short { seg_distribute_of (pos 7 ∷ pos 8 ∷ []) (2 ∷ 0 ∷ 3 ∷ [])
+        ≡ Err (fault no.LengthMismatch) }
+    ensures one_value_more { seg_distribute_of (pos 7 ∷ pos 8 ∷ pos 9 ∷ pos 9 ∷ []) (2 ∷ 0 ∷ 3 ∷ [])
+        ≡ Err (fault no.LengthMismatch) }
+    ensures one_boolean_short { seg_distribute_of (true ∷ false ∷ []) (2 ∷ 0 ∷ 3 ∷ [])
+        ≡ Err (fault no.LengthMismatch) }
+    ensures value_for_no_segment { seg_distribute_of (pos 7 ∷ []) []
+        ≡ Err (fault no.LengthMismatch) }
+    ensures no_value_for_an_empty_segment { seg_distribute_of {X = ℤ} [] (0 ∷ [])
+        ≡ Err (fault no.LengthMismatch) }
+    ensures nothing_for_empty_segments { seg_distribute_of (pos 7 ∷ pos 8 ∷ []) (0 ∷ 0 ∷ [])
+        ≡ Ok [] }
 {}
 
-/// Numbers at equal distances, which go round at the greatest number; by segments there are as many beginnings and
+/// Numbers at equal distances, which wrap; by segments there are as many beginnings and
 /// strides as segments, empty ones too.
 pub fn index()
-    ensures steps { index (pos 0) (pos 1) (pos 3) ≡ Ok (pos 0 ∷ pos 1 ∷ pos 2 ∷ []) }
-    ensures no_steps { index (pos 5) (pos 1) (pos 0) ≡ Ok [] }
-    ensures wrapped { index (pos 2147483647) (pos 1) (pos 2) ≡ Ok (pos 2147483647 ∷ negsuc 2147483647 ∷ []) }
-    ensures too_many_steps { index (pos 0) (pos 1) (pos 4194305) ≡ Err (fault no.TooLong) }
-    ensures negative_count { index (pos 0) (pos 1) (negsuc 0) ≡ Err (fault no.NegativeLength) }
-    ensures steps_in_segments { seg_index (pos 0 ∷ pos 5 ∷ pos 10 ∷ []) (pos 1 ∷ pos 1 ∷ negsuc 1 ∷ []) (2 ∷ 0 ∷ 3 ∷ []) ≡ Ok (pos 0 ∷ pos 1 ∷ pos 10 ∷ pos 8 ∷ pos 6 ∷ []) }
-    ensures wrapped_in_segments { seg_index (pos 2147483647 ∷ pos 0 ∷ pos 5 ∷ []) (pos 1 ∷ pos 0 ∷ negsuc 4 ∷ []) (2 ∷ 0 ∷ 3 ∷ []) ≡ Ok (pos 2147483647 ∷ negsuc 2147483647 ∷ pos 5 ∷ pos 0 ∷ negsuc 4 ∷ []) }
-    ensures no_segments { seg_index [] [] [] ≡ Ok [] }
-    ensures one_beginning_short { seg_index (pos 0 ∷ pos 5 ∷ []) (pos 1 ∷ pos 1 ∷ negsuc 1 ∷ []) (2 ∷ 0 ∷ 3 ∷ []) ≡ Err (fault no.LengthMismatch) }
-    ensures one_beginning_more { seg_index (pos 0 ∷ pos 5 ∷ pos 10 ∷ pos 15 ∷ []) (pos 1 ∷ pos 1 ∷ negsuc 1 ∷ []) (2 ∷ 0 ∷ 3 ∷ []) ≡ Err (fault no.LengthMismatch) }
-    ensures one_stride_short { seg_index (pos 0 ∷ pos 5 ∷ pos 10 ∷ []) (pos 1 ∷ pos 1 ∷ []) (2 ∷ 0 ∷ 3 ∷ []) ≡ Err (fault no.LengthMismatch) }
-    ensures one_stride_more { seg_index (pos 0 ∷ pos 5 ∷ pos 10 ∷ []) (pos 1 ∷ pos 1 ∷ negsuc 1 ∷ pos 4 ∷ []) (2 ∷ 0 ∷ 3 ∷ []) ≡ Err (fault no.LengthMismatch) }
-    ensures one_of_both_short { seg_index (pos 0 ∷ pos 5 ∷ []) (pos 1 ∷ pos 1 ∷ []) (2 ∷ 0 ∷ 3 ∷ []) ≡ Err (fault no.LengthMismatch) }
-    ensures one_of_both_more { seg_index (pos 0 ∷ pos 5 ∷ pos 10 ∷ pos 15 ∷ []) (pos 1 ∷ pos 1 ∷ negsuc 1 ∷ pos 4 ∷ []) (2 ∷ 0 ∷ 3 ∷ []) ≡ Err (fault no.LengthMismatch) }
+    ensures steps { index_of (pos 0) (pos 1) (pos 3) ≡ Ok (pos 0 ∷ pos 1 ∷ pos 2 ∷ []) }
+    ensures no_steps { index_of (pos 5) (pos 1) (pos 0) ≡ Ok [] }
+    ensures wrapped { index_of (pos 2147483647) (pos 1) (pos 2)
+        ≡ Ok (pos 2147483647 ∷ negsuc 2147483647 ∷ []) }
+    ensures too_many_steps { index_of (pos 0) (pos 1) (pos 4194305) ≡ Err (fault no.TooLong) }
+    ensures negative_count { index_of (pos 0) (pos 1) (negsuc 0) ≡ Err (fault no.NegativeLength) }
+    ensures steps_in_segments { seg_index_of (pos 0 ∷ pos 5 ∷ pos 10 ∷ []) (pos 1 ∷ pos 1 ∷ negsuc 1 ∷ []) (2 ∷ 0 ∷ 3 ∷ [])
+        ≡ Ok (pos 0 ∷ pos 1 ∷ pos 10 ∷ pos 8 ∷ pos 6 ∷ []) }
+    ensures wrapped_in_segments { seg_index_of (pos 2147483647 ∷ pos 0 ∷ pos 5 ∷ []) (pos 1 ∷ pos 0 ∷ negsuc 4 ∷ [])
+        (2 ∷ 0 ∷ 3 ∷ [])
+        ≡ Ok (pos 2147483647 ∷ negsuc 2147483647 ∷ pos 5 ∷ pos 0 ∷ negsuc 4 ∷ []) }
+    ensures no_segments { seg_index_of [] [] [] ≡ Ok [] }
+    ensures one_beginning_short { seg_index_of (pos 0 ∷ pos 5 ∷ []) (pos 1 ∷ pos 1 ∷ negsuc 1 ∷ []) (2 ∷ 0 ∷ 3 ∷ [])
+        ≡ Err (fault no.LengthMismatch) }
+    ensures one_beginning_more { seg_index_of (pos 0 ∷ pos 5 ∷ pos 10 ∷ pos 15 ∷ []) (pos 1 ∷ pos 1 ∷ negsuc 1 ∷ [])
+        (2 ∷ 0 ∷ 3 ∷ [])
+        ≡ Err (fault no.LengthMismatch) }
+    ensures one_stride_short { seg_index_of (pos 0 ∷ pos 5 ∷ pos 10 ∷ []) (pos 1 ∷ pos 1 ∷ []) (2 ∷ 0 ∷ 3 ∷ [])
+        ≡ Err (fault no.LengthMismatch) }
+    ensures one_stride_more { seg_index_of (pos 0 ∷ pos 5 ∷ pos 10 ∷ []) (pos 1 ∷ pos 1 ∷ negsuc 1 ∷ pos 4 ∷ [])
+        (2 ∷ 0 ∷ 3 ∷ [])
+        ≡ Err (fault no.LengthMismatch) }
+    ensures one_of_both_short { seg_index_of (pos 0 ∷ pos 5 ∷ []) (pos 1 ∷ pos 1 ∷ []) (2 ∷ 0 ∷ 3 ∷ [])
+        ≡ Err (fault no.LengthMismatch) }
+    ensures one_of_both_more { seg_index_of (pos 0 ∷ pos 5 ∷ pos 10 ∷ pos 15 ∷ []) (pos 1 ∷ pos 1 ∷ negsuc 1 ∷ pos 4 ∷ [])
+        (2 ∷ 0 ∷ 3 ∷ [])
+        ≡ Err (fault no.LengthMismatch) }
+    ensures steps_down { index_of (pos 10) (negsuc 1) (pos 3) ≡ Ok (pos 10 ∷ pos 8 ∷ pos 6 ∷ []) }
+    ensures no_stride { index_of (pos 5) (pos 0) (pos 2) ≡ Ok (pos 5 ∷ pos 5 ∷ []) }
+    ensures strides_wrapped { index_of (pos 0) (pos 2147483647) (pos 3)
+        ≡ Ok (pos 0 ∷ pos 2147483647 ∷ negsuc 1 ∷ []) }
+    ensures none_for_an_empty_segment { seg_index_of [] [] (0 ∷ [])
+        ≡ Err (fault no.LengthMismatch) }
 {}

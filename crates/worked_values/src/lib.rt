@@ -10,6 +10,7 @@ pub mod descriptors;
 pub mod distributes;
 pub mod elementwise;
 pub mod extracts;
+pub mod nests;
 pub mod packs;
 pub mod permutes;
 pub mod reduces;

@@ -21,3 +21,11 @@ returns-clause-quotients c = refl
 pub returns-clause-left_shifts_drop_high_bits : goal.returns-clause-left_shifts_drop_high_bits
 unfolding int_wrap
 returns-clause-left_shifts_drop_high_bits c = refl
+
+pub returns-clause-sums_past_the_bottom : goal.returns-clause-sums_past_the_bottom
+unfolding int_wrap
+returns-clause-sums_past_the_bottom c = refl
+
+pub returns-clause-opposite_of_the_least : goal.returns-clause-opposite_of_the_least
+unfolding int_wrap
+returns-clause-opposite_of_the_least c = refl

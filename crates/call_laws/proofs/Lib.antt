@@ -1,0 +1,15 @@
+pub mod BackPermutes
+pub mod CutResults
+mod Cuts
+pub mod Defaulting
+pub mod ElementPlaces
+pub mod FirstBadPlaces
+pub mod FirstNegatives
+pub mod LeastFaults
+pub mod Packing
+pub mod PermuteFaults
+pub mod Places
+pub mod Segments
+pub mod Selecting
+pub mod Sending
+pub mod Targets

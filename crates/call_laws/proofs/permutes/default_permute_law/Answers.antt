@@ -1,0 +1,5 @@
+use Rattle.call_laws.proofs.Defaulting.{default-meaning}
+use Rattle.call_laws.proofs.permutes.default_permute_law.Goals as goal
+
+pub returns : goal.returns
+returns g c = default-meaning

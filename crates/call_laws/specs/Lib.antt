@@ -1,0 +1,2 @@
+pub mod CutAgain
+pub mod Permuted

@@ -1,0 +1,15 @@
+//! Laws of the calls' definitions: what they say in other words, which no code calls.
+//!
+//! Each is a function that takes and gives nothing and whose contract is the law. A definition that does not say what
+//! the field means by the call is refused here.
+#![tactic(auto)]
+
+pub mod descriptors;
+pub mod distributes;
+pub mod elementwise;
+pub mod extracts;
+pub mod nests;
+pub mod packs;
+pub mod permutes;
+pub mod scans;
+pub mod segmented;

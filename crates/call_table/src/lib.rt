@@ -1,0 +1,15 @@
+//! The table of calls: the families of calls and their operators, the name of each call, the kinds of the arguments
+//! that it takes, in their order, and the kind of what it gives.
+#![tactic(auto)]
+
+pub mod families;
+pub mod kind;
+mod operands;
+pub mod operation;
+pub mod spelling;
+mod table;
+
+pub use families::{BoolBinary, Comparison, Cut, Element, Form, IntBinary, IntMonoid, Unary};
+pub use kind::Kind;
+pub use operation::Op;
+pub use spelling::op_of;

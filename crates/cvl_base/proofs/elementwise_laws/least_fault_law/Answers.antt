@@ -1,8 +1,0 @@
-use Rattle.cvl_base.proofs.LeastFaults.{values-meaning, values-fault}
-use Rattle.cvl_base.proofs.elementwise_laws.least_fault_law.Goals as goal
-
-pub returns-clause-values : goal.returns-clause-values
-returns-clause-values g c = values-meaning
-
-pub returns-clause-first_missing : goal.returns-clause-first_missing
-returns-clause-first_missing g c = values-fault

@@ -1,8 +1,0 @@
-use Rattle.cvl_base.proofs.Segments.{extract-again, replace-again}
-use Rattle.cvl_base.proofs.segment_laws.one_segment_changed.Goals as goal
-
-pub returns-clause-extract : goal.returns-clause-extract
-returns-clause-extract g c = extract-again
-
-pub returns-clause-replace : goal.returns-clause-replace
-returns-clause-replace g c = replace-again

@@ -1,0 +1,4 @@
+pub mod Dividing
+pub mod FoldLaws
+pub mod TileSumLaws
+pub mod Wrapping

@@ -1,0 +1,11 @@
+pub mod Booleans
+pub mod Conversions
+pub mod Folds
+pub mod Integers
+pub mod ItemWords
+pub mod Monoid
+pub mod NumberLaws
+pub mod SegmentMonoid
+pub mod SegmentMonoidLaws
+pub mod TileSums
+pub mod TruthLaws

@@ -1,0 +1,39 @@
+-- The sums of tiles. A tile is a run of elements of a segmented vector, each with whether a segment starts at it.
+-- Source: Merrill and Garland, Single-pass Parallel Prefix Scan with Decoupled Look-back.
+use Rattle.std.specs.Prelude.{ℕ, zero, suc, ◌+◌, ◌-◌, ℤ, pos, Bool, true, false, List, [], ◌∷◌, take, drop, slice_index_or}
+use Rattle.std.specs.List.{flat_map, All, AllPass}
+use Rattle.operators.specs.Folds.{fold_of}
+use Rattle.operators.specs.SegmentMonoid.{seg_unit, seg_join}
+
+-- the elements of the tiles, tile after tile
+abbrev pub elements_of : {Element : Type 0} → List (List Element) → List Element
+elements_of tiles = flat_map (λ tile. tile) tiles
+
+-- the elements of a run of tiles, joined in order
+abbrev pub sum_of_tiles : {Item : Type 0} → (Item → Item → Item) → Item → List (List (Bool × Item)) → Bool × Item
+sum_of_tiles join unit tiles = fold_of (seg_join join) (seg_unit unit) (elements_of tiles)
+
+-- the aggregate of tile t: its elements joined in order
+abbrev pub sum_at : {Item : Type 0} → (Item → Item → Item) → Item → List (List (Bool × Item)) → ℕ → Bool × Item
+sum_at join unit tiles t = fold_of (seg_join join) (seg_unit unit) (slice_index_or tiles t [])
+
+-- the inclusive prefix of tile t: that of tiles 0 to t
+abbrev pub upto : {Item : Type 0} → (Item → Item → Item) → Item → List (List (Bool × Item)) → ℕ → Bool × Item
+upto join unit tiles t = sum_of_tiles join unit (take (t + 1) tiles)
+
+-- the exclusive prefix of tile t
+abbrev pub before : {Item : Type 0} → (Item → Item → Item) → Item → List (List (Bool × Item)) → ℕ → Bool × Item
+before join unit tiles zero = seg_unit unit
+before join unit tiles (suc t) = upto join unit tiles t
+
+-- that of the tiles from `first` on that stand before tile t
+abbrev pub between : {Item : Type 0} → (Item → Item → Item) → Item → List (List (Bool × Item)) → ℕ → ℕ → Bool × Item
+between join unit tiles first t = sum_of_tiles join unit (take (t - first) (drop first tiles))
+
+-- each element of each tile is an item
+abbrev pub AllTilesPass : {Element : Type 0} → (Element → Bool) → List (List Element) → Type 0
+AllTilesPass is_item tiles = All (AllPass is_item) tiles
+
+-- the tiles of the worked values: segments of lengths 2 and 3 over the numbers 5 1 7 7 1, in tiles of two elements
+abbrev pub worked_tiles : List (List (Bool × ℤ))
+worked_tiles = ((true, pos 5) ∷ (false, pos 1) ∷ []) ∷ ((true, pos 7) ∷ (false, pos 7) ∷ []) ∷ ((false, pos 1) ∷ []) ∷ []

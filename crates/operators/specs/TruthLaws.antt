@@ -1,0 +1,76 @@
+-- The laws of the three operators on truth values.
+-- Source: what the definitions of Booleans and Monoid imply.
+use Rattle.std.proofs.Common.{◌≡◌, refl, Bool, true, false, FitsSigned, arith}
+use Rattle.std.specs.Int.{w32}
+use Rattle.std.proofs.lemmas.Int.{ints}
+use Rattle.operators.specs.Booleans.{both, either, differ}
+use Rattle.operators.specs.Monoid.{MonoidLaws}
+use Rattle.operators.specs.ItemWords.{is_truth_value, truth_word, is_set_word, WordLaws}
+
+both_true : (a : Bool) → both a true ≡ a
+both_true true = refl
+both_true false = refl
+
+both_assoc : (a b c : Bool) → both (both a b) c ≡ both a (both b c)
+both_assoc true b c = refl
+both_assoc false b c = refl
+
+pub either_false : (a : Bool) → either a false ≡ a
+either_false true = refl
+either_false false = refl
+
+pub either_assoc : (a b c : Bool) → either (either a b) c ≡ either a (either b c)
+either_assoc true b c = refl
+either_assoc false b c = refl
+
+differ_false : (a : Bool) → differ a false ≡ a
+differ_false true = refl
+differ_false false = refl
+
+differ_assoc : (a b c : Bool) → differ (differ a b) c ≡ differ a (differ b c)
+differ_assoc true true true = refl
+differ_assoc true true false = refl
+differ_assoc true false c = refl
+differ_assoc false b c = refl
+
+pub both_laws : MonoidLaws is_truth_value true both
+both_laws = record {
+  unit_is_item = refl;
+  join_is_item = λ a b _ _. refl;
+  assoc = λ a b c _ _ _. both_assoc a b c;
+  left_unit = λ a _. refl;
+  right_unit = λ a _. both_true a;
+}
+
+pub either_laws : MonoidLaws is_truth_value false either
+either_laws = record {
+  unit_is_item = refl;
+  join_is_item = λ a b _ _. refl;
+  assoc = λ a b c _ _ _. either_assoc a b c;
+  left_unit = λ a _. refl;
+  right_unit = λ a _. either_false a;
+}
+
+pub differ_laws : MonoidLaws is_truth_value false differ
+differ_laws = record {
+  unit_is_item = refl;
+  join_is_item = λ a b _ _. refl;
+  assoc = λ a b c _ _ _. differ_assoc a b c;
+  left_unit = λ a _. refl;
+  right_unit = λ a _. differ_false a;
+}
+
+-- a truth value's word is 0 or 1
+pub truth_words : WordLaws is_truth_value truth_word is_set_word
+truth_words = record {
+  fits = λ b _. word_fits b;
+  inverse = λ b _. word_inverse b;
+}
+  where
+    word_fits : (b : Bool) → FitsSigned w32 (truth_word b)
+    word_fits true = omega (arith, ints)
+    word_fits false = omega (arith, ints)
+
+    word_inverse : (b : Bool) → is_set_word (truth_word b) ≡ b
+    word_inverse true = refl
+    word_inverse false = refl

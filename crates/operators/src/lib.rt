@@ -1,0 +1,15 @@
+//! Numbers and operators: integers of 32 bits, truth values, the monoids that vectors are scanned and reduced by, and
+//! the laws of folds, scans and sums of tiles over any monoid.
+#![tactic(auto)]
+
+pub mod boolean;
+pub mod folds;
+pub mod integer;
+pub mod laws;
+pub mod monoid;
+pub mod monoids;
+pub mod seg;
+pub mod tile_sums;
+
+pub use monoid::{Monoid, Packed};
+pub use seg::Seg;

@@ -1,0 +1,68 @@
+//! The laws of the sums of tiles, for code that is generic over its monoid.
+
+ghost use Rattle.std.specs.Prelude.{◌≡◌, ℕ, ◌+◌, ◌<◌, ◌≤◌, pos, Bool, true, false, List, [], ◌∷◌, take, map, IsTrue};
+ghost use Rattle.operators.specs.Folds.{fold_of, fronts, scan_of};
+ghost use Rattle.operators.specs.Integers.{sum_of};
+ghost use Rattle.operators.specs.SegmentMonoid.{is_seg_item, seg_unit, seg_join};
+ghost use Rattle.operators.specs.TileSums.{sum_at, upto, before, between, worked_tiles, AllTilesPass};
+
+use crate::monoid::Monoid;
+
+/// How the sums of the tiles of a segmented vector hang together: a tile's own sum, that of the
+/// tiles up to it, that of the tiles before it, and that of the tiles between two.
+///
+/// The call does nothing; its contract names the laws.
+pub fn know_tile_sums<M: Monoid>()
+    ensures none_before { (tiles : List (List (Bool × M.Item))) →
+        before M.join M.unit tiles 0 ≡ seg_unit M.unit }
+    ensures before_next { (tiles : List (List (Bool × M.Item))) (t : ℕ) →
+        before M.join M.unit tiles (t + 1) ≡ upto M.join M.unit tiles t }
+    ensures joined { (tiles : List (List (Bool × M.Item))) (t : ℕ) → AllTilesPass (is_seg_item M.is_item) tiles →
+        upto M.join M.unit tiles t ≡ seg_join M.join (before M.join M.unit tiles t) (sum_at M.join M.unit tiles t) }
+    ensures by_sums { (tiles : List (List (Bool × M.Item))) (t : ℕ) → AllTilesPass (is_seg_item M.is_item) tiles →
+        upto M.join M.unit tiles t
+        ≡ fold_of (seg_join M.join) (seg_unit M.unit) (map (fold_of (seg_join M.join) (seg_unit M.unit)) (take (t + 1) tiles)) }
+{}
+
+/// How a look-back nears the tiles before tile `t`: it starts from no tile, takes one tile more in
+/// front, and is done at a tile before which the sum is known.
+///
+/// The call does nothing; its contract names the laws.
+pub fn know_look_back<M: Monoid>()
+    ensures none_between { (tiles : List (List (Bool × M.Item))) (t : ℕ) →
+        between M.join M.unit tiles t t ≡ seg_unit M.unit }
+    ensures one_more { (tiles : List (List (Bool × M.Item))) (first t : ℕ) → first < t → AllTilesPass (is_seg_item M.is_item) tiles →
+        between M.join M.unit tiles first t
+        ≡ seg_join M.join (sum_at M.join M.unit tiles first) (between M.join M.unit tiles (first + 1) t) }
+    ensures met { (tiles : List (List (Bool × M.Item))) (first t : ℕ) → first ≤ t → AllTilesPass (is_seg_item M.is_item) tiles →
+        before M.join M.unit tiles t
+        ≡ seg_join M.join (before M.join M.unit tiles first) (between M.join M.unit tiles first t) }
+{}
+
+/// That the sums of tiles of items are items.
+///
+/// The call does nothing; its contract names the laws.
+pub fn know_sums_are_items<M: Monoid>()
+    ensures own { (tiles : List (List (Bool × M.Item))) (t : ℕ) → AllTilesPass (is_seg_item M.is_item) tiles →
+        IsTrue (is_seg_item M.is_item (sum_at M.join M.unit tiles t)) }
+    ensures inclusive { (tiles : List (List (Bool × M.Item))) (t : ℕ) → AllTilesPass (is_seg_item M.is_item) tiles →
+        IsTrue (is_seg_item M.is_item (upto M.join M.unit tiles t)) }
+    ensures exclusive { (tiles : List (List (Bool × M.Item))) (t : ℕ) → AllTilesPass (is_seg_item M.is_item) tiles →
+        IsTrue (is_seg_item M.is_item (before M.join M.unit tiles t)) }
+    ensures middle { (tiles : List (List (Bool × M.Item))) (first t : ℕ) → AllTilesPass (is_seg_item M.is_item) tiles →
+        IsTrue (is_seg_item M.is_item (between M.join M.unit tiles first t)) }
+{}
+
+/// Worked values of the sums of tiles: a tile in which a segment starts doesn't count in what stood before it.
+pub fn tile_sum_values()
+    ensures fronts_of_three { fronts (pos 3 ∷ (pos 1 ∷ (pos 7 ∷ []))) ≡ [] ∷ ((pos 3 ∷ []) ∷ ((pos 3 ∷ (pos 1 ∷ [])) ∷ [])) }
+    ensures before_each { scan_of (seg_join sum_of) (seg_unit (pos 0)) ((true, pos 5) ∷ ((false, pos 1) ∷ ((true, pos 7) ∷ [])))
+        ≡ (false, pos 0) ∷ ((true, pos 5) ∷ ((true, pos 6) ∷ [])) }
+    ensures of_second { sum_at sum_of (pos 0) worked_tiles 1 ≡ (true, pos 14) }
+    ensures of_third { sum_at sum_of (pos 0) worked_tiles 2 ≡ (false, pos 1) }
+    ensures upto_first { upto sum_of (pos 0) worked_tiles 0 ≡ (true, pos 6) }
+    ensures upto_third { upto sum_of (pos 0) worked_tiles 2 ≡ (true, pos 15) }
+    ensures before_first { before sum_of (pos 0) worked_tiles 0 ≡ (false, pos 0) }
+    ensures before_third { before sum_of (pos 0) worked_tiles 2 ≡ (true, pos 14) }
+    ensures between_first_and_third { between sum_of (pos 0) worked_tiles 1 2 ≡ (true, pos 14) }
+{}
