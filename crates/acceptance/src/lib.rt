@@ -20,8 +20,6 @@ mod refused_elementwise;
 #[cfg(test)]
 mod refused_programs;
 #[cfg(test)]
-mod refused_reading;
-#[cfg(test)]
 mod refused_writing;
 #[cfg(test)]
 mod scripts;

@@ -15,7 +15,7 @@ const NUMBERS: usize = 4_194_304;
 /// How often a case is measured. The best time counts.
 const ROUNDS: usize = 20;
 
-/// An input of random numbers with a space behind each, all of 32 bits, or each of a random number of bits.
+/// An input of random numbers with a space after each, all of 32 bits, or each of a random number of bits.
 fn random_input(alloc: Global, are_all_long: bool) -> Result<Vec<u8>, AllocError> {
     let mut input = Vec::with_capacity(alloc, 12 * NUMBERS)?;
     let mut buffer = Buffer::new();

@@ -24,4 +24,5 @@ input_class b = if is_white_space b then Blank else Part
 abbrev pub input_of : List ℕ → Result (List ℤ) Fault
 input_of bytes =
     let tokens = tokens_by input_class bytes in
-    fault_if (nat_lt most_elements (length tokens)) (fault TooLong) (values_from BadInput 0 (map number_of tokens))
+    fault_if (nat_lt most_elements (length tokens)) (fault TooLong)
+    (values_from BadInput 0 (map number_of tokens))

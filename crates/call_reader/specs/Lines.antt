@@ -62,16 +62,22 @@ begins_with_equals [] = false
 begins_with_equals (token ∷ tokens) = pointwise nat_eq token (codes "=")
 
 module _ {A : Type 0} where
+  -- a line that is this call
+  abbrev pub the_call : Option (List ℕ) → Op → List Arg → Result (Option (Call A)) Fault
+  the_call target op args = Ok (Some (record { target = target; op = op; args = args }))
+
   abbrev pub with_op : Option (List ℕ) → Option Op → List (List ℕ) → Result (Option (Call A)) Fault
   with_op target None args = Err (fault UnknownCall)
   with_op target (Some op) args =
       fault_if (not (takes_of op (length args))) (fault WrongArgumentCount)
-      (args_of args >>= λ read. Ok (Some (record { target = target; op = op; args = read })))
+      (args_of args >>= the_call target op)
 
   -- `NAME = CALL ARG ..`
   abbrev pub binding : List (List ℕ) → Result (Option (Call A)) Fault
   binding (target ∷ equals ∷ call ∷ args) =
-      fault_if (not (is_name target && pointwise nat_eq equals (codes "=") && is_word call && list_all is_arg args)) (fault BadLine)
+      fault_if
+      (not (is_name target && pointwise nat_eq equals (codes "=") && is_word call && list_all is_arg args))
+      (fault BadLine)
       (with_op (Some target) (op_of call) args)
   binding _ = Err (fault BadLine)
 

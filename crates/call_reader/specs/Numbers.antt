@@ -31,7 +31,7 @@ abbrev pub number_of : List ℕ → Option ℤ
 number_of [] = None
 number_of (b ∷ bs) = with_sign (b == 45) (b ∷ bs) bs
 
--- the `-` (45), if there is one, and all the digits behind it, with which the bytes begin
+-- the `-` (45), if there is one, and all the digits after it, with which the bytes begin
 abbrev pub signed_digits : List ℕ → List ℕ
 signed_digits [] = []
 signed_digits (b ∷ bs) = if b == 45 then b ∷ take_while is_ascii_digit bs else take_while is_ascii_digit (b ∷ bs)

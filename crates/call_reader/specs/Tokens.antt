@@ -11,7 +11,7 @@ abbrev pub onto_first : ℕ → List (List ℕ) → List (List ℕ)
 onto_first b [] = (b ∷ []) ∷ []
 onto_first b (token ∷ tokens) = (b ∷ token) ∷ tokens
 
--- the tokens with a byte of this class before them, where the run of the first token begins right behind it or not
+-- the tokens with a byte of this class before them, where the run of the first token begins right after it or not
 abbrev pub with_byte : ByteClass → Bool → ℕ → List (List ℕ) → List (List ℕ)
 with_byte Blank runs_on b tokens = tokens
 with_byte Alone runs_on b tokens = (b ∷ []) ∷ tokens
@@ -42,11 +42,17 @@ abbrev pub tokens_by : (ℕ → ByteClass) → List ℕ → List (List ℕ)
 tokens_by class_of [] = []
 tokens_by class_of (b ∷ bs) = with_byte (class_of b) (begins_with_part class_of bs) b (tokens_by class_of bs)
 
+-- the bytes' first token, and the bytes after it
+abbrev pub IsFirstToken : (ℕ → ByteClass) → List ℕ → List ℕ → List ℕ → Type 0
+IsFirstToken class_of bytes token others = tokens_by class_of bytes ≡ token ∷ tokens_by class_of others
+
 -- what it means to cut bytes into tokens: a run is one token, and at a blank or a lone byte the bytes are cut in two,
 -- with the lone byte as a token between them
 pub record AreTokens (class_of : ℕ → ByteClass) (tokens_of : List ℕ → List (List ℕ)) : Type 0 where
   pub nothing : tokens_of [] ≡ []
-  pub run : (bs : List ℕ) → 0 < length bs → IsTrue (list_all (λ b. is_part (class_of b)) bs) → tokens_of bs ≡ bs ∷ []
-  pub blank : (before after : List ℕ) (b : ℕ) → class_of b ≡ Blank → tokens_of (before ++ b ∷ after) ≡ tokens_of before ++ tokens_of after
+  pub run : (bs : List ℕ) → 0 < length bs → IsTrue (list_all (λ b. is_part (class_of b)) bs)
+      → tokens_of bs ≡ bs ∷ []
+  pub blank : (before after : List ℕ) (b : ℕ) → class_of b ≡ Blank
+      → tokens_of (before ++ b ∷ after) ≡ tokens_of before ++ tokens_of after
   pub alone : (before after : List ℕ) (b : ℕ) → class_of b ≡ Alone
       → tokens_of (before ++ b ∷ after) ≡ tokens_of before ++ (b ∷ []) ∷ tokens_of after

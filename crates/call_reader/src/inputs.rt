@@ -5,7 +5,7 @@ ghost use Rattle.cvl_base.specs.declared.fault.FaultNo.TheVariants.{TooLong, Bad
 ghost use Rattle.cvl_base.specs.Faults.{fault, fault_at};
 ghost use Rattle.cvl_base.specs.Gives.{Gives};
 ghost use Rattle.cvl_base.specs.Limits.{most_elements};
-ghost use Rattle.call_reader.specs.Tokens.{tokens_by, begins_with_part};
+ghost use Rattle.call_reader.specs.Tokens.{tokens_by, IsFirstToken, begins_with_part};
 ghost use Rattle.call_reader.specs.Numbers.{number_of};
 ghost use Rattle.call_reader.specs.Inputs.{is_white_space, input_class, input_of};
 
@@ -44,11 +44,11 @@ fn token_count(bytes: &[u8]) -> usize
     ensures { result ≡ length (tokens_by input_class bytes.now) }
 {
     let mut count = 0;
-    let mut behind_white_space = true;
+    let mut after_white_space = true;
     for byte in bytes {
         let is_white_space = is_white_space(*byte);
-        count += usize::from(behind_white_space & !is_white_space);
-        behind_white_space = is_white_space;
+        count += usize::from(after_white_space & !is_white_space);
+        after_white_space = is_white_space;
     }
     count
 }
@@ -57,7 +57,8 @@ fn token_count(bytes: &[u8]) -> usize
 /// are the rest: `TooLong` where there are more tokens than the limit in all, and else `BadInput` at the place.
 fn fault_at_token(place: usize, rest: &[u8]) -> Fault
     requires { place ≤ most_elements }
-    ensures { result ≡ (if nat_lt most_elements (place + length (tokens_by input_class rest.now)) then fault TooLong else fault_at BadInput place) }
+    ensures { result ≡ (if nat_lt most_elements (place + length (tokens_by input_class rest.now))
+        then fault TooLong else fault_at BadInput place) }
 {
     if token_count(rest) > MOST_ELEMENTS - place {
         Fault::new(FaultNo::TooLong)
@@ -77,23 +78,24 @@ fn begins_with_token(bytes: &[u8]) -> bool
     }
 }
 
-/// The first token of the bytes, the integer that it writes, and what stands behind it; none where there is no token.
+/// The first token of the bytes, the integer that it writes, and what stands after it; none where there is no token.
 #[inline(always)]
 fn first_number(bytes: &[u8]) -> Option<(&[u8], Option<i32>, &[u8])>
-    ensures tokens { MatchOption result (tokens_by input_class bytes.now ≡ []) (λ t. tokens_by input_class bytes.now ≡ t.0.now ∷ tokens_by input_class t.2.now) }
+    ensures tokens { MatchOption result (tokens_by input_class bytes.now ≡ [])
+        (λ t. IsFirstToken input_class bytes.now t.0.now t.2.now) }
     ensures number { IfSome result (λ t. t.1 ≡ number_of t.0.now) }
     ensures shorter { IfSome result (λ t. length t.2.now < length bytes.now) }
 {
     let (_blank, rest) = bytes.split_at(blanks::<InputBytes>(bytes));
     // nearly every token is an integer that one walk finds and reads
     if let Some((value, length)) = leading_number(rest) {
-        let (token, behind) = rest.split_at(length);
-        if !begins_with_token(behind) {
-            return Some((token, Some(value), behind));
+        let (token, others) = rest.split_at(length);
+        if !begins_with_token(others) {
+            return Some((token, Some(value), others));
         }
     }
-    let (token, behind) = first_token::<InputBytes>(rest)?;
-    Some((token, number(token), behind))
+    let (token, others) = first_token::<InputBytes>(rest)?;
+    Some((token, number(token), others))
 }
 
 /// Reads an input: signed decimals between white space.
@@ -105,11 +107,11 @@ pub fn read_vector<A: Memory>(alloc: A, bytes: &[u8]) -> Result<Vec<i32, A>, Ref
     ensures values { Gives (λ v. v.items) result (input_of bytes.now) }
     ensures in_limit { IfOk result (λ v. vec_len v ≤ most_elements) }
 {
-    // each token but the last has white space behind it
+    // each token but the last has white space after it
     let room = bytes.len().div_ceil(2).min(MOST_ELEMENTS);
     let mut numbers = Vec::with_capacity(alloc, room)?;
     let mut rest = bytes;
-    while let Some((_token, number, behind)) = first_number(rest) {
+    while let Some((_token, number, others)) = first_number(rest) {
         if numbers.len() == MOST_ELEMENTS {
             return Err(Refused::Fault(Fault::new(FaultNo::TooLong)));
         }
@@ -117,7 +119,7 @@ pub fn read_vector<A: Memory>(alloc: A, bytes: &[u8]) -> Result<Vec<i32, A>, Ref
             None => return Err(Refused::Fault(fault_at_token(numbers.len(), rest))),
             Some(number) => numbers.push_reserved(number),
         }
-        rest = behind;
+        rest = others;
     }
     Ok(numbers)
 }

@@ -1,6 +1,6 @@
 //! The tokens of a line.
 
-ghost use Rattle.std.specs.Prelude.{◌≡◌, ◌<◌, ◌==◌, true, false, length, position, MatchOption, IfSome};
+ghost use Rattle.std.specs.Prelude.{◌≡◌, ◌<◌, ◌==◌, is_some, length, position, IfSome};
 ghost use Rattle.std.specs.List.{list_all};
 ghost use Rattle.call_reader.specs.Lines.{line_class, line_tokens, before_comment, begins_with_equals, is_arg, is_truth_token, is_number_token};
 ghost use Rattle.cvl_base.specs.Words.{is_name};
@@ -106,7 +106,8 @@ fn is_number_token(token: &[u8]) -> bool
 
 /// The number of tokens, where each passes the test; none where one doesn't.
 pub(crate) fn count_passing<T: TokenTest>(bytes: &[u8]) -> Option<usize>
-    ensures { MatchOption result (list_all T.passes (line_tokens bytes.now) ≡ false) (λ count. (list_all T.passes (line_tokens bytes.now) ≡ true) × (count ≡ length (line_tokens bytes.now))) }
+    ensures passed { is_some result ≡ list_all T.passes (line_tokens bytes.now) }
+    ensures count { IfSome result (λ count. count ≡ length (line_tokens bytes.now)) }
 {
     let mut count = 0;
     let mut rest = bytes;

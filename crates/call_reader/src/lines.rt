@@ -42,7 +42,7 @@ fn read_form<A: Memory>(alloc: A, line: &[u8]) -> Result<Option<Call<A>>, Refuse
     }
 }
 
-/// Reads what stands behind `write`.
+/// Reads what stands after `write`.
 fn read_write<A: Memory>(alloc: A, names: &[u8]) -> Result<Option<Call<A>>, Refused>
     ensures { Gives (λ call. call) result (write_line (line_tokens names.now)) }
 {
@@ -50,7 +50,7 @@ fn read_write<A: Memory>(alloc: A, names: &[u8]) -> Result<Option<Call<A>>, Refu
     with_op(alloc, None, Some(Op::Write), names, count)
 }
 
-/// Reads `NAME = CALL ARG ..`, where the name and what stands behind it are given.
+/// Reads `NAME = CALL ARG ..`, where the name and what stands after it are given.
 #[tactic(auto, using(crate::proofs::Bindings::unnamed))]
 fn read_binding<A: Memory>(
     alloc: A,

@@ -55,8 +55,8 @@ fn signed(is_negative: bool, magnitude: u64) -> i64
     if is_negative { -value } else { value }
 }
 
-/// The integer that an optional `-` and all the digits behind it write, with which the bytes begin, and how many bytes
-/// these are; `None` where there is no digit or the integer is outside 32 bits. What stands behind them is not read.
+/// The integer that an optional `-` and all the digits after it write, with which the bytes begin, and how many bytes
+/// these are; `None` where there is no digit or the integer is outside 32 bits. What stands after them is not read.
 #[inline(always)]
 pub(crate) fn leading_number(bytes: &[u8]) -> Option<(i32, usize)>
     ensures number { option_map (λ n. n.0) result ≡ number_of (signed_digits bytes.now) }

@@ -34,7 +34,8 @@ fn put_nested<A: Memory>(
     text: &mut Vec<u8, A>,
 ) -> Result<(), NoResources>
     requires { IsOk (cut_text (map unsigned_abs lengths.now) value.now) }
-    ensures ok { OnOk result (after_bytes text.old.items (cut_text (map unsigned_abs lengths.now) value.now) ≡ Ok text.new.items) }
+    ensures ok { OnOk result
+        (after_bytes text.old.items (cut_text (map unsigned_abs lengths.now) value.now) ≡ Ok text.new.items) }
     ensures begins { take (length text.old.items) text.new.items ≡ text.old.items }
 {
     match value {
@@ -51,7 +52,8 @@ fn put_beside<A: Memory>(
     text: &mut Vec<u8, A>,
 ) -> Result<(), NoResources>
     requires { ForSome descriptor (λ d. IsOk (cut_text d.now value.now)) }
-    ensures ok { OnOk result (after_bytes text.old.items (value_text (option_copied descriptor.entry) value.now) ≡ Ok text.new.items) }
+    ensures ok { OnOk result
+        (after_bytes text.old.items (value_text (option_copied descriptor.entry) value.now) ≡ Ok text.new.items) }
     ensures begins { take (length text.old.items) text.new.items ≡ text.old.items }
 {
     let mut page = [0; PAGE_BYTES];
@@ -73,7 +75,8 @@ pub fn put_value<A: Memory>(
     text: &mut Vec<u8, A>,
 ) -> Result<(), NoResources>
     requires { ForSome descriptor (λ d. IsOk (cut_text d.now value.now)) }
-    ensures ok { OnOk result (after_bytes text.old.items (value_text (option_copied descriptor.entry) value.now) ≡ Ok text.new.items) }
+    ensures ok { OnOk result
+        (after_bytes text.old.items (value_text (option_copied descriptor.entry) value.now) ≡ Ok text.new.items) }
     ensures err { OnErr result (text.new.items ≡ text.old.items) }
 {
     let len = text.len();

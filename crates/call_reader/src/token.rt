@@ -1,9 +1,9 @@
 //! Tokens: runs of bytes between blanks.
 
-ghost use Rattle.std.specs.Prelude.{◌≡◌, ◌<◌, ◌≤◌, [], ◌∷◌, length, take, drop, filter, false, not, IsTrue, MatchOption, IfSome};
+ghost use Rattle.std.specs.Prelude.{◌≡◌, ◌<◌, ◌≤◌, [], length, take, drop, filter, false, not, IsTrue, MatchOption, IfSome};
 ghost use Rattle.std.specs.List.{concat, list_all};
 ghost use Rattle.call_reader.specs.Numbers.{is_empty};
-ghost use Rattle.call_reader.specs.Tokens.{tokens_by, AreTokens, is_blank, is_part, begins_with_part, begins_with_blank};
+ghost use Rattle.call_reader.specs.Tokens.{tokens_by, AreTokens, IsFirstToken, is_blank, is_part, begins_with_part, begins_with_blank};
 
 /// What a byte is to the tokens.
 #[derive(Clone, Copy, Debug, PartialEq, Eq, Hash)]
@@ -58,19 +58,20 @@ fn run_length<C: Classes>(bytes: &[u8]) -> usize
     bytes.len()
 }
 
-/// The first token of the bytes, and what stands behind it; none where there is no token.
+/// The first token of the bytes, and what stands after it; none where there is no token.
 pub(crate) fn first_token<C: Classes>(bytes: &[u8]) -> Option<(&[u8], &[u8])>
-    ensures tokens { MatchOption result (tokens_by C.class_of bytes.now ≡ []) (λ t. tokens_by C.class_of bytes.now ≡ t.0.now ∷ tokens_by C.class_of t.1.now) }
+    ensures tokens { MatchOption result (tokens_by C.class_of bytes.now ≡ [])
+        (λ t. IsFirstToken C.class_of bytes.now t.0.now t.1.now) }
     ensures shorter { IfSome result (λ t. length t.1.now < length bytes.now) }
     ensures first { IfSome result (λ t. 0 < length t.0.now) }
 {
-    let (_blank, behind) = bytes.split_at(blanks::<C>(bytes));
-    let (first, _others) = behind.split_first()?;
+    let (_blank, rest) = bytes.split_at(blanks::<C>(bytes));
+    let (first, _others) = rest.split_first()?;
     let length = match C::class_of(*first) {
-        ByteClass::Part => run_length::<C>(behind),
+        ByteClass::Part => run_length::<C>(rest),
         ByteClass::Alone | ByteClass::Blank => 1,
     };
-    Some(behind.split_at(length))
+    Some(rest.split_at(length))
 }
 
 /// What the tokens of any bytes are: all bytes that aren't blank, in their order, in lists of which none is empty. A
@@ -78,8 +79,10 @@ pub(crate) fn first_token<C: Classes>(bytes: &[u8]) -> Option<(&[u8], &[u8])>
 /// contract says so of the definition.
 pub fn token_laws<C: Classes>(bytes: &[u8])
     ensures classes { AreTokens C.class_of (tokens_by C.class_of) }
-    ensures whole { concat (tokens_by C.class_of bytes.now) ≡ filter (λ b. not (is_blank (C.class_of b))) bytes.now }
-    ensures none_empty { IsTrue (list_all (λ token. not (is_empty token)) (tokens_by C.class_of bytes.now)) }
+    ensures whole {
+        concat (tokens_by C.class_of bytes.now) ≡ filter (λ b. not (is_blank (C.class_of b))) bytes.now }
+    ensures none_empty {
+        IsTrue (list_all (λ token. not (is_empty token)) (tokens_by C.class_of bytes.now)) }
 {
     let _bytes = bytes;
 }

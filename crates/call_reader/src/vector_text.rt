@@ -77,7 +77,8 @@ fn put_joined<T: Written, A: Allocator>(
     page: &mut Page,
     text: &mut Vec<u8, A>,
 ) -> Result<(), NoResources>
-    ensures ok { OnOk result (text.new.items ≡ text.old.items ++ join_with_byte 32 (map T.text_of xs.now)) }
+    ensures ok { OnOk result
+        (text.new.items ≡ text.old.items ++ join_with_byte 32 (map T.text_of xs.now)) }
     ensures begins { take (length text.old.items) text.new.items ≡ text.old.items }
 {
     let Some((first, others)) = xs.split_first() else {
@@ -111,7 +112,8 @@ fn put_spaced_segments<T: Written, A: Allocator>(
     text: &mut Vec<u8, A>,
 ) -> Result<(), NoResources>
     requires { sum (map unsigned_abs lengths.now) ≡ length xs.now }
-    ensures ok { OnOk result (text.new.items ≡ text.old.items ++ spaced (vector_text T.text_of) (cut_of (map unsigned_abs lengths.now) xs.now)) }
+    ensures ok { OnOk result (text.new.items
+        ≡ text.old.items ++ spaced (vector_text T.text_of) (cut_of (map unsigned_abs lengths.now) xs.now)) }
     ensures begins { take (length text.old.items) text.new.items ≡ text.old.items }
 {
     let mut rest = xs;
@@ -132,7 +134,8 @@ fn put_joined_segments<T: Written, A: Allocator>(
     text: &mut Vec<u8, A>,
 ) -> Result<(), NoResources>
     requires { sum (map unsigned_abs lengths.now) ≡ length xs.now }
-    ensures ok { OnOk result (text.new.items ≡ text.old.items ++ join_with_byte 32 (map (vector_text T.text_of) (cut_of (map unsigned_abs lengths.now) xs.now))) }
+    ensures ok { OnOk result (text.new.items ≡ text.old.items
+        ++ join_with_byte 32 (map (vector_text T.text_of) (cut_of (map unsigned_abs lengths.now) xs.now))) }
     ensures begins { take (length text.old.items) text.new.items ≡ text.old.items }
 {
     let Some((first, others)) = lengths.split_first() else {
@@ -152,7 +155,8 @@ pub(crate) fn put_nest<T: Written, A: Allocator>(
     text: &mut Vec<u8, A>,
 ) -> Result<(), NoResources>
     requires { sum (map unsigned_abs lengths.now) ≡ length xs.now }
-    ensures ok { OnOk result (text.new.items ≡ text.old.items ++ nest_text T.text_of (cut_of (map unsigned_abs lengths.now) xs.now)) }
+    ensures ok { OnOk result (text.new.items
+        ≡ text.old.items ++ nest_text T.text_of (cut_of (map unsigned_abs lengths.now) xs.now)) }
     ensures begins { take (length text.old.items) text.new.items ≡ text.old.items }
 {
     text.push(b'[')?;

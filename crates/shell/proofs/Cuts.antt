@@ -18,7 +18,7 @@ one_part_more : {X : Type 0} (b : Bool) (x : X) (xs : List X) (parts : List (Lis
 one_part_more true x xs parts n h one = absurd (omega arith)
 one_part_more false x xs parts n h one = ap (onto_first x) (one (omega arith))
 
--- where the first element that passes is behind the end, the list is the one part
+-- where the first element that passes is after the end, the list is the one part
 one_part : {X : Type 0} (p : X → Bool) (xs : List X) → length xs ≤ position_or_len p xs → slice_split p xs ≡ xs ∷ []
 one_part p [] h = refl
 one_part p (x ∷ xs) h = one_part_more (p x) x xs (slice_split p xs) (position_or_len p xs) h (one_part p xs)

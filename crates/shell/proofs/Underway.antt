@@ -29,7 +29,7 @@ pub begins : (m : Meaning) (before : Option (List ℕ)) → IsUnderway m m 1 bef
 begins m before =
     record { done = []; counted = refl; texts = refl; stop = refl; taken = nothing_taken before }
 
--- a stop, where there is one, at this line or behind it
+-- a stop, where there is one, at this line or after it
 abbrev pub IsFrom : ℕ → Option (ℕ × Fault) → Type 0
 IsFrom number None = Unit {0}
 IsFrom number (Some stop) = number ≤ stop.0
@@ -49,12 +49,12 @@ module _ {A : Type 0} where
       stops_from_step number (line_step names inputs line) (λ after. from_line (number + 1) after inputs lines)
       (λ after. stops_from (number + 1) after inputs lines)
 
--- a line that is reached with texts before it, where what follows may stop behind it
+-- a line that is reached with texts before it, where what follows may stop after it
 reached_with : (number : ℕ) (stop : Option (ℕ × Fault)) (count : ℕ) → IsFrom number stop → number ≤ count → number ≤ unwrap_or (option_map (λ s. s.0) stop) count
 reached_with number None count h more = more
 reached_with number (Some stop) count h more = h
 
--- the text of the line behind those that are done
+-- the text of the line after those that are done
 text_at : (m : Meaning) (done : List (List ℕ)) (text : List ℕ) (others : List (List ℕ)) (line : ℕ) → line ≡ length done + 1 → m.texts ≡ done ++ text ∷ others → line_text m line ≡ text
 text_at m done text others line e texts =
     let numbered : (line == 0) ≡ false = ne_eqb line 0 (λ none. absurd (omega arith)) in

@@ -1,4 +1,4 @@
--- How a run may end: with the meaning of its script, or cut off within it by want of memory or by a failing sink.
+-- How a run may end: with the meaning of its script, or cut off within it where memory is refused or the sink fails.
 -- Source: this library.
 use Rattle.std.specs.Prelude.{◌≡◌, ℕ, ◌+◌, ◌-◌, ◌≤◌, ◌<◌, ◌==◌, List, [], ◌++◌, length, take, slice_get, Option, Some, None, unwrap_or, option_map, Result, Ok, Err, if◌then◌else◌}
 use Rattle.std.specs.List.{concat}
@@ -41,6 +41,8 @@ failures_in (Err (stop.NoResources line)) = 0
 failures_in (Err (stop.WriteFailed line)) = 1
 
 -- a run took the sink's bytes from `before` to `after`, and its failures likewise, and gave this answer
-pub record Runs (m : Meaning) (before after : Option (List ℕ)) (failed failed_after : ℕ) (answer : Result (Unit {0}) Stop) : Type 0 where
-  pub writes : (written : List ℕ) × (after ≡ option_map (λ bytes. bytes ++ written) before) × EndsAs m written answer
+pub record Runs
+    (m : Meaning) (before after : Option (List ℕ)) (failed failed_after : ℕ) (answer : Result (Unit {0}) Stop) : Type 0 where
+  pub writes : (written : List ℕ) × (after ≡ option_map (λ bytes. bytes ++ written) before)
+      × EndsAs m written answer
   pub failures : failed_after ≡ failed + failures_in answer

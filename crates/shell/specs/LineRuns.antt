@@ -22,7 +22,8 @@ module _ {A : Type 0} where
 
   abbrev pub LineEndsAs : ℕ → Result (Stepped A) Fault → Entries A → List ℕ → Result (Unit {0}) Stop → Type 0
   LineEndsAs number meaning names written (Ok done) =
-      (stepped : Stepped A) × (meaning ≡ Ok stepped) × (names ≡ stepped.names) × (written ≡ text_of_step stepped)
+      (stepped : Stepped A) × (meaning ≡ Ok stepped) × (names ≡ stepped.names)
+      × (written ≡ text_of_step stepped)
   LineEndsAs number meaning names written (Err (stop.Script line f)) =
       (line ≡ number) × (meaning ≡ Err f) × (written ≡ [])
   LineEndsAs number meaning names written (Err (stop.NoResources line)) = (line ≡ number) × (written ≡ [])
@@ -32,6 +33,9 @@ module _ {A : Type 0} where
       × (written ≡ take n (text_of_step stepped)))
 
   -- as of the run of a script: the sink's bytes and failures before and after, and the answer
-  pub record LineRuns (number : ℕ) (meaning : Result (Stepped A) Fault) (names : Entries A) (before after : Option (List ℕ)) (failed failed_after : ℕ) (answer : Result (Unit {0}) Stop) : Type 0 where
-    pub writes : (written : List ℕ) × (after ≡ option_map (λ bytes. bytes ++ written) before) × LineEndsAs number meaning names written answer
+  pub record LineRuns
+      (number : ℕ) (meaning : Result (Stepped A) Fault) (names : Entries A) (before after : Option (List ℕ))
+      (failed failed_after : ℕ) (answer : Result (Unit {0}) Stop) : Type 0 where
+    pub writes : (written : List ℕ) × (after ≡ option_map (λ bytes. bytes ++ written) before)
+        × LineEndsAs number meaning names written answer
     pub failures : failed_after ≡ failed + failures_in answer

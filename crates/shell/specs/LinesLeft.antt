@@ -1,4 +1,4 @@
--- What is left of a script while its lines are taken one after the other: the bytes behind the last line feed, or
+-- What is left of a script while its lines are taken one after the other: the bytes after the last line feed, or
 -- nothing once the last line was taken.
 -- Source: this library.
 use Rattle.std.specs.Prelude.{ℕ, ◌+◌, List, [], length, Option, Some, None}

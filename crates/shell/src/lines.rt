@@ -22,7 +22,7 @@ fn without_carriage_return(line: &[u8]) -> &[u8]
     }
 }
 
-/// The first line of a script, and what stands behind its line feed, where it has one.
+/// The first line of a script, and what stands after its line feed, where it has one.
 pub(crate) fn next_line(script: &[u8]) -> (&[u8], Option<&[u8]>)
     ensures lines { lines_of script.now ≡ result.0.now ∷ lines_left (option_copied result.1) }
     ensures shorter { bytes_left (option_copied result.1) ≤ length script.now }
@@ -31,8 +31,8 @@ pub(crate) fn next_line(script: &[u8]) -> (&[u8], Option<&[u8]>)
         None => (without_carriage_return(script), None),
         Some(at) => {
             let (line, _) = script.split_at(at);
-            let (_, behind) = script.split_at(at + 1);
-            (without_carriage_return(line), Some(behind))
+            let (_, others) = script.split_at(at + 1);
+            (without_carriage_return(line), Some(others))
         }
     }
 }

@@ -32,7 +32,7 @@ fn config() -> Config {
     Config::new(TILE, WORKERS).unwrap()
 }
 
-/// The names of the script and of its inputs, behind the program's own name; none where there is no script, or a word
+/// The names of the script and of its inputs, after the program's own name; none where there is no script, or a word
 /// begins with `-`.
 fn file_names<'a, 'b>(words: &'a [&'b str]) -> Option<&'a [&'b str]> {
     match words.split_first() {
@@ -140,9 +140,9 @@ fn run_files<R: Threads + Sync, A: Memory, H: Host<A>>(
 ///
 /// The first word is the program's own name, the second names the script's file, and the others name those of the
 /// inputs. The text of the script goes to standard output, and a line that tells why the run stopped to standard error,
-/// in one piece; it is left out where there is no memory for it. The status is 0 where there is no fault, 1 at a fault of the script,
-/// 2 where no script is named or a word begins with `-`, and 3 where a file cannot be read, memory is refused or a
-/// write fails.
+/// in one piece; it is left out where there is no memory for it. The status is 0 where there is no fault, 1 at a fault of
+/// the script, 2 where no script is named or a word begins with `-`, and 3 where a file cannot be read, memory is
+/// refused or a write fails.
 pub fn program<R: Threads + Sync, A: Memory, H: Host<A>>(
     rt: &R,
     alloc: A,

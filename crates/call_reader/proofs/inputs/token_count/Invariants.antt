@@ -5,4 +5,4 @@ use Rattle.call_reader.proofs.inputs.token_count.Given as goal
 
 abbrev pub invariant-loop-byte : goal.invariant-loop-byte
 invariant-loop-byte l =
-    (l.count ≤ l.byte-index) × (l.count + count_of (drop l.byte-index l.bytes) ≡ count_of l.bytes + from_bool (goes_on l.behind_white_space (drop l.byte-index l.bytes)))
+    (l.count ≤ l.byte-index) × (l.count + count_of (drop l.byte-index l.bytes) ≡ count_of l.bytes + from_bool (goes_on l.after_white_space (drop l.byte-index l.bytes)))
