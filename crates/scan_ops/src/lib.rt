@@ -1,8 +1,15 @@
-//! Scans: each element gives way to the fold of those before it.
+//! Scans and reduces, flat and by segments: what the elements before each one join to, and what all of them join to.
 #![tactic(auto)]
 
+mod bools;
 mod ints;
+mod plain;
 mod prefixes;
+mod runs;
+mod sums;
+mod totals;
 
-pub use ints::int_scan;
-pub use prefixes::scan;
+pub use bools::{bool_reduce, bool_scan, seg_bool_reduce, seg_bool_scan};
+pub use ints::{int_reduce, int_scan, seg_int_reduce, seg_int_scan};
+pub use prefixes::{scan, seg_scan};
+pub use sums::{reduce, seg_reduce};

@@ -1,12 +1,17 @@
-//! The scan of a vector by any monoid.
+//! Scans by any monoid.
 
-ghost use Rattle.std.specs.Prelude.{◌≡◌, ◌≤◌, IfOk, length, take, IsTrue, vec_len, vec_capacity};
+ghost use Rattle.std.specs.Prelude.{◌≡◌, IfOk, length, vec_len};
 ghost use Rattle.std.specs.List.{AllPass};
-ghost use Rattle.cvl_base.specs.Folds.{fold_of, scan_of};
+ghost use Rattle.cvl_base.specs.Folds.{scan_of};
+ghost use Rattle.cvl_base.specs.Gives.{Gives};
+ghost use Rattle.cvl_base.specs.SegmentedCalls.{seg_scan_of};
 
-use cvl_base::folds::{know_folds, know_scans};
+use crate::plain::push_scan_from;
+use crate::runs::scan_of_run;
+use crate::totals::check_total;
 use cvl_base::monoid::know_laws;
-use cvl_base::{Config, Memory, Monoid, NoResources};
+use cvl_base::{Config, Memory, Monoid, NoResources, Refused};
+use segdes::SegDes;
 use std::thread::Threads;
 
 /// The exclusive scan: element `k` of the result joins the elements before place `k`, from left to right, and is the
@@ -24,13 +29,28 @@ pub fn scan<R: Threads + Sync, A: Memory, M: Monoid>(
     ensures as_long { IfOk result (λ sums. vec_len sums ≡ length a.now) }
 {
     know_laws::<M>();
-    know_folds::<M>();
-    know_scans::<M>();
     let mut sums = Vec::with_capacity(alloc, a.len())?;
-    let mut sum = M::unit();
-    for x in a {
-        sums.push_reserved(sum);
-        sum = M::join(sum, *x);
-    }
+    push_scan_from::<M, A>(&mut sums, M::unit(), a);
+    Ok(sums)
+}
+
+/// The exclusive scan of each segment: element `k` of the result joins the elements of its segment before place `k`, and
+/// is the unit where a segment starts.
+///
+/// The elements must be items of the monoid. The result is as long as they are. LengthMismatch, without a place, where
+/// the segments' total is not the number of elements. Source: Blelloch's segmented scans.
+pub fn seg_scan<R: Threads + Sync, A: Memory, M: Monoid>(
+    _rt: &R,
+    alloc: A,
+    _config: Config,
+    a: &[M::Item],
+    d: &SegDes<A>,
+) -> Result<Vec<M::Item, A>, Refused>
+    requires items { AllPass M.is_item a.now }
+    ensures { Gives (λ sums. sums.items) result (seg_scan_of M.join M.unit a.now d.now) }
+{
+    know_laws::<M>();
+    check_total(a, d)?;
+    let sums = scan_of_run::<M, A>(alloc, a, d, 0, a.len(), M::unit())?;
     Ok(sums)
 }

@@ -1,6 +1,6 @@
 //! Descriptors.
 
-ghost use Rattle.std.specs.Prelude.{◌≡◌, ◌+◌, ◌<◌, ◌≤◌, pos, length, map, sum, slice_index, IfOk};
+ghost use Rattle.std.specs.Prelude.{◌≡◌, ℕ, ◌+◌, ◌<◌, ◌≤◌, pos, length, map, sum, slice_index, IfOk};
 ghost use Rattle.cvl_base.specs.Descriptors.{AreLengths, descriptor_of};
 ghost use Rattle.cvl_base.specs.Gives.{Gives};
 ghost use Rattle.cvl_base.specs.Limits.{most_elements};
@@ -98,6 +98,17 @@ impl<A: Allocator> SegDes<A> {
         ensures within { result + slice_index self.now s ≤ sum self.now }
     {
         self.starts[s] as usize
+    }
+
+    /// How many segments start before a place.
+    pub fn starts_before(&self, place: usize) -> usize
+        ensures in_count { result ≤ length self.now }
+        ensures before { (s : ℕ) → s < result → start_of self.now s < place }
+        ensures others { (s : ℕ) → result ≤ s → s < length self.now → place ≤ start_of self.now s }
+    {
+        self.starts
+            .as_slice()
+            .partition_point(|start| (*start as usize) < place)
     }
 
     /// How many elements the segments have in all.

@@ -1,2 +1,3 @@
 pub mod ArgumentFaults
 pub mod BoundNames
+pub mod ResultKinds

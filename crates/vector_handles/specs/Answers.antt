@@ -3,15 +3,22 @@
 use Rattle.std.specs.Prelude.{ℕ, List, Option, Some, None, Result}
 use Rattle.cvl_base.specs.declared.call.Arg.{Arg}
 use Rattle.cvl_base.specs.declared.call.Call.{Call}
+use Rattle.cvl_base.specs.declared.fault.Fault.{Fault}
 use Rattle.cvl_base.specs.declared.operation.Op.{Op}
 use Rattle.cvl_base.specs.declared.refused.Refused.{Refused}
 use Rattle.cvl_base.specs.declared.value.Value.{Value}
 use Rattle.cvl_base.specs.Gives.{Gives}
+use Rattle.call_reader.specs.Texts.{after_bytes}
 use Rattle.vector_handles.specs.declared.shown.Shown.{Shown}
 use Rattle.vector_handles.specs.Arguments.{argument_at}
 use Rattle.vector_handles.specs.CallValues.{call_value, table_value}
 use Rattle.vector_handles.specs.Sessions.{State, text_shown}
 use Rattle.vector_handles.specs.Steps.{Stepped, performed, step}
+
+-- the answer to a call that appends a text to bytes
+abbrev pub HasAppended : {U : Type 0} →
+    List ℕ → Result (List ℕ) Fault → List ℕ → Result U Refused → Type 0
+HasAppended before text after answer = Gives (λ _. after) answer (after_bytes before text)
 
 module _ {A : Type 0} where
   -- the answer is the value that the table gives the call

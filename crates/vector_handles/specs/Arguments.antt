@@ -1,6 +1,6 @@
 -- The arguments of a call as values, and the check of their kinds.
 -- Source: this library's script format.
-use Rattle.std.specs.Prelude.{ℕ, ◌+◌, Bool, false, List, [], ◌∷◌, slice_get, Option, Some, None, option_and_then, option_map, ℤ, pos, if◌then◌else◌}
+use Rattle.std.specs.Prelude.{ℕ, ◌+◌, Bool, false, List, [], ◌∷◌, slice_get, Option, Some, None, option_and_then, option_map, unwrap_or, ℤ, pos, if◌then◌else◌}
 use Rattle.cvl_base.specs.declared.value.Value.{Value}
 use Rattle.cvl_base.specs.declared.value.Value.TheVariants as value
 use Rattle.cvl_base.specs.declared.call.Arg.{Arg}
@@ -42,6 +42,11 @@ module _ {A : Type 0} where
   abbrev pub argument_at : Entries A → List Arg → ℕ → Option (Value A)
   argument_at names args place = option_and_then (arg_value names) (slice_get args place)
 
+  -- the lengths of a descriptor; no other value has any
+  abbrev pub lengths_of : Value A → Option (List ℕ)
+  lengths_of (value.Descriptor lengths) = Some lengths
+  lengths_of _ = None
+
   -- what a value of each kind holds; of no value and of another kind, nothing
   abbrev pub integers_in : Option (Value A) → List ℤ
   integers_in (Some (value.Integers xs)) = xs
@@ -52,8 +57,7 @@ module _ {A : Type 0} where
   booleans_in _ = []
 
   abbrev pub lengths_in : Option (Value A) → List ℕ
-  lengths_in (Some (value.Descriptor lengths)) = lengths
-  lengths_in _ = []
+  lengths_in v = unwrap_or (option_and_then lengths_of v) []
 
   abbrev pub integer_in : Option (Value A) → ℤ
   integer_in (Some (value.Integer n)) = n

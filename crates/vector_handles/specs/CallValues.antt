@@ -1,6 +1,6 @@
 -- The value that each call of the table gives, from its arguments: one line for each family and type of elements.
 -- Source: CVL's calls, in this library's profile.
-use Rattle.std.specs.Prelude.{ℕ, ◌-◌, ◌==◌, not, List, map, slice_get, Option, None, Result, Ok, Err, ℤ, pos, negsuc, if◌then◌else◌}
+use Rattle.std.specs.Prelude.{◌≡◌, ℕ, ◌-◌, ◌==◌, not, List, map, slice_get, Option, Some, None, Result, Ok, Err, IfOk, ℤ, pos, negsuc, if◌then◌else◌}
 use Rattle.std.specs.Option.{ok_or}
 use Rattle.cvl_base.specs.declared.value.Value.{Value}
 use Rattle.cvl_base.specs.declared.value.Value.TheVariants as value
@@ -11,7 +11,7 @@ use Rattle.cvl_base.specs.declared.operation.Op.{Op}
 use Rattle.cvl_base.specs.declared.operation.Op.TheVariants as op
 use Rattle.cvl_base.specs.declared.fault.Fault.{Fault}
 use Rattle.cvl_base.specs.declared.fault.FaultNo.TheVariants.{UnknownCall, NoSuchInput}
-use Rattle.cvl_base.specs.Calls.{is_done}
+use Rattle.cvl_base.specs.Calls.{is_done, result_of}
 use Rattle.cvl_base.specs.Descriptors.{descriptor_of}
 use Rattle.cvl_base.specs.Distributes.{index_of}
 use Rattle.cvl_base.specs.Elementwise.{ints2_of, ints1_of, compare_of, bools2_of, bools1_of, ints_from_bools, bools_from_ints}
@@ -20,6 +20,7 @@ use Rattle.cvl_base.specs.Gives.{◌>>=◌, fault_if}
 use Rattle.cvl_base.specs.Packs.{count_of}
 use Rattle.cvl_base.specs.Scans.{int_join_of, int_unit_of, bool_join_of, bool_unit_of}
 use Rattle.cvl_base.specs.SegmentedCalls.{seg_count_of, seg_index_of}
+use Rattle.cvl_base.specs.Values.{kind_of}
 use Rattle.call_reader.specs.Inputs.{input_of}
 use Rattle.vector_handles.specs.declared.input.Input.{Input}
 use Rattle.vector_handles.specs.declared.input.Input.TheVariants as input
@@ -93,3 +94,7 @@ module _ {A : Type 0} where
   -- a call that the library does not perform today has no value
   abbrev pub call_value : List (Input A) → Op → ArgumentAt A → Result (Value A) Fault
   call_value inputs call arg = fault_if (not (is_done call)) (fault UnknownCall) (table_value inputs call arg)
+
+  -- the value of a call, where it has one, is of the kind that the table names for it
+  abbrev pub HasNamedKind : List (Input A) → Op → ArgumentAt A → Type 0
+  HasNamedKind inputs call arg = IfOk (table_value inputs call arg) (λ v. result_of call ≡ Some (kind_of v))

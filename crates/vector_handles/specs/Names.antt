@@ -1,12 +1,16 @@
 -- The bound names: a finite map from names to values, as the list of its entries in the order of the names.
 -- Source: this library's script format.
-use Rattle.std.specs.Prelude.{ℕ, Bool, List, length, nat_lt, Option, ◌||◌, is_some}
+use Rattle.std.specs.Prelude.{◌≡◌, ◌≢◌, ℕ, Bool, List, length, nat_lt, Option, Some, ◌||◌, is_some}
 use Rattle.std.specs.Ordering.{nat_cmp}
 use Rattle.std.specs.Cmp.Lexicographic.{slice_cmp}
 use Rattle.std.specs.Map.{lookup}
 use Rattle.std.specs.BTreeMap.{insert_entry, is_at}
 use Rattle.cvl_base.specs.declared.value.Value.{Value}
 use Rattle.cvl_base.specs.Limits.{most_names}
+
+-- a value, under a name that `impl Model` can say
+abbrev pub BoundValue : Type 0 → Type 0
+BoundValue A = Value A
 
 abbrev pub Entries : Type 0 → Type 0
 Entries A = List (List ℕ × Value A)
@@ -23,3 +27,11 @@ module _ {A : Type 0} where
   -- a name that is bound may be bound again, and a new one where fewer than 4,096 are
   abbrev pub has_room : Entries A → List ℕ → Bool
   has_room names name = is_some (value_at names name) || nat_lt (length names) most_names
+
+  -- a binding gives the name its value, and every other name keeps what it had
+  abbrev pub BindsName : Entries A → List ℕ → Value A → Type 0
+  BindsName names name bound = value_at (bind names name bound) name ≡ Some bound
+
+  abbrev pub KeepsOthers : Entries A → List ℕ → Value A → Type 0
+  KeepsOthers names name bound =
+      (other : List ℕ) → other ≢ name → value_at (bind names name bound) other ≡ value_at names other

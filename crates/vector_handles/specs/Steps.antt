@@ -1,24 +1,21 @@
 -- The meaning of a line: from the bound names and the inputs, either the new names with the text of the line, or the
 -- first fault in the order of checks. A binding changes its one name, and a write changes none.
 -- Source: this library's script format.
-use Rattle.std.specs.Prelude.{ℕ, not, List, [], ◌∷◌, ◌++◌, length, codes, slice_get, Option, Some, None, Result, Ok, Err}
-use Rattle.std.specs.Fmt.{signed_decimal}
+use Rattle.std.specs.Prelude.{ℕ, not, List, [], ◌∷◌, ◌++◌, length, codes, slice_get, Option, Some, None, option_and_then, Result, Ok}
 use Rattle.cvl_base.specs.declared.value.Value.{Value}
-use Rattle.cvl_base.specs.declared.value.Value.TheVariants as value
 use Rattle.cvl_base.specs.declared.call.Arg.{Arg}
 use Rattle.cvl_base.specs.declared.call.Arg.TheVariants as arg
 use Rattle.cvl_base.specs.declared.call.Call.{Call}
 use Rattle.cvl_base.specs.declared.operation.Op.{Op}
 use Rattle.cvl_base.specs.declared.fault.Fault.{Fault}
-use Rattle.cvl_base.specs.declared.fault.FaultNo.TheVariants.{TooManyNames, LengthMismatch}
+use Rattle.cvl_base.specs.declared.fault.FaultNo.TheVariants.{TooManyNames}
 use Rattle.cvl_base.specs.Faults.{fault}
 use Rattle.cvl_base.specs.Gives.{◌>>=◌, unless, fault_if}
-use Rattle.cvl_base.specs.Nests.{nest}
-use Rattle.call_reader.specs.Texts.{boolean_text, nest_text, text_of}
+use Rattle.call_reader.specs.Texts.{value_text}
 use Rattle.vector_handles.specs.declared.input.Input.{Input}
 use Rattle.vector_handles.specs.CallValues.{call_value}
 use Rattle.vector_handles.specs.Names.{Entries, bind, has_room}
-use Rattle.vector_handles.specs.Arguments.{args_fault, argument_at, lengths_in}
+use Rattle.vector_handles.specs.Arguments.{args_fault, argument_at, lengths_of}
 
 -- what a line leaves: the bound names, and the text where it is a write
 pub record Stepped (A : Type 0) : Type 0 where
@@ -30,28 +27,20 @@ abbrev pub name_in : Option Arg → List ℕ
 name_in (Some (arg.Name name)) = name
 name_in _ = []
 
--- bytes, and behind them a text where there is one
-abbrev pub after_bytes : List ℕ → Result (List ℕ) Fault → Result (List ℕ) Fault
-after_bytes bytes text = text >>= λ added. Ok (bytes ++ added)
-
 module _ {A : Type 0} where
-  -- the text of a vector's nest, where it has one; no other value has a nest
-  abbrev pub cut_text : List ℕ → Value A → Result (List ℕ) Fault
-  cut_text lengths (value.Integers xs) = nest lengths xs >>= λ lists. Ok (nest_text signed_decimal lists)
-  cut_text lengths (value.Booleans bs) = nest lengths bs >>= λ lists. Ok (nest_text boolean_text lists)
-  cut_text lengths other = Err (fault LengthMismatch)
+  -- the text of a value, beside a second one where that is a descriptor
+  abbrev text_beside : Option (Value A) → Option (Value A) → Result (List ℕ) Fault
+  text_beside None beside = Ok []
+  text_beside (Some v) beside = value_text (option_and_then lengths_of beside) v
 
-  -- the value's text, or that of a vector beside its descriptor
-  abbrev pub value_text : Option (Value A) → Option (Value A) → Result (List ℕ) Fault
-  value_text None beside = Ok []
-  value_text (Some v) None = Ok (text_of v)
-  value_text (Some v) (Some d) = cut_text (lengths_in (Some d)) v
+  -- the text of the first argument, beside the second
+  abbrev pub shown_text_of : Entries A → List Arg → Result (List ℕ) Fault
+  shown_text_of names args = text_beside (argument_at names args 0) (argument_at names args 1)
 
   -- the name, ` = `, the value and a line feed (10)
   abbrev pub written : Entries A → List Arg → Result (List ℕ) Fault
   written names args =
-      value_text (argument_at names args 0) (argument_at names args 1)
-      >>= λ text. Ok (name_in (slice_get args 0) ++ codes " = " ++ text ++ (10 ∷ []))
+      shown_text_of names args >>= λ text. Ok (name_in (slice_get args 0) ++ codes " = " ++ text ++ (10 ∷ []))
 
   -- what is done once the arguments are right
   abbrev pub performed : Entries A → List (Input A) → Option (List ℕ) → Op → List Arg → Result (Stepped A) Fault

@@ -3,7 +3,7 @@
 ghost use Rattle.std.specs.Prelude.{◌≡◌, OnErr};
 ghost use Rattle.vector_handles.specs.Answers.{IsBinding};
 
-use crate::names::is_room;
+use crate::names::{bind_name, is_room};
 use crate::session::Session;
 use cvl_base::{Arg, Fault, FaultNo, Memory, Name, Op, Refused};
 use std::thread::Threads;
@@ -26,7 +26,6 @@ impl<A: Memory> Session<A> {
             return Err(Refused::Fault(Fault::new(FaultNo::TooManyNames)));
         }
         let value = self.value_of_call(rt, op, args)?;
-        self.names.insert(*target, value)?;
-        Ok(())
+        Ok(bind_name(&mut self.names, target, value)?)
     }
 }

@@ -4,10 +4,11 @@ ghost use Rattle.cvl_base.specs.declared.families.Cut.TheVariants.{Flat};
 ghost use Rattle.cvl_base.specs.declared.operation.Op.TheVariants as op;
 ghost use Rattle.vector_handles.specs.Answers.{IsCallValue, IsTableValue};
 
-use crate::lookups::{integer_at, integers_at, lengths_at};
+use crate::bound::Bound;
+use crate::lookups::{integer_at, integers_at};
 use crate::numbered::{input_numbered, integers_of_input};
 use crate::session::Session;
-use cvl_base::{Arg, Cut, Fault, FaultNo, IntMonoid, Ints, Memory, Op, Refused, Value};
+use cvl_base::{Arg, Cut, Fault, FaultNo, IntMonoid, Memory, Op, Refused};
 use scan_ops::int_scan;
 use segdes::SegDes;
 use std::thread::Threads;
@@ -19,7 +20,7 @@ impl<A: Memory> Session<A> {
         rt: &R,
         op: Op,
         args: &[Arg],
-    ) -> Result<Value<A>, Refused>
+    ) -> Result<Bound<A>, Refused>
         ensures { IsCallValue self.now op args.now result }
     {
         if !op.is_done() {
@@ -43,12 +44,12 @@ impl<A: Memory> Session<A> {
     }
 
     /// `input`: `NoSuchInput` where no input has that number, and the faults of reading it.
-    fn value_of_input(&self, args: &[Arg]) -> Result<Value<A>, Refused>
+    fn value_of_input(&self, args: &[Arg]) -> Result<Bound<A>, Refused>
         ensures { IsTableValue self.now op.Input args.now result }
     {
         let number = integer_at(&self.names, args, 0);
         match input_numbered(self.inputs.as_slice(), &number) {
-            Some(input) => Ok(Value::Integers(integers_of_input(self.alloc, input)?)),
+            Some(input) => Ok(Bound::from_integers(integers_of_input(self.alloc, input)?)),
             None => Err(Refused::Fault(Fault::new(FaultNo::NoSuchInput))),
         }
     }
@@ -59,27 +60,27 @@ impl<A: Memory> Session<A> {
         rt: &R,
         operator: IntMonoid,
         args: &[Arg],
-    ) -> Result<Value<A>, Refused>
+    ) -> Result<Bound<A>, Refused>
         ensures { IsTableValue self.now (op.Scan operator Flat) args.now result }
     {
         let a = integers_at(&self.names, args, 0);
         let sums = int_scan(rt, self.alloc, self.config, operator, a)?;
-        Ok(Value::Integers(Ints::from_vec(sums)))
+        Ok(Bound::from_integers(sums))
     }
 
     /// `mke_fov`: the descriptor with these lengths.
-    fn new_descriptor(&self, args: &[Arg]) -> Result<Value<A>, Refused>
+    fn new_descriptor(&self, args: &[Arg]) -> Result<Bound<A>, Refused>
         ensures { IsTableValue self.now op.MakeDescriptor args.now result }
     {
         let descriptor = SegDes::from_lengths(self.alloc, integers_at(&self.names, args, 0))?;
-        Ok(Value::Descriptor(descriptor.into_lengths()))
+        Ok(Bound::from_descriptor(self.alloc, descriptor)?)
     }
 
     /// `len_fos`: the lengths of a descriptor.
-    fn lengths_of_descriptor(&self, args: &[Arg]) -> Result<Value<A>, Refused>
+    fn lengths_of_descriptor(&self, args: &[Arg]) -> Result<Bound<A>, Refused>
         ensures { IsTableValue self.now op.DescriptorLengths args.now result }
     {
-        let lengths = Vec::from_slice(self.alloc, lengths_at(&self.names, args, 0))?;
-        Ok(Value::Integers(Ints::from_vec(lengths)))
+        let lengths = Vec::from_slice(self.alloc, self.descriptor_at(args, 0).lengths())?;
+        Ok(Bound::from_integers(lengths))
     }
 }

@@ -3,11 +3,10 @@
 ghost use Rattle.cvl_base.specs.declared.operation.Op.TheVariants as op;
 ghost use Rattle.vector_handles.specs.Answers.{IsTableValue};
 
+use crate::bound::Bound;
 use crate::lookups::{booleans_at, integers_at};
 use crate::session::Session;
-use cvl_base::{
-    Arg, BoolBinary, Bools, Comparison, Element, IntBinary, Ints, Memory, Refused, Unary, Value,
-};
+use cvl_base::{Arg, BoolBinary, Comparison, Element, IntBinary, Memory, Refused, Unary};
 use elementwise::{bool_from_int, bool1, bool2, compare, int_from_bool, int1, int2, select};
 use std::thread::Threads;
 
@@ -18,22 +17,22 @@ impl<A: Memory> Session<A> {
         rt: &R,
         operator: IntBinary,
         args: &[Arg],
-    ) -> Result<Value<A>, Refused>
+    ) -> Result<Bound<A>, Refused>
         ensures { IsTableValue self.now (op.Ints2 operator) args.now result }
     {
         let a = integers_at(&self.names, args, 0);
         let b = integers_at(&self.names, args, 1);
         let values = int2(rt, self.alloc, self.config, operator, a, b)?;
-        Ok(Value::Integers(Ints::from_vec(values)))
+        Ok(Bound::from_integers(values))
     }
 
     /// An operator on an integer vector.
-    pub(crate) fn value_of_ints1(&self, operator: Unary, args: &[Arg]) -> Result<Value<A>, Refused>
+    pub(crate) fn value_of_ints1(&self, operator: Unary, args: &[Arg]) -> Result<Bound<A>, Refused>
         ensures { IsTableValue self.now (op.Ints1 operator) args.now result }
     {
         let a = integers_at(&self.names, args, 0);
         let values = int1(self.alloc, self.config, operator, a)?;
-        Ok(Value::Integers(Ints::from_vec(values)))
+        Ok(Bound::from_integers(values))
     }
 
     /// A comparison of two integer vectors.
@@ -42,13 +41,13 @@ impl<A: Memory> Session<A> {
         rt: &R,
         operator: Comparison,
         args: &[Arg],
-    ) -> Result<Value<A>, Refused>
+    ) -> Result<Bound<A>, Refused>
         ensures { IsTableValue self.now (op.Compare operator) args.now result }
     {
         let a = integers_at(&self.names, args, 0);
         let b = integers_at(&self.names, args, 1);
         let values = compare(rt, self.alloc, self.config, operator, a, b)?;
-        Ok(Value::Booleans(Bools::from_vec(values)))
+        Ok(Bound::from_booleans(values))
     }
 
     /// An operator on two boolean vectors.
@@ -57,22 +56,22 @@ impl<A: Memory> Session<A> {
         rt: &R,
         operator: BoolBinary,
         args: &[Arg],
-    ) -> Result<Value<A>, Refused>
+    ) -> Result<Bound<A>, Refused>
         ensures { IsTableValue self.now (op.Bools2 operator) args.now result }
     {
         let a = booleans_at(&self.names, args, 0);
         let b = booleans_at(&self.names, args, 1);
         let values = bool2(rt, self.alloc, self.config, operator, a, b)?;
-        Ok(Value::Booleans(Bools::from_vec(values)))
+        Ok(Bound::from_booleans(values))
     }
 
     /// An operator on a boolean vector.
-    pub(crate) fn value_of_bools1(&self, operator: Unary, args: &[Arg]) -> Result<Value<A>, Refused>
+    pub(crate) fn value_of_bools1(&self, operator: Unary, args: &[Arg]) -> Result<Bound<A>, Refused>
         ensures { IsTableValue self.now (op.Bools1 operator) args.now result }
     {
         let a = booleans_at(&self.names, args, 0);
         let values = bool1(self.alloc, self.config, operator, a)?;
-        Ok(Value::Booleans(Bools::from_vec(values)))
+        Ok(Bound::from_booleans(values))
     }
 
     /// A choice between two vectors by flags.
@@ -81,7 +80,7 @@ impl<A: Memory> Session<A> {
         rt: &R,
         element: Element,
         args: &[Arg],
-    ) -> Result<Value<A>, Refused>
+    ) -> Result<Bound<A>, Refused>
         ensures { IsTableValue self.now (op.Choose element) args.now result }
     {
         let flags = booleans_at(&self.names, args, 0);
@@ -90,24 +89,24 @@ impl<A: Memory> Session<A> {
                 let a = integers_at(&self.names, args, 1);
                 let b = integers_at(&self.names, args, 2);
                 let values = select(rt, self.alloc, self.config, flags, a, b)?;
-                Ok(Value::Integers(Ints::from_vec(values)))
+                Ok(Bound::from_integers(values))
             }
             Element::Boolean => {
                 let a = booleans_at(&self.names, args, 1);
                 let b = booleans_at(&self.names, args, 2);
                 let values = select(rt, self.alloc, self.config, flags, a, b)?;
-                Ok(Value::Booleans(Bools::from_vec(values)))
+                Ok(Bound::from_booleans(values))
             }
         }
     }
 
     /// The integers 1 and 0 for the booleans of a vector.
-    pub(crate) fn value_of_int_from_bool(&self, args: &[Arg]) -> Result<Value<A>, Refused>
+    pub(crate) fn value_of_int_from_bool(&self, args: &[Arg]) -> Result<Bound<A>, Refused>
         ensures { IsTableValue self.now op.IntFromBool args.now result }
     {
         let a = booleans_at(&self.names, args, 0);
         let values = int_from_bool(self.alloc, self.config, a)?;
-        Ok(Value::Integers(Ints::from_vec(values)))
+        Ok(Bound::from_integers(values))
     }
 
     /// Which integers of a vector aren't 0.
@@ -115,11 +114,11 @@ impl<A: Memory> Session<A> {
         &self,
         rt: &R,
         args: &[Arg],
-    ) -> Result<Value<A>, Refused>
+    ) -> Result<Bound<A>, Refused>
         ensures { IsTableValue self.now op.BoolFromInt args.now result }
     {
         let a = integers_at(&self.names, args, 0);
         let values = bool_from_int(rt, self.alloc, self.config, a)?;
-        Ok(Value::Booleans(Bools::from_vec(values)))
+        Ok(Bound::from_booleans(values))
     }
 }

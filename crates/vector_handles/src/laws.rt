@@ -1,13 +1,22 @@
-//! Laws of the bound names, each a function that takes and gives nothing and whose contract is the law.
+//! Laws of sessions, each a function that takes and gives nothing and whose contract is the law.
 
-ghost use Rattle.std.specs.Prelude.{◌≡◌, ◌≢◌, ℕ, List, Some};
+ghost use Rattle.std.specs.Prelude.{ℕ, List};
+ghost use Rattle.cvl_base.specs.declared.operation.Op.{Op};
 ghost use Rattle.cvl_base.specs.declared.value.Value.{Value};
-ghost use Rattle.vector_handles.specs.Names.{Entries, bind, value_at};
+ghost use Rattle.vector_handles.specs.declared.input.Input.{Input};
+ghost use Rattle.vector_handles.specs.CallValues.{HasNamedKind};
+ghost use Rattle.vector_handles.specs.Families.{ArgumentAt};
+ghost use Rattle.vector_handles.specs.Names.{BindsName, Entries, KeepsOthers};
 
 use cvl_base::Memory;
 
 /// A binding changes its one name: the name has the value from then on, and each other name keeps what it had.
 pub fn binding_law<A: Memory>()
-    ensures bound { (names : Entries A) (name : List ℕ) (v : Value A) → value_at (bind names name v) name ≡ Some v }
-    ensures others { (names : Entries A) (name other : List ℕ) (v : Value A) → other ≢ name → value_at (bind names name v) other ≡ value_at names other }
+    ensures bound { (names : Entries A) (name : List ℕ) (v : Value A) → BindsName names name v }
+    ensures others { (names : Entries A) (name : List ℕ) (v : Value A) → KeepsOthers names name v }
+{}
+
+/// The value that a call gives is of the kind that the table of calls names as its result.
+pub fn result_kind_law<A: Memory>()
+    ensures { (inputs : List (Input A)) (call : Op) (arg : ArgumentAt A) → HasNamedKind inputs call arg }
 {}

@@ -3,6 +3,7 @@
 
 mod arguments;
 mod bindings;
+mod bound;
 mod calls;
 mod elementwise_calls;
 pub mod input;

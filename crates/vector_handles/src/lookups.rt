@@ -1,11 +1,13 @@
 //! What the arguments of a call hold, by their places. Of a missing argument, or one of another kind, nothing.
 
-ghost use Rattle.std.specs.Prelude.{◌≡◌, ◌≤◌, length, map, option_copied, pos};
+ghost use Rattle.std.specs.Prelude.{◌≡◌, ◌≤◌, length, option_and_then, option_copied};
 ghost use Rattle.cvl_base.specs.Limits.{most_elements};
-ghost use Rattle.vector_handles.specs.Arguments.{argument_at, booleans_in, integer_in, integers_in, lengths_in};
+ghost use Rattle.vector_handles.specs.Arguments.{argument_at, booleans_in, integer_in, integers_in, lengths_of};
 
-use crate::names::{Names, value_of};
+use crate::bound::Bound;
+use crate::names::{Names, bound_to, value_of};
 use cvl_base::{Arg, Memory, Value};
+use segdes::SegDes;
 
 /// The integers of a vector.
 pub(crate) fn integers_at<'a, A: Memory>(
@@ -77,27 +79,25 @@ fn integer_of<A: Memory>(value: Option<&Value<A>>) -> i32
     }
 }
 
-/// The lengths of a descriptor.
-pub(crate) fn lengths_at<'a, A: Memory>(
+/// A descriptor with its starts; of an argument that is none, nothing.
+pub(crate) fn descriptor_at<'a, A: Memory>(
     names: &'a Names<A>,
     args: &[Arg],
     place: usize,
-) -> &'a [i32]
-    ensures value { result.now ≡ map pos (lengths_in (argument_at names.now.entries args.now place)) }
-    ensures in_limit { length result.now ≤ most_elements }
+) -> Option<&'a SegDes<A>>
+    ensures value { option_copied result ≡ option_and_then lengths_of (argument_at names.now.entries args.now place) }
 {
     match args.get(place) {
-        Some(Arg::Name(name)) => lengths_of(value_of(names, name)),
-        _ => &[],
+        Some(Arg::Name(name)) => descriptor_of(bound_to(names, name)),
+        _ => None,
     }
 }
 
-fn lengths_of<'a, A: Memory>(value: Option<&'a Value<A>>) -> &'a [i32]
-    ensures value { result.now ≡ map pos (lengths_in (option_copied value.entry)) }
-    ensures in_limit { length result.now ≤ most_elements }
+fn descriptor_of<'a, A: Memory>(bound: Option<&'a Bound<A>>) -> Option<&'a SegDes<A>>
+    ensures { option_copied result ≡ option_and_then lengths_of (option_copied bound.entry) }
 {
-    match value {
-        Some(Value::Descriptor(lengths)) => lengths.as_slice(),
-        _ => &[],
+    match bound {
+        Some(bound) => bound.descriptor(),
+        None => None,
     }
 }

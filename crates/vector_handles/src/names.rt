@@ -1,21 +1,44 @@
 //! The bound names.
 
-ghost use Rattle.std.specs.Prelude.{◌≡◌, option_copied};
+ghost use Rattle.std.specs.Prelude.{◌≡◌, OnErr, OnOk, option_copied};
+ghost use Rattle.vector_handles.specs.Names.{bind, has_room, value_at};
 
+use crate::bound::Bound;
 use cvl_base::limits::MOST_NAMES;
-use cvl_base::{Memory, Name, Value};
+use cvl_base::{Memory, Name, NoResources, Value};
 use std::collections::BTreeMap;
 
-/// The values that are bound to names, in the order of the names.
-pub(crate) type Names<A> = BTreeMap<Name, Value<A>, A>;
+/// What is bound to names, in the order of the names.
+pub(crate) type Names<A> = BTreeMap<Name, Bound<A>, A>;
 
-ghost use Rattle.vector_handles.specs.Names.{value_at, has_room};
+/// What is bound to a name.
+pub(crate) fn bound_to<'a, A: Memory>(names: &'a Names<A>, name: &Name) -> Option<&'a Bound<A>>
+    ensures { option_copied result ≡ value_at names.now.entries name.now }
+{
+    names.get(name)
+}
 
 /// The value that is bound to a name.
 pub(crate) fn value_of<'a, A: Memory>(names: &'a Names<A>, name: &Name) -> Option<&'a Value<A>>
     ensures { option_copied result ≡ value_at names.now.entries name.now }
 {
-    names.get(name)
+    match bound_to(names, name) {
+        Some(bound) => Some(bound.value()),
+        None => None,
+    }
+}
+
+/// Binds a name to a value, in place of what was bound to it. After a refusal the names are as before.
+pub(crate) fn bind_name<A: Memory>(
+    names: &mut Names<A>,
+    name: &Name,
+    bound: Bound<A>,
+) -> Result<(), NoResources>
+    ensures binds { OnOk result (names.new.entries ≡ bind names.old.entries name.now bound) }
+    ensures refused { OnErr result (names.new.entries ≡ names.old.entries) }
+{
+    names.insert(*name, bound)?;
+    Ok(())
 }
 
 /// Whether a name is bound or fewer than 4,096 names are.

@@ -1,12 +1,13 @@
 //! The inputs of a script by their numbers.
 
-ghost use Rattle.std.specs.Prelude.{◌≡◌, option_copied};
+ghost use Rattle.std.specs.Prelude.{◌≡◌, ◌≤◌, IfOk, option_copied, vec_len};
 ghost use Rattle.cvl_base.specs.Gives.{Gives};
+ghost use Rattle.cvl_base.specs.Limits.{most_elements};
 ghost use Rattle.vector_handles.specs.CallValues.{integers_of, numbered};
 
 use crate::input::Input;
 use call_reader::read_vector;
-use cvl_base::{Ints, Memory, Refused};
+use cvl_base::{Memory, Refused};
 
 /// The input with this number, counted from 1.
 pub(crate) fn input_numbered<'a, A: Memory>(
@@ -21,11 +22,15 @@ pub(crate) fn input_numbered<'a, A: Memory>(
 }
 
 /// The integers of an input, which is read where it is bytes and copied where it is a vector.
-pub(crate) fn integers_of_input<A: Memory>(alloc: A, input: &Input<A>) -> Result<Ints<A>, Refused>
-    ensures { Gives (λ xs. xs) result (integers_of input.now) }
+pub(crate) fn integers_of_input<A: Memory>(
+    alloc: A,
+    input: &Input<A>,
+) -> Result<Vec<i32, A>, Refused>
+    ensures meaning { Gives (λ xs. xs.items) result (integers_of input.now) }
+    ensures in_limit { IfOk result (λ xs. vec_len xs ≤ most_elements) }
 {
     match input {
-        Input::Bytes(bytes) => Ok(Ints::from_vec(read_vector(alloc, bytes.as_slice())?)),
-        Input::Vector(xs) => Ok(Ints::from_vec(Vec::from_slice(alloc, xs.as_slice())?)),
+        Input::Bytes(bytes) => read_vector(alloc, bytes.as_slice()),
+        Input::Vector(xs) => Ok(Vec::from_slice(alloc, xs.as_slice())?),
     }
 }

@@ -4,9 +4,11 @@ ghost use Rattle.std.specs.Prelude.{◌≡◌, [], IfOk, OnErr, option_copied};
 
 use crate::arguments::fault_of_args;
 use crate::input::Input;
+use crate::lookups::descriptor_at;
 use crate::names::{Names, value_of};
 use crate::shown::Shown;
-use cvl_base::{Call, Config, Memory, Name, NoResources, Refused, Value};
+use cvl_base::{Arg, Call, Config, Lengths, Memory, Name, NoResources, Refused, Value};
+use segdes::SegDes;
 use std::collections::BTreeMap;
 use std::marker::Model;
 use std::thread::Threads;
@@ -18,19 +20,25 @@ pub struct Session<A: Memory> {
     pub(crate) names: Names<A>,
     pub(crate) inputs: Vec<Input<A>, A>,
     pub(crate) alloc: A,
+    /// What stands for a descriptor where an argument is none, which no checked call meets.
+    no_segments: SegDes<A>,
 }
 
 impl<A: Memory> Model for Session<A> {
+    ghost use Rattle.std.specs.Prelude.{◌≡◌, []};
     ghost use Rattle.vector_handles.specs.Sessions.{State};
 
     ghost Value = { State A };
 
     ghost view = { λ s. record { names = s.names.entries; inputs = s.inputs.items } };
+
+    ghost invariant = { λ s. s.no_segments ≡ [] };
 }
 
 impl<A: Memory> Session<A> {
     ghost use Rattle.vector_handles.specs.Names.{value_at};
     ghost use Rattle.vector_handles.specs.Answers.{IsStep};
+    ghost use Rattle.vector_handles.specs.Arguments.{argument_at, lengths_in};
 
     /// A session with no name bound, over these inputs, which a script counts from 1.
     pub fn new(
@@ -46,6 +54,7 @@ impl<A: Memory> Session<A> {
             names: BTreeMap::new(alloc),
             inputs,
             alloc,
+            no_segments: SegDes::new(alloc, Lengths::from_vec(Vec::new(alloc)))?,
         })
     }
 
@@ -79,6 +88,16 @@ impl<A: Memory> Session<A> {
         ensures { option_copied result ≡ value_at self.now.names name.now }
     {
         value_of(&self.names, name)
+    }
+
+    /// The descriptor that an argument stands for, with its starts; of another argument, one without segments.
+    pub(crate) fn descriptor_at(&self, args: &[Arg], place: usize) -> &SegDes<A>
+        ensures { result.now ≡ lengths_in (argument_at self.now.names args.now place) }
+    {
+        match descriptor_at(&self.names, args, place) {
+            Some(descriptor) => descriptor,
+            None => &self.no_segments,
+        }
     }
 }
 

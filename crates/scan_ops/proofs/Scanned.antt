@@ -1,0 +1,42 @@
+-- Scans that begin after what stands before them.
+use Rattle.std.proofs.Common.{◌≡◌, ℕ, ◌+◌, ◌<◌, List, [], ◌∷◌, ◌++◌, length, take, map, get_or, append_assoc, refl, sym, ap, ◌∙◌}
+use Rattle.std.proofs.lemmas.List.{take_more}
+use Rattle.std.proofs.lemmas.List.Sums.{fold_more}
+use Rattle.cvl_base.specs.Folds.{fold_of, fronts, scan_of}
+
+map-prefixed : {X Y : Type 0} (f : List X → Y) (x : X) (lists : List (List X)) → map f (map (λ front. x ∷ front) lists) ≡ map (λ front. f (x ∷ front)) lists
+map-prefixed f x [] = refl
+map-prefixed f x (list ∷ lists) = ap (λ tail. f (x ∷ list) ∷ tail) (map-prefixed f x lists)
+
+module _ {Item : Type 0} (join : Item → Item → Item) where
+  pub scan_of-cons : (before x : Item) (xs : List Item) → scan_of join before (x ∷ xs) ≡ before ∷ scan_of join (join before x) xs
+  scan_of-cons before x xs = ap (λ tail. before ∷ tail) (map-prefixed (fold_of join before) x (fronts xs))
+
+  scan_of_push : (before : Item) (xs : List Item) (x : Item) → scan_of join before (xs ++ x ∷ []) ≡ scan_of join before xs ++ fold_of join before xs ∷ []
+  scan_of_push before [] x = refl
+  scan_of_push before (y ∷ ys) x =
+      scan_of-cons before y (ys ++ x ∷ [])
+      ∙ ap (λ tail. before ∷ tail) (scan_of_push (join before y) ys x)
+      ∙ ap (λ sums. sums ++ fold_of join before (y ∷ ys) ∷ []) (sym (scan_of-cons before y ys))
+
+  -- the step of a loop over xs
+  pub scan_of_more : (before : Item) (xs : List Item) (i : ℕ) (other : Item) → i < length xs → scan_of join before (take (i + 1) xs) ≡ scan_of join before (take i xs) ++ fold_of join before (take i xs) ∷ []
+  scan_of_more before xs i other within = ap (scan_of join before) (take_more xs i other within) ∙ scan_of_push before (take i xs) (get_or xs i other)
+
+
+  -- the same where the sums are pushed onto others
+  pub pushed_more : (start sums pushed : List Item) (before sum : Item) (xs : List Item) (i : ℕ) → i < length xs
+      → sums ≡ start ++ scan_of join before (take i xs) → sum ≡ fold_of join before (take i xs) → pushed ≡ sums ++ sum ∷ []
+      → pushed ≡ start ++ scan_of join before (take (i + 1) xs)
+  pushed_more start sums pushed before sum xs i within is is_sum grown =
+      grown
+      ∙ ap (λ s. s ++ sum ∷ []) is
+      ∙ ap (λ x. (start ++ scan_of join before (take i xs)) ++ x ∷ []) is_sum
+      ∙ append_assoc start (scan_of join before (take i xs)) (fold_of join before (take i xs) ∷ [])
+      ∙ ap (λ tail. start ++ tail) (sym (scan_of_more before xs i before within))
+
+  -- the step of the sum itself
+  pub joined_more : (before sum x next : Item) (xs : List Item) (i : ℕ) → i < length xs → x ≡ get_or xs i x → sum ≡ fold_of join before (take i xs) → next ≡ join sum x
+      → next ≡ fold_of join before (take (i + 1) xs)
+  joined_more before sum x next xs i within is_x is_sum is_next =
+      is_next ∙ ap (λ s. join s x) is_sum ∙ ap (join (fold_of join before (take i xs))) is_x ∙ sym (fold_more join before xs i x within)

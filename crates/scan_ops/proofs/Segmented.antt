@@ -1,0 +1,121 @@
+-- Scans and reduces of segments, one segment after another.
+use Rattle.std.proofs.Common.{◌≡◌, ℕ, ◌+◌, ◌<◌, ◌≤◌, min, List, [], ◌∷◌, ◌++◌, length, take, drop, map, get_or, refl, sym, ap, ◌∙◌, arith, inl, inr, Ok, Err}
+use Rattle.std.specs.Prelude.{not, sum}
+use Rattle.std.proofs.lemmas.Bool.Decides.{eqb_tells, leb_tells}
+use Rattle.std.proofs.lemmas.List.{append-nil, append_assoc, nil_from_length, drop_more, take_all, drop_all, take_min, drop_min}
+use Rattle.cvl_base.specs.declared.fault.Fault.{Fault}
+use Rattle.cvl_base.specs.declared.fault.FaultNo.TheVariants as no
+use Rattle.cvl_base.specs.Faults.{fault}
+use Rattle.cvl_base.specs.Folds.{fold_of, scan_of, reduce_of}
+use Rattle.cvl_base.specs.Gives.{◌>>=◌, fault_if}
+use Rattle.cvl_base.specs.Nests.{cut_of, joined, nest}
+use Rattle.cvl_base.specs.Segmented.{in_vector, results_from, one_each, end_to_end}
+use Rattle.cvl_base.specs.SegmentedCalls.{seg_scan_of, seg_reduce_of}
+use Rattle.scan_ops.specs.Runs.{scans_of, reduces_of}
+
+-- ---- the definitions at lengths that fit
+
+results-ok : {S R : Type 0} (place : ℕ → ℕ → ℕ) (f : S → R) (s : ℕ) (segments : List S) → results_from place (λ x. Ok (f x)) s segments ≡ Ok (map f segments)
+results-ok place f s [] = refl
+results-ok place f s (x ∷ xs) = ap (λ rest. rest >>= λ rs. Ok (f x ∷ rs)) (results-ok place f (s + 1) xs)
+
+nest-fits : {X : Type 0} (lengths : List ℕ) (xs : List X) → sum lengths ≡ length xs → nest lengths xs ≡ Ok (cut_of lengths xs)
+nest-fits lengths xs fits =
+    elim (eqb_tells (sum lengths) (length xs)) [
+      | inl t ↦ ap (λ b. fault_if (not b) (fault no.LengthMismatch) (Ok (cut_of lengths xs))) t.0
+      | inr t ↦ absurd (t.1 fits)
+    ]
+
+module _ {Item : Type 0} (join : Item → Item → Item) (unit : Item) (xs : List Item) (lengths : List ℕ) where
+  pub seg_scan-fits : sum lengths ≡ length xs → seg_scan_of join unit xs lengths ≡ Ok (scans_of join unit lengths xs)
+  seg_scan-fits fits =
+      ap (end_to_end (in_vector lengths) (λ ys. Ok (scan_of join unit ys))) (nest-fits lengths xs fits)
+      ∙ ap (λ lists. lists >>= λ rs. Ok (joined rs)) (results-ok (in_vector lengths) (scan_of join unit) 0 (cut_of lengths xs))
+
+  pub seg_scan-misfits : (f : Fault) → nest lengths xs ≡ Err f → seg_scan_of join unit xs lengths ≡ Err f
+  seg_scan-misfits f misfits = ap (end_to_end (in_vector lengths) (λ ys. Ok (scan_of join unit ys))) misfits
+
+  pub seg_reduce-fits : sum lengths ≡ length xs → seg_reduce_of join unit xs lengths ≡ Ok (reduces_of join unit lengths xs)
+  seg_reduce-fits fits =
+      ap (one_each (in_vector lengths) (λ ys. Ok (reduce_of join unit ys))) (nest-fits lengths xs fits)
+      ∙ results-ok (in_vector lengths) (reduce_of join unit) 0 (cut_of lengths xs)
+
+  pub seg_reduce-misfits : (f : Fault) → nest lengths xs ≡ Err f → seg_reduce_of join unit xs lengths ≡ Err f
+  seg_reduce-misfits f misfits = ap (one_each (in_vector lengths) (λ ys. Ok (reduce_of join unit ys))) misfits
+
+-- ---- the step of a loop over the segments, which has scanned or reduced those before s and has `rest` left
+
+module _ {Item : Type 0} (join : Item → Item → Item) (unit : Item) (lengths : List ℕ) where
+  pub scans_more : (s n : ℕ) (rest : List Item) → s < length lengths → n ≡ get_or lengths s 0
+      → scans_of join unit (drop s lengths) rest ≡ scan_of join unit (take n rest) ++ scans_of join unit (drop (s + 1) lengths) (drop n rest)
+  scans_more s n rest lt is =
+      ap (λ ls. scans_of join unit ls rest) (drop_more lengths s 0 lt)
+      ∙ ap (λ m. scan_of join unit (take m rest) ++ scans_of join unit (drop (s + 1) lengths) (drop m rest)) (sym is)
+
+  -- where the last segment is cut short
+  pub scans_more_min : (s n : ℕ) (rest : List Item) → s < length lengths → n ≡ get_or lengths s 0
+      → scans_of join unit (drop s lengths) rest
+      ≡ scan_of join unit (take (min n (length rest)) rest) ++ scans_of join unit (drop (s + 1) lengths) (drop (min n (length rest)) rest)
+  scans_more_min s n rest lt is =
+      scans_more s n rest lt is
+      ∙ ap (λ front. scan_of join unit front ++ scans_of join unit (drop (s + 1) lengths) (drop n rest)) (sym (take_min n rest))
+      ∙ ap (λ others. scan_of join unit (take (min n (length rest)) rest) ++ scans_of join unit (drop (s + 1) lengths) others) (sym (drop_min n rest))
+
+  pub reduces_more : (s n : ℕ) (rest : List Item) → s < length lengths → n ≡ get_or lengths s 0
+      → reduces_of join unit (drop s lengths) rest ≡ fold_of join unit (take n rest) ∷ reduces_of join unit (drop (s + 1) lengths) (drop n rest)
+  reduces_more s n rest lt is =
+      ap (λ ls. reduces_of join unit ls rest) (drop_more lengths s 0 lt)
+      ∙ ap (λ m. fold_of join unit (take m rest) ∷ reduces_of join unit (drop (s + 1) lengths) (drop m rest)) (sym is)
+
+pub scans-none : {Item : Type 0} (join : Item → Item → Item) (unit : Item) (lengths : List ℕ) → scans_of join unit lengths [] ≡ []
+scans-none join unit [] = refl
+scans-none join unit (n ∷ ls) =
+    ap (λ front. scan_of join unit front ++ scans_of join unit ls (drop n [])) (take_all n [] (omega arith))
+    ∙ ap (λ others. scans_of join unit ls others) (drop_all n [] (omega arith))
+    ∙ scans-none join unit ls
+
+-- ---- the loops over the segments
+
+-- where there are elements left there is a segment left
+pub segment_left : (lengths : List ℕ) (s n : ℕ) → 0 < n → n ≤ sum (drop s lengths) → s < length lengths
+segment_left lengths s n some covered =
+    elim (leb_tells (length lengths) s) [
+      | inl t ↦ let none : sum (drop s lengths) ≡ 0 = ap sum (drop_all s lengths t.1) in absurd (omega (arith, some, covered, none))
+      | inr t ↦ t.1
+    ]
+
+module _ {Item : Type 0} (join : Item → Item → Item) (unit : Item) (lengths : List ℕ) where
+  pub scans_pushed : (sums pushed whole rest front others : List Item) (start : Item) (s n m : ℕ) → s < length lengths → n ≡ get_or lengths s 0 → m ≡ min n (length rest)
+      → front ≡ take m rest → others ≡ drop m rest → start ≡ unit → pushed ≡ sums ++ scan_of join start front
+      → sums ++ scans_of join unit (drop s lengths) rest ≡ whole → pushed ++ scans_of join unit (drop (s + 1) lengths) others ≡ whole
+  scans_pushed sums pushed whole rest front others start s n m lt is_n is_m is_front is_others is_start is_pushed is_whole =
+      let later : List Item → List Item = λ ys. scans_of join unit (drop (s + 1) lengths) ys in
+      ap (λ p. p ++ later others) is_pushed
+      ∙ append_assoc sums (scan_of join start front) (later others)
+      ∙ ap (λ u. sums ++ (scan_of join u front ++ later others)) is_start
+      ∙ ap (λ f. sums ++ (scan_of join unit f ++ later others)) is_front
+      ∙ ap (λ o. sums ++ (scan_of join unit (take m rest) ++ later o)) is_others
+      ∙ ap (λ j. sums ++ (scan_of join unit (take j rest) ++ later (drop j rest))) is_m
+      ∙ ap (λ tail. sums ++ tail) (sym (scans_more_min join unit lengths s n rest lt is_n))
+      ∙ is_whole
+
+  pub scans_done : (sums whole rest : List Item) (s : ℕ) → length rest ≡ 0 → sums ++ scans_of join unit (drop s lengths) rest ≡ whole → sums ≡ whole
+  scans_done sums whole rest s none is_whole =
+      sym (append-nil sums)
+      ∙ ap (λ tail. sums ++ tail) (sym (scans-none join unit (drop s lengths)))
+      ∙ ap (λ ys. sums ++ scans_of join unit (drop s lengths) ys) (sym (nil_from_length rest none))
+      ∙ is_whole
+
+  pub reduces_pushed : (sums pushed whole rest front others : List Item) (start sum : Item) (s n : ℕ) → s < length lengths → n ≡ get_or lengths s 0
+      → front ≡ take n rest → others ≡ drop n rest → start ≡ unit → sum ≡ fold_of join start front → pushed ≡ sums ++ sum ∷ []
+      → sums ++ reduces_of join unit (drop s lengths) rest ≡ whole → pushed ++ reduces_of join unit (drop (s + 1) lengths) others ≡ whole
+  reduces_pushed sums pushed whole rest front others start sum s n lt is_n is_front is_others is_start is_sum is_pushed is_whole =
+      let later : List Item → List Item = λ ys. reduces_of join unit (drop (s + 1) lengths) ys in
+      ap (λ p. p ++ later others) is_pushed
+      ∙ append_assoc sums (sum ∷ []) (later others)
+      ∙ ap (λ x. sums ++ x ∷ later others) is_sum
+      ∙ ap (λ u. sums ++ fold_of join u front ∷ later others) is_start
+      ∙ ap (λ f. sums ++ fold_of join unit f ∷ later others) is_front
+      ∙ ap (λ o. sums ++ fold_of join unit (take n rest) ∷ later o) is_others
+      ∙ ap (λ tail. sums ++ tail) (sym (reduces_more join unit lengths s n rest lt is_n))
+      ∙ is_whole

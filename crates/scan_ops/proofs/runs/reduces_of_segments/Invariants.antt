@@ -1,0 +1,17 @@
+use Rattle.std.proofs.Common.{◌≡◌, ◌++◌, length, drop, vec_len, vec_capacity}
+use Rattle.std.specs.Prelude.{sum}
+use Rattle.std.specs.List.{AllPass}
+use Rattle.scan_ops.specs.Runs.{reduces_of}
+use Rattle.scan_ops.proofs.runs.reduces_of_segments.Given as goal
+
+-- the reduces so far with those of the segments left are all
+abbrev pub invariant-loop-s : goal.invariant-loop-s
+invariant-loop-s g l =
+    let m = g.M.Monoid in
+    record {
+      whole : l.sums.items ++ reduces_of m.join m.unit (drop l.s l.d) l.rest ≡ reduces_of m.join m.unit l.d l.a;
+      as_long : vec_len l.sums ≡ l.s;
+      capacity : vec_capacity l.sums ≡ length l.d;
+      covered : sum (drop l.s l.d) ≡ length l.rest;
+      items : AllPass m.is_item l.rest;
+    }

@@ -1,0 +1,34 @@
+-- Runs of a segmented vector: ranges of its elements, in which segments may start anywhere, and scans over them.
+-- Source: Blelloch's segmented scans (Vector Models for Data-Parallel Computing).
+use Rattle.std.specs.Prelude.{ℕ, Bool, true, false, if◌then◌else◌, List, [], ◌∷◌, map, take, drop}
+use Rattle.std.specs.List.{flat_map}
+use Rattle.cvl_base.specs.Folds.{reduce_of, scan_of}
+use Rattle.cvl_base.specs.Nests.{cut_of, joined}
+
+-- the elements of a segment, each with whether the segment starts at it
+abbrev pub started : {Item : Type 0} → List Item → List (Bool × Item)
+started [] = []
+started (x ∷ xs) = (true, x) ∷ map (λ y. (false, y)) xs
+
+-- the elements of a segmented vector, each with whether a segment starts at it
+abbrev pub with_starts : {Item : Type 0} → List ℕ → List Item → List (Bool × Item)
+with_starts lengths xs = flat_map started (cut_of lengths xs)
+
+-- of those before place `to`, the ones from place `from` on
+abbrev pub run_of : {Item : Type 0} → List ℕ → List Item → ℕ → ℕ → List (Bool × Item)
+run_of lengths xs from to = drop from (with_starts lengths (take to xs))
+
+-- the scan of a run after what stands before it: the unit where a segment starts, else what the elements since the last
+-- start join to
+abbrev pub run_scan_of : {Item : Type 0} → (Item → Item → Item) → Item → Item → List (Bool × Item) → List Item
+run_scan_of join unit before [] = []
+run_scan_of join unit before ((starts, x) ∷ run) =
+    (if starts then unit else before) ∷ run_scan_of join unit (if starts then x else join before x) run
+
+-- the scans of the segments, one after another
+abbrev pub scans_of : {Item : Type 0} → (Item → Item → Item) → Item → List ℕ → List Item → List Item
+scans_of join unit lengths xs = joined (map (scan_of join unit) (cut_of lengths xs))
+
+-- the reduces of the segments
+abbrev pub reduces_of : {Item : Type 0} → (Item → Item → Item) → Item → List ℕ → List Item → List Item
+reduces_of join unit lengths xs = map (reduce_of join unit) (cut_of lengths xs)

@@ -1,0 +1,94 @@
+//! The scans and reduces of boolean vectors, by the operators of the table.
+
+ghost use Rattle.std.specs.Prelude.{◌≡◌, IfOk, length, vec_len};
+ghost use Rattle.cvl_base.specs.Gives.{Gives};
+ghost use Rattle.cvl_base.specs.Scans.{bool_join_of, bool_reduce_of, bool_scan_of, bool_unit_of};
+ghost use Rattle.cvl_base.specs.SegmentedCalls.{seg_reduce_of, seg_scan_of};
+
+use crate::prefixes::{scan, seg_scan};
+use crate::sums::{reduce, seg_reduce};
+use cvl_base::monoids::{BoolAnd, BoolIor, BoolXor};
+use cvl_base::{BoolBinary, Config, Memory, NoResources, Refused};
+use segdes::SegDes;
+use std::thread::Threads;
+
+/// The exclusive scan by an operator of the table: `and_sub` and its like.
+///
+/// The result is as long as the vector. Source: CVL's scans.
+pub fn bool_scan<R: Threads + Sync, A: Memory>(
+    rt: &R,
+    alloc: A,
+    config: Config,
+    op: BoolBinary,
+    a: &[bool],
+) -> Result<Vec<bool, A>, NoResources>
+    ensures values { IfOk result (λ sums. sums.items ≡ bool_scan_of op a.now) }
+    ensures as_long { IfOk result (λ sums. vec_len sums ≡ length a.now) }
+{
+    match op {
+        BoolBinary::And => scan::<R, A, BoolAnd>(rt, alloc, config, a),
+        BoolBinary::Ior => scan::<R, A, BoolIor>(rt, alloc, config, a),
+        BoolBinary::Xor => scan::<R, A, BoolXor>(rt, alloc, config, a),
+    }
+}
+
+/// The elements joined by an operator of the table, and its identity where there are none.
+///
+/// Source: CVL's reduces.
+pub fn bool_reduce<R: Threads + Sync, A: Memory>(
+    rt: &R,
+    alloc: A,
+    config: Config,
+    op: BoolBinary,
+    a: &[bool],
+) -> Result<bool, NoResources>
+    ensures { IfOk result (λ sum. sum ≡ bool_reduce_of op a.now) }
+{
+    match op {
+        BoolBinary::And => reduce::<R, A, BoolAnd>(rt, alloc, config, a),
+        BoolBinary::Ior => reduce::<R, A, BoolIor>(rt, alloc, config, a),
+        BoolBinary::Xor => reduce::<R, A, BoolXor>(rt, alloc, config, a),
+    }
+}
+
+/// The exclusive scan of each segment by an operator of the table.
+///
+/// The result is as long as the vector. LengthMismatch, without a place, where the segments' total is not the number of
+/// elements. Source: CVL's segmented scans.
+pub fn seg_bool_scan<R: Threads + Sync, A: Memory>(
+    rt: &R,
+    alloc: A,
+    config: Config,
+    op: BoolBinary,
+    a: &[bool],
+    d: &SegDes<A>,
+) -> Result<Vec<bool, A>, Refused>
+    ensures { Gives (λ sums. sums.items) result (seg_scan_of (bool_join_of op) (bool_unit_of op) a.now d.now) }
+{
+    match op {
+        BoolBinary::And => seg_scan::<R, A, BoolAnd>(rt, alloc, config, a, d),
+        BoolBinary::Ior => seg_scan::<R, A, BoolIor>(rt, alloc, config, a, d),
+        BoolBinary::Xor => seg_scan::<R, A, BoolXor>(rt, alloc, config, a, d),
+    }
+}
+
+/// For each segment its elements joined by an operator of the table, and the operator's identity where it is empty.
+///
+/// The result has one element for each segment. LengthMismatch, without a place, where the segments' total is not the
+/// number of elements. Source: CVL's segmented reduces.
+pub fn seg_bool_reduce<R: Threads + Sync, A: Memory>(
+    rt: &R,
+    alloc: A,
+    config: Config,
+    op: BoolBinary,
+    a: &[bool],
+    d: &SegDes<A>,
+) -> Result<Vec<bool, A>, Refused>
+    ensures { Gives (λ sums. sums.items) result (seg_reduce_of (bool_join_of op) (bool_unit_of op) a.now d.now) }
+{
+    match op {
+        BoolBinary::And => seg_reduce::<R, A, BoolAnd>(rt, alloc, config, a, d),
+        BoolBinary::Ior => seg_reduce::<R, A, BoolIor>(rt, alloc, config, a, d),
+        BoolBinary::Xor => seg_reduce::<R, A, BoolXor>(rt, alloc, config, a, d),
+    }
+}

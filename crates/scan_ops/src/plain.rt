@@ -1,0 +1,44 @@
+//! The loops over elements among which no segment starts.
+
+ghost use Rattle.std.specs.Prelude.{◌≡◌, ◌+◌, ◌≤◌, ◌++◌, IsTrue, length, vec_len, vec_capacity};
+ghost use Rattle.std.specs.List.{AllPass};
+ghost use Rattle.cvl_base.specs.Folds.{fold_of, scan_of};
+
+use cvl_base::monoid::know_laws;
+use cvl_base::{Memory, Monoid};
+
+/// What stands before the elements, joined with them from left to right.
+pub(crate) fn sum_from<M: Monoid>(before: M::Item, xs: &[M::Item]) -> M::Item
+    requires before { IsTrue (M.is_item before) }
+    requires items { AllPass M.is_item xs.now }
+    ensures { result ≡ fold_of M.join before xs.now }
+{
+    know_laws::<M>();
+    let mut sum = before;
+    for x in xs {
+        sum = M::join(sum, *x);
+    }
+    sum
+}
+
+/// Pushes, for each of the elements, what stands before it: `before`, joined with the elements in front of it from left
+/// to right. There must be room for them.
+pub(crate) fn push_scan_from<M: Monoid, A: Memory>(
+    sums: &mut Vec<M::Item, A>,
+    before: M::Item,
+    xs: &[M::Item],
+)
+    requires room { vec_len sums.old + length xs.now ≤ vec_capacity sums.old }
+    requires before { IsTrue (M.is_item before) }
+    requires items { AllPass M.is_item xs.now }
+    ensures values { sums.new.items ≡ sums.old.items ++ scan_of M.join before xs.now }
+    ensures as_long { vec_len sums.new ≡ vec_len sums.old + length xs.now }
+    ensures capacity { vec_capacity sums.new ≡ vec_capacity sums.old }
+{
+    know_laws::<M>();
+    let mut so_far = before;
+    for x in xs {
+        sums.push_reserved(so_far);
+        so_far = M::join(so_far, *x);
+    }
+}

@@ -1,0 +1,99 @@
+//! Walks over the runs of a segmented vector.
+//!
+//! A run is a range of the vector's elements. Segments may start in it anywhere, some of them empty, and it may begin or
+//! end inside a segment. Each walk goes from segment to segment, and has a plain loop over the elements of each.
+
+ghost use Rattle.std.specs.Prelude.{◌≡◌, ◌+◌, ◌≤◌, ◌++◌, IsTrue, IfOk, length, drop, sum, vec_len, vec_capacity};
+ghost use Rattle.std.specs.List.{AllPass};
+ghost use Rattle.cvl_base.specs.Limits.{most_elements};
+ghost use Rattle.segdes.specs.Starts.{start_of};
+ghost use Rattle.scan_ops.specs.Runs.{reduces_of, run_of, run_scan_of, scans_of};
+
+use crate::plain::{push_scan_from, sum_from};
+use cvl_base::monoid::know_laws;
+use cvl_base::{Memory, Monoid, NoResources};
+use segdes::SegDes;
+use std::alloc::Allocator;
+
+/// Where a segment starts, and the total where the segments end.
+fn start_or_total<A: Allocator>(d: &SegDes<A>, s: usize) -> usize
+    requires { s ≤ length d.now }
+    ensures value { result ≡ start_of d.now s }
+    ensures others { result + sum (drop s d.now) ≡ sum d.now }
+    ensures few { length d.now ≤ most_elements }
+{
+    if s < d.count() { d.start(s) } else { d.total() }
+}
+
+/// Pushes the scans of the segments from `first` on, one after another, until there are no elements left. There must be
+/// room for them.
+fn push_scans<M: Monoid, A: Memory>(
+    sums: &mut Vec<M::Item, A>,
+    d: &SegDes<A>,
+    first: usize,
+    xs: &[M::Item],
+)
+    requires room { vec_len sums.old + length xs.now ≤ vec_capacity sums.old }
+    requires few { length d.now ≤ most_elements }
+    requires within { first ≤ length d.now }
+    requires covered { length xs.now ≤ sum (drop first d.now) }
+    requires items { AllPass M.is_item xs.now }
+    ensures { sums.new.items ≡ sums.old.items ++ scans_of M.join M.unit (drop first d.now) xs.now }
+{
+    know_laws::<M>();
+    let mut rest = xs;
+    let mut s = first;
+    while !rest.is_empty() {
+        let (segment, others) = rest.split_at(d.length(s).min(rest.len()));
+        push_scan_from::<M, A>(sums, M::unit(), segment);
+        rest = others;
+        s += 1;
+    }
+}
+
+/// The reduces of all segments.
+pub(crate) fn reduces_of_segments<M: Monoid, A: Memory>(
+    alloc: A,
+    a: &[M::Item],
+    d: &SegDes<A>,
+) -> Result<Vec<M::Item, A>, NoResources>
+    requires total { sum d.now ≡ length a.now }
+    requires items { AllPass M.is_item a.now }
+    ensures { IfOk result (λ sums. sums.items ≡ reduces_of M.join M.unit d.now a.now) }
+{
+    know_laws::<M>();
+    let mut sums = Vec::with_capacity(alloc, d.count())?;
+    let mut rest = a;
+    for s in 0..d.count() {
+        let (segment, others) = rest.split_at(d.length(s));
+        sums.push_reserved(sum_from::<M>(M::unit(), segment));
+        rest = others;
+    }
+    Ok(sums)
+}
+
+/// The scan of the run from place `from` to the one before place `to`, after what stands before it.
+pub fn scan_of_run<M: Monoid, A: Memory>(
+    alloc: A,
+    a: &[M::Item],
+    d: &SegDes<A>,
+    from: usize,
+    to: usize,
+    before: M::Item,
+) -> Result<Vec<M::Item, A>, NoResources>
+    requires total { sum d.now ≡ length a.now }
+    requires in_order { from ≤ to }
+    requires within { to ≤ length a.now }
+    requires before { IsTrue (M.is_item before) }
+    requires items { AllPass M.is_item a.now }
+    ensures { IfOk result (λ sums. sums.items ≡ run_scan_of M.join M.unit before (run_of d.now a.now from to)) }
+{
+    know_laws::<M>();
+    let mut sums = Vec::with_capacity(alloc, to - from)?;
+    let first = d.starts_before(from);
+    let start = start_or_total(d, first);
+    let (front, rest) = a[from..to].split_at(start.min(to) - from);
+    push_scan_from::<M, A>(&mut sums, before, front);
+    push_scans::<M, A>(&mut sums, d, first, rest);
+    Ok(sums)
+}
