@@ -49,7 +49,7 @@ impl<'a, A: Memory> Case<'a, A> {
             "input" => self.inputs.push(content_of(rt, folder, section)?)?,
             "text" => self.text = content_of(rt, folder, section)?,
             "stop" => self.stop = content_of(rt, folder, section)?,
-            _ => return Err(Trouble::Heading(section.what, section.rest)),
+            _ => return Err(Trouble::Heading(section.heading)),
         }
         Ok(())
     }
@@ -57,7 +57,7 @@ impl<'a, A: Memory> Case<'a, A> {
 
 /// The tiles and workers of a heading such as `tile 1 workers 64`.
 fn config_of<'a, A: Memory>(section: &Section<'a, A>) -> Result<Config, Trouble<'a>> {
-    let bad = Trouble::Heading(section.what, section.rest);
+    let bad = Trouble::Heading(section.heading);
     let (tile, workers) = section.rest.split_once(" workers ").ok_or(bad)?;
     let tile = tile.parse().map_err(|_| bad)?;
     let workers = workers.parse().map_err(|_| bad)?;
@@ -91,7 +91,7 @@ pub fn cases_of<'a, R: Files + Alloc<A = A>, A: Memory>(
         } else if let Some(case) = cases.last_mut() {
             case.add(rt, folder, section)?;
         } else {
-            return Err(Trouble::Heading(section.what, section.rest));
+            return Err(Trouble::Heading(section.heading));
         }
     }
     Ok(cases)

@@ -8,6 +8,8 @@ const MARK: &[u8] = b"== ";
 /// A heading, and the lines below it up to the next heading.
 #[derive(Drop)]
 pub struct Section<'a, A: Memory> {
+    /// The heading, without its mark.
+    pub heading: &'a str,
     /// What the heading is of: its first word.
     pub what: &'a str,
     /// The rest of the heading.
@@ -21,6 +23,7 @@ fn section_of<'a, A: Memory>(alloc: A, heading: &'a [u8]) -> Section<'a, A> {
     let heading = str::from_utf8(heading).unwrap_or("").trim_end();
     let (what, rest) = heading.split_once(' ').unwrap_or((heading, ""));
     Section {
+        heading,
         what,
         rest,
         lines: Vec::new(alloc),

@@ -12,8 +12,8 @@ pub enum Trouble<'a> {
     #[error("cannot read {0}")]
     Unreadable(&'a str),
     /// There is no such heading, or it stands before the first case.
-    #[error("no such heading: == {0} {1}")]
-    Heading(&'a str, &'a str),
+    #[error("no such heading: == {0}")]
+    Heading(&'a str),
     /// There is no memory for the cases.
     #[error("no resources")]
     NoResources,
