@@ -1,12 +1,12 @@
-//! Tests of scripts from end to end: their texts and faults, their sinks, the program, and want of memory.
+//! Tests of what needs a host, a sink, refused memory or a script that is long by construction: sinks, the program, the
+//! limits, and each request for memory refused in turn. Scripts with their texts and faults are the cases of
+//! `script_cases`.
 #![tactic(auto)]
 
 #[cfg(test)]
-mod descriptors;
+mod allocator_counts;
 #[cfg(test)]
-mod elementwise_calls;
-#[cfg(test)]
-mod faults;
+mod inputs;
 #[cfg(test)]
 mod limits;
 #[cfg(test)]
@@ -16,16 +16,8 @@ mod programs;
 #[cfg(test)]
 mod refusals;
 #[cfg(test)]
-mod refused_elementwise;
-#[cfg(test)]
-mod refused_programs;
-#[cfg(test)]
-mod refused_writing;
-#[cfg(test)]
-mod scripts;
-#[cfg(test)]
 mod sinks;
 #[cfg(test)]
 mod small_host;
 #[cfg(test)]
-mod texts;
+mod stops;

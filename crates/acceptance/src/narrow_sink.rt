@@ -1,15 +1,17 @@
-//! A sink that takes one byte a put, and fails once it has taken so many.
+//! A sink that takes few bytes a put, and fails once it has taken so many puts.
 
 ghost use Rattle.std.specs.Prelude.{◌≡◌, []};
 
 use shell::{Sink, SinkFault};
 use std::alloc::Allocator;
 
-/// A sink that takes one byte a put.
+/// A sink that takes few bytes a put.
 #[derive(Drop)]
 pub struct NarrowSink<A: Allocator> {
     /// The bytes taken so far.
     pub taken: Vec<u8, A>,
+    /// How many bytes it takes a put, beside the first.
+    pub more_a_put: usize,
     /// How many puts it takes before it fails for good.
     pub puts_left: u64,
     /// How often it failed.
@@ -17,13 +19,14 @@ pub struct NarrowSink<A: Allocator> {
 }
 
 impl<A: Allocator> NarrowSink<A> {
-    /// A sink that has taken nothing, and takes as many bytes.
-    pub fn new(alloc: A, puts: u64) -> NarrowSink<A>
+    /// A sink that keeps its bytes in this vector.
+    pub fn new(taken: Vec<u8, A>, more_a_put: usize, puts_left: u64) -> NarrowSink<A>
         ensures { result.failures ≡ 0 }
     {
         NarrowSink {
-            taken: Vec::new(alloc),
-            puts_left: puts,
+            taken,
+            more_a_put,
+            puts_left,
             failures: 0,
         }
     }
@@ -37,12 +40,14 @@ impl<A: Allocator> Sink for NarrowSink<A> {
     ghost failures = { λ s. s.failures };
 
     fn put(&mut self, bytes: &[u8]) -> Result<usize, SinkFault> {
-        let Some((first, _)) = bytes.split_first() else {
+        if bytes.is_empty() {
             return Ok(0);
-        };
-        if self.puts_left > 0 && self.taken.push(*first).is_ok() {
+        }
+        let count = self.more_a_put.min(bytes.len() - 1) + 1;
+        let (front, _) = bytes.split_at(count);
+        if self.puts_left > 0 && self.taken.extend_from_slice(front).is_ok() {
             self.puts_left -= 1;
-            return Ok(1);
+            return Ok(count);
         }
         self.failures += 1;
         Err(SinkFault)

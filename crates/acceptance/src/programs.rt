@@ -1,116 +1,146 @@
-//! The program's texts and statuses, on a host in memory.
+//! The program's texts, messages and statuses, on a host in memory.
 use crate::small_host::SmallHost;
 use shell::program;
 use std::test::Fail;
 
 const FILES: &[(&str, &str)] = &[
+    ("empty", ""),
     ("scan", "a = input 1\nb = add_suz a\nwrite b\n"),
     ("late", "a = input 1\nwrite a\nb = xyz_wuz a\n"),
-    (
-        "choose",
-        "a = input 1\nb = input 2\nf = grt_wuz a b\nc = sel_wuz f a b\nwrite c\n",
-    ),
-    (
-        "nest",
-        "a = input 1\nl = input 2\nd = mke_fov l\nwrite a d\n",
-    ),
+    ("divide", "a = input 1\nb = input 2\nc = div_wuz a b\n"),
     ("numbers", "3 1 7 0 4\n"),
-    ("others", "2 2 2 2 2\n"),
-    ("lengths", "2 0 3\n"),
-    ("empty", ""),
+    ("divisors", "1 1 1 0 0\n"),
+];
+
+const USAGE: &str = "usage: cvl SCRIPT [INPUT ..]\n";
+
+/// What fails on the host.
+#[derive(Clone, Copy)]
+enum Failing {
+    /// Nothing.
+    Nothing,
+    /// The flush.
+    Flush,
+    /// Each put after so many, of a byte each.
+    Puts(u64),
+}
+
+/// What fails, the words of the command line, and what comes of them: standard output, standard error and the status.
+type Row = (
+    Failing,
+    &'static [&'static str],
+    &'static str,
+    &'static str,
+    u8,
+);
+
+const ROWS: &[Row] = &[
+    (Failing::Nothing, &["cvl", "empty"], "", "", 0),
+    (
+        Failing::Nothing,
+        &["cvl", "scan", "numbers"],
+        "b = [0 3 4 11 11]\n",
+        "",
+        0,
+    ),
+    (
+        Failing::Nothing,
+        &["cvl", "late", "numbers"],
+        "a = [3 1 7 0 4]\n",
+        "line 3: fault 2 UnknownCall\n",
+        1,
+    ),
+    (
+        Failing::Nothing,
+        &["cvl", "divide", "numbers", "divisors"],
+        "",
+        "line 3: fault 8 DivideByZero at 3\n",
+        1,
+    ),
+    (
+        Failing::Nothing,
+        &["cvl", "scan"],
+        "",
+        "line 1: fault 14 NoSuchInput\n",
+        1,
+    ),
+    (
+        Failing::Nothing,
+        &["cvl", "nofile"],
+        "",
+        "cannot read nofile\n",
+        3,
+    ),
+    (
+        Failing::Nothing,
+        &["cvl", "scan", "numbers", "nofile"],
+        "",
+        "cannot read nofile\n",
+        3,
+    ),
+    (
+        Failing::Nothing,
+        &["cvl", "nofile", "none"],
+        "",
+        "cannot read nofile\n",
+        3,
+    ),
+    (Failing::Nothing, &[], "", USAGE, 2),
+    (Failing::Nothing, &["cvl"], "", USAGE, 2),
+    (Failing::Nothing, &["cvl", "--tile", "2"], "", USAGE, 2),
+    (Failing::Nothing, &["cvl", "scan", "-x"], "", USAGE, 2),
+    (
+        Failing::Flush,
+        &["cvl", "scan", "numbers"],
+        "b = [0 3 4 11 11]\n",
+        "line 0: write failed\n",
+        3,
+    ),
+    (
+        Failing::Flush,
+        &["cvl", "late", "numbers"],
+        "a = [3 1 7 0 4]\n",
+        "line 3: fault 2 UnknownCall\n",
+        1,
+    ),
+    (
+        Failing::Puts(4),
+        &["cvl", "scan", "numbers"],
+        "b = ",
+        "line 3: write failed\n",
+        3,
+    ),
+    (
+        Failing::Puts(0),
+        &["cvl", "late", "numbers"],
+        "",
+        "line 2: write failed\n",
+        3,
+    ),
 ];
 
 #[test]
-fn statuses_and_texts(rt: HostRuntime) -> Result<(), Fail> {
-    let rows: [(&[&str], &str, &str, u8); 9] = [
-        (&["cvl", "empty"], "", "", 0),
-        (&["cvl", "scan", "numbers"], "b = [0 3 4 11 11]\n", "", 0),
-        (
-            &["cvl", "late", "numbers"],
-            "a = [3 1 7 0 4]\n",
-            "line 3: fault 2 UnknownCall\n",
-            1,
-        ),
-        (
-            &["cvl", "choose", "numbers", "others"],
-            "c = [3 2 7 2 4]\n",
-            "",
-            0,
-        ),
-        (
-            &["cvl", "nest", "numbers", "lengths"],
-            "a = [[3 1] [] [7 0 4]]\n",
-            "",
-            0,
-        ),
-        (&["cvl", "scan"], "", "line 1: fault 14 NoSuchInput\n", 1),
-        (&["cvl", "nofile"], "", "cannot read nofile\n", 3),
-        (
-            &["cvl", "scan", "numbers", "nofile"],
-            "",
-            "cannot read nofile\n",
-            3,
-        ),
-        (&["cvl", "nofile", "none"], "", "cannot read nofile\n", 3),
-    ];
-    for (words, output, errors, status) in rows {
-        let mut host = SmallHost::new(rt.alloc(), FILES);
-        assert_eq!(rt; program(&rt, rt.alloc(), words, &mut host), status);
-        assert_eq!(rt; host.output.taken.as_slice(), output.as_bytes());
-        assert_eq!(rt; host.errors.as_slice(), errors.as_bytes());
-    }
-    Ok(())
-}
-
-#[test]
-fn command_lines_that_are_refused(rt: HostRuntime) -> Result<(), Fail> {
-    let rows: [&[&str]; 4] = [
-        &[],
-        &["cvl"],
-        &["cvl", "--tile", "2"],
-        &["cvl", "scan", "-x"],
-    ];
-    for words in rows {
-        let mut host = SmallHost::new(rt.alloc(), FILES);
-        assert_eq!(rt; program(&rt, rt.alloc(), words, &mut host), 2);
-        assert!(rt; host.output.taken.is_empty());
+fn texts_messages_and_statuses(rt: HostRuntime) -> Result<(), Fail> {
+    for (failing, words, output, errors, status) in ROWS {
+        let mut host = SmallHost::with_room(rt.alloc(), FILES, 0)?;
+        match failing {
+            Failing::Nothing => {}
+            Failing::Flush => host.flushes = false,
+            Failing::Puts(puts) => host.output.puts_left = *puts,
+        }
         assert_eq!(rt;
-            host.errors.as_slice(),
-            b"usage: cvl SCRIPT [INPUT ..]\n".as_slice()
+            program(&rt, rt.alloc(), words, &mut host),
+            *status,
+            "{words:?}"
         );
+        assert_eq!(rt;
+            host.output.taken.as_slice(),
+            output.as_bytes(),
+            "{words:?}"
+        );
+        assert_eq!(rt; host.errors.as_slice(), errors.as_bytes(), "{words:?}");
+        // so that the messages of two programs don't mix
+        assert_eq!(rt; host.messages, u64::from(!errors.is_empty()), "{words:?}");
     }
-    Ok(())
-}
-
-#[test]
-fn a_flush_that_fails(rt: HostRuntime) -> Result<(), Fail> {
-    let rows: [(&[&str], &str, u8); 2] = [
-        (&["cvl", "scan", "numbers"], "line 0: write failed\n", 3),
-        (
-            &["cvl", "late", "numbers"],
-            "line 3: fault 2 UnknownCall\n",
-            1,
-        ),
-    ];
-    for (words, errors, status) in rows {
-        let mut host = SmallHost::new(rt.alloc(), FILES);
-        host.flushes = false;
-        assert_eq!(rt; program(&rt, rt.alloc(), words, &mut host), status);
-        assert_eq!(rt; host.errors.as_slice(), errors.as_bytes());
-    }
-    Ok(())
-}
-
-#[test]
-fn a_write_that_fails(rt: HostRuntime) -> Result<(), Fail> {
-    let mut host = SmallHost::new(rt.alloc(), FILES);
-    host.output.puts_left = 4;
-    let status = program(&rt, rt.alloc(), &["cvl", "scan", "numbers"], &mut host);
-    assert_eq!(rt; status, 3);
-    assert_eq!(rt; host.output.taken.as_slice(), b"b = ".as_slice());
-    assert_eq!(rt;
-        host.errors.as_slice(),
-        b"line 3: write failed\n".as_slice()
-    );
     Ok(())
 }

@@ -1,39 +1,42 @@
 //! Sinks that take little at a time, or fail.
+use crate::inputs::inputs_of;
 use crate::narrow_sink::NarrowSink;
-use crate::scripts::inputs_of;
 use cvl_base::Config;
-use shell::{Stop, run};
+use refusing_memory::Refusing;
+use shell::{MemSink, Sink, SinkFault, Stop, run};
 use std::test::Fail;
 
-const SCRIPT: &[u8] = b"a = input 1\nwrite a\nb = add_suz a\nwrite b\n";
+const SCRIPT: &[u8] =
+    b"l = input 1\nv = input 2\nd = mke_fov l\nwrite v d\nwrite d\nm = len_fos d\nwrite m\n";
 
-/// The text of the second line, and then that of the fourth.
-const TEXT: &str = "a = [3 1]\nb = [0 3]\n";
+const INPUTS: &[&str] = &["0 2 0 3 0", "5 1 7 7 1"];
 
-const SECOND_LINES_BYTES: u64 = 10;
+/// The texts of lines 4, 5 and 7, which have 29, 16 and 16 bytes.
+const TEXT: &str = "v = [[] [5 1] [] [7 7 1] []]\nd = [0 2 0 3 0]\nm = [0 2 0 3 0]\n";
+
+/// How many bytes a put takes beside the first, how many puts succeed, how many bytes are taken, and the answer.
+type Row = (usize, u64, usize, Result<(), Stop>);
+
+const ROWS: &[Row] = &[
+    (0, 61, 61, Ok(())),
+    (1, 31, 61, Ok(())),
+    (28, 3, 61, Ok(())),
+    (100, 3, 61, Ok(())),
+    (0, 0, 0, Err(Stop::WriteFailed { line: 4 })),
+    (0, 28, 28, Err(Stop::WriteFailed { line: 4 })),
+    (0, 29, 29, Err(Stop::WriteFailed { line: 5 })),
+    (0, 44, 44, Err(Stop::WriteFailed { line: 5 })),
+    (0, 45, 45, Err(Stop::WriteFailed { line: 7 })),
+    (0, 60, 60, Err(Stop::WriteFailed { line: 7 })),
+    (6, 4, 28, Err(Stop::WriteFailed { line: 4 })),
+    (100, 1, 29, Err(Stop::WriteFailed { line: 5 })),
+];
 
 #[test]
-fn a_byte_a_put(rt: HostRuntime) -> Result<(), Fail> {
-    let mut sink = NarrowSink::new(rt.alloc(), u64::MAX);
-    let inputs = inputs_of(rt.alloc(), &["3 1"])?;
-    let ran = run(
-        &rt,
-        rt.alloc(),
-        Config::new(2, 3)?,
-        SCRIPT,
-        inputs,
-        &mut sink,
-    );
-    assert_eq!(rt; ran, Ok(()));
-    assert_eq!(rt; sink.taken.as_slice(), TEXT.as_bytes());
-    Ok(())
-}
-
-#[test]
-fn a_put_that_fails(rt: HostRuntime) -> Result<(), Fail> {
-    for puts in 0..20 {
-        let mut sink = NarrowSink::new(rt.alloc(), puts);
-        let inputs = inputs_of(rt.alloc(), &["3 1"])?;
+fn narrow_and_failing_sinks(rt: HostRuntime) -> Result<(), Fail> {
+    for (more_a_put, puts, taken, answer) in ROWS {
+        let mut sink = NarrowSink::new(Vec::new(rt.alloc()), *more_a_put, *puts);
+        let inputs = inputs_of(rt.alloc(), INPUTS)?;
         let ran = run(
             &rt,
             rt.alloc(),
@@ -42,10 +45,27 @@ fn a_put_that_fails(rt: HostRuntime) -> Result<(), Fail> {
             inputs,
             &mut sink,
         );
-        let line = if puts < SECOND_LINES_BYTES { 2 } else { 4 };
-        assert_eq!(rt; ran, Err(Stop::WriteFailed { line }));
-        assert_eq!(rt; sink.taken.len() as u64, puts);
-        assert!(rt; TEXT.as_bytes().starts_with(&sink.taken));
+        assert_eq!(rt; ran, *answer, "{more_a_put} {puts}");
+        assert_eq!(rt; sink.taken.len(), *taken, "{more_a_put} {puts}");
+        assert!(rt;
+            TEXT.as_bytes().starts_with(&sink.taken),
+            "{more_a_put} {puts}"
+        );
     }
+    Ok(())
+}
+
+#[test]
+fn room_of_a_sink(rt: HostRuntime) -> Result<(), Fail> {
+    let heap = Refusing::from(1, rt.alloc());
+    let mut sink = MemSink::with_room(&heap, 64)?;
+    let bytes = [b'a'; 64];
+    assert_eq!(rt; sink.put(bytes.as_slice()), Ok(64));
+    assert_eq!(rt; sink.put(b""), Ok(0));
+    assert_eq!(rt; heap.requests(), 1);
+    assert_eq!(rt; sink.put(b"a"), Err(SinkFault));
+    assert_eq!(rt; sink.bytes(), bytes.as_slice());
+    let none = Refusing::from(0, rt.alloc());
+    assert!(rt; MemSink::with_room(&none, 64).is_err());
     Ok(())
 }

@@ -11,10 +11,12 @@ use shell::{Host, Sink, SinkFault};
 pub struct SmallHost<'a, A: Memory> {
     /// The names and the bytes of its files.
     pub files: &'a [(&'a str, &'a str)],
-    /// Standard output.
+    /// Standard output, which takes a byte a put.
     pub output: NarrowSink<A>,
     /// Standard error.
     pub errors: Vec<u8, A>,
+    /// How many messages standard error was given.
+    pub messages: u64,
     /// Whether a flush succeeds.
     pub flushes: bool,
     /// Where the files are read to.
@@ -22,19 +24,6 @@ pub struct SmallHost<'a, A: Memory> {
 }
 
 impl<'a, A: Memory> SmallHost<'a, A> {
-    /// A host with these files, on which all succeeds.
-    pub fn new(alloc: A, files: &'a [(&'a str, &'a str)]) -> SmallHost<'a, A>
-        ensures { result.output.failures ≡ 0 }
-    {
-        SmallHost {
-            files,
-            output: NarrowSink::new(alloc, u64::MAX),
-            errors: Vec::new(alloc),
-            flushes: true,
-            alloc,
-        }
-    }
-
     /// A host with these files and room for so many bytes of output and of errors, on which all succeeds.
     pub fn with_room(
         alloc: A,
@@ -47,12 +36,9 @@ impl<'a, A: Memory> SmallHost<'a, A> {
         let errors = Vec::with_capacity(alloc, room)?;
         Ok(SmallHost {
             files,
-            output: NarrowSink {
-                taken,
-                puts_left: u64::MAX,
-                failures: 0,
-            },
+            output: NarrowSink::new(taken, 0, u64::MAX),
             errors,
+            messages: 0,
             flushes: true,
             alloc,
         })
@@ -86,6 +72,7 @@ impl<A: Memory> Host<A> for SmallHost<'_, A> {
     }
 
     fn put_error(&mut self, bytes: &[u8]) {
+        self.messages = self.messages.saturating_add(1);
         let _ = self.errors.extend_from_slice(bytes);
     }
 }
