@@ -4,8 +4,6 @@
 #[cfg(test)]
 mod descriptors;
 #[cfg(test)]
-mod elementwise_calls;
-#[cfg(test)]
 mod faults;
 #[cfg(test)]
 mod limits;
@@ -15,8 +13,6 @@ mod narrow_sink;
 mod programs;
 #[cfg(test)]
 mod refusals;
-#[cfg(test)]
-mod refused_elementwise;
 #[cfg(test)]
 mod refused_programs;
 #[cfg(test)]

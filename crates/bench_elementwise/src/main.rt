@@ -97,13 +97,13 @@ fn measure_singles<R: Print + Clock + Threads + Sync>(
     flags: &[bool],
 ) -> io::Result<()> {
     let n = a.len();
-    let call = best(rt, || int1(alloc, config, Unary::Not, a))?;
+    let call = best(rt, || int1(rt, alloc, config, Unary::Not, a))?;
     let loop_time = best(rt, || plain::turned(alloc, a))?;
     print_times(rt, "int1 not", n, call, loop_time)?;
-    let call = best(rt, || bool1(alloc, config, Unary::Not, flags))?;
+    let call = best(rt, || bool1(rt, alloc, config, Unary::Not, flags))?;
     let loop_time = best(rt, || plain::opposites(alloc, flags))?;
     print_times(rt, "bool1 not", n, call, loop_time)?;
-    let call = best(rt, || int_from_bool(alloc, config, flags))?;
+    let call = best(rt, || int_from_bool(rt, alloc, config, flags))?;
     let loop_time = best(rt, || plain::ints(alloc, flags))?;
     print_times(rt, "int_from_bool", n, call, loop_time)?;
     let call = best(rt, || bool_from_int(rt, alloc, config, a))?;

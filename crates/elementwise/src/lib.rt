@@ -18,6 +18,3 @@ mod truths;
 pub use bools::{bool_from_int, bool1, bool2, compare};
 pub use choice::select;
 pub use ints::{int_from_bool, int1, int2};
-
-#[cfg(test)]
-mod tests;

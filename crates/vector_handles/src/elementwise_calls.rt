@@ -30,11 +30,16 @@ impl<A: Memory> Session<A> {
     }
 
     /// An operator on an integer vector.
-    pub(crate) fn value_of_ints1(&self, operator: Unary, args: &[Arg]) -> Result<Value<A>, Refused>
+    pub(crate) fn value_of_ints1<R: Threads + Sync>(
+        &self,
+        rt: &R,
+        operator: Unary,
+        args: &[Arg],
+    ) -> Result<Value<A>, Refused>
         ensures { Gives (λ v. v) result (table_value self.now.inputs (op.Ints1 operator) (argument_at self.now.names args.now)) }
     {
         let a = integers_at(&self.names, args, 0);
-        let values = int1(self.alloc, self.config, operator, a)?;
+        let values = int1(rt, self.alloc, self.config, operator, a)?;
         Ok(Value::Integers(Ints::from_vec(values)))
     }
 
@@ -69,11 +74,16 @@ impl<A: Memory> Session<A> {
     }
 
     /// An operator on a boolean vector.
-    pub(crate) fn value_of_bools1(&self, operator: Unary, args: &[Arg]) -> Result<Value<A>, Refused>
+    pub(crate) fn value_of_bools1<R: Threads + Sync>(
+        &self,
+        rt: &R,
+        operator: Unary,
+        args: &[Arg],
+    ) -> Result<Value<A>, Refused>
         ensures { Gives (λ v. v) result (table_value self.now.inputs (op.Bools1 operator) (argument_at self.now.names args.now)) }
     {
         let a = booleans_at(&self.names, args, 0);
-        let values = bool1(self.alloc, self.config, operator, a)?;
+        let values = bool1(rt, self.alloc, self.config, operator, a)?;
         Ok(Value::Booleans(Bools::from_vec(values)))
     }
 
@@ -104,11 +114,15 @@ impl<A: Memory> Session<A> {
     }
 
     /// The integers 1 and 0 for the booleans of a vector.
-    pub(crate) fn value_of_int_from_bool(&self, args: &[Arg]) -> Result<Value<A>, Refused>
+    pub(crate) fn value_of_int_from_bool<R: Threads + Sync>(
+        &self,
+        rt: &R,
+        args: &[Arg],
+    ) -> Result<Value<A>, Refused>
         ensures { Gives (λ v. v) result (table_value self.now.inputs op.IntFromBool (argument_at self.now.names args.now)) }
     {
         let a = booleans_at(&self.names, args, 0);
-        let values = int_from_bool(self.alloc, self.config, a)?;
+        let values = int_from_bool(rt, self.alloc, self.config, a)?;
         Ok(Value::Integers(Ints::from_vec(values)))
     }
 

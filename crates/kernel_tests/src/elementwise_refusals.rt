@@ -1,5 +1,5 @@
-//! Each request for memory of each shape of elementwise call refused in turn. The one request of a call is that of its
-//! result. Several threads write it, except for quotients and their like and for most calls on one vector.
+//! Each request for memory of each shape of elementwise call refused in turn, on vectors so long that calls fork. The
+//! one request of a call is that of its result.
 
 use cvl_base::limits::MOST_ELEMENTS;
 use cvl_base::{BoolBinary, Comparison, Config, IntBinary, Memory, NoResources, Refused, Unary};
@@ -9,8 +9,8 @@ use std::process::Abort;
 use std::test::Fail;
 use std::thread::Threads;
 
-/// How long the vectors are: so long that calls fork.
-const LENGTH: usize = 3_145_728;
+/// As many elements as a vector may have, so that each call that can fork forks.
+const LENGTH: usize = MOST_ELEMENTS;
 
 /// The last element of the result, and how long it is.
 fn last_of<T: Copy, A: Memory>(values: &Vec<T, A>) -> (usize, Option<T>) {
@@ -82,7 +82,7 @@ fn operators_on_booleans(rt: HostRuntime) -> Result<(), Fail> {
     assert_eq!(rt; requests, 1);
     let requests = withstands_refusals(
         rt.alloc(),
-        |heap| Ok(last_of(&bool1(heap, config, Unary::Not, &flags)?)),
+        |heap| Ok(last_of(&bool1(&rt, heap, config, Unary::Not, &flags)?)),
         Ok((LENGTH, Some(false))),
         Err(NoResources),
     )?;
@@ -98,7 +98,7 @@ fn calls_on_one_vector(rt: HostRuntime) -> Result<(), Fail> {
     for (op, value) in [(Unary::Not, -4), (Unary::Copy, 3)] {
         let requests = withstands_refusals(
             rt.alloc(),
-            |heap| Ok(last_of(&int1(heap, config, op, &a)?)),
+            |heap| Ok(last_of(&int1(&rt, heap, config, op, &a)?)),
             Ok((LENGTH, Some(value))),
             Err(NoResources),
         )?;
@@ -106,7 +106,7 @@ fn calls_on_one_vector(rt: HostRuntime) -> Result<(), Fail> {
     }
     let requests = withstands_refusals(
         rt.alloc(),
-        |heap| Ok(last_of(&int_from_bool(heap, config, &flags)?)),
+        |heap| Ok(last_of(&int_from_bool(&rt, heap, config, &flags)?)),
         Ok((LENGTH, Some(1))),
         Err(NoResources),
     )?;
