@@ -4,13 +4,14 @@ ghost use Rattle.std.specs.Prelude.{◌≡◌, IfOk, length, vec_len};
 ghost use Rattle.cvl_base.specs.Elementwise.{bools_from_ints, bools1_of, bools2_of, compare_of};
 ghost use Rattle.cvl_base.specs.Gives.{Gives};
 
-use crate::chunks::{FORKED, FORKED_BOOLEANS, FORKED_NEGATIONS};
+use crate::chunks::{FORKED, FORKED_BOOLEANS};
 use crate::comparisons::{AtLeast, AtMost, Equal, Greater, Less, Unequal};
 use crate::lengths::as_long;
 use crate::on_each::values_on_each;
 use crate::on_pairs::values_on_pairs;
 use crate::singles::{BoolOfInt, NotBool};
 use crate::truths::{Both, Differ, Either};
+use crate::two_parts::values_in_two_parts;
 use cvl_base::{BoolBinary, Comparison, Config, Memory, NoResources, Refused, Unary};
 use std::thread::Threads;
 
@@ -31,12 +32,22 @@ pub fn compare<R: Threads + Sync, A: Memory>(
 {
     as_long(a, b)?;
     let truths = match op {
-        Comparison::Greater => values_on_pairs::<Greater, i32, i32, bool, R, A>(rt, alloc, FORKED, a, b)?,
+        Comparison::Greater => values_on_pairs::<Greater, i32, i32, bool, R, A>(
+            rt, alloc, FORKED, a, b,
+        )?,
         Comparison::Less => values_on_pairs::<Less, i32, i32, bool, R, A>(rt, alloc, FORKED, a, b)?,
-        Comparison::AtLeast => values_on_pairs::<AtLeast, i32, i32, bool, R, A>(rt, alloc, FORKED, a, b)?,
-        Comparison::AtMost => values_on_pairs::<AtMost, i32, i32, bool, R, A>(rt, alloc, FORKED, a, b)?,
-        Comparison::Equal => values_on_pairs::<Equal, i32, i32, bool, R, A>(rt, alloc, FORKED, a, b)?,
-        Comparison::Unequal => values_on_pairs::<Unequal, i32, i32, bool, R, A>(rt, alloc, FORKED, a, b)?,
+        Comparison::AtLeast => values_on_pairs::<AtLeast, i32, i32, bool, R, A>(
+            rt, alloc, FORKED, a, b,
+        )?,
+        Comparison::AtMost => values_on_pairs::<AtMost, i32, i32, bool, R, A>(
+            rt, alloc, FORKED, a, b,
+        )?,
+        Comparison::Equal => values_on_pairs::<Equal, i32, i32, bool, R, A>(
+            rt, alloc, FORKED, a, b,
+        )?,
+        Comparison::Unequal => values_on_pairs::<Unequal, i32, i32, bool, R, A>(
+            rt, alloc, FORKED, a, b,
+        )?,
     };
     Ok(truths)
 }
@@ -58,9 +69,27 @@ pub fn bool2<R: Threads + Sync, A: Memory>(
 {
     as_long(a, b)?;
     let truths = match op {
-        BoolBinary::And => values_on_pairs::<Both, bool, bool, bool, R, A>(rt, alloc, FORKED_BOOLEANS, a, b)?,
-        BoolBinary::Ior => values_on_pairs::<Either, bool, bool, bool, R, A>(rt, alloc, FORKED_BOOLEANS, a, b)?,
-        BoolBinary::Xor => values_on_pairs::<Differ, bool, bool, bool, R, A>(rt, alloc, FORKED_BOOLEANS, a, b)?,
+        BoolBinary::And => values_on_pairs::<Both, bool, bool, bool, R, A>(
+            rt,
+            alloc,
+            FORKED_BOOLEANS,
+            a,
+            b,
+        )?,
+        BoolBinary::Ior => values_on_pairs::<Either, bool, bool, bool, R, A>(
+            rt,
+            alloc,
+            FORKED_BOOLEANS,
+            a,
+            b,
+        )?,
+        BoolBinary::Xor => values_on_pairs::<Differ, bool, bool, bool, R, A>(
+            rt,
+            alloc,
+            FORKED_BOOLEANS,
+            a,
+            b,
+        )?,
     };
     Ok(truths)
 }
@@ -79,7 +108,7 @@ pub fn bool1<R: Threads + Sync, A: Memory>(
     ensures as_long { IfOk result (λ v. vec_len v ≡ length a.now) }
 {
     match op {
-        Unary::Not => values_on_each::<NotBool, bool, bool, R, A>(rt, alloc, FORKED_NEGATIONS, a),
+        Unary::Not => values_in_two_parts::<NotBool, bool, bool, R, A>(rt, alloc, a),
         Unary::Copy => Ok(Vec::from_slice(alloc, a)?),
     }
 }
@@ -96,5 +125,5 @@ pub fn bool_from_int<R: Threads + Sync, A: Memory>(
     ensures values { IfOk result (λ v. v.items ≡ bools_from_ints a.now) }
     ensures as_long { IfOk result (λ v. vec_len v ≡ length a.now) }
 {
-    values_on_each::<BoolOfInt, i32, bool, R, A>(rt, alloc, FORKED, a)
+    values_on_each::<BoolOfInt, i32, bool, R, A>(rt, alloc, a)
 }

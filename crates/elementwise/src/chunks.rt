@@ -9,20 +9,11 @@ use cvl_base::{Memory, NoResources};
 const CHUNKS: usize = 3;
 
 /// From how many elements on several threads share a call that reads more bytes than it writes. Below it one thread is
-/// done before they would be, for it needn't fill the vector before it writes the values.
+/// done before they would be, since it need not fill the vector before it writes the values.
 pub(crate) const FORKED: usize = 1_048_576;
 
 /// From how many on they share a call on two vectors of booleans, which have a quarter of the bytes.
 pub(crate) const FORKED_BOOLEANS: usize = 3_145_728;
-
-/// From how many on they share `not_wuz`.
-pub(crate) const FORKED_COMPLEMENTS: usize = 3_145_728;
-
-/// From how many on they share `not_wub`.
-pub(crate) const FORKED_NEGATIONS: usize = 2_097_152;
-
-/// From how many on they share `int_wub`.
-pub(crate) const FORKED_CONVERSIONS: usize = 3_145_728;
 
 /// How many elements each thread writes of a result of so many; the last one may write fewer. None where one thread
 /// writes them all, since they are fewer than `forked`.

@@ -5,14 +5,14 @@ ghost use Rattle.cvl_base.specs.Elementwise.{ints_from_bools, ints1_of, ints2_of
 ghost use Rattle.cvl_base.specs.Gives.{Gives};
 ghost use Rattle.cvl_base.specs.Limits.{most_elements};
 
-use crate::chunks::{FORKED, FORKED_COMPLEMENTS, FORKED_CONVERSIONS};
+use crate::chunks::FORKED;
 use crate::lengths::as_long;
-use crate::on_each::values_on_each;
 use crate::on_pairs::values_on_pairs;
 use crate::on_pairs_or::values_on_pairs_or;
 use crate::partials::{Div, Lsh, Mod, Rsh};
 use crate::singles::{IntOfBool, NotInt};
 use crate::totals::{Add, And, Ior, Max, Min, Mul, Sub, Xor};
+use crate::two_parts::values_in_two_parts;
 use cvl_base::{Config, IntBinary, Memory, NoResources, Refused, Unary};
 use std::thread::Threads;
 
@@ -64,7 +64,7 @@ pub fn int1<R: Threads + Sync, A: Memory>(
     ensures as_long { IfOk result (λ v. vec_len v ≡ length a.now) }
 {
     match op {
-        Unary::Not => values_on_each::<NotInt, i32, i32, R, A>(rt, alloc, FORKED_COMPLEMENTS, a),
+        Unary::Not => values_in_two_parts::<NotInt, i32, i32, R, A>(rt, alloc, a),
         Unary::Copy => Ok(Vec::from_slice(alloc, a)?),
     }
 }
@@ -81,5 +81,5 @@ pub fn int_from_bool<R: Threads + Sync, A: Memory>(
     ensures values { IfOk result (λ v. v.items ≡ ints_from_bools a.now) }
     ensures as_long { IfOk result (λ v. vec_len v ≡ length a.now) }
 {
-    values_on_each::<IntOfBool, bool, i32, R, A>(rt, alloc, FORKED_CONVERSIONS, a)
+    values_in_two_parts::<IntOfBool, bool, i32, R, A>(rt, alloc, a)
 }

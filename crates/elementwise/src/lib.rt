@@ -14,6 +14,7 @@ mod partials;
 mod singles;
 mod totals;
 mod truths;
+mod two_parts;
 
 pub use bools::{bool_from_int, bool1, bool2, compare};
 pub use choice::select;

@@ -3,7 +3,7 @@
 ghost use Rattle.std.specs.Prelude.{◌≡◌, ◌+◌, ◌≤◌, IfOk, length, map, vec_len};
 ghost use Rattle.elementwise.specs.Standing.{StandFrom};
 
-use crate::chunks::{Shared, chunk_length};
+use crate::chunks::{FORKED, Shared, chunk_length};
 use cvl_base::{Memory, NoResources};
 use rayon::prelude::*;
 use std::thread::Threads;
@@ -16,19 +16,18 @@ pub(crate) trait Single<X, Z>: Send + Sync {
         ensures { result ≡ value a };
 }
 
-/// The operator's values on the elements. From `forked` elements on the result is cut into chunks, which several threads
-/// write into one vector.
+/// The operator's values on the elements. Long vectors are cut into chunks, which several threads write into one vector.
 pub(crate) fn values_on_each<
     O: Single<X, Z>,
     X: Copy + Send + Sync,
     Z: Shared,
     R: Threads + Sync,
     A: Memory,
->(rt: &R, alloc: A, forked: usize, a: &[X]) -> Result<Vec<Z, A>, NoResources>
+>(rt: &R, alloc: A, a: &[X]) -> Result<Vec<Z, A>, NoResources>
     ensures values { IfOk result (λ v. v.items ≡ map O.value a.now) }
     ensures as_long { IfOk result (λ v. vec_len v ≡ length a.now) }
 {
-    let Some(chunk_length) = chunk_length(a.len(), forked) else {
+    let Some(chunk_length) = chunk_length(a.len(), FORKED) else {
         return Ok(a.iter().map(|x| O::apply(*x)).collect(alloc)?);
     };
     let mut values = Z::fresh_like(alloc, a)?;
