@@ -16,28 +16,30 @@ use std::{env, io};
 /// How often a case is measured. The best time counts.
 const ROUNDS: usize = 40;
 
-/// The best time of several calls.
-fn best<R: Clock, T: Drop, F: FnMut() -> T>(rt: &R, mut call: F) -> io::Result<Duration>
-    requires { F.IsAlwaysCallable call }
-{
-    let mut best = Duration::MAX;
-    for _ in 0..ROUNDS {
-        let start = Instant::now(rt)?;
-        let _answer = call();
-        best = best.min(start.elapsed(rt)?);
-    }
-    Ok(best)
-}
-
-/// Prints a case's line.
-fn print_times<R: Print>(
+/// Measures a call and the plain loop in turn, and prints the best time of each.
+fn print_best<R: Print + Clock, T: Drop, U: Drop, F: FnMut() -> T, G: FnMut() -> U>(
     rt: &R,
     case: &str,
     length: usize,
-    call: Duration,
-    plain: Duration,
-) -> io::Result<()> {
-    let (call, plain) = (call.as_nanos(), plain.as_nanos());
+    mut call: F,
+    mut plain: G,
+) -> io::Result<()>
+    requires call { F.IsAlwaysCallable call }
+    requires plain { G.IsAlwaysCallable plain }
+{
+    let mut best = Duration::MAX;
+    let mut best_plain = Duration::MAX;
+    for _ in 0..ROUNDS {
+        {
+            let start = Instant::now(rt)?;
+            let _answer = call();
+            best = best.min(start.elapsed(rt)?);
+        }
+        let start = Instant::now(rt)?;
+        let _answer = plain();
+        best_plain = best_plain.min(start.elapsed(rt)?);
+    }
+    let (call, plain) = (best.as_nanos(), best_plain.as_nanos());
     println!(rt; "{case}, {length} elements: {call} ns, a plain loop {plain} ns")?;
     Ok(())
 }
@@ -68,24 +70,41 @@ fn measure_pairs<R: Print + Clock + Threads + Sync>(
     others: &[bool],
 ) -> io::Result<()> {
     let n = a.len();
-    let call = best(rt, || on_ints(rt, alloc, config, IntBinary::Add, a, b))?;
-    let loop_time = best(rt, || plain::sums(alloc, a, b))?;
-    print_times(rt, "int2 add", n, call, loop_time)?;
-    let call = best(rt, || on_ints(rt, alloc, config, IntBinary::Div, a, b))?;
-    let loop_time = best(rt, || plain::quotients(alloc, a, b))?;
-    print_times(rt, "int2 div", n, call, loop_time)?;
-    let call = best(rt, || compare(rt, alloc, config, Comparison::Greater, a, b))?;
-    let loop_time = best(rt, || plain::greater(alloc, a, b))?;
-    print_times(rt, "compare", n, call, loop_time)?;
-    let call = best(
+    print_best(
         rt,
-        || bool2(rt, alloc, config, BoolBinary::And, flags, others),
+        "int2 add",
+        n,
+        || on_ints(rt, alloc, config, IntBinary::Add, a, b),
+        || plain::sums(alloc, a, b),
     )?;
-    let loop_time = best(rt, || plain::both(alloc, flags, others))?;
-    print_times(rt, "bool2 and", n, call, loop_time)?;
-    let call = best(rt, || select(rt, alloc, config, flags, a, b))?;
-    let loop_time = best(rt, || plain::chosen(alloc, flags, a, b))?;
-    print_times(rt, "select", n, call, loop_time)
+    print_best(
+        rt,
+        "int2 div",
+        n,
+        || on_ints(rt, alloc, config, IntBinary::Div, a, b),
+        || plain::quotients(alloc, a, b),
+    )?;
+    print_best(
+        rt,
+        "compare",
+        n,
+        || compare(rt, alloc, config, Comparison::Greater, a, b),
+        || plain::greater(alloc, a, b),
+    )?;
+    print_best(
+        rt,
+        "bool2 and",
+        n,
+        || bool2(rt, alloc, config, BoolBinary::And, flags, others),
+        || plain::both(alloc, flags, others),
+    )?;
+    print_best(
+        rt,
+        "select",
+        n,
+        || select(rt, alloc, config, flags, a, b),
+        || plain::chosen(alloc, flags, a, b),
+    )
 }
 
 /// Measures the calls on one vector.
@@ -97,18 +116,34 @@ fn measure_singles<R: Print + Clock + Threads + Sync>(
     flags: &[bool],
 ) -> io::Result<()> {
     let n = a.len();
-    let call = best(rt, || int1(alloc, config, Unary::Not, a))?;
-    let loop_time = best(rt, || plain::turned(alloc, a))?;
-    print_times(rt, "int1 not", n, call, loop_time)?;
-    let call = best(rt, || bool1(alloc, config, Unary::Not, flags))?;
-    let loop_time = best(rt, || plain::opposites(alloc, flags))?;
-    print_times(rt, "bool1 not", n, call, loop_time)?;
-    let call = best(rt, || int_from_bool(alloc, config, flags))?;
-    let loop_time = best(rt, || plain::ints(alloc, flags))?;
-    print_times(rt, "int_from_bool", n, call, loop_time)?;
-    let call = best(rt, || bool_from_int(rt, alloc, config, a))?;
-    let loop_time = best(rt, || plain::bools(alloc, a))?;
-    print_times(rt, "bool_from_int", n, call, loop_time)
+    print_best(
+        rt,
+        "int1 not",
+        n,
+        || int1(rt, alloc, config, Unary::Not, a),
+        || plain::turned(alloc, a),
+    )?;
+    print_best(
+        rt,
+        "bool1 not",
+        n,
+        || bool1(rt, alloc, config, Unary::Not, flags),
+        || plain::opposites(alloc, flags),
+    )?;
+    print_best(
+        rt,
+        "int_from_bool",
+        n,
+        || int_from_bool(rt, alloc, config, flags),
+        || plain::ints(alloc, flags),
+    )?;
+    print_best(
+        rt,
+        "bool_from_int",
+        n,
+        || bool_from_int(rt, alloc, config, a),
+        || plain::bools(alloc, a),
+    )
 }
 
 /// Measures all calls on vectors of one length.
@@ -143,7 +178,7 @@ fn main(rt: HostRuntime) -> io::Result<()> {
         .is_some_and(|word| word.as_str() == "measure")
     {
         if let Ok(config) = Config::new(4096, 4) {
-            for length in [4_194_304, 3_145_728, 1_048_576, 65_536, 1_000] {
+            for length in [4_194_304, 3_145_728, 2_097_152, 1_048_576, 65_536, 1_000] {
                 measure(&rt, rt.alloc(), config, length)?;
             }
         }

@@ -44,7 +44,7 @@ pub fn chosen(alloc: Global, flags: &[bool], a: &[i32], b: &[i32]) -> Result<Vec
     Ok(values)
 }
 
-/// The bits turned round.
+/// Each bit inverted.
 pub fn turned(alloc: Global, a: &[i32]) -> Result<Vec<i32>, AllocError> {
     let values = a.iter().map(|x| !*x).collect(alloc)?;
     Ok(values)

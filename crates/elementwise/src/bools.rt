@@ -1,17 +1,17 @@
 //! The calls whose result is a boolean vector, but `select`.
 
-ghost use Rattle.std.specs.Prelude.{◌≡◌, IfOk, length, map, vec_len};
-ghost use Rattle.std.specs.List.{zip};
+ghost use Rattle.std.specs.Prelude.{◌≡◌, IfOk, length, vec_len};
 ghost use Rattle.cvl_base.specs.Elementwise.{bools_from_ints, bools1_of, bools2_of, compare_of};
 ghost use Rattle.cvl_base.specs.Gives.{Gives};
 
-use crate::chunks::FORKED_BOOLEANS;
+use crate::chunks::{FORKED, FORKED_BOOLEANS};
 use crate::comparisons::{AtLeast, AtMost, Equal, Greater, Less, Unequal};
 use crate::lengths::as_long;
-use crate::on_each::{each_by_one_thread, values_on_each};
-use crate::on_pairs::{Binary, pairs_by_one_thread, values_on_pairs};
+use crate::on_each::values_on_each;
+use crate::on_pairs::values_on_pairs;
 use crate::singles::{BoolOfInt, NotBool};
 use crate::truths::{Both, Differ, Either};
+use crate::two_parts::values_in_two_parts;
 use cvl_base::{BoolBinary, Comparison, Config, Memory, NoResources, Refused, Unary};
 use std::thread::Threads;
 
@@ -32,12 +32,22 @@ pub fn compare<R: Threads + Sync, A: Memory>(
 {
     as_long(a, b)?;
     let truths = match op {
-        Comparison::Greater => values_on_pairs::<Greater, i32, i32, bool, R, A>(rt, alloc, a, b)?,
-        Comparison::Less => values_on_pairs::<Less, i32, i32, bool, R, A>(rt, alloc, a, b)?,
-        Comparison::AtLeast => values_on_pairs::<AtLeast, i32, i32, bool, R, A>(rt, alloc, a, b)?,
-        Comparison::AtMost => values_on_pairs::<AtMost, i32, i32, bool, R, A>(rt, alloc, a, b)?,
-        Comparison::Equal => values_on_pairs::<Equal, i32, i32, bool, R, A>(rt, alloc, a, b)?,
-        Comparison::Unequal => values_on_pairs::<Unequal, i32, i32, bool, R, A>(rt, alloc, a, b)?,
+        Comparison::Greater => values_on_pairs::<Greater, i32, i32, bool, R, A>(
+            rt, alloc, FORKED, a, b,
+        )?,
+        Comparison::Less => values_on_pairs::<Less, i32, i32, bool, R, A>(rt, alloc, FORKED, a, b)?,
+        Comparison::AtLeast => values_on_pairs::<AtLeast, i32, i32, bool, R, A>(
+            rt, alloc, FORKED, a, b,
+        )?,
+        Comparison::AtMost => values_on_pairs::<AtMost, i32, i32, bool, R, A>(
+            rt, alloc, FORKED, a, b,
+        )?,
+        Comparison::Equal => values_on_pairs::<Equal, i32, i32, bool, R, A>(
+            rt, alloc, FORKED, a, b,
+        )?,
+        Comparison::Unequal => values_on_pairs::<Unequal, i32, i32, bool, R, A>(
+            rt, alloc, FORKED, a, b,
+        )?,
     };
     Ok(truths)
 }
@@ -59,35 +69,36 @@ pub fn bool2<R: Threads + Sync, A: Memory>(
 {
     as_long(a, b)?;
     let truths = match op {
-        BoolBinary::And => truths_on_pairs::<Both, R, A>(rt, alloc, a, b)?,
-        BoolBinary::Ior => truths_on_pairs::<Either, R, A>(rt, alloc, a, b)?,
-        BoolBinary::Xor => truths_on_pairs::<Differ, R, A>(rt, alloc, a, b)?,
+        BoolBinary::And => values_on_pairs::<Both, bool, bool, bool, R, A>(
+            rt,
+            alloc,
+            FORKED_BOOLEANS,
+            a,
+            b,
+        )?,
+        BoolBinary::Ior => values_on_pairs::<Either, bool, bool, bool, R, A>(
+            rt,
+            alloc,
+            FORKED_BOOLEANS,
+            a,
+            b,
+        )?,
+        BoolBinary::Xor => values_on_pairs::<Differ, bool, bool, bool, R, A>(
+            rt,
+            alloc,
+            FORKED_BOOLEANS,
+            a,
+            b,
+        )?,
     };
     Ok(truths)
-}
-
-/// The operator's values on the pairs of two equally long vectors. Booleans have few bytes, so that only longer vectors
-/// of them than of integers pay for threads.
-fn truths_on_pairs<O: Binary<bool, bool, bool>, R: Threads + Sync, A: Memory>(
-    rt: &R,
-    alloc: A,
-    a: &[bool],
-    b: &[bool],
-) -> Result<Vec<bool, A>, NoResources>
-    requires as_long { length a.now ≡ length b.now }
-    ensures values { IfOk result (λ v. v.items ≡ map (λ p. O.value p.0 p.1) (zip a.now b.now)) }
-    ensures as_long { IfOk result (λ v. vec_len v ≡ length a.now) }
-{
-    if a.len() < FORKED_BOOLEANS {
-        return pairs_by_one_thread::<O, bool, bool, bool, A>(alloc, a, b);
-    }
-    values_on_pairs::<O, bool, bool, bool, R, A>(rt, alloc, a, b)
 }
 
 /// The operator on each boolean: `not_wub` and `cpy_wub`.
 ///
 /// The result is as long as `a`. There is no fault. Source: CVL's elementwise calls.
-pub fn bool1<A: Memory>(
+pub fn bool1<R: Threads + Sync, A: Memory>(
+    rt: &R,
     alloc: A,
     _config: Config,
     op: Unary,
@@ -97,7 +108,7 @@ pub fn bool1<A: Memory>(
     ensures as_long { IfOk result (λ v. vec_len v ≡ length a.now) }
 {
     match op {
-        Unary::Not => each_by_one_thread::<NotBool, bool, bool, A>(alloc, a),
+        Unary::Not => values_in_two_parts::<NotBool, bool, bool, R, A>(rt, alloc, a),
         Unary::Copy => Ok(Vec::from_slice(alloc, a)?),
     }
 }

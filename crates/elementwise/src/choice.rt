@@ -6,7 +6,7 @@ ghost use Rattle.cvl_base.specs.Elementwise.{choose_of, chosen};
 ghost use Rattle.cvl_base.specs.Gives.{Gives};
 ghost use Rattle.elementwise.specs.Standing.{StandFrom};
 
-use crate::chunks::{chunk_length, filled_like};
+use crate::chunks::{FORKED, chunk_length, filled_like};
 use crate::lengths::as_long;
 use cvl_base::{Config, Memory, NoResources, Refused};
 use rayon::prelude::*;
@@ -46,7 +46,7 @@ fn values_chosen<T: Copy + Send + Sync, R: Threads + Sync, A: Memory>(
     ensures values { IfOk result (λ v. v.items ≡ map (λ p. chosen p.0 p.1) (zip flags.now (zip a.now b.now))) }
     ensures as_long { IfOk result (λ v. vec_len v ≡ length flags.now) }
 {
-    let Some(chunk_length) = chunk_length(rt, flags.len()) else {
+    let Some(chunk_length) = chunk_length(flags.len(), FORKED) else {
         return Ok(
             flags
                 .iter()

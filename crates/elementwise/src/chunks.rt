@@ -3,33 +3,28 @@
 ghost use Rattle.std.specs.Prelude.{◌≡◌, ◌<◌, IfOk, IfSome, length, vec_len};
 
 use cvl_base::{Memory, NoResources};
-use rayon::current_num_threads;
-use std::thread::Threads;
 
-/// Into how many chunks a shared call's result is cut at most: few, since a thread is started for each but one. On four
+/// Into how many chunks a shared call's result is cut: few, since a thread is started for each but one. On four
 /// processors three chunks took about as long as four, and less for two vectors of booleans.
-const MOST_CHUNKS: usize = 3;
+const CHUNKS: usize = 3;
 
-/// From how many elements on several threads share a call. Below it one thread is done before they would be, for it
-/// needn't fill the vector before it writes the values. The tests of long vectors and of refused growths go past it.
-const FORKED: usize = 1_048_576;
+/// From how many elements on several threads share a call that reads more bytes than it writes. Below it one thread is
+/// done before they would be, since it need not fill the vector before it writes the values.
+pub(crate) const FORKED: usize = 1_048_576;
 
 /// From how many on they share a call on two vectors of booleans, which have a quarter of the bytes.
 pub(crate) const FORKED_BOOLEANS: usize = 3_145_728;
 
 /// How many elements each thread writes of a result of so many; the last one may write fewer. None where one thread
-/// writes them all, since they are few or since there is one processor.
-pub(crate) fn chunk_length<R: Threads>(rt: &R, elements: usize) -> Option<usize>
+/// writes them all, since they are fewer than `forked`.
+pub(crate) fn chunk_length(elements: usize, forked: usize) -> Option<usize>
     ensures { IfSome result (λ chunk. (0 < chunk) × (0 < elements)) }
 {
-    if elements < FORKED {
-        return None;
+    if elements < forked.max(1) {
+        None
+    } else {
+        Some(elements.div_ceil(CHUNKS))
     }
-    let threads = current_num_threads(rt).min(MOST_CHUNKS);
-    if threads == 1 {
-        return None;
-    }
-    Some(elements.div_ceil(threads))
 }
 
 /// A vector of one value, as long as `a`, to be written over.

@@ -5,13 +5,14 @@ ghost use Rattle.cvl_base.specs.Elementwise.{ints_from_bools, ints1_of, ints2_of
 ghost use Rattle.cvl_base.specs.Gives.{Gives};
 ghost use Rattle.cvl_base.specs.Limits.{most_elements};
 
+use crate::chunks::FORKED;
 use crate::lengths::as_long;
-use crate::on_each::each_by_one_thread;
 use crate::on_pairs::values_on_pairs;
 use crate::on_pairs_or::values_on_pairs_or;
 use crate::partials::{Div, Lsh, Mod, Rsh};
 use crate::singles::{IntOfBool, NotInt};
 use crate::totals::{Add, And, Ior, Max, Min, Mul, Sub, Xor};
+use crate::two_parts::values_in_two_parts;
 use cvl_base::{Config, IntBinary, Memory, NoResources, Refused, Unary};
 use std::thread::Threads;
 
@@ -34,25 +35,26 @@ pub fn int2<R: Threads + Sync, A: Memory>(
 {
     as_long(a, b)?;
     match op {
-        IntBinary::Add => Ok(values_on_pairs::<Add, i32, i32, i32, R, A>(rt, alloc, a, b)?),
-        IntBinary::Sub => Ok(values_on_pairs::<Sub, i32, i32, i32, R, A>(rt, alloc, a, b)?),
-        IntBinary::Mul => Ok(values_on_pairs::<Mul, i32, i32, i32, R, A>(rt, alloc, a, b)?),
+        IntBinary::Add => Ok(values_on_pairs::<Add, i32, i32, i32, R, A>(rt, alloc, FORKED, a, b)?),
+        IntBinary::Sub => Ok(values_on_pairs::<Sub, i32, i32, i32, R, A>(rt, alloc, FORKED, a, b)?),
+        IntBinary::Mul => Ok(values_on_pairs::<Mul, i32, i32, i32, R, A>(rt, alloc, FORKED, a, b)?),
         IntBinary::Div => values_on_pairs_or::<Div, A>(alloc, a, b),
         IntBinary::Mod => values_on_pairs_or::<Mod, A>(alloc, a, b),
-        IntBinary::Min => Ok(values_on_pairs::<Min, i32, i32, i32, R, A>(rt, alloc, a, b)?),
-        IntBinary::Max => Ok(values_on_pairs::<Max, i32, i32, i32, R, A>(rt, alloc, a, b)?),
+        IntBinary::Min => Ok(values_on_pairs::<Min, i32, i32, i32, R, A>(rt, alloc, FORKED, a, b)?),
+        IntBinary::Max => Ok(values_on_pairs::<Max, i32, i32, i32, R, A>(rt, alloc, FORKED, a, b)?),
         IntBinary::Lsh => values_on_pairs_or::<Lsh, A>(alloc, a, b),
         IntBinary::Rsh => values_on_pairs_or::<Rsh, A>(alloc, a, b),
-        IntBinary::And => Ok(values_on_pairs::<And, i32, i32, i32, R, A>(rt, alloc, a, b)?),
-        IntBinary::Ior => Ok(values_on_pairs::<Ior, i32, i32, i32, R, A>(rt, alloc, a, b)?),
-        IntBinary::Xor => Ok(values_on_pairs::<Xor, i32, i32, i32, R, A>(rt, alloc, a, b)?),
+        IntBinary::And => Ok(values_on_pairs::<And, i32, i32, i32, R, A>(rt, alloc, FORKED, a, b)?),
+        IntBinary::Ior => Ok(values_on_pairs::<Ior, i32, i32, i32, R, A>(rt, alloc, FORKED, a, b)?),
+        IntBinary::Xor => Ok(values_on_pairs::<Xor, i32, i32, i32, R, A>(rt, alloc, FORKED, a, b)?),
     }
 }
 
 /// The operator on each element: `not_wuz` and `cpy_wuz`.
 ///
 /// The result is as long as `a`. There is no fault. Source: CVL's elementwise calls.
-pub fn int1<A: Memory>(
+pub fn int1<R: Threads + Sync, A: Memory>(
+    rt: &R,
     alloc: A,
     _config: Config,
     op: Unary,
@@ -62,7 +64,7 @@ pub fn int1<A: Memory>(
     ensures as_long { IfOk result (λ v. vec_len v ≡ length a.now) }
 {
     match op {
-        Unary::Not => each_by_one_thread::<NotInt, i32, i32, A>(alloc, a),
+        Unary::Not => values_in_two_parts::<NotInt, i32, i32, R, A>(rt, alloc, a),
         Unary::Copy => Ok(Vec::from_slice(alloc, a)?),
     }
 }
@@ -70,7 +72,8 @@ pub fn int1<A: Memory>(
 /// 1 at each place where the boolean is true, and 0 where it is false: `int_wub`.
 ///
 /// The result is as long as `a`. There is no fault. Source: CVL's conversions.
-pub fn int_from_bool<A: Memory>(
+pub fn int_from_bool<R: Threads + Sync, A: Memory>(
+    rt: &R,
     alloc: A,
     _config: Config,
     a: &[bool],
@@ -78,5 +81,5 @@ pub fn int_from_bool<A: Memory>(
     ensures values { IfOk result (λ v. v.items ≡ ints_from_bools a.now) }
     ensures as_long { IfOk result (λ v. vec_len v ≡ length a.now) }
 {
-    each_by_one_thread::<IntOfBool, bool, i32, A>(alloc, a)
+    values_in_two_parts::<IntOfBool, bool, i32, R, A>(rt, alloc, a)
 }

@@ -14,10 +14,8 @@ mod partials;
 mod singles;
 mod totals;
 mod truths;
+mod two_parts;
 
 pub use bools::{bool_from_int, bool1, bool2, compare};
 pub use choice::select;
 pub use ints::{int_from_bool, int1, int2};
-
-#[cfg(test)]
-mod tests;

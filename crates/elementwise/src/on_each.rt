@@ -3,7 +3,7 @@
 ghost use Rattle.std.specs.Prelude.{◌≡◌, ◌+◌, ◌≤◌, IfOk, length, map, vec_len};
 ghost use Rattle.elementwise.specs.Standing.{StandFrom};
 
-use crate::chunks::{Shared, chunk_length};
+use crate::chunks::{FORKED, Shared, chunk_length};
 use cvl_base::{Memory, NoResources};
 use rayon::prelude::*;
 use std::thread::Threads;
@@ -14,21 +14,6 @@ pub(crate) trait Single<X, Z>: Send + Sync {
 
     fn apply(a: X) -> Z
         ensures { result ≡ value a };
-}
-
-/// The operator's values on the elements, by one thread.
-///
-/// Calls whose result has as many bytes as the vector, or more, take this at any length. Several threads would have to
-/// wait until one had filled the fresh vector, for only then may they share it, and that takes about half of the time of
-/// this walk, or more.
-pub(crate) fn each_by_one_thread<O: Single<X, Z>, X: Copy, Z: Copy, A: Memory>(
-    alloc: A,
-    a: &[X],
-) -> Result<Vec<Z, A>, NoResources>
-    ensures values { IfOk result (λ v. v.items ≡ map O.value a.now) }
-    ensures as_long { IfOk result (λ v. vec_len v ≡ length a.now) }
-{
-    Ok(a.iter().map(|x| O::apply(*x)).collect(alloc)?)
 }
 
 /// The operator's values on the elements. Long vectors are cut into chunks, which several threads write into one vector.
@@ -42,8 +27,8 @@ pub(crate) fn values_on_each<
     ensures values { IfOk result (λ v. v.items ≡ map O.value a.now) }
     ensures as_long { IfOk result (λ v. vec_len v ≡ length a.now) }
 {
-    let Some(chunk_length) = chunk_length(rt, a.len()) else {
-        return each_by_one_thread::<O, X, Z, A>(alloc, a);
+    let Some(chunk_length) = chunk_length(a.len(), FORKED) else {
+        return Ok(a.iter().map(|x| O::apply(*x)).collect(alloc)?);
     };
     let mut values = Z::fresh_like(alloc, a)?;
     par_chunks_mut_for_each(

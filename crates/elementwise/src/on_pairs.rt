@@ -17,26 +17,8 @@ pub(crate) trait Binary<X, Y, Z>: Send + Sync {
         ensures { result ≡ value a b };
 }
 
-/// The operator's values on the pairs of elements of two equally long vectors, by one thread.
-pub(crate) fn pairs_by_one_thread<O: Binary<X, Y, Z>, X: Copy, Y: Copy, Z: Copy, A: Memory>(
-    alloc: A,
-    a: &[X],
-    b: &[Y],
-) -> Result<Vec<Z, A>, NoResources>
-    requires as_long { length a.now ≡ length b.now }
-    ensures values { IfOk result (λ v. v.items ≡ map (λ p. O.value p.0 p.1) (zip a.now b.now)) }
-    ensures as_long { IfOk result (λ v. vec_len v ≡ length a.now) }
-{
-    Ok(
-        a.iter()
-            .zip(b)
-            .map(|(x, y)| O::apply(*x, *y))
-            .collect(alloc)?,
-    )
-}
-
-/// The operator's values on the pairs of elements of two equally long vectors. Long vectors are cut into chunks, which
-/// several threads write into one vector.
+/// The operator's values on the pairs of elements of two equally long vectors. From `forked` elements on the result is
+/// cut into chunks, which several threads write into one vector.
 pub(crate) fn values_on_pairs<
     O: Binary<X, Y, Z>,
     X: Copy + Send + Sync,
@@ -44,13 +26,18 @@ pub(crate) fn values_on_pairs<
     Z: Shared,
     R: Threads + Sync,
     A: Memory,
->(rt: &R, alloc: A, a: &[X], b: &[Y]) -> Result<Vec<Z, A>, NoResources>
+>(rt: &R, alloc: A, forked: usize, a: &[X], b: &[Y]) -> Result<Vec<Z, A>, NoResources>
     requires as_long { length a.now ≡ length b.now }
     ensures values { IfOk result (λ v. v.items ≡ map (λ p. O.value p.0 p.1) (zip a.now b.now)) }
     ensures as_long { IfOk result (λ v. vec_len v ≡ length a.now) }
 {
-    let Some(chunk_length) = chunk_length(rt, a.len()) else {
-        return pairs_by_one_thread::<O, X, Y, Z, A>(alloc, a, b);
+    let Some(chunk_length) = chunk_length(a.len(), forked) else {
+        return Ok(
+            a.iter()
+                .zip(b)
+                .map(|(x, y)| O::apply(*x, *y))
+                .collect(alloc)?,
+        );
     };
     let mut values = Z::fresh_like(alloc, a)?;
     par_chunks_mut_for_each(

@@ -7,7 +7,7 @@ ghost use Rattle.cvl_base.specs.Integers.{not_of};
 use crate::on_each::Single;
 use cvl_base::{boolean, integer};
 
-/// Each of the 32 bits turned round.
+/// Each of the 32 bits inverted.
 pub(crate) struct NotInt;
 
 impl Single<i32, i32> for NotInt {

@@ -27,11 +27,16 @@ impl<A: Memory> Session<A> {
     }
 
     /// An operator on an integer vector.
-    pub(crate) fn value_of_ints1(&self, operator: Unary, args: &[Arg]) -> Result<Bound<A>, Refused>
+    pub(crate) fn value_of_ints1<R: Threads + Sync>(
+        &self,
+        rt: &R,
+        operator: Unary,
+        args: &[Arg],
+    ) -> Result<Bound<A>, Refused>
         ensures { IsTableValue self.now (op.Ints1 operator) args.now result }
     {
         let a = integers_at(&self.names, args, 0);
-        let values = int1(self.alloc, self.config, operator, a)?;
+        let values = int1(rt, self.alloc, self.config, operator, a)?;
         Ok(Bound::from_integers(values))
     }
 
@@ -66,11 +71,16 @@ impl<A: Memory> Session<A> {
     }
 
     /// An operator on a boolean vector.
-    pub(crate) fn value_of_bools1(&self, operator: Unary, args: &[Arg]) -> Result<Bound<A>, Refused>
+    pub(crate) fn value_of_bools1<R: Threads + Sync>(
+        &self,
+        rt: &R,
+        operator: Unary,
+        args: &[Arg],
+    ) -> Result<Bound<A>, Refused>
         ensures { IsTableValue self.now (op.Bools1 operator) args.now result }
     {
         let a = booleans_at(&self.names, args, 0);
-        let values = bool1(self.alloc, self.config, operator, a)?;
+        let values = bool1(rt, self.alloc, self.config, operator, a)?;
         Ok(Bound::from_booleans(values))
     }
 
@@ -101,11 +111,15 @@ impl<A: Memory> Session<A> {
     }
 
     /// The integers 1 and 0 for the booleans of a vector.
-    pub(crate) fn value_of_int_from_bool(&self, args: &[Arg]) -> Result<Bound<A>, Refused>
+    pub(crate) fn value_of_int_from_bool<R: Threads + Sync>(
+        &self,
+        rt: &R,
+        args: &[Arg],
+    ) -> Result<Bound<A>, Refused>
         ensures { IsTableValue self.now op.IntFromBool args.now result }
     {
         let a = booleans_at(&self.names, args, 0);
-        let values = int_from_bool(self.alloc, self.config, a)?;
+        let values = int_from_bool(rt, self.alloc, self.config, a)?;
         Ok(Bound::from_integers(values))
     }
 

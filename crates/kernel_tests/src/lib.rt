@@ -1,0 +1,9 @@
+//! Tests of the public calls of the kernels: values worked out by hand, long vectors, and refused memory.
+#![tactic(auto)]
+
+#[cfg(test)]
+mod elementwise_long;
+#[cfg(test)]
+mod elementwise_refusals;
+#[cfg(test)]
+mod elementwise_values;
