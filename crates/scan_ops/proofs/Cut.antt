@@ -66,7 +66,7 @@ module _ {Item : Type 0} where
       ap (λ j. drop j (with_starts (n ∷ ls) xs)) (sym split)
       ∙ cut_later n m ls xs (omega (arith, split))
       ∙ run_cut ls (drop n xs) m k (suc first) (omega arith) (omega (arith, split, length-drop n xs)) (omega (arith, is, split, sum-cons n (take (suc first) ls)))
-          (λ s lt. omega (arith, earlier (suc s) (omega arith), split, sum-cons n (take s ls)))
+      (λ s lt. omega (arith, earlier (suc s) (omega arith), split, sum-cons n (take s ls)))
       ∙ ap (λ ys. continued (take k ys) ++ with_starts (drop (suc first) ls) (drop k ys)) (drop-drop m n xs)
       ∙ ap (λ j. continued (take k (drop j xs)) ++ with_starts (drop (suc first) ls) (drop k (drop j xs))) split
 
@@ -104,8 +104,8 @@ module _ {Item : Type 0} {is_item : Item → Bool} {unit : Item} {join : Item �
   segments_scanned [] xs before items = refl
   segments_scanned (n ∷ ls) xs before items =
       segment_scanned before (take n xs) (with_starts ls (drop n xs)) (scans_of join unit ls (drop n xs))
-          (All-take (λ x. is_item x ≡ true) n xs items)
-          (λ b. segments_scanned ls (drop n xs) b (All-drop (λ x. is_item x ≡ true) n xs items))
+      (All-take (λ x. is_item x ≡ true) n xs items)
+      (λ b. segments_scanned ls (drop n xs) b (All-drop (λ x. is_item x ≡ true) n xs items))
 
   -- what a walk over the run gives, where `rest` are the run's elements
   pub run_scanned : (lengths : List ℕ) (xs rest : List Item) (before : Item) (from m k first : ℕ) → first ≤ length lengths → from + m ≤ length xs
@@ -117,8 +117,8 @@ module _ {Item : Type 0} {is_item : Item → Bool} {unit : Item} {join : Item �
       ap (run_scan_of join unit before) (parts ∙ ap (λ ys. continued (take k ys) ++ with_starts (drop first lengths) (drop k ys)) same)
       ∙ continued_scanned join unit before (take k rest) (with_starts (drop first lengths) (drop k rest))
       ∙ ap (λ sums. scan_of join before (take k rest) ++ sums)
-          (segments_scanned (drop first lengths) (drop k rest) (fold_of join before (take k rest))
-          (All-drop (λ x. is_item x ≡ true) k rest (subst (AllPass is_item) (sym is_rest) (All-take (λ x. is_item x ≡ true) m (drop from xs) (All-drop (λ x. is_item x ≡ true) from xs items)))))
+      (segments_scanned (drop first lengths) (drop k rest) (fold_of join before (take k rest))
+      (All-drop (λ x. is_item x ≡ true) k rest (subst (AllPass is_item) (sym is_rest) (All-take (λ x. is_item x ≡ true) m (drop from xs) (All-drop (λ x. is_item x ≡ true) from xs items)))))
 
   -- the whole vector is a run
   pub whole_scanned : (lengths : List ℕ) (xs : List Item) (before : Item) → AllPass is_item xs → run_scan_of join unit before (run_of lengths xs 0 (length xs)) ≡ scans_of join unit lengths xs

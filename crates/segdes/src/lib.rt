@@ -9,6 +9,3 @@ pub mod descriptor;
 mod starts;
 
 pub use descriptor::SegDes;
-
-#[cfg(test)]
-mod tests;

@@ -24,7 +24,7 @@ returns g c =
     let cut : c.min.result ≡ min c.start_or_total-start.result c.args.to = c.min.ensures in
     c.push_scans.ensures
     ∙ ap (λ sums. sums ++ scans_of m.join m.unit (drop c.starts_before-first.result c.args.d.now) c.split_at.result.1.now)
-        (c.push_scan_from.ensures.values ∙ ap (λ sums. sums ++ scan_of m.join c.args.before c.split_at.result.0.now) c.in_ok-sums.ensures.items)
+    (c.push_scan_from.ensures.values ∙ ap (λ sums. sums ++ scan_of m.join c.args.before c.split_at.result.0.now) c.in_ok-sums.ensures.items)
     ∙ sym (run_walked c.know_laws.ensures c.args.d.now c.args.a.now rest _ _ c.args.before c.args.from c.args.to c.starts_before-first.result c.start_or_total-start.result (c.min.result - c.args.from)
-        c.requires.total c.requires.in_order c.requires.within starts.in_count starts.before starts.others c.requires.items refl c.start_or_total-start.ensures.value (ap (λ n. n - c.args.from) cut)
-        c.split_at.ensures.front c.split_at.ensures.back)
+    c.requires.total c.requires.in_order c.requires.within starts.in_count starts.before starts.others c.requires.items refl c.start_or_total-start.ensures.value (ap (λ n. n - c.args.from) cut)
+    c.split_at.ensures.front c.split_at.ensures.back)
