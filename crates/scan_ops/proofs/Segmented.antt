@@ -6,7 +6,7 @@ use Rattle.std.proofs.lemmas.List.{append-nil, append_assoc, nil_from_length, dr
 use Rattle.cvl_base.specs.declared.fault.Fault.{Fault}
 use Rattle.cvl_base.specs.declared.fault.FaultNo.TheVariants as no
 use Rattle.cvl_base.specs.Faults.{fault}
-use Rattle.cvl_base.specs.Folds.{fold_of, scan_of, reduce_of}
+use Rattle.cvl_base.specs.Folds.{fold_of, scan_of}
 use Rattle.cvl_base.specs.Gives.{◌>>=◌, fault_if}
 use Rattle.cvl_base.specs.Nests.{cut_of, joined, nest}
 use Rattle.cvl_base.specs.Segmented.{in_vector, results_from, one_each, end_to_end}
@@ -37,11 +37,11 @@ module _ {Item : Type 0} (join : Item → Item → Item) (unit : Item) (xs : Lis
 
   pub seg_reduce-fits : sum lengths ≡ length xs → seg_reduce_of join unit xs lengths ≡ Ok (reduces_of join unit lengths xs)
   seg_reduce-fits fits =
-      ap (one_each (in_vector lengths) (λ ys. Ok (reduce_of join unit ys))) (nest-fits lengths xs fits)
-      ∙ results-ok (in_vector lengths) (reduce_of join unit) 0 (cut_of lengths xs)
+      ap (one_each (in_vector lengths) (λ ys. Ok (fold_of join unit ys))) (nest-fits lengths xs fits)
+      ∙ results-ok (in_vector lengths) (fold_of join unit) 0 (cut_of lengths xs)
 
   pub seg_reduce-misfits : (f : Fault) → nest lengths xs ≡ Err f → seg_reduce_of join unit xs lengths ≡ Err f
-  seg_reduce-misfits f misfits = ap (one_each (in_vector lengths) (λ ys. Ok (reduce_of join unit ys))) misfits
+  seg_reduce-misfits f misfits = ap (one_each (in_vector lengths) (λ ys. Ok (fold_of join unit ys))) misfits
 
 -- ---- the step of a loop over the segments, which has scanned or reduced those before s and has `rest` left
 

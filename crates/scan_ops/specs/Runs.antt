@@ -2,7 +2,7 @@
 -- Source: Blelloch's segmented scans (Vector Models for Data-Parallel Computing).
 use Rattle.std.specs.Prelude.{ℕ, Bool, true, false, if◌then◌else◌, List, [], ◌∷◌, map, take, drop}
 use Rattle.std.specs.List.{flat_map}
-use Rattle.cvl_base.specs.Folds.{reduce_of, scan_of}
+use Rattle.cvl_base.specs.Folds.{fold_of, scan_of}
 use Rattle.cvl_base.specs.Nests.{cut_of, joined}
 
 -- the elements of a segment, each with whether the segment starts at it
@@ -31,4 +31,4 @@ scans_of join unit lengths xs = joined (map (scan_of join unit) (cut_of lengths 
 
 -- the reduces of the segments
 abbrev pub reduces_of : {Item : Type 0} → (Item → Item → Item) → Item → List ℕ → List Item → List Item
-reduces_of join unit lengths xs = map (reduce_of join unit) (cut_of lengths xs)
+reduces_of join unit lengths xs = map (fold_of join unit) (cut_of lengths xs)

@@ -2,7 +2,7 @@
 
 ghost use Rattle.std.specs.Prelude.{◌≡◌, IfOk};
 ghost use Rattle.std.specs.List.{AllPass};
-ghost use Rattle.cvl_base.specs.Folds.{reduce_of};
+ghost use Rattle.cvl_base.specs.Folds.{fold_of};
 ghost use Rattle.cvl_base.specs.Gives.{Gives};
 ghost use Rattle.cvl_base.specs.SegmentedCalls.{seg_reduce_of};
 
@@ -24,7 +24,7 @@ pub fn reduce<R: Threads + Sync, A: Memory, M: Monoid>(
     a: &[M::Item],
 ) -> Result<M::Item, NoResources>
     requires items { AllPass M.is_item a.now }
-    ensures { IfOk result (λ sum. sum ≡ reduce_of M.join M.unit a.now) }
+    ensures { IfOk result (λ sum. sum ≡ fold_of M.join M.unit a.now) }
 {
     know_laws::<M>();
     Ok(sum_from::<M>(M::unit(), a))
