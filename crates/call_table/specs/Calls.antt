@@ -3,7 +3,6 @@
 use Rattle.std.specs.Prelude.{ℕ, Bool, true, false, not, if◌then◌else◌, ◌&&◌, ◌||◌, ◌==◌, List, [], ◌∷◌, ◌++◌, length, slice_get, codes, Option, Some, None}
 use Rattle.call_table.specs.declared.kind.Kind.{Kind}
 use Rattle.call_table.specs.declared.kind.Kind.TheVariants.{Integers, Booleans, Descriptor, Integer, Boolean}
-use Rattle.call_table.specs.declared.families.IntMonoid.TheVariants as monoid
 use Rattle.call_table.specs.declared.families.Form.{Form}
 use Rattle.call_table.specs.declared.families.Form.TheVariants.{Simple, Back, Select, Default}
 use Rattle.call_table.specs.declared.families.Cut.{Cut}
@@ -132,11 +131,6 @@ accepts_of op count place kind = if is_write op then write_accepts count place k
 
 -- the families of calls that the library does not perform yet
 abbrev pub is_missing : Op → Bool
-is_missing (Scan monoid.Add Flat) = false
-is_missing (Scan operator cut) = true
-is_missing (Reduce operator cut) = true
-is_missing (BoolScan operator cut) = true
-is_missing (BoolReduce operator cut) = true
 is_missing (Permute form cut element) = true
 is_missing (Length element) = true
 is_missing (Count cut) = true

@@ -121,11 +121,6 @@ impl Op {
         ensures { result ≡ is_missing self }
     {
         match self {
-            Op::Scan(IntMonoid::Add, Cut::Flat) => false,
-            Op::Scan(..) => true,
-            Op::Reduce(..) => true,
-            Op::BoolScan(..) => true,
-            Op::BoolReduce(..) => true,
             Op::Permute(..) => true,
             Op::Length(_) => true,
             Op::Count(_) => true,

@@ -1,3 +1,4 @@
 pub mod ArgumentFaults
 pub mod BoundNames
 pub mod ResultKinds
+pub mod ResultLengths

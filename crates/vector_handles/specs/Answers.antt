@@ -16,9 +16,9 @@ use Rattle.vector_handles.specs.Sessions.{State, text_shown}
 use Rattle.vector_handles.specs.Steps.{Stepped, performed, step}
 
 -- the answer to a call that appends a text to bytes
-abbrev pub HasAppended : {U : Type 0} →
-    List ℕ → Result (List ℕ) Fault → List ℕ → Result U Refused → Type 0
-HasAppended before text after answer = Gives (λ _. after) answer (after_bytes before text)
+abbrev pub Appends : {U : Type 0} →
+    List ℕ → List ℕ → Result U Refused → Result (List ℕ) Fault → Type 0
+Appends before after answer text = Gives (λ _. after) answer (after_bytes before text)
 
 module _ {A : Type 0} where
   -- the answer is the value that the table gives the call

@@ -56,8 +56,11 @@ module _ {A : Type 0} where
   booleans_in (Some (value.Booleans bs)) = bs
   booleans_in _ = []
 
+  abbrev pub descriptor_in : Option (Value A) → Option (List ℕ)
+  descriptor_in v = option_and_then lengths_of v
+
   abbrev pub lengths_in : Option (Value A) → List ℕ
-  lengths_in v = unwrap_or (option_and_then lengths_of v) []
+  lengths_in v = unwrap_or (descriptor_in v) []
 
   abbrev pub integer_in : Option (Value A) → ℤ
   integer_in (Some (value.Integer n)) = n

@@ -1,7 +1,7 @@
 -- The meaning of a line: from the bound names and the inputs, either the new names with the text of the line, or the
 -- first fault in the order of checks. A binding changes its one name, and a write changes none.
 -- Source: this library's script format.
-use Rattle.std.specs.Prelude.{ℕ, not, List, [], ◌∷◌, ◌++◌, length, codes, slice_get, Option, Some, None, option_and_then, Result, Ok}
+use Rattle.std.specs.Prelude.{ℕ, not, List, [], ◌∷◌, ◌++◌, length, codes, slice_get, Option, Some, None, Result, Ok}
 use Rattle.cvl_base.specs.declared.value.Value.{Value}
 use Rattle.cvl_base.specs.declared.call.Arg.{Arg}
 use Rattle.cvl_base.specs.declared.call.Arg.TheVariants as arg
@@ -15,7 +15,7 @@ use Rattle.call_reader.specs.Texts.{value_text}
 use Rattle.vector_handles.specs.declared.input.Input.{Input}
 use Rattle.vector_handles.specs.CallValues.{call_value}
 use Rattle.vector_handles.specs.Names.{Entries, bind, has_room}
-use Rattle.vector_handles.specs.Arguments.{args_fault, argument_at, lengths_of}
+use Rattle.vector_handles.specs.Arguments.{args_fault, argument_at, descriptor_in}
 
 -- what a line leaves: the bound names, and the text where it is a write
 pub record Stepped (A : Type 0) : Type 0 where
@@ -31,7 +31,7 @@ module _ {A : Type 0} where
   -- the text of a value, beside a second one where that is a descriptor
   abbrev text_beside : Option (Value A) → Option (Value A) → Result (List ℕ) Fault
   text_beside None beside = Ok []
-  text_beside (Some v) beside = value_text (option_and_then lengths_of beside) v
+  text_beside (Some v) beside = value_text (descriptor_in beside) v
 
   -- the text of the first argument, beside the second
   abbrev pub shown_text_of : Entries A → List Arg → Result (List ℕ) Fault

@@ -1,6 +1,5 @@
 //! The value that a call gives, family by family.
 
-ghost use Rattle.cvl_base.specs.declared.families.Cut.TheVariants.{Flat};
 ghost use Rattle.cvl_base.specs.declared.operation.Op.TheVariants as op;
 ghost use Rattle.vector_handles.specs.Answers.{IsCallValue, IsTableValue};
 
@@ -8,8 +7,7 @@ use crate::bound::Bound;
 use crate::lookups::{integer_at, integers_at};
 use crate::numbered::{input_numbered, integers_of_input};
 use crate::session::Session;
-use cvl_base::{Arg, Cut, Fault, FaultNo, IntMonoid, Memory, Op, Refused};
-use scan_ops::int_scan;
+use cvl_base::{Arg, Fault, FaultNo, Memory, Op, Refused};
 use segdes::SegDes;
 use std::thread::Threads;
 
@@ -36,7 +34,10 @@ impl<A: Memory> Session<A> {
             Op::Choose(element) => self.value_of_choose(rt, element, args),
             Op::IntFromBool => self.value_of_int_from_bool(rt, args),
             Op::BoolFromInt => self.value_of_bool_from_int(rt, args),
-            Op::Scan(operator, Cut::Flat) => self.value_of_scan(rt, operator, args),
+            Op::Scan(operator, cut) => self.value_of_scan(rt, operator, cut, args),
+            Op::Reduce(operator, cut) => self.value_of_reduce(rt, operator, cut, args),
+            Op::BoolScan(operator, cut) => self.value_of_bool_scan(rt, operator, cut, args),
+            Op::BoolReduce(operator, cut) => self.value_of_bool_reduce(rt, operator, cut, args),
             Op::MakeDescriptor => self.new_descriptor(args),
             Op::DescriptorLengths => self.lengths_of_descriptor(args),
             _ => Err(Refused::Fault(Fault::new(FaultNo::UnknownCall))),
@@ -52,20 +53,6 @@ impl<A: Memory> Session<A> {
             Some(input) => Ok(Bound::from_integers(integers_of_input(self.alloc, input)?)),
             None => Err(Refused::Fault(Fault::new(FaultNo::NoSuchInput))),
         }
-    }
-
-    /// A scan of an integer vector.
-    fn value_of_scan<R: Threads + Sync>(
-        &self,
-        rt: &R,
-        operator: IntMonoid,
-        args: &[Arg],
-    ) -> Result<Bound<A>, Refused>
-        ensures { IsTableValue self.now (op.Scan operator Flat) args.now result }
-    {
-        let a = integers_at(&self.names, args, 0);
-        let sums = int_scan(rt, self.alloc, self.config, operator, a)?;
-        Ok(Bound::from_integers(sums))
     }
 
     /// `mke_fov`: the descriptor with these lengths.

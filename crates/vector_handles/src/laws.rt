@@ -18,5 +18,5 @@ pub fn binding_law<A: Memory>()
 
 /// The value that a call gives is of the kind that the table of calls names as its result.
 pub fn result_kind_law<A: Memory>()
-    ensures { (inputs : List (Input A)) (call : Op) (arg : ArgumentAt A) → HasNamedKind inputs call arg }
+    ensures { (inputs : List (Input A)) (op : Op) (arg : ArgumentAt A) → HasNamedKind inputs op arg }
 {}

@@ -11,6 +11,7 @@ pub mod laws;
 mod lookups;
 mod names;
 mod numbered;
+mod scan_calls;
 pub mod session;
 pub mod shown;
 mod writes;

@@ -1,8 +1,8 @@
 //! What the arguments of a call hold, by their places. Of a missing argument, or one of another kind, nothing.
 
-ghost use Rattle.std.specs.Prelude.{◌≡◌, ◌≤◌, length, option_and_then, option_copied};
+ghost use Rattle.std.specs.Prelude.{◌≡◌, ◌≤◌, length, option_copied};
 ghost use Rattle.cvl_base.specs.Limits.{most_elements};
-ghost use Rattle.vector_handles.specs.Arguments.{argument_at, booleans_in, integer_in, integers_in, lengths_of};
+ghost use Rattle.vector_handles.specs.Arguments.{argument_at, booleans_in, descriptor_in, integer_in, integers_in};
 
 use crate::bound::Bound;
 use crate::names::{Names, bound_to, value_of};
@@ -85,7 +85,7 @@ pub(crate) fn descriptor_at<'a, A: Memory>(
     args: &[Arg],
     place: usize,
 ) -> Option<&'a SegDes<A>>
-    ensures value { option_copied result ≡ option_and_then lengths_of (argument_at names.now.entries args.now place) }
+    ensures { option_copied result ≡ descriptor_in (argument_at names.now.entries args.now place) }
 {
     match args.get(place) {
         Some(Arg::Name(name)) => descriptor_of(bound_to(names, name)),
@@ -94,7 +94,7 @@ pub(crate) fn descriptor_at<'a, A: Memory>(
 }
 
 fn descriptor_of<'a, A: Memory>(bound: Option<&'a Bound<A>>) -> Option<&'a SegDes<A>>
-    ensures { option_copied result ≡ option_and_then lengths_of (option_copied bound.entry) }
+    ensures { option_copied result ≡ descriptor_in (option_copied bound.entry) }
 {
     match bound {
         Some(bound) => bound.descriptor(),

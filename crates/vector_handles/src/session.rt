@@ -14,6 +14,8 @@ use std::marker::Model;
 use std::thread::Threads;
 
 /// The names that a script has bound, with their values, and its inputs.
+///
+/// The starts of a descriptor's segments are made once, when it is bound, and serve each call that takes it.
 #[derive(Drop)]
 pub struct Session<A: Memory> {
     pub(crate) config: Config,
@@ -100,6 +102,3 @@ impl<A: Memory> Session<A> {
         }
     }
 }
-
-#[cfg(test)]
-mod tests;

@@ -4,7 +4,7 @@ ghost use Rattle.std.specs.Prelude.{◌≡◌, is_ok, slice_get};
 ghost use Rattle.std.specs.Option.{option_copied};
 ghost use Rattle.call_reader.specs.Texts.{cut_text, value_text};
 ghost use Rattle.cvl_base.specs.Gives.{Gives};
-ghost use Rattle.vector_handles.specs.Answers.{HasAppended};
+ghost use Rattle.vector_handles.specs.Answers.{Appends};
 ghost use Rattle.vector_handles.specs.Arguments.{argument_at};
 ghost use Rattle.vector_handles.specs.Steps.{name_in, shown_text_of, written};
 
@@ -46,7 +46,7 @@ fn put_first<A: Memory>(
     args: &[Arg],
     text: &mut Vec<u8, A>,
 ) -> Result<(), Refused>
-    ensures { HasAppended text.old.items (shown_text_of names.now.entries args.now) text.new.items result }
+    ensures { Appends text.old.items text.new.items result (shown_text_of names.now.entries args.now) }
 {
     let beside = descriptor_at(names, args, 1);
     match args.first() {
@@ -67,7 +67,7 @@ fn put_beside<A: Memory>(
     beside: Option<&SegDes<A>>,
     text: &mut Vec<u8, A>,
 ) -> Result<(), Refused>
-    ensures { HasAppended text.old.items (value_text (option_copied beside.entry) value.now) text.new.items result }
+    ensures { Appends text.old.items text.new.items result (value_text (option_copied beside.entry) value.now) }
 {
     if let Some(descriptor) = beside {
         if !is_cut(value, descriptor) {
