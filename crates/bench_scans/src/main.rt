@@ -30,6 +30,20 @@ fn best<R: Clock, T: Drop, F: FnMut() -> T>(rt: &R, mut call: F) -> io::Result<D
     Ok(best)
 }
 
+/// The best time of several calls of a reduce, and the sum of its answers, so that no call is left out as unneeded.
+fn best_of_reduce<R: Clock, F: FnMut() -> i32>(rt: &R, mut call: F) -> io::Result<(Duration, i32)>
+    requires { F.IsAlwaysCallable call }
+{
+    let mut best = Duration::MAX;
+    let mut sum: i32 = 0;
+    for _ in 0..ROUNDS {
+        let start = Instant::now(rt)?;
+        sum = sum.wrapping_add(call());
+        best = best.min(start.elapsed(rt)?);
+    }
+    Ok((best, sum))
+}
+
 /// Prints a case's line.
 fn print_times<R: Print>(
     rt: &R,
@@ -41,6 +55,20 @@ fn print_times<R: Print>(
     let (call, plain) = (call.as_nanos(), plain.as_nanos());
     println!(rt; "{case}, {length} elements: {call} ns, a plain loop {plain} ns")?;
     Ok(())
+}
+
+/// Prints the line of a reduce, after a line that says so where the two answers differ.
+fn print_reduce_times<R: Print>(
+    rt: &R,
+    case: &str,
+    length: usize,
+    call: (Duration, i32),
+    plain: (Duration, i32),
+) -> io::Result<()> {
+    if call.1 != plain.1 {
+        println!(rt; "{case}: the answers differ")?;
+    }
+    print_times(rt, case, length, call.0, plain.0)
 }
 
 /// Prints the line of a case by segments.
@@ -75,18 +103,24 @@ fn measure_flat<R: Print + Clock + Threads + Sync>(
     let call = best(rt, || bool_scan(rt, alloc, config, BoolBinary::And, flags))?;
     let plain = best(rt, || plain::all_before(alloc, flags))?;
     print_times(rt, "and scan", n, call, plain)?;
-    let call = best(rt, || int_reduce(rt, alloc, config, IntMonoid::Add, a))?;
-    let plain = best(rt, || plain::sum(a))?;
-    print_times(rt, "add reduce", n, call, plain)?;
-    let call = best(rt, || int_reduce(rt, alloc, config, IntMonoid::Max, a))?;
-    let plain = best(rt, || plain::greatest(a))?;
-    print_times(rt, "max reduce", n, call, plain)?;
-    let call = best(
+    let call = best_of_reduce(
         rt,
-        || bool_reduce(rt, alloc, config, BoolBinary::And, flags),
+        || int_reduce(rt, alloc, config, IntMonoid::Add, a).unwrap_or(0),
     )?;
-    let plain = best(rt, || plain::all(flags))?;
-    print_times(rt, "and reduce", n, call, plain)
+    let plain = best_of_reduce(rt, || plain::sum(a))?;
+    print_reduce_times(rt, "add reduce", n, call, plain)?;
+    let call = best_of_reduce(
+        rt,
+        || int_reduce(rt, alloc, config, IntMonoid::Max, a).unwrap_or(0),
+    )?;
+    let plain = best_of_reduce(rt, || plain::greatest(a))?;
+    print_reduce_times(rt, "max reduce", n, call, plain)?;
+    let call = best_of_reduce(
+        rt,
+        || i32::from(bool_reduce(rt, alloc, config, BoolBinary::And, flags).unwrap_or(false)),
+    )?;
+    let plain = best_of_reduce(rt, || i32::from(plain::all(flags)))?;
+    print_reduce_times(rt, "and reduce", n, call, plain)
 }
 
 /// Lengths of segments of `length` elements each, `count` of them, with an empty one before each where `with_empty`.

@@ -2,8 +2,16 @@
 #![tactic(auto)]
 
 #[cfg(test)]
+mod descriptors;
+#[cfg(test)]
 mod elementwise_long;
 #[cfg(test)]
 mod elementwise_refusals;
 #[cfg(test)]
 mod elementwise_values;
+#[cfg(test)]
+mod scan_refusals;
+#[cfg(test)]
+mod scans;
+#[cfg(test)]
+mod scans_long;
