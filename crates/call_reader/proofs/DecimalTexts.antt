@@ -1,4 +1,4 @@
--- How many digits a number's decimal has, and where it stands behind a digit more.
+-- How many digits a number's decimal has, and where it stands after a digit more.
 use Rattle.std.proofs.Common.{◌≡◌, ℕ, zero, suc, ◌+◌, ◌-◌, ◌*◌, ◌^◌, ◌/◌, ◌%◌, ◌<◌, ◌≤◌, Bool, true, false, nat_le, List, [], ◌∷◌, ◌++◌, length, drop, drop-drop, slice_set, ℤ, pos, negsuc, int_lt, unsigned_abs, refl, ap, sym, ◌∙◌, arith}
 use Rattle.std.proofs.lemmas.Bool.Decides.{nat_tests}
 use Rattle.std.proofs.Math.Nat.{pow-succ', one-le-pow}

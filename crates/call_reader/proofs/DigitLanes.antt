@@ -171,7 +171,7 @@ zeros_number : (j : ℕ) (ds : List ℕ) → number_from_digits 10 (replicate j 
 zeros_number zero ds = refl
 zeros_number (suc j) ds = zeros_number j ds
 
--- the digits that the bytes begin with, behind so many zeros that there are sixteen lanes
+-- the digits that the bytes begin with, after so many zeros that there are sixteen lanes
 moved_digits : (bytes : List ℕ) (count : ℕ) (moved : List ℕ) → count < 16
     → moved ≡ replicate (16 - count) 0 ++ take (16 - (16 - count)) (map above_zero (take 16 bytes)) → moved ≡ replicate (16 - count) 0 ++ map above_zero (take count bytes)
 moved_digits bytes count moved few is =

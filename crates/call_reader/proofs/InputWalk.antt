@@ -26,7 +26,7 @@ at_most_one one false e = omega arith
 abbrev pub count_of : List ℕ → ℕ
 count_of bytes = length (tokens_by input_class bytes)
 
--- whether bytes that stand behind white space, or not, go on with a run that began before them
+-- whether bytes that stand after white space, or not, go on with a run that began before them
 abbrev pub goes_on : Bool → List ℕ → Bool
 goes_on behind_white_space bytes = not behind_white_space && begins_with_part input_class bytes
 
@@ -78,7 +78,7 @@ room_for_tokens bytes =
 abbrev pub numbers_from : ℕ → List (List ℕ) → Result (List ℤ) Fault
 numbers_from place tokens = values_from BadInput place (map number_of tokens)
 
--- the numbers read so far, and behind them what the others give
+-- the numbers read so far, and after them what the others give
 abbrev pub behind : List ℤ → Result (List ℤ) Fault → Result (List ℤ) Fault
 behind numbers others = others >>= λ ns. Ok (numbers ++ ns)
 
@@ -124,7 +124,7 @@ number_is_run : (token : List ℕ) (n : ℤ) → number_of token ≡ Some n → 
 number_is_run [] n e = cc
 number_is_run (b ∷ bs) n e = (signed_run (b == 45) b bs n (λ h. grind (arith, nat_tests)) e, omega arith)
 
--- a number with no part of a run behind it is the first token
+-- a number with no part of a run after it is the first token
 pub number_first : (bytes : List ℕ) (k : ℕ) (n : ℤ) → number_of (take k bytes) ≡ Some n → begins_with_part input_class (drop k bytes) ≡ false
     → tokens_by input_class bytes ≡ take k bytes ∷ tokens_by input_class (drop k bytes)
 number_first bytes k n e ends =

@@ -59,7 +59,7 @@ too_great : (sign : Bool) (m : ℕ) → 2 ^ 31 < m → fit sign m ≡ None
 too_great true m h = grind (arith, nat_tests)
 too_great false m h = grind (arith, nat_tests)
 
--- digits behind a sign, or without one
+-- digits after a sign, or without one
 pub sign_read : (sign : Bool) (digits : List ℕ) → 0 < length digits → list_all is_ascii_digit digits ≡ true → with_sign sign digits digits ≡ fit sign (digits_value 10 digits)
 sign_read sign [] some all = absurd (omega arith)
 sign_read true (d ∷ ds) some all = rw all refl
@@ -92,7 +92,7 @@ unsigned_read : (digit : Bool) (b : ℕ) (digits : List ℕ) → (b == 45) ≡ f
 unsigned_read true b digits e = rw e refl
 unsigned_read false b digits e = refl
 
--- the front with its sign, by the digits behind the sign
+-- the front with its sign, by the digits after the sign
 signed_read_at : (first : ℕ) (others : List ℕ) (sign : Bool) → sign ≡ (first == 45)
     → number_of (signed_digits (first ∷ others))
     ≡ with_sign sign (take_while is_ascii_digit (drop (from_bool sign) (first ∷ others))) (take_while is_ascii_digit (drop (from_bool sign) (first ∷ others)))
@@ -122,7 +122,7 @@ pub within_32 : (sign : Bool) (m : ℕ) (n : ℤ) → n ≡ (if sign then neg_�
 within_32 true m n e low high = grind arith
 within_32 false m n e low high = grind arith
 
--- the bytes' first one is split off, and the digits stand behind the sign
+-- the bytes' first one is split off, and the digits stand after the sign
 abbrev pub IsSplit : List ℕ → ℕ → List ℕ → Bool → ℕ → List ℕ → Type 0
 IsSplit bytes first others sign sign_length digits =
     (bytes ≡ first ∷ others) × (sign ≡ (first == 45)) × (sign_length ≡ from_bool sign) × (digits ≡ drop sign_length bytes)
@@ -179,7 +179,7 @@ none_at_front token none = by (number_of token) refl
         let never : None ≡ Some n = sym none ∙ ap number_of (number_whole token n e) ∙ e in
         cc
 
--- no number with bytes behind the one at the front
+-- no number with bytes after the one at the front
 pub none_with_more : (token : List ℕ) (k : ℕ) → k < length token → take k token ≡ signed_digits token → number_of token ≡ None
 none_with_more token k more front = by (number_of token) refl
   where

@@ -24,7 +24,7 @@ unsigned : (ds : List ℕ) → 0 < length ds → AllDigits 10 ds → number_of d
 unsigned [] some all = absurd (omega arith)
 unsigned (d ∷ ds) some (first, others) = rw (no_sign d first) refl
 
--- the decimal of a magnitude, behind a sign or without one
+-- the decimal of a magnitude, after a sign or without one
 magnitude_read : (sign : Bool) (n : ℕ) → n < 2 ^ 64 → with_sign sign (decimal n) (decimal n) ≡ fit sign n
 magnitude_read sign n small =
     let is = decimal_is_IsNumeral n small in

@@ -21,6 +21,6 @@ begins_after old mid more new first later =
     let longer : length old ≤ length (mid ++ more) = omega (arith, length-append mid more) in
     sym (take-take (length old) (length (mid ++ more)) new longer) ∙ ap (take (length old)) later ∙ take-append-le (length old) mid more fits ∙ first
 
--- what ends where a page ends has nothing behind it
+-- what ends where a page ends has nothing after it
 pub nothing_behind : (text page : List ℕ) (end : ℕ) → length page ≤ end → text ++ drop end page ≡ text
 nothing_behind text page end h = ap (λ bs. text ++ bs) (drop_all end page h) ∙ append-nil text

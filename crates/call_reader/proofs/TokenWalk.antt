@@ -27,7 +27,7 @@ pub both_true : (a b : Bool) → a && b ≡ true → (a ≡ true) × (b ≡ true
 both_true true b e = (refl, e)
 both_true false b e = (e, cc)
 
--- a run of one byte or more, behind which no run goes on, is the first token
+-- a run of one byte or more, after which no run goes on, is the first token
 pub run_first : (class_of : ℕ → ByteClass) (run rest : List ℕ) → list_all (λ b. is_part (class_of b)) run ≡ true → 0 < length run
     → begins_with_part class_of rest ≡ false → tokens_by class_of (run ++ rest) ≡ run ∷ tokens_by class_of rest
 run_first class_of [] rest all some ends = absurd (omega arith)
@@ -112,7 +112,7 @@ with_byte_before Part true b [] more some = absurd (omega (arith, some refl))
 with_byte_before Part true b (token ∷ tokens) more some = refl
 with_byte_before Part false b tokens more some = refl
 
--- where what stands behind begins with no part of a run, it changes nothing before it
+-- where what stands after begins with no part of a run, it changes nothing before it
 cut_before : (class_of : ℕ → ByteClass) (before behind : List ℕ) → begins_with_part class_of behind ≡ false
     → tokens_by class_of (before ++ behind) ≡ tokens_by class_of before ++ tokens_by class_of behind
 cut_before class_of [] behind e = refl

@@ -6,7 +6,7 @@ use Rattle.std.proofs.lemmas.Slice.Zip.{get_or-zip, length-zip}
 use Rattle.std.proofs.Math.Seq.{take-append_seam}
 use Rattle.elementwise.specs.Standing.{StandFrom}
 
--- one more value is written behind those that stand
+-- one more value is written after those that stand
 pub one_more : {Z : Type 0} (vs : List Z) (start k : ℕ) (zs : List Z) (v : Z) → k < length zs → ((z : Z) → v ≡ get_or vs (start + k) z) →
     StandFrom vs start k zs → StandFrom vs start (k + 1) (set zs k v)
 one_more {Z} vs start k zs v in_zs right before =

@@ -34,7 +34,7 @@ module _ {X Y Z : Type 0} (number : FaultNo) (f : X → Y → Option Z) where
       after done (values_at number f place (x ∷ xs) (y ∷ ys)) ≡ Err (fault_at number place)
   first_fault place x y xs ys done hasnt = rw hasnt refl
 
-  -- at a place with a value the walk goes on behind it
+  -- at a place with a value the walk goes on after it
   goes_on : (place : ℕ) (xs : List X) (ys : List Y) (x : X) (y : Y) (z : Z) (done : List Z) →
       place < length xs → place < length ys → f (get_or xs place x) (get_or ys place y) ≡ Some z →
       after done (values_at number f place (drop place xs) (drop place ys))
@@ -58,7 +58,7 @@ module _ {X Y Z : Type 0} (number : FaultNo) (f : X → Y → Option Z) where
   ends place xs ys x y done in_xs in_ys hasnt =
       rw (uncons xs place x in_xs, uncons ys place y in_ys) (first_fault place _ _ _ _ done hasnt)
 
-  -- behind the last place nothing is left
+  -- after the last place nothing is left
   pub ends_all : (place : ℕ) (xs : List X) (ys : List Y) (done : List Z) → length xs ≤ place →
       after done (values_at number f place (drop place xs) (drop place ys)) ≡ Ok done
   ends_all place xs ys done past = rw (drop_of_length-le xs past) (ap Ok (append-nil done))

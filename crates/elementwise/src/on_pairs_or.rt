@@ -24,7 +24,7 @@ pub(crate) trait PartialBinary {
 }
 
 /// The operator's values on the pairs of elements of two equally long vectors, or the fault at the least place without
-/// a value. One walk over reserved room; no value behind that place is asked for.
+/// a value. One walk over reserved room; no value after that place is asked for.
 // Inlined into a large function the loop keeps its pointers on the stack, and quotients take a third more time.
 #[inline(never)]
 pub(crate) fn values_on_pairs_or<O: PartialBinary, A: Memory>(

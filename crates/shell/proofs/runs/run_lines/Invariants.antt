@@ -5,7 +5,7 @@ use Rattle.shell.specs.Meaning.{from_line, lines_of}
 use Rattle.shell.proofs.Underway.{IsUnderway}
 use Rattle.shell.proofs.runs.run_lines.Given as goal
 
--- a line has a byte or stands behind one, so the number of a line is bounded by the script's bytes
+-- a line has a byte or stands after one, so the number of a line is bounded by the script's bytes
 abbrev pub invariant-loop-rest : goal.invariant-loop-rest
 invariant-loop-rest g l =
     record {
