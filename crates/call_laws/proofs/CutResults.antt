@@ -15,7 +15,8 @@ use Rattle.cvl_base.specs.Folds.{scan_of}
 use Rattle.cvl_base.specs.Gives.{◌>>=◌, fault_if}
 use Rattle.cvl_base.specs.Integers.{wrap}
 use Rattle.cvl_base.specs.Limits.{most_elements}
-use Rattle.cvl_base.specs.Nests.{nest, joined}
+use Rattle.cvl_base.specs.Lists.{joined}
+use Rattle.cvl_base.specs.Nests.{nest}
 use Rattle.cvl_base.specs.Packs.{count_of, pack_of}
 use Rattle.cvl_base.specs.Permutes.{simple_of, back_of, select_of, default_of}
 use Rattle.cvl_base.specs.Segmented.{beside, of_two, of_three, in_vector, at_segment, one_each, end_to_end}

@@ -8,7 +8,8 @@ use Rattle.std.proofs.Math.Seq.{take-append_seam, drop-append_seam}
 use Rattle.cvl_base.specs.declared.fault.FaultNo.TheVariants as no
 use Rattle.cvl_base.specs.Faults.{fault}
 use Rattle.cvl_base.specs.Gives.{fault_if}
-use Rattle.cvl_base.specs.Nests.{IsNest, nest, cut_of, joined}
+use Rattle.cvl_base.specs.Lists.{joined}
+use Rattle.cvl_base.specs.Nests.{IsNest, nest, cut_of}
 
 sum-cons : (n : ℕ) (ns : List ℕ) → sum (n ∷ ns) ≡ n + sum ns
 sum-cons n ns = sum_by-cons (λ x. x) n ns

@@ -14,7 +14,8 @@ use Rattle.cvl_base.specs.Extracts.{element_at, with_element_at, extract_of, rep
 use Rattle.cvl_base.specs.Faults.{fault, fault_at}
 use Rattle.cvl_base.specs.Folds.{scan_of, fold_of}
 use Rattle.cvl_base.specs.Gives.{◌>>=◌}
-use Rattle.cvl_base.specs.Nests.{nest, joined}
+use Rattle.cvl_base.specs.Lists.{joined}
+use Rattle.cvl_base.specs.Nests.{nest}
 use Rattle.cvl_base.specs.Packs.{count_of, pack_of}
 use Rattle.cvl_base.specs.Permutes.{simple_of, back_of, select_of, default_of, sent_to_all, sent_over, all_targets, flagged_targets}
 use Rattle.cvl_base.specs.Segmented.{beside, of_two, of_three, in_vector, at_segment, moved, results_from, one_each, end_to_end}

@@ -23,6 +23,7 @@ pub use Rattle.operators.specs.Conversions
 pub use Rattle.operators.specs.Folds
 pub use Rattle.operators.specs.Integers
 pub use Rattle.operators.specs.ItemWords
+pub use Rattle.operators.specs.Lists
 pub use Rattle.operators.specs.Monoid
 pub use Rattle.operators.specs.SegmentMonoid
 pub use Rattle.operators.specs.TileSums

@@ -1,7 +1,7 @@
 -- Nests: a flat list, cut by the lengths of a descriptor into a list of lists.
 -- Source: CVL's segmented vectors, a value vector beside its segment descriptor.
 use Rattle.std.specs.Prelude.{◌≡◌, ℕ, ◌==◌, not, Result, Ok, List, [], ◌∷◌, length, map, sum, take, drop}
-use Rattle.std.specs.List.{flat_map}
+use Rattle.operators.specs.Lists.{joined}
 use Rattle.cvl_base.specs.declared.fault.Fault.{Fault}
 use Rattle.cvl_base.specs.declared.fault.FaultNo.TheVariants as no
 use Rattle.cvl_base.specs.Faults.{fault}
@@ -15,10 +15,6 @@ cut_of (n ∷ lengths) xs = take n xs ∷ cut_of lengths (drop n xs)
 -- the inner lists, or the fault where the lengths don't add up to the list's
 abbrev pub nest : {X : Type 0} → List ℕ → List X → Result (List (List X)) Fault
 nest lengths xs = fault_if (not (sum lengths == length xs)) (fault no.LengthMismatch) (Ok (cut_of lengths xs))
-
--- the lists one after another
-abbrev pub joined : {X : Type 0} → List (List X) → List X
-joined lists = flat_map (λ xs. xs) lists
 
 -- what it means to be a nest: the inner lists have these lengths, and one after another they are the list
 pub record IsNest {X : Type 0} (lengths : List ℕ) (xs : List X) (lists : List (List X)) : Type 0 where

@@ -5,7 +5,7 @@ use Rattle.std.specs.List.{zip}
 use Rattle.cvl_base.specs.declared.fault.Fault.{Fault}
 use Rattle.cvl_base.specs.Elementwise.{if_as_long}
 use Rattle.cvl_base.specs.Gives.{◌>>=◌}
-use Rattle.cvl_base.specs.Nests.{joined}
+use Rattle.operators.specs.Lists.{joined}
 
 -- the arguments of each segment, from two lists of them that must be equally many
 abbrev pub beside : {A B : Type 0} → Result (List A) Fault → Result (List B) Fault → Result (List (A × B)) Fault

@@ -6,10 +6,6 @@ use Rattle.std.specs.List.{list_all}
 use Rattle.std.specs.Cmp.Lexicographic.{pointwise}
 use Rattle.cvl_base.specs.Limits.{most_word_bytes}
 
--- the bytes are this very text
-abbrev pub is_text : List ℕ → List ℕ → Bool
-is_text text bytes = pointwise nat_eq bytes text
-
 -- a letter, a digit or an underscore of ASCII
 abbrev pub is_word_byte : ℕ → Bool
 is_word_byte b = is_ascii_alphanumeric b || b == 95
@@ -23,4 +19,5 @@ is_word (first ∷ others) =
 -- a word that stands for nothing else in a line
 abbrev pub is_name : List ℕ → Bool
 is_name bytes =
-    is_word bytes && not (is_text (codes "write") bytes || is_text (codes "T") bytes || is_text (codes "F") bytes)
+    is_word bytes
+    && not (pointwise nat_eq bytes (codes "write") || pointwise nat_eq bytes (codes "T") || pointwise nat_eq bytes (codes "F"))

@@ -1,8 +1,7 @@
 -- The items of the operators' monoids, and the 32-bit word that stands for each.
 -- Source: two's complement for integers; the words of truth values are this library's profile.
-use Rattle.std.specs.Prelude.{◌≡◌, ◌^◌, Bool, true, false, not, IsTrue, ℤ, pos, negsuc, nat_lt, FitsSigned}
+use Rattle.std.specs.Prelude.{◌≡◌, ◌^◌, Bool, true, IsTrue, ℤ, pos, negsuc, nat_lt, FitsSigned}
 use Rattle.std.specs.Int.{w32}
-use Rattle.std.specs.Ordering.{int_eq}
 
 -- the numbers from -2147483648 to 2147483647
 abbrev pub is_number : ℤ → Bool
@@ -13,17 +12,9 @@ is_number (negsuc n) = nat_lt n (2 ^ 31)
 abbrev pub is_truth_value : Bool → Bool
 is_truth_value b = true
 
--- a number is its own word
+-- a number is its own word; that of a truth value is the conversions' `integer_of`, read again by `boolean_of`
 abbrev pub same_word : ℤ → ℤ
 same_word z = z
-
--- a truth value's word is 0 or 1, and each word but 0 is read as true
-abbrev pub truth_word : Bool → ℤ
-truth_word false = pos 0
-truth_word true = pos 1
-
-abbrev pub is_set_word : ℤ → Bool
-is_set_word z = not (int_eq z (pos 0))
 
 -- A word for each item, which fits 32 bits and from which the item is read again.
 pub record WordLaws {Item : Type 0} (is_item : Item → Bool) (to_word : Item → ℤ) (from_word : ℤ → Item) : Type 0 where

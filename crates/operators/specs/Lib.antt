@@ -3,6 +3,7 @@ pub mod Conversions
 pub mod Folds
 pub mod Integers
 pub mod ItemWords
+pub mod Lists
 pub mod Monoid
 pub mod NumberLaws
 pub mod SegmentMonoid

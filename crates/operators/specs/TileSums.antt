@@ -1,17 +1,14 @@
 -- The sums of tiles. A tile is a run of elements of a segmented vector, each with whether a segment starts at it.
 -- Source: Merrill and Garland, Single-pass Parallel Prefix Scan with Decoupled Look-back.
 use Rattle.std.specs.Prelude.{ℕ, zero, suc, ◌+◌, ◌-◌, ℤ, pos, Bool, true, false, List, [], ◌∷◌, take, drop, slice_index_or}
-use Rattle.std.specs.List.{flat_map, All, AllPass}
+use Rattle.std.specs.List.{All, AllPass}
 use Rattle.operators.specs.Folds.{fold_of}
+use Rattle.operators.specs.Lists.{joined}
 use Rattle.operators.specs.SegmentMonoid.{seg_unit, seg_join}
-
--- the elements of the tiles, tile after tile
-abbrev pub elements_of : {Element : Type 0} → List (List Element) → List Element
-elements_of tiles = flat_map (λ tile. tile) tiles
 
 -- the elements of a run of tiles, joined in order
 abbrev pub sum_of_tiles : {Item : Type 0} → (Item → Item → Item) → Item → List (List (Bool × Item)) → Bool × Item
-sum_of_tiles join unit tiles = fold_of (seg_join join) (seg_unit unit) (elements_of tiles)
+sum_of_tiles join unit tiles = fold_of (seg_join join) (seg_unit unit) (joined tiles)
 
 -- the aggregate of tile t: its elements joined in order
 abbrev pub sum_at : {Item : Type 0} → (Item → Item → Item) → Item → List (List (Bool × Item)) → ℕ → Bool × Item

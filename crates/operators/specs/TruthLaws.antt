@@ -5,7 +5,8 @@ use Rattle.std.specs.Int.{w32}
 use Rattle.std.proofs.lemmas.Int.{ints}
 use Rattle.operators.specs.Booleans.{both, either, differ}
 use Rattle.operators.specs.Monoid.{MonoidLaws}
-use Rattle.operators.specs.ItemWords.{is_truth_value, truth_word, is_set_word, WordLaws}
+use Rattle.operators.specs.Conversions.{integer_of, boolean_of}
+use Rattle.operators.specs.ItemWords.{is_truth_value, WordLaws}
 
 both_true : (a : Bool) → both a true ≡ a
 both_true true = refl
@@ -61,16 +62,16 @@ differ_laws = record {
 }
 
 -- a truth value's word is 0 or 1
-pub truth_words : WordLaws is_truth_value truth_word is_set_word
+pub truth_words : WordLaws is_truth_value integer_of boolean_of
 truth_words = record {
   fits = λ b _. word_fits b;
   inverse = λ b _. word_inverse b;
 }
   where
-    word_fits : (b : Bool) → FitsSigned w32 (truth_word b)
+    word_fits : (b : Bool) → FitsSigned w32 (integer_of b)
     word_fits true = omega (arith, ints)
     word_fits false = omega (arith, ints)
 
-    word_inverse : (b : Bool) → is_set_word (truth_word b) ≡ b
+    word_inverse : (b : Bool) → boolean_of (integer_of b) ≡ b
     word_inverse true = refl
     word_inverse false = refl

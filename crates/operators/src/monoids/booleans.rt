@@ -2,7 +2,8 @@
 
 ghost use Rattle.std.specs.Prelude.{◌≡◌, true, false};
 ghost use Rattle.operators.specs.Booleans.{both, either, differ};
-ghost use Rattle.operators.specs.ItemWords.{is_truth_value, truth_word, is_set_word};
+ghost use Rattle.operators.specs.Conversions.{boolean_of, integer_of};
+ghost use Rattle.operators.specs.ItemWords.{is_truth_value};
 ghost use Rattle.operators.specs.TruthLaws.{both_laws, either_laws, differ_laws, truth_words};
 
 use crate::boolean;
@@ -36,9 +37,9 @@ impl Monoid for BoolAnd {
 }
 
 impl Packed for BoolAnd {
-    ghost to_word = { truth_word };
+    ghost to_word = { integer_of };
 
-    ghost from_word = { is_set_word };
+    ghost from_word = { boolean_of };
 
     ghost words = { truth_words };
 
@@ -79,9 +80,9 @@ impl Monoid for BoolIor {
 }
 
 impl Packed for BoolIor {
-    ghost to_word = { truth_word };
+    ghost to_word = { integer_of };
 
-    ghost from_word = { is_set_word };
+    ghost from_word = { boolean_of };
 
     ghost words = { truth_words };
 
@@ -122,9 +123,9 @@ impl Monoid for BoolXor {
 }
 
 impl Packed for BoolXor {
-    ghost to_word = { truth_word };
+    ghost to_word = { integer_of };
 
-    ghost from_word = { is_set_word };
+    ghost from_word = { boolean_of };
 
     ghost words = { truth_words };
 
@@ -139,7 +140,7 @@ impl Packed for BoolXor {
 
 /// 1 for true and 0 for false.
 fn word_of(x: bool) -> i32
-    ensures { result ≡ truth_word x }
+    ensures { result ≡ integer_of x }
 {
     if x { 1 } else { 0 }
 }
