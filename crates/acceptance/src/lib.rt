@@ -16,6 +16,8 @@ mod programs;
 #[cfg(test)]
 mod refusals;
 #[cfg(test)]
+mod sessions;
+#[cfg(test)]
 mod sinks;
 #[cfg(test)]
 mod small_host;

@@ -58,10 +58,7 @@ impl<A: Memory> Bound<A> {
 
     /// A descriptor, whose lengths are copied into the value.
     #[tactic(auto, using(segdes::proofs::Sums::abs_pos))]
-    pub(crate) fn from_descriptor(
-        alloc: A,
-        descriptor: SegDes<A>,
-    ) -> Result<Bound<A>, NoResources>
+    pub(crate) fn from_descriptor(alloc: A, descriptor: SegDes<A>) -> Result<Bound<A>, NoResources>
         ensures { IfOk result (λ bound. bound ≡ Value.Descriptor descriptor) }
     {
         let lengths = Lengths::from_vec(Vec::from_slice(alloc, descriptor.lengths())?);

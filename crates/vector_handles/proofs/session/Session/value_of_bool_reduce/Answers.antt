@@ -7,6 +7,9 @@ use Rattle.vector_handles.proofs.session.Session.value_of_bool_reduce.Goals as g
 pub from_booleans-requires-after_bounds : goal.from_booleans-requires-after_bounds
 from_booleans-requires-after_bounds g c =
     let few : length c.descriptor_at-d.result.now ≤ most_elements = omega (arith, c.count.ensures.value, c.count.ensures.in_limit) in
-    omega (arith, c.in_ok-sums-in-Segmented.sums.ok,
-           reduce_in_limit (bool_join_of c.args.operator) (bool_unit_of c.args.operator) c.booleans_at-a.result.now
-           c.descriptor_at-d.result.now c.in_ok-sums-in-Segmented.sums.items c.in_ok-sums-in-Segmented.ensures few)
+    omega (
+      arith,
+      c.in_ok-sums-in-Segmented.sums.ok,
+      reduce_in_limit (bool_join_of c.args.operator) (bool_unit_of c.args.operator) c.booleans_at-a.result.now
+          c.descriptor_at-d.result.now c.in_ok-sums-in-Segmented.sums.items c.in_ok-sums-in-Segmented.ensures few,
+    )
