@@ -62,10 +62,11 @@ pub(crate) fn reduces_of_segments<M: Monoid, A: Memory>(
     ensures { IfOk result (λ sums. sums.items ≡ reduces_of M.join M.unit d.now a.now) }
 {
     know_laws::<M>();
-    let mut sums = Vec::with_capacity(alloc, d.count())?;
+    let lengths = d.lengths();
+    let mut sums = Vec::with_capacity(alloc, lengths.len())?;
     let mut rest = a;
-    for s in 0..d.count() {
-        let (segment, others) = rest.split_at(d.length(s));
+    for length in lengths {
+        let (segment, others) = rest.split_at(length.unsigned_abs() as usize);
         sums.push_reserved(sum_from::<M>(M::unit(), segment));
         rest = others;
     }
