@@ -1,5 +1,5 @@
 -- The table of calls: the name of each, the kinds of the arguments that it takes, in their order, and the kind that it gives.
--- Source: the calls of CVL, the C Vector Library; their names, orders and exceptions are this library's profile.
+-- Source: the calls of CVL, the C Vector Library (Blelloch and others, 1993); their names, orders and exceptions are this library's profile.
 use Rattle.std.specs.Prelude.{ℕ, Bool, true, false, not, if◌then◌else◌, ◌&&◌, ◌||◌, ◌==◌, List, [], ◌∷◌, ◌++◌, length, slice_get, codes, Option, Some, None}
 use Rattle.call_table.specs.declared.kind.Kind.{Kind}
 use Rattle.call_table.specs.declared.kind.Kind.TheVariants.{Integers, Booleans, Descriptor, Integer, Boolean}

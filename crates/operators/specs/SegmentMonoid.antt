@@ -1,5 +1,5 @@
 -- The monoid on runs of a segmented vector: whether a segment starts in the run, and what the run's elements join to since the last start.
--- Source: the pair operator of Blelloch's segmented scans (Vector Models for Data-Parallel Computing).
+-- Source: the pair operator of Blelloch's segmented scans (Vector Models for Data-Parallel Computing, 1990).
 use Rattle.std.specs.Prelude.{Bool, false, if◌then◌else◌}
 use Rattle.operators.specs.Booleans.{either}
 

@@ -1,5 +1,5 @@
 -- The sums of tiles. A tile is a run of elements of a segmented vector, each with whether a segment starts at it.
--- Source: Merrill and Garland, Single-pass Parallel Prefix Scan with Decoupled Look-back.
+-- Source: Merrill and Garland, Single-pass Parallel Prefix Scan with Decoupled Look-back, 2016.
 use Rattle.std.specs.Prelude.{ℕ, zero, suc, ◌+◌, ◌-◌, ℤ, pos, Bool, true, false, List, [], ◌∷◌, take, drop, slice_index_or}
 use Rattle.std.specs.List.{All, AllPass}
 use Rattle.operators.specs.Folds.{fold_of}

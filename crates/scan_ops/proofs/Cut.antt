@@ -16,11 +16,11 @@ use Rattle.scan_ops.proofs.Scanned.{scan_of-cons}
 abbrev pub continued : {Item : Type 0} → List Item → List (Bool × Item)
 continued xs = map (λ x. (false, x)) xs
 
-sum-cons : (n : ℕ) (ns : List ℕ) → sum (n ∷ ns) ≡ n + sum ns
+pub sum-cons : (n : ℕ) (ns : List ℕ) → sum (n ∷ ns) ≡ n + sum ns
 sum-cons n ns = sum_by-cons (λ x. x) n ns
 
 module _ {Item : Type 0} where
-  length-started : (xs : List Item) → length (started xs) ≡ length xs
+  pub length-started : (xs : List Item) → length (started xs) ≡ length xs
   length-started [] = refl
   length-started (x ∷ xs) = ap suc (length-map xs (λ y. (false, y)))
 
@@ -73,7 +73,8 @@ module _ {Item : Type 0} where
 pub start_of_all : (lengths : List ℕ) (s : ℕ) → length lengths ≤ s → start_of lengths s ≡ sum lengths
 start_of_all lengths s ge = ap sum (take_all s lengths ge)
 
-begins_by : (lengths : List ℕ) (from first : ℕ) → from ≤ sum lengths → ((s : ℕ) → first ≤ s → s < length lengths → from ≤ start_of lengths s) → from ≤ start_of lengths first
+-- where the segments from `first` on start at `from` or after it, so do the elements after the segments before `first`
+pub begins_by : (lengths : List ℕ) (from first : ℕ) → from ≤ sum lengths → ((s : ℕ) → first ≤ s → s < length lengths → from ≤ start_of lengths s) → from ≤ start_of lengths first
 begins_by lengths from first within later =
     elim (leb_tells (length lengths) first) [
       | inl t ↦ omega (arith, within, start_of_all lengths first t.1)

@@ -1,3 +1,4 @@
 pub mod Cut
+pub mod LastStart
 pub mod Scanned
 pub mod Segmented

@@ -1,8 +1,9 @@
 -- Scans and reduces of segments, one segment after another.
-use Rattle.std.proofs.Common.{◌≡◌, ℕ, ◌+◌, ◌<◌, ◌≤◌, min, List, [], ◌∷◌, ◌++◌, length, take, drop, map, get_or, refl, sym, ap, ◌∙◌, arith, inl, inr, Ok, Err}
-use Rattle.std.specs.Prelude.{not, sum}
+use Rattle.std.proofs.Common.{◌≡◌, ℕ, ℤ, pos, to_z, of_z, w32, ◌+◌, ◌<◌, ◌≤◌, min, List, [], ◌∷◌, ◌++◌, length, take, drop, map, get_or, refl, sym, ap, ◌∙◌, arith, inl, inr, Ok, Err}
+use Rattle.std.specs.Prelude.{not, sum, unsigned_abs}
 use Rattle.std.proofs.lemmas.Bool.Decides.{eqb_tells, leb_tells}
 use Rattle.std.proofs.lemmas.List.{append-nil, append_assoc, nil_from_length, drop_more, take_all, drop_all, take_min, drop_min}
+use Rattle.cvl_base.specs.Descriptors.{AreLengths}
 use Rattle.cvl_base.specs.declared.fault.Fault.{Fault}
 use Rattle.cvl_base.specs.declared.fault.FaultNo.TheVariants as no
 use Rattle.cvl_base.specs.Faults.{fault}
@@ -12,6 +13,7 @@ use Rattle.cvl_base.specs.Lists.{joined}
 use Rattle.cvl_base.specs.Nests.{cut_of, nest}
 use Rattle.cvl_base.specs.Segmented.{in_vector, results_from, one_each, end_to_end}
 use Rattle.cvl_base.specs.SegmentedCalls.{seg_scan_of, seg_reduce_of}
+use Rattle.segdes.proofs.Sums.{abs_pos, length_at}
 use Rattle.scan_ops.specs.Runs.{scans_of, reduces_of}
 
 -- ---- the definitions at lengths that fit
@@ -76,6 +78,13 @@ scans-none join unit (n ∷ ls) =
     ∙ scans-none join unit ls
 
 -- ---- the loops over the segments
+
+-- the length of segment s, as it is read from the row of numbers that a descriptor keeps
+pub length_read : (row : List ℤ) (lengths : List ℕ) (s n : ℕ) → row ≡ map pos lengths → AreLengths row → s < length row
+    → n ≡ unsigned_abs (to_z w32 (of_z w32 (get_or row s (pos 0)))) → n ≡ get_or lengths s 0
+length_read row lengths s n is are lt read =
+    let kept : map unsigned_abs row ≡ lengths = ap (map unsigned_abs) is ∙ abs_pos lengths in
+    read ∙ ap unsigned_abs (length_at row s lengths is (omega (arith, are.in_limit, ap sum kept)) lt)
 
 -- where there are elements left there is a segment left
 pub segment_left : (lengths : List ℕ) (s n : ℕ) → 0 < n → n ≤ sum (drop s lengths) → s < length lengths

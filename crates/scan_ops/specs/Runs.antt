@@ -1,5 +1,5 @@
 -- Runs of a segmented vector: ranges of its elements, in which segments may start anywhere, and scans over them.
--- Source: Blelloch's segmented scans (Vector Models for Data-Parallel Computing).
+-- Source: Blelloch's segmented scans (Vector Models for Data-Parallel Computing, 1990).
 use Rattle.std.specs.Prelude.{ℕ, Bool, true, false, if◌then◌else◌, List, [], ◌∷◌, map, take, drop}
 use Rattle.std.specs.List.{flat_map}
 use Rattle.cvl_base.specs.Folds.{fold_of, scan_of}

@@ -12,4 +12,5 @@ mod totals;
 pub use bools::{bool_reduce, bool_scan, seg_bool_reduce, seg_bool_scan};
 pub use ints::{int_reduce, int_scan, seg_int_reduce, seg_int_scan};
 pub use prefixes::{scan, seg_scan};
+pub use runs::{scan_of_run, sum_of_run};
 pub use sums::{reduce, seg_reduce};

@@ -3,9 +3,11 @@
 //! A run is a range of the vector's elements. Segments may start in it anywhere, some of them empty, and it may begin or
 //! end inside a segment. Each walk goes from segment to segment, and has a plain loop over the elements of each.
 
-ghost use Rattle.std.specs.Prelude.{◌≡◌, ◌+◌, ◌≤◌, ◌++◌, IsTrue, IfOk, length, drop, sum, vec_len, vec_capacity};
+ghost use Rattle.std.specs.Prelude.{◌≡◌, false, ◌+◌, ◌≤◌, ◌++◌, IsTrue, IfOk, length, drop, sum, vec_len, vec_capacity};
 ghost use Rattle.std.specs.List.{AllPass};
+ghost use Rattle.cvl_base.specs.Folds.{fold_of};
 ghost use Rattle.cvl_base.specs.Limits.{most_elements};
+ghost use Rattle.cvl_base.specs.SegmentMonoid.{seg_join};
 ghost use Rattle.segdes.specs.Starts.{start_of};
 ghost use Rattle.scan_ops.specs.Runs.{reduces_of, run_of, run_scan_of, scans_of};
 
@@ -62,17 +64,53 @@ pub(crate) fn reduces_of_segments<M: Monoid, A: Memory>(
     ensures { IfOk result (λ sums. sums.items ≡ reduces_of M.join M.unit d.now a.now) }
 {
     know_laws::<M>();
-    let mut sums = Vec::with_capacity(alloc, d.count())?;
+    let lengths = d.lengths();
+    let mut sums = Vec::with_capacity(alloc, lengths.len())?;
     let mut rest = a;
-    for s in 0..d.count() {
-        let (segment, others) = rest.split_at(d.length(s));
+    for length in lengths {
+        let (segment, others) = rest.split_at(length.unsigned_abs() as usize);
         sums.push_reserved(sum_from::<M>(M::unit(), segment));
         rest = others;
     }
     Ok(sums)
 }
 
-/// The scan of the run from place `from` to the one before place `to`, after what stands before it.
+/// The sum of the run from place `from` to the one before place `to`: whether a segment starts in it, and what its
+/// elements since the last start join to. Where none starts, that is `before` joined with all of them.
+///
+/// `before` is what the elements of the first segment that stand before the run join to. It must be an item of the
+/// monoid, as all elements must. The sum is the run's fold under [`Seg`](cvl_base::Seg), so the sums of runs one after
+/// another can be joined by it. It reads no element before the last start, and takes no memory. Source: Blelloch's
+/// segmented scans.
+pub fn sum_of_run<M: Monoid, A: Memory>(
+    a: &[M::Item],
+    d: &SegDes<A>,
+    from: usize,
+    to: usize,
+    before: M::Item,
+) -> (bool, M::Item)
+    requires total { sum d.now ≡ length a.now }
+    requires in_order { from ≤ to }
+    requires within { to ≤ length a.now }
+    requires before { IsTrue (M.is_item before) }
+    requires items { AllPass M.is_item a.now }
+    ensures { result ≡ fold_of (seg_join M.join) (false, before) (run_of d.now a.now from to) }
+{
+    know_laws::<M>();
+    let first = d.starts_before(from);
+    let next = d.starts_before(to);
+    if first < next {
+        let start = d.start(next - 1);
+        return (true, sum_from::<M>(M::unit(), &a[start..to]));
+    }
+    (false, sum_from::<M>(before, &a[from..to]))
+}
+
+/// The scan of the run from place `from` to the one before place `to`: for each of its elements, what the elements of its
+/// segment before it join to.
+///
+/// `before` is what the elements of the first segment that stand before the run join to. It must be an item of the
+/// monoid, as all elements must. The result is as long as the run. Source: Blelloch's segmented scans.
 pub fn scan_of_run<M: Monoid, A: Memory>(
     alloc: A,
     a: &[M::Item],

@@ -127,6 +127,15 @@ impl<A: Allocator> SegDes<A> {
         self.lengths.as_slice()
     }
 
+    /// A copy of the lengths of the segments as a descriptor value.
+    #[tactic(auto, using(crate::proofs::Sums::abs_pos))]
+    pub fn to_lengths(&self, alloc: A) -> Result<Lengths<A>, NoResources>
+        ensures { IfOk result (λ lengths. lengths ≡ self.now) }
+    {
+        let lengths = Vec::from_slice(alloc, self.lengths())?;
+        Ok(Lengths::from_vec(lengths))
+    }
+
     /// The lengths of the segments as a descriptor value, without taking memory.
     pub fn into_lengths(self) -> Lengths<A>
         ensures { result ≡ self }

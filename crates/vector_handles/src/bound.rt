@@ -4,7 +4,7 @@ ghost use Rattle.std.specs.Prelude.{◌≡◌, ◌≤◌, IfOk, None, option_cop
 ghost use Rattle.cvl_base.specs.Limits.{most_elements};
 ghost use Rattle.vector_handles.specs.Arguments.{lengths_of};
 
-use cvl_base::{Bools, Ints, Lengths, Memory, NoResources, Value};
+use cvl_base::{Bools, Ints, Memory, NoResources, Value};
 use segdes::SegDes;
 use std::marker::Model;
 
@@ -57,11 +57,10 @@ impl<A: Memory> Bound<A> {
     }
 
     /// A descriptor, whose lengths are copied into the value.
-    #[tactic(auto, using(segdes::proofs::Sums::abs_pos))]
     pub(crate) fn from_descriptor(alloc: A, descriptor: SegDes<A>) -> Result<Bound<A>, NoResources>
         ensures { IfOk result (λ bound. bound ≡ Value.Descriptor descriptor) }
     {
-        let lengths = Lengths::from_vec(Vec::from_slice(alloc, descriptor.lengths())?);
+        let lengths = descriptor.to_lengths(alloc)?;
         Ok(Bound {
             value: Value::Descriptor(lengths),
             descriptor: Some(descriptor),

@@ -5,13 +5,13 @@ use Rattle.scan_ops.specs.Runs.{reduces_of}
 use Rattle.scan_ops.proofs.runs.reduces_of_segments.Given as goal
 
 -- the reduces so far with those of the segments left are all
-abbrev pub invariant-loop-s : goal.invariant-loop-s
-invariant-loop-s g l =
+abbrev pub invariant-loop-length : goal.invariant-loop-length
+invariant-loop-length g l =
     let m = g.M.Monoid in
     record {
-      whole : l.sums.items ++ reduces_of m.join m.unit (drop l.s l.d) l.rest ≡ reduces_of m.join m.unit l.d l.a;
-      as_long : vec_len l.sums ≡ l.s;
+      whole : l.sums.items ++ reduces_of m.join m.unit (drop l.length-index l.d) l.rest ≡ reduces_of m.join m.unit l.d l.a;
+      as_long : vec_len l.sums ≡ l.length-index;
       capacity : vec_capacity l.sums ≡ length l.d;
-      covered : sum (drop l.s l.d) ≡ length l.rest;
+      covered : sum (drop l.length-index l.d) ≡ length l.rest;
       items : AllPass m.is_item l.rest;
     }
