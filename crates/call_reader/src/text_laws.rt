@@ -9,11 +9,9 @@ use std::alloc::Allocator;
 
 /// The text of each kind of value.
 pub fn text_values<A: Allocator>()
-    ensures integers {
-        text_of {A = A} (value.Integers (pos 0 ∷ (pos 3 ∷ (pos 4 ∷ [])))) ≡ codes "[0 3 4]" }
+    ensures integers { text_of {A = A} (value.Integers (pos 0 ∷ (pos 3 ∷ (pos 4 ∷ [])))) ≡ codes "[0 3 4]" }
     ensures no_integers { text_of {A = A} (value.Integers []) ≡ codes "[]" }
-    ensures booleans {
-        text_of {A = A} (value.Booleans (true ∷ (true ∷ (false ∷ [])))) ≡ codes "[T T F]" }
+    ensures booleans { text_of {A = A} (value.Booleans (true ∷ (true ∷ (false ∷ [])))) ≡ codes "[T T F]" }
     ensures no_booleans { text_of {A = A} (value.Booleans []) ≡ codes "[]" }
     ensures descriptor { text_of {A = A} (value.Descriptor (0 ∷ (0 ∷ (2 ∷ [])))) ≡ codes "[0 0 2]" }
     ensures no_segments { text_of {A = A} (value.Descriptor []) ≡ codes "[]" }
@@ -27,18 +25,14 @@ pub fn text_values<A: Allocator>()
 /// The text of vectors beside a descriptor, with empty segments before, between and after others, and of no segments
 /// at all.
 pub fn nested_text_values<A: Allocator>()
-    ensures integers {
-        value_text {A = A} (Some (0 ∷ (2 ∷ (0 ∷ (3 ∷ (0 ∷ []))))))
-            (value.Integers (pos 5 ∷ (pos 1 ∷ (pos 7 ∷ (pos 7 ∷ (pos 1 ∷ []))))))
+    ensures integers { value_text {A = A} (Some (0 ∷ (2 ∷ (0 ∷ (3 ∷ (0 ∷ []))))))
+        (value.Integers (pos 5 ∷ (pos 1 ∷ (pos 7 ∷ (pos 7 ∷ (pos 1 ∷ []))))))
         ≡ Ok (codes "[[] [5 1] [] [7 7 1] []]") }
-    ensures booleans {
-        value_text {A = A} (Some (1 ∷ (2 ∷ []))) (value.Booleans (true ∷ (false ∷ (true ∷ []))))
+    ensures booleans { value_text {A = A} (Some (1 ∷ (2 ∷ []))) (value.Booleans (true ∷ (false ∷ (true ∷ []))))
         ≡ Ok (codes "[[T] [F T]]") }
     ensures no_segments { value_text {A = A} (Some []) (value.Integers []) ≡ Ok (codes "[]") }
-    ensures empty_segment {
-        value_text {A = A} (Some (0 ∷ [])) (value.Integers []) ≡ Ok (codes "[[]]") }
-    ensures alone {
-        value_text {A = A} None (value.Integers (pos 12 ∷ (negsuc 0 ∷ []))) ≡ Ok (codes "[12 -1]") }
+    ensures empty_segment { value_text {A = A} (Some (0 ∷ [])) (value.Integers []) ≡ Ok (codes "[[]]") }
+    ensures alone { value_text {A = A} None (value.Integers (pos 12 ∷ (negsuc 0 ∷ []))) ≡ Ok (codes "[12 -1]") }
 {}
 
 /// The text of an integer, read as a number, is that integer. It does nothing: its contract says so of the definitions.

@@ -79,10 +79,8 @@ pub(crate) fn first_token<C: Classes>(bytes: &[u8]) -> Option<(&[u8], &[u8])>
 /// contract says so of the definition.
 pub fn token_laws<C: Classes>(bytes: &[u8])
     ensures classes { AreTokens C.class_of (tokens_by C.class_of) }
-    ensures whole {
-        concat (tokens_by C.class_of bytes.now) ≡ filter (λ b. not (is_blank (C.class_of b))) bytes.now }
-    ensures none_empty {
-        IsTrue (list_all (λ token. not (is_empty token)) (tokens_by C.class_of bytes.now)) }
+    ensures whole { concat (tokens_by C.class_of bytes.now) ≡ filter (λ b. not (is_blank (C.class_of b))) bytes.now }
+    ensures none_empty { IsTrue (list_all (λ token. not (is_empty token)) (tokens_by C.class_of bytes.now)) }
 {
     let _bytes = bytes;
 }

@@ -4,8 +4,8 @@ ghost use Rattle.std.specs.Prelude.{◌≡◌};
 ghost use Rattle.cvl_base.specs.Values.{kind_of};
 
 use crate::elements::{Bools, Ints};
-use call_table::Kind;
 use crate::lengths::Lengths;
+use call_table::Kind;
 use std::alloc::Allocator;
 
 /// A value of one of the five kinds.

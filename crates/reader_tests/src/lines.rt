@@ -116,12 +116,7 @@ fn reads_as<A: Memory>(heap: A, line: &[u8], wanted: &str) -> Result<bool, Refus
 }
 
 /// Asserts that a line reads so, and that it withstands the refusal of each of its requests for memory.
-fn assert_reads(
-    rt: &impl Abort,
-    alloc: Global,
-    line: &[u8],
-    wanted: &str,
-) -> Result<(), Fail> {
+fn assert_reads(rt: &impl Abort, alloc: Global, line: &[u8], wanted: &str) -> Result<(), Fail> {
     assert_eq!(rt; read(alloc, line)?.as_str(), wanted);
     withstands_refusals(
         alloc,

@@ -40,7 +40,10 @@ const STOPS: &[(Stop, &str)] = &[
         "line 0: fault 17 ScriptTooLong",
     ),
     (Stop::NoResources { line: 7 }, "line 7: no resources"),
-    (Stop::WriteFailed { line: 1_048_577 }, "line 1048577: write failed"),
+    (
+        Stop::WriteFailed { line: 1_048_577 },
+        "line 1048577: write failed",
+    ),
 ];
 
 /// Whether the stop is shown so, and its line is appended whole; after a refusal the text is as before.

@@ -75,9 +75,8 @@ impl<A: Allocator> Sink for MemSink<A> {
 
     fn put(&mut self, bytes: &[u8]) -> Result<usize, SinkFault>
         requires { self.old.failures < 2 ^ 64 - 1 }
-        ensures puts {
-            Puts (Some self.old.bytes, self.old.failures) bytes.now result
-                (Some self.new.bytes, self.new.failures) }
+        ensures puts { Puts (Some self.old.bytes, self.old.failures) bytes.now result
+            (Some self.new.bytes, self.new.failures) }
         ensures whole { IfOk result (λ n. n ≡ length bytes.now) }
         ensures in_room { length self.old.bytes + length bytes.now ≤ self.old.room → IsOk result }
         ensures room { self.old.room ≤ self.new.room }

@@ -25,9 +25,8 @@ fn step_line<R: Threads + Sync, A: Memory>(
     session: &mut Session<A>,
     line: &[u8],
 ) -> Result<Shown<A>, Refused>
-    ensures meaning {
-        Gives (λ shown. record { names = session.new.names; shown = text_shown shown }) result
-            (line_step session.old.names session.old.inputs line.now) }
+    ensures meaning { Gives (λ shown. record { names = session.new.names; shown = text_shown shown }) result
+        (line_step session.old.names session.old.inputs line.now) }
     ensures inputs { session.new.inputs ≡ session.old.inputs }
 {
     match read_line(alloc, line) {
@@ -69,9 +68,8 @@ fn run_line<R: Threads + Sync, A: Memory, S: Sink>(
     sink: &mut S,
 ) -> Result<(), Stop>
     requires { S.failures sink.old < 2 ^ 64 - 1 }
-    ensures runs {
-        LineRuns number (line_step session.old.names session.old.inputs line.now) session.new.names
-            (S.taken sink.old) (S.taken sink.new) (S.failures sink.old) (S.failures sink.new) result }
+    ensures runs { LineRuns number (line_step session.old.names session.old.inputs line.now) session.new.names
+        (S.taken sink.old) (S.taken sink.new) (S.failures sink.old) (S.failures sink.new) result }
     ensures inputs { session.new.inputs ≡ session.old.inputs }
 {
     match step_line(rt, alloc, session, line) {
@@ -93,9 +91,8 @@ fn run_lines<R: Threads + Sync, A: Memory, S: Sink>(
 ) -> Result<(), Stop>
     requires failures { S.failures sink.old < 2 ^ 64 - 1 }
     requires short { length script.now ≤ most_script_bytes }
-    ensures {
-        Runs (from_line 1 session.old.names session.old.inputs (lines_of script.now))
-            (S.taken sink.old) (S.taken sink.new) (S.failures sink.old) (S.failures sink.new) result }
+    ensures { Runs (from_line 1 session.old.names session.old.inputs (lines_of script.now))
+        (S.taken sink.old) (S.taken sink.new) (S.failures sink.old) (S.failures sink.new) result }
 {
     let mut number = 1;
     let mut rest = Some(script);
@@ -123,9 +120,8 @@ pub fn run<R: Threads + Sync, A: Memory, S: Sink>(
     sink: &mut S,
 ) -> Result<(), Stop>
     requires { S.failures sink.old < 2 ^ 64 - 1 }
-    ensures {
-        Runs (meaning script.now inputs.items)
-            (S.taken sink.old) (S.taken sink.new) (S.failures sink.old) (S.failures sink.new) result }
+    ensures { Runs (meaning script.now inputs.items)
+        (S.taken sink.old) (S.taken sink.new) (S.failures sink.old) (S.failures sink.new) result }
 {
     if script.len() > MOST_SCRIPT_BYTES {
         return Err(Stop::Script {

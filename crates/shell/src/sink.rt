@@ -22,7 +22,6 @@ pub trait Sink {
     /// No bytes are taken of none, without failing.
     fn put(&mut self, bytes: &[u8]) -> Result<usize, SinkFault>
         requires { failures self.old < 2 ^ 64 - 1 }
-        ensures {
-            Puts (taken self.old, failures self.old) bytes.now result
-                (taken self.new, failures self.new) };
+        ensures { Puts (taken self.old, failures self.old) bytes.now result
+            (taken self.new, failures self.new) };
 }

@@ -34,8 +34,7 @@ pub fn too_many_names()
     ensures wrong_kind_first { step_over full (codes "c = not_wuz 1") ≡ Err (fault no.WrongKind) }
     ensures before_missing_input { step_over full (codes "c = input 1") ≡ Err (fault no.TooManyNames) }
     ensures before_lengths { step_over full (codes "c = add_wuz n0000 n0001") ≡ Err (fault no.TooManyNames) }
-    ensures lengths_where_one_name_is_free {
-        step_over (take 4095 full) (codes "c = add_wuz n0000 n0001")
+    ensures lengths_where_one_name_is_free { step_over (take 4095 full) (codes "c = add_wuz n0000 n0001")
         ≡ Err (fault no.LengthMismatch) }
     ensures missing_input_of_a_bound_name { step_over full (codes "n7777 = input 1") ≡ Err (fault no.NoSuchInput) }
     ensures lengths_of_a_bound_name { step_over full (codes "n7777 = add_wuz n0000 n0001") ≡ Err (fault no.LengthMismatch) }
