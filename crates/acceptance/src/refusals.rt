@@ -50,6 +50,8 @@ h = sel_wub g e f
 i = int_wub h
 j = not_wub g
 k = cpy_wuz v
+t = max_sez v d
+r = and_reb e d
 write i
 d = mke_fov q
 write d
