@@ -81,6 +81,15 @@ begins_by lengths from first within later =
       | inr t ↦ later first (omega arith) t.1
     ]
 
+-- of two places in order, no more segments start before the first
+pub starts_in_order : (lengths : List ℕ) (from to first next : ℕ) → from ≤ to → first ≤ length lengths → ((s : ℕ) → s < first → start_of lengths s < from)
+    → ((s : ℕ) → next ≤ s → s < length lengths → to ≤ start_of lengths s) → first ≤ next
+starts_in_order lengths from to first next in_order le earlier later =
+    elim (leb_tells first next) [
+      | inl t ↦ t.1
+      | inr t ↦ absurd (omega (arith, in_order, earlier next t.1, later next (omega arith) (omega (arith, t.1, le))))
+    ]
+
 -- ---- the scan of a run
 
 module _ {Item : Type 0} (join : Item → Item → Item) (unit : Item) where

@@ -1,9 +1,13 @@
 -- Scans and reduces of segments, one segment after another.
-use Rattle.std.proofs.Common.{◌≡◌, ℕ, ℤ, pos, to_z, of_z, w32, ◌+◌, ◌<◌, ◌≤◌, min, List, [], ◌∷◌, ◌++◌, length, take, drop, map, get_or, refl, sym, ap, ◌∙◌, arith, inl, inr, Ok, Err}
+use Rattle.std.proofs.Common.{◌≡◌, ℕ, zero, suc, ◌-◌, ℤ, pos, to_z, of_z, w32, w64, Fits, ◌+◌, ◌<◌, ◌≤◌, min, List, [], ◌∷◌, ◌++◌, length, take, drop, map, get_or, refl, sym, ap, ◌∙◌, arith, inl, inr, Ok, Err}
 use Rattle.std.specs.Prelude.{not, sum, unsigned_abs}
-use Rattle.std.proofs.lemmas.Bool.Decides.{eqb_tells, leb_tells}
-use Rattle.std.proofs.lemmas.List.{append-nil, append_assoc, nil_from_length, drop_more, take_all, drop_all, take_min, drop_min}
+use Rattle.std.proofs.Math.Facts.{Fits-below}
+use Rattle.std.proofs.lemmas.Bool.Decides.{eqb_tells}
+use Rattle.std.proofs.lemmas.List.{append_assoc, length-take, drop-map, take-map, drop-take, take-take, nil_from_length, length-drop, drop_more, take_all, drop_all, take_min, drop_min}
+use Rattle.std.proofs.lemmas.List.Sums.{sum_by-cons, sum_by-take-drop}
+use Rattle.std.specs.Int.{IsNonNegative}
 use Rattle.cvl_base.specs.Descriptors.{AreLengths}
+use Rattle.cvl_base.specs.Limits.{most_elements}
 use Rattle.cvl_base.specs.declared.fault.Fault.{Fault}
 use Rattle.cvl_base.specs.declared.fault.FaultNo.TheVariants as no
 use Rattle.cvl_base.specs.Faults.{fault}
@@ -13,7 +17,8 @@ use Rattle.cvl_base.specs.Lists.{joined}
 use Rattle.cvl_base.specs.Nests.{cut_of, nest}
 use Rattle.cvl_base.specs.Segmented.{in_vector, results_from, one_each, end_to_end}
 use Rattle.cvl_base.specs.SegmentedCalls.{seg_scan_of, seg_reduce_of}
-use Rattle.segdes.proofs.Sums.{abs_pos, length_at}
+use Rattle.segdes.proofs.Sums.{abs_pos, cast_fits, length_at}
+use Rattle.segdes.specs.Starts.{start_of}
 use Rattle.scan_ops.specs.Runs.{scans_of, reduces_of}
 
 -- ---- the definitions at lengths that fit
@@ -77,22 +82,61 @@ scans-none join unit (n ∷ ls) =
     ∙ ap (λ others. scans_of join unit ls others) (drop_all n [] (omega arith))
     ∙ scans-none join unit ls
 
+-- segments that start after the elements' end change nothing
+pub scans_cut : {Item : Type 0} (join : Item → Item → Item) (unit : Item) (m : ℕ) (lengths : List ℕ) (xs : List Item) → length xs ≤ sum (take m lengths)
+    → scans_of join unit (take m lengths) xs ≡ scans_of join unit lengths xs
+scans_cut join unit zero lengths xs covered =
+    ap (λ ys. scans_of join unit [] ys) (nil_from_length xs (omega (arith, covered)))
+    ∙ sym (scans-none join unit lengths)
+    ∙ ap (λ ys. scans_of join unit lengths ys) (sym (nil_from_length xs (omega (arith, covered))))
+scans_cut join unit (suc m) [] xs covered = refl
+scans_cut join unit (suc m) (n ∷ ls) xs covered =
+    ap (λ sums. scan_of join unit (take n xs) ++ sums)
+    (scans_cut join unit m ls (drop n xs) (omega (arith, covered, sum_by-cons (λ x. x) n (take m ls), length-drop n xs)))
+
 -- ---- the loops over the segments
 
--- the length of segment s, as it is read from the row of numbers that a descriptor keeps
-pub length_read : (row : List ℤ) (lengths : List ℕ) (s n : ℕ) → row ≡ map pos lengths → AreLengths row → s < length row
-    → n ≡ unsigned_abs (to_z w32 (of_z w32 (get_or row s (pos 0)))) → n ≡ get_or lengths s 0
-length_read row lengths s n is are lt read =
-    let kept : map unsigned_abs row ≡ lengths = ap (map unsigned_abs) is ∙ abs_pos lengths in
-    read ∙ ap unsigned_abs (length_at row s lengths is (omega (arith, are.in_limit, ap sum kept)) lt)
+-- the number at place s of a row, as a loop reads it and casts it
+abbrev pub read_at : List ℤ → ℕ → ℕ
+read_at row s = unsigned_abs (to_z w32 (of_z w32 (get_or row s (pos 0))))
 
--- where there are elements left there is a segment left
-pub segment_left : (lengths : List ℕ) (s n : ℕ) → 0 < n → n ≤ sum (drop s lengths) → s < length lengths
-segment_left lengths s n some covered =
-    elim (leb_tells (length lengths) s) [
-      | inl t ↦ let none : sum (drop s lengths) ≡ 0 = ap sum (drop_all s lengths t.1) in absurd (omega (arith, some, covered, none))
-      | inr t ↦ t.1
-    ]
+module _ (row : List ℤ) (lengths : List ℕ) (is : row ≡ map pos lengths) (are : AreLengths row) where
+  small : sum lengths ≤ most_elements
+  small = let kept : map unsigned_abs row ≡ lengths = ap (map unsigned_abs) is ∙ abs_pos lengths in omega (arith, are.in_limit, ap sum kept)
+
+  -- it is the length of segment s
+  pub length_read : (s : ℕ) → s < length row → read_at row s ≡ get_or lengths s 0
+  length_read s lt = ap unsigned_abs (length_at row s lengths is small lt)
+
+  pub length_fits : (s : ℕ) → s < length row → IsNonNegative (to_z w32 (of_z w32 (get_or row s (pos 0)))) × Fits w64 (read_at row s)
+  length_fits s lt = cast_fits w64 row s lengths is small lt (λ n le. Fits-below tt le)
+
+-- a range of a descriptor's row is one of lengths
+pub range_read : (row : List ℤ) (lengths : List ℕ) (k m : ℕ) → row ≡ map pos lengths → map unsigned_abs (take m (drop k row)) ≡ take m (drop k lengths)
+range_read row lengths k m is =
+    ap (λ ns. map unsigned_abs (take m (drop k ns))) is
+    ∙ ap (map unsigned_abs) (ap (take m) (drop-map pos k lengths) ∙ take-map pos m (drop k lengths))
+    ∙ abs_pos (take m (drop k lengths))
+
+pub range_lengths : (row : List ℤ) (lengths : List ℕ) (k m : ℕ) → row ≡ map pos lengths → AreLengths row → AreLengths (take m (drop k row))
+range_lengths row lengths k m is are =
+    let ns = take m (drop k lengths) in
+    let read = range_read row lengths k m is in
+    record {
+      none_negative = ap (λ ks. take m (drop k ks)) is ∙ ap (take m) (drop-map pos k lengths) ∙ take-map pos m (drop k lengths) ∙ ap (map pos) (sym read);
+      few = omega (arith, are.few, length-take m (drop k row), length-drop k row);
+      in_limit = omega (arith, ap sum read, small row lengths is are, sum_by-take-drop (λ x. x) lengths k, sum_by-take-drop (λ x. x) (drop k lengths) m);
+    }
+
+-- the segments from `first` on to the one before `next` have the elements between their starts
+pub range_sum : (lengths : List ℕ) (first next : ℕ) → first ≤ next → start_of lengths first + sum (take (next - first) (drop first lengths)) ≡ start_of lengths next
+range_sum lengths first next le =
+    let m : ℕ = next - first in
+    let end : first + m ≡ next = omega (arith, le) in
+    ap (λ ns. sum (take first lengths) + sum ns) (sym (drop-take first m lengths))
+    ∙ ap (λ ns. sum ns + sum (drop first (take (first + m) lengths))) (sym (take-take first (first + m) lengths (omega arith)))
+    ∙ sum_by-take-drop (λ x. x) (take (first + m) lengths) first
+    ∙ ap (start_of lengths) end
 
 module _ {Item : Type 0} (join : Item → Item → Item) (unit : Item) (lengths : List ℕ) where
   pub scans_pushed : (sums pushed whole rest front others : List Item) (start : Item) (s n m : ℕ) → s < length lengths → n ≡ get_or lengths s 0 → m ≡ min n (length rest)
@@ -107,13 +151,6 @@ module _ {Item : Type 0} (join : Item → Item → Item) (unit : Item) (lengths 
       ∙ ap (λ o. sums ++ (scan_of join unit (take m rest) ++ later o)) is_others
       ∙ ap (λ j. sums ++ (scan_of join unit (take j rest) ++ later (drop j rest))) is_m
       ∙ ap (λ tail. sums ++ tail) (sym (scans_more_min join unit lengths s n rest lt is_n))
-      ∙ is_whole
-
-  pub scans_done : (sums whole rest : List Item) (s : ℕ) → length rest ≡ 0 → sums ++ scans_of join unit (drop s lengths) rest ≡ whole → sums ≡ whole
-  scans_done sums whole rest s none is_whole =
-      sym (append-nil sums)
-      ∙ ap (λ tail. sums ++ tail) (sym (scans-none join unit (drop s lengths)))
-      ∙ ap (λ ys. sums ++ scans_of join unit (drop s lengths) ys) (sym (nil_from_length rest none))
       ∙ is_whole
 
   pub reduces_pushed : (sums pushed whole rest front others : List Item) (start sum : Item) (s n : ℕ) → s < length lengths → n ≡ get_or lengths s 0

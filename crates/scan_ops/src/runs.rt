@@ -3,10 +3,10 @@
 //! A run is a range of the vector's elements. Segments may start in it anywhere, some of them empty, and it may begin or
 //! end inside a segment. Each walk goes from segment to segment, and has a plain loop over the elements of each.
 
-ghost use Rattle.std.specs.Prelude.{◌≡◌, false, ◌+◌, ◌≤◌, ◌++◌, IsTrue, IfOk, length, drop, sum, vec_len, vec_capacity};
+ghost use Rattle.std.specs.Prelude.{◌≡◌, false, ◌+◌, ◌≤◌, ◌++◌, IsTrue, IfOk, length, map, unsigned_abs, sum, vec_len, vec_capacity};
 ghost use Rattle.std.specs.List.{AllPass};
+ghost use Rattle.cvl_base.specs.Descriptors.{AreLengths};
 ghost use Rattle.cvl_base.specs.Folds.{fold_of};
-ghost use Rattle.cvl_base.specs.Limits.{most_elements};
 ghost use Rattle.cvl_base.specs.SegmentMonoid.{seg_join};
 ghost use Rattle.segdes.specs.Starts.{start_of};
 ghost use Rattle.scan_ops.specs.Runs.{reduces_of, run_of, run_scan_of, scans_of};
@@ -20,36 +20,30 @@ use std::alloc::Allocator;
 /// Where a segment starts, and the total where the segments end.
 fn start_or_total<A: Allocator>(d: &SegDes<A>, s: usize) -> usize
     requires { s ≤ length d.now }
-    ensures value { result ≡ start_of d.now s }
-    ensures others { result + sum (drop s d.now) ≡ sum d.now }
-    ensures few { length d.now ≤ most_elements }
+    ensures { result ≡ start_of d.now s }
 {
     if s < d.count() { d.start(s) } else { d.total() }
 }
 
-/// Pushes the scans of the segments from `first` on, one after another, until there are no elements left. There must be
-/// room for them.
+/// Pushes the scans of the segments with these lengths, one after another. The last may be cut short by the end of the
+/// elements. There must be room for them.
 fn push_scans<M: Monoid, A: Memory>(
     sums: &mut Vec<M::Item, A>,
-    d: &SegDes<A>,
-    first: usize,
+    lengths: &[i32],
     xs: &[M::Item],
 )
+    requires lengths { AreLengths lengths.now }
     requires room { vec_len sums.old + length xs.now ≤ vec_capacity sums.old }
-    requires few { length d.now ≤ most_elements }
-    requires within { first ≤ length d.now }
-    requires covered { length xs.now ≤ sum (drop first d.now) }
     requires items { AllPass M.is_item xs.now }
-    ensures { sums.new.items ≡ sums.old.items ++ scans_of M.join M.unit (drop first d.now) xs.now }
+    ensures { sums.new.items
+        ≡ sums.old.items ++ scans_of M.join M.unit (map unsigned_abs lengths.now) xs.now }
 {
     know_laws::<M>();
     let mut rest = xs;
-    let mut s = first;
-    while !rest.is_empty() {
-        let (segment, others) = rest.split_at(d.length(s).min(rest.len()));
+    for length in lengths {
+        let (segment, others) = rest.split_at((*length as usize).min(rest.len()));
         push_scan_from::<M, A>(sums, M::unit(), segment);
         rest = others;
-        s += 1;
     }
 }
 
@@ -68,7 +62,7 @@ pub(crate) fn reduces_of_segments<M: Monoid, A: Memory>(
     let mut sums = Vec::with_capacity(alloc, lengths.len())?;
     let mut rest = a;
     for length in lengths {
-        let (segment, others) = rest.split_at(length.unsigned_abs() as usize);
+        let (segment, others) = rest.split_at(*length as usize);
         sums.push_reserved(sum_from::<M>(M::unit(), segment));
         rest = others;
     }
@@ -129,9 +123,10 @@ pub fn scan_of_run<M: Monoid, A: Memory>(
     know_laws::<M>();
     let mut sums = Vec::with_capacity(alloc, to - from)?;
     let first = d.starts_before(from);
+    let next = d.starts_before(to);
     let start = start_or_total(d, first);
     let (front, rest) = a[from..to].split_at(start.min(to) - from);
     push_scan_from::<M, A>(&mut sums, before, front);
-    push_scans::<M, A>(&mut sums, d, first, rest);
+    push_scans::<M, A>(&mut sums, &d.lengths()[first..next], rest);
     Ok(sums)
 }
