@@ -1,9 +1,10 @@
 //! Scans and reduces of short vectors, by values worked out by hand.
 
+use cvl_base::monoids::Mul;
 use cvl_base::{BoolBinary, Config, Fault, FaultNo, IntMonoid, Refused};
 use scan_ops::{
-    bool_reduce, bool_scan, int_reduce, int_scan, seg_bool_reduce, seg_bool_scan, seg_int_reduce,
-    seg_int_scan,
+    bool_reduce, bool_scan, int_reduce, int_scan, scan_of_run, seg_bool_reduce, seg_bool_scan,
+    seg_int_reduce, seg_int_scan, sum_of_run,
 };
 use segdes::SegDes;
 use std::test::Fail;
@@ -130,6 +131,23 @@ fn empty_segments_and_none(rt: HostRuntime) -> Result<(), Fail> {
     assert!(rt; scanned.is_empty());
     let reduced = seg_int_reduce(&rt, rt.alloc(), config, IntMonoid::Add, &[], &none)?;
     assert!(rt; reduced.is_empty());
+    Ok(())
+}
+
+#[test]
+fn runs(rt: HostRuntime) -> Result<(), Fail> {
+    // the segments [2, 3, 5, 7], [11], [] and [13]
+    let a = [2, 3, 5, 7, 11, 13];
+    let d = SegDes::from_lengths(rt.alloc(), &[4, 1, 0, 1])?;
+    for (from, to, before, sums, sum) in [
+        (1, 3, 2, [2, 6].as_slice(), (false, 30)),
+        (2, 6, 6, [6, 30, 1, 1].as_slice(), (true, 13)),
+        (3, 3, 30, [].as_slice(), (false, 30)),
+    ] {
+        let scanned = scan_of_run::<Mul, _>(rt.alloc(), &a, &d, from, to, before)?;
+        assert_eq!(rt; scanned.as_slice(), sums, "{from} to {to}");
+        assert_eq!(rt; sum_of_run::<Mul, _>(&a, &d, from, to, before), sum, "{from} to {to}");
+    }
     Ok(())
 }
 

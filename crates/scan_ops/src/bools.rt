@@ -63,7 +63,8 @@ pub fn seg_bool_scan<R: Threads + Sync, A: Memory>(
     a: &[bool],
     d: &SegDes<A>,
 ) -> Result<Vec<bool, A>, Refused>
-    ensures { Gives (λ sums. sums.items) result (seg_scan_of (bool_join_of op) (bool_unit_of op) a.now d.now) }
+    ensures { Gives (λ sums. sums.items) result
+        (seg_scan_of (bool_join_of op) (bool_unit_of op) a.now d.now) }
 {
     match op {
         BoolBinary::And => seg_scan::<R, A, BoolAnd>(rt, alloc, config, a, d),
@@ -84,7 +85,8 @@ pub fn seg_bool_reduce<R: Threads + Sync, A: Memory>(
     a: &[bool],
     d: &SegDes<A>,
 ) -> Result<Vec<bool, A>, Refused>
-    ensures { Gives (λ sums. sums.items) result (seg_reduce_of (bool_join_of op) (bool_unit_of op) a.now d.now) }
+    ensures { Gives (λ sums. sums.items) result
+        (seg_reduce_of (bool_join_of op) (bool_unit_of op) a.now d.now) }
 {
     match op {
         BoolBinary::And => seg_reduce::<R, A, BoolAnd>(rt, alloc, config, a, d),

@@ -75,7 +75,8 @@ pub fn seg_int_scan<R: Threads + Sync, A: Memory>(
     a: &[i32],
     d: &SegDes<A>,
 ) -> Result<Vec<i32, A>, Refused>
-    ensures { Gives (λ sums. sums.items) result (seg_scan_of (int_join_of op) (int_unit_of op) a.now d.now) }
+    ensures { Gives (λ sums. sums.items) result
+        (seg_scan_of (int_join_of op) (int_unit_of op) a.now d.now) }
 {
     know_numbers(a);
     match op {
@@ -101,7 +102,8 @@ pub fn seg_int_reduce<R: Threads + Sync, A: Memory>(
     a: &[i32],
     d: &SegDes<A>,
 ) -> Result<Vec<i32, A>, Refused>
-    ensures { Gives (λ sums. sums.items) result (seg_reduce_of (int_join_of op) (int_unit_of op) a.now d.now) }
+    ensures { Gives (λ sums. sums.items) result
+        (seg_reduce_of (int_join_of op) (int_unit_of op) a.now d.now) }
 {
     know_numbers(a);
     match op {

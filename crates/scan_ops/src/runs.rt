@@ -100,8 +100,8 @@ pub fn sum_of_run<M: Monoid, A: Memory>(
     (false, sum_from::<M>(before, &a[from..to]))
 }
 
-/// The scan of the run from place `from` to the one before place `to`: for each of its elements, what the elements of its
-/// segment before it join to.
+/// The scan of the run from place `from` to the one before place `to`: for each of its elements, what the elements
+/// before it in its segment join to.
 ///
 /// `before` is what the elements of the first segment that stand before the run join to. It must be an item of the
 /// monoid, as all elements must. The result is as long as the run. Source: Blelloch's segmented scans.
@@ -118,7 +118,8 @@ pub fn scan_of_run<M: Monoid, A: Memory>(
     requires within { to ≤ length a.now }
     requires before { IsTrue (M.is_item before) }
     requires items { AllPass M.is_item a.now }
-    ensures { IfOk result (λ sums. sums.items ≡ run_scan_of M.join M.unit before (run_of d.now a.now from to)) }
+    ensures { IfOk result (λ sums. sums.items
+        ≡ run_scan_of M.join M.unit before (run_of d.now a.now from to)) }
 {
     know_laws::<M>();
     let mut sums = Vec::with_capacity(alloc, to - from)?;
