@@ -146,7 +146,11 @@ fn runs(rt: HostRuntime) -> Result<(), Fail> {
     ] {
         let scanned = scan_of_run::<Mul, _>(rt.alloc(), &a, &d, from, to, before)?;
         assert_eq!(rt; scanned.as_slice(), sums, "{from} to {to}");
-        assert_eq!(rt; sum_of_run::<Mul, _>(&a, &d, from, to, before), sum, "{from} to {to}");
+        assert_eq!(rt;
+            sum_of_run::<Mul, _>(&a, &d, from, to, before),
+            sum,
+            "{from} to {to}"
+        );
     }
     Ok(())
 }
