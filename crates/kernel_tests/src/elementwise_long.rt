@@ -54,9 +54,15 @@ fn operators_on_integers(rt: HostRuntime) -> Result<(), Fail> {
     let alloc = rt.alloc();
     let places = places(&rt, alloc);
     let twice = int2(&rt, alloc, config, IntBinary::Add, &places, &places)?;
-    assert_eq!(rt; (twice.len(), sum_of(&twice)), (4_194_304, 17_592_181_850_112));
+    assert_eq!(rt;
+        (twice.len(), sum_of(&twice)),
+        (4_194_304, 17_592_181_850_112)
+    );
     let inverted = int1(&rt, alloc, config, Unary::Not, &places)?;
-    assert_eq!(rt; (inverted.len(), sum_of(&inverted)), (4_194_304, -8_796_095_119_360));
+    assert_eq!(rt;
+        (inverted.len(), sum_of(&inverted)),
+        (4_194_304, -8_796_095_119_360)
+    );
     for (place, sum, complement) in [
         (0, 0, -1),
         (1_398_101, 2_796_202, -1_398_102),
@@ -81,7 +87,10 @@ fn comparisons_and_choices(rt: HostRuntime) -> Result<(), Fail> {
     assert_eq!(rt; (flags.len(), count_of(&flags)), (4_194_304, 2_796_204));
     // each place up to the bound, and the bound at the others
     let lesser = select(&rt, alloc, config, &flags, &places, &bounds)?;
-    assert_eq!(rt; (lesser.len(), sum_of(&lesser)), (4_194_304, 7_818_749_819_106));
+    assert_eq!(rt;
+        (lesser.len(), sum_of(&lesser)),
+        (4_194_304, 7_818_749_819_106)
+    );
     for (place, flag, least) in [
         (0, true, 0),
         (1_398_101, true, 1_398_101),
@@ -105,7 +114,10 @@ fn operators_on_booleans(rt: HostRuntime) -> Result<(), Fail> {
     let both = bool2(&rt, alloc, config, BoolBinary::And, &thirds, &halves)?;
     assert_eq!(rt; (both.len(), count_of(&both)), (4_194_304, 1_398_101));
     let inverted = bool1(&rt, alloc, config, Unary::Not, &thirds)?;
-    assert_eq!(rt; (inverted.len(), count_of(&inverted)), (4_194_304, 1_398_102));
+    assert_eq!(rt;
+        (inverted.len(), count_of(&inverted)),
+        (4_194_304, 1_398_102)
+    );
     for (place, third_and_half, third) in [
         (0, false, true),
         (1_398_101, true, false),
@@ -149,7 +161,10 @@ fn quotients(rt: HostRuntime) -> Result<(), Fail> {
     let places = places(&rt, alloc);
     let mut divisors = vec![in alloc; 2; MOST_ELEMENTS]?;
     let halves = int2(&rt, alloc, config, IntBinary::Div, &places, &divisors)?;
-    assert_eq!(rt; (halves.len(), sum_of(&halves)), (4_194_304, 4_398_044_413_952));
+    assert_eq!(rt;
+        (halves.len(), sum_of(&halves)),
+        (4_194_304, 4_398_044_413_952)
+    );
     assert_eq!(rt; halves.last(), Some(&2_097_151));
     divisors[MOST_ELEMENTS - 1] = 0;
     let answer = int2(&rt, alloc, config, IntBinary::Div, &places, &divisors);

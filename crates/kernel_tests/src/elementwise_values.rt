@@ -8,14 +8,44 @@ use std::test::Fail;
 fn operators_on_two_integers(rt: HostRuntime) -> Result<(), Fail> {
     let config = Config::new(4096, 4)?;
     for (op, a, b, values) in [
-        (IntBinary::Add, [2147483647, -5, 7], [1, 2, -7], [-2147483648, -3, 0]),
-        (IntBinary::Sub, [-2147483648, 7, 12], [1, 2, -4], [2147483647, 5, 16]),
-        (IntBinary::Mul, [65536, -3, 12], [65536, 5, -4], [0, -15, -48]),
-        (IntBinary::Div, [-7, -2147483648, 7], [2, -1, 1], [-3, -2147483648, 7]),
-        (IntBinary::Mod, [-7, -2147483648, 7], [2, -1, -2], [-1, 0, 1]),
+        (
+            IntBinary::Add,
+            [2147483647, -5, 7],
+            [1, 2, -7],
+            [-2147483648, -3, 0],
+        ),
+        (
+            IntBinary::Sub,
+            [-2147483648, 7, 12],
+            [1, 2, -4],
+            [2147483647, 5, 16],
+        ),
+        (
+            IntBinary::Mul,
+            [65536, -3, 12],
+            [65536, 5, -4],
+            [0, -15, -48],
+        ),
+        (
+            IntBinary::Div,
+            [-7, -2147483648, 7],
+            [2, -1, 1],
+            [-3, -2147483648, 7],
+        ),
+        (
+            IntBinary::Mod,
+            [-7, -2147483648, 7],
+            [2, -1, -2],
+            [-1, 0, 1],
+        ),
         (IntBinary::Min, [7, -3, 12], [2, 5, -4], [2, -3, -4]),
         (IntBinary::Max, [7, -3, 12], [2, 5, -4], [7, 5, 12]),
-        (IntBinary::Lsh, [1, 3, -1], [31, 31, 1], [-2147483648, -2147483648, -2]),
+        (
+            IntBinary::Lsh,
+            [1, 3, -1],
+            [31, 31, 1],
+            [-2147483648, -2147483648, -2],
+        ),
         (IntBinary::Rsh, [-7, 7, 1], [1, 1, 0], [-4, 3, 1]),
         (IntBinary::And, [7, -3, 12], [2, 5, -4], [2, 5, 12]),
         (IntBinary::Ior, [7, -3, 12], [2, 5, -4], [7, -3, -4]),
@@ -33,11 +63,25 @@ fn faults_of_two_integers(rt: HostRuntime) -> Result<(), Fail> {
     for (op, a, b, number) in [
         (IntBinary::Div, [8, 6, 4], [2, 0, 0], FaultNo::DivideByZero),
         (IntBinary::Mod, [8, 6, 4], [2, 0, 0], FaultNo::DivideByZero),
-        (IntBinary::Lsh, [1, 1, 1], [0, 32, -1], FaultNo::ShiftOutOfRange),
-        (IntBinary::Rsh, [1, 1, 1], [31, -1, 32], FaultNo::ShiftOutOfRange),
+        (
+            IntBinary::Lsh,
+            [1, 1, 1],
+            [0, 32, -1],
+            FaultNo::ShiftOutOfRange,
+        ),
+        (
+            IntBinary::Rsh,
+            [1, 1, 1],
+            [31, -1, 32],
+            FaultNo::ShiftOutOfRange,
+        ),
     ] {
         let answer = int2(&rt, rt.alloc(), config, op, a.as_slice(), b.as_slice());
-        assert_eq!(rt; answer.err(), Some(Refused::Fault(Fault::at(number, 1))), "{op:?}");
+        assert_eq!(rt;
+            answer.err(),
+            Some(Refused::Fault(Fault::at(number, 1))),
+            "{op:?}"
+        );
         let shorter = int2(&rt, rt.alloc(), config, op, a.as_slice(), &[0]);
         let mismatch = Refused::Fault(Fault::new(FaultNo::LengthMismatch));
         assert_eq!(rt; shorter.err(), Some(mismatch), "{op:?}");
