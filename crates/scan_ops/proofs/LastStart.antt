@@ -1,5 +1,5 @@
 -- What the elements of a run join to since the last start in it.
-use Rattle.std.proofs.Common.{◌≡◌, ℕ, zero, suc, ◌+◌, ◌-◌, ◌<◌, ◌≤◌, Bool, false, true, List, [], ◌∷◌, ◌++◌, length, take, drop, map, get_or, refl, sym, ap, ◌∙◌, arith, append_assoc, append-nil}
+use Rattle.std.proofs.Common.{◌≡◌, ℕ, zero, suc, ◌+◌, ◌-◌, ◌<◌, ◌≤◌, Bool, false, true, List, [], ◌∷◌, ◌++◌, length, take, drop, get_or, refl, sym, ap, ◌∙◌, arith, append_assoc, append-nil}
 use Rattle.std.specs.Prelude.{sum}
 use Rattle.std.specs.List.{AllPass}
 use Rattle.std.proofs.lemmas.List.{length-take, length-drop, length-append, take_all, drop_all, drop_more, drop-append-le, drop-take, drop-drop, take-take}
@@ -39,8 +39,14 @@ module _ {Item : Type 0} where
   length-with_starts : (lengths : List ℕ) (xs : List Item) → length xs ≤ sum lengths → length (with_starts lengths xs) ≡ length xs
   length-with_starts [] xs covered = omega (arith, covered)
   length-with_starts (n ∷ ls) xs covered =
-      omega (arith, length-append (started (take n xs)) (with_starts ls (drop n xs)), length-started (take n xs), length-take n xs, length-drop n xs,
-      length-with_starts ls (drop n xs) (omega (arith, covered, sum-cons n ls, length-drop n xs)))
+      omega (
+        arith,
+        length-append (started (take n xs)) (with_starts ls (drop n xs)),
+        length-started (take n xs),
+        length-take n xs,
+        length-drop n xs,
+        length-with_starts ls (drop n xs) (omega (arith, covered, sum-cons n ls, length-drop n xs)),
+      )
 
   -- a run at whose elements no segment starts
   pub run_continued : (lengths : List ℕ) (xs : List Item) (from to k first : ℕ) → from ≤ to → to ≤ length xs → first ≤ length lengths
@@ -73,18 +79,17 @@ module _ {Item : Type 0} where
       let long : length front ≡ length (take p (take to xs)) = length-with_starts (take s lengths) (take p (take to xs)) (omega (arith, length-take p (take to xs))) in
       let end : p + m ≡ to = omega (arith, before) in
       let whole : with_starts lengths (take to xs) ≡ front ++ started ys =
-          split_at_start lengths (take to xs) s (omega (arith, lt))
-          ∙ ap (λ ls. front ++ with_starts ls ys) (drop_more lengths s 0 lt)
-          ∙ ap (λ zs. front ++ (started zs ++ with_starts (drop (s + 1) lengths) (drop n ys))) (take_all n ys short)
-          ∙ ap (λ zs. front ++ (started ys ++ with_starts (drop (s + 1) lengths) zs)) (drop_all n ys short)
-          ∙ ap (λ zs. front ++ (started ys ++ zs)) (with_starts-none (drop (s + 1) lengths))
-          ∙ ap (λ zs. front ++ zs) (append-nil (started ys)) in
-      (
+      split_at_start lengths (take to xs) s (omega (arith, lt))
+      ∙ ap (λ ls. front ++ with_starts ls ys) (drop_more lengths s 0 lt)
+      ∙ ap (λ zs. front ++ (started zs ++ with_starts (drop (s + 1) lengths) (drop n ys))) (take_all n ys short)
+      ∙ ap (λ zs. front ++ (started ys ++ with_starts (drop (s + 1) lengths) zs)) (drop_all n ys short)
+      ∙ ap (λ zs. front ++ (started ys ++ zs)) (with_starts-none (drop (s + 1) lengths))
+      ∙ ap (λ zs. front ++ zs) (append-nil (started ys)) in (
         drop from front,
         ap (drop from) whole
-        ∙ drop-append-le from front (started ys) (omega (arith, long, length-take p (take to xs), length-take to xs, le, before, within))
-        ∙ ap (λ t. drop from front ++ started (drop p (take t xs))) (sym end)
-        ∙ ap (λ zs. drop from front ++ started zs) (drop-take p m xs),
+            ∙ drop-append-le from front (started ys) (omega (arith, long, length-take p (take to xs), length-take to xs, le, before, within))
+            ∙ ap (λ t. drop from front ++ started (drop p (take t xs))) (sym end)
+            ∙ ap (λ zs. drop from front ++ started zs) (drop-take p m xs),
       )
 
 -- ---- the sum of a run
@@ -129,4 +134,4 @@ module _ {Item : Type 0} {is_item : Item → Bool} {unit : Item} {join : Item �
       ap (fold_of (seg_join join) before) parts.1
       ∙ fold-append (seg_join join) before parts.0 (started ys)
       ∙ started_summed (fold_of (seg_join join) before parts.0) ys (omega (arith, length-take (to - p) (drop p xs), length-drop p xs, ends, within))
-          (All-take is_one (to - p) (drop p xs) (All-drop is_one p xs items))
+      (All-take is_one (to - p) (drop p xs) (All-drop is_one p xs items))

@@ -27,11 +27,7 @@ fn start_or_total<A: Allocator>(d: &SegDes<A>, s: usize) -> usize
 
 /// Pushes the scans of the segments with these lengths, one after another. The last may be cut short by the end of the
 /// elements. There must be room for them.
-fn push_scans<M: Monoid, A: Memory>(
-    sums: &mut Vec<M::Item, A>,
-    lengths: &[i32],
-    xs: &[M::Item],
-)
+fn push_scans<M: Monoid, A: Memory>(sums: &mut Vec<M::Item, A>, lengths: &[i32], xs: &[M::Item])
     requires lengths { AreLengths lengths.now }
     requires room { vec_len sums.old + length xs.now ≤ vec_capacity sums.old }
     requires items { AllPass M.is_item xs.now }

@@ -1,4 +1,4 @@
-use Rattle.std.proofs.Common.{◌≡◌, ℕ, ◌-◌, ◌<◌, ◌≤◌, ◌++◌, ◌∙◌, inl, inr, min, true, length, map, unsigned_abs, take, drop, refl, sym, ap, subst, arith, rules}
+use Rattle.std.proofs.Common.{◌≡◌, ℕ, ◌-◌, ◌≤◌, ◌++◌, ◌∙◌, min, true, length, take, drop, refl, sym, ap, subst, arith, rules}
 use Rattle.std.specs.Prelude.{sum}
 use Rattle.std.specs.List.{AllPass}
 use Rattle.std.proofs.lemmas.List.Elements.{All-drop, All-take}
@@ -20,7 +20,7 @@ slice_bounds-push_scans-start g c =
     let first = c.starts_before-first in
     let next = c.starts_before-next in
     let ordered : first.result ≤ next.result =
-        starts_in_order c.args.d.now c.args.from c.args.to first.result next.result c.requires.in_order first.ensures.in_count first.ensures.before next.ensures.others in
+    starts_in_order c.args.d.now c.args.from c.args.to first.result next.result c.requires.in_order first.ensures.in_count first.ensures.before next.ensures.others in
     search (rules, ordered)
 
 pub push_scans-requires-clause-lengths : goal.push_scans-requires-clause-lengths
@@ -46,10 +46,10 @@ returns g c =
     let cut : c.min.result ≡ min start.result c.args.to = c.min.ensures in
     let n : ℕ = next.result - first.result in
     let ordered : first.result ≤ next.result =
-        starts_in_order d c.args.from c.args.to first.result next.result c.requires.in_order first.ensures.in_count first.ensures.before next.ensures.others in
+    starts_in_order d c.args.from c.args.to first.result next.result c.requires.in_order first.ensures.in_count first.ensures.before next.ensures.others in
     let reach : c.args.to ≤ start_of d next.result = begins_by d c.args.to next.result (omega (arith, c.requires.within, c.requires.total)) next.ensures.others in
     let covered : length others ≤ sum (take n (drop first.result d)) =
-        omega (arith, reach, range_sum d first.result next.result ordered, start.ensures, cut, c.split_at.ensures.back_len, c.requires.within) in
+    omega (arith, reach, range_sum d first.result next.result ordered, start.ensures, cut, c.split_at.ensures.back_len, c.requires.within) in
     c.push_scans.ensures
     ∙ ap (λ ls. c.push_scan_from.new.sums.items ++ scans_of m.join m.unit ls others) (range_read c.lengths.result.now d first.result n c.lengths.ensures.value)
     ∙ ap (λ sums. c.push_scan_from.new.sums.items ++ sums) (scans_cut m.join m.unit n (drop first.result d) others covered)

@@ -20,8 +20,8 @@ returns-then-first-next g c =
     ap (λ v. (true, v)) (c.sum_from.ensures ∙ ap (λ u. fold_of m.join u (take (to - c.start-start.result) (drop c.start-start.result xs))) c.unit.ensures)
     ∙ ap (λ p. (true, fold_of m.join m.unit (take (to - p) (drop p xs)))) c.start-start.ensures.value
     ∙ sym (started_run_summed c.know_laws.ensures d xs (false, c.args.before) c.args.from to s c.requires.within lt
-        (c.starts_before-first.ensures.others s (omega (arith, more, c.if-first-next.true)) lt)
-        (next.ensures.before s (omega (arith, more))) (omega (arith, reach, ap (start_of d) more)) c.requires.items)
+    (c.starts_before-first.ensures.others s (omega (arith, more, c.if-first-next.true)) lt)
+    (next.ensures.before s (omega (arith, more))) (omega (arith, reach, ap (start_of d) more)) c.requires.items)
 
 pub returns : goal.returns
 returns g c =
@@ -34,4 +34,4 @@ returns g c =
     let end : c.args.from + k ≡ start_of d first.result = omega (arith, reach, c.requires.in_order) in
     ap (λ v. (false, v)) c.sum_from-2.ensures
     ∙ sym (run_summed g.M.Monoid.join d c.args.a.now false c.args.before c.args.from c.args.to k first.result c.requires.in_order c.requires.within
-        first.ensures.in_count end (omega (arith, end, reach)) first.ensures.before)
+    first.ensures.in_count end (omega (arith, end, reach)) first.ensures.before)
