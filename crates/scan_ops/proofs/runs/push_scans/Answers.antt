@@ -1,6 +1,6 @@
-use Rattle.std.proofs.Common.{◌≡◌, ℕ, ◌<◌, min, true, get_or, length, map, pos, unsigned_abs, sym, subst, ◌∙◌, arith}
+use Rattle.std.proofs.Common.{◌≡◌, ◌<◌, min, true, get_or, length, map, unsigned_abs, sym, subst, arith}
 use Rattle.std.specs.List.{AllPass}
-use Rattle.std.proofs.lemmas.List.{get_or-map, length-map}
+use Rattle.std.proofs.lemmas.List.{length-map}
 use Rattle.std.proofs.lemmas.List.Elements.{All-drop}
 use Rattle.scan_ops.proofs.Segmented.{length_fits, length_read, read_at, scans_pushed}
 use Rattle.scan_ops.proofs.runs.push_scans.Goals as goal
