@@ -11,10 +11,10 @@ use Rattle.call_table.specs.declared.families.Element.TheVariants.{Integer, Bool
 use Rattle.call_table.specs.declared.operation.Op.{Op}
 use Rattle.call_table.specs.declared.operation.Op.TheVariants.{Input, Ints2, Ints1, Compare, Bools2, Bools1, Choose, IntFromBool, BoolFromInt, Scan, Reduce, BoolScan, BoolReduce, Permute, Length, Count, Pack, PackedLengths, Distribute, Index, Extract, Replace, MakeDescriptor, DescriptorLengths, Write}
 use Rattle.call_table.specs.Calls.{spelling_of, is_write}
-use Rattle.call_table.specs.Spellings.{any_op_of, int_binaries, unaries, comparisons, bool_binaries, int_monoids, forms, elements}
+use Rattle.call_table.specs.Spellings.{op_of, int_binaries, unaries, comparisons, bool_binaries, int_monoids, forms, elements}
 
-pub read_back : (op : Op) → is_write op ≡ false → any_op_of (spelling_of op) ≡ Some op
-unfolding any_op_of int_binaries unaries comparisons bool_binaries int_monoids forms elements
+pub read_back : (op : Op) → is_write op ≡ false → op_of (spelling_of op) ≡ Some op
+unfolding op_of int_binaries unaries comparisons bool_binaries int_monoids forms elements
 read_back Input h = refl
 read_back (Ints2 int.Add) h = refl
 read_back (Ints2 int.Sub) h = refl

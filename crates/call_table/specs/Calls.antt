@@ -1,6 +1,6 @@
 -- The table of calls: the name of each, the kinds of the arguments that it takes, in their order, and the kind that it gives.
 -- Source: the calls of CVL, the C Vector Library (Blelloch and others, 1993); their names, orders and exceptions are this library's profile.
-use Rattle.std.specs.Prelude.{ℕ, Bool, true, false, not, if◌then◌else◌, ◌&&◌, ◌||◌, ◌==◌, List, [], ◌∷◌, ◌++◌, length, slice_get, codes, Option, Some, None}
+use Rattle.std.specs.Prelude.{ℕ, Bool, true, false, if◌then◌else◌, ◌&&◌, ◌||◌, ◌==◌, List, [], ◌∷◌, ◌++◌, length, slice_get, codes, Option, Some, None}
 use Rattle.call_table.specs.declared.kind.Kind.{Kind}
 use Rattle.call_table.specs.declared.kind.Kind.TheVariants.{Integers, Booleans, Descriptor, Integer, Boolean}
 use Rattle.call_table.specs.declared.families.Form.{Form}
@@ -128,20 +128,3 @@ is_operand (Some wanted) kind = same_kind wanted kind
 -- among so many arguments, may the one at this place have this kind?
 abbrev pub accepts_of : Op → ℕ → ℕ → Kind → Bool
 accepts_of op count place kind = if is_write op then write_accepts count place kind else is_operand (slice_get (operands_of op) place) kind
-
--- the families of calls that the library does not perform yet
-abbrev pub is_missing : Op → Bool
-is_missing (Permute form cut element) = true
-is_missing (Length element) = true
-is_missing (Count cut) = true
-is_missing (Pack cut element) = true
-is_missing PackedLengths = true
-is_missing (Distribute cut element) = true
-is_missing (Index cut) = true
-is_missing (Extract cut element) = true
-is_missing (Replace cut element) = true
-is_missing _ = false
-
--- the calls that the library performs today
-abbrev pub is_done : Op → Bool
-is_done op = not (is_write op || is_missing op)

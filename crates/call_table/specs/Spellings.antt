@@ -1,6 +1,6 @@
 -- The calls by their names: which call a word means.
 -- Source: the naming of CVL's calls, in this library's profile.
-use Rattle.std.specs.Prelude.{ℕ, Bool, if◌then◌else◌, List, [], ◌∷◌, ◌++◌, map, find, Option, Some, None, option_and_then, bytes_eq}
+use Rattle.std.specs.Prelude.{ℕ, Bool, List, [], ◌∷◌, ◌++◌, map, find, Option, bytes_eq}
 use Rattle.call_table.specs.declared.families.IntBinary.{IntBinary}
 use Rattle.call_table.specs.declared.families.IntBinary.TheVariants as int
 use Rattle.call_table.specs.declared.families.Unary.{Unary}
@@ -20,7 +20,7 @@ use Rattle.call_table.specs.declared.families.Element.TheVariants.{Integer, Bool
 use Rattle.call_table.specs.declared.operation.Op.{Op}
 use Rattle.call_table.specs.declared.operation.Op.TheVariants.{Input, Ints2, Ints1, Compare, Bools2, Bools1, Choose, IntFromBool, BoolFromInt, Scan, Reduce, BoolScan, BoolReduce, Permute, Length, Count, Pack, PackedLengths, Distribute, Index, Extract, Replace, MakeDescriptor, DescriptorLengths}
 use Rattle.call_table.specs.declared.spelling.Spelling.{Spelling}
-use Rattle.call_table.specs.Calls.{spelling_of, is_done}
+use Rattle.call_table.specs.Calls.{spelling_of}
 
 -- the bytes that a spelling shows: its parts, one after the other
 abbrev pub bytes_of : Spelling → List ℕ
@@ -80,13 +80,6 @@ calls = elementwise_calls ++ cut_calls Flat ++ cut_calls Segmented ++ other_call
 abbrev pub is_spelled : List ℕ → Op → Bool
 is_spelled word op = bytes_eq word (spelling_of op)
 
--- the call that is spelled so, done or not
-unfoldable pub any_op_of : List ℕ → Option Op
-any_op_of word = find (is_spelled word) calls
-
-abbrev pub if_done : Op → Option Op
-if_done op = if is_done op then Some op else None
-
--- the call that is spelled so, if the library performs it
+-- the call that is spelled so
 unfoldable pub op_of : List ℕ → Option Op
-op_of word = option_and_then if_done (any_op_of word)
+op_of word = find (is_spelled word) calls

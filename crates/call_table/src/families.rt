@@ -1,7 +1,6 @@
 //! In what the calls of one family differ: the operator, the form, the cut and the elements, with their letters in names.
 
 ghost use Rattle.std.specs.Prelude.{◌≡◌};
-ghost use Rattle.call_table.specs.Spellings.{int_binaries, unaries, comparisons, bool_binaries, int_monoids, forms, elements};
 ghost use Rattle.call_table.specs.Letters.{int_binary_letters, unary_letters, comparison_letters, bool_binary_letters, int_monoid_letters, form_letters, cut_and_element_letters};
 
 /// An operator on two integer vectors, element by element, whose result is an integer vector.
@@ -34,27 +33,6 @@ pub enum IntBinary {
 }
 
 impl IntBinary {
-    /// All of these operators, each once.
-    #[tactic(auto, unfolding(crate::specs::Spellings::int_binaries))]
-    pub(crate) fn all() -> &'static [IntBinary]
-        ensures { result.now ≡ int_binaries }
-    {
-        &[
-            IntBinary::Add,
-            IntBinary::Sub,
-            IntBinary::Mul,
-            IntBinary::Div,
-            IntBinary::Mod,
-            IntBinary::Min,
-            IntBinary::Max,
-            IntBinary::Lsh,
-            IntBinary::Rsh,
-            IntBinary::And,
-            IntBinary::Ior,
-            IntBinary::Xor,
-        ]
-    }
-
     /// The three letters with which a call of this operator begins.
     pub(crate) fn letters(self) -> &'static str
         ensures { result.now ≡ int_binary_letters self }
@@ -86,14 +64,6 @@ pub enum Unary {
 }
 
 impl Unary {
-    /// Both of these operators.
-    #[tactic(auto, unfolding(crate::specs::Spellings::unaries))]
-    pub(crate) fn all() -> &'static [Unary]
-        ensures { result.now ≡ unaries }
-    {
-        &[Unary::Not, Unary::Copy]
-    }
-
     /// The three letters with which a call of this operator begins.
     pub(crate) fn letters(self) -> &'static str
         ensures { result.now ≡ unary_letters self }
@@ -123,21 +93,6 @@ pub enum Comparison {
 }
 
 impl Comparison {
-    /// All comparisons, each once.
-    #[tactic(auto, unfolding(crate::specs::Spellings::comparisons))]
-    pub(crate) fn all() -> &'static [Comparison]
-        ensures { result.now ≡ comparisons }
-    {
-        &[
-            Comparison::Greater,
-            Comparison::Less,
-            Comparison::AtLeast,
-            Comparison::AtMost,
-            Comparison::Equal,
-            Comparison::Unequal,
-        ]
-    }
-
     /// The three letters with which a call of this comparison begins.
     pub(crate) fn letters(self) -> &'static str
         ensures { result.now ≡ comparison_letters self }
@@ -165,14 +120,6 @@ pub enum BoolBinary {
 }
 
 impl BoolBinary {
-    /// All of these operators, each once.
-    #[tactic(auto, unfolding(crate::specs::Spellings::bool_binaries))]
-    pub(crate) fn all() -> &'static [BoolBinary]
-        ensures { result.now ≡ bool_binaries }
-    {
-        &[BoolBinary::And, BoolBinary::Ior, BoolBinary::Xor]
-    }
-
     /// The three letters with which a call of this operator begins.
     pub(crate) fn letters(self) -> &'static str
         ensures { result.now ≡ bool_binary_letters self }
@@ -205,22 +152,6 @@ pub enum IntMonoid {
 }
 
 impl IntMonoid {
-    /// All of these operators, each once.
-    #[tactic(auto, unfolding(crate::specs::Spellings::int_monoids))]
-    pub(crate) fn all() -> &'static [IntMonoid]
-        ensures { result.now ≡ int_monoids }
-    {
-        &[
-            IntMonoid::Add,
-            IntMonoid::Mul,
-            IntMonoid::Min,
-            IntMonoid::Max,
-            IntMonoid::And,
-            IntMonoid::Ior,
-            IntMonoid::Xor,
-        ]
-    }
-
     /// The three letters with which a call of this operator begins.
     pub(crate) fn letters(self) -> &'static str
         ensures { result.now ≡ int_monoid_letters self }
@@ -251,14 +182,6 @@ pub enum Form {
 }
 
 impl Form {
-    /// All forms, each once.
-    #[tactic(auto, unfolding(crate::specs::Spellings::forms))]
-    pub(crate) fn all() -> &'static [Form]
-        ensures { result.now ≡ forms }
-    {
-        &[Form::Simple, Form::Back, Form::Select, Form::Default]
-    }
-
     /// The three letters with which a call of this form begins.
     pub(crate) fn letters(self) -> &'static str
         ensures { result.now ≡ form_letters self }
@@ -288,16 +211,6 @@ pub enum Element {
     Integer,
     /// Booleans; in a call's name `b`.
     Boolean,
-}
-
-impl Element {
-    /// Both types of elements.
-    #[tactic(auto, unfolding(crate::specs::Spellings::elements))]
-    pub(crate) fn all() -> &'static [Element]
-        ensures { result.now ≡ elements }
-    {
-        &[Element::Integer, Element::Boolean]
-    }
 }
 
 /// The last two letters of a call's name: how it takes its vectors, and what they hold.

@@ -1,7 +1,7 @@
 //! The calls of a script by families, with the operands that each takes and what it gives.
 
 ghost use Rattle.std.specs.Prelude.{◌≡◌};
-ghost use Rattle.call_table.specs.Calls.{operands_of, result_of, is_done, is_missing, is_write, takes_of, accepts_of, write_accepts, same_kind, is_vector};
+ghost use Rattle.call_table.specs.Calls.{operands_of, result_of, is_write, takes_of, accepts_of, write_accepts, same_kind, is_vector};
 
 use crate::families::{BoolBinary, Comparison, Cut, Element, Form, IntBinary, IntMonoid, Unary};
 use crate::kind::Kind;
@@ -106,31 +106,6 @@ impl Op {
                 Some(wanted) => is_same_kind(*wanted, kind),
                 None => false,
             }
-        }
-    }
-
-    /// Whether the library performs the call today: all calls but those of the families that are still missing.
-    pub fn is_done(self) -> bool
-        ensures { result ≡ is_done self }
-    {
-        !self.is_write() && !self.is_missing()
-    }
-
-    /// Whether the call is of a family that the library does not perform yet.
-    fn is_missing(self) -> bool
-        ensures { result ≡ is_missing self }
-    {
-        match self {
-            Op::Permute(..) => true,
-            Op::Length(_) => true,
-            Op::Count(_) => true,
-            Op::Pack(..) => true,
-            Op::PackedLengths => true,
-            Op::Distribute(..) => true,
-            Op::Index(_) => true,
-            Op::Extract(..) => true,
-            Op::Replace(..) => true,
-            _ => false,
         }
     }
 

@@ -1,11 +1,11 @@
 //! The names of the calls, and the call that a name means.
 
-ghost use Rattle.std.specs.Prelude.{◌≡◌, ◌≢◌, ◌++◌, ℕ, List, Some, true, false, bytes_eq, find, map};
+ghost use Rattle.std.specs.Prelude.{◌≡◌, ◌≢◌, ◌++◌, ℕ, List, Some, None, false, bytes_eq, find, map};
 ghost use Rattle.call_table.specs.declared.operation.Op.{Op};
 ghost use Rattle.call_table.specs.declared.operation.Op.TheVariants as op;
 ghost use Rattle.call_table.specs.Letters.{call_name_of};
-ghost use Rattle.call_table.specs.Calls.{spelling_of, is_write, is_done};
-ghost use Rattle.call_table.specs.Spellings.{bytes_of, is_spelled, int_binaries, unaries, comparisons, bool_binaries, int_monoids, forms, elements, elementwise_calls, element_calls, cut_calls, other_calls, any_op_of, op_of};
+ghost use Rattle.call_table.specs.Calls.{spelling_of, is_write};
+ghost use Rattle.call_table.specs.Spellings.{bytes_of, is_spelled, int_binaries, unaries, comparisons, bool_binaries, int_monoids, forms, elements, elementwise_calls, element_calls, cut_calls, other_calls, op_of};
 
 use crate::families::{
     BoolBinary, Comparison, Cut, Element, Form, IntBinary, IntMonoid, Unary, cut_and_element,
@@ -92,6 +92,98 @@ impl fmt::Display for Spelling {
     }
 }
 
+/// The calls of a family, one for each operator on two integer vectors.
+macro_rules! each_int_binary {
+    ($call:path $(, $part:expr)*) => {
+        [
+            $call(IntBinary::Add $(, $part)*),
+            $call(IntBinary::Sub $(, $part)*),
+            $call(IntBinary::Mul $(, $part)*),
+            $call(IntBinary::Div $(, $part)*),
+            $call(IntBinary::Mod $(, $part)*),
+            $call(IntBinary::Min $(, $part)*),
+            $call(IntBinary::Max $(, $part)*),
+            $call(IntBinary::Lsh $(, $part)*),
+            $call(IntBinary::Rsh $(, $part)*),
+            $call(IntBinary::And $(, $part)*),
+            $call(IntBinary::Ior $(, $part)*),
+            $call(IntBinary::Xor $(, $part)*),
+        ]
+    };
+}
+
+/// The calls of a family, one for each operator on one vector.
+macro_rules! each_unary {
+    ($call:path $(, $part:expr)*) => {
+        [
+            $call(Unary::Not $(, $part)*),
+            $call(Unary::Copy $(, $part)*),
+        ]
+    };
+}
+
+/// The calls of a family, one for each comparison.
+macro_rules! each_comparison {
+    ($call:path $(, $part:expr)*) => {
+        [
+            $call(Comparison::Greater $(, $part)*),
+            $call(Comparison::Less $(, $part)*),
+            $call(Comparison::AtLeast $(, $part)*),
+            $call(Comparison::AtMost $(, $part)*),
+            $call(Comparison::Equal $(, $part)*),
+            $call(Comparison::Unequal $(, $part)*),
+        ]
+    };
+}
+
+/// The calls of a family, one for each operator on two booleans.
+macro_rules! each_bool_binary {
+    ($call:path $(, $part:expr)*) => {
+        [
+            $call(BoolBinary::And $(, $part)*),
+            $call(BoolBinary::Ior $(, $part)*),
+            $call(BoolBinary::Xor $(, $part)*),
+        ]
+    };
+}
+
+/// The calls of a family, one for each type of elements.
+macro_rules! each_element {
+    ($call:path $(, $part:expr)*) => {
+        [
+            $call(Element::Integer $(, $part)*),
+            $call(Element::Boolean $(, $part)*),
+        ]
+    };
+}
+
+/// The calls of a family, one for each associative operator on integers.
+macro_rules! each_int_monoid {
+    ($call:path $(, $part:expr)*) => {
+        [
+            $call(IntMonoid::Add $(, $part)*),
+            $call(IntMonoid::Mul $(, $part)*),
+            $call(IntMonoid::Min $(, $part)*),
+            $call(IntMonoid::Max $(, $part)*),
+            $call(IntMonoid::And $(, $part)*),
+            $call(IntMonoid::Ior $(, $part)*),
+            $call(IntMonoid::Xor $(, $part)*),
+        ]
+    };
+}
+
+/// The calls of a family, one for each form of permute.
+macro_rules! each_form {
+    ($call:path $(, $part:expr)*) => {
+        [
+            $call(Form::Simple $(, $part)*),
+            $call(Form::Back $(, $part)*),
+            $call(Form::Select $(, $part)*),
+            $call(Form::Default $(, $part)*),
+        ]
+    };
+}
+
 /// The first of these calls whose name is the word.
 fn first_spelled(calls: &[Op], word: &[u8]) -> Option<Op>
     ensures { result ≡ find (is_spelled word.now) calls.now }
@@ -100,63 +192,51 @@ fn first_spelled(calls: &[Op], word: &[u8]) -> Option<Op>
 }
 
 /// The operator on two integer vectors with this name.
+#[tactic(auto, unfolding(crate::specs::Spellings::int_binaries))]
 fn ints2_named(word: &[u8]) -> Option<Op>
     ensures { result ≡ find (is_spelled word.now) (map op.Ints2 int_binaries) }
 {
-    IntBinary::all()
-        .iter()
-        .map(|o| Op::Ints2(*o))
-        .find(|op| op.is_spelled(word))
+    first_spelled(&each_int_binary!(Op::Ints2), word)
 }
 
 /// The operator on one integer vector with this name.
+#[tactic(auto, unfolding(crate::specs::Spellings::unaries))]
 fn ints1_named(word: &[u8]) -> Option<Op>
     ensures { result ≡ find (is_spelled word.now) (map op.Ints1 unaries) }
 {
-    Unary::all()
-        .iter()
-        .map(|o| Op::Ints1(*o))
-        .find(|op| op.is_spelled(word))
+    first_spelled(&each_unary!(Op::Ints1), word)
 }
 
 /// The comparison with this name.
+#[tactic(auto, unfolding(crate::specs::Spellings::comparisons))]
 fn compare_named(word: &[u8]) -> Option<Op>
     ensures { result ≡ find (is_spelled word.now) (map op.Compare comparisons) }
 {
-    Comparison::all()
-        .iter()
-        .map(|o| Op::Compare(*o))
-        .find(|op| op.is_spelled(word))
+    first_spelled(&each_comparison!(Op::Compare), word)
 }
 
 /// The operator on two boolean vectors with this name.
+#[tactic(auto, unfolding(crate::specs::Spellings::bool_binaries))]
 fn bools2_named(word: &[u8]) -> Option<Op>
     ensures { result ≡ find (is_spelled word.now) (map op.Bools2 bool_binaries) }
 {
-    BoolBinary::all()
-        .iter()
-        .map(|o| Op::Bools2(*o))
-        .find(|op| op.is_spelled(word))
+    first_spelled(&each_bool_binary!(Op::Bools2), word)
 }
 
 /// The operator on one boolean vector with this name.
+#[tactic(auto, unfolding(crate::specs::Spellings::unaries))]
 fn bools1_named(word: &[u8]) -> Option<Op>
     ensures { result ≡ find (is_spelled word.now) (map op.Bools1 unaries) }
 {
-    Unary::all()
-        .iter()
-        .map(|o| Op::Bools1(*o))
-        .find(|op| op.is_spelled(word))
+    first_spelled(&each_unary!(Op::Bools1), word)
 }
 
 /// The choice with this name.
+#[tactic(auto, unfolding(crate::specs::Spellings::elements))]
 fn choose_named(word: &[u8]) -> Option<Op>
     ensures { result ≡ find (is_spelled word.now) (map op.Choose elements) }
 {
-    Element::all()
-        .iter()
-        .map(|e| Op::Choose(*e))
-        .find(|op| op.is_spelled(word))
+    first_spelled(&each_element!(Op::Choose), word)
 }
 
 /// The elementwise call with this name.
@@ -174,53 +254,43 @@ fn elementwise_named(word: &[u8]) -> Option<Op>
 }
 
 /// The scan of integers with this name, flat or by segments.
+#[tactic(auto, unfolding(crate::specs::Spellings::int_monoids))]
 fn scan_named(cut: Cut, word: &[u8]) -> Option<Op>
     ensures { result ≡ find (is_spelled word.now) (map (λ o. op.Scan o cut) int_monoids) }
 {
-    IntMonoid::all()
-        .iter()
-        .map(|o| Op::Scan(*o, cut))
-        .find(|op| op.is_spelled(word))
+    first_spelled(&each_int_monoid!(Op::Scan, cut), word)
 }
 
 /// The reduce of integers with this name, flat or by segments.
+#[tactic(auto, unfolding(crate::specs::Spellings::int_monoids))]
 fn reduce_named(cut: Cut, word: &[u8]) -> Option<Op>
     ensures { result ≡ find (is_spelled word.now) (map (λ o. op.Reduce o cut) int_monoids) }
 {
-    IntMonoid::all()
-        .iter()
-        .map(|o| Op::Reduce(*o, cut))
-        .find(|op| op.is_spelled(word))
+    first_spelled(&each_int_monoid!(Op::Reduce, cut), word)
 }
 
 /// The scan of booleans with this name, flat or by segments.
+#[tactic(auto, unfolding(crate::specs::Spellings::bool_binaries))]
 fn bool_scan_named(cut: Cut, word: &[u8]) -> Option<Op>
     ensures { result ≡ find (is_spelled word.now) (map (λ o. op.BoolScan o cut) bool_binaries) }
 {
-    BoolBinary::all()
-        .iter()
-        .map(|o| Op::BoolScan(*o, cut))
-        .find(|op| op.is_spelled(word))
+    first_spelled(&each_bool_binary!(Op::BoolScan, cut), word)
 }
 
 /// The reduce of booleans with this name, flat or by segments.
+#[tactic(auto, unfolding(crate::specs::Spellings::bool_binaries))]
 fn bool_reduce_named(cut: Cut, word: &[u8]) -> Option<Op>
     ensures { result ≡ find (is_spelled word.now) (map (λ o. op.BoolReduce o cut) bool_binaries) }
 {
-    BoolBinary::all()
-        .iter()
-        .map(|o| Op::BoolReduce(*o, cut))
-        .find(|op| op.is_spelled(word))
+    first_spelled(&each_bool_binary!(Op::BoolReduce, cut), word)
 }
 
 /// The permute with this name, flat or by segments, of such elements.
+#[tactic(auto, unfolding(crate::specs::Spellings::forms))]
 fn permute_named(cut: Cut, element: Element, word: &[u8]) -> Option<Op>
     ensures { result ≡ find (is_spelled word.now) (map (λ form. op.Permute form cut element) forms) }
 {
-    Form::all()
-        .iter()
-        .map(|form| Op::Permute(*form, cut, element))
-        .find(|op| op.is_spelled(word))
+    first_spelled(&each_form!(Op::Permute, cut, element), word)
 }
 
 /// The call with this name on such elements, flat or by segments.
@@ -251,13 +321,11 @@ fn cut_call_named(cut: Cut, word: &[u8]) -> Option<Op>
 }
 
 /// The length with this name.
+#[tactic(auto, unfolding(crate::specs::Spellings::elements))]
 fn length_named(word: &[u8]) -> Option<Op>
     ensures { result ≡ find (is_spelled word.now) (map op.Length elements) }
 {
-    Element::all()
-        .iter()
-        .map(|e| Op::Length(*e))
-        .find(|op| op.is_spelled(word))
+    first_spelled(&each_element!(Op::Length), word)
 }
 
 /// The call with this name that reads an input or a length, or makes or reads a descriptor.
@@ -273,9 +341,9 @@ fn other_call_named(word: &[u8]) -> Option<Op>
     length_named(word).or(first_spelled(&others, word))
 }
 
-/// The call with this name, whether the library performs it or not; `write` is no call.
-fn any_op_of(word: &[u8]) -> Option<Op>
-    ensures { result ≡ any_op_of word.now }
+/// The call with this name, or none where no call has it; `write` is no call.
+pub fn op_of(word: &[u8]) -> Option<Op>
+    ensures { result ≡ op_of word.now }
 {
     elementwise_named(word)
         .or(cut_call_named(Cut::Flat, word))
@@ -283,23 +351,11 @@ fn any_op_of(word: &[u8]) -> Option<Op>
         .or(other_call_named(word))
 }
 
-/// The call with this name, or none where the library performs no such call; `write` is no call.
-#[tactic(auto, unfolding(crate::specs::Spellings::op_of))]
-pub fn op_of(word: &[u8]) -> Option<Op>
-    ensures { result ≡ op_of word.now }
-{
-    let op = any_op_of(word)?;
-    if op.is_done() { Some(op) } else { None }
-}
-
 /// What reading a name and spelling a call have to do with each other, for whoever builds on the table.
-#[tactic(auto, using(crate::proofs::Spelled::read_back, crate::proofs::SpelledLaws::any_read, crate::proofs::SpelledLaws::any_read_no_write, crate::proofs::SpelledLaws::done_read_back, crate::proofs::SpelledLaws::read_spelled, crate::proofs::SpelledLaws::read_done, crate::proofs::SpelledLaws::unread))]
+#[tactic(auto, using(crate::proofs::Spelled::read_back, crate::proofs::SpelledLaws::read_spelled, crate::proofs::SpelledLaws::read_no_write, crate::proofs::SpelledLaws::unread))]
 pub fn know_names()
-    ensures every_call_reads_back { (op : Op) → is_write op ≡ false → any_op_of (spelling_of op) ≡ Some op }
-    ensures every_read_is_spelled { (word : List ℕ) → (op : Op) → any_op_of word ≡ Some op → spelling_of op ≡ word }
-    ensures write_is_not_read { (word : List ℕ) → (op : Op) → any_op_of word ≡ Some op → is_write op ≡ false }
-    ensures done_reads_back { (op : Op) → is_done op ≡ true → op_of (spelling_of op) ≡ Some op }
+    ensures every_call_reads_back { (op : Op) → is_write op ≡ false → op_of (spelling_of op) ≡ Some op }
     ensures read_is_spelled { (word : List ℕ) → (op : Op) → op_of word ≡ Some op → spelling_of op ≡ word }
-    ensures read_is_done { (word : List ℕ) → (op : Op) → op_of word ≡ Some op → is_done op ≡ true }
-    ensures unread_is_undone { (word : List ℕ) → (op : Op) → op_of word ≡ None → is_done op ≡ true → spelling_of op ≢ word }
+    ensures write_is_not_read { (word : List ℕ) → (op : Op) → op_of word ≡ Some op → is_write op ≡ false }
+    ensures unread_is_no_call { (word : List ℕ) → (op : Op) → op_of word ≡ None → is_write op ≡ false → spelling_of op ≢ word }
 {}

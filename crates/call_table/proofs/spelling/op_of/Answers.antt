@@ -1,9 +1,9 @@
-use Rattle.call_table.specs.Spellings.{is_spelled, any_op_of}
+use Rattle.call_table.specs.Spellings.{is_spelled, op_of}
 use Rattle.call_table.proofs.Joined.{in_turn}
-use Rattle.call_table.proofs.spelling.any_op_of.Goals as goal
+use Rattle.call_table.proofs.spelling.op_of.Goals as goal
 
 pub returns : goal.returns
-unfolding any_op_of
+unfolding op_of
 returns c =
     let named = is_spelled c.args.word.now in
     let two = in_turn named _ _ c.or.ensures c.elementwise_named.ensures c.cut_call_named.ensures in
