@@ -11,7 +11,7 @@ use Rattle.cvl_base.specs.Gives.{Gives}
 use Rattle.call_reader.specs.Texts.{after_bytes}
 use Rattle.vector_handles.specs.declared.shown.Shown.{Shown}
 use Rattle.vector_handles.specs.Arguments.{argument_at}
-use Rattle.vector_handles.specs.CallValues.{call_value, table_value}
+use Rattle.vector_handles.specs.CallValues.{table_value}
 use Rattle.vector_handles.specs.Sessions.{State, text_shown}
 use Rattle.vector_handles.specs.Steps.{Stepped, performed, step}
 
@@ -25,11 +25,6 @@ module _ {A : Type 0} where
   abbrev pub IsTableValue : State A → Op → List Arg → Result (Value A) Refused → Type 0
   IsTableValue session op args answer =
       Gives (λ v. v) answer (table_value session.inputs op (argument_at session.names args))
-
-  -- the same, of the calls alone that the library performs
-  abbrev pub IsCallValue : State A → Op → List Arg → Result (Value A) Refused → Type 0
-  IsCallValue session op args answer =
-      Gives (λ v. v) answer (call_value session.inputs op (argument_at session.names args))
 
   -- what a call leaves: the names after it, and the text that it shows
   abbrev pub left_by : State A → Option (List ℕ) → Stepped A

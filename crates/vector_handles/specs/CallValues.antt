@@ -1,6 +1,6 @@
 -- The value that each call of the table gives, from its arguments: one line for each family and type of elements.
 -- Source: CVL's calls, in this library's profile.
-use Rattle.std.specs.Prelude.{◌≡◌, ℕ, ◌-◌, ◌==◌, not, List, map, slice_get, Option, Some, None, Result, Ok, Err, IfOk, ℤ, pos, negsuc, if◌then◌else◌}
+use Rattle.std.specs.Prelude.{◌≡◌, ℕ, ◌-◌, ◌==◌, List, map, slice_get, Option, Some, None, Result, Ok, Err, IfOk, ℤ, pos, negsuc, if◌then◌else◌}
 use Rattle.std.specs.Option.{ok_or}
 use Rattle.cvl_base.specs.declared.value.Value.{Value}
 use Rattle.cvl_base.specs.declared.value.Value.TheVariants as value
@@ -11,12 +11,12 @@ use Rattle.cvl_base.specs.declared.operation.Op.{Op}
 use Rattle.cvl_base.specs.declared.operation.Op.TheVariants as op
 use Rattle.cvl_base.specs.declared.fault.Fault.{Fault}
 use Rattle.cvl_base.specs.declared.fault.FaultNo.TheVariants.{UnknownCall, NoSuchInput}
-use Rattle.cvl_base.specs.Calls.{is_done, result_of}
+use Rattle.cvl_base.specs.Calls.{result_of}
 use Rattle.cvl_base.specs.Descriptors.{descriptor_of}
 use Rattle.cvl_base.specs.Distributes.{index_of}
 use Rattle.cvl_base.specs.Elementwise.{ints2_of, ints1_of, compare_of, bools2_of, bools1_of, ints_from_bools, bools_from_ints}
 use Rattle.cvl_base.specs.Faults.{fault}
-use Rattle.cvl_base.specs.Gives.{◌>>=◌, fault_if}
+use Rattle.cvl_base.specs.Gives.{◌>>=◌}
 use Rattle.cvl_base.specs.Packs.{count_of}
 use Rattle.cvl_base.specs.Scans.{int_join_of, int_unit_of, bool_join_of, bool_unit_of}
 use Rattle.cvl_base.specs.SegmentedCalls.{seg_count_of, seg_index_of}
@@ -56,7 +56,7 @@ module _ {A : Type 0} where
   abbrev pub descriptor : Result (List ℕ) Fault → Result (Value A) Fault
   descriptor answer = answer >>= λ lengths. Ok (value.Descriptor lengths)
 
-  -- what each call gives, where the argument at each place stands for that value
+  -- what each call gives, where the argument at each place stands for that value; `write` is no call and gives none
   abbrev pub table_value : List (Input A) → Op → ArgumentAt A → Result (Value A) Fault
   table_value inputs op.Input arg = input_value inputs arg
   table_value inputs (op.Ints2 o) arg = vector integer (ints2_of o (integers_in (arg 0)) (integers_in (arg 1)))
@@ -90,10 +90,6 @@ module _ {A : Type 0} where
   table_value inputs op.MakeDescriptor arg = descriptor (descriptor_of (integers_in (arg 0)))
   table_value inputs op.DescriptorLengths arg = Ok (value.Integers (map pos (lengths_in (arg 0))))
   table_value inputs op.Write arg = Err (fault UnknownCall)
-
-  -- a call that the library does not perform today has no value
-  abbrev pub call_value : List (Input A) → Op → ArgumentAt A → Result (Value A) Fault
-  call_value inputs call arg = fault_if (not (is_done call)) (fault UnknownCall) (table_value inputs call arg)
 
   -- the value of a call, where it has one, is of the kind that the table names for it
   abbrev pub HasNamedKind : List (Input A) → Op → ArgumentAt A → Type 0

@@ -23,6 +23,26 @@ use Rattle.vector_handles.specs.ElementTypes.{ElementType}
 abbrev pub ArgumentAt : Type 0 → Type 0
 ArgumentAt A = ℕ → Option (Value A)
 
+module _ {A X : Type 0} where
+  -- a permute from its source, its index and its defaults; the other arguments are flags and what cuts the vectors
+  abbrev permuted_whole : Form → List X → List ℤ → List X → ArgumentAt A → Result (List X) Fault
+  permuted_whole Simple source index defaults arg = simple_of source index
+  permuted_whole Back source index defaults arg = back_of source index
+  permuted_whole Select source index defaults arg = select_of source index (booleans_in (arg 2))
+  permuted_whole Default source index defaults arg = default_of source index defaults
+
+  abbrev permuted_by_segments : Form → List X → List ℤ → List X → ArgumentAt A → Result (List X) Fault
+  permuted_by_segments Simple source index defaults arg = seg_simple_of source index (lengths_in (arg 2))
+  permuted_by_segments Back source index defaults arg = seg_back_of source index (lengths_in (arg 2)) (lengths_in (arg 3))
+  permuted_by_segments Select source index defaults arg =
+      seg_select_of source index (booleans_in (arg 2)) (lengths_in (arg 3))
+  permuted_by_segments Default source index defaults arg =
+      seg_default_of source index defaults (lengths_in (arg 3)) (lengths_in (arg 4))
+
+  abbrev pub permuted : Form → Cut → List X → List ℤ → List X → ArgumentAt A → Result (List X) Fault
+  permuted form Flat source index defaults arg = permuted_whole form source index defaults arg
+  permuted form Segmented source index defaults arg = permuted_by_segments form source index defaults arg
+
 module _ {A X : Type 0} (e : ElementType A X) where
   -- the value with one element, and with a vector
   abbrev pub single : Result X Fault → Result (Value A) Fault
@@ -42,23 +62,9 @@ module _ {A X : Type 0} (e : ElementType A X) where
   reduce_value join unit Flat arg = single (Ok (fold_of join unit (e.vector_in (arg 0))))
   reduce_value join unit Segmented arg = vector (seg_reduce_of join unit (e.vector_in (arg 0)) (lengths_in (arg 1)))
 
-  -- a permute, flat and segmented, from its source and its index
-  abbrev permute_flat : Form → List X → List ℤ → ArgumentAt A → Result (List X) Fault
-  permute_flat Simple source index arg = simple_of source index
-  permute_flat Back source index arg = back_of source index
-  permute_flat Select source index arg = select_of source index (booleans_in (arg 2))
-  permute_flat Default source index arg = default_of source index (e.vector_in (arg 2))
-
-  abbrev permute_segments : Form → List X → List ℤ → ArgumentAt A → Result (List X) Fault
-  permute_segments Simple source index arg = seg_simple_of source index (lengths_in (arg 2))
-  permute_segments Back source index arg = seg_back_of source index (lengths_in (arg 2)) (lengths_in (arg 3))
-  permute_segments Select source index arg = seg_select_of source index (booleans_in (arg 2)) (lengths_in (arg 3))
-  permute_segments Default source index arg =
-      seg_default_of source index (e.vector_in (arg 2)) (lengths_in (arg 3)) (lengths_in (arg 4))
-
   abbrev pub permute_value : Form → Cut → ArgumentAt A → Result (Value A) Fault
-  permute_value form Flat arg = vector (permute_flat form (e.vector_in (arg 0)) (integers_in (arg 1)) arg)
-  permute_value form Segmented arg = vector (permute_segments form (e.vector_in (arg 0)) (integers_in (arg 1)) arg)
+  permute_value form cut arg =
+      vector (permuted form cut (e.vector_in (arg 0)) (integers_in (arg 1)) (e.vector_in (arg 2)) arg)
 
   abbrev pub length_value : ArgumentAt A → Result (Value A) Fault
   length_value arg = Ok (value.Integer (pos (length (e.vector_in (arg 0)))))

@@ -13,7 +13,7 @@ use Rattle.cvl_base.specs.Faults.{fault}
 use Rattle.cvl_base.specs.Gives.{◌>>=◌, unless, fault_if}
 use Rattle.call_reader.specs.Texts.{value_text}
 use Rattle.vector_handles.specs.declared.input.Input.{Input}
-use Rattle.vector_handles.specs.CallValues.{call_value}
+use Rattle.vector_handles.specs.CallValues.{table_value}
 use Rattle.vector_handles.specs.Names.{Entries, bind, has_room}
 use Rattle.vector_handles.specs.Arguments.{args_fault, argument_at, descriptor_in}
 
@@ -47,7 +47,7 @@ module _ {A : Type 0} where
   performed names inputs None op args = written names args >>= λ text. Ok (record { names = names; shown = Some text })
   performed names inputs (Some target) op args =
       fault_if (not (has_room names target)) (fault TooManyNames)
-      (call_value inputs op (argument_at names args) >>= λ v. Ok (record { names = bind names target v; shown = None }))
+      (table_value inputs op (argument_at names args) >>= λ v. Ok (record { names = bind names target v; shown = None }))
 
   abbrev pub step : Entries A → List (Input A) → Call A → Result (Stepped A) Fault
   step names inputs call =

@@ -1,7 +1,7 @@
 //! The value that a call gives, family by family.
 
 ghost use Rattle.cvl_base.specs.declared.operation.Op.TheVariants as op;
-ghost use Rattle.vector_handles.specs.Answers.{IsCallValue, IsTableValue};
+ghost use Rattle.vector_handles.specs.Answers.{IsTableValue};
 
 use crate::bound::Bound;
 use crate::lookups::{integer_at, integers_at};
@@ -12,18 +12,15 @@ use segdes::SegDes;
 use std::thread::Threads;
 
 impl<A: Memory> Session<A> {
-    /// The value that a call gives; `UnknownCall` where the library performs no such call.
+    /// The value that a call gives; `UnknownCall` for `write`, which gives none.
     pub(crate) fn value_of_call<R: Threads + Sync>(
         &self,
         rt: &R,
         op: Op,
         args: &[Arg],
     ) -> Result<Bound<A>, Refused>
-        ensures { IsCallValue self.now op args.now result }
+        ensures { IsTableValue self.now op args.now result }
     {
-        if !op.is_done() {
-            return Err(Refused::Fault(Fault::new(FaultNo::UnknownCall)));
-        }
         match op {
             Op::Input => self.value_of_input(args),
             Op::Ints2(operator) => self.value_of_ints2(rt, operator, args),
@@ -38,9 +35,18 @@ impl<A: Memory> Session<A> {
             Op::Reduce(operator, cut) => self.value_of_reduce(rt, operator, cut, args),
             Op::BoolScan(operator, cut) => self.value_of_bool_scan(rt, operator, cut, args),
             Op::BoolReduce(operator, cut) => self.value_of_bool_reduce(rt, operator, cut, args),
+            Op::Permute(form, cut, element) => self.value_of_permute(rt, form, cut, element, args),
+            Op::Length(element) => self.value_of_length(element, args),
+            Op::Count(cut) => self.value_of_count(rt, cut, args),
+            Op::Pack(cut, element) => self.value_of_pack(rt, cut, element, args),
+            Op::PackedLengths => self.value_of_packed_lengths(rt, args),
+            Op::Distribute(cut, element) => self.value_of_distribute(cut, element, args),
+            Op::Index(cut) => self.value_of_index(cut, args),
+            Op::Extract(cut, element) => self.value_of_extract(cut, element, args),
+            Op::Replace(cut, element) => self.value_of_replace(cut, element, args),
             Op::MakeDescriptor => self.new_descriptor(args),
             Op::DescriptorLengths => self.lengths_of_descriptor(args),
-            _ => Err(Refused::Fault(Fault::new(FaultNo::UnknownCall))),
+            Op::Write => Err(Refused::Fault(Fault::new(FaultNo::UnknownCall))),
         }
     }
 

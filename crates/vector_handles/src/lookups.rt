@@ -2,7 +2,7 @@
 
 ghost use Rattle.std.specs.Prelude.{◌≡◌, ◌≤◌, length, option_copied};
 ghost use Rattle.cvl_base.specs.Limits.{most_elements};
-ghost use Rattle.vector_handles.specs.Arguments.{argument_at, booleans_in, descriptor_in, integer_in, integers_in};
+ghost use Rattle.vector_handles.specs.Arguments.{argument_at, boolean_in, booleans_in, descriptor_in, integer_in, integers_in};
 
 use crate::bound::Bound;
 use crate::names::{Names, bound_to, value_of};
@@ -60,6 +60,17 @@ pub(crate) fn integer_at<A: Memory>(names: &Names<A>, args: &[Arg], place: usize
     }
 }
 
+/// A boolean.
+pub(crate) fn boolean_at<A: Memory>(names: &Names<A>, args: &[Arg], place: usize) -> bool
+    ensures { result ≡ boolean_in (argument_at names.now.entries args.now place) }
+{
+    match args.get(place) {
+        Some(Arg::Name(name)) => boolean_of(value_of(names, name)),
+        Some(Arg::Boolean(b)) => *b,
+        _ => false,
+    }
+}
+
 fn integers_of<'a, A: Memory>(value: Option<&'a Value<A>>) -> &'a [i32]
     ensures value { result.now ≡ integers_in (option_copied value.entry) }
     ensures in_limit { length result.now ≤ most_elements }
@@ -76,6 +87,15 @@ fn integer_of<A: Memory>(value: Option<&Value<A>>) -> i32
     match value {
         Some(Value::Integer(n)) => *n,
         _ => 0,
+    }
+}
+
+fn boolean_of<A: Memory>(value: Option<&Value<A>>) -> bool
+    ensures { result ≡ boolean_in (option_copied value.entry) }
+{
+    match value {
+        Some(Value::Boolean(b)) => *b,
+        _ => false,
     }
 }
 

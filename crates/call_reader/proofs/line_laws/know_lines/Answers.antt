@@ -1,10 +1,10 @@
 -- Each line reads as it does by computation, once the table of the calls' names is opened.
 use Rattle.std.proofs.Common.{refl}
-use Rattle.cvl_base.specs.Spellings.{any_op_of, op_of, int_binaries, unaries, comparisons, bool_binaries, int_monoids, forms, elements}
+use Rattle.cvl_base.specs.Spellings.{op_of, int_binaries, unaries, comparisons, bool_binaries, int_monoids, forms, elements}
 use Rattle.call_reader.proofs.line_laws.know_lines.Goals as goal
 
 pub returns : goal.returns
-unfolding any_op_of op_of int_binaries unaries comparisons bool_binaries int_monoids forms elements
+unfolding op_of int_binaries unaries comparisons bool_binaries int_monoids forms elements
 returns c = record {
   empty = refl;
   comment = refl;

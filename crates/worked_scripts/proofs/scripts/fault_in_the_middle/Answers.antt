@@ -1,13 +1,13 @@
 use Rattle.std.proofs.Common.{refl}
 use Rattle.std.specs.Fmt.{digits}
 use Rattle.std.specs.Int.{int_wrap}
-use Rattle.cvl_base.specs.Spellings.{any_op_of, op_of, int_binaries, unaries, comparisons, bool_binaries, int_monoids, forms, elements}
+use Rattle.cvl_base.specs.Spellings.{op_of, int_binaries, unaries, comparisons, bool_binaries, int_monoids, forms, elements}
 use Rattle.worked_scripts.proofs.scripts.fault_in_the_middle.Goals as goal
 
 pub returns-clause-unknown_call : goal.returns-clause-unknown_call
-unfolding any_op_of op_of int_binaries unaries comparisons bool_binaries int_monoids forms elements digits int_wrap
+unfolding op_of int_binaries unaries comparisons bool_binaries int_monoids forms elements digits int_wrap
 returns-clause-unknown_call c = refl
 
 pub returns-clause-place_of_an_element : goal.returns-clause-place_of_an_element
-unfolding any_op_of op_of int_binaries unaries comparisons bool_binaries int_monoids forms elements digits int_wrap
+unfolding op_of int_binaries unaries comparisons bool_binaries int_monoids forms elements digits int_wrap
 returns-clause-place_of_an_element c = refl

@@ -1,0 +1,101 @@
+//! The value that a length, a count or a pack gives, of a whole vector or of each segment.
+
+ghost use Rattle.cvl_base.specs.declared.operation.Op.TheVariants as op;
+ghost use Rattle.vector_handles.specs.Answers.{IsTableValue};
+ghost use Rattle.vector_handles.specs.CallValues.{table_value};
+
+use crate::bound::Bound;
+use crate::lookups::{booleans_at, integers_at};
+use crate::session::Session;
+use cvl_base::limits::MOST_ELEMENTS;
+use cvl_base::{Arg, Cut, Element, Memory, Refused, Value};
+use pack_dist::{count_true, pack, packed_descriptor, seg_count, seg_pack};
+use std::thread::Threads;
+
+impl<A: Memory> Session<A> {
+    /// The number of elements of a vector.
+    pub(crate) fn value_of_length(&self, element: Element, args: &[Arg]) -> Result<Bound<A>, Refused>
+        ensures { IsTableValue self.now (op.Length element) args.now result }
+    {
+        let length = match element {
+            Element::Integer => integers_at(&self.names, args, 0).len(),
+            Element::Boolean => booleans_at(&self.names, args, 0).len(),
+        };
+        Ok(Bound::alone(Value::Integer(length as i32)))
+    }
+
+    /// The number of true flags, or that of each segment.
+    pub(crate) fn value_of_count<R: Threads + Sync>(
+        &self,
+        rt: &R,
+        cut: Cut,
+        args: &[Arg],
+    ) -> Result<Bound<A>, Refused>
+        ensures { IsTableValue self.now (op.Count cut) args.now result }
+    {
+        let flags = booleans_at(&self.names, args, 0);
+        match cut {
+            Cut::Flat => {
+                let count = count_true(rt, self.config, flags);
+                Ok(Bound::alone(Value::Integer(count as i32)))
+            }
+            Cut::Segmented => {
+                let d = self.descriptor_at(args, 1);
+                prove!(d.count() <= MOST_ELEMENTS);
+                let counts = seg_count(rt, self.alloc, self.config, flags, d)?;
+                Ok(Bound::from_integers(counts))
+            }
+        }
+    }
+
+    /// The elements whose flag is true.
+    pub(crate) fn value_of_pack<R: Threads + Sync>(
+        &self,
+        rt: &R,
+        cut: Cut,
+        element: Element,
+        args: &[Arg],
+    ) -> Result<Bound<A>, Refused>
+        ensures { IsTableValue self.now (op.Pack cut element) args.now result }
+    {
+        let flags = booleans_at(&self.names, args, 1);
+        match (cut, element) {
+            (Cut::Flat, Element::Integer) => {
+                let values = integers_at(&self.names, args, 0);
+                let kept = pack(rt, self.alloc, self.config, values, flags)?;
+                Ok(Bound::from_integers(kept))
+            }
+            (Cut::Flat, Element::Boolean) => {
+                let values = booleans_at(&self.names, args, 0);
+                let kept = pack(rt, self.alloc, self.config, values, flags)?;
+                Ok(Bound::from_booleans(kept))
+            }
+            (Cut::Segmented, Element::Integer) => {
+                let values = integers_at(&self.names, args, 0);
+                let d = self.descriptor_at(args, 2);
+                let (kept, _) = seg_pack(rt, self.alloc, self.config, values, flags, d)?;
+                Ok(Bound::from_integers(kept))
+            }
+            (Cut::Segmented, Element::Boolean) => {
+                let values = booleans_at(&self.names, args, 0);
+                let d = self.descriptor_at(args, 2);
+                let (kept, _) = seg_pack(rt, self.alloc, self.config, values, flags, d)?;
+                Ok(Bound::from_booleans(kept))
+            }
+        }
+    }
+
+    /// The descriptor of what a segmented pack keeps.
+    pub(crate) fn value_of_packed_lengths<R: Threads + Sync>(
+        &self,
+        rt: &R,
+        args: &[Arg],
+    ) -> Result<Bound<A>, Refused>
+        ensures { IsTableValue self.now op.PackedLengths args.now result }
+    {
+        let flags = booleans_at(&self.names, args, 0);
+        let d = self.descriptor_at(args, 1);
+        let packed = packed_descriptor(rt, self.alloc, self.config, flags, d)?;
+        Ok(Bound::from_descriptor(self.alloc, packed)?)
+    }
+}
