@@ -1,8 +1,9 @@
-//! Each request for memory refused in turn: over a script of long vectors, and over the whole program.
+//! Each request for memory refused in turn: over a script with every family of calls, over one whose vectors are so long
+//! that threads share them, and over the whole program.
 use crate::inputs::inputs_of;
 use crate::small_host::SmallHost;
 use cvl_base::{Config, Memory, NoResources};
-use refusing_memory::{Refusal, refuse_each};
+use refusing_memory::withstands_refusals;
 use shell::{MemSink, Stop, program, run};
 use std::alloc::{AllocError, Global};
 use std::test::Fail;
@@ -19,20 +20,10 @@ enum Ended {
     Wrong,
 }
 
-/// Whether a run may end so, where it met a refusal or not.
-fn is_allowed(answer: &Result<Ended, NoResources>, met: bool) -> bool {
-    match answer {
-        Ok(Ended::Whole) => true,
-        Ok(Ended::Refused) => met,
-        Ok(Ended::Wrong) => false,
-        Err(_) => met,
-    }
-}
-
 /// So many elements that the texts grow more than once.
 const COUNT: usize = 3_000;
 
-/// A long comment, and every kind of value that a line makes or shows.
+/// A long comment, and a call of every family, with every kind of value that a line makes or shows.
 const SCRIPT: &[u8] = b"# sixteen bytes and more of a comment, which no call reads
 l = input 1
 v = input 2
@@ -52,10 +43,47 @@ j = not_wub g
 k = cpy_wuz v
 t = max_sez v d
 r = and_reb e d
+n = len_luz v
+o = ind_luz 0 1 n
+p = smp_puz v o
+p = bck_puz v o
+p = sel_puz v o e
+p = def_puz v o p
+z = dis_vuz 0 n
+p = smp_pez v z d
+p = bck_pez v z d d
+p = sel_pez v z e d
+p = def_pez v z p d d
+p = pck_luz v e
+p = pck_lez v e d
+b = pck_fov e d
+x = cnt_leb e d
+x = dis_vez v d
+x = ind_lez v v d
+x = ext_vez v z d
+x = rep_vez v z v d
+x = rep_vuz v 0 -7
 write i
 d = mke_fov q
 write d
 ";
+
+/// Calls on vectors that are long enough for threads to share them.
+const LONG_SCRIPT: &[u8] = b"i = ind_luz 0 1 3145728
+a = add_wuz i i
+c = les_wuz i a
+e = sel_wuz c a i
+f = boo_wuz e
+g = and_wub c f
+h = not_wub g
+j = int_wub h
+k = not_wuz i
+r = add_ruz k
+write r
+";
+
+/// The text of the script of long vectors: the sum of the numbers -1 to -3145728, wrapped.
+const LONG_TEXT: &[u8] = b"r = -1572864\n";
 
 /// The text of a write of as many times the element.
 fn put_line(text: &mut String, first: &str, element: &str) -> Result<(), AllocError> {
@@ -78,17 +106,18 @@ fn whole_text(alloc: Global) -> Result<String, AllocError> {
     Ok(text)
 }
 
-/// Runs the script on this memory, with room for the text made first.
+/// Runs a script on this memory, with room for the text made first.
 fn run_on<R: Threads + Sync, A: Memory>(
     rt: &R,
     heap: A,
-    config: Config,
+    script: &[u8],
     inputs: &[&str],
     text: &[u8],
 ) -> Result<Ended, NoResources> {
+    let config = Config::new(2, 3).unwrap();
     let mut sink = MemSink::with_room(heap, text.len())?;
     let inputs = inputs_of(heap, inputs)?;
-    let ended = match run(rt, heap, config, SCRIPT, inputs, &mut sink) {
+    let ended = match run(rt, heap, config, script, inputs, &mut sink) {
         Ok(()) if sink.bytes() == text => Ended::Whole,
         Err(Stop::NoResources { .. }) if text.starts_with(sink.bytes()) => Ended::Refused,
         _ => Ended::Wrong,
@@ -111,21 +140,28 @@ fn each_growth_of_a_run(rt: HostRuntime) -> Result<(), Fail> {
     let ones = repeated(rt.alloc(), "1 ")?;
     let sevens = repeated(rt.alloc(), "-7 ")?;
     let inputs = [ones.as_str(), sevens.as_str()];
-    let config = Config::new(2, 3)?;
-    for onward in [false, true] {
-        let runs = refuse_each(
-            rt.alloc(),
-            |k| if onward {
-                Refusal::From(k)
-            } else {
-                Refusal::Only(k)
-            },
-            |heap| run_on(&rt, heap, config, inputs.as_slice(), text.as_bytes()),
-            |answer, met| is_allowed(answer, met),
-        )?;
-        // two inputs, a value of each of the 13 other bindings, and 4 texts
-        assert!(rt; runs > 19, "{runs}");
-    }
+    let requests = withstands_refusals(
+        rt.alloc(),
+        |heap| run_on(&rt, heap, SCRIPT, inputs.as_slice(), text.as_bytes())
+            .unwrap_or(Ended::Refused),
+        Ended::Whole,
+        Ended::Refused,
+    )?;
+    // two inputs, a value of each of the 37 other bindings that take memory, and 4 texts
+    assert!(rt; requests > 42, "{requests}");
+    Ok(())
+}
+
+#[test]
+fn each_growth_of_long_vectors(rt: HostRuntime) -> Result<(), Fail> {
+    let requests = withstands_refusals(
+        rt.alloc(),
+        |heap| run_on(&rt, heap, LONG_SCRIPT, &[], LONG_TEXT).unwrap_or(Ended::Refused),
+        Ended::Whole,
+        Ended::Refused,
+    )?;
+    // a value of each binding but the reduce
+    assert!(rt; requests > 8, "{requests}");
     Ok(())
 }
 
@@ -175,19 +211,13 @@ fn program_on<R: Threads + Sync, A: Memory>(rt: &R, heap: A) -> Result<Ended, No
 
 #[test]
 fn each_growth_of_the_program(rt: HostRuntime) -> Result<(), Fail> {
-    for onward in [false, true] {
-        let runs = refuse_each(
-            rt.alloc(),
-            |k| if onward {
-                Refusal::From(k)
-            } else {
-                Refusal::Only(k)
-            },
-            |heap| program_on(&rt, heap),
-            |answer, met| is_allowed(answer, met),
-        )?;
-        // the host's room, two files, two values, a text and the message
-        assert!(rt; runs > 7, "{runs}");
-    }
+    let requests = withstands_refusals(
+        rt.alloc(),
+        |heap| program_on(&rt, heap).unwrap_or(Ended::Refused),
+        Ended::Whole,
+        Ended::Refused,
+    )?;
+    // the host's room, two files, two values, a text and the message
+    assert!(rt; requests > 6, "{requests}");
     Ok(())
 }

@@ -5,7 +5,7 @@
 mod plain;
 
 use cvl_base::limits::MOST_ELEMENTS;
-use cvl_base::{BoolBinary, Comparison, Config, IntBinary, Refused, Unary};
+use cvl_base::{BoolBinary, Comparison, Config, IntBinary, Unary};
 use elementwise::{bool_from_int, bool1, bool2, compare, int_from_bool, int1, int2, select};
 use std::alloc::Global;
 use std::rt::Clock;
@@ -16,134 +16,110 @@ use std::{env, io};
 /// How often a case is measured. The best time counts.
 const ROUNDS: usize = 40;
 
-/// Measures a call and the plain loop in turn, and prints the best time of each.
-fn print_best<R: Print + Clock, T: Drop, U: Drop, F: FnMut() -> T, G: FnMut() -> U>(
+/// What is measured.
+#[derive(Clone, Copy, Debug)]
+enum Case {
+    Add,
+    Div,
+    Greater,
+    And,
+    Select,
+    NotOfIntegers,
+    NotOfBooleans,
+    IntFromBool,
+    BoolFromInt,
+}
+
+const CASES: &[Case] = &[
+    Case::Add,
+    Case::Div,
+    Case::Greater,
+    Case::And,
+    Case::Select,
+    Case::NotOfIntegers,
+    Case::NotOfBooleans,
+    Case::IntFromBool,
+    Case::BoolFromInt,
+];
+
+/// The vectors on which the calls are measured, all equally long.
+#[derive(Drop)]
+struct Vectors {
+    a: Vec<i32>,
+    b: Vec<i32>,
+    flags: Vec<bool>,
+    others: Vec<bool>,
+}
+
+/// Makes the call of a case, and answers whether it gave a vector.
+fn call<R: Threads + Sync>(
     rt: &R,
-    case: &str,
-    length: usize,
-    mut call: F,
-    mut plain: G,
-) -> io::Result<()>
-    requires call { F.IsAlwaysCallable call }
-    requires plain { G.IsAlwaysCallable plain }
-{
+    alloc: Global,
+    config: Config,
+    case: Case,
+    vectors: &Vectors,
+) -> bool {
+    let (a, b) = (vectors.a.as_slice(), vectors.b.as_slice());
+    let (flags, others) = (vectors.flags.as_slice(), vectors.others.as_slice());
+    if a.len() > MOST_ELEMENTS {
+        return false;
+    }
+    match case {
+        Case::Add => int2(rt, alloc, config, IntBinary::Add, a, b).is_ok(),
+        Case::Div => int2(rt, alloc, config, IntBinary::Div, a, b).is_ok(),
+        Case::Greater => compare(rt, alloc, config, Comparison::Greater, a, b).is_ok(),
+        Case::And => bool2(rt, alloc, config, BoolBinary::And, flags, others).is_ok(),
+        Case::Select => select(rt, alloc, config, flags, a, b).is_ok(),
+        Case::NotOfIntegers => int1(rt, alloc, config, Unary::Not, a).is_ok(),
+        Case::NotOfBooleans => bool1(rt, alloc, config, Unary::Not, flags).is_ok(),
+        Case::IntFromBool => int_from_bool(rt, alloc, config, flags).is_ok(),
+        Case::BoolFromInt => bool_from_int(rt, alloc, config, a).is_ok(),
+    }
+}
+
+/// The same by a plain loop.
+fn call_plain(alloc: Global, case: Case, vectors: &Vectors) -> bool {
+    let (a, b) = (vectors.a.as_slice(), vectors.b.as_slice());
+    let (flags, others) = (vectors.flags.as_slice(), vectors.others.as_slice());
+    match case {
+        Case::Add => plain::sums(alloc, a, b).is_ok(),
+        Case::Div => plain::quotients(alloc, a, b).is_ok(),
+        Case::Greater => plain::greater(alloc, a, b).is_ok(),
+        Case::And => plain::both(alloc, flags, others).is_ok(),
+        Case::Select => plain::chosen(alloc, flags, a, b).is_ok(),
+        Case::NotOfIntegers => plain::turned(alloc, a).is_ok(),
+        Case::NotOfBooleans => plain::opposites(alloc, flags).is_ok(),
+        Case::IntFromBool => plain::ints(alloc, flags).is_ok(),
+        Case::BoolFromInt => plain::bools(alloc, a).is_ok(),
+    }
+}
+
+/// Measures the call of a case and the plain loop in turn, and prints the best time of each.
+fn print_best<R: Print + Clock + Threads + Sync>(
+    rt: &R,
+    alloc: Global,
+    config: Config,
+    case: Case,
+    vectors: &Vectors,
+) -> io::Result<()> {
     let mut best = Duration::MAX;
     let mut best_plain = Duration::MAX;
+    let mut given = true;
     for _ in 0..ROUNDS {
-        {
-            let start = Instant::now(rt)?;
-            let _answer = call();
-            best = best.min(start.elapsed(rt)?);
-        }
         let start = Instant::now(rt)?;
-        let _answer = plain();
+        given &= call(rt, alloc, config, case, vectors);
+        best = best.min(start.elapsed(rt)?);
+        let start = Instant::now(rt)?;
+        given &= call_plain(alloc, case, vectors);
         best_plain = best_plain.min(start.elapsed(rt)?);
     }
-    let (call, plain) = (best.as_nanos(), best_plain.as_nanos());
-    println!(rt; "{case}, {length} elements: {call} ns, a plain loop {plain} ns")?;
-    Ok(())
-}
-
-/// [`int2`], for no more elements than a vector may have.
-fn on_ints<R: Threads + Sync>(
-    rt: &R,
-    alloc: Global,
-    config: Config,
-    op: IntBinary,
-    a: &[i32],
-    b: &[i32],
-) -> Result<Vec<i32>, Refused> {
-    if a.len() > MOST_ELEMENTS {
-        return Err(Refused::NoResources);
+    let (length, call, plain) = (vectors.a.len(), best.as_nanos(), best_plain.as_nanos());
+    if given {
+        println!(rt; "{case:?}, {length} elements: {call} ns, a plain loop {plain} ns")?;
+    } else {
+        println!(rt; "{case:?}, {length} elements: out of memory")?;
     }
-    int2(rt, alloc, config, op, a, b)
-}
-
-/// Measures the calls on two vectors, and the choice.
-fn measure_pairs<R: Print + Clock + Threads + Sync>(
-    rt: &R,
-    alloc: Global,
-    config: Config,
-    a: &[i32],
-    b: &[i32],
-    flags: &[bool],
-    others: &[bool],
-) -> io::Result<()> {
-    let n = a.len();
-    print_best(
-        rt,
-        "int2 add",
-        n,
-        || on_ints(rt, alloc, config, IntBinary::Add, a, b),
-        || plain::sums(alloc, a, b),
-    )?;
-    print_best(
-        rt,
-        "int2 div",
-        n,
-        || on_ints(rt, alloc, config, IntBinary::Div, a, b),
-        || plain::quotients(alloc, a, b),
-    )?;
-    print_best(
-        rt,
-        "compare",
-        n,
-        || compare(rt, alloc, config, Comparison::Greater, a, b),
-        || plain::greater(alloc, a, b),
-    )?;
-    print_best(
-        rt,
-        "bool2 and",
-        n,
-        || bool2(rt, alloc, config, BoolBinary::And, flags, others),
-        || plain::both(alloc, flags, others),
-    )?;
-    print_best(
-        rt,
-        "select",
-        n,
-        || select(rt, alloc, config, flags, a, b),
-        || plain::chosen(alloc, flags, a, b),
-    )
-}
-
-/// Measures the calls on one vector.
-fn measure_singles<R: Print + Clock + Threads + Sync>(
-    rt: &R,
-    alloc: Global,
-    config: Config,
-    a: &[i32],
-    flags: &[bool],
-) -> io::Result<()> {
-    let n = a.len();
-    print_best(
-        rt,
-        "int1 not",
-        n,
-        || int1(rt, alloc, config, Unary::Not, a),
-        || plain::turned(alloc, a),
-    )?;
-    print_best(
-        rt,
-        "bool1 not",
-        n,
-        || bool1(rt, alloc, config, Unary::Not, flags),
-        || plain::opposites(alloc, flags),
-    )?;
-    print_best(
-        rt,
-        "int_from_bool",
-        n,
-        || int_from_bool(rt, alloc, config, flags),
-        || plain::ints(alloc, flags),
-    )?;
-    print_best(
-        rt,
-        "bool_from_int",
-        n,
-        || bool_from_int(rt, alloc, config, a),
-        || plain::bools(alloc, a),
-    )
+    Ok(())
 }
 
 /// Measures all calls on vectors of one length.
@@ -166,8 +142,16 @@ fn measure<R: Print + Clock + Threads + Sync>(
         flags[place] = state > 0;
         others[place] = state % 3 == 0;
     }
-    measure_pairs(rt, alloc, config, &a, &b, &flags, &others)?;
-    measure_singles(rt, alloc, config, &a, &flags)
+    let vectors = Vectors {
+        a,
+        b,
+        flags,
+        others,
+    };
+    for case in CASES {
+        print_best(rt, alloc, config, *case, &vectors)?;
+    }
+    Ok(())
 }
 
 fn main(rt: HostRuntime) -> io::Result<()> {
