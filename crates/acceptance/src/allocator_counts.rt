@@ -96,19 +96,6 @@ fn counts_across_threads(rt: HostRuntime) {
 
 #[test]
 fn each_request_in_turn(rt: HostRuntime) -> Result<(), Fail> {
-    for onward in [false, true] {
-        let runs = refuse_each(
-            rt.alloc(),
-            |k| if onward {
-                Refusal::From(k)
-            } else {
-                Refusal::Only(k)
-            },
-            |heap| three_boxes(heap),
-            |answer, met| answer.is_err() == met,
-        )?;
-        assert_eq!(rt; runs, 4);
-    }
     let refused = Err(AllocError);
     let requests = withstands_refusals(rt.alloc(), |heap| three_boxes(heap), Ok(6), refused)?;
     assert_eq!(rt; requests, 3);

@@ -16,8 +16,12 @@ mod programs;
 #[cfg(test)]
 mod refusals;
 #[cfg(test)]
+mod sessions;
+#[cfg(test)]
 mod sinks;
 #[cfg(test)]
 mod small_host;
 #[cfg(test)]
 mod stops;
+#[cfg(test)]
+mod walks;

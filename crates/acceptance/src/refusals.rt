@@ -142,8 +142,9 @@ fn each_growth_of_a_run(rt: HostRuntime) -> Result<(), Fail> {
     let inputs = [ones.as_str(), sevens.as_str()];
     let requests = withstands_refusals(
         rt.alloc(),
-        |heap| run_on(&rt, heap, SCRIPT, inputs.as_slice(), text.as_bytes())
-            .unwrap_or(Ended::Refused),
+        |heap| run_on(&rt, heap, SCRIPT, inputs.as_slice(), text.as_bytes()).unwrap_or(
+            Ended::Refused,
+        ),
         Ended::Whole,
         Ended::Refused,
     )?;

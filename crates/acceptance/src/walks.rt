@@ -1,0 +1,27 @@
+//! The walks over the runs of a segmented vector, which no call of a script reaches by itself.
+use cvl_base::monoids::Mul;
+use scan_ops::{scan_of_run, sum_of_run};
+use segdes::SegDes;
+use std::test::Fail;
+
+#[test]
+fn runs(rt: HostRuntime) -> Result<(), Fail> {
+    // the segments [2, 3, 5, 7], [11], [] and [13]
+    let a = [2, 3, 5, 7, 11, 13];
+    let d = SegDes::from_lengths(rt.alloc(), &[4, 1, 0, 1])?;
+    let rows = [
+        (1, 3, 2, [2, 6].as_slice(), (false, 30)),
+        (2, 6, 6, [6, 30, 1, 1].as_slice(), (true, 13)),
+        (3, 3, 30, [].as_slice(), (false, 30)),
+    ];
+    for (from, to, before, sums, sum) in rows {
+        let scanned = scan_of_run::<Mul, _>(rt.alloc(), &a, &d, from, to, before)?;
+        assert_eq!(rt; scanned.as_slice(), sums, "{from} to {to}");
+        assert_eq!(rt;
+            sum_of_run::<Mul, _>(&a, &d, from, to, before),
+            sum,
+            "{from} to {to}"
+        );
+    }
+    Ok(())
+}
