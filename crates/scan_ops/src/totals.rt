@@ -8,7 +8,7 @@ use segdes::SegDes;
 use std::alloc::Allocator;
 
 /// Checks that the segments have as many elements in all as the vector, else LengthMismatch.
-pub(crate) fn check_total<T, A: Allocator>(a: &[T], d: &SegDes<A>) -> Result<(), Fault>
+pub fn check_total<T, A: Allocator>(a: &[T], d: &SegDes<A>) -> Result<(), Fault>
     ensures { MatchResult result (λ _. sum d.now ≡ length a.now)
         (λ f. nest d.now a.now ≡ Err f) }
 {
