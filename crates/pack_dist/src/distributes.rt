@@ -1,12 +1,14 @@
-//! Distribute: copies of one value.
+//! Distribute: copies of one value, or of one for each segment.
 
-ghost use Rattle.std.specs.Prelude.{◌≡◌, ◌+◌, ◌≤◌, ◌++◌, IfOk, replicate, vec_len, vec_capacity};
+ghost use Rattle.std.specs.Prelude.{◌≡◌, ◌+◌, ◌≤◌, ◌++◌, IfOk, replicate, sum, vec_len, vec_capacity};
 ghost use Rattle.cvl_base.specs.Distributes.{distribute_of};
 ghost use Rattle.cvl_base.specs.Gives.{Gives};
 ghost use Rattle.cvl_base.specs.Limits.{most_elements};
+ghost use Rattle.cvl_base.specs.SegmentedCalls.{seg_distribute_of};
 
-use crate::checks::length_for;
+use crate::checks::{check_agree, length_for};
 use cvl_base::{Memory, Refused};
+use segdes::SegDes;
 use std::alloc::Allocator;
 
 /// `count` copies of one value.
@@ -20,6 +22,26 @@ pub fn distribute<T: Copy, A: Memory>(alloc: A, value: T, count: i32) -> Result<
     let length = length_for(&count)?;
     let mut copies = Vec::with_capacity(alloc, length)?;
     push_copies(&mut copies, value, length);
+    Ok(copies)
+}
+
+/// For each segment as many copies of its value as the segment is long, one segment after another.
+///
+/// There is one value for each segment, else LengthMismatch, without a place. The result is as long as the segments are
+/// in all. Source: CVL's segmented distribute.
+pub fn seg_distribute<T: Copy, A: Memory>(
+    alloc: A,
+    values: &[T],
+    d: &SegDes<A>,
+) -> Result<Vec<T, A>, Refused>
+    ensures values { Gives (λ v. v.items) result (seg_distribute_of values.now d.now) }
+    ensures as_long { IfOk result (λ v. vec_len v ≡ sum d.now) }
+{
+    check_agree(values.len(), d.count())?;
+    let mut copies = Vec::with_capacity(alloc, d.total())?;
+    for s in 0..d.count() {
+        push_copies(&mut copies, values[s], d.length(s));
+    }
     Ok(copies)
 }
 

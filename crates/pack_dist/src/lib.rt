@@ -8,7 +8,7 @@ mod indexes;
 mod places;
 mod replaces;
 
-pub use distributes::distribute;
-pub use extracts::extract;
-pub use indexes::index;
-pub use replaces::replace;
+pub use distributes::{distribute, seg_distribute};
+pub use extracts::{extract, seg_extract};
+pub use indexes::{index, seg_index};
+pub use replaces::{replace, seg_replace};
