@@ -1,5 +1,5 @@
 -- The first of the segments that are left, where those before it end at a place.
-use Rattle.std.proofs.Common.{◌≡◌, ◌∙◌, ℕ, ◌+◌, ◌<◌, ◌≤◌, min, List, [], ◌∷◌, length, take, drop, get_or, sym, ap, arith}
+use Rattle.std.proofs.Common.{◌≡◌, ◌∙◌, ℕ, zero, suc, ◌+◌, ◌<◌, ◌≤◌, min, List, [], ◌∷◌, length, take, drop, get_or, refl, sym, ap, arith}
 use Rattle.std.specs.Prelude.{sum}
 use Rattle.std.proofs.lemmas.List.{drop_more, drop_all, drop-drop, get_or_default, get_or-take, get_or-drop, length-take, length-drop}
 use Rattle.std.proofs.lemmas.List.Sums.{sum_by-drop_more}
@@ -8,6 +8,12 @@ use Rattle.cvl_base.specs.Nests.{cut_of}
 -- an argument of each segment: the first of those left
 pub uncons : {Y : Type 0} (ys : List Y) (s : ℕ) (y : Y) → s < length ys → y ≡ get_or ys s y → drop s ys ≡ y ∷ drop (s + 1) ys
 uncons ys s y lt is = drop_more ys s y lt ∙ ap (λ x. x ∷ drop (s + 1) ys) (sym is)
+
+-- there is one
+pub element : {Y : Type 0} (ys : List Y) (s : ℕ) → s < length ys → (y : Y) × (y ≡ get_or ys s y)
+element [] s lt = absurd (omega arith)
+element (y ∷ ys) zero lt = (y, refl)
+element (y ∷ ys) (suc s) lt = element ys s (omega arith)
 
 -- so many elements are left without the first segment's
 pub left_more : (lengths : List ℕ) (s start n total : ℕ) → s < length lengths → n ≡ get_or lengths s 0 → start + sum (drop s lengths) ≡ total

@@ -14,7 +14,7 @@ use Rattle.cvl_base.specs.Segmented.{beside, of_three, at_segment, end_to_end}
 use Rattle.cvl_base.specs.SegmentedCalls.{seg_replace_of}
 use Rattle.pack_dist.proofs.Agreement.{beside_agree, beside_differ, cut_agree, cut_differ, length-cut_of}
 use Rattle.pack_dist.proofs.Named.{NamesNone, replace_some, replace_none}
-use Rattle.pack_dist.proofs.Parts.{cut_more, cut_all, part_long, part_short, uncons}
+use Rattle.pack_dist.proofs.Parts.{cut_more, cut_all, element, part_long, part_short, uncons}
 use Rattle.pack_dist.proofs.Walk.{after, given, begins, ends, fails, step}
 
 abbrev pub itself : {X : Type 0} → List X → List X
@@ -94,15 +94,16 @@ module _ {X : Type 0} (xs : List X) (index : List ℤ) (values : List X) (length
       (replace_some part (get_or index s (pos 0)) k v names (omega (arith, within, part_long lengths xs s start n lt is_n covered)))
       ∙ ap (λ d. after d (left xs index values lengths (s + 1) (start + n))) (sym (written start n k v held now within same is_now))
 
-  pub no_place : (s start n : ℕ) (v : X) (done : List X) (whole : Result (List X) Fault) → s < length lengths → s < length index → s < length values
-      → n ≡ get_or lengths s 0 → NamesNone n (get_or index s (pos 0)) → v ≡ get_or values s v
-      → whole ≡ after done (left xs index values lengths s start) → whole ≡ Err (fault_at no.IndexOutOfRange s)
-  no_place s start n v done whole lt in_index in_values is_n none is_v so_far =
+  pub no_place : (s start n : ℕ) (done : List X) (whole : Result (List X) Fault) → s < length lengths → s < length index → s < length values
+      → n ≡ get_or lengths s 0 → NamesNone n (get_or index s (pos 0)) → whole ≡ after done (left xs index values lengths s start)
+      → whole ≡ Err (fault_at no.IndexOutOfRange s)
+  no_place s start n done whole lt in_index in_values is_n none so_far =
       let part = take n (drop start xs) in
+      let value = element values s in_values in
       so_far
-      ∙ ap (after done) (first s start n v lt in_index in_values is_n is_v)
-      ∙ fails itself at_segment (of_three replace_of) s ((part, get_or index s (pos 0)), v) (segments s start n) (fault_at no.IndexOutOfRange 0) done
-      (replace_none part (get_or index s (pos 0)) v (λ k is. omega (arith, none k is, part_short xs start n)))
+      ∙ ap (after done) (first s start n value.0 lt in_index in_values is_n value.1)
+      ∙ fails itself at_segment (of_three replace_of) s ((part, get_or index s (pos 0)), value.0) (segments s start n) (fault_at no.IndexOutOfRange 0) done
+      (replace_none part (get_or index s (pos 0)) value.0 (λ k is. omega (arith, none k is, part_short xs start n)))
 
   pub all_done : (s start : ℕ) (held : List X) (whole : Result (List X) Fault) → length lengths ≤ s → start + sum (drop s lengths) ≡ length xs
       → length held ≡ length xs → whole ≡ after (take start held) (left xs index values lengths s start) → whole ≡ Ok held

@@ -27,10 +27,22 @@ loop-s-init g c = record {
 }
 
 pub loop-s-preserved : goal.loop-s-preserved
-loop-s-preserved g c = ?
+loop-s-preserved g c = record {
+  whole = one_more c.args.vector.now c.args.index.now c.args.values.now c.args.d.now c.loop-s.s c.loop-s.start _ c.in-Some.place c.index-values-s.result
+      c.loop-s.replaced.items _ _ (omega arith) (omega (arith, c.in_ok-check_agree-2.ensures)) (omega (arith, c.in_ok-check_agree-3.ensures)) c.length-length.ensures c.in-Some.ensures.1 c.in-Some.ensures.0 c.index-values-s.is
+      c.loop-s.invariant.covered c.loop-s.invariant.rest refl c.loop-s.invariant.whole;
+  rest = rest_same c.args.vector.now c.args.index.now c.args.values.now c.args.d.now c.loop-s.start _ c.in-Some.place c.index-values-s.result
+      c.loop-s.replaced.items _ c.in-Some.ensures.0 c.loop-s.invariant.rest refl;
+  as_long = c.loop-s.invariant.as_long;
+  covered = left_more c.args.d.now c.loop-s.s c.loop-s.start _ _ (omega arith) c.length-length.ensures c.loop-s.invariant.covered;
+}
 
 pub returns-in_default-clause-values : goal.returns-in_default-clause-values
-returns-in_default-clause-values g c = ?
+returns-in_default-clause-values g c =
+    let e : seg_replace_of c.args.vector.now c.args.index.now c.args.values.now c.args.d.now ≡ Err (fault_at no.IndexOutOfRange c.loop-s.s) =
+    no_place c.args.vector.now c.args.index.now c.args.values.now c.args.d.now c.loop-s.s c.loop-s.start _ _ _
+    (omega arith) (omega (arith, c.in_ok-check_agree-2.ensures)) (omega (arith, c.in_ok-check_agree-3.ensures)) c.length-length.ensures c.in_default.ensures c.loop-s.invariant.whole in
+    search rules
 
 pub overflow_add-start : goal.overflow_add-start
 overflow_add-start g c =
