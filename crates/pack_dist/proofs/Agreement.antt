@@ -1,10 +1,9 @@
 -- The arguments of segments, where their numbers agree and where they don't.
-use Rattle.std.proofs.Common.{◌≡◌, ◌∙◌, ℕ, List, ◌∷◌, [], suc, drop, length, eqb, true, false, inl, inr, refl, ap, sym, Ok, Err}
+use Rattle.std.proofs.Common.{◌≡◌, ◌∙◌, ℕ, List, ◌∷◌, [], suc, drop, length, eqb, true, false, inl, inr, refl, ap, Ok, Err}
 use Rattle.std.specs.Prelude.{not, sum}
 use Rattle.std.specs.List.{zip}
 use Rattle.std.proofs.lemmas.Bool.Decides.{eqb_tells}
 use Rattle.cvl_base.specs.declared.fault.FaultNo.TheVariants as no
-use Rattle.cvl_base.specs.Elementwise.{if_as_long}
 use Rattle.cvl_base.specs.Faults.{fault}
 use Rattle.cvl_base.specs.Gives.{fault_if}
 use Rattle.cvl_base.specs.Nests.{cut_of, nest}

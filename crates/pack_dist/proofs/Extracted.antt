@@ -1,5 +1,5 @@
 -- The walk of a segmented extract: the elements so far, and what the segments left give.
-use Rattle.std.proofs.Common.{◌≡◌, ◌∙◌, ℕ, ◌+◌, ◌<◌, ◌≤◌, false, ℤ, pos, List, [], ◌∷◌, ◌++◌, length, take, drop, get_or, eqb, refl, sym, ap, arith, Result, Ok, Err}
+use Rattle.std.proofs.Common.{◌≡◌, ◌∙◌, ℕ, ◌+◌, ◌<◌, ◌≤◌, false, ℤ, pos, List, [], ◌∷◌, ◌++◌, length, take, drop, get_or, eqb, sym, ap, arith, Result, Ok, Err}
 use Rattle.std.specs.Prelude.{sum}
 use Rattle.std.specs.List.{zip}
 use Rattle.std.proofs.lemmas.List.{drop_more}
@@ -12,12 +12,8 @@ use Rattle.cvl_base.specs.Segmented.{of_two, at_segment, one_each}
 use Rattle.cvl_base.specs.SegmentedCalls.{seg_extract_of}
 use Rattle.pack_dist.proofs.Agreement.{cut_agree, cut_differ}
 use Rattle.pack_dist.proofs.Named.{NamesNone, extract_some, extract_none}
-use Rattle.pack_dist.proofs.Parts.{cut_more, cut_all, part_read, part_long, part_short, uncons}
-use Rattle.pack_dist.proofs.Walk.{after, given, begins, ends, fails, step, singles}
-
--- an element as the list of it
-abbrev pub single : {X : Type 0} → X → List X
-single x = x ∷ []
+use Rattle.pack_dist.proofs.Parts.{cut_more, cut_all, part_read, part_long, part_short}
+use Rattle.pack_dist.proofs.Walk.{after, given, begins, ends, fails, single, singles, step}
 
 -- what the segments from s on give, where they start at a place
 abbrev pub left : {X : Type 0} → List X → List ℤ → List ℕ → ℕ → ℕ → Result (List X) Fault

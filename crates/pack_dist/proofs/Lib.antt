@@ -1,5 +1,7 @@
 pub mod Agreement
+pub mod Distributed
 pub mod Extracted
+pub mod Indexed
 pub mod Named
 pub mod Parts
 pub mod Progressed

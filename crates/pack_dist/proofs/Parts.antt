@@ -1,5 +1,5 @@
 -- The first of the segments that are left, where those before it end at a place.
-use Rattle.std.proofs.Common.{◌≡◌, ◌∙◌, ℕ, zero, suc, ◌+◌, ◌<◌, ◌≤◌, min, List, [], ◌∷◌, length, take, drop, get_or, refl, sym, ap, arith}
+use Rattle.std.proofs.Common.{◌≡◌, ◌∙◌, ℕ, zero, suc, ◌+◌, ◌<◌, ◌≤◌, List, [], ◌∷◌, length, take, drop, get_or, refl, sym, ap, arith}
 use Rattle.std.specs.Prelude.{sum}
 use Rattle.std.proofs.lemmas.List.{drop_more, drop_all, drop-drop, get_or_default, get_or-take, get_or-drop, length-take, length-drop}
 use Rattle.std.proofs.lemmas.List.Sums.{sum_by-drop_more}
@@ -19,6 +19,9 @@ element (y ∷ ys) (suc s) lt = element ys s (omega arith)
 pub left_more : (lengths : List ℕ) (s start n total : ℕ) → s < length lengths → n ≡ get_or lengths s 0 → start + sum (drop s lengths) ≡ total
     → (start + n) + sum (drop (s + 1) lengths) ≡ total
 left_more lengths s start n total lt is covered = omega (arith, is, covered, sum_by-drop_more (λ x. x) lengths s 0 lt)
+
+pub none_left : (lengths : List ℕ) (s start total : ℕ) → length lengths ≤ s → start + sum (drop s lengths) ≡ total → start ≡ total
+none_left lengths s start total ge covered = omega (arith, covered, ap sum (drop_all s lengths ge))
 
 module _ {X : Type 0} (lengths : List ℕ) (xs : List X) where
   pub cut_more : (s start n : ℕ) → s < length lengths → n ≡ get_or lengths s 0

@@ -1,8 +1,8 @@
 -- The walk of a segmented replace: the vector up to where the segments left start, and what these give.
-use Rattle.std.proofs.Common.{◌≡◌, ◌∙◌, ℕ, ◌+◌, ◌<◌, ◌≤◌, false, ℤ, pos, List, [], ◌∷◌, ◌++◌, length, take, drop, set, get_or, eqb, refl, sym, ap, arith, Result, Ok, Err}
+use Rattle.std.proofs.Common.{◌≡◌, ◌∙◌, ℕ, ◌+◌, ◌<◌, ◌≤◌, false, ℤ, pos, List, [], ◌∷◌, ◌++◌, length, take, drop, set, get_or, eqb, sym, ap, arith, Result, Ok, Err}
 use Rattle.std.specs.Prelude.{sum}
 use Rattle.std.specs.List.{zip}
-use Rattle.std.proofs.lemmas.List.{drop_more, drop_all, drop-drop, drop-set-add, drop-set-lt, take_all, take-set-le}
+use Rattle.std.proofs.lemmas.List.{drop_more, drop-drop, drop-set-add, drop-set-lt, take_all, take-set-le}
 use Rattle.std.proofs.lemmas.Slice.Zip.{length-zip}
 use Rattle.std.proofs.Math.Seq.{take-add, take-set-lt}
 use Rattle.cvl_base.specs.declared.fault.Fault.{Fault}
@@ -14,11 +14,8 @@ use Rattle.cvl_base.specs.Segmented.{beside, of_three, at_segment, end_to_end}
 use Rattle.cvl_base.specs.SegmentedCalls.{seg_replace_of}
 use Rattle.pack_dist.proofs.Agreement.{beside_agree, beside_differ, cut_agree, cut_differ, length-cut_of}
 use Rattle.pack_dist.proofs.Named.{NamesNone, replace_some, replace_none}
-use Rattle.pack_dist.proofs.Parts.{cut_more, cut_all, element, part_long, part_short, uncons}
-use Rattle.pack_dist.proofs.Walk.{after, given, begins, ends, fails, step}
-
-abbrev pub itself : {X : Type 0} → List X → List X
-itself xs = xs
+use Rattle.pack_dist.proofs.Parts.{cut_more, cut_all, element, none_left, part_long, part_short, uncons}
+use Rattle.pack_dist.proofs.Walk.{after, given, begins, ends, fails, itself, step}
 
 -- what the segments from s on give, where they start at a place
 abbrev pub left : {X : Type 0} → List X → List ℤ → List X → List ℕ → ℕ → ℕ → Result (List X) Fault
@@ -111,4 +108,4 @@ module _ {X : Type 0} (xs : List X) (index : List ℤ) (values : List X) (length
       so_far
       ∙ ap (λ lists. after (take start held) (given itself at_segment (of_three replace_of) s (zip (zip lists (drop s index)) (drop s values)))) (cut_all lengths (drop start xs) s ge)
       ∙ ends (take start held)
-      ∙ ap Ok (take_all start held (omega (arith, covered, as_long, ap sum (drop_all s lengths ge))))
+      ∙ ap Ok (take_all start held (omega (arith, as_long, none_left lengths s start (length xs) ge covered)))

@@ -1,5 +1,5 @@
 -- A segmented call, segment by segment: the results so far, and after them what the segments left give.
-use Rattle.std.proofs.Common.{◌≡◌, ◌∙◌, ℕ, ◌+◌, List, [], ◌∷◌, ◌++◌, append_assoc, append-nil, map, refl, sym, ap, Result, Ok, Err}
+use Rattle.std.proofs.Common.{◌≡◌, ◌∙◌, ℕ, ◌+◌, List, [], ◌∷◌, ◌++◌, append_assoc, append-nil, refl, sym, ap, Result, Ok, Err}
 use Rattle.std.specs.Prelude.{option_map}
 use Rattle.std.specs.List.{flat_map}
 use Rattle.std.proofs.lemmas.List.{map-id}
@@ -11,6 +11,13 @@ use Rattle.cvl_base.specs.Segmented.{moved, results_from}
 -- what is done, and then what the others give, or their fault
 abbrev pub after : {X : Type 0} → List X → Result (List X) Fault → Result (List X) Fault
 after done others = others >>= λ xs. Ok (done ++ xs)
+
+-- how a result stands for some elements: it is one, or is the list of them
+abbrev pub single : {X : Type 0} → X → List X
+single x = x ∷ []
+
+abbrev pub itself : {X : Type 0} → List X → List X
+itself xs = xs
 
 -- what the segments from s on give, one after another, where a segment's result stands for some elements
 abbrev pub given : {S R X : Type 0} → (R → List X) → (ℕ → ℕ → ℕ) → (S → Result R Fault) → ℕ → List S → Result (List X) Fault
@@ -45,6 +52,6 @@ begins (Ok xs) = refl
 begins (Err e) = refl
 
 -- a result that is one element
-pub singles : {X : Type 0} (others : Result (List X) Fault) → others ≡ (others >>= λ xs. Ok (flat_map (λ x. x ∷ []) xs))
+pub singles : {X : Type 0} (others : Result (List X) Fault) → others ≡ (others >>= λ xs. Ok (flat_map single xs))
 singles (Ok xs) = ap Ok (sym (flat_map_single (λ x. x) xs ∙ map-id xs))
 singles (Err e) = refl

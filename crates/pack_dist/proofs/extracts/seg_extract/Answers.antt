@@ -1,6 +1,4 @@
-use Rattle.std.proofs.Common.{◌≡◌, ◌∙◌, ◌<◌, length, get_or, pos, rules, arith, Err, refl, sym}
-use Rattle.std.specs.Prelude.{sum}
-use Rattle.std.proofs.lemmas.List.Sums.{sum_by-drop_more}
+use Rattle.std.proofs.Common.{◌≡◌, ◌∙◌, rules, arith, Err, refl, sym}
 use Rattle.cvl_base.specs.declared.fault.FaultNo.TheVariants as no
 use Rattle.cvl_base.specs.Faults.{fault_at}
 use Rattle.cvl_base.specs.SegmentedCalls.{seg_extract_of}

@@ -1,5 +1,4 @@
-use Rattle.std.proofs.Common.{◌≡◌, ◌∙◌, ◌<◌, drop, length, get_or, pos, rules, arith, Err, refl, sym, ap}
-use Rattle.std.specs.Prelude.{sum}
+use Rattle.std.proofs.Common.{◌≡◌, rules, arith, Err, refl, sym}
 use Rattle.cvl_base.specs.declared.fault.FaultNo.TheVariants as no
 use Rattle.cvl_base.specs.Faults.{fault_at}
 use Rattle.cvl_base.specs.SegmentedCalls.{seg_replace_of}
