@@ -11,7 +11,7 @@ use scan_ops::check_total;
 use segdes::SegDes;
 use std::thread::Threads;
 
-/// The elements of each segment whose flag is true, in order, one segment after another: `pck_lev` and its like.
+/// The elements of each segment whose flag is true, in order, one segment after another: `pck_lez` and `pck_leb`.
 ///
 /// LengthMismatch, without a place, where the segments' total is not the number of elements, or not that of flags.
 /// Source: CVL's segmented pack.

@@ -2,19 +2,22 @@
 
 ghost use Rattle.cvl_base.specs.declared.operation.Op.TheVariants as op;
 ghost use Rattle.vector_handles.specs.Answers.{IsTableValue};
-ghost use Rattle.vector_handles.specs.CallValues.{table_value};
 
 use crate::bound::Bound;
 use crate::lookups::{booleans_at, integers_at};
 use crate::session::Session;
 use cvl_base::limits::MOST_ELEMENTS;
 use cvl_base::{Arg, Cut, Element, Memory, Refused, Value};
-use pack_dist::{count_true, pack, packed_descriptor, seg_count, seg_pack};
+use pack_dist::{count_true, pack, packed_descriptor, seg_count, seg_pack_values};
 use std::thread::Threads;
 
 impl<A: Memory> Session<A> {
     /// The number of elements of a vector.
-    pub(crate) fn value_of_length(&self, element: Element, args: &[Arg]) -> Result<Bound<A>, Refused>
+    pub(crate) fn value_of_length(
+        &self,
+        element: Element,
+        args: &[Arg],
+    ) -> Result<Bound<A>, Refused>
         ensures { IsTableValue self.now (op.Length element) args.now result }
     {
         let length = match element {
@@ -35,10 +38,7 @@ impl<A: Memory> Session<A> {
     {
         let flags = booleans_at(&self.names, args, 0);
         match cut {
-            Cut::Flat => {
-                let count = count_true(rt, self.config, flags);
-                Ok(Bound::alone(Value::Integer(count as i32)))
-            }
+            Cut::Flat => { Ok(Bound::alone(Value::Integer(count_true(flags)))) }
             Cut::Segmented => {
                 let d = self.descriptor_at(args, 1);
                 prove!(d.count() <= MOST_ELEMENTS);
@@ -73,13 +73,13 @@ impl<A: Memory> Session<A> {
             (Cut::Segmented, Element::Integer) => {
                 let values = integers_at(&self.names, args, 0);
                 let d = self.descriptor_at(args, 2);
-                let (kept, _) = seg_pack(rt, self.alloc, self.config, values, flags, d)?;
+                let kept = seg_pack_values(rt, self.alloc, self.config, values, flags, d)?;
                 Ok(Bound::from_integers(kept))
             }
             (Cut::Segmented, Element::Boolean) => {
                 let values = booleans_at(&self.names, args, 0);
                 let d = self.descriptor_at(args, 2);
-                let (kept, _) = seg_pack(rt, self.alloc, self.config, values, flags, d)?;
+                let kept = seg_pack_values(rt, self.alloc, self.config, values, flags, d)?;
                 Ok(Bound::from_booleans(kept))
             }
         }

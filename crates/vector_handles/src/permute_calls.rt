@@ -59,7 +59,7 @@ impl<A: Memory> Session<A> {
         requires defaults { length defaults.now ≤ most_elements }
         ensures values { Gives (λ v. v.items) result
             (permuted form cut source.now (integers_in (argument_at self.now.names args.now 1)) defaults.now
-                (argument_at self.now.names args.now)) }
+            (argument_at self.now.names args.now)) }
         ensures in_limit { IfOk result (λ v. vec_len v ≤ most_elements) }
     {
         match cut {
@@ -81,7 +81,7 @@ impl<A: Memory> Session<A> {
         requires defaults { length defaults.now ≤ most_elements }
         ensures values { Gives (λ v. v.items) result
             (permuted form Cut.Flat source.now (integers_in (argument_at self.now.names args.now 1)) defaults.now
-                (argument_at self.now.names args.now)) }
+            (argument_at self.now.names args.now)) }
         ensures in_limit { IfOk result (λ v. vec_len v ≤ most_elements) }
     {
         let (alloc, config) = (self.alloc, self.config);
@@ -110,7 +110,7 @@ impl<A: Memory> Session<A> {
         requires defaults { length defaults.now ≤ most_elements }
         ensures values { Gives (λ v. v.items) result
             (permuted form Cut.Segmented source.now (integers_in (argument_at self.now.names args.now 1)) defaults.now
-                (argument_at self.now.names args.now)) }
+            (argument_at self.now.names args.now)) }
         ensures in_limit { IfOk result (λ v. vec_len v ≤ most_elements) }
     {
         let (alloc, config) = (self.alloc, self.config);
@@ -133,7 +133,9 @@ impl<A: Memory> Session<A> {
             Form::Default => {
                 let source_d = self.descriptor_at(args, 3);
                 let default_d = self.descriptor_at(args, 4);
-                seg_default_into(rt, alloc, config, source, index, defaults, source_d, default_d)
+                seg_default_into(
+                    rt, alloc, config, source, index, defaults, source_d, default_d,
+                )
             }
         }
     }

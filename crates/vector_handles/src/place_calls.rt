@@ -36,11 +36,13 @@ impl<A: Memory> Session<A> {
             (Cut::Segmented, Element::Integer) => {
                 let values = integers_at(&self.names, args, 0);
                 let d = self.descriptor_at(args, 1);
+                prove!(d.total() <= MOST_ELEMENTS);
                 Ok(Bound::from_integers(seg_distribute(self.alloc, values, d)?))
             }
             (Cut::Segmented, Element::Boolean) => {
                 let values = booleans_at(&self.names, args, 0);
                 let d = self.descriptor_at(args, 1);
+                prove!(d.total() <= MOST_ELEMENTS);
                 Ok(Bound::from_booleans(seg_distribute(self.alloc, values, d)?))
             }
         }
@@ -61,6 +63,7 @@ impl<A: Memory> Session<A> {
                 let inits = integers_at(&self.names, args, 0);
                 let strides = integers_at(&self.names, args, 1);
                 let d = self.descriptor_at(args, 2);
+                prove!(d.total() <= MOST_ELEMENTS);
                 Ok(Bound::from_integers(seg_index(self.alloc, inits, strides, d)?))
             }
         }
