@@ -5,7 +5,7 @@
 mod plain;
 
 use cvl_base::limits::MOST_ELEMENTS;
-use cvl_base::{BoolBinary, Config, IntMonoid};
+use cvl_base::{BoolBinary, Config, IntMonoid, Refused};
 use scan_ops::{bool_reduce, bool_scan, int_reduce, int_scan, seg_int_reduce, seg_int_scan};
 use segdes::SegDes;
 use std::alloc::{AllocError, Global};
@@ -17,110 +17,120 @@ use std::{env, io};
 /// How often a case is measured. The best time counts.
 const ROUNDS: usize = 40;
 
-/// The best time of several calls.
-fn best<R: Clock, T: Drop, F: FnMut() -> T>(rt: &R, mut call: F) -> io::Result<Duration>
-    requires { F.IsAlwaysCallable call }
-{
-    let mut best = Duration::MAX;
-    for _ in 0..ROUNDS {
-        let start = Instant::now(rt)?;
-        let _answer = call();
-        best = best.min(start.elapsed(rt)?);
-    }
-    Ok(best)
+/// What is measured.
+#[derive(Clone, Copy, Debug)]
+enum Case {
+    AddScan,
+    MaxScan,
+    AndScan,
+    AddReduce,
+    MaxReduce,
+    AndReduce,
+    SegmentedScan,
+    SegmentedReduce,
 }
 
-/// The best time of several calls of a reduce, and the sum of its answers, so that no call is left out as unneeded.
-fn best_of_reduce<R: Clock, F: FnMut() -> i32>(rt: &R, mut call: F) -> io::Result<(Duration, i32)>
-    requires { F.IsAlwaysCallable call }
-{
-    let mut best = Duration::MAX;
-    let mut sum: i32 = 0;
-    for _ in 0..ROUNDS {
-        let start = Instant::now(rt)?;
-        sum = sum.wrapping_add(call());
-        best = best.min(start.elapsed(rt)?);
-    }
-    Ok((best, sum))
+const FLAT_CASES: &[Case] = &[
+    Case::AddScan,
+    Case::MaxScan,
+    Case::AndScan,
+    Case::AddReduce,
+    Case::MaxReduce,
+    Case::AndReduce,
+];
+
+const SEGMENTED_CASES: &[Case] = &[Case::SegmentedScan, Case::SegmentedReduce];
+
+/// The vectors on which the calls are measured, both equally long, and what cuts the first into segments.
+#[derive(Drop)]
+struct Vectors {
+    numbers: Vec<i32>,
+    flags: Vec<bool>,
+    descriptor: SegDes<Global>,
+    lengths: Vec<u32>,
 }
 
-/// Prints a case's line.
-fn print_times<R: Print>(
-    rt: &R,
-    case: &str,
-    length: usize,
-    call: Duration,
-    plain: Duration,
-) -> io::Result<()> {
-    let (call, plain) = (call.as_nanos(), plain.as_nanos());
-    println!(rt; "{case}, {length} elements: {call} ns, a plain loop {plain} ns")?;
-    Ok(())
-}
-
-/// Prints the line of a reduce, after a line that says so where the two answers differ.
-fn print_reduce_times<R: Print>(
-    rt: &R,
-    case: &str,
-    length: usize,
-    call: (Duration, i32),
-    plain: (Duration, i32),
-) -> io::Result<()> {
-    if call.1 != plain.1 {
-        println!(rt; "{case}: the answers differ")?;
-    }
-    print_times(rt, case, length, call.0, plain.0)
-}
-
-/// Prints the line of a case by segments.
-fn print_segment_times<R: Print>(
-    rt: &R,
-    case: &str,
-    segment: usize,
-    length: usize,
-    call: Duration,
-    plain: Duration,
-) -> io::Result<()> {
-    let (call, plain) = (call.as_nanos(), plain.as_nanos());
-    println!(rt; "{case} of {segment}, {length} elements: {call} ns, a plain loop {plain} ns")?;
-    Ok(())
-}
-
-/// Measures the flat scans and reduces.
-fn measure_flat<R: Print + Clock + Threads + Sync>(
+/// Makes the call of a case. The answer is a number that hangs on its result, so that no call is left out as unneeded.
+fn call<R: Threads + Sync>(
     rt: &R,
     alloc: Global,
     config: Config,
-    a: &[i32],
-    flags: &[bool],
+    case: Case,
+    vectors: &Vectors,
+) -> Result<i32, Refused> {
+    let (a, d) = (vectors.numbers.as_slice(), &vectors.descriptor);
+    let flags = vectors.flags.as_slice();
+    let add = IntMonoid::Add;
+    let answer = match case {
+        Case::AddScan => last(&int_scan(rt, alloc, config, add, a)?),
+        Case::MaxScan => last(&int_scan(rt, alloc, config, IntMonoid::Max, a)?),
+        Case::AndScan => last_flag(&bool_scan(rt, alloc, config, BoolBinary::And, flags)?),
+        Case::AddReduce => int_reduce(rt, alloc, config, add, a)?,
+        Case::MaxReduce => int_reduce(rt, alloc, config, IntMonoid::Max, a)?,
+        Case::AndReduce => i32::from(bool_reduce(rt, alloc, config, BoolBinary::And, flags)?),
+        Case::SegmentedScan => last(&seg_int_scan(rt, alloc, config, add, a, d)?),
+        Case::SegmentedReduce => last(&seg_int_reduce(rt, alloc, config, add, a, d)?),
+    };
+    Ok(answer)
+}
+
+/// The same by a plain loop.
+fn call_plain(alloc: Global, case: Case, vectors: &Vectors) -> Result<i32, AllocError> {
+    let (a, lengths) = (vectors.numbers.as_slice(), vectors.lengths.as_slice());
+    let flags = vectors.flags.as_slice();
+    let answer = match case {
+        Case::AddScan => last(&plain::sums_before(alloc, a)?),
+        Case::MaxScan => last(&plain::greatest_before(alloc, a)?),
+        Case::AndScan => last_flag(&plain::all_before(alloc, flags)?),
+        Case::AddReduce => plain::sum(a),
+        Case::MaxReduce => plain::greatest(a),
+        Case::AndReduce => i32::from(plain::all(flags)),
+        Case::SegmentedScan => last(&plain::segment_sums_before(alloc, lengths, a)?),
+        Case::SegmentedReduce => last(&plain::segment_sums(alloc, lengths, a)?),
+    };
+    Ok(answer)
+}
+
+/// The last number, or 0 where there is none.
+fn last(numbers: &[i32]) -> i32 {
+    numbers.last().copied().unwrap_or(0)
+}
+
+/// The last flag as 1 or 0.
+fn last_flag(flags: &[bool]) -> i32 {
+    i32::from(flags.last().copied().unwrap_or(false))
+}
+
+/// Measures the call of a case and the plain loop in turn, and prints the best time of each, or that they differ.
+fn print_best<R: Print + Clock + Threads + Sync>(
+    rt: &R,
+    alloc: Global,
+    config: Config,
+    case: Case,
+    vectors: &Vectors,
 ) -> io::Result<()> {
-    let n = a.len();
-    let call = best(rt, || int_scan(rt, alloc, config, IntMonoid::Add, a))?;
-    let plain = best(rt, || plain::sums_before(alloc, a))?;
-    print_times(rt, "add scan", n, call, plain)?;
-    let call = best(rt, || int_scan(rt, alloc, config, IntMonoid::Max, a))?;
-    let plain = best(rt, || plain::greatest_before(alloc, a))?;
-    print_times(rt, "max scan", n, call, plain)?;
-    let call = best(rt, || bool_scan(rt, alloc, config, BoolBinary::And, flags))?;
-    let plain = best(rt, || plain::all_before(alloc, flags))?;
-    print_times(rt, "and scan", n, call, plain)?;
-    let call = best_of_reduce(
-        rt,
-        || int_reduce(rt, alloc, config, IntMonoid::Add, a).unwrap_or(0),
-    )?;
-    let plain = best_of_reduce(rt, || plain::sum(a))?;
-    print_reduce_times(rt, "add reduce", n, call, plain)?;
-    let call = best_of_reduce(
-        rt,
-        || int_reduce(rt, alloc, config, IntMonoid::Max, a).unwrap_or(0),
-    )?;
-    let plain = best_of_reduce(rt, || plain::greatest(a))?;
-    print_reduce_times(rt, "max reduce", n, call, plain)?;
-    let call = best_of_reduce(
-        rt,
-        || i32::from(bool_reduce(rt, alloc, config, BoolBinary::And, flags).unwrap_or(false)),
-    )?;
-    let plain = best_of_reduce(rt, || i32::from(plain::all(flags)))?;
-    print_reduce_times(rt, "and reduce", n, call, plain)
+    let mut best = Duration::MAX;
+    let mut best_plain = Duration::MAX;
+    let mut same = true;
+    for _ in 0..ROUNDS {
+        let start = Instant::now(rt)?;
+        let answer = call(rt, alloc, config, case, vectors);
+        best = best.min(start.elapsed(rt)?);
+        let start = Instant::now(rt)?;
+        let plain_answer = call_plain(alloc, case, vectors);
+        best_plain = best_plain.min(start.elapsed(rt)?);
+        same &= answer.is_ok() && answer.ok() == plain_answer.ok();
+    }
+    let (length, segments) = (vectors.numbers.len(), vectors.lengths.len());
+    let (call, plain) = (best.as_nanos(), best_plain.as_nanos());
+    if same {
+        println!(rt;
+            "{case:?}, {length} elements, {segments} segments: {call} ns, a plain loop {plain} ns"
+        )?;
+    } else {
+        println!(rt; "{case:?}, {length} elements, {segments} segments: the answers differ")?;
+    }
+    Ok(())
 }
 
 /// Lengths of segments of `length` elements each, `count` of them, with an empty one before each where `with_empty`.
@@ -140,75 +150,86 @@ fn equal_lengths(
     Ok(lengths)
 }
 
-/// Measures the segmented scan and reduce by sums, of the elements that segments of this length fill.
-fn measure_segments<R: Print + Clock + Threads + Sync>(
-    rt: &R,
+/// Vectors of at most so many elements, all in segments of this length, with an empty one before each where `with_empty`.
+fn vectors_of(
     alloc: Global,
-    config: Config,
-    a: &[i32],
-    length: usize,
+    most: usize,
+    segment: i32,
     with_empty: bool,
-) -> io::Result<()> {
-    let most = if with_empty {
+) -> Result<Vectors, Refused> {
+    let most_segments = if with_empty {
         MOST_ELEMENTS / 2
     } else {
         MOST_ELEMENTS
     };
-    let count = a.len().checked_div(length).unwrap_or(0).min(most);
-    let (a, _others) = a.split_at(count.saturating_mul(length).min(a.len()));
-    let Ok(segment) = i32::try_from(length) else {
-        return Ok(());
-    };
+    let each = segment.unsigned_abs() as usize;
+    let count = most.checked_div(each).unwrap_or(0).min(most_segments);
     let lengths = equal_lengths(alloc, segment, count, with_empty)?;
-    let plain_lengths: Vec<u32> = lengths.iter().map(|n| n.unsigned_abs()).collect(alloc)?;
     if lengths.len() > MOST_ELEMENTS {
-        return Ok(());
+        return Err(Refused::NoResources);
     }
-    let Ok(d) = SegDes::from_lengths(alloc, &lengths) else {
-        return Ok(());
-    };
-    let (scan, reduce) = if with_empty {
-        (
-            "add scan by empty segments and segments",
-            "add reduce by empty segments and segments",
-        )
-    } else {
-        ("add scan by segments", "add reduce by segments")
-    };
-    let call = best(
-        rt,
-        || seg_int_scan(rt, alloc, config, IntMonoid::Add, a, &d),
-    )?;
-    let plain = best(rt, || plain::segment_sums_before(alloc, &plain_lengths, a))?;
-    print_segment_times(rt, scan, length, a.len(), call, plain)?;
-    let call = best(
-        rt,
-        || seg_int_reduce(rt, alloc, config, IntMonoid::Add, a, &d),
-    )?;
-    let plain = best(rt, || plain::segment_sums(alloc, &plain_lengths, a))?;
-    print_segment_times(rt, reduce, length, a.len(), call, plain)
-}
-
-/// Measures all calls on vectors of one length.
-fn measure<R: Print + Clock + Threads + Sync>(
-    rt: &R,
-    alloc: Global,
-    config: Config,
-    length: usize,
-) -> io::Result<()> {
-    let mut a = vec![in alloc; 0; length]?;
+    let descriptor = SegDes::from_lengths(alloc, &lengths)?;
+    let length = descriptor.total();
+    let mut numbers = vec![in alloc; 0; length]?;
     let mut flags = vec![in alloc; false; length]?;
     let mut state: i32 = 1;
     for place in 0..length {
         // the multiplier and the increment of Numerical Recipes
         state = state.wrapping_mul(1_664_525).wrapping_add(1_013_904_223);
-        a[place] = state;
+        numbers[place] = state;
         flags[place] = state > 0;
     }
-    measure_flat(rt, alloc, config, &a, &flags)?;
+    let lengths = lengths.iter().map(|n| n.unsigned_abs()).collect(alloc)?;
+    Ok(Vectors {
+        numbers,
+        flags,
+        descriptor,
+        lengths,
+    })
+}
+
+/// Measures the calls of these cases on vectors of one length in segments of one length.
+fn measure<R: Print + Clock + Threads + Sync>(
+    rt: &R,
+    alloc: Global,
+    config: Config,
+    cases: &[Case],
+    length: usize,
+    segment: i32,
+    with_empty: bool,
+) -> io::Result<()> {
+    match vectors_of(alloc, length, segment, with_empty) {
+        Ok(vectors) => {
+            for case in cases {
+                print_best(rt, alloc, config, *case, &vectors)?;
+            }
+        }
+        Err(_) => println!(rt; "{length} elements: out of memory")?,
+    }
+    Ok(())
+}
+
+/// Measures all calls on vectors of one length.
+fn measure_length<R: Print + Clock + Threads + Sync>(
+    rt: &R,
+    alloc: Global,
+    config: Config,
+    length: i32,
+) -> io::Result<()> {
+    let count = length.unsigned_abs() as usize;
+    measure(rt, alloc, config, FLAT_CASES, count, length, false)?;
     for segment in [1, 4, 16, 1000, length] {
-        measure_segments(rt, alloc, config, &a, segment, false)?;
-        measure_segments(rt, alloc, config, &a, segment, true)?;
+        for with_empty in [false, true] {
+            measure(
+                rt,
+                alloc,
+                config,
+                SEGMENTED_CASES,
+                count,
+                segment,
+                with_empty,
+            )?;
+        }
     }
     Ok(())
 }
@@ -216,13 +237,13 @@ fn measure<R: Print + Clock + Threads + Sync>(
 fn main(rt: HostRuntime) -> io::Result<()> {
     let mut arguments = env::args(&rt)?;
     let _program = arguments.next();
-    if arguments
-        .next()
-        .is_some_and(|word| word.as_str() == "measure")
-    {
+    let Some(word) = arguments.next() else {
+        return Ok(());
+    };
+    if word.as_str() == "measure" {
         if let Ok(config) = Config::new(4096, 4) {
             for length in [4_194_304, 65_536, 1_000] {
-                measure(&rt, rt.alloc(), config, length)?;
+                measure_length(&rt, rt.alloc(), config, length)?;
             }
         }
     }
