@@ -1,0 +1,4 @@
+pub mod Flat
+pub mod Sent
+pub mod Stepped
+pub mod Taken
