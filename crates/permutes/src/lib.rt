@@ -9,11 +9,12 @@ mod defaults;
 mod elements;
 mod lengths;
 mod places;
+mod segments;
 mod selects;
 mod sends;
 mod simples;
 
-pub use backs::back;
-pub use defaults::default_into;
-pub use selects::select;
-pub use simples::simple;
+pub use backs::{back, seg_back};
+pub use defaults::{default_into, seg_default_into};
+pub use selects::{seg_select, select};
+pub use simples::{seg_simple, simple};
