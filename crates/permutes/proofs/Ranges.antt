@@ -15,7 +15,7 @@ module _ {X : Type 0} (lengths : List ℕ) (xs : List X) (total : sum lengths �
   pub range_is : take (first + n - first) (drop first xs) ≡ take (get_or lengths s 0) (drop (start_of lengths s) xs)
   range_is = ap (λ k. take k (drop first xs)) (omega (arith, is)) ∙ ap (λ k. take (get_or lengths s 0) (drop k xs)) there
 
-  length-range : length (take (first + n - first) (drop first xs)) ≡ n
+  pub length-range : length (take (first + n - first) (drop first xs)) ≡ n
   length-range = ap length range_is ∙ length-segment lengths xs total s lt ∙ sym is
 
 module _ (lengths result_lengths : List ℕ) (index : List ℤ) (count : length lengths ≡ length result_lengths) (total : sum lengths ≡ length index) (s : ℕ) (senders : List ℕ) (lt : s < length lengths)
@@ -56,8 +56,10 @@ module _ (lengths : List ℕ) (index : List ℤ) (flags : List Bool) (total : su
   flagged_part_is : get_or (flagged_parts lengths index flags) s (0, []) ≡ (m, flagged_targets (take (first + n - first) (drop first index)) (take (first + n - first) (drop first flags)))
   flagged_part_is =
       flagged_part_at lengths index flags s lt
-      ∙ (λ i. (count_of (sym (range_is lengths flags flag_total s lt first n there is) i),
-      flagged_targets (sym (range_is lengths index total s lt first n there is) i) (sym (range_is lengths flags flag_total s lt first n there is) i)))
+      ∙ (λ i. (
+        count_of (sym (range_is lengths flags flag_total s lt first n there is) i),
+        flagged_targets (sym (range_is lengths index total s lt first n there is) i) (sym (range_is lengths flags flag_total s lt first n there is) i),
+      ))
       ∙ ap (λ k. (k, flagged_targets (take (first + n - first) (drop first index)) (take (first + n - first) (drop first flags)))) (sym wide)
 
   in_flagged : s < length (flagged_parts lengths index flags)

@@ -158,8 +158,12 @@ counted : (lengths : List ℕ) (index : List ℤ) (flags : List Bool) → sum le
 counted [] index [] total = refl
 counted [] index (f ∷ flags) total = absurd (omega arith)
 counted (n ∷ ns) index flags total =
-    omega (arith, sum-cons (count_of (take n flags)) (map (λ (p : ℕ × List (Option ℤ)). p.0) (flagged_parts ns (drop n index) (drop n flags))),
-    counted ns (drop n index) (drop n flags) (omega (arith, sum-cons n ns, length-drop n flags)), sum_by-take-drop (λ (f : Bool). cond f 1 0) flags n)
+    omega (
+      arith,
+      sum-cons (count_of (take n flags)) (map (λ (p : ℕ × List (Option ℤ)). p.0) (flagged_parts ns (drop n index) (drop n flags))),
+      counted ns (drop n index) (drop n flags) (omega (arith, sum-cons n ns, length-drop n flags)),
+      sum_by-take-drop (λ (f : Bool). cond f 1 0) flags n,
+    )
 
 module _ (lengths : List ℕ) (index : List ℤ) (flags : List Bool) where
   pub length-flagged_parts : length (flagged_parts lengths index flags) ≡ length lengths
