@@ -1,0 +1,3 @@
+pub mod Parts
+pub mod Pushed
+pub mod Senders

@@ -1,0 +1,36 @@
+-- Senders: for each place of a permute's result, the place whose element goes there.
+-- Source: CVL's permute, d[i[k]] = s[k], in which k is the sender of its index.
+use Rattle.std.specs.Prelude.{ℕ, ◌+◌, ◌==◌, ℤ, pos, not, if◌then◌else◌, unsigned_abs, List, [], ◌∷◌, length, map, slice_index, Option, Some, None, Result, Ok, Err}
+use Rattle.std.specs.List.{range_with_len}
+use Rattle.cvl_base.specs.declared.fault.Fault.{Fault}
+use Rattle.cvl_base.specs.declared.fault.FaultNo.{FaultNo}
+use Rattle.cvl_base.specs.declared.fault.FaultNo.TheVariants.{IndexOutOfRange, IndexRepeated}
+use Rattle.cvl_base.specs.Permutes.{is_place, is_target}
+
+-- stands where no element goes: the greatest number of 32 bits, which is no place
+abbrev pub nobody : ℕ
+nobody = 4294967295
+
+-- the place of the first target that is d, where the first of all stands at the place given
+abbrev pub sender_from : ℕ → List (Option ℤ) → ℕ → ℕ
+sender_from place [] d = nobody
+sender_from place (t ∷ ts) d = if is_target (pos d) t then place else sender_from (place + 1) ts d
+
+-- the senders of the places 0 to m - 1
+abbrev pub senders_of : ℕ → List (Option ℤ) → ℕ → List ℕ
+senders_of place targets m = map (sender_from place targets) (range_with_len 0 m)
+
+-- what is wrong with an index, where the earlier places that take part are these senders
+abbrev pub wrong_with : List ℕ → ℤ → Option FaultNo
+wrong_with senders i =
+    if not (is_place (length senders) i) then Some IndexOutOfRange
+    else if not (slice_index senders (unsigned_abs i) == nobody) then Some IndexRepeated else None
+
+-- the place that an index names among m, if it is one of them
+abbrev pub place_among : ℕ → ℤ → Option ℕ
+place_among m i = if is_place m i then Some (unsigned_abs i) else None
+
+-- the fault that was told, if one was
+abbrev pub told : {X : Type 0} → Result X Fault → Option Fault
+told (Ok x) = None
+told (Err f) = Some f

@@ -1,0 +1,67 @@
+//! The default permute.
+
+ghost use Rattle.std.specs.Prelude.{◌≡◌, ◌≤◌, IfOk, length, vec_len};
+ghost use Rattle.cvl_base.specs.Gives.{Gives};
+ghost use Rattle.cvl_base.specs.Limits.{most_elements};
+ghost use Rattle.cvl_base.specs.Permutes.{default_of};
+ghost use Rattle.cvl_base.specs.SegmentedCalls.{seg_default_of};
+
+use crate::elements::elements_or_defaults;
+use crate::lengths::{as_long, check_count, check_total};
+use crate::segments::send_segments;
+use crate::sends::{NOBODY, send_all};
+use cvl_base::{Config, Memory, Refused};
+use segdes::SegDes;
+use std::thread::Threads;
+
+/// Each element goes to its index, and a place to which none goes keeps its default: `def_puz` and `def_pub`.
+///
+/// Source and index are equally long, else `LengthMismatch`, without a place; the result is as long as the defaults. The
+/// faults are those of `simple`. Source: this library's profile of CVL's default permute.
+pub fn default_into<T: Copy + Send + Sync, R: Threads + Sync, A: Memory>(
+    _rt: &R,
+    alloc: A,
+    _config: Config,
+    source: &[T],
+    index: &[i32],
+    defaults: &[T],
+) -> Result<Vec<T, A>, Refused>
+    requires in_limit { length index.now ≤ most_elements }
+    ensures values { Gives (λ v. v.items) result (default_of source.now index.now defaults.now) }
+    ensures as_long { IfOk result (λ v. vec_len v ≡ length defaults.now) }
+{
+    as_long(source, index)?;
+    let mut senders = vec![in alloc; NOBODY; defaults.len()]?;
+    send_all(&mut senders, 0, index)?;
+    Ok(elements_or_defaults(alloc, source, &senders, defaults)?)
+}
+
+/// The default permute of each segment: `def_pez` and `def_peb`.
+///
+/// Source and index have as many elements as the segments of `source_d` in all, the defaults as many as those of
+/// `default_d`, and the descriptors have equally many segments, else `LengthMismatch`, without a place. The result is as
+/// long as the defaults. The faults are those of `seg_simple`, where an index is a place of the segment of the defaults.
+/// Source: this library's profile of CVL's segmented default permute.
+pub fn seg_default_into<T: Copy + Send + Sync, R: Threads + Sync, A: Memory>(
+    _rt: &R,
+    alloc: A,
+    _config: Config,
+    source: &[T],
+    index: &[i32],
+    defaults: &[T],
+    source_d: &SegDes<A>,
+    default_d: &SegDes<A>,
+) -> Result<Vec<T, A>, Refused>
+    requires in_limit { length index.now ≤ most_elements }
+    ensures values { Gives (λ v. v.items) result
+        (seg_default_of source.now index.now defaults.now source_d.now default_d.now) }
+    ensures as_long { IfOk result (λ v. vec_len v ≡ length defaults.now) }
+{
+    check_total(source, source_d)?;
+    check_total(index, source_d)?;
+    check_total(defaults, default_d)?;
+    check_count(source_d, default_d)?;
+    let mut senders = vec![in alloc; NOBODY; defaults.len()]?;
+    send_segments(&mut senders, index, source_d, default_d)?;
+    Ok(elements_or_defaults(alloc, source, &senders, defaults)?)
+}

@@ -1,0 +1,74 @@
+//! The select permute.
+
+ghost use Rattle.std.specs.Prelude.{◌≡◌, ◌≤◌, IfOk, length, vec_len};
+ghost use Rattle.cvl_base.specs.Gives.{Gives};
+ghost use Rattle.cvl_base.specs.Limits.{most_elements};
+ghost use Rattle.cvl_base.specs.Packs.{count_of};
+ghost use Rattle.cvl_base.specs.Permutes.{select_of};
+ghost use Rattle.cvl_base.specs.SegmentedCalls.{seg_select_of};
+
+use crate::elements::elements_of;
+use crate::lengths::{as_long, check_total};
+use crate::segments::send_flagged_segments;
+use crate::sends::{NOBODY, send_flagged};
+use cvl_base::{Config, Memory, Refused};
+use segdes::SegDes;
+use std::thread::Threads;
+
+/// How many flags are true.
+pub(crate) fn count_true(flags: &[bool]) -> usize
+    ensures value { result ≡ count_of flags.now }
+    ensures in_length { result ≤ length flags.now }
+{
+    flags.iter().filter(|flag| **flag).count()
+}
+
+/// Each element whose flag is true goes to its index: `sel_puz` and `sel_pub`.
+///
+/// Source, index and flags are equally long, else `LengthMismatch`, without a place; the result is as long as there are
+/// true flags. The faults are those of `simple`, of the places whose flag is true; no other index is looked at. Source:
+/// this library's profile of CVL's select permute.
+pub fn select<T: Copy + Send + Sync, R: Threads + Sync, A: Memory>(
+    _rt: &R,
+    alloc: A,
+    _config: Config,
+    source: &[T],
+    index: &[i32],
+    flags: &[bool],
+) -> Result<Vec<T, A>, Refused>
+    requires in_limit { length index.now ≤ most_elements }
+    ensures values { Gives (λ v. v.items) result (select_of source.now index.now flags.now) }
+    ensures in_length { IfOk result (λ v. vec_len v ≤ length index.now) }
+{
+    as_long(source, index)?;
+    as_long(index, flags)?;
+    let mut senders = vec![in alloc; NOBODY; count_true(flags)]?;
+    send_flagged(&mut senders, 0, index, flags)?;
+    Ok(elements_of(alloc, source, &senders)?)
+}
+
+/// The select permute of each segment: `sel_pez` and `sel_peb`.
+///
+/// Source, index and flags have as many elements as the segments in all, else `LengthMismatch`, without a place. A
+/// segment of the result is as long as the segment has true flags. The faults are those of `seg_simple`, of the places
+/// whose flag is true; no other index is looked at. Source: this library's profile of CVL's segmented select permute.
+pub fn seg_select<T: Copy + Send + Sync, R: Threads + Sync, A: Memory>(
+    _rt: &R,
+    alloc: A,
+    _config: Config,
+    source: &[T],
+    index: &[i32],
+    flags: &[bool],
+    d: &SegDes<A>,
+) -> Result<Vec<T, A>, Refused>
+    requires in_limit { length index.now ≤ most_elements }
+    ensures values { Gives (λ v. v.items) result (seg_select_of source.now index.now flags.now d.now) }
+    ensures in_length { IfOk result (λ v. vec_len v ≤ length index.now) }
+{
+    check_total(source, d)?;
+    check_total(index, d)?;
+    check_total(flags, d)?;
+    let mut senders = vec![in alloc; NOBODY; count_true(flags)]?;
+    send_flagged_segments(&mut senders, index, flags, d)?;
+    Ok(elements_of(alloc, source, &senders)?)
+}

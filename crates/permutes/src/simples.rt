@@ -1,0 +1,62 @@
+//! The simple permute.
+
+ghost use Rattle.std.specs.Prelude.{◌≡◌, ◌≤◌, IfOk, length, vec_len};
+ghost use Rattle.cvl_base.specs.Gives.{Gives};
+ghost use Rattle.cvl_base.specs.Limits.{most_elements};
+ghost use Rattle.cvl_base.specs.Permutes.{simple_of};
+ghost use Rattle.cvl_base.specs.SegmentedCalls.{seg_simple_of};
+
+use crate::elements::elements_of;
+use crate::lengths::{as_long, check_total};
+use crate::segments::send_segments;
+use crate::sends::{NOBODY, send_all};
+use cvl_base::{Config, Memory, Refused};
+use segdes::SegDes;
+use std::thread::Threads;
+
+/// Each element goes to its index, `d[i[k]] = s[k]`: `smp_puz` and `smp_pub`.
+///
+/// Source and index are equally long, else `LengthMismatch`, without a place; the result is as long as they are. An index
+/// that is no place of the result is `IndexOutOfRange` at its place, and one that an earlier place has too is
+/// `IndexRepeated` at the later place. The fault of the first bad place counts. Source: CVL's permute.
+pub fn simple<T: Copy + Send + Sync, R: Threads + Sync, A: Memory>(
+    _rt: &R,
+    alloc: A,
+    _config: Config,
+    source: &[T],
+    index: &[i32],
+) -> Result<Vec<T, A>, Refused>
+    requires in_limit { length index.now ≤ most_elements }
+    ensures values { Gives (λ v. v.items) result (simple_of source.now index.now) }
+    ensures in_length { IfOk result (λ v. vec_len v ≤ length index.now) }
+{
+    as_long(source, index)?;
+    let mut senders = vec![in alloc; NOBODY; index.len()]?;
+    send_all(&mut senders, 0, index)?;
+    Ok(elements_of(alloc, source, &senders)?)
+}
+
+/// The simple permute of each segment: `smp_pez` and `smp_peb`.
+///
+/// Source and index have as many elements as the segments in all, else `LengthMismatch`, without a place; the result is
+/// as long. An index counts from the start of its segment, and one that is no place of the segment is `IndexOutOfRange`;
+/// one that an earlier place of the segment has too is `IndexRepeated` at the later place. The fault of the first bad
+/// place counts, a place of the whole index. Source: CVL's segmented permute.
+pub fn seg_simple<T: Copy + Send + Sync, R: Threads + Sync, A: Memory>(
+    _rt: &R,
+    alloc: A,
+    _config: Config,
+    source: &[T],
+    index: &[i32],
+    d: &SegDes<A>,
+) -> Result<Vec<T, A>, Refused>
+    requires in_limit { length index.now ≤ most_elements }
+    ensures values { Gives (λ v. v.items) result (seg_simple_of source.now index.now d.now) }
+    ensures in_length { IfOk result (λ v. vec_len v ≤ length index.now) }
+{
+    check_total(source, d)?;
+    check_total(index, d)?;
+    let mut senders = vec![in alloc; NOBODY; index.len()]?;
+    send_segments(&mut senders, index, d, d)?;
+    Ok(elements_of(alloc, source, &senders)?)
+}
