@@ -1,6 +1,6 @@
 -- Scans that begin after what stands before them.
-use Rattle.std.proofs.Common.{◌≡◌, ℕ, ◌+◌, ◌<◌, List, [], ◌∷◌, ◌++◌, length, take, map, get_or, append_assoc, refl, sym, ap, ◌∙◌}
-use Rattle.std.proofs.lemmas.List.{take_more}
+use Rattle.std.proofs.Common.{◌≡◌, ℕ, ◌+◌, ◌<◌, ◌≤◌, List, [], ◌∷◌, ◌++◌, length, take, map, get_or, append_assoc, refl, sym, ap, ◌∙◌, arith}
+use Rattle.std.proofs.lemmas.List.{get_or-map, length-map, take_all, take_more}
 use Rattle.std.proofs.lemmas.List.Sums.{fold_more}
 use Rattle.cvl_base.specs.Folds.{fold_of, fronts, scan_of}
 
@@ -39,3 +39,18 @@ module _ {Item : Type 0} (join : Item → Item → Item) where
       → next ≡ fold_of join before (take (i + 1) xs)
   joined_more before sum x next xs i within is_x is_sum is_next =
       is_next ∙ ap (λ s. join s x) is_sum ∙ ap (join (fold_of join before (take i xs))) is_x ∙ sym (fold_more join before xs i x within)
+
+-- ---- elements that are read as items
+
+module _ {X Item : Type 0} (item : X → Item) where
+  pub length-read : (xs : List X) (i : ℕ) → i < length xs → i < length (map item xs)
+  length-read xs i within = omega (arith, within, length-map xs item)
+
+  pub all_read : (xs : List X) (n : ℕ) → length xs ≤ n → take n (map item xs) ≡ map item xs
+  all_read xs n covered = take_all n (map item xs) (omega (arith, covered, length-map xs item))
+
+-- the step of a sum of what the elements are read as
+pub joined_reading : {X Item : Type 0} (join : Item → Item → Item) (item : X → Item) (before sum next : Item) (x : X) (xs : List X) (i : ℕ) → i < length xs → x ≡ get_or xs i x
+    → sum ≡ fold_of join before (take i (map item xs)) → next ≡ join sum (item x) → next ≡ fold_of join before (take (i + 1) (map item xs))
+joined_reading join item before sum next x xs i within is_x is_sum is_next =
+    joined_more join before sum (item x) next (map item xs) i (length-read item xs i within) (ap item is_x ∙ sym (get_or-map item xs i x (item x) within)) is_sum is_next

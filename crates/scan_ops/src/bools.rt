@@ -85,8 +85,9 @@ pub fn seg_bool_reduce<R: Threads + Sync, A: Memory>(
     a: &[bool],
     d: &SegDes<A>,
 ) -> Result<Vec<bool, A>, Refused>
-    ensures { Gives (λ sums. sums.items) result
+    ensures values { Gives (λ sums. sums.items) result
         (seg_reduce_of (bool_join_of op) (bool_unit_of op) a.now d.now) }
+    ensures one_each { IfOk result (λ sums. vec_len sums ≡ length d.now) }
 {
     match op {
         BoolBinary::And => seg_reduce::<R, A, BoolAnd>(rt, alloc, config, a, d),

@@ -1,12 +1,13 @@
 //! Scans by any monoid.
 
-ghost use Rattle.std.specs.Prelude.{◌≡◌, IfOk, length, vec_len};
+ghost use Rattle.std.specs.Prelude.{◌≡◌, IfOk, length, map, vec_len};
 ghost use Rattle.std.specs.List.{AllPass};
 ghost use Rattle.cvl_base.specs.Folds.{scan_of};
 ghost use Rattle.cvl_base.specs.Gives.{Gives};
 ghost use Rattle.cvl_base.specs.SegmentedCalls.{seg_scan_of};
 
-use crate::plain::push_scan_from;
+use crate::plain::{push_scan_from, push_scan_readings_from};
+use crate::readings::Reading;
 use crate::runs::scan_of_run;
 use crate::totals::check_total;
 use cvl_base::monoid::know_laws;
@@ -31,6 +32,26 @@ pub fn scan<R: Threads + Sync, A: Memory, M: Monoid>(
     know_laws::<M>();
     let mut sums = Vec::with_capacity(alloc, a.len())?;
     push_scan_from::<M, A>(&mut sums, M::unit(), a);
+    Ok(sums)
+}
+
+/// The exclusive scan of what the elements are read as: element `k` of the result joins the items of the elements before
+/// place `k`, from left to right, and is the unit at place 0.
+///
+/// The elements must be read as items of the monoid. The result is as long as they are. Source: Blelloch's prescan.
+pub fn scan_readings<R: Threads + Sync, A: Memory, M: Monoid, X: Copy, E: Reading<X, M::Item>>(
+    _rt: &R,
+    alloc: A,
+    _config: Config,
+    a: &[X],
+) -> Result<Vec<M::Item, A>, NoResources>
+    requires items { AllPass (λ x. M.is_item (E.item x)) a.now }
+    ensures values { IfOk result (λ sums. sums.items ≡ scan_of M.join M.unit (map E.item a.now)) }
+    ensures as_long { IfOk result (λ sums. vec_len sums ≡ length a.now) }
+{
+    know_laws::<M>();
+    let mut sums = Vec::with_capacity(alloc, a.len())?;
+    push_scan_readings_from::<M, X, E, A>(&mut sums, M::unit(), a);
     Ok(sums)
 }
 

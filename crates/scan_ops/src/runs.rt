@@ -11,7 +11,8 @@ ghost use Rattle.cvl_base.specs.SegmentMonoid.{seg_join};
 ghost use Rattle.segdes.specs.Starts.{start_of};
 ghost use Rattle.scan_ops.specs.Runs.{reduces_of, run_of, run_scan_of, scans_of};
 
-use crate::plain::{push_scan_from, sum_from};
+use crate::plain::{push_scan_from, sum_from, sum_readings_from};
+use crate::readings::Reading;
 use cvl_base::monoid::know_laws;
 use cvl_base::{Memory, Monoid, NoResources};
 use segdes::SegDes;
@@ -43,15 +44,16 @@ fn push_scans<M: Monoid, A: Memory>(sums: &mut Vec<M::Item, A>, lengths: &[i32],
     }
 }
 
-/// The reduces of all segments.
-pub(crate) fn reduces_of_segments<M: Monoid, A: Memory>(
+/// The reduces of all segments, of what the elements are read as.
+pub(crate) fn reduces_of_segments<M: Monoid, X: Copy, E: Reading<X, M::Item>, A: Memory>(
     alloc: A,
-    a: &[M::Item],
+    a: &[X],
     d: &SegDes<A>,
 ) -> Result<Vec<M::Item, A>, NoResources>
     requires total { sum d.now ≡ length a.now }
-    requires items { AllPass M.is_item a.now }
-    ensures { IfOk result (λ sums. sums.items ≡ reduces_of M.join M.unit d.now a.now) }
+    requires items { AllPass (λ x. M.is_item (E.item x)) a.now }
+    ensures values { IfOk result (λ sums. sums.items ≡ reduces_of M.join M.unit d.now (map E.item a.now)) }
+    ensures one_each { IfOk result (λ sums. vec_len sums ≡ length d.now) }
 {
     know_laws::<M>();
     let lengths = d.lengths();
@@ -59,7 +61,7 @@ pub(crate) fn reduces_of_segments<M: Monoid, A: Memory>(
     let mut rest = a;
     for length in lengths {
         let (segment, others) = rest.split_at(*length as usize);
-        sums.push_reserved(sum_from::<M>(M::unit(), segment));
+        sums.push_reserved(sum_readings_from::<M, X, E>(M::unit(), segment));
         rest = others;
     }
     Ok(sums)

@@ -1,12 +1,13 @@
 //! Reduces by any monoid.
 
-ghost use Rattle.std.specs.Prelude.{◌≡◌, IfOk};
+ghost use Rattle.std.specs.Prelude.{◌≡◌, IfOk, length, map, vec_len};
 ghost use Rattle.std.specs.List.{AllPass};
 ghost use Rattle.cvl_base.specs.Folds.{fold_of};
 ghost use Rattle.cvl_base.specs.Gives.{Gives};
 ghost use Rattle.cvl_base.specs.SegmentedCalls.{seg_reduce_of};
 
-use crate::plain::sum_from;
+use crate::plain::{sum_from, sum_readings_from};
+use crate::readings::{Itself, Reading};
 use crate::runs::reduces_of_segments;
 use crate::totals::check_total;
 use cvl_base::monoid::know_laws;
@@ -30,21 +31,52 @@ pub fn reduce<R: Threads + Sync, A: Memory, M: Monoid>(
     Ok(sum_from::<M>(M::unit(), a))
 }
 
+/// What the elements are read as, joined from left to right, and the unit where there are none. It takes no memory.
+///
+/// The elements must be read as items of the monoid. Source: CVL's reduces.
+pub fn reduce_readings<M: Monoid, X: Copy, E: Reading<X, M::Item>>(a: &[X]) -> M::Item
+    requires items { AllPass (λ x. M.is_item (E.item x)) a.now }
+    ensures { result ≡ fold_of M.join M.unit (map E.item a.now) }
+{
+    know_laws::<M>();
+    sum_readings_from::<M, X, E>(M::unit(), a)
+}
+
 /// For each segment its elements joined from left to right, and the unit where it is empty.
 ///
 /// The elements must be items of the monoid. The result has one element for each segment. LengthMismatch, without a
 /// place, where the segments' total is not the number of elements. Source: CVL's segmented reduces.
 pub fn seg_reduce<R: Threads + Sync, A: Memory, M: Monoid>(
-    _rt: &R,
+    rt: &R,
     alloc: A,
-    _config: Config,
+    config: Config,
     a: &[M::Item],
     d: &SegDes<A>,
 ) -> Result<Vec<M::Item, A>, Refused>
     requires items { AllPass M.is_item a.now }
-    ensures { Gives (λ sums. sums.items) result (seg_reduce_of M.join M.unit a.now d.now) }
+    ensures values { Gives (λ sums. sums.items) result (seg_reduce_of M.join M.unit a.now d.now) }
+    ensures one_each { IfOk result (λ sums. vec_len sums ≡ length d.now) }
+{
+    seg_reduce_readings::<R, A, M, M::Item, Itself>(rt, alloc, config, a, d)
+}
+
+/// For each segment what its elements are read as, joined from left to right, and the unit where it is empty.
+///
+/// The elements must be read as items of the monoid. The result has one element for each segment. LengthMismatch, without
+/// a place, where the segments' total is not the number of elements. Source: CVL's segmented reduces.
+pub fn seg_reduce_readings<
+    R: Threads + Sync,
+    A: Memory,
+    M: Monoid,
+    X: Copy,
+    E: Reading<X, M::Item>,
+>(_rt: &R, alloc: A, _config: Config, a: &[X], d: &SegDes<A>) -> Result<Vec<M::Item, A>, Refused>
+    requires items { AllPass (λ x. M.is_item (E.item x)) a.now }
+    ensures values { Gives (λ sums. sums.items) result
+        (seg_reduce_of M.join M.unit (map E.item a.now) d.now) }
+    ensures one_each { IfOk result (λ sums. vec_len sums ≡ length d.now) }
 {
     check_total(a, d)?;
-    let sums = reduces_of_segments::<M, A>(alloc, a, d)?;
+    let sums = reduces_of_segments::<M, X, E, A>(alloc, a, d)?;
     Ok(sums)
 }

@@ -1,6 +1,7 @@
 //! The check that a descriptor is one of a vector.
 
-ghost use Rattle.std.specs.Prelude.{◌≡◌, length, sum, MatchResult, Err};
+ghost use Rattle.std.specs.Prelude.{◌≡◌, ◌≤◌, length, sum, IfOk, MatchResult, Err};
+ghost use Rattle.cvl_base.specs.Limits.{most_elements};
 ghost use Rattle.cvl_base.specs.Nests.{nest};
 
 use cvl_base::{Fault, FaultNo};
@@ -8,9 +9,10 @@ use segdes::SegDes;
 use std::alloc::Allocator;
 
 /// Checks that the segments have as many elements in all as the vector, else LengthMismatch.
-pub(crate) fn check_total<T, A: Allocator>(a: &[T], d: &SegDes<A>) -> Result<(), Fault>
-    ensures { MatchResult result (λ _. sum d.now ≡ length a.now)
+pub fn check_total<T, A: Allocator>(a: &[T], d: &SegDes<A>) -> Result<(), Fault>
+    ensures agrees { MatchResult result (λ _. sum d.now ≡ length a.now)
         (λ f. nest d.now a.now ≡ Err f) }
+    ensures in_limit { IfOk result (λ _. length a.now ≤ most_elements) }
 {
     if d.total() != a.len() {
         return Err(Fault::new(FaultNo::LengthMismatch));

@@ -1,12 +1,9 @@
-use Rattle.std.proofs.Common.{rules, arith}
-use Rattle.scan_ops.proofs.Scanned.{joined_more, pushed_more}
+use Rattle.std.proofs.Common.{◌++◌, ap, ◌∙◌}
+use Rattle.std.proofs.lemmas.List.{map-id}
+use Rattle.cvl_base.specs.Folds.{scan_of}
 use Rattle.scan_ops.proofs.plain.push_scan_from.Goals as goal
 
-pub loop-x-preserved : goal.loop-x-preserved
-loop-x-preserved g c = record {
-  item = search rules;
-  sum = joined_more g.M.Monoid.join c.args.before c.loop-x.so_far c.x-item.result _ _ _ c.loop-x-test.true c.x-item.is c.loop-x.invariant.sum c.join-so_far.ensures;
-  values = pushed_more g.M.Monoid.join _ _ _ c.args.before c.loop-x.so_far _ _ c.loop-x-test.true c.loop-x.invariant.values c.loop-x.invariant.sum c.push_reserved.ensures.items;
-  as_long = omega arith;
-  capacity = omega arith;
-}
+pub returns-clause-values : goal.returns-clause-values
+returns-clause-values g c =
+    c.push_scan_readings_from.ensures.values
+    ∙ ap (λ xs. c.args.sums.now.items ++ scan_of g.M.Monoid.join c.args.before xs) (map-id c.args.xs.now)

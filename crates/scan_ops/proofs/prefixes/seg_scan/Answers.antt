@@ -7,5 +7,5 @@ pub returns : goal.returns
 returns g c =
     let d = c.args.d.now in
     let xs = c.args.a.now in
-    seg_scan-fits g.M.Monoid.join g.M.Monoid.unit xs d c.in_ok-check_total.ensures
+    seg_scan-fits g.M.Monoid.join g.M.Monoid.unit xs d c.in_ok-check_total.ensures.agrees
     ∙ ap (λ sums. Ok sums) (sym (c.in_ok-sums.ensures ∙ whole_scanned c.know_laws.ensures d xs c.unit.result c.requires.items))

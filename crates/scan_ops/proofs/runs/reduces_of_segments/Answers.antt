@@ -1,6 +1,6 @@
-use Rattle.std.proofs.Common.{◌≡◌, pos, ◌<◌, true, get_or, length, sym, subst, ap, arith}
+use Rattle.std.proofs.Common.{◌≡◌, pos, ◌<◌, true, get_or, length, map, sym, subst, ap, ◌∙◌, arith}
 use Rattle.std.specs.List.{AllPass}
-use Rattle.std.proofs.lemmas.List.{length-map}
+use Rattle.std.proofs.lemmas.List.{drop-map, length-map, take-map}
 use Rattle.std.proofs.lemmas.List.Elements.{All-drop, All-take}
 use Rattle.std.proofs.lemmas.List.Sums.{sum_by-drop_more}
 use Rattle.scan_ops.proofs.Segmented.{length_fits, length_read, read_at, reduces_pushed}
@@ -20,25 +20,28 @@ split_at-requires g c =
     let is_length : read_at c.lengths-lengths.result.now s ≡ get_or d s 0 = length_read c.lengths-lengths.result.now d row c.lengths-lengths.ensures.lengths s c.loop-length-test.true in
     omega (arith, is_length, c.loop-length.invariant.covered, sum_by-drop_more (λ x. x) d s 0 lt)
 
-pub sum_from-requires-clause-items : goal.sum_from-requires-clause-items
-sum_from-requires-clause-items g c =
+pub sum_readings_from-requires-clause-items : goal.sum_readings_from-requires-clause-items
+sum_readings_from-requires-clause-items g c =
     let m = g.M.Monoid in
-    subst (λ xs. AllPass m.is_item xs) (sym c.split_at.ensures.front) (All-take (λ x. m.is_item x ≡ true) (read_at c.lengths-lengths.result.now c.loop-length.length-index) c.loop-length.rest.now c.loop-length.invariant.items)
+    let item = g.E.Reading.item in
+    subst (λ xs. AllPass (λ x. m.is_item (item x)) xs) (sym c.split_at.ensures.front) (All-take (λ x. m.is_item (item x) ≡ true) (read_at c.lengths-lengths.result.now c.loop-length.length-index) c.loop-length.rest.now c.loop-length.invariant.items)
 
 pub loop-length-preserved : goal.loop-length-preserved
 loop-length-preserved g c =
     let m = g.M.Monoid in
+    let item = g.E.Reading.item in
     let d = c.args.d.now in
     let s = c.loop-length.length-index in
     let rest = c.loop-length.rest.now in
     let row = c.lengths-lengths.ensures.value in
     let lt : s < length d = omega (arith, c.loop-length-test.true, ap length row, length-map d pos) in
     let is_length : read_at c.lengths-lengths.result.now s ≡ get_or d s 0 = length_read c.lengths-lengths.result.now d row c.lengths-lengths.ensures.lengths s c.loop-length-test.true in
+    let n = read_at c.lengths-lengths.result.now s in
     record {
-      whole = reduces_pushed m.join m.unit d _ _ _ rest _ _ c.unit.result c.sum_from.result s (read_at c.lengths-lengths.result.now c.loop-length.length-index) lt is_length
-          c.split_at.ensures.front c.split_at.ensures.back c.unit.ensures c.sum_from.ensures c.push_reserved.ensures.items c.loop-length.invariant.whole;
+      whole = reduces_pushed m.join m.unit d _ _ _ (map item rest) _ _ c.unit.result c.sum_readings_from.result s n lt is_length
+          (ap (map item) c.split_at.ensures.front ∙ sym (take-map item n rest)) (ap (map item) c.split_at.ensures.back ∙ sym (drop-map item n rest)) c.unit.ensures c.sum_readings_from.ensures c.push_reserved.ensures.items c.loop-length.invariant.whole;
       as_long = omega arith;
       capacity = omega arith;
       covered = omega (arith, is_length, c.split_at.ensures.back_len, c.loop-length.invariant.covered, sum_by-drop_more (λ x. x) d s 0 lt);
-      items = subst (λ xs. AllPass m.is_item xs) (sym c.split_at.ensures.back) (All-drop (λ x. m.is_item x ≡ true) (read_at c.lengths-lengths.result.now c.loop-length.length-index) rest c.loop-length.invariant.items);
+      items = subst (λ xs. AllPass (λ x. m.is_item (item x)) xs) (sym c.split_at.ensures.back) (All-drop (λ x. m.is_item (item x) ≡ true) (read_at c.lengths-lengths.result.now c.loop-length.length-index) rest c.loop-length.invariant.items);
     }

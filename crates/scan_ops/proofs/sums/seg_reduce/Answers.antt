@@ -1,8 +1,9 @@
-use Rattle.std.proofs.Common.{◌∙◌, Ok, sym, ap}
-use Rattle.scan_ops.proofs.Segmented.{seg_reduce-fits}
+use Rattle.std.proofs.Common.{subst}
+use Rattle.std.proofs.lemmas.List.{map-id}
+use Rattle.cvl_base.specs.Gives.{Gives}
+use Rattle.cvl_base.specs.SegmentedCalls.{seg_reduce_of}
 use Rattle.scan_ops.proofs.sums.seg_reduce.Goals as goal
 
-pub returns : goal.returns
-returns g c =
-    seg_reduce-fits g.M.Monoid.join g.M.Monoid.unit c.args.a.now c.args.d.now c.in_ok-check_total.ensures
-    ∙ ap (λ sums. Ok sums) (sym c.in_ok-sums.ensures)
+pub returns-clause-values : goal.returns-clause-values
+returns-clause-values g c =
+    subst (λ xs. Gives (λ sums. sums.items) c.seg_reduce_readings.result (seg_reduce_of g.M.Monoid.join g.M.Monoid.unit xs c.args.d.now)) (map-id c.args.a.now) c.seg_reduce_readings.ensures.values

@@ -1,0 +1,91 @@
+//! The calls that are measured.
+
+use crate::inputs::Input;
+use crate::plain;
+use cvl_base::Config;
+use cvl_base::limits::MOST_ELEMENTS;
+use pack_dist::{count_true, pack, seg_count, seg_pack};
+use std::alloc::Global;
+use std::thread::Threads;
+
+/// A call that is measured beside a plain loop.
+#[derive(Clone, Copy)]
+pub enum Case {
+    /// The pack of integers.
+    PackIntegers,
+    /// The pack of booleans.
+    PackBooleans,
+    /// The count.
+    Count,
+    /// The count of each segment.
+    SegmentCounts,
+    /// The segmented pack of integers, and its descriptor.
+    SegmentPack,
+}
+
+impl Case {
+    /// What it is called.
+    pub fn name(self) -> &'static str {
+        match self {
+            Case::PackIntegers => "pack of integers",
+            Case::PackBooleans => "pack of booleans",
+            Case::Count => "count",
+            Case::SegmentCounts => "count by segments",
+            Case::SegmentPack => "pack by segments",
+        }
+    }
+}
+
+/// The length of a vector, and 0 where there is none.
+fn length_of<T: Drop, E: Drop>(answer: Result<Vec<T>, E>) -> usize {
+    match answer {
+        Ok(values) => values.len(),
+        Err(_) => 0,
+    }
+}
+
+/// Makes a case's call, and answers how long its result is, or what it counts.
+pub fn answer<R: Threads + Sync>(
+    rt: &R,
+    alloc: Global,
+    config: Config,
+    case: Case,
+    input: &Input,
+) -> usize {
+    let flags = input.flags.as_slice();
+    if flags.len() > MOST_ELEMENTS {
+        return 0;
+    }
+    match case {
+        Case::PackIntegers => length_of(pack(rt, alloc, config, &input.integers, flags)),
+        Case::PackBooleans => length_of(pack(rt, alloc, config, &input.booleans, flags)),
+        Case::Count => count_true(flags) as usize,
+        Case::SegmentCounts => length_of(seg_count(rt, alloc, config, flags, &input.d)),
+        Case::SegmentPack => {
+            match seg_pack(rt, alloc, config, &input.integers, flags, &input.d) {
+                Ok((packed, _lengths)) => packed.len(),
+                Err(_) => 0,
+            }
+        }
+    }
+}
+
+/// The same by a plain loop.
+pub fn plain_answer(alloc: Global, case: Case, input: &Input) -> usize {
+    let flags = input.flags.as_slice();
+    if input.integers.len() < flags.len() || input.booleans.len() < flags.len() {
+        return 0;
+    }
+    match case {
+        Case::PackIntegers => length_of(plain::kept(alloc, &input.integers, flags)),
+        Case::PackBooleans => length_of(plain::kept(alloc, &input.booleans, flags)),
+        Case::Count => plain::count(flags),
+        Case::SegmentCounts => length_of(plain::counts(alloc, &input.lengths, flags)),
+        Case::SegmentPack => {
+            match plain::kept_by_segments(alloc, &input.lengths, &input.integers, flags) {
+                Ok((kept, _counts)) => kept.len(),
+                Err(_) => 0,
+            }
+        }
+    }
+}

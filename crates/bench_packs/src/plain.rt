@@ -1,0 +1,78 @@
+//! The same work in plain loops of one thread.
+
+ghost use Rattle.std.specs.Prelude.{◌≡◌, ◌+◌, ◌≤◌, count_by, length, vec_len, vec_capacity};
+
+use std::alloc::{AllocError, Global};
+
+/// How many flags are true.
+pub fn count(flags: &[bool]) -> usize
+    ensures { result ≡ count_by (λ flag. flag) flags.now }
+{
+    let mut count: usize = 0;
+    for flag in flags {
+        if *flag {
+            count += 1;
+        }
+    }
+    count
+}
+
+/// Pushes the elements whose flag is true. There must be room for them.
+fn push_kept<T: Copy>(kept: &mut Vec<T>, values: &[T], flags: &[bool])
+    requires as_long { length flags.now ≤ length values.now }
+    requires room { vec_len kept.old + count_by (λ flag. flag) flags.now ≤ vec_capacity kept.old }
+    ensures len { vec_len kept.new ≡ vec_len kept.old + count_by (λ flag. flag) flags.now }
+    ensures capacity { vec_capacity kept.new ≡ vec_capacity kept.old }
+{
+    for k in 0..flags.len() {
+        if flags[k] {
+            kept.push_reserved(values[k]);
+        }
+    }
+}
+
+/// The elements whose flag is true.
+pub fn kept<T: Copy>(alloc: Global, values: &[T], flags: &[bool]) -> Result<Vec<T>, AllocError>
+    requires { length flags.now ≤ length values.now }
+{
+    let mut kept = Vec::with_capacity(alloc, count(flags))?;
+    push_kept(&mut kept, values, flags);
+    Ok(kept)
+}
+
+/// How many flags of each segment are true.
+pub fn counts(alloc: Global, lengths: &[usize], flags: &[bool]) -> Result<Vec<usize>, AllocError> {
+    let mut counts = Vec::with_capacity(alloc, lengths.len())?;
+    let mut rest = flags;
+    for length in lengths {
+        let (segment, others) = rest.split_at((*length).min(rest.len()));
+        counts.push_reserved(count(segment));
+        rest = others;
+    }
+    Ok(counts)
+}
+
+/// The elements of each segment whose flag is true, and how many they are.
+pub fn kept_by_segments<T: Copy>(
+    alloc: Global,
+    lengths: &[usize],
+    values: &[T],
+    flags: &[bool],
+) -> Result<(Vec<T>, Vec<usize>), AllocError>
+    requires { length flags.now ≤ length values.now }
+{
+    let mut kept = Vec::with_capacity(alloc, count(flags))?;
+    let mut counts = Vec::with_capacity(alloc, lengths.len())?;
+    let (mut values, mut flags) = (values, flags);
+    for length in lengths {
+        let before = kept.len();
+        let length = (*length).min(flags.len());
+        let (segment, other_values) = values.split_at(length);
+        let (segment_flags, other_flags) = flags.split_at(length);
+        push_kept(&mut kept, segment, segment_flags);
+        counts.push_reserved(kept.len() - before);
+        values = other_values;
+        flags = other_flags;
+    }
+    Ok((kept, counts))
+}

@@ -1,0 +1,87 @@
+-- The sum of flags that are read as 1 and 0 is the number of true ones.
+use Rattle.std.proofs.Common.{◌≡◌, ℕ, zero, suc, ◌+◌, ◌<◌, ◌≤◌, ℤ, pos, to_z, of_z, w32, w64, Fits, Bool, true, false, cond, List, [], ◌∷◌, length, take, map, get_or, refl, sym, ap, ◌∙◌, arith, FitsSigned, subst}
+use Rattle.std.specs.Prelude.{unsigned_abs}
+use Rattle.std.specs.Int.{IsNonNegative}
+use Rattle.std.proofs.Math.Facts.{Fits-below}
+use Rattle.std.proofs.lemmas.Int.{int_wrap_fits, fits_signed_from_abs, to_z-of_z}
+use Rattle.std.proofs.lemmas.List.{get_or-map, get_or_default, length-map, length-take, take-map}
+use Rattle.std.proofs.lemmas.List.Sums.{sum_by-cons, count_by-le-length}
+use Rattle.cvl_base.specs.Conversions.{integer_of}
+use Rattle.cvl_base.specs.Folds.{fold_of, fronts, scan_of}
+use Rattle.cvl_base.specs.Integers.{sum_of, wrap}
+use Rattle.cvl_base.specs.Limits.{most_elements}
+use Rattle.cvl_base.specs.Packs.{count_of}
+use Rattle.pack_dist.specs.Kept.{ArePlaces}
+
+pub count-cons : (flag : Bool) (flags : List Bool) → count_of (flag ∷ flags) ≡ cond flag 1 0 + count_of flags
+count-cons flag flags = sum_by-cons (λ (f : Bool). cond f 1 0) flag flags
+
+wrap-few : (n : ℕ) → n ≤ most_elements → wrap (pos n) ≡ pos n
+wrap-few n few = int_wrap_fits w32 (pos n) (fits_signed_from_abs w32 (pos n) (omega arith))
+
+one_more : (n : ℕ) (flag : Bool) → n + 1 ≤ most_elements → sum_of (pos n) (integer_of flag) ≡ pos (n + cond flag 1 0)
+one_more n true few = wrap-few (n + 1) few
+one_more n false few = wrap-few (n + 0) (omega (arith, few))
+
+ones_from : (n : ℕ) (flags : List Bool) → n + length flags ≤ most_elements → fold_of sum_of (pos n) (map integer_of flags) ≡ pos (n + count_of flags)
+ones_from n [] few = ap pos (omega arith)
+ones_from n (true ∷ flags) few =
+    ap (λ z. fold_of sum_of z (map integer_of flags)) (one_more n true (omega (arith, few)))
+    ∙ ones_from (n + 1) flags (omega (arith, few))
+    ∙ ap pos (omega (arith, count-cons true flags))
+ones_from n (false ∷ flags) few =
+    ap (λ z. fold_of sum_of z (map integer_of flags)) (one_more n false (omega (arith, few)))
+    ∙ ones_from (n + 0) flags (omega (arith, few))
+    ∙ ap pos (omega (arith, count-cons false flags))
+
+pub ones_counted : (flags : List Bool) → length flags ≤ most_elements → fold_of sum_of (pos 0) (map integer_of flags) ≡ pos (count_of flags)
+ones_counted flags few = ones_from 0 flags (omega (arith, few)) ∙ ap pos (omega arith)
+
+-- ---- the counts before each flag
+
+length-fronts : {X : Type 0} (xs : List X) → length (fronts xs) ≡ length xs
+length-fronts [] = refl
+length-fronts (x ∷ xs) = omega (arith, length-map (fronts xs) (λ front. x ∷ front), length-fronts xs)
+
+get_or-fronts : {X : Type 0} (xs : List X) (k : ℕ) → k < length xs → get_or (fronts xs) k [] ≡ take k xs
+get_or-fronts [] k within = absurd (omega arith)
+get_or-fronts (x ∷ xs) zero within = refl
+get_or-fronts (x ∷ xs) (suc k) within =
+    get_or-map (λ front. x ∷ front) (fronts xs) k [] [] (omega (arith, within, length-fronts xs)) ∙ ap (λ front. x ∷ front) (get_or-fronts xs k (omega arith))
+
+pub scanned_ones : (flags : List Bool) (places : List ℤ) → length flags ≤ most_elements → places ≡ scan_of sum_of (pos 0) (map integer_of flags) → ArePlaces flags places
+scanned_ones flags places few is k within =
+    let ones = map integer_of flags in
+    let in_ones : k < length ones = omega (arith, within, length-map flags integer_of) in
+    ap (λ ps. get_or ps k (pos 0)) is
+    ∙ get_or-map (fold_of sum_of (pos 0)) (fronts ones) k [] (pos 0) (omega (arith, in_ones, length-fronts ones))
+    ∙ ap (fold_of sum_of (pos 0)) (get_or-fronts ones k in_ones ∙ take-map integer_of k flags)
+    ∙ ones_counted (take k flags) (omega (arith, few, length-take k flags))
+
+pub count-fits : (flags : List Bool) → length flags ≤ most_elements → FitsSigned w32 (pos (count_of flags))
+count-fits flags few = fits_signed_from_abs w32 (pos (count_of flags)) (omega (arith, few, count_by-le-length (λ flag. flag) flags))
+
+-- the place of element k as it is read, a signed number of 32 bits
+pub record IsPlace (flags : List Bool) (k : ℕ) (place : ℤ) : Type 0 where
+  pub value : unsigned_abs (to_z w32 (of_z w32 place)) ≡ count_of (take k flags)
+  pub fits : IsNonNegative (to_z w32 (of_z w32 place)) × Fits w64 (unsigned_abs (to_z w32 (of_z w32 place)))
+
+place_read : (flags : List Bool) (places : List ℤ) (k : ℕ) (place : ℤ) → length flags ≤ most_elements → ArePlaces flags places → k < length flags → k < length places → place ≡ get_or places k place
+    → IsPlace flags k place
+place_read flags places k place few are within there is =
+    let read : to_z w32 (of_z w32 place) ≡ pos (count_of (take k flags)) =
+    ap (λ z. to_z w32 (of_z w32 z)) (is ∙ get_or_default places k place (pos 0) there ∙ are k within)
+    ∙ to_z-of_z w32 (pos (count_of (take k flags))) (count-fits (take k flags) (omega (arith, few, length-take k flags))) in
+    let small : count_of (take k flags) ≤ most_elements = omega (arith, few, length-take k flags, count_by-le-length (λ flag. flag) (take k flags)) in
+    record {
+      value = ap unsigned_abs read;
+      fits = subst (λ (z : ℤ). IsNonNegative z × Fits w64 (unsigned_abs z)) (sym read) (tt, Fits-below tt small);
+    }
+
+-- the same of an element before the end of the flags that are looked at
+pub front_read : (flags front : List Bool) (places : List ℤ) (end k : ℕ) (place : ℤ) → length flags ≤ most_elements → end ≤ length flags → front ≡ take end flags → ArePlaces front places
+    → length places ≡ length front → k < end → place ≡ get_or places k place → IsPlace (take end flags) k place
+front_read flags front places end k place few le is_front are long within is =
+    let longer : k < length front = omega (arith, ap length is_front, length-take end flags, within, le) in
+    subst (λ fs. IsPlace fs k place) is_front
+    (place_read front places k place (omega (arith, few, ap length is_front, length-take end flags)) are longer (omega (arith, long, longer)) is)

@@ -1,0 +1,196 @@
+-- Counts and packs of segments, one segment after another.
+use Rattle.std.proofs.Common.{◌≡◌, ◌≢◌, ℕ, ◌+◌, ◌≤◌, ℤ, pos, Bool, List, [], ◌∷◌, ◌++◌, length, take, drop, map, zip, refl, sym, ap, ◌∙◌, arith, inl, inr, Result, Ok, Err, IfOk}
+use Rattle.std.specs.Prelude.{not, sum, unsigned_abs}
+use Rattle.std.proofs.lemmas.Bool.Decides.{eqb_tells}
+use Rattle.std.proofs.lemmas.List.{drop-map, length-drop, length-map, length-take, nil_from_length, take-map}
+use Rattle.std.proofs.lemmas.List.Sums.{count_by-le-length, sum_by-cons}
+use Rattle.cvl_base.specs.declared.fault.Fault.{Fault}
+use Rattle.cvl_base.specs.declared.fault.FaultNo.TheVariants as no
+use Rattle.cvl_base.specs.declared.refused.Refused.{Refused}
+use Rattle.cvl_base.specs.declared.refused.Refused.TheVariants as refused
+use Rattle.cvl_base.specs.Conversions.{integer_of}
+use Rattle.cvl_base.specs.Descriptors.{AreLengths}
+use Rattle.cvl_base.specs.Elementwise.{if_as_long}
+use Rattle.cvl_base.specs.Faults.{fault}
+use Rattle.cvl_base.specs.Folds.{fold_of}
+use Rattle.cvl_base.specs.Gives.{◌>>=◌, fault_if, Gives}
+use Rattle.cvl_base.specs.Integers.{sum_of}
+use Rattle.cvl_base.specs.Limits.{most_elements}
+use Rattle.cvl_base.specs.Lists.{joined}
+use Rattle.cvl_base.specs.Nests.{cut_of, nest}
+use Rattle.cvl_base.specs.Packs.{count_of, pack_of}
+use Rattle.cvl_base.specs.Segmented.{beside, end_to_end, in_vector, moved, of_two, one_each, results_from}
+use Rattle.cvl_base.specs.SegmentedCalls.{seg_count_of, seg_pack_of, seg_reduce_of}
+use Rattle.scan_ops.proofs.Segmented.{nest-fits, results-ok, seg_reduce-fits, seg_reduce-misfits}
+use Rattle.scan_ops.specs.Runs.{reduces_of}
+use Rattle.segdes.proofs.Sums.{abs_pos}
+use Rattle.pack_dist.specs.Kept.{kept_of}
+use Rattle.pack_dist.proofs.Ones.{ones_counted}
+use Rattle.pack_dist.proofs.Packing.{kept-split}
+
+nest-misfits : {X : Type 0} (lengths : List ℕ) (xs : List X) → sum lengths ≢ length xs → nest lengths xs ≡ Err (fault no.LengthMismatch)
+nest-misfits lengths xs misfits =
+    elim (eqb_tells (sum lengths) (length xs)) [
+      | inl t ↦ absurd (misfits t.1)
+      | inr t ↦ ap (λ b. fault_if (not b) (fault no.LengthMismatch) (Ok (cut_of lengths xs))) t.0
+    ]
+
+as_long-fits : {X Y Z : Type 0} (xs : List X) (ys : List Y) (rest : Result Z Fault) → length xs ≡ length ys → if_as_long xs ys rest ≡ rest
+as_long-fits xs ys rest long =
+    elim (eqb_tells (length xs) (length ys)) [
+      | inl t ↦ ap (λ b. fault_if (not b) (fault no.LengthMismatch) rest) t.0
+      | inr t ↦ absurd (t.1 long)
+    ]
+
+length-cut : {X : Type 0} (lengths : List ℕ) (xs : List X) → length (cut_of lengths xs) ≡ length lengths
+length-cut [] xs = refl
+length-cut (n ∷ lengths) xs = omega (arith, length-cut lengths (drop n xs))
+
+sum-cons : (n : ℕ) (ns : List ℕ) → sum (n ∷ ns) ≡ n + sum ns
+sum-cons n ns = sum_by-cons (λ x. x) n ns
+
+-- ---- counts
+
+seg_count-fits : (flags : List Bool) (lengths : List ℕ) → sum lengths ≡ length flags → seg_count_of flags lengths ≡ Ok (map count_of (cut_of lengths flags))
+seg_count-fits flags lengths fits =
+    ap (one_each (in_vector lengths) (λ fs. Ok (count_of fs))) (nest-fits lengths flags fits) ∙ results-ok (in_vector lengths) count_of 0 (cut_of lengths flags)
+
+seg_count-misfits : (flags : List Bool) (lengths : List ℕ) → sum lengths ≢ length flags → seg_count_of flags lengths ≡ Err (fault no.LengthMismatch)
+seg_count-misfits flags lengths misfits = ap (one_each (in_vector lengths) (λ fs. Ok (count_of fs))) (nest-misfits lengths flags misfits)
+
+ones_by_segment : (lengths : List ℕ) (flags : List Bool) → length flags ≤ most_elements → reduces_of sum_of (pos 0) lengths (map integer_of flags) ≡ map pos (map count_of (cut_of lengths flags))
+ones_by_segment [] flags few = refl
+ones_by_segment (n ∷ lengths) flags few =
+    let others = reduces_of sum_of (pos 0) lengths (drop n (map integer_of flags)) in
+    ap (λ z. z ∷ others) (ap (fold_of sum_of (pos 0)) (take-map integer_of n flags) ∙ ones_counted (take n flags) (omega (arith, few, length-take n flags)))
+    ∙ ap (λ zs. pos (count_of (take n flags)) ∷ zs)
+    (ap (reduces_of sum_of (pos 0) lengths) (drop-map integer_of n flags) ∙ ones_by_segment lengths (drop n flags) (omega (arith, few, length-drop n flags)))
+
+sum-counts : (lengths : List ℕ) (flags : List Bool) → sum (map count_of (cut_of lengths flags)) ≤ length flags
+sum-counts [] flags = omega arith
+sum-counts (n ∷ lengths) flags =
+    omega (
+      arith,
+      sum-cons (count_of (take n flags)) (map count_of (cut_of lengths (drop n flags))),
+      count_by-le-length (λ (flag : Bool). flag) (take n flags),
+      sum-counts lengths (drop n flags),
+      length-take n flags,
+      length-drop n flags,
+    )
+
+are_counts : (lengths : List ℕ) (flags : List Bool) (numbers : List ℤ) → length lengths ≤ most_elements → length flags ≤ most_elements → numbers ≡ map pos (map count_of (cut_of lengths flags)) → AreLengths numbers
+are_counts lengths flags numbers few small is =
+    let counts = map count_of (cut_of lengths flags) in
+    let read : map unsigned_abs numbers ≡ counts = ap (map unsigned_abs) is ∙ abs_pos counts in
+    record {
+      none_negative = is ∙ ap (map pos) (sym read);
+      few = omega (arith, few, ap length is, length-map counts pos, length-map (cut_of lengths flags) count_of, length-cut lengths flags);
+      in_limit = omega (arith, small, ap sum read, sum-counts lengths flags);
+    }
+
+-- the limits of a descriptor's lengths
+pub descriptor-few : (lengths : List ℕ) (row : List ℤ) → row ≡ map pos lengths → AreLengths row → length lengths ≤ most_elements
+descriptor-few lengths row is are = omega (arith, are.few, ap length is, length-map lengths pos)
+
+pub descriptor-small : (lengths : List ℕ) (row : List ℤ) → row ≡ map pos lengths → AreLengths row → sum lengths ≤ most_elements
+descriptor-small lengths row is are = omega (arith, are.in_limit, ap sum (ap (map unsigned_abs) is ∙ abs_pos lengths))
+
+module _ (flags : List Bool) (lengths : List ℕ) (few : length lengths ≤ most_elements) (small : sum lengths ≤ most_elements) {V : Type 0} (view : V → List ℤ) where
+  -- a reduce of the flags, read as 1 and 0, is the count of each segment
+  reduced_fits : sum lengths ≡ length flags → (r : Result V Refused) → Gives view r (seg_reduce_of sum_of (pos 0) (map integer_of flags) lengths)
+      → Gives (λ v. map unsigned_abs (view v)) r (seg_count_of flags lengths) × IfOk r (λ v. AreLengths (view v))
+  reduced_fits fits (Ok v) given =
+      let counts = map count_of (cut_of lengths flags) in
+      let reduces = reduces_of sum_of (pos 0) lengths (map integer_of flags) in
+      let both : ◌≡◌ {A = Result (List ℤ) Fault} (Ok reduces) (Ok (view v)) = sym (seg_reduce-fits sum_of (pos 0) (map integer_of flags) lengths (fits ∙ sym (length-map flags integer_of))) ∙ given in
+      let same : reduces ≡ view v = cc both in
+      let is : view v ≡ map pos counts = sym same ∙ ones_by_segment lengths flags (omega (arith, fits, small)) in (
+        seg_count-fits flags lengths fits ∙ ap Ok (sym (ap (map unsigned_abs) is ∙ abs_pos counts)),
+        are_counts lengths flags (view v) few (omega (arith, fits, small)) is,
+      )
+  reduced_fits fits (Err (refused.Fault f)) given =
+      let reduces = reduces_of sum_of (pos 0) lengths (map integer_of flags) in
+      let both : ◌≡◌ {A = Result (List ℤ) Fault} (Ok reduces) (Err f) = sym (seg_reduce-fits sum_of (pos 0) (map integer_of flags) lengths (fits ∙ sym (length-map flags integer_of))) ∙ given in
+      (cc both, tt)
+  reduced_fits fits (Err refused.NoResources) given = (tt, tt)
+
+  ones-misfit : sum lengths ≢ length flags → seg_reduce_of sum_of (pos 0) (map integer_of flags) lengths ≡ Err (fault no.LengthMismatch)
+  ones-misfit misfits =
+      seg_reduce-misfits sum_of (pos 0) (map integer_of flags) lengths (fault no.LengthMismatch)
+      (nest-misfits lengths (map integer_of flags) (λ fits. misfits (fits ∙ length-map flags integer_of)))
+
+  reduced_misfits : sum lengths ≢ length flags → (r : Result V Refused) → Gives view r (seg_reduce_of sum_of (pos 0) (map integer_of flags) lengths)
+      → Gives (λ v. map unsigned_abs (view v)) r (seg_count_of flags lengths) × IfOk r (λ v. AreLengths (view v))
+  reduced_misfits misfits (Ok v) given =
+      let both : ◌≡◌ {A = Result (List ℤ) Fault} (Err (fault no.LengthMismatch)) (Ok (view v)) = sym (ones-misfit misfits) ∙ given in
+      let none : ◌≡◌ {A = ℕ} 0 1 = cc both in
+      absurd (omega (arith, none))
+  reduced_misfits misfits (Err (refused.Fault f)) given =
+      let both : ◌≡◌ {A = Result (List ℤ) Fault} (Err (fault no.LengthMismatch)) (Err f) = sym (ones-misfit misfits) ∙ given in
+      let same : fault no.LengthMismatch ≡ f = cc both in
+      (seg_count-misfits flags lengths misfits ∙ ap Err same, tt)
+  reduced_misfits misfits (Err refused.NoResources) given = (tt, tt)
+
+  pub reduced : (r : Result V Refused) → Gives view r (seg_reduce_of sum_of (pos 0) (map integer_of flags) lengths)
+      → Gives (λ v. map unsigned_abs (view v)) r (seg_count_of flags lengths) × IfOk r (λ v. AreLengths (view v))
+  reduced r given =
+      elim (eqb_tells (sum lengths) (length flags)) [
+        | inl t ↦ reduced_fits t.1 r given
+        | inr t ↦ reduced_misfits t.1 r given
+      ]
+
+-- ---- packs
+
+module _ {X : Type 0} where
+  pack-fits : (xs : List X) (flags : List Bool) → length xs ≡ length flags → pack_of xs flags ≡ Ok (kept_of xs flags)
+  pack-fits xs flags long = as_long-fits xs flags (Ok (kept_of xs flags)) long
+
+  pack_each : (place : ℕ → ℕ → ℕ) (s : ℕ) (lengths : List ℕ) (xs : List X) (flags : List Bool) → length xs ≡ length flags
+      → results_from place (of_two pack_of) s (zip (cut_of lengths xs) (cut_of lengths flags)) ≡ Ok (map (λ p. kept_of p.0 p.1) (zip (cut_of lengths xs) (cut_of lengths flags)))
+  pack_each place s [] xs flags long = refl
+  pack_each place s (n ∷ lengths) xs flags long =
+      let others = results_from place (of_two pack_of) (s + 1) (zip (cut_of lengths (drop n xs)) (cut_of lengths (drop n flags))) in
+      ap (λ first. moved (place s) first >>= λ r. others >>= λ rs. Ok (r ∷ rs))
+      (pack-fits (take n xs) (take n flags) (omega (arith, long, length-take n xs, length-take n flags)))
+      ∙ ap (λ rest. rest >>= λ rs. Ok (kept_of (take n xs) (take n flags) ∷ rs))
+      (pack_each place (s + 1) lengths (drop n xs) (drop n flags) (omega (arith, long, length-drop n xs, length-drop n flags)))
+
+  -- the packs of the segments, one after another, are the pack of the whole
+  packs_joined : (lengths : List ℕ) (xs : List X) (flags : List Bool) → length xs ≡ length flags → sum lengths ≡ length xs
+      → joined (map (λ p. kept_of p.0 p.1) (zip (cut_of lengths xs) (cut_of lengths flags))) ≡ kept_of xs flags
+  packs_joined [] xs flags long fits = ap (λ ys. kept_of ys flags) (sym (nil_from_length xs (sym fits)))
+  packs_joined (n ∷ lengths) xs flags long fits =
+      ap (λ kept. kept_of (take n xs) (take n flags) ++ kept)
+      (packs_joined lengths (drop n xs) (drop n flags) (omega (arith, long, length-drop n xs, length-drop n flags)) (omega (arith, fits, sum-cons n lengths, length-drop n xs)))
+      ∙ sym (kept-split xs flags n long)
+
+  pub seg_pack-fits : (xs : List X) (flags : List Bool) (lengths : List ℕ) → sum lengths ≡ length xs → sum lengths ≡ length flags → seg_pack_of xs flags lengths ≡ Ok (kept_of xs flags)
+  seg_pack-fits xs flags lengths fits fits_flags =
+      let long : length xs ≡ length flags = sym fits ∙ fits_flags in
+      let pairs = zip (cut_of lengths xs) (cut_of lengths flags) in
+      let call = end_to_end (in_vector lengths) (of_two pack_of) in
+      ap (λ lists. call (beside lists (nest lengths flags))) (nest-fits lengths xs fits)
+      ∙ ap (λ lists. call (beside (Ok (cut_of lengths xs)) lists)) (nest-fits lengths flags fits_flags)
+      ∙ ap call (as_long-fits (cut_of lengths xs) (cut_of lengths flags) (Ok pairs) (length-cut lengths xs ∙ sym (length-cut lengths flags)))
+      ∙ ap (λ lists. lists >>= λ ls. Ok (joined ls)) (pack_each (in_vector lengths) 0 lengths xs flags long)
+      ∙ ap Ok (packs_joined lengths xs flags long fits)
+
+  pack_without_counts : (xs : List X) (flags : List Bool) (lengths : List ℕ) → sum lengths ≢ length flags → seg_pack_of xs flags lengths ≡ Err (fault no.LengthMismatch)
+  pack_without_counts xs flags lengths misfits =
+      let call = end_to_end (in_vector lengths) (of_two pack_of) in
+      ap (λ lists. call (beside (nest lengths xs) lists)) (nest-misfits lengths flags misfits)
+      ∙ elim (eqb_tells (sum lengths) (length xs)) [
+        | inl t ↦ ap (λ lists. call (beside lists (Err (fault no.LengthMismatch)))) (nest-fits lengths xs t.1)
+        | inr t ↦ ap (λ lists. call (beside lists (Err (fault no.LengthMismatch)))) (nest-misfits lengths xs t.1)
+      ]
+
+  -- flags that can't be counted by segments can't be packed by
+  pub pack_fault : (xs : List X) (flags : List Bool) (lengths : List ℕ) (f : Fault) → seg_count_of flags lengths ≡ Err f → seg_pack_of xs flags lengths ≡ Err f
+  pack_fault xs flags lengths f counted =
+      elim (eqb_tells (sum lengths) (length flags)) [
+        | inl t ↦ let both : ◌≡◌ {A = Result (List ℕ) Fault} (Ok (map count_of (cut_of lengths flags))) (Err f) = sym (seg_count-fits flags lengths t.1) ∙ counted in cc both
+        | inr t ↦
+            let both : ◌≡◌ {A = Result (List ℕ) Fault} (Err (fault no.LengthMismatch)) (Err f) = sym (seg_count-misfits flags lengths t.1) ∙ counted in
+            let same : fault no.LengthMismatch ≡ f = cc both in
+            pack_without_counts xs flags lengths t.1 ∙ ap Err same
+      ]

@@ -1,0 +1,72 @@
+//! How many flags are true: of all, before each one, and of each segment.
+
+ghost use Rattle.std.specs.Prelude.{◌≡◌, ◌≤◌, pos, IfOk, length, map, unsigned_abs, vec_len};
+ghost use Rattle.cvl_base.specs.Conversions.{integer_of};
+ghost use Rattle.cvl_base.specs.Descriptors.{AreLengths};
+ghost use Rattle.cvl_base.specs.Gives.{Gives};
+ghost use Rattle.cvl_base.specs.Limits.{most_elements};
+ghost use Rattle.cvl_base.specs.Packs.{count_of};
+ghost use Rattle.cvl_base.specs.SegmentedCalls.{seg_count_of};
+ghost use Rattle.pack_dist.specs.Kept.{ArePlaces};
+
+use cvl_base::monoids::Add;
+use cvl_base::{Config, Memory, NoResources, Refused};
+use scan_ops::{Reading, reduce_readings, scan_readings, seg_reduce_readings};
+use segdes::SegDes;
+use std::thread::Threads;
+
+/// A flag is read as 1 where it is true, and as 0 where it is false, so that the sum of flags is their count.
+struct Ones;
+
+impl Reading<bool, i32> for Ones {
+    ghost item = { integer_of };
+
+    fn item(flag: bool) -> i32 {
+        i32::from(flag)
+    }
+}
+
+/// The number of true flags: `cnt_lub`.
+///
+/// There are at most 4,194,304 flags. It takes no memory. Source: CVL's count.
+pub fn count_true(flags: &[bool]) -> i32
+    requires few { length flags.now ≤ most_elements }
+    ensures { result ≡ pos (count_of flags.now) }
+{
+    reduce_readings::<Add, bool, Ones>(flags)
+}
+
+/// For each flag the number of true flags before it, which is where a pack puts what it keeps.
+pub(crate) fn counts_before<R: Threads + Sync, A: Memory>(
+    rt: &R,
+    alloc: A,
+    config: Config,
+    flags: &[bool],
+) -> Result<Vec<i32, A>, NoResources>
+    requires few { length flags.now ≤ most_elements }
+    ensures values { IfOk result (λ places. ArePlaces flags.now places.items) }
+    ensures as_long { IfOk result (λ places. vec_len places ≡ length flags.now) }
+{
+    let places = scan_readings::<R, A, Add, bool, Ones>(rt, alloc, config, flags)?;
+    Ok(places)
+}
+
+/// The number of true flags of each segment: the lengths of what a segmented pack keeps. `cnt_leb`.
+///
+/// The result has one number for each segment, empty ones included, and can be made a descriptor. LengthMismatch,
+/// without a place, where the segments' total is not the number of flags. Source: CVL's segmented count.
+pub fn seg_count<R: Threads + Sync, A: Memory>(
+    rt: &R,
+    alloc: A,
+    config: Config,
+    flags: &[bool],
+    d: &SegDes<A>,
+) -> Result<Vec<i32, A>, Refused>
+    ensures values { Gives (λ counts. map unsigned_abs counts.items) result (seg_count_of flags.now d.now) }
+    ensures lengths { IfOk result (λ counts. AreLengths counts.items) }
+    ensures one_each { IfOk result (λ counts. vec_len counts ≡ length d.now) }
+{
+    // its contract names the limits of a descriptor's lengths
+    let _lengths = d.lengths();
+    seg_reduce_readings::<R, A, Add, bool, Ones>(rt, alloc, config, flags, d)
+}

@@ -1,0 +1,70 @@
+//! Segmented packs: of each segment the elements whose flag is true.
+
+ghost use Rattle.std.specs.Prelude.{◌≡◌, ◌≤◌, IfOk, Ok, length, vec_len};
+ghost use Rattle.cvl_base.specs.Gives.{Gives};
+ghost use Rattle.cvl_base.specs.SegmentedCalls.{seg_count_of, seg_pack_of};
+
+use crate::counts::seg_count;
+use crate::packs::kept;
+use cvl_base::{Config, Lengths, Memory, Refused};
+use scan_ops::check_total;
+use segdes::SegDes;
+use std::thread::Threads;
+
+/// The elements of each segment whose flag is true, in order, one segment after another: `pck_lev` and its like.
+///
+/// LengthMismatch, without a place, where the segments' total is not the number of elements, or not that of flags.
+/// Source: CVL's segmented pack.
+pub fn seg_pack_values<T: Copy, R: Threads + Sync, A: Memory>(
+    rt: &R,
+    alloc: A,
+    config: Config,
+    values: &[T],
+    flags: &[bool],
+    d: &SegDes<A>,
+) -> Result<Vec<T, A>, Refused>
+    ensures values { Gives (λ v. v.items) result (seg_pack_of values.now flags.now d.now) }
+    ensures no_longer { IfOk result (λ v. vec_len v ≤ length values.now) }
+{
+    check_total(values, d)?;
+    check_total(flags, d)?;
+    Ok(kept(rt, alloc, config, values, flags)?)
+}
+
+/// The descriptor of what a segmented pack keeps: `pck_fov`. An empty segment stays, with length 0.
+///
+/// LengthMismatch, without a place, where the segments' total is not the number of flags. Source: CVL's segmented pack.
+pub fn packed_descriptor<R: Threads + Sync, A: Memory>(
+    rt: &R,
+    alloc: A,
+    config: Config,
+    flags: &[bool],
+    d: &SegDes<A>,
+) -> Result<SegDes<A>, Refused>
+    ensures { Gives (λ packed. packed) result (seg_count_of flags.now d.now) }
+{
+    let counts = seg_count(rt, alloc, config, flags, d)?;
+    Ok(SegDes::new(alloc, Lengths::from_vec(counts))?)
+}
+
+/// The elements of each segment whose flag is true, in order, one segment after another, and their descriptor.
+///
+/// LengthMismatch, without a place, where the segments' total is not the number of elements, or not that of flags.
+/// Source: CVL's segmented pack.
+#[tactic(auto, using(crate::proofs::Segments::pack_fault))]
+pub fn seg_pack<T: Copy, R: Threads + Sync, A: Memory>(
+    rt: &R,
+    alloc: A,
+    config: Config,
+    values: &[T],
+    flags: &[bool],
+    d: &SegDes<A>,
+) -> Result<(Vec<T, A>, SegDes<A>), Refused>
+    ensures values { Gives (λ packed. packed.0.items) result (seg_pack_of values.now flags.now d.now) }
+    ensures lengths { IfOk result (λ packed. seg_count_of flags.now d.now ≡ Ok packed.1) }
+    ensures no_longer { IfOk result (λ packed. vec_len packed.0 ≤ length values.now) }
+{
+    let packed = seg_pack_values(rt, alloc, config, values, flags, d)?;
+    let lengths = packed_descriptor(rt, alloc, config, flags, d)?;
+    Ok((packed, lengths))
+}

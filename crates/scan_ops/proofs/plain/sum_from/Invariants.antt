@@ -1,8 +1,0 @@
-use Rattle.std.proofs.Common.{◌≡◌, IsTrue, take}
-use Rattle.cvl_base.specs.Folds.{fold_of}
-use Rattle.scan_ops.proofs.plain.sum_from.Given as goal
-
-abbrev pub invariant-loop-x : goal.invariant-loop-x
-invariant-loop-x g l =
-    let m = g.M.Monoid in
-    IsTrue (m.is_item l.sum) × (l.sum ≡ fold_of m.join l.fn.before (take l.x-index l.xs))
