@@ -8,6 +8,7 @@ ghost use Rattle.cvl_base.specs.SegmentedCalls.{seg_extract_of};
 use crate::checks::check_agree;
 use crate::places::place_among;
 use cvl_base::{Fault, FaultNo, Memory, Refused};
+use scan_ops::check_total;
 use segdes::SegDes;
 
 /// The element at the place that an index names, counted from 0.
@@ -37,7 +38,7 @@ pub fn seg_extract<T: Copy, A: Memory>(
     ensures values { Gives (λ v. v.items) result (seg_extract_of vector.now index.now d.now) }
     ensures as_long { IfOk result (λ v. vec_len v ≡ length d.now) }
 {
-    check_agree(d.total(), vector.len())?;
+    check_total(vector, d)?;
     check_agree(d.count(), index.len())?;
     let mut elements = Vec::with_capacity(alloc, d.count())?;
     let mut start = 0;

@@ -68,9 +68,11 @@ fn push_progression<A: Allocator>(
     ensures as_long { vec_len numbers.new ≡ vec_len numbers.old + length }
     ensures capacity { vec_capacity numbers.new ≡ vec_capacity numbers.old }
 {
+    // read once, since the loop writes memory
+    let step = *stride;
     let mut next = *init;
     for _ in 0..length {
         numbers.push_reserved(next);
-        next = next.wrapping_add(*stride);
+        next = next.wrapping_add(step);
     }
 }

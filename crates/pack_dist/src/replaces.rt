@@ -8,6 +8,7 @@ ghost use Rattle.cvl_base.specs.SegmentedCalls.{seg_replace_of};
 use crate::checks::check_agree;
 use crate::places::place_among;
 use cvl_base::{Fault, FaultNo, Memory, Refused};
+use scan_ops::check_total;
 use segdes::SegDes;
 
 /// The vector with `value` at the place that an index names, counted from 0.
@@ -48,7 +49,7 @@ pub fn seg_replace<T: Copy, A: Memory>(
         (seg_replace_of vector.now index.now values.now d.now) }
     ensures as_long { IfOk result (λ v. vec_len v ≡ length vector.now) }
 {
-    check_agree(d.total(), vector.len())?;
+    check_total(vector, d)?;
     check_agree(d.count(), index.len())?;
     check_agree(d.count(), values.len())?;
     let mut replaced = Vec::from_slice(alloc, vector)?;

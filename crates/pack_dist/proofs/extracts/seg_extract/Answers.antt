@@ -6,9 +6,9 @@ use Rattle.pack_dist.proofs.Extracted.{all_done, differ, no_place, none_yet, one
 use Rattle.pack_dist.proofs.Parts.{left_more}
 use Rattle.pack_dist.proofs.extracts.seg_extract.Goals as goal
 
-pub returns-in_err-check_agree-2-clause-values : goal.returns-in_err-check_agree-2-clause-values
-returns-in_err-check_agree-2-clause-values g c =
-    let e = differ c.args.vector.now c.args.index.now c.args.d.now _ _ (omega arith) (sym c.count.ensures.value) refl c.in_err-check_agree-2.ensures.1 in
+pub returns-in_err-check_agree-clause-values : goal.returns-in_err-check_agree-clause-values
+returns-in_err-check_agree-clause-values g c =
+    let e = differ c.args.vector.now c.args.index.now c.args.d.now _ _ (omega arith) (sym c.count.ensures.value) refl c.in_err-check_agree.ensures.1 in
     search rules
 
 pub loop-s-init : goal.loop-s-init
@@ -39,7 +39,7 @@ returns-in_default-clause-values g c =
 pub overflow_add-start : goal.overflow_add-start
 overflow_add-start g c =
     let e = left_more c.args.d.now c.loop-s.s c.loop-s.start _ _ (omega arith) c.length-length.ensures c.loop-s.invariant.covered in
-    omega (arith, e, c.in_ok-check_agree.ensures, c.total.ensures.in_limit, c.in-Some.ensures.0)
+    omega (arith, e, c.in_ok-check_total.ensures.in_limit, c.in-Some.ensures.0)
 
 pub returns-clause-values : goal.returns-clause-values
 returns-clause-values g c =
