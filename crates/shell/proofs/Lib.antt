@@ -1,6 +1,6 @@
 mod Cuts
+mod NamedFiles
+mod Performed
+mod Shown
 mod Taken
 mod Underway
-pub mod NamedFiles
-pub mod Performed
-pub mod Shown

@@ -1,53 +1,46 @@
 -- How the parts of the program come together.
-use Rattle.std.proofs.Common.{◌≡◌, ◌⊎◌, ℕ, true, false, List, [], ◌∷◌, Some, Result, Ok, Err, refl, ap, inl, inr, ◌∙◌}
-use Rattle.clap.specs.Words.{IsAmong, Text, fault_of, kind_of}
-use Rattle.clap.specs.declared.error.kind.ErrorKind.{ErrorKind}
+use Rattle.std.proofs.Common.{◌≡◌, ◌⊎◌, ℕ, List, [], Some, Result, Err, refl, subst, inl, inr}
+use Rattle.clap.specs.Words.{IsAmong, Text, fault_of}
 use Rattle.clap.specs.declared.error.kind.ErrorKind.TheVariants.{DisplayHelp}
 use Rattle.command_line.specs.Command.{cvl}
 use Rattle.command_line.specs.Reads.{inputs_given, script_given}
 use Rattle.shell.specs.Ends.{failures_in}
-use Rattle.shell.specs.Hosts.{Seen, shown}
-use Rattle.shell.specs.ProgramParts.{Closes, Finishes, PutsHelp, RunsOrMisses, Spoke, SpokeOfWords}
-use Rattle.shell.specs.Programs.{IsFirstUnread, IsHelp, Performs, RunsFiles, Starves, Works, end_of, ended, refused, unreadable, unreadable_line}
+use Rattle.shell.specs.Hosts.{Seen, after_puts}
+use Rattle.shell.specs.ProgramParts.{Closes, Finishes, PutsHelp, RunsOrMisses}
+use Rattle.shell.specs.Programs.{IsHelp, Performs, Starves, Works, end_of, ended, unreadable}
 use Rattle.shell.specs.declared.stop.Stop.{Stop}
 use Rattle.shell.specs.declared.stop.Stop.TheVariants as stop
-use Rattle.shell.proofs.Shown.{shown_same, shown_twice}
+use Rattle.shell.proofs.Shown.{nothing_put}
 
 -- work, and then its end
 closes : (Does : List ℕ → Result (Unit {0}) Stop → Type 0) (before middle after : Seen) (status : ℕ) (written : List ℕ) (answer : Result (Unit {0}) Stop)
-    → Does written answer → middle ≡ shown written (failures_in answer) true [] before → Finishes answer middle after status
+    → Does written answer → middle ≡ after_puts written (failures_in answer) before → Finishes answer middle after status
     → Closes Does before after status
 closes Does before middle after status written answer done is ends = record {
   written = written;
   answer = answer;
   works = done;
-  flushed = ends.flushed;
-  told = ends.told;
-  says = ends.says;
-  status_is = ends.status_is;
-  after_is = ends.after_is ∙ (ap (shown [] 0 ends.flushed ends.told) is ∙ shown_twice written (failures_in answer) ends.flushed ends.told before);
+  finishes = subst (λ (s : Seen). Finishes answer s after status) is ends;
 }
 
 performs : (A : Type 0) (words : List Text) (before after : Seen) (status : ℕ) → Closes (Works A words before.aside.files) before after status
     → Performs A words before after status
-performs A words before after status h = record {
-  end = ended (end_of h.answer h.flushed);
-  written = h.written;
-  told = h.told;
-  puts = failures_in h.answer;
-  flushed = h.flushed;
-  comes = (h.answer, h.works, refl, refl);
-  says = h.says;
-  status_is = h.status_is;
-  after_is = h.after_is;
-}
+performs A words before after status h =
+    let ends = h.finishes in
+    record {
+      end = ended (end_of h.answer ends.flushed);
+      told = ends.told;
+      comes = (h.written, h.answer, ends.flushed, h.works, refl, ends.after_is);
+      says = ends.says;
+      status_is = ends.status_is;
+    }
 
 -- there is no memory for the words
 pub performs_starved : (A : Type 0) (words : List Text) (before after : Seen) (status : ℕ) → Finishes (Err (stop.NoResources 0)) before after status
     → Performs A words before after status
 performs_starved A words before after status ends =
     performs A words before after status
-    (closes (Works A words before.aside.files) before before after status [] (Err (stop.NoResources 0)) (inl (refl, refl)) (shown_same before) ends)
+    (closes (Works A words before.aside.files) before before after status [] (Err (stop.NoResources 0)) (inl (refl, refl)) (nothing_put before) ends)
 
 -- the help is asked for
 pub performs_help : (A : Type 0) (words : List Text) (before middle after : Seen) (status : ℕ) (answer : Result (Unit {0}) Stop)
@@ -61,22 +54,6 @@ performs_help A words before middle after status answer asked put ends =
     works (inl none) = inl none
     works (inr help) = inr (inl (asked, help))
 
--- the command line is refused
-pub performs_refused : (A : Type 0) (words : List Text) (before after : Seen) (kind : ErrorKind)
-    → IsAmong kind (fault_of cvl words) → (kind ≡ DisplayHelp → ⊥) → SpokeOfWords before after
-    → Performs A words before after 2
-performs_refused A words before after kind among other spoke = record {
-  end = refused;
-  written = [];
-  told = spoke.0;
-  puts = 0;
-  flushed = true;
-  comes = (kind, among, other, (refl, refl, refl));
-  says = tt;
-  status_is = refl;
-  after_is = spoke.1;
-}
-
 -- the files are read, and the script is run, or one of them cannot be read
 pub performs_files : (A : Type 0) (words : List Text) (script : Text) (inputs : List Text) (before after : Seen) (status : ℕ)
     → fault_of cvl words ≡ [] → script_given words ≡ Some script → inputs ≡ inputs_given words
@@ -86,20 +63,12 @@ performs_files A words script inputs before after status taken named given (inl 
       written = h.written;
       answer = h.answer;
       works = inr (inr (taken, script, named, rw (← given) h.works));
-      flushed = h.flushed;
-      told = h.told;
-      says = h.says;
-      status_is = h.status_is;
-      after_is = h.after_is;
+      finishes = h.finishes;
     })
 performs_files A words script inputs before after status taken named given (inr h) = record {
   end = unreadable h.1;
-  written = [];
   told = h.3.0;
-  puts = 0;
-  flushed = true;
-  comes = (taken, script, named, rw (← given) h.2, (refl, refl, refl));
+  comes = (taken, script, named, rw (← given) h.2, h.3.2);
   says = h.3.1;
   status_is = h.0;
-  after_is = h.3.2;
 }

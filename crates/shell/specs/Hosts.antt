@@ -1,40 +1,57 @@
--- What a host has beside its standard output, and what its calls do with it.
+-- What a host shows, and what its calls do with it.
 -- Source: this library's program.
-use Rattle.std.specs.Prelude.{◌≡◌, ◌⊎◌, ℕ, ◌+◌, Bool, if◌then◌else◌, List, [], ◌++◌, Option, Some, None, option_map, Result, Ok, Err}
+use Rattle.std.specs.Prelude.{◌≡◌, ◌⊎◌, ℕ, ◌+◌, Bool, true, false, List, [], ◌∷◌, ◌++◌, length, Option, Some, None, option_map, Result, Ok, Err}
 use Rattle.shell.specs.declared.sink.SinkFault.{SinkFault}
 
 -- the bytes of each file that can be read, by its name
 abbrev pub Files : Type 0
 Files = List ℕ → Option (List ℕ)
 
--- the files and what standard error has taken, where the host tells them, and how often a flush of standard output failed
+-- a text that standard error took, and how many bytes of standard output had been sent on by then
+pub record Message : Type 0 where
+  pub text : List ℕ
+  pub sent : Option ℕ
+
+-- what a host has beside its standard output: its files, what standard error took, and how many bytes of standard
+-- output were sent on, where the host tells these; and how often a flush failed
 pub record Aside : Type 0 where
   pub files : Option Files
-  pub errors : Option (List ℕ)
+  pub errors : Option (List Message)
+  pub sent : Option ℕ
   pub failed_flushes : ℕ
 
 -- a sink that is no host
 abbrev pub nothing_aside : Aside
-nothing_aside = record { files = None; errors = None; failed_flushes = 0 }
+nothing_aside = record { files = None; errors = None; sent = None; failed_flushes = 0 }
 
 -- the file of this name has these bytes, where the host tells
 abbrev pub Holds : Option Files → List ℕ → List ℕ → Type 0
 Holds None name bytes = Unit {0}
 Holds (Some files) name bytes = files name ≡ Some bytes
 
-abbrev pub with_errors : List ℕ → Aside → Aside
-with_errors text aside = record aside { errors = option_map (λ taken. taken ++ text) aside.errors }
+abbrev pub with_message : List ℕ → Aside → Aside
+with_message text aside = record aside {
+  errors = option_map (λ taken. taken ++ record { text = text; sent = aside.sent } ∷ []) aside.errors;
+}
 
 -- standard error takes the text, or drops it
 abbrev pub Tells : Aside → List ℕ → Aside → Type 0
-Tells before text after = (after ≡ with_errors text before) ⊎ (after ≡ before)
+Tells before text after = (after ≡ with_message text before) ⊎ (after ≡ before)
 
--- a flush that fails is counted
-abbrev pub Flushes : Aside → Result (Unit {0}) SinkFault → Aside → Type 0
-Flushes before (Ok done) after = after ≡ before
-Flushes before (Err f) after = after ≡ record before { failed_flushes = before.failed_flushes + 1 }
+abbrev pub sent_whole : Option (List ℕ) → Option ℕ → Option ℕ
+sent_whole (Some output) (Some sent) = Some (length output)
+sent_whole output sent = None
 
--- ---- all that a host shows
+-- all of standard output is sent on, or the flush fails and is counted
+abbrev pub with_flush : Bool → Option (List ℕ) → Aside → Aside
+with_flush true output aside = record aside { sent = sent_whole output aside.sent }
+with_flush false output aside = record aside { failed_flushes = aside.failed_flushes + 1 }
+
+abbrev pub Flushes : Option (List ℕ) → Aside → Result (Unit {0}) SinkFault → Aside → Type 0
+Flushes output before (Ok done) after = after ≡ with_flush true output before
+Flushes output before (Err f) after = after ≡ with_flush false output before
+
+-- ---- all that a host shows, and how the program changes it
 
 pub record Seen : Type 0 where
   pub output : Option (List ℕ)
@@ -45,14 +62,18 @@ abbrev pub seen : Option (List ℕ) → ℕ → Aside → Seen
 seen output failed_puts aside =
     record { output = output; failed_puts = failed_puts; aside = aside }
 
--- more bytes on standard output, so many failed puts, perhaps a failed flush, and a text on standard error
-abbrev pub shown : List ℕ → ℕ → Bool → List ℕ → Seen → Seen
-shown written puts flushed told before = record {
-  output = option_map (λ taken. taken ++ written) before.output;
-  failed_puts = before.failed_puts + puts;
-  aside = record {
-    files = before.aside.files;
-    errors = option_map (λ taken. taken ++ told) before.aside.errors;
-    failed_flushes = before.aside.failed_flushes + (if flushed then 0 else 1);
-  };
+-- more bytes are on standard output, and so many puts have failed
+abbrev pub after_puts : List ℕ → ℕ → Seen → Seen
+after_puts written puts s = record s {
+  output = option_map (λ taken. taken ++ written) s.output;
+  failed_puts = s.failed_puts + puts;
 }
+
+-- a flush, which fails or does not
+abbrev pub after_flush : Bool → Seen → Seen
+after_flush flushed s = record s { aside = with_flush flushed s.output s.aside }
+
+-- a text on standard error, or none
+abbrev pub after_message : Option (List ℕ) → Seen → Seen
+after_message None s = s
+after_message (Some text) s = record s { aside = with_message text s.aside }

@@ -1,34 +1,34 @@
 -- What the parts of the program do on its host.
 -- Source: this library's program.
-use Rattle.std.specs.Prelude.{◌≡◌, ◌⊎◌, ℕ, Bool, true, List, [], ◌∷◌, Result}
+use Rattle.std.specs.Prelude.{◌≡◌, ◌⊎◌, ℕ, Bool, List, ◌∷◌, Option, Result}
 use Rattle.clap.specs.Words.{Text}
 use Rattle.shell.specs.Ends.{failures_in}
-use Rattle.shell.specs.Hosts.{Seen, shown}
+use Rattle.shell.specs.Hosts.{Seen, after_flush, after_message, after_puts}
 use Rattle.shell.specs.Programs.{IsFirstUnread, IsHelp, IsMessage, RunsFiles, Says, Starves, end_of, ended, status_of, unreadable_line}
 use Rattle.shell.specs.declared.stop.Stop.{Stop}
 
--- standard error takes the message, or nothing of it
+-- standard error takes the line, or nothing
 abbrev pub Spoke : List ℕ → Seen → Seen → Type 0
-Spoke message before after =
-    (told : List ℕ) × IsMessage message told × (after ≡ shown [] 0 true told before)
+Spoke line before after =
+    (told : Option (List ℕ)) × IsMessage line told × (after ≡ after_message told before)
 
--- standard error takes some text, or none
+-- standard error takes some text, or nothing
 abbrev pub SpokeOfWords : Seen → Seen → Type 0
-SpokeOfWords before after = (told : List ℕ) × (after ≡ shown [] 0 true told before)
+SpokeOfWords before after = (told : Option (List ℕ)) × (after ≡ after_message told before)
 
 -- standard output takes some text
 abbrev pub PutsHelp : Seen → Seen → Result (Unit {0}) Stop → Type 0
 PutsHelp before after answer =
     (written : List ℕ) × (Starves written answer ⊎ IsHelp answer)
-    × (after ≡ shown written (failures_in answer) true [] before)
+    × (after ≡ after_puts written (failures_in answer) before)
 
--- after the work has given its answer, standard output is flushed and standard error told
+-- after the work has given its answer, standard output is flushed and then standard error told
 pub record Finishes (answer : Result (Unit {0}) Stop) (before after : Seen) (status : ℕ) : Type 0 where
   pub flushed : Bool
-  pub told : List ℕ
+  pub told : Option (List ℕ)
   pub says : Says (ended (end_of answer flushed)) told
   pub status_is : status ≡ status_of (ended (end_of answer flushed))
-  pub after_is : after ≡ shown [] 0 flushed told before
+  pub after_is : after ≡ after_message told (after_flush flushed before)
 
 -- work is done, and finished
 pub record Closes
@@ -36,11 +36,7 @@ pub record Closes
   pub written : List ℕ
   pub answer : Result (Unit {0}) Stop
   pub works : Works written answer
-  pub flushed : Bool
-  pub told : List ℕ
-  pub says : Says (ended (end_of answer flushed)) told
-  pub status_is : status ≡ status_of (ended (end_of answer flushed))
-  pub after_is : after ≡ shown written (failures_in answer) flushed told before
+  pub finishes : Finishes answer (after_puts written (failures_in answer) before) after status
 
 -- a script is run over its inputs, or the first of their files that cannot be read is told
 abbrev pub RunsOrMisses : Type 0 → Text → List Text → Seen → Seen → ℕ → Type 0

@@ -10,7 +10,7 @@ use Rattle.command_line.specs.Reads.{inputs_given, script_given}
 use Rattle.vector_handles.specs.declared.input.Input.{Input}
 use Rattle.vector_handles.specs.declared.input.Input.TheVariants.{Bytes, Vector}
 use Rattle.shell.specs.Ends.{EndsAs, failures_in}
-use Rattle.shell.specs.Hosts.{Files, Holds, Seen, shown}
+use Rattle.shell.specs.Hosts.{Files, Holds, Seen, after_flush, after_message, after_puts}
 use Rattle.shell.specs.Meaning.{meaning}
 use Rattle.shell.specs.StopTexts.{stop_line}
 use Rattle.shell.specs.declared.stop.Stop.{Stop}
@@ -36,16 +36,16 @@ status_of (unreadable name) = 3
 abbrev pub unreadable_line : Text → List ℕ
 unreadable_line name = codes "cannot read " ++ name ++ codes "\n"
 
--- a message, which is left out where there is no memory for it
-abbrev pub IsMessage : List ℕ → List ℕ → Type 0
-IsMessage message text = (text ≡ message) ⊎ (text ≡ [])
+-- the line, or nothing where there is no memory for it
+abbrev pub IsMessage : List ℕ → Option (List ℕ) → Type 0
+IsMessage line told = (told ≡ Some line) ⊎ (told ≡ None)
 
 -- what standard error takes at this end; of a refused command line, whatever clap says of it
-abbrev pub Says : End → List ℕ → Type 0
-Says (ended None) text = text ≡ []
-Says (ended (Some why)) text = IsMessage (stop_line why) text
-Says refused text = Unit {0}
-Says (unreadable name) text = IsMessage (unreadable_line name) text
+abbrev pub Says : End → Option (List ℕ) → Type 0
+Says (ended None) told = told ≡ None
+Says (ended (Some why)) told = IsMessage (stop_line why) told
+Says refused told = Unit {0}
+Says (unreadable name) told = IsMessage (unreadable_line name) told
 
 -- the work's own stop; else a flush that failed is a write that failed
 abbrev pub end_of : Result (Unit {0}) Stop → Bool → Option Stop
@@ -98,31 +98,25 @@ IsFirstUnread files names name =
     (before : List Text) × (after : List Text) × (names ≡ before ++ name ∷ after)
     × All (IsReadable files) before
 
--- nothing is written, and nothing fails
-abbrev pub IsSilent : List ℕ → ℕ → Bool → Type 0
-IsSilent written puts flushed = (written ≡ []) × (puts ≡ 0) × (flushed ≡ true)
-
--- the words, with these files, lead to this end, with this text on standard output; `puts` and `flushed` say how often
--- a put failed, and whether the flush did not fail
-abbrev pub Comes : Type 0 → List Text → Option Files → List ℕ → ℕ → Bool → End → Type 0
-Comes A words files written puts flushed (ended end) =
-    (answer : Result (Unit {0}) Stop) × Works A words files written answer
-    × (puts ≡ failures_in answer) × (end ≡ end_of answer flushed)
-Comes A words files written puts flushed refused =
+-- the words, and the files as they were before, lead to this end: the work is written, then standard output is flushed,
+-- and then standard error told; at the other ends standard error is told and nothing else is done
+abbrev pub Comes : Type 0 → List Text → Seen → Seen → Option (List ℕ) → End → Type 0
+Comes A words before after told (ended end) =
+    (written : List ℕ) × (answer : Result (Unit {0}) Stop) × (flushed : Bool)
+    × Works A words before.aside.files written answer × (end ≡ end_of answer flushed)
+    × (after ≡ after_message told (after_flush flushed (after_puts written (failures_in answer) before)))
+Comes A words before after told refused =
     (kind : ErrorKind) × IsAmong kind (fault_of cvl words) × (kind ≡ DisplayHelp → ⊥)
-    × IsSilent written puts flushed
-Comes A words files written puts flushed (unreadable name) =
+    × (after ≡ after_message told before)
+Comes A words before after told (unreadable name) =
     (fault_of cvl words ≡ []) × (script : Text) × (script_given words ≡ Some script)
-    × IsFirstUnread files (script ∷ inputs_given words) name × IsSilent written puts flushed
+    × IsFirstUnread before.aside.files (script ∷ inputs_given words) name
+    × (after ≡ after_message told before)
 
--- the program ran on these words: what the host shows before and after, and the status
+-- the program ran on these words: what its host shows before and after, and the status
 pub record Performs (A : Type 0) (words : List Text) (before after : Seen) (status : ℕ) : Type 0 where
   pub end : End
-  pub written : List ℕ
-  pub told : List ℕ
-  pub puts : ℕ
-  pub flushed : Bool
-  pub comes : Comes A words before.aside.files written puts flushed end
+  pub told : Option (List ℕ)
+  pub comes : Comes A words before after told end
   pub says : Says end told
   pub status_is : status ≡ status_of end
-  pub after_is : after ≡ shown written puts flushed told before

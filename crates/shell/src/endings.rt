@@ -72,11 +72,7 @@ pub(crate) fn tell_unreadable<A: Memory, H: Host<A>>(alloc: A, name: &str, host:
 }
 
 /// Sends on what standard output has taken, tells on standard error why the work ended, and answers the status.
-pub(crate) fn finish<A: Memory, H: Host<A>>(
-    alloc: A,
-    answer: Result<(), Stop>,
-    host: &mut H,
-) -> u8
+pub(crate) fn finish<A: Memory, H: Host<A>>(alloc: A, answer: Result<(), Stop>, host: &mut H) -> u8
     requires { (H.aside host.old).failed_flushes < 2 ^ 64 - 1 }
     ensures { Finishes answer (seen (H.taken host.old) (H.failures host.old) (H.aside host.old))
         (seen (H.taken host.new) (H.failures host.new) (H.aside host.new)) result }

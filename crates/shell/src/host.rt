@@ -21,7 +21,8 @@ pub trait Host<A: Memory>: Sink {
         requires { (Self.aside self.old).failed_flushes < 2 ^ 64 - 1 }
         ensures taken { Self.taken self.new ≡ Self.taken self.old }
         ensures failures { Self.failures self.new ≡ Self.failures self.old }
-        ensures flushes { Flushes (Self.aside self.old) result (Self.aside self.new) };
+        ensures flushes { Flushes (Self.taken self.old) (Self.aside self.old) result
+            (Self.aside self.new) };
 
     /// Writes one message to standard error, which takes it or drops it.
     fn put_error(&mut self, bytes: &[u8])

@@ -21,11 +21,7 @@ use std::thread::Threads;
 use vector_handles::Input;
 
 /// Writes clap's help to standard output.
-fn put_help<A: Memory, H: Host<A>>(
-    alloc: A,
-    help: &clap::Error,
-    host: &mut H,
-) -> Result<(), Stop>
+fn put_help<A: Memory, H: Host<A>>(alloc: A, help: &clap::Error, host: &mut H) -> Result<(), Stop>
     requires { H.failures host.old < 2 ^ 64 - 1 }
     ensures { PutsHelp (seen (H.taken host.old) (H.failures host.old) (H.aside host.old))
         (seen (H.taken host.new) (H.failures host.new) (H.aside host.new)) result }
@@ -50,6 +46,7 @@ fn tell_refused<A: Memory, H: Host<A>>(alloc: A, error: &clap::Error, host: &mut
     }
 }
 
+/// Runs the script and sends on its text, tells why the run stopped, and answers the status.
 fn run_script<R: Threads + Sync, A: Memory, H: Host<A>>(
     rt: &R,
     alloc: A,
@@ -96,7 +93,18 @@ fn run_files<R: Threads + Sync, A: Memory, H: Host<A>>(
     }
 }
 
-/// The whole program: reads its words, the script and its inputs, runs the script, and answers the status.
+/// The whole program: reads the command line, the script and its inputs, runs the script, and answers the status.
+///
+/// `words` are those of the command line, as `read_words` takes them, the program's own name first. The files of the
+/// script and of the inputs are read whole, in that order, before the script runs. What the script writes goes to
+/// standard output, which is then flushed; then a line on standard error tells why the run stopped, where it did. Help
+/// goes to standard output, and clap's text of a refused command line to standard error. A file that cannot be read, for
+/// want of memory too, is told as `cannot read NAME`, and nothing is run. Where there is no memory for the words or for
+/// the help the line is `line 0: no resources`, and `line 0: write failed` where the help or the flush fails; a run that
+/// stopped by itself keeps its own line and status. A text for standard error that finds no memory is left out.
+///
+/// The status is 0 where there is no fault, and after help; 1 at a fault of the script; 2 where the command line is
+/// refused; and 3 where a file cannot be read, memory is refused or a write fails.
 pub fn program<'a, R: Threads + Sync + AllocGlobal, A: Memory, H: Host<A>>(
     rt: &R,
     alloc: A,

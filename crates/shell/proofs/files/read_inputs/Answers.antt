@@ -1,4 +1,4 @@
-use Rattle.std.proofs.Common.{◌≡◌, ◌∙◌, ◌<◌, ◌+◌, suc, take, drop, length, true, is_ok, refl, rules, arith, List, [], ◌∷◌, ◌++◌}
+use Rattle.std.proofs.Common.{◌≡◌, ◌∙◌, ◌<◌, ◌+◌, suc, take, drop, length, true, is_ok, rules, arith, []}
 use Rattle.std.proofs.lemmas.List.Elements.{All-push}
 use Rattle.clap.specs.Walk.{texts}
 use Rattle.vector_handles.specs.declared.input.Input.TheVariants.{Bytes}
