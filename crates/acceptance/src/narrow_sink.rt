@@ -34,10 +34,13 @@ impl<A: Allocator> NarrowSink<A> {
 
 impl<A: Allocator> Sink for NarrowSink<A> {
     ghost use Rattle.std.specs.Prelude.{Some};
+    ghost use Rattle.shell.specs.Hosts.{nothing_aside};
 
     ghost taken = { λ s. Some s.taken.items };
 
     ghost failures = { λ s. s.failures };
+
+    ghost aside = { λ _. nothing_aside };
 
     fn put(&mut self, bytes: &[u8]) -> Result<usize, SinkFault> {
         if bytes.is_empty() {

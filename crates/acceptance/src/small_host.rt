@@ -19,6 +19,8 @@ pub struct SmallHost<'a, A: Memory> {
     pub messages: u64,
     /// Whether a flush succeeds.
     pub flushes: bool,
+    /// How many flushes failed.
+    pub failed_flushes: u64,
     /// Where the files are read to.
     pub alloc: A,
 }
@@ -30,7 +32,8 @@ impl<'a, A: Memory> SmallHost<'a, A> {
         files: &'a [(&'a str, &'a str)],
         room: usize,
     ) -> Result<SmallHost<'a, A>, NoResources>
-        ensures { IfOk result (λ host. host.output.failures ≡ 0) }
+        ensures failures { IfOk result (λ host. host.output.failures ≡ 0) }
+        ensures flushes { IfOk result (λ host. host.failed_flushes ≡ 0) }
     {
         let taken = Vec::with_capacity(alloc, room)?;
         let errors = Vec::with_capacity(alloc, room)?;
@@ -40,6 +43,7 @@ impl<'a, A: Memory> SmallHost<'a, A> {
             errors,
             messages: 0,
             flushes: true,
+            failed_flushes: 0,
             alloc,
         })
     }
@@ -51,6 +55,12 @@ impl<A: Memory> Sink for SmallHost<'_, A> {
     ghost taken = { λ h. Some h.output.taken.items };
 
     ghost failures = { λ h. h.output.failures };
+
+    ghost aside = { λ h. record {
+      files = Some (file_of h.files.now);
+      errors = Some h.errors.items;
+      failed_flushes = h.failed_flushes;
+    } };
 
     fn put(&mut self, bytes: &[u8]) -> Result<usize, SinkFault> {
         self.output.put(bytes)
@@ -68,7 +78,12 @@ impl<A: Memory> Host<A> for SmallHost<'_, A> {
     }
 
     fn flush(&mut self) -> Result<(), SinkFault> {
-        if self.flushes { Ok(()) } else { Err(SinkFault) }
+        if self.flushes {
+            Ok(())
+        } else {
+            self.failed_flushes += 1;
+            Err(SinkFault)
+        }
     }
 
     fn put_error(&mut self, bytes: &[u8]) {

@@ -3,7 +3,7 @@
 
 ghost use Rattle.std.specs.Prelude.{◌≡◌, ◌+◌, ◌^◌, ◌<◌, ◌-◌};
 
-use shell::programs::{COMMAND_LINE, FAILED};
+use shell::endings::{COMMAND_LINE, FAILED};
 use shell::{Host, Sink, SinkFault, program};
 use std::alloc::Global;
 use std::io::{ErrorKind, Write};
@@ -19,6 +19,7 @@ struct System<'a, R, O, E> {
     output: O,
     errors: E,
     failures: u64,
+    failed_flushes: u64,
 }
 
 impl<R, O, E> System<'_, R, O, E> {
@@ -32,13 +33,17 @@ impl<R, O, E> System<'_, R, O, E> {
     }
 }
 
-/// Nothing is claimed of the bytes that reach standard output. A write that takes none of some bytes is a failure.
+/// Nothing is claimed of files, nor of the bytes that reach standard output and standard error. A write that takes none
+/// of some bytes is a failure.
 impl<R, O: Write, E> Sink for System<'_, R, O, E> {
     ghost use Rattle.std.specs.Prelude.{None};
 
     ghost taken = { λ _. None };
 
     ghost failures = { λ s. s.failures };
+
+    ghost aside = { λ s.
+        record { files = None; errors = None; failed_flushes = s.failed_flushes } };
 
     fn put(&mut self, bytes: &[u8]) -> Result<usize, SinkFault> {
         if bytes.is_empty() {
@@ -60,7 +65,10 @@ impl<R: Files + AllocGlobal, O: Write, E: Write> Host<Global> for System<'_, R, 
     fn flush(&mut self) -> Result<(), SinkFault> {
         match self.output.flush() {
             Ok(()) => Ok(()),
-            Err(_) => Err(SinkFault),
+            Err(_) => {
+                self.failed_flushes += 1;
+                Err(SinkFault)
+            }
         }
     }
 
@@ -73,7 +81,8 @@ impl<R: Files + AllocGlobal, O: Write, E: Write> Host<Global> for System<'_, R, 
 fn run_words<R: Env + Files + AllocGlobal + Threads + Sync, O: Write, E: Write>(
     host: &mut System<'_, R, O, E>,
 ) -> io::Result<u8>
-    requires { host.old.failures ≡ 0 }
+    requires failures { host.old.failures ≡ 0 }
+    requires flushes { host.old.failed_flushes ≡ 0 }
 {
     let arguments: Vec<String> = env::args(host.rt)?.collect(host.rt.alloc())?;
     let mut words = Vec::with_capacity(host.rt.alloc(), arguments.len())?;
@@ -100,6 +109,7 @@ fn main(rt: HostRuntime) -> ExitCode {
         output: rt.stdout(),
         errors: rt.stderr(),
         failures: 0,
+        failed_flushes: 0,
     };
     let status = match run_words(&mut host) {
         Ok(status) => status,

@@ -1,3 +1,6 @@
 mod Cuts
+mod NamedFiles
+mod Performed
+mod Shown
 mod Taken
 mod Underway

@@ -1,7 +1,10 @@
 pub mod Ends
+pub mod Hosts
 pub mod LineRuns
 pub mod LinesLeft
 pub mod Meaning
 pub mod MemSinks
+pub mod ProgramParts
+pub mod Programs
 pub mod Sinks
 pub mod StopTexts

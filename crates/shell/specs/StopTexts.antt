@@ -10,3 +10,6 @@ abbrev pub stop_text : Stop → List ℕ
 stop_text (stop.Script line f) = codes "line " ++ decimal line ++ codes ": " ++ fault_text f
 stop_text (stop.NoResources line) = codes "line " ++ decimal line ++ codes ": no resources"
 stop_text (stop.WriteFailed line) = codes "line " ++ decimal line ++ codes ": write failed"
+
+abbrev pub stop_line : Stop → List ℕ
+stop_line why = stop_text why ++ codes "\n"

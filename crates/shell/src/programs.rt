@@ -1,164 +1,134 @@
 //! The whole program, over the host that it is given.
 
 ghost use Rattle.std.specs.Prelude.{◌≡◌, ◌^◌, ◌<◌, ◌-◌};
+ghost use Rattle.clap.specs.Walk.{texts};
+ghost use Rattle.shell.specs.Ends.{EndsAs};
+ghost use Rattle.shell.specs.Hosts.{seen};
+ghost use Rattle.shell.specs.Meaning.{meaning};
+ghost use Rattle.shell.specs.ProgramParts.{Closes, PutsHelp, RunsOrMisses, SpokeOfWords};
+ghost use Rattle.shell.specs.Programs.{Performs};
 
+use crate::endings::{COMMAND_LINE, FAILED, finish, tell_unreadable};
+use crate::files::read_inputs;
 use crate::host::Host;
+use crate::puts::put_all;
 use crate::runs::run;
-use crate::sink::SinkFault;
-use crate::stop::{Stop, put_stop};
+use crate::stop::Stop;
+use clap::error::ErrorKind;
+use command_line::{Words, WordsFault, read_words};
 use cvl_base::{Config, Memory};
 use std::thread::Threads;
 use vector_handles::Input;
 
-/// The status of a run without a fault.
-const FINE: u8 = 0;
-
-/// The status of a script with a fault.
-const SCRIPT_FAULT: u8 = 1;
-
-/// The status of a command line that is refused.
-pub const COMMAND_LINE: u8 = 2;
-
-/// The status where a file cannot be read, memory is refused or a write fails.
-pub const FAILED: u8 = 3;
-
-/// The length of tiles, in elements.
-const TILE: u32 = 4096;
-
-/// The number of workers.
-const WORKERS: u32 = 4;
-
-fn config() -> Config {
-    Config::new(TILE, WORKERS).unwrap()
-}
-
-/// The names of the script and of its inputs, after the program's own name; none where there is no script, or a word
-/// begins with `-`.
-fn file_names<'a, 'b>(words: &'a [&'b str]) -> Option<&'a [&'b str]> {
-    match words.split_first() {
-        None => None,
-        Some((_, names)) => {
-            if names.is_empty() || names.iter().any(|name| name.starts_with('-')) {
-                None
-            } else {
-                Some(names)
-            }
-        }
-    }
-}
-
-/// Reads the inputs in their order, or names the first that cannot be read, also where there is no memory for it.
-fn read_inputs<'a, A: Memory, H: Host<A>>(
-    alloc: A,
-    names: &[&'a str],
-    host: &mut H,
-) -> Result<Vec<Input<A>, A>, &'a str>
-    ensures { H.failures host.new ≡ H.failures host.old }
+/// Writes clap's help to standard output.
+fn put_help<A: Memory, H: Host<A>>(alloc: A, help: &clap::Error, host: &mut H) -> Result<(), Stop>
+    requires { H.failures host.old < 2 ^ 64 - 1 }
+    ensures { PutsHelp (seen (H.taken host.old) (H.failures host.old) (H.aside host.old))
+        (seen (H.taken host.new) (H.failures host.new) (H.aside host.new)) result }
 {
-    let mut inputs = Vec::new(alloc);
-    for name in names {
-        match host.read_file(name) {
-            None => return Err(name),
-            Some(bytes) => {
-                if inputs.push(Input::Bytes(bytes)).is_err() {
-                    return Err(name);
-                }
-            }
-        }
-    }
-    Ok(inputs)
-}
-
-/// Writes the line that tells of a file that cannot be read, where there is memory for it, and answers the status.
-fn tell_unreadable<A: Memory, H: Host<A>>(alloc: A, name: &str, host: &mut H) -> u8 {
-    if let Ok(message) = format!(in alloc; "cannot read {name}\n") {
-        host.put_error(message.as_bytes());
-    }
-    FAILED
-}
-
-/// Why the program ends: the stop of the run, or else the output that could not be sent on.
-fn end_of(ran: Result<(), Stop>, flushed: Result<(), SinkFault>) -> Option<Stop> {
-    match ran {
-        Err(stop) => Some(stop),
-        Ok(()) => match flushed {
-            Ok(()) => None,
-            Err(_) => Some(Stop::WriteFailed { line: 0 }),
+    match format!(in alloc; "{help}") {
+        Err(_) => Err(Stop::NoResources { line: 0 }),
+        Ok(text) => match put_all(host, text.as_bytes()) {
+            Ok(()) => Ok(()),
+            Err(_) => Err(Stop::WriteFailed { line: 0 }),
         },
     }
 }
 
-/// Writes the text of the stop to standard error, where there is memory for it, and answers the status.
-fn tell_stop<A: Memory, H: Host<A>>(alloc: A, stop: &Stop, host: &mut H) -> u8 {
-    let mut text = Vec::new(alloc);
-    if put_stop(stop, &mut text).is_ok() {
-        host.put_error(&text);
-    }
-    match stop {
-        Stop::Script { .. } => SCRIPT_FAULT,
-        Stop::NoResources { .. } => FAILED,
-        Stop::WriteFailed { .. } => FAILED,
+/// Writes clap's text of a refused command line to standard error, where there is memory for it.
+fn tell_refused<A: Memory, H: Host<A>>(alloc: A, error: &clap::Error, host: &mut H)
+    ensures { SpokeOfWords (seen (H.taken host.old) (H.failures host.old) (H.aside host.old))
+        (seen (H.taken host.new) (H.failures host.new) (H.aside host.new)) }
+{
+    match format!(in alloc; "{error}") {
+        Ok(text) => host.put_error(text.as_bytes()),
+        Err(_) => {}
     }
 }
 
-fn run_and_tell<R: Threads + Sync, A: Memory, H: Host<A>>(
+/// Runs the script and sends on its text, tells why the run stopped, and answers the status.
+fn run_script<R: Threads + Sync, A: Memory, H: Host<A>>(
     rt: &R,
     alloc: A,
+    config: Config,
     script: &[u8],
     inputs: Vec<Input<A>, A>,
     host: &mut H,
 ) -> u8
-    requires { H.failures host.old < 2 ^ 64 - 1 }
+    requires failures { H.failures host.old < 2 ^ 64 - 1 }
+    requires flushes { (H.aside host.old).failed_flushes < 2 ^ 64 - 1 }
+    ensures { Closes (EndsAs (meaning script.now inputs.items))
+        (seen (H.taken host.old) (H.failures host.old) (H.aside host.old))
+        (seen (H.taken host.new) (H.failures host.new) (H.aside host.new)) result }
 {
-    let ran = run(rt, alloc, config(), script, inputs, host);
-    let flushed = host.flush();
-    match end_of(ran, flushed) {
-        None => FINE,
-        Some(stop) => tell_stop(alloc, &stop, host),
-    }
+    let answer = run(rt, alloc, config, script, inputs, host);
+    finish(alloc, answer, host)
 }
 
+/// Reads the files of the script and of its inputs, and runs the script.
 fn run_files<R: Threads + Sync, A: Memory, H: Host<A>>(
     rt: &R,
     alloc: A,
-    script: &str,
-    inputs: &[&str],
+    words: &Words<'_>,
     host: &mut H,
 ) -> u8
-    requires { H.failures host.old < 2 ^ 64 - 1 }
+    requires failures { H.failures host.old < 2 ^ 64 - 1 }
+    requires flushes { (H.aside host.old).failed_flushes < 2 ^ 64 - 1 }
+    ensures { RunsOrMisses A words.now.script.now (texts words.now.inputs.items)
+        (seen (H.taken host.old) (H.failures host.old) (H.aside host.old))
+        (seen (H.taken host.new) (H.failures host.new) (H.aside host.new)) result }
 {
-    match host.read_file(script) {
-        None => tell_unreadable(alloc, script, host),
-        Some(text) => match read_inputs(alloc, inputs, host) {
-            Err(name) => tell_unreadable(alloc, name, host),
-            Ok(inputs) => run_and_tell(rt, alloc, &text, inputs, host),
+    match host.read_file(words.script) {
+        None => {
+            tell_unreadable(alloc, words.script, host);
+            FAILED
+        }
+        Some(text) => match read_inputs(alloc, words.inputs.as_slice(), host) {
+            Err(name) => {
+                tell_unreadable(alloc, name, host);
+                FAILED
+            }
+            Ok(inputs) => run_script(rt, alloc, words.config, text.as_slice(), inputs, host),
         },
     }
 }
 
-/// The whole program: reads a script and its inputs, runs it, and answers the status.
+/// The whole program: reads the command line, the script and its inputs, runs the script, and answers the status.
 ///
-/// The first word is the program's own name, the second names the script's file, and the others name those of the
-/// inputs. The text of the script goes to standard output, and a line that tells why the run stopped to standard error,
-/// in one piece; it is left out where there is no memory for it. The status is 0 where there is no fault, 1 at a fault of
-/// the script, 2 where no script is named or a word begins with `-`, and 3 where a file cannot be read, memory is
-/// refused or a write fails.
-pub fn program<R: Threads + Sync, A: Memory, H: Host<A>>(
+/// `words` are those of the command line, as `read_words` takes them, the program's own name first. The files of the
+/// script and of the inputs are read whole, in that order, before the script runs. What the script writes goes to
+/// standard output, which is then flushed; then a line on standard error tells why the run stopped, where it did. Help
+/// goes to standard output, and clap's text of a refused command line to standard error. A file that cannot be read, for
+/// want of memory too, is told as `cannot read NAME`, and nothing is run. Where there is no memory for the words or for
+/// the help the line is `line 0: no resources`, and `line 0: write failed` where the help or the flush fails; a run that
+/// stopped by itself keeps its own line and status. A text for standard error that finds no memory is left out.
+///
+/// The status is 0 where there is no fault, and after help; 1 at a fault of the script; 2 where the command line is
+/// refused; and 3 where a file cannot be read, memory is refused or a write fails.
+pub fn program<'a, R: Threads + Sync + AllocGlobal, A: Memory, H: Host<A>>(
     rt: &R,
     alloc: A,
-    words: &[&str],
+    words: &'a [&'a str],
     host: &mut H,
 ) -> u8
-    requires { H.failures host.old < 2 ^ 64 - 1 }
+    requires failures { H.failures host.old < 2 ^ 64 - 1 }
+    requires flushes { (H.aside host.old).failed_flushes < 2 ^ 64 - 1 }
+    ensures { Performs A (texts words.entry.now)
+        (seen (H.taken host.old) (H.failures host.old) (H.aside host.old))
+        (seen (H.taken host.new) (H.failures host.new) (H.aside host.new)) result }
 {
-    match file_names(words) {
-        None => {
-            host.put_error(b"usage: cvl SCRIPT [INPUT ..]\n");
-            COMMAND_LINE
-        }
-        Some(names) => match names.split_first() {
-            None => COMMAND_LINE,
-            Some((script, inputs)) => run_files(rt, alloc, script, inputs, host),
+    match read_words(rt.alloc(), words) {
+        Ok(words) => run_files(rt, alloc, &words, host),
+        Err(WordsFault::NoResources) => finish(alloc, Err(Stop::NoResources { line: 0 }), host),
+        Err(WordsFault::Refused(error)) => match error.kind() {
+            ErrorKind::DisplayHelp => {
+                let answer = put_help(alloc, &error, host);
+                finish(alloc, answer, host)
+            }
+            _ => {
+                tell_refused(alloc, &error, host);
+                COMMAND_LINE
+            }
         },
     }
 }

@@ -71,6 +71,7 @@ fn run_line<R: Threads + Sync, A: Memory, S: Sink>(
     ensures runs { LineRuns number (line_step session.old.names session.old.inputs line.now) session.new.names
         (S.taken sink.old) (S.taken sink.new) (S.failures sink.old) (S.failures sink.new) result }
     ensures inputs { session.new.inputs ≡ session.old.inputs }
+    ensures aside { S.aside sink.new ≡ S.aside sink.old }
 {
     match step_line(rt, alloc, session, line) {
         Err(refused) => Err(stop_of(refused, number)),
@@ -91,8 +92,9 @@ fn run_lines<R: Threads + Sync, A: Memory, S: Sink>(
 ) -> Result<(), Stop>
     requires failures { S.failures sink.old < 2 ^ 64 - 1 }
     requires short { length script.now ≤ most_script_bytes }
-    ensures { Runs (from_line 1 session.old.names session.old.inputs (lines_of script.now))
+    ensures runs { Runs (from_line 1 session.old.names session.old.inputs (lines_of script.now))
         (S.taken sink.old) (S.taken sink.new) (S.failures sink.old) (S.failures sink.new) result }
+    ensures aside { S.aside sink.new ≡ S.aside sink.old }
 {
     let mut number = 1;
     let mut rest = Some(script);
@@ -120,8 +122,9 @@ pub fn run<R: Threads + Sync, A: Memory, S: Sink>(
     sink: &mut S,
 ) -> Result<(), Stop>
     requires { S.failures sink.old < 2 ^ 64 - 1 }
-    ensures { Runs (meaning script.now inputs.items)
+    ensures runs { Runs (meaning script.now inputs.items)
         (S.taken sink.old) (S.taken sink.new) (S.failures sink.old) (S.failures sink.new) result }
+    ensures aside { S.aside sink.new ≡ S.aside sink.old }
 {
     if script.len() > MOST_SCRIPT_BYTES {
         return Err(Stop::Script {

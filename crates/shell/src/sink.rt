@@ -1,6 +1,7 @@
 //! Where the text of a script goes.
 
 ghost use Rattle.std.specs.Prelude.{ℕ, ◌^◌, ◌<◌, ◌-◌, ◌≡◌, [], Some, IfOk, List, Option};
+ghost use Rattle.shell.specs.Hosts.{Aside};
 ghost use Rattle.shell.specs.Sinks.{Puts};
 
 use cvl_base::{Memory, NoResources};
@@ -18,10 +19,14 @@ pub trait Sink {
     /// How often the sink has failed.
     ghost failures: { Self → ℕ };
 
+    /// What the sink has beside its text, as a host has files and a standard error. No put changes it.
+    ghost aside: { Self → Aside };
+
     /// Takes a front of the bytes, of one or more where there are any, and answers how many; or fails and takes none.
     /// No bytes are taken of none, without failing.
     fn put(&mut self, bytes: &[u8]) -> Result<usize, SinkFault>
         requires { failures self.old < 2 ^ 64 - 1 }
-        ensures { Puts (taken self.old, failures self.old) bytes.now result
-            (taken self.new, failures self.new) };
+        ensures puts { Puts (taken self.old, failures self.old) bytes.now result
+            (taken self.new, failures self.new) }
+        ensures aside { aside self.new ≡ aside self.old };
 }

@@ -7,6 +7,7 @@ invariant-loop-put g l =
     (l.put ≤ length l.bytes)
     × (g.S.Sink.taken l.sink ≡ option_map (λ taken. taken ++ take l.put l.bytes) (g.S.Sink.taken l.initial.sink))
     × (g.S.Sink.failures l.sink ≡ g.S.Sink.failures l.initial.sink)
+    × (g.S.Sink.aside l.sink ≡ g.S.Sink.aside l.initial.sink)
 
 abbrev pub decreases-loop-put : goal.decreases-loop-put
 decreases-loop-put g l = length l.bytes - l.put

@@ -3,7 +3,7 @@ use Rattle.shell.proofs.runs.run_line.Goals as goal
 
 pub returns-in-Ok-put_all-clause-runs : goal.returns-in-Ok-put_all-clause-runs
 returns-in-Ok-put_all-clause-runs g c =
-    let put = c.in-Ok-put_all.ensures in
+    let put = c.in-Ok-put_all.ensures.puts in
     record {
       writes = (c.shown_bytes.result.now, put.0, (_, c.in-Ok.ensures.meaning, refl, c.shown_bytes.ensures));
       failures = omega (arith, put.1);
@@ -11,7 +11,7 @@ returns-in-Ok-put_all-clause-runs g c =
 
 pub returns-clause-runs : goal.returns-clause-runs
 returns-clause-runs g c =
-    let put = c.in-Err-put_all.ensures in
+    let put = c.in-Err-put_all.ensures.puts in
     record {
       writes = (
         take put.0.0 c.shown_bytes.result.now,

@@ -1,4 +1,4 @@
-use Rattle.std.proofs.Common.{◌+◌, refl, arith}
+use Rattle.std.proofs.Common.{◌+◌, ◌∙◌, refl, arith}
 use Rattle.std.specs.Option.{option_copied}
 use Rattle.std.proofs.lemmas.Result.{err_from_is_err_and}
 use Rattle.shell.specs.LinesLeft.{lines_left}
@@ -6,10 +6,10 @@ use Rattle.shell.proofs.Underway.{begins, went_on, stopped, stops_from}
 use Rattle.shell.proofs.runs.run_lines.Goals as goal
 
 pub loop-rest-init : goal.loop-rest-init
-loop-rest-init g c = record { underway = begins _ _; failures = refl; numbers = omega arith }
+loop-rest-init g c = record { underway = begins _ _; failures = refl; aside = refl; numbers = omega arith }
 
-pub returns-in_err-run_line : goal.returns-in_err-run_line
-returns-in_err-run_line g c =
+pub returns-in_err-run_line-clause-runs : goal.returns-in_err-run_line-clause-runs
+returns-in_err-run_line-clause-runs g c =
     let p = err_from_is_err_and c.from_residual.result c.from_residual.ensures.1 in
     rw (p.1, p.2)
     (stopped _ _ _ _ _ _ _ _ _ _ _
@@ -25,5 +25,6 @@ loop-rest-preserved g c =
       underway = rw c.in_ok-run_line.ensures.inputs
           (went_on _ _ _ _ _ _ _ _ _ _ (rw (c.in-Some.is, c.next_line.ensures.lines) at c.loop-rest.invariant.underway) ran);
       failures = omega (arith, ran.failures, c.loop-rest.invariant.failures);
+      aside = c.in_ok-run_line.ensures.aside ∙ c.loop-rest.invariant.aside;
       numbers = omega (arith, numbers, c.next_line.ensures.shorter);
     }

@@ -14,6 +14,7 @@ invariant-loop-rest g l =
           (from_line l.number l.session.names l.session.inputs (lines_left (option_copied l.rest)))
           l.number (g.S.Sink.taken l.initial.sink) (g.S.Sink.taken l.sink);
       failures : g.S.Sink.failures l.sink ≡ g.S.Sink.failures l.initial.sink;
+      aside : g.S.Sink.aside l.sink ≡ g.S.Sink.aside l.initial.sink;
       numbers : l.number + bytes_left (option_copied l.rest) ≤ length l.script + 2;
     }
 

@@ -1,0 +1,19 @@
+use Rattle.std.proofs.Common.{◌≡◌, ◌∙◌, ap, ap₂, rules}
+use Rattle.std.proofs.lemmas.Result.{IfOk-weaker}
+use Rattle.clap.specs.Words.{rule_of, with_rule}
+use Rattle.command_line.specs.Command.{cvl, tile_rule, workers_rule, up_to}
+use Rattle.command_line.proofs.command.cvl_command.Goals as goal
+
+pub returns : goal.returns
+unfolding cvl
+returns c =
+    let tile_range : c.range.result ≡ up_to 65536 = rw (c.value_parser.ensures, c.new.ensures.start, c.new.ensures.end) at c.range.ensures in
+    let workers_range : c.range-2.result ≡ up_to 64 = rw (c.value_parser-2.ensures, c.new-2.ensures.start, c.new-2.ensures.end) at c.range-2.ensures in
+    let tile : rule_of c.help-tile.result ≡ tile_rule =
+    ap rule_of c.help-tile.ensures ∙ (rw tile_range at c.number_option.ensures.rule) in
+    let workers : rule_of c.help-workers.result ≡ workers_rule =
+    ap rule_of c.help-workers.ensures ∙ (rw workers_range at c.number_option-2.ensures.rule) in
+    let one = c.in_ok-arg.ensures.shape (search rules) ∙ ap₂ with_rule c.new-3.ensures.app tile in
+    let two = c.in_ok-arg-2.ensures.shape (search rules) ∙ ap₂ with_rule one workers in
+    let three = c.in_ok-arg-3.ensures.shape (search rules) ∙ ap₂ with_rule two c.script.ensures.rule in
+    IfOk-weaker c.arg-4.result _ _ (λ r h. h.shape (search rules) ∙ ap₂ with_rule three c.inputs.ensures.rule) c.arg-4.ensures

@@ -1,0 +1,41 @@
+-- The command of the program, as clap's words say it: two options of one number each, with their ranges and defaults,
+-- the script, and then its inputs.
+-- Source: this library's program.
+use Rattle.std.specs.Prelude.{ℕ, [], ◌∷◌, Some, codes, pos, true}
+use Rattle.clap.specs.Words.{App, Rule, Text, new_app, new_rule, with_rule}
+use Rattle.clap.specs.declared.builder.action.ArgAction.TheVariants.{Set, Append}
+use Rattle.clap.specs.declared.builder.value_parser.ValueParser.{ValueParser}
+use Rattle.clap.specs.declared.builder.value_parser.ValueParser.TheVariants as vp
+
+-- a whole number from 1 to the greatest
+abbrev pub up_to : ℕ → ValueParser
+up_to greatest = vp.Signed (pos 1) (pos greatest)
+
+-- `--NAME N`
+abbrev pub number_rule : Text → ValueParser → Text → Rule
+number_rule name parser default = record (new_rule name) {
+  long = Some name;
+  action = Some Set;
+  value_names = 1;
+  parser = Some parser;
+  defaults = default ∷ [];
+}
+
+-- SCRIPT, which has to be there
+abbrev pub script_rule : Rule
+script_rule =
+    record (new_rule (codes "script")) { action = Some Set; value_names = 1; required = true }
+
+-- INPUT .., of which there may be none
+abbrev pub inputs_rule : Rule
+inputs_rule = record (new_rule (codes "inputs")) { action = Some Append; value_names = 1 }
+
+abbrev pub tile_rule : Rule
+tile_rule = number_rule (codes "tile") (up_to 65536) (codes "4096")
+
+abbrev pub workers_rule : Rule
+workers_rule = number_rule (codes "workers") (up_to 64) (codes "4")
+
+unfoldable pub cvl : App
+cvl = with_rule (with_rule (with_rule (with_rule (new_app (codes "cvl")) tile_rule) workers_rule)
+    script_rule) inputs_rule

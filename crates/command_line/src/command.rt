@@ -1,0 +1,81 @@
+//! The command, as clap is told of it.
+
+ghost use Rattle.std.specs.Prelude.{◌≡◌, false, codes, pos, IfOk};
+ghost use Rattle.clap.specs.Words.{app_of, rule_of};
+ghost use Rattle.command_line.specs.Command.{cvl, number_rule, script_rule, inputs_rule, up_to};
+
+use clap::builder::ValueParser;
+use clap::{Arg, ArgAction, Command};
+use std::alloc::{AllocError, Global};
+
+/// The length of tiles where none is given, in elements.
+const TILE: &str = "4096";
+
+/// The number of workers where none is given.
+const WORKERS: &str = "4";
+
+/// An option `--NAME N` with a default.
+fn number_option<'a>(
+    alloc: Global,
+    name: &'a str,
+    parser: ValueParser<'a>,
+    default: &'a str,
+) -> Arg<'a>
+    ensures rule { rule_of result ≡ number_rule name.entry.now parser.entry default.entry.now }
+    ensures own { result.global ≡ false }
+{
+    Arg::new(alloc, name)
+        .long(name)
+        .value_name("N")
+        .action(ArgAction::Set)
+        .value_parser(parser)
+        .default_value(default)
+}
+
+/// The name of the script's file.
+fn script<'a>(alloc: Global) -> Arg<'a>
+    ensures rule { rule_of result ≡ script_rule }
+    ensures own { result.global ≡ false }
+{
+    Arg::new(alloc, "script")
+        .value_name("SCRIPT")
+        .action(ArgAction::Set)
+        .required(true)
+        .help("The file of the script")
+}
+
+/// The names of the files of the inputs.
+fn inputs<'a>(alloc: Global) -> Arg<'a>
+    ensures rule { rule_of result ≡ inputs_rule }
+    ensures own { result.global ≡ false }
+{
+    Arg::new(alloc, "inputs")
+        .value_name("INPUT")
+        .action(ArgAction::Append)
+        .help("The file of each input, in the order of their numbers")
+}
+
+/// The command `cvl [--tile N] [--workers N] SCRIPT [INPUT ..]`.
+pub(crate) fn cvl_command<'a>(alloc: Global) -> Result<Command<'a>, AllocError>
+    ensures { IfOk result (λ c. app_of c ≡ cvl) }
+{
+    let tile = number_option(
+        alloc,
+        "tile",
+        clap::value_parser!(u32).range(1..=65536),
+        TILE,
+    )
+    .help("The length of a tile, in elements");
+    let workers = number_option(
+        alloc,
+        "workers",
+        clap::value_parser!(u32).range(1..=64),
+        WORKERS,
+    )
+    .help("The number of workers");
+    Command::new(alloc, "cvl")
+        .arg(tile)?
+        .arg(workers)?
+        .arg(script(alloc))?
+        .arg(inputs(alloc))
+}

@@ -1,0 +1,85 @@
+//! What the words of a command line say.
+
+ghost use Rattle.std.specs.Prelude.{◌≡◌, ℕ, ◌≤◌, Some, IfOk, IfErr, true, codes, unwrap_or, []};
+ghost use Rattle.clap.specs.Words.{all_of, fault_of, first_of, found_of, rows_of, takes};
+ghost use Rattle.clap.specs.Walk.{texts};
+ghost use Rattle.command_line.specs.Command.{cvl};
+ghost use Rattle.command_line.specs.Reads.{IsWhole, ReadsBy, inputs_given, is_left_out, number_given, number_in, script_given};
+ghost use Rattle.command_line.specs.declared.fault.WordsFault.TheVariants as fault;
+
+use crate::fault::WordsFault;
+use crate::numbers::config;
+use crate::parse::parsed;
+use clap::ArgMatches;
+use cvl_base::Config;
+use std::alloc::{AllocError, Global};
+
+/// What a command line asks for.
+#[derive(Debug, Drop)]
+pub struct Words<'a> {
+    /// The length of tiles and the number of workers.
+    pub config: Config,
+    /// The name of the script's file.
+    pub script: &'a str,
+    /// The names of the inputs' files, in the order of the inputs' numbers.
+    pub inputs: Vec<&'a str>,
+}
+
+/// The names of the inputs' files; none where none is given.
+fn inputs<'a>(alloc: Global, matches: &ArgMatches<'a>) -> Result<Vec<&'a str>, AllocError>
+    ensures { IfOk result (λ names. texts names.items
+        ≡ unwrap_or (all_of (codes "inputs") (rows_of (found_of matches.now))) []) }
+{
+    match matches.get_strs("inputs") {
+        Some(names) => Vec::from_slice(alloc, names),
+        None => Ok(Vec::new(alloc)),
+    }
+}
+
+/// What the matches of the command say.
+fn words_of<'a>(alloc: Global, matches: &ArgMatches<'a>) -> Result<Words<'a>, AllocError>
+    requires { IsWhole matches.now }
+    ensures tile { IfOk result (λ w.
+        number_in (codes "tile") (rows_of (found_of matches.now)) ≡ Some w.config.0) }
+    ensures workers { IfOk result (λ w.
+        number_in (codes "workers") (rows_of (found_of matches.now)) ≡ Some w.config.1) }
+    ensures script { IfOk result (λ w.
+        first_of (codes "script") (rows_of (found_of matches.now)) ≡ Some w.script.now) }
+    ensures inputs { IfOk result (λ w. texts w.inputs.items
+        ≡ unwrap_or (all_of (codes "inputs") (rows_of (found_of matches.now))) []) }
+{
+    Ok(Words {
+        config: config(matches),
+        script: matches.get_str("script").unwrap(),
+        inputs: inputs(alloc, matches)?,
+    })
+}
+
+/// Reads the words of a command line, of which the first is the program's own name.
+///
+/// The command is `cvl [--tile N] [--workers N] SCRIPT [INPUT ..]`, which clap reads as a simple command. A tile has 1
+/// to 65,536 elements, and 4,096 where none is given; there are 1 to 64 workers, and 4 where none is given. A number is
+/// decimal digits, which may have a plus sign and leading zeros. Options may stand before and behind the names of
+/// files, which are handed out as they are typed; behind `--` a word that begins with `-` is a name too. Words that the
+/// command doesn't take are `WordsFault::Refused`, and so is a call for help. Where it takes them, the words are read,
+/// or a growth was refused.
+pub fn read_words<'a>(alloc: Global, words: &'a [&'a str]) -> Result<Words<'a>, WordsFault>
+    ensures tile { IfOk result (λ w.
+        number_given (codes "tile") (texts words.entry.now) ≡ Some w.config.0) }
+    ensures workers { IfOk result (λ w.
+        number_given (codes "workers") (texts words.entry.now) ≡ Some w.config.1) }
+    ensures tile_range { IfOk result (λ w. (1 ≤ w.config.0) × (w.config.0 ≤ 65536)) }
+    ensures workers_range { IfOk result (λ w. (1 ≤ w.config.1) × (w.config.1 ≤ 64)) }
+    ensures tile_default { IfOk result (λ w.
+        is_left_out (codes "tile") (texts words.entry.now) ≡ true → w.config.0 ≡ 4096) }
+    ensures workers_default { IfOk result (λ w.
+        is_left_out (codes "workers") (texts words.entry.now) ≡ true → w.config.1 ≡ 4) }
+    ensures script { IfOk result (λ w. script_given (texts words.entry.now) ≡ Some w.script.now) }
+    ensures inputs { IfOk result (λ w. texts w.inputs.items ≡ inputs_given (texts words.entry.now)) }
+    ensures faults { ReadsBy (fault_of cvl (texts words.entry.now)) result }
+    ensures taken { takes cvl (texts words.entry.now) ≡ true
+        → IfErr result (λ why. why ≡ fault.NoResources) }
+{
+    let matches = parsed(alloc, words)?;
+    Ok(words_of(alloc, &matches)?)
+}

@@ -1,0 +1,22 @@
+use Rattle.std.proofs.Common.{◌≡◌, ◌∙◌, sym}
+use Rattle.clap.specs.Walk.{texts}
+use Rattle.clap.specs.Values.{kind_of}
+use Rattle.clap.specs.declared.error.kind.ErrorKind.TheVariants.{DisplayHelp}
+use Rattle.shell.proofs.Performed.{performs_files, performs_help, performs_starved}
+use Rattle.shell.proofs.programs.program.Goals as goal
+
+pub returns-in-Ok : goal.returns-in-Ok
+returns-in-Ok g c =
+    performs_files g.row.A.Denot (texts c.args.words.now) c.in-Ok.words.script.now (texts c.in-Ok.words.inputs.items) _ _ c.run_files.result
+    c.in-Ok.ensures.faults c.in-Ok.ensures.script c.in-Ok.ensures.inputs c.run_files.ensures
+
+pub returns-in-Err-NoResources : goal.returns-in-Err-NoResources
+returns-in-Err-NoResources g c =
+    performs_starved g.row.A.Denot (texts c.args.words.now) _ _ c.finish.result c.finish.ensures
+
+pub returns-in-DisplayHelp : goal.returns-in-DisplayHelp
+returns-in-DisplayHelp g c =
+    let kind : kind_of c.in-Err-Refused.error ≡ DisplayHelp = sym c.kind.ensures ∙ c.in-DisplayHelp.is in
+    let among = rw c.in-Err-Refused.field-0-is at c.in-Err-Refused.ensures.faults in
+    performs_help g.row.A.Denot (texts c.args.words.now) _ _ _ c.finish-in-DisplayHelp.result c.put_help-answer.result
+    (rw kind at among) c.put_help-answer.ensures c.finish-in-DisplayHelp.ensures
