@@ -1,4 +1,3 @@
 pub mod ArgumentFaults
 pub mod BoundNames
 pub mod ResultKinds
-pub mod ResultLengths
