@@ -12,8 +12,6 @@ const FILES: &[(&str, &str)] = &[
     ("divisors", "1 1 1 0 0\n"),
 ];
 
-const USAGE: &str = "usage: cvl SCRIPT [INPUT ..]\n";
-
 /// What fails on the host.
 #[derive(Clone, Copy)]
 enum Failing {
@@ -85,10 +83,34 @@ const ROWS: &[Row] = &[
         "cannot read nofile\n",
         3,
     ),
-    (Failing::Nothing, &[], "", USAGE, 2),
-    (Failing::Nothing, &["cvl"], "", USAGE, 2),
-    (Failing::Nothing, &["cvl", "--tile", "2"], "", USAGE, 2),
-    (Failing::Nothing, &["cvl", "scan", "-x"], "", USAGE, 2),
+    (
+        Failing::Nothing,
+        &["cvl", "--tile=1", "--workers", "64", "scan", "numbers"],
+        "b = [0 3 4 11 11]\n",
+        "",
+        0,
+    ),
+    (
+        Failing::Nothing,
+        &["cvl", "scan", "numbers", "--tile", "65536"],
+        "b = [0 3 4 11 11]\n",
+        "",
+        0,
+    ),
+    (
+        Failing::Nothing,
+        &["cvl", "--", "-x", "--tile"],
+        "",
+        "cannot read -x\n",
+        3,
+    ),
+    (
+        Failing::Flush,
+        &["cvl", "nofile"],
+        "",
+        "cannot read nofile\n",
+        3,
+    ),
     (
         Failing::Flush,
         &["cvl", "scan", "numbers"],
@@ -141,6 +163,70 @@ fn texts_messages_and_statuses(rt: HostRuntime) -> Result<(), Fail> {
         assert_eq!(rt; host.errors.as_slice(), errors.as_bytes(), "{words:?}");
         // so that the messages of two programs don't mix
         assert_eq!(rt; host.messages, u64::from(!errors.is_empty()), "{words:?}");
+    }
+    Ok(())
+}
+
+/// Command lines that are refused.
+const REFUSED: &[&[&str]] = &[
+    &[],
+    &["cvl"],
+    &["cvl", "--"],
+    &["cvl", "--tile", "2"],
+    &["cvl", "--tile"],
+    &["cvl", "--tile", "0", "scan"],
+    &["cvl", "--tile", "65537", "scan"],
+    &["cvl", "--tile", "x", "scan"],
+    &["cvl", "--tile", "8", "--tile", "9", "scan"],
+    &["cvl", "--workers", "0", "scan"],
+    &["cvl", "--workers", "65", "scan"],
+    &["cvl", "--workers", "", "scan"],
+    &["cvl", "scan", "-x"],
+    &["cvl", "--version"],
+];
+
+#[test]
+fn refused_command_lines(rt: HostRuntime) -> Result<(), Fail> {
+    for words in REFUSED {
+        let mut host = SmallHost::with_room(rt.alloc(), FILES, 0)?;
+        assert_eq!(rt; program(&rt, rt.alloc(), words, &mut host), 2, "{words:?}");
+        assert!(rt; host.output.taken.is_empty(), "{words:?}");
+        assert_eq!(rt; host.messages, 1, "{words:?}");
+        assert!(rt; !host.errors.is_empty(), "{words:?}");
+    }
+    Ok(())
+}
+
+/// Command lines that ask for help.
+const HELP: &[&[&str]] = &[
+    &["cvl", "-h"],
+    &["cvl", "--help"],
+    &["cvl", "scan", "numbers", "--help"],
+];
+
+#[test]
+fn help(rt: HostRuntime) -> Result<(), Fail> {
+    for words in HELP {
+        let mut host = SmallHost::with_room(rt.alloc(), FILES, 0)?;
+        assert_eq!(rt; program(&rt, rt.alloc(), words, &mut host), 0, "{words:?}");
+        assert!(rt; !host.output.taken.is_empty(), "{words:?}");
+        assert_eq!(rt; host.sent, host.output.taken.len(), "{words:?}");
+        assert_eq!(rt; host.messages, 0, "{words:?}");
+    }
+    Ok(())
+}
+
+#[test]
+fn help_that_is_not_sent_on(rt: HostRuntime) -> Result<(), Fail> {
+    for failing in [Failing::Flush, Failing::Puts(4)] {
+        let mut host = SmallHost::with_room(rt.alloc(), FILES, 0)?;
+        match failing {
+            Failing::Nothing => {}
+            Failing::Flush => host.flushes = false,
+            Failing::Puts(puts) => host.output.puts_left = puts,
+        }
+        assert_eq!(rt; program(&rt, rt.alloc(), &["cvl", "-h"], &mut host), 3);
+        assert_eq!(rt; host.errors.as_slice(), "line 0: write failed\n".as_bytes());
     }
     Ok(())
 }

@@ -203,7 +203,10 @@ fn judge(status: u8, output: &[u8], errors: &[u8]) -> Ended {
 }
 
 /// Runs the program on this memory, on a host with room for what it writes.
-fn program_on<R: Threads + Sync, A: Memory>(rt: &R, heap: A) -> Result<Ended, NoResources> {
+fn program_on<R: Threads + Sync + AllocGlobal, A: Memory>(
+    rt: &R,
+    heap: A,
+) -> Result<Ended, NoResources> {
     let mut host = SmallHost::with_room(heap, FILES, 64)?;
     let words = ["cvl", "late", "numbers"];
     let status = program(rt, heap, words.as_slice(), &mut host);

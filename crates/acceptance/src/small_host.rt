@@ -6,7 +6,7 @@ use crate::narrow_sink::NarrowSink;
 use cvl_base::{Memory, NoResources};
 use shell::{Host, Sink, SinkFault};
 
-/// A host with files of its own.
+/// A host with files of its own. It claims nothing of what standard error has taken.
 #[derive(Drop)]
 pub struct SmallHost<'a, A: Memory> {
     /// The names and the bytes of its files.
@@ -21,6 +21,8 @@ pub struct SmallHost<'a, A: Memory> {
     pub flushes: bool,
     /// How many flushes failed.
     pub failed_flushes: u64,
+    /// How many bytes of standard output a flush has sent on.
+    pub sent: usize,
     /// Where the files are read to.
     pub alloc: A,
 }
@@ -44,21 +46,25 @@ impl<'a, A: Memory> SmallHost<'a, A> {
             messages: 0,
             flushes: true,
             failed_flushes: 0,
+            sent: 0,
             alloc,
         })
     }
 }
 
 impl<A: Memory> Sink for SmallHost<'_, A> {
-    ghost use Rattle.std.specs.Prelude.{Some};
+    ghost use Rattle.std.specs.Prelude.{None, Some, find, option_map};
+    ghost use Rattle.std.specs.Str.{bytes_eq};
 
     ghost taken = { λ h. Some h.output.taken.items };
 
     ghost failures = { λ h. h.output.failures };
 
     ghost aside = { λ h. record {
-      files = Some (file_of h.files.now);
-      errors = Some h.errors.items;
+      files = Some (λ name. option_map (λ file. file.1.now)
+          (find (λ file. bytes_eq file.0.now name) h.files.now));
+      errors = None;
+      sent = Some h.sent;
       failed_flushes = h.failed_flushes;
     } };
 
@@ -69,16 +75,13 @@ impl<A: Memory> Sink for SmallHost<'_, A> {
 
 impl<A: Memory> Host<A> for SmallHost<'_, A> {
     fn read_file(&mut self, name: &str) -> Option<Vec<u8, A>> {
-        for (file, bytes) in self.files {
-            if *file == name {
-                return Vec::from_slice(self.alloc, bytes.as_bytes()).ok();
-            }
-        }
-        None
+        let (_, bytes) = self.files.iter().find(|(file, _)| *file == name)?;
+        Vec::from_slice(self.alloc, bytes.as_bytes()).ok()
     }
 
     fn flush(&mut self) -> Result<(), SinkFault> {
         if self.flushes {
+            self.sent = self.output.taken.len();
             Ok(())
         } else {
             self.failed_flushes += 1;

@@ -26,7 +26,8 @@ impl<R, O, E> System<'_, R, O, E> {
     /// Counts a failure of standard output.
     fn fail(&mut self) -> SinkFault
         requires { self.old.failures < 2 ^ 64 - 1 }
-        ensures { self.new.failures ≡ self.old.failures + 1 }
+        ensures failures { self.new.failures ≡ self.old.failures + 1 }
+        ensures flushes { self.new.failed_flushes ≡ self.old.failed_flushes }
     {
         self.failures += 1;
         SinkFault
@@ -37,13 +38,13 @@ impl<R, O, E> System<'_, R, O, E> {
 /// of some bytes is a failure.
 impl<R, O: Write, E> Sink for System<'_, R, O, E> {
     ghost use Rattle.std.specs.Prelude.{None};
+    ghost use Rattle.shell.specs.Hosts.{nothing_aside};
 
     ghost taken = { λ _. None };
 
     ghost failures = { λ s. s.failures };
 
-    ghost aside = { λ s.
-        record { files = None; errors = None; failed_flushes = s.failed_flushes } };
+    ghost aside = { λ s. record nothing_aside { failed_flushes = s.failed_flushes } };
 
     fn put(&mut self, bytes: &[u8]) -> Result<usize, SinkFault> {
         if bytes.is_empty() {
