@@ -4,7 +4,9 @@ use crate::inputs::Input;
 use crate::plain;
 use cvl_base::Config;
 use cvl_base::limits::MOST_ELEMENTS;
-use pack_dist::{count_true, pack, seg_count, seg_pack};
+use pack_dist::{
+    count_true, distribute, index, pack, seg_count, seg_distribute, seg_index, seg_pack,
+};
 use std::alloc::Global;
 use std::thread::Threads;
 
@@ -21,6 +23,14 @@ pub enum Case {
     SegmentCounts,
     /// The segmented pack of integers, and its descriptor.
     SegmentPack,
+    /// The distribute of an integer.
+    Distribute,
+    /// The index.
+    Index,
+    /// The segmented distribute of integers.
+    SegmentDistribute,
+    /// The segmented index.
+    SegmentIndex,
 }
 
 impl Case {
@@ -32,6 +42,10 @@ impl Case {
             Case::Count => "count",
             Case::SegmentCounts => "count by segments",
             Case::SegmentPack => "pack by segments",
+            Case::Distribute => "distribute",
+            Case::Index => "index",
+            Case::SegmentDistribute => "distribute by segments",
+            Case::SegmentIndex => "index by segments",
         }
     }
 }
@@ -67,6 +81,10 @@ pub fn answer<R: Threads + Sync>(
                 Err(_) => 0,
             }
         }
+        Case::Distribute => length_of(distribute(alloc, 7, input.count)),
+        Case::Index => length_of(index(alloc, 7, 3, input.count)),
+        Case::SegmentDistribute => length_of(seg_distribute(alloc, &input.firsts, &input.d)),
+        Case::SegmentIndex => length_of(seg_index(alloc, &input.firsts, &input.firsts, &input.d)),
     }
 }
 
@@ -86,6 +104,16 @@ pub fn plain_answer(alloc: Global, case: Case, input: &Input) -> usize {
                 Ok((kept, _counts)) => kept.len(),
                 Err(_) => 0,
             }
+        }
+        Case::Distribute => length_of(plain::copies(alloc, 7, flags.len())),
+        Case::Index => length_of(plain::steps(alloc, 7, 3, flags.len())),
+        Case::SegmentDistribute => {
+            let (lengths, firsts) = (&input.lengths, &input.firsts);
+            length_of(plain::copies_by_segments(alloc, lengths, firsts, flags.len()))
+        }
+        Case::SegmentIndex => {
+            let (lengths, firsts) = (&input.lengths, &input.firsts);
+            length_of(plain::steps_by_segments(alloc, lengths, firsts, flags.len()))
         }
     }
 }

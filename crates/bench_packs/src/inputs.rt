@@ -14,6 +14,10 @@ pub struct Input {
     pub booleans: Vec<bool>,
     /// Random flags.
     pub flags: Vec<bool>,
+    /// How many elements there are.
+    pub count: i32,
+    /// A number for each segment.
+    pub firsts: Vec<i32>,
     /// How many of a hundred flags are true.
     pub percent: i32,
     /// How many elements each segment has, but for the last, which has the others.
@@ -48,6 +52,7 @@ pub fn input_of(
         return Err(Refused::Fault(Fault::new(FaultNo::TooLong)));
     }
     let d = SegDes::from_lengths(alloc, &numbers)?;
+    let firsts = numbers.iter().map(|n| n.wrapping_mul(5)).collect(alloc)?;
     let lengths = numbers
         .iter()
         .map(|n| n.unsigned_abs() as usize)
@@ -56,6 +61,8 @@ pub fn input_of(
         integers,
         booleans,
         flags,
+        count: i32::try_from(length).unwrap_or(0),
+        firsts,
         percent,
         segment,
         lengths,

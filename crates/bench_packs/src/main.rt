@@ -1,5 +1,5 @@
-//! Measures packs and counts, flat and by segments, beside plain loops of one thread. It does so where its argument is the
-//! word `measure`, and else it does nothing.
+//! Measures packs, counts, distributes and indexes, flat and by segments, beside plain loops of one thread. It does so where
+//! its argument is the word `measure`, and else it does nothing.
 #![tactic(auto)]
 
 mod cases;
@@ -80,9 +80,17 @@ fn measure_length<R: Print + Clock + Threads + Sync>(
             measure(rt, alloc, config, &cases, &input)?;
         }
     }
+    if let Ok(input) = input_of(alloc, length, 50, 1_000) {
+        measure(rt, alloc, config, &[Case::Distribute, Case::Index], &input)?;
+    }
     for segment in [1, 16, 1_000] {
         if let Ok(input) = input_of(alloc, length, 50, segment) {
-            let cases = [Case::SegmentCounts, Case::SegmentPack];
+            let cases = [
+                Case::SegmentCounts,
+                Case::SegmentPack,
+                Case::SegmentDistribute,
+                Case::SegmentIndex,
+            ];
             measure(rt, alloc, config, &cases, &input)?;
         }
     }

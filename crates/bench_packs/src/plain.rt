@@ -76,3 +76,76 @@ pub fn kept_by_segments<T: Copy>(
     }
     Ok((kept, counts))
 }
+
+/// Pushes so many copies of a value. There must be room for them.
+fn push_copies<T: Copy>(copies: &mut Vec<T>, value: T, count: usize)
+    requires { vec_len copies.old + count ≤ vec_capacity copies.old }
+    ensures len { vec_len copies.new ≡ vec_len copies.old + count }
+    ensures capacity { vec_capacity copies.new ≡ vec_capacity copies.old }
+{
+    for _ in 0..count {
+        copies.push_reserved(value);
+    }
+}
+
+/// So many copies of a value.
+pub fn copies<T: Copy>(alloc: Global, value: T, count: usize) -> Result<Vec<T>, AllocError> {
+    let mut copies = Vec::with_capacity(alloc, count)?;
+    push_copies(&mut copies, value, count);
+    Ok(copies)
+}
+
+/// For each segment as many copies of its value as it is long, but no more than `total` in all.
+pub fn copies_by_segments<T: Copy>(
+    alloc: Global,
+    lengths: &[usize],
+    values: &[T],
+    total: usize,
+) -> Result<Vec<T>, AllocError> {
+    let mut copies = Vec::with_capacity(alloc, total)?;
+    let mut left = total;
+    for (length, value) in lengths.iter().zip(values) {
+        let length = (*length).min(left);
+        push_copies(&mut copies, *value, length);
+        left -= length;
+    }
+    Ok(copies)
+}
+
+/// Pushes so many numbers in equal steps. There must be room for them.
+fn push_steps(numbers: &mut Vec<i32>, init: i32, stride: i32, count: usize)
+    requires { vec_len numbers.old + count ≤ vec_capacity numbers.old }
+    ensures len { vec_len numbers.new ≡ vec_len numbers.old + count }
+    ensures capacity { vec_capacity numbers.new ≡ vec_capacity numbers.old }
+{
+    let mut next = init;
+    for _ in 0..count {
+        numbers.push_reserved(next);
+        next = next.wrapping_add(stride);
+    }
+}
+
+/// So many numbers in equal steps.
+pub fn steps(alloc: Global, init: i32, stride: i32, count: usize) -> Result<Vec<i32>, AllocError> {
+    let mut numbers = Vec::with_capacity(alloc, count)?;
+    push_steps(&mut numbers, init, stride, count);
+    Ok(numbers)
+}
+
+/// For each segment as many numbers in equal steps as it is long, but no more than `total` in all. A segment's first
+/// number is its step too.
+pub fn steps_by_segments(
+    alloc: Global,
+    lengths: &[usize],
+    inits: &[i32],
+    total: usize,
+) -> Result<Vec<i32>, AllocError> {
+    let mut numbers = Vec::with_capacity(alloc, total)?;
+    let mut left = total;
+    for (length, init) in lengths.iter().zip(inits) {
+        let length = (*length).min(left);
+        push_steps(&mut numbers, *init, *init, length);
+        left -= length;
+    }
+    Ok(numbers)
+}

@@ -1,3 +1,12 @@
+pub mod Agreement
+pub mod Distributed
+pub mod Extracted
+pub mod Indexed
+pub mod Named
 pub mod Ones
 pub mod Packing
+pub mod Parts
+pub mod Progressed
+pub mod Replaced
 pub mod Segments
+pub mod Walk

@@ -1,16 +1,15 @@
 //! Packs: the elements whose flag is true, in order.
 
-ghost use Rattle.std.specs.Prelude.{◌≡◌, ◌==◌, ◌-◌, ◌<◌, ◌≤◌, false, true, IfOk, MatchResult, length, drop, slice_index_or, vec_len};
+ghost use Rattle.std.specs.Prelude.{◌≡◌, ◌-◌, ◌<◌, ◌≤◌, false, true, IfOk, length, drop, slice_index_or, vec_len};
 ghost use Rattle.std.specs.List.{All};
-ghost use Rattle.cvl_base.specs.declared.fault.FaultNo.TheVariants as no;
-ghost use Rattle.cvl_base.specs.Faults.{fault};
 ghost use Rattle.cvl_base.specs.Gives.{Gives};
 ghost use Rattle.cvl_base.specs.Limits.{most_elements};
 ghost use Rattle.cvl_base.specs.Packs.{pack_of};
 ghost use Rattle.pack_dist.specs.Kept.{kept_of};
 
+use crate::checks::check_agree;
 use crate::counts::counts_before;
-use cvl_base::{Config, Fault, FaultNo, Memory, NoResources, Refused};
+use cvl_base::{Config, Memory, NoResources, Refused};
 use std::thread::Threads;
 
 /// The elements whose flag is true, in order: `pck_luz` and `pck_lub`.
@@ -30,17 +29,6 @@ pub fn pack<T: Copy, R: Threads + Sync, A: Memory>(
 {
     check_agree(values.len(), flags.len())?;
     Ok(kept(rt, alloc, config, values, flags)?)
-}
-
-/// Checks that two lengths agree, else LengthMismatch.
-pub(crate) fn check_agree(left: usize, right: usize) -> Result<(), Fault>
-    ensures { MatchResult result (λ _. left ≡ right)
-        (λ f. (f ≡ fault no.LengthMismatch) × ((left == right) ≡ false)) }
-{
-    if left != right {
-        return Err(Fault::new(FaultNo::LengthMismatch));
-    }
-    Ok(())
 }
 
 /// The elements whose flag is true, of as many as there are flags.

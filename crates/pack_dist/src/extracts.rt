@@ -1,0 +1,54 @@
+//! Extract: the element at one place, or at one place of each segment.
+
+ghost use Rattle.std.specs.Prelude.{◌≡◌, IfOk, length, vec_len};
+ghost use Rattle.cvl_base.specs.Extracts.{extract_of};
+ghost use Rattle.cvl_base.specs.Gives.{Gives};
+ghost use Rattle.cvl_base.specs.SegmentedCalls.{seg_extract_of};
+
+use crate::checks::check_agree;
+use crate::places::place_among;
+use cvl_base::{Fault, FaultNo, Memory, Refused};
+use scan_ops::check_total;
+use segdes::SegDes;
+
+/// The element at the place that an index names, counted from 0.
+///
+/// IndexOutOfRange, at 0, where the vector has no such place; a negative index is not counted from the end. Source: CVL's
+/// extract.
+pub fn extract<T: Copy>(vector: &[T], index: i32) -> Result<T, Fault>
+    ensures { result ≡ extract_of vector.now index }
+{
+    let Some(place) = place_among(vector.len(), &index) else {
+        return Err(Fault::at(FaultNo::IndexOutOfRange, 0));
+    };
+    Ok(vector[place])
+}
+
+/// For each segment the element at the place that its index names, counted from the segment's start.
+///
+/// The segments' total is the number of elements, and there is one index for each segment, else LengthMismatch, without a
+/// place. The result has one element for each segment. IndexOutOfRange at the number of the first segment that has no
+/// such place, as no empty segment has. Source: CVL's segmented extract.
+pub fn seg_extract<T: Copy, A: Memory>(
+    alloc: A,
+    vector: &[T],
+    index: &[i32],
+    d: &SegDes<A>,
+) -> Result<Vec<T, A>, Refused>
+    ensures values { Gives (λ v. v.items) result (seg_extract_of vector.now index.now d.now) }
+    ensures as_long { IfOk result (λ v. vec_len v ≡ length d.now) }
+{
+    check_total(vector, d)?;
+    check_agree(d.count(), index.len())?;
+    let mut elements = Vec::with_capacity(alloc, d.count())?;
+    let mut start = 0;
+    for s in 0..d.count() {
+        let length = d.length(s);
+        let Some(place) = place_among(length, &index[s]) else {
+            return Err(Fault::at(FaultNo::IndexOutOfRange, s as u32).into());
+        };
+        elements.push_reserved(vector[start + place]);
+        start += length;
+    }
+    Ok(elements)
+}

@@ -1,0 +1,66 @@
+//! Replace: a vector with another element at one place, or at one place of each segment.
+
+ghost use Rattle.std.specs.Prelude.{◌≡◌, IfOk, length, vec_len};
+ghost use Rattle.cvl_base.specs.Extracts.{replace_of};
+ghost use Rattle.cvl_base.specs.Gives.{Gives};
+ghost use Rattle.cvl_base.specs.SegmentedCalls.{seg_replace_of};
+
+use crate::checks::check_agree;
+use crate::places::place_among;
+use cvl_base::{Fault, FaultNo, Memory, Refused};
+use scan_ops::check_total;
+use segdes::SegDes;
+
+/// The vector with `value` at the place that an index names, counted from 0.
+///
+/// The result is as long as the vector. IndexOutOfRange, at 0, where the vector has no such place; a negative index is
+/// not counted from the end. Source: CVL's replace.
+pub fn replace<T: Copy, A: Memory>(
+    alloc: A,
+    vector: &[T],
+    index: i32,
+    value: T,
+) -> Result<Vec<T, A>, Refused>
+    ensures values { Gives (λ v. v.items) result (replace_of vector.now index value) }
+    ensures as_long { IfOk result (λ v. vec_len v ≡ length vector.now) }
+{
+    let Some(place) = place_among(vector.len(), &index) else {
+        return Err(Fault::at(FaultNo::IndexOutOfRange, 0).into());
+    };
+    let mut replaced = Vec::from_slice(alloc, vector)?;
+    replaced[place] = value;
+    Ok(replaced)
+}
+
+/// The vector with, in each segment, the segment's value at the place that its index names, counted from the segment's
+/// start.
+///
+/// The segments' total is the number of elements, and there are one index and one value for each segment, else
+/// LengthMismatch, without a place. The result is as long as the vector. IndexOutOfRange at the number of the first
+/// segment that has no such place, as no empty segment has. Source: CVL's segmented replace.
+pub fn seg_replace<T: Copy, A: Memory>(
+    alloc: A,
+    vector: &[T],
+    index: &[i32],
+    values: &[T],
+    d: &SegDes<A>,
+) -> Result<Vec<T, A>, Refused>
+    ensures values { Gives (λ v. v.items) result
+        (seg_replace_of vector.now index.now values.now d.now) }
+    ensures as_long { IfOk result (λ v. vec_len v ≡ length vector.now) }
+{
+    check_total(vector, d)?;
+    check_agree(d.count(), index.len())?;
+    check_agree(d.count(), values.len())?;
+    let mut replaced = Vec::from_slice(alloc, vector)?;
+    let mut start = 0;
+    for s in 0..d.count() {
+        let length = d.length(s);
+        let Some(place) = place_among(length, &index[s]) else {
+            return Err(Fault::at(FaultNo::IndexOutOfRange, s as u32).into());
+        };
+        replaced[start + place] = values[s];
+        start += length;
+    }
+    Ok(replaced)
+}
