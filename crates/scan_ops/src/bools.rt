@@ -63,8 +63,9 @@ pub fn seg_bool_scan<R: Threads + Sync, A: Memory>(
     a: &[bool],
     d: &SegDes<A>,
 ) -> Result<Vec<bool, A>, Refused>
-    ensures { Gives (λ sums. sums.items) result
+    ensures values { Gives (λ sums. sums.items) result
         (seg_scan_of (bool_join_of op) (bool_unit_of op) a.now d.now) }
+    ensures as_long { IfOk result (λ sums. vec_len sums ≡ length a.now) }
 {
     match op {
         BoolBinary::And => seg_scan::<R, A, BoolAnd>(rt, alloc, config, a, d),

@@ -75,8 +75,9 @@ pub fn seg_int_scan<R: Threads + Sync, A: Memory>(
     a: &[i32],
     d: &SegDes<A>,
 ) -> Result<Vec<i32, A>, Refused>
-    ensures { Gives (λ sums. sums.items) result
+    ensures values { Gives (λ sums. sums.items) result
         (seg_scan_of (int_join_of op) (int_unit_of op) a.now d.now) }
+    ensures as_long { IfOk result (λ sums. vec_len sums ≡ length a.now) }
 {
     know_numbers(a);
     match op {

@@ -68,7 +68,8 @@ pub fn seg_scan<R: Threads + Sync, A: Memory, M: Monoid>(
     d: &SegDes<A>,
 ) -> Result<Vec<M::Item, A>, Refused>
     requires items { AllPass M.is_item a.now }
-    ensures { Gives (λ sums. sums.items) result (seg_scan_of M.join M.unit a.now d.now) }
+    ensures values { Gives (λ sums. sums.items) result (seg_scan_of M.join M.unit a.now d.now) }
+    ensures as_long { IfOk result (λ sums. vec_len sums ≡ length a.now) }
 {
     know_laws::<M>();
     check_total(a, d)?;

@@ -3,7 +3,7 @@
 //! A run is a range of the vector's elements. Segments may start in it anywhere, some of them empty, and it may begin or
 //! end inside a segment. Each walk goes from segment to segment, and has a plain loop over the elements of each.
 
-ghost use Rattle.std.specs.Prelude.{◌≡◌, false, ◌+◌, ◌≤◌, ◌++◌, IsTrue, IfOk, length, map, unsigned_abs, sum, vec_len, vec_capacity};
+ghost use Rattle.std.specs.Prelude.{◌≡◌, false, ◌+◌, ◌-◌, ◌≤◌, ◌++◌, IsTrue, IfOk, length, map, unsigned_abs, sum, vec_len, vec_capacity};
 ghost use Rattle.std.specs.List.{AllPass};
 ghost use Rattle.cvl_base.specs.Descriptors.{AreLengths};
 ghost use Rattle.cvl_base.specs.Folds.{fold_of};
@@ -26,14 +26,16 @@ fn start_or_total<A: Allocator>(d: &SegDes<A>, s: usize) -> usize
     if s < d.count() { d.start(s) } else { d.total() }
 }
 
-/// Pushes the scans of the segments with these lengths, one after another. The last may be cut short by the end of the
-/// elements. There must be room for them.
+/// Pushes the scans of the segments with these lengths, one after another. They have all of the elements, and the last may
+/// be cut short by the end of the elements. There must be room for them.
 fn push_scans<M: Monoid, A: Memory>(sums: &mut Vec<M::Item, A>, lengths: &[i32], xs: &[M::Item])
     requires lengths { AreLengths lengths.now }
+    requires covered { length xs.now ≤ sum (map unsigned_abs lengths.now) }
     requires room { vec_len sums.old + length xs.now ≤ vec_capacity sums.old }
     requires items { AllPass M.is_item xs.now }
-    ensures { sums.new.items
+    ensures values { sums.new.items
         ≡ sums.old.items ++ scans_of M.join M.unit (map unsigned_abs lengths.now) xs.now }
+    ensures as_long { vec_len sums.new ≡ vec_len sums.old + length xs.now }
 {
     know_laws::<M>();
     let mut rest = xs;
@@ -116,8 +118,9 @@ pub fn scan_of_run<M: Monoid, A: Memory>(
     requires within { to ≤ length a.now }
     requires before { IsTrue (M.is_item before) }
     requires items { AllPass M.is_item a.now }
-    ensures { IfOk result (λ sums. sums.items
+    ensures values { IfOk result (λ sums. sums.items
         ≡ run_scan_of M.join M.unit before (run_of d.now a.now from to)) }
+    ensures as_long { IfOk result (λ sums. vec_len sums ≡ to - from) }
 {
     know_laws::<M>();
     let mut sums = Vec::with_capacity(alloc, to - from)?;

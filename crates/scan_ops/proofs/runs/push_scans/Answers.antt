@@ -2,6 +2,7 @@ use Rattle.std.proofs.Common.{◌≡◌, ◌<◌, min, true, get_or, length, map
 use Rattle.std.specs.List.{AllPass}
 use Rattle.std.proofs.lemmas.List.{length-map}
 use Rattle.std.proofs.lemmas.List.Elements.{All-drop}
+use Rattle.std.proofs.lemmas.List.Sums.{sum_by-drop_more}
 use Rattle.scan_ops.proofs.Segmented.{length_fits, length_read, read_at, scans_pushed}
 use Rattle.scan_ops.proofs.runs.push_scans.Goals as goal
 
@@ -23,6 +24,8 @@ loop-length-preserved g c =
     record {
       whole = scans_pushed m.join m.unit lengths _ _ _ rest _ _ c.unit.result s (read_at row s) c.min.result lt is_length cut
           c.split_at.ensures.front c.split_at.ensures.back c.unit.ensures c.push_scan_from.ensures.values c.loop-length.invariant.whole;
+      as_long = omega arith;
+      covered = omega (arith, is_length, cut, c.split_at.ensures.back_len, c.loop-length.invariant.covered, sum_by-drop_more (λ x. x) lengths s 0 lt);
       room = omega arith;
       items = subst (λ xs. AllPass m.is_item xs) (sym c.split_at.ensures.back) (All-drop (λ x. m.is_item x ≡ true) c.min.result rest c.loop-length.invariant.items);
     }

@@ -1,4 +1,5 @@
 use Rattle.std.proofs.Common.{◌≡◌, ◌+◌, ◌≤◌, ◌++◌, length, drop, map, unsigned_abs, vec_len, vec_capacity}
+use Rattle.std.specs.Prelude.{sum}
 use Rattle.std.specs.List.{AllPass}
 use Rattle.scan_ops.specs.Runs.{scans_of}
 use Rattle.scan_ops.proofs.runs.push_scans.Given as goal
@@ -10,6 +11,8 @@ invariant-loop-length g l =
     let lengths = map unsigned_abs l.lengths in
     record {
       whole : l.sums.items ++ scans_of m.join m.unit (drop l.length-index lengths) l.rest ≡ l.fn.sums.items ++ scans_of m.join m.unit lengths l.xs;
+      as_long : vec_len l.sums + length l.rest ≡ vec_len l.fn.sums + length l.xs;
+      covered : length l.rest ≤ sum (drop l.length-index lengths);
       room : vec_len l.sums + length l.rest ≤ vec_capacity l.sums;
       items : AllPass m.is_item l.rest;
     }

@@ -1,5 +1,5 @@
-use Rattle.std.proofs.Common.{◌≡◌, ℕ, ◌-◌, ◌≤◌, ◌++◌, ◌∙◌, min, true, length, take, drop, refl, sym, ap, subst, arith, rules}
-use Rattle.std.specs.Prelude.{sum}
+use Rattle.std.proofs.Common.{◌≡◌, ℕ, ◌-◌, ◌≤◌, ◌++◌, ◌∙◌, min, true, length, map, take, drop, refl, sym, ap, subst, arith, rules}
+use Rattle.std.specs.Prelude.{sum, unsigned_abs}
 use Rattle.std.specs.List.{AllPass}
 use Rattle.std.proofs.lemmas.List.Elements.{All-drop, All-take}
 use Rattle.cvl_base.specs.Folds.{scan_of}
@@ -34,8 +34,24 @@ push_scans-requires-clause-items g c κs within =
     let part = All-take is_item (c.args.to - c.args.from) _ (All-drop is_item c.args.from c.args.a.now c.requires.items) in
     subst (λ xs. AllPass g.M.Monoid.is_item xs) (sym c.split_at.ensures.back) (All-drop is_item _ _ part)
 
-pub returns : goal.returns
-returns g c =
+-- the segments that start in the run have the elements from the first start on
+pub push_scans-requires-clause-covered : goal.push_scans-requires-clause-covered
+push_scans-requires-clause-covered g c κs within =
+    let d = c.args.d.now in
+    let first = c.starts_before-first in
+    let next = c.starts_before-next in
+    let start = c.start_or_total-start in
+    let cut : c.min.result ≡ min start.result c.args.to = c.min.ensures in
+    let n : ℕ = next.result - first.result in
+    let ordered : first.result ≤ next.result =
+    starts_in_order d c.args.from c.args.to first.result next.result c.requires.in_order first.ensures.in_count first.ensures.before next.ensures.others in
+    let reach : c.args.to ≤ start_of d next.result = begins_by d c.args.to next.result (omega (arith, c.requires.within, c.requires.total)) next.ensures.others in
+    let read : sum (map unsigned_abs (take n (drop first.result c.lengths.result.now))) ≡ sum (take n (drop first.result d)) =
+    ap sum (range_read c.lengths.result.now d first.result n c.lengths.ensures.value) in
+    omega (arith, read, reach, range_sum d first.result next.result ordered, start.ensures, cut, c.split_at.ensures.back_len, c.requires.within)
+
+pub returns-clause-values : goal.returns-clause-values
+returns-clause-values g c =
     let m = g.M.Monoid in
     let d = c.args.d.now in
     let first = c.starts_before-first in
@@ -50,7 +66,7 @@ returns g c =
     let reach : c.args.to ≤ start_of d next.result = begins_by d c.args.to next.result (omega (arith, c.requires.within, c.requires.total)) next.ensures.others in
     let covered : length others ≤ sum (take n (drop first.result d)) =
     omega (arith, reach, range_sum d first.result next.result ordered, start.ensures, cut, c.split_at.ensures.back_len, c.requires.within) in
-    c.push_scans.ensures
+    c.push_scans.ensures.values
     ∙ ap (λ ls. c.push_scan_from.new.sums.items ++ scans_of m.join m.unit ls others) (range_read c.lengths.result.now d first.result n c.lengths.ensures.value)
     ∙ ap (λ sums. c.push_scan_from.new.sums.items ++ sums) (scans_cut m.join m.unit n (drop first.result d) others covered)
     ∙ ap (λ sums. sums ++ scans_of m.join m.unit (drop first.result d) others)
