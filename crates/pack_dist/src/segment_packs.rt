@@ -11,7 +11,8 @@ use scan_ops::check_total;
 use segdes::SegDes;
 use std::thread::Threads;
 
-/// The elements of each segment whose flag is true, in order, one segment after another: `pck_lev` and its like.
+/// The elements of each segment whose flag is true, in order, one segment after another: `pck_lez` and
+/// `pck_leb`.
 ///
 /// LengthMismatch, without a place, where the segments' total is not the number of elements, or not that of flags.
 /// Source: CVL's segmented pack.
@@ -60,7 +61,8 @@ pub fn seg_pack<T: Copy, R: Threads + Sync, A: Memory>(
     flags: &[bool],
     d: &SegDes<A>,
 ) -> Result<(Vec<T, A>, SegDes<A>), Refused>
-    ensures values { Gives (λ packed. packed.0.items) result (seg_pack_of values.now flags.now d.now) }
+    ensures values { Gives (λ packed. packed.0.items) result
+        (seg_pack_of values.now flags.now d.now) }
     ensures lengths { IfOk result (λ packed. seg_count_of flags.now d.now ≡ Ok packed.1) }
     ensures no_longer { IfOk result (λ packed. vec_len packed.0 ≤ length values.now) }
 {
