@@ -21,10 +21,11 @@ use Rattle.cvl_base.specs.Nests.{cut_of, nest}
 use Rattle.cvl_base.specs.Packs.{count_of, pack_of}
 use Rattle.cvl_base.specs.Segmented.{beside, end_to_end, in_vector, moved, of_two, one_each, results_from}
 use Rattle.cvl_base.specs.SegmentedCalls.{seg_count_of, seg_pack_of, seg_reduce_of}
-use Rattle.scan_ops.proofs.Segmented.{nest-fits, results-ok, seg_reduce-fits, seg_reduce-misfits}
+use Rattle.scan_ops.proofs.Segmented.{results-ok, seg_reduce-fits, seg_reduce-misfits}
 use Rattle.scan_ops.specs.Runs.{reduces_of}
 use Rattle.segdes.proofs.Sums.{abs_pos}
 use Rattle.pack_dist.specs.Kept.{kept_of}
+use Rattle.pack_dist.proofs.Agreement.{beside_agree, length-cut_of, nest_agree}
 use Rattle.pack_dist.proofs.Ones.{ones_counted}
 use Rattle.pack_dist.proofs.Packing.{kept-split}
 
@@ -42,10 +43,6 @@ as_long-fits xs ys rest long =
       | inr t ↦ absurd (t.1 long)
     ]
 
-length-cut : {X : Type 0} (lengths : List ℕ) (xs : List X) → length (cut_of lengths xs) ≡ length lengths
-length-cut [] xs = refl
-length-cut (n ∷ lengths) xs = omega (arith, length-cut lengths (drop n xs))
-
 sum-cons : (n : ℕ) (ns : List ℕ) → sum (n ∷ ns) ≡ n + sum ns
 sum-cons n ns = sum_by-cons (λ x. x) n ns
 
@@ -53,7 +50,7 @@ sum-cons n ns = sum_by-cons (λ x. x) n ns
 
 seg_count-fits : (flags : List Bool) (lengths : List ℕ) → sum lengths ≡ length flags → seg_count_of flags lengths ≡ Ok (map count_of (cut_of lengths flags))
 seg_count-fits flags lengths fits =
-    ap (one_each (in_vector lengths) (λ fs. Ok (count_of fs))) (nest-fits lengths flags fits) ∙ results-ok (in_vector lengths) count_of 0 (cut_of lengths flags)
+    ap (one_each (in_vector lengths) (λ fs. Ok (count_of fs))) (nest_agree lengths flags fits) ∙ results-ok (in_vector lengths) count_of 0 (cut_of lengths flags)
 
 seg_count-misfits : (flags : List Bool) (lengths : List ℕ) → sum lengths ≢ length flags → seg_count_of flags lengths ≡ Err (fault no.LengthMismatch)
 seg_count-misfits flags lengths misfits = ap (one_each (in_vector lengths) (λ fs. Ok (count_of fs))) (nest-misfits lengths flags misfits)
@@ -84,7 +81,7 @@ are_counts lengths flags numbers few small is =
     let read : map unsigned_abs numbers ≡ counts = ap (map unsigned_abs) is ∙ abs_pos counts in
     record {
       none_negative = is ∙ ap (map pos) (sym read);
-      few = omega (arith, few, ap length is, length-map counts pos, length-map (cut_of lengths flags) count_of, length-cut lengths flags);
+      few = omega (arith, few, ap length is, length-map counts pos, length-map (cut_of lengths flags) count_of, length-cut_of lengths flags);
       in_limit = omega (arith, small, ap sum read, sum-counts lengths flags);
     }
 
@@ -167,11 +164,10 @@ module _ {X : Type 0} where
   pub seg_pack-fits : (xs : List X) (flags : List Bool) (lengths : List ℕ) → sum lengths ≡ length xs → sum lengths ≡ length flags → seg_pack_of xs flags lengths ≡ Ok (kept_of xs flags)
   seg_pack-fits xs flags lengths fits fits_flags =
       let long : length xs ≡ length flags = sym fits ∙ fits_flags in
-      let pairs = zip (cut_of lengths xs) (cut_of lengths flags) in
       let call = end_to_end (in_vector lengths) (of_two pack_of) in
-      ap (λ lists. call (beside lists (nest lengths flags))) (nest-fits lengths xs fits)
-      ∙ ap (λ lists. call (beside (Ok (cut_of lengths xs)) lists)) (nest-fits lengths flags fits_flags)
-      ∙ ap call (as_long-fits (cut_of lengths xs) (cut_of lengths flags) (Ok pairs) (length-cut lengths xs ∙ sym (length-cut lengths flags)))
+      ap (λ lists. call (beside lists (nest lengths flags))) (nest_agree lengths xs fits)
+      ∙ ap (λ lists. call (beside (Ok (cut_of lengths xs)) lists)) (nest_agree lengths flags fits_flags)
+      ∙ ap call (beside_agree (cut_of lengths xs) (cut_of lengths flags) (length-cut_of lengths xs ∙ sym (length-cut_of lengths flags)))
       ∙ ap (λ lists. lists >>= λ ls. Ok (joined ls)) (pack_each (in_vector lengths) 0 lengths xs flags long)
       ∙ ap Ok (packs_joined lengths xs flags long fits)
 
@@ -180,7 +176,7 @@ module _ {X : Type 0} where
       let call = end_to_end (in_vector lengths) (of_two pack_of) in
       ap (λ lists. call (beside (nest lengths xs) lists)) (nest-misfits lengths flags misfits)
       ∙ elim (eqb_tells (sum lengths) (length xs)) [
-        | inl t ↦ ap (λ lists. call (beside lists (Err (fault no.LengthMismatch)))) (nest-fits lengths xs t.1)
+        | inl t ↦ ap (λ lists. call (beside lists (Err (fault no.LengthMismatch)))) (nest_agree lengths xs t.1)
         | inr t ↦ ap (λ lists. call (beside lists (Err (fault no.LengthMismatch)))) (nest-misfits lengths xs t.1)
       ]
 

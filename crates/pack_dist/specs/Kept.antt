@@ -1,5 +1,6 @@
 -- What a pack keeps, and where it puts it.
--- Source: Blelloch, Vector Models for Data-Parallel Computing, 1990: a pack sends each element whose flag is true to the number of true flags before it.
+-- Source: Blelloch, Vector Models for Data-Parallel Computing, 1990 (a pack sends each element whose flag is true to the
+-- number of true flags before it).
 use Rattle.std.specs.Prelude.{◌≡◌, ℕ, ◌<◌, ℤ, pos, Bool, List, length, map, take, filter, slice_index_or}
 use Rattle.std.specs.List.{zip}
 use Rattle.cvl_base.specs.Packs.{count_of}

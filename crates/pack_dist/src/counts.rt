@@ -51,7 +51,7 @@ pub(crate) fn counts_before<R: Threads + Sync, A: Memory>(
     Ok(places)
 }
 
-/// The number of true flags of each segment: the lengths of what a segmented pack keeps. `cnt_leb`.
+/// The number of true flags of each segment, which is the length of what a segmented pack keeps of it: `cnt_leb`.
 ///
 /// The result has one number for each segment, empty ones included, and can be made a descriptor. LengthMismatch,
 /// without a place, where the segments' total is not the number of flags. Source: CVL's segmented count.
@@ -62,7 +62,8 @@ pub fn seg_count<R: Threads + Sync, A: Memory>(
     flags: &[bool],
     d: &SegDes<A>,
 ) -> Result<Vec<i32, A>, Refused>
-    ensures values { Gives (λ counts. map unsigned_abs counts.items) result (seg_count_of flags.now d.now) }
+    ensures values { Gives (λ counts. map unsigned_abs counts.items) result
+        (seg_count_of flags.now d.now) }
     ensures lengths { IfOk result (λ counts. AreLengths counts.items) }
     ensures one_each { IfOk result (λ counts. vec_len counts ≡ length d.now) }
 {

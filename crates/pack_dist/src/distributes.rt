@@ -11,7 +11,7 @@ use cvl_base::{Memory, Refused};
 use segdes::SegDes;
 use std::alloc::Allocator;
 
-/// `count` copies of one value.
+/// `count` copies of one value: `dis_vuz` and its like.
 ///
 /// The faults have no place: NegativeLength where the count is negative, and TooLong where it is above 4,194,304. Both
 /// come before any memory is asked for. Source: CVL's distribute.
@@ -25,7 +25,8 @@ pub fn distribute<T: Copy, A: Memory>(alloc: A, value: T, count: i32) -> Result<
     Ok(copies)
 }
 
-/// For each segment as many copies of its value as the segment is long, one segment after another.
+/// For each segment as many copies of its value as the segment is long, one segment after another: `dis_vez` and
+/// its like.
 ///
 /// There is one value for each segment, else LengthMismatch, without a place. The result is as long as the segments are
 /// in all. Source: CVL's segmented distribute.
@@ -46,7 +47,7 @@ pub fn seg_distribute<T: Copy, A: Memory>(
 }
 
 /// Pushes `count` copies of a value. There must be room for them.
-pub(crate) fn push_copies<T: Copy, A: Allocator>(copies: &mut Vec<T, A>, value: T, count: usize)
+fn push_copies<T: Copy, A: Allocator>(copies: &mut Vec<T, A>, value: T, count: usize)
     requires { vec_len copies.old + count ≤ vec_capacity copies.old }
     ensures values { copies.new.items ≡ copies.old.items ++ replicate count value }
     ensures as_long { vec_len copies.new ≡ vec_len copies.old + count }

@@ -11,7 +11,7 @@ use cvl_base::{Fault, FaultNo, Memory, Refused};
 use scan_ops::check_total;
 use segdes::SegDes;
 
-/// The element at the place that an index names, counted from 0.
+/// The element at the place that an index names, counted from 0: `ext_vuz` and its like.
 ///
 /// IndexOutOfRange, at 0, where the vector has no such place; a negative index is not counted from the end. Source: CVL's
 /// extract.
@@ -24,7 +24,8 @@ pub fn extract<T: Copy>(vector: &[T], index: i32) -> Result<T, Fault>
     Ok(vector[place])
 }
 
-/// For each segment the element at the place that its index names, counted from the segment's start.
+/// For each segment the element at the place that its index names, counted from the segment's start:
+/// `ext_vez` and its like.
 ///
 /// The segments' total is the number of elements, and there is one index for each segment, else LengthMismatch, without a
 /// place. The result has one element for each segment. IndexOutOfRange at the number of the first segment that has no

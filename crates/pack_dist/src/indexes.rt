@@ -12,7 +12,7 @@ use cvl_base::{Memory, Refused};
 use segdes::SegDes;
 use std::alloc::Allocator;
 
-/// The numbers `init`, `init + stride`, `init + 2 * stride` and so on, `count` of them, each wrapped to 32 bits.
+/// The numbers `init`, `init + stride`, `init + 2 * stride` and so on, `count` of them, each wrapped to 32 bits: `ind_luz`.
 ///
 /// The faults have no place: NegativeLength where the count is negative, and TooLong where it is above 4,194,304. Both
 /// come before any memory is asked for. Source: CVL's index.
@@ -32,7 +32,7 @@ pub fn index<A: Memory>(
 }
 
 /// For each segment the numbers from its `init` on in steps of its `stride`, each wrapped to 32 bits, one segment after
-/// another.
+/// another: `ind_lez`.
 ///
 /// There is one init and one stride for each segment, else LengthMismatch, without a place. The result is as long as the
 /// segments are in all. Source: CVL's segmented index.

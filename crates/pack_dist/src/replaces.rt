@@ -11,7 +11,7 @@ use cvl_base::{Fault, FaultNo, Memory, Refused};
 use scan_ops::check_total;
 use segdes::SegDes;
 
-/// The vector with `value` at the place that an index names, counted from 0.
+/// The vector with `value` at the place that an index names, counted from 0: `rep_vuz` and its like.
 ///
 /// The result is as long as the vector. IndexOutOfRange, at 0, where the vector has no such place; a negative index is
 /// not counted from the end. Source: CVL's replace.
@@ -33,7 +33,7 @@ pub fn replace<T: Copy, A: Memory>(
 }
 
 /// The vector with, in each segment, the segment's value at the place that its index names, counted from the segment's
-/// start.
+/// start: `rep_vez` and its like.
 ///
 /// The segments' total is the number of elements, and there are one index and one value for each segment, else
 /// LengthMismatch, without a place. The result is as long as the vector. IndexOutOfRange at the number of the first

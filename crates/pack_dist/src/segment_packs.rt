@@ -60,7 +60,8 @@ pub fn seg_pack<T: Copy, R: Threads + Sync, A: Memory>(
     flags: &[bool],
     d: &SegDes<A>,
 ) -> Result<(Vec<T, A>, SegDes<A>), Refused>
-    ensures values { Gives (λ packed. packed.0.items) result (seg_pack_of values.now flags.now d.now) }
+    ensures values { Gives (λ packed. packed.0.items) result
+        (seg_pack_of values.now flags.now d.now) }
     ensures lengths { IfOk result (λ packed. seg_count_of flags.now d.now ≡ Ok packed.1) }
     ensures no_longer { IfOk result (λ packed. vec_len packed.0 ≤ length values.now) }
 {

@@ -27,7 +27,7 @@ pub results-ok : {S R : Type 0} (place : ℕ → ℕ → ℕ) (f : S → R) (s :
 results-ok place f s [] = refl
 results-ok place f s (x ∷ xs) = ap (λ rest. rest >>= λ rs. Ok (f x ∷ rs)) (results-ok place f (s + 1) xs)
 
-pub nest-fits : {X : Type 0} (lengths : List ℕ) (xs : List X) → sum lengths ≡ length xs → nest lengths xs ≡ Ok (cut_of lengths xs)
+nest-fits : {X : Type 0} (lengths : List ℕ) (xs : List X) → sum lengths ≡ length xs → nest lengths xs ≡ Ok (cut_of lengths xs)
 nest-fits lengths xs fits =
     elim (eqb_tells (sum lengths) (length xs)) [
       | inl t ↦ ap (λ b. fault_if (not b) (fault no.LengthMismatch) (Ok (cut_of lengths xs))) t.0

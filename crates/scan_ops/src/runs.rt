@@ -54,7 +54,8 @@ pub(crate) fn reduces_of_segments<M: Monoid, X: Copy, E: Reading<X, M::Item>, A:
 ) -> Result<Vec<M::Item, A>, NoResources>
     requires total { sum d.now ≡ length a.now }
     requires items { AllPass (λ x. M.is_item (E.item x)) a.now }
-    ensures values { IfOk result (λ sums. sums.items ≡ reduces_of M.join M.unit d.now (map E.item a.now)) }
+    ensures values { IfOk result (λ sums. sums.items
+        ≡ reduces_of M.join M.unit d.now (map E.item a.now)) }
     ensures one_each { IfOk result (λ sums. vec_len sums ≡ length d.now) }
 {
     know_laws::<M>();
