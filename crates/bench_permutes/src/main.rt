@@ -86,8 +86,7 @@ fn call<R: Threads + Sync>(
     result.ok()
 }
 
-/// The result of the plain loop of the case; none where an index is bad or memory is missing. A select by segments takes
-/// all elements, as the simple one does.
+/// The result of the plain loop of the case; none where an index is bad or memory is missing.
 fn plain_call(alloc: Global, case: Case, v: &Vectors) -> Option<Vec<i32>> {
     let (xs, is, some_is) = (
         v.source.as_slice(),
@@ -104,7 +103,7 @@ fn plain_call(alloc: Global, case: Case, v: &Vectors) -> Option<Vec<i32>> {
         Case::Default => plain::default_into(alloc, xs, is, xs),
         Case::SegmentsSimple => plain::seg_simple(alloc, xs, segment_is, &v.d),
         Case::SegmentsBack => plain::seg_back(alloc, xs, segment_is, &v.d),
-        Case::SegmentsSelect => plain::seg_simple(alloc, xs, segment_is, &v.d),
+        Case::SegmentsSelect => plain::seg_select(alloc, xs, segment_is, all, &v.d),
         Case::SegmentsDefault => plain::seg_default_into(alloc, xs, segment_is, xs, &v.d),
     };
     result.ok().flatten()

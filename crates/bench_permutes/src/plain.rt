@@ -132,6 +132,43 @@ fn send_segments(
     true
 }
 
+/// Sends the elements whose flag is true by segments.
+fn send_flagged_segments(
+    values: &mut [i32],
+    taken: &mut [bool],
+    source: &[i32],
+    index: &[i32],
+    flags: &[bool],
+    d: &SegDes<Global>,
+) -> bool {
+    let total = d.total();
+    if flags.len() != total || source.len() != total || index.len() != total {
+        return false;
+    }
+    let mut start: usize = 0;
+    for s in 0..d.count() {
+        let first = d.start(s);
+        let last = first + d.length(s);
+        let some = &flags[first..last];
+        let count = some.iter().filter(|flag| **flag).count();
+        let end = start.saturating_add(count);
+        if end < start || end > values.len() || end > taken.len() {
+            return false;
+        }
+        if !send_flagged(
+            &mut values[start..end],
+            &mut taken[start..end],
+            &source[first..last],
+            &index[first..last],
+            some,
+        ) {
+            return false;
+        }
+        start = end;
+    }
+    true
+}
+
 /// A simple permute by segments; none where an index is bad.
 pub fn seg_simple(
     alloc: Global,
@@ -142,6 +179,21 @@ pub fn seg_simple(
     let mut values = vec![in alloc; 0; index.len()]?;
     let mut taken = vec![in alloc; false; index.len()]?;
     let sent = send_segments(&mut values, &mut taken, source, index, d);
+    Ok(if sent { Some(values) } else { None })
+}
+
+/// A select permute of all elements by segments; none where an index is bad.
+pub fn seg_select(
+    alloc: Global,
+    source: &[i32],
+    index: &[i32],
+    flags: &[bool],
+    d: &SegDes<Global>,
+) -> Result<Option<Vec<i32>>, AllocError> {
+    let count = flags.iter().filter(|flag| **flag).count();
+    let mut values = vec![in alloc; 0; count]?;
+    let mut taken = vec![in alloc; false; count]?;
+    let sent = send_flagged_segments(&mut values, &mut taken, source, index, flags, d);
     Ok(if sent { Some(values) } else { None })
 }
 

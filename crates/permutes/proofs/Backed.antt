@@ -1,6 +1,5 @@
 -- The walk of a segmented back permute: the elements pushed so far, and those of the other segments.
 use Rattle.std.proofs.Common.{◌≡◌, ◌∙◌, ℕ, ◌+◌, ◌-◌, ◌<◌, ◌≤◌, List, [], ◌∷◌, ◌++◌, length, map, sum, take, drop, get_or, refl, sym, ap, append_assoc, arith, ℤ, Option, Some, None, Result, Ok, Err}
-use Rattle.std.specs.Option.{option_map}
 use Rattle.std.specs.List.{zip}
 use Rattle.std.proofs.lemmas.List.{drop_more, drop_all, drop-drop, append-nil}
 use Rattle.cvl_base.specs.declared.fault.Fault.{Fault}
@@ -11,15 +10,13 @@ use Rattle.cvl_base.specs.Extracts.{element_at}
 use Rattle.cvl_base.specs.Faults.{fault_at}
 use Rattle.cvl_base.specs.Gives.{◌>>=◌}
 use Rattle.cvl_base.specs.Lists.{joined}
-use Rattle.cvl_base.specs.Limits.{most_elements}
-use Rattle.cvl_base.specs.Nests.{cut_of, nest}
+use Rattle.cvl_base.specs.Nests.{cut_of}
 use Rattle.cvl_base.specs.Permutes.{back_of}
-use Rattle.cvl_base.specs.Segmented.{beside, end_to_end, in_vector, moved, of_two, results_from}
+use Rattle.cvl_base.specs.Segmented.{end_to_end, in_vector, moved, of_two, results_from}
 use Rattle.cvl_base.specs.SegmentedCalls.{seg_back_of}
 use Rattle.segdes.specs.Starts.{start_of}
 use Rattle.permutes.specs.Pushed.{after, back_from}
 use Rattle.permutes.proofs.Ranges.{range_is}
-use Rattle.permutes.proofs.Stepped.{after_fails}
 use Rattle.permutes.proofs.Through.{start_more}
 use Rattle.permutes.proofs.Whole.{beside-fits, left_more}
 

@@ -1,5 +1,5 @@
 -- A list cut by lengths, and the lengths of the inner lists.
-use Rattle.std.proofs.Common.{◌≡◌, ◌≢◌, ℕ, zero, suc, ◌+◌, ◌<◌, ◌≤◌, List, [], ◌∷◌, ◌++◌, length, take, drop, get_or, map, sum, refl, ap, sym, ◌∙◌, arith, inl, inr, not, Ok, Err, length-drop}
+use Rattle.std.proofs.Common.{◌≡◌, ℕ, zero, suc, ◌+◌, ◌<◌, ◌≤◌, List, [], ◌∷◌, ◌++◌, length, take, drop, get_or, map, sum, refl, ap, sym, ◌∙◌, arith, inl, inr, not, Ok, length-drop}
 use Rattle.std.proofs.lemmas.List.{nil_from_length, length-take-le, take-append-drop, drop-drop}
 use Rattle.std.proofs.lemmas.List.Sums.{sum_by-cons}
 use Rattle.std.proofs.lemmas.Bool.Decides.{eqb_tells}

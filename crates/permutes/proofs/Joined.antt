@@ -1,17 +1,16 @@
 -- The two walks of a segmented call give what its definition gives: the flat calls on the segments, end to end.
-use Rattle.std.proofs.Common.{◌≡◌, ◌∙◌, ℕ, zero, suc, ◌+◌, ◌<◌, ◌≤◌, Bool, List, [], ◌∷◌, ◌++◌, length, map, filter_map, sum, take, drop, get_or, refl, sym, ap, add-one, append_assoc, append-nil, length-append, arith, ℤ, slice_get, option_map, unwrap_or, Option, Some, None, Result, Ok, Err}
+use Rattle.std.proofs.Common.{◌≡◌, ◌∙◌, ℕ, ◌+◌, ◌≤◌, List, [], ◌∷◌, ◌++◌, length, map, filter_map, sum, take, refl, sym, ap, append_assoc, arith, ℤ, slice_get, option_map, unwrap_or, Option, Some, None, Result, Ok, Err}
 use Rattle.std.specs.List.{zip, range_with_len, enumerate_from}
 use Rattle.std.specs.Option.{option_or}
 use Rattle.std.proofs.lemmas.List.{map-append}
 use Rattle.std.proofs.lemmas.List.Elements.{filter_map-append}
-use Rattle.std.proofs.lemmas.List.FromFn.{length-map-range_with_len}
 use Rattle.cvl_base.specs.declared.fault.Fault.{Fault}
 use Rattle.cvl_base.specs.declared.fault.FaultNo.{FaultNo}
 use Rattle.cvl_base.specs.Faults.{fault_at}
 use Rattle.cvl_base.specs.Gives.{◌>>=◌, unless}
 use Rattle.cvl_base.specs.Lists.{joined}
 use Rattle.cvl_base.specs.Permutes.{first_fault, sent_to, wrongs}
-use Rattle.cvl_base.specs.Segmented.{in_vector, moved, results_from}
+use Rattle.cvl_base.specs.Segmented.{in_vector, moved}
 use Rattle.permutes.specs.Parts.{fault_from, senders_from}
 use Rattle.permutes.specs.Senders.{nobody, senders_of}
 use Rattle.permutes.proofs.Sent.{length-senders_of}

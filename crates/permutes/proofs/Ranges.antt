@@ -1,5 +1,5 @@
 -- The step of the first walk at a segment, as the code reads its range of the index and writes its range of the senders.
-use Rattle.std.proofs.Common.{◌≡◌, ◌∙◌, ℕ, ◌+◌, ◌-◌, ◌<◌, ◌≤◌, Bool, List, [], length, sum, take, drop, get_or, replicate, refl, sym, ap, arith, ℤ, Option, Some, None}
+use Rattle.std.proofs.Common.{◌≡◌, ◌∙◌, ℕ, ◌+◌, ◌-◌, ◌<◌, ◌≤◌, Bool, List, [], length, sum, take, drop, get_or, replicate, refl, sym, ap, arith, ℤ, Some, None}
 use borrow.Rule.Slice.PartMut.{put_mid}
 use Rattle.cvl_base.specs.declared.fault.Fault.{Fault}
 use Rattle.cvl_base.specs.Packs.{count_of}

@@ -1,6 +1,6 @@
 -- The first walk through the segments: what it has found after the first segments, and after all.
-use Rattle.std.proofs.Common.{◌≡◌, ◌∙◌, cond, subst, ℕ, zero, suc, ◌+◌, ◌-◌, ◌<◌, ◌≤◌, Bool, List, [], ◌∷◌, ◌++◌, length, map, sum, take, drop, get_or, replicate, refl, sym, ap, append_assoc, append-nil, length-append, length-drop, arith, ℤ, pos, Option, Some, None}
-use Rattle.std.specs.List.{zip, sum_by}
+use Rattle.std.proofs.Common.{◌≡◌, ◌∙◌, cond, subst, ℕ, ◌+◌, ◌-◌, ◌<◌, ◌≤◌, Bool, List, [], ◌∷◌, ◌++◌, length, map, sum, take, drop, get_or, replicate, refl, sym, ap, append_assoc, append-nil, length-append, length-drop, arith, ℤ, Option, Some, None}
+use Rattle.std.specs.List.{zip}
 use Rattle.std.specs.Option.{option_or}
 use Rattle.std.proofs.lemmas.List.{drop_more, drop_all, take_all, take-replicate, drop-replicate, drop-drop, get_or-map, length-map, length-take-le}
 use Rattle.std.proofs.lemmas.List.Sums.{sum_by-take-drop, sum_by_more_le, sum_by_more}
@@ -14,7 +14,7 @@ use Rattle.cvl_base.specs.Permutes.{all_targets, first_fault, flagged_targets, w
 use Rattle.permutes.specs.Parts.{fault_from, flagged_parts, parts_of, senders_from}
 use Rattle.permutes.specs.Senders.{nobody, senders_of}
 use Rattle.permutes.proofs.Cuts.{cut_at, length-cut, sum-cons}
-use Rattle.permutes.proofs.Sent.{length-senders_of, length-all_targets, length-flagged_targets}
+use Rattle.permutes.proofs.Sent.{length-senders_of}
 
 -- how many places the result has
 abbrev pub places_of : List (ℕ × List (Option ℤ)) → ℕ

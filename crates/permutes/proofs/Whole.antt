@@ -1,7 +1,7 @@
 -- The segmented definitions, told by the parts of all segments.
-use Rattle.std.proofs.Common.{◌≡◌, ◌≢◌, ◌∙◌, not, inl, inr, ℕ, zero, suc, ◌+◌, ◌<◌, ◌≤◌, Bool, List, [], ◌∷◌, ◌++◌, length, map, filter_map, sum, take, drop, get_or, refl, sym, ap, length-append, length-drop, arith, ℤ, slice_get, unwrap_or, Option, Some, None, Result, Ok, Err}
-use Rattle.std.specs.List.{zip, range_with_len, enumerate_from}
-use Rattle.std.proofs.lemmas.List.{length-take-le, take-append-drop, drop_more, nil_from_length}
+use Rattle.std.proofs.Common.{◌≡◌, ◌≢◌, ◌∙◌, not, inl, inr, ℕ, ◌+◌, ◌<◌, ◌≤◌, Bool, List, [], ◌∷◌, ◌++◌, length, map, filter_map, sum, take, drop, get_or, refl, sym, ap, length-append, length-drop, arith, ℤ, slice_get, unwrap_or, Option, Some, None, Result, Ok, Err}
+use Rattle.std.specs.List.{zip, enumerate_from}
+use Rattle.std.proofs.lemmas.List.{length-take-le, take-append-drop, drop_more}
 use Rattle.std.proofs.lemmas.List.Sums.{sum_by_more}
 use Rattle.std.proofs.lemmas.Slice.Zip.{length-zip}
 use Rattle.std.proofs.lemmas.Bool.Decides.{eqb_tells}

@@ -11,10 +11,10 @@ use Rattle.cvl_base.specs.Gives.{◌>>=◌}
 abbrev pub after : {X : Type 0} → List X → Result (List X) Fault → Result (List X) Fault
 after done values = values >>= λ xs. Ok (done ++ xs)
 
--- the values were pushed, or their fault was told
-abbrev pub IsPushed : {X T : Type 0} → List X → List X → Result T Fault → Result (List X) Fault → Type 0
-IsPushed old new (Ok t) values = after old values ≡ Ok new
-IsPushed old new (Err f) values = values ≡ Err f
+-- the vector, seen by view, has the values after what was there, or their fault was told
+abbrev pub IsPushed : {X V : Type 0} → (V → List X) → List X → Result V Fault → Result (List X) Fault → Type 0
+IsPushed view done (Ok v) values = after done values ≡ Ok (view v)
+IsPushed view done (Err f) values = values ≡ Err f
 
 -- the back permutes of the segments, where the first index of all stands at the place given
 abbrev pub back_from : {X : Type 0} → ℕ → List ℕ → List X → List ℕ → List ℤ → Result (List X) Fault

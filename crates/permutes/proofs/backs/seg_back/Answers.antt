@@ -1,4 +1,4 @@
-use Rattle.std.proofs.Common.{◌∙◌, Err, Ok, [], ap, sym, arith}
+use Rattle.std.proofs.Common.{◌∙◌, Err, ap, sym}
 use Rattle.std.proofs.lemmas.Result.{err_from_is_err_and}
 use Rattle.permutes.specs.Pushed.{after, back_from}
 use Rattle.permutes.proofs.Backed.{seg_back-meaning}
@@ -14,16 +14,16 @@ returns-in_err-check_count-clause-values g c =
     (seg_back-differ c.args.source.now c.args.index.now c.args.source_d.now c.args.index_d.now c.in_ok-check_total.ensures.agree c.in_ok-check_total-2.ensures.agree differ.1
     ∙ ap (λ f. Err f) (sym differ.0))
 
-pub returns-in_err-push_segments_at-clause-values : goal.returns-in_err-push_segments_at-clause-values
-returns-in_err-push_segments_at-clause-values g c =
-    let p = err_from_is_err_and c.from_residual-in_err-push_segments_at.result c.from_residual-in_err-push_segments_at.ensures.1 in
+pub returns-in_err-with_segments_at-clause-values : goal.returns-in_err-with_segments_at-clause-values
+returns-in_err-with_segments_at-clause-values g c =
+    let p = err_from_is_err_and c.from_residual-in_err-with_segments_at.result c.from_residual-in_err-with_segments_at.ensures.1 in
     rw (p.1, p.2)
     (seg_back-meaning c.args.source.now c.args.index.now c.args.source_d.now c.args.index_d.now c.in_ok-check_total.ensures.agree c.in_ok-check_total-2.ensures.agree c.in_ok-check_count.ensures.agree
-    ∙ c.in_err-push_segments_at.ensures.values)
+    ∙ c.in_err-with_segments_at.ensures.values)
 
 pub returns-clause-values : goal.returns-clause-values
 returns-clause-values g c =
     let walked = back_from 0 c.args.source_d.now c.args.source.now c.args.index_d.now c.args.index.now in
     seg_back-meaning c.args.source.now c.args.index.now c.args.source_d.now c.args.index_d.now c.in_ok-check_total.ensures.agree c.in_ok-check_total-2.ensures.agree c.in_ok-check_count.ensures.agree
     ∙ sym (after_none walked) ∙ ap (λ xs. after xs walked) (sym c.in_ok-elements.ensures.items)
-    ∙ c.in_ok-push_segments_at.ensures.values
+    ∙ c.in_ok-with_segments_at.ensures.values

@@ -2,7 +2,7 @@ use Rattle.std.proofs.Common.{◌∙◌, arith, sym}
 use Rattle.cvl_base.specs.declared.fault.FaultNo.TheVariants.{IndexOutOfRange}
 use Rattle.cvl_base.specs.Extracts.{element_at}
 use Rattle.permutes.proofs.Stepped.{one_more}
-use Rattle.permutes.proofs.backs.push_elements_at.Goals as goal
+use Rattle.permutes.proofs.backs.with_elements_at.Goals as goal
 
 pub loop-k-preserved : goal.loop-k-preserved
 loop-k-preserved g c = record {

@@ -3,7 +3,7 @@ use Rattle.cvl_base.specs.declared.fault.FaultNo.TheVariants.{IndexOutOfRange}
 use Rattle.cvl_base.specs.Elementwise.{values_from}
 use Rattle.cvl_base.specs.Extracts.{element_at}
 use Rattle.permutes.specs.Pushed.{after}
-use Rattle.permutes.proofs.backs.push_elements_at.Given as goal
+use Rattle.permutes.proofs.backs.with_elements_at.Given as goal
 
 -- the elements pushed, and after them those of the other indices
 abbrev pub invariant-loop-k : goal.invariant-loop-k
