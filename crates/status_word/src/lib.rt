@@ -1,10 +1,15 @@
-//! Status words: what is known of a tile's sums, packed into one word of 64 bits.
+//! Status words and the world of workers: what is known of a tile's sums, packed into one word of 64 bits, and how the
+//! workers of a single-pass scan act on such words, step by step.
 #![tactic(auto)]
 
+mod action;
 mod laws;
+mod local;
 mod status;
 mod word;
 
+pub use action::{Action, Answer};
 pub use laws::{word_law, word_values};
+pub use local::{Local, next};
 pub use status::Status;
 pub use word::{pack, unpack};
