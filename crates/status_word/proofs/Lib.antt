@@ -1,0 +1,6 @@
+pub mod Coded
+pub mod Kept
+pub mod Packed
+pub mod Runs
+pub mod Stands
+pub mod Sums

@@ -1,2 +1,6 @@
+pub mod Codings
 pub mod Locals
+pub mod Passes
 pub mod Words
+pub mod WorkedWorlds
+pub mod Worlds

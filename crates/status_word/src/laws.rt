@@ -1,10 +1,18 @@
 //! Laws of status words, each a function that takes and gives nothing and whose contract is the law.
 
-ghost use Rattle.std.specs.Prelude.{◌≡◌, ℕ, ◌<◌, ◌^◌, ℤ, pos, negsuc, Bool, true, false, FitsSigned, Some, None};
+ghost use Rattle.std.specs.Prelude.{◌≡◌, ℕ, ◌<◌, ◌^◌, ℤ, pos, negsuc, Bool, true, false, FitsSigned, Some, None, List, [], ◌∷◌, replicate};
+ghost use Rattle.std.specs.List.{All, AllPass};
+ghost use Rattle.cvl_base.specs.SegmentMonoid.{is_seg_item};
 ghost use Rattle.std.specs.Int.{w32};
 ghost use Rattle.status_word.specs.declared.status.Status.{Status};
 ghost use Rattle.status_word.specs.declared.status.Status.TheVariants as status;
+ghost use Rattle.status_word.specs.Codings.{coding_of};
 ghost use Rattle.status_word.specs.Words.{read_word, word_of, state_of, FitsWord};
+ghost use Rattle.status_word.specs.WorkedWorlds.{worked_world, worked_steps, IsEnd};
+ghost use Rattle.status_word.specs.Worlds.{IsWorldAfter};
+
+use cvl_base::monoid::{know_laws, know_words};
+use cvl_base::{Packed, Seg};
 
 /// Packing and reading a word are inverse, a word has 64 bits, and a lesser state has a lesser word.
 pub fn word_law()
@@ -24,4 +32,30 @@ pub fn word_values()
     ensures of_zero { read_word 0 ≡ Some status.Silent }
     ensures of_one { read_word 1 ≡ None }
     ensures of_state_three { read_word 13835058055282163712 ≡ None }
+{}
+
+/// The world of workers, for each monoid with words, all sums of tiles and every list of the workers that take a step: each
+/// word is lawful at its tile; what the workers hold is right; the tiles that they hold are distinct and claimed; each other
+/// tile that is claimed has its prefix; and what the workers did keeps the scan board's rule.
+///
+/// Source: Merrill and Garland's decoupled look-back.
+pub fn world_law<M: Packed>()
+    ensures { (sums : List (Bool × M.Item)) (workers : ℕ) (actors : List ℕ) →
+        AllPass (is_seg_item M.is_item) sums → All (λ a. a < workers) actors →
+        IsWorldAfter (coding_of M.join M.unit M.to_word M.from_word) sums workers actors }
+{
+    word_law();
+    know_laws::<Seg<M>>();
+    know_words::<M>();
+}
+
+/// Worked values of the world of two tiles with the sums 5 and 7: two workers that take ten steps in all, and one that takes
+/// eight. With no tile, each of three workers takes one step.
+pub fn world_values()
+    ensures two_workers { IsEnd (worked_world 2 (0 ∷ (1 ∷ (1 ∷ (1 ∷ (1 ∷ (1 ∷ (0 ∷ (0 ∷ (0 ∷ (1 ∷ [])))))))))))
+        4 (word_of (status.Prefix false (pos 5)) ∷ (word_of (status.Prefix false (pos 12)) ∷ [])) 2 }
+    ensures ten_steps { worked_steps 2 (0 ∷ (1 ∷ (1 ∷ (1 ∷ (1 ∷ (1 ∷ (0 ∷ (0 ∷ (0 ∷ (1 ∷ (0 ∷ (1 ∷ [])))))))))))) ≡ 10 }
+    ensures one_worker { IsEnd (worked_world 1 (replicate 12 0))
+        3 (word_of (status.Prefix false (pos 5)) ∷ (word_of (status.Prefix false (pos 12)) ∷ [])) 1 }
+    ensures eight_steps { worked_steps 1 (replicate 12 0) ≡ 8 }
 {}
