@@ -1,5 +1,6 @@
 pub mod Coded
 pub mod Kept
+pub mod Lowered
 pub mod Packed
 pub mod Runs
 pub mod Stands

@@ -17,7 +17,7 @@ use Rattle.status_word.specs.Codings.{Coding, CodingLaws, code}
 use Rattle.status_word.specs.Locals.{action_of}
 use Rattle.status_word.specs.Passes.{Pass, new_pass, told_at, seen_at, given_at, highest, times, IsFair, IsKept}
 use Rattle.status_word.specs.Worlds.{Scene, new_scene, local_at, acted, step_of, run_of, passed, passes_of, held, holders, IsRight, IsWorld}
-use Rattle.status_word.proofs.Stands.{Agrees, Stands, stepped}
+use Rattle.status_word.proofs.Stands.{Agrees, Stands, stops, stepped}
 
 highest_of_none : {X : Type 0} (f : X → ℕ) (n : ℕ) (x : X) → f x ≡ 0 → highest f (replicate n x) ≡ 0
 highest_of_none f zero x none = refl
@@ -115,6 +115,20 @@ some_above f g (x ∷ xs) (y ∷ ys) d e long above =
     (λ (more : g y ≤ f x). let rest = some_above f g xs ys d e (omega arith) (omega arith) in (suc rest.0, omega (arith, rest.1), rest.2))
     (cases_lt (f x) (g y))
 
+-- a total is at least what it adds at any place, and is 0 where it adds 0 at each
+total_at : {X : Type 0} (f : X → ℕ) (xs : List X) (a : ℕ) (d : X) → a < length xs → f (get_or xs a d) ≤ sum_by f xs
+total_at f [] a d below = absurd (omega arith)
+total_at f (x ∷ xs) zero d below = let whole = sum_by-cons f x xs in omega arith
+total_at f (x ∷ xs) (suc a) d below = let rest = total_at f xs a d (omega arith) in let whole = sum_by-cons f x xs in omega arith
+
+total_zero : {X : Type 0} (f : X → ℕ) (xs : List X) (d : X) → ((a : ℕ) → a < length xs → f (get_or xs a d) ≡ 0) → sum_by f xs ≡ 0
+total_zero f [] d each = refl
+total_zero f (x ∷ xs) d each =
+    let here : f x ≡ 0 = each 0 (omega arith) in
+    let rest = total_zero f xs d (λ a below. each (suc a) (omega arith)) in
+    let whole = sum_by-cons f x xs in
+    omega arith
+
 highest_at : {X : Type 0} (f : X → ℕ) (xs : List X) (a : ℕ) (d : X) → a < length xs → f (get_or xs a d) ≤ highest f xs
 highest_at f [] a d below = absurd (omega arith)
 highest_at f (x ∷ xs) zero d below = omega arith
@@ -151,6 +165,16 @@ module _ {Item : Type 0} (m : Coding Item) (workers : ℕ) (w : Scene Item) (pas
       let top = highest_at (told_at t) passes other.0 (new_pass w.sums) other.1 in
       stands.kept.words t tile ∙ code_high m w.sums t (highest (told_at t) passes) (omega arith)
 
+  all_told : 1 ≤ workers → ((a : ℕ) → a < workers → local_at w a ≡ Stopped) → (t : ℕ) → t < length w.sums → get_or w.words t 0 ≡ code m w.sums t 2
+  all_told some stopped t tile =
+      let actors = stands.actors in
+      let one_each = stands.one_each in
+      let first_done : (get_or passes 0 (new_pass w.sums)).hand.done ≡ 1 = (stands.agree 0 some).done ∙ ap stops (stopped 0 some) in
+      let done = total_at (λ p. p.hand.done) passes 0 (new_pass w.sums) (omega arith) in
+      let past = stands.kept.done in
+      let none : holders w t ≡ 0 = total_zero (λ l. times t (held l)) w.locals Stopped (λ a below. let is_one : a < workers = omega arith in ap (λ l. times t (held l)) (stopped a is_one)) in
+      prefix_told t (omega arith) tile none
+
   world_of : IsWorld m w.sums workers w passes
   world_of = record {
     same_sums = refl;
@@ -161,6 +185,7 @@ module _ {Item : Type 0} (m : Coding Item) (workers : ℕ) (w : Scene Item) (pas
     apart = λ t. let most = held_given t in let given = stands.kept.given t in let one = given_one t w.claims (length w.sums) in omega arith;
     claimed = λ t some. let most = held_given t in let given = stands.kept.given t in given_below t w.claims (length w.sums) (omega arith);
     prefixes = prefix_told;
+    ended = all_told;
     passed_on = stands.kept;
     one_pass_each = stands.one_each;
   }

@@ -116,6 +116,13 @@ abbrev pub steps_of : {Item : Type 0} → Coding Item → Scene Item → List �
 steps_of m w [] = 0
 steps_of m w (actor ∷ actors) = takes (local_at w actor) + steps_of m (step_of m w actor) actors
 
+-- a step taken leaves fewer, by at least one
+abbrev pub LowersBy : {Item : Type 0} → Coding Item → Scene Item → ℕ → Type 0
+LowersBy m w actor = takes (local_at w actor) + left_of (step_of m w actor) ≤ left_of w
+
+abbrev pub RunLowers : {Item : Type 0} → Coding Item → Scene Item → List ℕ → Type 0
+RunLowers m w actors = steps_of m w actors + left_of (run_of m w actors) ≤ left_of w
+
 -- the tile that a worker holds
 abbrev pub held : {Item : Type 0} → Local Item → List ℕ
 held Ready = []
@@ -154,6 +161,8 @@ pub record IsWorld {Item : Type 0} (m : Coding Item) (sums : List (Bool × Item)
   pub claimed : (t : ℕ) → 0 < holders w t → (t < w.claims) × (t < length sums)
   -- each tile that is claimed and that nobody holds has its prefix
   pub prefixes : (t : ℕ) → t < w.claims → t < length sums → holders w t ≡ 0 → word_at w t ≡ code m sums t 2
+  -- so all tiles have theirs once all workers have stopped
+  pub ended : 1 ≤ workers → ((a : ℕ) → a < workers → local_at w a ≡ Stopped) → (t : ℕ) → t < length sums → word_at w t ≡ code m sums t 2
   -- what the workers did, each as a pass of share 1, keeps the scan board's rule
   pub passed_on : IsKept (code m sums) sums workers w.claims (word_at w) passes
   pub one_pass_each : length passes ≡ workers

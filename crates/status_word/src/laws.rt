@@ -1,6 +1,6 @@
 //! Laws of status words, each a function that takes and gives nothing and whose contract is the law.
 
-ghost use Rattle.std.specs.Prelude.{◌≡◌, ℕ, ◌<◌, ◌^◌, ℤ, pos, negsuc, Bool, true, false, FitsSigned, Some, None, List, [], ◌∷◌, replicate};
+ghost use Rattle.std.specs.Prelude.{◌≡◌, ℕ, ◌+◌, ◌-◌, ◌*◌, ◌<◌, ◌^◌, ℤ, pos, negsuc, Bool, true, false, FitsSigned, Some, None, List, [], ◌∷◌, length, replicate};
 ghost use Rattle.std.specs.List.{All, AllPass};
 ghost use Rattle.cvl_base.specs.SegmentMonoid.{is_seg_item};
 ghost use Rattle.std.specs.Int.{w32};
@@ -9,7 +9,7 @@ ghost use Rattle.status_word.specs.declared.status.Status.TheVariants as status;
 ghost use Rattle.status_word.specs.Codings.{coding_of};
 ghost use Rattle.status_word.specs.Words.{read_word, word_of, state_of, FitsWord};
 ghost use Rattle.status_word.specs.WorkedWorlds.{worked_world, worked_steps, IsEnd};
-ghost use Rattle.status_word.specs.Worlds.{IsWorldAfter};
+ghost use Rattle.status_word.specs.Worlds.{IsWorldAfter, LowersBy, RunLowers, Scene, left_of, new_scene};
 
 use cvl_base::monoid::{know_laws, know_words};
 use cvl_base::{Packed, Seg};
@@ -48,6 +48,17 @@ pub fn world_law<M: Packed>()
     know_laws::<Seg<M>>();
     know_words::<M>();
 }
+
+/// A step that a worker takes lowers the number of steps that are left, so a run takes no more of them than were left at
+/// its start less those that are left at its end; in a new world of n tiles and W workers these are 3n + n(n-1) + W.
+pub fn left_law<M: Packed>()
+    ensures lowered { (w : Scene M.Item) (actor : ℕ) → actor < length w.locals →
+        LowersBy (coding_of M.join M.unit M.to_word M.from_word) w actor }
+    ensures run { (w : Scene M.Item) (actors : List ℕ) → All (λ a. a < length w.locals) actors →
+        RunLowers (coding_of M.join M.unit M.to_word M.from_word) w actors }
+    ensures first { (sums : List (Bool × M.Item)) (workers : ℕ) →
+        left_of (new_scene sums workers) ≡ 3 * length sums + length sums * (length sums - 1) + workers }
+{}
 
 /// Worked values of the world of two tiles with the sums 5 and 7: two workers that take ten steps in all, and one that takes
 /// eight. With no tile, each of three workers takes one step.

@@ -9,7 +9,7 @@ mod status;
 mod word;
 
 pub use action::{Action, Answer};
-pub use laws::{word_law, word_values, world_law, world_values};
+pub use laws::{left_law, word_law, word_values, world_law, world_values};
 pub use local::{Local, next};
 pub use status::Status;
 pub use word::{pack, unpack};
