@@ -1,13 +1,11 @@
 -- The lawful words of a tile, by the state: they ascend, and each is read again.
 -- Source: what the definitions of Codings imply.
-use Rattle.std.proofs.Common.{◌≡◌, refl, sym, ap, ◌∙◌, ℕ, zero, suc, ◌+◌, ◌<◌, ◌≤◌, max, Bool, true, List, IsTrue, arith, ⊎_elim}
+use Rattle.std.proofs.Common.{◌≡◌, refl, ap, ◌∙◌, ℕ, zero, suc, ◌+◌, ◌<◌, ◌≤◌, max, Bool, List, IsTrue, arith, ⊎_elim}
 use Rattle.std.specs.List.{AllPass}
 use Rattle.std.proofs.lemmas.Bool.{cases_lt}
 use Rattle.cvl_base.specs.Monoid.{MonoidLaws}
 use Rattle.cvl_base.specs.SegmentMonoid.{is_seg_item, seg_unit, seg_join}
-use Rattle.status_word.specs.declared.status.Status.{Status}
-use Rattle.status_word.specs.declared.status.Status.TheVariants.{Silent, Sum, Prefix}
-use Rattle.status_word.specs.Codings.{Coding, CodingLaws, sum_at, before, told_of, code}
+use Rattle.status_word.specs.Codings.{Coding, CodingLaws, told_of, code}
 use Rattle.status_word.specs.Locals.{is_item_status}
 use Rattle.status_word.specs.Words.{state_of}
 use Rattle.status_word.proofs.Sums.{element_is_sum, front_is_sum}

@@ -1,12 +1,12 @@
 -- The scan board's rule is kept where one pass takes one step: a claim, a look or a tell.
 -- Source: what the definitions of Passes imply.
-use Rattle.std.proofs.Common.{◌≡◌, ◌≢◌, refl, sym, ap, ◌∙◌, subst, ℕ, zero, suc, ◌+◌, ◌-◌, ◌<◌, ◌≤◌, min, max, Bool, true, false, cond, eqb, ltb, List, [], ◌∷◌, length, get_or, set, arith, length-set, ⊎_elim}
+use Rattle.std.proofs.Common.{◌≡◌, ◌≢◌, refl, sym, ap, ◌∙◌, subst, ℕ, zero, suc, ◌+◌, ◌<◌, ◌≤◌, min, max, Bool, true, false, cond, eqb, ltb, List, [], ◌∷◌, length, get_or, set, arith, length-set, ⊎_elim}
 use Rattle.std.specs.List.{sum_by}
-use Rattle.std.proofs.lemmas.List.{get_or-set_same, get_or-set_other}
+use Rattle.std.proofs.lemmas.List.{get_or-set_other}
 use Rattle.std.proofs.lemmas.List.Sums.{sum_by-set}
 use Rattle.std.proofs.lemmas.Grind.{get_or-set_at}
 use Rattle.std.proofs.lemmas.Bool.Decides.{nat_tests, eqb_tells}
-use Rattle.status_word.specs.Passes.{Mark, Hand, Pass, highest_mark, told_at, seen_at, given_at, highest, times, IsFair, IsKept}
+use Rattle.status_word.specs.Passes.{Pass, told_at, seen_at, given_at, highest, IsFair, IsKept}
 
 -- ---- one element of a list changes
 

@@ -1,8 +1,7 @@
 -- Each step taken lowers the number of steps that are left.
 -- Source: what the definitions of Worlds imply.
-use Rattle.std.proofs.Common.{◌≡◌, refl, sym, ap, ◌∙◌, ℕ, zero, suc, ◌+◌, ◌-◌, ◌*◌, ◌<◌, ◌≤◌, Bool, true, false, cond, ltb, Option, Some, None, List, [], ◌∷◌, length, get_or, set, replicate, arith, length-set}
+use Rattle.std.proofs.Common.{◌≡◌, refl, ap, ℕ, zero, suc, ◌+◌, ◌-◌, ◌*◌, ◌<◌, ◌≤◌, Bool, true, false, cond, ltb, Option, Some, None, List, [], ◌∷◌, length, get_or, set, replicate, arith, length-set}
 use Rattle.std.specs.List.{All, sum_by}
-use Rattle.std.proofs.lemmas.List.{length-replicate}
 use Rattle.std.proofs.lemmas.Bool.{ltb-true, ltb-false}
 use Rattle.std.proofs.lemmas.List.Elements.{All-head, All-tail, All-weaker}
 use Rattle.std.proofs.lemmas.List.Folds.{sum_by-replicate}
@@ -11,14 +10,12 @@ use Rattle.cvl_base.specs.SegmentMonoid.{seg_unit, seg_join}
 use Rattle.status_word.specs.declared.status.Status.{Status}
 use Rattle.status_word.specs.declared.status.Status.TheVariants.{Silent, Sum, Prefix}
 use Rattle.status_word.specs.declared.action.Action.{Action}
-use Rattle.status_word.specs.declared.action.Action.TheVariants.{Claim, Look, TellSum, TellPrefix}
-use Rattle.status_word.specs.declared.action.Answer.{Answer}
-use Rattle.status_word.specs.declared.action.Answer.TheVariants.{Tile, Done, Saw, Told}
+use Rattle.status_word.specs.declared.action.Answer.TheVariants.{Tile, Done}
 use Rattle.status_word.specs.declared.local.Local.{Local}
 use Rattle.status_word.specs.declared.local.Local.TheVariants.{Ready, Summing, Looking, Helping, Publishing, Stopped}
 use Rattle.status_word.specs.Codings.{Coding, sum_at}
 use Rattle.status_word.specs.Locals.{action_of, next_of, added_up_to, after_look}
-use Rattle.status_word.specs.Worlds.{Scene, new_scene, local_at, acted, step_of, run_of, answer_of, claims_after, left_of, left_of_local, left_of_tiles, takes, steps_of}
+use Rattle.status_word.specs.Worlds.{Scene, new_scene, local_at, acted, step_of, run_of, answer_of, left_of, left_of_local, left_of_tiles, takes, steps_of}
 
 left_added : {Item : Type 0} (t at : ℕ) (sum : Bool × Item) → left_of_local (added_up_to t at sum) ≤ 2 + 2 * at
 left_added t zero sum = omega arith

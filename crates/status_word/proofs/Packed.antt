@@ -1,10 +1,10 @@
 -- The words of a monoid whose items have words of 32 bits.
 -- Source: what the definitions of Codings and Words imply.
-use Rattle.std.proofs.Common.{◌≡◌, refl, sym, ap, ◌∙◌, ℕ, ◌<◌, ℤ, Bool, IsTrue, Some, arith}
+use Rattle.std.proofs.Common.{◌≡◌, refl, ap, ◌∙◌, ◌<◌, ℤ, Bool, IsTrue, Some, arith}
 use Rattle.cvl_base.specs.ItemWords.{WordLaws}
 use Rattle.status_word.specs.declared.status.Status.{Status}
 use Rattle.status_word.specs.declared.status.Status.TheVariants.{Silent, Sum, Prefix}
-use Rattle.status_word.specs.Codings.{Coding, CodingLaws, coding_of, status_by, status_or_silent}
+use Rattle.status_word.specs.Codings.{CodingLaws, coding_of, status_by, status_or_silent}
 use Rattle.status_word.specs.Locals.{is_item_status}
 use Rattle.status_word.specs.Words.{word_of, read_word, state_of, FitsWord}
 

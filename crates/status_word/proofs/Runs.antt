@@ -1,22 +1,22 @@
 -- What holds after any list of workers took their steps in a new world.
 -- Source: what the definitions of Worlds and Passes imply.
-use Rattle.std.proofs.Common.{◌≡◌, ◌≢◌, refl, sym, ap, ◌∙◌, subst, ℕ, zero, suc, ◌+◌, ◌-◌, ◌*◌, ◌<◌, ◌≤◌, min, max, Bool, true, false, cond, eqb, ltb, List, [], ◌∷◌, length, get_or, set, replicate, Option, Some, None, IsTrue, arith, ⊎_elim}
+use Rattle.std.proofs.Common.{◌≡◌, refl, sym, ap, ◌∙◌, subst, ℕ, zero, suc, ◌*◌, ◌<◌, ◌≤◌, min, Bool, cond, ltb, List, [], ◌∷◌, length, get_or, replicate, Option, Some, None, arith, ⊎_elim}
 use Rattle.std.specs.List.{All, AllPass, sum_by}
 use Rattle.std.proofs.lemmas.List.{get_or-replicate, length-replicate}
 use Rattle.std.proofs.lemmas.List.Folds.{sum_by-replicate}
 use Rattle.std.proofs.lemmas.List.Sums.{sum_by-cons}
 use Rattle.std.proofs.lemmas.List.Elements.{All-head, All-tail}
 use Rattle.std.proofs.lemmas.Bool.{cases_lt}
-use Rattle.std.proofs.lemmas.Bool.Decides.{eqb_tells, nat_tests}
+use Rattle.std.proofs.lemmas.Bool.Decides.{nat_tests}
 use Rattle.cvl_base.specs.Monoid.{MonoidLaws}
 use Rattle.cvl_base.specs.SegmentMonoid.{is_seg_item, seg_unit, seg_join}
 use Rattle.status_word.specs.declared.action.Action.{Action}
 use Rattle.status_word.specs.declared.local.Local.{Local}
-use Rattle.status_word.specs.declared.local.Local.TheVariants.{Ready, Summing, Looking, Helping, Publishing, Stopped}
+use Rattle.status_word.specs.declared.local.Local.TheVariants.{Ready, Stopped}
 use Rattle.status_word.specs.Codings.{Coding, CodingLaws, code}
 use Rattle.status_word.specs.Locals.{action_of}
-use Rattle.status_word.specs.Passes.{Pass, new_pass, told_at, seen_at, given_at, highest, times, IsFair, IsKept}
-use Rattle.status_word.specs.Worlds.{Scene, new_scene, local_at, acted, step_of, run_of, passed, passes_of, held, holders, IsRight, IsWorld}
+use Rattle.status_word.specs.Passes.{Pass, new_pass, told_at, seen_at, given_at, highest, times, IsFair}
+use Rattle.status_word.specs.Worlds.{Scene, new_scene, local_at, acted, step_of, run_of, passed, passes_of, held, holders, IsWorld}
 use Rattle.status_word.proofs.Stands.{Agrees, Stands, stops, stepped}
 
 highest_of_none : {X : Type 0} (f : X → ℕ) (n : ℕ) (x : X) → f x ≡ 0 → highest f (replicate n x) ≡ 0

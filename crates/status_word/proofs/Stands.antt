@@ -1,6 +1,6 @@
 -- A world and its passes stand: each worker agrees with its pass, and the passes keep the board's rule. Each step keeps this.
 -- Source: what the definitions of Worlds and Passes imply.
-use Rattle.std.proofs.Common.{◌≡◌, ◌≢◌, refl, sym, ap, ◌∙◌, subst, ℕ, zero, suc, ◌+◌, ◌-◌, ◌<◌, ◌≤◌, min, max, Bool, true, false, cond, eqb, ltb, Option, Some, None, List, [], ◌∷◌, length, take, drop, get_or, set, IsTrue, arith, length-set, ⊎_elim}
+use Rattle.std.proofs.Common.{◌≡◌, ◌≢◌, refl, sym, ap, ◌∙◌, subst, ℕ, zero, suc, ◌+◌, ◌-◌, ◌<◌, ◌≤◌, max, Bool, true, false, cond, eqb, ltb, List, [], ◌∷◌, length, take, drop, get_or, set, arith, length-set, ⊎_elim}
 use Rattle.std.specs.List.{AllPass}
 use Rattle.std.proofs.lemmas.List.{get_or-set_other}
 use Rattle.std.proofs.lemmas.Grind.{get_or-set_at}
@@ -10,19 +10,17 @@ use Rattle.cvl_base.specs.Folds.{fold_of}
 use Rattle.cvl_base.specs.Monoid.{MonoidLaws}
 use Rattle.cvl_base.specs.SegmentMonoid.{is_seg_item, seg_unit, seg_join}
 use Rattle.status_word.specs.declared.status.Status.{Status}
-use Rattle.status_word.specs.declared.status.Status.TheVariants.{Silent, Sum, Prefix}
-use Rattle.status_word.specs.declared.action.Action.{Action}
-use Rattle.status_word.specs.declared.action.Action.TheVariants.{Claim, Look, TellSum, TellPrefix}
-use Rattle.status_word.specs.declared.action.Answer.{Answer}
-use Rattle.status_word.specs.declared.action.Answer.TheVariants.{Tile, Done, Saw, Told}
+use Rattle.status_word.specs.declared.status.Status.TheVariants.{Silent}
+use Rattle.status_word.specs.declared.action.Action.TheVariants.{Claim, TellSum, TellPrefix}
+use Rattle.status_word.specs.declared.action.Answer.TheVariants.{Tile, Done}
 use Rattle.status_word.specs.declared.local.Local.{Local}
 use Rattle.status_word.specs.declared.local.Local.TheVariants.{Ready, Summing, Looking, Helping, Publishing, Stopped}
 use Rattle.status_word.specs.Codings.{Coding, CodingLaws, sum_at, before, between, told_of, code}
 use Rattle.status_word.specs.Locals.{action_of, next_of, after_look, added_up_to}
-use Rattle.status_word.specs.Passes.{Mark, Hand, Pass, new_pass, told_at, seen_at, given_at, highest, times, IsFair, IsKept}
-use Rattle.status_word.specs.Worlds.{Scene, acted, passed, pass_after, words_after, claims_after, answer_of, status_of, prefix_of, held, IsRight}
+use Rattle.status_word.specs.Passes.{Pass, new_pass, told_at, highest, times, IsFair, IsKept}
+use Rattle.status_word.specs.Worlds.{Scene, acted, passed, pass_after, words_after, prefix_of, held, IsRight}
 use Rattle.status_word.specs.Words.{state_of}
-use Rattle.status_word.proofs.Coded.{code_max, code_read, told_rank}
+use Rattle.status_word.proofs.Coded.{code_max, code_read}
 use Rattle.status_word.proofs.Kept.{kept_look, kept_tell, kept_claim, kept_done}
 use Rattle.status_word.proofs.Sums.{front_more, run_more, front_split}
 

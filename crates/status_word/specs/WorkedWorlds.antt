@@ -2,7 +2,6 @@
 use Rattle.std.specs.Prelude.{◌≡◌, ℕ, ℤ, pos, Bool, false, List, [], ◌∷◌, replicate}
 use Rattle.cvl_base.specs.Integers.{sum_of}
 use Rattle.cvl_base.specs.ItemWords.{same_word}
-use Rattle.status_word.specs.declared.local.Local.{Local}
 use Rattle.status_word.specs.declared.local.Local.TheVariants.{Stopped}
 use Rattle.status_word.specs.Codings.{Coding, coding_of}
 use Rattle.status_word.specs.Worlds.{Scene, new_scene, run_of, steps_of}

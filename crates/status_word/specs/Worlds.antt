@@ -3,9 +3,9 @@
 -- Source: the decoupled look-back of Merrill and Garland, Single-pass Parallel Prefix Scan with Decoupled Look-back, 2016, as an interleaving of atomic steps.
 use Rattle.std.specs.Prelude.{◌≡◌, ℕ, zero, suc, ◌+◌, ◌-◌, ◌*◌, ◌<◌, ◌≤◌, max, Bool, List, [], ◌∷◌, length, nat_lt, if◌then◌else◌, slice_index, slice_index_or, slice_set, replicate, Option, Some, None}
 use Rattle.std.specs.List.{sum_by}
-use Rattle.cvl_base.specs.SegmentMonoid.{seg_unit, seg_join}
+use Rattle.cvl_base.specs.SegmentMonoid.{seg_join}
 use Rattle.status_word.specs.declared.status.Status.{Status}
-use Rattle.status_word.specs.declared.status.Status.TheVariants.{Silent, Sum, Prefix}
+use Rattle.status_word.specs.declared.status.Status.TheVariants.{Sum, Prefix}
 use Rattle.status_word.specs.declared.action.Action.{Action}
 use Rattle.status_word.specs.declared.action.Action.TheVariants.{Claim, Look, TellSum, TellPrefix}
 use Rattle.status_word.specs.declared.action.Answer.{Answer}
@@ -14,7 +14,7 @@ use Rattle.status_word.specs.declared.local.Local.{Local}
 use Rattle.status_word.specs.declared.local.Local.TheVariants.{Ready, Summing, Looking, Helping, Publishing, Stopped}
 use Rattle.status_word.specs.Codings.{Coding, sum_at, before, between, code}
 use Rattle.status_word.specs.Locals.{action_of, next_of}
-use Rattle.status_word.specs.Passes.{Mark, Pass, new_pass, times, IsKept}
+use Rattle.status_word.specs.Passes.{Pass, new_pass, times, IsKept}
 use Rattle.status_word.specs.Words.{state_of}
 
 -- a world: each tile's sum, the claim word, the word of each tile, and the state of each worker
