@@ -5,3 +5,4 @@ pub mod Packed
 pub mod Runs
 pub mod Stands
 pub mod Sums
+pub mod Reaching

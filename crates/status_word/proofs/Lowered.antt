@@ -57,7 +57,7 @@ module _ {Item : Type 0} (m : Coding Item) (w : Scene Item) (a : ℕ) where
   pub step_lowers : a < length w.locals → takes (local_at w a) + left_of (step_of m w a) ≤ left_of w
   step_lowers below = acted_lowers (local_at w a) (λ next. sum_by-set left_of_local w.locals a next Stopped below)
 
-acted_locals : {Item : Type 0} (m : Coding Item) (w : Scene Item) (a : ℕ) (l : Local Item) (action : Option (Action Item)) → length (acted m w a l action).locals ≡ length w.locals
+pub acted_locals : {Item : Type 0} (m : Coding Item) (w : Scene Item) (a : ℕ) (l : Local Item) (action : Option (Action Item)) → length (acted m w a l action).locals ≡ length w.locals
 acted_locals m w a l None = refl
 acted_locals m w a l (Some action) = length-set w.locals a (next_of m.join m.unit l (answer_of m w.sums w.claims w.words action))
 

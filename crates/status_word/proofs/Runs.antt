@@ -70,7 +70,7 @@ module _ {Item : Type 0} {is_item : Item → Bool} (m : Coding Item) (coded : Co
     };
   }
 
-acted_sums : {Item : Type 0} (m : Coding Item) (w : Scene Item) (a : ℕ) (l : Local Item) (action : Option (Action Item)) → (acted m w a l action).sums ≡ w.sums
+pub acted_sums : {Item : Type 0} (m : Coding Item) (w : Scene Item) (a : ℕ) (l : Local Item) (action : Option (Action Item)) → (acted m w a l action).sums ≡ w.sums
 acted_sums m w a l None = refl
 acted_sums m w a l (Some action) = refl
 
@@ -92,7 +92,7 @@ module _ {Item : Type 0} {is_item : Item → Bool} (m : Coding Item) (coded : Co
 -- ---- what follows of a world that stands
 
 -- as much is held as a sum over two lists, place by place
-sum_by_le : {X Y : Type 0} (f : X → ℕ) (g : Y → ℕ) (xs : List X) (ys : List Y) (d : X) (e : Y) → length xs ≡ length ys → ((a : ℕ) → a < length xs → f (get_or xs a d) ≤ g (get_or ys a e)) → sum_by f xs ≤ sum_by g ys
+pub sum_by_le : {X Y : Type 0} (f : X → ℕ) (g : Y → ℕ) (xs : List X) (ys : List Y) (d : X) (e : Y) → length xs ≡ length ys → ((a : ℕ) → a < length xs → f (get_or xs a d) ≤ g (get_or ys a e)) → sum_by f xs ≤ sum_by g ys
 sum_by_le f g [] [] d e long each = omega arith
 sum_by_le f g [] (y ∷ ys) d e long each = absurd (omega arith)
 sum_by_le f g (x ∷ xs) [] d e long each = absurd (omega arith)

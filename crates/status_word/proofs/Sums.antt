@@ -30,6 +30,9 @@ module _ {S : Type 0} {is_sum : S → Bool} {e : S} {op : S → S → S} (laws :
     pub front_is_sum : (t : ℕ) → IsTrue (is_sum (fold_of op e (take t sums)))
     front_is_sum t = fold_is_sum e (take t sums) laws.unit_is_item (All-take (λ x. is_sum x ≡ true) t sums items)
 
+    pub run_is_sum : (first n : ℕ) → IsTrue (is_sum (fold_of op e (take n (drop first sums))))
+    run_is_sum first n = fold_is_sum e (take n (drop first sums)) laws.unit_is_item (All-take (λ x. is_sum x ≡ true) n (drop first sums) (All-drop (λ x. is_sum x ≡ true) first sums items))
+
     -- one more at the end
     pub front_more : (t : ℕ) → t < length sums → fold_of op e (take (t + 1) sums) ≡ op (fold_of op e (take t sums)) (get_or sums t e)
     front_more t below = fold_more op e sums t e below

@@ -30,6 +30,10 @@ new_scene sums actors = record { sums = sums; claims = 0; words = replicate (len
 abbrev pub local_at : {Item : Type 0} → Scene Item → ℕ → Local Item
 local_at w actor = slice_index_or w.locals actor Stopped
 
+abbrev pub claims_after : {Item : Type 0} → ℕ → Action Item → ℕ
+claims_after claims Claim = claims + 1
+claims_after claims action = claims
+
 module _ {Item : Type 0} (m : Coding Item) where
   -- a claim takes the number in the claim word, and a look reads a word; both tells answer the tile's sum
   abbrev pub answer_of : List (Bool × Item) → ℕ → List ℕ → Action Item → Answer Item
@@ -49,10 +53,6 @@ module _ {Item : Type 0} (m : Coding Item) where
   words_after sums words (TellSum t) = slice_set words t (max (slice_index words t) (m.pack (status_of (sum_at m sums t))))
   words_after sums words (TellPrefix t prior) = slice_set words t (max (slice_index words t) (m.pack (prefix_of (seg_join m.join prior (sum_at m sums t)))))
   words_after sums words action = words
-
-  abbrev pub claims_after : ℕ → Action Item → ℕ
-  claims_after claims Claim = claims + 1
-  claims_after claims action = claims
 
   -- the step of a worker in the state `local`
   abbrev pub acted : Scene Item → ℕ → Local Item → Option (Action Item) → Scene Item

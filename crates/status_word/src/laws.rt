@@ -2,11 +2,12 @@
 
 ghost use Rattle.std.specs.Prelude.{◌≡◌, ℕ, ◌+◌, ◌-◌, ◌*◌, ◌<◌, ◌^◌, ℤ, pos, negsuc, Bool, true, false, FitsSigned, Some, None, List, [], ◌∷◌, length, replicate};
 ghost use Rattle.std.specs.List.{All, AllPass};
-ghost use Rattle.cvl_base.specs.SegmentMonoid.{is_seg_item};
+ghost use Rattle.cvl_base.specs.SegmentMonoid.{is_seg_item, seg_join, seg_unit};
+ghost use Rattle.cvl_base.specs.Monoid.{MonoidLaws};
 ghost use Rattle.std.specs.Int.{w32};
 ghost use Rattle.status_word.specs.declared.status.Status.{Status};
 ghost use Rattle.status_word.specs.declared.status.Status.TheVariants as status;
-ghost use Rattle.status_word.specs.Codings.{coding_of};
+ghost use Rattle.status_word.specs.Codings.{CodingLaws, coding_of};
 ghost use Rattle.status_word.specs.Words.{read_word, word_of, state_of, FitsWord};
 ghost use Rattle.status_word.specs.WorkedWorlds.{worked_world, worked_steps, IsEnd};
 ghost use Rattle.status_word.specs.Worlds.{IsWorldAfter, LowersBy, RunLowers, Scene, left_of, new_scene};
@@ -34,6 +35,16 @@ pub fn word_values()
     ensures of_state_three { read_word 13835058055282163712 ≡ None }
 {}
 
+/// That the words of a packed monoid ascend with their states and are read again, and that its sums are a monoid.
+pub(crate) fn know_coding<M: Packed>()
+    ensures coded { CodingLaws M.is_item (coding_of M.join M.unit M.to_word M.from_word) }
+    ensures sums { MonoidLaws (is_seg_item M.is_item) (seg_unit M.unit) (seg_join M.join) }
+{
+    word_law();
+    know_laws::<Seg<M>>();
+    know_words::<M>();
+}
+
 /// The world of workers, for each monoid with words, all sums of tiles and every list of the workers that take a step: each
 /// word is lawful at its tile; what the workers hold is right; the tiles that they hold are distinct and claimed; each other
 /// tile that is claimed has its prefix; and what the workers did keeps the scan board's rule.
@@ -44,9 +55,7 @@ pub fn world_law<M: Packed>()
         AllPass (is_seg_item M.is_item) sums → All (λ a. a < workers) actors →
         IsWorldAfter (coding_of M.join M.unit M.to_word M.from_word) sums workers actors }
 {
-    word_law();
-    know_laws::<Seg<M>>();
-    know_words::<M>();
+    know_coding::<M>();
 }
 
 /// A step that a worker takes lowers the number of steps that are left, so a run takes no more of them than were left at

@@ -5,11 +5,14 @@
 mod action;
 mod laws;
 mod local;
+mod moves;
 mod status;
 mod word;
+mod world;
 
 pub use action::{Action, Answer};
 pub use laws::{left_law, word_law, word_values, world_law, world_values};
 pub use local::{Local, next};
 pub use status::Status;
 pub use word::{pack, unpack};
+pub use world::{Stepped, World};
