@@ -1,0 +1,44 @@
+-- The lawful words of a tile, by the state: they ascend, and each is read again.
+-- Source: what the definitions of Codings imply.
+use Rattle.std.proofs.Common.{◌≡◌, refl, ap, ◌∙◌, ℕ, zero, suc, ◌+◌, ◌<◌, ◌≤◌, max, Bool, List, IsTrue, arith, ⊎_elim}
+use Rattle.std.specs.List.{AllPass}
+use Rattle.std.proofs.lemmas.Bool.{cases_lt}
+use Rattle.cvl_base.specs.Monoid.{MonoidLaws}
+use Rattle.cvl_base.specs.SegmentMonoid.{is_seg_item, seg_unit, seg_join}
+use Rattle.status_word.specs.Codings.{Coding, CodingLaws, told_of, code}
+use Rattle.status_word.specs.Locals.{is_item_status}
+use Rattle.status_word.specs.Words.{state_of}
+use Rattle.status_word.proofs.Sums.{element_is_sum, front_is_sum}
+
+module _ {Item : Type 0} {is_item : Item → Bool} (m : Coding Item) (coded : CodingLaws is_item m) (laws : MonoidLaws (is_seg_item is_item) (seg_unit m.unit) (seg_join m.join)) (sums : List (Bool × Item)) (items : AllPass (is_seg_item is_item) sums) where
+  pub told_is_item : (t rank : ℕ) → IsTrue (is_item_status is_item (told_of m sums t rank))
+  told_is_item t zero = refl
+  told_is_item t (suc zero) = element_is_sum laws sums t items
+  told_is_item t (suc (suc rank)) = front_is_sum laws sums items (t + 1)
+
+  -- the word of each state is read as what it tells
+  pub code_read : (t rank : ℕ) → m.read (code m sums t rank) ≡ told_of m sums t rank
+  code_read t rank = coded.read_pack (told_of m sums t rank) (told_is_item t rank)
+
+  code_le : (t a b : ℕ) → a ≤ b → code m sums t a ≤ code m sums t b
+  code_le t zero zero le = omega arith
+  code_le t zero (suc zero) le = let less = coded.ascending (told_of m sums t 0) (told_of m sums t 1) (told_is_item t 0) (told_is_item t 1) (omega arith) in omega arith
+  code_le t zero (suc (suc b)) le = let less = coded.ascending (told_of m sums t 0) (told_of m sums t 2) (told_is_item t 0) (told_is_item t 2) (omega arith) in omega arith
+  code_le t (suc zero) zero le = absurd (omega arith)
+  code_le t (suc zero) (suc zero) le = omega arith
+  code_le t (suc zero) (suc (suc b)) le = let less = coded.ascending (told_of m sums t 1) (told_of m sums t 2) (told_is_item t 1) (told_is_item t 2) (omega arith) in omega arith
+  code_le t (suc (suc a)) zero le = absurd (omega arith)
+  code_le t (suc (suc a)) (suc zero) le = absurd (omega arith)
+  code_le t (suc (suc a)) (suc (suc b)) le = omega arith
+
+  -- the greater word is that of the higher state
+  pub code_max : (t a b : ℕ) → max (code m sums t a) (code m sums t b) ≡ code m sums t (max a b)
+  code_max t a b =
+      ⊎_elim (λ (less : a < b). let up = code_le t a b (omega arith) in let top : b ≡ max a b = omega arith in let word : max (code m sums t a) (code m sums t b) ≡ code m sums t b = omega arith in word ∙ ap (code m sums t) top)
+      (λ (more : b ≤ a). let up = code_le t b a more in let top : a ≡ max a b = omega arith in let word : max (code m sums t a) (code m sums t b) ≡ code m sums t a = omega arith in word ∙ ap (code m sums t) top)
+      (cases_lt a b)
+
+  pub told_rank : (t rank : ℕ) → state_of (told_of m sums t rank) ≤ rank
+  told_rank t zero = omega arith
+  told_rank t (suc zero) = omega arith
+  told_rank t (suc (suc rank)) = omega arith

@@ -1,0 +1,63 @@
+-- How a monoid's statuses are kept as words, and the words that are lawful at a tile.
+-- Source: the status words of Merrill and Garland, Single-pass Parallel Prefix Scan with Decoupled Look-back, 2016.
+use Rattle.std.specs.Prelude.{◌≡◌, ℕ, zero, suc, ◌+◌, ◌-◌, ◌<◌, ℤ, Bool, IsTrue, List, take, drop, slice_index_or, Option, Some, None}
+use Rattle.cvl_base.specs.Folds.{fold_of}
+use Rattle.cvl_base.specs.SegmentMonoid.{seg_unit, seg_join}
+use Rattle.status_word.specs.declared.status.Status.{Status}
+use Rattle.status_word.specs.declared.status.Status.TheVariants.{Silent, Sum, Prefix}
+use Rattle.status_word.specs.Locals.{is_item_status}
+use Rattle.status_word.specs.Words.{word_of, read_word, state_of}
+
+-- a monoid, and its statuses as words
+pub record Coding (Item : Type 0) : Type 0 where
+  pub join : Item → Item → Item
+  pub unit : Item
+  pub pack : Status Item → ℕ
+  pub read : ℕ → Status Item
+
+-- what is asked of the words of items: 0 tells nothing, each is read again, and a lesser state has a lesser word
+pub record CodingLaws {Item : Type 0} (is_item : Item → Bool) (m : Coding Item) : Type 0 where
+  pub silent : m.pack Silent ≡ 0
+  pub read_pack : (status : Status Item) → IsTrue (is_item_status is_item status) → m.read (m.pack status) ≡ status
+  pub ascending : (lower upper : Status Item) → IsTrue (is_item_status is_item lower) → IsTrue (is_item_status is_item upper) → state_of lower < state_of upper → m.pack lower < m.pack upper
+
+abbrev pub status_by : {X Y : Type 0} → (X → Y) → Status X → Status Y
+status_by f Silent = Silent
+status_by f (Sum starts value) = Sum starts (f value)
+status_by f (Prefix starts value) = Prefix starts (f value)
+
+abbrev pub status_or_silent : {X : Type 0} → Option (Status X) → Status X
+status_or_silent None = Silent
+status_or_silent (Some status) = status
+
+-- the words of a monoid whose items have words of 32 bits
+abbrev pub coding_of : {Item : Type 0} → (Item → Item → Item) → Item → (Item → ℤ) → (ℤ → Item) → Coding Item
+coding_of join unit to_word from_word = record {
+  join = join;
+  unit = unit;
+  pack = λ status. word_of (status_by to_word status);
+  read = λ word. status_by from_word (status_or_silent (read_word word));
+}
+
+module _ {Item : Type 0} (m : Coding Item) where
+  -- the sum of tile t; each tile is given by its sum, as a tile of one element
+  abbrev pub sum_at : List (Bool × Item) → ℕ → Bool × Item
+  sum_at sums t = slice_index_or sums t (seg_unit m.unit)
+
+  -- that of the tiles before tile t
+  abbrev pub before : List (Bool × Item) → ℕ → Bool × Item
+  before sums t = fold_of (seg_join m.join) (seg_unit m.unit) (take t sums)
+
+  -- that of the tiles from `first` on that stand before tile t
+  abbrev pub between : List (Bool × Item) → ℕ → ℕ → Bool × Item
+  between sums first t = fold_of (seg_join m.join) (seg_unit m.unit) (take (t - first) (drop first sums))
+
+  -- what a word tells of tile t in each state: nothing, the tile's sum, the sum of the tiles up to it
+  abbrev pub told_of : List (Bool × Item) → ℕ → ℕ → Status Item
+  told_of sums t zero = Silent
+  told_of sums t (suc zero) = Sum (sum_at sums t).0 (sum_at sums t).1
+  told_of sums t (suc (suc rank)) = Prefix (before sums (t + 1)).0 (before sums (t + 1)).1
+
+  -- the lawful words of tile t, by the state
+  abbrev pub code : List (Bool × Item) → ℕ → ℕ → ℕ
+  code sums t rank = m.pack (told_of sums t rank)

@@ -1,0 +1,25 @@
+-- The world of the worked values: two tiles with the sums 5 and 7, in neither of which a segment starts, under addition.
+use Rattle.std.specs.Prelude.{◌≡◌, ℕ, ℤ, pos, Bool, false, List, [], ◌∷◌, replicate}
+use Rattle.cvl_base.specs.Integers.{sum_of}
+use Rattle.cvl_base.specs.ItemWords.{same_word}
+use Rattle.status_word.specs.declared.local.Local.TheVariants.{Stopped}
+use Rattle.status_word.specs.Codings.{Coding, coding_of}
+use Rattle.status_word.specs.Worlds.{Scene, new_scene, run_of, steps_of}
+
+abbrev pub additions : Coding ℤ
+additions = coding_of sum_of (pos 0) same_word same_word
+
+abbrev pub worked_sums : List (Bool × ℤ)
+worked_sums = (false, pos 5) ∷ (false, pos 7) ∷ []
+
+abbrev pub worked_world : ℕ → List ℕ → Scene ℤ
+worked_world workers actors = run_of additions (new_scene worked_sums workers) actors
+
+abbrev pub worked_steps : ℕ → List ℕ → ℕ
+worked_steps workers actors = steps_of additions (new_scene worked_sums workers) actors
+
+-- all workers have stopped, and the claim word and the words are these
+pub record IsEnd (w : Scene ℤ) (claims : ℕ) (words : List ℕ) (workers : ℕ) : Type 0 where
+  pub claimed : w.claims ≡ claims
+  pub told : w.words ≡ words
+  pub stopped : w.locals ≡ replicate workers Stopped

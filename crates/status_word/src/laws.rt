@@ -1,0 +1,81 @@
+//! Laws of status words, each a function that takes and gives nothing and whose contract is the law.
+
+ghost use Rattle.std.specs.Prelude.{◌≡◌, ℕ, ◌+◌, ◌-◌, ◌*◌, ◌<◌, ◌^◌, ℤ, pos, negsuc, Bool, true, false, FitsSigned, Some, None, List, [], ◌∷◌, length, replicate};
+ghost use Rattle.std.specs.List.{All, AllPass};
+ghost use Rattle.cvl_base.specs.SegmentMonoid.{is_seg_item, seg_join, seg_unit};
+ghost use Rattle.cvl_base.specs.Monoid.{MonoidLaws};
+ghost use Rattle.std.specs.Int.{w32};
+ghost use Rattle.status_word.specs.declared.status.Status.{Status};
+ghost use Rattle.status_word.specs.declared.status.Status.TheVariants as status;
+ghost use Rattle.status_word.specs.Codings.{CodingLaws, coding_of};
+ghost use Rattle.status_word.specs.Words.{read_word, word_of, state_of, FitsWord};
+ghost use Rattle.status_word.specs.WorkedWorlds.{worked_world, worked_steps, IsEnd};
+ghost use Rattle.status_word.specs.Worlds.{IsWorldAfter, LowersBy, RunLowers, Scene, left_of, new_scene};
+
+use cvl_base::monoid::{know_laws, know_words};
+use cvl_base::{Packed, Seg};
+
+/// Packing and reading a word are inverse, a word has 64 bits, and a lesser state has a lesser word.
+pub fn word_law()
+    ensures inverse { (s : Status ℤ) → FitsWord s → read_word (word_of s) ≡ Some s }
+    ensures only { (word : ℕ) (s : Status ℤ) → word < 2 ^ 64 → read_word word ≡ Some s →
+        FitsWord s × (word_of s ≡ word) }
+    ensures fits { (s : Status ℤ) → FitsWord s → word_of s < 2 ^ 64 }
+    ensures ascending { (s t : Status ℤ) → FitsWord s → FitsWord t → state_of s < state_of t →
+        word_of s < word_of t }
+{}
+
+/// Worked values of words.
+pub fn word_values()
+    ensures silent { word_of status.Silent ≡ 0 }
+    ensures sum { word_of (status.Sum false (pos 5)) ≡ 4611686018427387909 }
+    ensures prefix { word_of (status.Prefix true (negsuc 0)) ≡ 11529215050363437055 }
+    ensures of_zero { read_word 0 ≡ Some status.Silent }
+    ensures of_one { read_word 1 ≡ None }
+    ensures of_state_three { read_word 13835058055282163712 ≡ None }
+{}
+
+/// That the words of a packed monoid ascend with their states and are read again, and that its sums are a monoid.
+pub(crate) fn know_coding<M: Packed>()
+    ensures coded { CodingLaws M.is_item (coding_of M.join M.unit M.to_word M.from_word) }
+    ensures sums { MonoidLaws (is_seg_item M.is_item) (seg_unit M.unit) (seg_join M.join) }
+{
+    word_law();
+    know_laws::<Seg<M>>();
+    know_words::<M>();
+}
+
+/// The world of workers, for each monoid with words, all sums of tiles and every list of the workers that take a step: each
+/// word is lawful at its tile; what the workers hold is right; the tiles that they hold are distinct and claimed; each other
+/// tile that is claimed has its prefix; and what the workers did keeps the scan board's rule.
+///
+/// Source: Merrill and Garland's decoupled look-back.
+pub fn world_law<M: Packed>()
+    ensures { (sums : List (Bool × M.Item)) (workers : ℕ) (actors : List ℕ) →
+        AllPass (is_seg_item M.is_item) sums → All (λ a. a < workers) actors →
+        IsWorldAfter (coding_of M.join M.unit M.to_word M.from_word) sums workers actors }
+{
+    know_coding::<M>();
+}
+
+/// A step that a worker takes lowers the number of steps that are left, so a run takes no more of them than were left at
+/// its start less those that are left at its end; in a new world of n tiles and W workers these are 3n + n(n-1) + W.
+pub fn left_law<M: Packed>()
+    ensures lowered { (w : Scene M.Item) (actor : ℕ) → actor < length w.locals →
+        LowersBy (coding_of M.join M.unit M.to_word M.from_word) w actor }
+    ensures run { (w : Scene M.Item) (actors : List ℕ) → All (λ a. a < length w.locals) actors →
+        RunLowers (coding_of M.join M.unit M.to_word M.from_word) w actors }
+    ensures first { (sums : List (Bool × M.Item)) (workers : ℕ) →
+        left_of (new_scene sums workers) ≡ 3 * length sums + length sums * (length sums - 1) + workers }
+{}
+
+/// Worked values of the world of two tiles with the sums 5 and 7: two workers that take ten steps in all, and one that takes
+/// eight. With no tile, each of three workers takes one step.
+pub fn world_values()
+    ensures two_workers { IsEnd (worked_world 2 (0 ∷ (1 ∷ (1 ∷ (1 ∷ (1 ∷ (1 ∷ (0 ∷ (0 ∷ (0 ∷ (1 ∷ [])))))))))))
+        4 (word_of (status.Prefix false (pos 5)) ∷ (word_of (status.Prefix false (pos 12)) ∷ [])) 2 }
+    ensures ten_steps { worked_steps 2 (0 ∷ (1 ∷ (1 ∷ (1 ∷ (1 ∷ (1 ∷ (0 ∷ (0 ∷ (0 ∷ (1 ∷ (0 ∷ (1 ∷ [])))))))))))) ≡ 10 }
+    ensures one_worker { IsEnd (worked_world 1 (replicate 12 0))
+        3 (word_of (status.Prefix false (pos 5)) ∷ (word_of (status.Prefix false (pos 12)) ∷ [])) 1 }
+    ensures eight_steps { worked_steps 1 (replicate 12 0) ≡ 8 }
+{}

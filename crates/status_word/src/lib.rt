@@ -1,0 +1,18 @@
+//! Status words and the world of workers: what is known of a tile's sums, packed into one word of 64 bits, and how the
+//! workers of a single-pass scan act on such words, step by step.
+#![tactic(auto)]
+
+mod action;
+mod laws;
+mod local;
+mod moves;
+mod status;
+mod word;
+mod world;
+
+pub use action::{Action, Answer};
+pub use laws::{left_law, word_law, word_values, world_law, world_values};
+pub use local::{Local, next};
+pub use status::Status;
+pub use word::{pack, unpack};
+pub use world::{Stepped, World};

@@ -1,0 +1,131 @@
+//! What one step of a worker reads and writes.
+
+ghost use Rattle.std.specs.Prelude.{◌≡◌, ℕ, ◌<◌, ◌^◌, max, IsTrue, length, vec_len, slice_index, slice_index_or, slice_set};
+ghost use Rattle.cvl_base.specs.SegmentMonoid.{seg_join, is_seg_item};
+ghost use Rattle.status_word.specs.Codings.{coding_of, status_by, status_or_silent, sum_at};
+ghost use Rattle.status_word.specs.Locals.{is_item_status};
+ghost use Rattle.status_word.specs.Reached.{CanAnswer, CanTell};
+ghost use Rattle.status_word.specs.Words.{read_word, word_of};
+ghost use Rattle.status_word.specs.Worlds.{answer_of, claims_after as claims_then, words_after};
+
+use crate::action::{Action, Answer};
+use crate::status::Status;
+use crate::word::{pack, unpack};
+use cvl_base::monoid::know_laws;
+use cvl_base::{Memory, Monoid, Packed, Seg};
+
+/// What a step is answered, over the sums of the tiles, the claim word and the words.
+pub(crate) fn answer_to<M: Packed>(
+    sums: &[(bool, M::Item)],
+    claims: u64,
+    words: &[u64],
+    action: Action<M::Item>,
+) -> Answer<M::Item>
+    requires { CanAnswer sums.now words.now action }
+    ensures { result ≡ answer_of (coding_of M.join M.unit M.to_word M.from_word) sums.now claims words.now action }
+{
+    match action {
+        Action::Claim => {
+            if claims < sums.len() as u64 {
+                Answer::Tile(claims as u32)
+            } else {
+                Answer::Done
+            }
+        }
+        Action::Look(at) => Answer::Saw(read_status::<M>(words[at as usize])),
+        Action::TellSum(tile) => Answer::Told(sum_of_tile::<M>(sums, tile)),
+        Action::TellPrefix(tile, _) => Answer::Told(sum_of_tile::<M>(sums, tile)),
+    }
+}
+
+/// The claim word after a step.
+pub(crate) fn claims_after<T: Copy>(claims: u64, action: Action<T>) -> u64
+    requires { claims < 2 ^ 63 }
+    ensures { result ≡ claims_then claims action }
+{
+    match action {
+        Action::Claim => claims + 1,
+        _ => claims,
+    }
+}
+
+/// A step's word is written: both tells leave the greater of the word that is there and the word that is told.
+pub(crate) fn write_word<M: Packed, A: Memory>(
+    sums: &[(bool, M::Item)],
+    words: &mut Vec<u64, A>,
+    action: Action<M::Item>,
+)
+    requires { CanTell M.is_item (coding_of M.join M.unit M.to_word M.from_word) sums.now words.old.items action }
+    ensures { words.new.items ≡ words_after (coding_of M.join M.unit M.to_word M.from_word) sums.now words.old.items action }
+{
+    match action {
+        Action::TellSum(tile) => {
+            let sum = sum_of_tile::<M>(sums, tile);
+            raise(
+                words,
+                tile as usize,
+                pack_status::<M>(Status::Sum(sum.0, sum.1)),
+            );
+        }
+        Action::TellPrefix(tile, before) => {
+            let sum = upto_tile::<M>(before, sum_of_tile::<M>(sums, tile));
+            raise(
+                words,
+                tile as usize,
+                pack_status::<M>(Status::Prefix(sum.0, sum.1)),
+            );
+        }
+        _ => {}
+    }
+}
+
+/// The sum of a tile.
+fn sum_of_tile<M: Packed>(sums: &[(bool, M::Item)], tile: u32) -> (bool, M::Item)
+    requires { tile < length sums.now }
+    ensures { result ≡ sum_at (coding_of M.join M.unit M.to_word M.from_word) sums.now tile }
+{
+    sums[tile as usize]
+}
+
+/// What stands before a tile, joined with the tile's sum.
+fn upto_tile<M: Packed>(before: (bool, M::Item), sum: (bool, M::Item)) -> (bool, M::Item)
+    requires before { IsTrue (M.is_item before.1) }
+    requires sum { IsTrue (M.is_item sum.1) }
+    ensures value { result ≡ seg_join M.join before sum }
+    ensures item { IsTrue (M.is_item result.1) }
+{
+    know_laws::<Seg<M>>();
+    Seg::<M>::join(before, sum)
+}
+
+/// A word becomes the greater of itself and another.
+fn raise<A: Memory>(words: &mut Vec<u64, A>, at: usize, word: u64)
+    requires { at < length words.old.items }
+    ensures { words.new.items ≡ slice_set words.old.items at (max (slice_index words.old.items at) word) }
+{
+    let greater = words[at].max(word);
+    words[at] = greater;
+}
+
+/// The word of a status of items.
+fn pack_status<M: Packed>(status: Status<M::Item>) -> u64
+    requires { IsTrue (is_item_status M.is_item status) }
+    ensures { result ≡ word_of (status_by M.to_word status) }
+{
+    match status {
+        Status::Silent => pack(Status::Silent),
+        Status::Sum(starts, value) => pack(Status::Sum(starts, M::to_word(value))),
+        Status::Prefix(starts, value) => pack(Status::Prefix(starts, M::to_word(value))),
+    }
+}
+
+/// The status of a word; a word that is no status's tells nothing.
+fn read_status<M: Packed>(word: u64) -> Status<M::Item>
+    ensures { result ≡ status_by M.from_word (status_or_silent (read_word word)) }
+{
+    match unpack(word) {
+        None | Some(Status::Silent) => Status::Silent,
+        Some(Status::Sum(starts, value)) => Status::Sum(starts, M::from_word(value)),
+        Some(Status::Prefix(starts, value)) => Status::Prefix(starts, M::from_word(value)),
+    }
+}

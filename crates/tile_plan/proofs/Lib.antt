@@ -1,0 +1,3 @@
+pub mod Cut
+pub mod Numbers
+pub mod Sorted

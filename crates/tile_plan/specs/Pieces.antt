@@ -1,0 +1,16 @@
+-- Pieces of a list, each the number of a tile and the tile's elements, and the list that they make.
+-- Source: the tiles of Merrill and Garland, Single-pass Parallel Prefix Scan with Decoupled Look-back, 2016, which end in any order.
+use Rattle.std.specs.Prelude.{◌≡◌, ℕ, ◌<◌, ◌==◌, List, length}
+use Rattle.std.specs.List.{All, count_by, slice_range}
+use Rattle.tile_plan.specs.Ranges.{count_of, range_of, length_of}
+
+-- each tile has one piece, each piece is as long as its tile, and there is no other piece
+pub record AreAllPieces {X : Type 0} (len tile : ℕ) (pieces : List (ℕ × List X)) : Type 0 where
+  pub of_tiles : All (λ p. p.0 < count_of len tile) pieces
+  pub once : (t : ℕ) → t < count_of len tile → count_by (λ p. p.0 == t) pieces ≡ 1
+  pub as_long : All (λ p. length p.1 ≡ length_of len tile p.0) pieces
+
+-- the whole list, in which each piece stands at the range of its tile
+pub record IsGathered {X : Type 0} (len tile : ℕ) (pieces : List (ℕ × List X)) (whole : List X) : Type 0 where
+  pub as_long : length whole ≡ len
+  pub in_place : All (λ p. slice_range whole (range_of len tile p.0).0 (range_of len tile p.0).1 ≡ p.1) pieces

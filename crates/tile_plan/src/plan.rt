@@ -1,0 +1,72 @@
+//! How a list is cut into tiles.
+
+ghost use Rattle.std.specs.Prelude.{◌≡◌, ℕ, ◌<◌, ◌≤◌, ◌==◌};
+ghost use Rattle.tile_plan.specs.Ranges.{count_of, range_of};
+
+use std::marker::Model;
+
+/// A list of elements cut into tiles of one length, the last of which may be shorter. It is seen as the number of the
+/// elements and the length of a tile, and takes no memory.
+#[derive(Clone, Copy, Debug)]
+pub struct Plan {
+    len: u32,
+    tile: u32,
+}
+
+impl Model for Plan {
+    ghost use Rattle.std.specs.Prelude.{ℕ, ◌≤◌};
+
+    ghost Value = { ℕ × ℕ };
+
+    ghost view = { λ p. (p.len, p.tile) };
+
+    ghost invariant = { λ p. 1 ≤ p.tile };
+
+    ghost inverse = { λ v. record { len = v.0; tile = v.1 } };
+}
+
+impl Plan {
+    /// The plan of `len` elements in tiles of `tile` elements each. `tile` must be at least 1.
+    pub fn new(len: u32, tile: u32) -> Plan
+        requires { 1 ≤ tile }
+        ensures { result ≡ (len, tile) }
+    {
+        Plan { len, tile }
+    }
+
+    /// How many elements there are.
+    pub fn len(self) -> u32
+        ensures value { result ≡ self.0 }
+        ensures tile { 1 ≤ self.1 }
+    {
+        self.len
+    }
+
+    /// Whether there is no element, and so no tile.
+    pub fn is_empty(self) -> bool
+        ensures { result ≡ (self.0 == 0) }
+    {
+        self.len == 0
+    }
+
+    /// How many tiles there are: the number of elements divided by the length of a tile, rounded up.
+    pub fn count(self) -> u32
+        ensures value { result ≡ count_of self.0 self.1 }
+        ensures at_most { result ≤ self.0 }
+        ensures tile { 1 ≤ self.1 }
+    {
+        self.len.div_ceil(self.tile)
+    }
+
+    /// Where tile `t` starts and where it ends, in places of the list, the end not counted in. `t` must be below the
+    /// count.
+    pub fn range(self, t: u32) -> (u32, u32)
+        requires { t < count_of self.0 self.1 }
+        ensures value { result ≡ range_of self.0 self.1 t }
+        ensures filled { result.0 < result.1 }
+        ensures within { result.1 ≤ self.0 }
+    {
+        let start = t * self.tile;
+        (start, start + self.tile.min(self.len - start))
+    }
+}
