@@ -6,7 +6,7 @@ use crate::narrow_sink::NarrowSink;
 use cvl_base::{Memory, NoResources};
 use shell::{Host, Sink, SinkFault};
 
-/// A host with files of its own. It claims nothing of what standard error has taken.
+/// A host with files of its own. It claims nothing of them, nor of what standard error has taken.
 #[derive(Drop)]
 pub struct SmallHost<'a, A: Memory> {
     /// The names and the bytes of its files.
@@ -53,20 +53,15 @@ impl<'a, A: Memory> SmallHost<'a, A> {
 }
 
 impl<A: Memory> Sink for SmallHost<'_, A> {
-    ghost use Rattle.std.specs.Prelude.{None, Some, find, option_map};
-    ghost use Rattle.std.specs.Str.{bytes_eq};
+    ghost use Rattle.std.specs.Prelude.{Some};
+    ghost use Rattle.shell.specs.Hosts.{nothing_aside};
 
     ghost taken = { λ h. Some h.output.taken.items };
 
     ghost failures = { λ h. h.output.failures };
 
-    ghost aside = { λ h. record {
-      files = Some (λ name. option_map (λ file. file.1.now)
-          (find (λ file. bytes_eq file.0.now name) h.files.now));
-      errors = None;
-      sent = Some h.sent;
-      failed_flushes = h.failed_flushes;
-    } };
+    ghost aside = { λ h.
+        record nothing_aside { sent = Some h.sent; failed_flushes = h.failed_flushes } };
 
     fn put(&mut self, bytes: &[u8]) -> Result<usize, SinkFault> {
         self.output.put(bytes)
@@ -75,8 +70,12 @@ impl<A: Memory> Sink for SmallHost<'_, A> {
 
 impl<A: Memory> Host<A> for SmallHost<'_, A> {
     fn read_file(&mut self, name: &str) -> Option<Vec<u8, A>> {
-        let (_, bytes) = self.files.iter().find(|(file, _)| *file == name)?;
-        Vec::from_slice(self.alloc, bytes.as_bytes()).ok()
+        for (file, bytes) in self.files {
+            if *file == name {
+                return Vec::from_slice(self.alloc, bytes.as_bytes()).ok();
+            }
+        }
+        None
     }
 
     fn flush(&mut self) -> Result<(), SinkFault> {
