@@ -58,7 +58,8 @@ pub(crate) fn send_flagged(
         (senders.new ≡ senders_of first (flagged_targets index.now flags.now) (length senders.old)) }
 {
     for (k, i) in index.iter().enumerate() {
-        if flags[k] {
+        let takes_part = flags[k];
+        if takes_part {
             send(senders, i, (first + k) as u32)?;
         }
     }
