@@ -31,6 +31,8 @@ fn send(senders: &mut [u32], index: &i32, place: u32) -> Result<(), Fault>
 
 /// Sends each place of a segment, whose first index stands at place `first`. The senders are those of the segment's part
 /// of the result, nobody to begin with. The fault is that of the first bad place.
+// Inlined into a large function the loop keeps its pointers on the stack.
+#[inline(never)]
 pub(crate) fn send_all(senders: &mut [u32], first: usize, index: &[i32]) -> Result<(), Fault>
     requires fresh { senders.old ≡ replicate (length senders.old) nobody }
     requires in_limit { first + length index.now ≤ most_elements }
@@ -44,6 +46,7 @@ pub(crate) fn send_all(senders: &mut [u32], first: usize, index: &[i32]) -> Resu
 }
 
 /// Sends the places of a segment whose flag is true, in the way of `send_all`. No other index is looked at.
+#[inline(never)]
 pub(crate) fn send_flagged(
     senders: &mut [u32],
     first: usize,
