@@ -7,8 +7,6 @@ use crate::places::element_of;
 use cvl_base::{Memory, NoResources};
 
 /// The element of each sender, in the order of the senders. Nobody has no element.
-// Inlined into a large function the loop keeps its pointers on the stack.
-#[inline(never)]
 pub(crate) fn elements_of<T: Copy, A: Memory>(
     alloc: A,
     source: &[T],
@@ -27,7 +25,6 @@ pub(crate) fn elements_of<T: Copy, A: Memory>(
 }
 
 /// For each sender its element, or the default at the same place where it is nobody.
-#[inline(never)]
 pub(crate) fn elements_or_defaults<T: Copy, A: Memory>(
     alloc: A,
     source: &[T],
