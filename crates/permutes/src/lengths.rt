@@ -12,7 +12,8 @@ use std::alloc::Allocator;
 /// `LengthMismatch`, without a place, where one vector is longer than the other.
 pub(crate) fn as_long<X, Y>(a: &[X], b: &[Y]) -> Result<(), Fault>
     ensures agree { OnOk result (length a.now ≡ length b.now) }
-    ensures differ { IfErr result (λ e. (e ≡ fault no.LengthMismatch) × (length a.now ≢ length b.now)) }
+    ensures differ { IfErr result
+        (λ e. (e ≡ fault no.LengthMismatch) × (length a.now ≢ length b.now)) }
 {
     if a.len() == b.len() {
         Ok(())
@@ -36,7 +37,8 @@ pub(crate) fn check_total<T, A: Allocator>(a: &[T], d: &SegDes<A>) -> Result<(),
 /// `LengthMismatch`, without a place, where one vector has more segments than the other.
 pub(crate) fn check_count<A: Allocator>(a: &SegDes<A>, b: &SegDes<A>) -> Result<(), Fault>
     ensures agree { OnOk result (length a.now ≡ length b.now) }
-    ensures differ { IfErr result (λ e. (e ≡ fault no.LengthMismatch) × (length a.now ≢ length b.now)) }
+    ensures differ { IfErr result
+        (λ e. (e ≡ fault no.LengthMismatch) × (length a.now ≢ length b.now)) }
 {
     if a.count() == b.count() {
         Ok(())

@@ -26,7 +26,8 @@ pub(crate) fn send_segments<A: Allocator>(
     requires count { length d.now ≡ length result_d.now }
     requires in_limit { length index.now ≤ most_elements }
     ensures fault { told result ≡ fault_from 0 (parts_of d.now result_d.now index.now) }
-    ensures sent { OnOk result (senders.new ≡ senders_from 0 (parts_of d.now result_d.now index.now)) }
+    ensures sent { OnOk result
+        (senders.new ≡ senders_from 0 (parts_of d.now result_d.now index.now)) }
 {
     for s in 0..d.count() {
         let first = d.start(s);
@@ -55,7 +56,8 @@ pub(crate) fn send_flagged_segments<A: Allocator>(
     requires result_total { count_of flags.now ≡ length senders.old }
     requires in_limit { length index.now ≤ most_elements }
     ensures fault { told result ≡ fault_from 0 (flagged_parts d.now index.now flags.now) }
-    ensures sent { OnOk result (senders.new ≡ senders_from 0 (flagged_parts d.now index.now flags.now)) }
+    ensures sent { OnOk result
+        (senders.new ≡ senders_from 0 (flagged_parts d.now index.now flags.now)) }
 {
     let mut start = 0;
     for s in 0..d.count() {

@@ -62,7 +62,8 @@ pub fn seg_select<T: Copy + Send + Sync, R: Threads + Sync, A: Memory>(
     d: &SegDes<A>,
 ) -> Result<Vec<T, A>, Refused>
     requires in_limit { length index.now ≤ most_elements }
-    ensures values { Gives (λ v. v.items) result (seg_select_of source.now index.now flags.now d.now) }
+    ensures values { Gives (λ v. v.items) result
+        (seg_select_of source.now index.now flags.now d.now) }
     ensures in_length { IfOk result (λ v. vec_len v ≤ length index.now) }
 {
     check_total(source, d)?;

@@ -16,8 +16,10 @@ pub(crate) const NOBODY: u32 = u32::MAX;
 /// else `IndexRepeated` at it where the index has a sender already.
 #[inline]
 fn send(senders: &mut [u32], index: &i32, place: u32) -> Result<(), Fault>
-    ensures fault { told result ≡ option_map (λ number. fault_at number place) (wrong_with senders.old index.now) }
-    ensures sent { OnOk result (senders.new ≡ slice_set senders.old (unsigned_abs index.now) place) }
+    ensures fault { told result
+        ≡ option_map (λ number. fault_at number place) (wrong_with senders.old index.now) }
+    ensures sent { OnOk result
+        (senders.new ≡ slice_set senders.old (unsigned_abs index.now) place) }
 {
     let Some(destination) = place_among(senders.len(), index) else {
         return Err(Fault::at(FaultNo::IndexOutOfRange, place));
@@ -31,11 +33,15 @@ fn send(senders: &mut [u32], index: &i32, place: u32) -> Result<(), Fault>
 
 /// Sends each place of a segment, whose first index stands at place `first`. The senders are those of the segment's part
 /// of the result, nobody to begin with. The fault is that of the first bad place.
+// Inlined into a large function the loop keeps its pointers on the stack.
+#[inline(never)]
 pub(crate) fn send_all(senders: &mut [u32], first: usize, index: &[i32]) -> Result<(), Fault>
     requires fresh { senders.old ≡ replicate (length senders.old) nobody }
     requires in_limit { first + length index.now ≤ most_elements }
-    ensures fault { told result ≡ first_fault first (wrongs (length senders.old) (all_targets index.now)) }
-    ensures sent { OnOk result (senders.new ≡ senders_of first (all_targets index.now) (length senders.old)) }
+    ensures fault { told result
+        ≡ first_fault first (wrongs (length senders.old) (all_targets index.now)) }
+    ensures sent { OnOk result
+        (senders.new ≡ senders_of first (all_targets index.now) (length senders.old)) }
 {
     for (k, i) in index.iter().enumerate() {
         send(senders, i, (first + k) as u32)?;
@@ -44,6 +50,7 @@ pub(crate) fn send_all(senders: &mut [u32], first: usize, index: &[i32]) -> Resu
 }
 
 /// Sends the places of a segment whose flag is true, in the way of `send_all`. No other index is looked at.
+#[inline(never)]
 pub(crate) fn send_flagged(
     senders: &mut [u32],
     first: usize,
@@ -53,12 +60,14 @@ pub(crate) fn send_flagged(
     requires fresh { senders.old ≡ replicate (length senders.old) nobody }
     requires as_long { length index.now ≡ length flags.now }
     requires in_limit { first + length index.now ≤ most_elements }
-    ensures fault { told result ≡ first_fault first (wrongs (length senders.old) (flagged_targets index.now flags.now)) }
+    ensures fault { told result
+        ≡ first_fault first (wrongs (length senders.old) (flagged_targets index.now flags.now)) }
     ensures sent { OnOk result
         (senders.new ≡ senders_of first (flagged_targets index.now flags.now) (length senders.old)) }
 {
     for (k, i) in index.iter().enumerate() {
-        if flags[k] {
+        let takes_part = flags[k];
+        if takes_part {
             send(senders, i, (first + k) as u32)?;
         }
     }
