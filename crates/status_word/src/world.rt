@@ -95,6 +95,26 @@ impl<M: Packed, A: Memory> World<M, A> {
         }
     }
 
+    /// Each of these workers takes its step in turn; the answer is how many steps were taken. It takes no memory.
+    ///
+    /// A step taken lowers what is left by at least one, so there are at most 3n + n(n-1) + W of them from a new world of n
+    /// tiles and W workers on.
+    pub fn run(&mut self, actors: &[u32]) -> u64
+        requires { All (λ a. a < length self.old.locals) actors.now }
+        ensures world { self.new ≡ run_of (coding_of M.join M.unit M.to_word M.from_word) self.old actors.now }
+        ensures steps { result ≡ steps_of (coding_of M.join M.unit M.to_word M.from_word) self.old actors.now }
+        ensures bound { result + left_of self.new ≤ left_of self.old }
+    {
+        let mut steps = 0;
+        for actor in actors {
+            match self.step(*actor) {
+                Stepped::Took(_) => steps += 1,
+                Stepped::Idle => {}
+            }
+        }
+        steps
+    }
+
     /// The words of the tiles, in order.
     pub fn words(&self) -> &[u64]
         ensures { result.now ≡ self.now.words }
