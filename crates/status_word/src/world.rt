@@ -36,6 +36,17 @@ pub struct World<M: Packed, A: Allocator> {
     locals: Vec<Local<M::Item>, A>,
 }
 
+impl<M: Packed, A: Allocator> Drop for World<M, A> {
+    fn drop(self) {
+        let World {
+            sums: _,
+            claims: _,
+            words: _,
+            locals: _,
+        } = self;
+    }
+}
+
 impl<M: Packed, A: Allocator> Model for World<M, A> {
     ghost use Rattle.status_word.specs.Worlds.{Scene};
     ghost use Rattle.status_word.specs.Codings.{coding_of};
@@ -73,7 +84,8 @@ impl<M: Packed, A: Memory> World<M, A> {
     /// The worker `actor` takes its step; it must be one of the workers. It takes no memory.
     pub fn step(&mut self, actor: u32) -> Stepped<M::Item>
         requires { actor < length self.old.locals }
-        ensures world { self.new ≡ step_of (coding_of M.join M.unit M.to_word M.from_word) self.old actor }
+        ensures world { self.new
+            ≡ step_of (coding_of M.join M.unit M.to_word M.from_word) self.old actor }
         ensures stepped { result ≡ stepped_of (local_at self.old actor) }
     {
         know_coding::<M>();
@@ -101,8 +113,10 @@ impl<M: Packed, A: Memory> World<M, A> {
     /// tiles and W workers on.
     pub fn run(&mut self, actors: &[u32]) -> u64
         requires { All (λ a. a < length self.old.locals) actors.now }
-        ensures world { self.new ≡ run_of (coding_of M.join M.unit M.to_word M.from_word) self.old actors.now }
-        ensures steps { result ≡ steps_of (coding_of M.join M.unit M.to_word M.from_word) self.old actors.now }
+        ensures world { self.new
+            ≡ run_of (coding_of M.join M.unit M.to_word M.from_word) self.old actors.now }
+        ensures steps { result
+            ≡ steps_of (coding_of M.join M.unit M.to_word M.from_word) self.old actors.now }
         ensures bound { result + left_of self.new ≤ left_of self.old }
     {
         let mut steps = 0;
