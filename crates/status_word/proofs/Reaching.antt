@@ -1,24 +1,24 @@
 -- What a step needs in a world that its workers reached, and that a step reaches another.
 -- Source: what the definitions of Reached imply.
-use Rattle.std.proofs.Common.{◌≡◌, refl, sym, ap, ◌∙◌, subst, ℕ, zero, suc, ◌+◌, ◌-◌, ◌<◌, ◌≤◌, ◌^◌, Bool, true, false, cond, ltb, Option, Some, None, List, [], ◌∷◌, ◌++◌, length, get_or, set, replicate, IsTrue, arith}
-use Rattle.std.specs.List.{All, AllPass, sum_by}
-use Rattle.std.proofs.lemmas.List.{length-replicate}
+use Rattle.std.proofs.Common.{◌≡◌, refl, sym, ap, ◌∙◌, subst, ℕ, zero, suc, ◌+◌, ◌-◌, ◌<◌, ◌≤◌, ◌^◌, Bool, true, false, cond, ltb, Option, Some, None, List, [], ◌∷◌, ◌++◌, length, get_or, set, replicate, IsTrue, arith, take}
+use Rattle.std.specs.List.{All, AllPass}
+use Rattle.std.proofs.lemmas.List.{length-replicate, take_more}
 use Rattle.std.proofs.lemmas.List.Elements.{All-nil, All-cons, All-append, All-weaker}
 use Rattle.cvl_base.specs.Limits.{most_elements}
 use Rattle.cvl_base.specs.Monoid.{MonoidLaws}
 use Rattle.cvl_base.specs.SegmentMonoid.{is_seg_item, seg_unit, seg_join}
 use Rattle.status_word.specs.declared.status.Status.{Status}
 use Rattle.status_word.specs.declared.action.Action.{Action}
-use Rattle.status_word.specs.declared.action.Action.TheVariants.{Claim, Look, TellSum, TellPrefix}
 use Rattle.status_word.specs.declared.action.Answer.{Answer}
-use Rattle.status_word.specs.declared.action.Answer.TheVariants.{Tile, Done, Saw, Told}
+use Rattle.status_word.specs.declared.action.Answer.TheVariants.{Tile, Done}
 use Rattle.status_word.specs.declared.local.Local.{Local}
 use Rattle.status_word.specs.declared.local.Local.TheVariants.{Ready, Summing, Looking, Helping, Publishing, Stopped}
-use Rattle.status_word.specs.Codings.{Coding, CodingLaws, sum_at, before, between, told_of, code}
+use Rattle.status_word.specs.declared.world.Stepped.TheVariants.{Took, Idle}
+use Rattle.status_word.specs.Codings.{Coding, CodingLaws, sum_at, before, between}
 use Rattle.status_word.specs.Locals.{action_of, next_of, holds_item, tells_item, is_item_status}
-use Rattle.status_word.specs.Passes.{Pass, new_pass, IsKept}
-use Rattle.status_word.specs.Reached.{CanAnswer, CanTell, IsReached}
-use Rattle.status_word.specs.Worlds.{Scene, new_scene, local_at, acted, step_of, run_of, passes_of, answer_of, claims_after, words_after, word_at, IsRight, IsWorld}
+use Rattle.status_word.specs.Passes.{Pass, new_pass}
+use Rattle.status_word.specs.Reached.{CanAnswer, CanTell, IsReached, stepped_of}
+use Rattle.status_word.specs.Worlds.{Scene, new_scene, local_at, acted, step_of, run_of, passes_of, answer_of, claims_after, words_after, IsRight, IsWorld, steps_of, takes}
 use Rattle.status_word.proofs.Coded.{code_read, told_is_item}
 use Rattle.status_word.proofs.Lowered.{acted_locals}
 use Rattle.status_word.proofs.Runs.{world_after, acted_sums, sum_by_le}
@@ -156,3 +156,35 @@ reached_by {Item = Item} {is_item = is_item} m w r a below l action same taken c
     let parts : acted m w a l (Some action) ≡ record { sums = w.sums; claims = claims; words = words; locals = set w.locals a next } = λ i. record { sums = w.sums; claims = sym claims_are i; words = sym words_are i; locals = set w.locals a (sym moved i) } in
     let P : Scene Item → Type 0 = λ x. IsReached is_item m x in
     subst P (sym after ∙ parts) (reached_next m w a r below)
+
+-- ---- a list of workers, one after another
+
+steps_push : {Item : Type 0} (m : Coding Item) (actors : List ℕ) (w : Scene Item) (a : ℕ) → steps_of m w (actors ++ a ∷ []) ≡ steps_of m w actors + takes (local_at (run_of m w actors) a)
+steps_push m [] w a = omega arith
+steps_push m (b ∷ actors) w a = let rest = steps_push m actors (step_of m w b) a in omega arith
+
+-- the step of a loop over the workers
+pub run_more : {Item : Type 0} (m : Coding Item) (actors : List ℕ) (w now : Scene Item) (i a : ℕ) → i < length actors → a ≡ get_or actors i 0 → now ≡ run_of m w (take i actors) → step_of m now a ≡ run_of m w (take (i + 1) actors)
+run_more m actors w now i a below here so_far =
+    (λ j. step_of m (so_far j) (here j)) ∙ sym (run_push m (take i actors) w (get_or actors i 0)) ∙ ap (run_of m w) (sym (take_more actors i 0 below))
+
+pub steps_more : {Item : Type 0} (m : Coding Item) (actors : List ℕ) (w now : Scene Item) (i a steps : ℕ) → i < length actors → a ≡ get_or actors i 0 → now ≡ run_of m w (take i actors) → steps ≡ steps_of m w (take i actors) → steps + takes (local_at now a) ≡ steps_of m w (take (i + 1) actors)
+steps_more m actors w now i a steps below here so_far counted =
+    (λ j. counted j + takes (local_at (so_far j) (here j))) ∙ sym (steps_push m (take i actors) w (get_or actors i 0)) ∙ ap (steps_of m w) (sym (take_more actors i 0 below))
+
+-- whether the worker took a step shows in what it did
+pub takes_some : {Item : Type 0} (l : Local Item) (action : Action Item) → Took action ≡ stepped_of l → takes l ≡ 1
+takes_some Ready action took = refl
+takes_some (Summing t) action took = refl
+takes_some (Looking t at after) action took = refl
+takes_some (Helping t at after) action took = refl
+takes_some (Publishing t prior) action took = refl
+takes_some Stopped action took = cc
+
+pub takes_none : {Item : Type 0} (l : Local Item) → Idle ≡ stepped_of l → takes l ≡ 0
+takes_none Ready idle = cc
+takes_none (Summing t) idle = cc
+takes_none (Looking t at after) idle = cc
+takes_none (Helping t at after) idle = cc
+takes_none (Publishing t prior) idle = cc
+takes_none Stopped idle = refl

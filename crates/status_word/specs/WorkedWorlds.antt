@@ -18,6 +18,21 @@ worked_world workers actors = run_of additions (new_scene worked_sums workers) a
 abbrev pub worked_steps : ℕ → List ℕ → ℕ
 worked_steps workers actors = steps_of additions (new_scene worked_sums workers) actors
 
+-- the workers that take the turns, in order
+abbrev pub worked_turns : List ℕ
+worked_turns = 0 ∷ 1 ∷ 1 ∷ 1 ∷ 1 ∷ 1 ∷ 0 ∷ 0 ∷ 0 ∷ 1 ∷ []
+
+-- the words of the prefixes 5 and 12
+abbrev pub worked_words : List ℕ
+worked_words = 9223372036854775813 ∷ 9223372036854775820 ∷ []
+
+-- three workers over no tile
+abbrev pub empty_world : List ℕ → Scene ℤ
+empty_world actors = run_of additions (new_scene [] 3) actors
+
+abbrev pub empty_steps : List ℕ → ℕ
+empty_steps actors = steps_of additions (new_scene [] 3) actors
+
 -- all workers have stopped, and the claim word and the words are these
 pub record IsEnd (w : Scene ℤ) (claims : ℕ) (words : List ℕ) (workers : ℕ) : Type 0 where
   pub claimed : w.claims ≡ claims

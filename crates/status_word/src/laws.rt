@@ -1,6 +1,6 @@
 //! Laws of status words, each a function that takes and gives nothing and whose contract is the law.
 
-ghost use Rattle.std.specs.Prelude.{◌≡◌, ℕ, ◌+◌, ◌-◌, ◌*◌, ◌<◌, ◌^◌, ℤ, pos, negsuc, Bool, true, false, FitsSigned, Some, None, List, [], ◌∷◌, length, replicate};
+ghost use Rattle.std.specs.Prelude.{◌≡◌, ℕ, ◌+◌, ◌-◌, ◌*◌, ◌<◌, ◌^◌, ℤ, pos, negsuc, Bool, true, false, FitsSigned, Some, None, List, [], ◌∷◌, ◌++◌, length, replicate};
 ghost use Rattle.std.specs.List.{All, AllPass};
 ghost use Rattle.cvl_base.specs.SegmentMonoid.{is_seg_item, seg_join, seg_unit};
 ghost use Rattle.cvl_base.specs.Monoid.{MonoidLaws};
@@ -9,7 +9,7 @@ ghost use Rattle.status_word.specs.declared.status.Status.{Status};
 ghost use Rattle.status_word.specs.declared.status.Status.TheVariants as status;
 ghost use Rattle.status_word.specs.Codings.{CodingLaws, coding_of};
 ghost use Rattle.status_word.specs.Words.{read_word, word_of, state_of, FitsWord};
-ghost use Rattle.status_word.specs.WorkedWorlds.{worked_world, worked_steps, IsEnd};
+ghost use Rattle.status_word.specs.WorkedWorlds.{IsEnd, empty_steps, empty_world, worked_steps, worked_turns, worked_words, worked_world};
 ghost use Rattle.status_word.specs.Worlds.{IsWorldAfter, LowersBy, RunLowers, Scene, left_of, new_scene};
 
 use cvl_base::monoid::{know_laws, know_words};
@@ -66,16 +66,20 @@ pub fn left_law<M: Packed>()
     ensures run { (w : Scene M.Item) (actors : List ℕ) → All (λ a. a < length w.locals) actors →
         RunLowers (coding_of M.join M.unit M.to_word M.from_word) w actors }
     ensures first { (sums : List (Bool × M.Item)) (workers : ℕ) →
-        left_of (new_scene sums workers) ≡ 3 * length sums + length sums * (length sums - 1) + workers }
+        left_of (new_scene sums workers)
+        ≡ 3 * length sums + length sums * (length sums - 1) + workers }
 {}
 
-/// Worked values of the world of two tiles with the sums 5 and 7: two workers that take ten steps in all, and one that takes
-/// eight. With no tile, each of three workers takes one step.
+/// Worked values of the world. Over two tiles with the sums 5 and 7 two workers take ten steps in all, after which neither
+/// takes a further one, and one worker takes eight. With no tile, each of three workers takes one.
 pub fn world_values()
-    ensures two_workers { IsEnd (worked_world 2 (0 ∷ (1 ∷ (1 ∷ (1 ∷ (1 ∷ (1 ∷ (0 ∷ (0 ∷ (0 ∷ (1 ∷ [])))))))))))
-        4 (word_of (status.Prefix false (pos 5)) ∷ (word_of (status.Prefix false (pos 12)) ∷ [])) 2 }
-    ensures ten_steps { worked_steps 2 (0 ∷ (1 ∷ (1 ∷ (1 ∷ (1 ∷ (1 ∷ (0 ∷ (0 ∷ (0 ∷ (1 ∷ (0 ∷ (1 ∷ [])))))))))))) ≡ 10 }
-    ensures one_worker { IsEnd (worked_world 1 (replicate 12 0))
-        3 (word_of (status.Prefix false (pos 5)) ∷ (word_of (status.Prefix false (pos 12)) ∷ [])) 1 }
+    ensures two_workers { IsEnd (worked_world 2 worked_turns) 4 worked_words 2 }
+    ensures ten_steps { worked_steps 2 worked_turns ≡ 10 }
+    ensures no_more_steps { worked_steps 2 (worked_turns ++ (0 ∷ (1 ∷ []))) ≡ 10 }
+    ensures one_worker { IsEnd (worked_world 1 (replicate 12 0)) 3 worked_words 1 }
     ensures eight_steps { worked_steps 1 (replicate 12 0) ≡ 8 }
+    ensures words { worked_words
+        ≡ word_of (status.Prefix false (pos 5)) ∷ (word_of (status.Prefix false (pos 12)) ∷ []) }
+    ensures no_tile { IsEnd (empty_world (0 ∷ (1 ∷ (2 ∷ (0 ∷ []))))) 3 [] 3 }
+    ensures three_steps { empty_steps (0 ∷ (1 ∷ (2 ∷ (0 ∷ [])))) ≡ 3 }
 {}

@@ -22,7 +22,8 @@ pub(crate) fn answer_to<M: Packed>(
     action: Action<M::Item>,
 ) -> Answer<M::Item>
     requires { CanAnswer sums.now words.now action }
-    ensures { result ≡ answer_of (coding_of M.join M.unit M.to_word M.from_word) sums.now claims words.now action }
+    ensures { result
+        ≡ answer_of (coding_of M.join M.unit M.to_word M.from_word) sums.now claims words.now action }
 {
     match action {
         Action::Claim => {
@@ -55,8 +56,10 @@ pub(crate) fn write_word<M: Packed, A: Memory>(
     words: &mut Vec<u64, A>,
     action: Action<M::Item>,
 )
-    requires { CanTell M.is_item (coding_of M.join M.unit M.to_word M.from_word) sums.now words.old.items action }
-    ensures { words.new.items ≡ words_after (coding_of M.join M.unit M.to_word M.from_word) sums.now words.old.items action }
+    requires { CanTell M.is_item (coding_of M.join M.unit M.to_word M.from_word)
+        sums.now words.old.items action }
+    ensures { words.new.items
+        ≡ words_after (coding_of M.join M.unit M.to_word M.from_word) sums.now words.old.items action }
 {
     match action {
         Action::TellSum(tile) => {
@@ -101,7 +104,8 @@ fn upto_tile<M: Packed>(before: (bool, M::Item), sum: (bool, M::Item)) -> (bool,
 /// A word becomes the greater of itself and another.
 fn raise<A: Memory>(words: &mut Vec<u64, A>, at: usize, word: u64)
     requires { at < length words.old.items }
-    ensures { words.new.items ≡ slice_set words.old.items at (max (slice_index words.old.items at) word) }
+    ensures { words.new.items
+        ≡ slice_set words.old.items at (max (slice_index words.old.items at) word) }
 {
     let greater = words[at].max(word);
     words[at] = greater;

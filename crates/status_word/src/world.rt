@@ -36,6 +36,17 @@ pub struct World<M: Packed, A: Allocator> {
     locals: Vec<Local<M::Item>, A>,
 }
 
+impl<M: Packed, A: Allocator> Drop for World<M, A> {
+    fn drop(self) {
+        let World {
+            sums: _,
+            claims: _,
+            words: _,
+            locals: _,
+        } = self;
+    }
+}
+
 impl<M: Packed, A: Allocator> Model for World<M, A> {
     ghost use Rattle.status_word.specs.Worlds.{Scene};
     ghost use Rattle.status_word.specs.Codings.{coding_of};
@@ -73,7 +84,8 @@ impl<M: Packed, A: Memory> World<M, A> {
     /// The worker `actor` takes its step; it must be one of the workers. It takes no memory.
     pub fn step(&mut self, actor: u32) -> Stepped<M::Item>
         requires { actor < length self.old.locals }
-        ensures world { self.new ≡ step_of (coding_of M.join M.unit M.to_word M.from_word) self.old actor }
+        ensures world { self.new
+            ≡ step_of (coding_of M.join M.unit M.to_word M.from_word) self.old actor }
         ensures stepped { result ≡ stepped_of (local_at self.old actor) }
     {
         know_coding::<M>();
@@ -93,6 +105,28 @@ impl<M: Packed, A: Memory> World<M, A> {
                 Stepped::Took(action)
             }
         }
+    }
+
+    /// Each of these workers takes its step in turn; the answer is how many steps were taken. It takes no memory.
+    ///
+    /// A step taken lowers what is left by at least one, so there are at most 3n + n(n-1) + W of them from a new world of n
+    /// tiles and W workers on.
+    pub fn run(&mut self, actors: &[u32]) -> u64
+        requires { All (λ a. a < length self.old.locals) actors.now }
+        ensures world { self.new
+            ≡ run_of (coding_of M.join M.unit M.to_word M.from_word) self.old actors.now }
+        ensures steps { result
+            ≡ steps_of (coding_of M.join M.unit M.to_word M.from_word) self.old actors.now }
+        ensures bound { result + left_of self.new ≤ left_of self.old }
+    {
+        let mut steps = 0;
+        for actor in actors {
+            match self.step(*actor) {
+                Stepped::Took(_) => steps += 1,
+                Stepped::Idle => {}
+            }
+        }
+        steps
     }
 
     /// The words of the tiles, in order.

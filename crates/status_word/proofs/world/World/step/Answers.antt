@@ -1,4 +1,4 @@
-use Rattle.std.proofs.Common.{rules, ◌≡◌, ◌<◌, length, ap, sym, ◌∙◌, subst, arith}
+use Rattle.std.proofs.Common.{rules, ◌<◌, length}
 use Rattle.status_word.specs.Codings.{coding_of}
 use Rattle.status_word.proofs.Reaching.{step_allowed, reached_by, room}
 use Rattle.status_word.proofs.world.World.step.Goals as goal
