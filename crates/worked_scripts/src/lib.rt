@@ -9,7 +9,7 @@
 pub mod elements;
 pub mod fault_order;
 pub mod packs;
-pub mod permutes;
+pub mod permute_calls;
 pub mod pointwise;
 pub mod scans;
 pub mod scripts;
