@@ -6,6 +6,8 @@
 #[cfg(test)]
 mod allocator_counts;
 #[cfg(test)]
+mod counts;
+#[cfg(test)]
 mod inputs;
 #[cfg(test)]
 mod limits;

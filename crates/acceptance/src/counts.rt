@@ -1,0 +1,15 @@
+//! Counts that are at fault, where there is no memory either.
+use cvl_base::{Fault, FaultNo, Refused};
+use pack_dist::{distribute, index};
+use refusing_memory::Refusing;
+
+#[test]
+fn counts_come_before_memory(rt: HostRuntime) {
+    let heap = Refusing::from(0, rt.alloc());
+    for (count, number) in [(-1, FaultNo::NegativeLength), (4_194_305, FaultNo::TooLong)] {
+        let refused = Some(Refused::Fault(Fault::new(number)));
+        assert_eq!(rt; distribute(&heap, 7, count).err(), refused, "{count}");
+        assert_eq!(rt; index(&heap, 0, 1, count).err(), refused, "{count}");
+    }
+    assert_eq!(rt; heap.requests(), 0);
+}
