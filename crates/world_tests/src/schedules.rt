@@ -18,19 +18,19 @@ const STEPS: usize = 8;
 /// How many schedules there are: 3 to the power of 8.
 const SCHEDULES: usize = 6561;
 
-/// Each sum of a vector fits 32 bits, so that it is an item. The contract names the fact.
+/// The value of each sum fits 32 bits, so that it is an item. The contract names the fact.
 fn know_sums(sums: &[(bool, i32)])
     ensures { AllPass (is_seg_item is_number) sums.now }
 {
     for sum in sums {
-        know_number(&sum.1);
+        know_sum(sum);
     }
 }
 
-fn know_number(x: &i32)
-    ensures { is_number x.now ≡ true }
+fn know_sum(sum: &(bool, i32))
+    ensures { is_seg_item is_number sum.now ≡ true }
 {
-    let _value = *x;
+    let (_, _value) = *sum;
 }
 
 /// A new world over the first so many sums.
