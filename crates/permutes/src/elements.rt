@@ -7,6 +7,8 @@ use crate::places::element_of;
 use cvl_base::{Memory, NoResources};
 
 /// The element of each sender, in the order of the senders. Nobody has no element.
+// Inlined into a large function the loop keeps its pointers on the stack.
+#[inline(never)]
 pub(crate) fn elements_of<T: Copy, A: Memory>(
     alloc: A,
     source: &[T],
