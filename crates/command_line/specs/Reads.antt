@@ -42,7 +42,7 @@ ReadsBy kinds (Ok words) = kinds ≡ []
 ReadsBy kinds (Err (fault.Refused e)) = IsAmong (kind_of e) kinds
 ReadsBy kinds (Err fault.NoResources) = Unit {0}
 
--- want of memory is told apart from what clap refuses
+-- being out of memory is told apart from what clap refuses
 abbrev pub IsFaultOf : Error → WordsFault → Type 0
 IsFaultOf error (fault.Refused e) = (e ≡ error) × (kind_of error ≡ OutOfMemory → ⊥)
 IsFaultOf error fault.NoResources = kind_of error ≡ OutOfMemory

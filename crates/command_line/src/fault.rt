@@ -28,7 +28,7 @@ impl From<AllocError> for WordsFault {
     }
 }
 
-/// What clap's error tells: its want of memory is no refusal.
+/// What clap's error tells: that it is out of memory is no refusal.
 pub(crate) fn fault_of(error: clap::Error) -> WordsFault
     ensures { IsFaultOf error result }
 {

@@ -59,8 +59,8 @@ fn words_of<'a>(alloc: Global, matches: &ArgMatches<'a>) -> Result<Words<'a>, Al
 ///
 /// The command is `cvl [--tile N] [--workers N] SCRIPT [INPUT ..]`, which clap reads as a simple command. A tile has 1
 /// to 65,536 elements, and 4,096 where none is given; there are 1 to 64 workers, and 4 where none is given. A number is
-/// decimal digits, which may have a plus sign and leading zeros. Options may stand before and behind the names of
-/// files, which are handed out as they are typed; behind `--` a word that begins with `-` is a name too. Words that the
+/// decimal digits, which may have a plus sign and leading zeros. Options may stand before and after the names of
+/// files, which are handed out as they are typed; after `--` a word that begins with `-` is a name too. Words that the
 /// command doesn't take are `WordsFault::Refused`, and so is a call for help. Where it takes them, the words are read,
 /// or a growth was refused.
 pub fn read_words<'a>(alloc: Global, words: &'a [&'a str]) -> Result<Words<'a>, WordsFault>

@@ -8,7 +8,7 @@ use cvl_base::Memory;
 
 /// What a program is run on: its files, and where its text goes. `put` is standard output.
 pub trait Host<A: Memory>: Sink {
-    /// The whole of a file; none where it cannot be read, for want of memory too.
+    /// The whole of a file; none where it cannot be read, or there is no memory for it.
     fn read_file(&mut self, name: &str) -> Option<Vec<u8, A>>
         ensures taken { Self.taken self.new ≡ Self.taken self.old }
         ensures failures { Self.failures self.new ≡ Self.failures self.old }

@@ -98,10 +98,11 @@ fn run_files<R: Threads + Sync, A: Memory, H: Host<A>>(
 /// `words` are those of the command line, as `read_words` takes them, the program's own name first. The files of the
 /// script and of the inputs are read whole, in that order, before the script runs. What the script writes goes to
 /// standard output, which is then flushed; then a line on standard error tells why the run stopped, where it did. Help
-/// goes to standard output, and clap's text of a refused command line to standard error. A file that cannot be read, for
-/// want of memory too, is told as `cannot read NAME`, and nothing is run. Where there is no memory for the words or for
-/// the help the line is `line 0: no resources`, and `line 0: write failed` where the help or the flush fails; a run that
-/// stopped by itself keeps its own line and status. A text for standard error that finds no memory is left out.
+/// goes to standard output, and clap's text of a refused command line to standard error. A file that cannot be read, or
+/// that there is no memory for, is told as `cannot read NAME`, and nothing is run. Where there is no memory for the
+/// words or for the help the line is `line 0: no resources`, and `line 0: write failed` where the help or the flush
+/// fails; a run that stopped by itself keeps its own line and status. A text for standard error that finds no memory is
+/// left out.
 ///
 /// The status is 0 where there is no fault, and after help; 1 at a fault of the script; 2 where the command line is
 /// refused; and 3 where a file cannot be read, memory is refused or a write fails.
