@@ -6,7 +6,8 @@ use Rattle.std.proofs.lemmas.List.{get_or-set_other}
 use Rattle.std.proofs.lemmas.List.Sums.{sum_by-set}
 use Rattle.std.proofs.lemmas.Grind.{get_or-set_at}
 use Rattle.std.proofs.lemmas.Bool.Decides.{nat_tests, eqb_tells}
-use Rattle.status_word.specs.Passes.{Pass, told_at, seen_at, given_at, highest, IsFair, IsKept}
+use Rattle.status_word.specs.declared.pass.Pass.{Pass}
+use Rattle.status_word.specs.Passes.{told_at, seen_at, given_at, highest, IsFair, IsKept}
 
 -- ---- one element of a list changes
 

@@ -16,7 +16,8 @@ use Rattle.status_word.specs.declared.local.Local.TheVariants.{Ready, Summing, L
 use Rattle.status_word.specs.declared.world.Stepped.TheVariants.{Took, Idle}
 use Rattle.status_word.specs.Codings.{Coding, CodingLaws, sum_at, before, between}
 use Rattle.status_word.specs.Locals.{action_of, next_of, holds_item, tells_item, is_item_status}
-use Rattle.status_word.specs.Passes.{Pass, new_pass}
+use Rattle.status_word.specs.declared.pass.Pass.{Pass}
+use Rattle.status_word.specs.Passes.{new_pass}
 use Rattle.status_word.specs.Reached.{CanAnswer, CanTell, IsReached, stepped_of}
 use Rattle.status_word.specs.Worlds.{Scene, new_scene, local_at, acted, step_of, run_of, passes_of, answer_of, claims_after, words_after, IsRight, IsWorld, steps_of, takes}
 use Rattle.status_word.proofs.Coded.{code_read, told_is_item}

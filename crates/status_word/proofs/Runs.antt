@@ -15,7 +15,8 @@ use Rattle.status_word.specs.declared.local.Local.{Local}
 use Rattle.status_word.specs.declared.local.Local.TheVariants.{Ready, Stopped}
 use Rattle.status_word.specs.Codings.{Coding, CodingLaws, code}
 use Rattle.status_word.specs.Locals.{action_of}
-use Rattle.status_word.specs.Passes.{Pass, new_pass, told_at, seen_at, given_at, highest, times, IsFair}
+use Rattle.status_word.specs.declared.pass.Pass.{Pass}
+use Rattle.status_word.specs.Passes.{new_pass, told_at, seen_at, given_at, highest, times, IsFair}
 use Rattle.status_word.specs.Worlds.{Scene, new_scene, local_at, acted, step_of, run_of, passed, passes_of, held, holders, IsWorld}
 use Rattle.status_word.proofs.Stands.{Agrees, Stands, stops, stepped}
 

@@ -17,7 +17,8 @@ use Rattle.status_word.specs.declared.local.Local.{Local}
 use Rattle.status_word.specs.declared.local.Local.TheVariants.{Ready, Summing, Looking, Helping, Publishing, Stopped}
 use Rattle.status_word.specs.Codings.{Coding, CodingLaws, sum_at, before, between, told_of, code}
 use Rattle.status_word.specs.Locals.{action_of, next_of, after_look, added_up_to}
-use Rattle.status_word.specs.Passes.{Pass, new_pass, told_at, highest, times, IsFair, IsKept}
+use Rattle.status_word.specs.declared.pass.Pass.{Pass}
+use Rattle.status_word.specs.Passes.{new_pass, told_at, highest, times, IsFair, IsKept}
 use Rattle.status_word.specs.Worlds.{Scene, acted, passed, pass_after, words_after, prefix_of, held, IsRight}
 use Rattle.status_word.specs.Words.{state_of}
 use Rattle.status_word.proofs.Coded.{code_max, code_read}

@@ -2,25 +2,8 @@
 -- Source: the bookkeeping behind Merrill and Garland's decoupled look-back, 2016: each tile is claimed once, and no status is taken back.
 use Rattle.std.specs.Prelude.{◌≡◌, ℕ, ◌+◌, ◌-◌, ◌<◌, ◌≤◌, ◌==◌, min, max, Bool, List, [], ◌∷◌, length, nat_lt, if◌then◌else◌, slice_index_or}
 use Rattle.std.specs.List.{sum_by}
-
--- a state of a tile: 0 silent, 1 its sum, 2 its prefix
-pub record Mark : Type 0 where
-  pub tile : ℕ
-  pub rank : ℕ
-
--- the tiles given to a worker, how often it was told that none is left, and for how many workers it stands
-pub record Hand : Type 0 where
-  pub given : List ℕ
-  pub done : ℕ
-  pub share : ℕ
-
--- what one worker did, the newest first; the sums are the board's
-pub record Pass (Item : Type 0) : Type 0 where
-  pub sums : List (Bool × Item)
-  pub hand : Hand
-  pub told : List Mark
-  pub seen : List Mark
-  pub looks : ℕ
+use Rattle.status_word.specs.declared.pass.Mark.{Mark}
+use Rattle.status_word.specs.declared.pass.Pass.{Pass}
 
 abbrev pub new_pass : {Item : Type 0} → List (Bool × Item) → Pass Item
 new_pass sums = record { sums = sums; hand = record { given = []; done = 0; share = 1 }; told = []; seen = []; looks = 0 }

@@ -14,7 +14,8 @@ use Rattle.status_word.specs.declared.local.Local.{Local}
 use Rattle.status_word.specs.declared.local.Local.TheVariants.{Ready, Summing, Looking, Helping, Publishing, Stopped}
 use Rattle.status_word.specs.Codings.{Coding, sum_at, before, between, code}
 use Rattle.status_word.specs.Locals.{action_of, next_of}
-use Rattle.status_word.specs.Passes.{Pass, new_pass, times, IsKept}
+use Rattle.status_word.specs.declared.pass.Pass.{Pass}
+use Rattle.status_word.specs.Passes.{new_pass, times, IsKept}
 use Rattle.status_word.specs.Words.{state_of}
 
 -- a world: each tile's sum, the claim word, the word of each tile, and the state of each worker
