@@ -9,8 +9,8 @@ use Rattle.status_word.specs.declared.pass.Mark.{Mark}
 use Rattle.status_word.specs.declared.pass.Pass.{Pass}
 use Rattle.status_word.specs.Hands.{AreDealt}
 use Rattle.status_word.specs.Passes.{first_pass, spent_pass, given_tile, told_done, looked, told_state, split_left, split_right, joined, highest_mark, told_at, seen_at, highest, IsFair, IsKept}
-use Rattle.status_word.specs.RuleSteps.{AreSame, FirstKeeps, ClaimKeeps, DoneKeeps, LookKeeps, TellKeeps, SplitKeeps, JoinKeeps, WholeKnows, JoinAdds}
-use Rattle.status_word.proofs.Dealt.{times-append, first_deals, claim_deals, done_deals, same_deals, split_deals, join_deals, others_idle, whole_deals}
+use Rattle.status_word.specs.RuleSteps.{AreSame, FirstKeeps, ClaimKeeps, DoneKeeps, LookKeeps, TellKeeps, SplitKeeps, JoinKeeps, FewClaimed, WholeKnows, JoinAdds}
+use Rattle.status_word.proofs.Dealt.{times-append, first_deals, claim_deals, done_deals, same_deals, split_deals, join_deals, few_claims, others_idle, whole_deals}
 use Rattle.status_word.proofs.Places.{set_here, set_else, each_set, each_push, highest_at, highest_set, highest_same, highest_push, highest_moved, highest_alone}
 
 marks-append : (t : ℕ) (xs ys : List Mark) → highest_mark t (xs ++ ys) ≡ max (highest_mark t xs) (highest_mark t ys)
@@ -18,7 +18,7 @@ marks-append t [] ys = omega arith
 marks-append t (x ∷ xs) ys = let rest = marks-append t xs ys in omega arith
 
 module _ {Item : Type 0} where
-  pub join_adds : (p other : Pass Item) → JoinAdds Item p other
+  pub join_adds : (p other : Pass Item) → JoinAdds p other
   join_adds p other = record {
     given = λ t. times-append t p.hand.given other.hand.given;
     count = length-append p.hand.given other.hand.given;
@@ -177,6 +177,9 @@ module _ {Item : Type 0} where
             (each_set (IsFair sums) passes id both kept.fair (fair_with both ((kept.fair id p here).tiles share) (omega arith)))
             (spent_fair sums);
       }
+
+  pub few_claimed : FewClaimed Item
+  few_claimed code sums workers claims word passes kept = few_claims (λ r. r.hand) (length sums) workers claims passes kept.dealt
 
   pub whole_knows : WholeKnows Item
   whole_knows code sums workers claims word passes id p kept here all =

@@ -8,7 +8,7 @@ ghost use Rattle.status_word.specs.Codings.{CodeLaws, SumsLaws, coding_of};
 ghost use Rattle.status_word.specs.declared.pass.Hand.{Hand};
 ghost use Rattle.status_word.specs.declared.pass.Pass.{Pass};
 ghost use Rattle.status_word.specs.RuleSteps.{ClaimDeals, DoneDeals, FewClaims, FirstDeals, JoinDeals, SameDeals, SplitDeals, WholeDeals};
-ghost use Rattle.status_word.specs.RuleSteps.{ClaimKeeps, DoneKeeps, FirstKeeps, JoinAdds, JoinKeeps, LookKeeps, SplitKeeps, TellKeeps, WholeKnows};
+ghost use Rattle.status_word.specs.RuleSteps.{ClaimKeeps, DoneKeeps, FewClaimed, FirstKeeps, JoinAdds, JoinKeeps, LookKeeps, SplitKeeps, TellKeeps, WholeKnows};
 
 use crate::laws::know_coding;
 use cvl_base::Packed;
@@ -40,8 +40,9 @@ pub fn rule_law<I>()
     ensures tell { TellKeeps I }
     ensures split { SplitKeeps I }
     ensures join { JoinKeeps I }
+    ensures few { FewClaimed I }
     ensures whole { WholeKnows I }
-    ensures added { (p other : Pass I) → JoinAdds I p other }
+    ensures added { (p other : Pass I) → JoinAdds p other }
 {}
 
 /// The words of the tiles, for each monoid with words: they tell nothing at first, ascend with the states, are read again,

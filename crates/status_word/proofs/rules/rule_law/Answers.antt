@@ -1,4 +1,4 @@
-use Rattle.status_word.proofs.Kept.{first_keeps, claim_keeps, done_keeps, look_keeps, tell_keeps, split_keeps, join_keeps, whole_knows, join_adds}
+use Rattle.status_word.proofs.Kept.{first_keeps, claim_keeps, done_keeps, look_keeps, tell_keeps, split_keeps, join_keeps, few_claimed, whole_knows, join_adds}
 use Rattle.status_word.proofs.rules.rule_law.Goals as goal
 
 pub returns-clause-first : goal.returns-clause-first
@@ -21,6 +21,9 @@ returns-clause-split g c = split_keeps
 
 pub returns-clause-join : goal.returns-clause-join
 returns-clause-join g c = join_keeps
+
+pub returns-clause-few : goal.returns-clause-few
+returns-clause-few g c = few_claimed
 
 pub returns-clause-whole : goal.returns-clause-whole
 returns-clause-whole g c = whole_knows
