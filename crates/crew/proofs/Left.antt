@@ -18,13 +18,13 @@ pub one_less : (count t : ℕ) (given : List ℕ) → t < count → times t give
 one_less zero t given below new = absurd (omega arith)
 one_less (suc n) t given below new =
     ⊎_elim (λ (same : (eqb t n ≡ true) × (t ≡ n)).
-        let rest = no_more n t given in
-        let here : times n given ≡ 0 = ap (λ k. times k given) (sym same.1) ∙ new in
-        let more : times n (t ∷ given) ≡ 1 + times n given = ap (λ b. cond b 1 0 + times n given) same.0 in
-        omega arith)
+    let rest = no_more n t given in
+    let here : times n given ≡ 0 = ap (λ k. times k given) (sym same.1) ∙ new in
+    let more : times n (t ∷ given) ≡ 1 + times n given = ap (λ b. cond b 1 0 + times n given) same.0 in
+    omega arith)
     (λ (differ : (eqb t n ≡ false) × (t ≢ n)).
-        let before : t < n = omega (arith, differ.1) in
-        let rest = one_less n t given before new in
-        let none : times n (t ∷ given) ≡ times n given = ap (λ b. cond b 1 0 + times n given) differ.0 ∙ omega arith in
-        omega arith)
+    let before : t < n = omega (arith, differ.1) in
+    let rest = one_less n t given before new in
+    let none : times n (t ∷ given) ≡ times n given = ap (λ b. cond b 1 0 + times n given) differ.0 ∙ omega arith in
+    omega arith)
     (eqb_tells t n)

@@ -38,7 +38,7 @@ module _ {Item : Type 0} (count : ℕ) (items : ℕ → List Item) where
         let t = (view piece).0 in
         let all = both_pieces (λ k. times k given) (λ k. cond (eqb t k) 1 0) (map view ps) (view piece ∷ []) pieces (one_piece t (view piece).1 below same) in
         subst (ArePiecesOf count items (λ k. times k (t ∷ given))) (sym (map-append view ps (piece ∷ [])))
-            (given_as (λ k. times k given + cond (eqb t k) 1 0) (λ k. times k (t ∷ given)) (map view ps ++ view piece ∷ []) (λ k. omega arith) all)
+        (given_as (λ k. times k given + cond (eqb t k) 1 0) (λ k. times k (t ∷ given)) (map view ps ++ view piece ∷ []) (λ k. omega arith) all)
 
     -- the pieces of two crews are those of the seats of both
     pub of_both : {Seat : Type 0} (given : Seat → List ℕ) (xs ys : List P) (front back : List Seat)
@@ -47,5 +47,5 @@ module _ {Item : Type 0} (count : ℕ) (items : ℕ → List Item) where
     of_both given xs ys front back first second =
         let all = both_pieces (given_to given front) (given_to given back) (map view xs) (map view ys) first second in
         subst (ArePiecesOf count items (given_to given (front ++ back))) (sym (map-append view xs ys))
-            (given_as (λ t. given_to given front t + given_to given back t) (given_to given (front ++ back)) (map view xs ++ map view ys)
-                (λ t. sym (sum_by-append (λ seat. times t (given seat)) front back)) all)
+        (given_as (λ t. given_to given front t + given_to given back t) (given_to given (front ++ back)) (map view xs ++ map view ys)
+        (λ t. sym (sum_by-append (λ seat. times t (given seat)) front back)) all)
