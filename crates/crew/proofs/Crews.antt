@@ -1,6 +1,6 @@
 -- What two crews of one work give together.
 -- Source: what the definitions of Crews imply.
-use Rattle.std.proofs.Common.{◌≡◌, refl, sym, ap, ◌∙◌, ℕ, ◌+◌, Bool, IsTrue, Result, Ok, Err, IfOk, List, ◌++◌, length, map, arith, length-append}
+use Rattle.std.proofs.Common.{◌≡◌, sym, ℕ, ◌+◌, Bool, IsTrue, Result, Ok, Err, IfOk, List, ◌++◌, map, arith, length-append}
 use Rattle.std.proofs.lemmas.List.Elements.{All-append}
 use Rattle.crew.specs.Crews.{IsCrewed}
 use Rattle.crew.proofs.Pieces.{of_both}

@@ -1,4 +1,4 @@
-use Rattle.std.proofs.Common.{rules, map, vec_len, arith}
+use Rattle.std.proofs.Common.{arith}
 use Rattle.std.proofs.lemmas.Result.{IfOk-at_ok}
 use Rattle.crew.proofs.Crews.{Ends, crewed_both}
 use Rattle.crew.proofs.together.+crew.Goals as goal

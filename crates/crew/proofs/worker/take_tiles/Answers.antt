@@ -1,4 +1,4 @@
-use Rattle.std.proofs.Common.{◌∙◌, rules}
+use Rattle.std.proofs.Common.{◌∙◌}
 use Rattle.crew.proofs.Left.{one_less}
 use Rattle.crew.proofs.Pieces.{one_more}
 use Rattle.crew.proofs.worker.take_tiles.Goals as goal
