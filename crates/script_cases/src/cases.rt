@@ -44,7 +44,7 @@ impl<'a, A: Memory> Case<'a, A> {
         section: Section<'a, A>,
     ) -> Result<(), Trouble<'a>> {
         match section.what {
-            "tile" => self.configs.push(config_of(&section)?)?,
+            "tile" => add_configs(&mut self.configs, &section)?,
             "script" => self.script = content_of(rt, folder, section)?,
             "input" => self.inputs.push(content_of(rt, folder, section)?)?,
             "text" => self.text = content_of(rt, folder, section)?,
@@ -55,13 +55,27 @@ impl<'a, A: Memory> Case<'a, A> {
     }
 }
 
-/// The tiles and workers of a heading such as `tile 1 workers 64`.
-fn config_of<'a, A: Memory>(section: &Section<'a, A>) -> Result<Config, Trouble<'a>> {
-    let bad = Trouble::Heading(section.heading);
-    let (tile, workers) = section.rest.split_once(" workers ").ok_or(bad)?;
+/// The tiles and workers that two words name; `bad` where they name none.
+fn config_of<'a>(tile: &str, workers: &str, bad: Trouble<'a>) -> Result<Config, Trouble<'a>> {
     let tile = tile.parse().map_err(|_| bad)?;
     let workers = workers.parse().map_err(|_| bad)?;
     Config::new(tile, workers).map_err(|_| bad)
+}
+
+/// Adds the tiles and workers of a heading such as `tile 1 2 workers 3 64`: each length of tiles with each number of
+/// workers.
+fn add_configs<'a, A: Memory>(
+    configs: &mut Vec<Config, A>,
+    section: &Section<'a, A>,
+) -> Result<(), Trouble<'a>> {
+    let bad = Trouble::Heading(section.heading);
+    let (tiles, workers) = section.rest.split_once(" workers ").ok_or(bad)?;
+    for tile in tiles.split(' ') {
+        for workers in workers.split(' ') {
+            configs.push(config_of(tile, workers, bad)?)?;
+        }
+    }
+    Ok(())
 }
 
 /// The content of a section: the file of the folder that its heading names, or else its lines.
