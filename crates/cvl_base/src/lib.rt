@@ -5,6 +5,7 @@
 #![tactic(auto)]
 
 pub mod call;
+pub mod checks;
 pub mod config;
 pub mod elements;
 pub mod fault;
@@ -20,6 +21,7 @@ pub use call_table::{
     BoolBinary, Comparison, Cut, Element, Form, IntBinary, IntMonoid, Kind, Op, Unary, families,
     kind, op_of, operation, spelling,
 };
+pub use checks::check_agree;
 pub use config::{BadConfig, Config};
 pub use elements::{Bools, Elements, Ints};
 pub use fault::{Fault, FaultNo};

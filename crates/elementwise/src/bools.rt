@@ -6,13 +6,12 @@ ghost use Rattle.cvl_base.specs.Gives.{Gives};
 
 use crate::chunks::{FORKED, FORKED_BOOLEANS};
 use crate::comparisons::{AtLeast, AtMost, Equal, Greater, Less, Unequal};
-use crate::lengths::as_long;
 use crate::on_each::values_on_each;
 use crate::on_pairs::values_on_pairs;
 use crate::singles::{BoolOfInt, NotBool};
 use crate::truths::{Both, Differ, Either};
 use crate::two_parts::values_in_two_parts;
-use cvl_base::{BoolBinary, Comparison, Config, Memory, NoResources, Refused, Unary};
+use cvl_base::{BoolBinary, Comparison, Config, Memory, NoResources, Refused, Unary, check_agree};
 use std::thread::Threads;
 
 /// The comparison of each two elements at the same place, on signed numbers: `grt_wuz` and its like.
@@ -30,7 +29,7 @@ pub fn compare<R: Threads + Sync, A: Memory>(
     ensures values { Gives (λ v. v.items) result (compare_of op a.now b.now) }
     ensures as_long { IfOk result (λ v. vec_len v ≡ length a.now) }
 {
-    as_long(a, b)?;
+    check_agree(a.len(), b.len())?;
     let truths = match op {
         Comparison::Greater => values_on_pairs::<Greater, i32, i32, bool, R, A>(
             rt, alloc, FORKED, a, b,
@@ -67,7 +66,7 @@ pub fn bool2<R: Threads + Sync, A: Memory>(
     ensures values { Gives (λ v. v.items) result (bools2_of op a.now b.now) }
     ensures as_long { IfOk result (λ v. vec_len v ≡ length a.now) }
 {
-    as_long(a, b)?;
+    check_agree(a.len(), b.len())?;
     let truths = match op {
         BoolBinary::And => values_on_pairs::<Both, bool, bool, bool, R, A>(
             rt,

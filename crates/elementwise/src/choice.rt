@@ -7,8 +7,7 @@ ghost use Rattle.cvl_base.specs.Gives.{Gives};
 ghost use Rattle.elementwise.specs.Standing.{StandFrom};
 
 use crate::chunks::{FORKED, chunk_length, filled_like};
-use crate::lengths::as_long;
-use cvl_base::{Config, Memory, NoResources, Refused};
+use cvl_base::{Config, Memory, NoResources, Refused, check_agree};
 use rayon::prelude::*;
 use std::thread::Threads;
 
@@ -27,8 +26,8 @@ pub fn select<T: Copy + Send + Sync, R: Threads + Sync, A: Memory>(
     ensures values { Gives (λ v. v.items) result (choose_of flags.now a.now b.now) }
     ensures as_long { IfOk result (λ v. vec_len v ≡ length flags.now) }
 {
-    as_long(flags, a)?;
-    as_long(flags, b)?;
+    check_agree(flags.len(), a.len())?;
+    check_agree(flags.len(), b.len())?;
     Ok(values_chosen(rt, alloc, flags, a, b)?)
 }
 

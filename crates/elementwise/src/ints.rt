@@ -6,14 +6,13 @@ ghost use Rattle.cvl_base.specs.Gives.{Gives};
 ghost use Rattle.cvl_base.specs.Limits.{most_elements};
 
 use crate::chunks::FORKED;
-use crate::lengths::as_long;
 use crate::on_pairs::values_on_pairs;
 use crate::on_pairs_or::values_on_pairs_or;
 use crate::partials::{Div, Lsh, Mod, Rsh};
 use crate::singles::{IntOfBool, NotInt};
 use crate::totals::{Add, And, Ior, Max, Min, Mul, Sub, Xor};
 use crate::two_parts::values_in_two_parts;
-use cvl_base::{Config, IntBinary, Memory, NoResources, Refused, Unary};
+use cvl_base::{Config, IntBinary, Memory, NoResources, Refused, Unary, check_agree};
 use std::thread::Threads;
 
 /// The operator on each two elements at the same place: `add_wuz` and its like.
@@ -33,7 +32,7 @@ pub fn int2<R: Threads + Sync, A: Memory>(
     ensures values { Gives (λ v. v.items) result (ints2_of op a.now b.now) }
     ensures as_long { IfOk result (λ v. vec_len v ≡ length a.now) }
 {
-    as_long(a, b)?;
+    check_agree(a.len(), b.len())?;
     match op {
         IntBinary::Add => Ok(values_on_pairs::<Add, i32, i32, i32, R, A>(rt, alloc, FORKED, a, b)?),
         IntBinary::Sub => Ok(values_on_pairs::<Sub, i32, i32, i32, R, A>(rt, alloc, FORKED, a, b)?),

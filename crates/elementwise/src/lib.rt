@@ -6,7 +6,6 @@ mod choice;
 mod chunks;
 mod comparisons;
 mod ints;
-mod lengths;
 mod on_each;
 mod on_pairs;
 mod on_pairs_or;

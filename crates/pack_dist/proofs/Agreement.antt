@@ -1,5 +1,5 @@
 -- The arguments of segments, where their numbers agree and where they don't.
-use Rattle.std.proofs.Common.{◌≡◌, ◌∙◌, ℕ, List, ◌∷◌, [], suc, drop, length, eqb, true, false, inl, inr, refl, ap, Ok, Err}
+use Rattle.std.proofs.Common.{◌≡◌, ◌≢◌, ◌∙◌, ℕ, List, ◌∷◌, [], suc, drop, length, eqb, true, false, inl, inr, refl, ap, Ok, Err}
 use Rattle.std.specs.Prelude.{not, sum}
 use Rattle.std.specs.List.{zip}
 use Rattle.std.proofs.lemmas.Bool.Decides.{eqb_tells}
@@ -12,15 +12,18 @@ use Rattle.cvl_base.specs.Segmented.{beside}
 equal : (m n : ℕ) → m ≡ n → eqb m n ≡ true
 equal m n same = elim (eqb_tells m n) [ inl t ↦ t.0 | inr t ↦ absurd (t.1 same) ]
 
+unequal : (m n : ℕ) → m ≢ n → eqb m n ≡ false
+unequal m n differ = elim (eqb_tells m n) [ inl t ↦ absurd (differ t.1) | inr t ↦ t.0 ]
+
 module _ {X Y : Type 0} (xs : List X) (ys : List Y) where
   pub beside_agree : length xs ≡ length ys → beside (Ok xs) (Ok ys) ≡ Ok (zip xs ys)
   beside_agree same = ap (λ b. fault_if (not b) (fault no.LengthMismatch) (Ok (zip xs ys))) (equal (length xs) (length ys) same)
 
-  pub beside_differ : (m n : ℕ) → length xs ≡ m → length ys ≡ n → eqb m n ≡ false → beside (Ok xs) (Ok ys) ≡ Err (fault no.LengthMismatch)
+  pub beside_differ : (m n : ℕ) → length xs ≡ m → length ys ≡ n → m ≢ n → beside (Ok xs) (Ok ys) ≡ Err (fault no.LengthMismatch)
   beside_differ m n is_m is_n differ =
       ap (λ k. fault_if (not (eqb k (length ys))) (fault no.LengthMismatch) (Ok (zip xs ys))) is_m
       ∙ ap (λ k. fault_if (not (eqb m k)) (fault no.LengthMismatch) (Ok (zip xs ys))) is_n
-      ∙ ap (λ b. fault_if (not b) (fault no.LengthMismatch) (Ok (zip xs ys))) differ
+      ∙ ap (λ b. fault_if (not b) (fault no.LengthMismatch) (Ok (zip xs ys))) (unequal m n differ)
 
 pub nest_agree : {X : Type 0} (lengths : List ℕ) (xs : List X) → sum lengths ≡ length xs → nest lengths xs ≡ Ok (cut_of lengths xs)
 nest_agree lengths xs same = ap (λ b. fault_if (not b) (fault no.LengthMismatch) (Ok (cut_of lengths xs))) (equal (sum lengths) (length xs) same)
@@ -36,7 +39,7 @@ module _ {X Y : Type 0} (lengths : List ℕ) (xs : List X) (ys : List Y) (fits :
       ap (λ lists. beside lists (Ok ys)) (nest_agree lengths xs fits)
       ∙ beside_agree (cut_of lengths xs) ys (length-cut_of lengths xs ∙ same)
 
-  pub cut_differ : (m n : ℕ) → length lengths ≡ m → length ys ≡ n → eqb m n ≡ false → beside (nest lengths xs) (Ok ys) ≡ Err (fault no.LengthMismatch)
+  pub cut_differ : (m n : ℕ) → length lengths ≡ m → length ys ≡ n → m ≢ n → beside (nest lengths xs) (Ok ys) ≡ Err (fault no.LengthMismatch)
   cut_differ m n is_m is_n differ =
       ap (λ lists. beside lists (Ok ys)) (nest_agree lengths xs fits)
       ∙ beside_differ (cut_of lengths xs) ys m n (length-cut_of lengths xs ∙ is_m) is_n differ

@@ -1,5 +1,5 @@
 -- The walk of a segmented extract: the elements so far, and what the segments left give.
-use Rattle.std.proofs.Common.{◌≡◌, ◌∙◌, ℕ, ◌+◌, ◌<◌, ◌≤◌, false, ℤ, pos, List, [], ◌∷◌, ◌++◌, length, take, drop, get_or, eqb, sym, ap, arith, Result, Ok, Err}
+use Rattle.std.proofs.Common.{◌≡◌, ◌≢◌, ◌∙◌, ℕ, ◌+◌, ◌<◌, ◌≤◌, ℤ, pos, List, [], ◌∷◌, ◌++◌, length, take, drop, get_or, sym, ap, arith, Result, Ok, Err}
 use Rattle.std.specs.Prelude.{sum}
 use Rattle.std.specs.List.{zip}
 use Rattle.std.proofs.lemmas.List.{drop_more}
@@ -20,7 +20,7 @@ abbrev pub left : {X : Type 0} → List X → List ℤ → List ℕ → ℕ → 
 left xs index lengths s start = given single at_segment (of_two extract_of) s (zip (cut_of (drop s lengths) (drop start xs)) (drop s index))
 
 module _ {X : Type 0} (xs : List X) (index : List ℤ) (lengths : List ℕ) where
-  pub differ : (m n : ℕ) → sum lengths ≡ length xs → length lengths ≡ m → length index ≡ n → eqb m n ≡ false
+  pub differ : (m n : ℕ) → sum lengths ≡ length xs → length lengths ≡ m → length index ≡ n → m ≢ n
       → seg_extract_of xs index lengths ≡ Err (fault no.LengthMismatch)
   differ m n fits is_m is_n unlike = ap (one_each at_segment (of_two extract_of)) (cut_differ lengths xs index fits m n is_m is_n unlike)
 

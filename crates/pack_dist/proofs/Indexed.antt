@@ -1,5 +1,5 @@
 -- The walk of a segmented index: the numbers so far, and what the segments left give.
-use Rattle.std.proofs.Common.{◌≡◌, ◌∙◌, ℕ, ◌+◌, ◌<◌, ◌≤◌, false, ℤ, pos, List, [], ◌∷◌, ◌++◌, length, drop, get_or, eqb, sym, ap, arith, Result, Ok, Err}
+use Rattle.std.proofs.Common.{◌≡◌, ◌≢◌, ◌∙◌, ℕ, ◌+◌, ◌<◌, ◌≤◌, ℤ, pos, List, [], ◌∷◌, ◌++◌, length, drop, get_or, sym, ap, arith, Result, Ok, Err}
 use Rattle.std.specs.List.{zip}
 use Rattle.std.proofs.lemmas.List.{drop_more, drop_all}
 use Rattle.std.proofs.lemmas.Slice.Zip.{length-zip}
@@ -28,7 +28,7 @@ module _ (inits strides : List ℤ) (lengths : List ℕ) (pairs : length inits �
   length-pairs : length (zip inits strides) ≡ length inits
   length-pairs = omega (arith, pairs, length-zip inits strides)
 
-  pub differ : (m n : ℕ) → length inits ≡ m → length lengths ≡ n → eqb m n ≡ false → seg_index_of inits strides lengths ≡ Err (fault no.LengthMismatch)
+  pub differ : (m n : ℕ) → length inits ≡ m → length lengths ≡ n → m ≢ n → seg_index_of inits strides lengths ≡ Err (fault no.LengthMismatch)
   differ m n is_m is_n unlike =
       ap (λ steps. end_to_end (in_vector lengths) numbers (beside steps (Ok lengths))) (beside_agree inits strides pairs)
       ∙ ap (end_to_end (in_vector lengths) numbers) (beside_differ (zip inits strides) lengths m n (length-pairs ∙ is_m) is_n unlike)

@@ -1,5 +1,5 @@
 -- The walk of a segmented replace: the vector up to where the segments left start, and what these give.
-use Rattle.std.proofs.Common.{◌≡◌, ◌∙◌, ℕ, ◌+◌, ◌<◌, ◌≤◌, false, ℤ, pos, List, [], ◌∷◌, ◌++◌, length, take, drop, set, get_or, eqb, sym, ap, arith, Result, Ok, Err}
+use Rattle.std.proofs.Common.{◌≡◌, ◌≢◌, ◌∙◌, ℕ, ◌+◌, ◌<◌, ◌≤◌, ℤ, pos, List, [], ◌∷◌, ◌++◌, length, take, drop, set, get_or, sym, ap, arith, Result, Ok, Err}
 use Rattle.std.specs.Prelude.{sum}
 use Rattle.std.specs.List.{zip}
 use Rattle.std.proofs.lemmas.List.{drop_more, drop-drop, drop-set-add, drop-set-lt, take_all, take-set-le}
@@ -23,7 +23,7 @@ left xs index values lengths s start =
     given itself at_segment (of_three replace_of) s (zip (zip (cut_of (drop s lengths) (drop start xs)) (drop s index)) (drop s values))
 
 module _ {X : Type 0} (xs : List X) (index : List ℤ) (values : List X) (lengths : List ℕ) where
-  pub index_differ : (m n : ℕ) → sum lengths ≡ length xs → length lengths ≡ m → length index ≡ n → eqb m n ≡ false
+  pub index_differ : (m n : ℕ) → sum lengths ≡ length xs → length lengths ≡ m → length index ≡ n → m ≢ n
       → seg_replace_of xs index values lengths ≡ Err (fault no.LengthMismatch)
   index_differ m n fits is_m is_n unlike =
       ap (λ places. end_to_end at_segment (of_three replace_of) (beside places (Ok values))) (cut_differ lengths xs index fits m n is_m is_n unlike)
@@ -31,7 +31,7 @@ module _ {X : Type 0} (xs : List X) (index : List ℤ) (values : List X) (length
   length-places : length lengths ≡ length index → length (zip (cut_of lengths xs) index) ≡ length lengths
   length-places same = omega (arith, same, length-cut_of lengths xs, length-zip (cut_of lengths xs) index)
 
-  pub values_differ : (m n : ℕ) → sum lengths ≡ length xs → length lengths ≡ length index → length lengths ≡ m → length values ≡ n → eqb m n ≡ false
+  pub values_differ : (m n : ℕ) → sum lengths ≡ length xs → length lengths ≡ length index → length lengths ≡ m → length values ≡ n → m ≢ n
       → seg_replace_of xs index values lengths ≡ Err (fault no.LengthMismatch)
   values_differ m n fits same is_m is_n unlike =
       ap (λ places. end_to_end at_segment (of_three replace_of) (beside places (Ok values))) (cut_agree lengths xs index fits same)

@@ -1,9 +1,7 @@
-//! The checks of lengths, which come before all others.
+//! The length that a count asks for.
 
-ghost use Rattle.std.specs.Prelude.{◌≡◌, ◌≤◌, ◌==◌, false, IfOk, MatchResult};
-ghost use Rattle.cvl_base.specs.declared.fault.FaultNo.TheVariants as no;
+ghost use Rattle.std.specs.Prelude.{◌≡◌, ◌≤◌, IfOk};
 ghost use Rattle.cvl_base.specs.Distributes.{as_length};
-ghost use Rattle.cvl_base.specs.Faults.{fault};
 ghost use Rattle.cvl_base.specs.Limits.{most_elements};
 
 use cvl_base::limits::MOST_ELEMENTS;
@@ -22,15 +20,4 @@ pub(crate) fn length_for(count: &i32) -> Result<usize, Fault>
         return Err(Fault::new(FaultNo::TooLong));
     }
     Ok(length)
-}
-
-/// Checks that two lengths agree, else LengthMismatch.
-pub(crate) fn check_agree(left: usize, right: usize) -> Result<(), Fault>
-    ensures { MatchResult result (λ _. left ≡ right)
-        (λ f. (f ≡ fault no.LengthMismatch) × ((left == right) ≡ false)) }
-{
-    if left != right {
-        return Err(Fault::new(FaultNo::LengthMismatch));
-    }
-    Ok(())
 }

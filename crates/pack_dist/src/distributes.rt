@@ -6,8 +6,8 @@ ghost use Rattle.cvl_base.specs.Gives.{Gives};
 ghost use Rattle.cvl_base.specs.Limits.{most_elements};
 ghost use Rattle.cvl_base.specs.SegmentedCalls.{seg_distribute_of};
 
-use crate::checks::{check_agree, length_for};
-use cvl_base::{Memory, Refused};
+use crate::checks::length_for;
+use cvl_base::{Memory, Refused, check_agree};
 use segdes::SegDes;
 use std::alloc::Allocator;
 

@@ -5,11 +5,9 @@ ghost use Rattle.cvl_base.specs.Extracts.{extract_of};
 ghost use Rattle.cvl_base.specs.Gives.{Gives};
 ghost use Rattle.cvl_base.specs.SegmentedCalls.{seg_extract_of};
 
-use crate::checks::check_agree;
 use crate::places::place_among;
-use cvl_base::{Fault, FaultNo, Memory, Refused};
-use scan_ops::check_total;
-use segdes::SegDes;
+use cvl_base::{Fault, FaultNo, Memory, Refused, check_agree};
+use segdes::{SegDes, check_total};
 
 /// The element at the place that an index names, counted from 0: `ext_vuz` and its like.
 ///

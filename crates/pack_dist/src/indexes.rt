@@ -7,8 +7,8 @@ ghost use Rattle.cvl_base.specs.Limits.{most_elements};
 ghost use Rattle.cvl_base.specs.SegmentedCalls.{seg_index_of};
 ghost use Rattle.pack_dist.specs.Progressions.{progression};
 
-use crate::checks::{check_agree, length_for};
-use cvl_base::{Memory, Refused};
+use crate::checks::length_for;
+use cvl_base::{Memory, Refused, check_agree};
 use segdes::SegDes;
 use std::alloc::Allocator;
 

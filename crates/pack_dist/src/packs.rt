@@ -7,9 +7,8 @@ ghost use Rattle.cvl_base.specs.Limits.{most_elements};
 ghost use Rattle.cvl_base.specs.Packs.{pack_of};
 ghost use Rattle.pack_dist.specs.Kept.{kept_of};
 
-use crate::checks::check_agree;
 use crate::counts::counts_before;
-use cvl_base::{Config, Memory, NoResources, Refused};
+use cvl_base::{Config, Memory, NoResources, Refused, check_agree};
 use std::thread::Threads;
 
 /// The elements whose flag is true, in order: `pck_luz` and `pck_lub`.

@@ -7,8 +7,7 @@ ghost use Rattle.cvl_base.specs.SegmentedCalls.{seg_count_of, seg_pack_of};
 use crate::counts::seg_count;
 use crate::packs::kept;
 use cvl_base::{Config, Lengths, Memory, Refused};
-use scan_ops::check_total;
-use segdes::SegDes;
+use segdes::{SegDes, check_total};
 use std::thread::Threads;
 
 /// The elements of each segment whose flag is true, in order, one segment after another: `pck_lez` and `pck_leb`.

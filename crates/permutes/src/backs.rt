@@ -10,10 +10,9 @@ ghost use Rattle.cvl_base.specs.Permutes.{back_of};
 ghost use Rattle.cvl_base.specs.SegmentedCalls.{seg_back_of};
 ghost use Rattle.permutes.specs.Pushed.{IsPushed, back_from};
 
-use crate::lengths::{check_count, check_total};
 use crate::places::place_among;
-use cvl_base::{Config, Fault, FaultNo, Memory, Refused};
-use segdes::SegDes;
+use cvl_base::{Config, Fault, FaultNo, Memory, Refused, check_agree};
+use segdes::{SegDes, check_total};
 use std::thread::Threads;
 
 /// The element at an index, if the index is a place of the source.
@@ -127,7 +126,7 @@ pub fn seg_back<T: Copy + Send + Sync, R: Threads + Sync, A: Memory>(
 {
     check_total(source, source_d)?;
     check_total(index, index_d)?;
-    check_count(source_d, index_d)?;
+    check_agree(source_d.count(), index_d.count())?;
     let elements = Vec::with_capacity(alloc, index.len())?;
     Ok(with_segments_at(elements, source, index, source_d, index_d)?)
 }

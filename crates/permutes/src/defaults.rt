@@ -7,11 +7,10 @@ ghost use Rattle.cvl_base.specs.Permutes.{default_of};
 ghost use Rattle.cvl_base.specs.SegmentedCalls.{seg_default_of};
 
 use crate::elements::elements_or_defaults;
-use crate::lengths::{as_long, check_count, check_total};
 use crate::segments::send_segments;
 use crate::sends::{NOBODY, send_all};
-use cvl_base::{Config, Memory, Refused};
-use segdes::SegDes;
+use cvl_base::{Config, Memory, Refused, check_agree};
+use segdes::{SegDes, check_total};
 use std::thread::Threads;
 
 /// Each element goes to its index, and a place to which none goes keeps its default: `def_puz` and `def_pub`.
@@ -30,7 +29,7 @@ pub fn default_into<T: Copy + Send + Sync, R: Threads + Sync, A: Memory>(
     ensures values { Gives (λ v. v.items) result (default_of source.now index.now defaults.now) }
     ensures as_long { IfOk result (λ v. vec_len v ≡ length defaults.now) }
 {
-    as_long(source, index)?;
+    check_agree(source.len(), index.len())?;
     let mut senders = vec![in alloc; NOBODY; defaults.len()]?;
     send_all(&mut senders, 0, index)?;
     Ok(elements_or_defaults(alloc, source, &senders, defaults)?)
@@ -60,7 +59,7 @@ pub fn seg_default_into<T: Copy + Send + Sync, R: Threads + Sync, A: Memory>(
     check_total(source, source_d)?;
     check_total(index, source_d)?;
     check_total(defaults, default_d)?;
-    check_count(source_d, default_d)?;
+    check_agree(source_d.count(), default_d.count())?;
     let mut senders = vec![in alloc; NOBODY; defaults.len()]?;
     send_segments(&mut senders, index, source_d, default_d)?;
     Ok(elements_or_defaults(alloc, source, &senders, defaults)?)

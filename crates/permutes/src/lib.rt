@@ -7,7 +7,6 @@
 mod backs;
 mod defaults;
 mod elements;
-mod lengths;
 mod places;
 mod segments;
 mod selects;

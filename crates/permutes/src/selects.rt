@@ -8,11 +8,10 @@ ghost use Rattle.cvl_base.specs.Permutes.{select_of};
 ghost use Rattle.cvl_base.specs.SegmentedCalls.{seg_select_of};
 
 use crate::elements::elements_of;
-use crate::lengths::{as_long, check_total};
 use crate::segments::send_flagged_segments;
 use crate::sends::{NOBODY, send_flagged};
-use cvl_base::{Config, Memory, Refused};
-use segdes::SegDes;
+use cvl_base::{Config, Memory, Refused, check_agree};
+use segdes::{SegDes, check_total};
 use std::thread::Threads;
 
 /// How many flags are true.
@@ -40,8 +39,8 @@ pub fn select<T: Copy + Send + Sync, R: Threads + Sync, A: Memory>(
     ensures values { Gives (λ v. v.items) result (select_of source.now index.now flags.now) }
     ensures in_length { IfOk result (λ v. vec_len v ≤ length index.now) }
 {
-    as_long(source, index)?;
-    as_long(index, flags)?;
+    check_agree(source.len(), index.len())?;
+    check_agree(index.len(), flags.len())?;
     let mut senders = vec![in alloc; NOBODY; count_true(flags)]?;
     send_flagged(&mut senders, 0, index, flags)?;
     Ok(elements_of(alloc, source, &senders)?)

@@ -7,11 +7,10 @@ ghost use Rattle.cvl_base.specs.Permutes.{simple_of};
 ghost use Rattle.cvl_base.specs.SegmentedCalls.{seg_simple_of};
 
 use crate::elements::elements_of;
-use crate::lengths::{as_long, check_total};
 use crate::segments::send_segments;
 use crate::sends::{NOBODY, send_all};
-use cvl_base::{Config, Memory, Refused};
-use segdes::SegDes;
+use cvl_base::{Config, Memory, Refused, check_agree};
+use segdes::{SegDes, check_total};
 use std::thread::Threads;
 
 /// Each element goes to its index, `d[i[k]] = s[k]`: `smp_puz` and `smp_pub`.
@@ -30,7 +29,7 @@ pub fn simple<T: Copy + Send + Sync, R: Threads + Sync, A: Memory>(
     ensures values { Gives (λ v. v.items) result (simple_of source.now index.now) }
     ensures in_length { IfOk result (λ v. vec_len v ≤ length index.now) }
 {
-    as_long(source, index)?;
+    check_agree(source.len(), index.len())?;
     let mut senders = vec![in alloc; NOBODY; index.len()]?;
     send_all(&mut senders, 0, index)?;
     Ok(elements_of(alloc, source, &senders)?)

@@ -8,7 +8,6 @@ mod prefixes;
 pub mod readings;
 mod runs;
 mod sums;
-mod totals;
 
 pub use bools::{bool_reduce, bool_scan, seg_bool_reduce, seg_bool_scan};
 pub use ints::{int_reduce, int_scan, seg_int_reduce, seg_int_scan};
@@ -16,4 +15,3 @@ pub use prefixes::{scan, scan_readings, seg_scan};
 pub use readings::Reading;
 pub use runs::{scan_of_run, sum_of_run};
 pub use sums::{reduce, reduce_readings, seg_reduce, seg_reduce_readings};
-pub use totals::check_total;

@@ -9,10 +9,9 @@ ghost use Rattle.cvl_base.specs.SegmentedCalls.{seg_scan_of};
 use crate::plain::{push_scan_from, push_scan_readings_from};
 use crate::readings::Reading;
 use crate::runs::scan_of_run;
-use crate::totals::check_total;
 use cvl_base::monoid::know_laws;
 use cvl_base::{Config, Memory, Monoid, NoResources, Refused};
-use segdes::SegDes;
+use segdes::{SegDes, check_total};
 use std::thread::Threads;
 
 /// The exclusive scan: element `k` of the result joins the elements before place `k`, from left to right, and is the

@@ -9,10 +9,9 @@ ghost use Rattle.cvl_base.specs.SegmentedCalls.{seg_reduce_of};
 use crate::plain::{sum_from, sum_readings_from};
 use crate::readings::{Itself, Reading};
 use crate::runs::reduces_of_segments;
-use crate::totals::check_total;
 use cvl_base::monoid::know_laws;
 use cvl_base::{Config, Memory, Monoid, NoResources, Refused};
-use segdes::SegDes;
+use segdes::{SegDes, check_total};
 use std::thread::Threads;
 
 /// The elements joined from left to right, and the unit where there are none.

@@ -7,5 +7,7 @@
 mod check;
 pub mod descriptor;
 mod starts;
+mod totals;
 
 pub use descriptor::SegDes;
+pub use totals::check_total;

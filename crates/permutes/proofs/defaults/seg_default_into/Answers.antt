@@ -14,7 +14,7 @@ returns-in_err-send_segments-clause-values g c =
     rw (p.1, p.2)
     (walk_fails (seg_default_of c.args.source.now c.args.index.now c.args.defaults.now d c.args.default_d.now) (fault_from 0 parts)
     (map (λ p. unwrap_or (slice_get c.args.source.now p.0) p.1) (zip (senders_from 0 parts) c.args.defaults.now)) c.in_err-send_segments.field-0.0
-    (seg_default-meaning c.args.source.now c.args.index.now c.args.defaults.now d c.args.default_d.now c.in_ok-check_total.ensures.agree c.in_ok-check_total-2.ensures.agree c.in_ok-check_total-3.ensures.agree c.in_ok-check_count.ensures.agree c.requires.in_limit)
+    (seg_default-meaning c.args.source.now c.args.index.now c.args.defaults.now d c.args.default_d.now c.in_ok-check_total.ensures.agrees c.in_ok-check_total-2.ensures.agrees c.in_ok-check_total-3.ensures.agrees (omega (arith, c.in_ok-check_agree.ensures)) c.requires.in_limit)
     c.in_err-send_segments.ensures.fault)
 
 pub returns-clause-values : goal.returns-clause-values
@@ -23,14 +23,14 @@ returns-clause-values g c =
     let parts = parts_of d c.args.default_d.now c.args.index.now in
     walk_gives (λ (senders : List ℕ). map (λ p. unwrap_or (slice_get c.args.source.now p.0) p.1) (zip senders c.args.defaults.now)) (seg_default_of c.args.source.now c.args.index.now c.args.defaults.now d c.args.default_d.now) (fault_from 0 parts) (senders_from 0 parts)
     c.send_segments.new.senders c.in_ok-senders.senders.items c.deref.result.now c.in_ok-senders.senders.len c.in_ok-elements_or_defaults.field-0.items
-    (seg_default-meaning c.args.source.now c.args.index.now c.args.defaults.now d c.args.default_d.now c.in_ok-check_total.ensures.agree c.in_ok-check_total-2.ensures.agree c.in_ok-check_total-3.ensures.agree c.in_ok-check_count.ensures.agree c.requires.in_limit)
+    (seg_default-meaning c.args.source.now c.args.index.now c.args.defaults.now d c.args.default_d.now c.in_ok-check_total.ensures.agrees c.in_ok-check_total-2.ensures.agrees c.in_ok-check_total-3.ensures.agrees (omega (arith, c.in_ok-check_agree.ensures)) c.requires.in_limit)
     c.in_ok-send_segments.ensures.fault (omega (arith, c.send_segments.auto.senders, c.deref_mut.ensures.len, c.in_ok-senders.ensures.len))
     c.in_ok-send_segments.ensures.sent c.deref.ensures.value c.in_ok-elements_or_defaults.ensures.values
 
-pub returns-in_err-check_count-clause-values : goal.returns-in_err-check_count-clause-values
-returns-in_err-check_count-clause-values g c =
-    let p = err_from_is_err_and c.from_residual-in_err-check_count.result c.from_residual-in_err-check_count.ensures.1 in
-    let differ = c.in_err-check_count.ensures.differ in
+pub returns-in_err-check_agree-clause-values : goal.returns-in_err-check_agree-clause-values
+returns-in_err-check_agree-clause-values g c =
+    let p = err_from_is_err_and c.from_residual-in_err-check_agree.result c.from_residual-in_err-check_agree.ensures.1 in
+    let differ = c.in_err-check_agree.ensures in
     rw (p.1, p.2)
-    (seg_default-differ c.args.source.now c.args.index.now c.args.defaults.now c.args.source_d.now c.args.default_d.now c.in_ok-check_total.ensures.agree c.in_ok-check_total-2.ensures.agree c.in_ok-check_total-3.ensures.agree differ.1
+    (seg_default-differ c.args.source.now c.args.index.now c.args.defaults.now c.args.source_d.now c.args.default_d.now c.in_ok-check_total.ensures.agrees c.in_ok-check_total-2.ensures.agrees c.in_ok-check_total-3.ensures.agrees (λ same. differ.1 (c.count.ensures.value ∙ same ∙ sym c.count-2.ensures.value))
     ∙ ap (λ f. Err f) (sym differ.0))
