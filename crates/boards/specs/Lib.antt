@@ -1,0 +1,2 @@
+pub mod Claims
+pub use Rattle.status_word.specs.Passes
