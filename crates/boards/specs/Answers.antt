@@ -8,6 +8,11 @@ use Rattle.status_word.specs.Passes.{given_at, given_tile, highest, known_at, se
 use Rattle.boards.specs.declared.claim.Claim.{Claim}
 use Rattle.boards.specs.declared.claim.Claim.TheVariants.{Tile, Done}
 use Rattle.boards.specs.Boards.{Board, Seated, new_seat}
+use Rattle.boards.specs.Claims.{Claims}
+
+-- what a claim answered this seat
+abbrev pub IsClaim : {Item : Type 0} → ℕ → Claim → Seated Item → Seated Item → Type 0
+IsClaim tiles answer old new = Claims tiles answer old.pass.hand.given new.pass.hand.given old.is_done new.is_done
 
 -- the seat whose worker took a step
 abbrev pub with_pass : {Item : Type 0} → Seated Item → Pass Item → Seated Item

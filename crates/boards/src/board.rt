@@ -1,11 +1,10 @@
 //! A scan board: how it is made, how its tiles are claimed, and how it is closed.
 
-ghost use Rattle.std.specs.Prelude.{◌≡◌, ◌≤◌, IfOk, length, replicate};
+ghost use Rattle.std.specs.Prelude.{◌≡◌, ◌≤◌, IfOk, length};
 ghost use Rattle.std.specs.List.{All};
 ghost use Rattle.cvl_base.specs.Limits.{most_workers};
-ghost use Rattle.boards.specs.Answers.{IsEnd, IsNew, after_answer};
+ghost use Rattle.boards.specs.Answers.{IsClaim, IsEnd, IsNew, after_answer};
 ghost use Rattle.boards.specs.Boards.{IsSeatOf};
-ghost use Rattle.boards.specs.Claims.{Claims};
 
 use crate::claim::Claim;
 use crate::hands::{deal, gather};
@@ -35,9 +34,16 @@ impl<T: Tiles, A: Allocator> Model for ScanBoard<T, A> {
 
     ghost Value = { Board T.M.Item };
 
-    ghost view = { λ b. record { id = b.table.shared.table_id; sums = T.sums b.counted.tiles; workers = b.counted.workers } };
+    ghost view = { λ b. record {
+      id = b.table.shared.table_id;
+      sums = T.sums b.counted.tiles;
+      workers = b.counted.workers;
+    } };
 
-    ghost invariant = { λ b. (b.table.shared.key ≡ b.counted) × (b.table.shared.table_id.words ≡ length (T.sums b.counted.tiles) + 1) × (b.table.shared.table_id.slots ≡ 0) };
+    ghost invariant = { λ b.
+        (b.table.shared.key ≡ b.counted)
+        × (b.table.shared.table_id.words ≡ length (T.sums b.counted.tiles) + 1)
+        × (b.table.shared.table_id.slots ≡ 0) };
 }
 
 /// What a closed board tells.
@@ -48,7 +54,7 @@ pub struct Ended {
 }
 
 impl<T: Tiles, A: Memory> ScanBoard<T, A> {
-    /// A board over these tiles, and a seat for each of the workers, of whom there are 1 to 64.
+    /// A board over these tiles, of which none is given yet, and a seat for each of the workers, of whom there are 1 to 64.
     pub fn new(
         alloc: A,
         tiles: T,
@@ -66,7 +72,7 @@ impl<T: Tiles, A: Memory> ScanBoard<T, A> {
         };
         rule_law::<<T::M as Monoid>::Item>();
         code_law::<T::M>();
-        let words = zeros(alloc, count as usize + 1)?;
+        let words = Vec::from_elem(alloc, 0, count as usize + 1)?;
         let (table, whole) = Table::of_words(alloc, words.as_slice(), &counted)?;
         let board = ScanBoard { table, counted };
         let seats = deal(alloc, &board, whole)?;
@@ -80,7 +86,7 @@ impl<T: Tiles, A: Allocator> ScanBoard<T, A> {
     pub fn claim(&self, seat: &mut ScanSeat<T::M>) -> Claim
         requires { IsSeatOf self.now seat.old }
         ensures same { IsSeatOf self.now seat.new }
-        ensures claim { Claims (length self.now.sums) result seat.old.pass.hand.given seat.new.pass.hand.given seat.old.is_done seat.new.is_done }
+        ensures claim { IsClaim (length self.now.sums) result seat.old seat.new }
         ensures seat { seat.new ≡ after_answer seat.old result }
     {
         if seat.done {
@@ -116,13 +122,4 @@ impl<T: Tiles, A: Allocator> ScanBoard<T, A> {
             given: claims.min(u64::from(counted.count)) as u32,
         }
     }
-}
-
-/// So many words that are 0.
-fn zeros<A: Memory>(alloc: A, count: usize) -> Result<Vec<u64, A>, NoResources>
-    ensures { IfOk result (λ v. v.items ≡ replicate count 0) }
-{
-    let mut words = Vec::with_capacity(alloc, count)?;
-    words.resize(count, 0)?;
-    Ok(words)
 }

@@ -1,6 +1,6 @@
 //! How the seats of a new board are dealt out, and gathered again when it is closed.
 
-ghost use Rattle.std.specs.Prelude.{◌≡◌, ◌≤◌, [], IfOk, length, map, replicate};
+ghost use Rattle.std.specs.Prelude.{◌≡◌, ◌≤◌, [], IfOk, length, replicate};
 ghost use Rattle.std.specs.List.{All};
 ghost use Rattle.boards.specs.Boards.{IsSeatOf, new_seat};
 ghost use Rattle.boards.specs.Gathered.{IsGathered};
@@ -22,7 +22,8 @@ pub(crate) fn deal<T: Tiles, A: Memory>(
     mut whole: Seat<(), PassOf<T>>,
 ) -> Result<Vec<ScanSeat<T::M>, A>, NoResources>
     requires some { 1 ≤ board.now.workers }
-    requires whole { (whole.table_id ≡ board.now.id) × (whole.me ≡ (first_pass board.now.sums board.now.workers, [])) }
+    requires whole { (whole.table_id ≡ board.now.id)
+        × (whole.me ≡ (first_pass board.now.sums board.now.workers, [])) }
     ensures { IfOk result (λ v. v.items ≡ replicate board.now.workers (new_seat board.now)) }
 {
     rule_law::<<T::M as Monoid>::Item>();
@@ -34,10 +35,11 @@ pub(crate) fn deal<T: Tiles, A: Memory>(
         seats.push(ScanSeat { seat, done: false })?;
         left -= 1;
     }
-    seats.push(ScanSeat {
+    let last = ScanSeat {
         seat: whole,
         done: false,
-    })?;
+    };
+    seats.push(last)?;
     Ok(seats)
 }
 

@@ -41,7 +41,8 @@ impl<T: Tiles, A: Allocator> ScanBoard<T, A> {
         requires tile { t < length self.now.sums }
         ensures same { IsSeatOf self.now seat.new }
         ensures done { seat.new.is_done ≡ seat.old.is_done }
-        ensures before { result.before ≡ before_tile (coding_of T.M.join T.M.unit T.M.to_word T.M.from_word) self.now.sums t }
+        ensures before { result.before
+            ≡ before_tile (coding_of T.M.join T.M.unit T.M.to_word T.M.from_word) self.now.sums t }
         ensures looks { IsLookBack t result.looks seat.old.pass seat.new.pass }
     {
         self.know_sums();
@@ -71,7 +72,8 @@ impl<T: Tiles, A: Allocator> ScanBoard<T, A> {
         requires tile { at < length self.now.sums }
         ensures same { IsSeatOf self.now seat.new }
         ensures done { seat.new.is_done ≡ seat.old.is_done }
-        ensures found { IsFound (coding_of T.M.join T.M.unit T.M.to_word T.M.from_word) self.now.sums at result }
+        ensures found { IsFound
+            (coding_of T.M.join T.M.unit T.M.to_word T.M.from_word) self.now.sums at result }
         ensures step { IsFind at (rank_of result) seat.old.pass seat.new.pass }
     {
         match self.look(seat, at) {
@@ -87,7 +89,8 @@ impl<T: Tiles, A: Allocator> ScanBoard<T, A> {
 
     /// How the sums of the tiles hang together, for the proof of a look-back: the call does nothing.
     fn know_sums(&self)
-        ensures { SumsLaws T.M.is_item (coding_of T.M.join T.M.unit T.M.to_word T.M.from_word) self.now.sums }
+        ensures { SumsLaws T.M.is_item
+            (coding_of T.M.join T.M.unit T.M.to_word T.M.from_word) self.now.sums }
     {
         let _counted = &self.counted;
         sums_law::<T::M>();

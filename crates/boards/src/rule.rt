@@ -1,4 +1,4 @@
-//! The rule of a scan board's table, and what each of its steps tells. These types are for proofs alone, but for the tiles.
+//! The rule of a scan board's table, and what each of its steps tells. But for the tiles, these types are for proofs alone.
 
 ghost use Rattle.std.specs.Prelude.{◌≡◌, ◌≤◌, length};
 ghost use Rattle.std.specs.List.{AllPass};
@@ -33,7 +33,8 @@ pub(crate) type PassOf<T> = Pass<<<T as Tiles>::M as Monoid>::Item>;
 pub(crate) struct ScanRule<T>(PhantomData<T>);
 
 impl<T: Tiles> TableRule<(), PassOf<T>, Counted<T>> for ScanRule<T> {
-    ghost holds = { λ key. IsRuled (coding_of T.M.join T.M.unit T.M.to_word T.M.from_word) (T.sums key.tiles) key.workers };
+    ghost holds = { λ key.
+        IsRuled (coding_of T.M.join T.M.unit T.M.to_word T.M.from_word) (T.sums key.tiles) key.workers };
 
     ghost first = { λ key. first_pass (T.sums key.tiles) key.workers };
 }

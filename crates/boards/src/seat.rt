@@ -23,5 +23,8 @@ impl<M: Monoid> Model for ScanSeat<M> {
 
     ghost view = { λ s. record { id = s.seat.table_id; pass = s.seat.me.0; is_done = s.done } };
 
-    ghost invariant = { λ s. (s.seat.me.1 ≡ []) × (s.seat.me.0.hand.done ≡ (if s.done then 1 else 0)) × (s.seat.me.0.hand.share ≡ 1) };
+    ghost invariant = { λ s.
+        (s.seat.me.1 ≡ [])
+        × (s.seat.me.0.hand.done ≡ (if s.done then 1 else 0))
+        × (s.seat.me.0.hand.share ≡ 1) };
 }

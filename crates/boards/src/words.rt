@@ -22,7 +22,8 @@ impl<T: Tiles, A: Allocator> ScanBoard<T, A> {
         requires seat { IsSeatOf self.now seat.old }
         requires tile { t < length self.now.sums }
         ensures same { IsSeatOf self.now seat.new }
-        ensures lawful { result ≡ told_of (coding_of T.M.join T.M.unit T.M.to_word T.M.from_word) self.now.sums t (state_of result) }
+        ensures lawful { result
+            ≡ told_of (coding_of T.M.join T.M.unit T.M.to_word T.M.from_word) self.now.sums t (state_of result) }
         ensures risen { known_at t seat.old.pass ≤ state_of result }
         ensures seen { seat.new ≡ with_pass seat.old (looked seat.old.pass t (state_of result)) }
     {
@@ -55,7 +56,8 @@ impl<T: Tiles, A: Allocator> ScanBoard<T, A> {
     )
         requires seat { IsSeatOf self.now seat.old }
         requires tile { t < length self.now.sums }
-        requires before { before ≡ before_tile (coding_of T.M.join T.M.unit T.M.to_word T.M.from_word) self.now.sums t }
+        requires before { before
+            ≡ before_tile (coding_of T.M.join T.M.unit T.M.to_word T.M.from_word) self.now.sums t }
         ensures same { IsSeatOf self.now seat.new }
         ensures told { seat.new ≡ with_pass seat.old (told_state seat.old.pass t 2) }
     {
@@ -71,7 +73,8 @@ impl<T: Tiles, A: Allocator> ScanBoard<T, A> {
     )
         requires seat { IsSeatOf self.now seat.old }
         requires tile { t < length self.now.sums }
-        requires sum { sum ≡ sum_at (coding_of T.M.join T.M.unit T.M.to_word T.M.from_word) self.now.sums t }
+        requires sum { sum
+            ≡ sum_at (coding_of T.M.join T.M.unit T.M.to_word T.M.from_word) self.now.sums t }
         ensures same { IsSeatOf self.now seat.new }
         ensures told { seat.new ≡ with_pass seat.old (told_state seat.old.pass t 1) }
     {
@@ -92,8 +95,10 @@ impl<T: Tiles, A: Allocator> ScanBoard<T, A> {
     )
         requires seat { IsSeatOf self.now seat.old }
         requires tile { t < length self.now.sums }
-        requires before { before ≡ before_tile (coding_of T.M.join T.M.unit T.M.to_word T.M.from_word) self.now.sums t }
-        requires sum { sum ≡ sum_at (coding_of T.M.join T.M.unit T.M.to_word T.M.from_word) self.now.sums t }
+        requires before { before
+            ≡ before_tile (coding_of T.M.join T.M.unit T.M.to_word T.M.from_word) self.now.sums t }
+        requires sum { sum
+            ≡ sum_at (coding_of T.M.join T.M.unit T.M.to_word T.M.from_word) self.now.sums t }
         ensures same { IsSeatOf self.now seat.new }
         ensures told { seat.new ≡ with_pass seat.old (told_state seat.old.pass t 2) }
     {
