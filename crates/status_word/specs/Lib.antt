@@ -5,5 +5,6 @@ pub mod Passes
 pub mod Reached
 pub mod RuleSteps
 pub mod Words
+pub mod WorkedPasses
 pub mod WorkedWorlds
 pub mod Worlds

@@ -10,29 +10,30 @@ pub struct Mark {
     pub rank: u8,
 }
 
-/// The part that workers of every kind of board have: the tiles given to a worker, the newest first, how often it was told
-/// that none is left, and for how many workers it stands.
+/// What a pass has on every kind of board: the tiles that were given, the newest first, how often the worker was told that
+/// none is left, and for how many workers the pass stands.
 pub struct Hand {
     /// The tiles given.
     pub given: LinkedList<u32>,
     /// The marks that none is left.
     pub done: u64,
-    /// The number of workers.
+    /// The workers that the pass stands for.
     pub share: u64,
 }
 
-/// What a worker of a single-pass scan did, the newest first. The sums are those of the board's tiles.
+/// What a worker of a single-pass scan did, the newest first; where passes were joined, what several did, one after the
+/// other. The sums are those of the board's tiles.
 ///
 /// Source: the bookkeeping behind Merrill and Garland's decoupled look-back, 2016.
 pub struct Pass<I> {
     /// The sums of the tiles.
     pub sums: LinkedList<(bool, I)>,
-    /// What was given to it.
+    /// What was given.
     pub hand: Hand,
-    /// The states that it told.
+    /// The states told.
     pub told: LinkedList<Mark>,
-    /// The states that it saw.
+    /// The states seen.
     pub seen: LinkedList<Mark>,
-    /// How often it looked.
+    /// The number of looks.
     pub looks: u64,
 }
