@@ -1,6 +1,6 @@
 -- What two crews of one work give together.
 -- Source: what the definitions of Crews imply.
-use Rattle.std.proofs.Common.{◌≡◌, sym, ap, ◌∙◌, ℕ, ◌+◌, ◌-◌, ◌<◌, ◌≤◌, min, Bool, IsTrue, Result, Ok, Err, IfOk, List, [], ◌++◌, length, take, drop, map, arith, length-append}
+use Rattle.std.proofs.Common.{◌≡◌, sym, ℕ, ◌+◌, ◌<◌, ◌≤◌, Bool, IsTrue, Result, Ok, Err, IfOk, List, [], ◌++◌, length, take, drop, map, arith, length-append}
 use Rattle.std.proofs.lemmas.List.{length-take, length-drop}
 use Rattle.std.proofs.lemmas.List.Elements.{All-append, All-take, All-drop}
 use Rattle.crew.specs.Crews.{AreNewSeats, IsCrewed}
