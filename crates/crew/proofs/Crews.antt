@@ -1,9 +1,26 @@
 -- What two crews of one work give together.
 -- Source: what the definitions of Crews imply.
-use Rattle.std.proofs.Common.{◌≡◌, sym, ℕ, ◌+◌, Bool, IsTrue, Result, Ok, Err, IfOk, List, ◌++◌, map, arith, length-append}
-use Rattle.std.proofs.lemmas.List.Elements.{All-append}
-use Rattle.crew.specs.Crews.{IsCrewed}
+use Rattle.std.proofs.Common.{◌≡◌, sym, ℕ, ◌+◌, ◌<◌, ◌≤◌, Bool, IsTrue, Result, Ok, Err, IfOk, List, [], ◌++◌, length, take, drop, map, arith, length-append}
+use Rattle.std.proofs.lemmas.List.{length-take, length-drop}
+use Rattle.std.proofs.lemmas.List.Elements.{All-append, All-take, All-drop}
+use Rattle.crew.specs.Crews.{AreNewSeats, IsCrewed}
 use Rattle.crew.proofs.Pieces.{of_both}
+
+-- new seats that are cut in two are new seats
+module _ {Seat : Type 0} (IsSeat : Seat → Type 0) (given : Seat → List ℕ) (seats : List Seat) (half : ℕ) where
+  pub new_front : 1 ≤ half → half < length seats → AreNewSeats IsSeat given seats → AreNewSeats IsSeat given (take half seats)
+  new_front some others new = record {
+    some = omega (arith, length-take half seats);
+    of_board = All-take IsSeat half seats new.of_board;
+    fresh = All-take (λ seat. given seat ≡ []) half seats new.fresh;
+  }
+
+  pub new_back : half < length seats → AreNewSeats IsSeat given seats → AreNewSeats IsSeat given (drop half seats)
+  new_back others new = record {
+    some = omega (arith, length-drop half seats);
+    of_board = All-drop IsSeat half seats new.of_board;
+    fresh = All-drop (λ seat. given seat ≡ []) half seats new.fresh;
+  }
 
 module _ {Seat Item P : Type 0} (count : ℕ) (items : ℕ → List Item) (IsSeat : Seat → Type 0) (given : Seat → List ℕ) (is_done : Seat → Bool) (view : P → ℕ × List Item) where
   -- the seats and the pieces of both, one list after the other

@@ -46,7 +46,8 @@ pub fn run_crew<R: Threads + Sync, A: Memory, W: Work, G: Gate>(
     ensures as_many { IfOk result (λ crewed. vec_len crewed.seats ≡ vec_len seats) }
     ensures of_board { IfOk result (λ crewed. All (λ seat. W.IsSeat work.now seat) crewed.seats.items) }
     ensures done { IfOk result (λ crewed. All (λ seat. IsTrue (W.is_done seat)) crewed.seats.items) }
-    ensures pieces { IfOk result (λ crewed. ArePiecesOf (W.count work.now) (W.items work.now) (given_to W.given crewed.seats.items)
+    ensures pieces { IfOk result (λ crewed. ArePiecesOf (W.count work.now) (W.items work.now)
+        (given_to W.given crewed.seats.items)
         (map (λ p. (p.tile, p.items.items)) crewed.pieces.items)) }
 {
     run_from(rt, alloc, work, 0, seats, gate)
@@ -54,6 +55,7 @@ pub fn run_crew<R: Threads + Sync, A: Memory, W: Work, G: Gate>(
 
 /// `run_crew` for the workers from number `first` on.
 #[cycle(crew)]
+#[tactic(auto, using(crate::proofs::Crews::new_front, crate::proofs::Crews::new_back))]
 fn run_from<R: Threads + Sync, A: Memory, W: Work, G: Gate>(
     rt: &R,
     alloc: A,
@@ -64,31 +66,56 @@ fn run_from<R: Threads + Sync, A: Memory, W: Work, G: Gate>(
 ) -> Result<Crewed<W, A>, NoResources>
     requires at_most { first + vec_len seats ≤ most_workers }
     requires seats { AreNewSeats (W.IsSeat work.now) W.given seats.items }
-    ensures { IfOk result (λ c. IsCrewed (W.count work.now) (W.items work.now) (W.IsSeat work.now) W.given W.is_done
+    ensures { IfOk result (λ c. IsCrewed (W.count work.now) (W.items work.now)
+        (W.IsSeat work.now) W.given W.is_done
         (vec_len seats) c.seats.items (map (λ p. (p.tile, p.items.items)) c.pieces.items)) }
 {
     if seats.len() == 1 {
         let pieces = take_tiles(alloc, work, first, &mut seats[0], gate)?;
         return Ok(Crewed { pieces, seats });
     }
-    let half = seats.len() / 2;
-    let next = first + half as u32;
-    let others = seats.split_off(half)?;
+    let others = seats.split_off(seats.len() / 2)?;
+    run_both(rt, alloc, work, first, seats, others, gate)
+}
+
+/// `run_crew` for two lists of seats, each in a thread of its own, the workers numbered from `first` on.
+#[cycle(crew)]
+fn run_both<R: Threads + Sync, A: Memory, W: Work, G: Gate>(
+    rt: &R,
+    alloc: A,
+    work: &W,
+    first: u32,
+    seats: Vec<W::Seat, A>,
+    others: Vec<W::Seat, A>,
+    gate: &G,
+) -> Result<Crewed<W, A>, NoResources>
+    requires at_most { first + vec_len seats + vec_len others ≤ most_workers }
+    requires seats { AreNewSeats (W.IsSeat work.now) W.given seats.items }
+    requires others { AreNewSeats (W.IsSeat work.now) W.given others.items }
+    ensures { IfOk result (λ c. IsCrewed (W.count work.now) (W.items work.now)
+        (W.IsSeat work.now) W.given W.is_done
+        (vec_len seats + vec_len others) c.seats.items (map (λ p. (p.tile, p.items.items)) c.pieces.items)) }
+{
+    let next = first + seats.len() as u32;
     // a thread's closure must capture each type that its result names
     let item: PhantomData<W::Item> = PhantomData;
     let front = move || -> Result<Crewed<W, A>, NoResources>
-        requires { IsSync R.row × IsSync W.row × IsSync G.row × IsSend W.Seat.row × IsSend W.Item.row × IsSend A.row × Frees A.Allocator A.dealloc_token
+        requires { IsSync R.row × IsSync W.row × IsSync G.row × IsSend W.Seat.row × IsSend W.Item.row × IsSend A.row
+            × Frees A.Allocator A.dealloc_token
             × (first + vec_len seats ≤ most_workers) × AreNewSeats (W.IsSeat work.now) W.given seats.items }
-        ensures { IfOk result (λ c. IsCrewed (W.count work.entry.now) (W.items work.entry.now) (W.IsSeat work.entry.now) W.given W.is_done
+        ensures { IfOk result (λ c. IsCrewed (W.count work.entry.now) (W.items work.entry.now)
+            (W.IsSeat work.entry.now) W.given W.is_done
             (vec_len seats) c.seats.items (map (λ p. (p.tile, p.items.items)) c.pieces.items)) }
     {
         let _named = item;
         run_from(rt, alloc, work, first, seats, gate)
     };
     let back = move || -> Result<Crewed<W, A>, NoResources>
-        requires { IsSync R.row × IsSync W.row × IsSync G.row × IsSend W.Seat.row × IsSend W.Item.row × IsSend A.row × Frees A.Allocator A.dealloc_token
+        requires { IsSync R.row × IsSync W.row × IsSync G.row × IsSend W.Seat.row × IsSend W.Item.row × IsSend A.row
+            × Frees A.Allocator A.dealloc_token
             × (next + vec_len others ≤ most_workers) × AreNewSeats (W.IsSeat work.now) W.given others.items }
-        ensures { IfOk result (λ c. IsCrewed (W.count work.entry.now) (W.items work.entry.now) (W.IsSeat work.entry.now) W.given W.is_done
+        ensures { IfOk result (λ c. IsCrewed (W.count work.entry.now) (W.items work.entry.now)
+            (W.IsSeat work.entry.now) W.given W.is_done
             (vec_len others) c.seats.items (map (λ p. (p.tile, p.items.items)) c.pieces.items)) }
     {
         let _named = item;

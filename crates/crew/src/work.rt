@@ -29,14 +29,15 @@ pub trait Work: Sync {
 
     ghost is_done: { Self.Seat → Bool };
 
-    /// A tile that was given to nobody before, or the answer that none is left.
+    /// Asks the board for a tile that the seat doesn't have yet. The board answers it, or that none is left.
     fn claim(&self, seat: &mut Self::Seat) -> Claim
         requires { IsSeat self.now seat.old }
-        ensures claims { Claims (count self.now) result (given seat.old) (given seat.new) (is_done seat.old) (is_done seat.new) }
+        ensures claims { Claims (count self.now) result
+            (given seat.old) (given seat.new) (is_done seat.old) (is_done seat.new) }
         ensures stays { IsSeat self.now seat.new };
 
-    /// The items of tile `t`, which was given to the seat. `worker` passes the gate's points between `Claimed` and
-    /// `Finished` that the work has.
+    /// The items of tile `t`, which was given to the seat, or `NoResources` where there is no memory for them. `worker`
+    /// passes the gate's points between `Claimed` and `Finished` that the work has. The seat is given no tile.
     fn tile<A: Memory, G: Gate>(
         &self,
         alloc: A,

@@ -23,7 +23,8 @@ pub(crate) fn take_tiles<A: Memory, W: Work, G: Gate>(
     requires fresh { W.given seat.old ≡ [] }
     ensures of_board { W.IsSeat work.now seat.new }
     ensures done { OnOk result (IsTrue (W.is_done seat.new)) }
-    ensures pieces { IfOk result (λ pieces. ArePiecesOf (W.count work.now) (W.items work.now) (λ t. times t (W.given seat.new))
+    ensures pieces { IfOk result (λ pieces. ArePiecesOf (W.count work.now) (W.items work.now)
+        (λ t. times t (W.given seat.new))
         (map (λ p. (p.tile, p.items.items)) pieces.items)) }
 {
     let mut pieces = Vec::new(alloc);
