@@ -1,6 +1,6 @@
 use Rattle.std.proofs.Common.{◌∙◌, length, sym}
-use Rattle.vector_handles.proofs.ArgumentFaults.{passes, stops, none_left}
-use Rattle.vector_handles.proofs.arguments.fault_of_args.Goals as goal
+use Rattle.bound_names.proofs.ArgumentFaults.{passes, stops, none_left}
+use Rattle.bound_names.proofs.arguments.fault_of_args.Goals as goal
 
 pub loop-place-preserved : goal.loop-place-preserved
 loop-place-preserved g c =

@@ -12,7 +12,7 @@ use Rattle.cvl_base.specs.declared.fault.FaultNo.TheVariants.{UnknownName, Wrong
 use Rattle.cvl_base.specs.Faults.{fault}
 use Rattle.cvl_base.specs.Values.{kind_of}
 use Rattle.cvl_base.specs.Calls.{accepts_of}
-use Rattle.vector_handles.specs.Names.{Entries, value_at}
+use Rattle.bound_names.specs.Names.{Entries, value_at}
 
 -- the fault of an argument of this kind, or of a name that is not bound
 abbrev pub kind_fault : (Kind → Bool) → Option Kind → Option Fault

@@ -1,6 +1,6 @@
 use Rattle.std.proofs.Common.{◌≡◌, length, drop}
-use Rattle.vector_handles.specs.Arguments.{args_fault}
-use Rattle.vector_handles.proofs.arguments.fault_of_args.Given as goal
+use Rattle.bound_names.specs.Arguments.{args_fault}
+use Rattle.bound_names.proofs.arguments.fault_of_args.Given as goal
 
 abbrev pub invariant-loop-place : goal.invariant-loop-place
 invariant-loop-place g l =

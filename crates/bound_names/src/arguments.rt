@@ -3,14 +3,14 @@
 ghost use Rattle.std.specs.Prelude.{◌≡◌, length, option_map};
 ghost use Rattle.cvl_base.specs.Calls.{accepts_of};
 ghost use Rattle.cvl_base.specs.Values.{kind_of};
-ghost use Rattle.vector_handles.specs.Arguments.{arg_value, args_fault, kind_fault};
+ghost use Rattle.bound_names.specs.Arguments.{arg_value, args_fault, kind_fault};
 
 use crate::names::{Names, value_of};
 use cvl_base::{Arg, Fault, FaultNo, Kind, Memory, Op};
 
 /// The first fault of the arguments, from left to right: `UnknownName` where a name is not bound, and `WrongKind` where
 /// the call takes no value of that kind at that place.
-pub(crate) fn fault_of_args<A: Memory>(names: &Names<A>, op: Op, args: &[Arg]) -> Option<Fault>
+pub fn fault_of_args<A: Memory>(names: &Names<A>, op: Op, args: &[Arg]) -> Option<Fault>
     ensures { result ≡ args_fault names.now.entries op (length args.now) 0 args.now }
 {
     for place in 0..args.len() {

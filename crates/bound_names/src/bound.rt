@@ -2,7 +2,7 @@
 
 ghost use Rattle.std.specs.Prelude.{◌≡◌, ◌≤◌, IfOk, None, option_copied, vec_len};
 ghost use Rattle.cvl_base.specs.Limits.{most_elements};
-ghost use Rattle.vector_handles.specs.Arguments.{lengths_of};
+ghost use Rattle.bound_names.specs.Arguments.{lengths_of};
 
 use cvl_base::{Bools, Ints, Memory, NoResources, Value};
 use segdes::SegDes;
@@ -11,15 +11,15 @@ use std::marker::Model;
 /// A bound value, seen as the value. Of a descriptor, the starts of its segments are made once, when it is bound: a
 /// segmented call takes them as they are.
 #[derive(Drop)]
-pub(crate) struct Bound<A: Memory> {
+pub struct Bound<A: Memory> {
     value: Value<A>,
     descriptor: Option<SegDes<A>>,
 }
 
 impl<A: Memory> Model for Bound<A> {
     ghost use Rattle.std.specs.Prelude.{◌≡◌};
-    ghost use Rattle.vector_handles.specs.Names.{BoundValue};
-    ghost use Rattle.vector_handles.specs.Arguments.{lengths_of};
+    ghost use Rattle.bound_names.specs.Names.{BoundValue};
+    ghost use Rattle.bound_names.specs.Arguments.{lengths_of};
 
     ghost Value = { BoundValue A };
 
@@ -30,7 +30,7 @@ impl<A: Memory> Model for Bound<A> {
 
 impl<A: Memory> Bound<A> {
     /// A vector of integers, at most 4,194,304.
-    pub(crate) fn from_integers(items: Vec<i32, A>) -> Bound<A>
+    pub fn from_integers(items: Vec<i32, A>) -> Bound<A>
         requires { vec_len items ≤ most_elements }
         ensures { result ≡ Value.Integers items.items }
     {
@@ -38,7 +38,7 @@ impl<A: Memory> Bound<A> {
     }
 
     /// A vector of booleans, at most 4,194,304.
-    pub(crate) fn from_booleans(items: Vec<bool, A>) -> Bound<A>
+    pub fn from_booleans(items: Vec<bool, A>) -> Bound<A>
         requires { vec_len items ≤ most_elements }
         ensures { result ≡ Value.Booleans items.items }
     {
@@ -46,7 +46,7 @@ impl<A: Memory> Bound<A> {
     }
 
     /// A value that is no descriptor.
-    pub(crate) fn alone(value: Value<A>) -> Bound<A>
+    pub fn alone(value: Value<A>) -> Bound<A>
         requires { lengths_of value ≡ None }
         ensures { result ≡ value }
     {
@@ -57,7 +57,7 @@ impl<A: Memory> Bound<A> {
     }
 
     /// A descriptor, whose lengths are copied into the value.
-    pub(crate) fn from_descriptor(alloc: A, descriptor: SegDes<A>) -> Result<Bound<A>, NoResources>
+    pub fn from_descriptor(alloc: A, descriptor: SegDes<A>) -> Result<Bound<A>, NoResources>
         ensures { IfOk result (λ bound. bound ≡ Value.Descriptor descriptor) }
     {
         let lengths = descriptor.to_lengths(alloc)?;
@@ -68,14 +68,14 @@ impl<A: Memory> Bound<A> {
     }
 
     /// The value.
-    pub(crate) fn value(&self) -> &Value<A>
+    pub fn value(&self) -> &Value<A>
         ensures { result.now ≡ self.now }
     {
         &self.value
     }
 
     /// The descriptor with its starts, where the value is one.
-    pub(crate) fn descriptor(&self) -> Option<&SegDes<A>>
+    pub fn descriptor(&self) -> Option<&SegDes<A>>
         ensures { option_copied result ≡ lengths_of self.now }
     {
         self.descriptor.as_ref()

@@ -9,8 +9,8 @@ use Rattle.cvl_base.specs.Values.{kind_of}
 use Rattle.cvl_base.specs.declared.call.Arg.{Arg}
 use Rattle.cvl_base.specs.declared.fault.Fault.{Fault}
 use Rattle.cvl_base.specs.declared.operation.Op.{Op}
-use Rattle.vector_handles.specs.Arguments.{arg_value, args_fault, kind_fault}
-use Rattle.vector_handles.specs.Names.{Entries}
+use Rattle.bound_names.specs.Arguments.{arg_value, args_fault, kind_fault}
+use Rattle.bound_names.specs.Names.{Entries}
 
 -- the fault of one argument at its place
 abbrev pub arg_fault : {A : Type 0} → Entries A → Op → ℕ → ℕ → Arg → Option Fault

@@ -2,7 +2,7 @@
 
 ghost use Rattle.std.specs.Prelude.{◌≡◌, ◌≤◌, length, option_copied};
 ghost use Rattle.cvl_base.specs.Limits.{most_elements};
-ghost use Rattle.vector_handles.specs.Arguments.{argument_at, boolean_in, booleans_in, descriptor_in, integer_in, integers_in};
+ghost use Rattle.bound_names.specs.Arguments.{argument_at, boolean_in, booleans_in, descriptor_in, integer_in, integers_in};
 
 use crate::bound::Bound;
 use crate::names::{Names, bound_to, value_of};
@@ -10,11 +10,7 @@ use cvl_base::{Arg, Memory, Value};
 use segdes::SegDes;
 
 /// The integers of a vector.
-pub(crate) fn integers_at<'a, A: Memory>(
-    names: &'a Names<A>,
-    args: &[Arg],
-    place: usize,
-) -> &'a [i32]
+pub fn integers_at<'a, A: Memory>(names: &'a Names<A>, args: &[Arg], place: usize) -> &'a [i32]
     ensures value { result.now ≡ integers_in (argument_at names.now.entries args.now place) }
     ensures in_limit { length result.now ≤ most_elements }
 {
@@ -25,11 +21,7 @@ pub(crate) fn integers_at<'a, A: Memory>(
 }
 
 /// The booleans of a vector.
-pub(crate) fn booleans_at<'a, A: Memory>(
-    names: &'a Names<A>,
-    args: &[Arg],
-    place: usize,
-) -> &'a [bool]
+pub fn booleans_at<'a, A: Memory>(names: &'a Names<A>, args: &[Arg], place: usize) -> &'a [bool]
     ensures value { result.now ≡ booleans_in (argument_at names.now.entries args.now place) }
     ensures in_limit { length result.now ≤ most_elements }
 {
@@ -50,7 +42,7 @@ fn booleans_of<'a, A: Memory>(value: Option<&'a Value<A>>) -> &'a [bool]
 }
 
 /// An integer.
-pub(crate) fn integer_at<A: Memory>(names: &Names<A>, args: &[Arg], place: usize) -> i32
+pub fn integer_at<A: Memory>(names: &Names<A>, args: &[Arg], place: usize) -> i32
     ensures { result ≡ integer_in (argument_at names.now.entries args.now place) }
 {
     match args.get(place) {
@@ -61,7 +53,7 @@ pub(crate) fn integer_at<A: Memory>(names: &Names<A>, args: &[Arg], place: usize
 }
 
 /// A boolean.
-pub(crate) fn boolean_at<A: Memory>(names: &Names<A>, args: &[Arg], place: usize) -> bool
+pub fn boolean_at<A: Memory>(names: &Names<A>, args: &[Arg], place: usize) -> bool
     ensures { result ≡ boolean_in (argument_at names.now.entries args.now place) }
 {
     match args.get(place) {
@@ -100,7 +92,7 @@ fn boolean_of<A: Memory>(value: Option<&Value<A>>) -> bool
 }
 
 /// A descriptor with its starts; of an argument that is none, nothing.
-pub(crate) fn descriptor_at<'a, A: Memory>(
+pub fn descriptor_at<'a, A: Memory>(
     names: &'a Names<A>,
     args: &[Arg],
     place: usize,
