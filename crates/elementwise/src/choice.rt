@@ -61,7 +61,7 @@ fn values_chosen<T: Copy + Send + Sync, R: Threads + Sync, A: Memory>(
         values.as_mut_slice(),
         chunk_length,
         |start: usize, chunk: &mut [T]|
-            requires { (start + length chunk.now ≤ length flags.now) × (length flags.now ≡ length a.now) × (length flags.now ≡ length b.now) }
+            requires { (start + length chunk.now ≤ length flags.now) × (start + length chunk.now ≤ length a.now) × (start + length chunk.now ≤ length b.now) }
             ensures { StandFrom (map (λ p. chosen p.0 p.1) (zip flags.entry.now (zip a.entry.now b.entry.now))) start (length chunk.old) chunk.new }
         { write_chosen(flags, a, b, start, chunk) },
     );

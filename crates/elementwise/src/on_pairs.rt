@@ -45,7 +45,7 @@ pub(crate) fn values_on_pairs<
         values.as_mut_slice(),
         chunk_length,
         |start: usize, chunk: &mut [Z]|
-            requires { (start + length chunk.now ≤ length a.now) × (length a.now ≡ length b.now) }
+            requires { (start + length chunk.now ≤ length a.now) × (start + length chunk.now ≤ length b.now) }
             ensures { StandFrom (map (λ p. O.value p.0 p.1) (zip a.entry.now b.entry.now)) start (length chunk.old) chunk.new }
         { write_values::<O, X, Y, Z>(a, b, start, chunk) },
     );
