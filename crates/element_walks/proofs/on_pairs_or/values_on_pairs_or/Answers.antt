@@ -1,7 +1,7 @@
 use Rattle.std.proofs.Common.{arith, ◌∙◌, pos, sym, rules}
 use Rattle.std.proofs.lemmas.Int.{to_z-of_z}
-use Rattle.elementwise.proofs.Walk.{begins, step, ends, ends_all}
-use Rattle.elementwise.proofs.on_pairs_or.values_on_pairs_or.Goals as goal
+use Rattle.element_walks.proofs.Walk.{begins, step, ends, ends_all}
+use Rattle.element_walks.proofs.on_pairs_or.values_on_pairs_or.Goals as goal
 
 pub loop-place-init : goal.loop-place-init
 loop-place-init g c = (search rules, search rules, begins _ _ c.in_ok-values.ensures.items)

@@ -1,6 +1,6 @@
 use Rattle.std.proofs.Common.{◌≡◌, length, drop, vec_len, vec_capacity}
-use Rattle.elementwise.proofs.Walk.{after, values_at}
-use Rattle.elementwise.proofs.on_pairs_or.values_on_pairs_or.Given as goal
+use Rattle.element_walks.proofs.Walk.{after, values_at}
+use Rattle.element_walks.proofs.on_pairs_or.values_on_pairs_or.Given as goal
 
 abbrev pub invariant-loop-place : goal.invariant-loop-place
 invariant-loop-place g l =

@@ -1,6 +1,6 @@
 use Rattle.std.proofs.Common.{arith}
-use Rattle.elementwise.proofs.Standing.{one_more, on_one}
-use Rattle.elementwise.proofs.on_each.write_each.Goals as goal
+use Rattle.element_walks.proofs.Standing.{one_more, on_one}
+use Rattle.element_walks.proofs.on_each.write_each.Goals as goal
 
 pub loop-k-preserved : goal.loop-k-preserved
 loop-k-preserved g c =

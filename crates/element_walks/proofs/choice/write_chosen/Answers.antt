@@ -1,8 +1,8 @@
 use Rattle.std.proofs.Common.{◌<◌, arith, drop, false, get_or, length, length-drop}
 use Rattle.std.proofs.lemmas.List.{get_or_default}
 use Rattle.cvl_base.specs.Elementwise.{chosen}
-use Rattle.elementwise.proofs.Standing.{one_more, on_triple}
-use Rattle.elementwise.proofs.choice.write_chosen.Goals as goal
+use Rattle.element_walks.proofs.Standing.{one_more, on_triple}
+use Rattle.element_walks.proofs.choice.write_chosen.Goals as goal
 
 pub loop-k-preserved : goal.loop-k-preserved
 loop-k-preserved g c =

@@ -10,7 +10,7 @@ ghost use Rattle.cvl_base.specs.Limits.{most_elements};
 use cvl_base::{Fault, FaultNo, Memory, Refused};
 
 /// An operator that has no value on some pairs of integers.
-pub(crate) trait PartialBinary {
+pub trait PartialBinary {
     ghost value: { ℤ → ℤ → Option ℤ };
 
     ghost fault: { FaultNo };
@@ -27,7 +27,7 @@ pub(crate) trait PartialBinary {
 /// a value. One walk over reserved room; no value after that place is asked for.
 // Inlined into a large function the loop keeps its pointers on the stack, and quotients take a third more time.
 #[inline(never)]
-pub(crate) fn values_on_pairs_or<O: PartialBinary, A: Memory>(
+pub fn values_on_pairs_or<O: PartialBinary, A: Memory>(
     alloc: A,
     a: &[i32],
     b: &[i32],
