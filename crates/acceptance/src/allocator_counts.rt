@@ -8,10 +8,12 @@ use std::{mem, thread};
 
 /// Three requests, and three frees where none is refused.
 fn three_boxes<A: Memory>(alloc: A) -> Result<u64, AllocError> {
-    let first = Box::new(alloc, 1u64)?;
-    let second = Box::new(alloc, 2u64)?;
-    let third = Box::new(alloc, 3u64)?;
-    Ok((*first).wrapping_add(*second).wrapping_add(*third))
+    let mut sum = 0u64;
+    for n in 1..4u64 {
+        let boxed = Box::new(alloc, n)?;
+        sum = sum.wrapping_add(*boxed);
+    }
+    Ok(sum)
 }
 
 /// How long a vector gets that asked for room for 5 numbers and then takes them until it can't grow, at most 100.
@@ -27,9 +29,13 @@ fn filled<A: Memory>(alloc: A) -> Result<usize, AllocError> {
 
 /// How many of 1000 requests in a row are refused.
 fn refused_of_1000<A: Memory>(alloc: A) -> usize {
-    (0..1000u64)
-        .filter(|n| Box::new(alloc, *n).is_err())
-        .count()
+    let mut refused = 0usize;
+    for n in 0..1000u64 {
+        if Box::new(alloc, n).is_err() {
+            refused = refused.saturating_add(1);
+        }
+    }
+    refused
 }
 
 /// Three requests in each of two threads.

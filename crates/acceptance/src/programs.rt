@@ -150,17 +150,14 @@ fn texts_messages_and_statuses(rt: HostRuntime) -> Result<(), Fail> {
             Failing::Flush => host.flushes = false,
             Failing::Puts(puts) => host.output.puts_left = *puts,
         }
+        let told = program(&rt, rt.alloc(), words, &mut host);
+        let written = (host.output.taken.as_slice(), host.errors.as_slice());
+        assert_eq!(rt; told, *status, "{words:?}");
         assert_eq!(rt;
-            program(&rt, rt.alloc(), words, &mut host),
-            *status,
+            written,
+            (output.as_bytes(), errors.as_bytes()),
             "{words:?}"
         );
-        assert_eq!(rt;
-            host.output.taken.as_slice(),
-            output.as_bytes(),
-            "{words:?}"
-        );
-        assert_eq!(rt; host.errors.as_slice(), errors.as_bytes(), "{words:?}");
         // so that the messages of two programs don't mix
         assert_eq!(rt; host.messages, u64::from(!errors.is_empty()), "{words:?}");
     }

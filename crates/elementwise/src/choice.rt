@@ -4,10 +4,11 @@ ghost use Rattle.std.specs.Prelude.{◌≡◌, ◌+◌, ◌≤◌, IfOk, length,
 ghost use Rattle.std.specs.List.{zip};
 ghost use Rattle.cvl_base.specs.Elementwise.{choose_of, chosen};
 ghost use Rattle.cvl_base.specs.Gives.{Gives};
-ghost use Rattle.elementwise.specs.Standing.{StandFrom};
+ghost use Rattle.element_walks.specs.Standing.{StandFrom};
 
 use crate::chunks::{FORKED, chunk_length, filled_like};
 use cvl_base::{Config, Memory, NoResources, Refused, check_agree};
+use element_walks::{choose, write_chosen};
 use rayon::prelude::*;
 use std::thread::Threads;
 
@@ -61,32 +62,9 @@ fn values_chosen<T: Copy + Send + Sync, R: Threads + Sync, A: Memory>(
         values.as_mut_slice(),
         chunk_length,
         |start: usize, chunk: &mut [T]|
-            requires { (start + length chunk.now ≤ length flags.now) × (length flags.now ≡ length a.now) × (length flags.now ≡ length b.now) }
+            requires { (start + length chunk.now ≤ length flags.now) × (start + length chunk.now ≤ length a.now) × (start + length chunk.now ≤ length b.now) }
             ensures { StandFrom (map (λ p. chosen p.0 p.1) (zip flags.entry.now (zip a.entry.now b.entry.now))) start (length chunk.old) chunk.new }
         { write_chosen(flags, a, b, start, chunk) },
     );
     Ok(values)
-}
-
-/// Writes the chosen elements from place `start` on, as many as `values` is long.
-fn write_chosen<T: Copy>(flags: &[bool], a: &[T], b: &[T], start: usize, values: &mut [T])
-    requires in_flags { start + length values.old ≤ length flags.now }
-    requires in_a { start + length values.old ≤ length a.now }
-    requires in_b { start + length values.old ≤ length b.now }
-    ensures { StandFrom (map (λ p. chosen p.0 p.1) (zip flags.now (zip a.now b.now))) start (length values.old) values.new }
-{
-    let (_, tests) = flags.split_at(start);
-    let (_, xs) = a.split_at(start);
-    let (_, ys) = b.split_at(start);
-    for k in 0..values.len() {
-        values[k] = choose(tests[k], xs[k], ys[k]);
-    }
-}
-
-/// `a` where the flag is true, else `b`.
-#[inline]
-fn choose<T: Copy>(flag: bool, a: T, b: T) -> T
-    ensures { result ≡ chosen flag (a, b) }
-{
-    if flag { a } else { b }
 }

@@ -2,8 +2,8 @@
 
 ghost use Rattle.cvl_base.specs.Integers.{is_greater, is_less, is_at_least, is_at_most, is_equal, is_unequal};
 
-use crate::on_pairs::Binary;
 use cvl_base::integer;
+use element_walks::Binary;
 
 /// The first is greater.
 pub(crate) struct Greater;

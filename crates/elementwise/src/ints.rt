@@ -7,12 +7,12 @@ ghost use Rattle.cvl_base.specs.Limits.{most_elements};
 
 use crate::chunks::FORKED;
 use crate::on_pairs::values_on_pairs;
-use crate::on_pairs_or::values_on_pairs_or;
 use crate::partials::{Div, Lsh, Mod, Rsh};
 use crate::singles::{IntOfBool, NotInt};
 use crate::totals::{Add, And, Ior, Max, Min, Mul, Sub, Xor};
 use crate::two_parts::values_in_two_parts;
 use cvl_base::{Config, IntBinary, Memory, NoResources, Refused, Unary, check_agree};
+use element_walks::values_on_pairs_or;
 use std::thread::Threads;
 
 /// The operator on each two elements at the same place: `add_wuz` and its like.

@@ -8,7 +8,6 @@ mod comparisons;
 mod ints;
 mod on_each;
 mod on_pairs;
-mod on_pairs_or;
 mod partials;
 mod singles;
 mod totals;

@@ -1,20 +1,13 @@
 //! The walk over one vector by an operator on one element.
 
 ghost use Rattle.std.specs.Prelude.{◌≡◌, ◌+◌, ◌≤◌, IfOk, length, map, vec_len};
-ghost use Rattle.elementwise.specs.Standing.{StandFrom};
+ghost use Rattle.element_walks.specs.Standing.{StandFrom};
 
 use crate::chunks::{FORKED, Shared, chunk_length};
 use cvl_base::{Memory, NoResources};
+use element_walks::{Single, write_each};
 use rayon::prelude::*;
 use std::thread::Threads;
-
-/// An operator on one element.
-pub(crate) trait Single<X, Z>: Send + Sync {
-    ghost value: { X → Z };
-
-    fn apply(a: X) -> Z
-        ensures { result ≡ value a };
-}
 
 /// The operator's values on the elements. Long vectors are cut into chunks, which several threads write into one vector.
 pub(crate) fn values_on_each<
@@ -41,15 +34,4 @@ pub(crate) fn values_on_each<
         { write_each::<O, X, Z>(a, start, chunk) },
     );
     Ok(values)
-}
-
-/// Writes the values on the elements from place `start` on, as many as `values` is long.
-fn write_each<O: Single<X, Z>, X: Copy, Z: Copy>(a: &[X], start: usize, values: &mut [Z])
-    requires in_a { start + length values.old ≤ length a.now }
-    ensures { StandFrom (map O.value a.now) start (length values.old) values.new }
-{
-    let (_, xs) = a.split_at(start);
-    for k in 0..values.len() {
-        values[k] = O::apply(xs[k]);
-    }
 }

@@ -2,20 +2,13 @@
 
 ghost use Rattle.std.specs.Prelude.{◌≡◌, ◌+◌, ◌≤◌, IfOk, length, map, vec_len};
 ghost use Rattle.std.specs.List.{zip};
-ghost use Rattle.elementwise.specs.Standing.{StandFrom};
+ghost use Rattle.element_walks.specs.Standing.{StandFrom};
 
 use crate::chunks::{Shared, chunk_length};
 use cvl_base::{Memory, NoResources};
+use element_walks::{Binary, write_values};
 use rayon::prelude::*;
 use std::thread::Threads;
-
-/// An operator with a value on each two elements.
-pub(crate) trait Binary<X, Y, Z>: Send + Sync {
-    ghost value: { X → Y → Z };
-
-    fn apply(a: X, b: Y) -> Z
-        ensures { result ≡ value a b };
-}
 
 /// The operator's values on the pairs of elements of two equally long vectors. From `forked` elements on the result is
 /// cut into chunks, which several threads write into one vector.
@@ -45,27 +38,9 @@ pub(crate) fn values_on_pairs<
         values.as_mut_slice(),
         chunk_length,
         |start: usize, chunk: &mut [Z]|
-            requires { (start + length chunk.now ≤ length a.now) × (length a.now ≡ length b.now) }
+            requires { (start + length chunk.now ≤ length a.now) × (start + length chunk.now ≤ length b.now) }
             ensures { StandFrom (map (λ p. O.value p.0 p.1) (zip a.entry.now b.entry.now)) start (length chunk.old) chunk.new }
         { write_values::<O, X, Y, Z>(a, b, start, chunk) },
     );
     Ok(values)
-}
-
-/// Writes the values on the pairs from place `start` on, as many as `values` is long.
-fn write_values<O: Binary<X, Y, Z>, X: Copy, Y: Copy, Z: Copy>(
-    a: &[X],
-    b: &[Y],
-    start: usize,
-    values: &mut [Z],
-)
-    requires in_a { start + length values.old ≤ length a.now }
-    requires in_b { start + length values.old ≤ length b.now }
-    ensures { StandFrom (map (λ p. O.value p.0 p.1) (zip a.now b.now)) start (length values.old) values.new }
-{
-    let (_, xs) = a.split_at(start);
-    let (_, ys) = b.split_at(start);
-    for k in 0..values.len() {
-        values[k] = O::apply(xs[k], ys[k]);
-    }
 }

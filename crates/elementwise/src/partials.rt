@@ -3,8 +3,8 @@
 ghost use Rattle.cvl_base.specs.Integers.{quotient_of, remainder_of, left_shift_of, right_shift_of};
 ghost use Rattle.cvl_base.specs.declared.fault.FaultNo.TheVariants as no;
 
-use crate::on_pairs_or::PartialBinary;
 use cvl_base::{FaultNo, integer};
+use element_walks::PartialBinary;
 
 /// The quotient, truncated toward zero; none where the divisor is 0.
 pub(crate) struct Div;

@@ -4,8 +4,8 @@ ghost use Rattle.std.specs.Prelude.{not};
 ghost use Rattle.cvl_base.specs.Conversions.{boolean_of, integer_of};
 ghost use Rattle.cvl_base.specs.Integers.{not_of};
 
-use crate::on_each::Single;
 use cvl_base::{boolean, integer};
+use element_walks::Single;
 
 /// Each of the 32 bits inverted.
 pub(crate) struct NotInt;

@@ -2,8 +2,8 @@
 
 ghost use Rattle.cvl_base.specs.Integers.{sum_of, difference_of, product_of, lesser_of, greater_of, and_of, ior_of, xor_of};
 
-use crate::on_pairs::Binary;
 use cvl_base::integer;
+use element_walks::Binary;
 
 /// The wrapped sum.
 pub(crate) struct Add;

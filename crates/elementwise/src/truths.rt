@@ -2,8 +2,8 @@
 
 ghost use Rattle.cvl_base.specs.Booleans.{both, either, differ};
 
-use crate::on_pairs::Binary;
 use cvl_base::boolean;
+use element_walks::Binary;
 
 /// Both are true.
 pub(crate) struct Both;

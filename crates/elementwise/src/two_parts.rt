@@ -2,8 +2,8 @@
 
 ghost use Rattle.std.specs.Prelude.{◌≡◌, ◌+◌, ◌++◌, IfOk, length, map, vec_len};
 
-use crate::on_each::Single;
 use cvl_base::{Memory, NoResources};
+use element_walks::Single;
 use rayon::{current_num_threads, join};
 use std::thread::Threads;
 

@@ -1,3 +1,2 @@
-pub mod ArgumentFaults
 pub mod BoundNames
 pub mod ResultKinds

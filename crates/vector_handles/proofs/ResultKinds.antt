@@ -16,7 +16,7 @@ use Rattle.cvl_base.specs.Faults.{fault}
 use Rattle.cvl_base.specs.Gives.{◌>>=◌}
 use Rattle.cvl_base.specs.Values.{kind_of}
 use Rattle.vector_handles.specs.declared.input.Input.{Input}
-use Rattle.vector_handles.specs.Arguments.{integer_in}
+use Rattle.bound_names.specs.Arguments.{integer_in}
 use Rattle.vector_handles.specs.CallValues.{HasNamedKind, integers_of, numbered}
 use Rattle.vector_handles.specs.ElementTypes.{integer}
 use Rattle.vector_handles.specs.Families.{ArgumentAt, vector}

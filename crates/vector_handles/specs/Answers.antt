@@ -10,7 +10,7 @@ use Rattle.cvl_base.specs.declared.value.Value.{Value}
 use Rattle.cvl_base.specs.Gives.{Gives}
 use Rattle.call_reader.specs.Texts.{after_bytes}
 use Rattle.vector_handles.specs.declared.shown.Shown.{Shown}
-use Rattle.vector_handles.specs.Arguments.{argument_at}
+use Rattle.bound_names.specs.Arguments.{argument_at}
 use Rattle.vector_handles.specs.CallValues.{table_value}
 use Rattle.vector_handles.specs.Sessions.{State, text_shown}
 use Rattle.vector_handles.specs.Steps.{Stepped, performed, step}

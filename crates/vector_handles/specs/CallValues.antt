@@ -24,7 +24,7 @@ use Rattle.cvl_base.specs.Values.{kind_of}
 use Rattle.call_reader.specs.Inputs.{input_of}
 use Rattle.vector_handles.specs.declared.input.Input.{Input}
 use Rattle.vector_handles.specs.declared.input.Input.TheVariants as input
-use Rattle.vector_handles.specs.Arguments.{integers_in, booleans_in, lengths_in, integer_in}
+use Rattle.bound_names.specs.Arguments.{integers_in, booleans_in, lengths_in, integer_in}
 use Rattle.vector_handles.specs.ElementTypes.{integer, boolean}
 use Rattle.vector_handles.specs.Families.{ArgumentAt, vector, choose_value, scan_value, reduce_value, permute_value, length_value, pack_value, distribute_value, extract_value, replace_value}
 

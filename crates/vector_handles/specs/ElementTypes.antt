@@ -4,7 +4,7 @@
 use Rattle.std.specs.Prelude.{List, Option, Bool, ℤ}
 use Rattle.cvl_base.specs.declared.value.Value.{Value}
 use Rattle.cvl_base.specs.declared.value.Value.TheVariants as value
-use Rattle.vector_handles.specs.Arguments.{integer_in, integers_in, boolean_in, booleans_in}
+use Rattle.bound_names.specs.Arguments.{integer_in, integers_in, boolean_in, booleans_in}
 
 -- the values with one element and with a vector of them, and what a value holds of either
 pub record ElementType (A X : Type 0) : Type 0 where

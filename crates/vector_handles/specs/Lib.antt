@@ -1,8 +1,8 @@
 pub mod Answers
-pub mod Arguments
+pub use Rattle.bound_names.specs.Arguments
 pub mod CallValues
 pub mod ElementTypes
 pub mod Families
-pub mod Names
+pub use Rattle.bound_names.specs.Names
 pub mod Sessions
 pub mod Steps

@@ -4,7 +4,7 @@ use Rattle.std.specs.Prelude.{ℕ, List, Option, Some, None}
 use Rattle.vector_handles.specs.declared.input.Input.{Input}
 use Rattle.vector_handles.specs.declared.shown.Shown.{Shown}
 use Rattle.vector_handles.specs.declared.shown.Shown.TheVariants as shown
-use Rattle.vector_handles.specs.Names.{Entries}
+use Rattle.bound_names.specs.Names.{Entries}
 
 -- the bound names, and the inputs in their order
 pub record State (A : Type 0) : Type 0 where

@@ -14,8 +14,8 @@ use Rattle.cvl_base.specs.Gives.{◌>>=◌, unless, fault_if}
 use Rattle.call_reader.specs.Texts.{value_text}
 use Rattle.vector_handles.specs.declared.input.Input.{Input}
 use Rattle.vector_handles.specs.CallValues.{table_value}
-use Rattle.vector_handles.specs.Names.{Entries, bind, has_room}
-use Rattle.vector_handles.specs.Arguments.{args_fault, argument_at, descriptor_in}
+use Rattle.bound_names.specs.Names.{Entries, bind, has_room}
+use Rattle.bound_names.specs.Arguments.{args_fault, argument_at, descriptor_in}
 
 -- what a line leaves: the bound names, and the text where it is a write
 pub record Stepped (A : Type 0) : Type 0 where

@@ -3,8 +3,8 @@
 ghost use Rattle.std.specs.Prelude.{◌≡◌, OnErr};
 ghost use Rattle.vector_handles.specs.Answers.{IsBinding};
 
-use crate::names::{bind_name, is_room};
 use crate::session::Session;
+use bound_names::{bind_answer, is_room};
 use cvl_base::{Arg, Fault, FaultNo, Memory, Name, Op, Refused};
 use std::thread::Threads;
 
@@ -25,7 +25,7 @@ impl<A: Memory> Session<A> {
         if !is_room(&self.names, target) {
             return Err(Refused::Fault(Fault::new(FaultNo::TooManyNames)));
         }
-        let value = self.value_of_call(rt, op, args)?;
-        Ok(bind_name(&mut self.names, target, value)?)
+        let answer = self.value_of_call(rt, op, args);
+        bind_answer(&mut self.names, target, answer)
     }
 }

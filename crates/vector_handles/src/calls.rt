@@ -3,10 +3,10 @@
 ghost use Rattle.cvl_base.specs.declared.operation.Op.TheVariants as op;
 ghost use Rattle.vector_handles.specs.Answers.{IsTableValue};
 
-use crate::bound::Bound;
-use crate::lookups::{integer_at, integers_at};
 use crate::numbered::{input_numbered, integers_of_input};
 use crate::session::Session;
+use bound_names::Bound;
+use bound_names::lookups::{integer_at, integers_at};
 use cvl_base::{Arg, Fault, FaultNo, Memory, Op, Refused};
 use segdes::SegDes;
 use std::thread::Threads;

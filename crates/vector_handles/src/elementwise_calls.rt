@@ -3,9 +3,9 @@
 ghost use Rattle.cvl_base.specs.declared.operation.Op.TheVariants as op;
 ghost use Rattle.vector_handles.specs.Answers.{IsTableValue};
 
-use crate::bound::Bound;
-use crate::lookups::{booleans_at, integers_at};
 use crate::session::Session;
+use bound_names::Bound;
+use bound_names::lookups::{booleans_at, integers_at};
 use cvl_base::{Arg, BoolBinary, Comparison, Element, IntBinary, Memory, Refused, Unary};
 use elementwise::{bool_from_int, bool1, bool2, compare, int_from_bool, int1, int2, select};
 use std::thread::Threads;

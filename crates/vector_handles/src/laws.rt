@@ -6,7 +6,7 @@ ghost use Rattle.cvl_base.specs.declared.value.Value.{Value};
 ghost use Rattle.vector_handles.specs.declared.input.Input.{Input};
 ghost use Rattle.vector_handles.specs.CallValues.{HasNamedKind};
 ghost use Rattle.vector_handles.specs.Families.{ArgumentAt};
-ghost use Rattle.vector_handles.specs.Names.{BindsName, Entries, KeepsOthers};
+ghost use Rattle.bound_names.specs.Names.{BindsName, Entries, KeepsOthers};
 
 use cvl_base::Memory;
 

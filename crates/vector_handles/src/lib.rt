@@ -1,15 +1,11 @@
 //! The bound names of a script and the calls on them.
 #![tactic(auto)]
 
-mod arguments;
 mod bindings;
-mod bound;
 mod calls;
 mod elementwise_calls;
 pub mod input;
 pub mod laws;
-mod lookups;
-mod names;
 mod numbered;
 mod pack_calls;
 mod permute_calls;

@@ -3,9 +3,9 @@
 ghost use Rattle.cvl_base.specs.declared.operation.Op.TheVariants as op;
 ghost use Rattle.vector_handles.specs.Answers.{IsTableValue};
 
-use crate::bound::Bound;
-use crate::lookups::{booleans_at, integers_at};
 use crate::session::Session;
+use bound_names::Bound;
+use bound_names::lookups::{booleans_at, integers_at};
 use cvl_base::limits::MOST_ELEMENTS;
 use cvl_base::{Arg, Cut, Element, Memory, Refused, Value};
 use pack_dist::{count_true, pack, packed_descriptor, seg_count, seg_pack_values};

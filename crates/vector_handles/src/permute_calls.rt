@@ -5,12 +5,12 @@ ghost use Rattle.cvl_base.specs.declared.operation.Op.TheVariants as op;
 ghost use Rattle.cvl_base.specs.Gives.{Gives};
 ghost use Rattle.cvl_base.specs.Limits.{most_elements};
 ghost use Rattle.vector_handles.specs.Answers.{IsTableValue};
-ghost use Rattle.vector_handles.specs.Arguments.{argument_at, integers_in};
+ghost use Rattle.bound_names.specs.Arguments.{argument_at, integers_in};
 ghost use Rattle.vector_handles.specs.Families.{permuted};
 
-use crate::bound::Bound;
-use crate::lookups::{booleans_at, integers_at};
 use crate::session::Session;
+use bound_names::Bound;
+use bound_names::lookups::{booleans_at, integers_at};
 use cvl_base::{Arg, Cut, Element, Form, Memory, Refused};
 use permutes::{
     back, default_into, seg_back, seg_default_into, seg_select, seg_simple, select, simple,

@@ -2,11 +2,10 @@
 
 ghost use Rattle.std.specs.Prelude.{◌≡◌, [], IfOk, OnErr, option_copied};
 
-use crate::arguments::fault_of_args;
 use crate::input::Input;
-use crate::lookups::descriptor_at;
-use crate::names::{Names, value_of};
 use crate::shown::Shown;
+use bound_names::lookups::descriptor_at;
+use bound_names::{Names, fault_of_args, value_of};
 use cvl_base::{Arg, Call, Config, Lengths, Memory, Name, NoResources, Refused, Value};
 use segdes::SegDes;
 use std::collections::BTreeMap;
@@ -38,9 +37,9 @@ impl<A: Memory> Model for Session<A> {
 }
 
 impl<A: Memory> Session<A> {
-    ghost use Rattle.vector_handles.specs.Names.{value_at};
+    ghost use Rattle.bound_names.specs.Names.{value_at};
     ghost use Rattle.vector_handles.specs.Answers.{IsStep};
-    ghost use Rattle.vector_handles.specs.Arguments.{argument_at, lengths_in};
+    ghost use Rattle.bound_names.specs.Arguments.{argument_at, lengths_in};
 
     /// A session with no name bound, over these inputs, which a script counts from 1.
     pub fn new(

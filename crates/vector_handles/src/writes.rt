@@ -5,12 +5,12 @@ ghost use Rattle.std.specs.Option.{option_copied};
 ghost use Rattle.call_reader.specs.Texts.{cut_text, value_text};
 ghost use Rattle.cvl_base.specs.Gives.{Gives};
 ghost use Rattle.vector_handles.specs.Answers.{Appends};
-ghost use Rattle.vector_handles.specs.Arguments.{argument_at};
+ghost use Rattle.bound_names.specs.Arguments.{argument_at};
 ghost use Rattle.vector_handles.specs.Steps.{name_in, shown_text_of, written};
 
-use crate::lookups::descriptor_at;
-use crate::names::{Names, value_of};
 use crate::session::Session;
+use bound_names::lookups::descriptor_at;
+use bound_names::{Names, value_of};
 use call_reader::put_value;
 use cvl_base::{Arg, Fault, FaultNo, Memory, Refused, Value};
 use segdes::SegDes;

@@ -1,0 +1,5 @@
+pub use Rattle.cvl_base.specs.Calls
+pub use Rattle.cvl_base.specs.Limits
+pub use Rattle.cvl_base.specs.Values
+pub mod Arguments
+pub mod Names

@@ -1,0 +1,83 @@
+//! Bound values, a descriptor with the starts of its segments beside it.
+
+ghost use Rattle.std.specs.Prelude.{◌≡◌, ◌≤◌, IfOk, None, option_copied, vec_len};
+ghost use Rattle.cvl_base.specs.Limits.{most_elements};
+ghost use Rattle.bound_names.specs.Arguments.{lengths_of};
+
+use cvl_base::{Bools, Ints, Memory, NoResources, Value};
+use segdes::SegDes;
+use std::marker::Model;
+
+/// A bound value, seen as the value. Of a descriptor, the starts of its segments are made once, when it is bound: a
+/// segmented call takes them as they are.
+#[derive(Drop)]
+pub struct Bound<A: Memory> {
+    value: Value<A>,
+    descriptor: Option<SegDes<A>>,
+}
+
+impl<A: Memory> Model for Bound<A> {
+    ghost use Rattle.std.specs.Prelude.{◌≡◌};
+    ghost use Rattle.bound_names.specs.Names.{BoundValue};
+    ghost use Rattle.bound_names.specs.Arguments.{lengths_of};
+
+    ghost Value = { BoundValue A };
+
+    ghost view = { λ b. b.value };
+
+    ghost invariant = { λ b. b.descriptor ≡ lengths_of b.value };
+}
+
+impl<A: Memory> Bound<A> {
+    /// A vector of integers, at most 4,194,304.
+    pub fn from_integers(items: Vec<i32, A>) -> Bound<A>
+        requires { vec_len items ≤ most_elements }
+        ensures { result ≡ Value.Integers items.items }
+    {
+        Bound::alone(Value::Integers(Ints::from_vec(items)))
+    }
+
+    /// A vector of booleans, at most 4,194,304.
+    pub fn from_booleans(items: Vec<bool, A>) -> Bound<A>
+        requires { vec_len items ≤ most_elements }
+        ensures { result ≡ Value.Booleans items.items }
+    {
+        Bound::alone(Value::Booleans(Bools::from_vec(items)))
+    }
+
+    /// A value that is no descriptor.
+    pub fn alone(value: Value<A>) -> Bound<A>
+        requires { lengths_of value ≡ None }
+        ensures { result ≡ value }
+    {
+        Bound {
+            value,
+            descriptor: None,
+        }
+    }
+
+    /// A descriptor, whose lengths are copied into the value.
+    pub fn from_descriptor(alloc: A, descriptor: SegDes<A>) -> Result<Bound<A>, NoResources>
+        ensures { IfOk result (λ bound. bound ≡ Value.Descriptor descriptor) }
+    {
+        let lengths = descriptor.to_lengths(alloc)?;
+        Ok(Bound {
+            value: Value::Descriptor(lengths),
+            descriptor: Some(descriptor),
+        })
+    }
+
+    /// The value.
+    pub fn value(&self) -> &Value<A>
+        ensures { result.now ≡ self.now }
+    {
+        &self.value
+    }
+
+    /// The descriptor with its starts, where the value is one.
+    pub fn descriptor(&self) -> Option<&SegDes<A>>
+        ensures { option_copied result ≡ lengths_of self.now }
+    {
+        self.descriptor.as_ref()
+    }
+}

@@ -1,0 +1,4 @@
+pub use Rattle.cvl_base.specs.Elementwise
+pub use Rattle.cvl_base.specs.Gives
+pub use Rattle.cvl_base.specs.Limits
+pub mod Standing
