@@ -1,3 +1,5 @@
 mod Calls
 mod Lines
+mod ProductBound
 mod ProductScript
+mod RowProducts

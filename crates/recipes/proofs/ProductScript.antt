@@ -59,7 +59,7 @@ module _ {A : Type 0} where
   read = refl
 
   module _ (lens cols vals x : List ℤ) where
-    abbrev inputs : List (Input A)
+    abbrev pub inputs : List (Input A)
     inputs = input.Vector lens ∷ input.Vector cols ∷ input.Vector vals ∷ input.Vector x ∷ []
 
     abbrev with_inputs : Entries A
@@ -76,16 +76,16 @@ module _ {A : Type 0} where
     abbrev with_products : List ℕ → List ℤ → List ℤ → Entries A
     with_products d g p = bind (with_gathered d g) (codes "p") (value.Integers p)
 
-    abbrev with_sums : List ℕ → List ℤ → List ℤ → List ℤ → Entries A
+    abbrev pub with_sums : List ℕ → List ℤ → List ℤ → List ℤ → Entries A
     with_sums d g p y = bind (with_products d g p) (codes "y") (value.Integers y)
 
-    abbrev sums : List ℕ → List ℤ → List ℤ → Result (Entries A) Fault
+    abbrev pub sums : List ℕ → List ℤ → List ℤ → Result (Entries A) Fault
     sums d g p = seg_reduce_of sum_of (pos 0) p d >>= λ y. Ok (with_sums d g p y)
 
-    abbrev products : List ℕ → List ℤ → Result (Entries A) Fault
+    abbrev pub products : List ℕ → List ℤ → Result (Entries A) Fault
     products d g = ints2_of int.Mul vals g >>= λ p. sums d g p
 
-    abbrev gathered : List ℕ → Result (Entries A) Fault
+    abbrev pub gathered : List ℕ → Result (Entries A) Fault
     gathered d = back_of x cols >>= λ g. products d g
 
     sums_are : (d : List ℕ) (g p : List ℤ) → names_after_calls (with_products d g p) inputs from_sum ≡ sums d g p
