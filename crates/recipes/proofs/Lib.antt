@@ -1,3 +1,4 @@
+mod Answered
 mod Calls
 mod Lines
 mod ProductBound
