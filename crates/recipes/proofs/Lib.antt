@@ -4,3 +4,5 @@ mod Lines
 mod ProductBound
 mod ProductScript
 mod RowProducts
+mod SightScript
+mod Tables
