@@ -74,7 +74,7 @@ module _ {A : Type 0} where
   read = refl
 
   -- no altitude is at fault
-  pub nothing_seen : names_after [] (input.Vector [] ∷ []) (lines LINE_OF_SIGHT.now) ≡ Err (fault_at IndexOutOfRange 0)
+  pub nothing_seen : names_after {A = A} [] (input.Vector [] ∷ []) (lines LINE_OF_SIGHT.now) ≡ Err (fault_at IndexOutOfRange 0)
   nothing_seen = by_calls [] (input.Vector [] ∷ []) (lines LINE_OF_SIGHT.now) calls read
 
 -- the values that the calls give, each from those before it
@@ -113,7 +113,7 @@ pub record Values (a : List ℤ) : Type 0 where
   pub v_is : replace_of v0 (pos 0) true ≡ Ok v
 
 module _ {A : Type 0} (a : List ℤ) (w : Values a) where
-  abbrev inputs : List (Input A)
+  abbrev pub inputs : List (Input A)
   inputs = input.Vector a ∷ []
 
   abbrev binds_ints : Entries A → List ℕ → List ℤ → Entries A

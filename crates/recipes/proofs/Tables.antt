@@ -1,7 +1,7 @@
 -- Vectors whose element k is a function of k, and what the calls give of them.
 use Rattle.std.proofs.Common.{◌≡◌, ℕ, zero, suc, ◌+◌, ◌*◌, ◌<◌, ◌≤◌, Bool, true, false, not, List, [], ◌∷◌, ◌++◌, length, map, ℤ, pos, ◌+ℤ◌, ◌*ℤ◌, refl, sym, ap, ◌∙◌, eq-eqb, arith, Option, Some, Ok, Err, slice_get, None}
-use Rattle.std.specs.Prelude.{cond, nat_lt, ok_or, replicate, slice_set, if◌then◌else◌}
-use Rattle.std.specs.List.{range_with_len, zip}
+use Rattle.std.specs.Prelude.{◌&&◌, cond, nat_lt, ok_or, replicate, slice_set, if◌then◌else◌}
+use Rattle.std.specs.List.{list_all, range_with_len, zip}
 use Rattle.std.proofs.lemmas.Bool.{lt-ltb, le-ltb}
 use Rattle.std.proofs.lemmas.List.{length-map}
 use Rattle.std.proofs.lemmas.List.FromFn.{map-range_with_len_more}
@@ -38,6 +38,14 @@ same_map f g s (suc n) same =
     let others = same_map f g (s + 1) n (λ k above below. same k (omega arith) (omega arith)) in
     λ i. first i ∷ others i
 
+-- a test of each place of a range
+pub same_tests : (p q : ℕ → Bool) (s n : ℕ) → ((k : ℕ) → s ≤ k → k < s + n → p k ≡ q k) → list_all p (range_with_len s n) ≡ list_all q (range_with_len s n)
+same_tests p q s zero same = refl
+same_tests p q s (suc n) same =
+    let first : p s ≡ q s = same s (omega arith) (omega arith) in
+    let others = same_tests p q (s + 1) n (λ k above below. same k (omega arith) (omega arith)) in
+    λ i. first i && others i
+
 -- ---- elementwise calls, on vectors that are functions of the same places
 
 zipped : {X Y Z : Type 0} (op : X → Y → Z) (f : ℕ → X) (g : ℕ → Y) (ks : List ℕ) → map (λ p. op p.0 p.1) (zip (map f ks) (map g ks)) ≡ map (λ k. op (f k) (g k)) ks
@@ -65,6 +73,11 @@ pairs_or number op f g h ks is =
     ∙ ap (values_from number 0) (zipped op f g ks)
     ∙ all_values number h (λ k. op (f k) (g k)) 0 ks is
 
+-- an operator with one operand
+pub mapped : {X Y : Type 0} (op : X → Y) (f : ℕ → X) (ks : List ℕ) → map op (map f ks) ≡ map (λ k. op (f k)) ks
+mapped op f [] = refl
+mapped op f (k ∷ ks) = ap (λ others. op (f k) ∷ others) (mapped op f ks)
+
 -- ---- calls that make a vector
 
 length_fits : (n : ℕ) → n ≤ most_elements → as_length (pos n) ≡ Ok n
@@ -86,7 +99,7 @@ abbrev pub with_first : {X : Type 0} → X → (ℕ → X) → ℕ → X
 with_first x f zero = x
 with_first x f (suc k) = f (suc k)
 
-after_first : {X : Type 0} (x : X) (f : ℕ → X) (k : ℕ) → 1 ≤ k → f k ≡ with_first x f k
+pub after_first : {X : Type 0} (x : X) (f : ℕ → X) (k : ℕ) → 1 ≤ k → f k ≡ with_first x f k
 after_first x f zero above = absurd (omega arith)
 after_first x f (suc k) above = refl
 
