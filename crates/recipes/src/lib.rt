@@ -3,7 +3,7 @@
 //! [`sparse_matvec`] multiplies a sparse matrix by a vector, and [`line_of_sight`] tells which places an observer sees.
 #![tactic(auto)]
 
-mod laws;
+pub mod laws;
 mod products;
 mod runs;
 mod scripts;
