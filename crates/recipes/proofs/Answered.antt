@@ -1,5 +1,5 @@
 -- What the answer of a recipe says of its script, by how the run ended.
-use Rattle.std.proofs.Common.{◌≡◌, ℕ, ℤ, List, [], refl, sym, ap, ◌∙◌, Some, Option, Ok, Err, Result}
+use Rattle.std.proofs.Common.{◌≡◌, ℕ, List, [], ap, ◌∙◌, Some, Option, Ok, Err, Result}
 use Rattle.std.specs.Result.{IsErrAnd}
 use Rattle.std.specs.Str.Lines.{lines}
 use Rattle.std.proofs.lemmas.Result.{err_from_is_err_and}

@@ -10,7 +10,7 @@ use Rattle.call_reader.specs.Lines.{call_of}
 use Rattle.vector_handles.specs.declared.input.Input.{Input}
 use Rattle.vector_handles.specs.Names.{Entries}
 use Rattle.vector_handles.specs.Steps.{Stepped, step}
-use Rattle.recipes.specs.Recipes.{names_after, names_after_line, names_after_call}
+use Rattle.recipes.specs.Recipes.{names_after, names_after_call}
 
 -- where a definition goes on after another without a fault, the first has a value
 pub value_of : {X Y : Type 0} (first : Result X Fault) (next : X → Result Y Fault) (y : Y) → (first >>= next) ≡ Ok y → (x : X) × (first ≡ Ok x) × (next x ≡ Ok y)

@@ -16,8 +16,8 @@ max_less : (a b y : ℤ) → int_lt (int_max a b) y ≡ (int_lt a y && int_lt b 
 max_less a b y =
     by_lt_z a y
     (λ first. by_lt_z b y
-        (λ second. less_true (int_max a b) y (omega (arith, ints, clamps)) ∙ sym (λ i. less_true a y first i && less_true b y second i))
-        (λ second. less_false (int_max a b) y (omega (arith, ints, clamps)) ∙ sym (λ i. less_true a y first i && less_false b y second i)))
+    (λ second. less_true (int_max a b) y (omega (arith, ints, clamps)) ∙ sym (λ i. less_true a y first i && less_true b y second i))
+    (λ second. less_false (int_max a b) y (omega (arith, ints, clamps)) ∙ sym (λ i. less_true a y first i && less_false b y second i)))
     (λ first. less_false (int_max a b) y (omega (arith, ints, clamps)) ∙ sym (ap (λ t. t && int_lt b y) (less_false a y first)))
 
 and_assoc : (a b c : Bool) → ((a && b) && c) ≡ (a && (b && c))

@@ -1,5 +1,5 @@
 -- The script of the sparse product binds `y` to the product, where its inputs are a matrix and a vector.
-use Rattle.std.proofs.Common.{◌≡◌, ◌≤◌, List, length, map, unsigned_abs, codes, ℤ, pos, sym, ap, ◌∙◌, Some, Ok, arith}
+use Rattle.std.proofs.Common.{◌≡◌, ◌≤◌, List, length, map, unsigned_abs, codes, ℤ, sym, ap, ◌∙◌, Some, Ok, arith}
 use Rattle.std.specs.List.{zip}
 use Rattle.cvl_base.specs.declared.value.Value.TheVariants.{Integers}
 use Rattle.cvl_base.specs.Gives.{◌>>=◌}

@@ -1,5 +1,5 @@
 -- What the script of the sparse product means: its four calls, one after the other.
-use Rattle.std.proofs.Common.{◌≡◌, ℕ, List, [], ◌∷◌, codes, map, pos, ℤ, refl, sym, ap, ◌∙◌, Some, None, Ok, Err, Result}
+use Rattle.std.proofs.Common.{◌≡◌, ℕ, List, [], ◌∷◌, codes, map, pos, ℤ, refl, sym, ap, ◌∙◌, None, Ok, Result}
 use Rattle.std.specs.Str.Lines.{lines}
 use Rattle.cvl_base.specs.declared.fault.Fault.{Fault}
 use Rattle.cvl_base.specs.declared.call.Arg.{Arg}
@@ -11,7 +11,6 @@ use Rattle.cvl_base.specs.declared.families.Form.TheVariants as form
 use Rattle.cvl_base.specs.declared.families.IntBinary.TheVariants as int
 use Rattle.cvl_base.specs.declared.families.IntMonoid.TheVariants as monoid
 use Rattle.cvl_base.specs.declared.operation.Op.TheVariants as op
-use Rattle.cvl_base.specs.declared.value.Value.{Value}
 use Rattle.cvl_base.specs.declared.value.Value.TheVariants as value
 use Rattle.cvl_base.specs.Descriptors.{descriptor_of}
 use Rattle.cvl_base.specs.Elementwise.{ints2_of}
@@ -25,7 +24,7 @@ use Rattle.vector_handles.specs.declared.input.Input.{Input}
 use Rattle.vector_handles.specs.declared.input.Input.TheVariants as input
 use Rattle.vector_handles.specs.Names.{Entries, bind, value_at}
 use Rattle.recipes.specs.declared.scripts.TheConstants.{SPARSE_MATVEC}
-use Rattle.recipes.specs.Recipes.{names_after, bound_by, HasIntegers}
+use Rattle.recipes.specs.Recipes.{names_after, HasIntegers}
 use Rattle.recipes.proofs.Calls.{binds, reads_as, names_after_calls, by_calls, may_go_on, value_of}
 
 abbrev on_names : List (List ℕ) → List Arg

@@ -1,15 +1,13 @@
 -- The calls of the sparse product's script, on a matrix: each has the value that the product asks for.
-use Rattle.std.proofs.Common.{◌≡◌, ℕ, zero, suc, ◌+◌, ◌<◌, ◌≤◌, Bool, true, false, not, List, [], ◌∷◌, length, take, drop, map, sum, unsigned_abs, ℤ, pos, negsuc, ◌+ℤ◌, ◌*ℤ◌, refl, sym, ap, ◌∙◌, eq-eqb, arith, Some, None, Ok, Err, slice_get}
+use Rattle.std.proofs.Common.{◌≡◌, ℕ, suc, ◌+◌, ◌≤◌, true, not, List, [], ◌∷◌, length, take, drop, map, sum, unsigned_abs, ℤ, pos, negsuc, ◌+ℤ◌, refl, sym, ap, ◌∙◌, eq-eqb, arith, Some, None, Ok}
 use Rattle.std.specs.Prelude.{unwrap_or, position, cond, nat_lt, option_map, ok_or}
 use Rattle.std.specs.Int.{w32, is_negative, int_wrap}
 use Rattle.std.specs.List.{AllPass, fold, position_or_len, zip}
-use Rattle.std.proofs.lemmas.Bool.{false≢true, lt-ltb, le-ltb, ltb-true}
+use Rattle.std.proofs.lemmas.Bool.{false≢true, le-ltb, ltb-true}
 use Rattle.std.proofs.lemmas.Int.{int_wrap-add_left, int_wrap-add_right}
 use Rattle.std.proofs.lemmas.List.{length-map, take-map, drop-map}
 use Rattle.std.proofs.lemmas.List.Elements.{All-head, All-tail}
 use Rattle.std.proofs.lemmas.Option.{slice_get-get_or}
-use Rattle.cvl_base.specs.declared.fault.Fault.{Fault}
-use Rattle.cvl_base.specs.declared.fault.FaultNo.{FaultNo}
 use Rattle.cvl_base.specs.declared.fault.FaultNo.TheVariants as no
 use Rattle.cvl_base.specs.declared.families.IntBinary.TheVariants.{Mul}
 use Rattle.cvl_base.specs.Descriptors.{descriptor_of}
@@ -24,7 +22,7 @@ use Rattle.cvl_base.specs.Nests.{cut_of, nest}
 use Rattle.cvl_base.specs.Permutes.{back_of, is_place}
 use Rattle.cvl_base.specs.Segmented.{results_from, in_vector}
 use Rattle.cvl_base.specs.SegmentedCalls.{seg_reduce_of}
-use Rattle.recipes.specs.Products.{at_column, term, row_product, rows_of}
+use Rattle.recipes.specs.Products.{at_column, term, row_product}
 
 -- ---- the lengths
 

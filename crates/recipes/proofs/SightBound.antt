@@ -1,6 +1,6 @@
 -- The script of line of sight binds `v` to the visible places: a slope is above the greatest before it where it is above
 -- each of them.
-use Rattle.std.proofs.Common.{◌≡◌, refl, sym, ap, ◌∙◌, ℕ, zero, suc, ◌+◌, ◌-◌, ◌<◌, ◌≤◌, Bool, true, false, List, [], ◌∷◌, length, map, codes, ℤ, pos, negsuc, ◌-ℤ◌, ◌*ℤ◌, Some, Ok, Err, slice_get, arith}
+use Rattle.std.proofs.Common.{◌≡◌, refl, sym, ap, ◌∙◌, ℕ, zero, suc, ◌-◌, ◌<◌, ◌≤◌, true, false, List, [], ◌∷◌, length, map, codes, ℤ, pos, negsuc, ◌-ℤ◌, ◌*ℤ◌, Some, Ok, slice_get, arith}
 use Rattle.std.specs.Prelude.{int_lt, ◌<ℤ◌, ◌&&◌, not, unwrap_or, unsigned_abs}
 use Rattle.std.specs.Int.{is_negative}
 use Rattle.std.specs.List.{list_all, range_with_len, AllPass}

@@ -1,7 +1,6 @@
 -- What the script of line of sight means: its calls, one after the other, where each has a value.
-use Rattle.std.proofs.Common.{◌≡◌, ℕ, List, [], ◌∷◌, codes, map, drop, length, pos, negsuc, ℤ, Bool, true, refl, sym, ap, ◌∙◌, Some, None, Ok, Err, Result}
+use Rattle.std.proofs.Common.{◌≡◌, ℕ, List, [], ◌∷◌, codes, map, drop, length, pos, negsuc, ℤ, Bool, true, refl, ◌∙◌, None, Ok, Err}
 use Rattle.std.specs.Str.Lines.{lines}
-use Rattle.cvl_base.specs.declared.fault.Fault.{Fault}
 use Rattle.cvl_base.specs.declared.fault.FaultNo.TheVariants.{IndexOutOfRange}
 use Rattle.cvl_base.specs.declared.call.Arg.{Arg}
 use Rattle.cvl_base.specs.declared.call.Arg.TheVariants as arg
@@ -12,7 +11,6 @@ use Rattle.cvl_base.specs.declared.families.Element.TheVariants as of
 use Rattle.cvl_base.specs.declared.families.IntBinary.TheVariants as int
 use Rattle.cvl_base.specs.declared.families.IntMonoid.TheVariants as monoid
 use Rattle.cvl_base.specs.declared.operation.Op.TheVariants as op
-use Rattle.cvl_base.specs.declared.value.Value.{Value}
 use Rattle.cvl_base.specs.declared.value.Value.TheVariants as value
 use Rattle.cvl_base.specs.Distributes.{distribute_of, index_of}
 use Rattle.cvl_base.specs.Elementwise.{ints2_of, compare_of, ints_from_bools}
@@ -24,9 +22,9 @@ use Rattle.cvl_base.specs.Spellings.{op_of, int_binaries, unaries, comparisons, 
 use Rattle.call_reader.specs.Lines.{call_of}
 use Rattle.vector_handles.specs.declared.input.Input.{Input}
 use Rattle.vector_handles.specs.declared.input.Input.TheVariants as input
-use Rattle.vector_handles.specs.Names.{Entries, bind, value_at}
+use Rattle.vector_handles.specs.Names.{Entries, bind}
 use Rattle.recipes.specs.declared.scripts.TheConstants.{LINE_OF_SIGHT}
-use Rattle.recipes.specs.Recipes.{names_after, bound_by}
+use Rattle.recipes.specs.Recipes.{names_after}
 use Rattle.recipes.proofs.Calls.{binds, reads_as, names_after_calls, by_calls, goes_on}
 
 abbrev name : List ℕ → Arg
@@ -122,36 +120,52 @@ module _ {A : Type 0} (a : List ℤ) (w : Values a) where
   -- the names after so many calls
   abbrev n2 : Entries A
   n2 = bind (binds_ints [] (codes "a") a) (codes "n") (value.Integer (pos (length a)))
+
   abbrev n3 : Entries A
   n3 = bind n2 (codes "a0") (value.Integer w.a0)
+
   abbrev n4 : Entries A
   n4 = binds_ints n3 (codes "b") w.b
+
   abbrev n5 : Entries A
   n5 = binds_ints n4 (codes "d") w.d
+
   abbrev n6 : Entries A
   n6 = binds_ints n5 (codes "i") w.i
+
   abbrev n7 : Entries A
   n7 = binds_ints n6 (codes "one") w.one
+
   abbrev n8 : Entries A
   n8 = binds_ints n7 (codes "j") w.j
+
   abbrev n9 : Entries A
   n9 = binds_ints n8 (codes "k") w.k
+
   abbrev n10 : Entries A
   n10 = binds_ints n9 (codes "p") w.p
+
   abbrev n11 : Entries A
   n11 = binds_ints n10 (codes "q") w.q
+
   abbrev n12 : Entries A
   n12 = binds_ints n11 (codes "r") w.r
+
   abbrev n13 : Entries A
   n13 = binds_ints n12 (codes "z") w.z
+
   abbrev n15 : Entries A
   n15 = binds_ints (bind n13 (codes "neg") (value.Booleans w.neg)) (codes "c") (ints_from_bools w.neg)
+
   abbrev n16 : Entries A
   n16 = binds_ints n15 (codes "s0") w.s0
+
   abbrev n18 : Entries A
   n18 = binds_ints (binds_ints n16 (codes "s") w.s) (codes "m") (scan_of greater_of least w.s)
+
   abbrev n19 : Entries A
   n19 = bind n18 (codes "v0") (value.Booleans w.v0)
+
   abbrev pub n20 : Entries A
   n20 = bind n19 (codes "v") (value.Booleans w.v)
 

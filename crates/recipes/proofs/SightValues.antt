@@ -1,5 +1,5 @@
 -- The values of the calls of line of sight, element by element.
-use Rattle.std.proofs.Common.{◌≡◌, refl, sym, ap, ◌∙◌, ℕ, ◌+◌, ◌<◌, ◌≤◌, Bool, true, List, length, map, ℤ, pos, ◌+ℤ◌, ◌*ℤ◌, Some, Ok, slice_get, arith}
+use Rattle.std.proofs.Common.{◌≡◌, refl, sym, ap, ◌∙◌, ℕ, ◌+◌, ◌<◌, ◌≤◌, Bool, true, List, length, ℤ, pos, ◌+ℤ◌, ◌*ℤ◌, Some, slice_get, arith}
 use Rattle.std.specs.Prelude.{ok_or, unwrap_or}
 use Rattle.std.specs.List.{range_with_len}
 use Rattle.std.proofs.lemmas.Option.{slice_get-get_or}

@@ -1,6 +1,6 @@
 -- The slopes that the script of line of sight computes: none of its numbers wraps, and each slope is a floor.
-use Rattle.std.proofs.Common.{◌≡◌, ◌≢◌, refl, sym, ap, ◌∙◌, ℕ, zero, suc, ◌+◌, ◌-◌, ◌*◌, ◌/◌, ◌%◌, ◌^◌, ◌<◌, ◌≤◌, Bool, true, false, ℤ, pos, negsuc, ◌+ℤ◌, ◌-ℤ◌, ◌*ℤ◌, Some, None, FitsSigned, w32, arith, subst}
-use Rattle.std.specs.Prelude.{int_lt, int_div, int_rem, neg_ℤ, unsigned_abs, ◌≤ℤ◌, ◌<ℤ◌, if◌then◌else◌}
+use Rattle.std.proofs.Common.{◌≡◌, ◌≢◌, refl, sym, ap, ◌∙◌, ℕ, zero, suc, ◌+◌, ◌-◌, ◌*◌, ◌/◌, ◌<◌, ◌≤◌, Bool, true, false, ℤ, pos, negsuc, ◌+ℤ◌, ◌-ℤ◌, ◌*ℤ◌, Some, None, FitsSigned, w32, arith, subst}
+use Rattle.std.specs.Prelude.{int_div, int_rem, neg_ℤ, unsigned_abs, ◌<ℤ◌, if◌then◌else◌}
 use Rattle.std.specs.Ordering.{int_eq}
 use Rattle.std.proofs.lemmas.Bool.{false_from_ne_true, le-ltb}
 use Rattle.std.proofs.lemmas.Bool.Decides.{Decides-int_eq}
@@ -97,7 +97,7 @@ slope_is_floor h base k low some few =
     let above : negsuc 2147483647 <ℤ (q -ℤ c) = omega (arith, ints) in
     let place_here = place_is k some few in
     let is : slope h base k ≡ q -ℤ c =
-        (λ i. difference_of (wrap (int_div (scaled_is i) (place_here i))) (integer_of (is_less (int_rem (scaled_is i) (place_here i)) (pos 0))))
-        ∙ ap (λ z. difference_of z c) (int_wrap_fits w32 q q_fits)
-        ∙ int_wrap_fits w32 (q -ℤ c) slope_fits in
+    (λ i. difference_of (wrap (int_div (scaled_is i) (place_here i))) (integer_of (is_less (int_rem (scaled_is i) (place_here i)) (pos 0))))
+    ∙ ap (λ z. difference_of z c) (int_wrap_fits w32 q q_fits)
+    ∙ int_wrap_fits w32 (q -ℤ c) slope_fits in
     (subst (λ z. IsFloor scaled k z) (sym is) floor, subst (λ z. negsuc 2147483647 <ℤ z) (sym is) above)

@@ -1,6 +1,6 @@
 -- Vectors whose element k is a function of k, and what the calls give of them.
-use Rattle.std.proofs.Common.{◌≡◌, ℕ, zero, suc, ◌+◌, ◌*◌, ◌<◌, ◌≤◌, Bool, true, false, not, List, [], ◌∷◌, ◌++◌, length, map, ℤ, pos, ◌+ℤ◌, ◌*ℤ◌, refl, sym, ap, ◌∙◌, eq-eqb, arith, Option, Some, Ok, Err, slice_get, None}
-use Rattle.std.specs.Prelude.{◌&&◌, cond, nat_lt, ok_or, replicate, slice_set, if◌then◌else◌}
+use Rattle.std.proofs.Common.{◌≡◌, ℕ, zero, suc, ◌+◌, ◌<◌, ◌≤◌, Bool, not, List, [], ◌∷◌, ◌++◌, length, map, ℤ, pos, ◌+ℤ◌, ◌*ℤ◌, refl, sym, ap, ◌∙◌, eq-eqb, arith, Option, Some, Ok, slice_get, None}
+use Rattle.std.specs.Prelude.{◌&&◌, ok_or, replicate, slice_set, if◌then◌else◌}
 use Rattle.std.specs.List.{list_all, range_with_len, zip}
 use Rattle.std.proofs.lemmas.Bool.{lt-ltb, le-ltb}
 use Rattle.std.proofs.lemmas.List.{length-map}

@@ -1,7 +1,7 @@
 -- The product of a sparse matrix with a vector. The matrix is kept by rows: how many entries each row has, and then the
 -- column and the value of each entry, row after row.
 -- Source: Blelloch, Vector Models for Data-Parallel Computing, 1990, the product of a sparse matrix with a dense vector.
-use Rattle.std.specs.Prelude.{◌≡◌, ℕ, ℤ, pos, ◌+ℤ◌, ◌*ℤ◌, unsigned_abs, List, length, map, sum, Option, unwrap_or}
+use Rattle.std.specs.Prelude.{◌≡◌, ℤ, pos, ◌+ℤ◌, ◌*ℤ◌, unsigned_abs, List, length, map, sum, unwrap_or}
 use Rattle.std.specs.List.{zip, AllPass}
 use Rattle.cvl_base.specs.Extracts.{element_at}
 use Rattle.cvl_base.specs.Folds.{fold_of}

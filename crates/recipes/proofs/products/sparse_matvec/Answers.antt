@@ -1,4 +1,4 @@
-use Rattle.std.proofs.Common.{◌≡◌, ◌≤◌, List, ℤ, Ok, codes, length, arith}
+use Rattle.std.proofs.Common.{◌≤◌, List, ℤ, Ok, codes, length, arith}
 use Rattle.cvl_base.specs.declared.value.Value.TheVariants as value
 use Rattle.cvl_base.specs.Limits.{most_elements}
 use Rattle.recipes.specs.declared.scripts.TheConstants.{SPARSE_MATVEC}

@@ -1,4 +1,4 @@
-use Rattle.std.proofs.Common.{◌≡◌, Ok, map, length, drop}
+use Rattle.std.proofs.Common.{◌≡◌, length, drop}
 use Rattle.std.specs.Str.Lines.{lines}
 use Rattle.recipes.specs.Recipes.{names_after}
 use Rattle.recipes.proofs.runs.apply_lines.Given as goal

@@ -1,4 +1,4 @@
-use Rattle.std.proofs.Common.{◌≡◌, ◌≤◌, List, [], ◌∷◌, Bool, Ok, codes, length, arith}
+use Rattle.std.proofs.Common.{◌≤◌, List, [], ◌∷◌, Bool, Ok, codes, length, arith}
 use Rattle.cvl_base.specs.declared.value.Value.TheVariants as value
 use Rattle.cvl_base.specs.Limits.{most_elements}
 use Rattle.vector_handles.specs.declared.input.Input.TheVariants as input
