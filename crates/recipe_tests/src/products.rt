@@ -126,11 +126,7 @@ const CASES: &[Case] = &[
 ];
 
 /// Whether the product of a case is its answer.
-fn is_answer<R: Threads + Sync, A: Memory>(
-    rt: &R,
-    heap: A,
-    case: &Case,
-) -> Result<bool, Refused> {
+fn is_answer<R: Threads + Sync, A: Memory>(rt: &R, heap: A, case: &Case) -> Result<bool, Refused> {
     let config = Config::new(2, 3).unwrap();
     let lens = vector_of(heap, case.lens)?;
     let cols = vector_of(heap, case.cols)?;

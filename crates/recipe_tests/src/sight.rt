@@ -65,6 +65,9 @@ fn steady_slope(rt: HostRuntime) -> Result<(), Fail> {
         altitudes.push(altitude)?;
         answer.push(altitude < 2)?;
     }
-    assert_eq!(rt; is_answer(&rt, rt.alloc(), altitudes.as_slice(), Ok(answer.as_slice())), Ok(true));
+    assert_eq!(rt;
+        is_answer(&rt, rt.alloc(), altitudes.as_slice(), Ok(answer.as_slice())),
+        Ok(true)
+    );
     Ok(())
 }

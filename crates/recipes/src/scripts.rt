@@ -17,7 +17,7 @@ write y
 
 /// For each place of a line of altitudes whether an observer at place 0 sees it, bound to `v`.
 ///
-/// Its input are the altitudes. For places i from 1 on, `s` is the slope to place i as the floor of 65536 times the rise
+/// Its input is the vector of altitudes. For places i from 1 on, `s` is the slope to place i as the floor of 65536 times the rise
 /// divided by i: subtracting `c` makes the floor of the truncated quotient. Up to 256 altitudes from 0 to 32767 these
 /// floors are ordered as the fractions are, and nothing wraps.
 /// Source: Blelloch, Vector Models for Data-Parallel Computing, 1990.
