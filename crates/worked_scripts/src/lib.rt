@@ -11,6 +11,7 @@ pub mod fault_order;
 pub mod packs;
 pub mod permute_calls;
 pub mod pointwise;
+pub mod recipe_faults;
 pub mod scans;
 pub mod scripts;
 pub mod writes;

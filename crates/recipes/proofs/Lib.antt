@@ -1,0 +1,13 @@
+mod Answered
+mod Calls
+mod Fractions
+mod Greatest
+mod Lines
+mod ProductBound
+mod ProductScript
+mod RowProducts
+mod SightBound
+mod SightScript
+mod SightValues
+mod Slopes
+mod Tables

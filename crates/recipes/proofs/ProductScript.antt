@@ -1,0 +1,117 @@
+-- What the script of the sparse product means: its four calls, one after the other.
+use Rattle.std.proofs.Common.{◌≡◌, ℕ, List, [], ◌∷◌, codes, map, pos, ℤ, refl, sym, ap, ◌∙◌, None, Ok, Result}
+use Rattle.std.specs.Str.Lines.{lines}
+use Rattle.cvl_base.specs.declared.fault.Fault.{Fault}
+use Rattle.cvl_base.specs.declared.call.Arg.{Arg}
+use Rattle.cvl_base.specs.declared.call.Arg.TheVariants as arg
+use Rattle.cvl_base.specs.declared.call.Call.{Call}
+use Rattle.cvl_base.specs.declared.families.Cut.TheVariants.{Flat, Segmented}
+use Rattle.cvl_base.specs.declared.families.Element.TheVariants as of
+use Rattle.cvl_base.specs.declared.families.Form.TheVariants as form
+use Rattle.cvl_base.specs.declared.families.IntBinary.TheVariants as int
+use Rattle.cvl_base.specs.declared.families.IntMonoid.TheVariants as monoid
+use Rattle.cvl_base.specs.declared.operation.Op.TheVariants as op
+use Rattle.cvl_base.specs.declared.value.Value.TheVariants as value
+use Rattle.cvl_base.specs.Descriptors.{descriptor_of}
+use Rattle.cvl_base.specs.Elementwise.{ints2_of}
+use Rattle.cvl_base.specs.Gives.{◌>>=◌}
+use Rattle.cvl_base.specs.Integers.{sum_of}
+use Rattle.cvl_base.specs.Permutes.{back_of}
+use Rattle.cvl_base.specs.SegmentedCalls.{seg_reduce_of}
+use Rattle.cvl_base.specs.Spellings.{op_of, int_binaries, unaries, comparisons, bool_binaries, int_monoids, forms, elements}
+use Rattle.call_reader.specs.Lines.{call_of}
+use Rattle.vector_handles.specs.declared.input.Input.{Input}
+use Rattle.vector_handles.specs.declared.input.Input.TheVariants as input
+use Rattle.vector_handles.specs.Names.{Entries, bind, value_at}
+use Rattle.recipes.specs.declared.scripts.TheConstants.{SPARSE_MATVEC}
+use Rattle.recipes.specs.Recipes.{names_after, HasIntegers}
+use Rattle.recipes.proofs.Calls.{binds, reads_as, names_after_calls, by_calls, may_go_on, value_of}
+
+abbrev on_names : List (List ℕ) → List Arg
+on_names names = map arg.Name names
+
+module _ {A : Type 0} where
+  -- the calls from the last on, and from each on that may have a fault
+  abbrev from_write : List (Call A)
+  from_write = record { target = None; op = op.Write; args = on_names (codes "y" ∷ []) } ∷ []
+
+  abbrev from_sum : List (Call A)
+  from_sum = binds (codes "y") (op.Reduce monoid.Add Segmented) (on_names (codes "p" ∷ codes "d" ∷ [])) ∷ from_write
+
+  abbrev from_product : List (Call A)
+  from_product = binds (codes "p") (op.Ints2 int.Mul) (on_names (codes "vals" ∷ codes "g" ∷ [])) ∷ from_sum
+
+  abbrev from_permute : List (Call A)
+  from_permute = binds (codes "g") (op.Permute form.Back Flat of.Integer) (on_names (codes "x" ∷ codes "cols" ∷ [])) ∷ from_product
+
+  abbrev calls : List (Call A)
+  calls =
+      binds (codes "lens") op.Input (arg.Integer (pos 1) ∷ [])
+      ∷ binds (codes "cols") op.Input (arg.Integer (pos 2) ∷ [])
+      ∷ binds (codes "vals") op.Input (arg.Integer (pos 3) ∷ [])
+      ∷ binds (codes "x") op.Input (arg.Integer (pos 4) ∷ [])
+      ∷ binds (codes "d") op.MakeDescriptor (on_names (codes "lens" ∷ []))
+      ∷ from_permute
+
+  pub read : map call_of (lines SPARSE_MATVEC.now) ≡ map reads_as calls
+  unfolding op_of int_binaries unaries comparisons bool_binaries int_monoids forms elements
+  read = refl
+
+  module _ (lens cols vals x : List ℤ) where
+    abbrev pub inputs : List (Input A)
+    inputs = input.Vector lens ∷ input.Vector cols ∷ input.Vector vals ∷ input.Vector x ∷ []
+
+    abbrev with_inputs : Entries A
+    with_inputs =
+        (codes "cols", value.Integers cols) ∷ (codes "lens", value.Integers lens) ∷ (codes "vals", value.Integers vals)
+        ∷ (codes "x", value.Integers x) ∷ []
+
+    abbrev with_rows : List ℕ → Entries A
+    with_rows d = bind with_inputs (codes "d") (value.Descriptor d)
+
+    abbrev with_gathered : List ℕ → List ℤ → Entries A
+    with_gathered d g = bind (with_rows d) (codes "g") (value.Integers g)
+
+    abbrev with_products : List ℕ → List ℤ → List ℤ → Entries A
+    with_products d g p = bind (with_gathered d g) (codes "p") (value.Integers p)
+
+    abbrev pub with_sums : List ℕ → List ℤ → List ℤ → List ℤ → Entries A
+    with_sums d g p y = bind (with_products d g p) (codes "y") (value.Integers y)
+
+    abbrev pub sums : List ℕ → List ℤ → List ℤ → Result (Entries A) Fault
+    sums d g p = seg_reduce_of sum_of (pos 0) p d >>= λ y. Ok (with_sums d g p y)
+
+    abbrev pub products : List ℕ → List ℤ → Result (Entries A) Fault
+    products d g = ints2_of int.Mul vals g >>= λ p. sums d g p
+
+    abbrev pub gathered : List ℕ → Result (Entries A) Fault
+    gathered d = back_of x cols >>= λ g. products d g
+
+    sums_are : (d : List ℕ) (g p : List ℤ) → names_after_calls (with_products d g p) inputs from_sum ≡ sums d g p
+    sums_are d g p = may_go_on (seg_reduce_of sum_of (pos 0) p d) (λ y. value.Integers y) (bind (with_products d g p) (codes "y")) inputs from_write
+
+    products_are : (d : List ℕ) (g : List ℤ) → names_after_calls (with_gathered d g) inputs from_product ≡ products d g
+    products_are d g =
+        may_go_on (ints2_of int.Mul vals g) (λ p. value.Integers p) (bind (with_gathered d g) (codes "p")) inputs from_sum
+        ∙ (λ i. ints2_of int.Mul vals g >>= λ p. sums_are d g p i)
+
+    gathered_are : (d : List ℕ) → names_after_calls (with_rows d) inputs from_permute ≡ gathered d
+    gathered_are d =
+        may_go_on (back_of x cols) (λ g. value.Integers g) (bind (with_rows d) (codes "g")) inputs from_product
+        ∙ (λ i. back_of x cols >>= λ g. products_are d g i)
+
+    pub meaning_is : names_after [] inputs (lines SPARSE_MATVEC.now) ≡ (descriptor_of lens >>= gathered)
+    meaning_is =
+        by_calls [] inputs (lines SPARSE_MATVEC.now) calls read
+        ∙ may_go_on (descriptor_of lens) (λ d. value.Descriptor d) (bind with_inputs (codes "d")) inputs from_permute
+        ∙ (λ i. descriptor_of lens >>= λ d. gathered_are d i)
+
+    -- where the script has no fault, each of its calls has a value
+    pub binds_integers : (names : Entries A) → names_after [] inputs (lines SPARSE_MATVEC.now) ≡ Ok names → HasIntegers names (codes "y")
+    binds_integers names is =
+        let d = value_of (descriptor_of lens) gathered names (sym meaning_is ∙ is) in
+        let g = value_of (back_of x cols) (products d.0) names d.2 in
+        let p = value_of (ints2_of int.Mul vals g.0) (sums d.0 g.0) names g.2 in
+        let y = value_of (seg_reduce_of sum_of (pos 0) p.0 d.0) (λ y. Ok (with_sums d.0 g.0 p.0 y)) names p.2 in
+        let all : with_sums d.0 g.0 p.0 y.0 ≡ names = cc in
+        (y.0, sym (ap (λ ns. value_at ns (codes "y")) all))

@@ -1,0 +1,118 @@
+-- The calls of the sparse product's script, on a matrix: each has the value that the product asks for.
+use Rattle.std.proofs.Common.{◌≡◌, ℕ, suc, ◌+◌, ◌≤◌, true, not, List, [], ◌∷◌, length, take, drop, map, sum, unsigned_abs, ℤ, pos, negsuc, ◌+ℤ◌, refl, sym, ap, ◌∙◌, eq-eqb, arith, Some, None, Ok}
+use Rattle.std.specs.Prelude.{unwrap_or, position, cond, nat_lt, option_map, ok_or}
+use Rattle.std.specs.Int.{w32, is_negative, int_wrap}
+use Rattle.std.specs.List.{AllPass, fold, position_or_len, zip}
+use Rattle.std.proofs.lemmas.Bool.{false≢true, le-ltb, ltb-true}
+use Rattle.std.proofs.lemmas.Int.{int_wrap-add_left, int_wrap-add_right}
+use Rattle.std.proofs.lemmas.List.{length-map, take-map, drop-map}
+use Rattle.std.proofs.lemmas.List.Elements.{All-head, All-tail}
+use Rattle.std.proofs.lemmas.Option.{slice_get-get_or}
+use Rattle.cvl_base.specs.declared.fault.FaultNo.TheVariants as no
+use Rattle.cvl_base.specs.declared.families.IntBinary.TheVariants.{Mul}
+use Rattle.cvl_base.specs.Descriptors.{descriptor_of}
+use Rattle.cvl_base.specs.Elementwise.{ints2_of, values_from}
+use Rattle.cvl_base.specs.Extracts.{element_at}
+use Rattle.cvl_base.specs.Faults.{fault, fault_at}
+use Rattle.cvl_base.specs.Folds.{fold_of}
+use Rattle.cvl_base.specs.Gives.{◌>>=◌, unless, fault_if}
+use Rattle.cvl_base.specs.Integers.{sum_of, product_of, wrap}
+use Rattle.cvl_base.specs.Limits.{most_elements}
+use Rattle.cvl_base.specs.Nests.{cut_of, nest}
+use Rattle.cvl_base.specs.Permutes.{back_of, is_place}
+use Rattle.cvl_base.specs.Segmented.{results_from, in_vector}
+use Rattle.cvl_base.specs.SegmentedCalls.{seg_reduce_of}
+use Rattle.recipes.specs.Products.{at_column, term, row_product}
+
+-- ---- the lengths
+
+found_at_end : (sizes : List ℕ) → position_or_len is_negative (map pos sizes) ≡ length (map pos sizes)
+found_at_end [] = refl
+found_at_end (n ∷ ns) = (λ i. cond (not (le-ltb n 0 (omega arith) i)) (1 + position_or_len is_negative (map pos ns)) 0) ∙ ap (λ k. 1 + k) (found_at_end ns) ∙ omega arith
+
+none_found : (sizes : List ℕ) → position is_negative (map pos sizes) ≡ None
+none_found sizes =
+    let all = map pos sizes in
+    (λ i. cond (nat_lt (found_at_end sizes i) (length all)) (Some (found_at_end sizes i)) None)
+    ∙ ap (λ b. cond b (Some (length all)) None) (le-ltb (length all) (length all) (omega arith))
+
+pub lengths_made : (numbers : List ℤ) → numbers ≡ map pos (map unsigned_abs numbers) → sum (map unsigned_abs numbers) ≤ most_elements → descriptor_of numbers ≡ Ok (map unsigned_abs numbers)
+lengths_made numbers natural small =
+    let sizes = map unsigned_abs numbers in
+    let place = ap (position is_negative) natural ∙ none_found sizes in
+    (λ i. unless (option_map (fault_at no.NegativeLength) (place i)) (fault_if (nat_lt most_elements (sum sizes)) (fault no.TooLong) (Ok sizes)))
+    ∙ ap (λ b. fault_if b (fault no.TooLong) (Ok sizes)) (le-ltb most_elements (sum sizes) small)
+
+-- ---- the elements of x at the columns
+
+there : (x : List ℤ) (column : ℤ) → is_place (length x) column ≡ true → element_at x column ≡ Some (at_column x column)
+there x (pos k) inside =
+    let e = slice_get-get_or x k (pos 0) (ltb-true k (length x) inside) in
+    e ∙ ap Some (sym (ap (λ o. unwrap_or o (pos 0)) e))
+there x (negsuc k) inside = absurd (false≢true inside)
+
+all_there : (x columns : List ℤ) (place : ℕ) → AllPass (is_place (length x)) columns → values_from no.IndexOutOfRange place (map (element_at x) columns) ≡ Ok (map (at_column x) columns)
+all_there x [] place inside = refl
+all_there x (column ∷ columns) place inside =
+    let first = there x column (All-head (λ c. is_place (length x) c ≡ true) column columns inside) in
+    let others = all_there x columns (place + 1) (All-tail (λ c. is_place (length x) c ≡ true) column columns inside) in
+    ap (λ o. ok_or o (fault_at no.IndexOutOfRange place) >>= λ y. values_from no.IndexOutOfRange (place + 1) (map (element_at x) columns) >>= λ ys. Ok (y ∷ ys)) first
+    ∙ ap (λ r. r >>= λ ys. Ok (at_column x column ∷ ys)) others
+
+pub columns_there : (x columns : List ℤ) → AllPass (is_place (length x)) columns → back_of x columns ≡ Ok (map (at_column x) columns)
+columns_there x columns inside = all_there x columns 0 inside
+
+-- ---- the wrapped products of the entries
+
+abbrev pub wrapped_term : List ℤ → ℤ × ℤ → ℤ
+wrapped_term x entry = wrap (term x entry)
+
+each_term : (x columns values : List ℤ) → map (λ p. product_of p.0 p.1) (zip values (map (at_column x) columns)) ≡ map (wrapped_term x) (zip columns values)
+each_term x [] [] = refl
+each_term x [] (v ∷ values) = refl
+each_term x (c ∷ columns) [] = refl
+each_term x (c ∷ columns) (v ∷ values) = ap (λ others. wrapped_term x (c, v) ∷ others) (each_term x columns values)
+
+pub terms_made : (x columns values : List ℤ) → length values ≡ length columns → ints2_of Mul values (map (at_column x) columns) ≡ Ok (map (wrapped_term x) (zip columns values))
+terms_made x columns values as_many =
+    let long : length values ≡ length (map (at_column x) columns) = as_many ∙ sym (length-map columns (at_column x)) in
+    ap (λ b. fault_if (not b) (fault no.LengthMismatch) (Ok (map (λ p. product_of p.0 p.1) (zip values (map (at_column x) columns))))) (eq-eqb _ _ long)
+    ∙ ap Ok (each_term x columns values)
+
+pub length-terms : (x columns values : List ℤ) → length values ≡ length columns → length (map (wrapped_term x) (zip columns values)) ≡ length columns
+length-terms x [] [] as_many = refl
+length-terms x [] (v ∷ values) as_many = refl
+length-terms x (c ∷ columns) [] as_many = absurd (omega arith)
+length-terms x (c ∷ columns) (v ∷ values) as_many = ap suc (length-terms x columns values (omega arith))
+
+-- ---- the sums of the rows
+
+-- to wrap each term and each sum on the way changes nothing
+wrapped_once : (x : List ℤ) (row : List (ℤ × ℤ)) (a : ℤ) → fold sum_of (wrap a) (map (wrapped_term x) row) ≡ wrap (fold (λ s t. s +ℤ t) a (map (term x) row))
+wrapped_once x [] a = refl
+wrapped_once x (entry ∷ row) a =
+    ap (λ s. fold sum_of s (map (wrapped_term x) row)) (int_wrap-add_left w32 a (wrapped_term x entry) ∙ int_wrap-add_right w32 a (term x entry))
+    ∙ wrapped_once x row (a +ℤ term x entry)
+
+row_sum : (x : List ℤ) (row : List (ℤ × ℤ)) → fold_of sum_of (pos 0) (map (wrapped_term x) row) ≡ row_product x row
+unfolding int_wrap
+row_sum x row = wrapped_once x row (pos 0)
+
+row_sums : (x : List ℤ) (lengths : List ℕ) (entries : List (ℤ × ℤ)) → map (fold_of sum_of (pos 0)) (cut_of lengths (map (wrapped_term x) entries)) ≡ map (row_product x) (cut_of lengths entries)
+row_sums x [] entries = refl
+row_sums x (n ∷ lengths) entries =
+    (λ i. fold_of sum_of (pos 0) (take-map (wrapped_term x) n entries i) ∷ map (fold_of sum_of (pos 0)) (cut_of lengths (drop-map (wrapped_term x) n entries i)))
+    ∙ (λ i. row_sum x (take n entries) i ∷ row_sums x lengths (drop n entries) i)
+
+each_fold : {Item : Type 0} (join : Item → Item → Item) (unit : Item) (place : ℕ → ℕ → ℕ) (s : ℕ) (lists : List (List Item)) → results_from place (λ ys. Ok (fold_of join unit ys)) s lists ≡ Ok (map (fold_of join unit) lists)
+each_fold join unit place s [] = refl
+each_fold join unit place s (ys ∷ lists) = ap (λ r. r >>= λ others. Ok (fold_of join unit ys ∷ others)) (each_fold join unit place (s + 1) lists)
+
+nest_made : {X : Type 0} (lengths : List ℕ) (xs : List X) → sum lengths ≡ length xs → nest lengths xs ≡ Ok (cut_of lengths xs)
+nest_made lengths xs fits = ap (λ b. fault_if (not b) (fault no.LengthMismatch) (Ok (cut_of lengths xs))) (eq-eqb _ _ fits)
+
+pub rows_summed : (x : List ℤ) (lengths : List ℕ) (entries : List (ℤ × ℤ)) → sum lengths ≡ length (map (wrapped_term x) entries) → seg_reduce_of sum_of (pos 0) (map (wrapped_term x) entries) lengths ≡ Ok (map (row_product x) (cut_of lengths entries))
+rows_summed x lengths entries fits =
+    ap (λ r. r >>= λ lists. results_from (in_vector lengths) (λ ys. Ok (fold_of sum_of (pos 0) ys)) 0 lists) (nest_made lengths (map (wrapped_term x) entries) fits)
+    ∙ each_fold sum_of (pos 0) (in_vector lengths) 0 (cut_of lengths (map (wrapped_term x) entries))
+    ∙ ap Ok (row_sums x lengths entries)

@@ -1,0 +1,3 @@
+pub mod Products
+pub mod Recipes
+pub mod Visibility
