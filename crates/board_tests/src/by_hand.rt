@@ -1,0 +1,108 @@
+//! Two seats of a board over four tiles, whose workers take their steps in turn.
+
+ghost use Rattle.std.specs.Prelude.{◌≤◌, length};
+ghost use Rattle.boards.specs.Boards.{IsSeatOf};
+ghost use Rattle.cvl_base.specs.Limits.{most_elements};
+
+use crate::tiles::CountedTiles;
+use boards::{Back, Claim, ScanBoard, ScanSeat};
+use cvl_base::monoids::Add;
+use cvl_base::{Memory, NoResources};
+use refusing_memory::withstands_refusals;
+use status_word::Status;
+use std::sync::atomic::{AtomicU64, Ordering};
+use std::test::Fail;
+
+/// The numbers of the tiles.
+const NUMBERS: [i32; 4] = [3, 1, 7, 0];
+
+/// Whether a look-back answered this sum, without a start, after so many looks.
+fn is_back(back: Back<i32>, sum: i32, looks: u32) -> bool {
+    back.before == (false, sum) && back.looks == looks
+}
+
+/// Whether each answer is the one that is worked out by hand: what one worker tells, the other one sees, no prefix is
+/// taken back, and a tile of which something is told is not added up.
+fn answers_by_hand<A: Memory>(alloc: A) -> Result<bool, NoResources> {
+    let added_up = AtomicU64::new(0);
+    let tiles = CountedTiles::new(NUMBERS.as_slice(), &added_up);
+    let (board, mut seats) = ScanBoard::new(alloc, tiles, 2)?;
+    let (Some(mut second), Some(mut first)) = (seats.pop(), seats.pop()) else {
+        return Ok(false);
+    };
+    let mut right = is_back(board.look_back(&mut first, 2), 4, 2);
+    board.tell_prefix(&mut first, 2, (false, 4));
+    right &= board.look(&mut first, 2) == Status::Prefix(false, 11);
+    board.tell_sum(&mut second, 2);
+    right &= board.look(&mut first, 2) == Status::Prefix(false, 11);
+    right &= board.look(&mut second, 0) == Status::Sum(false, 3);
+    let before = added_up.load(Ordering::SeqCst);
+    right &= is_back(board.look_back(&mut second, 3), 11, 1);
+    right &= added_up.load(Ordering::SeqCst) == before;
+    Ok(right)
+}
+
+/// The digits of a number, and then the tile that a seat is given, if it is given one.
+fn with_claim<A: Memory>(
+    board: &ScanBoard<CountedTiles<'_>, A>,
+    seat: &mut ScanSeat<Add>,
+    digits: u64,
+) -> u64
+    requires { IsSeatOf board.now seat.old }
+    ensures { IsSeatOf board.now seat.new }
+{
+    match board.claim(seat) {
+        Claim::Tile(tile) => digits.wrapping_mul(10).wrapping_add(u64::from(tile)),
+        Claim::Done => digits,
+    }
+}
+
+/// The tiles that two seats are given in turn, as the digits of a number after a 9.
+fn claimed_in_turn<A: Memory>(
+    board: &ScanBoard<CountedTiles<'_>, A>,
+    first: &mut ScanSeat<Add>,
+    second: &mut ScanSeat<Add>,
+) -> u64
+    requires first { IsSeatOf board.now first.old }
+    requires second { IsSeatOf board.now second.old }
+    ensures first { IsSeatOf board.now first.new }
+    ensures second { IsSeatOf board.now second.new }
+{
+    let mut digits = 9;
+    for _ in 0..1000 {
+        digits = with_claim(board, first, digits);
+        digits = with_claim(board, second, digits);
+    }
+    digits
+}
+
+/// The same of a new board over these numbers, and how many tiles it tells of when it is closed.
+fn claims_of<A: Memory>(alloc: A, numbers: &[i32]) -> Result<(u64, u32), NoResources>
+    requires { length numbers.now ≤ most_elements }
+{
+    let added_up = AtomicU64::new(0);
+    let tiles = CountedTiles::new(numbers, &added_up);
+    let (board, mut seats) = ScanBoard::new(alloc, tiles, 2)?;
+    let (Some(mut second), Some(mut first)) = (seats.pop(), seats.pop()) else {
+        return Ok((0, 0));
+    };
+    let digits = claimed_in_turn(&board, &mut first, &mut second);
+    let mut seats = Vec::with_capacity(alloc, 2)?;
+    seats.push_reserved(first);
+    seats.push_reserved(second);
+    Ok((digits, board.close(seats).given))
+}
+
+#[test]
+fn two_workers_in_turn(rt: HostRuntime) -> Result<(), Fail> {
+    let heap = rt.alloc();
+    withstands_refusals(
+        heap,
+        |memory| answers_by_hand(memory),
+        Ok(true),
+        Err(NoResources),
+    )?;
+    assert_eq!(rt; claims_of(heap, NUMBERS.as_slice()), Ok((90123, 4)));
+    assert_eq!(rt; claims_of(heap, &[]), Ok((9, 0)));
+    Ok(())
+}
