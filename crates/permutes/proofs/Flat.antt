@@ -11,9 +11,9 @@ use Rattle.cvl_base.specs.Gives.{fault_if, unless}
 use Rattle.cvl_base.specs.Limits.{most_elements}
 use Rattle.cvl_base.specs.Packs.{count_of}
 use Rattle.cvl_base.specs.Permutes.{all_targets, default_of, first_fault, flagged_targets, select_of, sent_over, sent_to, sent_to_all, simple_of, wrongs}
-use Rattle.permutes.specs.Senders.{nobody, senders_of}
-use Rattle.permutes.proofs.Sent.{length-all_targets, length-flagged_targets, length-senders_of}
-use Rattle.permutes.proofs.Taken.{taken_flat, taken_over_flat}
+use Rattle.permute_walks.specs.Senders.{nobody, senders_of}
+use Rattle.permute_walks.proofs.Sent.{length-all_targets, length-flagged_targets, length-senders_of}
+use Rattle.permute_walks.proofs.Taken.{taken_flat, taken_over_flat}
 
 pub if_as_long-fits : {X Y Z : Type 0} (xs : List X) (ys : List Y) (rest : Result Z Fault) → length xs ≡ length ys → if_as_long xs ys rest ≡ rest
 if_as_long-fits xs ys rest same =

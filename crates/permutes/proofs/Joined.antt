@@ -12,9 +12,9 @@ use Rattle.cvl_base.specs.Lists.{joined}
 use Rattle.cvl_base.specs.Permutes.{first_fault, sent_to, wrongs}
 use Rattle.cvl_base.specs.Segmented.{in_vector, moved}
 use Rattle.permutes.specs.Parts.{fault_from, senders_from}
-use Rattle.permutes.specs.Senders.{nobody, senders_of}
-use Rattle.permutes.proofs.Sent.{length-senders_of}
-use Rattle.permutes.proofs.Taken.{taken_sent, taken_over}
+use Rattle.permute_walks.specs.Senders.{nobody, senders_of}
+use Rattle.permute_walks.proofs.Sent.{length-senders_of}
+use Rattle.permute_walks.proofs.Taken.{taken_sent, taken_over}
 
 -- ---- faults at their places in the whole
 

@@ -3,8 +3,6 @@ pub mod Cuts
 pub mod Flat
 pub mod Joined
 pub mod Ranges
-pub mod Sent
 pub mod Stepped
-pub mod Taken
 pub mod Through
 pub mod Whole

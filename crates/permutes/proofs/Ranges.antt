@@ -6,8 +6,8 @@ use Rattle.cvl_base.specs.Packs.{count_of}
 use Rattle.cvl_base.specs.Permutes.{all_targets, first_fault, flagged_targets, wrongs}
 use Rattle.segdes.specs.Starts.{start_of}
 use Rattle.permutes.specs.Parts.{fault_from, flagged_parts, parts_of}
-use Rattle.permutes.specs.Senders.{nobody, senders_of}
-use Rattle.permutes.proofs.Sent.{length-all_targets, length-flagged_targets}
+use Rattle.permute_walks.specs.Senders.{nobody, senders_of}
+use Rattle.permute_walks.proofs.Sent.{length-all_targets, length-flagged_targets}
 use Rattle.permutes.proofs.Through.{IsSentThrough, moved_on, through_room, range_fresh, range_fails, range_more, part_at, length-parts, flagged_part_at, length-flagged_parts, length-segment, start_more}
 
 -- the range from `first` on, of n elements, is the segment

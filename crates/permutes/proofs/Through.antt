@@ -12,9 +12,9 @@ use Rattle.cvl_base.specs.Nests.{cut_of}
 use Rattle.cvl_base.specs.Packs.{count_of}
 use Rattle.cvl_base.specs.Permutes.{all_targets, first_fault, flagged_targets, wrongs}
 use Rattle.permutes.specs.Parts.{fault_from, flagged_parts, parts_of, senders_from}
-use Rattle.permutes.specs.Senders.{nobody, senders_of}
+use Rattle.permute_walks.specs.Senders.{nobody, senders_of}
 use Rattle.permutes.proofs.Cuts.{cut_at, length-cut, sum-cons}
-use Rattle.permutes.proofs.Sent.{length-senders_of}
+use Rattle.permute_walks.proofs.Sent.{length-senders_of}
 
 -- how many places the result has
 abbrev pub places_of : List (ℕ × List (Option ℤ)) → ℕ

@@ -18,11 +18,11 @@ use Rattle.cvl_base.specs.Permutes.{all_targets, back_of, default_of, first_faul
 use Rattle.cvl_base.specs.Segmented.{beside, end_to_end, in_vector, of_two, of_three, results_from}
 use Rattle.cvl_base.specs.SegmentedCalls.{seg_back_of, seg_default_of, seg_select_of, seg_simple_of}
 use Rattle.permutes.specs.Parts.{fault_from, flagged_parts, parts_of, senders_from}
-use Rattle.permutes.specs.Senders.{nobody}
+use Rattle.permute_walks.specs.Senders.{nobody}
 use Rattle.permutes.proofs.Cuts.{length-cut, nest-fits, sum-cons}
 use Rattle.permutes.proofs.Flat.{if_as_long-fits, written}
 use Rattle.permutes.proofs.Joined.{front_taken, front_over}
-use Rattle.permutes.proofs.Sent.{length-all_targets, length-flagged_targets}
+use Rattle.permute_walks.proofs.Sent.{length-all_targets, length-flagged_targets}
 
 -- the lengths that are left, after one more
 pub left_more : (lengths : List ℕ) (s n : ℕ) (others : List ℕ) → drop s lengths ≡ n ∷ others → (drop (s + 1) lengths ≡ others) × (sum (take (s + 1) lengths) ≡ sum (take s lengths) + n)

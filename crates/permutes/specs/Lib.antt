@@ -1,3 +1,3 @@
 pub mod Parts
 pub mod Pushed
-pub mod Senders
+pub use Rattle.permute_walks.specs.Senders

@@ -7,7 +7,7 @@ use Rattle.cvl_base.specs.declared.fault.Fault.{Fault}
 use Rattle.cvl_base.specs.Nests.{cut_of}
 use Rattle.cvl_base.specs.Packs.{count_of}
 use Rattle.cvl_base.specs.Permutes.{all_targets, first_fault, flagged_targets, wrongs}
-use Rattle.permutes.specs.Senders.{senders_of}
+use Rattle.permute_walks.specs.Senders.{senders_of}
 
 -- where each place takes part, and the result has segments of its own lengths
 abbrev pub parts_of : List ℕ → List ℕ → List ℤ → List (ℕ × List (Option ℤ))

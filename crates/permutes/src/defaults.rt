@@ -6,10 +6,9 @@ ghost use Rattle.cvl_base.specs.Limits.{most_elements};
 ghost use Rattle.cvl_base.specs.Permutes.{default_of};
 ghost use Rattle.cvl_base.specs.SegmentedCalls.{seg_default_of};
 
-use crate::elements::elements_or_defaults;
 use crate::segments::send_segments;
-use crate::sends::{NOBODY, send_all};
 use cvl_base::{Config, Memory, Refused, check_agree};
+use permute_walks::{NOBODY, elements_or_defaults, send_all};
 use segdes::{SegDes, check_total};
 use std::thread::Threads;
 

@@ -6,11 +6,8 @@
 
 mod backs;
 mod defaults;
-mod elements;
-mod places;
 mod segments;
 mod selects;
-mod sends;
 mod simples;
 
 pub use backs::{back, seg_back};

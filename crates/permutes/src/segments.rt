@@ -4,11 +4,11 @@ ghost use Rattle.std.specs.Prelude.{◌≡◌, ◌≤◌, length, OnOk, replicat
 ghost use Rattle.cvl_base.specs.Limits.{most_elements};
 ghost use Rattle.cvl_base.specs.Packs.{count_of};
 ghost use Rattle.permutes.specs.Parts.{fault_from, flagged_parts, parts_of, senders_from};
-ghost use Rattle.permutes.specs.Senders.{nobody, told};
+ghost use Rattle.permute_walks.specs.Senders.{nobody, told};
 
 use crate::selects::count_true;
-use crate::sends::{send_all, send_flagged};
 use cvl_base::Fault;
+use permute_walks::{send_all, send_flagged};
 use segdes::SegDes;
 use std::alloc::Allocator;
 

@@ -7,10 +7,9 @@ ghost use Rattle.cvl_base.specs.Packs.{count_of};
 ghost use Rattle.cvl_base.specs.Permutes.{select_of};
 ghost use Rattle.cvl_base.specs.SegmentedCalls.{seg_select_of};
 
-use crate::elements::elements_of;
 use crate::segments::send_flagged_segments;
-use crate::sends::{NOBODY, send_flagged};
 use cvl_base::{Config, Memory, Refused, check_agree};
+use permute_walks::{NOBODY, elements_of, send_flagged};
 use segdes::{SegDes, check_total};
 use std::thread::Threads;
 

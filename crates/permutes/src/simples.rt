@@ -6,10 +6,9 @@ ghost use Rattle.cvl_base.specs.Limits.{most_elements};
 ghost use Rattle.cvl_base.specs.Permutes.{simple_of};
 ghost use Rattle.cvl_base.specs.SegmentedCalls.{seg_simple_of};
 
-use crate::elements::elements_of;
 use crate::segments::send_segments;
-use crate::sends::{NOBODY, send_all};
 use cvl_base::{Config, Memory, Refused, check_agree};
+use permute_walks::{NOBODY, elements_of, send_all};
 use segdes::{SegDes, check_total};
 use std::thread::Threads;
 

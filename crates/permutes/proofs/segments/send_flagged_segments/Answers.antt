@@ -1,6 +1,6 @@
 use Rattle.std.proofs.Common.{◌<◌, ◌∙◌, length, arith, refl}
 use Rattle.permutes.specs.Parts.{flagged_parts}
-use Rattle.permutes.proofs.Sent.{told_again}
+use Rattle.permute_walks.proofs.Sent.{told_again}
 use Rattle.permutes.proofs.Ranges.{flagged_fresh, flagged_fails, flagged_more, flagged_room}
 use Rattle.permutes.proofs.Through.{through_none, through_all, places-flagged_parts, length-flagged_parts}
 use Rattle.permutes.proofs.segments.send_flagged_segments.Goals as goal

@@ -1,6 +1,6 @@
 use Rattle.std.proofs.Common.{◌<◌, ◌∙◌, length, arith, refl}
 use Rattle.permutes.specs.Parts.{parts_of}
-use Rattle.permutes.proofs.Sent.{told_again}
+use Rattle.permute_walks.proofs.Sent.{told_again}
 use Rattle.permutes.proofs.Ranges.{segment_fresh, segment_fails, segment_more}
 use Rattle.permutes.proofs.Through.{through_none, through_all, places-parts, length-parts}
 use Rattle.permutes.proofs.segments.send_segments.Goals as goal

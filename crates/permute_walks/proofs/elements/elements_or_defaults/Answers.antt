@@ -1,6 +1,6 @@
 use Rattle.std.proofs.Common.{arith}
-use Rattle.permutes.proofs.Taken.{pushed_or, pushed_all}
-use Rattle.permutes.proofs.elements.elements_or_defaults.Goals as goal
+use Rattle.permute_walks.proofs.Taken.{pushed_or, pushed_all}
+use Rattle.permute_walks.proofs.elements.elements_or_defaults.Goals as goal
 
 pub loop-k-preserved : goal.loop-k-preserved
 loop-k-preserved g c = record {

@@ -1,7 +1,7 @@
 use Rattle.std.proofs.Common.{slice_get, ap, ◌∙◌, arith, vec_len, vec_capacity}
-use Rattle.permutes.proofs.Taken.{pushed_some, pushed_none}
-use Rattle.permutes.proofs.elements.elements_of.Goals as goal
-use Rattle.permutes.proofs.elements.elements_of.Goals.{in-Some, in_default}
+use Rattle.permute_walks.proofs.Taken.{pushed_some, pushed_none}
+use Rattle.permute_walks.proofs.elements.elements_of.Goals as goal
+use Rattle.permute_walks.proofs.elements.elements_of.Goals.{in-Some, in_default}
 
 pub loop-sender-preserved : goal.loop-sender-preserved
 loop-sender-preserved g c =

@@ -9,7 +9,7 @@ use cvl_base::{Memory, NoResources};
 /// The element of each sender, in the order of the senders. Nobody has no element.
 // Inlined into a large function the loop keeps its pointers on the stack.
 #[inline(never)]
-pub(crate) fn elements_of<T: Copy, A: Memory>(
+pub fn elements_of<T: Copy, A: Memory>(
     alloc: A,
     source: &[T],
     senders: &[u32],
@@ -27,7 +27,7 @@ pub(crate) fn elements_of<T: Copy, A: Memory>(
 }
 
 /// For each sender its element, or the default at the same place where it is nobody.
-pub(crate) fn elements_or_defaults<T: Copy, A: Memory>(
+pub fn elements_or_defaults<T: Copy, A: Memory>(
     alloc: A,
     source: &[T],
     senders: &[u32],

@@ -1,5 +1,5 @@
 use Rattle.std.proofs.Common.{◌≡◌, ◌≤◌, filter_map, length, slice_get, take, vec_capacity, vec_len}
-use Rattle.permutes.proofs.elements.elements_of.Given as goal
+use Rattle.permute_walks.proofs.elements.elements_of.Given as goal
 
 abbrev pub invariant-loop-sender : goal.invariant-loop-sender
 invariant-loop-sender g l = record {

@@ -1,11 +1,11 @@
 //! Indices as places.
 
 ghost use Rattle.std.specs.Prelude.{◌≡◌, slice_get};
-ghost use Rattle.permutes.specs.Senders.{place_among};
+ghost use Rattle.permute_walks.specs.Senders.{place_among};
 
 /// The place that an index names among so many, if it is one of them. A negative index names none.
 #[inline]
-pub(crate) fn place_among(places: usize, index: &i32) -> Option<usize>
+pub fn place_among(places: usize, index: &i32) -> Option<usize>
     ensures { result ≡ place_among places index.now }
 {
     if *index < 0 {
@@ -17,7 +17,7 @@ pub(crate) fn place_among(places: usize, index: &i32) -> Option<usize>
 
 /// The element at a place, if there is that place.
 #[inline]
-pub(crate) fn element_of<T: Copy>(source: &[T], place: usize) -> Option<T>
+pub fn element_of<T: Copy>(source: &[T], place: usize) -> Option<T>
     ensures { result ≡ slice_get source.now place }
 {
     if place < source.len() {

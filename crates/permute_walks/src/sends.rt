@@ -4,13 +4,13 @@ ghost use Rattle.std.specs.Prelude.{◌≡◌, ◌+◌, ◌≤◌, unsigned_abs,
 ghost use Rattle.cvl_base.specs.Faults.{fault_at};
 ghost use Rattle.cvl_base.specs.Limits.{most_elements};
 ghost use Rattle.cvl_base.specs.Permutes.{all_targets, first_fault, flagged_targets, wrongs};
-ghost use Rattle.permutes.specs.Senders.{nobody, senders_of, told, wrong_with};
+ghost use Rattle.permute_walks.specs.Senders.{nobody, senders_of, told, wrong_with};
 
 use crate::places::place_among;
 use cvl_base::{Fault, FaultNo};
 
 /// Stands among the senders where no element goes.
-pub(crate) const NOBODY: u32 = u32::MAX;
+pub const NOBODY: u32 = u32::MAX;
 
 /// Sends the element of a place to its index: `IndexOutOfRange` at the place where the index is no place of the result,
 /// else `IndexRepeated` at it where the index has a sender already.
@@ -35,7 +35,7 @@ fn send(senders: &mut [u32], index: &i32, place: u32) -> Result<(), Fault>
 /// of the result, nobody to begin with. The fault is that of the first bad place.
 // Inlined into a large function the loop keeps its pointers on the stack.
 #[inline(never)]
-pub(crate) fn send_all(senders: &mut [u32], first: usize, index: &[i32]) -> Result<(), Fault>
+pub fn send_all(senders: &mut [u32], first: usize, index: &[i32]) -> Result<(), Fault>
     requires fresh { senders.old ≡ replicate (length senders.old) nobody }
     requires in_limit { first + length index.now ≤ most_elements }
     ensures fault { told result
@@ -51,7 +51,7 @@ pub(crate) fn send_all(senders: &mut [u32], first: usize, index: &[i32]) -> Resu
 
 /// Sends the places of a segment whose flag is true, in the way of `send_all`. No other index is looked at.
 #[inline(never)]
-pub(crate) fn send_flagged(
+pub fn send_flagged(
     senders: &mut [u32],
     first: usize,
     index: &[i32],

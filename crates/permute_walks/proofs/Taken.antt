@@ -8,7 +8,7 @@ use Rattle.std.proofs.lemmas.List.Elements.{filter_map-append}
 use Rattle.std.proofs.lemmas.Slice.Zip.{get_or-zip, length-zip}
 use Rattle.std.proofs.Math.Seq.{get_or-append_seam}
 use Rattle.cvl_base.specs.Permutes.{is_target, sent_to}
-use Rattle.permutes.specs.Senders.{nobody, sender_from, senders_of}
+use Rattle.permute_walks.specs.Senders.{nobody, sender_from, senders_of}
 
 -- ---- the step of the walk
 

@@ -1,6 +1,6 @@
 use Rattle.std.proofs.Common.{◌≡◌, length, map, slice_get, take, unwrap_or, vec_capacity, vec_len}
 use Rattle.std.specs.List.{zip}
-use Rattle.permutes.proofs.elements.elements_or_defaults.Given as goal
+use Rattle.permute_walks.proofs.elements.elements_or_defaults.Given as goal
 
 abbrev pub invariant-loop-k : goal.invariant-loop-k
 invariant-loop-k g l = record {

@@ -17,7 +17,7 @@ use Rattle.cvl_base.specs.declared.fault.FaultNo.TheVariants.{IndexOutOfRange, I
 use Rattle.cvl_base.specs.Faults.{fault_at}
 use Rattle.cvl_base.specs.Folds.{fronts}
 use Rattle.cvl_base.specs.Permutes.{all_targets, first_fault, flagged_targets, is_target, target_if, wrong_at, wrongs}
-use Rattle.permutes.specs.Senders.{nobody, sender_from, senders_of, told, wrong_with}
+use Rattle.permute_walks.specs.Senders.{nobody, sender_from, senders_of, told, wrong_with}
 
 -- ---- what is wrong with a place
 

@@ -1,0 +1,10 @@
+//! The walks of a permute over one range: which element is sent to which place, and the elements that were sent.
+#![tactic(auto)]
+
+pub mod elements;
+pub mod places;
+pub mod sends;
+
+pub use elements::{elements_of, elements_or_defaults};
+pub use places::{element_of, place_among};
+pub use sends::{NOBODY, send_all, send_flagged};
