@@ -9,12 +9,8 @@ use Rattle.std.proofs.lemmas.List.Sums.{sum_by-cons}
 use Rattle.cvl_base.specs.Folds.{fold_of, scan_of}
 use Rattle.cvl_base.specs.Monoid.{MonoidLaws}
 use Rattle.segdes.specs.Starts.{start_of}
-use Rattle.scan_ops.specs.Runs.{started, with_starts, run_of, run_scan_of, scans_of}
+use Rattle.scan_ops.specs.Runs.{continued, started, with_starts, run_of, run_scan_of, scans_of}
 use Rattle.scan_ops.proofs.Scanned.{scan_of-cons}
-
--- elements at which no segment starts
-abbrev pub continued : {Item : Type 0} → List Item → List (Bool × Item)
-continued xs = map (λ x. (false, x)) xs
 
 pub sum-cons : (n : ℕ) (ns : List ℕ) → sum (n ∷ ns) ≡ n + sum ns
 sum-cons n ns = sum_by-cons (λ x. x) n ns

@@ -1,4 +1,7 @@
 pub mod Cut
+pub mod FlatTiles
 pub mod LastStart
+pub mod RunScans
 pub mod Scanned
 pub mod Segmented
+pub mod Tiled

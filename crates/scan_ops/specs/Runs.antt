@@ -11,6 +11,10 @@ abbrev pub started : {Item : Type 0} → List Item → List (Bool × Item)
 started [] = []
 started (x ∷ xs) = (true, x) ∷ map (λ y. (false, y)) xs
 
+-- elements at which no segment starts
+abbrev pub continued : {Item : Type 0} → List Item → List (Bool × Item)
+continued xs = map (λ x. (false, x)) xs
+
 -- the elements of a segmented vector, each with whether a segment starts at it
 abbrev pub with_starts : {Item : Type 0} → List ℕ → List Item → List (Bool × Item)
 with_starts lengths xs = flat_map started (cut_of lengths xs)

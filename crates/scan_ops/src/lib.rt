@@ -2,7 +2,9 @@
 #![tactic(auto)]
 
 mod bools;
+mod flat_tiles;
 mod ints;
+mod kernel;
 mod plain;
 mod prefixes;
 pub mod readings;

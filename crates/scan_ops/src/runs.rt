@@ -14,7 +14,7 @@ ghost use Rattle.scan_ops.specs.Runs.{reduces_of, run_of, run_scan_of, scans_of}
 use crate::plain::{push_scan_from, sum_from, sum_readings_from};
 use crate::readings::Reading;
 use cvl_base::monoid::know_laws;
-use cvl_base::{Memory, Monoid, NoResources};
+use cvl_base::{Monoid, NoResources};
 use segdes::SegDes;
 use std::alloc::Allocator;
 
@@ -28,7 +28,7 @@ fn start_or_total<A: Allocator>(d: &SegDes<A>, s: usize) -> usize
 
 /// Pushes the scans of the segments with these lengths, one after another. They have all of the elements, and the last may
 /// be cut short by the end of the elements. There must be room for them.
-fn push_scans<M: Monoid, A: Memory>(sums: &mut Vec<M::Item, A>, lengths: &[i32], xs: &[M::Item])
+fn push_scans<M: Monoid, A: Allocator>(sums: &mut Vec<M::Item, A>, lengths: &[i32], xs: &[M::Item])
     requires lengths { AreLengths lengths.now }
     requires covered { length xs.now ≤ sum (map unsigned_abs lengths.now) }
     requires room { vec_len sums.old + length xs.now ≤ vec_capacity sums.old }
@@ -47,7 +47,7 @@ fn push_scans<M: Monoid, A: Memory>(sums: &mut Vec<M::Item, A>, lengths: &[i32],
 }
 
 /// The reduces of all segments, of what the elements are read as.
-pub(crate) fn reduces_of_segments<M: Monoid, X: Copy, E: Reading<X, M::Item>, A: Memory>(
+pub(crate) fn reduces_of_segments<M: Monoid, X: Copy, E: Reading<X, M::Item>, A: Allocator>(
     alloc: A,
     a: &[X],
     d: &SegDes<A>,
@@ -77,7 +77,7 @@ pub(crate) fn reduces_of_segments<M: Monoid, X: Copy, E: Reading<X, M::Item>, A:
 /// monoid, as all elements must. The sum is the run's fold under [`Seg`](cvl_base::Seg), so the sums of runs one after
 /// another can be joined by it. It reads no element before the last start, and takes no memory. Source: Blelloch's
 /// segmented scans.
-pub fn sum_of_run<M: Monoid, A: Memory>(
+pub fn sum_of_run<M: Monoid, A: Allocator>(
     a: &[M::Item],
     d: &SegDes<A>,
     from: usize,
@@ -106,7 +106,7 @@ pub fn sum_of_run<M: Monoid, A: Memory>(
 ///
 /// `before` is what the elements of the first segment that stand before the run join to. It must be an item of the
 /// monoid, as all elements must. The result is as long as the run. Source: Blelloch's segmented scans.
-pub fn scan_of_run<M: Monoid, A: Memory>(
+pub fn scan_of_run<M: Monoid, A: Allocator>(
     alloc: A,
     a: &[M::Item],
     d: &SegDes<A>,

@@ -24,19 +24,19 @@ slice_bounds-push_scans-start g c =
     search (rules, ordered)
 
 pub push_scans-requires-clause-lengths : goal.push_scans-requires-clause-lengths
-push_scans-requires-clause-lengths g c κs within =
+push_scans-requires-clause-lengths g c =
     range_lengths c.lengths.result.now c.args.d.now c.starts_before-first.result (c.starts_before-next.result - c.starts_before-first.result)
     c.lengths.ensures.value c.lengths.ensures.lengths
 
 pub push_scans-requires-clause-items : goal.push_scans-requires-clause-items
-push_scans-requires-clause-items g c κs within =
+push_scans-requires-clause-items g c =
     let is_item : g.row.M-Item.Denot → Type 0 = λ x. g.M.Monoid.is_item x ≡ true in
     let part = All-take is_item (c.args.to - c.args.from) _ (All-drop is_item c.args.from c.args.a.now c.requires.items) in
     subst (λ xs. AllPass g.M.Monoid.is_item xs) (sym c.split_at.ensures.back) (All-drop is_item _ _ part)
 
 -- the segments that start in the run have the elements from the first start on
 pub push_scans-requires-clause-covered : goal.push_scans-requires-clause-covered
-push_scans-requires-clause-covered g c κs within =
+push_scans-requires-clause-covered g c =
     let d = c.args.d.now in
     let first = c.starts_before-first in
     let next = c.starts_before-next in
