@@ -8,7 +8,7 @@ ghost use Rattle.cvl_base.specs.SegmentedCalls.{seg_reduce_of};
 
 use crate::plain::{sum_from, sum_readings_from};
 use crate::readings::{Itself, Reading};
-use crate::runs::reduces_of_segments;
+use crate::runs::push_reduces_of_run;
 use crate::totals::check_total;
 use cvl_base::monoid::know_laws;
 use cvl_base::{Config, Memory, Monoid, NoResources, Refused};
@@ -76,7 +76,9 @@ pub fn seg_reduce_readings<
         (seg_reduce_of M.join M.unit (map E.item a.now) d.now) }
     ensures one_each { IfOk result (λ sums. vec_len sums ≡ length d.now) }
 {
+    know_laws::<M>();
     check_total(a, d)?;
-    let sums = reduces_of_segments::<M, X, E, A>(alloc, a, d)?;
+    let mut sums = Vec::with_capacity(alloc, d.count())?;
+    push_reduces_of_run::<M, X, E, A, A>(&mut sums, a, d, 0, d.count(), 0, M::unit());
     Ok(sums)
 }

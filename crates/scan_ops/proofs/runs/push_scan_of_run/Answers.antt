@@ -1,4 +1,4 @@
-use Rattle.std.proofs.Common.{◌≡◌, ℕ, ◌-◌, ◌≤◌, ◌++◌, ◌∙◌, min, true, length, map, take, drop, refl, sym, ap, subst, arith, rules}
+use Rattle.std.proofs.Common.{◌≡◌, ℕ, ◌-◌, ◌≤◌, ◌++◌, ◌∙◌, min, true, length, map, take, drop, refl, sym, ap, subst, arith, rules, append_assoc}
 use Rattle.std.specs.Prelude.{sum, unsigned_abs}
 use Rattle.std.specs.List.{AllPass}
 use Rattle.std.proofs.lemmas.List.Elements.{All-drop, All-take}
@@ -7,7 +7,7 @@ use Rattle.segdes.specs.Starts.{start_of}
 use Rattle.scan_ops.specs.Runs.{scans_of}
 use Rattle.scan_ops.proofs.Cut.{begins_by, run_walked, starts_in_order}
 use Rattle.scan_ops.proofs.Segmented.{range_lengths, range_read, range_sum, scans_cut}
-use Rattle.scan_ops.proofs.runs.scan_of_run.Goals as goal
+use Rattle.scan_ops.proofs.runs.push_scan_of_run.Goals as goal
 
 pub slice_bounds-push_scans-count : goal.slice_bounds-push_scans-count
 slice_bounds-push_scans-count g c =
@@ -66,11 +66,13 @@ returns-clause-values g c =
     let reach : c.args.to ≤ start_of d next.result = begins_by d c.args.to next.result (omega (arith, c.requires.within, c.requires.total)) next.ensures.others in
     let covered : length others ≤ sum (take n (drop first.result d)) =
     omega (arith, reach, range_sum d first.result next.result ordered, start.ensures, cut, c.split_at.ensures.back_len, c.requires.within) in
+    let old = c.args.sums.now.items in
+    let walked = scan_of m.join c.args.before c.split_at.result.0.now in
     c.push_scans.ensures.values
     ∙ ap (λ ls. c.push_scan_from.new.sums.items ++ scans_of m.join m.unit ls others) (range_read c.lengths.result.now d first.result n c.lengths.ensures.value)
     ∙ ap (λ sums. c.push_scan_from.new.sums.items ++ sums) (scans_cut m.join m.unit n (drop first.result d) others covered)
-    ∙ ap (λ sums. sums ++ scans_of m.join m.unit (drop first.result d) others)
-    (c.push_scan_from.ensures.values ∙ ap (λ sums. sums ++ scan_of m.join c.args.before c.split_at.result.0.now) c.in_ok-sums.ensures.items)
-    ∙ sym (run_walked c.know_laws.ensures d c.args.a.now rest _ _ c.args.before c.args.from c.args.to first.result start.result (c.min.result - c.args.from)
+    ∙ ap (λ sums. sums ++ scans_of m.join m.unit (drop first.result d) others) c.push_scan_from.ensures.values
+    ∙ append_assoc old walked (scans_of m.join m.unit (drop first.result d) others)
+    ∙ ap (λ sums. old ++ sums) (sym (run_walked c.know_laws.ensures d c.args.a.now rest _ _ c.args.before c.args.from c.args.to first.result start.result (c.min.result - c.args.from)
     c.requires.total c.requires.in_order c.requires.within first.ensures.in_count first.ensures.before first.ensures.others c.requires.items refl start.ensures (ap (λ k. k - c.args.from) cut)
-    c.split_at.ensures.front c.split_at.ensures.back)
+    c.split_at.ensures.front c.split_at.ensures.back))
