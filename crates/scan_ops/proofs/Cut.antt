@@ -106,7 +106,7 @@ module _ {Item : Type 0} {is_item : Item → Bool} {unit : Item} {join : Item �
       ∙ ap (λ b. (unit ∷ scan_of join b ys) ++ sums) (sym (laws.left_unit y (All-head (λ x. is_item x ≡ true) y ys items)))
       ∙ ap (λ tail. tail ++ sums) (sym (scan_of-cons join unit y ys))
 
-  segments_scanned : (lengths : List ℕ) (xs : List Item) (before : Item) → AllPass is_item xs → run_scan_of join unit before (with_starts lengths xs) ≡ scans_of join unit lengths xs
+  pub segments_scanned : (lengths : List ℕ) (xs : List Item) (before : Item) → AllPass is_item xs → run_scan_of join unit before (with_starts lengths xs) ≡ scans_of join unit lengths xs
   segments_scanned [] xs before items = refl
   segments_scanned (n ∷ ls) xs before items =
       segment_scanned before (take n xs) (with_starts ls (drop n xs)) (scans_of join unit ls (drop n xs))

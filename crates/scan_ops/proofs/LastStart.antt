@@ -36,7 +36,7 @@ module _ {Item : Type 0} where
       ∙ ap (λ ys. with_starts (n ∷ take s ls) (take (n + p) xs) ++ with_starts (drop s ls) ys) (drop-drop p n xs)
       ∙ ap (λ q. with_starts (n ∷ take s ls) (take q xs) ++ with_starts (drop s ls) (drop q xs)) begins
 
-  length-with_starts : (lengths : List ℕ) (xs : List Item) → length xs ≤ sum lengths → length (with_starts lengths xs) ≡ length xs
+  pub length-with_starts : (lengths : List ℕ) (xs : List Item) → length xs ≤ sum lengths → length (with_starts lengths xs) ≡ length xs
   length-with_starts [] xs covered = omega (arith, covered)
   length-with_starts (n ∷ ls) xs covered =
       omega (

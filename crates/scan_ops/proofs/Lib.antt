@@ -3,6 +3,7 @@ pub mod FlatTiles
 pub mod LastStart
 pub mod RunScans
 pub mod Scanned
-pub mod SegmentReduces
 pub mod Segmented
+pub mod SegmentedTiles
+pub mod SegmentReduces
 pub mod Tiled

@@ -1,6 +1,6 @@
 -- Vectors that are walked in tiles: what each tile sums up to, and what it gives of the answer.
 -- Source: the tiles of Merrill and Garland, Single-pass Parallel Prefix Scan with Decoupled Look-back, 2016.
-use Rattle.std.specs.Prelude.{◌≡◌, ℕ, ◌+◌, ◌-◌, ◌*◌, ◌<◌, ◌==◌, nat_lt, if◌then◌else◌, Bool, List, [], ◌∷◌, length, map, take, slice_index_or, slice_range}
+use Rattle.std.specs.Prelude.{◌≡◌, ℕ, zero, suc, ◌+◌, ◌-◌, ◌*◌, ◌<◌, ◌==◌, if◌then◌else◌, Bool, List, [], ◌∷◌, length, map, take, slice_index_or, slice_range}
 use Rattle.std.specs.List.{range_with_len}
 use Rattle.cvl_base.specs.Folds.{fold_of}
 use Rattle.cvl_base.specs.SegmentMonoid.{seg_unit, seg_join}
@@ -34,7 +34,8 @@ reduce_at count whole t = if t + 1 == count then whole ∷ [] else []
 -- how many segments start before a place
 abbrev pub starts_before : List ℕ → ℕ → ℕ
 starts_before [] place = 0
-starts_before (n ∷ lengths) place = if nat_lt 0 place then 1 + starts_before lengths (place - n) else 0
+starts_before (n ∷ lengths) zero = 0
+starts_before (n ∷ lengths) (suc place) = 1 + starts_before lengths (suc place - n)
 
 -- the first segment whose reduce isn't given by the tiles before tile t: the last one that starts before the tile, or
 -- none where there is no such tile

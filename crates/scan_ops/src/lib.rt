@@ -9,6 +9,7 @@ mod plain;
 mod prefixes;
 pub mod readings;
 mod runs;
+mod segmented_tiles;
 mod sums;
 mod totals;
 

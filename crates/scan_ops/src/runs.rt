@@ -11,7 +11,7 @@ ghost use Rattle.cvl_base.specs.SegmentMonoid.{seg_join};
 ghost use Rattle.segdes.specs.Starts.{start_of};
 ghost use Rattle.scan_ops.specs.Runs.{IsOpenAt, reduces_of, run_of, run_scan_of, scans_of};
 
-use crate::plain::{push_scan_from, sum_readings_from};
+use crate::plain::{push_scan_readings_from, sum_readings_from};
 use crate::readings::{Itself, Reading};
 use cvl_base::monoid::know_laws;
 use cvl_base::{Monoid, NoResources};
@@ -26,22 +26,26 @@ fn start_or_total<A: Allocator>(d: &SegDes<A>, s: usize) -> usize
     if s < d.count() { d.start(s) } else { d.total() }
 }
 
-/// Pushes the scans of the segments with these lengths, one after another. They have all of the elements, and the last may
-/// be cut short by the end of the elements. There must be room for them.
-fn push_scans<M: Monoid, A: Allocator>(sums: &mut Vec<M::Item, A>, lengths: &[i32], xs: &[M::Item])
+/// Pushes the scans of the segments with these lengths, one after another, of what the elements are read as. The segments
+/// have all of the elements, and the last may be cut short by the end of the elements. There must be room for the scans.
+fn push_scans<M: Monoid, X: Copy, E: Reading<X, M::Item>, A: Allocator>(
+    sums: &mut Vec<M::Item, A>,
+    lengths: &[i32],
+    xs: &[X],
+)
     requires lengths { AreLengths lengths.now }
     requires covered { length xs.now ≤ sum (map unsigned_abs lengths.now) }
     requires room { vec_len sums.old + length xs.now ≤ vec_capacity sums.old }
-    requires items { AllPass M.is_item xs.now }
+    requires items { AllPass (λ x. M.is_item (E.item x)) xs.now }
     ensures values { sums.new.items
-        ≡ sums.old.items ++ scans_of M.join M.unit (map unsigned_abs lengths.now) xs.now }
+        ≡ sums.old.items ++ scans_of M.join M.unit (map unsigned_abs lengths.now) (map E.item xs.now) }
     ensures as_long { vec_len sums.new ≡ vec_len sums.old + length xs.now }
 {
     know_laws::<M>();
     let mut rest = xs;
     for length in lengths {
         let (segment, others) = rest.split_at((*length as usize).min(rest.len()));
-        push_scan_from::<M, A>(sums, M::unit(), segment);
+        push_scan_readings_from::<M, X, E, A>(sums, M::unit(), segment);
         rest = others;
     }
 }
@@ -151,11 +155,17 @@ pub fn sum_of_run<M: Monoid, A: Allocator>(
     sum_of_readings::<M, M::Item, Itself, A>(a, d, from, to, before)
 }
 
-/// Pushes the scan of the run from place `from` to the one before place `to`, as [`scan_of_run`] makes it. There must be room
-/// for it.
-pub(crate) fn push_scan_of_run<M: Monoid, A: Allocator, B: Allocator>(
+/// Pushes the scan of the run from place `from` to the one before place `to`, of what the elements are read as. It is as
+/// [`scan_of_run`] makes it. There must be room for it.
+pub(crate) fn push_scan_of_run<
+    M: Monoid,
+    X: Copy,
+    E: Reading<X, M::Item>,
+    A: Allocator,
+    B: Allocator,
+>(
     sums: &mut Vec<M::Item, B>,
-    a: &[M::Item],
+    a: &[X],
     d: &SegDes<A>,
     from: usize,
     to: usize,
@@ -165,10 +175,10 @@ pub(crate) fn push_scan_of_run<M: Monoid, A: Allocator, B: Allocator>(
     requires in_order { from ≤ to }
     requires within { to ≤ length a.now }
     requires before { IsTrue (M.is_item before) }
-    requires items { AllPass M.is_item a.now }
+    requires items { AllPass (λ x. M.is_item (E.item x)) a.now }
     requires room { vec_len sums.old + (to - from) ≤ vec_capacity sums.old }
     ensures values { sums.new.items
-        ≡ sums.old.items ++ run_scan_of M.join M.unit before (run_of d.now a.now from to) }
+        ≡ sums.old.items ++ run_scan_of M.join M.unit before (run_of d.now (map E.item a.now) from to) }
     ensures as_long { vec_len sums.new ≡ vec_len sums.old + (to - from) }
 {
     know_laws::<M>();
@@ -176,8 +186,8 @@ pub(crate) fn push_scan_of_run<M: Monoid, A: Allocator, B: Allocator>(
     let next = d.starts_before(to);
     let start = start_or_total(d, first);
     let (front, rest) = a[from..to].split_at(start.min(to) - from);
-    push_scan_from::<M, B>(sums, before, front);
-    push_scans::<M, B>(sums, &d.lengths()[first..next], rest);
+    push_scan_readings_from::<M, X, E, B>(sums, before, front);
+    push_scans::<M, X, E, B>(sums, &d.lengths()[first..next], rest);
 }
 
 /// The scan of the run from place `from` to the one before place `to`: for each of its elements, what the elements
@@ -203,6 +213,6 @@ pub fn scan_of_run<M: Monoid, A: Allocator>(
     ensures as_long { IfOk result (λ sums. vec_len sums ≡ to - from) }
 {
     let mut sums = Vec::with_capacity(alloc, to - from)?;
-    push_scan_of_run::<M, A, A>(&mut sums, a, d, from, to, before);
+    push_scan_of_run::<M, M::Item, Itself, A, A>(&mut sums, a, d, from, to, before);
     Ok(sums)
 }
