@@ -3,10 +3,11 @@ use Rattle.std.proofs.Common.{◌≡◌, ℕ, zero, suc, ◌+◌, ◌-◌, ◌*�
 use Rattle.std.specs.Prelude.{sum}
 use Rattle.std.specs.List.{AllPass, flat_map, range_with_len}
 use Rattle.std.proofs.lemmas.Bool.Decides.{eqb_tells, leb_tells}
-use Rattle.std.proofs.lemmas.List.{length-drop, length-take, take_all}
+use Rattle.std.proofs.lemmas.List.{length-append, length-drop, length-take, take_all}
 use Rattle.std.proofs.lemmas.List.FromFn.{get_or-map-range_with_len, length-map-range_with_len}
 use Rattle.std.proofs.lemmas.List.Sums.{sum_by_more}
-use Rattle.cvl_base.specs.Folds.{fold_of}
+use Rattle.operators.proofs.FoldLaws.{length-scan_of}
+use Rattle.cvl_base.specs.Folds.{fold_of, scan_of}
 use Rattle.cvl_base.specs.Monoid.{MonoidLaws}
 use Rattle.cvl_base.specs.SegmentMonoid.{is_seg_item, seg_unit, seg_join}
 use Rattle.segdes.specs.Starts.{start_of}
@@ -95,7 +96,15 @@ module _ (plan : ℕ × ℕ) (lengths : List ℕ) where
           omega (arith, first_left_within t below, first_left_within (t + 1) (omega (arith, e.1)), starts_rise lengths (t * plan.1) ((t + 1) * plan.1) more)
       ]
 
-length-reduces_of : {Item : Type 0} (join : Item → Item → Item) (unit : Item) (lengths : List ℕ) (xs : List Item) → length (reduces_of join unit lengths xs) ≡ length lengths
+pub length-scans_of : {Item : Type 0} (join : Item → Item → Item) (unit : Item) (lengths : List ℕ) (xs : List Item) → sum lengths ≡ length xs → length (scans_of join unit lengths xs) ≡ length xs
+length-scans_of join unit [] xs total = omega (arith, total)
+length-scans_of join unit (n ∷ ls) xs total =
+    let front = take n xs in
+    let whole : n + sum ls ≡ length xs = omega (arith, total, sum-cons n ls) in
+    let rest = length-scans_of join unit ls (drop n xs) (omega (arith, whole, length-drop n xs)) in
+    omega (arith, length-append (scan_of join unit front) (scans_of join unit ls (drop n xs)), length-scan_of join unit front, length-take n xs, length-drop n xs, rest, whole)
+
+pub length-reduces_of : {Item : Type 0} (join : Item → Item → Item) (unit : Item) (lengths : List ℕ) (xs : List Item) → length (reduces_of join unit lengths xs) ≡ length lengths
 length-reduces_of join unit [] xs = refl
 length-reduces_of join unit (n ∷ ls) xs = ap suc (length-reduces_of join unit ls (drop n xs))
 
@@ -163,10 +172,7 @@ module _ {Item : Type 0} {is_item : Item → Bool} {unit : Item} {join : Item �
   pub segmented_scans_joined : plan.0 ≡ length xs → sum lengths ≡ length xs
       → flat_map (tile_of plan.0 plan.1 (scans_of join unit lengths xs)) (range_with_len 0 (count_of plan.0 plan.1)) ≡ scans_of join unit lengths xs
   segmented_scans_joined whole total =
-      let long : length (scans_of join unit lengths xs) ≡ plan.0 =
-      ap length (sym (segments_scanned laws lengths xs unit items)) ∙ length-run_scan_of join unit unit (with_starts lengths xs)
-      ∙ length-with_starts lengths xs (omega (arith, total)) ∙ sym whole in
-      tiles_joined plan.0 plan.1 (scans_of join unit lengths xs) some long
+      tiles_joined plan.0 plan.1 (scans_of join unit lengths xs) some (length-scans_of join unit lengths xs total ∙ sym whole)
 
   -- what stands before a place is what its segment's elements before it join to
   since_start : (place o : ℕ) → place ≤ length xs → sum lengths ≡ length xs → o ≡ starts_before lengths place - 1 → o < length lengths

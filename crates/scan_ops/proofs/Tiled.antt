@@ -1,5 +1,6 @@
 -- The tiles of a list, one after another, and what the tiles before a tile sum up to.
-use Rattle.std.proofs.Common.{◌≡◌, ℕ, zero, suc, ◌+◌, ◌-◌, ◌*◌, ◌<◌, ◌≤◌, min, Bool, true, IsTrue, List, [], ◌∷◌, ◌++◌, length, take, drop, map, get_or, slice_range, refl, sym, ap, ◌∙◌, arith, append-nil, take-add}
+use Rattle.std.proofs.Common.{◌≡◌, ℕ, zero, suc, ◌+◌, ◌-◌, ◌*◌, ◌<◌, ◌≤◌, min, Bool, true, false, cond, eqb, IsTrue, List, [], ◌∷◌, ◌++◌, length, take, drop, map, get_or, slice_range, refl, sym, ap, ◌∙◌, arith, append-nil, take-add, inl, inr}
+use Rattle.std.proofs.lemmas.Bool.Decides.{eqb_tells, leb_tells}
 use Rattle.std.specs.List.{AllPass, flat_map, range_with_len}
 use Rattle.std.proofs.lemmas.List.{length-map, map-id, take_all}
 use Rattle.std.proofs.lemmas.List.Concat.{flat_map-append}
@@ -103,3 +104,21 @@ module _ {Item : Type 0} {is_item : Item → Bool} {unit : Item} {join : Item �
   pub before_is_item : (t : ℕ) → t ≤ count_of len tile → IsTrue (is_seg_item is_item (fold_of (seg_join join) (seg_unit unit) (take t (sums_of join unit len tile run))))
   before_is_item t within =
       fold_of_is_item (seg_laws laws) (take t (sums_of join unit len tile run)) (All-take (λ w. is_seg_item is_item w ≡ true) t (sums_of join unit len tile run) sums_pass)
+
+-- a list that isn't empty has a tile
+pub some_tile : (len tile : ℕ) → 1 ≤ tile → 0 < len → 0 < count_of len tile
+some_tile len tile some filled =
+    elim (leb_tells 1 (count_of len tile)) [
+      | inl e ↦ e.1
+      | inr e ↦
+        let none : count_of len tile ≡ 0 = omega (arith, e.1) in
+        let product : count_of len tile * tile ≡ 0 * tile = ap (λ n. n * tile) none in
+        absurd (omega (arith, starts_past len tile some, product, filled))
+    ]
+
+pub filled_by_test : (n : ℕ) → eqb n 0 ≡ false → 0 < n
+filled_by_test n e =
+    elim (eqb_tells n 0) [
+      | inl t ↦ let bad : true ≡ false = sym t.0 ∙ e in cc bad
+      | inr t ↦ omega (arith, t.1)
+    ]

@@ -106,6 +106,10 @@ impl<'a, M: Packed, X: Copy, E: Reading<X, M::Item>> Kernel for FlatScan<'a, M, 
 
     ghost items = { λ k t. tile_of k.flat.plan.0 k.flat.plan.1 (scan_of M.join M.unit (map E.item k.flat.elements.now)) t };
 
+    fn len(&self) -> usize {
+        self.flat.elements.len()
+    }
+
     fn items<A: Allocator>(
         &self,
         alloc: A,
@@ -122,5 +126,60 @@ impl<'a, M: Packed, X: Copy, E: Reading<X, M::Item>> Kernel for FlatScan<'a, M, 
         let mut sums = Vec::with_capacity(alloc, elements.len())?;
         push_scan_readings_from::<M, X, E, A>(&mut sums, before.1, elements);
         Ok(sums)
+    }
+}
+
+/// The reduce of a flat vector, which the last tile gives.
+#[derive(Drop)]
+pub(crate) struct FlatReduce<'a, M: Packed, X: Copy, E: Reading<X, M::Item>> {
+    pub(crate) flat: Flat<'a, M, X, E>,
+}
+
+impl<'a, M: Packed, X: Copy, E: Reading<X, M::Item>> Tiles for FlatReduce<'a, M, X, E> {
+    ghost use Rattle.scan_ops.specs.Kernels.{flat_sums};
+
+    type M = M;
+
+    ghost sums = { λ k. flat_sums M.join M.unit k.flat.plan (map E.item k.flat.elements.now) };
+
+    fn count(&self) -> u32 {
+        self.flat.count()
+    }
+
+    fn sum(&self, t: u32) -> (bool, M::Item) {
+        self.flat.sum(t)
+    }
+}
+
+impl<'a, M: Packed, X: Copy, E: Reading<X, M::Item>> Kernel for FlatReduce<'a, M, X, E> {
+    ghost use Rattle.std.specs.Prelude.{IfOk};
+    ghost use Rattle.cvl_base.specs.Folds.{fold_of};
+    ghost use Rattle.scan_ops.specs.Kernels.{IsAtTile, flat_sums, reduce_at};
+    ghost use Rattle.tile_plan.specs.Ranges.{count_of};
+
+    ghost items = { λ k t. reduce_at (count_of k.flat.plan.0 k.flat.plan.1) (fold_of M.join M.unit (map E.item k.flat.elements.now)) t };
+
+    fn len(&self) -> usize {
+        1
+    }
+
+    fn items<A: Allocator>(
+        &self,
+        alloc: A,
+        t: u32,
+        before: (bool, M::Item),
+        sum: (bool, M::Item),
+    ) -> Result<Vec<M::Item, A>, NoResources>
+        requires { IsAtTile M.join M.unit (flat_sums M.join M.unit self.now.flat.plan (map E.item self.now.flat.elements.now)) t before sum }
+        ensures { IfOk result (λ made. made.items
+            ≡ reduce_at (count_of self.now.flat.plan.0 self.now.flat.plan.1) (fold_of M.join M.unit (map E.item self.now.flat.elements.now)) t) }
+    {
+        know_laws::<M>();
+        if t < self.flat.count() - 1 {
+            return Ok(Vec::new(alloc));
+        }
+        let mut reduces = Vec::with_capacity(alloc, 1)?;
+        reduces.push_reserved(M::join(before.1, sum.1));
+        Ok(reduces)
     }
 }

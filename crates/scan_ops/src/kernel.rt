@@ -32,6 +32,9 @@ pub(crate) trait Tiles {
 pub(crate) trait Kernel: Tiles {
     ghost items: { Self → ℕ → List Self.M.Item };
 
+    /// How many items all tiles have, for which memory is reserved at once.
+    fn len(&self) -> usize;
+
     /// The items of tile `t`, where the tiles before it join to `before`, and its own sum is `sum`.
     fn items<A: Allocator>(
         &self,

@@ -7,6 +7,7 @@ mod ints;
 mod kernel;
 mod plain;
 mod prefixes;
+mod race;
 pub mod readings;
 mod runs;
 mod segmented_tiles;

@@ -127,6 +127,10 @@ impl<'a, M: Packed, X: Copy, E: Reading<X, M::Item>, A: Allocator> Kernel
 
     ghost items = { λ k t. tile_of k.vector.plan.0 k.vector.plan.1 (scans_of M.join M.unit k.vector.segments.now (map E.item k.vector.elements.now)) t };
 
+    fn len(&self) -> usize {
+        self.vector.elements.len()
+    }
+
     fn items<B: Allocator>(
         &self,
         alloc: B,
@@ -181,6 +185,10 @@ impl<'a, M: Packed, X: Copy, E: Reading<X, M::Item>, A: Allocator> Kernel
     ghost use Rattle.scan_ops.specs.Kernels.{IsAtTile, reduces_at, segmented_sums};
 
     ghost items = { λ k t. reduces_at M.join M.unit k.vector.plan k.vector.segments.now (map E.item k.vector.elements.now) t };
+
+    fn len(&self) -> usize {
+        self.vector.segments.count()
+    }
 
     fn items<B: Allocator>(
         &self,

@@ -6,29 +6,52 @@ ghost use Rattle.cvl_base.specs.Folds.{fold_of};
 ghost use Rattle.cvl_base.specs.Gives.{Gives};
 ghost use Rattle.cvl_base.specs.SegmentedCalls.{seg_reduce_of};
 
-use crate::plain::{sum_from, sum_readings_from};
+use crate::flat_tiles::{Flat, FlatReduce};
+use crate::plain::sum_readings_from;
+use crate::race::in_turn;
 use crate::readings::{Itself, Reading};
 use crate::runs::push_reduces_of_run;
+use crate::segmented_tiles::{Segmented, SegmentedReduce};
 use crate::totals::check_total;
+use cvl_base::limits::MOST_ELEMENTS;
 use cvl_base::monoid::know_laws;
-use cvl_base::{Config, Memory, Monoid, NoResources, Refused};
+use cvl_base::{Config, Memory, Monoid, NoResources, Packed, Refused};
 use segdes::SegDes;
 use std::thread::Threads;
 
 /// The elements joined from left to right, and the unit where there are none.
 ///
 /// The elements must be items of the monoid. Source: CVL's reduces.
-pub fn reduce<R: Threads + Sync, A: Memory, M: Monoid>(
-    _rt: &R,
-    _alloc: A,
-    _config: Config,
+pub fn reduce<R: Threads + Sync, A: Memory, M: Packed>(
+    rt: &R,
+    alloc: A,
+    config: Config,
     a: &[M::Item],
 ) -> Result<M::Item, NoResources>
     requires items { AllPass M.is_item a.now }
     ensures { IfOk result (λ sum. sum ≡ fold_of M.join M.unit a.now) }
 {
+    reduce_in_tiles::<R, A, M, M::Item, Itself>(rt, alloc, config, a)
+}
+
+/// What the elements are read as, joined from left to right, and the unit where there are none, tile by tile. A vector that
+/// has no tile, or more elements than the tiles of a board may have, is walked at once.
+fn reduce_in_tiles<R: Threads + Sync, A: Memory, M: Packed, X: Copy, E: Reading<X, M::Item>>(
+    _rt: &R,
+    alloc: A,
+    config: Config,
+    a: &[X],
+) -> Result<M::Item, NoResources>
+    requires items { AllPass (λ x. M.is_item (E.item x)) a.now }
+    ensures { IfOk result (λ sum. sum ≡ fold_of M.join M.unit (map E.item a.now)) }
+{
     know_laws::<M>();
-    Ok(sum_from::<M>(M::unit(), a))
+    if a.is_empty() || a.len() > MOST_ELEMENTS {
+        return Ok(sum_readings_from::<M, X, E>(M::unit(), a));
+    }
+    let flat = Flat::<M, X, E>::new(a, config.tile());
+    let reduces = in_turn(alloc, &FlatReduce { flat })?;
+    Ok(reduces[0])
 }
 
 /// What the elements are read as, joined from left to right, and the unit where there are none. It takes no memory.
@@ -46,7 +69,7 @@ pub fn reduce_readings<M: Monoid, X: Copy, E: Reading<X, M::Item>>(a: &[X]) -> M
 ///
 /// The elements must be items of the monoid. The result has one element for each segment. LengthMismatch, without a
 /// place, where the segments' total is not the number of elements. Source: CVL's segmented reduces.
-pub fn seg_reduce<R: Threads + Sync, A: Memory, M: Monoid>(
+pub fn seg_reduce<R: Threads + Sync, A: Memory, M: Packed>(
     rt: &R,
     alloc: A,
     config: Config,
@@ -67,10 +90,10 @@ pub fn seg_reduce<R: Threads + Sync, A: Memory, M: Monoid>(
 pub fn seg_reduce_readings<
     R: Threads + Sync,
     A: Memory,
-    M: Monoid,
+    M: Packed,
     X: Copy,
     E: Reading<X, M::Item>,
->(_rt: &R, alloc: A, _config: Config, a: &[X], d: &SegDes<A>) -> Result<Vec<M::Item, A>, Refused>
+>(_rt: &R, alloc: A, config: Config, a: &[X], d: &SegDes<A>) -> Result<Vec<M::Item, A>, Refused>
     requires items { AllPass (λ x. M.is_item (E.item x)) a.now }
     ensures values { Gives (λ sums. sums.items) result
         (seg_reduce_of M.join M.unit (map E.item a.now) d.now) }
@@ -78,7 +101,13 @@ pub fn seg_reduce_readings<
 {
     know_laws::<M>();
     check_total(a, d)?;
-    let mut sums = Vec::with_capacity(alloc, d.count())?;
-    push_reduces_of_run::<M, X, E, A, A>(&mut sums, a, d, 0, d.count(), 0, M::unit());
-    Ok(sums)
+    if a.is_empty() {
+        // there is no tile, but there may be segments
+        let mut units = Vec::with_capacity(alloc, d.count())?;
+        push_reduces_of_run::<M, X, E, A, A>(&mut units, a, d, 0, d.count(), 0, M::unit());
+        return Ok(units);
+    }
+    let vector = Segmented::<M, X, E, A>::new(a, d, config.tile());
+    let reduces = in_turn(alloc, &SegmentedReduce { vector })?;
+    Ok(reduces)
 }

@@ -1,11 +1,9 @@
-use Rattle.std.proofs.Common.{◌∙◌, Ok, sym, ap}
-use Rattle.scan_ops.proofs.Cut.{whole_scanned}
-use Rattle.scan_ops.proofs.Segmented.{seg_scan-fits}
+use Rattle.std.proofs.Common.{subst}
+use Rattle.std.proofs.lemmas.List.{map-id}
+use Rattle.cvl_base.specs.Gives.{Gives}
+use Rattle.cvl_base.specs.SegmentedCalls.{seg_scan_of}
 use Rattle.scan_ops.proofs.prefixes.seg_scan.Goals as goal
 
 pub returns-clause-values : goal.returns-clause-values
 returns-clause-values g c =
-    let d = c.args.d.now in
-    let xs = c.args.a.now in
-    seg_scan-fits g.M.Monoid.join g.M.Monoid.unit xs d c.in_ok-check_total.ensures.agrees
-    ∙ ap (λ sums. Ok sums) (sym (c.in_ok-sums.ensures.values ∙ whole_scanned c.know_laws.ensures d xs c.unit.result c.requires.items))
+    subst (λ xs. Gives (λ sums. sums.items) c.seg_scan_readings.result (seg_scan_of g.M.Monoid.join g.M.Monoid.unit xs c.args.d.now)) (map-id c.args.a.now) c.seg_scan_readings.ensures.values
