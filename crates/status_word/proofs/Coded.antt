@@ -1,14 +1,15 @@
 -- The lawful words of a tile, by the state: they ascend, and each is read again.
 -- Source: what the definitions of Codings imply.
-use Rattle.std.proofs.Common.{◌≡◌, refl, ap, ◌∙◌, ℕ, zero, suc, ◌+◌, ◌<◌, ◌≤◌, max, Bool, List, IsTrue, arith, ⊎_elim}
+use Rattle.std.proofs.Common.{◌≡◌, refl, ap, ◌∙◌, ℕ, zero, suc, ◌+◌, ◌-◌, ◌<◌, ◌≤◌, max, Bool, List, IsTrue, take, drop, arith, ⊎_elim}
 use Rattle.std.specs.List.{AllPass}
 use Rattle.std.proofs.lemmas.Bool.{cases_lt}
 use Rattle.cvl_base.specs.Monoid.{MonoidLaws}
 use Rattle.cvl_base.specs.SegmentMonoid.{is_seg_item, seg_unit, seg_join}
-use Rattle.status_word.specs.Codings.{Coding, CodingLaws, told_of, code}
+use Rattle.cvl_base.specs.Folds.{fold_of}
+use Rattle.status_word.specs.Codings.{Coding, CodingLaws, told_of, code, Says, CodeLaws, SumsLaws}
 use Rattle.status_word.specs.Locals.{is_item_status}
 use Rattle.status_word.specs.Words.{state_of}
-use Rattle.status_word.proofs.Sums.{element_is_sum, front_is_sum}
+use Rattle.status_word.proofs.Sums.{element_is_sum, front_is_sum, run_is_sum, front_more, run_more, front_split}
 
 module _ {Item : Type 0} {is_item : Item → Bool} (m : Coding Item) (coded : CodingLaws is_item m) (laws : MonoidLaws (is_seg_item is_item) (seg_unit m.unit) (seg_join m.join)) (sums : List (Bool × Item)) (items : AllPass (is_seg_item is_item) sums) where
   pub told_is_item : (t rank : ℕ) → IsTrue (is_item_status is_item (told_of m sums t rank))
@@ -38,7 +39,36 @@ module _ {Item : Type 0} {is_item : Item → Bool} (m : Coding Item) (coded : Co
       (λ (more : b ≤ a). let up = code_le t b a more in let top : a ≡ max a b = omega arith in let word : max (code m sums t a) (code m sums t b) ≡ code m sums t a = omega arith in word ∙ ap (code m sums t) top)
       (cases_lt a b)
 
-  pub told_rank : (t rank : ℕ) → state_of (told_of m sums t rank) ≤ rank
-  told_rank t zero = omega arith
-  told_rank t (suc zero) = omega arith
-  told_rank t (suc (suc rank)) = omega arith
+  pub told_state_of : (t rank : ℕ) → rank ≤ 2 → state_of (told_of m sums t rank) ≡ rank
+  told_state_of t zero state = refl
+  told_state_of t (suc zero) state = refl
+  told_state_of t (suc (suc rank)) state = omega arith
+
+  told_says : (t rank : ℕ) → Says m sums t (told_of m sums t rank)
+  told_says t zero = tt
+  told_says t (suc zero) = refl
+  told_says t (suc (suc rank)) = refl
+
+  pub code_laws : CodeLaws is_item m sums
+  code_laws = record {
+    silent = λ t. coded.silent;
+    greater = code_max;
+    read = code_read;
+    fits = λ t rank. coded.fits (told_of m sums t rank) (told_is_item t rank);
+    items = told_is_item;
+    states = told_state_of;
+    says = told_says;
+  }
+
+  pub sums_laws : SumsLaws is_item m sums
+  sums_laws = record {
+    own = λ t. element_is_sum laws sums t items;
+    exclusive = front_is_sum laws sums items;
+    middle = λ first t. run_is_sum laws sums items first (t - first);
+    none_before = refl;
+    before_next = front_more laws sums items;
+    none_between = λ t. let none : t - t ≡ 0 = omega arith in ap (λ k. fold_of (seg_join m.join) (seg_unit m.unit) (take k (drop t sums))) none;
+    one_more = run_more laws sums items;
+    met = front_split laws sums items;
+    all_between = λ t. let all : t - 0 ≡ t = omega arith in ap (λ k. fold_of (seg_join m.join) (seg_unit m.unit) (take k sums)) all;
+  }

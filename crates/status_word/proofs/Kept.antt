@@ -1,124 +1,194 @@
--- The scan board's rule is kept where one pass takes one step: a claim, a look or a tell.
+-- The scan board's rule is kept by each kind of step, and what it implies.
 -- Source: what the definitions of Passes imply.
-use Rattle.std.proofs.Common.{◌≡◌, ◌≢◌, refl, sym, ap, ◌∙◌, subst, ℕ, zero, suc, ◌+◌, ◌<◌, ◌≤◌, min, max, Bool, true, false, cond, eqb, ltb, List, [], ◌∷◌, length, get_or, set, arith, length-set, ⊎_elim}
-use Rattle.std.specs.List.{sum_by}
-use Rattle.std.proofs.lemmas.List.{get_or-set_other}
-use Rattle.std.proofs.lemmas.List.Sums.{sum_by-set}
-use Rattle.std.proofs.lemmas.Grind.{get_or-set_at}
-use Rattle.std.proofs.lemmas.Bool.Decides.{nat_tests, eqb_tells}
-use Rattle.status_word.specs.Passes.{Pass, told_at, seen_at, given_at, highest, IsFair, IsKept}
+use Rattle.std.proofs.Common.{◌≡◌, ◌≢◌, refl, sym, ap, ◌∙◌, ℕ, ◌≤◌, max, Bool, true, false, cond, eqb, List, [], ◌∷◌, ◌++◌, length, set, arith, ⊎_elim}
+use Rattle.std.proofs.lemmas.Bool.Decides.{eqb_tells}
+use Rattle.std.proofs.lemmas.List.{length-append}
+use mathlib.Core.Option.{some, some-ne-none}
+use lib.ListN.{get_elem?}
+use Rattle.status_word.specs.declared.pass.Mark.{Mark}
+use Rattle.status_word.specs.declared.pass.Pass.{Pass}
+use Rattle.status_word.specs.Hands.{AreDealt}
+use Rattle.status_word.specs.Passes.{first_pass, spent_pass, given_tile, told_done, looked, told_state, split_left, split_right, joined, highest_mark, told_at, seen_at, highest, IsFair, IsKept}
+use Rattle.status_word.specs.RuleSteps.{AreSame, FirstKeeps, ClaimKeeps, DoneKeeps, LookKeeps, TellKeeps, SplitKeeps, JoinKeeps, FewClaimed, WholeKnows, JoinAdds}
+use Rattle.status_word.proofs.Dealt.{times-append, first_deals, claim_deals, done_deals, same_deals, split_deals, join_deals, few_claims, others_idle, whole_deals}
+use Rattle.status_word.proofs.Places.{set_here, set_else, each_set, each_push, highest_at, highest_set, highest_same, highest_push, highest_moved, highest_alone}
 
--- ---- one element of a list changes
+marks-append : (t : ℕ) (xs ys : List Mark) → highest_mark t (xs ++ ys) ≡ max (highest_mark t xs) (highest_mark t ys)
+marks-append t [] ys = omega arith
+marks-append t (x ∷ xs) ys = let rest = marks-append t xs ys in omega arith
 
-module _ {X : Type 0} where
-  pub highest_set : (f : X → ℕ) (xs : List X) (i : ℕ) (y d : X) (r : ℕ) → i < length xs → f y ≡ max (f (get_or xs i d)) r → highest f (set xs i y) ≡ max (highest f xs) r
-  highest_set f [] i y d r within same = absurd (omega arith)
-  highest_set f (x ∷ xs) zero y d r within same = omega arith
-  highest_set f (x ∷ xs) (suc i) y d r within same = let rest = highest_set f xs i y d r (omega arith) same in omega arith
+module _ {Item : Type 0} where
+  pub join_adds : (p other : Pass Item) → JoinAdds p other
+  join_adds p other = record {
+    given = λ t. times-append t p.hand.given other.hand.given;
+    count = length-append p.hand.given other.hand.given;
+    told = λ t. marks-append t p.told other.told;
+    seen = λ t. marks-append t p.seen other.seen;
+  }
 
-  pub highest_same : (f : X → ℕ) (xs : List X) (i : ℕ) (y d : X) → i < length xs → f y ≡ f (get_or xs i d) → highest f (set xs i y) ≡ highest f xs
-  highest_same f xs i y d within same = let change = highest_set f xs i y d 0 within (omega arith) in omega arith
+  -- a pass that has a share is fair where its sums are the board's
+  fair_with : {sums : List (Bool × Item)} (q : Pass Item) → q.sums ≡ sums → 1 ≤ q.hand.share → IsFair sums q
+  fair_with q same share = record { tiles = λ some_share. same; empty = λ none. absurd (omega arith) }
 
-  pub sum_same : (f : X → ℕ) (xs : List X) (i : ℕ) (y d : X) → i < length xs → f y ≡ f (get_or xs i d) → sum_by f (set xs i y) ≡ sum_by f xs
-  sum_same f xs i y d within same = let change = sum_by-set f xs i y d within in omega arith
+  spent_fair : (sums : List (Bool × Item)) → IsFair sums spent_pass
+  spent_fair sums = record { tiles = λ share. absurd (omega arith); empty = λ none. (refl, refl, refl) }
 
-  pub sum_more : (f : X → ℕ) (xs : List X) (i : ℕ) (y d : X) (n : ℕ) → i < length xs → f y ≡ f (get_or xs i d) + n → sum_by f (set xs i y) ≡ sum_by f xs + n
-  sum_more f xs i y d n within same = let change = sum_by-set f xs i y d within in omega arith
+  pub first_keeps : FirstKeeps Item
+  first_keeps code sums workers word silent = record {
+    words = λ t tile. silent t tile ∙ ap (code t) (let none : 0 ≡ highest (told_at t) (first_pass sums workers ∷ []) = omega arith in none);
+    states = λ t. omega arith;
+    seen = λ t. omega arith;
+    dealt = first_deals (λ p. p.hand) (length sums) workers (first_pass sums workers) refl;
+    fair = each_push (IsFair sums) [] (first_pass sums workers) (λ j z there. absurd (some-ne-none z (sym there)))
+        (record { tiles = λ share. refl; empty = λ none. (refl, refl, refl) });
+  }
 
-  pub each_set : (P : X → Type 0) (xs : List X) (i : ℕ) (y : X) → ((at : ℕ) (other : X) → at < length xs → P (get_or xs at other)) → P y → (at : ℕ) (other : X) → at < length (set xs i y) → P (get_or (set xs i y) at other)
-  each_set P xs i y each here at other within =
-      let inside : at < length xs = omega (arith, length-set {A = X}) in
-      ⊎_elim (λ (same : (eqb at i ≡ true) × (at ≡ i)). subst P (sym (get_or-set_at xs i at y other same.1 (omega arith))) here)
-      (λ (differ : (eqb at i ≡ false) × (at ≢ i)). subst P (sym (get_or-set_other xs i at y other differ.1)) (each at other inside))
-      (eqb_tells at i)
-
--- ---- the tests of a claim, on numbers
-
-claimed_more : (t claims tiles : ℕ) → claims < tiles → cond (ltb t (min claims tiles)) 1 0 + cond (eqb claims t) 1 0 ≡ cond (ltb t (min (claims + 1) tiles)) 1 0
-claimed_more t claims tiles below = grind (arith, nat_tests)
-
-claimed_all : (t claims tiles : ℕ) → tiles ≤ claims → cond {A = ℕ} (ltb t (min claims tiles)) 1 0 ≡ cond (ltb t (min (claims + 1) tiles)) 1 0
-claimed_all t claims tiles past = grind (arith, nat_tests)
-
--- ---- the steps
-
-module _ {Item : Type 0} {code : ℕ → ℕ → ℕ} (code_max : (t a b : ℕ) → max (code t a) (code t b) ≡ code t (max a b)) (sums : List (Bool × Item)) (workers claims : ℕ) (words : List ℕ) (passes : List (Pass Item)) (a : ℕ) (d : Pass Item) (within : a < length passes) (kept : IsKept code sums workers claims (λ t. get_or words t 0) passes) where
-  abbrev old : Pass Item
-  old = get_or passes a d
-
-  pub kept_look : (at rank : ℕ) → rank ≤ highest (told_at at) passes → let p : Pass Item = record old { seen = record { tile = at; rank = rank } ∷ old.seen; looks = old.looks + 1 } in IsFair sums p → IsKept code sums workers claims (λ t. get_or words t 0) (set passes a p)
-  kept_look at rank known fair =
-      let p : Pass Item = record old { seen = record { tile = at; rank = rank } ∷ old.seen; looks = old.looks + 1 } in
+  -- a step that tells nothing and sees nothing
+  quiet : (code : ℕ → ℕ → ℕ) (sums : List (Bool × Item)) (workers claims next : ℕ) (word now : ℕ → ℕ) (passes : List (Pass Item)) (id : ℕ) (p q : Pass Item) → IsKept code sums workers claims word passes → get_elem? passes id ≡ some p → q.told ≡ p.told → q.seen ≡ p.seen → q.sums ≡ p.sums → 1 ≤ p.hand.share → 1 ≤ q.hand.share → AreSame (length sums) word now → AreDealt (λ r. r.hand) (length sums) workers next (set passes id q) → IsKept code sums workers next now (set passes id q)
+  quiet code sums workers claims next word now passes id p q kept here same_told same_seen same_sums had has same dealt =
+      let top : (t : ℕ) → highest (told_at t) (set passes id q) ≡ highest (told_at t) passes = λ t. highest_same (told_at t) passes id p q here (ap (highest_mark t) same_told) in
       record {
-        words = λ t below. kept.words t below ∙ ap (code t) (sym (highest_same (told_at t) passes a p d within refl));
-        seen = λ t.
-            let told = highest_same (told_at t) passes a p d within refl in
-            let saw = highest_set (seen_at t) passes a p d (cond (eqb at t) rank 0) within (omega arith) in
-            let before = kept.seen t in
-            ⊎_elim (λ (same : (eqb at t ≡ true) × (at ≡ t)). let now = ap (λ b. cond b rank 0) same.0 in let up = ap (λ n. highest (told_at n) passes) same.1 in omega arith)
-            (λ (differ : (eqb at t ≡ false) × (at ≢ t)). let now = ap (λ b. cond b rank 0) differ.0 in omega arith)
-            (eqb_tells at t);
-        given = λ t. sum_same (given_at t) passes a p d within refl ∙ kept.given t;
-        count = sum_same (λ q. length q.hand.given) passes a p d within refl ∙ kept.count;
-        done = sum_same (λ q. q.hand.done) passes a p d within refl ∙ kept.done;
-        shares = sum_same (λ q. q.hand.share) passes a p d within refl ∙ kept.shares;
-        fair = each_set (IsFair sums) passes a p kept.fair fair;
+        words = λ t tile. same t tile ∙ kept.words t tile ∙ ap (code t) (sym (top t));
+        states = λ t. let told = top t in let before = kept.states t in omega arith;
+        seen = λ t. let told = top t in let saw = highest_same (seen_at t) passes id p q here (ap (highest_mark t) same_seen) in let before = kept.seen t in omega arith;
+        dealt = dealt;
+        fair = each_set (IsFair sums) passes id q kept.fair (fair_with q (same_sums ∙ (kept.fair id p here).tiles had) has);
       }
 
-  pub kept_tell : (t rank : ℕ) → t < length sums → length words ≡ length sums → let p : Pass Item = record old { told = record { tile = t; rank = rank } ∷ old.told } in IsFair sums p → IsKept code sums workers claims (λ x. get_or (set words t (max (get_or words t 0) (code t rank))) x 0) (set passes a p)
-  kept_tell t rank below long fair =
-      let p : Pass Item = record old { told = record { tile = t; rank = rank } ∷ old.told } in
-      let v = max (get_or words t 0) (code t rank) in
-      let inside : t < length words = omega arith in
+  pub claim_keeps : ClaimKeeps Item
+  claim_keeps code sums workers claims next word now passes id p kept here below share next_is same =
+      let dealt = claim_deals (λ r. r.hand) (length sums) workers claims next passes id p (given_tile p claims) kept.dealt here refl below share next_is in
+      (quiet code sums workers claims next word now passes id p (given_tile p claims) kept here refl refl refl share share same dealt.0, dealt.1)
+
+  pub done_keeps : DoneKeeps Item
+  done_keeps code sums workers claims next word now passes id p kept here past room next_is same =
+      let share : 1 ≤ p.hand.share = omega arith in
+      let dealt = done_deals (λ r. r.hand) (length sums) workers claims next passes id p (told_done p) kept.dealt here refl past room next_is in
+      quiet code sums workers claims next word now passes id p (told_done p) kept here refl refl refl share share same dealt
+
+  -- a state that was told is seen
+  pub saw_keeps : (code : ℕ → ℕ → ℕ) (sums : List (Bool × Item)) (workers claims : ℕ) (word now : ℕ → ℕ) (passes : List (Pass Item)) (id : ℕ) (p : Pass Item) (t rank : ℕ) → IsKept code sums workers claims word passes → get_elem? passes id ≡ some p → 1 ≤ p.hand.share → AreSame (length sums) word now → rank ≤ highest (told_at t) passes → IsKept code sums workers claims now (set passes id (looked p t rank))
+  saw_keeps code sums workers claims word now passes id p t rank kept here share same known =
+      let q : Pass Item = looked p t rank in
+      let top : (x : ℕ) → highest (told_at x) (set passes id q) ≡ highest (told_at x) passes = λ x. highest_same (told_at x) passes id p q here refl in
+      record {
+        words = λ x tile. same x tile ∙ kept.words x tile ∙ ap (code x) (sym (top x));
+        states = λ x. let told = top x in let before = kept.states x in omega arith;
+        seen = λ x.
+            let told = top x in
+            let saw = highest_set (seen_at x) passes id p q (cond (eqb t x) rank 0) here (omega arith) in
+            let before = kept.seen x in
+            ⊎_elim (λ (equal : (eqb t x ≡ true) × (t ≡ x)). let new = ap (λ b. cond b rank 0) equal.0 in let up = ap (λ n. highest (told_at n) passes) equal.1 in omega arith)
+            (λ (differ : (eqb t x ≡ false) × (t ≢ x)). let new = ap (λ b. cond b rank 0) differ.0 in omega arith)
+            (eqb_tells t x);
+        dealt = same_deals (λ r. r.hand) (length sums) workers claims passes id p q kept.dealt here refl;
+        fair = each_set (IsFair sums) passes id q kept.fair (fair_with q ((kept.fair id p here).tiles share) share);
+      }
+
+  pub look_keeps : LookKeeps Item
+  look_keeps code sums workers claims word now passes id p t kept here share same =
+      let told = highest_at (told_at t) passes id p here in
+      let saw = highest_at (seen_at t) passes id p here in
+      let top = kept.seen t in (
+        saw_keeps code sums workers claims word now passes id p t (highest (told_at t) passes) kept here share same (omega arith),
+        omega arith,
+        kept.states t,
+        kept.words t,
+      )
+
+  pub tell_keeps : TellKeeps Item
+  tell_keeps code ascends sums workers claims word now passes id p t rank kept here share tile state raised =
+      let q : Pass Item = told_state p t rank in
       record {
         words = λ x is_tile.
-            let told = highest_set (told_at x) passes a p d (cond (eqb t x) rank 0) within (omega arith) in
-            ⊎_elim (λ (same : (eqb t x ≡ true) × (t ≡ x)).
-            let now : highest (told_at x) (set passes a p) ≡ max (highest (told_at x) passes) rank = told ∙ ap (λ b. max (highest (told_at x) passes) (cond b rank 0)) same.0 in
-            get_or-set_at words t x v 0 (sym same.1) inside
-            ∙ ap (λ w. max w (code t rank)) (kept.words t below)
-            ∙ code_max t (highest (told_at t) passes) rank
-            ∙ ap (λ y. code y (max (highest (told_at y) passes) rank)) same.1
-            ∙ ap (code x) (sym now))
+            let top = highest_set (told_at x) passes id p q (cond (eqb t x) rank 0) here (omega arith) in
+            ⊎_elim (λ (equal : (eqb t x ≡ true) × (t ≡ x)).
+            let more : highest (told_at x) (set passes id q) ≡ max (highest (told_at x) passes) rank = top ∙ ap (λ b. max (highest (told_at x) passes) (cond b rank 0)) equal.0 in
+            ap now (sym equal.1)
+            ∙ raised.here
+            ∙ ap (λ w. max w (code t rank)) (kept.words t tile)
+            ∙ ascends t (highest (told_at t) passes) rank
+            ∙ ap (λ y. code y (max (highest (told_at y) passes) rank)) equal.1
+            ∙ ap (code x) (sym more))
             (λ (differ : (eqb t x ≡ false) × (t ≢ x)).
             let none = ap (λ b. cond b rank 0) differ.0 in
-            let now : highest (told_at x) (set passes a p) ≡ highest (told_at x) passes = omega arith in
-            get_or-set_other words t x v 0 (λ e. differ.1 (sym e)) ∙ kept.words x is_tile ∙ ap (code x) (sym now))
+            let stays : highest (told_at x) (set passes id q) ≡ highest (told_at x) passes = omega arith in
+            raised.others x is_tile (λ e. differ.1 (sym e)) ∙ kept.words x is_tile ∙ ap (code x) (sym stays))
+            (eqb_tells t x);
+        states = λ x.
+            let top = highest_set (told_at x) passes id p q (cond (eqb t x) rank 0) here (omega arith) in
+            let before = kept.states x in
+            ⊎_elim (λ (equal : (eqb t x ≡ true) × (t ≡ x)). let new = ap (λ b. cond b rank 0) equal.0 in omega arith)
+            (λ (differ : (eqb t x ≡ false) × (t ≢ x)). let new = ap (λ b. cond b rank 0) differ.0 in omega arith)
             (eqb_tells t x);
         seen = λ x.
-            let told = highest_set (told_at x) passes a p d (cond (eqb t x) rank 0) within (omega arith) in
-            let saw = highest_same (seen_at x) passes a p d within refl in
+            let top = highest_set (told_at x) passes id p q (cond (eqb t x) rank 0) here (omega arith) in
+            let saw = highest_same (seen_at x) passes id p q here refl in
             let before = kept.seen x in
             omega arith;
-        given = λ x. sum_same (given_at x) passes a p d within refl ∙ kept.given x;
-        count = sum_same (λ q. length q.hand.given) passes a p d within refl ∙ kept.count;
-        done = sum_same (λ q. q.hand.done) passes a p d within refl ∙ kept.done;
-        shares = sum_same (λ q. q.hand.share) passes a p d within refl ∙ kept.shares;
-        fair = each_set (IsFair sums) passes a p kept.fair fair;
+        dealt = same_deals (λ r. r.hand) (length sums) workers claims passes id p q kept.dealt here refl;
+        fair = each_set (IsFair sums) passes id q kept.fair (fair_with q ((kept.fair id p here).tiles share) share);
       }
 
-  pub kept_claim : claims < length sums → let p : Pass Item = record old { hand = record old.hand { given = claims ∷ old.hand.given } } in IsFair sums p → IsKept code sums workers (claims + 1) (λ t. get_or words t 0) (set passes a p)
-  kept_claim below fair =
-      let p : Pass Item = record old { hand = record old.hand { given = claims ∷ old.hand.given } } in
+  pub split_keeps : SplitKeeps Item
+  split_keeps code sums workers claims word passes id p kept here many room =
+      let left : Pass Item = split_left p in
+      let right : Pass Item = split_right p in
+      let tiles : p.sums ≡ sums = (kept.fair id p here).tiles (omega arith) in
+      let top : (t : ℕ) → highest (told_at t) (set passes id left ++ right ∷ []) ≡ highest (told_at t) passes = λ t. let stays = highest_same (told_at t) passes id p left here refl in let pushed = highest_push (told_at t) (set passes id left) right in omega arith in
       record {
-        words = λ t is_tile. kept.words t is_tile ∙ ap (code t) (sym (highest_same (told_at t) passes a p d within refl));
-        seen = λ t. let told = highest_same (told_at t) passes a p d within refl in let saw = highest_same (seen_at t) passes a p d within refl in let before = kept.seen t in omega arith;
-        given = λ t. sum_more (given_at t) passes a p d (cond (eqb claims t) 1 0) within (omega arith) ∙ ap (λ n. n + cond (eqb claims t) 1 0) (kept.given t) ∙ claimed_more t claims (length sums) below;
-        count = let more = sum_more (λ q. length q.hand.given) passes a p d 1 within (omega arith) in let before = kept.count in omega arith;
-        done = let same = sum_same (λ q. q.hand.done) passes a p d within refl in let before = kept.done in omega arith;
-        shares = sum_same (λ q. q.hand.share) passes a p d within refl ∙ kept.shares;
-        fair = each_set (IsFair sums) passes a p kept.fair fair;
+        words = λ t tile. kept.words t tile ∙ ap (code t) (sym (top t));
+        states = λ t. let told = top t in let before = kept.states t in omega arith;
+        seen = λ t.
+            let told = top t in
+            let stays = highest_same (seen_at t) passes id p left here refl in
+            let pushed = highest_push (seen_at t) (set passes id left) right in
+            let before = kept.seen t in
+            omega arith;
+        dealt = split_deals (λ r. r.hand) (length sums) workers claims passes id p left right kept.dealt here refl refl many room;
+        fair = each_push (IsFair sums) (set passes id left) right (each_set (IsFair sums) passes id left kept.fair (fair_with left tiles (omega arith))) (fair_with right tiles (omega arith));
       }
 
-  pub kept_done : length sums ≤ claims → let p : Pass Item = record old { hand = record old.hand { done = old.hand.done + 1 } } in IsFair sums p → IsKept code sums workers (claims + 1) (λ t. get_or words t 0) (set passes a p)
-  kept_done past fair =
-      let p : Pass Item = record old { hand = record old.hand { done = old.hand.done + 1 } } in
+  -- a measure whose joined value is the greater of the two is as high as before
+  joined_high : (f : Pass Item → ℕ) (passes : List (Pass Item)) (id other : ℕ) (p q : Pass Item) → get_elem? passes id ≡ some p → other ≢ id → get_elem? (set passes id (joined p q)) other ≡ some q → f (joined p q) ≡ max (f p) (f q) → f spent_pass ≡ 0 → highest f (set (set passes id (joined p q)) other spent_pass) ≡ highest f passes
+  joined_high f passes id other p q here differ there greater none =
+      let both : Pass Item = joined p q in
+      let found : get_elem? passes other ≡ some q = sym (set_else passes id other both differ) ∙ there in
+      let had = highest_at f passes other q found in
+      let change = highest_set f passes id p both (f q) here greater in
+      let moved = highest_moved f (set passes id both) other id q spent_pass both there (set_here passes id p both here) (λ e. differ (sym e)) (omega arith) none in
+      omega arith
+
+  pub join_keeps : JoinKeeps Item
+  join_keeps code sums workers claims word passes id other p q kept here differ there share =
+      let both : Pass Item = joined p q in
+      let adds = join_adds p q in
+      let top : (t : ℕ) → highest (told_at t) (set (set passes id both) other spent_pass) ≡ highest (told_at t) passes = λ t. joined_high (told_at t) passes id other p q here differ there (adds.told t) refl in
       record {
-        words = λ t is_tile. kept.words t is_tile ∙ ap (code t) (sym (highest_same (told_at t) passes a p d within refl));
-        seen = λ t. let told = highest_same (told_at t) passes a p d within refl in let saw = highest_same (seen_at t) passes a p d within refl in let before = kept.seen t in omega arith;
-        given = λ t. sum_same (given_at t) passes a p d within refl ∙ kept.given t ∙ claimed_all t claims (length sums) past;
-        count = let same = sum_same (λ q. length q.hand.given) passes a p d within refl in let before = kept.count in omega arith;
-        done = let more = sum_more (λ q. q.hand.done) passes a p d 1 within refl in let before = kept.done in omega arith;
-        shares = sum_same (λ q. q.hand.share) passes a p d within refl ∙ kept.shares;
-        fair = each_set (IsFair sums) passes a p kept.fair fair;
+        words = λ t tile. kept.words t tile ∙ ap (code t) (sym (top t));
+        states = λ t. let told = top t in let before = kept.states t in omega arith;
+        seen = λ t.
+            let told = top t in
+            let saw = joined_high (seen_at t) passes id other p q here differ there (adds.seen t) refl in
+            let before = kept.seen t in
+            omega arith;
+        dealt = join_deals (λ r. r.hand) (length sums) workers claims passes id other p q both spent_pass kept.dealt here differ there refl refl;
+        fair = each_set (IsFair sums) (set passes id both) other spent_pass
+            (each_set (IsFair sums) passes id both kept.fair (fair_with both ((kept.fair id p here).tiles share) (omega arith)))
+            (spent_fair sums);
       }
+
+  pub few_claimed : FewClaimed Item
+  few_claimed code sums workers claims word passes kept = few_claims (λ r. r.hand) (length sums) workers claims passes kept.dealt
+
+  pub whole_knows : WholeKnows Item
+  whole_knows code sums workers claims word passes id p kept here all =
+      let idle = others_idle (λ r. r.hand) (length sums) workers claims passes id p kept.dealt here all in (
+        whole_deals (λ r. r.hand) (length sums) workers claims passes id p kept.dealt here all,
+        (λ t.
+            let told = highest_alone (told_at t) passes id p here (λ j z differ there. ap (highest_mark t) ((kept.fair j z there).empty (idle j z differ there)).0) in
+            let saw = highest_at (seen_at t) passes id p here in
+            let before = kept.seen t in
+            omega arith),
+        (λ some_worker. (kept.fair id p here).tiles (omega arith)),
+      )

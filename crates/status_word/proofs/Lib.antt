@@ -1,7 +1,9 @@
 pub mod Coded
+pub mod Dealt
 pub mod Kept
 pub mod Lowered
 pub mod Packed
+pub mod Places
 pub mod Runs
 pub mod Stands
 pub mod Sums

@@ -1,6 +1,6 @@
 -- The words of a monoid whose items have words of 32 bits.
 -- Source: what the definitions of Codings and Words imply.
-use Rattle.std.proofs.Common.{◌≡◌, refl, ap, ◌∙◌, ◌<◌, ℤ, Bool, IsTrue, Some, arith}
+use Rattle.std.proofs.Common.{◌≡◌, refl, ap, ◌∙◌, ◌<◌, ◌^◌, ℤ, Bool, IsTrue, Some, arith}
 use Rattle.cvl_base.specs.ItemWords.{WordLaws}
 use Rattle.status_word.specs.declared.status.Status.{Status}
 use Rattle.status_word.specs.declared.status.Status.TheVariants.{Silent, Sum, Prefix}
@@ -24,9 +24,10 @@ module _ {Item : Type 0} {is_item : Item → Bool} (join : Item → Item → Ite
   again (Sum starts value) item = ap (Sum starts) (words.inverse value item)
   again (Prefix starts value) item = ap (Prefix starts) (words.inverse value item)
 
-  pub coding_laws : ((s : Status ℤ) → FitsWord s → read_word (word_of s) ≡ Some s) → ((s t : Status ℤ) → FitsWord s → FitsWord t → state_of s < state_of t → word_of s < word_of t) → CodingLaws is_item (coding_of join unit to_word from_word)
-  coding_laws inverse ascending = record {
+  pub coding_laws : ((s : Status ℤ) → FitsWord s → word_of s < 2 ^ 64) → ((s : Status ℤ) → FitsWord s → read_word (word_of s) ≡ Some s) → ((s t : Status ℤ) → FitsWord s → FitsWord t → state_of s < state_of t → word_of s < word_of t) → CodingLaws is_item (coding_of join unit to_word from_word)
+  coding_laws fits inverse ascending = record {
     silent = refl;
+    fits = λ s item. fits (status_by to_word s) (fits_word s item);
     read_pack = λ s item. ap (λ o. status_by from_word (status_or_silent o)) (inverse (status_by to_word s) (fits_word s item)) ∙ again s item;
     ascending = λ s t p q less. ascending (status_by to_word s) (status_by to_word t) (fits_word s p) (fits_word t q) (let a = same_state s in let b = same_state t in omega arith);
   }

@@ -16,12 +16,14 @@ use Rattle.status_word.specs.declared.local.Local.TheVariants.{Ready, Summing, L
 use Rattle.status_word.specs.declared.world.Stepped.TheVariants.{Took, Idle}
 use Rattle.status_word.specs.Codings.{Coding, CodingLaws, sum_at, before, between}
 use Rattle.status_word.specs.Locals.{action_of, next_of, holds_item, tells_item, is_item_status}
-use Rattle.status_word.specs.Passes.{Pass, new_pass}
+use Rattle.status_word.specs.declared.pass.Pass.{Pass}
+use Rattle.status_word.specs.Passes.{new_pass}
 use Rattle.status_word.specs.Reached.{CanAnswer, CanTell, IsReached, stepped_of}
 use Rattle.status_word.specs.Worlds.{Scene, new_scene, local_at, acted, step_of, run_of, passes_of, answer_of, claims_after, words_after, IsRight, IsWorld, steps_of, takes}
 use Rattle.status_word.proofs.Coded.{code_read, told_is_item}
+use Rattle.status_word.proofs.Dealt.{few_claims}
 use Rattle.status_word.proofs.Lowered.{acted_locals}
-use Rattle.status_word.proofs.Runs.{world_after, acted_sums, sum_by_le}
+use Rattle.status_word.proofs.Runs.{world_after, acted_sums}
 use Rattle.status_word.proofs.Sums.{element_is_sum, front_is_sum, run_is_sum}
 
 pub reached_first : {Item : Type 0} {is_item : Item → Bool} (m : Coding Item) (sums : List (Bool × Item)) (actors : ℕ) → length sums ≤ most_elements → actors < 2 ^ 32 → AllPass (is_seg_item is_item) sums → (words : List ℕ) (locals : List (Local Item)) → words ≡ replicate (length sums) 0 → locals ≡ replicate actors Ready → IsReached is_item m (record { sums = sums; claims = 0; words = words; locals = locals })
@@ -82,10 +84,7 @@ module _ {Item : Type 0} {is_item : Item → Bool} (m : Coding Item) (coded : Co
 
   pub room : w.claims < 2 ^ 63
   room =
-      let kept = world.passed_on in
-      let done = kept.done in
-      let shares = kept.shares in
-      let less = sum_by_le (λ p. p.hand.done) (λ p. p.hand.share) passes passes (new_pass w.sums) (new_pass w.sums) refl (λ a below. (kept.fair a (new_pass w.sums) below).marks) in
+      let claims = few_claims (λ p. p.hand) (length w.sums) (length w.locals) w.claims passes world.passed_on.dealt in
       let few = r.few in
       let workers = r.workers in
       omega arith

@@ -1,13 +1,14 @@
 -- What holds after any list of workers took their steps in a new world.
 -- Source: what the definitions of Worlds and Passes imply.
-use Rattle.std.proofs.Common.{◌≡◌, refl, sym, ap, ◌∙◌, subst, ℕ, zero, suc, ◌*◌, ◌<◌, ◌≤◌, min, Bool, cond, ltb, List, [], ◌∷◌, length, get_or, replicate, Option, Some, None, arith, ⊎_elim}
+use mathlib.Core.Option.{some, some-injective, some-ne-none}
+use lib.ListN.{get_elem?}
+use Rattle.std.proofs.Common.{◌≡◌, refl, sym, ap, ◌∙◌, subst, ℕ, zero, suc, ◌*◌, ◌<◌, ◌≤◌, Bool, List, [], ◌∷◌, length, get_or, replicate, Option, Some, None, arith, ⊎_elim}
 use Rattle.std.specs.List.{All, AllPass, sum_by}
 use Rattle.std.proofs.lemmas.List.{get_or-replicate, length-replicate}
 use Rattle.std.proofs.lemmas.List.Folds.{sum_by-replicate}
 use Rattle.std.proofs.lemmas.List.Sums.{sum_by-cons}
 use Rattle.std.proofs.lemmas.List.Elements.{All-head, All-tail}
 use Rattle.std.proofs.lemmas.Bool.{cases_lt}
-use Rattle.std.proofs.lemmas.Bool.Decides.{nat_tests}
 use Rattle.cvl_base.specs.Monoid.{MonoidLaws}
 use Rattle.cvl_base.specs.SegmentMonoid.{is_seg_item, seg_unit, seg_join}
 use Rattle.status_word.specs.declared.action.Action.{Action}
@@ -15,16 +16,22 @@ use Rattle.status_word.specs.declared.local.Local.{Local}
 use Rattle.status_word.specs.declared.local.Local.TheVariants.{Ready, Stopped}
 use Rattle.status_word.specs.Codings.{Coding, CodingLaws, code}
 use Rattle.status_word.specs.Locals.{action_of}
-use Rattle.status_word.specs.Passes.{Pass, new_pass, told_at, seen_at, given_at, highest, times, IsFair}
+use Rattle.status_word.specs.declared.pass.Pass.{Pass}
+use Rattle.status_word.specs.Hands.{times, IsFairHand}
+use Rattle.status_word.specs.Passes.{new_pass, told_at, seen_at, given_at, highest, IsFair}
 use Rattle.status_word.specs.Worlds.{Scene, new_scene, local_at, acted, step_of, run_of, passed, passes_of, held, holders, IsWorld}
+use Rattle.status_word.proofs.Dealt.{none_claimed, claimed_once, claimed_below, claimed_is}
+use Rattle.status_word.proofs.Places.{place_of, highest_at}
 use Rattle.status_word.proofs.Stands.{Agrees, Stands, stops, stepped}
 
 highest_of_none : {X : Type 0} (f : X → ℕ) (n : ℕ) (x : X) → f x ≡ 0 → highest f (replicate n x) ≡ 0
 highest_of_none f zero x none = refl
 highest_of_none f (suc n) x none = let rest = highest_of_none f n x none in omega arith
 
-none_given : (t tiles : ℕ) → ◌≡◌ {A = ℕ} 0 (cond (ltb t (min 0 tiles)) 1 0)
-none_given t tiles = grind (arith, nat_tests)
+each_same : {X : Type 0} (P : X → Type 0) (n : ℕ) (x : X) → P x → (j : ℕ) (z : X) → get_elem? (replicate n x) j ≡ some z → P z
+each_same P zero x here j z there = absurd (some-ne-none z (sym there))
+each_same P (suc n) x here zero z there = subst P (some-injective x z there) here
+each_same P (suc n) x here (suc j) z there = each_same P n x here j z there
 
 module _ {Item : Type 0} {is_item : Item → Bool} (m : Coding Item) (coded : CodingLaws is_item m) (laws : MonoidLaws (is_seg_item is_item) (seg_unit m.unit) (seg_join m.join)) (sums : List (Bool × Item)) (items : AllPass (is_seg_item is_item) sums) (workers : ℕ) where
   abbrev first : Pass Item
@@ -37,14 +44,11 @@ module _ {Item : Type 0} {is_item : Item → Bool} (m : Coding Item) (coded : Co
   agrees_first = record {
     right = tt;
     holds = λ t. omega arith;
-    told = λ t some. absurd (omega arith);
+    told = λ t more. absurd (omega arith);
     done = refl;
     share = refl;
     tiles = refl;
   }
-
-  fair_first : IsFair sums first
-  fair_first = record { marks = omega arith; tiles = λ _. refl; empty = λ none. absurd (omega arith) }
 
   stands_first : Stands m workers (new_scene sums workers) (replicate workers first)
   stands_first = record {
@@ -57,16 +61,16 @@ module _ {Item : Type 0} {is_item : Item → Bool} (m : Coding Item) (coded : Co
         subst P (sym (get_or-replicate workers a Ready Stopped below)) (subst Q (sym (get_or-replicate workers a first first below)) agrees_first);
     kept = record {
       words = λ t below. get_or-replicate (length sums) t 0 0 below ∙ sym coded.silent ∙ ap (code m sums t) (sym (highest_of_none (told_at t) workers first refl));
+      states = λ t. let none = highest_of_none (told_at t) workers first refl in omega arith;
       seen = λ t. let none = highest_of_none (seen_at t) workers first refl in omega arith;
-      given = λ t. total_none (given_at t) refl ∙ none_given t (length sums);
-      count = total_none (λ p. length p.hand.given) refl ∙ omega arith;
-      done = total_none (λ p. p.hand.done) refl ∙ omega arith;
-      shares = sum_by-replicate (λ p. p.hand.share) workers first ∙ omega arith;
-      fair = λ at other below.
-          let long = length-replicate workers first in
-          let inside : at < workers = omega arith in
-          let P : Pass Item → Type 0 = λ p. IsFair sums p in
-          subst P (sym (get_or-replicate workers at first other inside)) fair_first;
+      dealt = record {
+        given = λ t. total_none (given_at t) refl ∙ sym (none_claimed t (length sums));
+        count = total_none (λ p. length p.hand.given) refl ∙ omega arith;
+        done = total_none (λ p. p.hand.done) refl ∙ omega arith;
+        shares = sum_by-replicate (λ p. p.hand.share) workers first ∙ omega arith;
+        fair = each_same (λ p. IsFairHand p.hand) workers first (record { marks = omega arith; empty = λ none. refl });
+      };
+      fair = each_same (IsFair sums) workers first (record { tiles = λ _. refl; empty = λ none. absurd (omega arith) });
     };
   }
 
@@ -129,25 +133,11 @@ total_zero f (x ∷ xs) d each =
     let whole = sum_by-cons f x xs in
     omega arith
 
-highest_at : {X : Type 0} (f : X → ℕ) (xs : List X) (a : ℕ) (d : X) → a < length xs → f (get_or xs a d) ≤ highest f xs
-highest_at f [] a d below = absurd (omega arith)
-highest_at f (x ∷ xs) zero d below = omega arith
-highest_at f (x ∷ xs) (suc a) d below = let rest = highest_at f xs a d (omega arith) in omega arith
-
 -- the word of a prefix is that of each state above
 code_high : {Item : Type 0} (m : Coding Item) (sums : List (Bool × Item)) (t rank : ℕ) → 2 ≤ rank → code m sums t rank ≡ code m sums t 2
 code_high m sums t zero high = absurd (omega arith)
 code_high m sums t (suc zero) high = absurd (omega arith)
 code_high m sums t (suc (suc rank)) high = refl
-
-given_one : (t claims tiles : ℕ) → cond {A = ℕ} (ltb t (min claims tiles)) 1 0 ≤ 1
-given_one t claims tiles = grind (arith, nat_tests)
-
-given_below : (t claims tiles : ℕ) → ◌<◌ 0 (cond (ltb t (min claims tiles)) 1 0) → (t < claims) × (t < tiles)
-given_below t claims tiles some = (grind (arith, nat_tests), grind (arith, nat_tests))
-
-given_is : (t claims tiles : ℕ) → t < claims → t < tiles → cond {A = ℕ} (ltb t (min claims tiles)) 1 0 ≡ 1
-given_is t claims tiles below tile = grind (arith, nat_tests)
 
 module _ {Item : Type 0} (m : Coding Item) (workers : ℕ) (w : Scene Item) (passes : List (Pass Item)) (stands : Stands m workers w passes) where
   as_long : length w.locals ≡ length passes
@@ -158,20 +148,20 @@ module _ {Item : Type 0} (m : Coding Item) (workers : ℕ) (w : Scene Item) (pas
 
   prefix_told : (t : ℕ) → t < w.claims → t < length w.sums → holders w t ≡ 0 → get_or w.words t 0 ≡ code m w.sums t 2
   prefix_told t below tile none =
-      let one : sum_by (given_at t) passes ≡ 1 = stands.kept.given t ∙ given_is t w.claims (length w.sums) below tile in
+      let one : sum_by (given_at t) passes ≡ 1 = stands.kept.dealt.given t ∙ claimed_is t w.claims (length w.sums) below tile in
       let other = some_above (λ l. times t (held l)) (given_at t) w.locals passes Stopped (new_pass w.sums) as_long (omega arith) in
       let inside : other.0 < workers = let n = stands.one_each in let b = other.1 in omega arith in
       let told = (stands.agree other.0 inside).told t other.2 in
-      let top = highest_at (told_at t) passes other.0 (new_pass w.sums) other.1 in
+      let top = highest_at (told_at t) passes other.0 (get_or passes other.0 (new_pass w.sums)) (place_of passes other.0 (new_pass w.sums) other.1) in
       stands.kept.words t tile ∙ code_high m w.sums t (highest (told_at t) passes) (omega arith)
 
   all_told : 1 ≤ workers → ((a : ℕ) → a < workers → local_at w a ≡ Stopped) → (t : ℕ) → t < length w.sums → get_or w.words t 0 ≡ code m w.sums t 2
-  all_told some stopped t tile =
+  all_told one_there stopped t tile =
       let actors = stands.actors in
       let one_each = stands.one_each in
-      let first_done : (get_or passes 0 (new_pass w.sums)).hand.done ≡ 1 = (stands.agree 0 some).done ∙ ap stops (stopped 0 some) in
+      let first_done : (get_or passes 0 (new_pass w.sums)).hand.done ≡ 1 = (stands.agree 0 one_there).done ∙ ap stops (stopped 0 one_there) in
       let done = total_at (λ p. p.hand.done) passes 0 (new_pass w.sums) (omega arith) in
-      let past = stands.kept.done in
+      let past = stands.kept.dealt.done in
       let none : holders w t ≡ 0 = total_zero (λ l. times t (held l)) w.locals Stopped (λ a below. let is_one : a < workers = omega arith in ap (λ l. times t (held l)) (stopped a is_one)) in
       prefix_told t (omega arith) tile none
 
@@ -182,8 +172,8 @@ module _ {Item : Type 0} (m : Coding Item) (workers : ℕ) (w : Scene Item) (pas
     as_many_locals = stands.actors;
     lawful = λ t tile. (highest (told_at t) passes, stands.kept.words t tile);
     right = λ a below. (stands.agree a below).right;
-    apart = λ t. let most = held_given t in let given = stands.kept.given t in let one = given_one t w.claims (length w.sums) in omega arith;
-    claimed = λ t some. let most = held_given t in let given = stands.kept.given t in given_below t w.claims (length w.sums) (omega arith);
+    apart = λ t. let most = held_given t in let given = stands.kept.dealt.given t in let one = claimed_once t w.claims (length w.sums) in omega arith;
+    claimed = λ t is_held. let most = held_given t in let given = stands.kept.dealt.given t in claimed_below t w.claims (length w.sums) (omega arith);
     prefixes = prefix_told;
     ended = all_told;
     passed_on = stands.kept;

@@ -1,8 +1,10 @@
 -- A world and its passes stand: each worker agrees with its pass, and the passes keep the board's rule. Each step keeps this.
 -- Source: what the definitions of Worlds and Passes imply.
+use mathlib.Core.Option.{some}
+use lib.ListN.{get_elem?}
 use Rattle.std.proofs.Common.{◌≡◌, ◌≢◌, refl, sym, ap, ◌∙◌, subst, ℕ, zero, suc, ◌+◌, ◌-◌, ◌<◌, ◌≤◌, max, Bool, true, false, cond, eqb, ltb, List, [], ◌∷◌, length, take, drop, get_or, set, arith, length-set, ⊎_elim}
 use Rattle.std.specs.List.{AllPass}
-use Rattle.std.proofs.lemmas.List.{get_or-set_other}
+use Rattle.std.proofs.lemmas.List.{get_or-set_other, get_or-set_same}
 use Rattle.std.proofs.lemmas.Grind.{get_or-set_at}
 use Rattle.std.proofs.lemmas.Bool.{ltb-true, ltb-false}
 use Rattle.std.proofs.lemmas.Bool.Decides.{eqb_tells}
@@ -17,11 +19,15 @@ use Rattle.status_word.specs.declared.local.Local.{Local}
 use Rattle.status_word.specs.declared.local.Local.TheVariants.{Ready, Summing, Looking, Helping, Publishing, Stopped}
 use Rattle.status_word.specs.Codings.{Coding, CodingLaws, sum_at, before, between, told_of, code}
 use Rattle.status_word.specs.Locals.{action_of, next_of, after_look, added_up_to}
-use Rattle.status_word.specs.Passes.{Pass, new_pass, told_at, highest, times, IsFair, IsKept}
+use Rattle.status_word.specs.declared.pass.Pass.{Pass}
+use Rattle.status_word.specs.Hands.{times}
+use Rattle.status_word.specs.Passes.{new_pass, given_tile, told_done, looked, told_state, told_at, highest, IsKept}
+use Rattle.status_word.specs.RuleSteps.{AreRaised}
 use Rattle.status_word.specs.Worlds.{Scene, acted, passed, pass_after, words_after, prefix_of, held, IsRight}
 use Rattle.status_word.specs.Words.{state_of}
 use Rattle.status_word.proofs.Coded.{code_max, code_read}
-use Rattle.status_word.proofs.Kept.{kept_look, kept_tell, kept_claim, kept_done}
+use Rattle.status_word.proofs.Kept.{claim_keeps, done_keeps, saw_keeps, tell_keeps}
+use Rattle.status_word.proofs.Places.{place_of}
 use Rattle.status_word.proofs.Sums.{front_more, run_more, front_split}
 
 -- how often a worker was told that no tile is left
@@ -48,21 +54,6 @@ pub record Stands {Item : Type 0} (m : Coding Item) (workers : ℕ) (w : Scene I
   pub one_each : length passes ≡ workers
   pub agree : (a : ℕ) → a < workers → Agrees m w.sums (get_or w.locals a Stopped) (get_or passes a (new_pass w.sums))
   pub kept : IsKept (code m w.sums) w.sums workers w.claims (λ t. get_or w.words t 0) passes
-
-stops_most : {Item : Type 0} (l : Local Item) → stops l ≤ 1
-stops_most Ready = omega arith
-stops_most (Summing t) = omega arith
-stops_most (Looking t at after) = omega arith
-stops_most (Helping t at after) = omega arith
-stops_most (Publishing t prior) = omega arith
-stops_most Stopped = omega arith
-
-fair_of : {Item : Type 0} (m : Coding Item) (sums : List (Bool × Item)) (l : Local Item) (p : Pass Item) → Agrees m sums l p → IsFair sums p
-fair_of m sums l p agrees = record {
-  marks = let most = stops_most l in let done = agrees.done in let share = agrees.share in omega arith;
-  tiles = λ _. agrees.tiles;
-  empty = λ none. let share = agrees.share in absurd (omega arith);
-}
 
 -- a worker that still holds what it held agrees with its pass, where no less is told
 still : {Item : Type 0} (m : Coding Item) (sums : List (Bool × Item)) (l next : Local Item) (p after : Pass Item) → Agrees m sums l p → IsRight m sums next → held next ≡ held l → stops next ≡ stops l → after.hand ≡ p.hand → after.sums ≡ p.sums → ((t : ℕ) → told_at t p ≤ told_at t after) → Agrees m sums next after
@@ -112,15 +103,18 @@ module _ {Item : Type 0} {is_item : Item → Bool} (m : Coding Item) (coded : Co
   inside : a < length passes
   inside = let n = stands.one_each in omega arith
 
+  here : get_elem? passes a ≡ some p
+  here = place_of passes a (new_pass w.sums) inside
+
+  abbrev words : ℕ → ℕ
+  words = λ t. get_or w.words t 0
+
   max_code : (t x y : ℕ) → max (code m w.sums t x) (code m w.sums t y) ≡ code m w.sums t (max x y)
   max_code = code_max m coded laws w.sums items
 
-  abbrev given_next : Pass Item
-  given_next = record p { hand = record p.hand { given = w.claims ∷ p.hand.given } }
-
-  claimed : Agrees m w.sums Ready p → w.claims < length w.sums → Stands m workers (record { sums = w.sums; claims = w.claims + 1; words = w.words; locals = set w.locals a (Summing w.claims) }) (set passes a given_next)
+  claimed : Agrees m w.sums Ready p → w.claims < length w.sums → Stands m workers (record { sums = w.sums; claims = w.claims + 1; words = w.words; locals = set w.locals a (Summing w.claims) }) (set passes a (given_tile p w.claims))
   claimed agrees below =
-      let next : Agrees m w.sums (Summing w.claims) given_next = record {
+      let next : Agrees m w.sums (Summing w.claims) (given_tile p w.claims) = record {
         right = below;
         holds = λ t. omega arith;
         told = λ t less. let more : 0 < times t p.hand.given = omega arith in agrees.told t more;
@@ -128,15 +122,12 @@ module _ {Item : Type 0} {is_item : Item → Bool} (m : Coding Item) (coded : Co
         share = agrees.share;
         tiles = agrees.tiles;
       } in
-      after (w.claims + 1) w.words (Summing w.claims) given_next stands.long next
-      (kept_claim max_code w.sums workers w.claims w.words passes a (new_pass w.sums) inside stands.kept below (fair_of m w.sums (Summing w.claims) given_next next))
+      after (w.claims + 1) w.words (Summing w.claims) (given_tile p w.claims) stands.long next
+      (claim_keeps (code m w.sums) w.sums workers w.claims (w.claims + 1) words words passes a p stands.kept here below (omega (arith, agrees.share)) refl (λ t tile. refl)).0
 
-  abbrev told_done : Pass Item
-  told_done = record p { hand = record p.hand { done = p.hand.done + 1 } }
-
-  stopped : Agrees m w.sums Ready p → length w.sums ≤ w.claims → Stands m workers (record { sums = w.sums; claims = w.claims + 1; words = w.words; locals = set w.locals a Stopped }) (set passes a told_done)
+  stopped : Agrees m w.sums Ready p → length w.sums ≤ w.claims → Stands m workers (record { sums = w.sums; claims = w.claims + 1; words = w.words; locals = set w.locals a Stopped }) (set passes a (told_done p))
   stopped agrees past =
-      let next : Agrees m w.sums Stopped told_done = record {
+      let next : Agrees m w.sums Stopped (told_done p) = record {
         right = tt;
         holds = agrees.holds;
         told = agrees.told;
@@ -144,34 +135,43 @@ module _ {Item : Type 0} {is_item : Item → Bool} (m : Coding Item) (coded : Co
         share = agrees.share;
         tiles = agrees.tiles;
       } in
-      after (w.claims + 1) w.words Stopped told_done stands.long next
-      (kept_done max_code w.sums workers w.claims w.words passes a (new_pass w.sums) inside stands.kept past (fair_of m w.sums Stopped told_done next))
+      after (w.claims + 1) w.words Stopped (told_done p) stands.long next
+      (done_keeps (code m w.sums) w.sums workers w.claims (w.claims + 1) words words passes a p stands.kept here past (omega (arith, agrees.share, agrees.done)) refl (λ t tile. refl))
 
   -- a claim answers by the test of the claim word
   ready_by : (b : Bool) → ltb w.claims (length w.sums) ≡ b → Agrees m w.sums Ready p → Stands m workers (record { sums = w.sums; claims = w.claims + 1; words = w.words; locals = set w.locals a (next_of m.join m.unit Ready (cond b (Tile w.claims) Done)) }) (set passes a (pass_after m p Claim (cond b (Tile w.claims) Done)))
   ready_by true test agrees = claimed agrees (ltb-true w.claims (length w.sums) test)
   ready_by false test agrees = stopped agrees (ltb-false w.claims (length w.sums) test)
 
-  abbrev marked : ℕ → ℕ → Pass Item
-  marked t rank = record p { told = record { tile = t; rank = rank } ∷ p.told }
+  -- the word of tile t becomes the greater of itself and that of a state
+  raised : (t rank : ℕ) → t < length w.sums → AreRaised (length w.sums) t (code m w.sums t rank) words (λ x. get_or (set w.words t (max (get_or w.words t 0) (code m w.sums t rank))) x 0)
+  raised t rank below =
+      let v = max (get_or w.words t 0) (code m w.sums t rank) in
+      let long = stands.long in
+      record { here = get_or-set_same w.words t v 0 (omega arith); others = λ x tile differ. get_or-set_other w.words t x v 0 differ }
+
+  -- a state of tile t is told
+  told : (t rank : ℕ) → p.hand.share ≡ 1 → t < length w.sums → rank ≤ 2 → IsKept (code m w.sums) w.sums workers w.claims (λ x. get_or (set w.words t (max (get_or w.words t 0) (code m w.sums t rank))) x 0) (set passes a (told_state p t rank))
+  told t rank share below state =
+      tell_keeps (code m w.sums) max_code w.sums workers w.claims words (λ x. get_or (set w.words t (max (get_or w.words t 0) (code m w.sums t rank))) x 0) passes a p t rank stands.kept here (omega arith) below state (raised t rank below)
 
   -- the sum of a tile is told
-  told_sum : (l next : Local Item) (t : ℕ) → Agrees m w.sums l p → t < length w.sums → IsRight m w.sums next → held next ≡ held l → stops next ≡ stops l → Stands m workers (record { sums = w.sums; claims = w.claims; words = words_after m w.sums w.words (TellSum t); locals = set w.locals a next }) (set passes a (marked t 1))
+  told_sum : (l next : Local Item) (t : ℕ) → Agrees m w.sums l p → t < length w.sums → IsRight m w.sums next → held next ≡ held l → stops next ≡ stops l → Stands m workers (record { sums = w.sums; claims = w.claims; words = words_after m w.sums w.words (TellSum t); locals = set w.locals a next }) (set passes a (told_state p t 1))
   told_sum l next t agrees below right same_held same_stops =
-      let agreed = still m w.sums l next p (marked t 1) agrees right same_held same_stops refl refl (λ x. omega arith) in
-      after w.claims (words_after m w.sums w.words (TellSum t)) next (marked t 1)
+      let agreed = still m w.sums l next p (told_state p t 1) agrees right same_held same_stops refl refl (λ x. omega arith) in
+      after w.claims (words_after m w.sums w.words (TellSum t)) next (told_state p t 1)
       (length-set w.words t (max (get_or w.words t 0) (code m w.sums t 1)) ∙ stands.long) agreed
-      (kept_tell max_code w.sums workers w.claims w.words passes a (new_pass w.sums) inside stands.kept t 1 below stands.long (fair_of m w.sums next (marked t 1) agreed))
+      (told t 1 agrees.share below (omega arith))
 
   -- the prefix of a tile is told
-  told_prefix : (t : ℕ) (prior : Bool × Item) → Agrees m w.sums (Publishing t prior) p → Stands m workers (record { sums = w.sums; claims = w.claims; words = words_after m w.sums w.words (TellPrefix t prior); locals = set w.locals a Ready }) (set passes a (marked t 2))
+  told_prefix : (t : ℕ) (prior : Bool × Item) → Agrees m w.sums (Publishing t prior) p → Stands m workers (record { sums = w.sums; claims = w.claims; words = words_after m w.sums w.words (TellPrefix t prior); locals = set w.locals a Ready }) (set passes a (told_state p t 2))
   told_prefix t prior agrees =
       let below : t < length w.sums = agrees.right.0 in
       let sum : before m w.sums (t + 1) ≡ seg_join m.join prior (sum_at m w.sums t) = front_more laws w.sums items t below ∙ ap (λ s. seg_join m.join s (sum_at m w.sums t)) (sym agrees.right.1) in
-      let agreed : Agrees m w.sums Ready (marked t 2) = record {
+      let agreed : Agrees m w.sums Ready (told_state p t 2) = record {
         right = tt;
         holds = λ x. omega arith;
-        told = λ x some.
+        told = λ x is_given.
             ⊎_elim (λ (same : (eqb t x ≡ true) × (t ≡ x)). let now : cond {A = ℕ} (eqb t x) 2 0 ≡ 2 = ap (λ b. cond b 2 0) same.0 in omega arith)
             (λ (differ : (eqb t x ≡ false) × (t ≢ x)).
             let none : cond {A = ℕ} (eqb t x) 1 0 ≡ 0 = ap (λ b. cond b 1 0) differ.0 in
@@ -182,27 +182,24 @@ module _ {Item : Type 0} {is_item : Item → Bool} (m : Coding Item) (coded : Co
         share = agrees.share;
         tiles = agrees.tiles;
       } in
-      let P : Bool × Item → Type 0 = λ s. Stands m workers (record { sums = w.sums; claims = w.claims; words = set w.words t (max (get_or w.words t 0) (m.pack (prefix_of m s))); locals = set w.locals a Ready }) (set passes a (marked t 2)) in
+      let P : Bool × Item → Type 0 = λ s. Stands m workers (record { sums = w.sums; claims = w.claims; words = set w.words t (max (get_or w.words t 0) (m.pack (prefix_of m s))); locals = set w.locals a Ready }) (set passes a (told_state p t 2)) in
       subst P sum
-      (after w.claims (set w.words t (max (get_or w.words t 0) (code m w.sums t 2))) Ready (marked t 2)
+      (after w.claims (set w.words t (max (get_or w.words t 0) (code m w.sums t 2))) Ready (told_state p t 2)
       (length-set w.words t (max (get_or w.words t 0) (code m w.sums t 2)) ∙ stands.long) agreed
-      (kept_tell max_code w.sums workers w.claims w.words passes a (new_pass w.sums) inside stands.kept t 2 below stands.long (fair_of m w.sums Ready (marked t 2) agreed)))
-
-  abbrev looked : ℕ → Status Item → Pass Item
-  looked at status = record p { seen = record { tile = at; rank = state_of status } ∷ p.seen; looks = p.looks + 1 }
+      (told t 2 agrees.share below (omega arith)))
 
   -- a tile is looked at, and the status seen is one that was told
-  saw : (t at : ℕ) (sum : Bool × Item) (status : Status Item) → Agrees m w.sums (Looking t at sum) p → state_of status ≤ highest (told_at at) passes → IsRight m w.sums (after_look m.join t at sum status) → held (after_look m.join t at sum status) ≡ t ∷ [] → stops (after_look m.join t at sum status) ≡ 0 → Stands m workers (record { sums = w.sums; claims = w.claims; words = w.words; locals = set w.locals a (after_look m.join t at sum status) }) (set passes a (looked at status))
+  saw : (t at : ℕ) (sum : Bool × Item) (status : Status Item) → Agrees m w.sums (Looking t at sum) p → state_of status ≤ highest (told_at at) passes → IsRight m w.sums (after_look m.join t at sum status) → held (after_look m.join t at sum status) ≡ t ∷ [] → stops (after_look m.join t at sum status) ≡ 0 → Stands m workers (record { sums = w.sums; claims = w.claims; words = w.words; locals = set w.locals a (after_look m.join t at sum status) }) (set passes a (looked p at (state_of status)))
   saw t at sum status agrees known right same_held same_stops =
-      let agreed = still m w.sums (Looking t at sum) (after_look m.join t at sum status) p (looked at status) agrees right same_held same_stops refl refl (λ x. omega arith) in
-      after w.claims w.words (after_look m.join t at sum status) (looked at status) stands.long agreed
-      (kept_look max_code w.sums workers w.claims w.words passes a (new_pass w.sums) inside stands.kept at (state_of status) known (fair_of m w.sums (after_look m.join t at sum status) (looked at status) agreed))
+      let agreed = still m w.sums (Looking t at sum) (after_look m.join t at sum status) p (looked p at (state_of status)) agrees right same_held same_stops refl refl (λ x. omega arith) in
+      after w.claims w.words (after_look m.join t at sum status) (looked p at (state_of status)) stands.long agreed
+      (saw_keeps (code m w.sums) w.sums workers w.claims words words passes a p at (state_of status) stands.kept here (omega (arith, agrees.share)) (λ x tile. refl) known)
 
   -- the sum of tile `at` before that of the tiles after it
   one_more : (t at : ℕ) → t < length w.sums → at < t → (sum : Bool × Item) → sum ≡ between m w.sums (at + 1) t → seg_join m.join (sum_at m w.sums at) sum ≡ between m w.sums at t
   one_more t at tile less sum same = ap (seg_join m.join (sum_at m w.sums at)) same ∙ sym (run_more laws w.sums items at t less (omega arith))
 
-  saw_told : (t at : ℕ) (sum : Bool × Item) (rank : ℕ) → rank ≡ highest (told_at at) passes → Agrees m w.sums (Looking t at sum) p → Stands m workers (record { sums = w.sums; claims = w.claims; words = w.words; locals = set w.locals a (after_look m.join t at sum (told_of m w.sums at rank)) }) (set passes a (looked at (told_of m w.sums at rank)))
+  saw_told : (t at : ℕ) (sum : Bool × Item) (rank : ℕ) → rank ≡ highest (told_at at) passes → Agrees m w.sums (Looking t at sum) p → Stands m workers (record { sums = w.sums; claims = w.claims; words = w.words; locals = set w.locals a (after_look m.join t at sum (told_of m w.sums at rank)) }) (set passes a (looked p at (state_of (told_of m w.sums at rank))))
   saw_told t at sum zero top agrees = saw t at sum Silent agrees (omega arith) agrees.right refl refl
   saw_told t at sum (suc zero) top agrees =
       saw t at sum (told_of m w.sums at 1) agrees (omega arith)
@@ -215,12 +212,12 @@ module _ {Item : Type 0} {is_item : Item → Bool} (m : Coding Item) (coded : Co
       (agrees.right.0, ap (seg_join m.join (before m w.sums (at + 1))) agrees.right.2 ∙ front_split laws w.sums items (at + 1) t next)
       refl refl
 
-  looking : (t at : ℕ) (sum : Bool × Item) → Agrees m w.sums (Looking t at sum) p → Stands m workers (record { sums = w.sums; claims = w.claims; words = w.words; locals = set w.locals a (after_look m.join t at sum (m.read (get_or w.words at 0))) }) (set passes a (looked at (m.read (get_or w.words at 0))))
+  looking : (t at : ℕ) (sum : Bool × Item) → Agrees m w.sums (Looking t at sum) p → Stands m workers (record { sums = w.sums; claims = w.claims; words = w.words; locals = set w.locals a (after_look m.join t at sum (m.read (get_or w.words at 0))) }) (set passes a (looked p at (state_of (m.read (get_or w.words at 0)))))
   looking t at sum agrees =
       let rank = highest (told_at at) passes in
       let tile : at < length w.sums = omega (arith, agrees.right.0, agrees.right.1) in
       let status : told_of m w.sums at rank ≡ m.read (get_or w.words at 0) = sym (ap m.read (stands.kept.words at tile) ∙ code_read m coded laws w.sums items at rank) in
-      let P : Status Item → Type 0 = λ s. Stands m workers (record { sums = w.sums; claims = w.claims; words = w.words; locals = set w.locals a (after_look m.join t at sum s) }) (set passes a (looked at s)) in
+      let P : Status Item → Type 0 = λ s. Stands m workers (record { sums = w.sums; claims = w.claims; words = w.words; locals = set w.locals a (after_look m.join t at sum s) }) (set passes a (looked p at (state_of s))) in
       subst P status (saw_told t at sum rank refl agrees)
 
   -- the step of a worker in any state that agrees with its pass

@@ -1,8 +1,8 @@
 -- How a monoid's statuses are kept as words, and the words that are lawful at a tile.
 -- Source: the status words of Merrill and Garland, Single-pass Parallel Prefix Scan with Decoupled Look-back, 2016.
-use Rattle.std.specs.Prelude.{◌≡◌, ℕ, zero, suc, ◌+◌, ◌-◌, ◌<◌, ℤ, Bool, IsTrue, List, take, drop, slice_index_or, Option, Some, None}
+use Rattle.std.specs.Prelude.{◌≡◌, ℕ, zero, suc, ◌+◌, ◌-◌, ◌<◌, ◌≤◌, ◌^◌, max, ℤ, Bool, IsTrue, List, length, take, drop, slice_index_or, Option, Some, None}
 use Rattle.cvl_base.specs.Folds.{fold_of}
-use Rattle.cvl_base.specs.SegmentMonoid.{seg_unit, seg_join}
+use Rattle.cvl_base.specs.SegmentMonoid.{is_seg_item, seg_unit, seg_join}
 use Rattle.status_word.specs.declared.status.Status.{Status}
 use Rattle.status_word.specs.declared.status.Status.TheVariants.{Silent, Sum, Prefix}
 use Rattle.status_word.specs.Locals.{is_item_status}
@@ -15,9 +15,10 @@ pub record Coding (Item : Type 0) : Type 0 where
   pub pack : Status Item → ℕ
   pub read : ℕ → Status Item
 
--- what is asked of the words of items: 0 tells nothing, each is read again, and a lesser state has a lesser word
+-- what is asked of the words of items: 0 tells nothing, each has 64 bits and is read again, and a lesser state has a lesser word
 pub record CodingLaws {Item : Type 0} (is_item : Item → Bool) (m : Coding Item) : Type 0 where
   pub silent : m.pack Silent ≡ 0
+  pub fits : (status : Status Item) → IsTrue (is_item_status is_item status) → m.pack status < 2 ^ 64
   pub read_pack : (status : Status Item) → IsTrue (is_item_status is_item status) → m.read (m.pack status) ≡ status
   pub ascending : (lower upper : Status Item) → IsTrue (is_item_status is_item lower) → IsTrue (is_item_status is_item upper) → state_of lower < state_of upper → m.pack lower < m.pack upper
 
@@ -61,3 +62,32 @@ module _ {Item : Type 0} (m : Coding Item) where
   -- the lawful words of tile t, by the state
   abbrev pub code : List (Bool × Item) → ℕ → ℕ → ℕ
   code sums t rank = m.pack (told_of sums t rank)
+
+  -- what a status says of tile t is so
+  abbrev pub Says : List (Bool × Item) → ℕ → Status Item → Type 0
+  Says sums t Silent = Unit {0}
+  Says sums t (Sum starts value) = (starts, value) ≡ sum_at sums t
+  Says sums t (Prefix starts value) = (starts, value) ≡ before sums (t + 1)
+
+-- what is true of the words of all tiles: they tell nothing at first, ascend with the states, are read again, and have 64 bits
+pub record CodeLaws {Item : Type 0} (is_item : Item → Bool) (m : Coding Item) (sums : List (Bool × Item)) : Type 0 where
+  pub silent : (t : ℕ) → code m sums t 0 ≡ 0
+  pub greater : (t a b : ℕ) → max (code m sums t a) (code m sums t b) ≡ code m sums t (max a b)
+  pub read : (t rank : ℕ) → m.read (code m sums t rank) ≡ told_of m sums t rank
+  pub fits : (t rank : ℕ) → code m sums t rank < 2 ^ 64
+  pub items : (t rank : ℕ) → IsTrue (is_item_status is_item (told_of m sums t rank))
+  -- a status that is told of its tile has the state of its word, and says what is so
+  pub states : (t rank : ℕ) → rank ≤ 2 → state_of (told_of m sums t rank) ≡ rank
+  pub says : (t rank : ℕ) → Says m sums t (told_of m sums t rank)
+
+-- how a look-back nears the tiles before tile t: it starts from no tile, takes one tile more in front, and is done at a tile before which the sum is known
+pub record SumsLaws {Item : Type 0} (is_item : Item → Bool) (m : Coding Item) (sums : List (Bool × Item)) : Type 0 where
+  pub own : (t : ℕ) → IsTrue (is_seg_item is_item (sum_at m sums t))
+  pub exclusive : (t : ℕ) → IsTrue (is_seg_item is_item (before m sums t))
+  pub middle : (first t : ℕ) → IsTrue (is_seg_item is_item (between m sums first t))
+  pub none_before : before m sums 0 ≡ seg_unit m.unit
+  pub before_next : (t : ℕ) → t < length sums → before m sums (t + 1) ≡ seg_join m.join (before m sums t) (sum_at m sums t)
+  pub none_between : (t : ℕ) → between m sums t t ≡ seg_unit m.unit
+  pub one_more : (first t : ℕ) → first < t → t ≤ length sums → between m sums first t ≡ seg_join m.join (sum_at m sums first) (between m sums (first + 1) t)
+  pub met : (first t : ℕ) → first ≤ t → seg_join m.join (before m sums first) (between m sums first t) ≡ before m sums t
+  pub all_between : (t : ℕ) → between m sums 0 t ≡ before m sums t

@@ -1,7 +1,9 @@
 pub mod Codings
+pub mod Hands
 pub mod Locals
 pub mod Passes
 pub mod Reached
+pub mod RuleSteps
 pub mod Words
 pub mod WorkedWorlds
 pub mod Worlds

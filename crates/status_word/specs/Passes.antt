@@ -1,70 +1,91 @@
 -- What each worker of a single-pass scan did, and the rule that all workers together keep.
 -- Source: the bookkeeping behind Merrill and Garland's decoupled look-back, 2016: each tile is claimed once, and no status is taken back.
-use Rattle.std.specs.Prelude.{◌≡◌, ℕ, ◌+◌, ◌-◌, ◌<◌, ◌≤◌, ◌==◌, min, max, Bool, List, [], ◌∷◌, length, nat_lt, if◌then◌else◌, slice_index_or}
-use Rattle.std.specs.List.{sum_by}
+use Rattle.std.specs.Prelude.{◌≡◌, ℕ, ◌+◌, ◌<◌, ◌≤◌, ◌==◌, max, Bool, List, [], ◌∷◌, ◌++◌, length, if◌then◌else◌}
+use mathlib.Core.Option.{some}
+use lib.ListN.{get_elem?}
+use Rattle.status_word.specs.declared.pass.Mark.{Mark}
+use Rattle.status_word.specs.declared.pass.Pass.{Pass}
+use Rattle.status_word.specs.Hands.{new_hand, hand_given, hand_done, hand_dealt, hands_joined, AreDealt}
+pub use Rattle.status_word.specs.Hands.{times}
 
--- a state of a tile: 0 silent, 1 its sum, 2 its prefix
-pub record Mark : Type 0 where
-  pub tile : ℕ
-  pub rank : ℕ
-
--- the tiles given to a worker, how often it was told that none is left, and for how many workers it stands
-pub record Hand : Type 0 where
-  pub given : List ℕ
-  pub done : ℕ
-  pub share : ℕ
-
--- what one worker did, the newest first; the sums are the board's
-pub record Pass (Item : Type 0) : Type 0 where
-  pub sums : List (Bool × Item)
-  pub hand : Hand
-  pub told : List Mark
-  pub seen : List Mark
-  pub looks : ℕ
+-- what is known at first: the board's sums, by one who stands for so many workers
+abbrev pub first_pass : {Item : Type 0} → List (Bool × Item) → ℕ → Pass Item
+first_pass sums workers = record { sums = sums; hand = new_hand workers; told = []; seen = []; looks = 0 }
 
 abbrev pub new_pass : {Item : Type 0} → List (Bool × Item) → Pass Item
-new_pass sums = record { sums = sums; hand = record { given = []; done = 0; share = 1 }; told = []; seen = []; looks = 0 }
+new_pass sums = first_pass sums 1
+
+-- what stays behind where a pass is joined to another
+abbrev pub spent_pass : {Item : Type 0} → Pass Item
+spent_pass = first_pass [] 0
 
 -- the highest state among the marks of tile t
 abbrev pub highest_mark : ℕ → List Mark → ℕ
 highest_mark t [] = 0
 highest_mark t (mark ∷ marks) = max (if mark.tile == t then mark.rank else 0) (highest_mark t marks)
 
-abbrev pub told_at : {Item : Type 0} → ℕ → Pass Item → ℕ
-told_at t p = highest_mark t p.told
+module _ {Item : Type 0} where
+  -- ---- how a pass changes
 
-abbrev pub seen_at : {Item : Type 0} → ℕ → Pass Item → ℕ
-seen_at t p = highest_mark t p.seen
+  -- a claim that gives tile t
+  abbrev pub given_tile : Pass Item → ℕ → Pass Item
+  given_tile p t = record p { hand = hand_given p.hand t }
+
+  -- a claim when no tile is left
+  abbrev pub told_done : Pass Item → Pass Item
+  told_done p = record p { hand = hand_done p.hand }
+
+  -- a look at tile t, which was in this state
+  abbrev pub looked : Pass Item → ℕ → ℕ → Pass Item
+  looked p t rank = record p { seen = record { tile = t; rank = rank } ∷ p.seen; looks = p.looks + 1 }
+
+  -- this state of tile t is told
+  abbrev pub told_state : Pass Item → ℕ → ℕ → Pass Item
+  told_state p t rank = record p { told = record { tile = t; rank = rank } ∷ p.told }
+
+  -- a pass of several workers is cut: the new pass stands for one of them
+  abbrev pub split_left : Pass Item → Pass Item
+  split_left p = record p { hand = hand_dealt p.hand }
+
+  abbrev pub split_right : Pass Item → Pass Item
+  split_right p = new_pass p.sums
+
+  -- two passes are made one
+  abbrev pub joined : Pass Item → Pass Item → Pass Item
+  joined p other = record { sums = p.sums; hand = hands_joined p.hand other.hand; told = p.told ++ other.told; seen = p.seen ++ other.seen; looks = p.looks + other.looks }
+
+  -- ---- what a pass says of tile t
+
+  abbrev pub told_at : ℕ → Pass Item → ℕ
+  told_at t p = highest_mark t p.told
+
+  abbrev pub seen_at : ℕ → Pass Item → ℕ
+  seen_at t p = highest_mark t p.seen
+
+  abbrev pub known_at : ℕ → Pass Item → ℕ
+  known_at t p = max (told_at t p) (seen_at t p)
+
+  abbrev pub given_at : ℕ → Pass Item → ℕ
+  given_at t p = times t p.hand.given
 
 -- the highest of a measure over all passes
 abbrev pub highest : {X : Type 0} → (X → ℕ) → List X → ℕ
 highest f [] = 0
 highest f (x ∷ xs) = max (f x) (highest f xs)
 
--- how often t is among the tiles
-abbrev pub times : ℕ → List ℕ → ℕ
-times t [] = 0
-times t (x ∷ xs) = (if x == t then 1 else 0) + times t xs
-
-abbrev pub given_at : {Item : Type 0} → ℕ → Pass Item → ℕ
-given_at t p = times t p.hand.given
-
--- what one pass keeps: no more Done marks than its share, with a share the board's sums, and nothing at all without one
+-- what one pass keeps beside its hand: with a share it has the board's sums, and without one it is empty
 pub record IsFair {Item : Type 0} (sums : List (Bool × Item)) (p : Pass Item) : Type 0 where
-  pub marks : p.hand.done ≤ p.hand.share
   pub tiles : 1 ≤ p.hand.share → p.sums ≡ sums
-  pub empty : p.hand.share ≡ 0 → (p.hand.given ≡ []) × (p.told ≡ []) × (p.seen ≡ []) × (p.looks ≡ 0)
+  pub empty : p.hand.share ≡ 0 → (p.told ≡ []) × (p.seen ≡ []) × (p.looks ≡ 0)
 
 -- The rule of a scan board, over the claim word, the word of each tile and all passes; `code t r` is the word of state r at tile t.
 pub record IsKept {Item : Type 0} (code : ℕ → ℕ → ℕ) (sums : List (Bool × Item)) (workers claims : ℕ) (word : ℕ → ℕ) (passes : List (Pass Item)) : Type 0 where
   -- each word is lawful at its tile, and tells the highest state that any pass told
   pub words : (t : ℕ) → t < length sums → word t ≡ code t (highest (told_at t) passes)
+  -- which is one of the three
+  pub states : (t : ℕ) → highest (told_at t) passes ≤ 2
   -- no pass saw a higher one
   pub seen : (t : ℕ) → highest (seen_at t) passes ≤ highest (told_at t) passes
-  -- the tiles given are distinct, and are those below both the claim word and the number of tiles
-  pub given : (t : ℕ) → sum_by (given_at t) passes ≡ (if nat_lt t (min claims (length sums)) then 1 else 0)
-  pub count : sum_by (λ p. length p.hand.given) passes ≡ min claims (length sums)
-  -- the claim word counts them and the Done marks, of which there is one only if all tiles were given
-  pub done : sum_by (λ p. p.hand.done) passes ≡ claims - length sums
-  pub shares : sum_by (λ p. p.hand.share) passes ≡ workers
-  pub fair : (at : ℕ) (other : Pass Item) → at < length passes → IsFair sums (slice_index_or passes at other)
+  -- the hands keep the rule of all boards
+  pub dealt : AreDealt (λ p. p.hand) (length sums) workers claims passes
+  pub fair : (id : ℕ) (p : Pass Item) → get_elem? passes id ≡ some p → IsFair sums p

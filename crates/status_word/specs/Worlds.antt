@@ -14,7 +14,9 @@ use Rattle.status_word.specs.declared.local.Local.{Local}
 use Rattle.status_word.specs.declared.local.Local.TheVariants.{Ready, Summing, Looking, Helping, Publishing, Stopped}
 use Rattle.status_word.specs.Codings.{Coding, sum_at, before, between, code}
 use Rattle.status_word.specs.Locals.{action_of, next_of}
-use Rattle.status_word.specs.Passes.{Pass, new_pass, times, IsKept}
+use Rattle.status_word.specs.declared.pass.Pass.{Pass}
+use Rattle.status_word.specs.Hands.{times}
+use Rattle.status_word.specs.Passes.{new_pass, given_tile, told_done, looked, told_state, IsKept}
 use Rattle.status_word.specs.Words.{state_of}
 
 -- a world: each tile's sum, the claim word, the word of each tile, and the state of each worker
@@ -73,11 +75,11 @@ module _ {Item : Type 0} (m : Coding Item) where
 
   -- what a step adds to the pass of the worker that takes it
   abbrev pub pass_after : Pass Item → Action Item → Answer Item → Pass Item
-  pass_after p Claim (Tile t) = record p { hand = record p.hand { given = t ∷ p.hand.given } }
-  pass_after p Claim Done = record p { hand = record p.hand { done = p.hand.done + 1 } }
-  pass_after p (Look at) (Saw status) = record p { seen = record { tile = at; rank = state_of status } ∷ p.seen; looks = p.looks + 1 }
-  pass_after p (TellSum t) (Told sum) = record p { told = record { tile = t; rank = 1 } ∷ p.told }
-  pass_after p (TellPrefix t prior) (Told sum) = record p { told = record { tile = t; rank = 2 } ∷ p.told }
+  pass_after p Claim (Tile t) = given_tile p t
+  pass_after p Claim Done = told_done p
+  pass_after p (Look at) (Saw status) = looked p at (state_of status)
+  pass_after p (TellSum t) (Told sum) = told_state p t 1
+  pass_after p (TellPrefix t prior) (Told sum) = told_state p t 2
   pass_after p action answer = p
 
   abbrev pub passed : Scene Item → ℕ → List (Pass Item) → Option (Action Item) → List (Pass Item)

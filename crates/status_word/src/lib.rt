@@ -3,16 +3,22 @@
 #![tactic(auto)]
 
 mod action;
+mod items;
 mod laws;
 mod local;
 mod moves;
+mod pass;
+mod rules;
 mod status;
 mod word;
 mod world;
 
 pub use action::{Action, Answer};
+pub use items::{pack_status, read_status};
 pub use laws::{left_law, word_law, word_values, world_law, world_values};
 pub use local::{Local, next};
+pub use pass::{Hand, Mark, Pass};
+pub use rules::{code_law, hand_law, rule_law, sums_law};
 pub use status::Status;
 pub use word::{pack, unpack};
 pub use world::{Stepped, World};

@@ -2,15 +2,13 @@
 
 ghost use Rattle.std.specs.Prelude.{◌≡◌, ℕ, ◌<◌, ◌^◌, max, IsTrue, length, vec_len, slice_index, slice_index_or, slice_set};
 ghost use Rattle.cvl_base.specs.SegmentMonoid.{seg_join, is_seg_item};
-ghost use Rattle.status_word.specs.Codings.{coding_of, status_by, status_or_silent, sum_at};
-ghost use Rattle.status_word.specs.Locals.{is_item_status};
+ghost use Rattle.status_word.specs.Codings.{coding_of, sum_at};
 ghost use Rattle.status_word.specs.Reached.{CanAnswer, CanTell};
-ghost use Rattle.status_word.specs.Words.{read_word, word_of};
 ghost use Rattle.status_word.specs.Worlds.{answer_of, claims_after as claims_then, words_after};
 
 use crate::action::{Action, Answer};
+use crate::items::{pack_status, read_status};
 use crate::status::Status;
-use crate::word::{pack, unpack};
 use cvl_base::monoid::know_laws;
 use cvl_base::{Memory, Monoid, Packed, Seg};
 
@@ -109,27 +107,4 @@ fn raise<A: Memory>(words: &mut Vec<u64, A>, at: usize, word: u64)
 {
     let greater = words[at].max(word);
     words[at] = greater;
-}
-
-/// The word of a status of items.
-fn pack_status<M: Packed>(status: Status<M::Item>) -> u64
-    requires { IsTrue (is_item_status M.is_item status) }
-    ensures { result ≡ word_of (status_by M.to_word status) }
-{
-    match status {
-        Status::Silent => pack(Status::Silent),
-        Status::Sum(starts, value) => pack(Status::Sum(starts, M::to_word(value))),
-        Status::Prefix(starts, value) => pack(Status::Prefix(starts, M::to_word(value))),
-    }
-}
-
-/// The status of a word; a word that is no status's tells nothing.
-fn read_status<M: Packed>(word: u64) -> Status<M::Item>
-    ensures { result ≡ status_by M.from_word (status_or_silent (read_word word)) }
-{
-    match unpack(word) {
-        None | Some(Status::Silent) => Status::Silent,
-        Some(Status::Sum(starts, value)) => Status::Sum(starts, M::from_word(value)),
-        Some(Status::Prefix(starts, value)) => Status::Prefix(starts, M::from_word(value)),
-    }
 }

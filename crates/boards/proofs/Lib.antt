@@ -1,0 +1,5 @@
+pub mod Moves
+pub mod Telling
+pub mod Dealing
+pub mod Ending
+pub mod Walking

@@ -1,0 +1,77 @@
+-- What a look-back has done after each of its looks.
+-- Source: what the definitions of Walks imply.
+use Rattle.std.proofs.Common.{◌≡◌, refl, ◌∙◌, ℕ, ◌+◌, ◌-◌, ◌<◌, ◌≤◌, ◌≢◌, ◌⊎◌, inl, inr, max, arith, ⊎_elim, sym, subst, eqb, true, false}
+use Rattle.std.proofs.lemmas.Bool.Decides.{eqb_tells}
+use Rattle.status_word.specs.declared.pass.Pass.{Pass}
+use Rattle.status_word.specs.Passes.{known_at, seen_at, told_at}
+use Rattle.boards.specs.Answers.{IsLookBack}
+use Rattle.boards.specs.Walks.{IsFind, IsWalk}
+
+module _ {Item : Type 0} where
+  pub walk_start : (t : ℕ) (p : Pass Item) → IsWalk t t p p
+  walk_start t p = record {
+    looks = refl;
+    known = λ x from to. absurd (omega arith);
+    told = λ x. (omega arith, omega arith);
+    seen = λ x. omega arith;
+    others = λ x outside. (refl, refl);
+    hand = refl;
+    sums = refl;
+  }
+
+  -- of each tile that was passed the same is known after a look at another
+  known_still : (t at next rank : ℕ) (old mid now : Pass Item) → at ≡ next + 1 → IsWalk t at old mid → IsFind next rank mid now → (x : ℕ) → next < x → x < t → known_at x now ≡ 1
+  known_still t at next rank old mid now one walk found x from to =
+      let same = found.others x (λ e. omega arith) in
+      let before = walk.known x (omega arith) to in
+      omega arith
+
+  told_still : (t at next rank : ℕ) (old mid now : Pass Item) → at ≡ next + 1 → at ≤ t → IsWalk t at old mid → IsFind next rank mid now → (x : ℕ) → (told_at x old ≤ told_at x now) × (told_at x now ≤ max (told_at x old) 1) × (seen_at x old ≤ seen_at x now)
+  told_still t at next rank old mid now one within walk found x =
+      let before = walk.told x in
+      let seen_before = walk.seen x in
+      ⊎_elim
+      (λ (same : (eqb x next ≡ true) × (x ≡ next)). subst (λ y. (told_at y old ≤ told_at y now) × (told_at y now ≤ max (told_at y old) 1) × (seen_at y old ≤ seen_at y now)) (sym same.1)
+      (let outside = walk.others next (inl (omega arith)) in let here = found.told in let seen_here = found.seen in (omega arith, omega arith, omega arith)))
+      (λ (differ : (eqb x next ≡ false) × (x ≢ next)). let same = found.others x differ.1 in (omega arith, omega arith, omega arith))
+      (eqb_tells x next)
+
+  others_still : (t at next rank : ℕ) (old mid now : Pass Item) → at ≡ next + 1 → at ≤ t → IsWalk t at old mid → IsFind next rank mid now → (x : ℕ) → (x < next) ⊎ (t ≤ x) → (told_at x now ≡ told_at x old) × (seen_at x now ≡ seen_at x old)
+  others_still t at next rank old mid now one within walk found x outside =
+      let apart : x ≢ next = ⊎_elim (λ (low : x < next). λ e. omega arith) (λ (high : t ≤ x). λ e. omega arith) outside in
+      let same = found.others x apart in
+      let before = walk.others x (⊎_elim (λ (low : x < next). inl (omega arith)) (λ (high : t ≤ x). inr high) outside) in
+      (same.0 ∙ before.0, same.1 ∙ before.1)
+
+  -- one more sum
+  pub walk_more : (t at next : ℕ) (old mid now : Pass Item) → at ≡ next + 1 → at ≤ t → IsWalk t at old mid → IsFind next 1 mid now → IsWalk t next old now
+  walk_more t at next old mid now one within walk found = record {
+    looks = omega (arith, walk.looks, found.looks);
+    known = λ x from to. ⊎_elim (λ (same : (eqb x next ≡ true) × (x ≡ next)). subst (λ y. known_at y now ≡ 1) (sym same.1) found.known)
+        (λ (differ : (eqb x next ≡ false) × (x ≢ next)). known_still t at next 1 old mid now one walk found x (let apart = differ.1 in omega arith) to) (eqb_tells x next);
+    told = λ x. let both = told_still t at next 1 old mid now one within walk found x in (both.0, both.1);
+    seen = λ x. (told_still t at next 1 old mid now one within walk found x).2;
+    others = others_still t at next 1 old mid now one within walk found;
+    hand = found.hand ∙ walk.hand;
+    sums = found.sums ∙ walk.sums;
+  }
+
+  -- a prefix ends the look-back
+  pub walk_met : (t at next looks : ℕ) (old mid now : Pass Item) → at ≡ next + 1 → at ≤ t → looks ≡ t - next → IsWalk t at old mid → IsFind next 2 mid now → IsLookBack t looks old now
+  walk_met t at next looks old mid now one within count walk found =
+      let first : t - looks ≡ next = omega arith in
+      record {
+        at_most = omega arith;
+        at_least = λ some. omega arith;
+        counted = omega (arith, walk.looks, found.looks);
+        known = λ x from to. ⊎_elim (λ (same : (eqb x next ≡ true) × (x ≡ next)). subst (λ y. 1 ≤ known_at y now) (sym same.1) (let here = found.known in omega arith))
+            (λ (differ : (eqb x next ≡ false) × (x ≢ next)). let apart = differ.1 in let here = known_still t at next 2 old mid now one walk found x (omega arith) to in omega arith) (eqb_tells x next);
+        met = λ fewer. subst (λ y. known_at y now ≡ 2) (sym first) found.known;
+        passed = λ x from to. let here = known_still t at next 2 old mid now one walk found x (omega arith) to in omega arith;
+        told = λ x. let both = told_still t at next 2 old mid now one within walk found x in (both.0, both.1);
+        told_outside = λ x outside. (others_still t at next 2 old mid now one within walk found x (⊎_elim (λ (low : x < t - looks). inl (omega arith)) (λ (high : t ≤ x). inr high) outside)).0;
+        seen = λ x. (told_still t at next 2 old mid now one within walk found x).2;
+        seen_outside = λ x outside. (others_still t at next 2 old mid now one within walk found x (⊎_elim (λ (low : x < t - looks). inl (omega arith)) (λ (high : t ≤ x). inr high) outside)).1;
+        hand = found.hand ∙ walk.hand;
+        sums = found.sums ∙ walk.sums;
+      }

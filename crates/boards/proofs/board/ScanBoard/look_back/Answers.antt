@@ -1,0 +1,33 @@
+use Rattle.std.proofs.Common.{◌≡◌, refl, sym, ap, ◌∙◌, ◌+◌, ◌-◌, arith}
+use Rattle.cvl_base.specs.SegmentMonoid.{seg_join}
+use Rattle.status_word.specs.Codings.{between, coding_of, sum_at}
+use Rattle.boards.proofs.Walking.{walk_met, walk_more, walk_start}
+use Rattle.boards.proofs.board.ScanBoard.look_back.Goals as goal
+
+pub loop-at-init : goal.loop-at-init
+loop-at-init g c = (omega arith, c.requires.seat, refl, c.unit-after.ensures ∙ sym (c.know_sums.ensures.none_between c.args.t), walk_start c.args.t c.args.seat.now.pass)
+
+pub loop-at-preserved : goal.loop-at-preserved
+loop-at-preserved g c =
+    let m = coding_of g.T.M.Monoid.join g.T.M.Monoid.unit g.T.M.Packed.to_word g.T.M.Packed.from_word in
+    let sums = c.args.self.now.sums in
+    let t = c.args.t in
+    let at = c.loop-at.at in
+    let inv = c.loop-at.invariant in
+    let next : at ≡ at - 1 + 1 = omega arith in (
+      omega arith,
+      c.in-Sum.ensures.same,
+      c.in-Sum.ensures.done ∙ inv.2,
+      c.join-after.ensures
+          ∙ ap (λ s. seg_join m.join s c.loop-at.after) c.in-Sum.ensures.found
+          ∙ ap (seg_join m.join (sum_at m sums (at - 1))) (inv.3 ∙ ap (λ k. between m sums k t) next)
+          ∙ sym (c.know_sums.ensures.one_more (at - 1) t (omega arith) (omega (arith, c.requires.tile))),
+      walk_more t at (at - 1) c.args.seat.now.pass c.loop-at.seat.pass c.find.new.seat.pass next inv.0 inv.4 c.in-Sum.ensures.step,
+    )
+
+pub returns-in-Prefix-clause-looks : goal.returns-in-Prefix-clause-looks
+returns-in-Prefix-clause-looks g c =
+    let t = c.args.t in
+    let at = c.loop-at.at in
+    let next : at ≡ at - 1 + 1 = omega arith in
+    walk_met t at (at - 1) (t - (at - 1)) c.args.seat.now.pass c.loop-at.seat.pass c.find.new.seat.pass next c.loop-at.invariant.0 refl c.loop-at.invariant.4 c.in-Prefix.ensures.step

@@ -1,0 +1,17 @@
+use Rattle.std.proofs.Common.{◌≡◌, ◌≤◌}
+use Rattle.status_word.specs.Codings.{between, coding_of}
+use Rattle.boards.specs.Boards.{IsSeatOf}
+use Rattle.boards.specs.Walks.{IsWalk}
+use Rattle.boards.proofs.board.ScanBoard.look_back.Given as goal
+
+-- the tiles from `at` on are added up, and none of them told a prefix
+abbrev pub invariant-loop-at : goal.invariant-loop-at
+invariant-loop-at g l =
+    (l.at ≤ l.t)
+    × IsSeatOf l.self l.seat
+    × (l.seat.is_done ≡ l.fn.seat.is_done)
+    × (l.after ≡ between (coding_of g.T.M.Monoid.join g.T.M.Monoid.unit g.T.M.Packed.to_word g.T.M.Packed.from_word) l.self.sums l.at l.t)
+    × IsWalk l.t l.at l.fn.seat.pass l.seat.pass
+
+abbrev pub decreases-loop-at : goal.decreases-loop-at
+decreases-loop-at g l = l.at

@@ -1,0 +1,9 @@
+pub mod Answers
+pub mod Boards
+pub mod Claims
+pub mod Gathered
+pub mod Rules
+pub mod Walks
+pub use Rattle.status_word.specs.Codings
+pub use Rattle.status_word.specs.Passes
+pub use Rattle.status_word.specs.Hands

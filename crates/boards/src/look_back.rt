@@ -1,0 +1,98 @@
+//! The look-back: what the tiles before a tile join to, from what has been told of them.
+
+ghost use Rattle.std.specs.Prelude.{◌≡◌, ◌<◌, length};
+ghost use Rattle.boards.specs.Answers.{IsLookBack};
+ghost use Rattle.boards.specs.Boards.{IsSeatOf};
+ghost use Rattle.boards.specs.Walks.{IsFind, IsFound, rank_of};
+ghost use Rattle.status_word.specs.Codings.{SumsLaws, before as before_tile, coding_of};
+
+use crate::board::ScanBoard;
+use crate::seat::ScanSeat;
+use crate::tiles::Tiles;
+use cvl_base::{Monoid, Seg};
+use status_word::{Status, sums_law};
+use std::alloc::Allocator;
+
+/// What a look-back answers.
+#[derive(Clone, Copy, Debug)]
+pub struct Back<I> {
+    /// What the elements of the tiles before join to, and whether a segment starts among them.
+    pub before: (bool, I),
+    /// At how many tiles it looked.
+    pub looks: u32,
+}
+
+/// What one look of a look-back gave.
+enum Found<I> {
+    /// The tile's own sum.
+    Sum(bool, I),
+    /// The sum of the tile and of all tiles before it.
+    Prefix(bool, I),
+}
+
+impl<T: Tiles, A: Allocator> ScanBoard<T, A> {
+    /// What the tiles before tile `t` join to. It looks at tile t-1, t-2 and so on, once at each, until it finds a prefix
+    /// or the first tile is done; a tile of which nothing is told yet it adds up itself, and tells its sum. So it looks at
+    /// no tile twice, waits for nobody, and takes no memory.
+    ///
+    /// Source: Merrill and Garland's decoupled look-back.
+    pub fn look_back(&self, seat: &mut ScanSeat<T::M>, t: u32) -> Back<<T::M as Monoid>::Item>
+        requires seat { IsSeatOf self.now seat.old }
+        requires tile { t < length self.now.sums }
+        ensures same { IsSeatOf self.now seat.new }
+        ensures done { seat.new.is_done ≡ seat.old.is_done }
+        ensures before { result.before
+            ≡ before_tile (coding_of T.M.join T.M.unit T.M.to_word T.M.from_word) self.now.sums t }
+        ensures looks { IsLookBack t result.looks seat.old.pass seat.new.pass }
+    {
+        self.know_sums();
+        let mut after = Seg::<T::M>::unit();
+        let mut at = t;
+        while at > 0 {
+            at -= 1;
+            match self.find(seat, at) {
+                Found::Sum(starts, value) => after = Seg::<T::M>::join((starts, value), after),
+                Found::Prefix(starts, value) => {
+                    return Back {
+                        before: Seg::<T::M>::join((starts, value), after),
+                        looks: t - at,
+                    };
+                }
+            }
+        }
+        Back {
+            before: after,
+            looks: t,
+        }
+    }
+
+    /// One look at tile `at`; where nothing is told of the tile yet, it is added up and its sum is told.
+    fn find(&self, seat: &mut ScanSeat<T::M>, at: u32) -> Found<<T::M as Monoid>::Item>
+        requires seat { IsSeatOf self.now seat.old }
+        requires tile { at < length self.now.sums }
+        ensures same { IsSeatOf self.now seat.new }
+        ensures done { seat.new.is_done ≡ seat.old.is_done }
+        ensures found { IsFound
+            (coding_of T.M.join T.M.unit T.M.to_word T.M.from_word) self.now.sums at result }
+        ensures step { IsFind at (rank_of result) seat.old.pass seat.new.pass }
+    {
+        match self.look(seat, at) {
+            Status::Silent => {
+                let sum = self.counted.tiles.sum(at);
+                self.tell_known_sum(seat, at, sum);
+                Found::Sum(sum.0, sum.1)
+            }
+            Status::Sum(starts, value) => Found::Sum(starts, value),
+            Status::Prefix(starts, value) => Found::Prefix(starts, value),
+        }
+    }
+
+    /// How the sums of the tiles hang together, for the proof of a look-back: the call does nothing.
+    fn know_sums(&self)
+        ensures { SumsLaws T.M.is_item
+            (coding_of T.M.join T.M.unit T.M.to_word T.M.from_word) self.now.sums }
+    {
+        let _counted = &self.counted;
+        sums_law::<T::M>();
+    }
+}

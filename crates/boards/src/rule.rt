@@ -1,0 +1,83 @@
+//! The rule of a scan board's table, and what each of its steps tells. But for the tiles, these types are for proofs alone.
+
+ghost use Rattle.std.specs.Prelude.{◌≡◌, ◌≤◌, length};
+ghost use Rattle.std.specs.List.{AllPass};
+ghost use Rattle.cvl_base.specs.Limits.{most_elements, most_workers};
+ghost use Rattle.cvl_base.specs.SegmentMonoid.{is_seg_item};
+ghost use Rattle.status_word.specs.Codings.{coding_of};
+ghost use Rattle.boards.specs.Rules.{Claimed, IsRuled, Looked, Told};
+ghost use Rattle.status_word.specs.Passes.{first_pass, joined, spent_pass, split_left, split_right};
+
+use crate::tiles::Tiles;
+use atomic_table::{Join, Play, Seat, Split, Table, TableRule};
+use cvl_base::{Monoid, Packed};
+use status_word::Pass;
+use std::marker::PhantomData;
+
+/// The tiles of a board, counted, and for how many workers it is.
+#[derive(Drop)]
+pub(crate) struct Counted<T: Tiles> {
+    pub(crate) tiles: T,
+    pub(crate) count: u32,
+    pub(crate) workers: u32,
+    ghost counts: { count ≡ length (T.sums tiles) },
+    ghost few: { length (T.sums tiles) ≤ most_elements },
+    ghost items: { AllPass (is_seg_item T.M.is_item) (T.sums tiles) },
+    ghost some_workers: { 1 ≤ workers },
+    ghost few_workers: { workers ≤ most_workers },
+}
+
+/// What a seat knows of the tiles.
+pub(crate) type PassOf<T> = Pass<<<T as Tiles>::M as Monoid>::Item>;
+
+pub(crate) struct ScanRule<T>(PhantomData<T>);
+
+impl<T: Tiles> TableRule<(), PassOf<T>, Counted<T>> for ScanRule<T> {
+    ghost holds = { λ key.
+        IsRuled (coding_of T.M.join T.M.unit T.M.to_word T.M.from_word) (T.sums key.tiles) key.workers };
+
+    ghost first = { λ key. first_pass (T.sums key.tiles) key.workers };
+}
+
+/// A claim.
+pub(crate) struct ClaimStep;
+
+impl<I> Play<(), Pass<I>> for ClaimStep {
+    ghost then = { Claimed };
+}
+
+/// A look at a tile's word.
+pub(crate) struct LookStep<M>(PhantomData<M>);
+
+impl<M: Packed> Play<(), Pass<M::Item>> for LookStep<M> {
+    ghost then = { Looked (coding_of M.join M.unit M.to_word M.from_word) };
+}
+
+/// A tile's sum is told.
+pub(crate) struct SumStep;
+
+impl<I> Play<(), Pass<I>> for SumStep {
+    ghost then = { Told 1 };
+}
+
+/// A tile's prefix is told.
+pub(crate) struct PrefixStep;
+
+impl<I> Play<(), Pass<I>> for PrefixStep {
+    ghost then = { Told 2 };
+}
+
+/// One more seat, and all seats in one.
+pub(crate) struct OneMore;
+
+impl<I> Split<Pass<I>> for OneMore {
+    ghost left = { split_left };
+
+    ghost right = { split_right };
+}
+
+impl<I> Join<Pass<I>> for OneMore {
+    ghost both = { joined };
+
+    ghost spent = { spent_pass };
+}
