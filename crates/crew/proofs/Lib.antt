@@ -1,0 +1,4 @@
+pub mod AllPieces
+pub mod Crews
+pub mod Left
+pub mod Pieces

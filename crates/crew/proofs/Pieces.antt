@@ -1,0 +1,50 @@
+-- How the pieces of tiles come together: one by one, and those of two crews.
+-- Source: what the definitions of Pieces imply.
+use Rattle.std.proofs.Common.{◌≡◌, refl, sym, ◌∙◌, subst, ℕ, ◌+◌, ◌<◌, cond, eqb, List, [], ◌∷◌, ◌++◌, map, arith}
+use Rattle.std.proofs.lemmas.List.{map-append}
+use Rattle.std.proofs.lemmas.List.Elements.{All-nil, All-cons, All-append}
+use Rattle.std.proofs.lemmas.List.Sums.{sum_by-append}
+use Rattle.boards.specs.Passes.{times}
+use Rattle.crew.specs.Pieces.{ArePiecesOf, given_to}
+
+module _ {Item : Type 0} (count : ℕ) (items : ℕ → List Item) where
+  both_pieces : (f g : ℕ → ℕ) (xs ys : List (ℕ × List Item)) → ArePiecesOf count items f xs → ArePiecesOf count items g ys → ArePiecesOf count items (λ t. f t + g t) (xs ++ ys)
+  both_pieces f g xs ys front back = record {
+    one_each = λ t. let all = sum_by-append (λ (p : ℕ × List Item). cond (eqb p.0 t) 1 0) xs ys in let x = front.one_each t in let y = back.one_each t in omega arith;
+    of_work = All-append (λ p. p.0 < count) xs ys front.of_work back.of_work;
+    as_meant = All-append (λ p. p.1 ≡ items p.0) xs ys front.as_meant back.as_meant;
+  }
+
+  one_piece : (t : ℕ) (made : List Item) → t < count → made ≡ items t → ArePiecesOf count items (λ k. cond (eqb t k) 1 0) ((t, made) ∷ [])
+  one_piece t made below same = record {
+    one_each = λ k. omega arith;
+    of_work = All-cons (λ p. p.0 < count) (t, made) [] below (All-nil (λ p. p.0 < count));
+    as_meant = All-cons (λ p. p.1 ≡ items p.0) (t, made) [] same (All-nil (λ p. p.1 ≡ items p.0));
+  }
+
+  given_as : (f g : ℕ → ℕ) (ps : List (ℕ × List Item)) → ((t : ℕ) → f t ≡ g t) → ArePiecesOf count items f ps → ArePiecesOf count items g ps
+  given_as f g ps same pieces = record { one_each = λ t. pieces.one_each t ∙ same t; of_work = pieces.of_work; as_meant = pieces.as_meant }
+
+  -- no tile, no piece
+  pub no_pieces : ArePiecesOf count items (λ t. times t []) []
+  no_pieces = record { one_each = λ t. refl; of_work = All-nil (λ p. p.0 < count); as_meant = All-nil (λ p. p.1 ≡ items p.0) }
+
+  module _ {P : Type 0} (view : P → ℕ × List Item) where
+    -- one tile more, and its piece
+    pub one_more : (given : List ℕ) (piece : P) (ps : List P) → (view piece).0 < count → (view piece).1 ≡ items (view piece).0
+        → ArePiecesOf count items (λ t. times t given) (map view ps) → ArePiecesOf count items (λ t. times t ((view piece).0 ∷ given)) (map view (ps ++ piece ∷ []))
+    one_more given piece ps below same pieces =
+        let t = (view piece).0 in
+        let all = both_pieces (λ k. times k given) (λ k. cond (eqb t k) 1 0) (map view ps) (view piece ∷ []) pieces (one_piece t (view piece).1 below same) in
+        subst (ArePiecesOf count items (λ k. times k (t ∷ given))) (sym (map-append view ps (piece ∷ [])))
+        (given_as (λ k. times k given + cond (eqb t k) 1 0) (λ k. times k (t ∷ given)) (map view ps ++ view piece ∷ []) (λ k. omega arith) all)
+
+    -- the pieces of two crews are those of the seats of both
+    pub of_both : {Seat : Type 0} (given : Seat → List ℕ) (xs ys : List P) (front back : List Seat)
+        → ArePiecesOf count items (given_to given front) (map view xs) → ArePiecesOf count items (given_to given back) (map view ys)
+        → ArePiecesOf count items (given_to given (front ++ back)) (map view (xs ++ ys))
+    of_both given xs ys front back first second =
+        let all = both_pieces (given_to given front) (given_to given back) (map view xs) (map view ys) first second in
+        subst (ArePiecesOf count items (given_to given (front ++ back))) (sym (map-append view xs ys))
+        (given_as (λ t. given_to given front t + given_to given back t) (given_to given (front ++ back)) (map view xs ++ map view ys)
+        (λ t. sym (sum_by-append (λ seat. times t (given seat)) front back)) all)

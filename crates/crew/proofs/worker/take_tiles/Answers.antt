@@ -1,0 +1,18 @@
+use Rattle.std.proofs.Common.{◌∙◌}
+use Rattle.crew.proofs.Left.{one_less}
+use Rattle.crew.proofs.Pieces.{one_more}
+use Rattle.crew.proofs.worker.take_tiles.Goals as goal
+
+pub loop-t-smaller : goal.loop-t-smaller
+loop-t-smaller g c =
+    let claim = c.in-Tile.ensures.claims in
+    let same = c.in_ok-items.ensures.given ∙ claim.3 in
+    let less = one_less _ _ _ claim.0 claim.1 in
+    rw same less
+
+pub loop-t-preserved : goal.loop-t-preserved
+loop-t-preserved g c =
+    let claim = c.in-Tile.ensures.claims in
+    let same = c.in_ok-items.ensures.given ∙ claim.3 in
+    let all = one_more (g.W.Work.count c.args.work.now) (g.W.Work.items c.args.work.now) (λ p. (p.tile, p.items.items)) _ _ _ claim.0 c.in_ok-items.ensures.items c.loop-t.invariant.1 in
+    (c.in_ok-items.ensures.stays, rw (same, c.in_ok-push.ensures.items) all)

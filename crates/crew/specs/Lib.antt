@@ -1,0 +1,2 @@
+pub mod Crews
+pub mod Pieces

@@ -1,0 +1,13 @@
+//! A crew: several workers that take the tiles of one work, each until it is told that none is left.
+#![tactic(auto)]
+
+mod gate;
+mod laws;
+mod together;
+mod work;
+mod worker;
+
+pub use gate::{Gate, OpenGate, Point};
+pub use laws::pieces_law;
+pub use together::{Crewed, run_crew};
+pub use work::Work;

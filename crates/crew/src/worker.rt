@@ -1,0 +1,38 @@
+//! What one worker does.
+
+ghost use Rattle.std.specs.Prelude.{◌≡◌, [], IfOk, IsTrue, OnOk, map};
+ghost use Rattle.boards.specs.Passes.{times};
+ghost use Rattle.crew.specs.Pieces.{ArePiecesOf};
+
+use crate::gate::{Gate, Point};
+use crate::work::Work;
+use boards::Claim;
+use cvl_base::{Memory, NoResources};
+use tile_plan::Piece;
+
+/// The pieces of the tiles that are given to the seat, until it is told that none is left. Each claim gives a tile that
+/// the seat didn't have, so there are at most as many as the work has tiles.
+pub(crate) fn take_tiles<A: Memory, W: Work, G: Gate>(
+    alloc: A,
+    work: &W,
+    worker: u32,
+    seat: &mut W::Seat,
+    gate: &G,
+) -> Result<Vec<Piece<W::Item, A>, A>, NoResources>
+    requires of_board { W.IsSeat work.now seat.old }
+    requires fresh { W.given seat.old ≡ [] }
+    ensures of_board { W.IsSeat work.now seat.new }
+    ensures done { OnOk result (IsTrue (W.is_done seat.new)) }
+    ensures pieces { IfOk result (λ pieces. ArePiecesOf (W.count work.now) (W.items work.now)
+        (λ t. times t (W.given seat.new))
+        (map (λ p. (p.tile, p.items.items)) pieces.items)) }
+{
+    let mut pieces = Vec::new(alloc);
+    while let Claim::Tile(t) = work.claim(seat) {
+        gate.pass(worker, Point::Claimed(t));
+        let items = work.tile(alloc, seat, worker, t, gate)?;
+        gate.pass(worker, Point::Finished(t));
+        pieces.push(Piece { tile: t, items })?;
+    }
+    Ok(pieces)
+}
