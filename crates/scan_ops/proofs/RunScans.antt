@@ -89,19 +89,19 @@ module _ {Item : Type 0} where
   rest_of_front k n xs =
       elim (leb_tells n (length xs)) [
         | inl s ↦
-          let long : length (take n xs) ≡ n = length-take-le n xs s.1 in
-          elim (leb_tells n k) [
-            | inl t ↦
-              let m : ℕ = k - n in
-              let whole : n + m ≡ k = omega (arith, t.1) in
-              ap (λ j. take (k - j) (drop n xs)) long ∙ sym (drop-take n m xs) ∙ ap (λ j. drop n (take j xs)) whole
-            | inr t ↦
-              let none : k - length (take n xs) ≡ 0 = omega (arith, long, t.1) in
-              ap (λ j. take j (drop n xs)) none ∙ sym (drop_all n (take k xs) (omega (arith, length-take k xs, t.1)))
-          ]
+            let long : length (take n xs) ≡ n = length-take-le n xs s.1 in
+            elim (leb_tells n k) [
+              | inl t ↦
+                  let m : ℕ = k - n in
+                  let whole : n + m ≡ k = omega (arith, t.1) in
+                  ap (λ j. take (k - j) (drop n xs)) long ∙ sym (drop-take n m xs) ∙ ap (λ j. drop n (take j xs)) whole
+              | inr t ↦
+                  let none : k - length (take n xs) ≡ 0 = omega (arith, long, t.1) in
+                  ap (λ j. take j (drop n xs)) none ∙ sym (drop_all n (take k xs) (omega (arith, length-take k xs, t.1)))
+            ]
         | inr s ↦
-          take_all (k - length (take n xs)) (drop n xs) (omega (arith, length-drop n xs, s.1))
-          ∙ drop_all n xs (omega (arith, s.1)) ∙ sym (drop_all n (take k xs) (omega (arith, length-take k xs, s.1)))
+            take_all (k - length (take n xs)) (drop n xs) (omega (arith, length-drop n xs, s.1))
+            ∙ drop_all n xs (omega (arith, s.1)) ∙ sym (drop_all n (take k xs) (omega (arith, length-take k xs, s.1)))
       ]
 
   -- the front of a segmented vector

@@ -92,8 +92,8 @@ module _ (plan : ℕ × ℕ) (lengths : List ℕ) where
       elim (leb_tells (count_of plan.0 plan.1) (t + 1)) [
         | inl e ↦ omega (arith, first_left_at_end (t + 1) (omega (arith, below, e.1)), first_left_le t (omega (arith, below)))
         | inr e ↦
-          let more : t * plan.1 ≤ (t + 1) * plan.1 = omega arith in
-          omega (arith, first_left_within t below, first_left_within (t + 1) (omega (arith, e.1)), starts_rise lengths (t * plan.1) ((t + 1) * plan.1) more)
+            let more : t * plan.1 ≤ (t + 1) * plan.1 = omega arith in
+            omega (arith, first_left_within t below, first_left_within (t + 1) (omega (arith, e.1)), starts_rise lengths (t * plan.1) ((t + 1) * plan.1) more)
       ]
 
 pub length-scans_of : {Item : Type 0} (join : Item → Item → Item) (unit : Item) (lengths : List ℕ) (xs : List Item) → sum lengths ≡ length xs → length (scans_of join unit lengths xs) ≡ length xs
@@ -180,19 +180,19 @@ module _ {Item : Type 0} {is_item : Item → Bool} {unit : Item} {join : Item �
   since_start place o within total is lt =
       elim (leb_tells 1 (starts_before lengths place)) [
         | inl e ↦
-          let next : o + 1 ≡ starts_before lengths place = omega (arith, is, e.1) in
-          let ends : place ≤ start_of lengths (o + 1) =
-          begins_by lengths place (o + 1) (omega (arith, within, total)) (λ s ge below. starts_later lengths place s (omega (arith, ge, next)) below) in
-          let begins : start_of lengths o < place = starts_earlier lengths place o (omega (arith, next)) in
-          ap (λ run. (fold_of (seg_join join) (false, unit) run).1) (with_starts-take lengths xs place)
-          ∙ ap (λ w. w.1) (started_run_summed laws lengths xs (false, unit) 0 place o within lt (omega arith) begins ends items)
+            let next : o + 1 ≡ starts_before lengths place = omega (arith, is, e.1) in
+            let ends : place ≤ start_of lengths (o + 1) =
+            begins_by lengths place (o + 1) (omega (arith, within, total)) (λ s ge below. starts_later lengths place s (omega (arith, ge, next)) below) in
+            let begins : start_of lengths o < place = starts_earlier lengths place o (omega (arith, next)) in
+            ap (λ run. (fold_of (seg_join join) (false, unit) run).1) (with_starts-take lengths xs place)
+            ∙ ap (λ w. w.1) (started_run_summed laws lengths xs (false, unit) 0 place o within lt (omega arith) begins ends items)
         | inr e ↦
-          let first : o ≡ 0 = omega (arith, is, e.1) in
-          let start : start_of lengths o ≡ 0 = ap (start_of lengths) first in
-          let zero_place : place ≡ 0 = omega (arith, start, starts_later lengths place o (omega (arith, first, e.1)) lt) in
-          let none : place - start_of lengths o ≡ 0 = omega (arith, zero_place) in
-          ap (λ k. (fold_of (seg_join join) (false, unit) (take k (with_starts lengths xs))).1) zero_place
-          ∙ ap (λ k. fold_of join unit (take k (drop (start_of lengths o) xs))) (sym none)
+            let first : o ≡ 0 = omega (arith, is, e.1) in
+            let start : start_of lengths o ≡ 0 = ap (start_of lengths) first in
+            let zero_place : place ≡ 0 = omega (arith, start, starts_later lengths place o (omega (arith, first, e.1)) lt) in
+            let none : place - start_of lengths o ≡ 0 = omega (arith, zero_place) in
+            ap (λ k. (fold_of (seg_join join) (false, unit) (take k (with_starts lengths xs))).1) zero_place
+            ∙ ap (λ k. fold_of join unit (take k (drop (start_of lengths o) xs))) (sym none)
       ]
 
   -- the first segment whose reduce a tile gives is open where the tile begins
@@ -208,9 +208,9 @@ module _ {Item : Type 0} {is_item : Item → Bool} {unit : Item} {join : Item �
       let fits : place ≤ length xs = omega (arith, starts_within plan.0 plan.1 t some below, whole) in
       record {
         begun = elim (leb_tells 1 (starts_before lengths place)) [
-            | inl e ↦ omega (arith, starts_earlier lengths place o (omega (arith, is_first, e.1)))
-            | inr e ↦ let first : o ≡ 0 = omega (arith, is_first, e.1) in let start : start_of lengths o ≡ 0 = ap (start_of lengths) first in omega (arith, start)
-          ];
+          | inl e ↦ omega (arith, starts_earlier lengths place o (omega (arith, is_first, e.1)))
+          | inr e ↦ let first : o ≡ 0 = omega (arith, is_first, e.1) in let start : start_of lengths o ≡ 0 = ap (start_of lengths) first in omega (arith, start)
+        ];
         not_past = begins_by lengths place (o + 1) (omega (arith, fits, total)) (λ s ge lt. starts_later lengths place s (omega (arith, ge, is_first)) lt);
         before_is = ap (λ w. w.1) (segmented_before t before below is) ∙ since_start place o fits total is_first lt;
       }

@@ -1,10 +1,11 @@
 -- The tiles of a list, one after another, and what the tiles before a tile sum up to.
+use Rattle.std.specs.Prelude.{◌||◌}
 use Rattle.std.proofs.Common.{◌≡◌, ℕ, zero, suc, ◌+◌, ◌-◌, ◌*◌, ◌<◌, ◌≤◌, min, Bool, true, false, cond, eqb, IsTrue, List, [], ◌∷◌, ◌++◌, length, take, drop, map, get_or, slice_range, refl, sym, ap, ◌∙◌, arith, append-nil, take-add, inl, inr}
 use Rattle.std.proofs.lemmas.Bool.Decides.{eqb_tells, leb_tells}
-use Rattle.std.specs.List.{AllPass, flat_map, range_with_len}
+use Rattle.std.specs.List.{AllPass, flat_map, list_any, range_with_len}
 use Rattle.std.proofs.lemmas.List.{length-map, map-id, take_all}
 use Rattle.std.proofs.lemmas.List.Concat.{flat_map-append}
-use Rattle.std.proofs.lemmas.List.Elements.{All-from_get_or, All-map, All-take, All-drop}
+use Rattle.std.proofs.lemmas.List.Elements.{All-from_get_or, All-head, All-map, All-take, All-drop}
 use Rattle.std.proofs.lemmas.List.FromFn.{get_or-map-range_with_len, length-map-range_with_len, map-range_with_len_more}
 use Rattle.std.proofs.lemmas.List.Sums.{fold_more}
 use Rattle.operators.proofs.FoldLaws.{fold_of_is_item, fold_of-append}
@@ -111,9 +112,9 @@ some_tile len tile some filled =
     elim (leb_tells 1 (count_of len tile)) [
       | inl e ↦ e.1
       | inr e ↦
-        let none : count_of len tile ≡ 0 = omega (arith, e.1) in
-        let product : count_of len tile * tile ≡ 0 * tile = ap (λ n. n * tile) none in
-        absurd (omega (arith, starts_past len tile some, product, filled))
+          let none : count_of len tile ≡ 0 = omega (arith, e.1) in
+          let product : count_of len tile * tile ≡ 0 * tile = ap (λ n. n * tile) none in
+          absurd (omega (arith, starts_past len tile some, product, filled))
     ]
 
 pub filled_by_test : (n : ℕ) → eqb n 0 ≡ false → 0 < n
@@ -122,3 +123,8 @@ filled_by_test n e =
       | inl t ↦ let bad : true ≡ false = sym t.0 ∙ e in cc bad
       | inr t ↦ omega (arith, t.1)
     ]
+
+-- what passes for all of some elements passes for one
+pub any_of_all : {X : Type 0} (p : X → Bool) (xs : List X) → 0 < length xs → AllPass p xs → list_any p xs ≡ true
+any_of_all p [] some all = absurd (omega (arith, some))
+any_of_all p (x ∷ xs) some all = ap (λ b. b || list_any p xs) (All-head (λ y. p y ≡ true) x xs all)

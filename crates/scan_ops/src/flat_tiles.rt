@@ -4,9 +4,10 @@ ghost use Rattle.std.specs.Prelude.{◌≡◌, ◌<◌, ◌≤◌, true, length,
 ghost use Rattle.std.specs.List.{AllPass, list_all};
 ghost use Rattle.cvl_base.specs.Limits.{most_elements};
 
-use crate::kernel::{Kernel, Tiles};
+use crate::kernel::Kernel;
 use crate::plain::{push_scan_readings_from, sum_readings_from};
 use crate::readings::Reading;
+use boards::Tiles;
 use cvl_base::monoid::know_laws;
 use cvl_base::{Monoid, NoResources, Packed};
 use std::alloc::Allocator;

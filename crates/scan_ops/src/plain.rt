@@ -5,8 +5,8 @@ ghost use Rattle.std.specs.List.{AllPass};
 ghost use Rattle.cvl_base.specs.Folds.{fold_of, scan_of};
 
 use crate::readings::{Itself, Reading};
-use cvl_base::monoid::know_laws;
 use cvl_base::Monoid;
+use cvl_base::monoid::know_laws;
 use std::alloc::Allocator;
 
 /// What stands before the elements, joined from left to right with what they are read as.

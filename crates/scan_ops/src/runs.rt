@@ -76,7 +76,13 @@ fn push_reduces<M: Monoid, X: Copy, E: Reading<X, M::Item>, A: Allocator>(
 /// Pushes the reduces of the segments from number `first` to the one before number `next`, of what the elements are read as.
 /// The first of these segments holds place `from`, or ends or starts there, and `before` is what its elements before that
 /// place join to. There must be room for the reduces.
-pub(crate) fn push_reduces_of_run<M: Monoid, X: Copy, E: Reading<X, M::Item>, A: Allocator, B: Allocator>(
+pub(crate) fn push_reduces_of_run<
+    M: Monoid,
+    X: Copy,
+    E: Reading<X, M::Item>,
+    A: Allocator,
+    B: Allocator,
+>(
     sums: &mut Vec<M::Item, B>,
     a: &[X],
     d: &SegDes<A>,
@@ -163,14 +169,7 @@ pub(crate) fn push_scan_of_run<
     E: Reading<X, M::Item>,
     A: Allocator,
     B: Allocator,
->(
-    sums: &mut Vec<M::Item, B>,
-    a: &[X],
-    d: &SegDes<A>,
-    from: usize,
-    to: usize,
-    before: M::Item,
-)
+>(sums: &mut Vec<M::Item, B>, a: &[X], d: &SegDes<A>, from: usize, to: usize, before: M::Item)
     requires total { sum d.now ≡ length a.now }
     requires in_order { from ≤ to }
     requires within { to ≤ length a.now }

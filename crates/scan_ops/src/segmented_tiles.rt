@@ -4,9 +4,10 @@ ghost use Rattle.std.specs.Prelude.{◌≡◌, ◌<◌, ◌≤◌, true, length,
 ghost use Rattle.std.specs.List.{AllPass, list_all};
 ghost use Rattle.cvl_base.specs.Limits.{most_elements};
 
-use crate::kernel::{Kernel, Tiles};
+use crate::kernel::Kernel;
 use crate::readings::Reading;
 use crate::runs::{push_reduces_of_run, push_scan_of_run, sum_of_readings};
+use boards::Tiles;
 use cvl_base::monoid::know_laws;
 use cvl_base::{Monoid, NoResources, Packed};
 use segdes::SegDes;
@@ -88,9 +89,7 @@ impl<'a, M: Packed, X: Copy, E: Reading<X, M::Item>, A: Allocator> Segmented<'a,
             return self.segments.count();
         }
         let (from, _) = self.plan.range(t);
-        self.segments
-            .starts_before(from as usize)
-            .saturating_sub(1)
+        self.segments.starts_before(from as usize).saturating_sub(1)
     }
 }
 
@@ -101,8 +100,7 @@ pub(crate) struct SegmentedScan<'a, M: Packed, X: Copy, E: Reading<X, M::Item>, 
 }
 
 impl<'a, M: Packed, X: Copy, E: Reading<X, M::Item>, A: Allocator> Tiles
-    for SegmentedScan<'a, M, X, E, A>
-{
+    for SegmentedScan<'a, M, X, E, A> {
     ghost use Rattle.scan_ops.specs.Kernels.{segmented_sums};
 
     type M = M;
@@ -119,8 +117,7 @@ impl<'a, M: Packed, X: Copy, E: Reading<X, M::Item>, A: Allocator> Tiles
 }
 
 impl<'a, M: Packed, X: Copy, E: Reading<X, M::Item>, A: Allocator> Kernel
-    for SegmentedScan<'a, M, X, E, A>
-{
+    for SegmentedScan<'a, M, X, E, A> {
     ghost use Rattle.std.specs.Prelude.{IfOk};
     ghost use Rattle.scan_ops.specs.Kernels.{IsAtTile, segmented_sums, tile_of};
     ghost use Rattle.scan_ops.specs.Runs.{scans_of};
@@ -161,8 +158,7 @@ pub(crate) struct SegmentedReduce<'a, M: Packed, X: Copy, E: Reading<X, M::Item>
 }
 
 impl<'a, M: Packed, X: Copy, E: Reading<X, M::Item>, A: Allocator> Tiles
-    for SegmentedReduce<'a, M, X, E, A>
-{
+    for SegmentedReduce<'a, M, X, E, A> {
     ghost use Rattle.scan_ops.specs.Kernels.{segmented_sums};
 
     type M = M;
@@ -179,8 +175,7 @@ impl<'a, M: Packed, X: Copy, E: Reading<X, M::Item>, A: Allocator> Tiles
 }
 
 impl<'a, M: Packed, X: Copy, E: Reading<X, M::Item>, A: Allocator> Kernel
-    for SegmentedReduce<'a, M, X, E, A>
-{
+    for SegmentedReduce<'a, M, X, E, A> {
     ghost use Rattle.std.specs.Prelude.{IfOk};
     ghost use Rattle.scan_ops.specs.Kernels.{IsAtTile, reduces_at, segmented_sums};
 

@@ -6,7 +6,7 @@ use Rattle.scan_ops.specs.Runs.{reduces_of}
 use Rattle.scan_ops.proofs.Segmented.{seg_reduce-fits}
 use Rattle.scan_ops.proofs.SegmentedTiles.{length-reduces_of, length-segmented_sums, reduces_joined}
 use Rattle.scan_ops.proofs.Tiled.{filled_by_test, some_tile}
-use Rattle.scan_ops.proofs.sums.seg_reduce_readings.Goals as goal
+use Rattle.scan_ops.proofs.sums.seg_reduce_in_tiles.Goals as goal
 
 pub returns-then-is_empty-clause-values : goal.returns-then-is_empty-clause-values
 returns-then-is_empty-clause-values g c =

@@ -7,7 +7,7 @@ use Rattle.scan_ops.specs.Runs.{scans_of}
 use Rattle.scan_ops.proofs.FlatTiles.{items_read}
 use Rattle.scan_ops.proofs.Segmented.{seg_scan-fits}
 use Rattle.scan_ops.proofs.SegmentedTiles.{length-scans_of, length-segmented_sums, segmented_scans_joined}
-use Rattle.scan_ops.proofs.prefixes.seg_scan_readings.Goals as goal
+use Rattle.scan_ops.proofs.prefixes.seg_scan_in_tiles.Goals as goal
 
 pub returns-clause-values : goal.returns-clause-values
 returns-clause-values g c =

@@ -2,7 +2,7 @@ use Rattle.std.proofs.Common.{◌≡◌, subst}
 use Rattle.std.specs.Prelude.{IfOk}
 use Rattle.std.proofs.lemmas.List.{map-id}
 use Rattle.cvl_base.specs.Folds.{fold_of}
-use Rattle.scan_ops.proofs.sums.reduce.Goals as goal
+use Rattle.scan_ops.proofs.sums.reduce_gated.Goals as goal
 
 pub returns : goal.returns
 returns g c =
