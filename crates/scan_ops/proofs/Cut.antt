@@ -9,12 +9,8 @@ use Rattle.std.proofs.lemmas.List.Sums.{sum_by-cons}
 use Rattle.cvl_base.specs.Folds.{fold_of, scan_of}
 use Rattle.cvl_base.specs.Monoid.{MonoidLaws}
 use Rattle.segdes.specs.Starts.{start_of}
-use Rattle.scan_ops.specs.Runs.{started, with_starts, run_of, run_scan_of, scans_of}
+use Rattle.scan_ops.specs.Runs.{continued, started, with_starts, run_of, run_scan_of, scans_of}
 use Rattle.scan_ops.proofs.Scanned.{scan_of-cons}
-
--- elements at which no segment starts
-abbrev pub continued : {Item : Type 0} → List Item → List (Bool × Item)
-continued xs = map (λ x. (false, x)) xs
 
 pub sum-cons : (n : ℕ) (ns : List ℕ) → sum (n ∷ ns) ≡ n + sum ns
 sum-cons n ns = sum_by-cons (λ x. x) n ns
@@ -110,7 +106,7 @@ module _ {Item : Type 0} {is_item : Item → Bool} {unit : Item} {join : Item �
       ∙ ap (λ b. (unit ∷ scan_of join b ys) ++ sums) (sym (laws.left_unit y (All-head (λ x. is_item x ≡ true) y ys items)))
       ∙ ap (λ tail. tail ++ sums) (sym (scan_of-cons join unit y ys))
 
-  segments_scanned : (lengths : List ℕ) (xs : List Item) (before : Item) → AllPass is_item xs → run_scan_of join unit before (with_starts lengths xs) ≡ scans_of join unit lengths xs
+  pub segments_scanned : (lengths : List ℕ) (xs : List Item) (before : Item) → AllPass is_item xs → run_scan_of join unit before (with_starts lengths xs) ≡ scans_of join unit lengths xs
   segments_scanned [] xs before items = refl
   segments_scanned (n ∷ ls) xs before items =
       segment_scanned before (take n xs) (with_starts ls (drop n xs)) (scans_of join unit ls (drop n xs))

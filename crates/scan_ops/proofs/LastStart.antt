@@ -10,8 +10,8 @@ use Rattle.cvl_base.specs.Folds.{fold_of}
 use Rattle.cvl_base.specs.Monoid.{MonoidLaws}
 use Rattle.cvl_base.specs.SegmentMonoid.{seg_join}
 use Rattle.segdes.specs.Starts.{start_of}
-use Rattle.scan_ops.specs.Runs.{started, with_starts, run_of}
-use Rattle.scan_ops.proofs.Cut.{continued, run_cut, sum-cons, length-started}
+use Rattle.scan_ops.specs.Runs.{continued, started, with_starts, run_of}
+use Rattle.scan_ops.proofs.Cut.{run_cut, sum-cons, length-started}
 
 module _ {Item : Type 0} where
   with_starts-none : (lengths : List ℕ) → with_starts {Item = Item} lengths [] ≡ []
@@ -36,7 +36,7 @@ module _ {Item : Type 0} where
       ∙ ap (λ ys. with_starts (n ∷ take s ls) (take (n + p) xs) ++ with_starts (drop s ls) ys) (drop-drop p n xs)
       ∙ ap (λ q. with_starts (n ∷ take s ls) (take q xs) ++ with_starts (drop s ls) (drop q xs)) begins
 
-  length-with_starts : (lengths : List ℕ) (xs : List Item) → length xs ≤ sum lengths → length (with_starts lengths xs) ≡ length xs
+  pub length-with_starts : (lengths : List ℕ) (xs : List Item) → length xs ≤ sum lengths → length (with_starts lengths xs) ≡ length xs
   length-with_starts [] xs covered = omega (arith, covered)
   length-with_starts (n ∷ ls) xs covered =
       omega (
@@ -103,7 +103,7 @@ flag_set true = refl
 flag_set false = refl
 
 module _ {Item : Type 0} (join : Item → Item → Item) where
-  continued_summed : (f : Bool) (before : Item) (ys : List Item) → fold_of (seg_join join) (f, before) (continued ys) ≡ (f, fold_of join before ys)
+  pub continued_summed : (f : Bool) (before : Item) (ys : List Item) → fold_of (seg_join join) (f, before) (continued ys) ≡ (f, fold_of join before ys)
   continued_summed f before [] = refl
   continued_summed f before (y ∷ ys) =
       ap (λ g. fold_of (seg_join join) (g, join before y) (continued ys)) (flag_stays f) ∙ continued_summed f (join before y) ys

@@ -1,6 +1,6 @@
 -- Scans that begin after what stands before them.
-use Rattle.std.proofs.Common.{◌≡◌, ℕ, ◌+◌, ◌<◌, ◌≤◌, List, [], ◌∷◌, ◌++◌, length, take, map, get_or, append_assoc, refl, sym, ap, ◌∙◌, arith}
-use Rattle.std.proofs.lemmas.List.{get_or-map, length-map, take_all, take_more}
+use Rattle.std.proofs.Common.{◌≡◌, ℕ, ◌+◌, ◌<◌, ◌≤◌, List, [], ◌∷◌, ◌++◌, length, take, drop, map, get_or, append_assoc, refl, sym, ap, ◌∙◌, arith}
+use Rattle.std.proofs.lemmas.List.{drop-map, get_or-map, length-map, take-map, take_all, take_more}
 use Rattle.std.proofs.lemmas.List.Sums.{fold_more}
 use Rattle.cvl_base.specs.Folds.{fold_of, fronts, scan_of}
 
@@ -54,3 +54,7 @@ pub joined_reading : {X Item : Type 0} (join : Item → Item → Item) (item : X
     → sum ≡ fold_of join before (take i (map item xs)) → next ≡ join sum (item x) → next ≡ fold_of join before (take (i + 1) (map item xs))
 joined_reading join item before sum next x xs i within is_x is_sum is_next =
     joined_more join before sum (item x) next (map item xs) i (length-read item xs i within) (ap item is_x ∙ sym (get_or-map item xs i x (item x) within)) is_sum is_next
+
+-- a part of them, read
+pub part_read : {X Item : Type 0} (item : X → Item) (n from : ℕ) (xs : List X) → map item (take n (drop from xs)) ≡ take n (drop from (map item xs))
+part_read item n from xs = sym (take-map item n (drop from xs)) ∙ ap (take n) (sym (drop-map item from xs))

@@ -5,8 +5,9 @@ ghost use Rattle.std.specs.List.{AllPass};
 ghost use Rattle.cvl_base.specs.Folds.{fold_of, scan_of};
 
 use crate::readings::{Itself, Reading};
+use cvl_base::Monoid;
 use cvl_base::monoid::know_laws;
-use cvl_base::{Memory, Monoid};
+use std::alloc::Allocator;
 
 /// What stands before the elements, joined from left to right with what they are read as.
 pub(crate) fn sum_readings_from<M: Monoid, X: Copy, E: Reading<X, M::Item>>(
@@ -36,7 +37,7 @@ pub(crate) fn sum_from<M: Monoid>(before: M::Item, xs: &[M::Item]) -> M::Item
 
 /// Pushes, for each of the elements, what stands before it: `before`, joined from left to right with what the elements
 /// in front of it are read as. There must be room for them.
-pub(crate) fn push_scan_readings_from<M: Monoid, X: Copy, E: Reading<X, M::Item>, A: Memory>(
+pub(crate) fn push_scan_readings_from<M: Monoid, X: Copy, E: Reading<X, M::Item>, A: Allocator>(
     sums: &mut Vec<M::Item, A>,
     before: M::Item,
     xs: &[X],
@@ -58,7 +59,7 @@ pub(crate) fn push_scan_readings_from<M: Monoid, X: Copy, E: Reading<X, M::Item>
 
 /// Pushes, for each of the elements, what stands before it: `before`, joined with the elements in front of it from left
 /// to right. There must be room for them.
-pub(crate) fn push_scan_from<M: Monoid, A: Memory>(
+pub(crate) fn push_scan_from<M: Monoid, A: Allocator>(
     sums: &mut Vec<M::Item, A>,
     before: M::Item,
     xs: &[M::Item],

@@ -6,11 +6,15 @@ ghost use Rattle.cvl_base.specs.Folds.{scan_of};
 ghost use Rattle.cvl_base.specs.Gives.{Gives};
 ghost use Rattle.cvl_base.specs.SegmentedCalls.{seg_scan_of};
 
-use crate::plain::{push_scan_from, push_scan_readings_from};
-use crate::readings::Reading;
-use crate::runs::scan_of_run;
+use crate::flat_tiles::{Flat, FlatScan};
+use crate::plain::push_scan_readings_from;
+use crate::race::race;
+use crate::readings::{Itself, Reading};
+use crate::segmented_tiles::{Segmented, SegmentedScan};
+use crew::{Gate, OpenGate};
+use cvl_base::limits::MOST_ELEMENTS;
 use cvl_base::monoid::know_laws;
-use cvl_base::{Config, Memory, Monoid, NoResources, Refused};
+use cvl_base::{Config, Memory, NoResources, Packed, Refused};
 use segdes::{SegDes, check_total};
 use std::thread::Threads;
 
@@ -18,30 +22,95 @@ use std::thread::Threads;
 /// unit at place 0.
 ///
 /// The elements must be items of the monoid. The result is as long as they are. Source: Blelloch's prescan.
-pub fn scan<R: Threads + Sync, A: Memory, M: Monoid>(
-    _rt: &R,
+pub fn scan<R: Threads + Sync, A: Memory, M: Packed + Send + Sync>(
+    rt: &R,
     alloc: A,
-    _config: Config,
+    config: Config,
     a: &[M::Item],
 ) -> Result<Vec<M::Item, A>, NoResources>
+where
+    M::Item: Send + Sync,
     requires items { AllPass M.is_item a.now }
     ensures values { IfOk result (λ sums. sums.items ≡ scan_of M.join M.unit a.now) }
     ensures as_long { IfOk result (λ sums. vec_len sums ≡ length a.now) }
 {
-    know_laws::<M>();
-    let mut sums = Vec::with_capacity(alloc, a.len())?;
-    push_scan_from::<M, A>(&mut sums, M::unit(), a);
-    Ok(sums)
+    scan_gated::<R, A, M, OpenGate>(rt, alloc, config, a, &OpenGate)
+}
+
+/// The same as [`scan`], by workers that pass a gate at each point of their way through a tile.
+pub fn scan_gated<R: Threads + Sync, A: Memory, M: Packed + Send + Sync, G: Gate>(
+    rt: &R,
+    alloc: A,
+    config: Config,
+    a: &[M::Item],
+    gate: &G,
+) -> Result<Vec<M::Item, A>, NoResources>
+where
+    M::Item: Send + Sync,
+    requires items { AllPass M.is_item a.now }
+    ensures values { IfOk result (λ sums. sums.items ≡ scan_of M.join M.unit a.now) }
+    ensures as_long { IfOk result (λ sums. vec_len sums ≡ length a.now) }
+{
+    scan_in_tiles::<R, A, M, M::Item, Itself, G>(rt, alloc, config, a, gate)
 }
 
 /// The exclusive scan of what the elements are read as: element `k` of the result joins the items of the elements before
 /// place `k`, from left to right, and is the unit at place 0.
 ///
 /// The elements must be read as items of the monoid. The result is as long as they are. Source: Blelloch's prescan.
-pub fn scan_readings<R: Threads + Sync, A: Memory, M: Monoid, X: Copy, E: Reading<X, M::Item>>(
-    _rt: &R,
+pub fn scan_readings<R, A, M, X, E>(
+    rt: &R,
     alloc: A,
-    _config: Config,
+    config: Config,
+    a: &[X],
+) -> Result<Vec<M::Item, A>, NoResources>
+where
+    R: Threads + Sync,
+    A: Memory,
+    M: Packed + Send + Sync,
+    M::Item: Send + Sync,
+    X: Copy + Send + Sync,
+    E: Reading<X, M::Item> + Send + Sync,
+    requires items { AllPass (λ x. M.is_item (E.item x)) a.now }
+    ensures values { IfOk result (λ sums. sums.items ≡ scan_of M.join M.unit (map E.item a.now)) }
+    ensures as_long { IfOk result (λ sums. vec_len sums ≡ length a.now) }
+{
+    scan_in_tiles::<R, A, M, X, E, OpenGate>(rt, alloc, config, a, &OpenGate)
+}
+
+/// The scan of what the elements are read as, tile by tile. A vector that has more elements than the tiles of a board may
+/// have is walked at once.
+fn scan_in_tiles<R, A, M, X, E, G>(
+    rt: &R,
+    alloc: A,
+    config: Config,
+    a: &[X],
+    gate: &G,
+) -> Result<Vec<M::Item, A>, NoResources>
+where
+    R: Threads + Sync,
+    A: Memory,
+    M: Packed + Send + Sync,
+    M::Item: Send + Sync,
+    X: Copy + Send + Sync,
+    E: Reading<X, M::Item> + Send + Sync,
+    G: Gate,
+    requires items { AllPass (λ x. M.is_item (E.item x)) a.now }
+    ensures values { IfOk result (λ sums. sums.items ≡ scan_of M.join M.unit (map E.item a.now)) }
+    ensures as_long { IfOk result (λ sums. vec_len sums ≡ length a.now) }
+{
+    know_laws::<M>();
+    if a.len() > MOST_ELEMENTS {
+        return scan_in_one_walk::<A, M, X, E>(alloc, a);
+    }
+    let flat = Flat::<M, X, E>::new(a, config.tile());
+    let sums = race(rt, alloc, config, &FlatScan { flat }, gate)?;
+    Ok(sums)
+}
+
+/// The scan of what the elements are read as, in one walk.
+fn scan_in_one_walk<A: Memory, M: Packed, X: Copy, E: Reading<X, M::Item>>(
+    alloc: A,
     a: &[X],
 ) -> Result<Vec<M::Item, A>, NoResources>
     requires items { AllPass (λ x. M.is_item (E.item x)) a.now }
@@ -59,19 +128,65 @@ pub fn scan_readings<R: Threads + Sync, A: Memory, M: Monoid, X: Copy, E: Readin
 ///
 /// The elements must be items of the monoid. The result is as long as they are. LengthMismatch, without a place, where
 /// the segments' total is not the number of elements. Source: Blelloch's segmented scans.
-pub fn seg_scan<R: Threads + Sync, A: Memory, M: Monoid>(
-    _rt: &R,
+pub fn seg_scan<R: Threads + Sync, A: Memory, M: Packed + Send + Sync>(
+    rt: &R,
     alloc: A,
-    _config: Config,
+    config: Config,
     a: &[M::Item],
     d: &SegDes<A>,
 ) -> Result<Vec<M::Item, A>, Refused>
+where
+    M::Item: Send + Sync,
     requires items { AllPass M.is_item a.now }
     ensures values { Gives (λ sums. sums.items) result (seg_scan_of M.join M.unit a.now d.now) }
     ensures as_long { IfOk result (λ sums. vec_len sums ≡ length a.now) }
 {
+    seg_scan_gated::<R, A, M, OpenGate>(rt, alloc, config, a, d, &OpenGate)
+}
+
+/// The same as [`seg_scan`], by workers that pass a gate at each point of their way through a tile.
+pub fn seg_scan_gated<R: Threads + Sync, A: Memory, M: Packed + Send + Sync, G: Gate>(
+    rt: &R,
+    alloc: A,
+    config: Config,
+    a: &[M::Item],
+    d: &SegDes<A>,
+    gate: &G,
+) -> Result<Vec<M::Item, A>, Refused>
+where
+    M::Item: Send + Sync,
+    requires items { AllPass M.is_item a.now }
+    ensures values { Gives (λ sums. sums.items) result (seg_scan_of M.join M.unit a.now d.now) }
+    ensures as_long { IfOk result (λ sums. vec_len sums ≡ length a.now) }
+{
+    seg_scan_in_tiles::<R, A, M, M::Item, Itself, G>(rt, alloc, config, a, d, gate)
+}
+
+/// The scan of each segment, of what its elements are read as, tile by tile.
+fn seg_scan_in_tiles<R, A, M, X, E, G>(
+    rt: &R,
+    alloc: A,
+    config: Config,
+    a: &[X],
+    d: &SegDes<A>,
+    gate: &G,
+) -> Result<Vec<M::Item, A>, Refused>
+where
+    R: Threads + Sync,
+    A: Memory,
+    M: Packed + Send + Sync,
+    M::Item: Send + Sync,
+    X: Copy + Send + Sync,
+    E: Reading<X, M::Item> + Send + Sync,
+    G: Gate,
+    requires items { AllPass (λ x. M.is_item (E.item x)) a.now }
+    ensures values { Gives (λ sums. sums.items) result
+        (seg_scan_of M.join M.unit (map E.item a.now) d.now) }
+    ensures as_long { IfOk result (λ sums. vec_len sums ≡ length a.now) }
+{
     know_laws::<M>();
     check_total(a, d)?;
-    let sums = scan_of_run::<M, A>(alloc, a, d, 0, a.len(), M::unit())?;
+    let vector = Segmented::<M, X, E, A>::new(a, d, config.tile());
+    let sums = race(rt, alloc, config, &SegmentedScan { vector }, gate)?;
     Ok(sums)
 }

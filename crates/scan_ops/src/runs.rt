@@ -3,18 +3,18 @@
 //! A run is a range of the vector's elements. Segments may start in it anywhere, some of them empty, and it may begin or
 //! end inside a segment. Each walk goes from segment to segment, and has a plain loop over the elements of each.
 
-ghost use Rattle.std.specs.Prelude.{◌≡◌, false, ◌+◌, ◌-◌, ◌≤◌, ◌++◌, IsTrue, IfOk, length, map, unsigned_abs, sum, vec_len, vec_capacity};
+ghost use Rattle.std.specs.Prelude.{◌≡◌, false, ◌+◌, ◌-◌, ◌<◌, ◌≤◌, ◌++◌, IsTrue, IfOk, length, map, slice_range, unsigned_abs, sum, vec_len, vec_capacity};
 ghost use Rattle.std.specs.List.{AllPass};
 ghost use Rattle.cvl_base.specs.Descriptors.{AreLengths};
 ghost use Rattle.cvl_base.specs.Folds.{fold_of};
 ghost use Rattle.cvl_base.specs.SegmentMonoid.{seg_join};
 ghost use Rattle.segdes.specs.Starts.{start_of};
-ghost use Rattle.scan_ops.specs.Runs.{reduces_of, run_of, run_scan_of, scans_of};
+ghost use Rattle.scan_ops.specs.Runs.{IsOpenAt, reduces_of, run_of, run_scan_of, scans_of};
 
-use crate::plain::{push_scan_from, sum_from, sum_readings_from};
-use crate::readings::Reading;
+use crate::plain::{push_scan_readings_from, sum_readings_from};
+use crate::readings::{Itself, Reading};
 use cvl_base::monoid::know_laws;
-use cvl_base::{Memory, Monoid, NoResources};
+use cvl_base::{Monoid, NoResources};
 use segdes::SegDes;
 use std::alloc::Allocator;
 
@@ -26,48 +26,115 @@ fn start_or_total<A: Allocator>(d: &SegDes<A>, s: usize) -> usize
     if s < d.count() { d.start(s) } else { d.total() }
 }
 
-/// Pushes the scans of the segments with these lengths, one after another. They have all of the elements, and the last may
-/// be cut short by the end of the elements. There must be room for them.
-fn push_scans<M: Monoid, A: Memory>(sums: &mut Vec<M::Item, A>, lengths: &[i32], xs: &[M::Item])
+/// Pushes the scans of the segments with these lengths, one after another, of what the elements are read as. The segments
+/// have all of the elements, and the last may be cut short by the end of the elements. There must be room for the scans.
+fn push_scans<M: Monoid, X: Copy, E: Reading<X, M::Item>, A: Allocator>(
+    sums: &mut Vec<M::Item, A>,
+    lengths: &[i32],
+    xs: &[X],
+)
     requires lengths { AreLengths lengths.now }
     requires covered { length xs.now ≤ sum (map unsigned_abs lengths.now) }
     requires room { vec_len sums.old + length xs.now ≤ vec_capacity sums.old }
-    requires items { AllPass M.is_item xs.now }
+    requires items { AllPass (λ x. M.is_item (E.item x)) xs.now }
     ensures values { sums.new.items
-        ≡ sums.old.items ++ scans_of M.join M.unit (map unsigned_abs lengths.now) xs.now }
+        ≡ sums.old.items ++ scans_of M.join M.unit (map unsigned_abs lengths.now) (map E.item xs.now) }
     ensures as_long { vec_len sums.new ≡ vec_len sums.old + length xs.now }
 {
     know_laws::<M>();
     let mut rest = xs;
     for length in lengths {
         let (segment, others) = rest.split_at((*length as usize).min(rest.len()));
-        push_scan_from::<M, A>(sums, M::unit(), segment);
+        push_scan_readings_from::<M, X, E, A>(sums, M::unit(), segment);
         rest = others;
     }
 }
 
-/// The reduces of all segments, of what the elements are read as.
-pub(crate) fn reduces_of_segments<M: Monoid, X: Copy, E: Reading<X, M::Item>, A: Memory>(
-    alloc: A,
-    a: &[X],
-    d: &SegDes<A>,
-) -> Result<Vec<M::Item, A>, NoResources>
-    requires total { sum d.now ≡ length a.now }
-    requires items { AllPass (λ x. M.is_item (E.item x)) a.now }
-    ensures values { IfOk result (λ sums. sums.items
-        ≡ reduces_of M.join M.unit d.now (map E.item a.now)) }
-    ensures one_each { IfOk result (λ sums. vec_len sums ≡ length d.now) }
+/// Pushes the reduces of the segments with these lengths, of what the elements are read as. The elements begin with those of
+/// the segments. There must be room for the reduces.
+fn push_reduces<M: Monoid, X: Copy, E: Reading<X, M::Item>, A: Allocator>(
+    sums: &mut Vec<M::Item, A>,
+    lengths: &[i32],
+    xs: &[X],
+)
+    requires lengths { AreLengths lengths.now }
+    requires covered { sum (map unsigned_abs lengths.now) ≤ length xs.now }
+    requires room { vec_len sums.old + length lengths.now ≤ vec_capacity sums.old }
+    requires items { AllPass (λ x. M.is_item (E.item x)) xs.now }
+    ensures { sums.new.items
+        ≡ sums.old.items ++ reduces_of M.join M.unit (map unsigned_abs lengths.now) (map E.item xs.now) }
 {
     know_laws::<M>();
-    let lengths = d.lengths();
-    let mut sums = Vec::with_capacity(alloc, lengths.len())?;
-    let mut rest = a;
+    let mut rest = xs;
     for length in lengths {
         let (segment, others) = rest.split_at(*length as usize);
         sums.push_reserved(sum_readings_from::<M, X, E>(M::unit(), segment));
         rest = others;
     }
-    Ok(sums)
+}
+
+/// Pushes the reduces of the segments from number `first` to the one before number `next`, of what the elements are read as.
+/// The first of these segments holds place `from`, or ends or starts there, and `before` is what its elements before that
+/// place join to. There must be room for the reduces.
+pub(crate) fn push_reduces_of_run<
+    M: Monoid,
+    X: Copy,
+    E: Reading<X, M::Item>,
+    A: Allocator,
+    B: Allocator,
+>(
+    sums: &mut Vec<M::Item, B>,
+    a: &[X],
+    d: &SegDes<A>,
+    first: usize,
+    next: usize,
+    from: usize,
+    before: M::Item,
+)
+    requires total { sum d.now ≡ length a.now }
+    requires in_order { first ≤ next }
+    requires within { next ≤ length d.now }
+    requires begun { first < next → IsOpenAt M.join M.unit d.now (map E.item a.now) first from before }
+    requires before { IsTrue (M.is_item before) }
+    requires items { AllPass (λ x. M.is_item (E.item x)) a.now }
+    requires room { vec_len sums.old + (next - first) ≤ vec_capacity sums.old }
+    ensures { sums.new.items
+        ≡ sums.old.items ++ slice_range (reduces_of M.join M.unit d.now (map E.item a.now)) first next }
+{
+    if first == next {
+        return;
+    }
+    let end = d.start(first) + d.length(first);
+    let (_, rest) = a.split_at(from);
+    let (front, others) = rest.split_at(end - from);
+    sums.push_reserved(sum_readings_from::<M, X, E>(before, front));
+    push_reduces::<M, X, E, B>(sums, &d.lengths()[first + 1..next], others);
+}
+
+/// The sum of the run from place `from` to the one before place `to`, of what the elements are read as. It is as
+/// [`sum_of_run`], which has more to say.
+pub(crate) fn sum_of_readings<M: Monoid, X: Copy, E: Reading<X, M::Item>, A: Allocator>(
+    a: &[X],
+    d: &SegDes<A>,
+    from: usize,
+    to: usize,
+    before: M::Item,
+) -> (bool, M::Item)
+    requires total { sum d.now ≡ length a.now }
+    requires in_order { from ≤ to }
+    requires within { to ≤ length a.now }
+    requires before { IsTrue (M.is_item before) }
+    requires items { AllPass (λ x. M.is_item (E.item x)) a.now }
+    ensures { result ≡ fold_of (seg_join M.join) (false, before) (run_of d.now (map E.item a.now) from to) }
+{
+    know_laws::<M>();
+    let first = d.starts_before(from);
+    let next = d.starts_before(to);
+    if first < next {
+        let start = d.start(next - 1);
+        return (true, sum_readings_from::<M, X, E>(M::unit(), &a[start..to]));
+    }
+    (false, sum_readings_from::<M, X, E>(before, &a[from..to]))
 }
 
 /// The sum of the run from place `from` to the one before place `to`: whether a segment starts in it, and what its
@@ -77,7 +144,7 @@ pub(crate) fn reduces_of_segments<M: Monoid, X: Copy, E: Reading<X, M::Item>, A:
 /// monoid, as all elements must. The sum is the run's fold under [`Seg`](cvl_base::Seg), so the sums of runs one after
 /// another can be joined by it. It reads no element before the last start, and takes no memory. Source: Blelloch's
 /// segmented scans.
-pub fn sum_of_run<M: Monoid, A: Memory>(
+pub fn sum_of_run<M: Monoid, A: Allocator>(
     a: &[M::Item],
     d: &SegDes<A>,
     from: usize,
@@ -91,14 +158,35 @@ pub fn sum_of_run<M: Monoid, A: Memory>(
     requires items { AllPass M.is_item a.now }
     ensures { result ≡ fold_of (seg_join M.join) (false, before) (run_of d.now a.now from to) }
 {
+    sum_of_readings::<M, M::Item, Itself, A>(a, d, from, to, before)
+}
+
+/// Pushes the scan of the run from place `from` to the one before place `to`, of what the elements are read as. It is as
+/// [`scan_of_run`] makes it. There must be room for it.
+pub(crate) fn push_scan_of_run<
+    M: Monoid,
+    X: Copy,
+    E: Reading<X, M::Item>,
+    A: Allocator,
+    B: Allocator,
+>(sums: &mut Vec<M::Item, B>, a: &[X], d: &SegDes<A>, from: usize, to: usize, before: M::Item)
+    requires total { sum d.now ≡ length a.now }
+    requires in_order { from ≤ to }
+    requires within { to ≤ length a.now }
+    requires before { IsTrue (M.is_item before) }
+    requires items { AllPass (λ x. M.is_item (E.item x)) a.now }
+    requires room { vec_len sums.old + (to - from) ≤ vec_capacity sums.old }
+    ensures values { sums.new.items
+        ≡ sums.old.items ++ run_scan_of M.join M.unit before (run_of d.now (map E.item a.now) from to) }
+    ensures as_long { vec_len sums.new ≡ vec_len sums.old + (to - from) }
+{
     know_laws::<M>();
     let first = d.starts_before(from);
     let next = d.starts_before(to);
-    if first < next {
-        let start = d.start(next - 1);
-        return (true, sum_from::<M>(M::unit(), &a[start..to]));
-    }
-    (false, sum_from::<M>(before, &a[from..to]))
+    let start = start_or_total(d, first);
+    let (front, rest) = a[from..to].split_at(start.min(to) - from);
+    push_scan_readings_from::<M, X, E, B>(sums, before, front);
+    push_scans::<M, X, E, B>(sums, &d.lengths()[first..next], rest);
 }
 
 /// The scan of the run from place `from` to the one before place `to`: for each of its elements, what the elements
@@ -106,7 +194,7 @@ pub fn sum_of_run<M: Monoid, A: Memory>(
 ///
 /// `before` is what the elements of the first segment that stand before the run join to. It must be an item of the
 /// monoid, as all elements must. The result is as long as the run. Source: Blelloch's segmented scans.
-pub fn scan_of_run<M: Monoid, A: Memory>(
+pub fn scan_of_run<M: Monoid, A: Allocator>(
     alloc: A,
     a: &[M::Item],
     d: &SegDes<A>,
@@ -123,13 +211,7 @@ pub fn scan_of_run<M: Monoid, A: Memory>(
         ≡ run_scan_of M.join M.unit before (run_of d.now a.now from to)) }
     ensures as_long { IfOk result (λ sums. vec_len sums ≡ to - from) }
 {
-    know_laws::<M>();
     let mut sums = Vec::with_capacity(alloc, to - from)?;
-    let first = d.starts_before(from);
-    let next = d.starts_before(to);
-    let start = start_or_total(d, first);
-    let (front, rest) = a[from..to].split_at(start.min(to) - from);
-    push_scan_from::<M, A>(&mut sums, before, front);
-    push_scans::<M, A>(&mut sums, &d.lengths()[first..next], rest);
+    push_scan_of_run::<M, M::Item, Itself, A, A>(&mut sums, a, d, from, to, before);
     Ok(sums)
 }

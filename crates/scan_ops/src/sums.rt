@@ -6,28 +6,79 @@ ghost use Rattle.cvl_base.specs.Folds.{fold_of};
 ghost use Rattle.cvl_base.specs.Gives.{Gives};
 ghost use Rattle.cvl_base.specs.SegmentedCalls.{seg_reduce_of};
 
-use crate::plain::{sum_from, sum_readings_from};
+use crate::flat_tiles::{Flat, FlatReduce};
+use crate::plain::sum_readings_from;
+use crate::race::race;
 use crate::readings::{Itself, Reading};
-use crate::runs::reduces_of_segments;
+use crate::runs::push_reduces_of_run;
+use crate::segmented_tiles::{Segmented, SegmentedReduce};
+use crew::{Gate, OpenGate};
+use cvl_base::limits::MOST_ELEMENTS;
 use cvl_base::monoid::know_laws;
-use cvl_base::{Config, Memory, Monoid, NoResources, Refused};
+use cvl_base::{Config, Memory, Monoid, NoResources, Packed, Refused};
 use segdes::{SegDes, check_total};
 use std::thread::Threads;
 
 /// The elements joined from left to right, and the unit where there are none.
 ///
 /// The elements must be items of the monoid. Source: CVL's reduces.
-pub fn reduce<R: Threads + Sync, A: Memory, M: Monoid>(
-    _rt: &R,
-    _alloc: A,
-    _config: Config,
+pub fn reduce<R: Threads + Sync, A: Memory, M: Packed + Send + Sync>(
+    rt: &R,
+    alloc: A,
+    config: Config,
     a: &[M::Item],
 ) -> Result<M::Item, NoResources>
+where
+    M::Item: Send + Sync,
     requires items { AllPass M.is_item a.now }
     ensures { IfOk result (λ sum. sum ≡ fold_of M.join M.unit a.now) }
 {
+    reduce_gated::<R, A, M, OpenGate>(rt, alloc, config, a, &OpenGate)
+}
+
+/// The same as [`reduce`], by workers that pass a gate at each point of their way through a tile.
+pub fn reduce_gated<R: Threads + Sync, A: Memory, M: Packed + Send + Sync, G: Gate>(
+    rt: &R,
+    alloc: A,
+    config: Config,
+    a: &[M::Item],
+    gate: &G,
+) -> Result<M::Item, NoResources>
+where
+    M::Item: Send + Sync,
+    requires items { AllPass M.is_item a.now }
+    ensures { IfOk result (λ sum. sum ≡ fold_of M.join M.unit a.now) }
+{
+    reduce_in_tiles::<R, A, M, M::Item, Itself, G>(rt, alloc, config, a, gate)
+}
+
+/// What the elements are read as, joined from left to right, and the unit where there are none, tile by tile. A vector that
+/// has no tile, or more elements than the tiles of a board may have, is walked at once.
+fn reduce_in_tiles<R, A, M, X, E, G>(
+    rt: &R,
+    alloc: A,
+    config: Config,
+    a: &[X],
+    gate: &G,
+) -> Result<M::Item, NoResources>
+where
+    R: Threads + Sync,
+    A: Memory,
+    M: Packed + Send + Sync,
+    M::Item: Send + Sync,
+    X: Copy + Send + Sync,
+    E: Reading<X, M::Item> + Send + Sync,
+    G: Gate,
+    requires items { AllPass (λ x. M.is_item (E.item x)) a.now }
+    ensures { IfOk result (λ sum. sum ≡ fold_of M.join M.unit (map E.item a.now)) }
+{
     know_laws::<M>();
-    Ok(sum_from::<M>(M::unit(), a))
+    if a.is_empty() || a.len() > MOST_ELEMENTS {
+        return Ok(sum_readings_from::<M, X, E>(M::unit(), a));
+    }
+    let flat = Flat::<M, X, E>::new(a, config.tile());
+    let reduces = race(rt, alloc, config, &FlatReduce { flat }, gate)?;
+    Ok(reduces[0])
 }
 
 /// What the elements are read as, joined from left to right, and the unit where there are none. It takes no memory.
@@ -45,37 +96,97 @@ pub fn reduce_readings<M: Monoid, X: Copy, E: Reading<X, M::Item>>(a: &[X]) -> M
 ///
 /// The elements must be items of the monoid. The result has one element for each segment. LengthMismatch, without a
 /// place, where the segments' total is not the number of elements. Source: CVL's segmented reduces.
-pub fn seg_reduce<R: Threads + Sync, A: Memory, M: Monoid>(
+pub fn seg_reduce<R: Threads + Sync, A: Memory, M: Packed + Send + Sync>(
     rt: &R,
     alloc: A,
     config: Config,
     a: &[M::Item],
     d: &SegDes<A>,
 ) -> Result<Vec<M::Item, A>, Refused>
+where
+    M::Item: Send + Sync,
     requires items { AllPass M.is_item a.now }
     ensures values { Gives (λ sums. sums.items) result (seg_reduce_of M.join M.unit a.now d.now) }
     ensures one_each { IfOk result (λ sums. vec_len sums ≡ length d.now) }
 {
-    seg_reduce_readings::<R, A, M, M::Item, Itself>(rt, alloc, config, a, d)
+    seg_reduce_gated::<R, A, M, OpenGate>(rt, alloc, config, a, d, &OpenGate)
+}
+
+/// The same as [`seg_reduce`], by workers that pass a gate at each point of their way through a tile.
+pub fn seg_reduce_gated<R: Threads + Sync, A: Memory, M: Packed + Send + Sync, G: Gate>(
+    rt: &R,
+    alloc: A,
+    config: Config,
+    a: &[M::Item],
+    d: &SegDes<A>,
+    gate: &G,
+) -> Result<Vec<M::Item, A>, Refused>
+where
+    M::Item: Send + Sync,
+    requires items { AllPass M.is_item a.now }
+    ensures values { Gives (λ sums. sums.items) result (seg_reduce_of M.join M.unit a.now d.now) }
+    ensures one_each { IfOk result (λ sums. vec_len sums ≡ length d.now) }
+{
+    seg_reduce_in_tiles::<R, A, M, M::Item, Itself, G>(rt, alloc, config, a, d, gate)
 }
 
 /// For each segment what its elements are read as, joined from left to right, and the unit where it is empty.
 ///
 /// The elements must be read as items of the monoid. The result has one element for each segment. LengthMismatch, without
 /// a place, where the segments' total is not the number of elements. Source: CVL's segmented reduces.
-pub fn seg_reduce_readings<
+pub fn seg_reduce_readings<R, A, M, X, E>(
+    rt: &R,
+    alloc: A,
+    config: Config,
+    a: &[X],
+    d: &SegDes<A>,
+) -> Result<Vec<M::Item, A>, Refused>
+where
     R: Threads + Sync,
     A: Memory,
-    M: Monoid,
-    X: Copy,
-    E: Reading<X, M::Item>,
->(_rt: &R, alloc: A, _config: Config, a: &[X], d: &SegDes<A>) -> Result<Vec<M::Item, A>, Refused>
+    M: Packed + Send + Sync,
+    M::Item: Send + Sync,
+    X: Copy + Send + Sync,
+    E: Reading<X, M::Item> + Send + Sync,
     requires items { AllPass (λ x. M.is_item (E.item x)) a.now }
     ensures values { Gives (λ sums. sums.items) result
         (seg_reduce_of M.join M.unit (map E.item a.now) d.now) }
     ensures one_each { IfOk result (λ sums. vec_len sums ≡ length d.now) }
 {
+    seg_reduce_in_tiles::<R, A, M, X, E, OpenGate>(rt, alloc, config, a, d, &OpenGate)
+}
+
+/// The reduces of the segments, of what their elements are read as, tile by tile.
+fn seg_reduce_in_tiles<R, A, M, X, E, G>(
+    rt: &R,
+    alloc: A,
+    config: Config,
+    a: &[X],
+    d: &SegDes<A>,
+    gate: &G,
+) -> Result<Vec<M::Item, A>, Refused>
+where
+    R: Threads + Sync,
+    A: Memory,
+    M: Packed + Send + Sync,
+    M::Item: Send + Sync,
+    X: Copy + Send + Sync,
+    E: Reading<X, M::Item> + Send + Sync,
+    G: Gate,
+    requires items { AllPass (λ x. M.is_item (E.item x)) a.now }
+    ensures values { Gives (λ sums. sums.items) result
+        (seg_reduce_of M.join M.unit (map E.item a.now) d.now) }
+    ensures one_each { IfOk result (λ sums. vec_len sums ≡ length d.now) }
+{
+    know_laws::<M>();
     check_total(a, d)?;
-    let sums = reduces_of_segments::<M, X, E, A>(alloc, a, d)?;
-    Ok(sums)
+    if a.is_empty() {
+        // there is no tile, but there may be segments
+        let mut units = Vec::with_capacity(alloc, d.count())?;
+        push_reduces_of_run::<M, X, E, A, A>(&mut units, a, d, 0, d.count(), 0, M::unit());
+        return Ok(units);
+    }
+    let vector = Segmented::<M, X, E, A>::new(a, d, config.tile());
+    let reduces = race(rt, alloc, config, &SegmentedReduce { vector }, gate)?;
+    Ok(reduces)
 }

@@ -6,5 +6,5 @@ mod pieces;
 mod plan;
 
 pub use laws::{plan_law, range_law, range_values};
-pub use pieces::{Piece, gather};
+pub use pieces::{Piece, gather, gather_tiles};
 pub use plan::Plan;

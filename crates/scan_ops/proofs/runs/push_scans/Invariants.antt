@@ -8,11 +8,12 @@ use Rattle.scan_ops.proofs.runs.push_scans.Given as goal
 abbrev pub invariant-loop-length : goal.invariant-loop-length
 invariant-loop-length g l =
     let m = g.M.Monoid in
+    let item = g.E.Reading.item in
     let lengths = map unsigned_abs l.lengths in
     record {
-      whole : l.sums.items ++ scans_of m.join m.unit (drop l.length-index lengths) l.rest ≡ l.fn.sums.items ++ scans_of m.join m.unit lengths l.xs;
+      whole : l.sums.items ++ scans_of m.join m.unit (drop l.length-index lengths) (map item l.rest) ≡ l.fn.sums.items ++ scans_of m.join m.unit lengths (map item l.xs);
       as_long : vec_len l.sums + length l.rest ≡ vec_len l.fn.sums + length l.xs;
       covered : length l.rest ≤ sum (drop l.length-index lengths);
       room : vec_len l.sums + length l.rest ≤ vec_capacity l.sums;
-      items : AllPass m.is_item l.rest;
+      items : AllPass (λ x. m.is_item (item x)) l.rest;
     }

@@ -1,37 +1,11 @@
-use Rattle.std.proofs.Common.{◌≡◌, ℕ, ◌+◌, ◌-◌, ◌<◌, ◌≤◌, ◌∙◌, true, false, length, take, drop, sym, ap, arith}
-use Rattle.std.specs.Prelude.{sum}
+use Rattle.std.proofs.Common.{false, ap, ◌∙◌}
+use Rattle.std.proofs.lemmas.List.{map-id}
 use Rattle.cvl_base.specs.Folds.{fold_of}
-use Rattle.segdes.specs.Starts.{start_of}
-use Rattle.scan_ops.proofs.Cut.{begins_by}
-use Rattle.scan_ops.proofs.LastStart.{run_summed, started_run_summed}
+use Rattle.cvl_base.specs.SegmentMonoid.{seg_join}
+use Rattle.scan_ops.specs.Runs.{run_of}
 use Rattle.scan_ops.proofs.runs.sum_of_run.Goals as goal
-
-pub returns-then-first-next : goal.returns-then-first-next
-returns-then-first-next g c =
-    let m = g.M.Monoid in
-    let d = c.args.d.now in
-    let xs = c.args.a.now in
-    let to = c.args.to in
-    let next = c.starts_before-next in
-    let s : ℕ = next.result - 1 in
-    let more : s + 1 ≡ next.result = omega (arith, c.if-first-next.true) in
-    let lt : s < length d = omega (arith, more, next.ensures.in_count) in
-    let reach : to ≤ start_of d next.result = begins_by d to next.result (omega (arith, c.requires.within, c.requires.total)) next.ensures.others in
-    ap (λ v. (true, v)) (c.sum_from.ensures ∙ ap (λ u. fold_of m.join u (take (to - c.start-start.result) (drop c.start-start.result xs))) c.unit.ensures)
-    ∙ ap (λ p. (true, fold_of m.join m.unit (take (to - p) (drop p xs)))) c.start-start.ensures.value
-    ∙ sym (started_run_summed c.know_laws.ensures d xs (false, c.args.before) c.args.from to s c.requires.within lt
-    (c.starts_before-first.ensures.others s (omega (arith, more, c.if-first-next.true)) lt)
-    (next.ensures.before s (omega (arith, more))) (omega (arith, reach, ap (start_of d) more)) c.requires.items)
 
 pub returns : goal.returns
 returns g c =
-    let d = c.args.d.now in
-    let first = c.starts_before-first in
-    let next = c.starts_before-next in
-    let fits : c.args.to ≤ sum d = omega (arith, c.requires.within, c.requires.total) in
-    let reach : c.args.to ≤ start_of d first.result = begins_by d c.args.to first.result fits (λ s ge lt. next.ensures.others s (omega (arith, ge, c.if-first-next.false)) lt) in
-    let k : ℕ = start_of d first.result - c.args.from in
-    let end : c.args.from + k ≡ start_of d first.result = omega (arith, reach, c.requires.in_order) in
-    ap (λ v. (false, v)) c.sum_from-2.ensures
-    ∙ sym (run_summed g.M.Monoid.join d c.args.a.now false c.args.before c.args.from c.args.to k first.result c.requires.in_order c.requires.within
-    first.ensures.in_count end (omega (arith, end, reach)) first.ensures.before)
+    c.sum_of_readings.ensures
+    ∙ ap (λ xs. fold_of (seg_join g.M.Monoid.join) (false, c.args.before) (run_of c.args.d.now xs c.args.from c.args.to)) (map-id c.args.a.now)
