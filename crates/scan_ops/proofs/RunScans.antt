@@ -1,9 +1,9 @@
 -- A part of a scan is the scan of that part, after what stands before it.
-use Rattle.std.proofs.Common.{◌≡◌, ℕ, zero, suc, ◌+◌, ◌-◌, ◌<◌, ◌≤◌, Bool, true, false, List, [], ◌∷◌, ◌++◌, length, take, drop, map, slice_range, refl, sym, ap, ◌∙◌, arith, inl, inr}
+use Rattle.std.proofs.Common.{◌≡◌, ℕ, zero, suc, ◌+◌, ◌-◌, ◌≤◌, Bool, true, false, List, [], ◌∷◌, ◌++◌, length, take, drop, slice_range, refl, sym, ap, ◌∙◌, arith, inl, inr}
 use Rattle.std.proofs.lemmas.Bool.Decides.{leb_tells}
-use Rattle.std.specs.Prelude.{if◌then◌else◌, sum}
+use Rattle.std.specs.Prelude.{if◌then◌else◌}
 use Rattle.std.specs.List.{AllPass}
-use Rattle.std.proofs.lemmas.List.{length-map, length-take, length-drop, take_all, drop_all, drop-take, take-take, take-map, drop-map, length-append, length-take-le}
+use Rattle.std.proofs.lemmas.List.{length-take, length-drop, take_all, drop_all, drop-take, take-take, take-map, drop-map, length-take-le}
 use Rattle.std.proofs.lemmas.List.Elements.{All-nil, All-cons, All-head, All-tail, All-append, All-take, All-drop, All-map}
 use Rattle.cvl_base.specs.Booleans.{either}
 use Rattle.cvl_base.specs.Folds.{fold_of, scan_of}

@@ -1,23 +1,22 @@
 -- A segmented vector in tiles: the sums of its tiles, the parts of its scan, and which tile gives which reduces.
-use Rattle.std.proofs.Common.{◌≡◌, ℕ, zero, suc, ◌+◌, ◌-◌, ◌*◌, ◌<◌, ◌≤◌, min, Bool, false, true, IsTrue, cond, eqb, List, [], ◌∷◌, ◌++◌, length, take, drop, map, get_or, slice_range, refl, sym, ap, subst, ◌∙◌, arith, inl, inr}
+use Rattle.std.proofs.Common.{◌≡◌, ℕ, zero, suc, ◌+◌, ◌-◌, ◌*◌, ◌<◌, ◌≤◌, min, Bool, false, IsTrue, cond, List, [], ◌∷◌, length, take, drop, get_or, slice_range, refl, sym, ap, subst, ◌∙◌, arith, inl, inr}
 use Rattle.std.specs.Prelude.{sum}
 use Rattle.std.specs.List.{AllPass, flat_map, range_with_len}
 use Rattle.std.proofs.lemmas.Bool.Decides.{eqb_tells, leb_tells}
 use Rattle.std.proofs.lemmas.List.{length-append, length-drop, length-take, take_all}
 use Rattle.std.proofs.lemmas.List.FromFn.{get_or-map-range_with_len, length-map-range_with_len}
-use Rattle.std.proofs.lemmas.List.Sums.{sum_by_more}
 use Rattle.operators.proofs.FoldLaws.{length-scan_of}
 use Rattle.cvl_base.specs.Folds.{fold_of, scan_of}
 use Rattle.cvl_base.specs.Monoid.{MonoidLaws}
 use Rattle.cvl_base.specs.SegmentMonoid.{is_seg_item, seg_unit, seg_join}
 use Rattle.segdes.specs.Starts.{start_of}
 use Rattle.tile_plan.specs.Ranges.{count_of, range_of}
-use Rattle.tile_plan.proofs.Numbers.{starts_within, ends_at}
-use Rattle.scan_ops.specs.Kernels.{tile_of, segmented_sums, sums_of, starts_before, first_left, reduces_at}
+use Rattle.tile_plan.proofs.Numbers.{starts_within}
+use Rattle.scan_ops.specs.Kernels.{tile_of, segmented_sums, starts_before, first_left, reduces_at}
 use Rattle.scan_ops.specs.Runs.{with_starts, run_of, run_scan_of, scans_of, reduces_of, IsOpenAt}
 use Rattle.scan_ops.proofs.Cut.{begins_by, segments_scanned, sum-cons}
-use Rattle.scan_ops.proofs.LastStart.{length-with_starts, started_run_summed}
-use Rattle.scan_ops.proofs.RunScans.{length-run_scan_of, run_of_is, run_scan_slice, with_starts-take, with_starts_passes}
+use Rattle.scan_ops.proofs.LastStart.{started_run_summed}
+use Rattle.scan_ops.proofs.RunScans.{run_of_is, run_scan_slice, with_starts-take, with_starts_passes}
 use Rattle.scan_ops.proofs.Tiled.{before_is_item, slices_joined, sums_before, sums_pass, tiles_joined}
 
 -- ---- how many segments start before a place

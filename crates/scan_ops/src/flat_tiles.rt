@@ -50,9 +50,12 @@ impl<'a, M: Packed, X: Copy, E: Reading<X, M::Item>> Flat<'a, M, X, E> {
 
     /// The number of tiles.
     fn count(&self) -> u32
-        ensures count { result ≡ length (flat_sums M.join M.unit self.now.plan (map E.item self.now.elements.now)) }
-        ensures few { length (flat_sums M.join M.unit self.now.plan (map E.item self.now.elements.now)) ≤ most_elements }
-        ensures items { AllPass (is_seg_item M.is_item) (flat_sums M.join M.unit self.now.plan (map E.item self.now.elements.now)) }
+        ensures count { result ≡ length (flat_sums M.join M.unit self.now.plan
+            (map E.item self.now.elements.now)) }
+        ensures few { length (flat_sums M.join M.unit self.now.plan
+            (map E.item self.now.elements.now)) ≤ most_elements }
+        ensures items { AllPass (is_seg_item M.is_item) (flat_sums M.join M.unit self.now.plan
+            (map E.item self.now.elements.now)) }
     {
         know_laws::<M>();
         self.plan.count()
@@ -71,7 +74,8 @@ impl<'a, M: Packed, X: Copy, E: Reading<X, M::Item>> Flat<'a, M, X, E> {
     /// The sum of tile `t`, in which no segment starts.
     fn sum(&self, t: u32) -> (bool, M::Item)
         requires { t < length (flat_sums M.join M.unit self.now.plan (map E.item self.now.elements.now)) }
-        ensures { result ≡ slice_index_or (flat_sums M.join M.unit self.now.plan (map E.item self.now.elements.now)) t (seg_unit M.unit) }
+        ensures { result ≡ slice_index_or (flat_sums M.join M.unit self.now.plan
+            (map E.item self.now.elements.now)) t (seg_unit M.unit) }
     {
         know_laws::<M>();
         (false, sum_readings_from::<M, X, E>(M::unit(), self.tile(t)))
@@ -105,7 +109,8 @@ impl<'a, M: Packed, X: Copy, E: Reading<X, M::Item>> Kernel for FlatScan<'a, M, 
     ghost use Rattle.cvl_base.specs.Folds.{scan_of};
     ghost use Rattle.scan_ops.specs.Kernels.{IsAtTile, flat_sums, tile_of};
 
-    ghost items = { λ k t. tile_of k.flat.plan.0 k.flat.plan.1 (scan_of M.join M.unit (map E.item k.flat.elements.now)) t };
+    ghost items = { λ k t. tile_of k.flat.plan.0 k.flat.plan.1 (scan_of M.join M.unit
+        (map E.item k.flat.elements.now)) t };
 
     fn len(&self) -> usize {
         self.flat.elements.len()
@@ -118,9 +123,11 @@ impl<'a, M: Packed, X: Copy, E: Reading<X, M::Item>> Kernel for FlatScan<'a, M, 
         before: (bool, M::Item),
         sum: (bool, M::Item),
     ) -> Result<Vec<M::Item, A>, NoResources>
-        requires { IsAtTile M.join M.unit (flat_sums M.join M.unit self.now.flat.plan (map E.item self.now.flat.elements.now)) t before sum }
+        requires { IsAtTile M.join M.unit (flat_sums M.join M.unit self.now.flat.plan
+            (map E.item self.now.flat.elements.now)) t before sum }
         ensures { IfOk result (λ made. made.items
-            ≡ tile_of self.now.flat.plan.0 self.now.flat.plan.1 (scan_of M.join M.unit (map E.item self.now.flat.elements.now)) t) }
+            ≡ tile_of self.now.flat.plan.0 self.now.flat.plan.1 (scan_of M.join M.unit
+            (map E.item self.now.flat.elements.now)) t) }
     {
         know_laws::<M>();
         let elements = self.flat.tile(t);
@@ -158,7 +165,8 @@ impl<'a, M: Packed, X: Copy, E: Reading<X, M::Item>> Kernel for FlatReduce<'a, M
     ghost use Rattle.scan_ops.specs.Kernels.{IsAtTile, flat_sums, reduce_at};
     ghost use Rattle.tile_plan.specs.Ranges.{count_of};
 
-    ghost items = { λ k t. reduce_at (count_of k.flat.plan.0 k.flat.plan.1) (fold_of M.join M.unit (map E.item k.flat.elements.now)) t };
+    ghost items = { λ k t. reduce_at (count_of k.flat.plan.0 k.flat.plan.1) (fold_of M.join M.unit
+        (map E.item k.flat.elements.now)) t };
 
     fn len(&self) -> usize {
         1
@@ -171,9 +179,11 @@ impl<'a, M: Packed, X: Copy, E: Reading<X, M::Item>> Kernel for FlatReduce<'a, M
         before: (bool, M::Item),
         sum: (bool, M::Item),
     ) -> Result<Vec<M::Item, A>, NoResources>
-        requires { IsAtTile M.join M.unit (flat_sums M.join M.unit self.now.flat.plan (map E.item self.now.flat.elements.now)) t before sum }
+        requires { IsAtTile M.join M.unit (flat_sums M.join M.unit self.now.flat.plan
+            (map E.item self.now.flat.elements.now)) t before sum }
         ensures { IfOk result (λ made. made.items
-            ≡ reduce_at (count_of self.now.flat.plan.0 self.now.flat.plan.1) (fold_of M.join M.unit (map E.item self.now.flat.elements.now)) t) }
+            ≡ reduce_at (count_of self.now.flat.plan.0 self.now.flat.plan.1) (fold_of M.join M.unit
+            (map E.item self.now.flat.elements.now)) t) }
     {
         know_laws::<M>();
         if t < self.flat.count() - 1 {

@@ -61,9 +61,12 @@ impl<'a, M: Packed, X: Copy, E: Reading<X, M::Item>, A: Allocator> Segmented<'a,
 
     /// The number of tiles.
     fn count(&self) -> u32
-        ensures count { result ≡ length (segmented_sums M.join M.unit self.now.plan self.now.segments.now (map E.item self.now.elements.now)) }
-        ensures few { length (segmented_sums M.join M.unit self.now.plan self.now.segments.now (map E.item self.now.elements.now)) ≤ most_elements }
-        ensures items { AllPass (is_seg_item M.is_item) (segmented_sums M.join M.unit self.now.plan self.now.segments.now (map E.item self.now.elements.now)) }
+        ensures count { result ≡ length (segmented_sums M.join M.unit self.now.plan self.now.segments.now
+            (map E.item self.now.elements.now)) }
+        ensures few { length (segmented_sums M.join M.unit self.now.plan self.now.segments.now
+            (map E.item self.now.elements.now)) ≤ most_elements }
+        ensures items { AllPass (is_seg_item M.is_item) (segmented_sums M.join M.unit self.now.plan self.now.segments.now
+            (map E.item self.now.elements.now)) }
     {
         know_laws::<M>();
         self.plan.count()
@@ -71,8 +74,10 @@ impl<'a, M: Packed, X: Copy, E: Reading<X, M::Item>, A: Allocator> Segmented<'a,
 
     /// The sum of tile `t`.
     fn sum(&self, t: u32) -> (bool, M::Item)
-        requires { t < length (segmented_sums M.join M.unit self.now.plan self.now.segments.now (map E.item self.now.elements.now)) }
-        ensures { result ≡ slice_index_or (segmented_sums M.join M.unit self.now.plan self.now.segments.now (map E.item self.now.elements.now)) t (seg_unit M.unit) }
+        requires { t < length (segmented_sums M.join M.unit self.now.plan self.now.segments.now
+            (map E.item self.now.elements.now)) }
+        ensures { result ≡ slice_index_or (segmented_sums M.join M.unit self.now.plan self.now.segments.now
+            (map E.item self.now.elements.now)) t (seg_unit M.unit) }
     {
         know_laws::<M>();
         let (from, to) = self.plan.range(t);
@@ -105,7 +110,8 @@ impl<'a, M: Packed, X: Copy, E: Reading<X, M::Item>, A: Allocator> Tiles
 
     type M = M;
 
-    ghost sums = { λ k. segmented_sums M.join M.unit k.vector.plan k.vector.segments.now (map E.item k.vector.elements.now) };
+    ghost sums = { λ k. segmented_sums M.join M.unit k.vector.plan k.vector.segments.now
+        (map E.item k.vector.elements.now) };
 
     fn count(&self) -> u32 {
         self.vector.count()
@@ -122,7 +128,8 @@ impl<'a, M: Packed, X: Copy, E: Reading<X, M::Item>, A: Allocator> Kernel
     ghost use Rattle.scan_ops.specs.Kernels.{IsAtTile, segmented_sums, tile_of};
     ghost use Rattle.scan_ops.specs.Runs.{scans_of};
 
-    ghost items = { λ k t. tile_of k.vector.plan.0 k.vector.plan.1 (scans_of M.join M.unit k.vector.segments.now (map E.item k.vector.elements.now)) t };
+    ghost items = { λ k t. tile_of k.vector.plan.0 k.vector.plan.1 (scans_of M.join M.unit k.vector.segments.now
+        (map E.item k.vector.elements.now)) t };
 
     fn len(&self) -> usize {
         self.vector.elements.len()
@@ -136,9 +143,11 @@ impl<'a, M: Packed, X: Copy, E: Reading<X, M::Item>, A: Allocator> Kernel
         sum: (bool, M::Item),
     ) -> Result<Vec<M::Item, B>, NoResources>
         requires { IsAtTile M.join M.unit
-            (segmented_sums M.join M.unit self.now.vector.plan self.now.vector.segments.now (map E.item self.now.vector.elements.now)) t before sum }
+            (segmented_sums M.join M.unit self.now.vector.plan self.now.vector.segments.now
+            (map E.item self.now.vector.elements.now)) t before sum }
         ensures { IfOk result (λ made. made.items
-            ≡ tile_of self.now.vector.plan.0 self.now.vector.plan.1 (scans_of M.join M.unit self.now.vector.segments.now (map E.item self.now.vector.elements.now)) t) }
+            ≡ tile_of self.now.vector.plan.0 self.now.vector.plan.1 (scans_of M.join M.unit
+            self.now.vector.segments.now (map E.item self.now.vector.elements.now)) t) }
     {
         know_laws::<M>();
         let (from, to) = self.vector.plan.range(t);
@@ -163,7 +172,8 @@ impl<'a, M: Packed, X: Copy, E: Reading<X, M::Item>, A: Allocator> Tiles
 
     type M = M;
 
-    ghost sums = { λ k. segmented_sums M.join M.unit k.vector.plan k.vector.segments.now (map E.item k.vector.elements.now) };
+    ghost sums = { λ k. segmented_sums M.join M.unit k.vector.plan k.vector.segments.now
+        (map E.item k.vector.elements.now) };
 
     fn count(&self) -> u32 {
         self.vector.count()
@@ -179,7 +189,8 @@ impl<'a, M: Packed, X: Copy, E: Reading<X, M::Item>, A: Allocator> Kernel
     ghost use Rattle.std.specs.Prelude.{IfOk};
     ghost use Rattle.scan_ops.specs.Kernels.{IsAtTile, reduces_at, segmented_sums};
 
-    ghost items = { λ k t. reduces_at M.join M.unit k.vector.plan k.vector.segments.now (map E.item k.vector.elements.now) t };
+    ghost items = { λ k t. reduces_at M.join M.unit k.vector.plan k.vector.segments.now
+        (map E.item k.vector.elements.now) t };
 
     fn len(&self) -> usize {
         self.vector.segments.count()
@@ -193,9 +204,11 @@ impl<'a, M: Packed, X: Copy, E: Reading<X, M::Item>, A: Allocator> Kernel
         sum: (bool, M::Item),
     ) -> Result<Vec<M::Item, B>, NoResources>
         requires { IsAtTile M.join M.unit
-            (segmented_sums M.join M.unit self.now.vector.plan self.now.vector.segments.now (map E.item self.now.vector.elements.now)) t before sum }
+            (segmented_sums M.join M.unit self.now.vector.plan self.now.vector.segments.now
+            (map E.item self.now.vector.elements.now)) t before sum }
         ensures { IfOk result (λ made. made.items
-            ≡ reduces_at M.join M.unit self.now.vector.plan self.now.vector.segments.now (map E.item self.now.vector.elements.now) t) }
+            ≡ reduces_at M.join M.unit self.now.vector.plan self.now.vector.segments.now
+            (map E.item self.now.vector.elements.now) t) }
     {
         know_laws::<M>();
         let first = self.vector.first_segment(t);

@@ -1,4 +1,4 @@
-use Rattle.std.proofs.Common.{◌≡◌, take, length}
+use Rattle.std.proofs.Common.{◌≡◌, take}
 use Rattle.std.specs.List.{flat_map, range_with_len}
 use Rattle.cvl_base.specs.Folds.{fold_of}
 use Rattle.cvl_base.specs.SegmentMonoid.{seg_unit, seg_join}

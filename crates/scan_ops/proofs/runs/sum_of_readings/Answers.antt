@@ -1,7 +1,6 @@
 use Rattle.std.proofs.Common.{◌≡◌, ℕ, ◌+◌, ◌-◌, ◌<◌, ◌≤◌, ◌∙◌, true, false, length, map, take, drop, sym, ap, arith}
 use Rattle.std.specs.Prelude.{sum}
-use Rattle.std.specs.List.{AllPass}
-use Rattle.std.proofs.lemmas.List.{drop-map, length-map, take-map}
+use Rattle.std.proofs.lemmas.List.{length-map}
 use Rattle.std.proofs.lemmas.List.Elements.{All-map}
 use Rattle.cvl_base.specs.Folds.{fold_of}
 use Rattle.segdes.specs.Starts.{start_of}

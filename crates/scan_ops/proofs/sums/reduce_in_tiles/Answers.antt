@@ -1,11 +1,10 @@
-use Rattle.std.proofs.Common.{◌≡◌, ◌≤◌, ◌<◌, ◌∷◌, [], get_or, arith, length, map, sym, ap, ◌∙◌}
+use Rattle.std.proofs.Common.{◌≡◌, ◌<◌, ◌∷◌, [], get_or, arith, length, map, sym, ap, ◌∙◌}
 use Rattle.std.specs.List.{flat_map, range_with_len}
-use Rattle.std.proofs.lemmas.List.{length-map}
 use Rattle.cvl_base.specs.Folds.{fold_of}
 use Rattle.tile_plan.specs.Ranges.{count_of}
 use Rattle.scan_ops.specs.Kernels.{reduce_at}
 use Rattle.scan_ops.proofs.Tiled.{filled_by_test, some_tile}
-use Rattle.scan_ops.proofs.FlatTiles.{flat_reduces_joined, items_read, length-flat_sums}
+use Rattle.scan_ops.proofs.FlatTiles.{flat_reduces_joined, length-flat_sums}
 use Rattle.scan_ops.proofs.sums.reduce_in_tiles.Goals as goal
 
 pub index-requires : goal.index-requires

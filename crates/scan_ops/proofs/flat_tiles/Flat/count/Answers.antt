@@ -1,5 +1,4 @@
 use Rattle.std.proofs.Common.{arith, map, sym, ◌∙◌}
-use Rattle.tile_plan.specs.Ranges.{count_of}
 use Rattle.scan_ops.proofs.FlatTiles.{flat_sums_pass, items_read, length-flat_sums}
 use Rattle.scan_ops.proofs.flat_tiles.Flat.count.Goals as goal
 

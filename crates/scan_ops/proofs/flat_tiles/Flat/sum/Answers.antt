@@ -1,4 +1,4 @@
-use Rattle.std.proofs.Common.{◌≡◌, ◌<◌, arith, false, map, sym, ap, ◌∙◌}
+use Rattle.std.proofs.Common.{◌<◌, arith, false, map, sym, ap, ◌∙◌}
 use Rattle.cvl_base.specs.Folds.{fold_of}
 use Rattle.tile_plan.specs.Ranges.{count_of}
 use Rattle.scan_ops.proofs.FlatTiles.{flat_sum_at, length-flat_sums, tile_read}

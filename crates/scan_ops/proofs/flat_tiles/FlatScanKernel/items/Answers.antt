@@ -1,4 +1,4 @@
-use Rattle.std.proofs.Common.{◌≡◌, ◌<◌, ◌++◌, arith, map, sym, ap, ◌∙◌}
+use Rattle.std.proofs.Common.{◌++◌, arith, map, sym, ap, ◌∙◌}
 use Rattle.cvl_base.specs.Folds.{scan_of}
 use Rattle.scan_ops.proofs.FlatTiles.{flat_before_is_item, flat_scanned, items_read, length-flat_sums, tile_read}
 use Rattle.scan_ops.proofs.flat_tiles.FlatScanKernel.items.Goals as goal

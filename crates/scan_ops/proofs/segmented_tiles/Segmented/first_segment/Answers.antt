@@ -1,4 +1,4 @@
-use Rattle.std.proofs.Common.{◌≡◌, ◌<◌, ◌-◌, arith, sym, ap, ◌∙◌}
+use Rattle.std.proofs.Common.{◌<◌, ◌-◌, arith, sym, ap, ◌∙◌}
 use Rattle.tile_plan.specs.Ranges.{count_of}
 use Rattle.scan_ops.specs.Kernels.{starts_before}
 use Rattle.scan_ops.proofs.SegmentedTiles.{first_left_at_end, first_left_within, starts_are}

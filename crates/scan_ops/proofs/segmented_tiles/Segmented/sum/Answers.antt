@@ -1,4 +1,4 @@
-use Rattle.std.proofs.Common.{◌≡◌, ◌<◌, arith, false, map, sym, ap, ◌∙◌}
+use Rattle.std.proofs.Common.{◌<◌, arith, false, map, sym, ap, ◌∙◌}
 use Rattle.cvl_base.specs.Folds.{fold_of}
 use Rattle.cvl_base.specs.SegmentMonoid.{seg_join}
 use Rattle.tile_plan.specs.Ranges.{count_of}

@@ -1,7 +1,7 @@
-use Rattle.std.proofs.Common.{◌≡◌, ◌+◌, ◌*◌, ◌<◌, ◌≤◌, ◌++◌, arith, rules, length, map, sym, ap, subst, slice_range, ◌∙◌}
+use Rattle.std.proofs.Common.{◌+◌, ◌*◌, ◌<◌, ◌≤◌, ◌++◌, arith, rules, length, map, sym, ap, subst, slice_range, ◌∙◌}
 use Rattle.std.proofs.lemmas.List.{length-map}
 use Rattle.std.proofs.Math.Nat.{mul-le-mul_left}
-use Rattle.tile_plan.specs.Ranges.{count_of, range_of}
+use Rattle.tile_plan.specs.Ranges.{count_of}
 use Rattle.tile_plan.proofs.Numbers.{starts_within}
 use Rattle.scan_ops.specs.Kernels.{first_left}
 use Rattle.scan_ops.specs.Runs.{IsOpenAt, reduces_of}

@@ -1,4 +1,4 @@
-use Rattle.std.proofs.Common.{◌≡◌, ◌<◌, ◌++◌, arith, map, sym, ap, ◌∙◌}
+use Rattle.std.proofs.Common.{◌++◌, arith, map, sym, ap, ◌∙◌}
 use Rattle.scan_ops.specs.Runs.{run_of, run_scan_of}
 use Rattle.scan_ops.proofs.FlatTiles.{all_read_pass, items_read}
 use Rattle.scan_ops.proofs.SegmentedTiles.{length-segmented_sums, segmented_before_is_item, segmented_scanned}
