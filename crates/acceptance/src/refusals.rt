@@ -23,6 +23,9 @@ enum Ended {
 /// So many elements that the texts grow more than once.
 const COUNT: usize = 3_000;
 
+/// The length of a tile: such vectors have three, one for each worker, so that a scan makes few requests.
+const TILE: u32 = 1_000;
+
 /// A long comment, and a call of every family, with every kind of value that a line makes or shows.
 const SCRIPT: &[u8] = b"# sixteen bytes and more of a comment, which no call reads
 l = input 1
@@ -114,7 +117,7 @@ fn run_on<R: Threads + Sync, A: Memory>(
     inputs: &[&str],
     text: &[u8],
 ) -> Result<Ended, NoResources> {
-    let config = Config::new(2, 3).unwrap();
+    let config = Config::new(TILE, 3).unwrap();
     let mut sink = MemSink::with_room(heap, text.len())?;
     let inputs = inputs_of(heap, inputs)?;
     let ended = match run(rt, heap, config, script, inputs, &mut sink) {
