@@ -1,5 +1,5 @@
-//! Measures scans and reduces, flat and by segments, beside plain loops of one thread. It does so where its argument is
-//! the word `measure`, and else it does nothing.
+//! Measures scans and reduces, flat and by segments, beside plain loops of one thread. It does so where its first argument
+//! is the word `measure`, with as many workers as the second one says, or four, and else it does nothing.
 #![tactic(auto)]
 
 mod plain;
@@ -240,12 +240,19 @@ fn main(rt: HostRuntime) -> io::Result<()> {
     let Some(word) = arguments.next() else {
         return Ok(());
     };
-    if word.as_str() == "measure" {
-        if let Ok(config) = Config::new(4096, 4) {
-            for length in [4_194_304, 65_536, 1_000] {
-                measure_length(&rt, rt.alloc(), config, length)?;
-            }
-        }
+    if word.as_str() != "measure" {
+        return Ok(());
+    }
+    let workers = match arguments.next() {
+        Some(number) => number.as_str().parse::<u32>().unwrap_or(0),
+        None => 4,
+    };
+    let Ok(config) = Config::new(4096, workers) else {
+        println!(&rt; "the number of workers is from 1 to 64")?;
+        return Ok(());
+    };
+    for length in [4_194_304, 65_536, 1_000] {
+        measure_length(&rt, rt.alloc(), config, length)?;
     }
     Ok(())
 }
