@@ -25,10 +25,12 @@ pub record IsGathered {X : Type 0} (len tile : ℕ) (pieces : List (ℕ × List 
   pub as_long : length whole ≡ len
   pub in_place : All (λ p. slice_range whole (range_of len tile p.0).0 (range_of len tile p.0).1 ≡ p.1) pieces
 
--- what a list is that is made of pieces: all tiles, one after another, wherever the pieces are those of what the tiles are made into
+-- a list that is made of pieces: where they are the pieces of all tiles, it is what the tiles are made into, in order
 abbrev pub IsWholeOfTiles : {X : Type 0} → List (ℕ × List X) → List X → Type 0
-IsWholeOfTiles {X} pieces whole = (count : ℕ) (made : ℕ → List X) → AreOfTiles count made pieces → whole ≡ in_order_of_tiles count made
+IsWholeOfTiles {X} pieces whole = (count : ℕ) (made : ℕ → List X) → AreOfTiles count made pieces
+    → whole ≡ in_order_of_tiles count made
 
--- the same of pieces that are as long as the tiles of a plan: each stands at the range of its tile
+-- the same where each piece is as long as its tile of a plan: it stands at the range of its tile
 abbrev pub IsWholeOfRanges : {X : Type 0} → List (ℕ × List X) → List X → Type 0
-IsWholeOfRanges pieces whole = (len tile : ℕ) → 1 ≤ tile → AreAllPieces len tile pieces → IsGathered len tile pieces whole
+IsWholeOfRanges pieces whole = (len tile : ℕ) → 1 ≤ tile → AreAllPieces len tile pieces
+    → IsGathered len tile pieces whole
