@@ -1,18 +1,16 @@
 -- The front of a list that a plan cuts into tiles, up to the end of a tile.
 -- Source: what the definitions of Ranges imply.
-use Rattle.std.proofs.Common.{◌≡◌, sym, ap, ◌∙◌, ℕ, zero, suc, ◌+◌, ◌*◌, ◌<◌, ◌≤◌, List, [], ◌∷◌, ◌++◌, length, take, drop, get_or, min, arith, length-append}
-use Rattle.std.proofs.lemmas.List.{take-append-drop, take_more, append-nil}
+use Rattle.std.proofs.Common.{◌≡◌, sym, ap, ◌∙◌, ℕ, zero, suc, ◌+◌, ◌*◌, ◌<◌, ◌≤◌, List, [], ◌++◌, length, take, drop, get_or, min, arith, length-append}
+use Rattle.std.proofs.lemmas.List.{take-append-drop}
 use Rattle.std.proofs.lemmas.List.Concat.{flat_map-append}
 use Rattle.std.proofs.Math.Seq.{take-append_seam}
 use Rattle.cvl_base.specs.Lists.{joined}
 use Rattle.tile_plan.specs.Ranges.{count_of, range_of, IsCutBy}
+use Rattle.tile_plan.proofs.Fronts.{next_of_front}
 use Rattle.tile_plan.proofs.Numbers.{ends_at}
 
 joined_more : {Element : Type 0} (tiles : List (List Element)) (t : ℕ) → t < length tiles → joined (take (t + 1) tiles) ≡ joined (take t tiles) ++ get_or tiles t []
-joined_more tiles t within =
-    ap joined (take_more tiles t [] within)
-    ∙ flat_map-append (λ xs. xs) (take t tiles) (get_or tiles t [] ∷ [])
-    ∙ ap (λ xs. joined (take t tiles) ++ xs) (append-nil (get_or tiles t []))
+joined_more tiles t within = next_of_front (λ xs. xs) tiles t [] within
 
 -- the tiles before tile t are as long as the places before it
 pub length_before : {Element : Type 0} (len tile : ℕ) (xs : List Element) (tiles : List (List Element)) → 1 ≤ tile → IsCutBy len tile xs tiles → (t : ℕ) → t ≤ count_of len tile → length (joined (take t tiles)) ≡ min len (t * tile)

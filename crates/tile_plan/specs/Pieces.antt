@@ -1,6 +1,6 @@
 -- Pieces of a list, each the number of a tile and the tile's elements, and the list that they make.
 -- Source: the tiles of Merrill and Garland, Single-pass Parallel Prefix Scan with Decoupled Look-back, 2016, which end in any order.
-use Rattle.std.specs.Prelude.{◌≡◌, ℕ, ◌<◌, ◌==◌, List, length}
+use Rattle.std.specs.Prelude.{◌≡◌, ℕ, ◌<◌, ◌≤◌, ◌==◌, List, length}
 use Rattle.std.specs.List.{All, count_by, flat_map, range_with_len, slice_range}
 use Rattle.tile_plan.specs.Ranges.{count_of, range_of, length_of}
 
@@ -24,3 +24,13 @@ in_order_of_tiles count made = flat_map made (range_with_len 0 count)
 pub record IsGathered {X : Type 0} (len tile : ℕ) (pieces : List (ℕ × List X)) (whole : List X) : Type 0 where
   pub as_long : length whole ≡ len
   pub in_place : All (λ p. slice_range whole (range_of len tile p.0).0 (range_of len tile p.0).1 ≡ p.1) pieces
+
+-- a list that is made of pieces: where they are the pieces of all tiles, it is what the tiles are made into, in order
+abbrev pub IsWholeOfTiles : {X : Type 0} → List (ℕ × List X) → List X → Type 0
+IsWholeOfTiles {X} pieces whole = (count : ℕ) (made : ℕ → List X) → AreOfTiles count made pieces
+    → whole ≡ in_order_of_tiles count made
+
+-- the same where each piece is as long as its tile of a plan: it stands at the range of its tile
+abbrev pub IsWholeOfRanges : {X : Type 0} → List (ℕ × List X) → List X → Type 0
+IsWholeOfRanges pieces whole = (len tile : ℕ) → 1 ≤ tile → AreAllPieces len tile pieces
+    → IsGathered len tile pieces whole

@@ -2,9 +2,11 @@
 #![tactic(auto)]
 
 mod laws;
+mod overwrite;
 mod pieces;
 mod plan;
 
 pub use laws::{plan_law, range_law, range_values};
+pub use overwrite::gather_over;
 pub use pieces::{Piece, gather, gather_tiles};
 pub use plan::Plan;
