@@ -1,9 +1,5 @@
-pub mod Cut
 pub mod FlatTiles
-pub mod LastStart
 pub mod RunScans
-pub mod Scanned
 pub mod Segmented
 pub mod SegmentedTiles
-pub mod SegmentReduces
 pub mod Tiled

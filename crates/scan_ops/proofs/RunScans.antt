@@ -8,9 +8,9 @@ use Rattle.std.proofs.lemmas.List.Elements.{All-nil, All-cons, All-head, All-tai
 use Rattle.cvl_base.specs.Booleans.{either}
 use Rattle.cvl_base.specs.Folds.{fold_of, scan_of}
 use Rattle.cvl_base.specs.SegmentMonoid.{is_seg_item, seg_join}
-use Rattle.scan_ops.specs.Runs.{continued, started, with_starts, run_of, run_scan_of}
-use Rattle.scan_ops.proofs.Cut.{length-started}
-use Rattle.scan_ops.proofs.Scanned.{scan_of-cons}
+use Rattle.scan_walks.specs.Runs.{continued, started, with_starts, run_of, run_scan_of}
+use Rattle.scan_walks.proofs.Cut.{length-started}
+use Rattle.scan_walks.proofs.Scanned.{scan_of-cons}
 
 module _ {Item : Type 0} (join : Item → Item → Item) (unit : Item) where
   run_scan-take : (before : Item) (n : ℕ) (run : List (Bool × Item)) → take n (run_scan_of join unit before run) ≡ run_scan_of join unit before (take n run)

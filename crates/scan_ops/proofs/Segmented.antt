@@ -1,13 +1,7 @@
--- Scans and reduces of segments, one segment after another.
-use Rattle.std.proofs.Common.{◌≡◌, ℕ, zero, suc, ◌-◌, ℤ, pos, to_z, of_z, w32, w64, Fits, ◌+◌, ◌<◌, ◌≤◌, min, List, [], ◌∷◌, ◌++◌, length, take, drop, map, get_or, refl, sym, ap, ◌∙◌, arith, inl, inr, Ok, Err}
-use Rattle.std.specs.Prelude.{not, sum, unsigned_abs}
-use Rattle.std.proofs.Math.Facts.{Fits-below}
+-- The scans and reduces of segments, where the lengths fit the elements and where they don't.
+use Rattle.std.proofs.Common.{◌≡◌, ℕ, ◌+◌, List, [], ◌∷◌, length, map, refl, ap, ◌∙◌, inl, inr, Ok, Err}
+use Rattle.std.specs.Prelude.{not, sum}
 use Rattle.std.proofs.lemmas.Bool.Decides.{eqb_tells}
-use Rattle.std.proofs.lemmas.List.{append_assoc, length-take, drop-map, take-map, drop-take, take-take, nil_from_length, length-drop, drop_more, take_all, drop_all, take_min, drop_min}
-use Rattle.std.proofs.lemmas.List.Sums.{sum_by-cons, sum_by-take-drop}
-use Rattle.std.specs.Int.{IsNonNegative}
-use Rattle.cvl_base.specs.Descriptors.{AreLengths}
-use Rattle.cvl_base.specs.Limits.{most_elements}
 use Rattle.cvl_base.specs.declared.fault.Fault.{Fault}
 use Rattle.cvl_base.specs.declared.fault.FaultNo.TheVariants as no
 use Rattle.cvl_base.specs.Faults.{fault}
@@ -17,11 +11,7 @@ use Rattle.cvl_base.specs.Lists.{joined}
 use Rattle.cvl_base.specs.Nests.{cut_of, nest}
 use Rattle.cvl_base.specs.Segmented.{in_vector, results_from, one_each, end_to_end}
 use Rattle.cvl_base.specs.SegmentedCalls.{seg_scan_of, seg_reduce_of}
-use Rattle.segdes.proofs.Sums.{abs_pos, cast_fits, length_at}
-use Rattle.segdes.specs.Starts.{start_of}
-use Rattle.scan_ops.specs.Runs.{scans_of, reduces_of}
-
--- ---- the definitions at lengths that fit
+use Rattle.scan_walks.specs.Runs.{scans_of, reduces_of}
 
 pub results-ok : {S R : Type 0} (place : ℕ → ℕ → ℕ) (f : S → R) (s : ℕ) (segments : List S) → results_from place (λ x. Ok (f x)) s segments ≡ Ok (map f segments)
 results-ok place f s [] = refl
@@ -50,119 +40,3 @@ module _ {Item : Type 0} (join : Item → Item → Item) (unit : Item) (xs : Lis
 
   pub seg_reduce-misfits : (f : Fault) → nest lengths xs ≡ Err f → seg_reduce_of join unit xs lengths ≡ Err f
   seg_reduce-misfits f misfits = ap (one_each (in_vector lengths) (λ ys. Ok (fold_of join unit ys))) misfits
-
--- ---- the step of a loop over the segments, which has scanned or reduced those before s and has `rest` left
-
-module _ {Item : Type 0} (join : Item → Item → Item) (unit : Item) (lengths : List ℕ) where
-  pub scans_more : (s n : ℕ) (rest : List Item) → s < length lengths → n ≡ get_or lengths s 0
-      → scans_of join unit (drop s lengths) rest ≡ scan_of join unit (take n rest) ++ scans_of join unit (drop (s + 1) lengths) (drop n rest)
-  scans_more s n rest lt is =
-      ap (λ ls. scans_of join unit ls rest) (drop_more lengths s 0 lt)
-      ∙ ap (λ m. scan_of join unit (take m rest) ++ scans_of join unit (drop (s + 1) lengths) (drop m rest)) (sym is)
-
-  -- where the last segment is cut short
-  pub scans_more_min : (s n : ℕ) (rest : List Item) → s < length lengths → n ≡ get_or lengths s 0
-      → scans_of join unit (drop s lengths) rest
-      ≡ scan_of join unit (take (min n (length rest)) rest) ++ scans_of join unit (drop (s + 1) lengths) (drop (min n (length rest)) rest)
-  scans_more_min s n rest lt is =
-      scans_more s n rest lt is
-      ∙ ap (λ front. scan_of join unit front ++ scans_of join unit (drop (s + 1) lengths) (drop n rest)) (sym (take_min n rest))
-      ∙ ap (λ others. scan_of join unit (take (min n (length rest)) rest) ++ scans_of join unit (drop (s + 1) lengths) others) (sym (drop_min n rest))
-
-  pub reduces_more : (s n : ℕ) (rest : List Item) → s < length lengths → n ≡ get_or lengths s 0
-      → reduces_of join unit (drop s lengths) rest ≡ fold_of join unit (take n rest) ∷ reduces_of join unit (drop (s + 1) lengths) (drop n rest)
-  reduces_more s n rest lt is =
-      ap (λ ls. reduces_of join unit ls rest) (drop_more lengths s 0 lt)
-      ∙ ap (λ m. fold_of join unit (take m rest) ∷ reduces_of join unit (drop (s + 1) lengths) (drop m rest)) (sym is)
-
-pub scans-none : {Item : Type 0} (join : Item → Item → Item) (unit : Item) (lengths : List ℕ) → scans_of join unit lengths [] ≡ []
-scans-none join unit [] = refl
-scans-none join unit (n ∷ ls) =
-    ap (λ front. scan_of join unit front ++ scans_of join unit ls (drop n [])) (take_all n [] (omega arith))
-    ∙ ap (λ others. scans_of join unit ls others) (drop_all n [] (omega arith))
-    ∙ scans-none join unit ls
-
--- segments that start after the elements' end change nothing
-pub scans_cut : {Item : Type 0} (join : Item → Item → Item) (unit : Item) (m : ℕ) (lengths : List ℕ) (xs : List Item) → length xs ≤ sum (take m lengths)
-    → scans_of join unit (take m lengths) xs ≡ scans_of join unit lengths xs
-scans_cut join unit zero lengths xs covered =
-    ap (λ ys. scans_of join unit [] ys) (nil_from_length xs (omega (arith, covered)))
-    ∙ sym (scans-none join unit lengths)
-    ∙ ap (λ ys. scans_of join unit lengths ys) (sym (nil_from_length xs (omega (arith, covered))))
-scans_cut join unit (suc m) [] xs covered = refl
-scans_cut join unit (suc m) (n ∷ ls) xs covered =
-    ap (λ sums. scan_of join unit (take n xs) ++ sums)
-    (scans_cut join unit m ls (drop n xs) (omega (arith, covered, sum_by-cons (λ x. x) n (take m ls), length-drop n xs)))
-
--- ---- the loops over the segments
-
--- the number at place s of a row, as a loop reads it and casts it
-abbrev pub read_at : List ℤ → ℕ → ℕ
-read_at row s = unsigned_abs (to_z w32 (of_z w32 (get_or row s (pos 0))))
-
-module _ (row : List ℤ) (lengths : List ℕ) (is : row ≡ map pos lengths) (are : AreLengths row) where
-  small : sum lengths ≤ most_elements
-  small = let kept : map unsigned_abs row ≡ lengths = ap (map unsigned_abs) is ∙ abs_pos lengths in omega (arith, are.in_limit, ap sum kept)
-
-  -- it is the length of segment s
-  pub length_read : (s : ℕ) → s < length row → read_at row s ≡ get_or lengths s 0
-  length_read s lt = ap unsigned_abs (length_at row s lengths is small lt)
-
-  pub length_fits : (s : ℕ) → s < length row → IsNonNegative (to_z w32 (of_z w32 (get_or row s (pos 0)))) × Fits w64 (read_at row s)
-  length_fits s lt = cast_fits w64 row s lengths is small lt (λ n le. Fits-below tt le)
-
--- a range of a descriptor's row is one of lengths
-pub range_read : (row : List ℤ) (lengths : List ℕ) (k m : ℕ) → row ≡ map pos lengths → map unsigned_abs (take m (drop k row)) ≡ take m (drop k lengths)
-range_read row lengths k m is =
-    ap (λ ns. map unsigned_abs (take m (drop k ns))) is
-    ∙ ap (map unsigned_abs) (ap (take m) (drop-map pos k lengths) ∙ take-map pos m (drop k lengths))
-    ∙ abs_pos (take m (drop k lengths))
-
-pub range_lengths : (row : List ℤ) (lengths : List ℕ) (k m : ℕ) → row ≡ map pos lengths → AreLengths row → AreLengths (take m (drop k row))
-range_lengths row lengths k m is are =
-    let ns = take m (drop k lengths) in
-    let read = range_read row lengths k m is in
-    record {
-      none_negative = ap (λ ks. take m (drop k ks)) is ∙ ap (take m) (drop-map pos k lengths) ∙ take-map pos m (drop k lengths) ∙ ap (map pos) (sym read);
-      few = omega (arith, are.few, length-take m (drop k row), length-drop k row);
-      in_limit = omega (arith, ap sum read, small row lengths is are, sum_by-take-drop (λ x. x) lengths k, sum_by-take-drop (λ x. x) (drop k lengths) m);
-    }
-
--- the segments from `first` on to the one before `next` have the elements between their starts
-pub range_sum : (lengths : List ℕ) (first next : ℕ) → first ≤ next → start_of lengths first + sum (take (next - first) (drop first lengths)) ≡ start_of lengths next
-range_sum lengths first next le =
-    let m : ℕ = next - first in
-    let end : first + m ≡ next = omega (arith, le) in
-    ap (λ ns. sum (take first lengths) + sum ns) (sym (drop-take first m lengths))
-    ∙ ap (λ ns. sum ns + sum (drop first (take (first + m) lengths))) (sym (take-take first (first + m) lengths (omega arith)))
-    ∙ sum_by-take-drop (λ x. x) (take (first + m) lengths) first
-    ∙ ap (start_of lengths) end
-
-module _ {Item : Type 0} (join : Item → Item → Item) (unit : Item) (lengths : List ℕ) where
-  pub scans_pushed : (sums pushed whole rest front others : List Item) (start : Item) (s n m : ℕ) → s < length lengths → n ≡ get_or lengths s 0 → m ≡ min n (length rest)
-      → front ≡ take m rest → others ≡ drop m rest → start ≡ unit → pushed ≡ sums ++ scan_of join start front
-      → sums ++ scans_of join unit (drop s lengths) rest ≡ whole → pushed ++ scans_of join unit (drop (s + 1) lengths) others ≡ whole
-  scans_pushed sums pushed whole rest front others start s n m lt is_n is_m is_front is_others is_start is_pushed is_whole =
-      let later : List Item → List Item = λ ys. scans_of join unit (drop (s + 1) lengths) ys in
-      ap (λ p. p ++ later others) is_pushed
-      ∙ append_assoc sums (scan_of join start front) (later others)
-      ∙ ap (λ u. sums ++ (scan_of join u front ++ later others)) is_start
-      ∙ ap (λ f. sums ++ (scan_of join unit f ++ later others)) is_front
-      ∙ ap (λ o. sums ++ (scan_of join unit (take m rest) ++ later o)) is_others
-      ∙ ap (λ j. sums ++ (scan_of join unit (take j rest) ++ later (drop j rest))) is_m
-      ∙ ap (λ tail. sums ++ tail) (sym (scans_more_min join unit lengths s n rest lt is_n))
-      ∙ is_whole
-
-  pub reduces_pushed : (sums pushed whole rest front others : List Item) (start sum : Item) (s n : ℕ) → s < length lengths → n ≡ get_or lengths s 0
-      → front ≡ take n rest → others ≡ drop n rest → start ≡ unit → sum ≡ fold_of join start front → pushed ≡ sums ++ sum ∷ []
-      → sums ++ reduces_of join unit (drop s lengths) rest ≡ whole → pushed ++ reduces_of join unit (drop (s + 1) lengths) others ≡ whole
-  reduces_pushed sums pushed whole rest front others start sum s n lt is_n is_front is_others is_start is_sum is_pushed is_whole =
-      let later : List Item → List Item = λ ys. reduces_of join unit (drop (s + 1) lengths) ys in
-      ap (λ p. p ++ later others) is_pushed
-      ∙ append_assoc sums (sum ∷ []) (later others)
-      ∙ ap (λ x. sums ++ x ∷ later others) is_sum
-      ∙ ap (λ u. sums ++ fold_of join u front ∷ later others) is_start
-      ∙ ap (λ f. sums ++ fold_of join unit f ∷ later others) is_front
-      ∙ ap (λ o. sums ++ fold_of join unit (take n rest) ∷ later o) is_others
-      ∙ ap (λ tail. sums ++ tail) (sym (reduces_more join unit lengths s n rest lt is_n))
-      ∙ is_whole

@@ -5,7 +5,7 @@ use Rattle.std.specs.List.{range_with_len}
 use Rattle.cvl_base.specs.Folds.{fold_of}
 use Rattle.cvl_base.specs.SegmentMonoid.{seg_unit, seg_join}
 use Rattle.tile_plan.specs.Ranges.{count_of, range_of}
-use Rattle.scan_ops.specs.Runs.{continued, with_starts, reduces_of}
+use Rattle.scan_walks.specs.Runs.{continued, with_starts, reduces_of}
 
 -- of a list that is cut into tiles, the elements of tile t
 abbrev pub tile_of : {X : Type 0} → ℕ → ℕ → List X → ℕ → List X

@@ -5,11 +5,10 @@ ghost use Rattle.std.specs.List.{AllPass, list_all};
 ghost use Rattle.cvl_base.specs.Limits.{most_elements};
 
 use crate::kernel::Kernel;
-use crate::plain::{push_scan_readings_from, sum_readings_from};
-use crate::readings::Reading;
 use boards::Tiles;
 use cvl_base::monoid::know_laws;
 use cvl_base::{Monoid, NoResources, Packed};
+use scan_walks::{Reading, scan_readings_from, sum_readings_from};
 use std::alloc::Allocator;
 use std::marker::PhantomData;
 use tile_plan::Plan;
@@ -130,9 +129,7 @@ impl<'a, M: Packed, X: Copy, E: Reading<X, M::Item>> Kernel for FlatScan<'a, M, 
             (map E.item self.now.flat.elements.now)) t) }
     {
         know_laws::<M>();
-        let elements = self.flat.tile(t);
-        let mut sums = Vec::with_capacity(alloc, elements.len())?;
-        push_scan_readings_from::<M, X, E, A>(&mut sums, before.1, elements);
+        let sums = scan_readings_from::<M, X, E, A>(alloc, before.1, self.flat.tile(t))?;
         Ok(sums)
     }
 }

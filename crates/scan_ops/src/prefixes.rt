@@ -7,14 +7,13 @@ ghost use Rattle.cvl_base.specs.Gives.{Gives};
 ghost use Rattle.cvl_base.specs.SegmentedCalls.{seg_scan_of};
 
 use crate::flat_tiles::{Flat, FlatScan};
-use crate::plain::push_scan_readings_from;
 use crate::race::race;
-use crate::readings::{Itself, Reading};
 use crate::segmented_tiles::{Segmented, SegmentedScan};
 use crew::{Gate, OpenGate};
 use cvl_base::limits::MOST_ELEMENTS;
 use cvl_base::monoid::know_laws;
 use cvl_base::{Config, Memory, NoResources, Packed, Refused};
+use scan_walks::{Itself, Reading, scan_readings_from};
 use segdes::{SegDes, check_total};
 use std::thread::Threads;
 
@@ -101,25 +100,10 @@ where
 {
     know_laws::<M>();
     if a.len() > MOST_ELEMENTS {
-        return scan_in_one_walk::<A, M, X, E>(alloc, a);
+        return scan_readings_from::<M, X, E, A>(alloc, M::unit(), a);
     }
     let flat = Flat::<M, X, E>::new(a, config.tile());
     let sums = race(rt, alloc, config, &FlatScan { flat }, gate)?;
-    Ok(sums)
-}
-
-/// The scan of what the elements are read as, in one walk.
-fn scan_in_one_walk<A: Memory, M: Packed, X: Copy, E: Reading<X, M::Item>>(
-    alloc: A,
-    a: &[X],
-) -> Result<Vec<M::Item, A>, NoResources>
-    requires items { AllPass (λ x. M.is_item (E.item x)) a.now }
-    ensures values { IfOk result (λ sums. sums.items ≡ scan_of M.join M.unit (map E.item a.now)) }
-    ensures as_long { IfOk result (λ sums. vec_len sums ≡ length a.now) }
-{
-    know_laws::<M>();
-    let mut sums = Vec::with_capacity(alloc, a.len())?;
-    push_scan_readings_from::<M, X, E, A>(&mut sums, M::unit(), a);
     Ok(sums)
 }
 

@@ -5,11 +5,10 @@ ghost use Rattle.std.specs.List.{AllPass, list_all};
 ghost use Rattle.cvl_base.specs.Limits.{most_elements};
 
 use crate::kernel::Kernel;
-use crate::readings::Reading;
-use crate::runs::{push_reduces_of_run, push_scan_of_run, sum_of_readings};
 use boards::Tiles;
 use cvl_base::monoid::know_laws;
 use cvl_base::{Monoid, NoResources, Packed};
+use scan_walks::{Reading, reduces_of_readings, scan_of_readings, sum_of_readings};
 use segdes::SegDes;
 use std::alloc::Allocator;
 use std::marker::PhantomData;
@@ -126,7 +125,7 @@ impl<'a, M: Packed, X: Copy, E: Reading<X, M::Item>, A: Allocator> Kernel
     for SegmentedScan<'a, M, X, E, A> {
     ghost use Rattle.std.specs.Prelude.{IfOk};
     ghost use Rattle.scan_ops.specs.Kernels.{IsAtTile, segmented_sums, tile_of};
-    ghost use Rattle.scan_ops.specs.Runs.{scans_of};
+    ghost use Rattle.scan_walks.specs.Runs.{scans_of};
 
     ghost items = { λ k t. tile_of k.vector.plan.0 k.vector.plan.1 (scans_of M.join M.unit k.vector.segments.now
         (map E.item k.vector.elements.now)) t };
@@ -153,8 +152,9 @@ impl<'a, M: Packed, X: Copy, E: Reading<X, M::Item>, A: Allocator> Kernel
         let (from, to) = self.vector.plan.range(t);
         let (from, to) = (from as usize, to as usize);
         let (elements, segments) = (self.vector.elements, self.vector.segments);
-        let mut sums = Vec::with_capacity(alloc, to - from)?;
-        push_scan_of_run::<M, X, E, A, B>(&mut sums, elements, segments, from, to, before.1);
+        let sums = scan_of_readings::<M, X, E, A, B>(
+            alloc, elements, segments, from, to, before.1,
+        )?;
         Ok(sums)
     }
 }
@@ -215,11 +215,10 @@ impl<'a, M: Packed, X: Copy, E: Reading<X, M::Item>, A: Allocator> Kernel
         let next = self.vector.first_segment(t + 1);
         let (from, _) = self.vector.plan.range(t);
         let (elements, segments) = (self.vector.elements, self.vector.segments);
-        let mut sums = Vec::with_capacity(alloc, next - first)?;
         let from = from as usize;
-        push_reduces_of_run::<M, X, E, A, B>(
-            &mut sums, elements, segments, first, next, from, before.1,
-        );
+        let sums = reduces_of_readings::<M, X, E, A, B>(
+            alloc, elements, segments, first, next, from, before.1,
+        )?;
         Ok(sums)
     }
 }

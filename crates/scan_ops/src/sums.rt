@@ -7,15 +7,13 @@ ghost use Rattle.cvl_base.specs.Gives.{Gives};
 ghost use Rattle.cvl_base.specs.SegmentedCalls.{seg_reduce_of};
 
 use crate::flat_tiles::{Flat, FlatReduce};
-use crate::plain::sum_readings_from;
 use crate::race::race;
-use crate::readings::{Itself, Reading};
-use crate::runs::push_reduces_of_run;
 use crate::segmented_tiles::{Segmented, SegmentedReduce};
 use crew::{Gate, OpenGate};
 use cvl_base::limits::MOST_ELEMENTS;
 use cvl_base::monoid::know_laws;
 use cvl_base::{Config, Memory, Monoid, NoResources, Packed, Refused};
+use scan_walks::{Itself, Reading, reduces_of_readings, sum_readings_from};
 use segdes::{SegDes, check_total};
 use std::thread::Threads;
 
@@ -182,8 +180,7 @@ where
     check_total(a, d)?;
     if a.is_empty() {
         // there is no tile, but there may be segments
-        let mut units = Vec::with_capacity(alloc, d.count())?;
-        push_reduces_of_run::<M, X, E, A, A>(&mut units, a, d, 0, d.count(), 0, M::unit());
+        let units = reduces_of_readings::<M, X, E, A, A>(alloc, a, d, 0, d.count(), 0, M::unit())?;
         return Ok(units);
     }
     let vector = Segmented::<M, X, E, A>::new(a, d, config.tile());

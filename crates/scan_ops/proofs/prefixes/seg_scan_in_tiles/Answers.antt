@@ -2,7 +2,7 @@ use Rattle.std.proofs.Common.{◌≡◌, Ok, arith, length, map, sym, ap, ◌∙
 use Rattle.std.specs.List.{flat_map, range_with_len}
 use Rattle.std.proofs.lemmas.List.{length-map}
 use Rattle.scan_ops.specs.Kernels.{tile_of}
-use Rattle.scan_ops.specs.Runs.{scans_of}
+use Rattle.scan_walks.specs.Runs.{scans_of}
 use Rattle.scan_ops.proofs.FlatTiles.{items_read}
 use Rattle.scan_ops.proofs.Segmented.{seg_scan-fits}
 use Rattle.scan_ops.proofs.SegmentedTiles.{length-scans_of, length-segmented_sums, segmented_scans_joined}

@@ -1,8 +1,8 @@
-use Rattle.std.proofs.Common.{◌≡◌, ◌-◌, ◌<◌, ◌++◌, Ok, arith, length, map, slice_range, sym, ap, ◌∙◌}
+use Rattle.std.proofs.Common.{◌≡◌, ◌-◌, ◌<◌, Ok, arith, length, map, sym, ap, ◌∙◌}
 use Rattle.std.specs.List.{flat_map, range_with_len}
 use Rattle.std.proofs.lemmas.List.{length-map, take_all}
 use Rattle.scan_ops.specs.Kernels.{reduces_at}
-use Rattle.scan_ops.specs.Runs.{reduces_of}
+use Rattle.scan_walks.specs.Runs.{reduces_of}
 use Rattle.scan_ops.proofs.Segmented.{seg_reduce-fits}
 use Rattle.scan_ops.proofs.SegmentedTiles.{length-reduces_of, length-segmented_sums, reduces_joined}
 use Rattle.scan_ops.proofs.Tiled.{filled_by_test, some_tile}
@@ -15,9 +15,8 @@ returns-then-is_empty-clause-values g c =
     let xs = map g.E.Reading.item c.args.a.now in
     let whole = reduces_of m.join m.unit d xs in
     seg_reduce-fits m.join m.unit xs d (c.in_ok-check_total.ensures.agrees ∙ sym (length-map c.args.a.now g.E.Reading.item))
-    ∙ ap (λ sums. Ok sums) (sym (c.push_reduces_of_run.ensures
-    ∙ ap (λ sums. sums ++ slice_range whole 0 c.count-then-is_empty.result) c.in_ok-units.ensures.items
-    ∙ take_all (c.count-then-is_empty.result - 0) whole (omega (arith, length-reduces_of m.join m.unit d xs, c.count-then-is_empty.ensures.value))))
+    ∙ ap (λ sums. Ok sums) (sym (c.in_ok-units.ensures
+    ∙ take_all (c.count.result - 0) whole (omega (arith, length-reduces_of m.join m.unit d xs, c.count.ensures.value))))
 
 pub returns-then-is_empty-clause-one_each : goal.returns-then-is_empty-clause-one_each
 returns-then-is_empty-clause-one_each g c =
@@ -25,11 +24,10 @@ returns-then-is_empty-clause-one_each g c =
     let d = c.args.d.now in
     let xs = map g.E.Reading.item c.args.a.now in
     let whole = reduces_of m.join m.unit d xs in
-    let values : c.push_reduces_of_run.new.sums.items ≡ whole =
-    c.push_reduces_of_run.ensures
-    ∙ ap (λ sums. sums ++ slice_range whole 0 c.count-then-is_empty.result) c.in_ok-units.ensures.items
-    ∙ take_all (c.count-then-is_empty.result - 0) whole (omega (arith, length-reduces_of m.join m.unit d xs, c.count-then-is_empty.ensures.value)) in
-    omega (arith, c.push_reduces_of_run.new.sums.ok, ap length values, length-reduces_of m.join m.unit d xs)
+    let values : c.in_ok-units.units.items ≡ whole =
+    c.in_ok-units.ensures
+    ∙ take_all (c.count.result - 0) whole (omega (arith, length-reduces_of m.join m.unit d xs, c.count.ensures.value)) in
+    omega (arith, c.in_ok-units.units.ok, ap length values, length-reduces_of m.join m.unit d xs)
 
 pub returns-clause-values : goal.returns-clause-values
 returns-clause-values g c =

@@ -2,7 +2,7 @@ use Rattle.std.proofs.Common.{◌<◌, arith, false, map, sym, ap, ◌∙◌}
 use Rattle.cvl_base.specs.Folds.{fold_of}
 use Rattle.cvl_base.specs.SegmentMonoid.{seg_join}
 use Rattle.tile_plan.specs.Ranges.{count_of}
-use Rattle.scan_ops.specs.Runs.{run_of}
+use Rattle.scan_walks.specs.Runs.{run_of}
 use Rattle.scan_ops.proofs.FlatTiles.{all_read_pass}
 use Rattle.scan_ops.proofs.SegmentedTiles.{length-segmented_sums, segmented_sum_at}
 use Rattle.scan_ops.proofs.segmented_tiles.Segmented.sum.Goals as goal

@@ -1,10 +1,10 @@
-use Rattle.std.proofs.Common.{◌+◌, ◌*◌, ◌<◌, ◌≤◌, ◌++◌, arith, rules, length, map, sym, ap, subst, slice_range, ◌∙◌}
+use Rattle.std.proofs.Common.{◌+◌, ◌*◌, ◌<◌, ◌≤◌, arith, rules, length, map, sym, ap, subst, slice_range, ◌∙◌}
 use Rattle.std.proofs.lemmas.List.{length-map}
 use Rattle.std.proofs.Math.Nat.{mul-le-mul_left}
 use Rattle.tile_plan.specs.Ranges.{count_of}
 use Rattle.tile_plan.proofs.Numbers.{starts_within}
 use Rattle.scan_ops.specs.Kernels.{first_left}
-use Rattle.scan_ops.specs.Runs.{IsOpenAt, reduces_of}
+use Rattle.scan_walks.specs.Runs.{IsOpenAt, reduces_of}
 use Rattle.scan_ops.proofs.FlatTiles.{all_read_pass, items_read}
 use Rattle.scan_ops.proofs.SegmentedTiles.{first_is_open, first_left_le, first_left_rises, length-segmented_sums, segmented_before_is_item}
 use Rattle.scan_ops.proofs.segmented_tiles.SegmentedReduceKernel.items.Goals as goal
@@ -36,29 +36,22 @@ range-from-requires g c =
     let v = c.args.self.now.vector in
     omega (arith, c.requires.within, length-segmented_sums m.join m.unit v.plan v.segments.now (map g.E.Reading.item v.elements.now))
 
-pub overflow_sub-next : goal.overflow_sub-next
-overflow_sub-next g c =
+pub reduces_of_readings-requires-clause-in_order : goal.reduces_of_readings-requires-clause-in_order
+reduces_of_readings-requires-clause-in_order g c =
     let m = g.M.Monoid in
     let v = c.args.self.now.vector in
     let below : c.args.t < count_of v.plan.0 v.plan.1 = omega (arith, c.requires.within, length-segmented_sums m.join m.unit v.plan v.segments.now (map g.E.Reading.item v.elements.now)) in
     omega (arith, first_left_rises v.plan v.segments.now c.args.t below, c.first_segment-first.ensures, c.first_segment-next.ensures)
 
-pub push_reduces_of_run-requires-clause-in_order : goal.push_reduces_of_run-requires-clause-in_order
-push_reduces_of_run-requires-clause-in_order g c =
-    let m = g.M.Monoid in
-    let v = c.args.self.now.vector in
-    let below : c.args.t < count_of v.plan.0 v.plan.1 = omega (arith, c.requires.within, length-segmented_sums m.join m.unit v.plan v.segments.now (map g.E.Reading.item v.elements.now)) in
-    omega (arith, first_left_rises v.plan v.segments.now c.args.t below, c.first_segment-first.ensures, c.first_segment-next.ensures)
-
-pub push_reduces_of_run-requires-clause-within : goal.push_reduces_of_run-requires-clause-within
-push_reduces_of_run-requires-clause-within g c =
+pub reduces_of_readings-requires-clause-within : goal.reduces_of_readings-requires-clause-within
+reduces_of_readings-requires-clause-within g c =
     let m = g.M.Monoid in
     let v = c.args.self.now.vector in
     let within : c.args.t + 1 ≤ count_of v.plan.0 v.plan.1 = omega (arith, c.requires.within, length-segmented_sums m.join m.unit v.plan v.segments.now (map g.E.Reading.item v.elements.now)) in
     omega (arith, first_left_le v.plan v.segments.now (c.args.t + 1) within, c.first_segment-next.ensures)
 
-pub push_reduces_of_run-requires-clause-begun : goal.push_reduces_of_run-requires-clause-begun
-push_reduces_of_run-requires-clause-begun g c =
+pub reduces_of_readings-requires-clause-begun : goal.reduces_of_readings-requires-clause-begun
+reduces_of_readings-requires-clause-begun g c =
     let m = g.M.Monoid in
     let item = g.E.Reading.item in
     let v = c.args.self.now.vector in
@@ -73,15 +66,15 @@ push_reduces_of_run-requires-clause-begun g c =
     subst (λ s. IsOpenAt m.join m.unit d xs s c.range-from.result.0 c.args.before.1) (sym c.first_segment-first.ensures)
     (subst (λ r. IsOpenAt m.join m.unit d xs (first_left v.plan d t) r.0 c.args.before.1) (sym c.range-from.ensures.value) opened)
 
-pub push_reduces_of_run-requires-clause-before : goal.push_reduces_of_run-requires-clause-before
-push_reduces_of_run-requires-clause-before g c =
+pub reduces_of_readings-requires-clause-before : goal.reduces_of_readings-requires-clause-before
+reduces_of_readings-requires-clause-before g c =
     let m = g.M.Monoid in
     let item = g.E.Reading.item in
     let v = c.args.self.now.vector in
     segmented_before_is_item c.know_laws.ensures v.plan v.segments.now (map item v.elements.now) v.some (items_read m.is_item item v.elements.now v.items) c.args.t c.args.before c.requires.within c.requires.before_is
 
-pub push_reduces_of_run-requires-clause-items : goal.push_reduces_of_run-requires-clause-items
-push_reduces_of_run-requires-clause-items g c =
+pub reduces_of_readings-requires-clause-items : goal.reduces_of_readings-requires-clause-items
+reduces_of_readings-requires-clause-items g c =
     let v = c.args.self.now.vector in
     all_read_pass g.M.Monoid.is_item g.E.Reading.item v.elements.now v.items
 
@@ -90,7 +83,6 @@ returns g c =
     let m = g.M.Monoid in
     let v = c.args.self.now.vector in
     let whole = reduces_of m.join m.unit v.segments.now (map g.E.Reading.item v.elements.now) in
-    c.push_reduces_of_run.ensures
-    ∙ ap (λ sums. sums ++ slice_range whole c.first_segment-first.result c.first_segment-next.result) c.in_ok-sums.ensures.items
+    c.in_ok-sums.ensures
     ∙ ap (λ s. slice_range whole s c.first_segment-next.result) c.first_segment-first.ensures
     ∙ ap (slice_range whole (first_left v.plan v.segments.now c.args.t)) c.first_segment-next.ensures

@@ -1,0 +1,137 @@
+-- What the elements of a run join to since the last start in it.
+use Rattle.std.proofs.Common.{◌≡◌, ℕ, zero, suc, ◌+◌, ◌-◌, ◌<◌, ◌≤◌, Bool, false, true, List, [], ◌∷◌, ◌++◌, length, take, drop, get_or, refl, sym, ap, ◌∙◌, arith, append_assoc, append-nil}
+use Rattle.std.specs.Prelude.{sum}
+use Rattle.std.specs.List.{AllPass}
+use Rattle.std.proofs.lemmas.List.{length-take, length-drop, length-append, take_all, drop_all, drop_more, drop-append-le, drop-take, drop-drop, take-take}
+use Rattle.std.proofs.lemmas.List.Elements.{All-head, All-take, All-drop}
+use Rattle.std.proofs.lemmas.List.Sums.{fold-append, sum_by_more}
+use Rattle.cvl_base.specs.Booleans.{either}
+use Rattle.cvl_base.specs.Folds.{fold_of}
+use Rattle.cvl_base.specs.Monoid.{MonoidLaws}
+use Rattle.cvl_base.specs.SegmentMonoid.{seg_join}
+use Rattle.segdes.specs.Starts.{start_of}
+use Rattle.scan_walks.specs.Runs.{continued, started, with_starts, run_of}
+use Rattle.scan_walks.proofs.Cut.{run_cut, sum-cons, length-started}
+
+module _ {Item : Type 0} where
+  with_starts-none : (lengths : List ℕ) → with_starts {Item = Item} lengths [] ≡ []
+  with_starts-none [] = refl
+  with_starts-none (n ∷ ls) =
+      ap (λ front. started front ++ with_starts ls (drop n [])) (take_all n [] (omega arith))
+      ∙ ap (λ others. with_starts ls others) (drop_all n [] (omega arith))
+      ∙ with_starts-none ls
+
+  -- a vector is its segments before s and those from s on
+  split_at_start : (lengths : List ℕ) (xs : List Item) (s : ℕ) → s ≤ length lengths
+      → with_starts lengths xs ≡ with_starts (take s lengths) (take (start_of lengths s) xs) ++ with_starts (drop s lengths) (drop (start_of lengths s) xs)
+  split_at_start lengths xs zero le = refl
+  split_at_start [] xs (suc s) le = absurd (omega arith)
+  split_at_start (n ∷ ls) xs (suc s) le =
+      let p : ℕ = start_of ls s in
+      let begins : n + p ≡ start_of (n ∷ ls) (suc s) = omega (arith, sum-cons n (take s ls)) in
+      ap (λ rest. started (take n xs) ++ rest) (split_at_start ls (drop n xs) s (omega arith))
+      ∙ sym (append_assoc (started (take n xs)) (with_starts (take s ls) (take p (drop n xs))) (with_starts (drop s ls) (drop p (drop n xs))))
+      ∙ ap (λ ys. (started ys ++ with_starts (take s ls) (take p (drop n xs))) ++ with_starts (drop s ls) (drop p (drop n xs))) (sym (take-take n (n + p) xs (omega arith)))
+      ∙ ap (λ ys. (started (take n (take (n + p) xs)) ++ with_starts (take s ls) ys) ++ with_starts (drop s ls) (drop p (drop n xs))) (sym (drop-take n p xs))
+      ∙ ap (λ ys. with_starts (n ∷ take s ls) (take (n + p) xs) ++ with_starts (drop s ls) ys) (drop-drop p n xs)
+      ∙ ap (λ q. with_starts (n ∷ take s ls) (take q xs) ++ with_starts (drop s ls) (drop q xs)) begins
+
+  pub length-with_starts : (lengths : List ℕ) (xs : List Item) → length xs ≤ sum lengths → length (with_starts lengths xs) ≡ length xs
+  length-with_starts [] xs covered = omega (arith, covered)
+  length-with_starts (n ∷ ls) xs covered =
+      omega (
+        arith,
+        length-append (started (take n xs)) (with_starts ls (drop n xs)),
+        length-started (take n xs),
+        length-take n xs,
+        length-drop n xs,
+        length-with_starts ls (drop n xs) (omega (arith, covered, sum-cons n ls, length-drop n xs)),
+      )
+
+  -- a run at whose elements no segment starts
+  pub run_continued : (lengths : List ℕ) (xs : List Item) (from to k first : ℕ) → from ≤ to → to ≤ length xs → first ≤ length lengths
+      → from + k ≡ start_of lengths first → to ≤ from + k → ((s : ℕ) → s < first → start_of lengths s < from)
+      → run_of lengths xs from to ≡ continued (take (to - from) (drop from xs))
+  run_continued lengths xs from to k first in_order within le is past earlier =
+      let m : ℕ = to - from in
+      let end : from + m ≡ to = omega (arith, in_order) in
+      let ys = drop from (take to xs) in
+      let few : length ys ≤ k = omega (arith, length-drop from (take to xs), length-take to xs, past) in
+      run_cut lengths (take to xs) from k first le (omega (arith, length-take to xs)) is earlier
+      ∙ ap (λ zs. continued zs ++ with_starts (drop first lengths) (drop k ys)) (take_all k ys few)
+      ∙ ap (λ zs. continued ys ++ with_starts (drop first lengths) zs) (drop_all k ys few)
+      ∙ ap (λ zs. continued ys ++ zs) (with_starts-none (drop first lengths))
+      ∙ append-nil (continued ys)
+      ∙ ap (λ t. continued (drop from (take t xs))) (sym end)
+      ∙ ap continued (drop-take from m xs)
+
+  -- a run in which segment s is the last that starts
+  pub run_started : (lengths : List ℕ) (xs : List Item) (from to s : ℕ) → to ≤ length xs → s < length lengths
+      → from ≤ start_of lengths s → start_of lengths s < to → to ≤ start_of lengths (s + 1)
+      → (front : List (Bool × Item)) × (run_of lengths xs from to ≡ front ++ started (take (to - start_of lengths s) (drop (start_of lengths s) xs)))
+  run_started lengths xs from to s within lt le before last =
+      let p : ℕ = start_of lengths s in
+      let n : ℕ = get_or lengths s 0 in
+      let m : ℕ = to - p in
+      let front = with_starts (take s lengths) (take p (take to xs)) in
+      let ys = drop p (take to xs) in
+      let short : length ys ≤ n = omega (arith, length-drop p (take to xs), length-take to xs, sum_by_more (λ x. x) lengths s 0 lt, last) in
+      let long : length front ≡ length (take p (take to xs)) = length-with_starts (take s lengths) (take p (take to xs)) (omega (arith, length-take p (take to xs))) in
+      let end : p + m ≡ to = omega (arith, before) in
+      let whole : with_starts lengths (take to xs) ≡ front ++ started ys =
+      split_at_start lengths (take to xs) s (omega (arith, lt))
+      ∙ ap (λ ls. front ++ with_starts ls ys) (drop_more lengths s 0 lt)
+      ∙ ap (λ zs. front ++ (started zs ++ with_starts (drop (s + 1) lengths) (drop n ys))) (take_all n ys short)
+      ∙ ap (λ zs. front ++ (started ys ++ with_starts (drop (s + 1) lengths) zs)) (drop_all n ys short)
+      ∙ ap (λ zs. front ++ (started ys ++ zs)) (with_starts-none (drop (s + 1) lengths))
+      ∙ ap (λ zs. front ++ zs) (append-nil (started ys)) in (
+        drop from front,
+        ap (drop from) whole
+            ∙ drop-append-le from front (started ys) (omega (arith, long, length-take p (take to xs), length-take to xs, le, before, within))
+            ∙ ap (λ t. drop from front ++ started (drop p (take t xs))) (sym end)
+            ∙ ap (λ zs. drop from front ++ started zs) (drop-take p m xs),
+      )
+
+-- ---- the sum of a run
+
+flag_stays : (f : Bool) → either f false ≡ f
+flag_stays true = refl
+flag_stays false = refl
+
+flag_set : (f : Bool) → either f true ≡ true
+flag_set true = refl
+flag_set false = refl
+
+module _ {Item : Type 0} (join : Item → Item → Item) where
+  pub continued_summed : (f : Bool) (before : Item) (ys : List Item) → fold_of (seg_join join) (f, before) (continued ys) ≡ (f, fold_of join before ys)
+  continued_summed f before [] = refl
+  continued_summed f before (y ∷ ys) =
+      ap (λ g. fold_of (seg_join join) (g, join before y) (continued ys)) (flag_stays f) ∙ continued_summed f (join before y) ys
+
+  pub run_summed : (lengths : List ℕ) (xs : List Item) (f : Bool) (before : Item) (from to k first : ℕ) → from ≤ to → to ≤ length xs → first ≤ length lengths
+      → from + k ≡ start_of lengths first → to ≤ from + k → ((s : ℕ) → s < first → start_of lengths s < from)
+      → fold_of (seg_join join) (f, before) (run_of lengths xs from to) ≡ (f, fold_of join before (take (to - from) (drop from xs)))
+  run_summed lengths xs f before from to k first in_order within le is past earlier =
+      ap (fold_of (seg_join join) (f, before)) (run_continued lengths xs from to k first in_order within le is past earlier)
+      ∙ continued_summed f before (take (to - from) (drop from xs))
+
+module _ {Item : Type 0} {is_item : Item → Bool} {unit : Item} {join : Item → Item → Item} (laws : MonoidLaws is_item unit join) where
+  started_summed : (before : Bool × Item) (ys : List Item) → 0 < length ys → AllPass is_item ys → fold_of (seg_join join) before (started ys) ≡ (true, fold_of join unit ys)
+  started_summed before [] some items = absurd (omega (arith, some))
+  started_summed before (y ∷ ys) some items =
+      ap (λ f. fold_of (seg_join join) (f, y) (continued ys)) (flag_set before.0)
+      ∙ continued_summed join true y ys
+      ∙ ap (λ b. (true, fold_of join b ys)) (sym (laws.left_unit y (All-head (λ x. is_item x ≡ true) y ys items)))
+
+  pub started_run_summed : (lengths : List ℕ) (xs : List Item) (before : Bool × Item) (from to s : ℕ) → to ≤ length xs → s < length lengths
+      → from ≤ start_of lengths s → start_of lengths s < to → to ≤ start_of lengths (s + 1) → AllPass is_item xs
+      → fold_of (seg_join join) before (run_of lengths xs from to) ≡ (true, fold_of join unit (take (to - start_of lengths s) (drop (start_of lengths s) xs)))
+  started_run_summed lengths xs before from to s within lt le ends last items =
+      let p : ℕ = start_of lengths s in
+      let ys = take (to - p) (drop p xs) in
+      let is_one : Item → Type 0 = λ x. is_item x ≡ true in
+      let parts = run_started lengths xs from to s within lt le ends last in
+      ap (fold_of (seg_join join) before) parts.1
+      ∙ fold-append (seg_join join) before parts.0 (started ys)
+      ∙ started_summed (fold_of (seg_join join) before parts.0) ys (omega (arith, length-take (to - p) (drop p xs), length-drop p xs, ends, within))
+      (All-take is_one (to - p) (drop p xs) (All-drop is_one p xs items))

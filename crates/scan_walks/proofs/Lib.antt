@@ -1,0 +1,5 @@
+pub mod Cut
+pub mod LastStart
+pub mod Scanned
+pub mod SegmentReduces
+pub mod Segments

@@ -1,0 +1,11 @@
+//! The walks of scans and reduces over one run of a segmented vector: from segment to segment, with a plain loop over
+//! the elements of each. The elements are read as items of a monoid.
+#![tactic(auto)]
+
+pub mod plain;
+pub mod readings;
+pub mod runs;
+
+pub use plain::{scan_readings_from, sum_readings_from};
+pub use readings::{Itself, Reading};
+pub use runs::{reduces_of_readings, scan_of_readings, scan_of_run, sum_of_readings, sum_of_run};

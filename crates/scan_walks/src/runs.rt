@@ -1,0 +1,222 @@
+//! Walks over the runs of a segmented vector.
+//!
+//! A run is a range of the vector's elements. Segments may start in it anywhere, some of them empty, and it may begin
+//! or end inside a segment. Each walk goes from segment to segment, and has a plain loop over the elements of each.
+
+ghost use Rattle.std.specs.Prelude.{◌≡◌, false, ◌+◌, ◌-◌, ◌<◌, ◌≤◌, ◌++◌, IsTrue, IfOk, length, map, slice_range, unsigned_abs, sum, vec_len, vec_capacity};
+ghost use Rattle.std.specs.List.{AllPass};
+ghost use Rattle.cvl_base.specs.Descriptors.{AreLengths};
+ghost use Rattle.cvl_base.specs.Folds.{fold_of};
+ghost use Rattle.cvl_base.specs.SegmentMonoid.{seg_join};
+ghost use Rattle.segdes.specs.Starts.{start_of};
+ghost use Rattle.scan_walks.specs.Runs.{IsOpenAt, reduces_of, run_of, run_scan_of, scans_of};
+
+use crate::plain::{push_scan_readings_from, sum_readings_from};
+use crate::readings::{Itself, Reading};
+use cvl_base::monoid::know_laws;
+use cvl_base::{Monoid, NoResources};
+use segdes::SegDes;
+use std::alloc::Allocator;
+
+/// Where a segment starts, and the total where the segments end.
+fn start_or_total<A: Allocator>(d: &SegDes<A>, s: usize) -> usize
+    requires { s ≤ length d.now }
+    ensures { result ≡ start_of d.now s }
+{
+    if s < d.count() { d.start(s) } else { d.total() }
+}
+
+/// Pushes the scans of the segments with these lengths, one after another, of what the elements are read as. The
+/// segments have all of the elements, and the last may be cut short by the end of the elements. There must be room for
+/// the scans.
+fn push_scans<M: Monoid, X: Copy, E: Reading<X, M::Item>, A: Allocator>(
+    sums: &mut Vec<M::Item, A>,
+    lengths: &[i32],
+    xs: &[X],
+)
+    requires lengths { AreLengths lengths.now }
+    requires covered { length xs.now ≤ sum (map unsigned_abs lengths.now) }
+    requires room { vec_len sums.old + length xs.now ≤ vec_capacity sums.old }
+    requires items { AllPass (λ x. M.is_item (E.item x)) xs.now }
+    ensures values { sums.new.items
+        ≡ sums.old.items ++ scans_of M.join M.unit (map unsigned_abs lengths.now) (map E.item xs.now) }
+    ensures as_long { vec_len sums.new ≡ vec_len sums.old + length xs.now }
+{
+    know_laws::<M>();
+    let mut rest = xs;
+    for length in lengths {
+        let (segment, others) = rest.split_at((*length as usize).min(rest.len()));
+        push_scan_readings_from::<M, X, E, A>(sums, M::unit(), segment);
+        rest = others;
+    }
+}
+
+/// Pushes the reduces of the segments with these lengths, of what the elements are read as. The elements begin with
+/// those of the segments. There must be room for the reduces.
+fn push_reduces<M: Monoid, X: Copy, E: Reading<X, M::Item>, A: Allocator>(
+    sums: &mut Vec<M::Item, A>,
+    lengths: &[i32],
+    xs: &[X],
+)
+    requires lengths { AreLengths lengths.now }
+    requires covered { sum (map unsigned_abs lengths.now) ≤ length xs.now }
+    requires room { vec_len sums.old + length lengths.now ≤ vec_capacity sums.old }
+    requires items { AllPass (λ x. M.is_item (E.item x)) xs.now }
+    ensures { sums.new.items
+        ≡ sums.old.items ++ reduces_of M.join M.unit (map unsigned_abs lengths.now) (map E.item xs.now) }
+{
+    know_laws::<M>();
+    let mut rest = xs;
+    for length in lengths {
+        let (segment, others) = rest.split_at(*length as usize);
+        sums.push_reserved(sum_readings_from::<M, X, E>(M::unit(), segment));
+        rest = others;
+    }
+}
+
+/// The reduces of the segments from number `first` to the one before number `next`, of what the elements are read as.
+///
+/// The first of these segments holds place `from`, or ends or starts there, and `before` is what its elements before
+/// that place join to. It must be an item of the monoid, as all that is read must. The result has one element for each
+/// of the segments. No element before place `from` is read. Source: Blelloch's segmented scans.
+pub fn reduces_of_readings<M: Monoid, X: Copy, E: Reading<X, M::Item>, A: Allocator, B: Allocator>(
+    alloc: B,
+    a: &[X],
+    d: &SegDes<A>,
+    first: usize,
+    next: usize,
+    from: usize,
+    before: M::Item,
+) -> Result<Vec<M::Item, B>, NoResources>
+    requires total { sum d.now ≡ length a.now }
+    requires in_order { first ≤ next }
+    requires within { next ≤ length d.now }
+    requires begun { first < next → IsOpenAt M.join M.unit d.now (map E.item a.now) first from before }
+    requires before { IsTrue (M.is_item before) }
+    requires items { AllPass (λ x. M.is_item (E.item x)) a.now }
+    ensures { IfOk result (λ sums. sums.items
+        ≡ slice_range (reduces_of M.join M.unit d.now (map E.item a.now)) first next) }
+{
+    let mut sums = Vec::with_capacity(alloc, next - first)?;
+    if first == next {
+        return Ok(sums);
+    }
+    let end = d.start(first) + d.length(first);
+    let (_, rest) = a.split_at(from);
+    let (front, others) = rest.split_at(end - from);
+    sums.push_reserved(sum_readings_from::<M, X, E>(before, front));
+    push_reduces::<M, X, E, B>(&mut sums, &d.lengths()[first + 1..next], others);
+    Ok(sums)
+}
+
+/// The sum of the run from place `from` to the one before place `to`, of what the elements are read as: what
+/// [`sum_of_run`] is of elements that are items.
+///
+/// `before` must be an item of the monoid, as all that is read must. It takes no memory. Source: Blelloch's segmented
+/// scans.
+pub fn sum_of_readings<M: Monoid, X: Copy, E: Reading<X, M::Item>, A: Allocator>(
+    a: &[X],
+    d: &SegDes<A>,
+    from: usize,
+    to: usize,
+    before: M::Item,
+) -> (bool, M::Item)
+    requires total { sum d.now ≡ length a.now }
+    requires in_order { from ≤ to }
+    requires within { to ≤ length a.now }
+    requires before { IsTrue (M.is_item before) }
+    requires items { AllPass (λ x. M.is_item (E.item x)) a.now }
+    ensures { result ≡ fold_of (seg_join M.join) (false, before) (run_of d.now (map E.item a.now) from to) }
+{
+    know_laws::<M>();
+    let first = d.starts_before(from);
+    let next = d.starts_before(to);
+    if first < next {
+        let start = d.start(next - 1);
+        return (true, sum_readings_from::<M, X, E>(M::unit(), &a[start..to]));
+    }
+    (false, sum_readings_from::<M, X, E>(before, &a[from..to]))
+}
+
+/// The sum of the run from place `from` to the one before place `to`: whether a segment starts in it, and what its
+/// elements since the last start join to. Where none starts, that is `before` joined with all of them.
+///
+/// `before` is what the elements of the first segment that stand before the run join to. It must be an item of the
+/// monoid, as all elements must. The sum is the run's fold under [`Seg`](cvl_base::Seg), so the sums of runs one after
+/// another can be joined by it. It reads no element before the last start, and takes no memory. Source: Blelloch's
+/// segmented scans.
+pub fn sum_of_run<M: Monoid, A: Allocator>(
+    a: &[M::Item],
+    d: &SegDes<A>,
+    from: usize,
+    to: usize,
+    before: M::Item,
+) -> (bool, M::Item)
+    requires total { sum d.now ≡ length a.now }
+    requires in_order { from ≤ to }
+    requires within { to ≤ length a.now }
+    requires before { IsTrue (M.is_item before) }
+    requires items { AllPass M.is_item a.now }
+    ensures { result ≡ fold_of (seg_join M.join) (false, before) (run_of d.now a.now from to) }
+{
+    sum_of_readings::<M, M::Item, Itself, A>(a, d, from, to, before)
+}
+
+/// The scan of the run from place `from` to the one before place `to`, of what the elements are read as: what
+/// [`scan_of_run`] is of elements that are items.
+///
+/// `before` must be an item of the monoid, as all that is read must. The result is as long as the run. Source:
+/// Blelloch's segmented scans.
+pub fn scan_of_readings<M: Monoid, X: Copy, E: Reading<X, M::Item>, A: Allocator, B: Allocator>(
+    alloc: B,
+    a: &[X],
+    d: &SegDes<A>,
+    from: usize,
+    to: usize,
+    before: M::Item,
+) -> Result<Vec<M::Item, B>, NoResources>
+    requires total { sum d.now ≡ length a.now }
+    requires in_order { from ≤ to }
+    requires within { to ≤ length a.now }
+    requires before { IsTrue (M.is_item before) }
+    requires items { AllPass (λ x. M.is_item (E.item x)) a.now }
+    ensures values { IfOk result (λ sums. sums.items
+        ≡ run_scan_of M.join M.unit before (run_of d.now (map E.item a.now) from to)) }
+    ensures as_long { IfOk result (λ sums. vec_len sums ≡ to - from) }
+{
+    know_laws::<M>();
+    let first = d.starts_before(from);
+    let next = d.starts_before(to);
+    let start = start_or_total(d, first);
+    let (front, rest) = a[from..to].split_at(start.min(to) - from);
+    let mut sums = Vec::with_capacity(alloc, to - from)?;
+    push_scan_readings_from::<M, X, E, B>(&mut sums, before, front);
+    push_scans::<M, X, E, B>(&mut sums, &d.lengths()[first..next], rest);
+    Ok(sums)
+}
+
+/// The scan of the run from place `from` to the one before place `to`: for each of its elements, what the elements
+/// before it in its segment join to.
+///
+/// `before` is what the elements of the first segment that stand before the run join to. It must be an item of the
+/// monoid, as all elements must. The result is as long as the run. Source: Blelloch's segmented scans.
+pub fn scan_of_run<M: Monoid, A: Allocator>(
+    alloc: A,
+    a: &[M::Item],
+    d: &SegDes<A>,
+    from: usize,
+    to: usize,
+    before: M::Item,
+) -> Result<Vec<M::Item, A>, NoResources>
+    requires total { sum d.now ≡ length a.now }
+    requires in_order { from ≤ to }
+    requires within { to ≤ length a.now }
+    requires before { IsTrue (M.is_item before) }
+    requires items { AllPass M.is_item a.now }
+    ensures values { IfOk result (λ sums. sums.items
+        ≡ run_scan_of M.join M.unit before (run_of d.now a.now from to)) }
+    ensures as_long { IfOk result (λ sums. vec_len sums ≡ to - from) }
+{
+    let sums = scan_of_readings::<M, M::Item, Itself, A, A>(alloc, a, d, from, to, before)?;
+    Ok(sums)
+}
