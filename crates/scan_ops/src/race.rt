@@ -18,8 +18,28 @@ use tile_plan::{Piece, gather_over, gather_tiles};
 /// Fewer items are gathered by one thread, since threads take longer to start than they save.
 const LEAST_SHARED: usize = 1_048_576;
 
-/// The items of all tiles, one tile after another. As many workers as the configuration says, but no more than there are
-/// tiles, race for the tiles and pass the gate at each point. Where there is one worker no thread is started.
+/// From how many elements in a tile on a worker takes so long for it that starting a worker is weighed against it. Who asks
+/// for shorter tiles asks for the race itself.
+const LONG_TILE: u32 = 1_024;
+
+/// How many elements in long tiles a worker has at least, since one thread walks fewer before another would be started.
+const LEAST_SHARE: u64 = 65_536;
+
+/// How many workers race for so many tiles: as many as the configuration says, but no more than there are tiles, nor, where
+/// the tiles are long, than have a share of the elements that is worth a thread.
+fn workers_for(config: Config, tiles: u32) -> u32
+    ensures { result ≤ most_workers }
+{
+    let workers = config.workers().min(tiles);
+    if config.tile() < LONG_TILE {
+        return workers;
+    }
+    let elements = u64::from(tiles) * u64::from(config.tile());
+    (elements / LEAST_SHARE).min(u64::from(workers)) as u32
+}
+
+/// The items of all tiles, one tile after another. Workers race for the tiles and pass the gate at each point. Where there is
+/// one worker no thread is started.
 ///
 /// Source: Merrill and Garland's single pass.
 pub(crate) fn race<R: Threads + Sync, A: Memory, K: Kernel + Sync, G: Gate>(
@@ -35,7 +55,7 @@ where
     ensures { IfOk result (λ whole. whole.items
         ≡ in_order_of_tiles (length (K.sums kernel.now)) (K.items kernel.now)) }
 {
-    let workers = config.workers().min(kernel.count());
+    let workers = workers_for(config, kernel.count());
     if workers <= 1 {
         return in_turn(alloc, kernel, gate);
     }
