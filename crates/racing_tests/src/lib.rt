@@ -7,6 +7,8 @@ mod cuts;
 #[cfg(test)]
 mod held;
 #[cfg(test)]
+mod long;
+#[cfg(test)]
 mod plain;
 #[cfg(test)]
 mod refusals;
