@@ -158,16 +158,3 @@ seg_default-meaning source index defaults lengths widths total index_total defau
     let count : length segments ≡ length widths = omega (arith, length-zip (cut_of lengths source) (cut_of lengths index), length-cut lengths source, length-cut lengths index) in
     ap (end_to_end (in_vector lengths) (of_three default_of)) (beside_third-fits (beside (nest lengths source) (nest lengths index)) segments widths defaults (beside-fits lengths lengths source index total index_total refl) default_total count)
     ∙ default_walked lengths 0 0 lengths widths [] source index defaults refl refl refl total index_total default_total same (omega arith)
-
--- ---- what the walks found
-
--- a fault
-pub walk_fails : {X : Type 0} (meaning : Result (List X) Fault) (o : Option Fault) (values : List X) (f : Fault) → meaning ≡ unless o (Ok values) → Some f ≡ o → meaning ≡ Err f
-walk_fails meaning o values f is bad = is ∙ ap (λ a. unless a (Ok values)) (sym bad)
-
--- or senders and values
-pub walk_gives : {X : Type 0} (take_from : List ℕ → List X) (meaning : Result (List X) Fault) (o : Option Fault) (senders new held read : List ℕ) (n : ℕ) (items : List X) → meaning ≡ unless o (Ok (take_from senders)) → None ≡ o → n ≡ length new
-    → new ≡ senders → read ≡ take n (new ++ drop (length new) held) → items ≡ take_from read → meaning ≡ Ok items
-walk_gives take_from meaning o senders new held read n items is right long sent reads taken =
-    is ∙ ap (λ a. unless a (Ok (take_from senders))) (sym right)
-    ∙ ap Ok (sym (taken ∙ ap take_from (reads ∙ written new held n long ∙ sent)))
