@@ -1,6 +1,5 @@
 -- What the definitions of the flat calls give, told by the senders of the places.
-use Rattle.std.proofs.Common.{◌≡◌, ◌∙◌, ℕ, ◌≤◌, Bool, not, List, ◌++◌, length, map, filter_map, take, drop, refl, sym, ap, arith, inl, inr, ℤ, slice_get, unwrap_or, Option, None, Result, Ok}
-use Rattle.std.specs.List.{zip, range_with_len, enumerate_from}
+use Rattle.std.proofs.Common.{◌≡◌, ◌∙◌, ℕ, ◌≤◌, Bool, not, List, ◌++◌, length, filter_map, take, drop, refl, sym, ap, arith, inl, inr, ℤ, slice_get, Result, Ok}
 use Rattle.std.proofs.lemmas.Bool.Decides.{eqb_tells}
 use Rattle.std.proofs.Math.Seq.{take-append_seam}
 use Rattle.cvl_base.specs.declared.fault.Fault.{Fault}
@@ -10,7 +9,7 @@ use Rattle.cvl_base.specs.Faults.{fault}
 use Rattle.cvl_base.specs.Gives.{fault_if, unless}
 use Rattle.cvl_base.specs.Limits.{most_elements}
 use Rattle.cvl_base.specs.Packs.{count_of}
-use Rattle.cvl_base.specs.Permutes.{all_targets, default_of, first_fault, flagged_targets, select_of, sent_over, sent_to, sent_to_all, simple_of, wrongs}
+use Rattle.cvl_base.specs.Permutes.{all_targets, default_of, first_fault, flagged_targets, select_of, sent_over, sent_to_all, simple_of, wrongs}
 use Rattle.permute_walks.specs.Senders.{senders_of, written_over}
 use Rattle.permute_walks.proofs.Sent.{length-all_targets, length-flagged_targets}
 use Rattle.permute_walks.proofs.Taken.{taken_flat, taken_over_flat}

@@ -1,6 +1,6 @@
 -- Both walks: what follows of a first walk that tells a fault or leaves senders.
-use Rattle.std.proofs.Common.{◌≡◌, ◌∙◌, ℕ, ◌+◌, ◌<◌, ◌≤◌, Bool, List, [], ◌∷◌, ◌++◌, length, map, filter_map, sum, take, drop, refl, sym, ap, subst, length-append, length-drop, arith, ℤ, slice_get, Option, Some, None, Result, Ok, Err, OnOk}
-use Rattle.std.specs.List.{All, sum_by, zip}
+use Rattle.std.proofs.Common.{◌≡◌, ◌∙◌, ℕ, ◌+◌, ◌<◌, ◌≤◌, Bool, List, [], ◌∷◌, length, map, sum, take, drop, refl, sym, ap, subst, length-append, length-drop, arith, ℤ, Option, Some, None, Result, Ok, Err, OnOk}
+use Rattle.std.specs.List.{All, sum_by}
 use Rattle.std.specs.Option.{option_or}
 use Rattle.std.proofs.lemmas.List.{length-take-le}
 use Rattle.std.proofs.lemmas.List.Elements.{All-append, All-nil, All-weaker}
@@ -9,12 +9,11 @@ use Rattle.cvl_base.specs.declared.fault.Fault.{Fault}
 use Rattle.cvl_base.specs.declared.refused.Refused.{Refused}
 use Rattle.cvl_base.specs.declared.refused.Refused.TheVariants as refused
 use Rattle.cvl_base.specs.Gives.{Gives, unless}
-use Rattle.cvl_base.specs.Nests.{cut_of}
 use Rattle.cvl_base.specs.Packs.{count_of}
 use Rattle.cvl_base.specs.Permutes.{all_targets, first_fault, flagged_targets, wrongs}
 use Rattle.permutes.specs.Parts.{fault_from, flagged_parts, parts_of, senders_from}
 use Rattle.permutes.specs.Walks.{AreAllSent, IsFound, Sends}
-use Rattle.permute_walks.specs.Senders.{nobody, senders_of, told, written_over}
+use Rattle.permute_walks.specs.Senders.{nobody, senders_of, told}
 use Rattle.permutes.proofs.Cuts.{sum-cons}
 use Rattle.permutes.proofs.Through.{places_of}
 use Rattle.permute_walks.proofs.EachSent.{takes_part, each_sent, all_take_part, flagged_take_part}

@@ -1,5 +1,5 @@
 -- The segmented definitions, told by the parts of all segments.
-use Rattle.std.proofs.Common.{◌≡◌, ◌≢◌, ◌∙◌, not, inl, inr, ℕ, ◌+◌, ◌<◌, ◌≤◌, Bool, List, [], ◌∷◌, ◌++◌, length, map, filter_map, sum, take, drop, get_or, refl, sym, ap, length-append, length-drop, arith, ℤ, slice_get, unwrap_or, Option, Some, None, Result, Ok, Err}
+use Rattle.std.proofs.Common.{◌≡◌, ◌≢◌, ◌∙◌, not, inl, inr, ℕ, ◌+◌, ◌<◌, ◌≤◌, Bool, List, [], ◌∷◌, ◌++◌, length, map, filter_map, sum, take, drop, get_or, refl, sym, ap, length-append, length-drop, arith, ℤ, slice_get, unwrap_or, Result, Ok, Err}
 use Rattle.std.specs.List.{zip, enumerate_from}
 use Rattle.std.proofs.lemmas.List.{length-take-le, take-append-drop, drop_more}
 use Rattle.std.proofs.lemmas.List.Sums.{sum_by_more}
@@ -20,7 +20,7 @@ use Rattle.cvl_base.specs.SegmentedCalls.{seg_back_of, seg_default_of, seg_selec
 use Rattle.permutes.specs.Parts.{fault_from, flagged_parts, parts_of, senders_from}
 use Rattle.permute_walks.specs.Senders.{nobody}
 use Rattle.permutes.proofs.Cuts.{length-cut, nest-fits, sum-cons}
-use Rattle.permutes.proofs.Flat.{if_as_long-fits, written}
+use Rattle.permutes.proofs.Flat.{if_as_long-fits}
 use Rattle.permutes.proofs.Joined.{front_taken, front_over}
 use Rattle.permute_walks.proofs.Sent.{length-all_targets, length-flagged_targets}
 

@@ -1,4 +1,4 @@
-use Rattle.std.proofs.Common.{ℕ, List, ◌+◌, ◌∙◌, ap, sym, subst, arith, get_or, slice_get}
+use Rattle.std.proofs.Common.{◌+◌, ◌∙◌, ap, sym, subst, arith, get_or, slice_get}
 use Rattle.std.proofs.lemmas.List.{get_or-drop}
 use Rattle.permute_walks.proofs.Over.{IsWrittenUpTo, written_none, written_some, written_not}
 use Rattle.permute_walks.proofs.shared.write_chunk.Goals as goal
@@ -15,8 +15,8 @@ loop-k-preserved g c =
     let before = c.args.chunk.now in
     let k = c.loop-k.k in
     let read = c.element_of.ensures
-        ∙ ap (λ ss. slice_get source (get_or ss k 0)) c.split_at.ensures.back
-        ∙ ap (slice_get source) (get_or-drop start senders k 0) in
+    ∙ ap (λ ss. slice_get source (get_or ss k 0)) c.split_at.ensures.back
+    ∙ ap (slice_get source) (get_or-drop start senders k 0) in
     elim c.match-element_of.branch [
       | in-Some w ↦
           subst (IsWrittenUpTo (k + 1) source senders start before) (sym w.chunk-is)

@@ -1,4 +1,4 @@
-use Rattle.std.proofs.Common.{ℕ, Vec, ◌≡◌, ◌∙◌, arith, filter_map, length, replicate, slice_get, vec_len}
+use Rattle.std.proofs.Common.{ℕ, Vec, ◌≡◌, ◌∙◌, arith, filter_map, replicate, slice_get, vec_len}
 use Rattle.std.specs.Fn.{FnOnceReturnsAtMut}
 use Rattle.std.proofs.lemmas.Result.{IfOk-at_ok, err_from_is_err_and}
 use Rattle.permute_walks.specs.Senders.{nobody, written_over}

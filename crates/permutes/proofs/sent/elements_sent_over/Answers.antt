@@ -1,4 +1,4 @@
-use Rattle.std.proofs.Common.{ℕ, List, Vec, ◌≡◌, ◌∙◌, arith, length, replicate, vec_len, refl}
+use Rattle.std.proofs.Common.{ℕ, List, Vec, ◌≡◌, ◌∙◌, arith, length, replicate}
 use Rattle.std.specs.Fn.{FnOnceReturnsAtMut}
 use Rattle.std.proofs.lemmas.Result.{IfOk-at_ok, err_from_is_err_and}
 use Rattle.permute_walks.specs.Senders.{nobody, written_over}

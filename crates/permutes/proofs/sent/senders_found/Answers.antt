@@ -16,8 +16,9 @@ pub returns : goal.returns
 returns g c =
     let met : FnOnceReturnsAtMut g.F.FnOnce c.args.send (replicate c.args.places nobody) (Ok c.in_ok-send.field-0) c.send.new.arg2 = search rules in
     let long_left : c.in_ok-senders.senders.len ≡ length c.send.new.arg2 = omega (arith, c.send.auto.arg2, c.deref_mut.ensures.len, c.in_ok-senders.ensures.len) in
-    let same = written c.send.new.arg2 c.in_ok-senders.senders.items c.in_ok-senders.senders.len long_left in
-    (ap length same ∙ omega (arith, long_left, c.in_ok-senders.ensures.len),
-    λ fault senders long sends.
-    let gave = sends (Ok c.in_ok-send.field-0) c.send.new.arg2 met in
-    found_ok fault senders c.send.new.arg2 _ gave.0 gave.1 same)
+    let same = written c.send.new.arg2 c.in_ok-senders.senders.items c.in_ok-senders.senders.len long_left in (
+      ap length same ∙ omega (arith, long_left, c.in_ok-senders.ensures.len),
+      λ fault senders long sends.
+          let gave = sends (Ok c.in_ok-send.field-0) c.send.new.arg2 met in
+          found_ok fault senders c.send.new.arg2 _ gave.0 gave.1 same,
+    )
