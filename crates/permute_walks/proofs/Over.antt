@@ -1,17 +1,11 @@
 -- The walk that writes the elements of senders over values.
-use Rattle.std.proofs.Common.{◌≡◌, ◌≢◌, ◌∙◌, ℕ, suc, ◌+◌, ◌<◌, ◌≤◌, List, [], ◌∷◌, ◌++◌, length, filter_map, get_or, set, refl, sym, ap, arith, slice_get, unwrap_or, below_more, Option, Some, None}
+use Rattle.std.proofs.Common.{◌≡◌, ◌≢◌, ◌∙◌, ℕ, suc, ◌+◌, ◌<◌, ◌≤◌, List, [], ◌∷◌, length, filter_map, get_or, set, refl, sym, ap, arith, slice_get, unwrap_or, below_more, Option, Some, None}
 use Rattle.std.specs.List.{All, cons_option, zip}
 use Rattle.std.proofs.lemmas.List.{ext_get_or, get_or-map, get_or-set_same, get_or-set_other, length-map}
 use Rattle.std.proofs.lemmas.List.Elements.{All-head, All-tail}
 use Rattle.std.proofs.lemmas.Option.{slice_get-get_or}
 use Rattle.std.proofs.lemmas.Slice.Zip.{get_or-zip, length-zip}
 use Rattle.permute_walks.specs.Senders.{written_over}
-
-pub zip-joined : {A B : Type 0} (xs us : List A) (ys vs : List B) → length xs ≡ length ys → zip (xs ++ us) (ys ++ vs) ≡ zip xs ys ++ zip us vs
-zip-joined [] us [] vs same = refl
-zip-joined [] us (y ∷ ys) vs same = absurd (omega arith)
-zip-joined (x ∷ xs) us [] vs same = absurd (omega arith)
-zip-joined (x ∷ xs) us (y ∷ ys) vs same = ap (λ rest. (x, y) ∷ rest) (zip-joined xs us ys vs (omega arith))
 
 -- ---- a chunk, whose first value stands at place `start`
 

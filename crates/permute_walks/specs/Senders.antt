@@ -42,4 +42,5 @@ written_over source senders values = map (λ p. unwrap_or (slice_get source p.0)
 -- The same of a chunk, which was `before` and is `after`, and whose first value stands at place `start`.
 abbrev pub IsWrittenFrom : {X : Type 0} → List X → List ℕ → ℕ → List X → List X → Type 0
 IsWrittenFrom {X} source senders start before after = (k : ℕ) → k < length before → (x : X)
-    → slice_index_or after k x ≡ unwrap_or (slice_get source (slice_index senders (start + k))) (slice_index_or before k x)
+    → slice_index_or after k x
+    ≡ unwrap_or (slice_get source (slice_index senders (start + k))) (slice_index_or before k x)

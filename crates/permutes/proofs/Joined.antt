@@ -13,7 +13,6 @@ use Rattle.cvl_base.specs.Permutes.{first_fault, sent_to, wrongs}
 use Rattle.cvl_base.specs.Segmented.{in_vector, moved}
 use Rattle.permutes.specs.Parts.{fault_from, senders_from}
 use Rattle.permute_walks.specs.Senders.{nobody, senders_of}
-use Rattle.permute_walks.proofs.Over.{zip-joined}
 use Rattle.permute_walks.proofs.Sent.{length-senders_of}
 use Rattle.permute_walks.proofs.Taken.{taken_sent, taken_over}
 
@@ -38,6 +37,12 @@ in_front to None None r later (Ok rs) is = let same : joined rs ≡ later = cc i
 in_front to None None r later (Err e) is = cc
 in_front to None (Some f) r later (Ok rs) is = cc
 in_front to None (Some f) r later (Err e) is = is
+
+zip-joined : {A B : Type 0} (xs us : List A) (ys vs : List B) → length xs ≡ length ys → zip (xs ++ us) (ys ++ vs) ≡ zip xs ys ++ zip us vs
+zip-joined [] us [] vs same = refl
+zip-joined [] us (y ∷ ys) vs same = absurd (omega arith)
+zip-joined (x ∷ xs) us [] vs same = absurd (omega arith)
+zip-joined (x ∷ xs) us (y ∷ ys) vs same = ap (λ rest. (x, y) ∷ rest) (zip-joined xs us ys vs (omega arith))
 
 -- ---- a segment's elements are ys, after `before` and in front of `behind`
 

@@ -13,9 +13,11 @@ Sends leaves fault senders = (given : Result (Unit {0}) Fault) (left : List ℕ)
     → (told given ≡ fault) × OnOk given (left ≡ senders)
 
 -- what was found in so many places, seen by `view`: the fault or the senders of the walk, or memory was out
-abbrev pub IsFound : {V : Type 0} → (Result (Unit {0}) Fault → List ℕ → Type 0) → (V → List ℕ) → ℕ → Result V Refused → Type 0
+abbrev pub IsFound : {V : Type 0} → (Result (Unit {0}) Fault → List ℕ → Type 0)
+    → (V → List ℕ) → ℕ → Result V Refused → Type 0
 IsFound leaves view places found = IfOk found (λ v. length (view v) ≡ places)
-    × ((fault : Option Fault) (senders : List ℕ) → length senders ≡ places → Sends leaves fault senders → Gives view found (unless fault (Ok senders)))
+    × ((fault : Option Fault) (senders : List ℕ) → length senders ≡ places
+    → Sends leaves fault senders → Gives view found (unless fault (Ok senders)))
 
 -- where there is no fault, each sender is one of so many elements
 abbrev pub AreAllSent : Option Fault → ℕ → List ℕ → Type 0

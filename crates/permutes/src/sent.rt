@@ -1,6 +1,7 @@
 //! Both walks of a permute, of which several threads share the second where the result is long.
 
-ghost use Rattle.std.specs.Prelude.{◌≡◌, ◌<◌, ◌≤◌, ℕ, List, IfOk, IfSome, Option, Ok, filter_map, length, replicate, slice_get, vec_len};
+ghost use Rattle.std.specs.Prelude.{◌≡◌, ◌<◌, ◌≤◌, ℕ, List, filter_map, length, replicate, slice_get};
+ghost use Rattle.std.specs.Prelude.{IfOk, IfSome, Option, Ok, vec_len};
 ghost use Rattle.std.specs.Fn.{FnOnceReturnsAtMut, FnOnceTakesAtMut};
 ghost use Rattle.cvl_base.specs.declared.fault.Fault.{Fault};
 ghost use Rattle.cvl_base.specs.Gives.{Gives, unless};
@@ -93,7 +94,8 @@ pub(crate) fn elements_sent<
             { filled(alloc, source, places) };
             let find = move || -> Result<Vec<u32, A>, Refused>
                 requires { FnOnceTakesAtMut F.FnOnce send (replicate places nobody) }
-                ensures { IsFound (FnOnceReturnsAtMut F.FnOnce send (replicate places nobody)) (λ v. v.items) places result }
+                ensures { IsFound (FnOnceReturnsAtMut F.FnOnce send (replicate places nobody))
+                    (λ v. v.items) places result }
             { senders_found(alloc, places, send) };
             let (values, senders) = join(rt, fill, find);
             let senders = senders?;
