@@ -1,2 +1,4 @@
+pub mod EachSent
+pub mod Over
 pub mod Sent
 pub mod Taken

@@ -33,7 +33,7 @@ get_or-fronts (x ∷ xs) (suc k) lt =
     get_or-map (λ front. x ∷ front) (fronts xs) k [] [] (omega (arith, length-fronts xs))
     ∙ ap (λ front. x ∷ front) (get_or-fronts xs k below)
 
-length-wrongs : (m : ℕ) (ts : List (Option ℤ)) → length (wrongs m ts) ≡ length ts
+pub length-wrongs : (m : ℕ) (ts : List (Option ℤ)) → length (wrongs m ts) ≡ length ts
 length-wrongs m ts =
     omega (arith, length-map (zip (fronts ts) ts) (λ (p : List (Option ℤ) × Option ℤ). wrong_at m p.0 p.1), length-zip (fronts ts) ts, length-fronts ts)
 
@@ -46,7 +46,7 @@ wrong_here m ts k lt =
 
 -- ---- the first fault, where no place before k is bad
 
-uncons : {X : Type 0} (xs : List X) (k : ℕ) (x : X) → k < length xs → drop k xs ≡ get_or xs k x ∷ drop (k + 1) xs
+pub uncons : {X : Type 0} (xs : List X) (k : ℕ) (x : X) → k < length xs → drop k xs ≡ get_or xs k x ∷ drop (k + 1) xs
 uncons xs k x lt = rw (add-one) (drop-cons xs k x lt)
 
 first_fault-past : (place : ℕ) (ws : List (Option FaultNo)) (k : ℕ) → k < length ws → get_or ws k None ≡ None → first_fault (place + k) (drop k ws) ≡ first_fault (place + (k + 1)) (drop (k + 1) ws)
@@ -86,7 +86,7 @@ sender-found place (u ∷ ts) t d none found =
 pub length-senders_of : (place : ℕ) (ts : List (Option ℤ)) (m : ℕ) → length (senders_of place ts m) ≡ m
 length-senders_of place ts m = length-map-range_with_len (sender_from place ts) 0 m
 
-sender_at : (place : ℕ) (ts : List (Option ℤ)) (m d : ℕ) → d < m → get_or (senders_of place ts m) d 0 ≡ sender_from place ts d
+pub sender_at : (place : ℕ) (ts : List (Option ℤ)) (m d : ℕ) → d < m → get_or (senders_of place ts m) d 0 ≡ sender_from place ts d
 sender_at place ts m d lt = get_or-map-range_with_len (sender_from place ts) 0 m d d 0 lt (omega arith)
 
 same_senders : (place : ℕ) (ts us : List (Option ℤ)) (m : ℕ) → ((d : ℕ) → d < m → sender_from place ts d ≡ sender_from place us d) → senders_of place ts m ≡ senders_of place us m
@@ -126,7 +126,7 @@ wrong-same place ts m senders (pos d) small are =
     ∙ sender-tells place ts d small)
     ∙ ap (λ n. if not (ltb d n) then Some IndexOutOfRange else if not (eqb (get_or senders d 0) nobody) then Some IndexRepeated else None) (sym long)
 
-right_tests : (inside free : Bool) → (if not inside then Some IndexOutOfRange else if not free then Some IndexRepeated else None) ≡ None → (inside ≡ true) × (free ≡ true)
+pub right_tests : (inside free : Bool) → (if not inside then Some IndexOutOfRange else if not free then Some IndexRepeated else None) ≡ None → (inside ≡ true) × (free ≡ true)
 right_tests true true right = (refl, refl)
 right_tests true false right = absurd (none-some IndexRepeated (sym right))
 right_tests false free right = absurd (none-some IndexOutOfRange (sym right))
@@ -159,7 +159,7 @@ module _ (place : ℕ) (ts : List (Option ℤ)) (m k : ℕ) (senders : List ℕ)
   front_long : length (take k ts) ≡ k
   front_long = omega (arith, length-take k ts)
 
-  found_here : (i : ℤ) → get_or ts k None ≡ Some i → get_or (wrongs m ts) k None ≡ wrong_with senders i
+  pub found_here : (i : ℤ) → get_or ts k None ≡ Some i → get_or (wrongs m ts) k None ≡ wrong_with senders i
   found_here i is =
       wrong_here m ts k lt ∙ ap (wrong_at m (take k ts)) is
       ∙ wrong-same place (take k ts) m senders i (omega (arith, front_long)) to.senders_are

@@ -1,7 +1,7 @@
 -- Senders: for each place of a permute's result, the place whose element goes there.
 -- Source: CVL's permute, d[i[k]] = s[k], in which k is the sender of its index.
-use Rattle.std.specs.Prelude.{ℕ, ◌+◌, ◌==◌, ℤ, pos, not, if◌then◌else◌, unsigned_abs, List, [], ◌∷◌, length, map, slice_index, Option, Some, None, Result, Ok, Err}
-use Rattle.std.specs.List.{range_with_len}
+use Rattle.std.specs.Prelude.{◌≡◌, ℕ, ◌+◌, ◌<◌, ◌==◌, ℤ, pos, not, if◌then◌else◌, unsigned_abs, List, [], ◌∷◌, length, map, slice_get, slice_index, slice_index_or, Option, Some, None, unwrap_or, Result, Ok, Err}
+use Rattle.std.specs.List.{range_with_len, zip}
 use Rattle.cvl_base.specs.declared.fault.Fault.{Fault}
 use Rattle.cvl_base.specs.declared.fault.FaultNo.{FaultNo}
 use Rattle.cvl_base.specs.declared.fault.FaultNo.TheVariants.{IndexOutOfRange, IndexRepeated}
@@ -34,3 +34,13 @@ place_among m i = if is_place m i then Some (unsigned_abs i) else None
 abbrev pub told : {X : Type 0} → Result X Fault → Option Fault
 told (Ok x) = None
 told (Err f) = Some f
+
+-- what stands where the elements of senders were written over values: nobody has no element, and the value stays
+abbrev pub written_over : {X : Type 0} → List X → List ℕ → List X → List X
+written_over source senders values = map (λ p. unwrap_or (slice_get source p.0) p.1) (zip senders values)
+
+-- The same of a chunk, which was `before` and is `after`, and whose first value stands at place `start`.
+abbrev pub IsWrittenFrom : {X : Type 0} → List X → List ℕ → ℕ → List X → List X → Type 0
+IsWrittenFrom {X} source senders start before after = (k : ℕ) → k < length before → (x : X)
+    → slice_index_or after k x
+    ≡ unwrap_or (slice_get source (slice_index senders (start + k))) (slice_index_or before k x)

@@ -4,7 +4,9 @@
 pub mod elements;
 pub mod places;
 pub mod sends;
+pub mod shared;
 
 pub use elements::{elements_of, elements_or_defaults};
 pub use places::{element_of, place_among};
 pub use sends::{NOBODY, send_all, send_flagged};
+pub use shared::write_elements;

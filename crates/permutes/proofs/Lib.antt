@@ -5,4 +5,5 @@ pub mod Joined
 pub mod Ranges
 pub mod Stepped
 pub mod Through
+pub mod Walked
 pub mod Whole

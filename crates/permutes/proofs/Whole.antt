@@ -1,5 +1,5 @@
 -- The segmented definitions, told by the parts of all segments.
-use Rattle.std.proofs.Common.{◌≡◌, ◌≢◌, ◌∙◌, not, inl, inr, ℕ, ◌+◌, ◌<◌, ◌≤◌, Bool, List, [], ◌∷◌, ◌++◌, length, map, filter_map, sum, take, drop, get_or, refl, sym, ap, length-append, length-drop, arith, ℤ, slice_get, unwrap_or, Option, Some, None, Result, Ok, Err}
+use Rattle.std.proofs.Common.{◌≡◌, ◌≢◌, ◌∙◌, not, inl, inr, ℕ, ◌+◌, ◌<◌, ◌≤◌, Bool, List, [], ◌∷◌, ◌++◌, length, map, filter_map, sum, take, drop, get_or, refl, sym, ap, length-append, length-drop, arith, ℤ, slice_get, unwrap_or, Result, Ok, Err}
 use Rattle.std.specs.List.{zip, enumerate_from}
 use Rattle.std.proofs.lemmas.List.{length-take-le, take-append-drop, drop_more}
 use Rattle.std.proofs.lemmas.List.Sums.{sum_by_more}
@@ -20,7 +20,7 @@ use Rattle.cvl_base.specs.SegmentedCalls.{seg_back_of, seg_default_of, seg_selec
 use Rattle.permutes.specs.Parts.{fault_from, flagged_parts, parts_of, senders_from}
 use Rattle.permute_walks.specs.Senders.{nobody}
 use Rattle.permutes.proofs.Cuts.{length-cut, nest-fits, sum-cons}
-use Rattle.permutes.proofs.Flat.{if_as_long-fits, written}
+use Rattle.permutes.proofs.Flat.{if_as_long-fits}
 use Rattle.permutes.proofs.Joined.{front_taken, front_over}
 use Rattle.permute_walks.proofs.Sent.{length-all_targets, length-flagged_targets}
 
@@ -158,16 +158,3 @@ seg_default-meaning source index defaults lengths widths total index_total defau
     let count : length segments ≡ length widths = omega (arith, length-zip (cut_of lengths source) (cut_of lengths index), length-cut lengths source, length-cut lengths index) in
     ap (end_to_end (in_vector lengths) (of_three default_of)) (beside_third-fits (beside (nest lengths source) (nest lengths index)) segments widths defaults (beside-fits lengths lengths source index total index_total refl) default_total count)
     ∙ default_walked lengths 0 0 lengths widths [] source index defaults refl refl refl total index_total default_total same (omega arith)
-
--- ---- what the walks found
-
--- a fault
-pub walk_fails : {X : Type 0} (meaning : Result (List X) Fault) (o : Option Fault) (values : List X) (f : Fault) → meaning ≡ unless o (Ok values) → Some f ≡ o → meaning ≡ Err f
-walk_fails meaning o values f is bad = is ∙ ap (λ a. unless a (Ok values)) (sym bad)
-
--- or senders and values
-pub walk_gives : {X : Type 0} (take_from : List ℕ → List X) (meaning : Result (List X) Fault) (o : Option Fault) (senders new held read : List ℕ) (n : ℕ) (items : List X) → meaning ≡ unless o (Ok (take_from senders)) → None ≡ o → n ≡ length new
-    → new ≡ senders → read ≡ take n (new ++ drop (length new) held) → items ≡ take_from read → meaning ≡ Ok items
-walk_gives take_from meaning o senders new held read n items is right long sent reads taken =
-    is ∙ ap (λ a. unless a (Ok (take_from senders))) (sym right)
-    ∙ ap Ok (sym (taken ∙ ap take_from (reads ∙ written new held n long ∙ sent)))

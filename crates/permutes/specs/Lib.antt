@@ -1,3 +1,4 @@
 pub mod Parts
 pub mod Pushed
+pub mod Walks
 pub use Rattle.permute_walks.specs.Senders

@@ -7,8 +7,9 @@ ghost use Rattle.cvl_base.specs.Permutes.{default_of};
 ghost use Rattle.cvl_base.specs.SegmentedCalls.{seg_default_of};
 
 use crate::segments::send_segments;
+use crate::sent::elements_sent_over;
 use cvl_base::{Config, Memory, Refused, check_agree};
-use permute_walks::{NOBODY, elements_or_defaults, send_all};
+use permute_walks::send_all;
 use segdes::{SegDes, check_total};
 use std::thread::Threads;
 
@@ -17,9 +18,9 @@ use std::thread::Threads;
 /// Source and index are equally long, else `LengthMismatch`, without a place; the result is as long as the defaults. The
 /// faults are those of `simple`. Source: this library's profile of CVL's default permute.
 pub fn default_into<T: Copy + Send + Sync, R: Threads + Sync, A: Memory>(
-    _rt: &R,
+    rt: &R,
     alloc: A,
-    _config: Config,
+    config: Config,
     source: &[T],
     index: &[i32],
     defaults: &[T],
@@ -29,9 +30,9 @@ pub fn default_into<T: Copy + Send + Sync, R: Threads + Sync, A: Memory>(
     ensures as_long { IfOk result (λ v. vec_len v ≡ length defaults.now) }
 {
     check_agree(source.len(), index.len())?;
-    let mut senders = vec![in alloc; NOBODY; defaults.len()]?;
-    send_all(&mut senders, 0, index)?;
-    Ok(elements_or_defaults(alloc, source, &senders, defaults)?)
+    elements_sent_over(rt, alloc, config, source, defaults, |senders| {
+        send_all(senders, 0, index)
+    })
 }
 
 /// The default permute of each segment: `def_pez` and `def_peb`.
@@ -41,9 +42,9 @@ pub fn default_into<T: Copy + Send + Sync, R: Threads + Sync, A: Memory>(
 /// long as the defaults. The faults are those of `seg_simple`, where an index is a place of the segment of the defaults.
 /// Source: this library's profile of CVL's segmented default permute.
 pub fn seg_default_into<T: Copy + Send + Sync, R: Threads + Sync, A: Memory>(
-    _rt: &R,
+    rt: &R,
     alloc: A,
-    _config: Config,
+    config: Config,
     source: &[T],
     index: &[i32],
     defaults: &[T],
@@ -59,7 +60,7 @@ pub fn seg_default_into<T: Copy + Send + Sync, R: Threads + Sync, A: Memory>(
     check_total(index, source_d)?;
     check_total(defaults, default_d)?;
     check_agree(source_d.count(), default_d.count())?;
-    let mut senders = vec![in alloc; NOBODY; defaults.len()]?;
-    send_segments(&mut senders, index, source_d, default_d)?;
-    Ok(elements_or_defaults(alloc, source, &senders, defaults)?)
+    elements_sent_over(rt, alloc, config, source, defaults, |senders| {
+        send_segments(senders, index, source_d, default_d)
+    })
 }

@@ -8,6 +8,7 @@ mod backs;
 mod defaults;
 mod segments;
 mod selects;
+mod sent;
 mod simples;
 
 pub use backs::{back, seg_back};

@@ -8,8 +8,9 @@ ghost use Rattle.cvl_base.specs.Permutes.{select_of};
 ghost use Rattle.cvl_base.specs.SegmentedCalls.{seg_select_of};
 
 use crate::segments::send_flagged_segments;
+use crate::sent::elements_sent;
 use cvl_base::{Config, Memory, Refused, check_agree};
-use permute_walks::{NOBODY, elements_of, send_flagged};
+use permute_walks::send_flagged;
 use segdes::{SegDes, check_total};
 use std::thread::Threads;
 
@@ -27,9 +28,9 @@ pub(crate) fn count_true(flags: &[bool]) -> usize
 /// true flags. The faults are those of `simple`, of the places whose flag is true; no other index is looked at. Source:
 /// this library's profile of CVL's select permute.
 pub fn select<T: Copy + Send + Sync, R: Threads + Sync, A: Memory>(
-    _rt: &R,
+    rt: &R,
     alloc: A,
-    _config: Config,
+    config: Config,
     source: &[T],
     index: &[i32],
     flags: &[bool],
@@ -40,9 +41,10 @@ pub fn select<T: Copy + Send + Sync, R: Threads + Sync, A: Memory>(
 {
     check_agree(source.len(), index.len())?;
     check_agree(index.len(), flags.len())?;
-    let mut senders = vec![in alloc; NOBODY; count_true(flags)]?;
-    send_flagged(&mut senders, 0, index, flags)?;
-    Ok(elements_of(alloc, source, &senders)?)
+    let places = count_true(flags);
+    elements_sent(rt, alloc, config, source, places, |senders| {
+        send_flagged(senders, 0, index, flags)
+    })
 }
 
 /// The select permute of each segment: `sel_pez` and `sel_peb`.
@@ -51,9 +53,9 @@ pub fn select<T: Copy + Send + Sync, R: Threads + Sync, A: Memory>(
 /// segment of the result is as long as the segment has true flags. The faults are those of `seg_simple`, of the places
 /// whose flag is true; no other index is looked at. Source: this library's profile of CVL's segmented select permute.
 pub fn seg_select<T: Copy + Send + Sync, R: Threads + Sync, A: Memory>(
-    _rt: &R,
+    rt: &R,
     alloc: A,
-    _config: Config,
+    config: Config,
     source: &[T],
     index: &[i32],
     flags: &[bool],
@@ -67,7 +69,8 @@ pub fn seg_select<T: Copy + Send + Sync, R: Threads + Sync, A: Memory>(
     check_total(source, d)?;
     check_total(index, d)?;
     check_total(flags, d)?;
-    let mut senders = vec![in alloc; NOBODY; count_true(flags)]?;
-    send_flagged_segments(&mut senders, index, flags, d)?;
-    Ok(elements_of(alloc, source, &senders)?)
+    let places = count_true(flags);
+    elements_sent(rt, alloc, config, source, places, |senders| {
+        send_flagged_segments(senders, index, flags, d)
+    })
 }

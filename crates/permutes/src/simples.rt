@@ -7,8 +7,9 @@ ghost use Rattle.cvl_base.specs.Permutes.{simple_of};
 ghost use Rattle.cvl_base.specs.SegmentedCalls.{seg_simple_of};
 
 use crate::segments::send_segments;
+use crate::sent::elements_sent;
 use cvl_base::{Config, Memory, Refused, check_agree};
-use permute_walks::{NOBODY, elements_of, send_all};
+use permute_walks::send_all;
 use segdes::{SegDes, check_total};
 use std::thread::Threads;
 
@@ -18,9 +19,9 @@ use std::thread::Threads;
 /// that is no place of the result is `IndexOutOfRange` at its place, and one that an earlier place has too is
 /// `IndexRepeated` at the later place. The fault of the first bad place counts. Source: CVL's permute.
 pub fn simple<T: Copy + Send + Sync, R: Threads + Sync, A: Memory>(
-    _rt: &R,
+    rt: &R,
     alloc: A,
-    _config: Config,
+    config: Config,
     source: &[T],
     index: &[i32],
 ) -> Result<Vec<T, A>, Refused>
@@ -29,9 +30,9 @@ pub fn simple<T: Copy + Send + Sync, R: Threads + Sync, A: Memory>(
     ensures in_length { IfOk result (λ v. vec_len v ≤ length index.now) }
 {
     check_agree(source.len(), index.len())?;
-    let mut senders = vec![in alloc; NOBODY; index.len()]?;
-    send_all(&mut senders, 0, index)?;
-    Ok(elements_of(alloc, source, &senders)?)
+    elements_sent(rt, alloc, config, source, index.len(), |senders| {
+        send_all(senders, 0, index)
+    })
 }
 
 /// The simple permute of each segment: `smp_pez` and `smp_peb`.
@@ -41,9 +42,9 @@ pub fn simple<T: Copy + Send + Sync, R: Threads + Sync, A: Memory>(
 /// one that an earlier place of the segment has too is `IndexRepeated` at the later place. The fault of the first bad
 /// place counts, a place of the whole index. Source: CVL's segmented permute.
 pub fn seg_simple<T: Copy + Send + Sync, R: Threads + Sync, A: Memory>(
-    _rt: &R,
+    rt: &R,
     alloc: A,
-    _config: Config,
+    config: Config,
     source: &[T],
     index: &[i32],
     d: &SegDes<A>,
@@ -54,7 +55,7 @@ pub fn seg_simple<T: Copy + Send + Sync, R: Threads + Sync, A: Memory>(
 {
     check_total(source, d)?;
     check_total(index, d)?;
-    let mut senders = vec![in alloc; NOBODY; index.len()]?;
-    send_segments(&mut senders, index, d, d)?;
-    Ok(elements_of(alloc, source, &senders)?)
+    elements_sent(rt, alloc, config, source, index.len(), |senders| {
+        send_segments(senders, index, d, d)
+    })
 }

@@ -1,31 +1,29 @@
-use Rattle.std.proofs.Common.{ℕ, List, Err, ◌∙◌, ap, sym, arith, map, slice_get, unwrap_or}
-use Rattle.std.specs.List.{zip}
+use Rattle.std.proofs.Common.{◌≡◌, ◌∙◌, ap, subst, sym, arith, refl, rules, OnOk, Err}
 use Rattle.std.proofs.lemmas.Result.{err_from_is_err_and}
-use Rattle.cvl_base.specs.SegmentedCalls.{seg_default_of}
+use Rattle.cvl_base.specs.Gives.{Gives}
 use Rattle.permutes.specs.Parts.{fault_from, parts_of, senders_from}
-use Rattle.permutes.proofs.Whole.{seg_default-meaning, seg_default-differ, walk_gives, walk_fails}
+use Rattle.permute_walks.specs.Senders.{told}
+use Rattle.permutes.proofs.Through.{places-parts}
+use Rattle.permutes.proofs.Walked.{sends_at, length-senders_from}
+use Rattle.permutes.proofs.Whole.{seg_default-meaning, seg_default-differ}
 use Rattle.permutes.proofs.defaults.seg_default_into.Goals as goal
-
-pub returns-in_err-send_segments-clause-values : goal.returns-in_err-send_segments-clause-values
-returns-in_err-send_segments-clause-values g c =
-    let d = c.args.source_d.now in
-    let parts = parts_of d c.args.default_d.now c.args.index.now in
-    let p = err_from_is_err_and c.from_residual-in_err-send_segments.result c.from_residual-in_err-send_segments.ensures.1 in
-    rw (p.1, p.2)
-    (walk_fails (seg_default_of c.args.source.now c.args.index.now c.args.defaults.now d c.args.default_d.now) (fault_from 0 parts)
-    (map (λ p. unwrap_or (slice_get c.args.source.now p.0) p.1) (zip (senders_from 0 parts) c.args.defaults.now)) c.in_err-send_segments.field-0.0
-    (seg_default-meaning c.args.source.now c.args.index.now c.args.defaults.now d c.args.default_d.now c.in_ok-check_total.ensures.agrees c.in_ok-check_total-2.ensures.agrees c.in_ok-check_total-3.ensures.agrees (omega (arith, c.in_ok-check_agree.ensures)) c.requires.in_limit)
-    c.in_err-send_segments.ensures.fault)
 
 pub returns-clause-values : goal.returns-clause-values
 returns-clause-values g c =
+    let source = c.args.source.now in
+    let index = c.args.index.now in
+    let defaults = c.args.defaults.now in
     let d = c.args.source_d.now in
-    let parts = parts_of d c.args.default_d.now c.args.index.now in
-    walk_gives (λ (senders : List ℕ). map (λ p. unwrap_or (slice_get c.args.source.now p.0) p.1) (zip senders c.args.defaults.now)) (seg_default_of c.args.source.now c.args.index.now c.args.defaults.now d c.args.default_d.now) (fault_from 0 parts) (senders_from 0 parts)
-    c.send_segments.new.senders c.in_ok-senders.senders.items c.deref.result.now c.in_ok-senders.senders.len c.in_ok-elements_or_defaults.field-0.items
-    (seg_default-meaning c.args.source.now c.args.index.now c.args.defaults.now d c.args.default_d.now c.in_ok-check_total.ensures.agrees c.in_ok-check_total-2.ensures.agrees c.in_ok-check_total-3.ensures.agrees (omega (arith, c.in_ok-check_agree.ensures)) c.requires.in_limit)
-    c.in_ok-send_segments.ensures.fault (omega (arith, c.send_segments.auto.senders, c.deref_mut.ensures.len, c.in_ok-senders.ensures.len))
-    c.in_ok-send_segments.ensures.sent c.deref.ensures.value c.in_ok-elements_or_defaults.ensures.values
+    let widths = c.args.default_d.now in
+    let parts = parts_of d widths index in
+    let source_total = c.in_ok-check_total.ensures.agrees in
+    let total = c.in_ok-check_total-2.ensures.agrees in
+    let default_total = c.in_ok-check_total-3.ensures.agrees in
+    subst (Gives (λ v. v.items) c.elements_sent_over.result) (sym (seg_default-meaning source index defaults d widths source_total total default_total (omega (arith, c.in_ok-check_agree.ensures)) c.requires.in_limit))
+    (c.elements_sent_over.ensures.values (fault_from 0 parts) (senders_from 0 parts) (length-senders_from 0 parts ∙ places-parts d widths index (omega (arith, c.in_ok-check_agree.ensures)) ∙ default_total)
+    (λ given left p.
+    let met : (told given ≡ fault_from 0 parts) × OnOk given (p.left.now ≡ senders_from 0 parts) = search rules in
+    sends_at (λ n. fault_from 0 parts) (λ n. senders_from 0 parts) given p.left.now left 0 0 refl p.leaves met))
 
 pub returns-in_err-check_agree-clause-values : goal.returns-in_err-check_agree-clause-values
 returns-in_err-check_agree-clause-values g c =

@@ -1,26 +1,25 @@
-use Rattle.std.proofs.Common.{arith, filter_map, slice_get}
-use Rattle.std.proofs.lemmas.Result.{err_from_is_err_and}
-use Rattle.cvl_base.specs.SegmentedCalls.{seg_select_of}
+use Rattle.std.proofs.Common.{◌≡◌, ◌∙◌, subst, sym, arith, length, refl, rules, OnOk}
+use Rattle.cvl_base.specs.Gives.{Gives}
 use Rattle.permutes.specs.Parts.{fault_from, flagged_parts, senders_from}
-use Rattle.permutes.proofs.Whole.{seg_select-meaning, walk_gives, walk_fails}
+use Rattle.permute_walks.specs.Senders.{told}
+use Rattle.permutes.proofs.Through.{places-flagged_parts}
+use Rattle.permutes.proofs.Walked.{sends_at, flagged_segments_sent, length-senders_from}
+use Rattle.permutes.proofs.Whole.{seg_select-meaning}
 use Rattle.permutes.proofs.selects.seg_select.Goals as goal
-
-pub returns-in_err-send_flagged_segments-clause-values : goal.returns-in_err-send_flagged_segments-clause-values
-returns-in_err-send_flagged_segments-clause-values g c =
-    let d = c.args.d.now in
-    let parts = flagged_parts d c.args.index.now c.args.flags.now in
-    let p = err_from_is_err_and c.from_residual-in_err-send_flagged_segments.result c.from_residual-in_err-send_flagged_segments.ensures.1 in
-    rw (p.1, p.2)
-    (walk_fails (seg_select_of c.args.source.now c.args.index.now c.args.flags.now d) (fault_from 0 parts) (filter_map (slice_get c.args.source.now) (senders_from 0 parts)) c.in_err-send_flagged_segments.field-0.0
-    (seg_select-meaning c.args.source.now c.args.index.now c.args.flags.now d c.in_ok-check_total.ensures.agrees c.in_ok-check_total-2.ensures.agrees c.in_ok-check_total-3.ensures.agrees c.requires.in_limit)
-    c.in_err-send_flagged_segments.ensures.fault)
 
 pub returns-clause-values : goal.returns-clause-values
 returns-clause-values g c =
+    let source = c.args.source.now in
+    let index = c.args.index.now in
+    let flags = c.args.flags.now in
     let d = c.args.d.now in
-    let parts = flagged_parts d c.args.index.now c.args.flags.now in
-    walk_gives (filter_map (slice_get c.args.source.now)) (seg_select_of c.args.source.now c.args.index.now c.args.flags.now d) (fault_from 0 parts) (senders_from 0 parts)
-    c.send_flagged_segments.new.senders c.in_ok-senders.senders.items c.deref.result.now c.in_ok-senders.senders.len c.in_ok-elements_of.field-0.items
-    (seg_select-meaning c.args.source.now c.args.index.now c.args.flags.now d c.in_ok-check_total.ensures.agrees c.in_ok-check_total-2.ensures.agrees c.in_ok-check_total-3.ensures.agrees c.requires.in_limit)
-    c.in_ok-send_flagged_segments.ensures.fault (omega (arith, c.send_flagged_segments.auto.senders, c.deref_mut.ensures.len, c.in_ok-senders.ensures.len))
-    c.in_ok-send_flagged_segments.ensures.sent c.deref.ensures.value c.in_ok-elements_of.ensures.values
+    let parts = flagged_parts d index flags in
+    let source_total = c.in_ok-check_total.ensures.agrees in
+    let total = c.in_ok-check_total-2.ensures.agrees in
+    let flag_total = c.in_ok-check_total-3.ensures.agrees in
+    subst (Gives (λ v. v.items) c.elements_sent.result) (sym (seg_select-meaning source index flags d source_total total flag_total c.requires.in_limit))
+    (c.elements_sent.ensures.values (fault_from 0 parts) (senders_from 0 parts) (length-senders_from 0 parts ∙ places-flagged_parts d index flags flag_total ∙ sym c.count_true-places.ensures.value)
+    (flagged_segments_sent (length source) (omega (arith, source_total, total, c.requires.in_limit)) 0 d index flags total (sym total ∙ flag_total) (omega (arith, source_total, total)))
+    (λ given left p.
+    let met : (told given ≡ fault_from 0 parts) × OnOk given (p.left.now ≡ senders_from 0 parts) = search rules in
+    sends_at (λ n. fault_from 0 parts) (λ n. senders_from 0 parts) given p.left.now left 0 0 refl p.leaves met))

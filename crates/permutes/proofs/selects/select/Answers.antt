@@ -1,10 +1,25 @@
-use Rattle.std.proofs.Common.{length, arith}
-use Rattle.permutes.proofs.Flat.{select-ok}
+use Rattle.std.proofs.Common.{◌≡◌, ◌∙◌, ap, subst, sym, arith, length, rules, OnOk}
+use Rattle.std.proofs.lemmas.List.{length-replicate}
+use Rattle.cvl_base.specs.Gives.{Gives}
+use Rattle.cvl_base.specs.Packs.{count_of}
+use Rattle.cvl_base.specs.Permutes.{first_fault, flagged_targets, wrongs}
+use Rattle.permute_walks.specs.Senders.{nobody, senders_of, told}
+use Rattle.permute_walks.proofs.Sent.{length-senders_of}
+use Rattle.permutes.proofs.Flat.{select-meaning}
+use Rattle.permutes.proofs.Walked.{sends_at, select_sent}
 use Rattle.permutes.proofs.selects.select.Goals as goal
 
 pub returns-clause-values : goal.returns-clause-values
 returns-clause-values g c =
-    select-ok c.args.source.now c.args.index.now c.args.flags.now (length c.deref_mut.result.now) c.in_ok-senders.senders.len c.send_flagged.new.senders c.in_ok-senders.senders.items c.deref.result.now c.in_ok-elements_of.field-0.items
-    c.in_ok-check_agree.ensures c.in_ok-check_agree-2.ensures c.requires.in_limit
-    (omega (arith, c.in_ok-senders.ensures.len, c.deref_mut.ensures.len, c.count_true.ensures.value)) (omega (arith, c.in_ok-senders.ensures.len, c.deref_mut.ensures.len))
-    c.in_ok-send_flagged.ensures.fault c.in_ok-send_flagged.ensures.sent c.deref.ensures.value c.in_ok-elements_of.ensures.values
+    let source = c.args.source.now in
+    let index = c.args.index.now in
+    let flags = c.args.flags.now in
+    let ts = flagged_targets index flags in
+    let places = count_of flags in
+    let counted : c.count_true-places.result ≡ places = c.count_true-places.ensures.value in
+    subst (Gives (λ v. v.items) c.elements_sent.result) (sym (select-meaning source index flags c.in_ok-check_agree.ensures c.in_ok-check_agree-2.ensures c.requires.in_limit))
+    (c.elements_sent.ensures.values (first_fault 0 (wrongs places ts)) (senders_of 0 ts places) (length-senders_of 0 ts places ∙ sym counted)
+    (select_sent index flags (length source) c.in_ok-check_agree.ensures c.in_ok-check_agree-2.ensures (omega (arith, c.requires.in_limit)))
+    (λ given left p.
+    let met : (told given ≡ first_fault 0 (wrongs (length p.shown.now) ts)) × OnOk given (p.left.now ≡ senders_of 0 ts (length p.shown.now)) = search rules in
+    sends_at (λ n. first_fault 0 (wrongs n ts)) (senders_of 0 ts) given p.left.now left (length p.shown.now) places (ap length p.shows ∙ length-replicate c.count_true-places.result nobody ∙ counted) p.leaves met))

@@ -1,26 +1,22 @@
-use Rattle.std.proofs.Common.{arith, filter_map, slice_get}
-use Rattle.std.proofs.lemmas.Result.{err_from_is_err_and}
-use Rattle.cvl_base.specs.SegmentedCalls.{seg_simple_of}
+use Rattle.std.proofs.Common.{◌≡◌, ◌∙◌, subst, sym, arith, length, refl, rules, OnOk}
+use Rattle.cvl_base.specs.Gives.{Gives}
 use Rattle.permutes.specs.Parts.{fault_from, parts_of, senders_from}
-use Rattle.permutes.proofs.Whole.{seg_simple-meaning, walk_gives, walk_fails}
+use Rattle.permute_walks.specs.Senders.{told}
+use Rattle.permutes.proofs.Through.{places-parts}
+use Rattle.permutes.proofs.Walked.{sends_at, segments_sent, length-senders_from}
+use Rattle.permutes.proofs.Whole.{seg_simple-meaning}
 use Rattle.permutes.proofs.simples.seg_simple.Goals as goal
-
-pub returns-in_err-send_segments-clause-values : goal.returns-in_err-send_segments-clause-values
-returns-in_err-send_segments-clause-values g c =
-    let d = c.args.d.now in
-    let parts = parts_of d d c.args.index.now in
-    let p = err_from_is_err_and c.from_residual-in_err-send_segments.result c.from_residual-in_err-send_segments.ensures.1 in
-    rw (p.1, p.2)
-    (walk_fails (seg_simple_of c.args.source.now c.args.index.now d) (fault_from 0 parts) (filter_map (slice_get c.args.source.now) (senders_from 0 parts)) c.in_err-send_segments.field-0.0
-    (seg_simple-meaning c.args.source.now c.args.index.now d c.in_ok-check_total.ensures.agrees c.in_ok-check_total-2.ensures.agrees c.requires.in_limit)
-    c.in_err-send_segments.ensures.fault)
 
 pub returns-clause-values : goal.returns-clause-values
 returns-clause-values g c =
+    let source = c.args.source.now in
+    let index = c.args.index.now in
     let d = c.args.d.now in
-    let parts = parts_of d d c.args.index.now in
-    walk_gives (filter_map (slice_get c.args.source.now)) (seg_simple_of c.args.source.now c.args.index.now d) (fault_from 0 parts) (senders_from 0 parts)
-    c.send_segments.new.senders c.in_ok-senders.senders.items c.deref.result.now c.in_ok-senders.senders.len c.in_ok-elements_of.field-0.items
-    (seg_simple-meaning c.args.source.now c.args.index.now d c.in_ok-check_total.ensures.agrees c.in_ok-check_total-2.ensures.agrees c.requires.in_limit)
-    c.in_ok-send_segments.ensures.fault (omega (arith, c.send_segments.auto.senders, c.deref_mut.ensures.len, c.in_ok-senders.ensures.len))
-    c.in_ok-send_segments.ensures.sent c.deref.ensures.value c.in_ok-elements_of.ensures.values
+    let parts = parts_of d d index in
+    let total = c.in_ok-check_total-2.ensures.agrees in
+    subst (Gives (λ v. v.items) c.elements_sent.result) (sym (seg_simple-meaning source index d c.in_ok-check_total.ensures.agrees total c.requires.in_limit))
+    (c.elements_sent.ensures.values (fault_from 0 parts) (senders_from 0 parts) (length-senders_from 0 parts ∙ places-parts d d index refl ∙ total)
+    (segments_sent (length source) (omega (arith, c.in_ok-check_total.ensures.agrees, total, c.requires.in_limit)) 0 d index total (omega (arith, c.in_ok-check_total.ensures.agrees, total)))
+    (λ given left p.
+    let met : (told given ≡ fault_from 0 parts) × OnOk given (p.left.now ≡ senders_from 0 parts) = search rules in
+    sends_at (λ n. fault_from 0 parts) (λ n. senders_from 0 parts) given p.left.now left 0 0 refl p.leaves met))

@@ -1,0 +1,122 @@
+-- Both walks: what follows of a first walk that tells a fault or leaves senders.
+use Rattle.std.proofs.Common.{◌≡◌, ◌∙◌, ℕ, ◌+◌, ◌<◌, ◌≤◌, Bool, List, [], ◌∷◌, length, map, sum, take, drop, refl, sym, ap, subst, length-append, length-drop, arith, ℤ, Option, Some, None, Result, Ok, Err, OnOk}
+use Rattle.std.specs.List.{All, sum_by}
+use Rattle.std.specs.Option.{option_or}
+use Rattle.std.proofs.lemmas.List.{length-take-le}
+use Rattle.std.proofs.lemmas.List.Elements.{All-append, All-nil, All-weaker}
+use Rattle.std.proofs.lemmas.Option.{none-some}
+use Rattle.cvl_base.specs.declared.fault.Fault.{Fault}
+use Rattle.cvl_base.specs.declared.refused.Refused.{Refused}
+use Rattle.cvl_base.specs.declared.refused.Refused.TheVariants as refused
+use Rattle.cvl_base.specs.Gives.{Gives, unless}
+use Rattle.cvl_base.specs.Packs.{count_of}
+use Rattle.cvl_base.specs.Permutes.{all_targets, first_fault, flagged_targets, wrongs}
+use Rattle.permutes.specs.Parts.{fault_from, flagged_parts, parts_of, senders_from}
+use Rattle.permutes.specs.Walks.{AreAllSent, IsFound, Sends}
+use Rattle.permute_walks.specs.Senders.{nobody, senders_of, told}
+use Rattle.permutes.proofs.Cuts.{sum-cons}
+use Rattle.permutes.proofs.Through.{places_of}
+use Rattle.permute_walks.proofs.EachSent.{takes_part, each_sent, all_take_part, flagged_take_part}
+use Rattle.permute_walks.proofs.Sent.{length-senders_of, length-all_targets, length-flagged_targets}
+
+-- ---- a fault or senders
+
+-- the walk left senders
+pub found_ok : (fault : Option Fault) (senders left items : List ℕ) → None ≡ fault → left ≡ senders → items ≡ left → unless fault (Ok senders) ≡ Ok items
+found_ok fault senders left items none are is = ap (λ o. unless o (Ok senders)) (sym none) ∙ ap Ok (sym (is ∙ are))
+
+-- it told a fault
+pub found_fault : {X : Type 0} (fault : Option Fault) (xs : X) (f : Fault) → Some f ≡ fault → unless fault (Ok xs) ≡ Err f
+found_fault fault xs f is = ap (λ o. unless o (Ok xs)) (sym is)
+
+-- the second walk takes from the senders that were found
+pub taken_ok : {X : Type 0} (take_from : List ℕ → List X) (fault : Option Fault) (senders found : List ℕ) (items : List X) → unless fault (Ok senders) ≡ Ok found → (fault ≡ None → found ≡ senders → items ≡ take_from senders)
+    → unless fault (Ok (take_from senders)) ≡ Ok items
+taken_ok take_from None senders found items same taken = let are : senders ≡ found = cc in ap Ok (sym (taken refl (sym are)))
+taken_ok take_from (Some f) senders found items same taken = absurd (cc)
+
+-- a refusal of the first walk is that of both
+pub taken_err : {X V W : Type 0} (view : V → List ℕ) (see : W → List X) (fault : Option Fault) (senders : List ℕ) (xs : List X) (e : Refused) → Gives view (Err e) (unless fault (Ok senders)) → Gives see (Err e) (unless fault (Ok xs))
+taken_err view see (Some f) senders xs (refused.Fault g) given = cc
+taken_err view see None senders xs (refused.Fault g) given = absurd (cc)
+taken_err view see fault senders xs refused.NoResources given = tt
+
+-- the same where the first walk's answer is known by an equation
+module _ {V : Type 0} (leaves : Result (Unit {0}) Fault → List ℕ → Type 0) (view : V → List ℕ) (places : ℕ) (r : Result V Refused) (found : IsFound leaves view places r) (fault : Option Fault) (senders : List ℕ) (long : length senders ≡ places) (sends : Sends leaves fault senders) where
+  pub found_at : (v : V) → r ≡ Ok v → unless fault (Ok senders) ≡ Ok (view v)
+  found_at v is = subst (λ a. Gives view a (unless fault (Ok senders))) is (found.1 fault senders long sends)
+
+  pub refused_at : {X W : Type 0} (see : W → List X) (e : Refused) (xs : List X) → r ≡ Err e → Gives see (Err e) (unless fault (Ok xs))
+  refused_at see e xs is = taken_err view see fault senders xs e (subst (λ a. Gives view a (unless fault (Ok senders))) is (found.1 fault senders long sends))
+
+-- what a walk gave and left where it was shown m senders and left some that a vector holds
+pub sends_at : (fault_of : ℕ → Option Fault) (senders_at : ℕ → List ℕ) (given : Result (Unit {0}) Fault) (now left : List ℕ) (m n : ℕ) → m ≡ n → now ≡ left
+    → (told given ≡ fault_of m) × OnOk given (now ≡ senders_at m) → (told given ≡ fault_of n) × OnOk given (left ≡ senders_at n)
+sends_at fault_of senders_at given now left m n same is met =
+    subst (λ k. (told given ≡ fault_of k) × OnOk given (left ≡ senders_at k)) same
+    (subst (λ xs. (told given ≡ fault_of m) × OnOk given (xs ≡ senders_at m)) is met)
+
+-- ---- each place of a result has a sender
+
+pub simple_sent : (index : List ℤ) (n : ℕ) → n ≡ length index → length index ≤ nobody → AreAllSent (first_fault 0 (wrongs (length index) (all_targets index))) n (senders_of 0 (all_targets index) (length index))
+simple_sent index n same few right =
+    let long = length-all_targets index in
+    All-weaker (λ s. s < 0 + length (all_targets index)) (λ s. s < n) (λ s below. omega (arith, long)) (senders_of 0 (all_targets index) (length index))
+    (each_sent 0 (all_targets index) (length index) (omega (arith, long)) (sym right) (all_take_part index))
+
+pub select_sent : (index : List ℤ) (flags : List Bool) (n : ℕ) → n ≡ length index → length index ≡ length flags → length index ≤ nobody
+    → AreAllSent (first_fault 0 (wrongs (count_of flags) (flagged_targets index flags))) n (senders_of 0 (flagged_targets index flags) (count_of flags))
+select_sent index flags n same flagged few right =
+    let ts = flagged_targets index flags in
+    let long = length-flagged_targets index flags flagged in
+    All-weaker (λ s. s < 0 + length ts) (λ s. s < n) (λ s below. omega (arith, long)) (senders_of 0 ts (count_of flags))
+    (each_sent 0 ts (count_of flags) (omega (arith, long)) (sym right) (flagged_take_part index flags flagged))
+
+-- ---- by segments
+
+neither : (o others : Option Fault) → option_or o others ≡ None → (o ≡ None) × (others ≡ None)
+neither None others none = (refl, none)
+neither (Some f) others none = absurd (none-some f (sym none))
+
+-- the targets of a part stand before n, and as many take part as its result has places
+module _ (n : ℕ) (few : n ≤ nobody) where
+  in_front : (place m : ℕ) (ts : List (Option ℤ)) (parts : List (ℕ × List (Option ℤ))) → place + length ts ≤ n → sum_by takes_part ts ≡ m
+      → (fault_from (place + length ts) parts ≡ None → All (λ s. s < n) (senders_from (place + length ts) parts))
+      → fault_from place ((m, ts) ∷ parts) ≡ None → All (λ s. s < n) (senders_from place ((m, ts) ∷ parts))
+  in_front place m ts parts within as_many rest right =
+      let none = neither (first_fault place (wrongs m ts)) (fault_from (place + length ts) parts) right in
+      All-append (λ s. s < n) (senders_of place ts m) (senders_from (place + length ts) parts)
+      (All-weaker (λ s. s < place + length ts) (λ s. s < n) (λ s below. omega arith) (senders_of place ts m) (each_sent place ts m (omega arith) (sym none.0) as_many))
+      (rest none.1)
+
+  pub segments_sent : (place : ℕ) (lengths : List ℕ) (index : List ℤ) → sum lengths ≡ length index → place + length index ≤ n → AreAllSent (fault_from place (parts_of lengths lengths index)) n (senders_from place (parts_of lengths lengths index))
+  segments_sent place [] index total within right = All-nil (λ s. s < n)
+  segments_sent place (k ∷ ks) index total within right =
+      let js = take k index in
+      let whole = sum-cons k ks in
+      let long : length js ≡ k = length-take-le k index (omega (arith, whole)) in
+      let count = length-all_targets js in
+      let left = length-drop k index in
+      in_front place k (all_targets js) (parts_of ks ks (drop k index)) (omega (arith, long, count, whole)) (all_take_part js ∙ long)
+      (segments_sent (place + length (all_targets js)) ks (drop k index) (omega (arith, whole, left)) (omega (arith, long, count, whole, left))) right
+
+  pub flagged_segments_sent : (place : ℕ) (lengths : List ℕ) (index : List ℤ) (flags : List Bool) → sum lengths ≡ length index → length index ≡ length flags → place + length index ≤ n
+      → AreAllSent (fault_from place (flagged_parts lengths index flags)) n (senders_from place (flagged_parts lengths index flags))
+  flagged_segments_sent place [] index flags total same within right = All-nil (λ s. s < n)
+  flagged_segments_sent place (k ∷ ks) index flags total same within right =
+      let js = take k index in
+      let fs = take k flags in
+      let whole = sum-cons k ks in
+      let long : length js ≡ k = length-take-le k index (omega (arith, whole)) in
+      let flag_long : length fs ≡ k = length-take-le k flags (omega (arith, whole)) in
+      let count = length-flagged_targets js fs (long ∙ sym flag_long) in
+      let left = length-drop k index in
+      let flags_left = length-drop k flags in
+      in_front place (count_of fs) (flagged_targets js fs) (flagged_parts ks (drop k index) (drop k flags)) (omega (arith, long, count, whole)) (flagged_take_part js fs (long ∙ sym flag_long))
+      (flagged_segments_sent (place + length (flagged_targets js fs)) ks (drop k index) (drop k flags) (omega (arith, whole, left)) (omega (arith, left, flags_left)) (omega (arith, long, count, whole, left))) right
+
+-- as many senders as places
+pub length-senders_from : (place : ℕ) (parts : List (ℕ × List (Option ℤ))) → length (senders_from place parts) ≡ places_of parts
+length-senders_from place [] = refl
+length-senders_from place ((m, ts) ∷ parts) =
+    omega (arith, length-append (senders_of place ts m) (senders_from (place + length ts) parts), length-senders_of place ts m, length-senders_from (place + length ts) parts, sum-cons m (map (λ (p : ℕ × List (Option ℤ)). p.0) parts))
