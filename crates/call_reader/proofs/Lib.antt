@@ -1,10 +1,8 @@
 pub mod Arguments
 pub mod Bindings
 pub mod Comments
-pub mod DecimalTexts
 pub mod DigitLanes
 pub mod InputWalk
 pub mod NumberWalk
 pub mod ReadBack
-pub mod Spaces
 pub mod TokenWalk

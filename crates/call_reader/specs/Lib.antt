@@ -1,5 +1,5 @@
 pub mod Inputs
 pub mod Lines
 pub mod Numbers
-pub mod Texts
+pub use Rattle.value_texts.specs.Texts
 pub mod Tokens

@@ -9,11 +9,8 @@ mod line_tokens;
 mod lines;
 mod number;
 pub mod text_laws;
-mod texts;
 pub mod token;
-mod vector_text;
-mod written;
 
 pub use inputs::{read_vector, worked_inputs};
 pub use lines::read_line;
-pub use texts::put_value;
+pub use value_texts::put_value;

@@ -1,6 +1,3 @@
-mod Cuts
 mod NamedFiles
 mod Performed
 mod Shown
-mod Taken
-mod Underway

@@ -3,7 +3,7 @@ use Rattle.std.proofs.Common.{◌≡◌, ℕ, zero, suc, ◌<◌, List, [], ◌�
 use Rattle.std.specs.Borrow.{Bor}
 use Rattle.std.specs.List.{All, AllZip, slice_index_or}
 use Rattle.clap.specs.Walk.{Text, texts}
-use Rattle.shell.specs.Hosts.{Files}
+use Rattle.script_runs.specs.Hosts.{Files}
 use Rattle.shell.specs.Programs.{IsFirstUnread, IsReadable}
 
 pub zip_push : {X Y : Type 0} (R : X → Y → Type 0) (xs : List X) (ys : List Y) (x : X) (y : Y) → AllZip R xs ys → R x y

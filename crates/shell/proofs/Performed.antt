@@ -4,12 +4,12 @@ use Rattle.clap.specs.Words.{IsAmong, Text, fault_of}
 use Rattle.clap.specs.declared.error.kind.ErrorKind.TheVariants.{DisplayHelp}
 use Rattle.command_line.specs.Command.{cvl}
 use Rattle.command_line.specs.Reads.{inputs_given, script_given}
-use Rattle.shell.specs.Ends.{failures_in}
-use Rattle.shell.specs.Hosts.{Seen, after_puts}
+use Rattle.script_runs.specs.Ends.{failures_in}
+use Rattle.script_runs.specs.Hosts.{Seen, after_puts}
 use Rattle.shell.specs.ProgramParts.{Closes, Finishes, PutsHelp, RunsOrMisses}
 use Rattle.shell.specs.Programs.{IsHelp, Performs, Starves, Works, end_of, ended, unreadable}
-use Rattle.shell.specs.declared.stop.Stop.{Stop}
-use Rattle.shell.specs.declared.stop.Stop.TheVariants as stop
+use Rattle.script_runs.specs.declared.stop.Stop.{Stop}
+use Rattle.script_runs.specs.declared.stop.Stop.TheVariants as stop
 use Rattle.shell.proofs.Shown.{nothing_put}
 
 -- work, and then its end

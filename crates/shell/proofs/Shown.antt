@@ -1,8 +1,8 @@
 -- What a host shows after one part of the program.
 use Rattle.std.proofs.Common.{◌≡◌, ◌∙◌, ℕ, ◌+◌, add-zero, List, [], ◌++◌, Option, Some, None, option_map, refl, ap, sym, inl, inr}
-use Rattle.shell.specs.Hosts.{Aside, Seen, Tells, after_puts, seen, with_message}
+use Rattle.std.proofs.lemmas.List.{append-nil}
+use Rattle.script_runs.specs.Hosts.{Aside, Seen, Tells, after_puts, seen, with_message}
 use Rattle.shell.specs.ProgramParts.{Spoke, SpokeOfWords}
-use Rattle.shell.proofs.Taken.{nothing_taken}
 
 -- bytes are put, and some of the puts fail
 pub shown_put : (output output_after : Option (List ℕ)) (failed failed_after : ℕ) (aside aside_after : Aside) (written : List ℕ) (puts : ℕ)
@@ -10,6 +10,10 @@ pub shown_put : (output output_after : Option (List ℕ)) (failed failed_after :
     → seen output_after failed_after aside_after ≡ after_puts written puts (seen output failed aside)
 shown_put output output_after failed failed_after aside aside_after written puts out fail same =
     λ i. record { output = out i; failed_puts = fail i; aside = same i }
+
+nothing_taken : (output : Option (List ℕ)) → output ≡ option_map (λ taken. taken ++ []) output
+nothing_taken None = refl
+nothing_taken (Some taken) = rw append-nil refl
 
 pub nothing_put : (s : Seen) → s ≡ after_puts [] 0 s
 nothing_put s =

@@ -2,10 +2,10 @@
 -- Source: this library's program.
 use Rattle.std.specs.Prelude.{◌≡◌, ◌⊎◌, ℕ, Bool, List, ◌∷◌, Option, Result}
 use Rattle.clap.specs.Words.{Text}
-use Rattle.shell.specs.Ends.{failures_in}
-use Rattle.shell.specs.Hosts.{Seen, after_flush, after_message, after_puts}
+use Rattle.script_runs.specs.Ends.{failures_in}
+use Rattle.script_runs.specs.Hosts.{Seen, after_flush, after_message, after_puts}
 use Rattle.shell.specs.Programs.{IsFirstUnread, IsHelp, IsMessage, RunsFiles, Says, Starves, end_of, ended, status_of, unreadable_line}
-use Rattle.shell.specs.declared.stop.Stop.{Stop}
+use Rattle.script_runs.specs.declared.stop.Stop.{Stop}
 
 -- standard error takes the line, or nothing
 abbrev pub Spoke : List ℕ → Seen → Seen → Type 0

@@ -9,12 +9,12 @@ use Rattle.command_line.specs.Command.{cvl}
 use Rattle.command_line.specs.Reads.{inputs_given, script_given}
 use Rattle.vector_handles.specs.declared.input.Input.{Input}
 use Rattle.vector_handles.specs.declared.input.Input.TheVariants.{Bytes, Vector}
-use Rattle.shell.specs.Ends.{EndsAs, failures_in}
-use Rattle.shell.specs.Hosts.{Files, Holds, Seen, after_flush, after_message, after_puts}
-use Rattle.shell.specs.Meaning.{meaning}
-use Rattle.shell.specs.StopTexts.{stop_line}
-use Rattle.shell.specs.declared.stop.Stop.{Stop}
-use Rattle.shell.specs.declared.stop.Stop.TheVariants as stop
+use Rattle.script_runs.specs.Ends.{EndsAs, failures_in}
+use Rattle.script_runs.specs.Hosts.{Files, Holds, Seen, after_flush, after_message, after_puts}
+use Rattle.script_runs.specs.Meaning.{meaning}
+use Rattle.script_runs.specs.StopTexts.{stop_line}
+use Rattle.script_runs.specs.declared.stop.Stop.{Stop}
+use Rattle.script_runs.specs.declared.stop.Stop.TheVariants as stop
 
 -- how it ends: with its work done or stopped, with its command line refused, or with a file that cannot be read
 pub data End : Type 0 where

@@ -1,15 +1,14 @@
 //! How the program ends: what it tells on standard error, and its status.
 
 ghost use Rattle.std.specs.Prelude.{◌≡◌, ◌^◌, ◌<◌, ◌-◌, is_ok};
-ghost use Rattle.shell.specs.Hosts.{seen};
+ghost use Rattle.script_runs.specs.Hosts.{seen};
 ghost use Rattle.shell.specs.ProgramParts.{Finishes, Spoke};
 ghost use Rattle.shell.specs.Programs.{end_of, stop_status, unreadable_line};
-ghost use Rattle.shell.specs.StopTexts.{stop_line};
+ghost use Rattle.script_runs.specs.StopTexts.{stop_line};
 
 use crate::host::Host;
-use crate::sink::SinkFault;
-use crate::stop::{Stop, put_stop};
 use cvl_base::Memory;
+use script_runs::{SinkFault, Stop, put_stop};
 
 /// The status of work without a fault, and of help.
 pub const FINE: u8 = 0;

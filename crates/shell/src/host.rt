@@ -1,10 +1,10 @@
 //! What a program is run on.
 
 ghost use Rattle.std.specs.Prelude.{◌≡◌, ◌^◌, ◌<◌, ◌-◌, IfSome};
-ghost use Rattle.shell.specs.Hosts.{Flushes, Holds, Tells};
+ghost use Rattle.script_runs.specs.Hosts.{Flushes, Holds, Tells};
 
-use crate::sink::{Sink, SinkFault};
 use cvl_base::Memory;
+use script_runs::{Sink, SinkFault};
 
 /// What a program is run on: its files, and where its text goes. `put` is standard output.
 pub trait Host<A: Memory>: Sink {

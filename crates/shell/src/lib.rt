@@ -1,21 +1,12 @@
-//! The shell: scripts are run over inputs, and their text goes to a sink.
+//! The shell: the whole program, over the host that it is given, and the runs of scripts below it.
 #![tactic(auto)]
 
 pub mod endings;
 mod files;
 pub mod host;
-mod lines;
-pub mod mem_sink;
 pub mod programs;
-mod puts;
-pub mod runs;
-pub mod sink;
-pub mod stop;
 
 pub use command_line::{Words, WordsFault, read_words};
 pub use host::Host;
-pub use mem_sink::MemSink;
 pub use programs::program;
-pub use runs::run;
-pub use sink::{Sink, SinkFault};
-pub use stop::{Stop, put_stop};
+pub use script_runs::{MemSink, Sink, SinkFault, Stop, mem_sink, put_stop, run, runs, sink, stop};

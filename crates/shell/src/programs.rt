@@ -2,21 +2,19 @@
 
 ghost use Rattle.std.specs.Prelude.{◌≡◌, ◌^◌, ◌<◌, ◌-◌};
 ghost use Rattle.clap.specs.Walk.{texts};
-ghost use Rattle.shell.specs.Ends.{EndsAs};
-ghost use Rattle.shell.specs.Hosts.{seen};
-ghost use Rattle.shell.specs.Meaning.{meaning};
+ghost use Rattle.script_runs.specs.Ends.{EndsAs};
+ghost use Rattle.script_runs.specs.Hosts.{seen};
+ghost use Rattle.script_runs.specs.Meaning.{meaning};
 ghost use Rattle.shell.specs.ProgramParts.{Closes, PutsHelp, RunsOrMisses, SpokeOfWords};
 ghost use Rattle.shell.specs.Programs.{Performs};
 
 use crate::endings::{COMMAND_LINE, FAILED, finish, tell_unreadable};
 use crate::files::read_inputs;
 use crate::host::Host;
-use crate::puts::put_all;
-use crate::runs::run;
-use crate::stop::Stop;
 use clap::error::ErrorKind;
 use command_line::{Words, WordsFault, read_words};
 use cvl_base::{Config, Memory};
+use script_runs::{Stop, put_all, run};
 use std::thread::Threads;
 use vector_handles::Input;
 

@@ -1,5 +1,5 @@
 use Rattle.std.proofs.Common.{◌≡◌, ◌∙◌}
-use Rattle.shell.specs.StopTexts.{stop_line}
+use Rattle.script_runs.specs.StopTexts.{stop_line}
 use Rattle.shell.proofs.Shown.{spoke}
 use Rattle.shell.proofs.endings.tell_stop.Goals as goal
 

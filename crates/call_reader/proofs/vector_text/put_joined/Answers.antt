@@ -1,7 +1,0 @@
-use Rattle.call_reader.proofs.Spaces.{joined_onto}
-use Rattle.call_reader.proofs.vector_text.put_joined.Goals as goal
-
-pub returns-clause-ok : goal.returns-clause-ok
-returns-clause-ok g c =
-    joined_onto g.T.Written.text_of c.args.text.now.items c.put_element.new.text.items c.put_spaced.new.text.items c.in-Some.first.now c.in-Some.others.now c.args.xs.now
-    c.in-Some.ensures.cases.0 c.in_ok-put_element.ensures.ok c.in_ok-put_spaced.ensures.ok

@@ -1,0 +1,3 @@
+mod Cuts
+mod Taken
+mod Underway

@@ -1,0 +1,14 @@
+-- What is left of a script while its lines are taken one after the other: the bytes after the last line feed, or
+-- nothing once the last line was taken.
+-- Source: this library.
+use Rattle.std.specs.Prelude.{ℕ, ◌+◌, List, [], length, Option, Some, None}
+use Rattle.script_runs.specs.Meaning.{lines_of}
+
+abbrev pub lines_left : Option (List ℕ) → List (List ℕ)
+lines_left None = []
+lines_left (Some bytes) = lines_of bytes
+
+-- each line left counts one, beside its bytes
+abbrev pub bytes_left : Option (List ℕ) → ℕ
+bytes_left None = 0
+bytes_left (Some bytes) = length bytes + 1

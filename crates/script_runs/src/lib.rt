@@ -1,0 +1,15 @@
+//! Runs of scripts: a script is run over its inputs line by line, and its text goes to a sink.
+#![tactic(auto)]
+
+mod lines;
+pub mod mem_sink;
+pub mod puts;
+pub mod runs;
+pub mod sink;
+pub mod stop;
+
+pub use mem_sink::MemSink;
+pub use puts::put_all;
+pub use runs::run;
+pub use sink::{Sink, SinkFault};
+pub use stop::{Stop, put_stop};

@@ -1,0 +1,139 @@
+//! Runs of scripts.
+
+ghost use Rattle.std.specs.Prelude.{◌≡◌, ◌^◌, ◌<◌, ◌-◌, ◌≤◌, [], length, unwrap_or};
+ghost use Rattle.cvl_base.specs.Gives.{Gives};
+ghost use Rattle.cvl_base.specs.Limits.{most_script_bytes};
+ghost use Rattle.vector_handles.specs.Sessions.{text_shown};
+ghost use Rattle.script_runs.specs.Ends.{Runs};
+ghost use Rattle.script_runs.specs.LineRuns.{LineRuns, refused_at};
+ghost use Rattle.script_runs.specs.Meaning.{meaning, from_line, line_step, lines_of};
+
+use crate::lines::next_line;
+use crate::puts::put_all;
+use crate::sink::Sink;
+use crate::stop::Stop;
+use call_reader::read_line;
+use cvl_base::limits::MOST_SCRIPT_BYTES;
+use cvl_base::{Config, Fault, FaultNo, Memory, Refused};
+use std::thread::Threads;
+use vector_handles::{Input, Session, Shown};
+
+/// Reads one line and makes its call, if it has one.
+fn step_line<R: Threads + Sync, A: Memory>(
+    rt: &R,
+    alloc: A,
+    session: &mut Session<A>,
+    line: &[u8],
+) -> Result<Shown<A>, Refused>
+    ensures meaning { Gives (λ shown. record { names = session.new.names; shown = text_shown shown }) result
+        (line_step session.old.names session.old.inputs line.now) }
+    ensures inputs { session.new.inputs ≡ session.old.inputs }
+{
+    match read_line(alloc, line) {
+        Err(refused) => Err(refused),
+        Ok(None) => Ok(Shown::Nothing),
+        Ok(Some(call)) => session.apply(rt, &call),
+    }
+}
+
+/// The bytes of the text that a call shows, none where it shows nothing.
+fn shown_bytes<A: Memory>(shown: &Shown<A>) -> &[u8]
+    ensures { result.now ≡ unwrap_or (text_shown shown.now) [] }
+{
+    match shown {
+        Shown::Nothing => b"",
+        Shown::Text(text) => text.as_slice(),
+    }
+}
+
+fn stop_of(refused: Refused, number: u32) -> Stop
+    ensures { result ≡ refused_at number refused }
+{
+    match refused {
+        Refused::Fault(fault) => Stop::Script {
+            line: number,
+            fault,
+        },
+        Refused::NoResources => Stop::NoResources { line: number },
+    }
+}
+
+/// Runs one line, with its number from 1 on, and puts its text whole into the sink.
+fn run_line<R: Threads + Sync, A: Memory, S: Sink>(
+    rt: &R,
+    alloc: A,
+    session: &mut Session<A>,
+    line: &[u8],
+    number: u32,
+    sink: &mut S,
+) -> Result<(), Stop>
+    requires { S.failures sink.old < 2 ^ 64 - 1 }
+    ensures runs { LineRuns number (line_step session.old.names session.old.inputs line.now) session.new.names
+        (S.taken sink.old) (S.taken sink.new) (S.failures sink.old) (S.failures sink.new) result }
+    ensures inputs { session.new.inputs ≡ session.old.inputs }
+    ensures aside { S.aside sink.new ≡ S.aside sink.old }
+{
+    match step_line(rt, alloc, session, line) {
+        Err(refused) => Err(stop_of(refused, number)),
+        Ok(shown) => match put_all(sink, shown_bytes(&shown)) {
+            Ok(()) => Ok(()),
+            Err(_) => Err(Stop::WriteFailed { line: number }),
+        },
+    }
+}
+
+/// Runs the lines one after the other, up to the first that stops the script.
+fn run_lines<R: Threads + Sync, A: Memory, S: Sink>(
+    rt: &R,
+    alloc: A,
+    session: &mut Session<A>,
+    script: &[u8],
+    sink: &mut S,
+) -> Result<(), Stop>
+    requires failures { S.failures sink.old < 2 ^ 64 - 1 }
+    requires short { length script.now ≤ most_script_bytes }
+    ensures runs { Runs (from_line 1 session.old.names session.old.inputs (lines_of script.now))
+        (S.taken sink.old) (S.taken sink.new) (S.failures sink.old) (S.failures sink.new) result }
+    ensures aside { S.aside sink.new ≡ S.aside sink.old }
+{
+    let mut number = 1;
+    let mut rest = Some(script);
+    while let Some(bytes) = rest {
+        let (line, others) = next_line(bytes);
+        run_line(rt, alloc, session, line, number, sink)?;
+        number += 1;
+        rest = others;
+    }
+    Ok(())
+}
+
+/// Runs a script over its inputs and writes its text to the sink.
+///
+/// Where no growth is refused and the sink does not fail, the sink takes exactly the text of the script's meaning, and
+/// the answer is exactly its first fault, whatever the tile length and the number of workers. Where a growth is
+/// refused, or the sink fails, all text of the lines before was taken, and a beginning of the text of the line that the
+/// answer names: one that is not the whole where the sink failed. No call is retried.
+pub fn run<R: Threads + Sync, A: Memory, S: Sink>(
+    rt: &R,
+    alloc: A,
+    config: Config,
+    script: &[u8],
+    inputs: Vec<Input<A>, A>,
+    sink: &mut S,
+) -> Result<(), Stop>
+    requires { S.failures sink.old < 2 ^ 64 - 1 }
+    ensures runs { Runs (meaning script.now inputs.items)
+        (S.taken sink.old) (S.taken sink.new) (S.failures sink.old) (S.failures sink.new) result }
+    ensures aside { S.aside sink.new ≡ S.aside sink.old }
+{
+    if script.len() > MOST_SCRIPT_BYTES {
+        return Err(Stop::Script {
+            line: 0,
+            fault: Fault::new(FaultNo::ScriptTooLong),
+        });
+    }
+    match Session::new(alloc, config, inputs) {
+        Err(_) => Err(Stop::NoResources { line: 0 }),
+        Ok(mut session) => run_lines(rt, alloc, &mut session, script, sink),
+    }
+}

@@ -1,0 +1,56 @@
+//! Why a run stopped.
+
+ghost use Rattle.std.specs.Prelude.{◌≡◌, ◌++◌, codes, OnOk, OnErr};
+ghost use Rattle.script_runs.specs.StopTexts.{stop_text};
+
+use cvl_base::{Fault, Memory, NoResources};
+use std::fmt;
+use thiserror::Error;
+
+/// Why a run stopped before the end of its script. Lines count from 1, and line 0 is before the first.
+#[derive(Clone, Copy, Debug, PartialEq, Eq, Hash, Error)]
+pub enum Stop {
+    /// A line has a fault.
+    Script {
+        /// The line at fault; 0 where the script is too long.
+        line: u32,
+        /// The fault, with its place.
+        fault: Fault,
+    },
+    /// A growth was refused.
+    NoResources {
+        /// The line that was run.
+        line: u32,
+    },
+    /// The sink failed.
+    WriteFailed {
+        /// The line whose text was written.
+        line: u32,
+    },
+}
+
+/// A stop is shown as its line and why the run stopped there.
+impl fmt::Display for Stop {
+    ghost use Rattle.std.specs.Prelude.{Some};
+
+    ghost output = { λ stop. Some (stop_text stop) };
+
+    fn fmt<W: fmt::Write>(&self, f: &mut fmt::Formatter<W>) -> fmt::Result {
+        match self {
+            Stop::Script { line, fault } => write!(f, "line {line}: {fault}"),
+            Stop::NoResources { line } => write!(f, "line {line}: no resources"),
+            Stop::WriteFailed { line } => write!(f, "line {line}: write failed"),
+        }
+    }
+}
+
+/// Appends the line of text that tells of a stop: the stop as it is shown, and a line feed. After a refusal the text is
+/// as before.
+pub fn put_stop<A: Memory>(stop: &Stop, text: &mut Vec<u8, A>) -> Result<(), NoResources>
+    ensures ok { OnOk result (text.new.items ≡ text.old.items ++ stop_text stop.now ++ codes "\n") }
+    ensures err { OnErr result (text.new.items ≡ text.old.items) }
+{
+    let line = format!(in *text.allocator(); "{stop}\n")?;
+    text.extend_from_slice(line.as_bytes())?;
+    Ok(())
+}

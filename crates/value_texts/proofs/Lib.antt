@@ -1,0 +1,2 @@
+pub mod DecimalTexts
+pub mod Spaces

@@ -1,0 +1,26 @@
+-- Texts that are appended piece by piece, with spaces and brackets.
+use Rattle.std.proofs.Common.{◌≡◌, ℕ, ◌≤◌, List, [], ◌∷◌, ◌++◌, length, map, take, drop, sym, ap, ◌∙◌, arith, append_assoc, append-nil, length-append, min}
+use Rattle.std.specs.List.{join_with_byte}
+use Rattle.std.proofs.lemmas.List.{length-take, take-take, take-append-le, drop_all}
+use Rattle.value_texts.specs.Texts.{spaced}
+
+-- texts joined by spaces are the first text, and then the others with a space before each
+join_spaced : {X : Type 0} (f : X → List ℕ) (x : X) (xs : List X) → join_with_byte 32 (map f (x ∷ xs)) ≡ f x ++ spaced f xs
+join_spaced f x [] = sym (append-nil (f x))
+join_spaced f x (y ∷ ys) = ap (λ t. f x ++ (32 ∷ t)) (join_spaced f y ys)
+
+-- the first text appended, and then the others with a space before each: the texts joined by spaces
+pub joined_onto : {X : Type 0} (f : X → List ℕ) (old mid new : List ℕ) (x : X) (xs whole : List X) → whole ≡ x ∷ xs → mid ≡ old ++ f x → new ≡ mid ++ spaced f xs → new ≡ old ++ join_with_byte 32 (map f whole)
+joined_onto f old mid new x xs whole parts first others = rw (others, first, parts, append_assoc old (f x) (spaced f xs), ← join_spaced f x xs)
+
+-- a text that begins with a longer text begins with what that one begins with
+pub begins_after : (old mid more new : List ℕ) → take (length old) mid ≡ old → take (length (mid ++ more)) new ≡ mid ++ more → take (length old) new ≡ old
+begins_after old mid more new first later =
+    let size : min (length old) (length mid) ≡ length old = sym (length-take (length old) mid) ∙ ap length first in
+    let fits : length old ≤ length mid = omega arith in
+    let longer : length old ≤ length (mid ++ more) = omega (arith, length-append mid more) in
+    sym (take-take (length old) (length (mid ++ more)) new longer) ∙ ap (take (length old)) later ∙ take-append-le (length old) mid more fits ∙ first
+
+-- what ends where a page ends has nothing after it
+pub nothing_behind : (text page : List ℕ) (end : ℕ) → length page ≤ end → text ++ drop end page ≡ text
+nothing_behind text page end h = ap (λ bs. text ++ bs) (drop_all end page h) ∙ append-nil text

@@ -1,0 +1,166 @@
+//! The text of vectors and of nests.
+
+ghost use Rattle.std.specs.Prelude.{◌≡◌, ◌≤◌, ◌++◌, length, map, sum, take, drop, unsigned_abs, OnOk};
+ghost use Rattle.std.specs.List.{join_with_byte};
+ghost use Rattle.cvl_base.specs.Nests.{cut_of};
+ghost use Rattle.value_texts.specs.Texts.{spaced, vector_text, nest_text};
+
+use crate::written::{MOST_TEXT_BYTES, Written};
+use cvl_base::NoResources;
+use std::alloc::Allocator;
+
+/// How many elements' texts are put together in a page before they are appended.
+const PAGE_ELEMENTS: usize = 1024;
+
+/// The bytes of a page: room for the texts of its elements with a space before each.
+pub(crate) const PAGE_BYTES: usize = PAGE_ELEMENTS * (MOST_TEXT_BYTES + 1);
+
+/// Where texts are put together, from its end to its front, before they are appended: one copy of many bytes is
+/// faster than one for each element.
+pub(crate) type Page = [u8; PAGE_BYTES];
+
+/// Writes the texts of at most 1,024 elements, with a space before each, at the end of the page, and returns where
+/// they start.
+fn write_spaced<T: Written>(xs: &[T], page: &mut Page) -> usize
+    requires { length xs.now ≤ PAGE_ELEMENTS }
+    ensures written { drop result page.new ≡ spaced T.text_of xs.now }
+    ensures within { result ≤ PAGE_BYTES }
+{
+    let mut at = PAGE_BYTES;
+    let mut left = xs.len();
+    while left > 0 {
+        left -= 1;
+        at = xs[left].write_before(page, at) - 1;
+        page[at] = b' ';
+    }
+    at
+}
+
+/// Appends the texts of the elements with a space before each. After a refusal the text begins as before.
+fn put_spaced<T: Written, A: Allocator>(
+    xs: &[T],
+    page: &mut Page,
+    text: &mut Vec<u8, A>,
+) -> Result<(), NoResources>
+    ensures ok { OnOk result (text.new.items ≡ text.old.items ++ spaced T.text_of xs.now) }
+    ensures begins { take (length text.old.items) text.new.items ≡ text.old.items }
+{
+    let mut rest = xs;
+    while rest.len() > PAGE_ELEMENTS {
+        let (front, others) = rest.split_at(PAGE_ELEMENTS);
+        let start = write_spaced(front, page);
+        text.extend_from_slice(&page[start..])?;
+        rest = others;
+    }
+    let start = write_spaced(rest, page);
+    text.extend_from_slice(&page[start..])?;
+    Ok(())
+}
+
+/// Appends the text of one element. After a refusal the text begins as before.
+pub(crate) fn put_element<T: Written, A: Allocator>(
+    x: &T,
+    page: &mut Page,
+    text: &mut Vec<u8, A>,
+) -> Result<(), NoResources>
+    ensures ok { OnOk result (text.new.items ≡ text.old.items ++ T.text_of x.now) }
+    ensures begins { take (length text.old.items) text.new.items ≡ text.old.items }
+{
+    let start = x.write_before(page, PAGE_BYTES);
+    text.extend_from_slice(&page[start..])?;
+    Ok(())
+}
+
+/// Appends the texts of the elements with a space between each two. After a refusal the text begins as before.
+fn put_joined<T: Written, A: Allocator>(
+    xs: &[T],
+    page: &mut Page,
+    text: &mut Vec<u8, A>,
+) -> Result<(), NoResources>
+    ensures ok { OnOk result
+        (text.new.items ≡ text.old.items ++ join_with_byte 32 (map T.text_of xs.now)) }
+    ensures begins { take (length text.old.items) text.new.items ≡ text.old.items }
+{
+    let Some((first, others)) = xs.split_first() else {
+        return Ok(());
+    };
+    put_element(first, page, text)?;
+    put_spaced(others, page, text)?;
+    Ok(())
+}
+
+/// Appends the text of a vector. After a refusal the text begins as before.
+pub(crate) fn put_vector<T: Written, A: Allocator>(
+    xs: &[T],
+    page: &mut Page,
+    text: &mut Vec<u8, A>,
+) -> Result<(), NoResources>
+    ensures ok { OnOk result (text.new.items ≡ text.old.items ++ vector_text T.text_of xs.now) }
+    ensures begins { take (length text.old.items) text.new.items ≡ text.old.items }
+{
+    text.push(b'[')?;
+    put_joined(xs, page, text)?;
+    text.push(b']')?;
+    Ok(())
+}
+
+/// Appends the texts of the segments with a space before each. After a refusal the text begins as before.
+fn put_spaced_segments<T: Written, A: Allocator>(
+    lengths: &[i32],
+    xs: &[T],
+    page: &mut Page,
+    text: &mut Vec<u8, A>,
+) -> Result<(), NoResources>
+    requires { sum (map unsigned_abs lengths.now) ≡ length xs.now }
+    ensures ok { OnOk result (text.new.items
+        ≡ text.old.items ++ spaced (vector_text T.text_of) (cut_of (map unsigned_abs lengths.now) xs.now)) }
+    ensures begins { take (length text.old.items) text.new.items ≡ text.old.items }
+{
+    let mut rest = xs;
+    for length in lengths {
+        let (segment, others) = rest.split_at(length.unsigned_abs() as usize);
+        text.push(b' ')?;
+        put_vector(segment, page, text)?;
+        rest = others;
+    }
+    Ok(())
+}
+
+/// Appends the texts of the segments with a space between each two. After a refusal the text begins as before.
+fn put_joined_segments<T: Written, A: Allocator>(
+    lengths: &[i32],
+    xs: &[T],
+    page: &mut Page,
+    text: &mut Vec<u8, A>,
+) -> Result<(), NoResources>
+    requires { sum (map unsigned_abs lengths.now) ≡ length xs.now }
+    ensures ok { OnOk result (text.new.items ≡ text.old.items
+        ++ join_with_byte 32 (map (vector_text T.text_of) (cut_of (map unsigned_abs lengths.now) xs.now))) }
+    ensures begins { take (length text.old.items) text.new.items ≡ text.old.items }
+{
+    let Some((first, others)) = lengths.split_first() else {
+        return Ok(());
+    };
+    let (front, rest) = xs.split_at(first.unsigned_abs() as usize);
+    put_vector(front, page, text)?;
+    put_spaced_segments(others, rest, page, text)?;
+    Ok(())
+}
+
+/// Appends the text of the vectors into which the lengths cut the elements. After a refusal the text begins as before.
+pub(crate) fn put_nest<T: Written, A: Allocator>(
+    lengths: &[i32],
+    xs: &[T],
+    page: &mut Page,
+    text: &mut Vec<u8, A>,
+) -> Result<(), NoResources>
+    requires { sum (map unsigned_abs lengths.now) ≡ length xs.now }
+    ensures ok { OnOk result (text.new.items
+        ≡ text.old.items ++ nest_text T.text_of (cut_of (map unsigned_abs lengths.now) xs.now)) }
+    ensures begins { take (length text.old.items) text.new.items ≡ text.old.items }
+{
+    text.push(b'[')?;
+    put_joined_segments(lengths, xs, page, text)?;
+    text.push(b']')?;
+    Ok(())
+}
