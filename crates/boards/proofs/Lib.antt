@@ -1,3 +1,4 @@
+pub mod Claiming
 pub mod Moves
 pub mod Telling
 pub mod Dealing

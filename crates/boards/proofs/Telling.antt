@@ -4,12 +4,19 @@ use Rattle.std.proofs.Common.{◌≡◌, sym, ap, ◌∙◌, ℕ, ◌≤◌, Boo
 use Rattle.atomic_table.specs.Seated.{TableId}
 use Rattle.status_word.specs.declared.pass.Pass.{Pass}
 use Rattle.status_word.specs.declared.status.Status.{Status}
+use Rattle.status_word.specs.declared.status.Status.TheVariants.{Silent, Sum, Prefix}
 use Rattle.status_word.specs.Codings.{CodeLaws, Coding, code, told_of}
 use Rattle.status_word.specs.Words.{state_of}
 use Rattle.boards.specs.Answers.{with_pass}
 use Rattle.boards.specs.Boards.{Seated}
 
 module _ {Item : Type 0} where
+  -- what a status tells of its tile, or this where it tells nothing
+  abbrev pub pair_or : Bool × Item → Status Item → Bool × Item
+  pair_or none Silent = none
+  pair_or none (Sum starts value) = (starts, value)
+  pair_or none (Prefix starts value) = (starts, value)
+
   -- a status that was read is lawful at its tile, and has the state of its word
   pub look_told : {is_item : Item → Bool} (m : Coding Item) (sums : List (Bool × Item)) → CodeLaws is_item m sums → (t rank found : ℕ) (result : Status Item) → result ≡ m.read found → found ≡ code m sums t rank → rank ≤ 2 → (result ≡ told_of m sums t (state_of result)) × (state_of result ≡ rank)
   look_told m sums laws t rank found result reads is_code few =

@@ -1,13 +1,53 @@
 -- What a look-back has done after each of its looks.
 -- Source: what the definitions of Walks imply.
-use Rattle.std.proofs.Common.{◌≡◌, refl, ◌∙◌, ℕ, ◌+◌, ◌-◌, ◌<◌, ◌≤◌, ◌≢◌, ◌⊎◌, inl, inr, max, arith, ⊎_elim, sym, subst, eqb, true, false}
+use Rattle.std.proofs.Common.{◌≡◌, refl, ◌∙◌, ℕ, ◌+◌, ◌-◌, ◌<◌, ◌≤◌, ◌≢◌, ◌⊎◌, inl, inr, max, arith, ⊎_elim, sym, ap, subst, cond, eqb, eq-eqb, true, false, List, ◌∷◌}
+use Rattle.std.proofs.lemmas.Bool.{ne_eqb}
 use Rattle.std.proofs.lemmas.Bool.Decides.{eqb_tells}
+use Rattle.status_word.specs.declared.pass.Mark.{Mark}
 use Rattle.status_word.specs.declared.pass.Pass.{Pass}
-use Rattle.status_word.specs.Passes.{known_at, seen_at, told_at}
+use Rattle.status_word.specs.Passes.{highest_mark, known_at, looked, seen_at, told_at, told_state}
 use Rattle.boards.specs.Answers.{IsLookBack}
 use Rattle.boards.specs.Walks.{IsFind, IsWalk}
 
+-- the highest of the marks of a tile, after one more of that tile, and of another
+mark_here : (t rank : ℕ) (marks : List Mark) → highest_mark t (record { tile = t; rank = rank } ∷ marks) ≡ max rank (highest_mark t marks)
+mark_here t rank marks = ap (λ b. max (cond b rank 0) (highest_mark t marks)) (eq-eqb t t refl)
+
+mark_elsewhere : (t x rank : ℕ) (marks : List Mark) → x ≢ t → highest_mark x (record { tile = t; rank = rank } ∷ marks) ≡ highest_mark x marks
+mark_elsewhere t x rank marks differ =
+    let other : eqb t x ≡ false = ne_eqb t x (λ e. differ (sym e)) in
+    ap (λ b. max (cond b rank 0) (highest_mark x marks)) other ∙ omega arith
+
 module _ {Item : Type 0} where
+  -- a look that found this state, which isn't below what was known
+  pub find_told : (at rank : ℕ) (old now : Pass Item) → now ≡ looked old at rank → known_at at old ≤ rank → IsFind at rank old now
+  find_told at rank old now is risen =
+      let seen = mark_here at rank old.seen in
+      subst (IsFind at rank old) (sym is) record {
+        looks = refl;
+        known = omega arith;
+        told = (omega arith, omega arith);
+        seen = omega arith;
+        others = λ x differ. (refl, mark_elsewhere at x rank old.seen differ);
+        hand = refl;
+        sums = refl;
+      }
+
+  -- a look at a tile of which nothing was told, and then its sum was
+  pub find_silent : (at : ℕ) (old now : Pass Item) → now ≡ told_state (looked old at 0) at 1 → known_at at old ≤ 0 → IsFind at 1 old now
+  find_silent at old now is risen =
+      let seen = mark_here at 0 old.seen in
+      let told = mark_here at 1 old.told in
+      subst (IsFind at 1 old) (sym is) record {
+        looks = refl;
+        known = omega arith;
+        told = (omega arith, omega arith);
+        seen = omega arith;
+        others = λ x differ. (mark_elsewhere at x 1 old.told differ, mark_elsewhere at x 0 old.seen differ);
+        hand = refl;
+        sums = refl;
+      }
+
   pub walk_start : (t : ℕ) (p : Pass Item) → IsWalk t t p p
   walk_start t p = record {
     looks = refl;

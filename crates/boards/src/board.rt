@@ -98,12 +98,9 @@ impl<T: Tiles, A: Allocator> ScanBoard<T, A> {
             .table
             .shared
             .fetch_add::<ClaimStep>(&mut seat.seat, count as usize, 1);
-        if found < u64::from(count) {
-            Claim::Tile(found as u32)
-        } else {
-            seat.done = true;
-            Claim::Done
-        }
+        let answer = Claim::after(found, count);
+        seat.done = answer.is_done();
+        answer
     }
 
     /// Closes the board with all of its seats, and answers how many tiles were given. It takes no memory.
