@@ -1,5 +1,1 @@
-pub mod FlatTiles
-pub mod RunScans
-pub mod Segmented
-pub mod SegmentedTiles
-pub mod Tiled
+pub use Rattle.tile_scans.proofs.Segmented

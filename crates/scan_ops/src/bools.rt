@@ -5,12 +5,11 @@ ghost use Rattle.cvl_base.specs.Gives.{Gives};
 ghost use Rattle.cvl_base.specs.Scans.{bool_join_of, bool_reduce_of, bool_scan_of, bool_unit_of};
 ghost use Rattle.cvl_base.specs.SegmentedCalls.{seg_reduce_of, seg_scan_of};
 
-use crate::prefixes::{scan, seg_scan};
-use crate::sums::{reduce, seg_reduce};
 use cvl_base::monoids::{BoolAnd, BoolIor, BoolXor};
 use cvl_base::{BoolBinary, Config, Memory, NoResources, Refused};
 use segdes::SegDes;
 use std::thread::Threads;
+use tile_scans::{reduce, scan, seg_reduce, seg_scan};
 
 /// The exclusive scan by an operator of the table: `and_sub` and its like.
 ///

@@ -7,12 +7,11 @@ ghost use Rattle.cvl_base.specs.ItemWords.{is_number};
 ghost use Rattle.cvl_base.specs.Scans.{int_join_of, int_reduce_of, int_scan_of, int_unit_of};
 ghost use Rattle.cvl_base.specs.SegmentedCalls.{seg_reduce_of, seg_scan_of};
 
-use crate::prefixes::{scan, seg_scan};
-use crate::sums::{reduce, seg_reduce};
 use cvl_base::monoids::{Add, And, Ior, Max, Min, Mul, Xor};
 use cvl_base::{Config, IntMonoid, Memory, NoResources, Refused};
 use segdes::SegDes;
 use std::thread::Threads;
+use tile_scans::{reduce, scan, seg_reduce, seg_scan};
 
 /// The exclusive scan by an operator of the table: `add_suz` and its like.
 ///

@@ -2,19 +2,12 @@
 #![tactic(auto)]
 
 mod bools;
-mod flat_tiles;
 mod ints;
-mod kernel;
-mod prefixes;
-mod race;
-mod racing;
-mod segmented_tiles;
-mod sums;
 
 pub use bools::{bool_reduce, bool_scan, seg_bool_reduce, seg_bool_scan};
 pub use ints::{int_reduce, int_scan, seg_int_reduce, seg_int_scan};
-pub use prefixes::{scan, scan_gated, scan_readings, seg_scan, seg_scan_gated};
 pub use scan_walks::{Reading, readings, scan_of_run, sum_of_run};
-pub use sums::{
-    reduce, reduce_gated, reduce_readings, seg_reduce, seg_reduce_gated, seg_reduce_readings,
+pub use tile_scans::{
+    reduce, reduce_gated, reduce_readings, scan, scan_gated, scan_readings, seg_reduce,
+    seg_reduce_gated, seg_reduce_readings, seg_scan, seg_scan_gated,
 };

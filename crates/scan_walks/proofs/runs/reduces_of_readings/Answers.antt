@@ -2,7 +2,7 @@ use Rattle.std.proofs.Common.{◌≡◌, ℕ, ◌+◌, ◌-◌, ◌<◌, ◌++�
 use Rattle.std.specs.Prelude.{sum}
 use Rattle.std.specs.List.{AllPass}
 use Rattle.std.proofs.lemmas.List.{drop-map, length-drop}
-use Rattle.std.proofs.lemmas.List.Elements.{All-drop}
+use Rattle.std.proofs.lemmas.List.Elements.{All-drop, All-take}
 use Rattle.std.proofs.lemmas.List.Sums.{sum_by_more, sum_by-take-drop}
 use Rattle.cvl_base.specs.Folds.{fold_of}
 use Rattle.segdes.specs.Starts.{start_of}
@@ -11,6 +11,14 @@ use Rattle.scan_walks.proofs.Scanned.{part_read}
 use Rattle.scan_walks.proofs.Segments.{range_lengths, range_read, range_sum}
 use Rattle.scan_walks.proofs.SegmentReduces.{reduces_walked}
 use Rattle.scan_walks.proofs.runs.reduces_of_readings.Goals as goal
+
+pub sum_readings_from-requires-clause-items : goal.sum_readings_from-requires-clause-items
+sum_readings_from-requires-clause-items g c =
+    let item = g.E.Reading.item in
+    let is_item : g.row.X.Denot → Type 0 = λ x. g.M.Monoid.is_item (item x) ≡ true in
+    let k : ℕ = c.start.result + c.length.result - c.args.from in
+    subst (λ xs. AllPass (λ x. g.M.Monoid.is_item (item x)) xs) (sym (c.split_at-2.ensures.front ∙ ap (take k) c.split_at.ensures.back))
+    (All-take is_item k (drop c.args.from c.args.a.now) (All-drop is_item c.args.from c.args.a.now c.requires.items))
 
 pub push_reduces-requires-clause-lengths : goal.push_reduces-requires-clause-lengths
 push_reduces-requires-clause-lengths g c =

@@ -30,6 +30,13 @@ push_scans-requires-clause-lengths g c =
     range_lengths c.lengths.result.now c.args.d.now c.starts_before-first.result (c.starts_before-next.result - c.starts_before-first.result)
     c.lengths.ensures.value c.lengths.ensures.lengths
 
+pub push_scan_readings_from-requires-clause-items : goal.push_scan_readings_from-requires-clause-items
+push_scan_readings_from-requires-clause-items g c =
+    let item = g.E.Reading.item in
+    let is_item : g.row.X.Denot → Type 0 = λ x. g.M.Monoid.is_item (item x) ≡ true in
+    let part = All-take is_item (c.args.to - c.args.from) _ (All-drop is_item c.args.from c.args.a.now c.requires.items) in
+    subst (λ xs. AllPass (λ x. g.M.Monoid.is_item (item x)) xs) (sym c.split_at.ensures.front) (All-take is_item _ _ part)
+
 pub push_scans-requires-clause-items : goal.push_scans-requires-clause-items
 push_scans-requires-clause-items g c =
     let item = g.E.Reading.item in

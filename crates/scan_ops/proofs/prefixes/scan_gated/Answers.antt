@@ -1,9 +1,0 @@
-use Rattle.std.proofs.Common.{◌≡◌, subst}
-use Rattle.std.specs.Prelude.{IfOk}
-use Rattle.std.proofs.lemmas.List.{map-id}
-use Rattle.cvl_base.specs.Folds.{scan_of}
-use Rattle.scan_ops.proofs.prefixes.scan_gated.Goals as goal
-
-pub returns-clause-values : goal.returns-clause-values
-returns-clause-values g c =
-    subst (λ xs. IfOk c.scan_in_tiles.result (λ sums. sums.items ≡ scan_of g.M.Monoid.join g.M.Monoid.unit xs)) (map-id c.args.a.now) c.scan_in_tiles.ensures.values

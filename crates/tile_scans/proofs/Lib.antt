@@ -1,0 +1,5 @@
+pub mod FlatTiles
+pub mod RunScans
+pub mod Segmented
+pub mod SegmentedTiles
+pub mod Tiled
