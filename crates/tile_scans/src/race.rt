@@ -66,8 +66,8 @@ where
     gather_tiles(alloc, kernel.len(), pieces)
 }
 
-/// The items of all tiles, one tile after another. A thread of its own fills the memory for them while so many workers race
-/// for the tiles, and then as many threads write the items over it.
+/// The items of all tiles, one tile after another. A thread of its own fills the memory for them while so many workers
+/// race for the tiles, and then as many threads write the items over it.
 ///
 /// The race waits for nothing that the filling does: where no thread can be made the memory is filled after the race.
 fn race_beside_fill<R: Threads + Sync, A: Memory, K: Kernel + Sync, G: Gate>(
