@@ -1,5 +1,6 @@
 //! The program's texts, messages and statuses, on a host in memory.
 use crate::small_host::SmallHost;
+use recipes::{LINE_OF_SIGHT, SPARSE_MATVEC};
 use shell::program;
 use std::test::Fail;
 
@@ -10,6 +11,15 @@ const FILES: &[(&str, &str)] = &[
     ("divide", "a = input 1\nb = input 2\nc = div_wuz a b\n"),
     ("numbers", "3 1 7 0 4\n"),
     ("divisors", "1 1 1 0 0\n"),
+    ("sparse_matvec", SPARSE_MATVEC),
+    ("lengths", "2 0 2\n"),
+    ("columns", "0 2 1 2\n"),
+    ("values", "2 1 3 4\n"),
+    ("x", "1 2 3\n"),
+    ("line_of_sight", LINE_OF_SIGHT),
+    ("hill", "0 1 1 6 2\n"),
+    ("slope", "0 1 2\n"),
+    ("valley", "5 4 4\n"),
 ];
 
 /// What fails on the host.
@@ -96,6 +106,60 @@ const ROWS: &[Row] = &[
         "b = [0 3 4 11 11]\n",
         "",
         0,
+    ),
+    (
+        Failing::Nothing,
+        &[
+            "cvl",
+            "--tile",
+            "2",
+            "--workers",
+            "3",
+            "sparse_matvec",
+            "lengths",
+            "columns",
+            "values",
+            "x",
+        ],
+        "y = [5 0 18]\n",
+        "",
+        0,
+    ),
+    (
+        Failing::Nothing,
+        &[
+            "cvl",
+            "--tile",
+            "2",
+            "--workers",
+            "3",
+            "line_of_sight",
+            "hill",
+        ],
+        "v = [T T F T F]\n",
+        "",
+        0,
+    ),
+    (
+        Failing::Nothing,
+        &["cvl", "line_of_sight", "slope"],
+        "v = [T T F]\n",
+        "",
+        0,
+    ),
+    (
+        Failing::Nothing,
+        &["cvl", "line_of_sight", "valley"],
+        "v = [T T T]\n",
+        "",
+        0,
+    ),
+    (
+        Failing::Nothing,
+        &["cvl", "line_of_sight", "empty"],
+        "",
+        "line 3: fault 10 IndexOutOfRange at 0\n",
+        1,
     ),
     (
         Failing::Nothing,
