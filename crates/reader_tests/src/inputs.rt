@@ -82,8 +82,8 @@ fn first_bad_tokens(rt: HostRuntime) {
     }
 }
 
-/// A long input, as a piece, how often it stands there, and what stands behind, with how many numbers it has and the last
-/// of them, or its fault.
+/// A long input, as a piece, how often it stands there, and what stands behind, with how many numbers it has and the
+/// last of them, or why it is refused.
 type LongInput = (
     &'static str,
     usize,
