@@ -1,8 +1,7 @@
 //! The allocator for tests: how many requests and frees it counts, which requests it refuses, and what it finds wrong.
 use cvl_base::Memory;
-use refusing_memory::{Flaw, Refusal, Refusing, refuse_each, withstands_refusals};
-use std::alloc::AllocError;
-use std::test::Fail;
+use refusing_memory::{Flaw, Refusal, Refusing, withstands_refusals};
+use std::alloc::{AllocError, Global};
 use std::thread::Threads;
 use std::{mem, thread};
 
@@ -50,42 +49,68 @@ fn leaked<A: Memory>(alloc: A) -> Result<u64, AllocError> {
     Ok(6)
 }
 
+/// Requests without end, but for a refusal.
+fn until_refused<A: Memory>(alloc: A) -> Result<u64, AllocError> {
+    for n in 0..u64::MAX {
+        Box::new(alloc, n)?;
+    }
+    Ok(u64::MAX)
+}
+
+/// A rule, what two runs of three requests answer under it, and how many requests, refusals and frees are counted then.
+type Row = (
+    Refusal,
+    Result<u64, AllocError>,
+    Result<u64, AllocError>,
+    [u64; 3],
+);
+
+const ROWS: &[Row] = &[
+    (Refusal::Never, Ok(6), Ok(6), [6, 0, 6]),
+    (Refusal::Only(1), Err(AllocError), Ok(6), [5, 1, 4]),
+    (
+        Refusal::From(1),
+        Err(AllocError),
+        Err(AllocError),
+        [3, 2, 1],
+    ),
+];
+
+/// Whether an allocator has counted so many requests, refusals and frees, and no block is held.
+fn has_counted(heap: &Refusing<Global>, counts: [u64; 3]) -> bool {
+    let [requests, refused, frees] = counts;
+    heap.requests() == requests
+        && heap.refused() == refused
+        && heap.frees() == frees
+        && heap.held() == 0
+}
+
 #[test]
 fn counts_and_refusals(rt: HostRuntime) {
-    let rows = [
-        (Refusing::none(rt.alloc()), Ok(6), Ok(6), (6, 0, 6)),
-        (
-            Refusing::only(1, rt.alloc()),
-            Err(AllocError),
-            Ok(6),
-            (5, 1, 4),
-        ),
-        (
-            Refusing::from(1, rt.alloc()),
-            Err(AllocError),
-            Err(AllocError),
-            (3, 2, 1),
-        ),
-    ];
-    for (heap, first, second, counts) in &rows {
-        let rule = heap.rule();
-        assert_eq!(rt; three_boxes(heap), *first, "{rule:?}");
-        assert_eq!(rt; three_boxes(heap), *second, "{rule:?}");
-        assert_eq!(rt;
-            (heap.requests(), heap.refused(), heap.frees()),
-            *counts,
+    for (rule, first, second, counts) in ROWS {
+        let heap = Refusing::new(*rule, rt.alloc());
+        let answers = three_boxes(&heap) == *first && three_boxes(&heap) == *second;
+        assert!(rt;
+            answers && heap.rule() == *rule && has_counted(&heap, *counts),
             "{rule:?}"
         );
-        assert_eq!(rt; heap.held(), 0, "{rule:?}");
     }
+}
+
+#[test]
+fn a_vector_that_is_not_to_grow(rt: HostRuntime) {
     let heap = Refusing::from(1, rt.alloc());
-    assert_eq!(rt; filled(&heap), Ok(5));
-    assert_eq!(rt; (heap.refused(), heap.frees(), heap.held()), (1, 1, 0));
+    assert!(rt; filled(&heap) == Ok(5));
+    assert!(rt; heap.refused() == 1 && heap.frees() == 1 && heap.held() == 0);
+}
+
+#[test]
+fn a_block_that_is_held(rt: HostRuntime) {
     let heap = Refusing::none(rt.alloc());
     let kept = Box::new(&heap, 7u64);
-    assert_eq!(rt; heap.held(), 1);
+    assert!(rt; heap.held() == 1);
     drop(kept);
-    assert_eq!(rt; heap.held(), 0);
+    assert!(rt; heap.held() == 0);
 }
 
 #[test]
@@ -93,34 +118,57 @@ fn counts_across_threads(rt: HostRuntime) {
     let heap = Refusing::only(500, rt.alloc());
     let shared = &heap;
     let (left, right) = thread::join(&rt, || refused_of_1000(shared), || refused_of_1000(shared));
-    assert_eq!(rt; left.wrapping_add(right), 1);
-    assert_eq!(rt;
-        (heap.requests(), heap.refused(), heap.frees()),
-        (2000, 1, 1999)
-    );
+    assert!(rt; left.wrapping_add(right) == 1 && has_counted(shared, [2000, 1, 1999]));
 }
 
-#[test]
-fn each_request_in_turn(rt: HostRuntime) -> Result<(), Fail> {
-    let refused = Err(AllocError);
-    let requests = withstands_refusals(rt.alloc(), |heap| three_boxes(heap), Ok(6), refused)?;
-    assert_eq!(rt; requests, 3);
-    let requests = withstands_refusals(rt.alloc(), |heap| six_boxes(&rt, heap), Ok(12), refused)?;
-    assert_eq!(rt; requests, 6);
-    Ok(())
+/// What is run on the allocator.
+#[derive(Clone, Copy)]
+enum Work {
+    /// Three requests.
+    Three,
+    /// Three requests in each of two threads.
+    Six,
+    /// Three requests whose refusal is not told.
+    Silent,
+    /// A request whose block is kept for good.
+    Leaking,
+    /// Requests without end.
+    Endless,
 }
 
+/// The answer of the work.
+fn answer_of<R: Threads + Sync, A: Memory>(
+    rt: &R,
+    alloc: A,
+    work: Work,
+) -> Result<u64, AllocError> {
+    match work {
+        Work::Three => three_boxes(alloc),
+        Work::Six => six_boxes(rt, alloc),
+        Work::Silent => Ok(three_boxes(alloc).unwrap_or(0)),
+        Work::Leaking => leaked(alloc),
+        Work::Endless => until_refused(alloc),
+    }
+}
+
+/// The work, its right answer, and how many requests it makes, or what is wrong with it.
+const WORKS: &[(Work, u64, Result<u64, Flaw>)] = &[
+    (Work::Three, 6, Ok(3)),
+    (Work::Six, 12, Ok(6)),
+    (Work::Silent, 6, Err(Flaw::WrongAnswer(0))),
+    (Work::Leaking, 6, Err(Flaw::Leak(1))),
+    (Work::Endless, 0, Err(Flaw::NoEnd)),
+];
+
 #[test]
-fn flaws_are_found(rt: HostRuntime) {
-    let silent = withstands_refusals(rt.alloc(), |heap| three_boxes(heap).unwrap_or(0), 6, 7);
-    assert_eq!(rt; silent, Err(Flaw::WrongAnswer(0)));
-    let leaking = withstands_refusals(rt.alloc(), |heap| leaked(heap), Ok(6), Err(AllocError));
-    assert_eq!(rt; leaking, Err(Flaw::Leak(1)));
-    let endless = refuse_each(
-        rt.alloc(),
-        |_| Refusal::From(0),
-        |heap| three_boxes(heap),
-        |_, _| true,
-    );
-    assert_eq!(rt; endless, Err(Flaw::NoEnd));
+fn requests_and_flaws(rt: HostRuntime) {
+    for (work, right, found) in WORKS {
+        let requests = withstands_refusals(
+            rt.alloc(),
+            |heap| answer_of(&rt, heap, *work),
+            Ok(*right),
+            Err(AllocError),
+        );
+        assert!(rt; requests == *found, "{requests:?}");
+    }
 }

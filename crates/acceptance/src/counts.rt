@@ -8,8 +8,8 @@ fn counts_come_before_memory(rt: HostRuntime) {
     let heap = Refusing::from(0, rt.alloc());
     for (count, number) in [(-1, FaultNo::NegativeLength), (4_194_305, FaultNo::TooLong)] {
         let refused = Some(Refused::Fault(Fault::new(number)));
-        assert_eq!(rt; distribute(&heap, 7, count).err(), refused, "{count}");
-        assert_eq!(rt; index(&heap, 0, 1, count).err(), refused, "{count}");
+        assert!(rt; distribute(&heap, 7, count).err() == refused, "{count}");
+        assert!(rt; index(&heap, 0, 1, count).err() == refused, "{count}");
     }
-    assert_eq!(rt; heap.requests(), 0);
+    assert!(rt; heap.requests() == 0);
 }

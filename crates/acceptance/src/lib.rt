@@ -24,6 +24,4 @@ mod sinks;
 #[cfg(test)]
 mod small_host;
 #[cfg(test)]
-mod stops;
-#[cfg(test)]
 mod walks;

@@ -1,7 +1,11 @@
 //! The program's texts, messages and statuses, on a host in memory.
 use crate::small_host::SmallHost;
+use cvl_base::NoResources;
+use recipes::{LINE_OF_SIGHT, SPARSE_MATVEC};
 use shell::program;
+use std::alloc::Global;
 use std::test::Fail;
+use std::thread::Threads;
 
 const FILES: &[(&str, &str)] = &[
     ("empty", ""),
@@ -10,6 +14,15 @@ const FILES: &[(&str, &str)] = &[
     ("divide", "a = input 1\nb = input 2\nc = div_wuz a b\n"),
     ("numbers", "3 1 7 0 4\n"),
     ("divisors", "1 1 1 0 0\n"),
+    ("sparse_matvec", SPARSE_MATVEC),
+    ("lengths", "2 0 2\n"),
+    ("columns", "0 2 1 2\n"),
+    ("values", "2 1 3 4\n"),
+    ("x", "1 2 3\n"),
+    ("line_of_sight", LINE_OF_SIGHT),
+    ("hill", "0 1 1 6 2\n"),
+    ("slope", "0 1 2\n"),
+    ("valley", "5 4 4\n"),
 ];
 
 /// What fails on the host.
@@ -99,6 +112,60 @@ const ROWS: &[Row] = &[
     ),
     (
         Failing::Nothing,
+        &[
+            "cvl",
+            "--tile",
+            "2",
+            "--workers",
+            "3",
+            "sparse_matvec",
+            "lengths",
+            "columns",
+            "values",
+            "x",
+        ],
+        "y = [5 0 18]\n",
+        "",
+        0,
+    ),
+    (
+        Failing::Nothing,
+        &[
+            "cvl",
+            "--tile",
+            "2",
+            "--workers",
+            "3",
+            "line_of_sight",
+            "hill",
+        ],
+        "v = [T T F T F]\n",
+        "",
+        0,
+    ),
+    (
+        Failing::Nothing,
+        &["cvl", "line_of_sight", "slope"],
+        "v = [T T F]\n",
+        "",
+        0,
+    ),
+    (
+        Failing::Nothing,
+        &["cvl", "line_of_sight", "valley"],
+        "v = [T T T]\n",
+        "",
+        0,
+    ),
+    (
+        Failing::Nothing,
+        &["cvl", "line_of_sight", "empty"],
+        "",
+        "line 3: fault 10 IndexOutOfRange at 0\n",
+        1,
+    ),
+    (
+        Failing::Nothing,
         &["cvl", "--", "-x", "--tile"],
         "",
         "cannot read -x\n",
@@ -141,25 +208,61 @@ const ROWS: &[Row] = &[
     ),
 ];
 
+/// What comes of a command line.
+#[derive(Clone, Copy)]
+enum Outcome<'a> {
+    /// This text on standard output, this one on standard error, and this status.
+    Texts(&'a str, &'a str, u8),
+    /// A message, and nothing else.
+    Refused,
+    /// Help, all of which is sent on.
+    Help,
+    /// A message that the help was not written.
+    LostHelp,
+}
+
+/// Whether a program with this status on this host comes out so.
+fn is_outcome(host: &SmallHost<Global>, status: u8, outcome: Outcome) -> bool {
+    let output = host.output.taken.as_slice();
+    let errors = host.errors.as_slice();
+    match outcome {
+        Outcome::Texts(text, message, wanted) => {
+            let told = output == text.as_bytes() && errors == message.as_bytes();
+            // so that the messages of two programs don't mix
+            told && status == wanted && host.messages == u64::from(!message.is_empty())
+        }
+        Outcome::Refused => {
+            status == 2 && output.is_empty() && !errors.is_empty() && host.messages == 1
+        }
+        Outcome::Help => {
+            status == 0 && !output.is_empty() && host.sent == output.len() && host.messages == 0
+        }
+        Outcome::LostHelp => status == 3 && errors == "line 0: write failed\n".as_bytes(),
+    }
+}
+
+/// Whether the program comes out so on a host on which this fails.
+fn comes_out<R: Threads + Sync + AllocGlobal>(
+    rt: &R,
+    failing: Failing,
+    words: &[&str],
+    outcome: Outcome,
+) -> Result<bool, NoResources> {
+    let mut host = SmallHost::with_room(rt.alloc(), FILES, 0)?;
+    match failing {
+        Failing::Nothing => {}
+        Failing::Flush => host.flushes = false,
+        Failing::Puts(puts) => host.output.puts_left = puts,
+    }
+    let status = program(rt, rt.alloc(), words, &mut host);
+    Ok(is_outcome(&host, status, outcome))
+}
+
 #[test]
 fn texts_messages_and_statuses(rt: HostRuntime) -> Result<(), Fail> {
     for (failing, words, output, errors, status) in ROWS {
-        let mut host = SmallHost::with_room(rt.alloc(), FILES, 0)?;
-        match failing {
-            Failing::Nothing => {}
-            Failing::Flush => host.flushes = false,
-            Failing::Puts(puts) => host.output.puts_left = *puts,
-        }
-        let told = program(&rt, rt.alloc(), words, &mut host);
-        let written = (host.output.taken.as_slice(), host.errors.as_slice());
-        assert_eq!(rt; told, *status, "{words:?}");
-        assert_eq!(rt;
-            written,
-            (output.as_bytes(), errors.as_bytes()),
-            "{words:?}"
-        );
-        // so that the messages of two programs don't mix
-        assert_eq!(rt; host.messages, u64::from(!errors.is_empty()), "{words:?}");
+        let outcome = Outcome::Texts(output, errors, *status);
+        assert!(rt; comes_out(&rt, *failing, words, outcome)?, "{words:?}");
     }
     Ok(())
 }
@@ -182,18 +285,6 @@ const REFUSED: &[&[&str]] = &[
     &["cvl", "--version"],
 ];
 
-#[test]
-fn refused_command_lines(rt: HostRuntime) -> Result<(), Fail> {
-    for words in REFUSED {
-        let mut host = SmallHost::with_room(rt.alloc(), FILES, 0)?;
-        assert_eq!(rt; program(&rt, rt.alloc(), words, &mut host), 2, "{words:?}");
-        assert!(rt; host.output.taken.is_empty(), "{words:?}");
-        assert_eq!(rt; host.messages, 1, "{words:?}");
-        assert!(rt; !host.errors.is_empty(), "{words:?}");
-    }
-    Ok(())
-}
-
 /// Command lines that ask for help.
 const HELP: &[&[&str]] = &[
     &["cvl", "-h"],
@@ -202,28 +293,21 @@ const HELP: &[&[&str]] = &[
 ];
 
 #[test]
-fn help(rt: HostRuntime) -> Result<(), Fail> {
-    for words in HELP {
-        let mut host = SmallHost::with_room(rt.alloc(), FILES, 0)?;
-        assert_eq!(rt; program(&rt, rt.alloc(), words, &mut host), 0, "{words:?}");
-        assert!(rt; !host.output.taken.is_empty(), "{words:?}");
-        assert_eq!(rt; host.sent, host.output.taken.len(), "{words:?}");
-        assert_eq!(rt; host.messages, 0, "{words:?}");
+fn help_and_refused_command_lines(rt: HostRuntime) -> Result<(), Fail> {
+    for words in REFUSED {
+        assert!(rt;
+            comes_out(&rt, Failing::Nothing, words, Outcome::Refused)?,
+            "{words:?}"
+        );
     }
-    Ok(())
-}
-
-#[test]
-fn help_that_is_not_sent_on(rt: HostRuntime) -> Result<(), Fail> {
+    for words in HELP {
+        assert!(rt;
+            comes_out(&rt, Failing::Nothing, words, Outcome::Help)?,
+            "{words:?}"
+        );
+    }
     for failing in [Failing::Flush, Failing::Puts(4)] {
-        let mut host = SmallHost::with_room(rt.alloc(), FILES, 0)?;
-        match failing {
-            Failing::Nothing => {}
-            Failing::Flush => host.flushes = false,
-            Failing::Puts(puts) => host.output.puts_left = puts,
-        }
-        assert_eq!(rt; program(&rt, rt.alloc(), &["cvl", "-h"], &mut host), 3);
-        assert_eq!(rt; host.errors.as_slice(), "line 0: write failed\n".as_bytes());
+        assert!(rt; comes_out(&rt, failing, &["cvl", "-h"], Outcome::LostHelp)?);
     }
     Ok(())
 }

@@ -3,7 +3,7 @@
 use crate::inputs::inputs_of;
 use crate::small_host::SmallHost;
 use cvl_base::{Config, Memory, NoResources};
-use refusing_memory::withstands_refusals;
+use refusing_memory::{Flaw, withstands_refusals};
 use shell::{MemSink, Stop, program, run};
 use std::alloc::{AllocError, Global};
 use std::test::Fail;
@@ -137,38 +137,6 @@ fn repeated(alloc: Global, number: &str) -> Result<String, AllocError> {
     Ok(text)
 }
 
-#[test]
-fn each_growth_of_a_run(rt: HostRuntime) -> Result<(), Fail> {
-    let text = whole_text(rt.alloc())?;
-    let ones = repeated(rt.alloc(), "1 ")?;
-    let sevens = repeated(rt.alloc(), "-7 ")?;
-    let inputs = [ones.as_str(), sevens.as_str()];
-    let requests = withstands_refusals(
-        rt.alloc(),
-        |heap| run_on(&rt, heap, SCRIPT, inputs.as_slice(), text.as_bytes()).unwrap_or(
-            Ended::Refused,
-        ),
-        Ended::Whole,
-        Ended::Refused,
-    )?;
-    // two inputs, a value of each of the 37 other bindings that take memory, and 4 texts
-    assert!(rt; requests > 42, "{requests}");
-    Ok(())
-}
-
-#[test]
-fn each_growth_of_long_vectors(rt: HostRuntime) -> Result<(), Fail> {
-    let requests = withstands_refusals(
-        rt.alloc(),
-        |heap| run_on(&rt, heap, LONG_SCRIPT, &[], LONG_TEXT).unwrap_or(Ended::Refused),
-        Ended::Whole,
-        Ended::Refused,
-    )?;
-    // a value of each binding but the reduce
-    assert!(rt; requests > 8, "{requests}");
-    Ok(())
-}
-
 const FILES: &[(&str, &str)] = &[
     (
         "late",
@@ -193,14 +161,23 @@ const MESSAGES: &[&str] = &[
     "line 4: no resources\n",
 ];
 
+/// Whether standard error may say so where memory is refused.
+fn is_message(errors: &[u8]) -> bool {
+    for message in MESSAGES {
+        if errors == message.as_bytes() {
+            return true;
+        }
+    }
+    false
+}
+
 /// Judges how the program ended by its status and what it wrote.
 fn judge(status: u8, output: &[u8], errors: &[u8]) -> Ended {
+    let text = TEXT.as_bytes();
     match status {
-        1 if output == TEXT.as_bytes() && errors == FAULT.as_bytes() => Ended::Whole,
-        1 if output == TEXT.as_bytes() && errors.is_empty() => Ended::Refused,
-        3
-            if TEXT.as_bytes().starts_with(output)
-                && MESSAGES.iter().any(|message| errors == message.as_bytes()) => Ended::Refused,
+        1 if output == text && errors == FAULT.as_bytes() => Ended::Whole,
+        1 if output == text && errors.is_empty() => Ended::Refused,
+        3 if text.starts_with(output) && is_message(errors) => Ended::Refused,
         _ => Ended::Wrong,
     }
 }
@@ -216,14 +193,60 @@ fn program_on<R: Threads + Sync + AllocGlobal, A: Memory>(
     Ok(judge(status, host.output.taken.as_slice(), host.errors.as_slice()))
 }
 
-#[test]
-fn each_growth_of_the_program(rt: HostRuntime) -> Result<(), Fail> {
-    let requests = withstands_refusals(
+/// What is run while memory is refused.
+#[derive(Clone, Copy)]
+enum Work<'a> {
+    /// A script, on these inputs, which writes this text.
+    Script(&'a [u8], &'a [&'a str], &'a [u8]),
+    /// The program.
+    Program,
+}
+
+/// How the work ends on this memory.
+fn end_of<R: Threads + Sync + AllocGlobal, A: Memory>(rt: &R, heap: A, work: Work) -> Ended {
+    let ended = match work {
+        Work::Script(script, inputs, text) => run_on(rt, heap, script, inputs, text),
+        Work::Program => program_on(rt, heap),
+    };
+    ended.unwrap_or(Ended::Refused)
+}
+
+/// How many requests the work makes, each of which is refused in turn.
+fn requests_of<R: Threads + Sync + AllocGlobal>(rt: &R, work: Work) -> Result<u64, Flaw> {
+    withstands_refusals(
         rt.alloc(),
-        |heap| program_on(&rt, heap).unwrap_or(Ended::Refused),
+        |heap| end_of(rt, heap, work),
         Ended::Whole,
         Ended::Refused,
+    )
+}
+
+#[test]
+fn each_growth_of_a_run(rt: HostRuntime) -> Result<(), Fail> {
+    let text = whole_text(rt.alloc())?;
+    let ones = repeated(rt.alloc(), "1 ")?;
+    let sevens = repeated(rt.alloc(), "-7 ")?;
+    let inputs = [ones.as_str(), sevens.as_str()];
+    let requests = requests_of(
+        &rt,
+        Work::Script(SCRIPT, inputs.as_slice(), text.as_bytes()),
     )?;
+    // two inputs, a value of each of the 37 other bindings that take memory, and 4 texts
+    assert!(rt; requests > 42, "{requests}");
+    Ok(())
+}
+
+#[test]
+fn each_growth_of_long_vectors(rt: HostRuntime) -> Result<(), Fail> {
+    let requests = requests_of(&rt, Work::Script(LONG_SCRIPT, &[], LONG_TEXT))?;
+    // a value of each binding but the reduce
+    assert!(rt; requests > 8, "{requests}");
+    Ok(())
+}
+
+#[test]
+fn each_growth_of_the_program(rt: HostRuntime) -> Result<(), Fail> {
+    let requests = requests_of(&rt, Work::Program)?;
     // the host's room, two files, two values, a text and the message
     assert!(rt; requests > 6, "{requests}");
     Ok(())

@@ -19,46 +19,65 @@ fn apply_line<R: Threads + Sync, A: Memory>(
     Ok(())
 }
 
-/// The integers that are bound to a name.
-fn integers_of<'a, A: Memory>(session: &'a Session<A>, name: &[u8]) -> Option<&'a [i32]> {
-    match session.get(&Name::new(name)?) {
-        Some(Value::Integers(numbers)) => Some(numbers.as_slice()),
-        _ => None,
+/// Whether these integers are bound to a name.
+fn holds<A: Memory>(session: &Session<A>, name: &[u8], integers: &[i32]) -> bool {
+    match Name::new(name) {
+        None => false,
+        Some(name) => match session.get(&name) {
+            Some(Value::Integers(numbers)) => numbers.as_slice() == integers,
+            _ => false,
+        },
     }
 }
 
+/// Whether nothing is bound to a name.
+fn has_none<A: Memory>(session: &Session<A>, name: &[u8]) -> bool {
+    match Name::new(name) {
+        None => false,
+        Some(name) => session.get(&name).is_none(),
+    }
+}
+
+/// A line, why its call is refused, and what is bound to `a` after it.
+const ROWS: &[(&str, Option<Refused>, [i32; 2])] = &[
+    ("a = input 1", None, [1, 0]),
+    (
+        "a = div_wuz a a",
+        Some(Refused::Fault(Fault {
+            number: FaultNo::DivideByZero,
+            place: Some(1),
+        })),
+        [1, 0],
+    ),
+    (
+        "a = sub_wuz q 1",
+        Some(Refused::Fault(Fault {
+            number: FaultNo::UnknownName,
+            place: None,
+        })),
+        [1, 0],
+    ),
+    (
+        "a = ind_luz 0 1 -1",
+        Some(Refused::Fault(Fault {
+            number: FaultNo::NegativeLength,
+            place: None,
+        })),
+        [1, 0],
+    ),
+    ("a = sub_wuz a a", None, [0, 0]),
+];
+
 #[test]
 fn a_refused_call_changes_no_name(rt: HostRuntime) -> Result<(), Fail> {
-    let rows = [
-        ("a = input 1", Ok(()), [1, 0]),
-        (
-            "a = div_wuz a a",
-            Err(Refused::Fault(Fault::at(FaultNo::DivideByZero, 1))),
-            [1, 0],
-        ),
-        (
-            "a = sub_wuz q 1",
-            Err(Refused::Fault(Fault::new(FaultNo::UnknownName))),
-            [1, 0],
-        ),
-        (
-            "a = ind_luz 0 1 -1",
-            Err(Refused::Fault(Fault::new(FaultNo::NegativeLength))),
-            [1, 0],
-        ),
-        ("a = sub_wuz a a", Ok(()), [0, 0]),
-    ];
     let inputs = inputs_of(rt.alloc(), &["1 0"])?;
-    let mut session = Session::new(rt.alloc(), Config::new(2, 3)?, inputs)?;
-    for (line, answer, bound) in &rows {
+    let config = Config::new(2, 3).unwrap();
+    let mut session = Session::new(rt.alloc(), config, inputs)?;
+    for (line, refused, bound) in ROWS {
         let applied = apply_line(&rt, rt.alloc(), &mut session, line);
-        assert_eq!(rt; applied, *answer, "{line}");
-        assert_eq!(rt;
-            integers_of(&session, b"a"),
-            Some(bound.as_slice()),
-            "{line}"
-        );
-        assert!(rt; integers_of(&session, b"b").is_none(), "{line}");
+        assert!(rt; applied.err() == *refused, "{line}");
+        assert!(rt; holds(&session, b"a", bound), "{line}");
+        assert!(rt; has_none(&session, b"b"), "{line}");
     }
     Ok(())
 }

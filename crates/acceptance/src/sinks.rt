@@ -35,22 +35,13 @@ const ROWS: &[Row] = &[
 #[test]
 fn narrow_and_failing_sinks(rt: HostRuntime) -> Result<(), Fail> {
     for (more_a_put, puts, taken, answer) in ROWS {
-        let mut sink = NarrowSink::new(Vec::new(rt.alloc()), *more_a_put, *puts);
         let inputs = inputs_of(rt.alloc(), INPUTS)?;
-        let ran = run(
-            &rt,
-            rt.alloc(),
-            Config::new(2, 3)?,
-            SCRIPT,
-            inputs,
-            &mut sink,
-        );
-        assert_eq!(rt; ran, *answer, "{more_a_put} {puts}");
-        assert_eq!(rt; sink.taken.len(), *taken, "{more_a_put} {puts}");
-        assert!(rt;
-            TEXT.as_bytes().starts_with(&sink.taken),
-            "{more_a_put} {puts}"
-        );
+        let config = Config::new(2, 3).unwrap();
+        let mut sink = NarrowSink::new(Vec::new(rt.alloc()), *more_a_put, *puts);
+        let ran = run(&rt, rt.alloc(), config, SCRIPT, inputs, &mut sink);
+        let text = sink.taken.as_slice();
+        let right = ran == *answer && text.len() == *taken && TEXT.as_bytes().starts_with(text);
+        assert!(rt; right, "{more_a_put} {puts}");
     }
     Ok(())
 }
@@ -60,11 +51,9 @@ fn room_of_a_sink(rt: HostRuntime) -> Result<(), Fail> {
     let heap = Refusing::from(1, rt.alloc());
     let mut sink = MemSink::with_room(&heap, 64)?;
     let bytes = [b'a'; 64];
-    assert_eq!(rt; sink.put(bytes.as_slice()), Ok(64));
-    assert_eq!(rt; sink.put(b""), Ok(0));
-    assert_eq!(rt; heap.requests(), 1);
-    assert_eq!(rt; sink.put(b"a"), Err(SinkFault));
-    assert_eq!(rt; sink.bytes(), bytes.as_slice());
+    assert!(rt; sink.put(bytes.as_slice()) == Ok(64) && sink.put(b"") == Ok(0));
+    assert!(rt; heap.requests() == 1);
+    assert!(rt; sink.put(b"a") == Err(SinkFault) && sink.bytes() == bytes.as_slice());
     let none = Refusing::from(0, rt.alloc());
     assert!(rt; MemSink::with_room(&none, 64).is_err());
     Ok(())

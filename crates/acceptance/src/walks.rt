@@ -16,12 +16,9 @@ fn runs(rt: HostRuntime) -> Result<(), Fail> {
     ];
     for (from, to, before, sums, sum) in rows {
         let scanned = scan_of_run::<Mul, _>(rt.alloc(), &a, &d, from, to, before)?;
-        assert_eq!(rt; scanned.as_slice(), sums, "{from} to {to}");
-        assert_eq!(rt;
-            sum_of_run::<Mul, _>(&a, &d, from, to, before),
-            sum,
-            "{from} to {to}"
-        );
+        assert!(rt; scanned.as_slice() == sums, "{from} to {to}");
+        let (has_head, last) = sum_of_run::<Mul, _>(&a, &d, from, to, before);
+        assert!(rt; has_head == sum.0 && last == sum.1, "{from} to {to}");
     }
     Ok(())
 }

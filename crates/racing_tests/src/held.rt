@@ -45,18 +45,32 @@ impl Marks {
     }
 }
 
-/// Holds the worker that was given tile 0 until the tiles 1, 2 and 3 are finished.
-#[derive(Drop)]
-struct FirstTileLast {
-    finished: Marks,
+/// Which workers are held.
+#[derive(Clone, Copy)]
+enum Holds {
+    /// The worker that was given tile 0, until the tiles 1, 2 and 3 are finished.
+    FirstTile,
+    /// Each of two workers at its first tile, until the other has one too.
+    Both,
 }
 
-impl Gate for FirstTileLast {
-    fn pass(&self, _worker: u32, point: Point) {
-        match point {
-            Point::Claimed(0) => self.finished.wait_for(0b1110),
-            Point::Finished(t) => {
-                self.finished.leave(t);
+/// A gate that holds workers, and the marks that let them go on.
+#[derive(Drop)]
+struct Holding {
+    holds: Holds,
+    marks: Marks,
+}
+
+impl Gate for Holding {
+    fn pass(&self, worker: u32, point: Point) {
+        match (self.holds, point) {
+            (Holds::FirstTile, Point::Claimed(0)) => self.marks.wait_for(0b1110),
+            (Holds::FirstTile, Point::Finished(t)) => {
+                self.marks.leave(t);
+            }
+            (Holds::Both, Point::Claimed(_)) => {
+                self.marks.leave(worker);
+                self.marks.wait_for(0b11);
             }
             _ => {}
         }
@@ -64,46 +78,19 @@ impl Gate for FirstTileLast {
 }
 
 #[test]
-fn first_tile_last(rt: HostRuntime) -> Result<(), Fail> {
-    let gate = FirstTileLast {
-        finished: Marks::new(),
-    };
-    let config = Config::new(1, 2)?;
-    let sums = scan_gated::<_, _, Add, _>(&rt, rt.alloc(), config, &[3, 1, 7, 0], &gate)?;
-    assert_eq!(rt; sums.as_slice(), [0, 3, 4, 11].as_slice());
-    assert!(rt;
-        !gate.finished.is_overdue(),
-        "the worker of tile 0 was never let go"
-    );
-    Ok(())
-}
-
-/// Holds each of two workers at its first tile until the other has one too.
-#[derive(Drop)]
-struct BothAtOnce {
-    arrived: Marks,
-}
-
-impl Gate for BothAtOnce {
-    fn pass(&self, worker: u32, point: Point) {
-        if let Point::Claimed(_) = point {
-            self.arrived.leave(worker);
-            self.arrived.wait_for(0b11);
-        }
+fn held_workers(rt: HostRuntime) -> Result<(), Fail> {
+    for (holds, tile) in [(Holds::FirstTile, 1), (Holds::Both, 2)] {
+        let gate = Holding {
+            holds,
+            marks: Marks::new(),
+        };
+        let config = Config::new(tile, 2)?;
+        let sums = scan_gated::<_, _, Add, _>(&rt, rt.alloc(), config, &[3, 1, 7, 4], &gate)?;
+        assert!(rt; sums.as_slice() == [0, 3, 4, 11].as_slice());
+        assert!(rt;
+            !gate.marks.is_overdue(),
+            "a worker on tiles of {tile} waited in vain"
+        );
     }
-}
-
-#[test]
-fn both_at_once(rt: HostRuntime) -> Result<(), Fail> {
-    let gate = BothAtOnce {
-        arrived: Marks::new(),
-    };
-    let config = Config::new(2, 2)?;
-    let sums = scan_gated::<_, _, Add, _>(&rt, rt.alloc(), config, &[3, 1, 7, 4], &gate)?;
-    assert_eq!(rt; sums.as_slice(), [0, 3, 4, 11].as_slice());
-    assert!(rt;
-        !gate.arrived.is_overdue(),
-        "a worker waited for the other in vain"
-    );
     Ok(())
 }

@@ -8,15 +8,13 @@ use std::test::Fail;
 use std::thread::Threads;
 
 /// Tiles of one element, for three workers.
-fn small_tiles() -> Option<Config> {
-    Config::new(1, 3).ok()
+fn small_tiles() -> Config {
+    Config::new(1, 3).unwrap()
 }
 
 /// Whether the flat calls answer what they should on five numbers.
 fn flat_calls<R: Threads + Sync, A: Memory>(rt: &R, alloc: A) -> Result<bool, Refused> {
-    let Some(config) = small_tiles() else {
-        return Ok(false);
-    };
+    let config = small_tiles();
     let numbers = [3, 1, 7, 0, 4];
     let sums = int_scan(rt, alloc, config, IntMonoid::Add, &numbers)?;
     let greatest = int_reduce(rt, alloc, config, IntMonoid::Max, &numbers)?;
@@ -25,9 +23,7 @@ fn flat_calls<R: Threads + Sync, A: Memory>(rt: &R, alloc: A) -> Result<bool, Re
 
 /// Whether the segmented calls answer what they should on two segments with an empty one between them.
 fn segmented_calls<R: Threads + Sync, A: Memory>(rt: &R, alloc: A) -> Result<bool, Refused> {
-    let Some(config) = small_tiles() else {
-        return Ok(false);
-    };
+    let config = small_tiles();
     let d = SegDes::from_lengths(alloc, &[2, 0, 3])?;
     let numbers = [1, 2, 3, 4, 5];
     let sums = seg_int_scan(rt, alloc, config, IntMonoid::Add, &numbers, &d)?;
@@ -35,26 +31,31 @@ fn segmented_calls<R: Threads + Sync, A: Memory>(rt: &R, alloc: A) -> Result<boo
     Ok(sums.as_slice() == [0, 1, 0, 3, 7].as_slice() && reduces.as_slice() == [3, 0, 12].as_slice())
 }
 
-#[test]
-fn flat_requests(rt: HostRuntime) -> Result<(), Fail> {
-    let requests = withstands_refusals(
-        rt.alloc(),
-        |heap| flat_calls(&rt, heap),
-        Ok(true),
-        Err(Refused::NoResources),
-    )?;
-    assert!(rt; requests > 0);
-    Ok(())
+/// Calls that race while memory is refused.
+#[derive(Clone, Copy)]
+enum Calls {
+    Flat,
+    Segmented,
+}
+
+/// Whether the calls answer what they should.
+fn answers<R: Threads + Sync, A: Memory>(rt: &R, alloc: A, calls: Calls) -> Result<bool, Refused> {
+    match calls {
+        Calls::Flat => flat_calls(rt, alloc),
+        Calls::Segmented => segmented_calls(rt, alloc),
+    }
 }
 
 #[test]
-fn segmented_requests(rt: HostRuntime) -> Result<(), Fail> {
-    let requests = withstands_refusals(
-        rt.alloc(),
-        |heap| segmented_calls(&rt, heap),
-        Ok(true),
-        Err(Refused::NoResources),
-    )?;
-    assert!(rt; requests > 0);
+fn each_request(rt: HostRuntime) -> Result<(), Fail> {
+    for calls in [Calls::Flat, Calls::Segmented] {
+        let requests = withstands_refusals(
+            rt.alloc(),
+            |heap| answers(&rt, heap, calls),
+            Ok(true),
+            Err(Refused::NoResources),
+        )?;
+        assert!(rt; requests > 0);
+    }
     Ok(())
 }

@@ -18,11 +18,8 @@ fn same_every_time(rt: HostRuntime) -> Result<(), Fail> {
             for (op, right) in rows {
                 for _ in 0..50 {
                     let sums = seg_int_scan(&rt, rt.alloc(), config, op, &[1, 2, 3, 4, 5], &d)?;
-                    assert_eq!(rt;
-                        sums.as_slice(),
-                        right.as_slice(),
-                        "{op:?}, {tile}, {workers}"
-                    );
+                    let same = sums.as_slice() == right.as_slice();
+                    assert!(rt; same, "{op:?}, {tile}, {workers}");
                 }
             }
         }

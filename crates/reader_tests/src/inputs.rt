@@ -1,10 +1,10 @@
 //! Inputs.
 
 use crate::pieces::repeated;
+use crate::work::{Work, requests_of};
 use call_reader::read_vector;
 use cvl_base::limits::MOST_ELEMENTS;
 use cvl_base::{Fault, FaultNo, Memory, Refused};
-use refusing_memory::withstands_refusals;
 use std::test::Fail;
 
 /// Each input with its numbers. Numbers with sixteen bytes and more before the end of the input, and with fewer.
@@ -55,12 +55,12 @@ const BAD_TOKENS: &[(&[u8], u32)] = &[
 ];
 
 /// Whether the input has these numbers.
-fn gives<A: Memory>(heap: A, input: &[u8], wanted: &[i32]) -> Result<bool, Refused> {
+pub fn gives<A: Memory>(heap: A, input: &[u8], wanted: &[i32]) -> Result<bool, Refused> {
     Ok(read_vector(heap, input)?.as_slice() == wanted)
 }
 
 /// How many numbers an input has, and the last of them; 0 where there is none.
-fn last_of<A: Memory>(heap: A, input: &[u8]) -> Result<(usize, i32), Refused> {
+pub fn last_of<A: Memory>(heap: A, input: &[u8]) -> Result<(usize, i32), Refused> {
     let numbers = read_vector(heap, input)?;
     Ok((numbers.len(), numbers.last().copied().unwrap_or(0)))
 }
@@ -68,13 +68,7 @@ fn last_of<A: Memory>(heap: A, input: &[u8]) -> Result<(usize, i32), Refused> {
 #[test]
 fn numbers_and_refused_memory(rt: HostRuntime) -> Result<(), Fail> {
     for (input, wanted) in NUMBERS {
-        assert_eq!(rt; read_vector(rt.alloc(), input)?.as_slice(), *wanted);
-        withstands_refusals(
-            rt.alloc(),
-            |heap| gives(heap, input, wanted),
-            Ok(true),
-            Err(Refused::NoResources),
-        )?;
+        requests_of(rt.alloc(), Work::Input(input, wanted))?;
     }
     Ok(())
 }
@@ -82,26 +76,45 @@ fn numbers_and_refused_memory(rt: HostRuntime) -> Result<(), Fail> {
 #[test]
 fn first_bad_tokens(rt: HostRuntime) {
     for (input, place) in BAD_TOKENS {
-        let wanted = Refused::Fault(Fault::at(FaultNo::BadInput, *place));
-        assert_eq!(rt; read_vector(rt.alloc(), input).err(), Some(wanted));
+        let fault = Fault::at(FaultNo::BadInput, *place);
+        let refused = last_of(rt.alloc(), input) == Err(Refused::Fault(fault));
+        assert!(rt; refused, "{place}");
     }
 }
 
+/// A long input, as a piece, how often it stands there, and what stands behind, with how many numbers it has and the
+/// last of them, or why it is refused.
+type LongInput = (
+    &'static str,
+    usize,
+    &'static str,
+    Result<(usize, i32), Refused>,
+);
+
+const BAD_FIRST: Refused = Refused::Fault(Fault {
+    number: FaultNo::BadInput,
+    place: Some(0),
+});
+
+const TOO_LONG: Refused = Refused::Fault(Fault {
+    number: FaultNo::TooLong,
+    place: None,
+});
+
+const LONG_INPUTS: &[LongInput] = &[
+    ("0", 1_000_000, "5", Ok((1, 5))),
+    ("9", 1_000_000, "", Err(BAD_FIRST)),
+    ("7 ", MOST_ELEMENTS - 1, "-8", Ok((4_194_304, -8))),
+    ("7 ", MOST_ELEMENTS, "-8", Err(TOO_LONG)),
+    ("+ ", MOST_ELEMENTS, "", Err(BAD_FIRST)),
+    ("+ ", MOST_ELEMENTS, "+", Err(TOO_LONG)),
+];
+
 #[test]
 fn long_inputs(rt: HostRuntime) -> Result<(), Fail> {
-    let bad_first = Refused::Fault(Fault::at(FaultNo::BadInput, 0));
-    let too_long = Refused::Fault(Fault::new(FaultNo::TooLong));
-    let rows = [
-        ("0", 1_000_000, "5", Ok((1, 5))),
-        ("9", 1_000_000, "", Err(bad_first)),
-        ("7 ", MOST_ELEMENTS - 1, "-8", Ok((4_194_304, -8))),
-        ("7 ", MOST_ELEMENTS, "-8", Err(too_long)),
-        ("+ ", MOST_ELEMENTS, "", Err(bad_first)),
-        ("+ ", MOST_ELEMENTS, "+", Err(too_long)),
-    ];
-    for (piece, times, last, wanted) in rows {
-        let input = repeated(rt.alloc(), "", piece, times, last)?;
-        assert_eq!(rt; last_of(rt.alloc(), input.as_bytes()), wanted);
+    for (piece, times, last, wanted) in LONG_INPUTS {
+        let input = repeated(rt.alloc(), "", piece, *times, last)?;
+        assert!(rt; last_of(rt.alloc(), input.as_bytes()) == *wanted, "{piece}");
     }
     Ok(())
 }

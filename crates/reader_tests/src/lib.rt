@@ -14,3 +14,5 @@ mod sinks;
 mod stops;
 #[cfg(test)]
 mod values;
+#[cfg(test)]
+mod work;

@@ -1,11 +1,9 @@
 //! Lines of a script.
 
 use crate::pieces::repeated;
+use crate::work::{Work, requests_of};
 use call_reader::read_line;
 use cvl_base::{Arg, Call, Memory, Refused};
-use refusing_memory::withstands_refusals;
-use std::alloc::Global;
-use std::process::Abort;
 use std::test::Fail;
 
 /// Each line with what it reads as: a call, as its target, its operation and its arguments; nothing; or the fault.
@@ -82,61 +80,58 @@ const LINES: &[(&[u8], &str)] = &[
     (b"a = input 1\r", "fault 6 BadNumber"),
 ];
 
-/// A call in one line, its operation as `Debug` shows it.
-fn shown<A: Memory>(heap: A, call: &Call<A>) -> Result<String<A>, Refused> {
-    let mut text = String::new(heap);
+/// Appends an argument.
+fn put_arg<A: Memory>(text: &mut String<A>, arg: &Arg) -> Result<(), Refused> {
+    match arg {
+        Arg::Name(name) => write!(text, " {name:?}")?,
+        Arg::Integer(n) => write!(text, " {n}")?,
+        Arg::Boolean(b) => write!(text, " {b}")?,
+    }
+    Ok(())
+}
+
+/// Appends a call in one line, its operation as `Debug` shows it.
+fn put_call<A: Memory>(text: &mut String<A>, call: &Call<A>) -> Result<(), Refused> {
     if let Some(name) = &call.target {
         write!(text, "{name:?} ")?;
     }
     let op = call.op;
     write!(text, "{op:?}")?;
     for arg in call.args.as_slice() {
-        match arg {
-            Arg::Name(name) => write!(text, " {name:?}")?,
-            Arg::Integer(n) => write!(text, " {n}")?,
-            Arg::Boolean(b) => write!(text, " {b}")?,
-        }
+        put_arg(text, arg)?;
     }
-    Ok(text)
+    Ok(())
 }
 
-/// What a line reads as.
-fn read<A: Memory>(heap: A, line: &[u8]) -> Result<String<A>, Refused> {
+/// Appends what a line reads as.
+fn put_reading<A: Memory>(heap: A, line: &[u8], text: &mut String<A>) -> Result<(), Refused> {
     match read_line(heap, line) {
-        Ok(Some(call)) => shown(heap, &call),
-        Ok(None) => Ok(format!(in heap; "nothing")?),
-        Err(Refused::Fault(fault)) => Ok(format!(in heap; "{fault}")?),
+        Ok(Some(call)) => put_call(text, &call),
+        Ok(None) => Ok(text.push_str("nothing")?),
+        Err(Refused::Fault(fault)) => Ok(write!(text, "{fault}")?),
         Err(Refused::NoResources) => Err(Refused::NoResources),
     }
 }
 
 /// Whether a line reads so.
-fn reads_as<A: Memory>(heap: A, line: &[u8], wanted: &str) -> Result<bool, Refused> {
-    Ok(read(heap, line)?.as_str() == wanted)
-}
-
-/// Asserts that a line reads so, and that it withstands the refusal of each of its requests for memory.
-fn assert_reads(rt: &impl Abort, alloc: Global, line: &[u8], wanted: &str) -> Result<(), Fail> {
-    assert_eq!(rt; read(alloc, line)?.as_str(), wanted);
-    withstands_refusals(
-        alloc,
-        |heap| reads_as(heap, line, wanted),
-        Ok(true),
-        Err(Refused::NoResources),
-    )?;
-    Ok(())
+pub fn reads_as<A: Memory>(heap: A, line: &[u8], wanted: &str) -> Result<bool, Refused> {
+    let mut text = String::new(heap);
+    put_reading(heap, line, &mut text)?;
+    Ok(text.as_str() == wanted)
 }
 
 #[test]
 fn lines_and_refused_memory(rt: HostRuntime) -> Result<(), Fail> {
     for (line, wanted) in LINES {
-        assert_reads(&rt, rt.alloc(), line, wanted)?;
+        requests_of(rt.alloc(), Work::Line(line, wanted))?;
     }
-    let long = repeated(rt.alloc(), "c = add_wuz", "\t ", 20_000, "a b#")?;
-    assert_reads(
-        &rt,
-        rt.alloc(),
-        long.as_bytes(),
-        "\"c\" Ints2(Add) \"a\" \"b\"",
-    )
+    Ok(())
+}
+
+#[test]
+fn a_long_line_and_refused_memory(rt: HostRuntime) -> Result<(), Fail> {
+    let line = repeated(rt.alloc(), "c = add_wuz", "\t ", 20_000, "a b#")?;
+    let wanted = "\"c\" Ints2(Add) \"a\" \"b\"";
+    requests_of(rt.alloc(), Work::Line(line.as_bytes(), wanted))?;
+    Ok(())
 }

@@ -1,13 +1,14 @@
 //! The text of stops.
 
-use cvl_base::{Fault, FaultNo, Memory, NoResources};
-use refusing_memory::withstands_refusals;
+use crate::work::{Work, is_appended, requests_of};
+use cvl_base::{Fault, FaultNo, Memory, Refused};
 use shell::{Stop, put_stop};
 use std::test::Fail;
 
 /// What stands before the text of a stop.
 const BEFORE: &[u8] = b"a = [1]\n";
 
+/// Each stop with its line behind that text.
 const STOPS: &[(Stop, &str)] = &[
     (
         Stop::Script {
@@ -17,7 +18,7 @@ const STOPS: &[(Stop, &str)] = &[
                 place: Some(3),
             },
         },
-        "line 7: fault 10 IndexOutOfRange at 3",
+        "a = [1]\nline 7: fault 10 IndexOutOfRange at 3\n",
     ),
     (
         Stop::Script {
@@ -27,7 +28,7 @@ const STOPS: &[(Stop, &str)] = &[
                 place: None,
             },
         },
-        "line 2: fault 1 BadLine",
+        "a = [1]\nline 2: fault 1 BadLine\n",
     ),
     (
         Stop::Script {
@@ -37,38 +38,50 @@ const STOPS: &[(Stop, &str)] = &[
                 place: None,
             },
         },
-        "line 0: fault 17 ScriptTooLong",
+        "a = [1]\nline 0: fault 17 ScriptTooLong\n",
     ),
-    (Stop::NoResources { line: 7 }, "line 7: no resources"),
+    (
+        Stop::WriteFailed { line: 7 },
+        "a = [1]\nline 7: write failed\n",
+    ),
+    (
+        Stop::NoResources { line: 7 },
+        "a = [1]\nline 7: no resources\n",
+    ),
     (
         Stop::WriteFailed { line: 1_048_577 },
-        "line 1048577: write failed",
+        "a = [1]\nline 1048577: write failed\n",
     ),
 ];
 
-/// Whether the stop is shown so, and its line is appended whole; after a refusal the text is as before.
-fn is_told<A: Memory>(heap: A, stop: &Stop, wanted: &str) -> Result<bool, NoResources> {
-    let shown = format!(in heap; "{stop}")?;
+/// Whether the stop is shown so.
+fn is_shown<A: Memory>(heap: A, stop: &Stop, wanted: &str) -> Result<bool, Refused> {
+    let shown = format!(in heap; "a = [1]\n{stop}\n")?;
+    Ok(shown.as_str() == wanted)
+}
+
+/// Appends the line of a stop.
+fn put_line<A: Memory>(stop: &Stop, text: &mut Vec<u8, A>) -> Result<(), Refused> {
+    put_stop(stop, text)?;
+    Ok(())
+}
+
+/// Whether the line of the stop is appended whole; after a refusal the text is as before.
+fn is_put<A: Memory>(heap: A, stop: &Stop, wanted: &str) -> Result<bool, Refused> {
     let mut text = Vec::from_slice(heap, BEFORE)?;
-    match put_stop(stop, &mut text) {
-        Ok(()) => {
-            let line = format!(in heap; "a = [1]\n{wanted}\n")?;
-            Ok(shown.as_str() == wanted && text.as_slice() == line.as_bytes())
-        }
-        Err(refused) if text.as_slice() == BEFORE => Err(refused),
-        Err(_) => Ok(false),
-    }
+    let put = put_line(stop, &mut text);
+    is_appended(put, &text, BEFORE, wanted.as_bytes())
+}
+
+/// Whether the stop is shown so, and its line is appended so.
+pub fn is_told<A: Memory>(heap: A, stop: &Stop, wanted: &str) -> Result<bool, Refused> {
+    Ok(is_shown(heap, stop, wanted)? && is_put(heap, stop, wanted)?)
 }
 
 #[test]
 fn stops_and_refused_memory(rt: HostRuntime) -> Result<(), Fail> {
     for (stop, wanted) in STOPS {
-        withstands_refusals(
-            rt.alloc(),
-            |heap| is_told(heap, stop, wanted),
-            Ok(true),
-            Err(NoResources),
-        )?;
+        requests_of(rt.alloc(), Work::Stop(stop, wanted))?;
     }
     Ok(())
 }

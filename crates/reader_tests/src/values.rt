@@ -3,10 +3,11 @@
 ghost use Rattle.std.specs.Prelude.{◌≡◌, is_ok};
 ghost use Rattle.call_reader.specs.Texts.{cut_text};
 
+use crate::inputs::last_of;
 use crate::pieces::repeated;
+use crate::work::{Work, is_appended, requests_of};
 use call_reader::{put_value, read_vector};
 use cvl_base::{Bools, Ints, Kind, Memory, NoResources, Refused, Value};
-use refusing_memory::withstands_refusals;
 use segdes::SegDes;
 use std::test::Fail;
 
@@ -18,7 +19,7 @@ const MANY: usize = 3_000;
 
 /// A kind, the numbers of the value, the lengths of a descriptor beside it, and the text. A boolean is true where its
 /// number is not 0.
-type Row<'a> = (Kind, &'a str, Option<&'a str>, &'a str);
+pub type Row<'a> = (Kind, &'a str, Option<&'a str>, &'a str);
 
 const VALUES: &[Row] = &[
     (
@@ -68,22 +69,28 @@ const LONG: &[(Kind, &str, Option<&str>, &str, &str)] = &[
     (Kind::Booleans, "1 ", Some("1 "), "[T] ", "[T]]"),
 ];
 
+/// The booleans that are true where these numbers are not 0.
+fn booleans_of<A: Memory>(heap: A, numbers: &str) -> Result<Bools<A>, Refused> {
+    let numbers = read_vector(heap, numbers.as_bytes())?;
+    let flags = numbers.iter().map(|n| *n != 0).collect(heap)?;
+    Ok(Bools::from_vec(flags))
+}
+
+/// The descriptor of segments with these lengths.
+fn descriptor_of<A: Memory>(heap: A, lengths: &str) -> Result<SegDes<A>, Refused> {
+    let lengths = read_vector(heap, lengths.as_bytes())?;
+    SegDes::from_lengths(heap, &lengths)
+}
+
 /// The value of a kind with these numbers.
 fn value_of<A: Memory>(heap: A, kind: Kind, numbers: &str) -> Result<Value<A>, Refused> {
-    let numbers = read_vector(heap, numbers.as_bytes())?;
-    let first = numbers.first().copied().unwrap_or(0);
+    let bytes = numbers.as_bytes();
     match kind {
-        Kind::Integers => Ok(Value::Integers(Ints::from_vec(numbers))),
-        Kind::Booleans => {
-            let flags = numbers.iter().map(|n| *n != 0).collect(heap)?;
-            Ok(Value::Booleans(Bools::from_vec(flags)))
-        }
-        Kind::Descriptor => {
-            let descriptor = SegDes::from_lengths(heap, &numbers)?;
-            Ok(Value::Descriptor(descriptor.into_lengths()))
-        }
-        Kind::Integer => Ok(Value::Integer(first)),
-        Kind::Boolean => Ok(Value::Boolean(first != 0)),
+        Kind::Integers => Ok(Value::Integers(Ints::from_vec(read_vector(heap, bytes)?))),
+        Kind::Booleans => Ok(Value::Booleans(booleans_of(heap, numbers)?)),
+        Kind::Descriptor => Ok(Value::Descriptor(descriptor_of(heap, numbers)?.into_lengths())),
+        Kind::Integer => Ok(Value::Integer(last_of(heap, bytes)?.1)),
+        Kind::Boolean => Ok(Value::Boolean(last_of(heap, bytes)?.1 != 0)),
     }
 }
 
@@ -98,20 +105,20 @@ fn is_cut<A: Memory>(value: &Value<A>, descriptor: &SegDes<A>) -> bool
     }
 }
 
-/// Appends the text of a value, beside the descriptor with these lengths where there are some; nothing where they don't
-/// cut it.
-fn put_row<A: Memory>(
+/// Appends the text of a value.
+fn put_whole<A: Memory>(value: &Value<A>, text: &mut Vec<u8, A>) -> Result<(), Refused> {
+    let descriptor: Option<SegDes<A>> = None;
+    Ok(put_value(value, descriptor.as_ref(), text)?)
+}
+
+/// Appends the text of a value beside the descriptor with these lengths; nothing where they don't cut it.
+fn put_cut<A: Memory>(
     heap: A,
     value: &Value<A>,
-    lengths: Option<&str>,
+    lengths: &str,
     text: &mut Vec<u8, A>,
 ) -> Result<(), Refused> {
-    let Some(lengths) = lengths else {
-        let descriptor: Option<SegDes<A>> = None;
-        return Ok(put_value(value, descriptor.as_ref(), text)?);
-    };
-    let lengths = read_vector(heap, lengths.as_bytes())?;
-    let descriptor = SegDes::from_lengths(heap, &lengths)?;
+    let descriptor = descriptor_of(heap, lengths)?;
     if is_cut(value, &descriptor) {
         put_value(value, Some(&descriptor), text)?;
     }
@@ -119,26 +126,31 @@ fn put_row<A: Memory>(
 }
 
 /// Whether the text of a value is appended whole; after a refusal the text is as before.
-fn is_written<A: Memory>(heap: A, row: Row) -> Result<bool, Refused> {
+fn is_put<A: Memory>(
+    heap: A,
+    value: &Value<A>,
+    lengths: Option<&str>,
+    wanted: &str,
+) -> Result<bool, Refused> {
+    let mut text = Vec::from_slice(heap, BEFORE.as_bytes())?;
+    let put = match lengths {
+        None => put_whole(value, &mut text),
+        Some(lengths) => put_cut(heap, value, lengths, &mut text),
+    };
+    is_appended(put, &text, BEFORE.as_bytes(), wanted.as_bytes())
+}
+
+/// Whether the value of a row is written so.
+pub fn is_written<A: Memory>(heap: A, row: Row) -> Result<bool, Refused> {
     let (kind, numbers, lengths, wanted) = row;
     let value = value_of(heap, kind, numbers)?;
-    let mut text = Vec::from_slice(heap, BEFORE.as_bytes())?;
-    match put_row(heap, &value, lengths, &mut text) {
-        Ok(()) => Ok(text.as_slice() == wanted.as_bytes()),
-        Err(refused) if text.as_slice() == BEFORE.as_bytes() => Err(refused),
-        Err(_) => Ok(false),
-    }
+    is_put(heap, &value, lengths, wanted)
 }
 
 #[test]
 fn values_and_refused_memory(rt: HostRuntime) -> Result<(), Fail> {
     for row in VALUES {
-        withstands_refusals(
-            rt.alloc(),
-            |heap| is_written(heap, *row),
-            Ok(true),
-            Err(Refused::NoResources),
-        )?;
+        requests_of(rt.alloc(), Work::Value(*row))?;
     }
     Ok(())
 }
@@ -149,15 +161,14 @@ fn long_values_and_refused_memory(rt: HostRuntime) -> Result<(), Fail> {
         let numbers = repeated(rt.alloc(), "", number, MANY, "")?;
         let lengths = repeated(rt.alloc(), "", length.unwrap_or(""), MANY, "")?;
         let wanted = repeated(rt.alloc(), "c = [", piece, MANY - 1, last)?;
-        let beside = length.map(|_| lengths.as_str());
-        let requests = withstands_refusals(
-            rt.alloc(),
-            |heap| is_written(heap, (*kind, numbers.as_str(), beside, wanted.as_str())),
-            Ok(true),
-            Err(Refused::NoResources),
-        )?;
+        let beside = if length.is_some() {
+            Some(lengths.as_str())
+        } else {
+            None
+        };
+        let row = (*kind, numbers.as_str(), beside, wanted.as_str());
         // the numbers, the text, and more than one growth of it
-        assert!(rt; requests > 3);
+        assert!(rt; requests_of(rt.alloc(), Work::Value(row))? > 3);
     }
     Ok(())
 }
