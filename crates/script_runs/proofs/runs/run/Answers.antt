@@ -5,7 +5,9 @@ use Rattle.vector_handles.specs.declared.input.Input.{Input}
 use Rattle.script_runs.specs.Meaning.{from_line, lines_of, meaning}
 use Rattle.script_runs.proofs.runs.run.Goals as goal
 
-meaning_in_limit : {A : Type 0} (script : List ℕ) (inputs : List (Input A)) → length script ≤ most_script_bytes → meaning script inputs ≡ from_line 1 [] inputs (lines_of script)
+-- the meaning of a script that is not too long
+meaning_in_limit : {A : Type 0} (script : List ℕ) (inputs : List (Input A)) → length script ≤ most_script_bytes
+    → meaning script inputs ≡ from_line 1 [] inputs (lines_of script)
 meaning_in_limit script inputs within = rw (le-ltb most_script_bytes (length script) within) refl
 
 pub returns-in-Ok-clause-runs : goal.returns-in-Ok-clause-runs
