@@ -1,5 +1,6 @@
 pub mod Cut
 pub mod LastStart
+pub mod RunPushed
 pub mod Scanned
 pub mod SegmentReduces
 pub mod Segments

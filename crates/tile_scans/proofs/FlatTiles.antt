@@ -11,11 +11,11 @@ use Rattle.cvl_base.specs.Monoid.{MonoidLaws}
 use Rattle.cvl_base.specs.SegmentMonoid.{is_seg_item, seg_unit, seg_join}
 use Rattle.tile_plan.specs.Ranges.{count_of, range_of}
 use Rattle.tile_plan.proofs.Numbers.{starts_past, starts_within}
-use Rattle.tile_scans.specs.Kernels.{tile_of, flat_sums, reduce_at}
+use Rattle.tile_scans.specs.Kernels.{before_tile, tile_of, flat_sums, reduce_at}
 use Rattle.scan_walks.specs.Runs.{continued, run_scan_of}
 use Rattle.scan_walks.proofs.LastStart.{continued_summed}
 use Rattle.tile_scans.proofs.RunScans.{continued_passes, continued_run_scan, continued_slice, length-run_scan_of, run_scan_slice}
-use Rattle.tile_scans.proofs.Tiled.{before_is_item, pieces_more, sums_before, sums_pass, tiles_joined}
+use Rattle.tile_scans.proofs.Tiled.{before_is_item, pieces_more, sums_before, sums_pass, tile_joined, tile_walked, tiles_joined}
 
 -- the elements of a tile, read as items
 pub tile_read : {X Item : Type 0} (item : X → Item) (len tile : ℕ) (xs : List X) (t : ℕ) → map item (tile_of len tile xs t) ≡ tile_of len tile (map item xs) t
@@ -88,23 +88,33 @@ module _ {Item : Type 0} {is_item : Item → Bool} {unit : Item} {join : Item �
   pub flat_scans_joined : plan.0 ≡ length xs → flat_map (tile_of plan.0 plan.1 (scan_of join unit xs)) (range_with_len 0 (count_of plan.0 plan.1)) ≡ scan_of join unit xs
   flat_scans_joined whole = tiles_joined plan.0 plan.1 (scan_of join unit xs) some (length-scan ∙ sym whole)
 
-  -- what the last tile gives is the reduce
-  pub flat_reduced : (t : ℕ) (before sum : Bool × Item) → plan.0 ≡ length xs → t + 1 ≡ count_of plan.0 plan.1
-      → before ≡ fold_of (seg_join join) (seg_unit unit) (take t (flat_sums join unit plan xs))
-      → sum ≡ get_or (flat_sums join unit plan xs) t (seg_unit unit) → join before.1 sum.1 ≡ fold_of join unit xs
-  flat_reduced t before sum whole last is_before is_sum =
-      let sums = flat_sums join unit plan xs in
-      let below : t < count_of plan.0 plan.1 = omega (arith, last) in
-      let long : t < length sums = omega (arith, below, length-flat_sums join unit plan xs) in
-      let unset : sum.0 ≡ false = ap (λ w. w.0) (is_sum ∙ flat_sum_at join unit plan xs t below) in
-      let joined : seg_join join before sum ≡ fold_of (seg_join join) (seg_unit unit) (take (t + 1) sums) =
-      ap (λ b. seg_join join b sum) is_before
-      ∙ ap (seg_join join (fold_of (seg_join join) (seg_unit unit) (take t sums))) is_sum
-      ∙ sym (fold_more (seg_join join) (seg_unit unit) sums t (seg_unit unit) long) in
-      ap (λ g. (seg_join join before (g, sum.1)).1) (sym unset)
-      ∙ ap (λ w. w.1) (joined ∙ flat_before (t + 1) (omega (arith, last)))
+  -- a walk over a tile adds its elements to what stands before it
+  pub flat_walked : (t : ℕ) (before : Bool × Item) → t < length (flat_sums join unit plan xs) → before ≡ before_tile join unit (flat_sums join unit plan xs) t
+      → (before.0, fold_of join before.1 (tile_of plan.0 plan.1 xs t)) ≡ before_tile join unit (flat_sums join unit plan xs) (t + 1)
+  flat_walked t before within is =
+      let below : t < count_of plan.0 plan.1 = omega (arith, within, length-flat_sums join unit plan xs) in
+      sym (continued_summed join before.0 before.1 (tile_of plan.0 plan.1 xs t))
+      ∙ ap (fold_of (seg_join join) before) (sym (continued_slice xs (range_of plan.0 plan.1 t).0 (range_of plan.0 plan.1 t).1))
+      ∙ tile_walked laws plan.0 plan.1 (continued xs) some (continued_passes is_item xs items) t before below is
+
+  -- what all tiles join to is the reduce
+  pub flat_all_joined : (t : ℕ) (after : Bool × Item) → plan.0 ≡ length xs → t + 1 ≡ count_of plan.0 plan.1
+      → after ≡ before_tile join unit (flat_sums join unit plan xs) (t + 1) → after.1 ≡ fold_of join unit xs
+  flat_all_joined t after whole last is =
+      ap (λ w. w.1) (is ∙ flat_before (t + 1) (omega (arith, last)))
       ∙ ap (fold_of join unit) (take_all (min plan.0 ((t + 1) * plan.1)) xs
       (let past = starts_past plan.0 plan.1 some in let end : (t + 1) * plan.1 ≡ count_of plan.0 plan.1 * plan.1 = ap (λ n. n * plan.1) last in omega (arith, past, end, whole)))
+
+  -- what the last tile gives is the reduce
+  pub flat_reduced : (t : ℕ) (before sum : Bool × Item) → plan.0 ≡ length xs → t + 1 ≡ count_of plan.0 plan.1
+      → before ≡ before_tile join unit (flat_sums join unit plan xs) t
+      → sum ≡ get_or (flat_sums join unit plan xs) t (seg_unit unit) → join before.1 sum.1 ≡ fold_of join unit xs
+  flat_reduced t before sum whole last is_before is_sum =
+      let below : t < count_of plan.0 plan.1 = omega (arith, last) in
+      let long : t < length (flat_sums join unit plan xs) = omega (arith, below, length-flat_sums join unit plan xs) in
+      let unset : sum.0 ≡ false = ap (λ w. w.0) (is_sum ∙ flat_sum_at join unit plan xs t below) in
+      ap (λ g. (seg_join join before (g, sum.1)).1) (sym unset)
+      ∙ flat_all_joined t (seg_join join before sum) whole last (tile_joined join unit (flat_sums join unit plan xs) t before sum (seg_join join before sum) long is_before is_sum refl)
 
   pub flat_sum_is_item : (t : ℕ) (sum : Bool × Item) → t < length (flat_sums join unit plan xs)
       → sum ≡ get_or (flat_sums join unit plan xs) t (seg_unit unit) → IsTrue (is_item sum.1)

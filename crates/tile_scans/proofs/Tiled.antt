@@ -1,13 +1,13 @@
 -- The tiles of a list, one after another, and what the tiles before a tile sum up to.
 use Rattle.std.specs.Prelude.{◌||◌}
-use Rattle.std.proofs.Common.{◌≡◌, ℕ, zero, suc, ◌+◌, ◌-◌, ◌*◌, ◌<◌, ◌≤◌, min, Bool, true, false, eqb, IsTrue, List, [], ◌∷◌, ◌++◌, length, take, slice_range, sym, ap, ◌∙◌, arith, append-nil, take-add, inl, inr}
+use Rattle.std.proofs.Common.{◌≡◌, ℕ, zero, suc, ◌+◌, ◌-◌, ◌*◌, ◌<◌, ◌≤◌, min, Bool, true, false, eqb, IsTrue, List, [], ◌∷◌, ◌++◌, length, take, get_or, slice_range, sym, ap, ◌∙◌, arith, append-nil, take-add, inl, inr}
 use Rattle.std.proofs.lemmas.Bool.Decides.{eqb_tells, leb_tells}
 use Rattle.std.specs.List.{AllPass, flat_map, list_any, range_with_len}
 use Rattle.std.proofs.lemmas.List.{map-id, take_all}
 use Rattle.std.proofs.lemmas.List.Concat.{flat_map-append}
 use Rattle.std.proofs.lemmas.List.Elements.{All-from_get_or, All-head, All-map, All-take, All-drop}
 use Rattle.std.proofs.lemmas.List.FromFn.{get_or-map-range_with_len, length-map-range_with_len, map-range_with_len_more}
-use Rattle.std.proofs.lemmas.List.Sums.{fold_more}
+use Rattle.std.proofs.lemmas.List.Sums.{fold_more, fold-append}
 use Rattle.operators.proofs.FoldLaws.{fold_of_is_item, fold_of-append}
 use Rattle.operators.specs.SegmentMonoidLaws.{seg_laws}
 use Rattle.cvl_base.specs.Folds.{fold_of}
@@ -15,7 +15,7 @@ use Rattle.cvl_base.specs.Monoid.{MonoidLaws}
 use Rattle.cvl_base.specs.SegmentMonoid.{is_seg_item, seg_unit, seg_join}
 use Rattle.tile_plan.specs.Ranges.{count_of, range_of}
 use Rattle.tile_plan.proofs.Numbers.{starts_within, starts_past, ends_at}
-use Rattle.tile_scans.specs.Kernels.{tile_of, sums_of}
+use Rattle.tile_scans.specs.Kernels.{before_tile, tile_of, sums_of}
 
 numbers_more : (n : ℕ) → range_with_len 0 (n + 1) ≡ range_with_len 0 n ++ n ∷ []
 numbers_more n =
@@ -101,6 +101,20 @@ module _ {Item : Type 0} {is_item : Item → Bool} {unit : Item} {join : Item �
       ∙ ap (λ k. fold_of (seg_join join) (seg_unit unit) (take k run)) end
       ∙ ap (λ k. fold_of (seg_join join) (seg_unit unit) (take (min len (k * tile)) run)) (sym next)
 
+  -- and a walk over tile t adds the tile to it
+  pub tile_walked : (t : ℕ) (before : Bool × Item) → t < count_of len tile → before ≡ before_tile join unit (sums_of join unit len tile run) t
+      → fold_of (seg_join join) before (tile_of len tile run t) ≡ before_tile join unit (sums_of join unit len tile run) (t + 1)
+  tile_walked t before below is =
+      let from : ℕ = min len (t * tile) in
+      let to : ℕ = min len ((t + 1) * tile) in
+      let end : from + (to - from) ≡ to = (let ends = ends_at len tile t some below in omega arith) in
+      ap (λ w. fold_of (seg_join join) w (tile_of len tile run t)) (is ∙ sums_before t (omega (arith, below)))
+      ∙ ap (fold_of (seg_join join) (fold_of (seg_join join) (seg_unit unit) (take from run))) (tile_cut len tile t run some below)
+      ∙ sym (fold-append (seg_join join) (seg_unit unit) (take from run) (slice_range run from to))
+      ∙ ap (fold_of (seg_join join) (seg_unit unit)) (sym (take-add from (to - from) run))
+      ∙ ap (λ k. fold_of (seg_join join) (seg_unit unit) (take k run)) end
+      ∙ sym (sums_before (t + 1) (omega (arith, below)))
+
   -- and it is an item
   pub before_is_item : (t : ℕ) → t ≤ count_of len tile → IsTrue (is_seg_item is_item (fold_of (seg_join join) (seg_unit unit) (take t (sums_of join unit len tile run))))
   before_is_item t within =
@@ -128,3 +142,12 @@ filled_by_test n e =
 pub any_of_all : {X : Type 0} (p : X → Bool) (xs : List X) → 0 < length xs → AllPass p xs → list_any p xs ≡ true
 any_of_all p [] some all = absurd (omega (arith, some))
 any_of_all p (x ∷ xs) some all = ap (λ b. b || list_any p xs) (All-head (λ y. p y ≡ true) x xs all)
+
+-- where the sum of a tile is joined to what stands before it
+pub tile_joined : {Item : Type 0} (join : Item → Item → Item) (unit : Item) (sums : List (Bool × Item)) (t : ℕ) (before sum after : Bool × Item) → t < length sums
+    → before ≡ before_tile join unit sums t → sum ≡ get_or sums t (seg_unit unit) → after ≡ seg_join join before sum → after ≡ before_tile join unit sums (t + 1)
+tile_joined join unit sums t before sum after within is_before is_sum is =
+    is
+    ∙ ap (λ w. seg_join join w sum) is_before
+    ∙ ap (seg_join join (before_tile join unit sums t)) is_sum
+    ∙ sym (fold_more (seg_join join) (seg_unit unit) sums t (seg_unit unit) within)

@@ -21,10 +21,14 @@ flat_sums join unit plan xs = sums_of join unit plan.0 plan.1 (continued xs)
 abbrev pub segmented_sums : {Item : Type 0} → (Item → Item → Item) → Item → ℕ × ℕ → List ℕ → List Item → List (Bool × Item)
 segmented_sums join unit plan lengths xs = sums_of join unit plan.0 plan.1 (with_starts lengths xs)
 
+-- what the tiles before tile t join to, where the tiles have these sums
+abbrev pub before_tile : {Item : Type 0} → (Item → Item → Item) → Item → List (Bool × Item) → ℕ → Bool × Item
+before_tile join unit sums t = fold_of (seg_join join) (seg_unit unit) (take t sums)
+
 -- t is one of the tiles that have these sums: this is what the tiles before it join to, and this its own sum
 pub record IsAtTile {Item : Type 0} (join : Item → Item → Item) (unit : Item) (sums : List (Bool × Item)) (t : ℕ) (before sum : Bool × Item) : Type 0 where
   pub within : t < length sums
-  pub before_is : before ≡ fold_of (seg_join join) (seg_unit unit) (take t sums)
+  pub before_is : before ≡ before_tile join unit sums t
   pub sum_is : sum ≡ slice_index_or sums t (seg_unit unit)
 
 -- of a reduce, which the last tile gives

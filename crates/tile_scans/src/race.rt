@@ -9,7 +9,6 @@ use crate::kernel::Kernel;
 use crate::racing::{Lent, Race};
 use boards::ScanBoard;
 use crew::{Gate, Point, run_crew};
-use cvl_base::monoid::know_laws;
 use cvl_base::{Config, Memory, Monoid, NoResources, Seg};
 use std::thread::{Threads, join};
 use tile_plan::{Piece, gather_over, gather_tiles};
@@ -133,17 +132,14 @@ fn in_turn<A: Memory, K: Kernel, G: Gate>(
     ensures { IfOk result (λ whole. whole.items
         ≡ in_order_of_tiles (length (K.sums kernel.now)) (K.items kernel.now)) }
 {
-    know_laws::<K::M>();
     let mut whole = Vec::with_capacity(alloc, kernel.len())?;
     let mut before = Seg::<K::M>::unit();
     for t in 0..kernel.count() {
         gate.pass(0, Point::Claimed(t));
-        let sum = kernel.sum(t);
+        // no other worker waits for the tile's sum, which is known once its items are made
         gate.pass(0, Point::Summed(t));
         gate.pass(0, Point::Looked(t));
-        let mut items = kernel.items(alloc, t, before, sum)?;
-        whole.append(&mut items)?;
-        before = Seg::<K::M>::join(before, sum);
+        before = kernel.push_items(&mut whole, t, before)?;
         gate.pass(0, Point::Finished(t));
     }
     Ok(whole)
