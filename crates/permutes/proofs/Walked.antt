@@ -1,5 +1,5 @@
 -- Both walks: what follows of a first walk that tells a fault or leaves senders.
-use Rattle.std.proofs.Common.{◌≡◌, ◌∙◌, ℕ, ◌+◌, ◌<◌, ◌≤◌, Bool, List, [], ◌∷◌, length, map, sum, take, drop, refl, sym, ap, subst, length-append, length-drop, arith, ℤ, Option, Some, None, Result, Ok, Err, OnOk}
+use Rattle.std.proofs.Common.{◌≡◌, ◌∙◌, ℕ, ◌+◌, ◌<◌, ◌≤◌, Bool, List, [], ◌∷◌, length, map, sum, take, drop, refl, sym, ap, subst, length-append, length-drop, arith, ℤ, Option, Some, None, Result, Ok, Err, IfOk, OnOk}
 use Rattle.std.specs.List.{All, sum_by}
 use Rattle.std.specs.Option.{option_or}
 use Rattle.std.proofs.lemmas.List.{length-take-le}
@@ -48,6 +48,13 @@ module _ {V : Type 0} (leaves : Result (Unit {0}) Fault → List ℕ → Type 0)
 
   pub refused_at : {X W : Type 0} (see : W → List X) (e : Refused) (xs : List X) → r ≡ Err e → Gives see (Err e) (unless fault (Ok xs))
   refused_at see e xs is = taken_err view see fault senders xs e (subst (λ a. Gives view a (unless fault (Ok senders))) is (found.1 fault senders long sends))
+
+-- the length of a value that both walks gave
+pub length_given : {X V : Type 0} (view : V → List X) (len : V → ℕ) → ((v : V) → len v ≡ length (view v)) → (r : Result V Refused) (fault : Option Fault) (xs : List X) (n : ℕ) → (fault ≡ None → length xs ≡ n)
+    → Gives view r (unless fault (Ok xs)) → IfOk r (λ v. len v ≡ n)
+length_given view len is (Ok v) None xs n long given = let same : xs ≡ view v = cc in is v ∙ ap length (sym same) ∙ long refl
+length_given view len is (Ok v) (Some f) xs n long given = absurd (cc)
+length_given view len is (Err e) fault xs n long given = tt
 
 -- what a walk gave and left where it was shown m senders and left some that a vector holds
 pub sends_at : (fault_of : ℕ → Option Fault) (senders_at : ℕ → List ℕ) (given : Result (Unit {0}) Fault) (now left : List ℕ) (m n : ℕ) → m ≡ n → now ≡ left

@@ -27,7 +27,7 @@ pub fn simple<T: Copy + Send + Sync, R: Threads + Sync, A: Memory>(
 ) -> Result<Vec<T, A>, Refused>
     requires in_limit { length index.now ≤ most_elements }
     ensures values { Gives (λ v. v.items) result (simple_of source.now index.now) }
-    ensures in_length { IfOk result (λ v. vec_len v ≤ length index.now) }
+    ensures as_long { IfOk result (λ v. vec_len v ≡ length index.now) }
 {
     check_agree(source.len(), index.len())?;
     elements_sent(rt, alloc, config, source, index.len(), |senders| {
