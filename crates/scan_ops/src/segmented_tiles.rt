@@ -158,6 +158,7 @@ impl<'a, M: Packed, X: Copy, E: Reading<X, M::Item>, A: Allocator> Kernel
         Ok(sums)
     }
 
+    #[inline(always)]
     fn push_items<B: Memory>(
         &self,
         whole: &mut Vec<M::Item, B>,
