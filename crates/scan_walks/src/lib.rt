@@ -9,5 +9,6 @@ pub mod runs;
 pub use plain::{push_scan_readings_from, scan_readings_from, sum_readings_from};
 pub use readings::{Itself, Reading};
 pub use runs::{
-    push_scan_of_readings, reduces_of_readings, scan_of_readings, scan_of_run, sum_of_readings, sum_of_run,
+    push_scan_of_readings, reduces_of_readings, scan_of_readings, scan_of_run, sum_of_readings,
+    sum_of_run,
 };

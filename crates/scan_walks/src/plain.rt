@@ -32,6 +32,8 @@ pub fn sum_readings_from<M: Monoid, X: Copy, E: Reading<X, M::Item>>(
 /// in front of it are read as. Answers `before`, joined so with all of them. There must be room for what is pushed.
 ///
 /// `before` must be an item of the monoid, as all that is read must. Source: Blelloch's prescan.
+// inlined, so that the length of the vector stays in a register while the loop runs
+#[inline(always)]
 pub fn push_scan_readings_from<M: Monoid, X: Copy, E: Reading<X, M::Item>, A: Allocator>(
     sums: &mut Vec<M::Item, A>,
     before: M::Item,

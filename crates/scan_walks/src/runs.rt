@@ -29,6 +29,8 @@ fn start_or_total<A: Allocator>(d: &SegDes<A>, s: usize) -> usize
 /// Pushes the scans of the segments with these lengths, one after another, of what the elements are read as. The
 /// segments have all of the elements, and the last may be cut short by the end of the elements. There must be room for
 /// the scans.
+// inlined for the loop that it calls
+#[inline(always)]
 fn push_scans<M: Monoid, X: Copy, E: Reading<X, M::Item>, A: Allocator>(
     sums: &mut Vec<M::Item, A>,
     lengths: &[i32],
@@ -169,7 +171,15 @@ pub fn sum_of_run<M: Monoid, A: Allocator>(
 /// join to. The answer says the same of what stands before place `to`: `before` joined with the run under
 /// [`Seg`](cvl_base::Seg). What elements join to must be an item of the monoid, as all that is read must. Source: Blelloch's
 /// segmented scans.
-pub fn push_scan_of_readings<M: Monoid, X: Copy, E: Reading<X, M::Item>, A: Allocator, B: Allocator>(
+// inlined for the loops that it calls
+#[inline(always)]
+pub fn push_scan_of_readings<
+    M: Monoid,
+    X: Copy,
+    E: Reading<X, M::Item>,
+    A: Allocator,
+    B: Allocator,
+>(
     sums: &mut Vec<M::Item, B>,
     a: &[X],
     d: &SegDes<A>,
@@ -197,7 +207,10 @@ pub fn push_scan_of_readings<M: Monoid, X: Copy, E: Reading<X, M::Item>, A: Allo
     push_scans::<M, X, E, B>(sums, &d.lengths()[first..next], rest);
     if first < next {
         let last_start = d.start(next - 1);
-        return (true, sum_readings_from::<M, X, E>(M::unit(), &a[last_start..to]));
+        return (
+            true,
+            sum_readings_from::<M, X, E>(M::unit(), &a[last_start..to]),
+        );
     }
     (before.0, so_far)
 }

@@ -8,7 +8,9 @@ use crate::kernel::Kernel;
 use boards::Tiles;
 use cvl_base::monoid::know_laws;
 use cvl_base::{Memory, Monoid, NoResources, Packed, Seg};
-use scan_walks::{Reading, push_scan_of_readings, reduces_of_readings, scan_of_readings, sum_of_readings};
+use scan_walks::{
+    Reading, push_scan_of_readings, reduces_of_readings, scan_of_readings, sum_of_readings,
+};
 use segdes::SegDes;
 use std::alloc::Allocator;
 use std::marker::PhantomData;
@@ -158,6 +160,8 @@ impl<'a, M: Packed, X: Copy, E: Reading<X, M::Item>, A: Allocator> Kernel
         Ok(sums)
     }
 
+    // inlined for the loops that it calls
+    #[inline(always)]
     fn push_items<B: Memory>(
         &self,
         whole: &mut Vec<M::Item, B>,

@@ -51,7 +51,7 @@ push_scans-requires-clause-covered g c =
     ap sum (range_read c.lengths.result.now d first.result n c.lengths.ensures.value) in
     let left : length c.split_at.result.1.now ≡ (c.args.to - c.args.from) - (c.min.result - c.args.from) = omega (arith, c.split_at.ensures.back_len, c.requires.within, c.requires.in_order) in
     let covered = segments_cover d c.args.from c.args.to first.result next.result start.result (c.min.result - c.args.from) (length c.split_at.result.1.now)
-        c.requires.in_order (omega (arith, c.requires.within, c.requires.total)) first.ensures.in_count first.ensures.before next.ensures.others start.ensures (ap (λ k. k - c.args.from) cut) left in
+    c.requires.in_order (omega (arith, c.requires.within, c.requires.total)) first.ensures.in_count first.ensures.before next.ensures.others start.ensures (ap (λ k. k - c.args.from) cut) left in
     omega (arith, read, covered)
 
 pub returns-then-first-next-clause-values : goal.returns-then-first-next-clause-values
