@@ -4,6 +4,8 @@ use segdes::SegDes;
 use std::alloc::{AllocError, Global};
 
 /// Sends each element to its index, and tells whether each index was a free place.
+// One loop for all that send, so that each call is measured beside the same machine code.
+#[inline(never)]
 fn send(values: &mut [i32], taken: &mut [bool], source: &[i32], index: &[i32]) -> bool {
     for (x, i) in source.iter().zip(index) {
         let Ok(place) = usize::try_from(*i) else {
@@ -19,6 +21,7 @@ fn send(values: &mut [i32], taken: &mut [bool], source: &[i32], index: &[i32]) -
 }
 
 /// The same with the elements alone whose flag is true.
+#[inline(never)]
 fn send_flagged(
     values: &mut [i32],
     taken: &mut [bool],
@@ -42,6 +45,7 @@ fn send_flagged(
 }
 
 /// Takes the element at each index, and tells whether each index was a place.
+#[inline(never)]
 fn take(values: &mut [i32], source: &[i32], index: &[i32]) -> bool {
     for (x, i) in values.iter_mut().zip(index) {
         let Ok(place) = usize::try_from(*i) else {
