@@ -1,4 +1,4 @@
-use Rattle.std.proofs.Common.{◌≡◌, arith, rules, to_z, of_z, w32, FitsSigned}
+use Rattle.std.proofs.Common.{rules}
 use Rattle.call_reader.proofs.ReadBack.{read_back}
 use Rattle.call_reader.proofs.text_laws.integer_reads_back.Goals as goal
 
