@@ -15,7 +15,7 @@ use Rattle.tile_scans.specs.Kernels.{before_tile, tile_of, flat_sums, reduce_at}
 use Rattle.scan_walks.specs.Runs.{continued, run_scan_of}
 use Rattle.scan_walks.proofs.LastStart.{continued_summed}
 use Rattle.tile_scans.proofs.RunScans.{continued_passes, continued_run_scan, continued_slice, length-run_scan_of, run_scan_slice}
-use Rattle.tile_scans.proofs.Tiled.{before_is_item, pieces_more, sums_before, sums_pass, tile_joined, tile_walked, tiles_joined}
+use Rattle.tile_scans.proofs.Tiled.{before_is_item, pieces_more, sums_before, sums_pass, tile_joined, tiles_joined}
 
 -- the elements of a tile, read as items
 pub tile_read : {X Item : Type 0} (item : X → Item) (len tile : ℕ) (xs : List X) (t : ℕ) → map item (tile_of len tile xs t) ≡ tile_of len tile (map item xs) t
@@ -87,15 +87,6 @@ module _ {Item : Type 0} {is_item : Item → Bool} {unit : Item} {join : Item �
   -- the parts of all tiles, one after another, are the scan
   pub flat_scans_joined : plan.0 ≡ length xs → flat_map (tile_of plan.0 plan.1 (scan_of join unit xs)) (range_with_len 0 (count_of plan.0 plan.1)) ≡ scan_of join unit xs
   flat_scans_joined whole = tiles_joined plan.0 plan.1 (scan_of join unit xs) some (length-scan ∙ sym whole)
-
-  -- a walk over a tile adds its elements to what stands before it
-  pub flat_walked : (t : ℕ) (before : Bool × Item) → t < length (flat_sums join unit plan xs) → before ≡ before_tile join unit (flat_sums join unit plan xs) t
-      → (before.0, fold_of join before.1 (tile_of plan.0 plan.1 xs t)) ≡ before_tile join unit (flat_sums join unit plan xs) (t + 1)
-  flat_walked t before within is =
-      let below : t < count_of plan.0 plan.1 = omega (arith, within, length-flat_sums join unit plan xs) in
-      sym (continued_summed join before.0 before.1 (tile_of plan.0 plan.1 xs t))
-      ∙ ap (fold_of (seg_join join) before) (sym (continued_slice xs (range_of plan.0 plan.1 t).0 (range_of plan.0 plan.1 t).1))
-      ∙ tile_walked laws plan.0 plan.1 (continued xs) some (continued_passes is_item xs items) t before below is
 
   -- what all tiles join to is the reduce
   pub flat_all_joined : (t : ℕ) (after : Bool × Item) → plan.0 ≡ length xs → t + 1 ≡ count_of plan.0 plan.1

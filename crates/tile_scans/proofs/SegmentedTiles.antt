@@ -12,12 +12,12 @@ use Rattle.cvl_base.specs.SegmentMonoid.{is_seg_item, seg_unit, seg_join}
 use Rattle.segdes.specs.Starts.{start_of}
 use Rattle.tile_plan.specs.Ranges.{count_of, range_of}
 use Rattle.tile_plan.proofs.Numbers.{starts_within}
-use Rattle.tile_scans.specs.Kernels.{before_tile, tile_of, segmented_sums, starts_before, first_left, reduces_at}
+use Rattle.tile_scans.specs.Kernels.{tile_of, segmented_sums, starts_before, first_left, reduces_at}
 use Rattle.scan_walks.specs.Runs.{with_starts, run_of, run_scan_of, scans_of, reduces_of, IsOpenAt}
 use Rattle.scan_walks.proofs.Cut.{begins_by, segments_scanned, sum-cons}
 use Rattle.scan_walks.proofs.LastStart.{started_run_summed}
 use Rattle.tile_scans.proofs.RunScans.{run_of_is, run_scan_slice, with_starts-take, with_starts_passes}
-use Rattle.tile_scans.proofs.Tiled.{before_is_item, slices_joined, sums_before, sums_pass, tile_walked, tiles_joined}
+use Rattle.tile_scans.proofs.Tiled.{before_is_item, slices_joined, sums_before, sums_pass, tiles_joined}
 
 -- ---- how many segments start before a place
 
@@ -166,14 +166,6 @@ module _ {Item : Type 0} {is_item : Item → Bool} {unit : Item} {join : Item �
       ∙ run_scan_slice join unit false unit from to (with_starts lengths xs)
       ∙ ap (λ w. run_scan_of join unit w.1 (slice_range (with_starts lengths xs) from to)) (sym (segmented_before t before below is))
       ∙ ap (run_scan_of join unit before.1) (sym (run_of_is lengths xs from to (range_in_order join unit plan lengths xs t some below)))
-
-  -- a walk over a tile's run adds the run to what stands before it
-  pub segmented_walked : (t : ℕ) (before : Bool × Item) → t < length (segmented_sums join unit plan lengths xs) → before ≡ before_tile join unit (segmented_sums join unit plan lengths xs) t
-      → fold_of (seg_join join) before (run_of lengths xs (range_of plan.0 plan.1 t).0 (range_of plan.0 plan.1 t).1) ≡ before_tile join unit (segmented_sums join unit plan lengths xs) (t + 1)
-  segmented_walked t before within is =
-      let below : t < count_of plan.0 plan.1 = omega (arith, within, length-segmented_sums join unit plan lengths xs) in
-      ap (fold_of (seg_join join) before) (run_of_is lengths xs (range_of plan.0 plan.1 t).0 (range_of plan.0 plan.1 t).1 (range_in_order join unit plan lengths xs t some below))
-      ∙ tile_walked laws plan.0 plan.1 (with_starts lengths xs) some (with_starts_passes is_item lengths xs items) t before below is
 
   -- the parts of all tiles, one after another, are the scans
   pub segmented_scans_joined : plan.0 ≡ length xs → sum lengths ≡ length xs

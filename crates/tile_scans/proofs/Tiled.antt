@@ -1,13 +1,13 @@
 -- The tiles of a list, one after another, and what the tiles before a tile sum up to.
 use Rattle.std.specs.Prelude.{◌||◌}
-use Rattle.std.proofs.Common.{◌≡◌, ℕ, zero, suc, ◌+◌, ◌-◌, ◌*◌, ◌<◌, ◌≤◌, min, Bool, true, false, eqb, IsTrue, List, [], ◌∷◌, ◌++◌, length, take, get_or, slice_range, sym, ap, ◌∙◌, arith, append-nil, take-add, inl, inr}
-use Rattle.std.proofs.lemmas.Bool.Decides.{eqb_tells, leb_tells}
+use Rattle.std.proofs.Common.{◌≡◌, ℕ, zero, suc, ◌+◌, ◌-◌, ◌*◌, ◌<◌, ◌≤◌, min, Bool, true, IsTrue, List, [], ◌∷◌, ◌++◌, length, take, get_or, slice_range, sym, ap, ◌∙◌, arith, append-nil, take-add, inl, inr}
+use Rattle.std.proofs.lemmas.Bool.Decides.{leb_tells}
 use Rattle.std.specs.List.{AllPass, flat_map, list_any, range_with_len}
 use Rattle.std.proofs.lemmas.List.{map-id, take_all}
 use Rattle.std.proofs.lemmas.List.Concat.{flat_map-append}
 use Rattle.std.proofs.lemmas.List.Elements.{All-from_get_or, All-head, All-map, All-take, All-drop}
 use Rattle.std.proofs.lemmas.List.FromFn.{get_or-map-range_with_len, length-map-range_with_len, map-range_with_len_more}
-use Rattle.std.proofs.lemmas.List.Sums.{fold_more, fold-append}
+use Rattle.std.proofs.lemmas.List.Sums.{fold_more}
 use Rattle.operators.proofs.FoldLaws.{fold_of_is_item, fold_of-append}
 use Rattle.operators.specs.SegmentMonoidLaws.{seg_laws}
 use Rattle.cvl_base.specs.Folds.{fold_of}
@@ -101,20 +101,6 @@ module _ {Item : Type 0} {is_item : Item → Bool} {unit : Item} {join : Item �
       ∙ ap (λ k. fold_of (seg_join join) (seg_unit unit) (take k run)) end
       ∙ ap (λ k. fold_of (seg_join join) (seg_unit unit) (take (min len (k * tile)) run)) (sym next)
 
-  -- and a walk over tile t adds the tile to it
-  pub tile_walked : (t : ℕ) (before : Bool × Item) → t < count_of len tile → before ≡ before_tile join unit (sums_of join unit len tile run) t
-      → fold_of (seg_join join) before (tile_of len tile run t) ≡ before_tile join unit (sums_of join unit len tile run) (t + 1)
-  tile_walked t before below is =
-      let from : ℕ = min len (t * tile) in
-      let to : ℕ = min len ((t + 1) * tile) in
-      let end : from + (to - from) ≡ to = (let ends = ends_at len tile t some below in omega arith) in
-      ap (λ w. fold_of (seg_join join) w (tile_of len tile run t)) (is ∙ sums_before t (omega (arith, below)))
-      ∙ ap (fold_of (seg_join join) (fold_of (seg_join join) (seg_unit unit) (take from run))) (tile_cut len tile t run some below)
-      ∙ sym (fold-append (seg_join join) (seg_unit unit) (take from run) (slice_range run from to))
-      ∙ ap (fold_of (seg_join join) (seg_unit unit)) (sym (take-add from (to - from) run))
-      ∙ ap (λ k. fold_of (seg_join join) (seg_unit unit) (take k run)) end
-      ∙ sym (sums_before (t + 1) (omega (arith, below)))
-
   -- and it is an item
   pub before_is_item : (t : ℕ) → t ≤ count_of len tile → IsTrue (is_seg_item is_item (fold_of (seg_join join) (seg_unit unit) (take t (sums_of join unit len tile run))))
   before_is_item t within =
@@ -129,13 +115,6 @@ some_tile len tile some filled =
           let none : count_of len tile ≡ 0 = omega (arith, e.1) in
           let product : count_of len tile * tile ≡ 0 * tile = ap (λ n. n * tile) none in
           absurd (omega (arith, starts_past len tile some, product, filled))
-    ]
-
-pub filled_by_test : (n : ℕ) → eqb n 0 ≡ false → 0 < n
-filled_by_test n e =
-    elim (eqb_tells n 0) [
-      | inl t ↦ let bad : true ≡ false = sym t.0 ∙ e in cc bad
-      | inr t ↦ omega (arith, t.1)
     ]
 
 -- what passes for all of some elements passes for one

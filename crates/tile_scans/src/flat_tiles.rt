@@ -7,8 +7,8 @@ ghost use Rattle.cvl_base.specs.Limits.{most_elements};
 use crate::kernel::Kernel;
 use boards::Tiles;
 use cvl_base::monoid::know_laws;
-use cvl_base::{Memory, Monoid, NoResources, Packed, Seg};
-use scan_walks::{Reading, push_scan_readings_from, scan_readings_from, sum_readings_from};
+use cvl_base::{Monoid, NoResources, Packed};
+use scan_walks::{Reading, scan_readings_from, sum_readings_from};
 use std::alloc::Allocator;
 use std::marker::PhantomData;
 use tile_plan::Plan;
@@ -106,7 +106,7 @@ impl<'a, M: Packed, X: Copy, E: Reading<X, M::Item>> Tiles for FlatScan<'a, M, X
 impl<'a, M: Packed, X: Copy, E: Reading<X, M::Item>> Kernel for FlatScan<'a, M, X, E> {
     ghost use Rattle.std.specs.Prelude.{IfOk};
     ghost use Rattle.cvl_base.specs.Folds.{scan_of};
-    ghost use Rattle.tile_scans.specs.Kernels.{IsAtTile, before_tile, flat_sums, tile_of};
+    ghost use Rattle.tile_scans.specs.Kernels.{IsAtTile, flat_sums, tile_of};
 
     ghost items = { λ k t. tile_of k.flat.plan.0 k.flat.plan.1 (scan_of M.join M.unit
         (map E.item k.flat.elements.now)) t };
@@ -131,29 +131,6 @@ impl<'a, M: Packed, X: Copy, E: Reading<X, M::Item>> Kernel for FlatScan<'a, M, 
         know_laws::<M>();
         let sums = scan_readings_from::<M, X, E, A>(alloc, before.1, self.flat.tile(t))?;
         Ok(sums)
-    }
-
-    fn push_items<A: Memory>(
-        &self,
-        whole: &mut Vec<M::Item, A>,
-        t: u32,
-        before: (bool, M::Item),
-    ) -> Result<(bool, M::Item), NoResources>
-        requires within { t < length (flat_sums M.join M.unit self.now.flat.plan
-            (map E.item self.now.flat.elements.now)) }
-        requires before { before ≡ before_tile M.join M.unit (flat_sums M.join M.unit self.now.flat.plan
-            (map E.item self.now.flat.elements.now)) t }
-        ensures items { IfOk result (λ after. whole.new.items ≡ whole.old.items
-            ++ tile_of self.now.flat.plan.0 self.now.flat.plan.1 (scan_of M.join M.unit
-            (map E.item self.now.flat.elements.now)) t) }
-        ensures after { IfOk result (λ after. after ≡ before_tile M.join M.unit
-            (flat_sums M.join M.unit self.now.flat.plan (map E.item self.now.flat.elements.now)) (t + 1)) }
-    {
-        know_laws::<M>();
-        let tile = self.flat.tile(t);
-        whole.reserve(tile.len())?;
-        let after = push_scan_readings_from::<M, X, E, A>(whole, before.1, tile);
-        Ok((before.0, after))
     }
 }
 
@@ -182,7 +159,7 @@ impl<'a, M: Packed, X: Copy, E: Reading<X, M::Item>> Tiles for FlatReduce<'a, M,
 impl<'a, M: Packed, X: Copy, E: Reading<X, M::Item>> Kernel for FlatReduce<'a, M, X, E> {
     ghost use Rattle.std.specs.Prelude.{IfOk};
     ghost use Rattle.cvl_base.specs.Folds.{fold_of};
-    ghost use Rattle.tile_scans.specs.Kernels.{IsAtTile, before_tile, flat_sums, reduce_at};
+    ghost use Rattle.tile_scans.specs.Kernels.{IsAtTile, flat_sums, reduce_at};
     ghost use Rattle.tile_plan.specs.Ranges.{count_of};
 
     ghost items = { λ k t. reduce_at (count_of k.flat.plan.0 k.flat.plan.1) (fold_of M.join M.unit
@@ -212,31 +189,5 @@ impl<'a, M: Packed, X: Copy, E: Reading<X, M::Item>> Kernel for FlatReduce<'a, M
         let mut reduces = Vec::with_capacity(alloc, 1)?;
         reduces.push_reserved(M::join(before.1, sum.1));
         Ok(reduces)
-    }
-
-    fn push_items<A: Memory>(
-        &self,
-        whole: &mut Vec<M::Item, A>,
-        t: u32,
-        before: (bool, M::Item),
-    ) -> Result<(bool, M::Item), NoResources>
-        requires within { t < length (flat_sums M.join M.unit self.now.flat.plan
-            (map E.item self.now.flat.elements.now)) }
-        requires before { before ≡ before_tile M.join M.unit (flat_sums M.join M.unit self.now.flat.plan
-            (map E.item self.now.flat.elements.now)) t }
-        ensures items { IfOk result (λ after. whole.new.items ≡ whole.old.items
-            ++ reduce_at (count_of self.now.flat.plan.0 self.now.flat.plan.1) (fold_of M.join M.unit
-            (map E.item self.now.flat.elements.now)) t) }
-        ensures after { IfOk result (λ after. after ≡ before_tile M.join M.unit
-            (flat_sums M.join M.unit self.now.flat.plan (map E.item self.now.flat.elements.now)) (t + 1)) }
-    {
-        know_laws::<M>();
-        let after = Seg::<M>::join(before, self.flat.sum(t));
-        if t < self.flat.count() - 1 {
-            return Ok(after);
-        }
-        whole.reserve(1)?;
-        whole.push_reserved(after.1);
-        Ok(after)
     }
 }

@@ -3,6 +3,7 @@
 
 mod flat_tiles;
 mod kernel;
+mod pace;
 mod prefixes;
 mod race;
 mod racing;

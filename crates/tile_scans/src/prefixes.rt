@@ -1,19 +1,20 @@
 //! Scans by any monoid.
 
-ghost use Rattle.std.specs.Prelude.{◌≡◌, IfOk, length, map, vec_len};
+ghost use Rattle.std.specs.Prelude.{◌≡◌, ◌≤◌, IfOk, IfSome, length, map, vec_len};
 ghost use Rattle.std.specs.List.{AllPass};
 ghost use Rattle.cvl_base.specs.Folds.{scan_of};
 ghost use Rattle.cvl_base.specs.Gives.{Gives};
+ghost use Rattle.cvl_base.specs.Limits.{most_elements};
 ghost use Rattle.cvl_base.specs.SegmentedCalls.{seg_scan_of};
 
 use crate::flat_tiles::{Flat, FlatScan};
+use crate::pace::{race_asked_for, race_of_scan};
 use crate::race::race;
 use crate::segmented_tiles::{Segmented, SegmentedScan};
 use crew::{Gate, OpenGate};
-use cvl_base::limits::MOST_ELEMENTS;
 use cvl_base::monoid::know_laws;
 use cvl_base::{Config, Memory, NoResources, Packed, Refused};
-use scan_walks::{Itself, Reading, scan_readings_from};
+use scan_walks::{Itself, Reading, scan_of_readings, scan_readings_from};
 use segdes::{SegDes, check_total};
 use std::thread::Threads;
 
@@ -33,10 +34,11 @@ where
     ensures values { IfOk result (λ sums. sums.items ≡ scan_of M.join M.unit a.now) }
     ensures as_long { IfOk result (λ sums. vec_len sums ≡ length a.now) }
 {
-    scan_gated::<R, A, M, OpenGate>(rt, alloc, config, a, &OpenGate)
+    scan_readings::<R, A, M, M::Item, Itself>(rt, alloc, config, a)
 }
 
-/// The same as [`scan`], by workers that pass a gate at each point of their way through a tile.
+/// The same as [`scan`], by workers that pass a gate at each point of their way through a tile. There are as many tiles and
+/// workers as the configuration says, but no more workers than tiles.
 pub fn scan_gated<R: Threads + Sync, A: Memory, M: Packed + Send + Sync, G: Gate>(
     rt: &R,
     alloc: A,
@@ -50,7 +52,8 @@ where
     ensures values { IfOk result (λ sums. sums.items ≡ scan_of M.join M.unit a.now) }
     ensures as_long { IfOk result (λ sums. vec_len sums ≡ length a.now) }
 {
-    scan_in_tiles::<R, A, M, M::Item, Itself, G>(rt, alloc, config, a, gate)
+    let racing = race_asked_for(config, a.len());
+    scan_by::<R, A, M, M::Item, Itself, G>(rt, alloc, racing, a, gate)
 }
 
 /// The exclusive scan of what the elements are read as: element `k` of the result joins the items of the elements before
@@ -74,15 +77,15 @@ where
     ensures values { IfOk result (λ sums. sums.items ≡ scan_of M.join M.unit (map E.item a.now)) }
     ensures as_long { IfOk result (λ sums. vec_len sums ≡ length a.now) }
 {
-    scan_in_tiles::<R, A, M, X, E, OpenGate>(rt, alloc, config, a, &OpenGate)
+    let racing = race_of_scan(config, a.len());
+    scan_by::<R, A, M, X, E, OpenGate>(rt, alloc, racing, a, &OpenGate)
 }
 
-/// The scan of what the elements are read as, tile by tile. A vector that has more elements than the tiles of a board may
-/// have is walked at once.
-fn scan_in_tiles<R, A, M, X, E, G>(
+/// The scan of what the elements are read as, by a race for its tiles, or where there is none by one walk.
+fn scan_by<R, A, M, X, E, G>(
     rt: &R,
     alloc: A,
-    config: Config,
+    racing: Option<Config>,
     a: &[X],
     gate: &G,
 ) -> Result<Vec<M::Item, A>, NoResources>
@@ -94,14 +97,15 @@ where
     X: Copy + Send + Sync,
     E: Reading<X, M::Item> + Send + Sync,
     G: Gate,
+    requires few { IfSome racing (λ _. length a.now ≤ most_elements) }
     requires items { AllPass (λ x. M.is_item (E.item x)) a.now }
     ensures values { IfOk result (λ sums. sums.items ≡ scan_of M.join M.unit (map E.item a.now)) }
     ensures as_long { IfOk result (λ sums. vec_len sums ≡ length a.now) }
 {
     know_laws::<M>();
-    if a.len() > MOST_ELEMENTS {
+    let Some(config) = racing else {
         return scan_readings_from::<M, X, E, A>(alloc, M::unit(), a);
-    }
+    };
     let flat = Flat::<M, X, E>::new(a, config.tile());
     let sums = race(rt, alloc, config, &FlatScan { flat }, gate)?;
     Ok(sums)
@@ -125,10 +129,12 @@ where
     ensures values { Gives (λ sums. sums.items) result (seg_scan_of M.join M.unit a.now d.now) }
     ensures as_long { IfOk result (λ sums. vec_len sums ≡ length a.now) }
 {
-    seg_scan_gated::<R, A, M, OpenGate>(rt, alloc, config, a, d, &OpenGate)
+    let racing = race_of_scan(config, a.len());
+    seg_scan_by::<R, A, M, M::Item, Itself, OpenGate>(rt, alloc, racing, a, d, &OpenGate)
 }
 
-/// The same as [`seg_scan`], by workers that pass a gate at each point of their way through a tile.
+/// The same as [`seg_scan`], by workers that pass a gate at each point of their way through a tile. There are as many tiles
+/// and workers as the configuration says, but no more workers than tiles.
 pub fn seg_scan_gated<R: Threads + Sync, A: Memory, M: Packed + Send + Sync, G: Gate>(
     rt: &R,
     alloc: A,
@@ -143,14 +149,15 @@ where
     ensures values { Gives (λ sums. sums.items) result (seg_scan_of M.join M.unit a.now d.now) }
     ensures as_long { IfOk result (λ sums. vec_len sums ≡ length a.now) }
 {
-    seg_scan_in_tiles::<R, A, M, M::Item, Itself, G>(rt, alloc, config, a, d, gate)
+    let racing = race_asked_for(config, a.len());
+    seg_scan_by::<R, A, M, M::Item, Itself, G>(rt, alloc, racing, a, d, gate)
 }
 
-/// The scan of each segment, of what its elements are read as, tile by tile.
-fn seg_scan_in_tiles<R, A, M, X, E, G>(
+/// The scan of each segment, of what its elements are read as, by a race for the tiles, or where there is none by one walk.
+fn seg_scan_by<R, A, M, X, E, G>(
     rt: &R,
     alloc: A,
-    config: Config,
+    racing: Option<Config>,
     a: &[X],
     d: &SegDes<A>,
     gate: &G,
@@ -170,6 +177,10 @@ where
 {
     know_laws::<M>();
     check_total(a, d)?;
+    let Some(config) = racing else {
+        let walked = scan_of_readings::<M, X, E, A, A>(alloc, a, d, 0, a.len(), M::unit())?;
+        return Ok(walked);
+    };
     let vector = Segmented::<M, X, E, A>::new(a, d, config.tile());
     let sums = race(rt, alloc, config, &SegmentedScan { vector }, gate)?;
     Ok(sums)

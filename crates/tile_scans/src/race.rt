@@ -8,7 +8,7 @@ ghost use denote.Param.Send.{IsSync, IsSend, Frees};
 use crate::kernel::Kernel;
 use crate::racing::{Lent, Race};
 use boards::ScanBoard;
-use crew::{Gate, Point, run_crew};
+use crew::{Gate, run_crew};
 use cvl_base::{Config, Memory, Monoid, NoResources, Seg};
 use std::thread::{Threads, join};
 use tile_plan::{Piece, gather_over, gather_tiles};
@@ -17,28 +17,8 @@ use tile_plan::{Piece, gather_over, gather_tiles};
 /// Fewer items are gathered by one thread, since threads take longer to start than they save.
 const LEAST_SHARED: usize = 1_048_576;
 
-/// From how many elements in a tile on a worker takes so long for it that starting a worker is weighed against it. Who asks
-/// for shorter tiles asks for the race itself.
-const LONG_TILE: u32 = 1_024;
-
-/// How many elements in long tiles a worker has at least, since one thread walks fewer before another would be started.
-const LEAST_SHARE: u64 = 65_536;
-
-/// How many workers race for so many tiles: as many as the configuration says, but no more than there are tiles, nor, where
-/// the tiles are long, than have a share of the elements that is worth a thread.
-fn workers_for(config: Config, tiles: u32) -> u32
-    ensures { result ≤ most_workers }
-{
-    let workers = config.workers().min(tiles);
-    if config.tile() < LONG_TILE {
-        return workers;
-    }
-    let elements = u64::from(tiles) * u64::from(config.tile());
-    (elements / LEAST_SHARE).min(u64::from(workers)) as u32
-}
-
-/// The items of all tiles, one tile after another. Workers race for the tiles and pass the gate at each point. Where there is
-/// one worker no thread is started.
+/// The items of all tiles, one tile after another. As many workers as the configuration says race for the tiles, but no more
+/// than there are tiles, and pass the gate at each point. Where there is one worker no thread is started.
 ///
 /// Source: Merrill and Garland's single pass.
 pub(crate) fn race<R: Threads + Sync, A: Memory, K: Kernel + Sync, G: Gate>(
@@ -54,11 +34,8 @@ where
     ensures { IfOk result (λ whole. whole.items
         ≡ in_order_of_tiles (length (K.sums kernel.now)) (K.items kernel.now)) }
 {
-    let workers = workers_for(config, kernel.count());
-    if workers <= 1 {
-        return in_turn(alloc, kernel, gate);
-    }
-    if kernel.len() >= LEAST_SHARED {
+    let workers = config.workers().min(kernel.count()).max(1);
+    if workers > 1 && kernel.len() >= LEAST_SHARED {
         return race_beside_fill(rt, alloc, workers, kernel, gate);
     }
     let pieces = race_for_pieces(rt, alloc, workers, kernel, gate)?;
@@ -121,26 +98,4 @@ where
     let Race { board, .. } = work;
     board.close(crewed.seats);
     Ok(crewed.pieces)
-}
-
-/// The items of all tiles, one tile after another, which one worker makes in this order.
-fn in_turn<A: Memory, K: Kernel, G: Gate>(
-    alloc: A,
-    kernel: &K,
-    gate: &G,
-) -> Result<Vec<<K::M as Monoid>::Item, A>, NoResources>
-    ensures { IfOk result (λ whole. whole.items
-        ≡ in_order_of_tiles (length (K.sums kernel.now)) (K.items kernel.now)) }
-{
-    let mut whole = Vec::with_capacity(alloc, kernel.len())?;
-    let mut before = Seg::<K::M>::unit();
-    for t in 0..kernel.count() {
-        gate.pass(0, Point::Claimed(t));
-        // no other worker waits for the tile's sum, which is known once its items are made
-        gate.pass(0, Point::Summed(t));
-        gate.pass(0, Point::Looked(t));
-        before = kernel.push_items(&mut whole, t, before)?;
-        gate.pass(0, Point::Finished(t));
-    }
-    Ok(whole)
 }

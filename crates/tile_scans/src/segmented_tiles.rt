@@ -7,10 +7,8 @@ ghost use Rattle.cvl_base.specs.Limits.{most_elements};
 use crate::kernel::Kernel;
 use boards::Tiles;
 use cvl_base::monoid::know_laws;
-use cvl_base::{Memory, Monoid, NoResources, Packed, Seg};
-use scan_walks::{
-    Reading, push_scan_of_readings, reduces_of_readings, scan_of_readings, sum_of_readings,
-};
+use cvl_base::{Monoid, NoResources, Packed};
+use scan_walks::{Reading, reduces_of_readings, scan_of_readings, sum_of_readings};
 use segdes::SegDes;
 use std::alloc::Allocator;
 use std::marker::PhantomData;
@@ -126,7 +124,7 @@ impl<'a, M: Packed, X: Copy, E: Reading<X, M::Item>, A: Allocator> Tiles
 impl<'a, M: Packed, X: Copy, E: Reading<X, M::Item>, A: Allocator> Kernel
     for SegmentedScan<'a, M, X, E, A> {
     ghost use Rattle.std.specs.Prelude.{IfOk};
-    ghost use Rattle.tile_scans.specs.Kernels.{IsAtTile, before_tile, segmented_sums, tile_of};
+    ghost use Rattle.tile_scans.specs.Kernels.{IsAtTile, segmented_sums, tile_of};
     ghost use Rattle.scan_walks.specs.Runs.{scans_of};
 
     ghost items = { λ k t. tile_of k.vector.plan.0 k.vector.plan.1 (scans_of M.join M.unit k.vector.segments.now
@@ -159,37 +157,6 @@ impl<'a, M: Packed, X: Copy, E: Reading<X, M::Item>, A: Allocator> Kernel
         )?;
         Ok(sums)
     }
-
-    // inlined for the loops that it calls
-    #[inline(always)]
-    fn push_items<B: Memory>(
-        &self,
-        whole: &mut Vec<M::Item, B>,
-        t: u32,
-        before: (bool, M::Item),
-    ) -> Result<(bool, M::Item), NoResources>
-        requires within { t < length (segmented_sums M.join M.unit self.now.vector.plan self.now.vector.segments.now
-            (map E.item self.now.vector.elements.now)) }
-        requires before { before ≡ before_tile M.join M.unit
-            (segmented_sums M.join M.unit self.now.vector.plan self.now.vector.segments.now
-            (map E.item self.now.vector.elements.now)) t }
-        ensures items { IfOk result (λ after. whole.new.items ≡ whole.old.items
-            ++ tile_of self.now.vector.plan.0 self.now.vector.plan.1 (scans_of M.join M.unit
-            self.now.vector.segments.now (map E.item self.now.vector.elements.now)) t) }
-        ensures after { IfOk result (λ after. after ≡ before_tile M.join M.unit
-            (segmented_sums M.join M.unit self.now.vector.plan self.now.vector.segments.now
-            (map E.item self.now.vector.elements.now)) (t + 1)) }
-    {
-        know_laws::<M>();
-        let (from, to) = self.vector.plan.range(t);
-        let (from, to) = (from as usize, to as usize);
-        let (elements, segments) = (self.vector.elements, self.vector.segments);
-        whole.reserve(to - from)?;
-        let after = push_scan_of_readings::<M, X, E, A, B>(
-            whole, elements, segments, from, to, before,
-        );
-        Ok(after)
-    }
 }
 
 /// The reduces of a segmented vector: each tile gives those of the segments that have ended when a segment starts in it, and
@@ -220,7 +187,7 @@ impl<'a, M: Packed, X: Copy, E: Reading<X, M::Item>, A: Allocator> Tiles
 impl<'a, M: Packed, X: Copy, E: Reading<X, M::Item>, A: Allocator> Kernel
     for SegmentedReduce<'a, M, X, E, A> {
     ghost use Rattle.std.specs.Prelude.{IfOk};
-    ghost use Rattle.tile_scans.specs.Kernels.{IsAtTile, before_tile, reduces_at, segmented_sums};
+    ghost use Rattle.tile_scans.specs.Kernels.{IsAtTile, reduces_at, segmented_sums};
 
     ghost items = { λ k t. reduces_at M.join M.unit k.vector.plan k.vector.segments.now
         (map E.item k.vector.elements.now) t };
@@ -253,31 +220,5 @@ impl<'a, M: Packed, X: Copy, E: Reading<X, M::Item>, A: Allocator> Kernel
             alloc, elements, segments, first, next, from, before.1,
         )?;
         Ok(sums)
-    }
-
-    fn push_items<B: Memory>(
-        &self,
-        whole: &mut Vec<M::Item, B>,
-        t: u32,
-        before: (bool, M::Item),
-    ) -> Result<(bool, M::Item), NoResources>
-        requires within { t < length (segmented_sums M.join M.unit self.now.vector.plan self.now.vector.segments.now
-            (map E.item self.now.vector.elements.now)) }
-        requires before { before ≡ before_tile M.join M.unit
-            (segmented_sums M.join M.unit self.now.vector.plan self.now.vector.segments.now
-            (map E.item self.now.vector.elements.now)) t }
-        ensures items { IfOk result (λ after. whole.new.items ≡ whole.old.items
-            ++ reduces_at M.join M.unit self.now.vector.plan self.now.vector.segments.now
-            (map E.item self.now.vector.elements.now) t) }
-        ensures after { IfOk result (λ after. after ≡ before_tile M.join M.unit
-            (segmented_sums M.join M.unit self.now.vector.plan self.now.vector.segments.now
-            (map E.item self.now.vector.elements.now)) (t + 1)) }
-    {
-        know_laws::<M>();
-        let sum = self.vector.sum(t);
-        let alloc = *whole.allocator();
-        let mut reduces = self.items(alloc, t, before, sum)?;
-        whole.append(&mut reduces)?;
-        Ok(Seg::<M>::join(before, sum))
     }
 }

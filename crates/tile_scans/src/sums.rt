@@ -1,16 +1,17 @@
 //! Reduces by any monoid.
 
-ghost use Rattle.std.specs.Prelude.{◌≡◌, IfOk, length, map, vec_len};
+ghost use Rattle.std.specs.Prelude.{◌≡◌, ◌≤◌, IfOk, IfSome, length, map, vec_len};
 ghost use Rattle.std.specs.List.{AllPass};
 ghost use Rattle.cvl_base.specs.Folds.{fold_of};
 ghost use Rattle.cvl_base.specs.Gives.{Gives};
+ghost use Rattle.cvl_base.specs.Limits.{most_elements};
 ghost use Rattle.cvl_base.specs.SegmentedCalls.{seg_reduce_of};
 
 use crate::flat_tiles::{Flat, FlatReduce};
+use crate::pace::{race_asked_for, race_of_reduce};
 use crate::race::race;
 use crate::segmented_tiles::{Segmented, SegmentedReduce};
 use crew::{Gate, OpenGate};
-use cvl_base::limits::MOST_ELEMENTS;
 use cvl_base::monoid::know_laws;
 use cvl_base::{Config, Memory, Monoid, NoResources, Packed, Refused};
 use scan_walks::{Itself, Reading, reduces_of_readings, sum_readings_from};
@@ -31,10 +32,12 @@ where
     requires items { AllPass M.is_item a.now }
     ensures { IfOk result (λ sum. sum ≡ fold_of M.join M.unit a.now) }
 {
-    reduce_gated::<R, A, M, OpenGate>(rt, alloc, config, a, &OpenGate)
+    let racing = race_of_reduce(config, a.len());
+    reduce_by::<R, A, M, M::Item, Itself, OpenGate>(rt, alloc, racing, a, &OpenGate)
 }
 
-/// The same as [`reduce`], by workers that pass a gate at each point of their way through a tile.
+/// The same as [`reduce`], by workers that pass a gate at each point of their way through a tile. There are as many tiles and
+/// workers as the configuration says, but no more workers than tiles.
 pub fn reduce_gated<R: Threads + Sync, A: Memory, M: Packed + Send + Sync, G: Gate>(
     rt: &R,
     alloc: A,
@@ -47,15 +50,16 @@ where
     requires items { AllPass M.is_item a.now }
     ensures { IfOk result (λ sum. sum ≡ fold_of M.join M.unit a.now) }
 {
-    reduce_in_tiles::<R, A, M, M::Item, Itself, G>(rt, alloc, config, a, gate)
+    let racing = race_asked_for(config, a.len());
+    reduce_by::<R, A, M, M::Item, Itself, G>(rt, alloc, racing, a, gate)
 }
 
-/// What the elements are read as, joined from left to right, and the unit where there are none, tile by tile. A vector that
-/// has no tile, or more elements than the tiles of a board may have, is walked at once.
-fn reduce_in_tiles<R, A, M, X, E, G>(
+/// What the elements are read as, joined from left to right, and the unit where there are none, by a race for its tiles, or
+/// where there is none by one walk.
+fn reduce_by<R, A, M, X, E, G>(
     rt: &R,
     alloc: A,
-    config: Config,
+    racing: Option<Config>,
     a: &[X],
     gate: &G,
 ) -> Result<M::Item, NoResources>
@@ -67,13 +71,15 @@ where
     X: Copy + Send + Sync,
     E: Reading<X, M::Item> + Send + Sync,
     G: Gate,
+    requires some { IfSome racing (λ _. 1 ≤ length a.now) }
+    requires few { IfSome racing (λ _. length a.now ≤ most_elements) }
     requires items { AllPass (λ x. M.is_item (E.item x)) a.now }
     ensures { IfOk result (λ sum. sum ≡ fold_of M.join M.unit (map E.item a.now)) }
 {
     know_laws::<M>();
-    if a.is_empty() || a.len() > MOST_ELEMENTS {
+    let Some(config) = racing else {
         return Ok(sum_readings_from::<M, X, E>(M::unit(), a));
-    }
+    };
     let flat = Flat::<M, X, E>::new(a, config.tile());
     let reduces = race(rt, alloc, config, &FlatReduce { flat }, gate)?;
     Ok(reduces[0])
@@ -107,10 +113,11 @@ where
     ensures values { Gives (λ sums. sums.items) result (seg_reduce_of M.join M.unit a.now d.now) }
     ensures one_each { IfOk result (λ sums. vec_len sums ≡ length d.now) }
 {
-    seg_reduce_gated::<R, A, M, OpenGate>(rt, alloc, config, a, d, &OpenGate)
+    seg_reduce_readings::<R, A, M, M::Item, Itself>(rt, alloc, config, a, d)
 }
 
-/// The same as [`seg_reduce`], by workers that pass a gate at each point of their way through a tile.
+/// The same as [`seg_reduce`], by workers that pass a gate at each point of their way through a tile. There are as many tiles
+/// and workers as the configuration says, but no more workers than tiles.
 pub fn seg_reduce_gated<R: Threads + Sync, A: Memory, M: Packed + Send + Sync, G: Gate>(
     rt: &R,
     alloc: A,
@@ -125,7 +132,8 @@ where
     ensures values { Gives (λ sums. sums.items) result (seg_reduce_of M.join M.unit a.now d.now) }
     ensures one_each { IfOk result (λ sums. vec_len sums ≡ length d.now) }
 {
-    seg_reduce_in_tiles::<R, A, M, M::Item, Itself, G>(rt, alloc, config, a, d, gate)
+    let racing = race_asked_for(config, a.len());
+    seg_reduce_by::<R, A, M, M::Item, Itself, G>(rt, alloc, racing, a, d, gate)
 }
 
 /// For each segment what its elements are read as, joined from left to right, and the unit where it is empty.
@@ -151,14 +159,16 @@ where
         (seg_reduce_of M.join M.unit (map E.item a.now) d.now) }
     ensures one_each { IfOk result (λ sums. vec_len sums ≡ length d.now) }
 {
-    seg_reduce_in_tiles::<R, A, M, X, E, OpenGate>(rt, alloc, config, a, d, &OpenGate)
+    let racing = race_of_reduce(config, a.len());
+    seg_reduce_by::<R, A, M, X, E, OpenGate>(rt, alloc, racing, a, d, &OpenGate)
 }
 
-/// The reduces of the segments, of what their elements are read as, tile by tile.
-fn seg_reduce_in_tiles<R, A, M, X, E, G>(
+/// The reduces of the segments, of what their elements are read as, by a race for the tiles, or where there is none by one
+/// walk.
+fn seg_reduce_by<R, A, M, X, E, G>(
     rt: &R,
     alloc: A,
-    config: Config,
+    racing: Option<Config>,
     a: &[X],
     d: &SegDes<A>,
     gate: &G,
@@ -171,6 +181,7 @@ where
     X: Copy + Send + Sync,
     E: Reading<X, M::Item> + Send + Sync,
     G: Gate,
+    requires some { IfSome racing (λ _. 1 ≤ length a.now) }
     requires items { AllPass (λ x. M.is_item (E.item x)) a.now }
     ensures values { Gives (λ sums. sums.items) result
         (seg_reduce_of M.join M.unit (map E.item a.now) d.now) }
@@ -178,11 +189,10 @@ where
 {
     know_laws::<M>();
     check_total(a, d)?;
-    if a.is_empty() {
-        // there is no tile, but there may be segments
-        let units = reduces_of_readings::<M, X, E, A, A>(alloc, a, d, 0, d.count(), 0, M::unit())?;
-        return Ok(units);
-    }
+    let Some(config) = racing else {
+        let walked = reduces_of_readings::<M, X, E, A, A>(alloc, a, d, 0, d.count(), 0, M::unit())?;
+        return Ok(walked);
+    };
     let vector = Segmented::<M, X, E, A>::new(a, d, config.tile());
     let reduces = race(rt, alloc, config, &SegmentedReduce { vector }, gate)?;
     Ok(reduces)

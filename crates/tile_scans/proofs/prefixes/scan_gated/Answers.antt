@@ -6,4 +6,4 @@ use Rattle.tile_scans.proofs.prefixes.scan_gated.Goals as goal
 
 pub returns-clause-values : goal.returns-clause-values
 returns-clause-values g c =
-    subst (λ xs. IfOk c.scan_in_tiles.result (λ sums. sums.items ≡ scan_of g.M.Monoid.join g.M.Monoid.unit xs)) (map-id c.args.a.now) c.scan_in_tiles.ensures.values
+    subst (λ xs. IfOk c.scan_by.result (λ sums. sums.items ≡ scan_of g.M.Monoid.join g.M.Monoid.unit xs)) (map-id c.args.a.now) c.scan_by.ensures.values

@@ -6,4 +6,4 @@ use Rattle.tile_scans.proofs.sums.reduce_gated.Goals as goal
 
 pub returns : goal.returns
 returns g c =
-    subst (λ xs. IfOk c.reduce_in_tiles.result (λ sum. sum ≡ fold_of g.M.Monoid.join g.M.Monoid.unit xs)) (map-id c.args.a.now) c.reduce_in_tiles.ensures
+    subst (λ xs. IfOk c.reduce_by.result (λ sum. sum ≡ fold_of g.M.Monoid.join g.M.Monoid.unit xs)) (map-id c.args.a.now) c.reduce_by.ensures

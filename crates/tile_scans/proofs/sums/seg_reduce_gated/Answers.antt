@@ -6,4 +6,4 @@ use Rattle.tile_scans.proofs.sums.seg_reduce_gated.Goals as goal
 
 pub returns-clause-values : goal.returns-clause-values
 returns-clause-values g c =
-    subst (λ xs. Gives (λ sums. sums.items) c.seg_reduce_in_tiles.result (seg_reduce_of g.M.Monoid.join g.M.Monoid.unit xs c.args.d.now)) (map-id c.args.a.now) c.seg_reduce_in_tiles.ensures.values
+    subst (λ xs. Gives (λ sums. sums.items) c.seg_reduce_by.result (seg_reduce_of g.M.Monoid.join g.M.Monoid.unit xs c.args.d.now)) (map-id c.args.a.now) c.seg_reduce_by.ensures.values

@@ -5,29 +5,29 @@ use Rattle.tile_scans.specs.Kernels.{reduces_at}
 use Rattle.scan_walks.specs.Runs.{reduces_of}
 use Rattle.tile_scans.proofs.Segmented.{seg_reduce-fits}
 use Rattle.tile_scans.proofs.SegmentedTiles.{length-reduces_of, length-segmented_sums, reduces_joined}
-use Rattle.tile_scans.proofs.Tiled.{filled_by_test, some_tile}
-use Rattle.tile_scans.proofs.sums.seg_reduce_in_tiles.Goals as goal
+use Rattle.tile_scans.proofs.Tiled.{some_tile}
+use Rattle.tile_scans.proofs.sums.seg_reduce_by.Goals as goal
 
-pub returns-then-is_empty-clause-values : goal.returns-then-is_empty-clause-values
-returns-then-is_empty-clause-values g c =
+pub returns-in_default-clause-values : goal.returns-in_default-clause-values
+returns-in_default-clause-values g c =
     let m = g.M.Monoid in
     let d = c.args.d.now in
     let xs = map g.E.Reading.item c.args.a.now in
     let whole = reduces_of m.join m.unit d xs in
     seg_reduce-fits m.join m.unit xs d (c.in_ok-check_total.ensures.agrees ∙ sym (length-map c.args.a.now g.E.Reading.item))
-    ∙ ap (λ sums. Ok sums) (sym (c.in_ok-units.ensures
+    ∙ ap (λ sums. Ok sums) (sym (c.in_ok-walked.ensures
     ∙ take_all (c.count.result - 0) whole (omega (arith, length-reduces_of m.join m.unit d xs, c.count.ensures.value))))
 
-pub returns-then-is_empty-clause-one_each : goal.returns-then-is_empty-clause-one_each
-returns-then-is_empty-clause-one_each g c =
+pub returns-in_default-clause-one_each : goal.returns-in_default-clause-one_each
+returns-in_default-clause-one_each g c =
     let m = g.M.Monoid in
     let d = c.args.d.now in
     let xs = map g.E.Reading.item c.args.a.now in
     let whole = reduces_of m.join m.unit d xs in
-    let values : c.in_ok-units.units.items ≡ whole =
-    c.in_ok-units.ensures
+    let values : c.in_ok-walked.walked.items ≡ whole =
+    c.in_ok-walked.ensures
     ∙ take_all (c.count.result - 0) whole (omega (arith, length-reduces_of m.join m.unit d xs, c.count.ensures.value)) in
-    omega (arith, c.in_ok-units.units.ok, ap length values, length-reduces_of m.join m.unit d xs)
+    omega (arith, c.in_ok-walked.walked.ok, ap length values, length-reduces_of m.join m.unit d xs)
 
 pub returns-clause-values : goal.returns-clause-values
 returns-clause-values g c =
@@ -36,7 +36,7 @@ returns-clause-values g c =
     let d = c.args.d.now in
     let v = c.new-vector.result in
     let xs = map item v.elements.now in
-    let filled : 0 < v.plan.0 = omega (arith, filled_by_test (length c.args.a.now) (sym c.is_empty.ensures ∙ c.if-is_empty.false), v.whole, ap length c.new-vector.ensures.elements) in
+    let filled : 0 < v.plan.0 = omega (arith, rw c.in-Some.is at c.requires.some, v.whole, ap length c.new-vector.ensures.elements) in
     seg_reduce-fits m.join m.unit (map item c.args.a.now) d (c.in_ok-check_total.ensures.agrees ∙ sym (length-map c.args.a.now item))
     ∙ ap (λ sums. Ok sums) (sym (c.in_ok-reduces.ensures
     ∙ ap (λ n. flat_map (reduces_at m.join m.unit v.plan v.segments.now xs) (range_with_len 0 n)) (length-segmented_sums m.join m.unit v.plan v.segments.now xs)
@@ -50,7 +50,7 @@ returns-clause-one_each g c =
     let item = g.E.Reading.item in
     let v = c.new-vector.result in
     let xs = map item v.elements.now in
-    let filled : 0 < v.plan.0 = omega (arith, filled_by_test (length c.args.a.now) (sym c.is_empty.ensures ∙ c.if-is_empty.false), v.whole, ap length c.new-vector.ensures.elements) in
+    let filled : 0 < v.plan.0 = omega (arith, rw c.in-Some.is at c.requires.some, v.whole, ap length c.new-vector.ensures.elements) in
     let values : c.in_ok-reduces.reduces.items ≡ reduces_of m.join m.unit v.segments.now xs =
     c.in_ok-reduces.ensures
     ∙ ap (λ n. flat_map (reduces_at m.join m.unit v.plan v.segments.now xs) (range_with_len 0 n)) (length-segmented_sums m.join m.unit v.plan v.segments.now xs)

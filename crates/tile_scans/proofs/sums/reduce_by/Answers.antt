@@ -1,11 +1,11 @@
-use Rattle.std.proofs.Common.{◌≡◌, ◌<◌, ◌∷◌, [], get_or, arith, length, map, sym, ap, ◌∙◌}
+use Rattle.std.proofs.Common.{◌≡◌, ◌<◌, ◌∷◌, [], get_or, arith, length, map, ap, ◌∙◌}
 use Rattle.std.specs.List.{flat_map, range_with_len}
 use Rattle.cvl_base.specs.Folds.{fold_of}
 use Rattle.tile_plan.specs.Ranges.{count_of}
 use Rattle.tile_scans.specs.Kernels.{reduce_at}
-use Rattle.tile_scans.proofs.Tiled.{filled_by_test, some_tile}
+use Rattle.tile_scans.proofs.Tiled.{some_tile}
 use Rattle.tile_scans.proofs.FlatTiles.{flat_reduces_joined, length-flat_sums}
-use Rattle.tile_scans.proofs.sums.reduce_in_tiles.Goals as goal
+use Rattle.tile_scans.proofs.sums.reduce_by.Goals as goal
 
 pub index-requires : goal.index-requires
 index-requires g c =
@@ -15,7 +15,7 @@ index-requires g c =
     let xs = map item flat.elements.now in
     let whole = fold_of m.join m.unit xs in
     let count = count_of flat.plan.0 flat.plan.1 in
-    let filled : 0 < flat.plan.0 = omega (arith, filled_by_test (length c.args.a.now) (sym c.is_empty.ensures ∙ c.if-is_empty.false), flat.whole, ap length c.new-flat.ensures.elements) in
+    let filled : 0 < flat.plan.0 = omega (arith, rw c.in-Some.is at c.requires.some, flat.whole, ap length c.new-flat.ensures.elements) in
     let values : c.in_ok-reduces.reduces.items ≡ whole ∷ [] =
     c.in_ok-reduces.ensures
     ∙ ap (λ n. flat_map (reduce_at count whole) (range_with_len 0 n)) (length-flat_sums m.join m.unit flat.plan xs)
@@ -30,7 +30,7 @@ returns g c =
     let xs = map item flat.elements.now in
     let whole = fold_of m.join m.unit xs in
     let count = count_of flat.plan.0 flat.plan.1 in
-    let filled : 0 < flat.plan.0 = omega (arith, filled_by_test (length c.args.a.now) (sym c.is_empty.ensures ∙ c.if-is_empty.false), flat.whole, ap length c.new-flat.ensures.elements) in
+    let filled : 0 < flat.plan.0 = omega (arith, rw c.in-Some.is at c.requires.some, flat.whole, ap length c.new-flat.ensures.elements) in
     let values : c.in_ok-reduces.reduces.items ≡ whole ∷ [] =
     c.in_ok-reduces.ensures
     ∙ ap (λ n. flat_map (reduce_at count whole) (range_with_len 0 n)) (length-flat_sums m.join m.unit flat.plan xs)

@@ -1,12 +1,14 @@
-use Rattle.std.proofs.Common.{◌≡◌, Ok, arith, length, map, sym, ap, ◌∙◌}
+use Rattle.std.proofs.Common.{◌≡◌, Ok, arith, length, map, true, sym, ap, ◌∙◌}
 use Rattle.std.specs.List.{flat_map, range_with_len}
 use Rattle.std.proofs.lemmas.List.{length-map}
+use Rattle.std.proofs.lemmas.List.Elements.{All-map}
 use Rattle.tile_scans.specs.Kernels.{tile_of}
-use Rattle.scan_walks.specs.Runs.{scans_of}
+use Rattle.scan_walks.specs.Runs.{run_of, run_scan_of, scans_of}
+use Rattle.scan_walks.proofs.Cut.{whole_scanned}
 use Rattle.tile_scans.proofs.FlatTiles.{items_read}
 use Rattle.tile_scans.proofs.Segmented.{seg_scan-fits}
 use Rattle.tile_scans.proofs.SegmentedTiles.{length-scans_of, length-segmented_sums, segmented_scans_joined}
-use Rattle.tile_scans.proofs.prefixes.seg_scan_in_tiles.Goals as goal
+use Rattle.tile_scans.proofs.prefixes.seg_scan_by.Goals as goal
 
 pub returns-clause-values : goal.returns-clause-values
 returns-clause-values g c =
@@ -40,3 +42,16 @@ returns-clause-as_long g c =
       length-map v.elements.now item,
       ap length c.new-vector.ensures.elements,
     )
+
+pub returns-in_default-clause-values : goal.returns-in_default-clause-values
+returns-in_default-clause-values g c =
+    let m = g.M.Monoid in
+    let item = g.E.Reading.item in
+    let a = c.args.a.now in
+    let d = c.args.d.now in
+    let xs = map item a in
+    let unit = c.unit.result in
+    seg_scan-fits m.join m.unit xs d (c.in_ok-check_total.ensures.agrees ∙ sym (length-map a item))
+    ∙ ap (λ sums. Ok sums) (sym (c.in_ok-walked.ensures.values
+    ∙ ap (λ n. run_scan_of m.join m.unit unit (run_of d xs 0 n)) (sym (length-map a item))
+    ∙ whole_scanned c.know_laws.ensures d xs unit (All-map (λ y. m.is_item y ≡ true) item a c.requires.items)))

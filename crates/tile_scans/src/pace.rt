@@ -1,0 +1,81 @@
+//! Rules of thumb: whether workers race for the tiles of a vector, how many of them, and for tiles of which length. No
+//! result depends on them.
+
+ghost use Rattle.std.specs.Prelude.{◌≤◌, IfSome};
+ghost use Rattle.cvl_base.specs.Limits.{longest_tile, most_elements};
+
+use cvl_base::Config;
+use cvl_base::limits::{LONGEST_TILE, MOST_ELEMENTS};
+
+/// From how many elements in a tile on these rules are followed. Who asks for shorter tiles asks for the race itself, and
+/// gets the tiles and the workers that are asked for.
+const LONG_TILE: u32 = 1_024;
+
+/// How many elements each worker of a scan has at least, since one thread is done with fewer before a second has started.
+const LEAST_SHARE_OF_SCAN: u32 = 65_536;
+
+/// The same for a reduce, which writes next to nothing.
+const LEAST_SHARE_OF_REDUCE: u32 = 65_536;
+
+/// How many tiles there are for each worker at least where tiles are made longer than is asked for. A worker that starts
+/// late, or is held up, then leaves some of its tiles to the others.
+const TILES_EACH: u32 = 16;
+
+/// How long the tiles of a scan are made at most, so that a tile is still in the cache when it is read a second time.
+const LONGEST_OF_SCAN: u32 = 16_384;
+
+/// How long the tiles of a reduce are made at most. They are read once.
+const LONGEST_OF_REDUCE: u32 = LONGEST_TILE;
+
+/// The race that a caller asks for, or none where there is no board for it: a vector of no elements has no tile, and one of
+/// more than 4,194,304 may have more tiles than a board.
+pub(crate) fn race_asked_for(config: Config, elements: usize) -> Option<Config>
+    ensures some { IfSome result (λ _. 1 ≤ elements) }
+    ensures few { IfSome result (λ _. elements ≤ most_elements) }
+{
+    if elements == 0 || elements > MOST_ELEMENTS {
+        return None;
+    }
+    Some(config)
+}
+
+/// The race by which so many elements are scanned, or none where one thread walks them at once.
+pub(crate) fn race_of_scan(config: Config, elements: usize) -> Option<Config>
+    ensures some { IfSome result (λ _. 1 ≤ elements) }
+    ensures few { IfSome result (λ _. elements ≤ most_elements) }
+{
+    race_that_pays(config, elements, LEAST_SHARE_OF_SCAN, LONGEST_OF_SCAN)
+}
+
+/// The race by which so many elements are reduced, or none where one thread walks them at once.
+pub(crate) fn race_of_reduce(config: Config, elements: usize) -> Option<Config>
+    ensures some { IfSome result (λ _. 1 ≤ elements) }
+    ensures few { IfSome result (λ _. elements ≤ most_elements) }
+{
+    race_that_pays(config, elements, LEAST_SHARE_OF_REDUCE, LONGEST_OF_REDUCE)
+}
+
+/// The race in which each worker has at least such a share of the elements, in tiles that are made longer up to `longest`,
+/// or none where that is one worker's.
+fn race_that_pays(config: Config, elements: usize, least_share: u32, longest: u32) -> Option<Config>
+    requires some_share { 1 ≤ least_share }
+    requires at_most { longest ≤ longest_tile }
+    ensures some { IfSome result (λ _. 1 ≤ elements) }
+    ensures few { IfSome result (λ _. elements ≤ most_elements) }
+{
+    if elements == 0 || elements > MOST_ELEMENTS || config.workers() == 1 {
+        return None;
+    }
+    if config.tile() < LONG_TILE {
+        return Some(config);
+    }
+    let elements = elements as u32;
+    let workers = (elements / least_share).min(config.workers());
+    if workers <= 1 {
+        return None;
+    }
+    let tile = (elements / (workers * TILES_EACH))
+        .min(longest)
+        .max(config.tile());
+    Some(Config::new(tile, workers).unwrap_or(config))
+}
