@@ -29,23 +29,20 @@ pub fn sum_readings_from<M: Monoid, X: Copy, E: Reading<X, M::Item>>(
 }
 
 /// Pushes, for each of the elements, what stands before it: `before`, joined from left to right with what the elements
-/// in front of it are read as. Answers `before`, joined so with all of them. There must be room for what is pushed.
-///
-/// `before` must be an item of the monoid, as all that is read must. Source: Blelloch's prescan.
+/// in front of it are read as. There must be room for what is pushed.
 // inlined, so that the length of the vector stays in a register while the loop runs
 #[inline(always)]
-pub fn push_scan_readings_from<M: Monoid, X: Copy, E: Reading<X, M::Item>, A: Allocator>(
+pub(crate) fn push_scan_readings_from<M: Monoid, X: Copy, E: Reading<X, M::Item>, A: Allocator>(
     sums: &mut Vec<M::Item, A>,
     before: M::Item,
     xs: &[X],
-) -> M::Item
+)
     requires room { vec_len sums.old + length xs.now ≤ vec_capacity sums.old }
     requires before { IsTrue (M.is_item before) }
     requires items { AllPass (λ x. M.is_item (E.item x)) xs.now }
     ensures values { sums.new.items ≡ sums.old.items ++ scan_of M.join before (map E.item xs.now) }
     ensures as_long { vec_len sums.new ≡ vec_len sums.old + length xs.now }
     ensures capacity { vec_capacity sums.new ≡ vec_capacity sums.old }
-    ensures sum { result ≡ fold_of M.join before (map E.item xs.now) }
 {
     know_laws::<M>();
     let mut so_far = before;
@@ -53,7 +50,6 @@ pub fn push_scan_readings_from<M: Monoid, X: Copy, E: Reading<X, M::Item>, A: Al
         sums.push_reserved(so_far);
         so_far = M::join(so_far, E::item(*x));
     }
-    so_far
 }
 
 /// For each of the elements what stands before it: `before`, joined from left to right with what the elements in front

@@ -164,57 +164,6 @@ pub fn sum_of_run<M: Monoid, A: Allocator>(
     sum_of_readings::<M, M::Item, Itself, A>(a, d, from, to, before)
 }
 
-/// Pushes the scan of the run from place `from` to the one before place `to`, of what the elements are read as: what
-/// [`scan_of_run`] is of elements that are items. There must be room for it.
-///
-/// `before` is what stands before the run: whether a segment starts there, and what the elements since the last start
-/// join to. The answer says the same of what stands before place `to`: `before` joined with the run under
-/// [`Seg`](cvl_base::Seg). What elements join to must be an item of the monoid, as all that is read must. Source: Blelloch's
-/// segmented scans.
-// inlined for the loops that it calls
-#[inline(always)]
-pub fn push_scan_of_readings<
-    M: Monoid,
-    X: Copy,
-    E: Reading<X, M::Item>,
-    A: Allocator,
-    B: Allocator,
->(
-    sums: &mut Vec<M::Item, B>,
-    a: &[X],
-    d: &SegDes<A>,
-    from: usize,
-    to: usize,
-    before: (bool, M::Item),
-) -> (bool, M::Item)
-    requires total { sum d.now ≡ length a.now }
-    requires in_order { from ≤ to }
-    requires within { to ≤ length a.now }
-    requires room { vec_len sums.old + (to - from) ≤ vec_capacity sums.old }
-    requires before { IsTrue (M.is_item before.1) }
-    requires items { AllPass (λ x. M.is_item (E.item x)) a.now }
-    ensures values { sums.new.items
-        ≡ sums.old.items ++ run_scan_of M.join M.unit before.1 (run_of d.now (map E.item a.now) from to) }
-    ensures as_long { vec_len sums.new ≡ vec_len sums.old + (to - from) }
-    ensures sum { result ≡ fold_of (seg_join M.join) before (run_of d.now (map E.item a.now) from to) }
-{
-    know_laws::<M>();
-    let first = d.starts_before(from);
-    let next = d.starts_before(to);
-    let start = start_or_total(d, first);
-    let (front, rest) = a[from..to].split_at(start.min(to) - from);
-    let so_far = push_scan_readings_from::<M, X, E, B>(sums, before.1, front);
-    push_scans::<M, X, E, B>(sums, &d.lengths()[first..next], rest);
-    if first < next {
-        let last_start = d.start(next - 1);
-        return (
-            true,
-            sum_readings_from::<M, X, E>(M::unit(), &a[last_start..to]),
-        );
-    }
-    (before.0, so_far)
-}
-
 /// The scan of the run from place `from` to the one before place `to`, of what the elements are read as: what
 /// [`scan_of_run`] is of elements that are items.
 ///
@@ -237,8 +186,14 @@ pub fn scan_of_readings<M: Monoid, X: Copy, E: Reading<X, M::Item>, A: Allocator
         ≡ run_scan_of M.join M.unit before (run_of d.now (map E.item a.now) from to)) }
     ensures as_long { IfOk result (λ sums. vec_len sums ≡ to - from) }
 {
+    know_laws::<M>();
+    let first = d.starts_before(from);
+    let next = d.starts_before(to);
+    let start = start_or_total(d, first);
+    let (front, rest) = a[from..to].split_at(start.min(to) - from);
     let mut sums = Vec::with_capacity(alloc, to - from)?;
-    push_scan_of_readings::<M, X, E, A, B>(&mut sums, a, d, from, to, (false, before));
+    push_scan_readings_from::<M, X, E, B>(&mut sums, before, front);
+    push_scans::<M, X, E, B>(&mut sums, &d.lengths()[first..next], rest);
     Ok(sums)
 }
 

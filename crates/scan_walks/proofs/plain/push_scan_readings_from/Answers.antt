@@ -1,5 +1,5 @@
 use Rattle.std.proofs.Common.{◌++◌, rules, arith, ap, ◌∙◌}
-use Rattle.cvl_base.specs.Folds.{fold_of, scan_of}
+use Rattle.cvl_base.specs.Folds.{scan_of}
 use Rattle.scan_walks.proofs.Scanned.{all_read, joined_reading, length-read, pushed_more}
 use Rattle.scan_walks.proofs.plain.push_scan_readings_from.Goals as goal
 
@@ -19,8 +19,3 @@ pub returns-clause-values : goal.returns-clause-values
 returns-clause-values g c =
     c.loop-x.invariant.values
     ∙ ap (λ items. c.args.sums.now.items ++ scan_of g.M.Monoid.join c.args.before items) (all_read g.E.Reading.item c.args.xs.now _ (omega arith))
-
-pub returns-clause-sum : goal.returns-clause-sum
-returns-clause-sum g c =
-    c.loop-x.invariant.sum
-    ∙ ap (fold_of g.M.Monoid.join c.args.before) (all_read g.E.Reading.item c.args.xs.now _ (omega arith))
