@@ -5,7 +5,7 @@
 pub enum Point {
     /// The tile was given to the worker.
     Claimed(u32),
-    /// The worker has told the tile's sum, or is alone and has nobody to tell it to.
+    /// The worker has told the tile's sum.
     Summed(u32),
     /// The worker knows what stands before the tile.
     Looked(u32),

@@ -37,8 +37,8 @@ where
     scan_readings::<R, A, M, M::Item, Itself>(rt, alloc, config, a)
 }
 
-/// The same as [`scan`], by workers that pass a gate at each point of their way through a tile. There are as many tiles and
-/// workers as the configuration says, but no more workers than tiles.
+/// The same as [`scan`], by workers that pass a gate at each point of their way through a tile. The tiles are as long as the
+/// configuration says, and there are as many workers, but no more than tiles.
 pub fn scan_gated<R: Threads + Sync, A: Memory, M: Packed + Send + Sync, G: Gate>(
     rt: &R,
     alloc: A,
@@ -133,8 +133,8 @@ where
     seg_scan_by::<R, A, M, M::Item, Itself, OpenGate>(rt, alloc, racing, a, d, &OpenGate)
 }
 
-/// The same as [`seg_scan`], by workers that pass a gate at each point of their way through a tile. There are as many tiles
-/// and workers as the configuration says, but no more workers than tiles.
+/// The same as [`seg_scan`], by workers that pass a gate at each point of their way through a tile. The tiles are as long as the
+/// configuration says, and there are as many workers, but no more than tiles.
 pub fn seg_scan_gated<R: Threads + Sync, A: Memory, M: Packed + Send + Sync, G: Gate>(
     rt: &R,
     alloc: A,

@@ -36,8 +36,8 @@ where
     reduce_by::<R, A, M, M::Item, Itself, OpenGate>(rt, alloc, racing, a, &OpenGate)
 }
 
-/// The same as [`reduce`], by workers that pass a gate at each point of their way through a tile. There are as many tiles and
-/// workers as the configuration says, but no more workers than tiles.
+/// The same as [`reduce`], by workers that pass a gate at each point of their way through a tile. The tiles are as long as the
+/// configuration says, and there are as many workers, but no more than tiles.
 pub fn reduce_gated<R: Threads + Sync, A: Memory, M: Packed + Send + Sync, G: Gate>(
     rt: &R,
     alloc: A,
@@ -116,8 +116,8 @@ where
     seg_reduce_readings::<R, A, M, M::Item, Itself>(rt, alloc, config, a, d)
 }
 
-/// The same as [`seg_reduce`], by workers that pass a gate at each point of their way through a tile. There are as many tiles
-/// and workers as the configuration says, but no more workers than tiles.
+/// The same as [`seg_reduce`], by workers that pass a gate at each point of their way through a tile. The tiles are as long as the
+/// configuration says, and there are as many workers, but no more than tiles.
 pub fn seg_reduce_gated<R: Threads + Sync, A: Memory, M: Packed + Send + Sync, G: Gate>(
     rt: &R,
     alloc: A,
