@@ -52,6 +52,8 @@ enum Holds {
     FirstTile,
     /// Each of two workers at its first tile, until the other has one too.
     Both,
+    /// None.
+    Nobody,
 }
 
 /// A gate that holds workers, and the marks that let them go on.
@@ -71,6 +73,9 @@ impl Gate for Holding {
             (Holds::Both, Point::Claimed(_)) => {
                 self.marks.leave(worker);
                 self.marks.wait_for(0b11);
+            }
+            (Holds::Nobody, Point::Summed(t)) => {
+                self.marks.leave(t);
             }
             _ => {}
         }
@@ -92,5 +97,18 @@ fn held_workers(rt: HostRuntime) -> Result<(), Fail> {
             "a worker on tiles of {tile} waited in vain"
         );
     }
+    Ok(())
+}
+
+#[test]
+fn one_worker_at_a_gate(rt: HostRuntime) -> Result<(), Fail> {
+    let gate = Holding {
+        holds: Holds::Nobody,
+        marks: Marks::new(),
+    };
+    let config = Config::new(1, 1)?;
+    let sums = scan_gated::<_, _, Add, _>(&rt, rt.alloc(), config, &[3, 1, 7, 4], &gate)?;
+    assert!(rt; sums.as_slice() == [0, 3, 4, 11].as_slice());
+    assert!(rt; gate.marks.left.load(Ordering::SeqCst) == 0b1111);
     Ok(())
 }

@@ -63,7 +63,8 @@ fn race_that_pays(config: Config, elements: usize, least_share: u32, longest: u3
     ensures some { IfSome result (λ _. 1 ≤ elements) }
     ensures few { IfSome result (λ _. elements ≤ most_elements) }
 {
-    if elements == 0 || elements > MOST_ELEMENTS || config.workers() == 1 {
+    let one_tile = elements <= config.tile() as usize;
+    if one_tile || elements > MOST_ELEMENTS || config.workers() == 1 {
         return None;
     }
     if config.tile() < LONG_TILE {
