@@ -1,6 +1,6 @@
 //! Flat vectors in tiles: their scans and their reduces.
 
-ghost use Rattle.std.specs.Prelude.{◌≡◌, ◌+◌, ◌<◌, ◌≤◌, ◌++◌, true, length, map, slice_index_or};
+ghost use Rattle.std.specs.Prelude.{◌≡◌, ◌<◌, ◌≤◌, true, length, map, slice_index_or};
 ghost use Rattle.std.specs.List.{AllPass, list_all};
 ghost use Rattle.cvl_base.specs.Limits.{most_elements};
 
