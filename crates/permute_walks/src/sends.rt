@@ -13,6 +13,10 @@ use cvl_base::{Fault, FaultNo};
 /// Stands among the senders where no element goes.
 pub const NOBODY: u32 = u32::MAX;
 
+/// From how many elements on the places of a segment are stored before they are looked at. Fewer are sent in turn sooner
+/// than they are stored and counted.
+const LONG: usize = 32;
+
 /// Sends the element of a place to its index: `IndexOutOfRange` at the place where the index is no place of the result,
 /// else `IndexRepeated` at it where the index has a sender already.
 #[inline]
@@ -75,7 +79,7 @@ fn send_each_flagged(
 
 /// Sends each place of a segment, whose first index stands at place `first`. The senders are those of the segment's part
 /// of the result, nobody to begin with. The fault is that of the first bad place.
-// Only where an index is bad are the places sent in turn, to find the first bad one.
+// Of a long segment they are sent in turn only where an index is bad, to find the first bad one.
 pub fn send_all(senders: &mut [u32], first: usize, index: &[i32]) -> Result<(), Fault>
     requires fresh { senders.old ≡ replicate (length senders.old) nobody }
     requires in_limit { first + length index.now ≤ most_elements }
@@ -84,11 +88,13 @@ pub fn send_all(senders: &mut [u32], first: usize, index: &[i32]) -> Result<(), 
     ensures sent { OnOk result
         (senders.new ≡ senders_of first (all_targets index.now) (length senders.old)) }
 {
-    let sent = store_all(senders, first, index);
-    if are_apart(senders, sent) {
-        return Ok(());
+    if index.len() >= LONG {
+        let sent = store_all(senders, first, index);
+        if are_apart(senders, sent) {
+            return Ok(());
+        }
+        senders.fill(NOBODY);
     }
-    senders.fill(NOBODY);
     send_each(senders, first, index)
 }
 
@@ -107,10 +113,12 @@ pub fn send_flagged(
     ensures sent { OnOk result
         (senders.new ≡ senders_of first (flagged_targets index.now flags.now) (length senders.old)) }
 {
-    let sent = store_flagged(senders, first, index, flags);
-    if are_apart(senders, sent) {
-        return Ok(());
+    if index.len() >= LONG {
+        let sent = store_flagged(senders, first, index, flags);
+        if are_apart(senders, sent) {
+            return Ok(());
+        }
+        senders.fill(NOBODY);
     }
-    senders.fill(NOBODY);
     send_each_flagged(senders, first, index, flags)
 }
