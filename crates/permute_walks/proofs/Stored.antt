@@ -69,8 +69,7 @@ index_is (negsuc a) d fits cast below = let same : d ≡ of_z w32 (negsuc a) = c
 -- all places
 pub stored_all : (place : ℕ) (ts : List (Option ℤ)) (m k sent : ℕ) (senders : List ℕ) → IsStoredTo place ts m k sent senders → length ts ≤ k → IsStored place ts sent m senders
 stored_all place ts m k sent senders to ge = record {
-  as_long = to.as_long;
   at_most = to.at_most;
   no_fault = λ same. (sent_all place ts m k senders (to.exact same) ge).0;
-  first_ones = λ same. (sent_all place ts m k senders (to.exact same) ge).1;
+  are_first = λ same. (sent_all place ts m k senders (to.exact same) ge).1;
 }

@@ -39,13 +39,12 @@ told (Err f) = Some f
 abbrev pub count_sent : List ℕ → ℕ
 count_sent senders = count_by (λ s. not (s == nobody)) senders
 
--- What stands where so many targets were stored one after another, a later one over an earlier: at most as many places
--- have a sender, and where they are as many, no target was bad and the senders are the first ones.
+-- The senders of the places 0 to m - 1, where so many targets were stored, a later one over an earlier: at most as many
+-- places have a sender, and where they are as many, no target was bad and each sender is the first.
 pub record IsStored (place : ℕ) (targets : List (Option ℤ)) (sent m : ℕ) (senders : List ℕ) : Type 0 where
-  pub as_long : length senders ≡ m
   pub at_most : count_sent senders ≤ sent
   pub no_fault : count_sent senders ≡ sent → None ≡ first_fault place (wrongs m targets)
-  pub first_ones : count_sent senders ≡ sent → senders ≡ senders_of place targets m
+  pub are_first : count_sent senders ≡ sent → senders ≡ senders_of place targets m
 
 -- what stands where the elements of senders were written over values: nobody has no element, and the value stays
 abbrev pub written_over : {X : Type 0} → List X → List ℕ → List X → List X

@@ -1,4 +1,5 @@
-//! The first walk of a permute: for each place of the result its sender.
+//! The first walk of a permute: for each place of the result its sender. The places of a long segment are stored at their
+//! indices first, and sent in turn only where that shows that an index is bad.
 
 ghost use Rattle.std.specs.Prelude.{◌≡◌, ◌+◌, ◌≤◌, unsigned_abs, length, OnOk, option_map, replicate, slice_set};
 ghost use Rattle.cvl_base.specs.Faults.{fault_at};
@@ -79,7 +80,6 @@ fn send_each_flagged(
 
 /// Sends each place of a segment, whose first index stands at place `first`. The senders are those of the segment's part
 /// of the result, nobody to begin with. The fault is that of the first bad place.
-// Of a long segment they are sent in turn only where an index is bad, to find the first bad one.
 pub fn send_all(senders: &mut [u32], first: usize, index: &[i32]) -> Result<(), Fault>
     requires fresh { senders.old ≡ replicate (length senders.old) nobody }
     requires in_limit { first + length index.now ≤ most_elements }

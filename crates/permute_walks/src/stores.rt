@@ -10,8 +10,9 @@ ghost use Rattle.permute_walks.specs.Senders.{IsStored, count_sent, nobody};
 use crate::sends::NOBODY;
 use cvl_base::limits::MOST_ELEMENTS;
 
-/// Stores each place of a segment at its index, and tells how many they are; none where an index is no place that the walk
-/// knows, and then the senders are of no use.
+/// Stores each place of a segment at its index, and tells how many they are; none where an index is no place of the result,
+/// or lies beyond the longest vector, and then the senders are of no use.
+// Without its sign an index below 0 is beyond the longest vector, so that one comparison is enough.
 // Inlined into a large function the loop keeps its pointers on the stack.
 #[inline(never)]
 pub(crate) fn store_all(senders: &mut [u32], first: usize, index: &[i32]) -> Option<usize>
@@ -33,9 +34,8 @@ pub(crate) fn store_all(senders: &mut [u32], first: usize, index: &[i32]) -> Opt
 }
 
 /// Stores the places of a segment whose flag is true, in the way of `store_all`.
-// A place whose flag is false stores the sender before it once more. So the machine code has no branch on a flag, which a
-// processor guesses wrongly every other time where flags are in no order. It has none either because the index and the
-// place are there before the flag is looked at.
+// A place whose flag is false stores the sender before it once more, and a place and its index are read before its flag. So
+// the machine code has no branch on a flag, which a processor guesses wrongly every other time where flags are in no order.
 #[inline(never)]
 pub(crate) fn store_flagged(
     senders: &mut [u32],
@@ -70,8 +70,7 @@ pub(crate) fn store_flagged(
     Some(sent)
 }
 
-/// Whether each of the places that were sent has a place of the result for itself. Where two were sent to one, fewer places
-/// have a sender than were sent.
+/// Whether as many places have a sender as were sent, so that no two were sent to one.
 pub(crate) fn are_apart(senders: &[u32], sent: Option<usize>) -> bool
     requires few { IfSome sent (λ sent. count_sent senders.now ≤ most_elements) }
     ensures value { IsTrue result ↔ sent ≡ Some (count_sent senders.now) }
