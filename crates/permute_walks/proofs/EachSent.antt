@@ -1,5 +1,5 @@
 -- Where no place is bad and as many places take part as the result has, each place of the result has a sender.
-use Rattle.std.proofs.Common.{◌≡◌, ◌∙◌, ℕ, zero, suc, ◌+◌, ◌<◌, ◌≤◌, Bool, true, false, if◌then◌else◌, cond, List, [], ◌∷◌, length, take, drop, get_or, set, replicate, refl, sym, ap, subst, arith, eqb, ltb, ℤ, pos, negsuc, Option, Some, None}
+use Rattle.std.proofs.Common.{◌≡◌, ◌∙◌, ℕ, zero, suc, ◌+◌, ◌<◌, ◌≤◌, Bool, true, false, not, if◌then◌else◌, cond, List, [], ◌∷◌, length, take, drop, get_or, set, replicate, refl, sym, ap, subst, arith, eqb, ltb, ℤ, pos, negsuc, Option, Some, None}
 use Rattle.std.specs.List.{All, sum_by}
 use Rattle.std.proofs.lemmas.Bool.{ltb-true, ne_eqb, false≢true}
 use Rattle.std.proofs.lemmas.List.{take_all}
@@ -20,8 +20,8 @@ takes_part None = 0
 takes_part (Some i) = 1
 
 -- 1 where somebody is the sender
-abbrev is_sent : ℕ → ℕ
-is_sent s = if eqb s nobody then 0 else 1
+abbrev pub is_sent : ℕ → ℕ
+is_sent s = cond (not (eqb s nobody)) 1 0
 
 -- ---- the walk has as many senders as places that took part
 
@@ -30,7 +30,7 @@ record IsCounted (place : ℕ) (ts : List (Option ℤ)) (m k : ℕ) : Type 0 whe
   pub to : IsSentTo place ts m k senders
   pub count : sum_by is_sent senders ≡ sum_by takes_part (take k ts)
 
-none_sent : (m : ℕ) → sum_by is_sent (replicate m nobody) ≡ 0
+pub none_sent : (m : ℕ) → sum_by is_sent (replicate m nobody) ≡ 0
 none_sent zero = refl
 none_sent (suc m) = omega (arith, sum_by-cons is_sent nobody (replicate m nobody), none_sent m)
 
@@ -50,8 +50,8 @@ module _ (place : ℕ) (ts : List (Option ℤ)) (m : ℕ) (small : place + lengt
   count_sent k senders (pos d) to lt count is free =
       let tests = right_tests (ltb d (length senders)) (eqb (get_or senders d 0) nobody) free in
       let set_one = sum_by-set is_sent senders d (place + k) 0 (ltb-true d (length senders) tests.0) in
-      let was : is_sent (get_or senders d 0) ≡ 0 = ap (λ b. if b then 0 else 1) tests.1 in
-      let becomes : is_sent (place + k) ≡ 1 = ap (λ b. if b then 0 else 1) (ne_eqb (place + k) nobody (λ same. omega arith)) in
+      let was : is_sent (get_or senders d 0) ≡ 0 = ap (λ b. cond (not b) 1 0) tests.1 in
+      let becomes : is_sent (place + k) ≡ 1 = ap (λ b. cond (not b) 1 0) (ne_eqb (place + k) nobody (λ same. omega arith)) in
       record {
         senders = set senders d (place + k);
         to = sent_more place ts m k senders small to lt (set senders d (place + k)) (pos d) is free refl;
@@ -76,11 +76,11 @@ module _ (place : ℕ) (ts : List (Option ℤ)) (m : ℕ) (small : place + lengt
 
 -- ---- where there are as many senders as places, each place has one
 
-at_most_one : (b : Bool) → (if b then 0 else 1) ≤ 1
+at_most_one : (b : Bool) → cond (not b) 1 0 ≤ 1
 at_most_one true = omega arith
 at_most_one false = omega arith
 
-is_one : (b : Bool) → 1 ≤ (if b then 0 else 1) → b ≡ false
+is_one : (b : Bool) → 1 ≤ cond (not b) 1 0 → b ≡ false
 is_one true some = absurd (omega arith)
 is_one false some = refl
 

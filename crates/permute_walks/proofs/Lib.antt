@@ -1,4 +1,5 @@
 pub mod EachSent
 pub mod Over
 pub mod Sent
+pub mod Stored
 pub mod Taken

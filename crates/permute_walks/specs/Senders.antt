@@ -1,11 +1,11 @@
 -- Senders: for each place of a permute's result, the place whose element goes there.
 -- Source: CVL's permute, d[i[k]] = s[k], in which k is the sender of its index.
-use Rattle.std.specs.Prelude.{◌≡◌, ℕ, ◌+◌, ◌<◌, ◌==◌, ℤ, pos, not, if◌then◌else◌, unsigned_abs, List, [], ◌∷◌, length, map, slice_get, slice_index, slice_index_or, Option, Some, None, unwrap_or, Result, Ok, Err}
+use Rattle.std.specs.Prelude.{◌≡◌, ℕ, ◌+◌, ◌<◌, ◌≤◌, ◌==◌, ℤ, pos, not, if◌then◌else◌, unsigned_abs, List, [], ◌∷◌, count_by, length, map, slice_get, slice_index, slice_index_or, Option, Some, None, unwrap_or, Result, Ok, Err}
 use Rattle.std.specs.List.{range_with_len, zip}
 use Rattle.cvl_base.specs.declared.fault.Fault.{Fault}
 use Rattle.cvl_base.specs.declared.fault.FaultNo.{FaultNo}
 use Rattle.cvl_base.specs.declared.fault.FaultNo.TheVariants.{IndexOutOfRange, IndexRepeated}
-use Rattle.cvl_base.specs.Permutes.{is_place, is_target}
+use Rattle.cvl_base.specs.Permutes.{first_fault, is_place, is_target, wrongs}
 
 -- stands where no element goes: the greatest number of 32 bits, which is no place
 abbrev pub nobody : ℕ
@@ -34,6 +34,17 @@ place_among m i = if is_place m i then Some (unsigned_abs i) else None
 abbrev pub told : {X : Type 0} → Result X Fault → Option Fault
 told (Ok x) = None
 told (Err f) = Some f
+
+-- how many places have a sender
+abbrev pub count_sent : List ℕ → ℕ
+count_sent senders = count_by (λ s. not (s == nobody)) senders
+
+-- The senders of the places 0 to m - 1, where so many targets were stored, a later one over an earlier: at most as many
+-- places have a sender, and where they are as many, no target was bad and each sender is the first.
+pub record IsStored (place : ℕ) (targets : List (Option ℤ)) (sent m : ℕ) (senders : List ℕ) : Type 0 where
+  pub at_most : count_sent senders ≤ sent
+  pub no_fault : count_sent senders ≡ sent → None ≡ first_fault place (wrongs m targets)
+  pub are_first : count_sent senders ≡ sent → senders ≡ senders_of place targets m
 
 -- what stands where the elements of senders were written over values: nobody has no element, and the value stays
 abbrev pub written_over : {X : Type 0} → List X → List ℕ → List X → List X

@@ -5,6 +5,7 @@ pub mod elements;
 pub mod places;
 pub mod sends;
 pub mod shared;
+mod stores;
 
 pub use elements::{elements_of, elements_or_defaults};
 pub use places::{element_of, place_among};

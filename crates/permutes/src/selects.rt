@@ -15,11 +15,16 @@ use segdes::{SegDes, check_total};
 use std::thread::Threads;
 
 /// How many flags are true.
+// A filter would have a branch on each flag.
 pub(crate) fn count_true(flags: &[bool]) -> usize
     ensures value { result ≡ count_of flags.now }
     ensures in_length { result ≤ length flags.now }
 {
-    flags.iter().filter(|flag| **flag).count()
+    let mut count = 0;
+    for flag in flags {
+        count += usize::from(*flag);
+    }
+    count
 }
 
 /// Each element whose flag is true goes to its index: `sel_puz` and `sel_pub`.

@@ -2,7 +2,7 @@ use Rattle.std.proofs.Common.{◌≤◌, ◌+◌, ◌∙◌, get_or, length, pos
 use Rattle.cvl_base.specs.Permutes.{all_targets}
 use Rattle.permute_walks.specs.Senders.{nobody}
 use Rattle.permute_walks.proofs.Sent.{sent_none, sent_more, sent_fails, sent_all, right_told, told_again, all-target, length-all_targets}
-use Rattle.permute_walks.proofs.sends.send_all.Goals as goal
+use Rattle.permute_walks.proofs.sends.send_each.Goals as goal
 
 pub loop-k-init : goal.loop-k-init
 loop-k-init c = sent_none c.args.first (all_targets c.args.index.now) _ c.args.senders.now c.requires.fresh

@@ -2,8 +2,8 @@ use Rattle.std.proofs.Common.{ℕ, List, ◌≤◌, ◌<◌, ◌+◌, ◌∙◌,
 use Rattle.cvl_base.specs.Permutes.{flagged_targets, target_if}
 use Rattle.permute_walks.specs.Senders.{nobody}
 use Rattle.permute_walks.proofs.Sent.{IsSentTo, sent_none, sent_more, skip_more, sent_fails, sent_all, right_told, told_again, flagged-target, length-flagged_targets}
-use Rattle.permute_walks.proofs.sends.send_flagged.Goals as goal
-use Rattle.permute_walks.proofs.sends.send_flagged.Goals.{then-takes_part+in_ok-send, else-takes_part}
+use Rattle.permute_walks.proofs.sends.send_each_flagged.Goals as goal
+use Rattle.permute_walks.proofs.sends.send_each_flagged.Goals.{then-takes_part+in_ok-send, else-takes_part}
 
 pub loop-k-init : goal.loop-k-init
 loop-k-init c = sent_none c.args.first (flagged_targets c.args.index.now c.args.flags.now) _ c.args.senders.now c.requires.fresh

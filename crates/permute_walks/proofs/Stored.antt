@@ -1,0 +1,75 @@
+-- The walk that stores places at their targets: how many places then have a sender tells whether a target was bad.
+use Rattle.std.proofs.Common.{◌≡◌, ◌∙◌, ℕ, ◌+◌, ◌<◌, ◌≤◌, Bool, true, false, not, if◌then◌else◌, cond, List, length, get_or, set, replicate, refl, sym, ap, subst, arith, eqb, ltb, ℤ, pos, negsuc, w32, to_z, of_z, FitsSigned, Option, Some, None}
+use Rattle.std.proofs.lemmas.Bool.{lt-ltb, ne_eqb, false≢true}
+use Rattle.std.proofs.lemmas.Int.{ints, to_z-of_z}
+use Rattle.std.proofs.lemmas.List.{length-set, length-replicate}
+use Rattle.std.proofs.lemmas.List.Sums.{sum_by-set}
+use Rattle.cvl_base.specs.declared.fault.FaultNo.TheVariants.{IndexOutOfRange, IndexRepeated}
+use Rattle.cvl_base.specs.Limits.{most_elements}
+use Rattle.permute_walks.specs.Senders.{IsStored, count_sent, nobody}
+use Rattle.permute_walks.proofs.EachSent.{is_sent, none_sent}
+use Rattle.permute_walks.proofs.Sent.{IsSentTo, sent_none, sent_more, skip_more, sent_all}
+
+-- what the walk leaves after the first k places, where so many were sent
+pub record IsStoredTo (place : ℕ) (ts : List (Option ℤ)) (m k sent : ℕ) (senders : List ℕ) : Type 0 where
+  pub as_long : length senders ≡ m
+  pub at_most : count_sent senders ≤ sent
+  pub exact : count_sent senders ≡ sent → IsSentTo place ts m k senders
+
+pub stored_none : (place : ℕ) (ts : List (Option ℤ)) (m : ℕ) (senders : List ℕ) → senders ≡ replicate m nobody → IsStoredTo place ts m 0 0 senders
+stored_none place ts m senders fresh = record {
+  as_long = ap length fresh ∙ length-replicate m nobody;
+  at_most = omega (arith, ap count_sent fresh, none_sent m);
+  exact = λ same. sent_none place ts m senders fresh;
+}
+
+-- an index inside, at which nobody stands, is right
+right_from : (is_inside free : Bool) → is_inside ≡ true → free ≡ true → (if not is_inside then Some IndexOutOfRange else if not free then Some IndexRepeated else None) ≡ None
+right_from true true inside is_free = refl
+right_from true false inside is_free = absurd (false≢true is_free)
+right_from false free inside is_free = absurd (false≢true inside)
+
+free_from : (b : Bool) → cond (not b) 1 0 ≤ 0 → b ≡ true
+free_from true none = refl
+free_from false none = absurd (omega arith)
+
+module _ (place : ℕ) (ts : List (Option ℤ)) (m k sent : ℕ) (senders : List ℕ) (small : place + length ts ≤ nobody) (to : IsStoredTo place ts m k sent senders) (lt : k < length ts) where
+  -- one more target
+  pub stored_more : (new : List ℕ) (now d : ℕ) → get_or ts k None ≡ Some (pos d) → d < m → now ≡ sent + 1 → new ≡ set senders d (place + k) → IsStoredTo place ts m (k + 1) now new
+  stored_more new now d is within more stored =
+      let in_senders : d < length senders = omega (arith, to.as_long) in
+      let set_one : count_sent (set senders d (place + k)) + is_sent (get_or senders d 0) ≡ count_sent senders + is_sent (place + k) = sum_by-set is_sent senders d (place + k) 0 in_senders in
+      let becomes : is_sent (place + k) ≡ 1 = ap (λ b. cond (not b) 1 0) (ne_eqb (place + k) nobody (λ same. omega arith)) in
+      let count : count_sent new ≡ count_sent (set senders d (place + k)) = ap count_sent stored in
+      record {
+        as_long = ap length stored ∙ length-set senders d (place + k) ∙ to.as_long;
+        at_most = omega (arith, count, set_one, becomes, to.at_most, more);
+        exact = λ same.
+            let was : is_sent (get_or senders d 0) ≡ 0 = omega (arith, count, set_one, becomes, to.at_most, more, same) in
+            let before : count_sent senders ≡ sent = omega (arith, count, set_one, becomes, more, same, was) in
+            sent_more place ts m k senders small (to.exact before) lt new (pos d) is
+            (right_from (ltb d (length senders)) (eqb (get_or senders d 0) nobody) (lt-ltb d (length senders) in_senders) (free_from (eqb (get_or senders d 0) nobody) (omega (arith, was))))
+            stored;
+      }
+
+  -- a place that does not take part
+  pub stored_skip : (new : List ℕ) (now : ℕ) → get_or ts k None ≡ None → now ≡ sent → new ≡ senders → IsStoredTo place ts m (k + 1) now new
+  stored_skip new now is same_count same = record {
+    as_long = ap length same ∙ to.as_long;
+    at_most = omega (arith, ap count_sent same, to.at_most, same_count);
+    exact = λ all. subst (IsSentTo place ts m (k + 1)) (sym same)
+        (skip_more place ts m k senders small (to.exact (omega (arith, ap count_sent same, all, same_count))) lt is);
+  }
+
+-- an index that is below the most elements when its sign is not looked at is not negative
+pub index_is : (i : ℤ) (d : ℕ) → FitsSigned w32 i → d ≡ of_z w32 (to_z w32 (of_z w32 i)) → d < most_elements → i ≡ pos d
+index_is (pos a) d fits cast below = ap (λ n. pos n) (sym (cast ∙ ap (of_z w32) (to_z-of_z w32 (pos a) fits)))
+index_is (negsuc a) d fits cast below = let same : d ≡ of_z w32 (negsuc a) = cast ∙ ap (of_z w32) (to_z-of_z w32 (negsuc a) fits) in absurd (omega (arith, ints))
+
+-- all places
+pub stored_all : (place : ℕ) (ts : List (Option ℤ)) (m k sent : ℕ) (senders : List ℕ) → IsStoredTo place ts m k sent senders → length ts ≤ k → IsStored place ts sent m senders
+stored_all place ts m k sent senders to ge = record {
+  at_most = to.at_most;
+  no_fault = λ same. (sent_all place ts m k senders (to.exact same) ge).0;
+  are_first = λ same. (sent_all place ts m k senders (to.exact same) ge).1;
+}
