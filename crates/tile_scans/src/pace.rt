@@ -11,11 +11,15 @@ use cvl_base::limits::{LONGEST_TILE, MOST_ELEMENTS};
 /// gets the tiles and the workers that are asked for.
 const LONG_TILE: u32 = 1_024;
 
-/// How many elements each worker of a scan has at least, since one thread is done with fewer before a second has started.
-const LEAST_SHARE_OF_SCAN: u32 = 65_536;
+/// From how many elements on workers race for a scan. One thread is done with fewer before several have started, and have
+/// filled the result and written it.
+const LEAST_SCANNED: usize = 1_048_576;
 
-/// The same for a reduce, which writes next to nothing.
-const LEAST_SHARE_OF_REDUCE: u32 = 65_536;
+/// From how many bytes of elements on workers race for a reduce, which takes as long as reading them.
+const LEAST_REDUCED: usize = 4_194_304;
+
+/// How many elements each worker has at least.
+const LEAST_SHARE: u32 = 262_144;
 
 /// How many tiles there are for each worker at least where tiles are made longer than is asked for. A worker that starts
 /// late, or is held up, then leaves some of its tiles to the others.
@@ -44,21 +48,22 @@ pub(crate) fn race_of_scan(config: Config, elements: usize) -> Option<Config>
     ensures some { IfSome result (λ _. 1 ≤ elements) }
     ensures few { IfSome result (λ _. elements ≤ most_elements) }
 {
-    race_that_pays(config, elements, LEAST_SHARE_OF_SCAN, LONGEST_OF_SCAN)
+    let pays = elements >= LEAST_SCANNED;
+    race_where(pays, config, elements, LONGEST_OF_SCAN)
 }
 
-/// The race by which so many elements are reduced, or none where one thread walks them at once.
-pub(crate) fn race_of_reduce(config: Config, elements: usize) -> Option<Config>
+/// The race by which so many elements, which take so many bytes, are reduced, or none where one thread walks them at once.
+pub(crate) fn race_of_reduce(config: Config, elements: usize, bytes: usize) -> Option<Config>
     ensures some { IfSome result (λ _. 1 ≤ elements) }
     ensures few { IfSome result (λ _. elements ≤ most_elements) }
 {
-    race_that_pays(config, elements, LEAST_SHARE_OF_REDUCE, LONGEST_OF_REDUCE)
+    let pays = bytes >= LEAST_REDUCED;
+    race_where(pays, config, elements, LONGEST_OF_REDUCE)
 }
 
-/// The race in which each worker has at least such a share of the elements, in tiles that are made longer up to `longest`,
-/// or none where that is one worker's.
-fn race_that_pays(config: Config, elements: usize, least_share: u32, longest: u32) -> Option<Config>
-    requires some_share { 1 ≤ least_share }
+/// The race for long tiles where it pays, with a share of the elements for each worker, in tiles that are made longer up to
+/// `longest`; the race that is asked for where its tiles are short. None where there is one worker or one tile.
+fn race_where(pays: bool, config: Config, elements: usize, longest: u32) -> Option<Config>
     requires at_most { longest ≤ longest_tile }
     ensures some { IfSome result (λ _. 1 ≤ elements) }
     ensures few { IfSome result (λ _. elements ≤ most_elements) }
@@ -71,8 +76,8 @@ fn race_that_pays(config: Config, elements: usize, least_share: u32, longest: u3
         return Some(config);
     }
     let elements = elements as u32;
-    let workers = (elements / least_share).min(config.workers());
-    if workers <= 1 {
+    let workers = (elements / LEAST_SHARE).min(config.workers());
+    if !pays || workers <= 1 {
         return None;
     }
     let tile = (elements / (workers * TILES_EACH))

@@ -16,6 +16,7 @@ use cvl_base::monoid::know_laws;
 use cvl_base::{Config, Memory, Monoid, NoResources, Packed, Refused};
 use scan_walks::{Itself, Reading, reduces_of_readings, sum_readings_from};
 use segdes::{SegDes, check_total};
+use std::mem::size_of_val;
 use std::thread::Threads;
 
 /// The elements joined from left to right, and the unit where there are none.
@@ -32,7 +33,7 @@ where
     requires items { AllPass M.is_item a.now }
     ensures { IfOk result (λ sum. sum ≡ fold_of M.join M.unit a.now) }
 {
-    let racing = race_of_reduce(config, a.len());
+    let racing = race_of_reduce(config, a.len(), size_of_val(a));
     reduce_by::<R, A, M, M::Item, Itself, OpenGate>(rt, alloc, racing, a, &OpenGate)
 }
 
@@ -159,7 +160,7 @@ where
         (seg_reduce_of M.join M.unit (map E.item a.now) d.now) }
     ensures one_each { IfOk result (λ sums. vec_len sums ≡ length d.now) }
 {
-    let racing = race_of_reduce(config, a.len());
+    let racing = race_of_reduce(config, a.len(), size_of_val(a));
     seg_reduce_by::<R, A, M, X, E, OpenGate>(rt, alloc, racing, a, d, &OpenGate)
 }
 
