@@ -115,3 +115,23 @@ module _ {Item : Type 0} where
         hand = found.hand ∙ walk.hand;
         sums = found.sums ∙ walk.sums;
       }
+
+  -- so does the first tile
+  pub walk_done : (t at : ℕ) (old new : Pass Item) → at ≡ 0 → IsWalk t at old new → IsLookBack t t old new
+  walk_done t at old new first walk =
+      let outside : (x : ℕ) → (x < t - t) ⊎ (t ≤ x) → (told_at x new ≡ told_at x old) × (seen_at x new ≡ seen_at x old) =
+      λ x out. walk.others x (⊎_elim (λ (low : x < t - t). absurd (omega arith)) (λ (high : t ≤ x). inr high) out) in
+      record {
+        at_most = omega arith;
+        at_least = λ some. some;
+        counted = omega (arith, walk.looks);
+        known = λ x from to. let here = walk.known x (omega arith) to in omega arith;
+        met = λ fewer. absurd (omega arith);
+        passed = λ x from to. let here = walk.known x (omega arith) to in omega arith;
+        told = walk.told;
+        told_outside = λ x out. (outside x out).0;
+        seen = walk.seen;
+        seen_outside = λ x out. (outside x out).1;
+        hand = walk.hand;
+        sums = walk.sums;
+      }

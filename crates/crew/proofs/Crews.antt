@@ -1,10 +1,12 @@
--- What two crews of one work give together.
+-- What a crew of one worker gives, and what two crews of one work give together.
 -- Source: what the definitions of Crews imply.
-use Rattle.std.proofs.Common.{◌≡◌, sym, ℕ, ◌+◌, ◌<◌, ◌≤◌, Bool, IsTrue, Result, Ok, Err, IfOk, List, [], ◌++◌, length, take, drop, map, arith, length-append}
+use Rattle.std.proofs.Common.{◌≡◌, sym, ℕ, ◌+◌, ◌<◌, ◌≤◌, Bool, IsTrue, Result, Ok, Err, IfOk, List, [], ◌∷◌, ◌++◌, length, take, drop, set, map, arith, length-append}
 use Rattle.std.proofs.lemmas.List.{length-take, length-drop}
-use Rattle.std.proofs.lemmas.List.Elements.{All-append, All-take, All-drop}
+use Rattle.std.proofs.lemmas.List.Elements.{All-nil, All-cons, All-append, All-take, All-drop}
 use Rattle.crew.specs.Crews.{AreNewSeats, IsCrewed}
-use Rattle.crew.proofs.Pieces.{of_both}
+use Rattle.boards.specs.Passes.{times}
+use Rattle.crew.specs.Pieces.{ArePiecesOf}
+use Rattle.crew.proofs.Pieces.{given_as, of_both}
 
 -- new seats that are cut in two are new seats
 module _ {Seat : Type 0} (IsSeat : Seat → Type 0) (given : Seat → List ℕ) (seats : List Seat) (half : ℕ) where
@@ -26,6 +28,18 @@ module _ {Seat Item P : Type 0} (count : ℕ) (items : ℕ → List Item) (IsSea
   -- the seats and the pieces of both, one list after the other
   abbrev pub Ends : ℕ → List Seat → List P → Type 0
   Ends workers seats pieces = IsCrewed count items IsSeat given is_done workers seats (map view pieces)
+
+  -- the one worker of a crew, whose seat is as it was left
+  pub one_ends : (workers : ℕ) (seats : List Seat) (seat : Seat) (pieces : List P) → length seats ≡ workers → workers ≡ 1
+      → IsSeat seat → IsTrue (is_done seat) → ArePiecesOf count items (λ t. times t (given seat)) (map view pieces) → Ends workers (set seats 0 seat) pieces
+  one_ends workers [] seat pieces long one here done made = absurd (omega arith)
+  one_ends workers (old ∷ []) seat pieces long one here done made = record {
+    as_many = long;
+    of_board = All-cons IsSeat seat [] here (All-nil IsSeat);
+    done = All-cons (λ s. IsTrue (is_done s)) seat [] done (All-nil (λ s. IsTrue (is_done s)));
+    of_tiles = given_as count items _ _ (map view pieces) (λ t. omega arith) made;
+  }
+  one_ends workers (old ∷ other ∷ seats) seat pieces long one here done made = absurd (omega arith)
 
   both_end : (m n : ℕ) (front back : List Seat) (xs ys : List P) → Ends m front xs → Ends n back ys → Ends (m + n) (front ++ back) (xs ++ ys)
   both_end m n front back xs ys first second = record {

@@ -22,7 +22,8 @@ module _ {Item : Type 0} (count : ℕ) (items : ℕ → List Item) where
     as_meant = All-cons (λ p. p.1 ≡ items p.0) (t, made) [] same (All-nil (λ p. p.1 ≡ items p.0));
   }
 
-  given_as : (f g : ℕ → ℕ) (ps : List (ℕ × List Item)) → ((t : ℕ) → f t ≡ g t) → ArePiecesOf count items f ps → ArePiecesOf count items g ps
+  -- the same tiles, counted in another way
+  pub given_as : (f g : ℕ → ℕ) (ps : List (ℕ × List Item)) → ((t : ℕ) → f t ≡ g t) → ArePiecesOf count items f ps → ArePiecesOf count items g ps
   given_as f g ps same pieces = record { one_each = λ t. pieces.one_each t ∙ same t; of_work = pieces.of_work; as_meant = pieces.as_meant }
 
   -- no tile, no piece

@@ -55,7 +55,6 @@ pub fn run_crew<R: Threads + Sync, A: Memory, W: Work, G: Gate>(
 
 /// `run_crew` for the workers from number `first` on.
 #[cycle(crew)]
-#[tactic(auto, using(crate::proofs::Crews::new_front, crate::proofs::Crews::new_back))]
 fn run_from<R: Threads + Sync, A: Memory, W: Work, G: Gate>(
     rt: &R,
     alloc: A,

@@ -41,6 +41,21 @@ overflow_add-start g c =
     let e = left_more c.args.d.now c.loop-s.s c.loop-s.start _ _ (omega arith) c.length-length.ensures c.loop-s.invariant.covered in
     omega (arith, e, c.in_ok-check_total.ensures.in_limit, c.in-Some.ensures.0)
 
+pub bounds-vector-start : goal.bounds-vector-start
+bounds-vector-start g c =
+    let e = left_more c.args.d.now c.loop-s.s c.loop-s.start _ _ (omega arith) c.length-length.ensures c.loop-s.invariant.covered in
+    omega (arith, e, c.in-Some.ensures.0)
+
+pub offset_bounds-vector-start : goal.offset_bounds-vector-start
+offset_bounds-vector-start g c =
+    let e = left_more c.args.d.now c.loop-s.s c.loop-s.start _ _ (omega arith) c.length-length.ensures c.loop-s.invariant.covered in
+    omega (arith, e, c.in-Some.ensures.0)
+
+pub overflow_add-start-in-loop-s : goal.overflow_add-start-in-loop-s
+overflow_add-start-in-loop-s g c =
+    let e = left_more c.args.d.now c.loop-s.s c.loop-s.start _ _ (omega arith) c.length-length.ensures c.loop-s.invariant.covered in
+    omega (arith, e, c.in_ok-check_total.ensures.in_limit)
+
 pub returns-clause-values : goal.returns-clause-values
 returns-clause-values g c =
     all_done c.args.vector.now c.args.index.now c.args.d.now c.loop-s.s c.loop-s.start _ _ (omega arith) c.loop-s.invariant.whole

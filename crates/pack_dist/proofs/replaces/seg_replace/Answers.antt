@@ -48,6 +48,16 @@ overflow_add-start g c =
     let e = left_more c.args.d.now c.loop-s.s c.loop-s.start _ _ (omega arith) c.length-length.ensures c.loop-s.invariant.covered in
     omega (arith, e, c.in_ok-check_total.ensures.in_limit, c.in-Some.ensures.0)
 
+pub index_mut-requires : goal.index_mut-requires
+index_mut-requires g c =
+    let e = left_more c.args.d.now c.loop-s.s c.loop-s.start _ _ (omega arith) c.length-length.ensures c.loop-s.invariant.covered in
+    omega (arith, e, c.in-Some.ensures.0, c.loop-s.invariant.as_long)
+
+pub overflow_add-start-in-loop-s : goal.overflow_add-start-in-loop-s
+overflow_add-start-in-loop-s g c =
+    let e = left_more c.args.d.now c.loop-s.s c.loop-s.start _ _ (omega arith) c.length-length.ensures c.loop-s.invariant.covered in
+    omega (arith, e, c.in_ok-check_total.ensures.in_limit)
+
 pub returns-clause-values : goal.returns-clause-values
 returns-clause-values g c =
     all_done c.args.vector.now c.args.index.now c.args.values.now c.args.d.now c.loop-s.s c.loop-s.start _ _ (omega arith) c.loop-s.invariant.covered
