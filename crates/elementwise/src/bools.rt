@@ -31,20 +31,16 @@ pub fn compare<R: Threads + Sync, A: Memory>(
 {
     check_agree(a.len(), b.len())?;
     let truths = match op {
-        Comparison::Greater => values_on_pairs::<Greater, i32, i32, bool, R, A>(
+        Comparison::Greater => values_on_pairs::<Greater, i32, bool, R, A>(
             rt, alloc, FORKED, a, b,
         )?,
-        Comparison::Less => values_on_pairs::<Less, i32, i32, bool, R, A>(rt, alloc, FORKED, a, b)?,
-        Comparison::AtLeast => values_on_pairs::<AtLeast, i32, i32, bool, R, A>(
+        Comparison::Less => values_on_pairs::<Less, i32, bool, R, A>(rt, alloc, FORKED, a, b)?,
+        Comparison::AtLeast => values_on_pairs::<AtLeast, i32, bool, R, A>(
             rt, alloc, FORKED, a, b,
         )?,
-        Comparison::AtMost => values_on_pairs::<AtMost, i32, i32, bool, R, A>(
-            rt, alloc, FORKED, a, b,
-        )?,
-        Comparison::Equal => values_on_pairs::<Equal, i32, i32, bool, R, A>(
-            rt, alloc, FORKED, a, b,
-        )?,
-        Comparison::Unequal => values_on_pairs::<Unequal, i32, i32, bool, R, A>(
+        Comparison::AtMost => values_on_pairs::<AtMost, i32, bool, R, A>(rt, alloc, FORKED, a, b)?,
+        Comparison::Equal => values_on_pairs::<Equal, i32, bool, R, A>(rt, alloc, FORKED, a, b)?,
+        Comparison::Unequal => values_on_pairs::<Unequal, i32, bool, R, A>(
             rt, alloc, FORKED, a, b,
         )?,
     };
@@ -68,21 +64,21 @@ pub fn bool2<R: Threads + Sync, A: Memory>(
 {
     check_agree(a.len(), b.len())?;
     let truths = match op {
-        BoolBinary::And => values_on_pairs::<Both, bool, bool, bool, R, A>(
+        BoolBinary::And => values_on_pairs::<Both, bool, bool, R, A>(
             rt,
             alloc,
             FORKED_BOOLEANS,
             a,
             b,
         )?,
-        BoolBinary::Ior => values_on_pairs::<Either, bool, bool, bool, R, A>(
+        BoolBinary::Ior => values_on_pairs::<Either, bool, bool, R, A>(
             rt,
             alloc,
             FORKED_BOOLEANS,
             a,
             b,
         )?,
-        BoolBinary::Xor => values_on_pairs::<Differ, bool, bool, bool, R, A>(
+        BoolBinary::Xor => values_on_pairs::<Differ, bool, bool, R, A>(
             rt,
             alloc,
             FORKED_BOOLEANS,

@@ -34,18 +34,18 @@ pub fn int2<R: Threads + Sync, A: Memory>(
 {
     check_agree(a.len(), b.len())?;
     match op {
-        IntBinary::Add => Ok(values_on_pairs::<Add, i32, i32, i32, R, A>(rt, alloc, FORKED, a, b)?),
-        IntBinary::Sub => Ok(values_on_pairs::<Sub, i32, i32, i32, R, A>(rt, alloc, FORKED, a, b)?),
-        IntBinary::Mul => Ok(values_on_pairs::<Mul, i32, i32, i32, R, A>(rt, alloc, FORKED, a, b)?),
+        IntBinary::Add => Ok(values_on_pairs::<Add, i32, i32, R, A>(rt, alloc, FORKED, a, b)?),
+        IntBinary::Sub => Ok(values_on_pairs::<Sub, i32, i32, R, A>(rt, alloc, FORKED, a, b)?),
+        IntBinary::Mul => Ok(values_on_pairs::<Mul, i32, i32, R, A>(rt, alloc, FORKED, a, b)?),
         IntBinary::Div => values_on_pairs_or::<Div, A>(alloc, a, b),
         IntBinary::Mod => values_on_pairs_or::<Mod, A>(alloc, a, b),
-        IntBinary::Min => Ok(values_on_pairs::<Min, i32, i32, i32, R, A>(rt, alloc, FORKED, a, b)?),
-        IntBinary::Max => Ok(values_on_pairs::<Max, i32, i32, i32, R, A>(rt, alloc, FORKED, a, b)?),
+        IntBinary::Min => Ok(values_on_pairs::<Min, i32, i32, R, A>(rt, alloc, FORKED, a, b)?),
+        IntBinary::Max => Ok(values_on_pairs::<Max, i32, i32, R, A>(rt, alloc, FORKED, a, b)?),
         IntBinary::Lsh => values_on_pairs_or::<Lsh, A>(alloc, a, b),
         IntBinary::Rsh => values_on_pairs_or::<Rsh, A>(alloc, a, b),
-        IntBinary::And => Ok(values_on_pairs::<And, i32, i32, i32, R, A>(rt, alloc, FORKED, a, b)?),
-        IntBinary::Ior => Ok(values_on_pairs::<Ior, i32, i32, i32, R, A>(rt, alloc, FORKED, a, b)?),
-        IntBinary::Xor => Ok(values_on_pairs::<Xor, i32, i32, i32, R, A>(rt, alloc, FORKED, a, b)?),
+        IntBinary::And => Ok(values_on_pairs::<And, i32, i32, R, A>(rt, alloc, FORKED, a, b)?),
+        IntBinary::Ior => Ok(values_on_pairs::<Ior, i32, i32, R, A>(rt, alloc, FORKED, a, b)?),
+        IntBinary::Xor => Ok(values_on_pairs::<Xor, i32, i32, R, A>(rt, alloc, FORKED, a, b)?),
     }
 }
 

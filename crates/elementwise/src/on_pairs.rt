@@ -13,13 +13,12 @@ use std::thread::Threads;
 /// The operator's values on the pairs of elements of two equally long vectors. From `forked` elements on the result is
 /// cut into chunks, which several threads write into one vector.
 pub(crate) fn values_on_pairs<
-    O: Binary<X, Y, Z>,
-    X: Copy + Send + Sync,
-    Y: Copy + Send + Sync,
+    O: Binary<X, Z> + Send + Sync,
+    X: Copy + Sync,
     Z: Shared,
     R: Threads + Sync,
     A: Memory,
->(rt: &R, alloc: A, forked: usize, a: &[X], b: &[Y]) -> Result<Vec<Z, A>, NoResources>
+>(rt: &R, alloc: A, forked: usize, a: &[X], b: &[X]) -> Result<Vec<Z, A>, NoResources>
     requires as_long { length a.now ≡ length b.now }
     ensures values { IfOk result (λ v. v.items ≡ map (λ p. O.value p.0 p.1) (zip a.now b.now)) }
     ensures as_long { IfOk result (λ v. vec_len v ≡ length a.now) }
@@ -40,7 +39,7 @@ pub(crate) fn values_on_pairs<
         |start: usize, chunk: &mut [Z]|
             requires { (start + length chunk.now ≤ length a.now) × (start + length chunk.now ≤ length b.now) }
             ensures { StandFrom (map (λ p. O.value p.0 p.1) (zip a.entry.now b.entry.now)) start (length chunk.old) chunk.new }
-        { write_values::<O, X, Y, Z>(a, b, start, chunk) },
+        { write_values::<O, X, Z>(a, b, start, chunk) },
     );
     Ok(values)
 }
