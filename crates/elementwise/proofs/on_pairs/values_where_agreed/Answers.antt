@@ -2,7 +2,7 @@ use Rattle.std.proofs.Common.{arith, get_or, length, map, rules}
 use Rattle.std.specs.List.{zip}
 use Rattle.std.proofs.lemmas.Iterator.{YieldsList-from_slice, YieldsList-from_zip, YieldsList-from_map, items_from_collect}
 use Rattle.elementwise.proofs.Standing.{whole, of_chunk, length-on_pairs}
-use Rattle.elementwise.proofs.on_pairs.values_on_pairs.Goals as goal
+use Rattle.elementwise.proofs.on_pairs.values_where_agreed.Goals as goal
 
 pub returns-in_default-clause-values : goal.returns-in_default-clause-values
 returns-in_default-clause-values g c =
