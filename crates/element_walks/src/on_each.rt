@@ -4,7 +4,7 @@ ghost use Rattle.std.specs.Prelude.{◌≡◌, ◌+◌, ◌≤◌, length, map};
 ghost use Rattle.element_walks.specs.Standing.{StandFrom};
 
 /// An operator on one element.
-pub trait Single<X, Z>: Send + Sync {
+pub trait Single<X, Z> {
     ghost value: { X → Z };
 
     fn apply(a: X) -> Z

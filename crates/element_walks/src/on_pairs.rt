@@ -5,17 +5,17 @@ ghost use Rattle.std.specs.List.{zip};
 ghost use Rattle.element_walks.specs.Standing.{StandFrom};
 
 /// An operator with a value on each two elements.
-pub trait Binary<X, Y, Z>: Send + Sync {
-    ghost value: { X → Y → Z };
+pub trait Binary<X, Z> {
+    ghost value: { X → X → Z };
 
-    fn apply(a: X, b: Y) -> Z
+    fn apply(a: X, b: X) -> Z
         ensures { result ≡ value a b };
 }
 
 /// Writes the values on the pairs from place `start` on, as many as `values` is long.
-pub fn write_values<O: Binary<X, Y, Z>, X: Copy, Y: Copy, Z: Copy>(
+pub fn write_values<O: Binary<X, Z>, X: Copy, Z: Copy>(
     a: &[X],
-    b: &[Y],
+    b: &[X],
     start: usize,
     values: &mut [Z],
 )

@@ -11,7 +11,7 @@ use crate::on_pairs::values_on_pairs;
 use crate::singles::{BoolOfInt, NotBool};
 use crate::truths::{Both, Differ, Either};
 use crate::two_parts::values_in_two_parts;
-use cvl_base::{BoolBinary, Comparison, Config, Memory, NoResources, Refused, Unary, check_agree};
+use cvl_base::{BoolBinary, Comparison, Config, Memory, NoResources, Refused, Unary};
 use std::thread::Threads;
 
 /// The comparison of each two elements at the same place, on signed numbers: `grt_wuz` and its like.
@@ -29,26 +29,14 @@ pub fn compare<R: Threads + Sync, A: Memory>(
     ensures values { Gives (λ v. v.items) result (compare_of op a.now b.now) }
     ensures as_long { IfOk result (λ v. vec_len v ≡ length a.now) }
 {
-    check_agree(a.len(), b.len())?;
-    let truths = match op {
-        Comparison::Greater => values_on_pairs::<Greater, i32, i32, bool, R, A>(
-            rt, alloc, FORKED, a, b,
-        )?,
-        Comparison::Less => values_on_pairs::<Less, i32, i32, bool, R, A>(rt, alloc, FORKED, a, b)?,
-        Comparison::AtLeast => values_on_pairs::<AtLeast, i32, i32, bool, R, A>(
-            rt, alloc, FORKED, a, b,
-        )?,
-        Comparison::AtMost => values_on_pairs::<AtMost, i32, i32, bool, R, A>(
-            rt, alloc, FORKED, a, b,
-        )?,
-        Comparison::Equal => values_on_pairs::<Equal, i32, i32, bool, R, A>(
-            rt, alloc, FORKED, a, b,
-        )?,
-        Comparison::Unequal => values_on_pairs::<Unequal, i32, i32, bool, R, A>(
-            rt, alloc, FORKED, a, b,
-        )?,
-    };
-    Ok(truths)
+    match op {
+        Comparison::Greater => values_on_pairs::<Greater, i32, bool, R, A>(rt, alloc, FORKED, a, b),
+        Comparison::Less => values_on_pairs::<Less, i32, bool, R, A>(rt, alloc, FORKED, a, b),
+        Comparison::AtLeast => values_on_pairs::<AtLeast, i32, bool, R, A>(rt, alloc, FORKED, a, b),
+        Comparison::AtMost => values_on_pairs::<AtMost, i32, bool, R, A>(rt, alloc, FORKED, a, b),
+        Comparison::Equal => values_on_pairs::<Equal, i32, bool, R, A>(rt, alloc, FORKED, a, b),
+        Comparison::Unequal => values_on_pairs::<Unequal, i32, bool, R, A>(rt, alloc, FORKED, a, b),
+    }
 }
 
 /// The operator on each two booleans at the same place: `and_wub` and its like.
@@ -66,31 +54,29 @@ pub fn bool2<R: Threads + Sync, A: Memory>(
     ensures values { Gives (λ v. v.items) result (bools2_of op a.now b.now) }
     ensures as_long { IfOk result (λ v. vec_len v ≡ length a.now) }
 {
-    check_agree(a.len(), b.len())?;
-    let truths = match op {
-        BoolBinary::And => values_on_pairs::<Both, bool, bool, bool, R, A>(
+    match op {
+        BoolBinary::And => values_on_pairs::<Both, bool, bool, R, A>(
             rt,
             alloc,
             FORKED_BOOLEANS,
             a,
             b,
-        )?,
-        BoolBinary::Ior => values_on_pairs::<Either, bool, bool, bool, R, A>(
+        ),
+        BoolBinary::Ior => values_on_pairs::<Either, bool, bool, R, A>(
             rt,
             alloc,
             FORKED_BOOLEANS,
             a,
             b,
-        )?,
-        BoolBinary::Xor => values_on_pairs::<Differ, bool, bool, bool, R, A>(
+        ),
+        BoolBinary::Xor => values_on_pairs::<Differ, bool, bool, R, A>(
             rt,
             alloc,
             FORKED_BOOLEANS,
             a,
             b,
-        )?,
-    };
-    Ok(truths)
+        ),
+    }
 }
 
 /// The operator on each boolean: `not_wub` and `cpy_wub`.

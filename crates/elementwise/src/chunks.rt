@@ -40,7 +40,7 @@ pub(crate) fn filled_like<X, Z: Copy, A: Memory>(
 }
 
 /// An element of a result that several threads write.
-pub(crate) trait Shared: Copy + Send + Sync {
+pub(crate) trait Shared: Copy + Send {
     /// A vector as long as `a`, to be written over, filled in the way that takes the least time.
     fn fresh_like<X, A: Memory>(alloc: A, a: &[X]) -> Result<Vec<Self, A>, NoResources>
         ensures { IfOk result (λ v. vec_len v ≡ length a.now) };

@@ -8,7 +8,7 @@ use element_walks::Binary;
 /// The first is greater.
 pub(crate) struct Greater;
 
-impl Binary<i32, i32, bool> for Greater {
+impl Binary<i32, bool> for Greater {
     ghost value = { is_greater };
 
     fn apply(a: i32, b: i32) -> bool {
@@ -19,7 +19,7 @@ impl Binary<i32, i32, bool> for Greater {
 /// The first is less.
 pub(crate) struct Less;
 
-impl Binary<i32, i32, bool> for Less {
+impl Binary<i32, bool> for Less {
     ghost value = { is_less };
 
     fn apply(a: i32, b: i32) -> bool {
@@ -30,7 +30,7 @@ impl Binary<i32, i32, bool> for Less {
 /// The first is greater, or they are equal.
 pub(crate) struct AtLeast;
 
-impl Binary<i32, i32, bool> for AtLeast {
+impl Binary<i32, bool> for AtLeast {
     ghost value = { is_at_least };
 
     fn apply(a: i32, b: i32) -> bool {
@@ -41,7 +41,7 @@ impl Binary<i32, i32, bool> for AtLeast {
 /// The first is less, or they are equal.
 pub(crate) struct AtMost;
 
-impl Binary<i32, i32, bool> for AtMost {
+impl Binary<i32, bool> for AtMost {
     ghost value = { is_at_most };
 
     fn apply(a: i32, b: i32) -> bool {
@@ -52,7 +52,7 @@ impl Binary<i32, i32, bool> for AtMost {
 /// They are equal.
 pub(crate) struct Equal;
 
-impl Binary<i32, i32, bool> for Equal {
+impl Binary<i32, bool> for Equal {
     ghost value = { is_equal };
 
     fn apply(a: i32, b: i32) -> bool {
@@ -63,7 +63,7 @@ impl Binary<i32, i32, bool> for Equal {
 /// They aren't equal.
 pub(crate) struct Unequal;
 
-impl Binary<i32, i32, bool> for Unequal {
+impl Binary<i32, bool> for Unequal {
     ghost value = { is_unequal };
 
     fn apply(a: i32, b: i32) -> bool {

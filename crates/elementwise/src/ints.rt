@@ -1,7 +1,7 @@
 //! The calls whose result is an integer vector, but `select`.
 
 ghost use Rattle.std.specs.Prelude.{◌≡◌, ◌≤◌, IfOk, length, vec_len};
-ghost use Rattle.cvl_base.specs.Elementwise.{ints_from_bools, ints1_of, ints2_of};
+ghost use Rattle.cvl_base.specs.Elementwise.{ints_from_bools, ints1_of, ints2_of, on_pairs_or};
 ghost use Rattle.cvl_base.specs.Gives.{Gives};
 ghost use Rattle.cvl_base.specs.Limits.{most_elements};
 
@@ -12,7 +12,7 @@ use crate::singles::{IntOfBool, NotInt};
 use crate::totals::{Add, And, Ior, Max, Min, Mul, Sub, Xor};
 use crate::two_parts::values_in_two_parts;
 use cvl_base::{Config, IntBinary, Memory, NoResources, Refused, Unary, check_agree};
-use element_walks::values_on_pairs_or;
+use element_walks::{PartialBinary, values_on_pairs_or};
 use std::thread::Threads;
 
 /// The operator on each two elements at the same place: `add_wuz` and its like.
@@ -32,21 +32,35 @@ pub fn int2<R: Threads + Sync, A: Memory>(
     ensures values { Gives (λ v. v.items) result (ints2_of op a.now b.now) }
     ensures as_long { IfOk result (λ v. vec_len v ≡ length a.now) }
 {
-    check_agree(a.len(), b.len())?;
     match op {
-        IntBinary::Add => Ok(values_on_pairs::<Add, i32, i32, i32, R, A>(rt, alloc, FORKED, a, b)?),
-        IntBinary::Sub => Ok(values_on_pairs::<Sub, i32, i32, i32, R, A>(rt, alloc, FORKED, a, b)?),
-        IntBinary::Mul => Ok(values_on_pairs::<Mul, i32, i32, i32, R, A>(rt, alloc, FORKED, a, b)?),
-        IntBinary::Div => values_on_pairs_or::<Div, A>(alloc, a, b),
-        IntBinary::Mod => values_on_pairs_or::<Mod, A>(alloc, a, b),
-        IntBinary::Min => Ok(values_on_pairs::<Min, i32, i32, i32, R, A>(rt, alloc, FORKED, a, b)?),
-        IntBinary::Max => Ok(values_on_pairs::<Max, i32, i32, i32, R, A>(rt, alloc, FORKED, a, b)?),
-        IntBinary::Lsh => values_on_pairs_or::<Lsh, A>(alloc, a, b),
-        IntBinary::Rsh => values_on_pairs_or::<Rsh, A>(alloc, a, b),
-        IntBinary::And => Ok(values_on_pairs::<And, i32, i32, i32, R, A>(rt, alloc, FORKED, a, b)?),
-        IntBinary::Ior => Ok(values_on_pairs::<Ior, i32, i32, i32, R, A>(rt, alloc, FORKED, a, b)?),
-        IntBinary::Xor => Ok(values_on_pairs::<Xor, i32, i32, i32, R, A>(rt, alloc, FORKED, a, b)?),
+        IntBinary::Add => values_on_pairs::<Add, i32, i32, R, A>(rt, alloc, FORKED, a, b),
+        IntBinary::Sub => values_on_pairs::<Sub, i32, i32, R, A>(rt, alloc, FORKED, a, b),
+        IntBinary::Mul => values_on_pairs::<Mul, i32, i32, R, A>(rt, alloc, FORKED, a, b),
+        IntBinary::Div => values_or_fault::<Div, A>(alloc, a, b),
+        IntBinary::Mod => values_or_fault::<Mod, A>(alloc, a, b),
+        IntBinary::Min => values_on_pairs::<Min, i32, i32, R, A>(rt, alloc, FORKED, a, b),
+        IntBinary::Max => values_on_pairs::<Max, i32, i32, R, A>(rt, alloc, FORKED, a, b),
+        IntBinary::Lsh => values_or_fault::<Lsh, A>(alloc, a, b),
+        IntBinary::Rsh => values_or_fault::<Rsh, A>(alloc, a, b),
+        IntBinary::And => values_on_pairs::<And, i32, i32, R, A>(rt, alloc, FORKED, a, b),
+        IntBinary::Ior => values_on_pairs::<Ior, i32, i32, R, A>(rt, alloc, FORKED, a, b),
+        IntBinary::Xor => values_on_pairs::<Xor, i32, i32, R, A>(rt, alloc, FORKED, a, b),
     }
+}
+
+/// The operator's values on the pairs of elements, or its fault at the least place without a value; `LengthMismatch` where
+/// one vector is longer.
+fn values_or_fault<O: PartialBinary, A: Memory>(
+    alloc: A,
+    a: &[i32],
+    b: &[i32],
+) -> Result<Vec<i32, A>, Refused>
+    requires in_limit { length a.now ≤ most_elements }
+    ensures values { Gives (λ v. v.items) result (on_pairs_or O.fault O.value a.now b.now) }
+    ensures as_long { IfOk result (λ v. vec_len v ≡ length a.now) }
+{
+    check_agree(a.len(), b.len())?;
+    values_on_pairs_or::<O, A>(alloc, a, b)
 }
 
 /// The operator on each element: `not_wuz` and `cpy_wuz`.

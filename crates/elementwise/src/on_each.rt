@@ -11,8 +11,8 @@ use std::thread::Threads;
 
 /// The operator's values on the elements. Long vectors are cut into chunks, which several threads write into one vector.
 pub(crate) fn values_on_each<
-    O: Single<X, Z>,
-    X: Copy + Send + Sync,
+    O: Single<X, Z> + Send + Sync,
+    X: Copy + Sync,
     Z: Shared,
     R: Threads + Sync,
     A: Memory,

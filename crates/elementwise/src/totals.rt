@@ -8,7 +8,7 @@ use element_walks::Binary;
 /// The wrapped sum.
 pub(crate) struct Add;
 
-impl Binary<i32, i32, i32> for Add {
+impl Binary<i32, i32> for Add {
     ghost value = { sum_of };
 
     fn apply(a: i32, b: i32) -> i32 {
@@ -19,7 +19,7 @@ impl Binary<i32, i32, i32> for Add {
 /// The wrapped difference.
 pub(crate) struct Sub;
 
-impl Binary<i32, i32, i32> for Sub {
+impl Binary<i32, i32> for Sub {
     ghost value = { difference_of };
 
     fn apply(a: i32, b: i32) -> i32 {
@@ -30,7 +30,7 @@ impl Binary<i32, i32, i32> for Sub {
 /// The wrapped product.
 pub(crate) struct Mul;
 
-impl Binary<i32, i32, i32> for Mul {
+impl Binary<i32, i32> for Mul {
     ghost value = { product_of };
 
     fn apply(a: i32, b: i32) -> i32 {
@@ -41,7 +41,7 @@ impl Binary<i32, i32, i32> for Mul {
 /// The lesser of the two.
 pub(crate) struct Min;
 
-impl Binary<i32, i32, i32> for Min {
+impl Binary<i32, i32> for Min {
     ghost value = { lesser_of };
 
     fn apply(a: i32, b: i32) -> i32 {
@@ -52,7 +52,7 @@ impl Binary<i32, i32, i32> for Min {
 /// The greater of the two.
 pub(crate) struct Max;
 
-impl Binary<i32, i32, i32> for Max {
+impl Binary<i32, i32> for Max {
     ghost value = { greater_of };
 
     fn apply(a: i32, b: i32) -> i32 {
@@ -63,7 +63,7 @@ impl Binary<i32, i32, i32> for Max {
 /// Bitwise and.
 pub(crate) struct And;
 
-impl Binary<i32, i32, i32> for And {
+impl Binary<i32, i32> for And {
     ghost value = { and_of };
 
     fn apply(a: i32, b: i32) -> i32 {
@@ -74,7 +74,7 @@ impl Binary<i32, i32, i32> for And {
 /// Bitwise inclusive or.
 pub(crate) struct Ior;
 
-impl Binary<i32, i32, i32> for Ior {
+impl Binary<i32, i32> for Ior {
     ghost value = { ior_of };
 
     fn apply(a: i32, b: i32) -> i32 {
@@ -85,7 +85,7 @@ impl Binary<i32, i32, i32> for Ior {
 /// Bitwise exclusive or.
 pub(crate) struct Xor;
 
-impl Binary<i32, i32, i32> for Xor {
+impl Binary<i32, i32> for Xor {
     ghost value = { xor_of };
 
     fn apply(a: i32, b: i32) -> i32 {

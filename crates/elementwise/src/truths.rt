@@ -8,7 +8,7 @@ use element_walks::Binary;
 /// Both are true.
 pub(crate) struct Both;
 
-impl Binary<bool, bool, bool> for Both {
+impl Binary<bool, bool> for Both {
     ghost value = { both };
 
     fn apply(a: bool, b: bool) -> bool {
@@ -19,7 +19,7 @@ impl Binary<bool, bool, bool> for Both {
 /// At least one is true.
 pub(crate) struct Either;
 
-impl Binary<bool, bool, bool> for Either {
+impl Binary<bool, bool> for Either {
     ghost value = { either };
 
     fn apply(a: bool, b: bool) -> bool {
@@ -30,7 +30,7 @@ impl Binary<bool, bool, bool> for Either {
 /// Exactly one is true.
 pub(crate) struct Differ;
 
-impl Binary<bool, bool, bool> for Differ {
+impl Binary<bool, bool> for Differ {
     ghost value = { differ };
 
     fn apply(a: bool, b: bool) -> bool {

@@ -20,9 +20,9 @@ const FORKED: usize = 3_145_728;
 /// Calls whose result has as many bytes as the vector, or more, take this. Several threads may write one fresh vector only
 /// after one of them has filled it, and over so many bytes that takes longer.
 pub(crate) fn values_in_two_parts<
-    O: Single<X, Z>,
-    X: Copy + Send + Sync,
-    Z: Copy + Send + Sync,
+    O: Single<X, Z> + Send + Sync,
+    X: Copy + Sync,
+    Z: Copy + Send,
     R: Threads + Sync,
     A: Memory,
 >(rt: &R, alloc: A, a: &[X]) -> Result<Vec<Z, A>, NoResources>

@@ -12,6 +12,8 @@ use Rattle.call_reader.specs.Texts.{after_bytes}
 use Rattle.vector_handles.specs.declared.shown.Shown.{Shown}
 use Rattle.bound_names.specs.Arguments.{argument_at}
 use Rattle.vector_handles.specs.CallValues.{table_value}
+use Rattle.vector_handles.specs.ElementTypes.{ElementType}
+use Rattle.vector_handles.specs.Families.{vector}
 use Rattle.vector_handles.specs.Sessions.{State, text_shown}
 use Rattle.vector_handles.specs.Steps.{Stepped, performed, step}
 
@@ -25,6 +27,11 @@ module _ {A : Type 0} where
   abbrev pub IsTableValue : State A → Op → List Arg → Result (Value A) Refused → Type 0
   IsTableValue session op args answer =
       Gives (λ v. v) answer (table_value session.inputs op (argument_at session.names args))
+
+  -- the answer is the value with the vector that a kernel's answer gives, seen by `view`, whatever the kernel's definition
+  abbrev pub IsVectorOf : {V X : Type 0} → ElementType A X → (V → List X) → Result V Refused → Result (Value A) Refused → Type 0
+  IsVectorOf {V} {X} e view given answer =
+      (meaning : Result (List X) Fault) → Gives view given meaning → Gives (λ v. v) answer (vector e meaning)
 
   -- what a call leaves: the names after it, and the text that it shows
   abbrev pub left_by : State A → Option (List ℕ) → Stepped A

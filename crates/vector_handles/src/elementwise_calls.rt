@@ -3,6 +3,7 @@
 ghost use Rattle.cvl_base.specs.declared.operation.Op.TheVariants as op;
 ghost use Rattle.vector_handles.specs.Answers.{IsTableValue};
 
+use crate::answers::{bound_booleans, bound_integers};
 use crate::session::Session;
 use bound_names::Bound;
 use bound_names::lookups::{booleans_at, integers_at};
@@ -22,8 +23,7 @@ impl<A: Memory> Session<A> {
     {
         let a = integers_at(&self.names, args, 0);
         let b = integers_at(&self.names, args, 1);
-        let values = int2(rt, self.alloc, self.config, operator, a, b)?;
-        Ok(Bound::from_integers(values))
+        bound_integers(int2(rt, self.alloc, self.config, operator, a, b))
     }
 
     /// An operator on an integer vector.
@@ -51,8 +51,7 @@ impl<A: Memory> Session<A> {
     {
         let a = integers_at(&self.names, args, 0);
         let b = integers_at(&self.names, args, 1);
-        let values = compare(rt, self.alloc, self.config, operator, a, b)?;
-        Ok(Bound::from_booleans(values))
+        bound_booleans(compare(rt, self.alloc, self.config, operator, a, b))
     }
 
     /// An operator on two boolean vectors.
@@ -66,8 +65,7 @@ impl<A: Memory> Session<A> {
     {
         let a = booleans_at(&self.names, args, 0);
         let b = booleans_at(&self.names, args, 1);
-        let values = bool2(rt, self.alloc, self.config, operator, a, b)?;
-        Ok(Bound::from_booleans(values))
+        bound_booleans(bool2(rt, self.alloc, self.config, operator, a, b))
     }
 
     /// An operator on a boolean vector.
@@ -98,14 +96,12 @@ impl<A: Memory> Session<A> {
             Element::Integer => {
                 let a = integers_at(&self.names, args, 1);
                 let b = integers_at(&self.names, args, 2);
-                let values = select(rt, self.alloc, self.config, flags, a, b)?;
-                Ok(Bound::from_integers(values))
+                bound_integers(select(rt, self.alloc, self.config, flags, a, b))
             }
             Element::Boolean => {
                 let a = booleans_at(&self.names, args, 1);
                 let b = booleans_at(&self.names, args, 2);
-                let values = select(rt, self.alloc, self.config, flags, a, b)?;
-                Ok(Bound::from_booleans(values))
+                bound_booleans(select(rt, self.alloc, self.config, flags, a, b))
             }
         }
     }

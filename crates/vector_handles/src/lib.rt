@@ -1,6 +1,7 @@
 //! The bound names of a script and the calls on them.
 #![tactic(auto)]
 
+mod answers;
 mod bindings;
 mod calls;
 mod elementwise_calls;

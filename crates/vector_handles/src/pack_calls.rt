@@ -3,6 +3,7 @@
 ghost use Rattle.cvl_base.specs.declared.operation.Op.TheVariants as op;
 ghost use Rattle.vector_handles.specs.Answers.{IsTableValue};
 
+use crate::answers::{bound_booleans, bound_integers};
 use crate::session::Session;
 use bound_names::Bound;
 use bound_names::lookups::{booleans_at, integers_at};
@@ -62,25 +63,21 @@ impl<A: Memory> Session<A> {
         match (cut, element) {
             (Cut::Flat, Element::Integer) => {
                 let values = integers_at(&self.names, args, 0);
-                let kept = pack(rt, self.alloc, self.config, values, flags)?;
-                Ok(Bound::from_integers(kept))
+                bound_integers(pack(rt, self.alloc, self.config, values, flags))
             }
             (Cut::Flat, Element::Boolean) => {
                 let values = booleans_at(&self.names, args, 0);
-                let kept = pack(rt, self.alloc, self.config, values, flags)?;
-                Ok(Bound::from_booleans(kept))
+                bound_booleans(pack(rt, self.alloc, self.config, values, flags))
             }
             (Cut::Segmented, Element::Integer) => {
                 let values = integers_at(&self.names, args, 0);
                 let d = self.descriptor_at(args, 2);
-                let kept = seg_pack_values(rt, self.alloc, self.config, values, flags, d)?;
-                Ok(Bound::from_integers(kept))
+                bound_integers(seg_pack_values(rt, self.alloc, self.config, values, flags, d))
             }
             (Cut::Segmented, Element::Boolean) => {
                 let values = booleans_at(&self.names, args, 0);
                 let d = self.descriptor_at(args, 2);
-                let kept = seg_pack_values(rt, self.alloc, self.config, values, flags, d)?;
-                Ok(Bound::from_booleans(kept))
+                bound_booleans(seg_pack_values(rt, self.alloc, self.config, values, flags, d))
             }
         }
     }

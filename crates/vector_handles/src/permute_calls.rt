@@ -8,6 +8,7 @@ ghost use Rattle.vector_handles.specs.Answers.{IsTableValue};
 ghost use Rattle.bound_names.specs.Arguments.{argument_at, integers_in};
 ghost use Rattle.vector_handles.specs.Families.{permuted};
 
+use crate::answers::{bound_booleans, bound_integers};
 use crate::session::Session;
 use bound_names::Bound;
 use bound_names::lookups::{booleans_at, integers_at};
@@ -33,14 +34,12 @@ impl<A: Memory> Session<A> {
             Element::Integer => {
                 let source = integers_at(&self.names, args, 0);
                 let defaults = integers_at(&self.names, args, 2);
-                let values = self.permuted(rt, form, cut, source, defaults, args)?;
-                Ok(Bound::from_integers(values))
+                bound_integers(self.permuted(rt, form, cut, source, defaults, args))
             }
             Element::Boolean => {
                 let source = booleans_at(&self.names, args, 0);
                 let defaults = booleans_at(&self.names, args, 2);
-                let values = self.permuted(rt, form, cut, source, defaults, args)?;
-                Ok(Bound::from_booleans(values))
+                bound_booleans(self.permuted(rt, form, cut, source, defaults, args))
             }
         }
     }

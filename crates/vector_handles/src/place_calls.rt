@@ -1,8 +1,13 @@
 //! The value that a distribute, an index, an extract or a replace gives, of a whole vector or of each segment.
 
+ghost use Rattle.std.specs.Prelude.{◌≡◌, IfOk, length, vec_len};
 ghost use Rattle.cvl_base.specs.declared.operation.Op.TheVariants as op;
+ghost use Rattle.cvl_base.specs.Gives.{Gives};
+ghost use Rattle.cvl_base.specs.SegmentedCalls.{seg_replace_of};
+ghost use Rattle.bound_names.specs.Arguments.{argument_at, integers_in, lengths_in};
 ghost use Rattle.vector_handles.specs.Answers.{IsTableValue};
 
+use crate::answers::{bound_booleans, bound_integers};
 use crate::session::Session;
 use bound_names::Bound;
 use bound_names::lookups::{boolean_at, booleans_at, integer_at, integers_at};
@@ -26,24 +31,24 @@ impl<A: Memory> Session<A> {
             (Cut::Flat, Element::Integer) => {
                 let value = integer_at(&self.names, args, 0);
                 let count = integer_at(&self.names, args, 1);
-                Ok(Bound::from_integers(distribute(self.alloc, value, count)?))
+                bound_integers(distribute(self.alloc, value, count))
             }
             (Cut::Flat, Element::Boolean) => {
                 let value = boolean_at(&self.names, args, 0);
                 let count = integer_at(&self.names, args, 1);
-                Ok(Bound::from_booleans(distribute(self.alloc, value, count)?))
+                bound_booleans(distribute(self.alloc, value, count))
             }
             (Cut::Segmented, Element::Integer) => {
                 let values = integers_at(&self.names, args, 0);
                 let d = self.descriptor_at(args, 1);
                 prove!(d.total() <= MOST_ELEMENTS);
-                Ok(Bound::from_integers(seg_distribute(self.alloc, values, d)?))
+                bound_integers(seg_distribute(self.alloc, values, d))
             }
             (Cut::Segmented, Element::Boolean) => {
                 let values = booleans_at(&self.names, args, 0);
                 let d = self.descriptor_at(args, 1);
                 prove!(d.total() <= MOST_ELEMENTS);
-                Ok(Bound::from_booleans(seg_distribute(self.alloc, values, d)?))
+                bound_booleans(seg_distribute(self.alloc, values, d))
             }
         }
     }
@@ -57,14 +62,14 @@ impl<A: Memory> Session<A> {
                 let init = integer_at(&self.names, args, 0);
                 let stride = integer_at(&self.names, args, 1);
                 let count = integer_at(&self.names, args, 2);
-                Ok(Bound::from_integers(index(self.alloc, init, stride, count)?))
+                bound_integers(index(self.alloc, init, stride, count))
             }
             Cut::Segmented => {
                 let inits = integers_at(&self.names, args, 0);
                 let strides = integers_at(&self.names, args, 1);
                 let d = self.descriptor_at(args, 2);
                 prove!(d.total() <= MOST_ELEMENTS);
-                Ok(Bound::from_integers(seg_index(self.alloc, inits, strides, d)?))
+                bound_integers(seg_index(self.alloc, inits, strides, d))
             }
         }
     }
@@ -94,16 +99,14 @@ impl<A: Memory> Session<A> {
                 let places = integers_at(&self.names, args, 1);
                 let d = self.descriptor_at(args, 2);
                 prove!(d.count() <= MOST_ELEMENTS);
-                let elements = seg_extract(self.alloc, vector, places, d)?;
-                Ok(Bound::from_integers(elements))
+                bound_integers(seg_extract(self.alloc, vector, places, d))
             }
             (Cut::Segmented, Element::Boolean) => {
                 let vector = booleans_at(&self.names, args, 0);
                 let places = integers_at(&self.names, args, 1);
                 let d = self.descriptor_at(args, 2);
                 prove!(d.count() <= MOST_ELEMENTS);
-                let elements = seg_extract(self.alloc, vector, places, d)?;
-                Ok(Bound::from_booleans(elements))
+                bound_booleans(seg_extract(self.alloc, vector, places, d))
             }
         }
     }
@@ -122,30 +125,42 @@ impl<A: Memory> Session<A> {
                 let vector = integers_at(&self.names, args, 0);
                 let place = integer_at(&self.names, args, 1);
                 let value = integer_at(&self.names, args, 2);
-                Ok(Bound::from_integers(replace(self.alloc, vector, place, value)?))
+                bound_integers(replace(self.alloc, vector, place, value))
             }
             (Cut::Flat, Element::Boolean) => {
                 let vector = booleans_at(&self.names, args, 0);
                 let place = integer_at(&self.names, args, 1);
                 let value = boolean_at(&self.names, args, 2);
-                Ok(Bound::from_booleans(replace(self.alloc, vector, place, value)?))
+                bound_booleans(replace(self.alloc, vector, place, value))
             }
             (Cut::Segmented, Element::Integer) => {
                 let vector = integers_at(&self.names, args, 0);
-                let places = integers_at(&self.names, args, 1);
                 let values = integers_at(&self.names, args, 2);
-                let d = self.descriptor_at(args, 3);
-                let changed = seg_replace(self.alloc, vector, places, values, d)?;
-                Ok(Bound::from_integers(changed))
+                bound_integers(self.replaced_by_segments(vector, values, args))
             }
             (Cut::Segmented, Element::Boolean) => {
                 let vector = booleans_at(&self.names, args, 0);
-                let places = integers_at(&self.names, args, 1);
                 let values = booleans_at(&self.names, args, 2);
-                let d = self.descriptor_at(args, 3);
-                let changed = seg_replace(self.alloc, vector, places, values, d)?;
-                Ok(Bound::from_booleans(changed))
+                bound_booleans(self.replaced_by_segments(vector, values, args))
             }
         }
+    }
+
+    /// A vector with the element at the index of each segment changed. The indexes and the descriptor are the arguments at
+    /// their places.
+    fn replaced_by_segments<T: Copy>(
+        &self,
+        vector: &[T],
+        values: &[T],
+        args: &[Arg],
+    ) -> Result<Vec<T, A>, Refused>
+        ensures values { Gives (λ v. v.items) result
+            (seg_replace_of vector.now (integers_in (argument_at self.now.names args.now 1)) values.now
+            (lengths_in (argument_at self.now.names args.now 3))) }
+        ensures as_long { IfOk result (λ v. vec_len v ≡ length vector.now) }
+    {
+        let places = integers_at(&self.names, args, 1);
+        let d = self.descriptor_at(args, 3);
+        seg_replace(self.alloc, vector, places, values, d)
     }
 }

@@ -3,6 +3,7 @@
 ghost use Rattle.cvl_base.specs.declared.operation.Op.TheVariants as op;
 ghost use Rattle.vector_handles.specs.Answers.{IsTableValue};
 
+use crate::answers::{bound_booleans, bound_integers};
 use crate::session::Session;
 use bound_names::Bound;
 use bound_names::lookups::{booleans_at, integers_at};
@@ -33,8 +34,7 @@ impl<A: Memory> Session<A> {
             }
             Cut::Segmented => {
                 let d = self.descriptor_at(args, 1);
-                let sums = seg_int_scan(rt, self.alloc, self.config, operator, a, d)?;
-                Ok(Bound::from_integers(sums))
+                bound_integers(seg_int_scan(rt, self.alloc, self.config, operator, a, d))
             }
         }
     }
@@ -58,8 +58,7 @@ impl<A: Memory> Session<A> {
             Cut::Segmented => {
                 let d = self.descriptor_at(args, 1);
                 prove!(d.count() <= MOST_ELEMENTS);
-                let sums = seg_int_reduce(rt, self.alloc, self.config, operator, a, d)?;
-                Ok(Bound::from_integers(sums))
+                bound_integers(seg_int_reduce(rt, self.alloc, self.config, operator, a, d))
             }
         }
     }
@@ -82,8 +81,7 @@ impl<A: Memory> Session<A> {
             }
             Cut::Segmented => {
                 let d = self.descriptor_at(args, 1);
-                let sums = seg_bool_scan(rt, self.alloc, self.config, operator, a, d)?;
-                Ok(Bound::from_booleans(sums))
+                bound_booleans(seg_bool_scan(rt, self.alloc, self.config, operator, a, d))
             }
         }
     }
@@ -107,8 +105,7 @@ impl<A: Memory> Session<A> {
             Cut::Segmented => {
                 let d = self.descriptor_at(args, 1);
                 prove!(d.count() <= MOST_ELEMENTS);
-                let sums = seg_bool_reduce(rt, self.alloc, self.config, operator, a, d)?;
-                Ok(Bound::from_booleans(sums))
+                bound_booleans(seg_bool_reduce(rt, self.alloc, self.config, operator, a, d))
             }
         }
     }

@@ -1,8 +1,18 @@
-use Rattle.std.proofs.Common.{arith, get_or, length, map}
+use Rattle.std.proofs.Common.{arith, get_or, length, map, rules}
 use Rattle.std.specs.List.{zip}
+use Rattle.std.proofs.lemmas.Iterator.{YieldsList-from_slice, YieldsList-from_zip, YieldsList-from_map, items_from_collect}
 use Rattle.cvl_base.specs.Elementwise.{chosen}
 use Rattle.elementwise.proofs.Standing.{whole, of_chunk, length-on_triples}
 use Rattle.elementwise.proofs.choice.values_chosen.Goals as goal
+
+pub returns-in_default-clause-values : goal.returns-in_default-clause-values
+returns-in_default-clause-values g c =
+    let h = items_from_collect {s = c.map.result} c.collect.result c.collect.ensures.ran
+    (YieldsList-from_map _ (λ p. chosen p.0 p.1)
+    (YieldsList-from_zip (YieldsList-from_slice c.args.flags.now cc)
+    (YieldsList-from_zip (YieldsList-from_slice c.args.a.now cc) (YieldsList-from_slice c.args.b.now cc)))
+    c.map.ensures.closure (λ x r q k. search rules)) in
+    search rules
 
 pub returns-clause-values : goal.returns-clause-values
 returns-clause-values g c =

@@ -1,7 +1,14 @@
-use Rattle.std.proofs.Common.{arith, get_or, length, map}
+use Rattle.std.proofs.Common.{arith, get_or, length, map, rules}
+use Rattle.std.proofs.lemmas.Iterator.{YieldsList-from_slice, YieldsList-from_map, items_from_collect}
 use Rattle.std.proofs.lemmas.List.{length-map}
 use Rattle.elementwise.proofs.Standing.{whole, of_chunk}
 use Rattle.elementwise.proofs.on_each.values_on_each.Goals as goal
+
+pub returns-in_default-clause-values : goal.returns-in_default-clause-values
+returns-in_default-clause-values g c =
+    let h = items_from_collect {s = c.map.result} c.collect.result c.collect.ensures.ran
+    (YieldsList-from_map _ g.O.Single.value (YieldsList-from_slice c.args.a.now cc) c.map.ensures.closure (λ x r q k. search rules)) in
+    search rules
 
 pub returns-clause-values : goal.returns-clause-values
 returns-clause-values g c =
