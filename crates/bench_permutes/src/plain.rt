@@ -59,6 +59,15 @@ fn take(values: &mut [i32], source: &[i32], index: &[i32]) -> bool {
     true
 }
 
+/// How many flags are true, without a branch on each.
+fn count_true(flags: &[bool]) -> usize {
+    let mut count: usize = 0;
+    for flag in flags {
+        count = count.wrapping_add(usize::from(*flag));
+    }
+    count
+}
+
 /// A simple permute; none where an index is bad.
 pub fn simple(
     alloc: Global,
@@ -78,7 +87,7 @@ pub fn select(
     index: &[i32],
     flags: &[bool],
 ) -> Result<Option<Vec<i32>>, AllocError> {
-    let count = flags.iter().filter(|flag| **flag).count();
+    let count = count_true(flags);
     let mut values = vec![in alloc; 0; count]?;
     let mut taken = vec![in alloc; false; count]?;
     let sent = send_flagged(&mut values, &mut taken, source, index, flags);
@@ -154,7 +163,7 @@ fn send_flagged_segments(
         let first = d.start(s);
         let last = first + d.length(s);
         let some = &flags[first..last];
-        let count = some.iter().filter(|flag| **flag).count();
+        let count = count_true(some);
         let end = start.saturating_add(count);
         if end < start || end > values.len() || end > taken.len() {
             return false;
@@ -194,7 +203,7 @@ pub fn seg_select(
     flags: &[bool],
     d: &SegDes<Global>,
 ) -> Result<Option<Vec<i32>>, AllocError> {
-    let count = flags.iter().filter(|flag| **flag).count();
+    let count = count_true(flags);
     let mut values = vec![in alloc; 0; count]?;
     let mut taken = vec![in alloc; false; count]?;
     let sent = send_flagged_segments(&mut values, &mut taken, source, index, flags, d);
