@@ -62,7 +62,7 @@ fn bindings(alloc: Global, count: usize) -> Result<String, AllocError> {
     Ok(script)
 }
 
-/// The line behind the bindings, and its fault.
+/// The line after the bindings, and its fault.
 const LAST_LINES: &[(&str, FaultNo)] = &[
     ("b = add_wuz a1 a1\n", FaultNo::TooManyNames),
     ("b = add_wuz q T\n", FaultNo::UnknownName),
@@ -73,8 +73,8 @@ const LAST_LINES: &[(&str, FaultNo)] = &[
     ("a0 = add_wuz a0 a1\n", FaultNo::LengthMismatch),
 ];
 
-/// How a run of the bindings, and of a line behind them, stops.
-fn stop_behind<R: Threads + Sync>(
+/// How a run of the bindings, and of a line after them, stops.
+fn stop_after<R: Threads + Sync>(
     rt: &R,
     alloc: Global,
     bound: &str,
@@ -89,10 +89,10 @@ fn stop_behind<R: Threads + Sync>(
 fn as_many_names_as_there_may_be(rt: HostRuntime) -> Result<(), Fail> {
     let bound = bindings(rt.alloc(), MOST_NAMES)?;
     for (line, number) in LAST_LINES {
-        let stop = stop_behind(&rt, rt.alloc(), &bound, line)?;
+        let stop = stop_after(&rt, rt.alloc(), &bound, line)?;
         assert!(rt; stop == Some(stop_at(4097, *number)), "{line}");
     }
-    let stop = stop_behind(&rt, rt.alloc(), &bound, "a0 = add_wuz a1 a1\n")?;
+    let stop = stop_after(&rt, rt.alloc(), &bound, "a0 = add_wuz a1 a1\n")?;
     assert!(rt; stop.is_none());
     Ok(())
 }
