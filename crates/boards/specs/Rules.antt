@@ -1,4 +1,4 @@
--- The rule of a scan board's table: the words of the tiles and behind them the claim word, and the pass of each seat. And what each step tells.
+-- The rule of a scan board's table: the words of the tiles and after them the claim word, and the pass of each seat. And what each step tells.
 -- Source: the bookkeeping behind Merrill and Garland's decoupled look-back, 2016.
 use Rattle.std.specs.Prelude.{◌≡◌, ℕ, ◌+◌, ◌<◌, ◌≤◌, Bool, List, length, nat_lt, if◌then◌else◌, slice_index}
 use Rattle.atomic_table.specs.Table.{State, Me, Step}
@@ -6,7 +6,7 @@ use Rattle.status_word.specs.declared.pass.Pass.{Pass}
 use Rattle.status_word.specs.Codings.{Coding, code}
 use Rattle.status_word.specs.Passes.{IsKept, given_tile, known_at, looked, times, told_done, told_state}
 
--- the rule of the passes holds of the tiles' words and the claim word, which stands behind them
+-- the rule of the passes holds of the tiles' words and the claim word, which stands after them
 pub record IsRuled {Item : Type 0} (m : Coding Item) (sums : List (Bool × Item)) (workers : ℕ) (s : State (Unit {0}) (Pass Item)) : Type 0 where
   pub long : length s.words ≡ length sums + 1
   pub kept : IsKept (code m sums) sums workers (slice_index s.words (length sums)) (slice_index s.words) s.views

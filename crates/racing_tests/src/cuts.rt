@@ -62,7 +62,7 @@ const NUMBERS: &[i32] = &[
 const LENGTHS: &[i32] = &[0, 2, 0, 0, 3, 1, 1, 5, 0, 8, 4, 0, 2, 6, 0, 1, 3, 0, 4, 0];
 
 /// The lengths of segments that have so many elements in all: the first of the table, the last one cut short, and empty
-/// ones behind it.
+/// ones after it.
 fn lengths_of(alloc: Global, total: u16) -> Result<Vec<i32>, AllocError> {
     let mut lengths = Vec::new(alloc);
     let mut left = i32::from(total);

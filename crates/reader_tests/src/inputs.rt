@@ -82,7 +82,7 @@ fn first_bad_tokens(rt: HostRuntime) {
     }
 }
 
-/// A long input, as a piece, how often it stands there, and what stands behind, with how many numbers it has and the
+/// A long input, as a piece, how often it stands there, and what stands after it, with how many numbers it has and the
 /// last of them, or why it is refused.
 type LongInput = (
     &'static str,

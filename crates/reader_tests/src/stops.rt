@@ -8,7 +8,7 @@ use std::test::Fail;
 /// What stands before the text of a stop.
 const BEFORE: &[u8] = b"a = [1]\n";
 
-/// Each stop with its line behind that text.
+/// Each stop with its line after that text.
 const STOPS: &[(Stop, &str)] = &[
     (
         Stop::Script {
