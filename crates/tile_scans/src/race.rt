@@ -81,8 +81,8 @@ where
     gather_over(rt, whole?, blank::<K::M>(), workers, pieces?)
 }
 
-/// An item to fill memory with. As a constant whose bytes are 0 it lets the memory be cleared, which takes about half as long
-/// as writing another item to each place.
+/// An item to fill memory with. As a constant whose bytes are 0 it lets the compiler clear the memory by one call of the C
+/// library, which takes somewhat less time than a loop.
 fn blank<M: Packed>() -> M::Item {
     M::from_word(0)
 }
