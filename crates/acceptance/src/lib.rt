@@ -1,5 +1,5 @@
 //! Tests of what needs a host, a sink, refused memory or a script that is long by construction: sinks, the program, the
-//! limits, and each request for memory refused in turn. Scripts with their texts and faults are the cases of
+//! limits, the recipes, and each request for memory refused in turn. Scripts with their texts and faults are the cases of
 //! `script_cases`.
 #![tactic(auto)]
 
@@ -14,14 +14,20 @@ mod limits;
 #[cfg(test)]
 mod narrow_sink;
 #[cfg(test)]
+mod products;
+#[cfg(test)]
 mod programs;
 #[cfg(test)]
 mod refusals;
 #[cfg(test)]
 mod sessions;
 #[cfg(test)]
+mod sight;
+#[cfg(test)]
 mod sinks;
 #[cfg(test)]
 mod small_host;
+#[cfg(test)]
+mod vectors;
 #[cfg(test)]
 mod walks;

@@ -4,7 +4,7 @@ ghost use Rattle.std.specs.Prelude.{◌≡◌};
 
 use crate::work::{Work, requests_of};
 use cvl_base::{Memory, Refused};
-use shell::{MemSink, Sink};
+use script_runs::{MemSink, Sink};
 use std::test::Fail;
 
 /// Whether a sink takes the bytes of two puts, where it finds memory.

@@ -2,7 +2,7 @@
 
 use crate::work::{Work, is_appended, requests_of};
 use cvl_base::{Fault, FaultNo, Memory, Refused};
-use shell::{Stop, put_stop};
+use script_runs::{Stop, put_stop};
 use std::test::Fail;
 
 /// What stands before the text of a stop.

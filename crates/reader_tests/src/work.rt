@@ -7,7 +7,7 @@ use crate::stops::is_told;
 use crate::values::{Row, is_written};
 use cvl_base::{Memory, Refused};
 use refusing_memory::{Flaw, withstands_refusals};
-use shell::Stop;
+use script_runs::Stop;
 use std::alloc::Global;
 
 /// A piece of work, with what is to come of it.

@@ -2,7 +2,7 @@
 
 use crate::cases::Case;
 use cvl_base::{Config, Memory, NoResources};
-use shell::{MemSink, put_stop, run};
+use script_runs::{MemSink, put_stop, run};
 use std::io;
 use std::io::Write;
 use std::thread::Threads;

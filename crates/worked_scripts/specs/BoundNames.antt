@@ -7,7 +7,7 @@ use Rattle.cvl_base.specs.declared.value.Value.TheVariants.{Integers, Boolean}
 use Rattle.cvl_base.specs.Limits.{most_names}
 use Rattle.vector_handles.specs.Names.{Entries}
 use Rattle.vector_handles.specs.Steps.{Stepped}
-use Rattle.shell.specs.Meaning.{line_step}
+use Rattle.script_runs.specs.Meaning.{line_step}
 use Rattle.worked_scripts.specs.Outcomes.{Plain}
 
 -- `n0000` to `n7777`, counted by eights: 110 is `n`, and 48 is `0`

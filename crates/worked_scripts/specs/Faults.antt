@@ -2,7 +2,7 @@
 -- Source: this library's script format.
 use Rattle.std.specs.Prelude.{Option, Some, None, option_map, Result, Ok, Err}
 use Rattle.cvl_base.specs.declared.fault.Fault.{Fault}
-use Rattle.shell.specs.Meaning.{Meaning}
+use Rattle.script_runs.specs.Meaning.{Meaning}
 
 abbrev pub fault_of : {X : Type 0} → Result X Fault → Option Fault
 fault_of (Ok x) = None

@@ -7,7 +7,7 @@ use Rattle.cvl_base.specs.declared.operation.Op.{Op}
 use Rattle.cvl_base.specs.declared.value.Value.{Value}
 use Rattle.vector_handles.specs.declared.input.Input.TheVariants.{Vector}
 use Rattle.vector_handles.specs.CallValues.{table_value}
-use Rattle.shell.specs.Meaning.{Meaning, meaning, text_of_script}
+use Rattle.script_runs.specs.Meaning.{Meaning, meaning, text_of_script}
 
 -- a value without an allocator
 abbrev pub Plain : Type 0

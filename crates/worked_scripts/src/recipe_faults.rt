@@ -2,7 +2,7 @@
 
 ghost use Rattle.std.specs.Prelude.{◌≡◌, List, codes};
 ghost use Rattle.vector_handles.specs.declared.input.Input.{Input};
-ghost use Rattle.shell.specs.Meaning.{meaning};
+ghost use Rattle.script_runs.specs.Meaning.{meaning};
 ghost use Rattle.recipes.specs.Recipes.{bound_by};
 ghost use Rattle.worked_scripts.specs.Faults.{fault_of, stop_fault};
 

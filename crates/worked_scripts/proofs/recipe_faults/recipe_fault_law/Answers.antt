@@ -7,7 +7,7 @@ use Rattle.call_reader.specs.Lines.{call_of}
 use Rattle.vector_handles.specs.declared.input.Input.{Input}
 use Rattle.vector_handles.specs.Names.{Entries, value_at}
 use Rattle.vector_handles.specs.Steps.{Stepped, step}
-use Rattle.shell.specs.Meaning.{after_line, call_step, from_line, lines_of}
+use Rattle.script_runs.specs.Meaning.{after_line, call_step, from_line, lines_of}
 use Rattle.recipes.specs.declared.scripts.TheConstants.{LINE_OF_SIGHT, SPARSE_MATVEC}
 use Rattle.recipes.specs.Recipes.{bound_by, names_after, names_after_call}
 use Rattle.worked_scripts.specs.Faults.{fault_of, stop_fault}

@@ -1,0 +1,99 @@
+//! Measures the library beside plain loops of one thread. It does so where its first argument is the word `measure`, and
+//! else it does nothing. The second argument names what is measured: `text`, `elementwise`, `scans`, `permutes`, `packs` or
+//! `recipes`, and all of them where there is none. The third is the number of workers, which is 4 where there is none.
+#![tactic(auto)]
+
+mod element_calls;
+mod numbers;
+mod pack_calls;
+mod permute_calls;
+mod recipe_calls;
+mod scan_calls;
+mod segments;
+mod texts;
+mod timing;
+
+use cvl_base::Config;
+use std::alloc::Global;
+use std::rt::Clock;
+use std::thread::Threads;
+use std::{env, io};
+
+/// How many elements a tile has.
+const TILE: u32 = 4096;
+
+/// The vectors' lengths.
+const LENGTHS: [usize; 3] = [4_194_304, 65_536, 1_000];
+
+/// What is measured.
+#[derive(Clone, Copy)]
+enum Subject {
+    Text,
+    Elementwise,
+    Scans,
+    Permutes,
+    Packs,
+    Recipes,
+}
+
+/// The words for it.
+const SUBJECTS: &[(&str, Subject)] = &[
+    ("text", Subject::Text),
+    ("elementwise", Subject::Elementwise),
+    ("scans", Subject::Scans),
+    ("permutes", Subject::Permutes),
+    ("packs", Subject::Packs),
+    ("recipes", Subject::Recipes),
+];
+
+/// Measures one subject.
+fn measure<R: Print + Clock + Threads + Sync>(
+    rt: &R,
+    alloc: Global,
+    config: Config,
+    subject: Subject,
+) -> io::Result<()> {
+    match subject {
+        Subject::Text => texts::measure(rt, alloc),
+        Subject::Elementwise => element_calls::measure(rt, alloc, config),
+        Subject::Scans => scan_calls::measure(rt, alloc, config),
+        Subject::Permutes => permute_calls::measure(rt, alloc, config),
+        Subject::Packs => pack_calls::measure(rt, alloc, config),
+        Subject::Recipes => recipe_calls::measure(rt, alloc, config),
+    }
+}
+
+fn main(rt: HostRuntime) -> io::Result<()> {
+    let mut arguments = env::args(&rt)?;
+    let _program = arguments.next();
+    let Some(word) = arguments.next() else {
+        return Ok(());
+    };
+    if word.as_str() != "measure" {
+        return Ok(());
+    }
+    let wanted = arguments.next();
+    let workers = match arguments.next() {
+        Some(number) => number.as_str().parse::<u32>().unwrap_or(0),
+        None => 4,
+    };
+    let Ok(config) = Config::new(TILE, workers) else {
+        println!(&rt; "the number of workers is from 1 to 64")?;
+        return Ok(());
+    };
+    let mut is_known = false;
+    for (name, subject) in SUBJECTS {
+        let is_wanted = match &wanted {
+            Some(word) => word.as_str() == *name,
+            None => true,
+        };
+        if is_wanted {
+            is_known = true;
+            measure(&rt, rt.alloc(), config, *subject)?;
+        }
+    }
+    if !is_known {
+        println!(&rt; "measured are text, elementwise, scans, permutes, packs and recipes")?;
+    }
+    Ok(())
+}

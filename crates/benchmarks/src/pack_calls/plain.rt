@@ -1,0 +1,151 @@
+//! The same work in plain loops of one thread.
+
+ghost use Rattle.std.specs.Prelude.{◌≡◌, ◌+◌, ◌≤◌, count_by, length, vec_len, vec_capacity};
+
+use std::alloc::{AllocError, Global};
+
+/// How many flags are true.
+pub fn count(flags: &[bool]) -> usize
+    ensures { result ≡ count_by (λ flag. flag) flags.now }
+{
+    let mut count: usize = 0;
+    for flag in flags {
+        if *flag {
+            count += 1;
+        }
+    }
+    count
+}
+
+/// Pushes the elements whose flag is true. There must be room for them.
+fn push_kept<T: Copy>(kept: &mut Vec<T>, values: &[T], flags: &[bool])
+    requires as_long { length flags.now ≤ length values.now }
+    requires room { vec_len kept.old + count_by (λ flag. flag) flags.now ≤ vec_capacity kept.old }
+    ensures len { vec_len kept.new ≡ vec_len kept.old + count_by (λ flag. flag) flags.now }
+    ensures capacity { vec_capacity kept.new ≡ vec_capacity kept.old }
+{
+    for k in 0..flags.len() {
+        if flags[k] {
+            kept.push_reserved(values[k]);
+        }
+    }
+}
+
+/// The elements whose flag is true.
+pub fn kept<T: Copy>(alloc: Global, values: &[T], flags: &[bool]) -> Result<Vec<T>, AllocError>
+    requires { length flags.now ≤ length values.now }
+{
+    let mut kept = Vec::with_capacity(alloc, count(flags))?;
+    push_kept(&mut kept, values, flags);
+    Ok(kept)
+}
+
+/// How many flags of each segment are true.
+pub fn counts(alloc: Global, lengths: &[u32], flags: &[bool]) -> Result<Vec<usize>, AllocError> {
+    let mut counts = Vec::with_capacity(alloc, lengths.len())?;
+    let mut rest = flags;
+    for length in lengths {
+        let (segment, others) = rest.split_at((*length as usize).min(rest.len()));
+        counts.push_reserved(count(segment));
+        rest = others;
+    }
+    Ok(counts)
+}
+
+/// The elements of each segment whose flag is true, and how many they are.
+pub fn kept_by_segments<T: Copy>(
+    alloc: Global,
+    lengths: &[u32],
+    values: &[T],
+    flags: &[bool],
+) -> Result<(Vec<T>, Vec<usize>), AllocError>
+    requires { length flags.now ≤ length values.now }
+{
+    let mut kept = Vec::with_capacity(alloc, count(flags))?;
+    let mut counts = Vec::with_capacity(alloc, lengths.len())?;
+    let (mut values, mut flags) = (values, flags);
+    for length in lengths {
+        let before = kept.len();
+        let length = (*length as usize).min(flags.len());
+        let (segment, other_values) = values.split_at(length);
+        let (segment_flags, other_flags) = flags.split_at(length);
+        push_kept(&mut kept, segment, segment_flags);
+        counts.push_reserved(kept.len() - before);
+        values = other_values;
+        flags = other_flags;
+    }
+    Ok((kept, counts))
+}
+
+/// Pushes so many copies of a value. There must be room for them.
+fn push_copies<T: Copy>(copies: &mut Vec<T>, value: T, count: usize)
+    requires { vec_len copies.old + count ≤ vec_capacity copies.old }
+    ensures len { vec_len copies.new ≡ vec_len copies.old + count }
+    ensures capacity { vec_capacity copies.new ≡ vec_capacity copies.old }
+{
+    for _ in 0..count {
+        copies.push_reserved(value);
+    }
+}
+
+/// So many copies of a value.
+pub fn copies<T: Copy>(alloc: Global, value: T, count: usize) -> Result<Vec<T>, AllocError> {
+    let mut copies = Vec::with_capacity(alloc, count)?;
+    push_copies(&mut copies, value, count);
+    Ok(copies)
+}
+
+/// For each segment as many copies of its value as it is long, but no more than `total` in all.
+pub fn copies_by_segments<T: Copy>(
+    alloc: Global,
+    lengths: &[u32],
+    values: &[T],
+    total: usize,
+) -> Result<Vec<T>, AllocError> {
+    let mut copies = Vec::with_capacity(alloc, total)?;
+    let mut left = total;
+    for (length, value) in lengths.iter().zip(values) {
+        let length = (*length as usize).min(left);
+        push_copies(&mut copies, *value, length);
+        left -= length;
+    }
+    Ok(copies)
+}
+
+/// Pushes so many numbers in equal steps. There must be room for them.
+fn push_steps(numbers: &mut Vec<i32>, init: i32, stride: i32, count: usize)
+    requires { vec_len numbers.old + count ≤ vec_capacity numbers.old }
+    ensures len { vec_len numbers.new ≡ vec_len numbers.old + count }
+    ensures capacity { vec_capacity numbers.new ≡ vec_capacity numbers.old }
+{
+    let mut next = init;
+    for _ in 0..count {
+        numbers.push_reserved(next);
+        next = next.wrapping_add(stride);
+    }
+}
+
+/// So many numbers in equal steps.
+pub fn steps(alloc: Global, init: i32, stride: i32, count: usize) -> Result<Vec<i32>, AllocError> {
+    let mut numbers = Vec::with_capacity(alloc, count)?;
+    push_steps(&mut numbers, init, stride, count);
+    Ok(numbers)
+}
+
+/// For each segment as many numbers in equal steps as it is long, but no more than `total` in all. A segment's first
+/// number is its step too.
+pub fn steps_by_segments(
+    alloc: Global,
+    lengths: &[u32],
+    inits: &[i32],
+    total: usize,
+) -> Result<Vec<i32>, AllocError> {
+    let mut numbers = Vec::with_capacity(alloc, total)?;
+    let mut left = total;
+    for (length, init) in lengths.iter().zip(inits) {
+        let length = (*length as usize).min(left);
+        push_steps(&mut numbers, *init, *init, length);
+        left -= length;
+    }
+    Ok(numbers)
+}
