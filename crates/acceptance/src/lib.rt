@@ -1,6 +1,6 @@
 //! Tests of what needs a host, a sink, refused memory or a script that is long by construction: sinks, the program, the
-//! limits, the recipes, and each request for memory refused in turn. Scripts with their texts and faults are the cases of
-//! `script_cases`.
+//! limits, the recipes, what reads and writes bytes, and each request for memory refused in turn. Scripts with their texts
+//! and faults are the cases of `script_cases`.
 #![tactic(auto)]
 
 #[cfg(test)]
@@ -18,6 +18,8 @@ mod products;
 #[cfg(test)]
 mod programs;
 #[cfg(test)]
+mod reading;
+#[cfg(test)]
 mod refusals;
 #[cfg(test)]
 mod sessions;
@@ -27,6 +29,10 @@ mod sight;
 mod sinks;
 #[cfg(test)]
 mod small_host;
+#[cfg(test)]
+mod small_types;
+#[cfg(test)]
+mod texts;
 #[cfg(test)]
 mod vectors;
 #[cfg(test)]

@@ -1,7 +1,13 @@
-//! Tests of scans and reduces whose workers race for the tiles: every cut into tiles beside plain lists, workers held at a
-//! gate, and each request for memory refused in turn.
+//! Tests of what workers share and of the scans and reduces for whose tiles they race.
+//!
+//! Of what they share: monoids and the words of their items, the world of workers beside a plain reading of the table of
+//! their states, the scan board by hand and by two threads of the test's own, and a list gathered from pieces. Of the
+//! scans and reduces: every cut into tiles beside plain lists, workers held at a gate, and each request for memory refused
+//! in turn.
 #![tactic(auto)]
 
+#[cfg(test)]
+mod by_hand;
 #[cfg(test)]
 mod cuts;
 #[cfg(test)]
@@ -9,8 +15,20 @@ mod held;
 #[cfg(test)]
 mod long;
 #[cfg(test)]
+mod monoids;
+#[cfg(test)]
+mod own_threads;
+#[cfg(test)]
+mod pieces;
+#[cfg(test)]
 mod plain;
+#[cfg(test)]
+mod plain_world;
 #[cfg(test)]
 mod refusals;
 #[cfg(test)]
 mod repeats;
+#[cfg(test)]
+mod schedules;
+#[cfg(test)]
+mod tiles;
