@@ -19,7 +19,7 @@ const ROUNDS: usize = 40;
 const LENGTHS: [usize; 6] = [4_194_304, 3_145_728, 2_097_152, 1_048_576, 65_536, 1_000];
 
 /// What is measured.
-#[derive(Clone, Copy, Debug)]
+#[derive(Clone, Copy)]
 enum Case {
     Add,
     Div,
@@ -32,16 +32,17 @@ enum Case {
     BoolFromInt,
 }
 
-const CASES: &[Case] = &[
-    Case::Add,
-    Case::Div,
-    Case::Greater,
-    Case::And,
-    Case::Select,
-    Case::NotOfIntegers,
-    Case::NotOfBooleans,
-    Case::IntFromBool,
-    Case::BoolFromInt,
+/// The cases, each with what its line begins with.
+const CASES: &[(Case, &str)] = &[
+    (Case::Add, "sum"),
+    (Case::Div, "quotient"),
+    (Case::Greater, "greater"),
+    (Case::And, "and"),
+    (Case::Select, "select"),
+    (Case::NotOfIntegers, "not of integers"),
+    (Case::NotOfBooleans, "not of booleans"),
+    (Case::IntFromBool, "integers from booleans"),
+    (Case::BoolFromInt, "booleans from integers"),
 ];
 
 /// The vectors on which the calls are measured, all equally long.
@@ -118,14 +119,14 @@ pub fn measure<R: Print + Clock + Threads + Sync>(
 ) -> io::Result<()> {
     for length in LENGTHS {
         let vectors = vectors_of(alloc, length)?;
-        for case in CASES {
+        for (case, name) in CASES {
             let times = best_times(
                 rt,
                 ROUNDS,
                 || call(rt, alloc, config, *case, &vectors).ok(),
                 || call_plain(alloc, *case, &vectors).ok(),
             )?;
-            let measured = format!(in alloc; "{case:?}, {length} elements")?;
+            let measured = format!(in alloc; "{name}, {length} elements")?;
             print_times(rt, &measured, times)?;
         }
     }

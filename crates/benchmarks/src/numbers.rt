@@ -32,6 +32,15 @@ pub fn random_flags(
         .collect(alloc)
 }
 
+/// How many flags are true, without a branch on each.
+pub fn count_true(flags: &[bool]) -> usize {
+    let mut count: usize = 0;
+    for flag in flags {
+        count = count.wrapping_add(usize::from(*flag));
+    }
+    count
+}
+
 /// The last number, or 0 where there is none.
 pub fn last(numbers: &[i32]) -> i32 {
     numbers.last().copied().unwrap_or(0)

@@ -67,7 +67,7 @@ fn call<R: Threads + Sync>(
         v.some_index.as_slice(),
     );
     let segment_is = v.segment_index.as_slice();
-    let (all, some, d) = (v.all.as_slice(), v.some.as_slice(), &v.segments.d);
+    let (all, some, d) = (v.all.as_slice(), v.some.as_slice(), &v.segments);
     if is.len() > MOST_ELEMENTS
         || some_is.len() > MOST_ELEMENTS
         || segment_is.len() > MOST_ELEMENTS
@@ -96,7 +96,7 @@ fn plain_call(alloc: Global, case: Case, v: &Vectors) -> Option<Vec<i32>> {
         v.some_index.as_slice(),
     );
     let segment_is = v.segment_index.as_slice();
-    let (all, some, d) = (v.all.as_slice(), v.some.as_slice(), &v.segments.d);
+    let (all, some, d) = (v.all.as_slice(), v.some.as_slice(), &v.segments);
     let result = match case {
         Case::Simple => plain::simple(alloc, xs, is),
         Case::Back => plain::back(alloc, xs, is),

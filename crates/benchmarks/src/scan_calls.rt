@@ -4,10 +4,11 @@ mod plain;
 
 use crate::LENGTHS;
 use crate::numbers::{last, last_flag, random, random_flags};
-use crate::segments::{Segments, segments_of};
+use crate::segments::segments_of;
 use crate::timing::{best_times, print_times};
 use cvl_base::{BoolBinary, Config, IntMonoid, Refused};
 use scan_ops::{bool_reduce, bool_scan, int_reduce, int_scan, seg_int_reduce, seg_int_scan};
+use segdes::SegDes;
 use std::alloc::{AllocError, Global};
 use std::io;
 use std::rt::Clock;
@@ -17,7 +18,7 @@ use std::thread::Threads;
 const ROUNDS: usize = 40;
 
 /// What is measured.
-#[derive(Clone, Copy, Debug)]
+#[derive(Clone, Copy)]
 enum Case {
     AddScan,
     MaxScan,
@@ -29,23 +30,28 @@ enum Case {
     SegmentedReduce,
 }
 
-const FLAT_CASES: &[Case] = &[
-    Case::AddScan,
-    Case::MaxScan,
-    Case::AndScan,
-    Case::AddReduce,
-    Case::MaxReduce,
-    Case::AndReduce,
+/// The flat cases, each with what its line begins with.
+const FLAT_CASES: &[(Case, &str)] = &[
+    (Case::AddScan, "scan of sums"),
+    (Case::MaxScan, "scan of maxima"),
+    (Case::AndScan, "scan of conjunctions"),
+    (Case::AddReduce, "sum"),
+    (Case::MaxReduce, "maximum"),
+    (Case::AndReduce, "conjunction"),
 ];
 
-const SEGMENTED_CASES: &[Case] = &[Case::SegmentedScan, Case::SegmentedReduce];
+/// The segmented cases.
+const SEGMENTED_CASES: &[(Case, &str)] = &[
+    (Case::SegmentedScan, "scan of sums by segments"),
+    (Case::SegmentedReduce, "sums by segments"),
+];
 
 /// The vectors on which the calls are measured, both equally long, and what cuts the first into segments.
 #[derive(Drop)]
 struct Vectors {
     numbers: Vec<i32>,
     flags: Vec<bool>,
-    segments: Segments,
+    segments: SegDes<Global>,
 }
 
 /// Makes the call of a case. The answer is a number that hangs on its result, so that no call is left out as unneeded.
@@ -56,7 +62,7 @@ fn call<R: Threads + Sync>(
     case: Case,
     vectors: &Vectors,
 ) -> Result<i32, Refused> {
-    let (a, d) = (vectors.numbers.as_slice(), &vectors.segments.d);
+    let (a, d) = (vectors.numbers.as_slice(), &vectors.segments);
     let flags = vectors.flags.as_slice();
     let add = IntMonoid::Add;
     let answer = match case {
@@ -74,10 +80,7 @@ fn call<R: Threads + Sync>(
 
 /// The same by a plain loop.
 fn call_plain(alloc: Global, case: Case, vectors: &Vectors) -> Result<i32, AllocError> {
-    let (a, lengths) = (
-        vectors.numbers.as_slice(),
-        vectors.segments.lengths.as_slice(),
-    );
+    let (a, lengths) = (vectors.numbers.as_slice(), vectors.segments.lengths());
     let flags = vectors.flags.as_slice();
     let answer = match case {
         Case::AddScan => last(&plain::sums_before(alloc, a)?),
@@ -100,7 +103,7 @@ fn vectors_of(
     with_empty: bool,
 ) -> Result<Vectors, Refused> {
     let segments = segments_of(alloc, most, segment, with_empty)?;
-    let length = segments.d.total();
+    let length = segments.total();
     Ok(Vectors {
         numbers: random(alloc, 1, length)?,
         flags: random_flags(alloc, 1, length, 50)?,
@@ -113,18 +116,18 @@ fn measure_cases<R: Print + Clock + Threads + Sync>(
     rt: &R,
     alloc: Global,
     config: Config,
-    cases: &[Case],
+    cases: &[(Case, &str)],
     vectors: &Vectors,
 ) -> io::Result<()> {
-    let (length, segments) = (vectors.numbers.len(), vectors.segments.lengths.len());
-    for case in cases {
+    let (length, segments) = (vectors.numbers.len(), vectors.segments.count());
+    for (case, name) in cases {
         let times = best_times(
             rt,
             ROUNDS,
             || call(rt, alloc, config, *case, vectors).ok(),
             || call_plain(alloc, *case, vectors).ok(),
         )?;
-        let measured = format!(in alloc; "{case:?}, {length} elements, {segments} segments")?;
+        let measured = format!(in alloc; "{name}, {length} elements, {segments} segments")?;
         print_times(rt, &measured, times)?;
     }
     Ok(())

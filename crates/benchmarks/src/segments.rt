@@ -1,16 +1,9 @@
 //! Vectors cut into segments.
 
+use cvl_base::Refused;
 use cvl_base::limits::MOST_ELEMENTS;
-use cvl_base::{Fault, FaultNo, Refused};
 use segdes::SegDes;
 use std::alloc::{AllocError, Global};
-
-/// The lengths of segments, for the plain loops, and their descriptor, for the calls.
-#[derive(Drop)]
-pub struct Segments {
-    pub lengths: Vec<u32>,
-    pub d: SegDes<Global>,
-}
 
 /// At most so many elements in segments of `segment` elements each, and of the others in a last one. Where `with_empty`, an
 /// empty segment stands before each.
@@ -19,14 +12,12 @@ pub fn segments_of(
     most: usize,
     segment: usize,
     with_empty: bool,
-) -> Result<Segments, Refused> {
+) -> Result<SegDes<Global>, Refused> {
     let lengths = equal_lengths(alloc, most, segment, with_empty)?;
     if lengths.len() > MOST_ELEMENTS {
-        return Err(Refused::Fault(Fault::new(FaultNo::TooLong)));
+        return Err(Refused::NoResources);
     }
-    let d = SegDes::from_lengths(alloc, &lengths)?;
-    let lengths = lengths.iter().map(|n| n.unsigned_abs()).collect(alloc)?;
-    Ok(Segments { lengths, d })
+    SegDes::from_lengths(alloc, &lengths)
 }
 
 /// The lengths of these segments, at most 4,194,304.

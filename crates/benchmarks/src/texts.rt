@@ -1,8 +1,9 @@
-//! Inputs that are read and texts that are written, in bytes a second.
+//! Texts that are written and read, in bytes a second.
 
+use crate::numbers::{next, random};
 use call_reader::{put_value, read_vector};
-use cvl_base::{Ints, Value};
-use itoa::Buffer;
+use cvl_base::limits::MOST_ELEMENTS;
+use cvl_base::{Ints, Refused, Value};
 use std::alloc::{AllocError, Global};
 use std::io;
 use std::rt::Clock;
@@ -14,34 +15,56 @@ const NUMBERS: usize = 4_194_304;
 /// How often a case is measured. The best time counts.
 const ROUNDS: usize = 20;
 
-/// An input of random numbers with a space after each, all of 32 bits, or each of a random number of bits.
-fn random_input(alloc: Global, are_all_long: bool) -> Result<Vec<u8>, AllocError> {
-    let mut input = Vec::with_capacity(alloc, 12 * NUMBERS)?;
-    let mut buffer = Buffer::new();
-    let mut state: u64 = 1;
-    for _ in 0..NUMBERS {
-        // the multiplier and the increment of Knuth's MMIX
-        state = state
-            .wrapping_mul(6_364_136_223_846_793_005)
-            .wrapping_add(1_442_695_040_888_963_407);
-        let bits_less = if are_all_long { 0 } else { (state >> 27) % 32 };
-        let number = ((state >> 32) as i64 - 2_147_483_648) >> bits_less;
-        input.extend_from_slice(buffer.format(number).as_bytes())?;
-        input.push(b' ')?;
+/// Random numbers, all of 32 bits, or each of a random number of bits.
+fn random_numbers(alloc: Global, are_all_long: bool) -> Result<Vec<i32>, AllocError> {
+    let numbers = random(alloc, 1, NUMBERS)?;
+    if are_all_long {
+        return Ok(numbers);
     }
-    Ok(input)
+    numbers
+        .iter()
+        .map(|n| n.wrapping_shr(next(*n).cast_unsigned() >> 27))
+        .collect(alloc)
 }
 
-/// Reads the input several times, and gives the best time.
-fn best_reading<R: Print + Clock>(rt: &R, alloc: Global, input: &[u8]) -> io::Result<Duration> {
+/// A vector of such numbers.
+fn random_value(alloc: Global, are_all_long: bool) -> Result<Value<Global>, Refused> {
+    let numbers = random_numbers(alloc, are_all_long)?;
+    if numbers.len() > MOST_ELEMENTS {
+        return Err(Refused::NoResources);
+    }
+    Ok(Value::Integers(Ints::from_vec(numbers)))
+}
+
+/// Writes a value several times, and gives the text and the best time.
+fn best_writing<R: Clock>(
+    rt: &R,
+    alloc: Global,
+    value: &Value<Global>,
+) -> io::Result<(Vec<u8>, Duration)> {
+    let mut best = Duration::MAX;
+    let mut text = Vec::new(alloc);
+    for _ in 0..ROUNDS {
+        text = Vec::new(alloc);
+        let start = Instant::now(rt)?;
+        let answer = put_value(value, None, &mut text);
+        let time = start.elapsed(rt)?;
+        if answer.is_ok() {
+            best = best.min(time);
+        }
+    }
+    Ok((text, best))
+}
+
+/// Reads the numbers several times, and gives the best time.
+fn best_reading<R: Clock>(rt: &R, alloc: Global, input: &[u8]) -> io::Result<Duration> {
     let mut best = Duration::MAX;
     for _ in 0..ROUNDS {
         let start = Instant::now(rt)?;
         let answer = read_vector(alloc, input);
         let time = start.elapsed(rt)?;
-        match answer {
-            Ok(_numbers) => best = best.min(time),
-            Err(refused) => println!(rt; "not read: {refused:?}")?,
+        if answer.is_ok() {
+            best = best.min(time);
         }
     }
     Ok(best)
@@ -49,52 +72,37 @@ fn best_reading<R: Print + Clock>(rt: &R, alloc: Global, input: &[u8]) -> io::Re
 
 /// Prints a case's line.
 fn print_rate<R: Print>(rt: &R, case: &str, bytes: usize, time: Duration) -> io::Result<()> {
+    if time == Duration::MAX {
+        return println!(rt; "{case}: refused");
+    }
     let micros = time.as_micros().max(1);
     let rate = bytes as u128 * 1_000_000 / micros;
-    println!(rt; "{case}: {rate} bytes a second ({bytes} bytes in {micros} microseconds)")?;
-    Ok(())
+    println!(rt; "{case}: {rate} bytes a second ({bytes} bytes in {micros} microseconds)")
 }
 
-/// Writes the numbers of the input several times, and prints the best rate.
-fn write_case<R: Print + Clock>(rt: &R, alloc: Global, case: &str, input: &[u8]) -> io::Result<()> {
-    let Ok(numbers) = read_vector(alloc, input) else {
-        println!(rt; "not written: the input was not read")?;
-        return Ok(());
-    };
-    let value = Value::Integers(Ints::from_vec(numbers));
-    let mut best = Duration::MAX;
-    let mut bytes = 0;
-    for _ in 0..ROUNDS {
-        let mut text = Vec::new(alloc);
-        let start = Instant::now(rt)?;
-        let answer = put_value(&value, None, &mut text);
-        let time = start.elapsed(rt)?;
-        match answer {
-            Ok(()) => best = best.min(time),
-            Err(refused) => println!(rt; "not written: {refused:?}")?,
-        }
-        bytes = text.len();
-    }
-    print_rate(rt, case, bytes, best)
-}
-
-/// The cases: whether all numbers are long, and what the lines of reading and writing begin with.
+/// The cases: whether all numbers are long, and what the lines of writing and reading begin with.
 const CASES: &[(bool, &str, &str)] = &[
-    (true, "reading long numbers", "writing long numbers"),
+    (true, "writing long numbers", "reading long numbers"),
     (
         false,
-        "reading numbers of any length",
         "writing numbers of any length",
+        "reading numbers of any length",
     ),
 ];
 
-/// Measures reading and writing.
+/// Measures writing numbers and reading what was written, without its brackets.
 pub fn measure<R: Print + Clock>(rt: &R, alloc: Global) -> io::Result<()> {
-    for (are_all_long, reading, writing) in CASES {
-        let input = random_input(alloc, *are_all_long)?;
-        let time = best_reading(rt, alloc, &input)?;
-        print_rate(rt, reading, input.len(), time)?;
-        write_case(rt, alloc, writing, &input)?;
+    for (are_all_long, writing, reading) in CASES {
+        let Ok(value) = random_value(alloc, *are_all_long) else {
+            println!(rt; "{writing}: no memory for the numbers")?;
+            continue;
+        };
+        let (text, time) = best_writing(rt, alloc, &value)?;
+        print_rate(rt, writing, text.len(), time)?;
+        if let [_, input @ .., _] = text.as_slice() {
+            let time = best_reading(rt, alloc, input)?;
+            print_rate(rt, reading, input.len(), time)?;
+        }
     }
     Ok(())
 }

@@ -1,5 +1,6 @@
 //! The calls that are measured.
 
+use crate::numbers;
 use crate::pack_calls::inputs::Input;
 use crate::pack_calls::plain;
 use cvl_base::Config;
@@ -61,7 +62,7 @@ pub fn answer<R: Threads + Sync>(
     case: Case,
     input: &Input,
 ) -> Option<usize> {
-    let (flags, firsts, d) = (input.flags.as_slice(), &input.firsts, &input.segments.d);
+    let (flags, firsts, d) = (input.flags.as_slice(), &input.firsts, &input.segments);
     if flags.len() > MOST_ELEMENTS {
         return None;
     }
@@ -85,7 +86,7 @@ pub fn answer<R: Threads + Sync>(
 pub fn plain_answer(alloc: Global, case: Case, input: &Input) -> Option<usize> {
     let (integers, booleans) = (input.integers.as_slice(), input.booleans.as_slice());
     let (flags, firsts) = (input.flags.as_slice(), input.firsts.as_slice());
-    let lengths = input.segments.lengths.as_slice();
+    let lengths = input.segments.lengths();
     let count = flags.len();
     if integers.len() < count || booleans.len() < count {
         return None;
@@ -93,7 +94,7 @@ pub fn plain_answer(alloc: Global, case: Case, input: &Input) -> Option<usize> {
     match case {
         Case::PackIntegers => length_of(plain::kept(alloc, integers, flags)),
         Case::PackBooleans => length_of(plain::kept(alloc, booleans, flags)),
-        Case::Count => Some(plain::count(flags)),
+        Case::Count => Some(numbers::count_true(flags)),
         Case::SegmentCounts => length_of(plain::counts(alloc, lengths, flags)),
         Case::SegmentPack => match plain::kept_by_segments(alloc, lengths, integers, flags) {
             Ok((kept, _counts)) => Some(kept.len()),

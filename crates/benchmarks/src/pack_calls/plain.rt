@@ -1,27 +1,15 @@
 //! The same work in plain loops of one thread.
 
-ghost use Rattle.std.specs.Prelude.{◌≡◌, ◌+◌, ◌≤◌, count_by, length, vec_len, vec_capacity};
+ghost use Rattle.std.specs.Prelude.{◌≡◌, ◌+◌, ◌≤◌, length, vec_len, vec_capacity};
 
+use crate::numbers::count_true;
 use std::alloc::{AllocError, Global};
 
-/// How many flags are true.
-pub fn count(flags: &[bool]) -> usize
-    ensures { result ≡ count_by (λ flag. flag) flags.now }
-{
-    let mut count: usize = 0;
-    for flag in flags {
-        if *flag {
-            count += 1;
-        }
-    }
-    count
-}
-
-/// Pushes the elements whose flag is true. There must be room for them.
+/// Pushes the elements whose flag is true. There must be room for all.
 fn push_kept<T: Copy>(kept: &mut Vec<T>, values: &[T], flags: &[bool])
     requires as_long { length flags.now ≤ length values.now }
-    requires room { vec_len kept.old + count_by (λ flag. flag) flags.now ≤ vec_capacity kept.old }
-    ensures len { vec_len kept.new ≡ vec_len kept.old + count_by (λ flag. flag) flags.now }
+    requires room { vec_len kept.old + length flags.now ≤ vec_capacity kept.old }
+    ensures len { vec_len kept.new ≤ vec_len kept.old + length flags.now }
     ensures capacity { vec_capacity kept.new ≡ vec_capacity kept.old }
 {
     for k in 0..flags.len() {
@@ -31,46 +19,46 @@ fn push_kept<T: Copy>(kept: &mut Vec<T>, values: &[T], flags: &[bool])
     }
 }
 
-/// The elements whose flag is true.
+/// The elements whose flag is true. It takes room for all elements, so that the flags are not counted first.
 pub fn kept<T: Copy>(alloc: Global, values: &[T], flags: &[bool]) -> Result<Vec<T>, AllocError>
     requires { length flags.now ≤ length values.now }
 {
-    let mut kept = Vec::with_capacity(alloc, count(flags))?;
+    let mut kept = Vec::with_capacity(alloc, flags.len())?;
     push_kept(&mut kept, values, flags);
     Ok(kept)
 }
 
 /// How many flags of each segment are true.
-pub fn counts(alloc: Global, lengths: &[u32], flags: &[bool]) -> Result<Vec<usize>, AllocError> {
+pub fn counts(alloc: Global, lengths: &[i32], flags: &[bool]) -> Result<Vec<usize>, AllocError> {
     let mut counts = Vec::with_capacity(alloc, lengths.len())?;
     let mut rest = flags;
     for length in lengths {
-        let (segment, others) = rest.split_at((*length as usize).min(rest.len()));
-        counts.push_reserved(count(segment));
+        let (segment, others) = rest.split_at((length.cast_unsigned() as usize).min(rest.len()));
+        counts.push_reserved(count_true(segment));
         rest = others;
     }
     Ok(counts)
 }
 
-/// The elements of each segment whose flag is true, and how many they are.
+/// The elements of each segment whose flag is true, and how many they are, with room for all elements too.
 pub fn kept_by_segments<T: Copy>(
     alloc: Global,
-    lengths: &[u32],
+    lengths: &[i32],
     values: &[T],
     flags: &[bool],
 ) -> Result<(Vec<T>, Vec<usize>), AllocError>
     requires { length flags.now ≤ length values.now }
 {
-    let mut kept = Vec::with_capacity(alloc, count(flags))?;
+    let mut kept = Vec::with_capacity(alloc, flags.len())?;
     let mut counts = Vec::with_capacity(alloc, lengths.len())?;
     let (mut values, mut flags) = (values, flags);
     for length in lengths {
         let before = kept.len();
-        let length = (*length as usize).min(flags.len());
+        let length = (length.cast_unsigned() as usize).min(flags.len());
         let (segment, other_values) = values.split_at(length);
         let (segment_flags, other_flags) = flags.split_at(length);
         push_kept(&mut kept, segment, segment_flags);
-        counts.push_reserved(kept.len() - before);
+        counts.push_reserved(kept.len().wrapping_sub(before));
         values = other_values;
         flags = other_flags;
     }
@@ -98,14 +86,14 @@ pub fn copies<T: Copy>(alloc: Global, value: T, count: usize) -> Result<Vec<T>, 
 /// For each segment as many copies of its value as it is long, but no more than `total` in all.
 pub fn copies_by_segments<T: Copy>(
     alloc: Global,
-    lengths: &[u32],
+    lengths: &[i32],
     values: &[T],
     total: usize,
 ) -> Result<Vec<T>, AllocError> {
     let mut copies = Vec::with_capacity(alloc, total)?;
     let mut left = total;
     for (length, value) in lengths.iter().zip(values) {
-        let length = (*length as usize).min(left);
+        let length = (length.cast_unsigned() as usize).min(left);
         push_copies(&mut copies, *value, length);
         left -= length;
     }
@@ -136,14 +124,14 @@ pub fn steps(alloc: Global, init: i32, stride: i32, count: usize) -> Result<Vec<
 /// number is its step too.
 pub fn steps_by_segments(
     alloc: Global,
-    lengths: &[u32],
+    lengths: &[i32],
     inits: &[i32],
     total: usize,
 ) -> Result<Vec<i32>, AllocError> {
     let mut numbers = Vec::with_capacity(alloc, total)?;
     let mut left = total;
     for (length, init) in lengths.iter().zip(inits) {
-        let length = (*length as usize).min(left);
+        let length = (length.cast_unsigned() as usize).min(left);
         push_steps(&mut numbers, *init, *init, length);
         left -= length;
     }

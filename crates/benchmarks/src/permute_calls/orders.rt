@@ -1,8 +1,9 @@
 //! The vectors that are measured.
 
-use crate::numbers::{next, random_flags};
-use crate::segments::{Segments, segments_of};
+use crate::numbers::{count_true, next, random_flags};
+use crate::segments::segments_of;
 use cvl_base::Refused;
+use segdes::SegDes;
 use std::alloc::{AllocError, Global};
 
 /// How many elements a segment has; the last one may have fewer.
@@ -27,7 +28,7 @@ pub struct Vectors {
     pub some_index: Vec<i32>,
     pub all: Vec<bool>,
     pub some: Vec<bool>,
-    pub segments: Segments,
+    pub segments: SegDes<Global>,
 }
 
 /// Swaps each place with one before it.
@@ -73,11 +74,11 @@ fn where_true(alloc: Global, flags: &[bool], chosen: &[i32]) -> Result<Vec<i32>,
 fn places_by_segments(
     alloc: Global,
     order: Order,
-    lengths: &[u32],
+    lengths: &[i32],
 ) -> Result<Vec<i32>, AllocError> {
     let mut index = Vec::new(alloc);
     for length in lengths {
-        let part = places(alloc, order, *length as usize, 5)?;
+        let part = places(alloc, order, length.cast_unsigned() as usize, 5)?;
         index.extend_from_slice(&part)?;
     }
     Ok(index)
@@ -86,13 +87,13 @@ fn places_by_segments(
 /// The vectors of n elements.
 pub fn vectors_of(alloc: Global, order: Order, n: usize) -> Result<Vectors, Refused> {
     let some = random_flags(alloc, 7, n, 50)?;
-    let count = some.iter().filter(|flag| **flag).count();
+    let count = count_true(&some);
     let chosen = places(alloc, order, count, 3)?;
     let segments = segments_of(alloc, n, SEGMENT, false)?;
     Ok(Vectors {
         source: places(alloc, Order::Random, n, 9)?,
         index: places(alloc, order, n, 1)?,
-        segment_index: places_by_segments(alloc, order, &segments.lengths)?,
+        segment_index: places_by_segments(alloc, order, segments.lengths())?,
         some_index: where_true(alloc, &some, &chosen)?,
         all: vec![in alloc; true; n]?,
         some,

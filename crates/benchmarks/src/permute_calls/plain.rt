@@ -1,5 +1,6 @@
 //! The same work in plain loops of one thread, with a mark for each place that is taken.
 
+use crate::numbers::count_true;
 use segdes::SegDes;
 use std::alloc::{AllocError, Global};
 
@@ -57,15 +58,6 @@ fn take(values: &mut [i32], source: &[i32], index: &[i32]) -> bool {
         *x = source[place];
     }
     true
-}
-
-/// How many flags are true, without a branch on each.
-fn count_true(flags: &[bool]) -> usize {
-    let mut count: usize = 0;
-    for flag in flags {
-        count = count.wrapping_add(usize::from(*flag));
-    }
-    count
 }
 
 /// A simple permute; none where an index is bad.

@@ -65,13 +65,13 @@ pub fn all(a: &[bool]) -> bool {
 /// The sums of the numbers before each one in its segment.
 pub fn segment_sums_before(
     alloc: Global,
-    lengths: &[u32],
+    lengths: &[i32],
     a: &[i32],
 ) -> Result<Vec<i32>, AllocError> {
     let mut sums = Vec::with_capacity(alloc, a.len())?;
     let mut rest = a;
     for length in lengths {
-        let (segment, others) = rest.split_at((*length as usize).min(rest.len()));
+        let (segment, others) = rest.split_at((length.cast_unsigned() as usize).min(rest.len()));
         let mut sum: i32 = 0;
         for x in segment {
             sums.push_reserved(sum);
@@ -83,11 +83,11 @@ pub fn segment_sums_before(
 }
 
 /// The sum of each segment.
-pub fn segment_sums(alloc: Global, lengths: &[u32], a: &[i32]) -> Result<Vec<i32>, AllocError> {
+pub fn segment_sums(alloc: Global, lengths: &[i32], a: &[i32]) -> Result<Vec<i32>, AllocError> {
     let mut sums = Vec::with_capacity(alloc, lengths.len())?;
     let mut rest = a;
     for length in lengths {
-        let (segment, others) = rest.split_at((*length as usize).min(rest.len()));
+        let (segment, others) = rest.split_at((length.cast_unsigned() as usize).min(rest.len()));
         sums.push_reserved(sum(segment));
         rest = others;
     }

@@ -1,4 +1,4 @@
-use Rattle.std.proofs.Common.{◌≡◌, ◌+◌, ◌≤◌, count_by, length, vec_len, vec_capacity}
+use Rattle.std.proofs.Common.{◌≡◌, ◌+◌, ◌≤◌, length, vec_len, vec_capacity}
 use Rattle.benchmarks.proofs.pack_calls.plain.kept_by_segments.Given as goal
 
 abbrev pub invariant-loop-length : goal.invariant-loop-length
@@ -6,5 +6,5 @@ invariant-loop-length g l = record {
   counts : vec_len l.counts ≡ l.length-index;
   counts_room : vec_capacity l.counts ≡ length l.lengths;
   as_long : length l.flags ≤ length l.values;
-  room : vec_len l.kept + count_by (λ flag. flag) l.flags ≤ vec_capacity l.kept;
+  room : vec_len l.kept + length l.flags ≤ vec_capacity l.kept;
 }
