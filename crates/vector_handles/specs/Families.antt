@@ -43,6 +43,11 @@ module _ {A X : Type 0} where
   permuted form Flat source index defaults arg = permuted_whole form source index defaults arg
   permuted form Segmented source index defaults arg = permuted_by_segments form source index defaults arg
 
+  -- a pack of a vector; the other arguments are flags and what cuts the vectors
+  abbrev pub packed : Cut → List X → ArgumentAt A → Result (List X) Fault
+  packed Flat xs arg = pack_of xs (booleans_in (arg 1))
+  packed Segmented xs arg = seg_pack_of xs (booleans_in (arg 1)) (lengths_in (arg 2))
+
 module _ {A X : Type 0} (e : ElementType A X) where
   -- the value with one element, and with a vector
   abbrev pub single : Result X Fault → Result (Value A) Fault
@@ -70,8 +75,7 @@ module _ {A X : Type 0} (e : ElementType A X) where
   length_value arg = Ok (value.Integer (pos (length (e.vector_in (arg 0)))))
 
   abbrev pub pack_value : Cut → ArgumentAt A → Result (Value A) Fault
-  pack_value Flat arg = vector (pack_of (e.vector_in (arg 0)) (booleans_in (arg 1)))
-  pack_value Segmented arg = vector (seg_pack_of (e.vector_in (arg 0)) (booleans_in (arg 1)) (lengths_in (arg 2)))
+  pack_value cut arg = vector (packed cut (e.vector_in (arg 0)) arg)
 
   abbrev pub distribute_value : Cut → ArgumentAt A → Result (Value A) Fault
   distribute_value Flat arg = vector (distribute_of (e.single_in (arg 0)) (integer_in (arg 1)))

@@ -3,6 +3,7 @@
 ghost use Rattle.cvl_base.specs.declared.operation.Op.TheVariants as op;
 ghost use Rattle.vector_handles.specs.Answers.{IsTableValue};
 
+use crate::answers::bound_integers;
 use crate::numbered::{input_numbered, integers_of_input};
 use crate::session::Session;
 use bound_names::Bound;
@@ -56,7 +57,7 @@ impl<A: Memory> Session<A> {
     {
         let number = integer_at(&self.names, args, 0);
         match input_numbered(self.inputs.as_slice(), &number) {
-            Some(input) => Ok(Bound::from_integers(integers_of_input(self.alloc, input)?)),
+            Some(input) => bound_integers(integers_of_input(self.alloc, input)),
             None => Err(Refused::Fault(Fault::new(FaultNo::NoSuchInput))),
         }
     }

@@ -1,13 +1,16 @@
 //! The value that a length, a count or a pack gives, of a whole vector or of each segment.
 
+ghost use Rattle.std.specs.Prelude.{◌≤◌, IfOk, length, vec_len};
 ghost use Rattle.cvl_base.specs.declared.operation.Op.TheVariants as op;
+ghost use Rattle.cvl_base.specs.Gives.{Gives};
+ghost use Rattle.bound_names.specs.Arguments.{argument_at};
 ghost use Rattle.vector_handles.specs.Answers.{IsTableValue};
+ghost use Rattle.vector_handles.specs.Families.{packed};
 
 use crate::answers::{bound_booleans, bound_integers};
 use crate::session::Session;
 use bound_names::Bound;
 use bound_names::lookups::{booleans_at, integers_at};
-use cvl_base::limits::MOST_ELEMENTS;
 use cvl_base::{Arg, Cut, Element, Memory, Refused, Value};
 use pack_dist::{count_true, pack, packed_descriptor, seg_count, seg_pack_values};
 use std::thread::Threads;
@@ -42,7 +45,6 @@ impl<A: Memory> Session<A> {
             Cut::Flat => { Ok(Bound::alone(Value::Integer(count_true(flags)))) }
             Cut::Segmented => {
                 let d = self.descriptor_at(args, 1);
-                prove!(d.count() <= MOST_ELEMENTS);
                 let counts = seg_count(rt, self.alloc, self.config, flags, d)?;
                 Ok(Bound::from_integers(counts))
             }
@@ -59,25 +61,35 @@ impl<A: Memory> Session<A> {
     ) -> Result<Bound<A>, Refused>
         ensures { IsTableValue self.now (op.Pack cut element) args.now result }
     {
+        match element {
+            Element::Integer => {
+                let values = integers_at(&self.names, args, 0);
+                bound_integers(self.packed(rt, cut, values, args))
+            }
+            Element::Boolean => {
+                let values = booleans_at(&self.names, args, 0);
+                bound_booleans(self.packed(rt, cut, values, args))
+            }
+        }
+    }
+
+    /// The elements of a vector whose flag is true. The flags and the descriptor are the arguments at their places.
+    fn packed<T: Copy, R: Threads + Sync>(
+        &self,
+        rt: &R,
+        cut: Cut,
+        values: &[T],
+        args: &[Arg],
+    ) -> Result<Vec<T, A>, Refused>
+        ensures values { Gives (λ v. v.items) result (packed cut values.now (argument_at self.now.names args.now)) }
+        ensures no_longer { IfOk result (λ v. vec_len v ≤ length values.now) }
+    {
         let flags = booleans_at(&self.names, args, 1);
-        match (cut, element) {
-            (Cut::Flat, Element::Integer) => {
-                let values = integers_at(&self.names, args, 0);
-                bound_integers(pack(rt, self.alloc, self.config, values, flags))
-            }
-            (Cut::Flat, Element::Boolean) => {
-                let values = booleans_at(&self.names, args, 0);
-                bound_booleans(pack(rt, self.alloc, self.config, values, flags))
-            }
-            (Cut::Segmented, Element::Integer) => {
-                let values = integers_at(&self.names, args, 0);
+        match cut {
+            Cut::Flat => pack(rt, self.alloc, self.config, values, flags),
+            Cut::Segmented => {
                 let d = self.descriptor_at(args, 2);
-                bound_integers(seg_pack_values(rt, self.alloc, self.config, values, flags, d))
-            }
-            (Cut::Segmented, Element::Boolean) => {
-                let values = booleans_at(&self.names, args, 0);
-                let d = self.descriptor_at(args, 2);
-                bound_booleans(seg_pack_values(rt, self.alloc, self.config, values, flags, d))
+                seg_pack_values(rt, self.alloc, self.config, values, flags, d)
             }
         }
     }

@@ -7,12 +7,11 @@ ghost use Rattle.cvl_base.specs.SegmentedCalls.{seg_replace_of};
 ghost use Rattle.bound_names.specs.Arguments.{argument_at, integers_in, lengths_in};
 ghost use Rattle.vector_handles.specs.Answers.{IsTableValue};
 
-use crate::answers::{bound_booleans, bound_integers};
+use crate::answers::{bound_boolean, bound_booleans, bound_integer, bound_integers};
 use crate::session::Session;
 use bound_names::Bound;
 use bound_names::lookups::{boolean_at, booleans_at, integer_at, integers_at};
-use cvl_base::limits::MOST_ELEMENTS;
-use cvl_base::{Arg, Cut, Element, Memory, Refused, Value};
+use cvl_base::{Arg, Cut, Element, Memory, Refused};
 use pack_dist::{
     distribute, extract, index, replace, seg_distribute, seg_extract, seg_index, seg_replace,
 };
@@ -27,27 +26,41 @@ impl<A: Memory> Session<A> {
     ) -> Result<Bound<A>, Refused>
         ensures { IsTableValue self.now (op.Distribute cut element) args.now result }
     {
-        match (cut, element) {
-            (Cut::Flat, Element::Integer) => {
+        match cut {
+            Cut::Flat => self.distributed(element, args),
+            Cut::Segmented => self.distributed_by_segments(element, args),
+        }
+    }
+
+    /// Copies of one value.
+    fn distributed(&self, element: Element, args: &[Arg]) -> Result<Bound<A>, Refused>
+        ensures { IsTableValue self.now (op.Distribute Cut.Flat element) args.now result }
+    {
+        let count = integer_at(&self.names, args, 1);
+        match element {
+            Element::Integer => {
                 let value = integer_at(&self.names, args, 0);
-                let count = integer_at(&self.names, args, 1);
                 bound_integers(distribute(self.alloc, value, count))
             }
-            (Cut::Flat, Element::Boolean) => {
+            Element::Boolean => {
                 let value = boolean_at(&self.names, args, 0);
-                let count = integer_at(&self.names, args, 1);
                 bound_booleans(distribute(self.alloc, value, count))
             }
-            (Cut::Segmented, Element::Integer) => {
+        }
+    }
+
+    /// Copies of one value for each segment.
+    fn distributed_by_segments(&self, element: Element, args: &[Arg]) -> Result<Bound<A>, Refused>
+        ensures { IsTableValue self.now (op.Distribute Cut.Segmented element) args.now result }
+    {
+        let d = self.descriptor_at(args, 1);
+        match element {
+            Element::Integer => {
                 let values = integers_at(&self.names, args, 0);
-                let d = self.descriptor_at(args, 1);
-                prove!(d.total() <= MOST_ELEMENTS);
                 bound_integers(seg_distribute(self.alloc, values, d))
             }
-            (Cut::Segmented, Element::Boolean) => {
+            Element::Boolean => {
                 let values = booleans_at(&self.names, args, 0);
-                let d = self.descriptor_at(args, 1);
-                prove!(d.total() <= MOST_ELEMENTS);
                 bound_booleans(seg_distribute(self.alloc, values, d))
             }
         }
@@ -68,7 +81,6 @@ impl<A: Memory> Session<A> {
                 let inits = integers_at(&self.names, args, 0);
                 let strides = integers_at(&self.names, args, 1);
                 let d = self.descriptor_at(args, 2);
-                prove!(d.total() <= MOST_ELEMENTS);
                 bound_integers(seg_index(self.alloc, inits, strides, d))
             }
         }
@@ -83,29 +95,42 @@ impl<A: Memory> Session<A> {
     ) -> Result<Bound<A>, Refused>
         ensures { IsTableValue self.now (op.Extract cut element) args.now result }
     {
-        match (cut, element) {
-            (Cut::Flat, Element::Integer) => {
+        match cut {
+            Cut::Flat => self.extracted(element, args),
+            Cut::Segmented => self.extracted_by_segments(element, args),
+        }
+    }
+
+    /// The element at an index.
+    fn extracted(&self, element: Element, args: &[Arg]) -> Result<Bound<A>, Refused>
+        ensures { IsTableValue self.now (op.Extract Cut.Flat element) args.now result }
+    {
+        let place = integer_at(&self.names, args, 1);
+        match element {
+            Element::Integer => {
                 let vector = integers_at(&self.names, args, 0);
-                let place = integer_at(&self.names, args, 1);
-                Ok(Bound::alone(Value::Integer(extract(vector, place)?)))
+                bound_integer(extract(vector, place))
             }
-            (Cut::Flat, Element::Boolean) => {
+            Element::Boolean => {
                 let vector = booleans_at(&self.names, args, 0);
-                let place = integer_at(&self.names, args, 1);
-                Ok(Bound::alone(Value::Boolean(extract(vector, place)?)))
+                bound_boolean(extract(vector, place))
             }
-            (Cut::Segmented, Element::Integer) => {
+        }
+    }
+
+    /// The element at the index of each segment.
+    fn extracted_by_segments(&self, element: Element, args: &[Arg]) -> Result<Bound<A>, Refused>
+        ensures { IsTableValue self.now (op.Extract Cut.Segmented element) args.now result }
+    {
+        let places = integers_at(&self.names, args, 1);
+        let d = self.descriptor_at(args, 2);
+        match element {
+            Element::Integer => {
                 let vector = integers_at(&self.names, args, 0);
-                let places = integers_at(&self.names, args, 1);
-                let d = self.descriptor_at(args, 2);
-                prove!(d.count() <= MOST_ELEMENTS);
                 bound_integers(seg_extract(self.alloc, vector, places, d))
             }
-            (Cut::Segmented, Element::Boolean) => {
+            Element::Boolean => {
                 let vector = booleans_at(&self.names, args, 0);
-                let places = integers_at(&self.names, args, 1);
-                let d = self.descriptor_at(args, 2);
-                prove!(d.count() <= MOST_ELEMENTS);
                 bound_booleans(seg_extract(self.alloc, vector, places, d))
             }
         }
@@ -120,35 +145,52 @@ impl<A: Memory> Session<A> {
     ) -> Result<Bound<A>, Refused>
         ensures { IsTableValue self.now (op.Replace cut element) args.now result }
     {
-        match (cut, element) {
-            (Cut::Flat, Element::Integer) => {
+        match cut {
+            Cut::Flat => self.replaced(element, args),
+            Cut::Segmented => self.replaced_by_segments(element, args),
+        }
+    }
+
+    /// A vector with the element at an index changed.
+    fn replaced(&self, element: Element, args: &[Arg]) -> Result<Bound<A>, Refused>
+        ensures { IsTableValue self.now (op.Replace Cut.Flat element) args.now result }
+    {
+        let place = integer_at(&self.names, args, 1);
+        match element {
+            Element::Integer => {
                 let vector = integers_at(&self.names, args, 0);
-                let place = integer_at(&self.names, args, 1);
                 let value = integer_at(&self.names, args, 2);
                 bound_integers(replace(self.alloc, vector, place, value))
             }
-            (Cut::Flat, Element::Boolean) => {
+            Element::Boolean => {
                 let vector = booleans_at(&self.names, args, 0);
-                let place = integer_at(&self.names, args, 1);
                 let value = boolean_at(&self.names, args, 2);
                 bound_booleans(replace(self.alloc, vector, place, value))
-            }
-            (Cut::Segmented, Element::Integer) => {
-                let vector = integers_at(&self.names, args, 0);
-                let values = integers_at(&self.names, args, 2);
-                bound_integers(self.replaced_by_segments(vector, values, args))
-            }
-            (Cut::Segmented, Element::Boolean) => {
-                let vector = booleans_at(&self.names, args, 0);
-                let values = booleans_at(&self.names, args, 2);
-                bound_booleans(self.replaced_by_segments(vector, values, args))
             }
         }
     }
 
-    /// A vector with the element at the index of each segment changed. The indexes and the descriptor are the arguments at
+    /// A vector with the element at the index of each segment changed.
+    fn replaced_by_segments(&self, element: Element, args: &[Arg]) -> Result<Bound<A>, Refused>
+        ensures { IsTableValue self.now (op.Replace Cut.Segmented element) args.now result }
+    {
+        match element {
+            Element::Integer => {
+                let vector = integers_at(&self.names, args, 0);
+                let values = integers_at(&self.names, args, 2);
+                bound_integers(self.with_values(vector, values, args))
+            }
+            Element::Boolean => {
+                let vector = booleans_at(&self.names, args, 0);
+                let values = booleans_at(&self.names, args, 2);
+                bound_booleans(self.with_values(vector, values, args))
+            }
+        }
+    }
+
+    /// A vector with these values at the indexes of its segments. The indexes and the descriptor are the arguments at
     /// their places.
-    fn replaced_by_segments<T: Copy>(
+    fn with_values<T: Copy>(
         &self,
         vector: &[T],
         values: &[T],

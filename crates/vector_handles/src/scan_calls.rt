@@ -7,7 +7,6 @@ use crate::answers::{bound_booleans, bound_integers};
 use crate::session::Session;
 use bound_names::Bound;
 use bound_names::lookups::{booleans_at, integers_at};
-use cvl_base::limits::MOST_ELEMENTS;
 use cvl_base::{Arg, BoolBinary, Cut, IntMonoid, Memory, Refused, Value};
 use scan_ops::{
     bool_reduce, bool_scan, int_reduce, int_scan, seg_bool_reduce, seg_bool_scan, seg_int_reduce,
@@ -57,7 +56,6 @@ impl<A: Memory> Session<A> {
             }
             Cut::Segmented => {
                 let d = self.descriptor_at(args, 1);
-                prove!(d.count() <= MOST_ELEMENTS);
                 bound_integers(seg_int_reduce(rt, self.alloc, self.config, operator, a, d))
             }
         }
@@ -104,7 +102,6 @@ impl<A: Memory> Session<A> {
             }
             Cut::Segmented => {
                 let d = self.descriptor_at(args, 1);
-                prove!(d.count() <= MOST_ELEMENTS);
                 bound_booleans(seg_bool_reduce(rt, self.alloc, self.config, operator, a, d))
             }
         }

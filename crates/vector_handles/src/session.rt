@@ -1,11 +1,12 @@
 //! Sessions: bound names and inputs, on which calls are made.
 
-ghost use Rattle.std.specs.Prelude.{◌≡◌, [], IfOk, OnErr, option_copied};
+ghost use Rattle.std.specs.Prelude.{◌≡◌, ◌≤◌, [], IfOk, OnErr, length, option_copied, sum};
 
 use crate::input::Input;
 use crate::shown::Shown;
 use bound_names::lookups::descriptor_at;
 use bound_names::{Names, fault_of_args, value_of};
+use cvl_base::limits::MOST_ELEMENTS;
 use cvl_base::{Arg, Call, Config, Lengths, Memory, Name, NoResources, Refused, Value};
 use segdes::SegDes;
 use std::collections::BTreeMap;
@@ -37,6 +38,7 @@ impl<A: Memory> Model for Session<A> {
 }
 
 impl<A: Memory> Session<A> {
+    ghost use Rattle.cvl_base.specs.Limits.{most_elements};
     ghost use Rattle.bound_names.specs.Names.{value_at};
     ghost use Rattle.vector_handles.specs.Answers.{IsStep};
     ghost use Rattle.bound_names.specs.Arguments.{argument_at, lengths_in};
@@ -93,11 +95,15 @@ impl<A: Memory> Session<A> {
 
     /// The descriptor that an argument stands for, with its starts; of another argument, one without segments.
     pub(crate) fn descriptor_at(&self, args: &[Arg], place: usize) -> &SegDes<A>
-        ensures { result.now ≡ lengths_in (argument_at self.now.names args.now place) }
+        ensures value { result.now ≡ lengths_in (argument_at self.now.names args.now place) }
+        ensures few_segments { length result.now ≤ most_elements }
+        ensures total_in_limit { sum result.now ≤ most_elements }
     {
-        match descriptor_at(&self.names, args, place) {
+        let descriptor = match descriptor_at(&self.names, args, place) {
             Some(descriptor) => descriptor,
             None => &self.no_segments,
-        }
+        };
+        prove!(descriptor.count() <= MOST_ELEMENTS && descriptor.total() <= MOST_ELEMENTS);
+        descriptor
     }
 }
