@@ -13,7 +13,7 @@ mod trouble;
 use crate::cases::{Case, cases_of};
 use crate::outcomes::{outcome_of, tell_difference};
 use crate::trouble::Trouble;
-use cvl_base::{Config, Memory};
+use cvl_base::Config;
 use std::io::Write;
 use std::process::ExitCode;
 use std::rt::{Env, Files};
@@ -37,12 +37,26 @@ fn small_config() -> Config {
     Config::new(2, 3).unwrap()
 }
 
-/// Runs a case on each of its configurations, and tells whether all came out as expected.
-fn run_case<'a, R: Threads + Sync, A: Memory, W: Write>(
+/// Runs a case on a configuration, tells what differs, and answers whether all came out as expected.
+fn run_once<'a, R: AllocGlobal + Threads + Sync, W: Write>(
     rt: &R,
-    alloc: A,
     output: &mut W,
-    case: &Case<'_, A>,
+    config: Config,
+    case: &Case<'_>,
+) -> Result<bool, Trouble<'a>> {
+    let outcome = outcome_of(rt, config, case)?;
+    let expected = outcome.is_expected(case);
+    if !expected {
+        tell_difference(output, config, case, &outcome)?;
+    }
+    Ok(expected)
+}
+
+/// Runs a case on each of its configurations up to one where it differs, and answers whether all came out as expected.
+fn run_case<'a, R: AllocGlobal + Threads + Sync, W: Write>(
+    rt: &R,
+    output: &mut W,
+    case: &Case<'_>,
 ) -> Result<bool, Trouble<'a>> {
     let alone = [small_config()];
     let configs = if case.configs.is_empty() {
@@ -51,9 +65,7 @@ fn run_case<'a, R: Threads + Sync, A: Memory, W: Write>(
         case.configs.as_slice()
     };
     for config in configs {
-        let outcome = outcome_of(rt, alloc, *config, case)?;
-        if !outcome.is_expected(case) {
-            tell_difference(output, *config, case, &outcome)?;
+        if !run_once(rt, output, *config, case)? {
             return Ok(false);
         }
     }
@@ -61,18 +73,28 @@ fn run_case<'a, R: Threads + Sync, A: Memory, W: Write>(
     Ok(true)
 }
 
+/// Runs cases, and tells whether all came out as expected.
+fn run_cases<'a, R: AllocGlobal + Threads + Sync, W: Write>(
+    rt: &R,
+    output: &mut W,
+    cases: &[Case<'_>],
+) -> Result<bool, Trouble<'a>> {
+    let mut all = true;
+    for case in cases {
+        all &= run_case(rt, output, case)?;
+    }
+    Ok(all)
+}
+
 /// Runs the cases of a file, and tells whether all came out as expected.
-fn run_file<'a, R: Files + Alloc<A = A> + Threads + Sync, A: Memory, W: Write>(
+fn run_file<'a, R: Files + AllocGlobal + Threads + Sync, W: Write>(
     rt: &R,
     output: &mut W,
     folder: &str,
     file: &'a [u8],
 ) -> Result<bool, Trouble<'a>> {
-    let mut all = true;
-    for case in &cases_of(rt, folder, file)? {
-        all &= run_case(rt, rt.alloc(), output, case)?;
-    }
-    Ok(all)
+    let cases = cases_of(rt, folder, file)?;
+    run_cases(rt, output, &cases)
 }
 
 /// Tells why the cases of a file cannot be run.
@@ -87,7 +109,7 @@ fn folder_of(name: &str) -> &str {
 }
 
 /// Runs the cases of a file with this name, and answers the status.
-fn run_named<R: Files + Alloc<A = A> + Threads + Sync, A: Memory, W: Write, E: Write>(
+fn run_named<R: Files + AllocGlobal + Threads + Sync, W: Write, E: Write>(
     rt: &R,
     output: &mut W,
     errors: &mut E,
@@ -109,16 +131,15 @@ fn run_words<R: Env + Files + AllocGlobal + Threads + Sync, W: Write, E: Write>(
     output: &mut W,
     errors: &mut E,
 ) -> io::Result<u8> {
-    let mut names = env::args(rt)?.skip(1).peekable();
-    if names.peek().is_none() {
+    let mut status = None;
+    for name in env::args(rt)?.skip(1) {
+        let named = run_named(rt, output, errors, &name);
+        status = Some(named.max(status.unwrap_or(FINE)));
+    }
+    if status.is_none() {
         writeln!(errors, "usage: script_cases FILE ..")?;
-        return Ok(COMMAND_LINE);
     }
-    let mut status = FINE;
-    for name in names {
-        status = status.max(run_named(rt, output, errors, &name));
-    }
-    Ok(status)
+    Ok(status.unwrap_or(COMMAND_LINE))
 }
 
 fn main(rt: HostRuntime) -> ExitCode {

@@ -1,8 +1,9 @@
 //! What comes of a case.
 
 use crate::cases::Case;
-use cvl_base::{Config, Memory, NoResources};
+use cvl_base::{Config, NoResources};
 use script_runs::{MemSink, put_stop, run};
+use std::alloc::Global;
 use std::io;
 use std::io::Write;
 use std::thread::Threads;
@@ -10,13 +11,13 @@ use vector_handles::Input;
 
 /// What a script wrote, and the line that tells why it stopped.
 #[derive(Drop)]
-pub struct Outcome<A: Memory> {
-    text: Vec<u8, A>,
-    stop: Vec<u8, A>,
+pub struct Outcome {
+    text: Vec<u8>,
+    stop: Vec<u8>,
 }
 
 /// The inputs with these bytes.
-fn inputs_of<A: Memory>(alloc: A, files: &[Vec<u8, A>]) -> Result<Vec<Input<A>, A>, NoResources> {
+fn inputs_of(alloc: Global, files: &[Vec<u8>]) -> Result<Vec<Input<Global>>, NoResources> {
     let mut inputs = Vec::with_capacity(alloc, files.len())?;
     for file in files {
         inputs.push(Input::Bytes(Vec::from_slice(alloc, file)?))?;
@@ -25,12 +26,12 @@ fn inputs_of<A: Memory>(alloc: A, files: &[Vec<u8, A>]) -> Result<Vec<Input<A>, 
 }
 
 /// Runs the script of a case.
-pub fn outcome_of<R: Threads + Sync, A: Memory>(
+pub fn outcome_of<R: AllocGlobal + Threads + Sync>(
     rt: &R,
-    alloc: A,
     config: Config,
-    case: &Case<'_, A>,
-) -> Result<Outcome<A>, NoResources> {
+    case: &Case<'_>,
+) -> Result<Outcome, NoResources> {
+    let alloc = rt.alloc();
     let inputs = inputs_of(alloc, &case.inputs)?;
     let mut sink = MemSink::new(alloc);
     let ran = run(rt, alloc, config, &case.script, inputs, &mut sink);
@@ -44,33 +45,33 @@ pub fn outcome_of<R: Threads + Sync, A: Memory>(
     })
 }
 
-impl<A: Memory> Outcome<A> {
+impl Outcome {
     /// Whether it is what the case expects.
-    pub fn is_expected(&self, case: &Case<'_, A>) -> bool {
+    pub fn is_expected(&self, case: &Case<'_>) -> bool {
         self.text == case.text && self.stop == case.stop
     }
 }
 
+/// Writes bytes below a line that tells what they are.
+fn tell_bytes<W: Write>(output: &mut W, what: &str, bytes: &[u8]) -> io::Result<()> {
+    writeln!(output, "-- {what}")?;
+    output.write_all(bytes)
+}
+
 /// Writes what came out beside what was expected.
-pub fn tell_difference<A: Memory, W: Write>(
+pub fn tell_difference<W: Write>(
     output: &mut W,
     config: Config,
-    case: &Case<'_, A>,
-    outcome: &Outcome<A>,
+    case: &Case<'_>,
+    outcome: &Outcome,
 ) -> io::Result<()> {
     let (name, tile, workers) = (case.name, config.tile(), config.workers());
     writeln!(
         output,
         "differs: {name}, on tiles of {tile} and {workers} workers"
     )?;
-    for (what, bytes) in [
-        ("text", &outcome.text),
-        ("text expected", &case.text),
-        ("stop", &outcome.stop),
-        ("stop expected", &case.stop),
-    ] {
-        writeln!(output, "-- {what}")?;
-        output.write_all(bytes)?;
-    }
-    Ok(())
+    tell_bytes(output, "text", &outcome.text)?;
+    tell_bytes(output, "text expected", &case.text)?;
+    tell_bytes(output, "stop", &outcome.stop)?;
+    tell_bytes(output, "stop expected", &case.stop)
 }

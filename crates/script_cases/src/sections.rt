@@ -1,13 +1,14 @@
 //! The sections of a file of cases.
 
-use cvl_base::{Memory, NoResources};
+use cvl_base::NoResources;
+use std::alloc::Global;
 
 /// What a heading's line begins with.
 const MARK: &[u8] = b"== ";
 
 /// A heading, and the lines below it up to the next heading.
 #[derive(Drop)]
-pub struct Section<'a, A: Memory> {
+pub struct Section<'a> {
     /// The heading, without its mark.
     pub heading: &'a str,
     /// What the heading is of: its first word.
@@ -15,12 +16,12 @@ pub struct Section<'a, A: Memory> {
     /// The rest of the heading.
     pub rest: &'a str,
     /// The lines below it, with their line feeds.
-    pub lines: Vec<u8, A>,
+    pub lines: Vec<u8>,
 }
 
 /// The section that a heading begins. A heading that is not UTF-8 is of nothing.
-fn section_of<'a, A: Memory>(alloc: A, heading: &'a [u8]) -> Section<'a, A> {
-    let heading = str::from_utf8(heading).unwrap_or("").trim_end();
+fn section_of<'a>(alloc: Global, heading: &'a [u8]) -> Section<'a> {
+    let heading = str::from_utf8(heading.trim_ascii_end()).unwrap_or("");
     let (what, rest) = heading.split_once(' ').unwrap_or((heading, ""));
     Section {
         heading,
@@ -30,18 +31,25 @@ fn section_of<'a, A: Memory>(alloc: A, heading: &'a [u8]) -> Section<'a, A> {
     }
 }
 
+/// Adds a line to the sections: as a heading that begins one, or below the last heading.
+fn add_line<'a>(
+    alloc: Global,
+    sections: &mut Vec<Section<'a>>,
+    line: &'a [u8],
+) -> Result<(), NoResources> {
+    if let Some(heading) = line.strip_prefix(MARK) {
+        sections.push(section_of(alloc, heading))?;
+    } else if let Some(section) = sections.last_mut() {
+        section.lines.extend_from_slice(line)?;
+    }
+    Ok(())
+}
+
 /// Cuts a file into its sections. What stands before its first heading is left out.
-pub fn sections_of<'a, A: Memory>(
-    alloc: A,
-    file: &'a [u8],
-) -> Result<Vec<Section<'a, A>, A>, NoResources> {
-    let mut sections: Vec<Section<'a, A>, A> = Vec::new(alloc);
+pub fn sections_of<'a>(alloc: Global, file: &'a [u8]) -> Result<Vec<Section<'a>>, NoResources> {
+    let mut sections = Vec::new(alloc);
     for line in file.split_inclusive(|byte| *byte == b'\n') {
-        if let Some(heading) = line.strip_prefix(MARK) {
-            sections.push(section_of(alloc, heading))?;
-        } else if let Some(section) = sections.last_mut() {
-            section.lines.extend_from_slice(line)?;
-        }
+        add_line(alloc, &mut sections, line)?;
     }
     Ok(sections)
 }
