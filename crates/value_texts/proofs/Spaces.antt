@@ -1,7 +1,7 @@
 -- Texts that are appended piece by piece, with spaces and brackets.
 use Rattle.std.proofs.Common.{◌≡◌, ℕ, ◌≤◌, List, [], ◌∷◌, ◌++◌, length, map, take, drop, sym, ap, ◌∙◌, arith, append_assoc, append-nil, length-append, min}
 use Rattle.std.specs.List.{join_with_byte}
-use Rattle.std.proofs.lemmas.List.{length-take, take-take, take-append-le, drop_all}
+use Rattle.std.proofs.lemmas.List.{take_all, length-take, take-take, take-append-le, drop_all}
 use Rattle.value_texts.specs.Texts.{spaced}
 
 -- texts joined by spaces are the first text, and then the others with a space before each
@@ -24,3 +24,16 @@ begins_after old mid more new first later =
 -- what ends where a page ends has nothing after it
 pub nothing_behind : (text page : List ℕ) (end : ℕ) → length page ≤ end → text ++ drop end page ≡ text
 nothing_behind text page end h = ap (λ bs. text ++ bs) (drop_all end page h) ∙ append-nil text
+
+-- an opening bracket (91) appended, and then texts, and then a closing bracket (93): the texts in brackets
+pub bracketed_onto : (old opened mid new texts : List ℕ) → opened ≡ old ++ (91 ∷ []) → mid ≡ opened ++ texts → new ≡ mid ++ (93 ∷ []) → new ≡ old ++ (91 ∷ (texts ++ (93 ∷ [])))
+bracketed_onto old opened mid new texts first inner last =
+    last ∙ ap (λ t. t ++ (93 ∷ [])) (inner ∙ ap (λ t. t ++ texts) first ∙ append_assoc old (91 ∷ []) texts) ∙ append_assoc old (91 ∷ texts) (93 ∷ [])
+
+-- a text that begins with a grown text begins with what grew
+pub begins_before : (old more mid new : List ℕ) → mid ≡ old ++ more → take (length mid) new ≡ mid → take (length old) new ≡ old
+begins_before old more mid new grown later = begins_after old old more new (take_all (length old) old (omega arith)) (rw (← grown) later)
+
+-- a grown text begins with what grew
+pub begins_with : (old more new : List ℕ) → new ≡ old ++ more → take (length old) new ≡ old
+begins_with old more new grown = begins_before old more new new grown (take_all (length new) new (omega arith))
