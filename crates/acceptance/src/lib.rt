@@ -1,6 +1,9 @@
 //! Tests of what needs a host, a sink, refused memory or a script that is long by construction: sinks, the program, the
 //! limits, the recipes, what reads and writes bytes, and each request for memory refused in turn. Scripts with their texts
 //! and faults are the cases of `script_cases`.
+//!
+//! Every call of the library gets the allocator that counts, also where none is refused: so the library is compiled for one
+//! allocator alone.
 #![tactic(auto)]
 
 #[cfg(test)]
