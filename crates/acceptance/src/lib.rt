@@ -2,8 +2,8 @@
 //! limits, the recipes, what reads and writes bytes, and each request for memory refused in turn. Scripts with their texts
 //! and faults are the cases of `script_cases`.
 //!
-//! Every call of the library gets the allocator that counts, also where none is refused: so the library is compiled for one
-//! allocator alone.
+//! Each call of the library takes its memory from `Refusing`, also where no request is refused, so that the library is
+//! compiled for one allocator alone.
 #![tactic(auto)]
 
 #[cfg(test)]
