@@ -1,9 +1,6 @@
 //! Tests of what needs a host, a sink, refused memory or a script that is long by construction: sinks, the program, the
 //! limits, the recipes, what reads and writes bytes, and each request for memory refused in turn. Scripts with their texts
 //! and faults are the cases of `script_cases`.
-//!
-//! Each call of the library takes its memory from `Refusing`, also where no request is refused, so that the library is
-//! compiled for one allocator alone.
 #![tactic(auto)]
 
 #[cfg(test)]

@@ -5,8 +5,7 @@ ghost use Rattle.cvl_base.specs.Limits.{most_elements};
 
 use crate::inputs::inputs_of;
 use cvl_base::limits::{MOST_ELEMENTS, MOST_NAMES, MOST_SCRIPT_BYTES};
-use cvl_base::{Config, Fault, FaultNo, Ints, Memory, NoResources};
-use refusing_memory::Refusing;
+use cvl_base::{Config, Fault, FaultNo, Ints, NoResources};
 use shell::{MemSink, Stop, run};
 use std::alloc::{AllocError, Global};
 use std::test::Fail;
@@ -14,9 +13,9 @@ use std::thread::Threads;
 use vector_handles::Input;
 
 /// How a run of the script on these inputs stops.
-fn stop_of<R: Threads + Sync, A: Memory>(
+fn stop_of<R: Threads + Sync>(
     rt: &R,
-    alloc: A,
+    alloc: Global,
     script: &[u8],
     inputs: &[&str],
 ) -> Result<Option<Stop>, NoResources> {
@@ -35,9 +34,9 @@ fn stop_at(line: u32, number: FaultNo) -> Stop {
 }
 
 /// How a run of as many line feeds stops.
-fn stop_of_line_feeds<R: Threads + Sync, A: Memory>(
+fn stop_of_line_feeds<R: Threads + Sync>(
     rt: &R,
-    alloc: A,
+    alloc: Global,
     count: usize,
 ) -> Result<Option<Stop>, NoResources> {
     let script = vec![in alloc; b'\n'; count]?;
@@ -46,10 +45,9 @@ fn stop_of_line_feeds<R: Threads + Sync, A: Memory>(
 
 #[test]
 fn the_longest_script(rt: HostRuntime) -> Result<(), Fail> {
-    let heap = Refusing::none(rt.alloc());
-    let longest = stop_of_line_feeds(&rt, &heap, MOST_SCRIPT_BYTES)?;
+    let longest = stop_of_line_feeds(&rt, rt.alloc(), MOST_SCRIPT_BYTES)?;
     assert!(rt; longest.is_none());
-    let longer = stop_of_line_feeds(&rt, &heap, MOST_SCRIPT_BYTES + 1)?;
+    let longer = stop_of_line_feeds(&rt, rt.alloc(), MOST_SCRIPT_BYTES + 1)?;
     assert!(rt; longer == Some(stop_at(0, FaultNo::ScriptTooLong)));
     Ok(())
 }
@@ -76,9 +74,9 @@ const LAST_LINES: &[(&str, FaultNo)] = &[
 ];
 
 /// How a run of the bindings, and of a line after them, stops.
-fn stop_after<R: Threads + Sync, A: Memory>(
+fn stop_after<R: Threads + Sync>(
     rt: &R,
-    alloc: A,
+    alloc: Global,
     bound: &str,
     line: &str,
 ) -> Result<Option<Stop>, NoResources> {
@@ -89,23 +87,22 @@ fn stop_after<R: Threads + Sync, A: Memory>(
 
 #[test]
 fn as_many_names_as_there_may_be(rt: HostRuntime) -> Result<(), Fail> {
-    let heap = Refusing::none(rt.alloc());
     let bound = bindings(rt.alloc(), MOST_NAMES)?;
     for (line, number) in LAST_LINES {
-        let stop = stop_after(&rt, &heap, &bound, line)?;
+        let stop = stop_after(&rt, rt.alloc(), &bound, line)?;
         assert!(rt; stop == Some(stop_at(4097, *number)), "{line}");
     }
-    let stop = stop_after(&rt, &heap, &bound, "a0 = add_wuz a1 a1\n")?;
+    let stop = stop_after(&rt, rt.alloc(), &bound, "a0 = add_wuz a1 a1\n")?;
     assert!(rt; stop.is_none());
     Ok(())
 }
 
 /// Two vectors as inputs.
-fn two_inputs<A: Memory>(
-    alloc: A,
-    lengths: Vec<i32, A>,
-    elements: Vec<i32, A>,
-) -> Result<Vec<Input<A>, A>, NoResources>
+fn two_inputs(
+    alloc: Global,
+    lengths: Vec<i32>,
+    elements: Vec<i32>,
+) -> Result<Vec<Input<Global>>, NoResources>
     requires lengths { vec_len lengths ≤ most_elements }
     requires elements { vec_len elements ≤ most_elements }
 {
@@ -116,11 +113,11 @@ fn two_inputs<A: Memory>(
 }
 
 /// The text of the second of two vectors cut by the first.
-fn nested_text<R: Threads + Sync, A: Memory>(
+fn nested_text<R: Threads + Sync>(
     rt: &R,
-    alloc: A,
-    inputs: Vec<Input<A>, A>,
-) -> Result<Vec<u8, A>, Fail> {
+    alloc: Global,
+    inputs: Vec<Input<Global>>,
+) -> Result<Vec<u8>, Fail> {
     let mut sink = MemSink::new(alloc);
     let script = b"l = input 1\nv = input 2\nd = mke_fov l\nwrite v d\n";
     let config = Config::new(4096, 4).unwrap();
@@ -130,10 +127,9 @@ fn nested_text<R: Threads + Sync, A: Memory>(
 
 #[test]
 fn the_longest_descriptor(rt: HostRuntime) -> Result<(), Fail> {
-    let heap = Refusing::none(rt.alloc());
-    let lengths = vec![in &heap; 0; MOST_ELEMENTS]?;
-    let inputs = two_inputs(&heap, lengths, Vec::new(&heap))?;
-    let text = nested_text(&rt, &heap, inputs)?;
+    let lengths = vec![in rt.alloc(); 0; MOST_ELEMENTS]?;
+    let inputs = two_inputs(rt.alloc(), lengths, Vec::new(rt.alloc()))?;
+    let text = nested_text(&rt, rt.alloc(), inputs)?;
     // `v = [`, three bytes a segment with the space before the next, `]` and a line feed
     assert!(rt; text.len() == 3 * MOST_ELEMENTS + 6);
     assert!(rt; text.starts_with(b"v = [[] [] [] ") && text.ends_with(b" [] [] []]\n"));
@@ -142,11 +138,10 @@ fn the_longest_descriptor(rt: HostRuntime) -> Result<(), Fail> {
 
 #[test]
 fn the_longest_vectors(rt: HostRuntime) -> Result<(), Fail> {
-    let heap = Refusing::none(rt.alloc());
-    let lengths = vec![in &heap; 4_194_304; 1]?;
-    let elements = vec![in &heap; 7; MOST_ELEMENTS]?;
-    let inputs = two_inputs(&heap, lengths, elements)?;
-    let text = nested_text(&rt, &heap, inputs)?;
+    let lengths = vec![in rt.alloc(); 4_194_304; 1]?;
+    let elements = vec![in rt.alloc(); 7; MOST_ELEMENTS]?;
+    let inputs = two_inputs(rt.alloc(), lengths, elements)?;
+    let text = nested_text(&rt, rt.alloc(), inputs)?;
     // `v = [[`, two bytes an element with the space before the next, `]]` and a line feed
     assert!(rt; text.len() == 2 * MOST_ELEMENTS + 8);
     assert!(rt; text.starts_with(b"v = [[7 7 7 ") && text.ends_with(b" 7 7 7]]\n"));

@@ -1,9 +1,9 @@
 //! The program's texts, messages and statuses, on a host in memory.
 use crate::small_host::SmallHost;
-use cvl_base::{Memory, NoResources};
+use cvl_base::NoResources;
 use recipes::{LINE_OF_SIGHT, SPARSE_MATVEC};
-use refusing_memory::Refusing;
 use shell::program;
+use std::alloc::Global;
 use std::test::Fail;
 use std::thread::Threads;
 
@@ -222,7 +222,7 @@ enum Outcome<'a> {
 }
 
 /// Whether a program with this status on this host comes out so.
-fn is_outcome<A: Memory>(host: &SmallHost<A>, status: u8, outcome: Outcome) -> bool {
+fn is_outcome(host: &SmallHost<Global>, status: u8, outcome: Outcome) -> bool {
     let output = host.output.taken.as_slice();
     let errors = host.errors.as_slice();
     match outcome {
@@ -248,14 +248,13 @@ fn comes_out<R: Threads + Sync + AllocGlobal>(
     words: &[&str],
     outcome: Outcome,
 ) -> Result<bool, NoResources> {
-    let heap = Refusing::none(rt.alloc());
-    let mut host = SmallHost::with_room(&heap, FILES, 0)?;
+    let mut host = SmallHost::with_room(rt.alloc(), FILES, 0)?;
     match failing {
         Failing::Nothing => {}
         Failing::Flush => host.flushes = false,
         Failing::Puts(puts) => host.output.puts_left = puts,
     }
-    let status = program(rt, &heap, words, &mut host);
+    let status = program(rt, rt.alloc(), words, &mut host);
     Ok(is_outcome(&host, status, outcome))
 }
 

@@ -2,7 +2,6 @@
 use crate::inputs::inputs_of;
 use call_reader::read_line;
 use cvl_base::{Config, Fault, FaultNo, Memory, Name, Refused, Value};
-use refusing_memory::Refusing;
 use std::test::Fail;
 use std::thread::Threads;
 use vector_handles::Session;
@@ -71,12 +70,11 @@ const ROWS: &[(&str, Option<Refused>, [i32; 2])] = &[
 
 #[test]
 fn a_refused_call_changes_no_name(rt: HostRuntime) -> Result<(), Fail> {
-    let heap = Refusing::none(rt.alloc());
-    let inputs = inputs_of(&heap, &["1 0"])?;
+    let inputs = inputs_of(rt.alloc(), &["1 0"])?;
     let config = Config::new(2, 3).unwrap();
-    let mut session = Session::new(&heap, config, inputs)?;
+    let mut session = Session::new(rt.alloc(), config, inputs)?;
     for (line, refused, bound) in ROWS {
-        let applied = apply_line(&rt, &heap, &mut session, line);
+        let applied = apply_line(&rt, rt.alloc(), &mut session, line);
         assert!(rt; applied.err() == *refused, "{line}");
         assert!(rt; holds(&session, b"a", bound), "{line}");
         assert!(rt; has_none(&session, b"b"), "{line}");

@@ -3,7 +3,7 @@
 use crate::vectors::vector_of;
 use cvl_base::{Config, Fault, FaultNo, Memory, Refused};
 use recipes::line_of_sight;
-use refusing_memory::{Refusing, withstands_refusals};
+use refusing_memory::withstands_refusals;
 use std::test::Fail;
 use std::thread::Threads;
 
@@ -59,7 +59,6 @@ fn visible_places_and_faults(rt: HostRuntime) -> Result<(), Fail> {
 
 #[test]
 fn steady_slope(rt: HostRuntime) -> Result<(), Fail> {
-    let heap = Refusing::none(rt.alloc());
     let mut altitudes = Vec::with_capacity(rt.alloc(), MOST_EXACT)?;
     let mut answer = Vec::with_capacity(rt.alloc(), MOST_EXACT)?;
     for altitude in 0..256 {
@@ -67,7 +66,7 @@ fn steady_slope(rt: HostRuntime) -> Result<(), Fail> {
         answer.push(altitude < 2)?;
     }
     assert_eq!(rt;
-        is_answer(&rt, &heap, altitudes.as_slice(), Ok(answer.as_slice())),
+        is_answer(&rt, rt.alloc(), altitudes.as_slice(), Ok(answer.as_slice())),
         Ok(true)
     );
     Ok(())

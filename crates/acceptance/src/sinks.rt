@@ -34,12 +34,11 @@ const ROWS: &[Row] = &[
 
 #[test]
 fn narrow_and_failing_sinks(rt: HostRuntime) -> Result<(), Fail> {
-    let heap = Refusing::none(rt.alloc());
     for (more_a_put, puts, taken, answer) in ROWS {
-        let inputs = inputs_of(&heap, INPUTS)?;
+        let inputs = inputs_of(rt.alloc(), INPUTS)?;
         let config = Config::new(2, 3).unwrap();
-        let mut sink = NarrowSink::new(Vec::new(&heap), *more_a_put, *puts);
-        let ran = run(&rt, &heap, config, SCRIPT, inputs, &mut sink);
+        let mut sink = NarrowSink::new(Vec::new(rt.alloc()), *more_a_put, *puts);
+        let ran = run(&rt, rt.alloc(), config, SCRIPT, inputs, &mut sink);
         let text = sink.taken.as_slice();
         let right = ran == *answer && text.len() == *taken && TEXT.as_bytes().starts_with(text);
         assert!(rt; right, "{more_a_put} {puts}");

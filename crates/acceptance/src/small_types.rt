@@ -1,17 +1,15 @@
 //! The small types over vectors.
 use cvl_base::{Arg, Args, Elements, Lengths};
-use refusing_memory::Refusing;
 use std::test::Fail;
 
 #[test]
 fn vectors_come_back_as_they_went_in(rt: HostRuntime) -> Result<(), Fail> {
-    let heap = Refusing::none(rt.alloc());
-    let lengths = Lengths::from_vec(vec![in &heap; 2, 0, 3]?);
+    let lengths = Lengths::from_vec(vec![in rt.alloc(); 2, 0, 3]?);
     assert_eq!(rt; lengths.into_vec().as_slice(), [2, 0, 3].as_slice());
-    let elements = Elements::from_vec(vec![in &heap; true, false]?);
+    let elements = Elements::from_vec(vec![in rt.alloc(); true, false]?);
     assert!(rt; elements.len() == 2 && !elements.is_empty());
     assert_eq!(rt; elements.into_vec().as_slice(), [true, false].as_slice());
-    let args = Args::from_vec(vec![in &heap; Arg::Integer(7)]?);
+    let args = Args::from_vec(vec![in rt.alloc(); Arg::Integer(7)]?);
     assert!(rt; !args.is_empty());
     assert!(rt; matches!(args.into_vec().as_slice(), [Arg::Integer(7)]));
     Ok(())

@@ -1,6 +1,5 @@
 //! The walks over the runs of a segmented vector, which no call of a script reaches by itself.
 use cvl_base::monoids::Mul;
-use refusing_memory::Refusing;
 use scan_ops::{scan_of_run, sum_of_run};
 use segdes::SegDes;
 use std::test::Fail;
@@ -9,15 +8,14 @@ use std::test::Fail;
 fn runs(rt: HostRuntime) -> Result<(), Fail> {
     // the segments [2, 3, 5, 7], [11], [] and [13]
     let a = [2, 3, 5, 7, 11, 13];
-    let heap = Refusing::none(rt.alloc());
-    let d = SegDes::from_lengths(&heap, &[4, 1, 0, 1])?;
+    let d = SegDes::from_lengths(rt.alloc(), &[4, 1, 0, 1])?;
     let rows = [
         (1, 3, 2, [2, 6].as_slice(), (false, 30)),
         (2, 6, 6, [6, 30, 1, 1].as_slice(), (true, 13)),
         (3, 3, 30, [].as_slice(), (false, 30)),
     ];
     for (from, to, before, sums, sum) in rows {
-        let scanned = scan_of_run::<Mul, _>(&heap, &a, &d, from, to, before)?;
+        let scanned = scan_of_run::<Mul, _>(rt.alloc(), &a, &d, from, to, before)?;
         assert!(rt; scanned.as_slice() == sums, "{from} to {to}");
         let (has_head, last) = sum_of_run::<Mul, _>(&a, &d, from, to, before);
         assert!(rt; has_head == sum.0 && last == sum.1, "{from} to {to}");

@@ -5,7 +5,6 @@ use crate::reading::work::{Work, requests_of};
 use call_reader::read_vector;
 use cvl_base::limits::MOST_ELEMENTS;
 use cvl_base::{Fault, FaultNo, Memory, Refused};
-use refusing_memory::Refusing;
 use std::test::Fail;
 
 /// Each input with its numbers. Numbers with sixteen bytes and more before the end of the input, and with fewer.
@@ -76,10 +75,9 @@ fn numbers_and_refused_memory(rt: HostRuntime) -> Result<(), Fail> {
 
 #[test]
 fn first_bad_tokens(rt: HostRuntime) {
-    let heap = Refusing::none(rt.alloc());
     for (input, place) in BAD_TOKENS {
         let fault = Fault::at(FaultNo::BadInput, *place);
-        let refused = last_of(&heap, input) == Err(Refused::Fault(fault));
+        let refused = last_of(rt.alloc(), input) == Err(Refused::Fault(fault));
         assert!(rt; refused, "{place}");
     }
 }
@@ -114,10 +112,9 @@ const LONG_INPUTS: &[LongInput] = &[
 
 #[test]
 fn long_inputs(rt: HostRuntime) -> Result<(), Fail> {
-    let heap = Refusing::none(rt.alloc());
     for (piece, times, last, wanted) in LONG_INPUTS {
         let input = repeated(rt.alloc(), "", piece, *times, last)?;
-        assert!(rt; last_of(&heap, input.as_bytes()) == *wanted, "{piece}");
+        assert!(rt; last_of(rt.alloc(), input.as_bytes()) == *wanted, "{piece}");
     }
     Ok(())
 }
