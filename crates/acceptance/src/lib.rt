@@ -14,6 +14,8 @@ mod limits;
 #[cfg(test)]
 mod narrow_sink;
 #[cfg(test)]
+mod pieces;
+#[cfg(test)]
 mod products;
 #[cfg(test)]
 mod programs;

@@ -3,7 +3,6 @@
 
 mod inputs;
 mod lines;
-mod pieces;
 mod sinks;
 mod stops;
 mod values;

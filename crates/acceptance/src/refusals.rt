@@ -1,6 +1,7 @@
 //! Each request for memory refused in turn: over a script with every family of calls, over one whose vectors are so long
 //! that threads share them, and over the whole program.
 use crate::inputs::inputs_of;
+use crate::pieces::repeated;
 use crate::small_host::SmallHost;
 use cvl_base::{Config, Memory, NoResources};
 use refusing_memory::{Flaw, withstands_refusals};
@@ -88,24 +89,21 @@ write r
 /// The text of the script of long vectors: the sum of the numbers -1 to -3145728, wrapped.
 const LONG_TEXT: &[u8] = b"r = -1572864\n";
 
-/// The text of a write of as many times the element.
-fn put_line(text: &mut String, first: &str, element: &str) -> Result<(), AllocError> {
-    text.push_str(first)?;
-    for _ in 1..COUNT {
-        text.push_str(element)?;
-        text.push(' ')?;
-    }
-    text.push_str(element)?;
-    text.push_str("]\n")
-}
+/// The lines of the script's text: how each begins, each element but the last with the space after it, and how it ends.
+const LINES: &[(&str, &str, &str)] = &[
+    ("v = [", "[-7] ", "[-7]]\n"),
+    ("e = [", "[T] ", "[T]]\n"),
+    ("i = [", "1 ", "1]\n"),
+    ("d = [", "1 ", "1]\n"),
+];
 
 /// The text of the script.
 fn whole_text(alloc: Global) -> Result<String, AllocError> {
     let mut text = String::new(alloc);
-    put_line(&mut text, "v = [", "[-7]")?;
-    put_line(&mut text, "e = [", "[T]")?;
-    put_line(&mut text, "i = [", "1")?;
-    put_line(&mut text, "d = [", "1")?;
+    for (first, element, last) in LINES {
+        let line = repeated(alloc, first, element, COUNT - 1, last)?;
+        text.push_str(&line)?;
+    }
     Ok(text)
 }
 
@@ -126,15 +124,6 @@ fn run_on<R: Threads + Sync, A: Memory>(
         _ => Ended::Wrong,
     };
     Ok(ended)
-}
-
-/// The number that many times.
-fn repeated(alloc: Global, number: &str) -> Result<String, AllocError> {
-    let mut text = String::new(alloc);
-    for _ in 0..COUNT {
-        text.push_str(number)?;
-    }
-    Ok(text)
 }
 
 const FILES: &[(&str, &str)] = &[
@@ -224,8 +213,8 @@ fn requests_of<R: Threads + Sync + AllocGlobal>(rt: &R, work: Work) -> Result<u6
 #[test]
 fn each_growth_of_a_run(rt: HostRuntime) -> Result<(), Fail> {
     let text = whole_text(rt.alloc())?;
-    let ones = repeated(rt.alloc(), "1 ")?;
-    let sevens = repeated(rt.alloc(), "-7 ")?;
+    let ones = repeated(rt.alloc(), "", "1 ", COUNT, "")?;
+    let sevens = repeated(rt.alloc(), "", "-7 ", COUNT, "")?;
     let inputs = [ones.as_str(), sevens.as_str()];
     let requests = requests_of(
         &rt,

@@ -1,6 +1,6 @@
 //! Inputs.
 
-use crate::reading::pieces::repeated;
+use crate::pieces::repeated;
 use crate::reading::work::{Work, requests_of};
 use call_reader::read_vector;
 use cvl_base::limits::MOST_ELEMENTS;

@@ -1,6 +1,6 @@
 //! Lines of a script.
 
-use crate::reading::pieces::repeated;
+use crate::pieces::repeated;
 use crate::reading::work::{Work, requests_of};
 use call_reader::read_line;
 use cvl_base::{Arg, Call, Memory, Refused};

@@ -3,8 +3,8 @@
 ghost use Rattle.std.specs.Prelude.{◌≡◌, is_ok};
 ghost use Rattle.call_reader.specs.Texts.{cut_text};
 
+use crate::pieces::repeated;
 use crate::reading::inputs::last_of;
-use crate::reading::pieces::repeated;
 use crate::reading::work::{Work, is_appended, requests_of};
 use call_reader::{put_value, read_vector};
 use cvl_base::{Bools, Ints, Kind, Memory, NoResources, Refused, Value};
