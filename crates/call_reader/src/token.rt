@@ -6,7 +6,7 @@ ghost use Rattle.call_reader.specs.Numbers.{is_empty};
 ghost use Rattle.call_reader.specs.Tokens.{tokens_by, AreTokens, IsFirstToken, is_blank, is_part, begins_with_part, begins_with_blank};
 
 /// What a byte is to the tokens.
-#[derive(Clone, Copy, Debug, PartialEq, Eq, Hash)]
+#[derive(Clone, Copy, Debug, PartialEq, Eq)]
 pub enum ByteClass {
     /// It stands between tokens.
     Blank,

@@ -4,7 +4,7 @@ ghost use Rattle.std.specs.Prelude.{◌≡◌};
 ghost use Rattle.call_table.specs.Letters.{int_binary_letters, unary_letters, comparison_letters, bool_binary_letters, int_monoid_letters, form_letters, cut_and_element_letters};
 
 /// An operator on two integer vectors, element by element, whose result is an integer vector.
-#[derive(Clone, Copy, Debug, PartialEq, Eq, Hash)]
+#[derive(Clone, Copy, Debug, PartialEq, Eq)]
 pub enum IntBinary {
     /// The sum, wrapped to 32 bits.
     Add,
@@ -55,7 +55,7 @@ impl IntBinary {
 }
 
 /// An operator on one vector, element by element.
-#[derive(Clone, Copy, Debug, PartialEq, Eq, Hash)]
+#[derive(Clone, Copy, Debug, PartialEq, Eq)]
 pub enum Unary {
     /// Each bit, or each boolean, inverted.
     Not,
@@ -76,7 +76,7 @@ impl Unary {
 }
 
 /// A comparison of two integer vectors, element by element, on signed numbers.
-#[derive(Clone, Copy, Debug, PartialEq, Eq, Hash)]
+#[derive(Clone, Copy, Debug, PartialEq, Eq)]
 pub enum Comparison {
     /// The first is greater.
     Greater,
@@ -109,7 +109,7 @@ impl Comparison {
 }
 
 /// An operator on two booleans. All three are associative, so that they scan and reduce too.
-#[derive(Clone, Copy, Debug, PartialEq, Eq, Hash)]
+#[derive(Clone, Copy, Debug, PartialEq, Eq)]
 pub enum BoolBinary {
     /// Both are true.
     And,
@@ -133,7 +133,7 @@ impl BoolBinary {
 }
 
 /// An associative operator on integers, by which a vector is scanned or reduced.
-#[derive(Clone, Copy, Debug, PartialEq, Eq, Hash)]
+#[derive(Clone, Copy, Debug, PartialEq, Eq)]
 pub enum IntMonoid {
     /// The sum, wrapped to 32 bits.
     Add,
@@ -169,7 +169,7 @@ impl IntMonoid {
 }
 
 /// How a permute moves the elements of its source.
-#[derive(Clone, Copy, Debug, PartialEq, Eq, Hash)]
+#[derive(Clone, Copy, Debug, PartialEq, Eq)]
 pub enum Form {
     /// Each source element goes to the place that its index names.
     Simple,
@@ -196,7 +196,7 @@ impl Form {
 }
 
 /// Whether a call takes its vectors whole or segment by segment.
-#[derive(Clone, Copy, Debug, PartialEq, Eq, Hash)]
+#[derive(Clone, Copy, Debug, PartialEq, Eq)]
 pub enum Cut {
     /// The vectors whole; in a call's name `u`, unsegmented.
     Flat,
@@ -205,7 +205,7 @@ pub enum Cut {
 }
 
 /// What the elements of a call's vectors are.
-#[derive(Clone, Copy, Debug, PartialEq, Eq, Hash)]
+#[derive(Clone, Copy, Debug, PartialEq, Eq)]
 pub enum Element {
     /// Integers; in a call's name `z`.
     Integer,

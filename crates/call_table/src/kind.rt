@@ -1,7 +1,7 @@
 //! The five kinds of values.
 
 /// What a value of a script is: each argument and each result of a call has one of these kinds.
-#[derive(Clone, Copy, Debug, PartialEq, Eq, Hash)]
+#[derive(Clone, Copy, Debug, PartialEq, Eq)]
 pub enum Kind {
     /// A vector of 32-bit integers.
     Integers,

@@ -10,7 +10,7 @@ use crate::table::row_of;
 /// What a line of a script asks for: one call of the library, or `write`.
 ///
 /// Each family's calls take and give the same kinds of values, and are performed by one kernel.
-#[derive(Clone, Copy, Debug, PartialEq, Eq, Hash)]
+#[derive(Clone, Copy, Debug, PartialEq, Eq)]
 pub enum Op {
     /// `input`: the vector of an input, by its number from 1.
     Input,

@@ -7,7 +7,7 @@ use std::marker::Model;
 use thiserror::Error;
 
 /// A length of tiles, in elements, and a number of workers.
-#[derive(Clone, Copy, Debug, PartialEq, Eq, Hash)]
+#[derive(Clone, Copy, Debug, PartialEq, Eq)]
 pub struct Config {
     tile: u32,
     workers: u32,
@@ -27,7 +27,7 @@ impl Model for Config {
 }
 
 /// Why there is no such configuration.
-#[derive(Clone, Copy, Debug, PartialEq, Eq, Hash, Error)]
+#[derive(Clone, Copy, Debug, PartialEq, Eq, Error)]
 pub enum BadConfig {
     /// The length of tiles is outside 1 to 65,536.
     #[error("a tile has 1 to 65536 elements")]

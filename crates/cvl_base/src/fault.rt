@@ -5,7 +5,7 @@ ghost use Rattle.std.specs.Prelude.{◌≡◌, Some};
 use std::fmt;
 
 /// The kinds of faults, in the order of their numbers.
-#[derive(Clone, Copy, Debug, PartialEq, Eq, Hash)]
+#[derive(Clone, Copy, Debug, PartialEq, Eq)]
 pub enum FaultNo {
     /// The line has none of the forms of a line.
     BadLine,
@@ -114,7 +114,7 @@ impl fmt::Display for FaultNo {
 }
 
 /// A fault with its place. It is shown as its number and name, and then its place, where it has one.
-#[derive(Clone, Copy, Debug, PartialEq, Eq, Hash)]
+#[derive(Clone, Copy, Debug, PartialEq, Eq)]
 pub struct Fault {
     /// Which fault it is.
     pub number: FaultNo,

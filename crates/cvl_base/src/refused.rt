@@ -7,7 +7,7 @@ use crate::fault::Fault;
 use std::alloc::{AllocError, AllocFailed};
 
 /// A growth was refused: there is no memory for what the call would make.
-#[derive(Clone, Copy, Debug, PartialEq, Eq, Hash)]
+#[derive(Clone, Copy, Debug, PartialEq, Eq)]
 pub struct NoResources;
 
 impl From<AllocError> for NoResources {
@@ -23,7 +23,7 @@ impl<T: Drop> From<AllocFailed<T>> for NoResources {
 }
 
 /// A call has no value: its arguments have a fault, or a growth was refused.
-#[derive(Clone, Copy, Debug, PartialEq, Eq, Hash)]
+#[derive(Clone, Copy, Debug, PartialEq, Eq)]
 pub enum Refused {
     /// The first fault of the call, in the order of checks.
     Fault(Fault),

@@ -8,7 +8,7 @@ use cvl_base::{Memory, NoResources};
 use std::alloc::Allocator;
 
 /// A sink has failed.
-#[derive(Clone, Copy, Debug, PartialEq, Eq, Hash)]
+#[derive(Clone, Copy, Debug, PartialEq, Eq)]
 pub struct SinkFault;
 
 /// What takes the text of a script, a front at a time.

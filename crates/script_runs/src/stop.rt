@@ -8,7 +8,7 @@ use std::fmt;
 use thiserror::Error;
 
 /// Why a run stopped before the end of its script. Lines count from 1, and line 0 is before the first.
-#[derive(Clone, Copy, Debug, PartialEq, Eq, Hash, Error)]
+#[derive(Clone, Copy, Debug, PartialEq, Eq, Error)]
 pub enum Stop {
     /// A line has a fault.
     Script {

@@ -3,33 +3,33 @@
 use crate::pieces::repeated;
 use crate::reading::work::{Work, requests_of};
 use call_reader::read_line;
-use cvl_base::{Arg, Call, Memory, Refused};
+use cvl_base::{Call, Memory, Refused};
 use std::test::Fail;
 
 /// Each line with what it reads as: a call, as its target, its operation and its arguments; nothing; or the fault.
 const LINES: &[(&[u8], &str)] = &[
-    (b"a = input 1", "\"a\" Input 1"),
-    (b"a=input 1", "\"a\" Input 1"),
-    (b"\ta \t=\tinput\t1 ", "\"a\" Input 1"),
-    (b"a = input 1 # two # three", "\"a\" Input 1"),
-    (b"a = input 1#\x00\xff", "\"a\" Input 1"),
-    (b"a = input 007", "\"a\" Input 7"),
-    (b"a = input -0", "\"a\" Input 0"),
-    (b"a = input T", "\"a\" Input true"),
+    (b"a = input 1", "Some(\"a\") Input [Integer(1)]"),
+    (b"a=input 1", "Some(\"a\") Input [Integer(1)]"),
+    (b"\ta \t=\tinput\t1 ", "Some(\"a\") Input [Integer(1)]"),
+    (b"a = input 1 # two # three", "Some(\"a\") Input [Integer(1)]"),
+    (b"a = input 1#\x00\xff", "Some(\"a\") Input [Integer(1)]"),
+    (b"a = input 007", "Some(\"a\") Input [Integer(7)]"),
+    (b"a = input -0", "Some(\"a\") Input [Integer(0)]"),
+    (b"a = input T", "Some(\"a\") Input [Boolean(true)]"),
     (
         b"c = add_wuz q -2147483648",
-        "\"c\" Ints2(Add) \"q\" -2147483648",
+        "Some(\"c\") Ints2(Add) [Name(\"q\"), Integer(-2147483648)]",
     ),
     (
         b"input = add_wuz input input",
-        "\"input\" Ints2(Add) \"input\" \"input\"",
+        "Some(\"input\") Ints2(Add) [Name(\"input\"), Name(\"input\")]",
     ),
     (
         b"a2345678901234567890123456789012 = input F",
-        "\"a2345678901234567890123456789012\" Input false",
+        "Some(\"a2345678901234567890123456789012\") Input [Boolean(false)]",
     ),
-    (b"write a", "Write \"a\""),
-    (b"write v d", "Write \"v\" \"d\""),
+    (b"write a", "None Write [Name(\"a\")]"),
+    (b"write v d", "None Write [Name(\"v\"), Name(\"d\")]"),
     (b"", "nothing"),
     (b" \t", "nothing"),
     (b"#", "nothing"),
@@ -80,26 +80,10 @@ const LINES: &[(&[u8], &str)] = &[
     (b"a = input 1\r", "fault 6 BadNumber"),
 ];
 
-/// Appends an argument.
-fn put_arg<A: Memory>(text: &mut String<A>, arg: &Arg) -> Result<(), Refused> {
-    match arg {
-        Arg::Name(name) => write!(text, " {name:?}")?,
-        Arg::Integer(n) => write!(text, " {n}")?,
-        Arg::Boolean(b) => write!(text, " {b}")?,
-    }
-    Ok(())
-}
-
-/// Appends a call in one line, its operation as `Debug` shows it.
+/// Appends a call's target, its operation and its arguments, as `Debug` shows them.
 fn put_call<A: Memory>(text: &mut String<A>, call: &Call<A>) -> Result<(), Refused> {
-    if let Some(name) = &call.target {
-        write!(text, "{name:?} ")?;
-    }
-    let op = call.op;
-    write!(text, "{op:?}")?;
-    for arg in call.args.as_slice() {
-        put_arg(text, arg)?;
-    }
+    let (target, op, args) = (call.target, call.op, call.args.as_slice());
+    write!(text, "{target:?} {op:?} {args:?}")?;
     Ok(())
 }
 
@@ -131,7 +115,7 @@ fn lines_and_refused_memory(rt: HostRuntime) -> Result<(), Fail> {
 #[test]
 fn a_long_line_and_refused_memory(rt: HostRuntime) -> Result<(), Fail> {
     let line = repeated(rt.alloc(), "c = add_wuz", "\t ", 20_000, "a b#")?;
-    let wanted = "\"c\" Ints2(Add) \"a\" \"b\"";
+    let wanted = "Some(\"c\") Ints2(Add) [Name(\"a\"), Name(\"b\")]";
     requests_of(rt.alloc(), Work::Line(line.as_bytes(), wanted))?;
     Ok(())
 }
