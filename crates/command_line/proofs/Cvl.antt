@@ -12,7 +12,9 @@ use Rattle.clap.specs.Walk.{Rule, Text, rows_of, rule_of, texts}
 use Rattle.clap.specs.Simple.{App, HasMatchesOf, app_of, is_simple, matches_of}
 use Rattle.clap.specs.Faults.{fault_of, is_simple_and_free}
 use Rattle.clap.specs.Kinds.{HasKind, Kinds}
+use Rattle.clap.specs.Words.{kind_of, takes}
 use Rattle.clap.specs.declared.error.Error.{Error}
+use Rattle.clap.specs.declared.error.kind.ErrorKind.TheVariants.{OutOfMemory}
 use Rattle.clap.specs.declared.builder.arg.Arg.{Arg}
 use Rattle.clap.specs.declared.builder.command.Command.{Command}
 use Rattle.clap.specs.declared.builder.command.Command.TheViews.{out-Command}
@@ -215,3 +217,10 @@ pub refused_by : (W : Type 0) (kinds : Kinds) (error : Error) (why : WordsFault)
 refused_by W kinds error (fault.Refused e) (inl memory) h = absurd (h.1 memory)
 refused_by W kinds error (fault.Refused e) (inr among) h = rw h.0 among
 refused_by W kinds error fault.NoResources has h = tt
+
+-- where the command takes the words, what fails is out of memory
+pub out_of_memory_by : (app : App) (words : List Text) (error : Error) (why : WordsFault) → app ≡ cvl → (takes app words ≡ true → kind_of error ≡ OutOfMemory)
+    → IsFaultOf error why → takes cvl words ≡ true → why ≡ fault.NoResources
+out_of_memory_by app words error (fault.Refused e) same memory h taken =
+    absurd (h.1 (memory (subst (λ (x : App). takes x words ≡ true) (sym same) taken)))
+out_of_memory_by app words error fault.NoResources same memory h taken = refl

@@ -11,7 +11,10 @@ const LINES: &[(&[u8], &str)] = &[
     (b"a = input 1", "Some(\"a\") Input [Integer(1)]"),
     (b"a=input 1", "Some(\"a\") Input [Integer(1)]"),
     (b"\ta \t=\tinput\t1 ", "Some(\"a\") Input [Integer(1)]"),
-    (b"a = input 1 # two # three", "Some(\"a\") Input [Integer(1)]"),
+    (
+        b"a = input 1 # two # three",
+        "Some(\"a\") Input [Integer(1)]",
+    ),
     (b"a = input 1#\x00\xff", "Some(\"a\") Input [Integer(1)]"),
     (b"a = input 007", "Some(\"a\") Input [Integer(7)]"),
     (b"a = input -0", "Some(\"a\") Input [Integer(0)]"),

@@ -2,7 +2,7 @@ use Rattle.std.proofs.Common.{◌≡◌, []}
 use Rattle.clap.specs.Kinds.{HasKind, Kinds}
 use Rattle.clap.specs.Walk.{texts}
 use Rattle.clap.specs.declared.parser.matches.ArgMatches.{ArgMatches}
-use Rattle.command_line.proofs.Cvl.{faults_by, matches_by, refused_by, whole}
+use Rattle.command_line.proofs.Cvl.{faults_by, matches_by, out_of_memory_by, refused_by, whole}
 use Rattle.command_line.proofs.parse.parsed.Goals as goal
 
 pub returns-in-Ok-clause-whole : goal.returns-in-Ok-clause-whole
@@ -22,3 +22,8 @@ returns-in-Err-clause-faults c =
     refused_by ArgMatches _ c.in-Err.error c.fault_of.result
     (faults_by (λ (kinds : Kinds). HasKind kinds c.in-Err.error) _ (texts c.args.words.now) c.in_ok-command.ensures
     c.in-Err.ensures.kinds) c.fault_of.ensures
+
+pub returns-in-Err-clause-taken : goal.returns-in-Err-clause-taken
+returns-in-Err-clause-taken c =
+    out_of_memory_by _ (texts c.args.words.now) c.in-Err.error c.fault_of.result c.in_ok-command.ensures c.in-Err.ensures.passes
+    c.fault_of.ensures
