@@ -1,6 +1,6 @@
 -- The arguments of a call as values, and the check of their kinds.
 -- Source: this library's script format.
-use Rattle.std.specs.Prelude.{ℕ, ◌+◌, Bool, false, List, [], ◌∷◌, slice_get, Option, Some, None, option_and_then, option_map, unwrap_or, ℤ, pos, if◌then◌else◌}
+use Rattle.std.specs.Prelude.{◌≡◌, ℕ, ◌+◌, Bool, false, List, [], ◌∷◌, slice_get, Option, Some, None, option_and_then, option_map, unwrap_or, ℤ, pos, if◌then◌else◌}
 use Rattle.cvl_base.specs.declared.value.Value.{Value}
 use Rattle.cvl_base.specs.declared.value.Value.TheVariants as value
 use Rattle.cvl_base.specs.declared.call.Arg.{Arg}
@@ -69,3 +69,8 @@ module _ {A : Type 0} where
   abbrev pub boolean_in : Option (Value A) → Bool
   boolean_in (Some (value.Boolean b)) = b
   boolean_in _ = false
+
+  -- two arguments hold the same vector, or the same descriptor
+  abbrev pub SameVector : Option (Value A) → Option (Value A) → Type 0
+  SameVector v w =
+      (integers_in v ≡ integers_in w) × (booleans_in v ≡ booleans_in w) × (descriptor_in v ≡ descriptor_in w)
