@@ -1,6 +1,7 @@
 -- The table of calls: the name of each, the kinds of the arguments that it takes, in their order, and the kind that it gives.
--- Source: the calls of CVL, the C Vector Library (Blelloch and others, 1993); their names, orders and exceptions are this library's profile.
-use Rattle.std.specs.Prelude.{ℕ, Bool, true, false, if◌then◌else◌, ◌&&◌, ◌||◌, ◌==◌, List, [], ◌∷◌, ◌++◌, length, slice_get, codes, Option, Some, None}
+-- Source: the calls of CVL, the C Vector Library (Blelloch and others, 1993); names, orders and exceptions are this library's profile.
+use Rattle.std.specs.Prelude.{ℕ, Bool, true, false, if◌then◌else◌, ◌&&◌, ◌||◌, ◌==◌}
+use Rattle.std.specs.Prelude.{List, [], ◌∷◌, ◌++◌, length, slice_get, codes, Option, Some, None}
 use Rattle.call_table.specs.declared.kind.Kind.{Kind}
 use Rattle.call_table.specs.declared.kind.Kind.TheVariants.{Integers, Booleans, Descriptor, Integer, Boolean}
 use Rattle.call_table.specs.declared.families.Form.{Form}
@@ -8,19 +9,23 @@ use Rattle.call_table.specs.declared.families.Form.TheVariants.{Simple, Back, Se
 use Rattle.call_table.specs.declared.families.Cut.{Cut}
 use Rattle.call_table.specs.declared.families.Cut.TheVariants.{Flat, Segmented}
 use Rattle.call_table.specs.declared.families.Element.{Element}
-use Rattle.call_table.specs.declared.families.Element.TheVariants as elements
+use Rattle.call_table.specs.declared.families.Element.TheVariants as of
 use Rattle.call_table.specs.declared.operation.Op.{Op}
-use Rattle.call_table.specs.declared.operation.Op.TheVariants.{Input, Ints2, Ints1, Compare, Bools2, Bools1, Choose, IntFromBool, BoolFromInt, Scan, Reduce, BoolScan, BoolReduce, Permute, Length, Count, Pack, PackedLengths, Distribute, Index, Extract, Replace, MakeDescriptor, DescriptorLengths, Write}
-use Rattle.call_table.specs.Letters.{int_binary_letters, unary_letters, comparison_letters, bool_binary_letters, int_monoid_letters, form_letters, call_name_of}
+use Rattle.call_table.specs.declared.operation.Op.TheVariants.{Input, Ints2, Ints1, Compare, Bools2, Bools1, Choose, IntFromBool}
+use Rattle.call_table.specs.declared.operation.Op.TheVariants.{BoolFromInt, Scan, Reduce, BoolScan, BoolReduce, Permute, Length, Count}
+use Rattle.call_table.specs.declared.operation.Op.TheVariants.{Pack, PackedLengths, Distribute, Index, Extract, Replace}
+use Rattle.call_table.specs.declared.operation.Op.TheVariants.{MakeDescriptor, DescriptorLengths, Write}
+use Rattle.call_table.specs.Letters.{int_binary_letters, unary_letters, comparison_letters, bool_binary_letters, int_monoid_letters}
+use Rattle.call_table.specs.Letters.{form_letters, call_name_of}
 
 -- a single value, and a vector of such values
 abbrev pub single_of : Element → Kind
-single_of elements.Integer = Integer
-single_of elements.Boolean = Boolean
+single_of of.Integer = Integer
+single_of of.Boolean = Boolean
 
 abbrev pub vector_of : Element → Kind
-vector_of elements.Integer = Integers
-vector_of elements.Boolean = Booleans
+vector_of of.Integer = Integers
+vector_of of.Boolean = Booleans
 
 -- one value for the whole vector, or one for each segment
 abbrev pub each_of : Cut → Element → Kind
@@ -47,6 +52,21 @@ permuted_by Back cut element = vector_of element ∷ Integers ∷ cut_by_both cu
 permuted_by Select cut element = vector_of element ∷ Integers ∷ Booleans ∷ cut_by cut
 permuted_by Default cut element = vector_of element ∷ Integers ∷ vector_of element ∷ cut_by_both cut
 
+-- those of a choice: flags, and the two vectors that are chosen from
+abbrev chosen_by : Element → List Kind
+chosen_by element = Booleans ∷ vector_of element ∷ vector_of element ∷ []
+
+-- those of an extract and of a replace: a vector, an index into it or into each segment, and maybe a value for it
+abbrev extracted_by : Cut → Element → List Kind
+extracted_by cut element = vector_of element ∷ each_of cut of.Integer ∷ cut_by cut
+
+abbrev replaced_by : Cut → Element → List Kind
+replaced_by cut element = vector_of element ∷ each_of cut of.Integer ∷ each_of cut element ∷ cut_by cut
+
+-- those of an index: an init and a stride, and how long the vector is to be
+abbrev indexed_by : Cut → List Kind
+indexed_by cut = each_of cut of.Integer ∷ each_of cut of.Integer ∷ extent_of cut ∷ []
+
 -- a row of the table: a call's name, its arguments in the order of the script, and what it gives
 pub record Row : Type 0 where
   pub name : List ℕ
@@ -56,30 +76,34 @@ pub record Row : Type 0 where
 abbrev row : List ℕ → List Kind → Option Kind → Row
 row name operands result = record { name = name; operands = operands; result = result }
 
+-- the row of a call whose name is made of letters
+abbrev call : List ℕ → List ℕ → Cut → Element → List Kind → Kind → Row
+call operator class cut element operands result = row (call_name_of operator class cut element) operands (Some result)
+
 -- the table; `write` is no call, gives no value, and takes what `accepts_of` says
 abbrev pub row_of : Op → Row
 row_of Input = row (codes "input") (Integer ∷ []) (Some Integers)
-row_of (Ints2 operator) = row (call_name_of (int_binary_letters operator) (codes "_w") Flat elements.Integer) (Integers ∷ Integers ∷ []) (Some Integers)
-row_of (Ints1 operator) = row (call_name_of (unary_letters operator) (codes "_w") Flat elements.Integer) (Integers ∷ []) (Some Integers)
-row_of (Compare operator) = row (call_name_of (comparison_letters operator) (codes "_w") Flat elements.Integer) (Integers ∷ Integers ∷ []) (Some Booleans)
-row_of (Bools2 operator) = row (call_name_of (bool_binary_letters operator) (codes "_w") Flat elements.Boolean) (Booleans ∷ Booleans ∷ []) (Some Booleans)
-row_of (Bools1 operator) = row (call_name_of (unary_letters operator) (codes "_w") Flat elements.Boolean) (Booleans ∷ []) (Some Booleans)
-row_of (Choose element) = row (call_name_of (codes "sel") (codes "_w") Flat element) (Booleans ∷ vector_of element ∷ vector_of element ∷ []) (Some (vector_of element))
-row_of IntFromBool = row (call_name_of (codes "int") (codes "_w") Flat elements.Boolean) (Booleans ∷ []) (Some Integers)
-row_of BoolFromInt = row (call_name_of (codes "boo") (codes "_w") Flat elements.Integer) (Integers ∷ []) (Some Booleans)
-row_of (Scan operator cut) = row (call_name_of (int_monoid_letters operator) (codes "_s") cut elements.Integer) (Integers ∷ cut_by cut) (Some Integers)
-row_of (Reduce operator cut) = row (call_name_of (int_monoid_letters operator) (codes "_r") cut elements.Integer) (Integers ∷ cut_by cut) (Some (each_of cut elements.Integer))
-row_of (BoolScan operator cut) = row (call_name_of (bool_binary_letters operator) (codes "_s") cut elements.Boolean) (Booleans ∷ cut_by cut) (Some Booleans)
-row_of (BoolReduce operator cut) = row (call_name_of (bool_binary_letters operator) (codes "_r") cut elements.Boolean) (Booleans ∷ cut_by cut) (Some (each_of cut elements.Boolean))
-row_of (Permute form cut element) = row (call_name_of (form_letters form) (codes "_p") cut element) (permuted_by form cut element) (Some (vector_of element))
-row_of (Length element) = row (call_name_of (codes "len") (codes "_l") Flat element) (vector_of element ∷ []) (Some Integer)
-row_of (Count cut) = row (call_name_of (codes "cnt") (codes "_l") cut elements.Boolean) (Booleans ∷ cut_by cut) (Some (each_of cut elements.Integer))
-row_of (Pack cut element) = row (call_name_of (codes "pck") (codes "_l") cut element) (vector_of element ∷ Booleans ∷ cut_by cut) (Some (vector_of element))
+row_of (Ints2 op) = call (int_binary_letters op) (codes "_w") Flat of.Integer (Integers ∷ Integers ∷ []) Integers
+row_of (Ints1 op) = call (unary_letters op) (codes "_w") Flat of.Integer (Integers ∷ []) Integers
+row_of (Compare op) = call (comparison_letters op) (codes "_w") Flat of.Integer (Integers ∷ Integers ∷ []) Booleans
+row_of (Bools2 op) = call (bool_binary_letters op) (codes "_w") Flat of.Boolean (Booleans ∷ Booleans ∷ []) Booleans
+row_of (Bools1 op) = call (unary_letters op) (codes "_w") Flat of.Boolean (Booleans ∷ []) Booleans
+row_of (Choose element) = call (codes "sel") (codes "_w") Flat element (chosen_by element) (vector_of element)
+row_of IntFromBool = call (codes "int") (codes "_w") Flat of.Boolean (Booleans ∷ []) Integers
+row_of BoolFromInt = call (codes "boo") (codes "_w") Flat of.Integer (Integers ∷ []) Booleans
+row_of (Scan op cut) = call (int_monoid_letters op) (codes "_s") cut of.Integer (Integers ∷ cut_by cut) Integers
+row_of (Reduce op cut) = call (int_monoid_letters op) (codes "_r") cut of.Integer (Integers ∷ cut_by cut) (each_of cut of.Integer)
+row_of (BoolScan op cut) = call (bool_binary_letters op) (codes "_s") cut of.Boolean (Booleans ∷ cut_by cut) Booleans
+row_of (BoolReduce op cut) = call (bool_binary_letters op) (codes "_r") cut of.Boolean (Booleans ∷ cut_by cut) (each_of cut of.Boolean)
+row_of (Permute form cut element) = call (form_letters form) (codes "_p") cut element (permuted_by form cut element) (vector_of element)
+row_of (Length element) = call (codes "len") (codes "_l") Flat element (vector_of element ∷ []) Integer
+row_of (Count cut) = call (codes "cnt") (codes "_l") cut of.Boolean (Booleans ∷ cut_by cut) (each_of cut of.Integer)
+row_of (Pack cut element) = call (codes "pck") (codes "_l") cut element (vector_of element ∷ Booleans ∷ cut_by cut) (vector_of element)
 row_of PackedLengths = row (codes "pck_fov") (Booleans ∷ Descriptor ∷ []) (Some Descriptor)
-row_of (Distribute cut element) = row (call_name_of (codes "dis") (codes "_v") cut element) (each_of cut element ∷ extent_of cut ∷ []) (Some (vector_of element))
-row_of (Index cut) = row (call_name_of (codes "ind") (codes "_l") cut elements.Integer) (each_of cut elements.Integer ∷ each_of cut elements.Integer ∷ extent_of cut ∷ []) (Some Integers)
-row_of (Extract cut element) = row (call_name_of (codes "ext") (codes "_v") cut element) (vector_of element ∷ each_of cut elements.Integer ∷ cut_by cut) (Some (each_of cut element))
-row_of (Replace cut element) = row (call_name_of (codes "rep") (codes "_v") cut element) (vector_of element ∷ each_of cut elements.Integer ∷ each_of cut element ∷ cut_by cut) (Some (vector_of element))
+row_of (Distribute cut element) = call (codes "dis") (codes "_v") cut element (each_of cut element ∷ extent_of cut ∷ []) (vector_of element)
+row_of (Index cut) = call (codes "ind") (codes "_l") cut of.Integer (indexed_by cut) Integers
+row_of (Extract cut element) = call (codes "ext") (codes "_v") cut element (extracted_by cut element) (each_of cut element)
+row_of (Replace cut element) = call (codes "rep") (codes "_v") cut element (replaced_by cut element) (vector_of element)
 row_of MakeDescriptor = row (codes "mke_fov") (Integers ∷ []) (Some Descriptor)
 row_of DescriptorLengths = row (codes "len_fos") (Descriptor ∷ []) (Some Integers)
 row_of Write = row (codes "write") [] None
@@ -127,4 +151,5 @@ is_operand (Some wanted) kind = same_kind wanted kind
 
 -- among so many arguments, may the one at this place have this kind?
 abbrev pub accepts_of : Op → ℕ → ℕ → Kind → Bool
-accepts_of op count place kind = if is_write op then write_accepts count place kind else is_operand (slice_get (operands_of op) place) kind
+accepts_of op count place kind =
+    if is_write op then write_accepts count place kind else is_operand (slice_get (operands_of op) place) kind

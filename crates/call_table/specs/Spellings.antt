@@ -18,7 +18,10 @@ use Rattle.call_table.specs.declared.families.Cut.TheVariants.{Flat, Segmented}
 use Rattle.call_table.specs.declared.families.Element.{Element}
 use Rattle.call_table.specs.declared.families.Element.TheVariants.{Integer, Boolean}
 use Rattle.call_table.specs.declared.operation.Op.{Op}
-use Rattle.call_table.specs.declared.operation.Op.TheVariants.{Input, Ints2, Ints1, Compare, Bools2, Bools1, Choose, IntFromBool, BoolFromInt, Scan, Reduce, BoolScan, BoolReduce, Permute, Length, Count, Pack, PackedLengths, Distribute, Index, Extract, Replace, MakeDescriptor, DescriptorLengths}
+use Rattle.call_table.specs.declared.operation.Op.TheVariants.{Input, Ints2, Ints1, Compare, Bools2, Bools1, Choose, IntFromBool}
+use Rattle.call_table.specs.declared.operation.Op.TheVariants.{BoolFromInt, Scan, Reduce, BoolScan, BoolReduce, Permute, Length, Count}
+use Rattle.call_table.specs.declared.operation.Op.TheVariants.{Pack, PackedLengths, Distribute, Index, Extract, Replace}
+use Rattle.call_table.specs.declared.operation.Op.TheVariants.{MakeDescriptor, DescriptorLengths}
 use Rattle.call_table.specs.declared.spelling.Spelling.{Spelling}
 use Rattle.call_table.specs.Calls.{spelling_of}
 
