@@ -16,8 +16,8 @@ use std::thread::Threads;
 
 /// The comparison of each two elements at the same place, on signed numbers: `grt_wuz` and its like.
 ///
-/// The result is as long as the vectors. The one fault is `LengthMismatch`, without a place, where one is longer.
-/// Source: CVL's elementwise calls.
+/// The result is as long as the vectors. The one fault is `LengthMismatch`, without a place, where one is longer. Long
+/// vectors are shared among threads by `rayon`, whatever the number of workers. Source: CVL's elementwise calls.
 pub fn compare<R: Threads + Sync, A: Memory>(
     rt: &R,
     alloc: A,
@@ -41,8 +41,8 @@ pub fn compare<R: Threads + Sync, A: Memory>(
 
 /// The operator on each two booleans at the same place: `and_wub` and its like.
 ///
-/// The result is as long as the vectors. The one fault is `LengthMismatch`, without a place, where one is longer.
-/// Source: CVL's elementwise calls.
+/// The result is as long as the vectors. The one fault is `LengthMismatch`, without a place, where one is longer. Long
+/// vectors are shared among threads by `rayon`, whatever the number of workers. Source: CVL's elementwise calls.
 pub fn bool2<R: Threads + Sync, A: Memory>(
     rt: &R,
     alloc: A,
@@ -81,7 +81,8 @@ pub fn bool2<R: Threads + Sync, A: Memory>(
 
 /// The operator on each boolean: `not_wub` and `cpy_wub`.
 ///
-/// The result is as long as `a`. There is no fault. Source: CVL's elementwise calls.
+/// The result is as long as `a`. There is no fault. Long vectors, but for a copy, are shared among threads by `rayon`,
+/// whatever the number of workers. Source: CVL's elementwise calls.
 pub fn bool1<R: Threads + Sync, A: Memory>(
     rt: &R,
     alloc: A,
@@ -100,7 +101,8 @@ pub fn bool1<R: Threads + Sync, A: Memory>(
 
 /// True at each place where the number isn't 0: `boo_wuz`.
 ///
-/// The result is as long as `a`. There is no fault. Source: CVL's conversions.
+/// The result is as long as `a`. There is no fault. Long vectors are shared among threads by `rayon`, whatever the number
+/// of workers. Source: CVL's conversions.
 pub fn bool_from_int<R: Threads + Sync, A: Memory>(
     rt: &R,
     alloc: A,

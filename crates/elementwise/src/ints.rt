@@ -19,7 +19,8 @@ use std::thread::Threads;
 ///
 /// The vectors have at most 4,194,304 elements, and the result is as long as they are. The faults are, in this order,
 /// `LengthMismatch`, without a place, where one is longer, and `DivideByZero` or `ShiftOutOfRange` at the least place,
-/// counted from 0, where a quotient, a remainder or a shift has no value. Source: CVL's elementwise calls.
+/// counted from 0, where a quotient, a remainder or a shift has no value. Without these four operators long vectors are
+/// shared among threads by `rayon`, whatever the number of workers. Source: CVL's elementwise calls.
 pub fn int2<R: Threads + Sync, A: Memory>(
     rt: &R,
     alloc: A,
@@ -65,7 +66,8 @@ fn values_or_fault<O: PartialBinary, A: Memory>(
 
 /// The operator on each element: `not_wuz` and `cpy_wuz`.
 ///
-/// The result is as long as `a`. There is no fault. Source: CVL's elementwise calls.
+/// The result is as long as `a`. There is no fault. Long vectors, but for a copy, are shared among threads by `rayon`,
+/// whatever the number of workers. Source: CVL's elementwise calls.
 pub fn int1<R: Threads + Sync, A: Memory>(
     rt: &R,
     alloc: A,
@@ -84,7 +86,8 @@ pub fn int1<R: Threads + Sync, A: Memory>(
 
 /// 1 at each place where the boolean is true, and 0 where it is false: `int_wub`.
 ///
-/// The result is as long as `a`. There is no fault. Source: CVL's conversions.
+/// The result is as long as `a`. There is no fault. Long vectors are shared among threads by `rayon`, whatever the number
+/// of workers. Source: CVL's conversions.
 pub fn int_from_bool<R: Threads + Sync, A: Memory>(
     rt: &R,
     alloc: A,

@@ -1,4 +1,8 @@
 //! Elementwise calls: each element of the result is an operator on the elements at its place.
+//!
+//! Long vectors are shared among threads by `rayon`, which takes as many threads as the machine has processors. The number
+//! of workers of a configuration governs crews alone, so that these calls fork with one worker too. Quotients, remainders,
+//! shifts and plain copies are one thread's.
 #![tactic(auto)]
 
 mod bools;
