@@ -1,5 +1,6 @@
 -- An input, read from the front: how many tokens there are, and the numbers so far.
-use Rattle.std.proofs.Common.{◌≡◌, ℕ, ◌+◌, ◌*◌, ◌<◌, ◌≤◌, Bool, true, false, ◌&&◌, List, [], ◌∷◌, ◌++◌, length, map, get_or, take, drop, refl, ap, sym, ◌∙◌, arith, Ok, Err, Some, None, append_assoc, ℤ}
+use Rattle.std.proofs.Common.{◌≡◌, ℕ, ◌+◌, ◌*◌, ◌<◌, ◌≤◌, Bool, true, false, ◌&&◌, List, [], ◌∷◌, ◌++◌, length, map, get_or, take}
+use Rattle.std.proofs.Common.{drop, refl, ap, sym, ◌∙◌, arith, Ok, Err, Some, None, append_assoc, ℤ}
 use Rattle.std.specs.Int.{from_bool}
 use Rattle.std.specs.Prelude.{Result, if◌then◌else◌, not, ◌==◌}
 use Rattle.std.specs.List.{list_all}
@@ -80,29 +81,6 @@ numbers_from place tokens = values_from BadInput place (map number_of tokens)
 -- the numbers read so far, and after them what the others give
 abbrev pub behind : List ℤ → Result (List ℤ) Fault → Result (List ℤ) Fault
 behind numbers others = others >>= λ ns. Ok (numbers ++ ns)
-
-pub behind_none : (others : Result (List ℤ) Fault) → others ≡ behind [] others
-behind_none (Ok ns) = refl
-behind_none (Err f) = refl
-
-behind_one : (numbers : List ℤ) (n : ℤ) (others : Result (List ℤ) Fault)
-    → behind numbers (others >>= λ ns. Ok (n ∷ ns)) ≡ behind (numbers ++ n ∷ []) others
-behind_one numbers n (Ok ns) = ap Ok (sym (append_assoc numbers (n ∷ []) ns))
-behind_one numbers n (Err f) = refl
-
--- one token more, which is a number
-pub behind_number : (numbers : List ℤ) (place : ℕ) (token : List ℕ) (tokens : List (List ℕ)) (n : ℤ) → Some n ≡ number_of token
-    → behind numbers (numbers_from place (token ∷ tokens)) ≡ behind (numbers ++ n ∷ []) (numbers_from (place + 1) tokens)
-behind_number numbers place token tokens n e = rw (← e) (behind_one numbers n (numbers_from (place + 1) tokens))
-
--- one token more, which is none
-pub behind_other : (numbers : List ℤ) (place : ℕ) (token : List ℕ) (tokens : List (List ℕ)) → None ≡ number_of token
-    → behind numbers (numbers_from place (token ∷ tokens)) ≡ Err (fault_at BadInput place)
-behind_other numbers place token tokens e = rw (← e) refl
-
--- no token more
-pub behind_all : (numbers : List ℤ) (place : ℕ) (tokens : List (List ℕ)) → tokens ≡ [] → behind numbers (numbers_from place tokens) ≡ Ok numbers
-behind_all numbers place tokens e = rw e (ap Ok (append-nil numbers))
 
 digit_is_part : (b : ℕ) → is_ascii_digit b ≡ true → is_part (input_class b) ≡ true
 digit_is_part b e = grind (arith, nat_tests)

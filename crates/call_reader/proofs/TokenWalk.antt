@@ -19,10 +19,6 @@ pub tokens_at : (class_of : ℕ → ByteClass) (bs : List ℕ) (i : ℕ) → i <
     → tokens_by class_of (drop i bs) ≡ with_byte (class_of (get_or bs i 0)) (begins_with_part class_of (drop (i + 1) bs)) (get_or bs i 0) (tokens_by class_of (drop (i + 1) bs))
 tokens_at class_of bs i h = ap (tokens_by class_of) (drop_more bs i 0 h)
 
-pub blank_skipped : (class_of : ℕ → ByteClass) (bs : List ℕ) (i : ℕ) → i < length bs → class_of (get_or bs i 0) ≡ Blank
-    → tokens_by class_of (drop (i + 1) bs) ≡ tokens_by class_of (drop i bs)
-blank_skipped class_of bs i h e = sym (rw e at (tokens_at class_of bs i h))
-
 pub both_true : (a b : Bool) → a && b ≡ true → (a ≡ true) × (b ≡ true)
 both_true true b e = (refl, e)
 both_true false b e = (e, cc)
