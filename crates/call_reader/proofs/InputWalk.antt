@@ -14,7 +14,7 @@ use Rattle.cvl_base.specs.Faults.{fault_at}
 use Rattle.cvl_base.specs.Gives.{◌>>=◌}
 use Rattle.call_reader.specs.declared.token.ByteClass.TheVariants.{Blank, Part}
 use Rattle.call_reader.specs.Tokens.{tokens_by, with_byte, is_part, begins_with_part}
-use Rattle.call_reader.specs.Numbers.{positive_of, negative_of, with_sign, number_of}
+use Rattle.call_reader.specs.Numbers.{positive_of, negative_of, with_sign, written_number}
 use Rattle.call_reader.specs.Inputs.{is_white_space, input_class}
 use Rattle.call_reader.proofs.TokenWalk.{both_true, run_first, some_tokens}
 use Rattle.call_reader.proofs.NumberWalk.{magnitude_digits}
@@ -76,7 +76,7 @@ room_for_tokens bytes =
 
 -- the numbers of the tokens, of which the first stands at the place given
 abbrev pub numbers_from : ℕ → List (List ℕ) → Result (List ℤ) Fault
-numbers_from place tokens = values_from BadInput place (map number_of tokens)
+numbers_from place tokens = values_from BadInput place (map written_number tokens)
 
 -- the numbers read so far, and after them what the others give
 abbrev pub behind : List ℤ → Result (List ℤ) Fault → Result (List ℤ) Fault
@@ -97,12 +97,12 @@ signed_run true b bs n minus e = rw (minus refl) (digits_are_part bs (magnitude_
 signed_run false b bs n minus e = digits_are_part (b ∷ bs) (magnitude_digits (b ∷ bs) positive_of n e)
 
 -- a number has no white space in it, and it has a byte
-number_is_run : (token : List ℕ) (n : ℤ) → number_of token ≡ Some n → (list_all (λ b. is_part (input_class b)) token ≡ true) × (0 < length token)
+number_is_run : (token : List ℕ) (n : ℤ) → written_number token ≡ Some n → (list_all (λ b. is_part (input_class b)) token ≡ true) × (0 < length token)
 number_is_run [] n e = cc
 number_is_run (b ∷ bs) n e = (signed_run (b == 45) b bs n (λ h. grind (arith, nat_tests)) e, omega arith)
 
 -- a number with no part of a run after it is the first token
-pub number_first : (bytes : List ℕ) (k : ℕ) (n : ℤ) → number_of (take k bytes) ≡ Some n → begins_with_part input_class (drop k bytes) ≡ false
+pub number_first : (bytes : List ℕ) (k : ℕ) (n : ℤ) → written_number (take k bytes) ≡ Some n → begins_with_part input_class (drop k bytes) ≡ false
     → tokens_by input_class bytes ≡ take k bytes ∷ tokens_by input_class (drop k bytes)
 number_first bytes k n e ends =
     let run = number_is_run (take k bytes) n e in

@@ -11,7 +11,7 @@ use Rattle.std.specs.Str.Parse.{digits_value, digits_value_after}
 use Rattle.std.proofs.lemmas.List.Folds.{list_all_more}
 use Rattle.std.proofs.lemmas.List.Sums.{take_while-cons}
 use Rattle.std.proofs.lemmas.Int.Digits.{digits_value_more}
-use Rattle.call_reader.specs.Numbers.{magnitude_of, positive_of, negative_of, with_sign, number_of, signed_digits}
+use Rattle.call_reader.specs.Numbers.{magnitude_of, positive_of, negative_of, with_sign, written_number, signed_digits}
 use Rattle.call_reader.proofs.TokenWalk.{both_true}
 
 digit_value_is : (d : ℕ) → is_ascii_digit d ≡ true → digit_value d ≡ d - 48
@@ -89,13 +89,13 @@ digits_read sign digits count magnitude some within all value whole = by (nat_lt
         sign_read sign front (some_digit front (omega arith)) (all_digits digits) ∙ too_great sign _ more ∙ sym (too_great sign magnitude great)
 
 unsigned_read : (digit : Bool) (b : ℕ) (digits : List ℕ) → (b == 45) ≡ false
-    → number_of (cond digit (b ∷ digits) []) ≡ with_sign false (cond digit (b ∷ digits) []) (cond digit (b ∷ digits) [])
+    → written_number (cond digit (b ∷ digits) []) ≡ with_sign false (cond digit (b ∷ digits) []) (cond digit (b ∷ digits) [])
 unsigned_read true b digits e = rw e refl
 unsigned_read false b digits e = refl
 
 -- the front with its sign, by the digits after the sign
 signed_read_at : (first : ℕ) (others : List ℕ) (sign : Bool) → sign ≡ (first == 45)
-    → number_of (signed_digits (first ∷ others))
+    → written_number (signed_digits (first ∷ others))
     ≡ with_sign sign (take_while is_ascii_digit (drop (from_bool sign) (first ∷ others))) (take_while is_ascii_digit (drop (from_bool sign) (first ∷ others)))
 signed_read_at first others true e = rw (← e, ← e) refl
 signed_read_at first others false e =
@@ -133,9 +133,9 @@ digits_are : (bytes : List ℕ) (first : ℕ) (others : List ℕ) (sign : Bool) 
 digits_are bytes first others sign sign_length digits (same, minus, len, is) = is ∙ ap (λ (k : ℕ). drop k bytes) len ∙ ap (drop (from_bool sign)) same
 
 pub signed_read : (bytes : List ℕ) (first : ℕ) (others : List ℕ) (sign : Bool) (sign_length : ℕ) (digits : List ℕ) → IsSplit bytes first others sign sign_length digits
-    → number_of (signed_digits bytes) ≡ with_sign sign (take_while is_ascii_digit digits) (take_while is_ascii_digit digits)
+    → written_number (signed_digits bytes) ≡ with_sign sign (take_while is_ascii_digit digits) (take_while is_ascii_digit digits)
 signed_read bytes first others sign sign_length digits (same, minus, len, is) =
-    ap (λ (bs : List ℕ). number_of (signed_digits bs)) same ∙ signed_read_at first others sign minus
+    ap (λ (bs : List ℕ). written_number (signed_digits bs)) same ∙ signed_read_at first others sign minus
     ∙ ap (λ (ds : List ℕ). with_sign sign (take_while is_ascii_digit ds) (take_while is_ascii_digit ds))
     (sym (digits_are bytes first others sign sign_length digits (same, minus, len, is)))
 
@@ -166,24 +166,24 @@ signed_whole true b bs n minus e = rw (← minus) (ap (λ (others : List ℕ). b
 signed_whole false b bs n minus e = rw (← minus) (front_of_digits (b ∷ bs) (magnitude_digits (b ∷ bs) positive_of n e))
 
 -- a number is its sign and its leading digits, and nothing else
-number_whole : (token : List ℕ) (n : ℤ) → number_of token ≡ Some n → signed_digits token ≡ token
+number_whole : (token : List ℕ) (n : ℤ) → written_number token ≡ Some n → signed_digits token ≡ token
 number_whole [] n e = refl
 number_whole (b ∷ bs) n e = signed_whole (b == 45) b bs n refl e
 
 -- no number without one at the front
-pub none_at_front : (token : List ℕ) → number_of (signed_digits token) ≡ None → number_of token ≡ None
-none_at_front token none = by (number_of token) refl
+pub none_at_front : (token : List ℕ) → written_number (signed_digits token) ≡ None → written_number token ≡ None
+none_at_front token none = by (written_number token) refl
   where
-    by : (found : Option ℤ) → number_of token ≡ found → found ≡ None
+    by : (found : Option ℤ) → written_number token ≡ found → found ≡ None
     by None e = refl
     by (Some n) e =
-        let never : None ≡ Some n = sym none ∙ ap number_of (number_whole token n e) ∙ e in
+        let never : None ≡ Some n = sym none ∙ ap written_number (number_whole token n e) ∙ e in
         cc
 
 -- no number with bytes after the one at the front
-pub none_with_more : (token : List ℕ) (k : ℕ) → k < length token → take k token ≡ signed_digits token → number_of token ≡ None
-none_with_more token k more front = by (number_of token) refl
+pub none_with_more : (token : List ℕ) (k : ℕ) → k < length token → take k token ≡ signed_digits token → written_number token ≡ None
+none_with_more token k more front = by (written_number token) refl
   where
-    by : (found : Option ℤ) → number_of token ≡ found → found ≡ None
+    by : (found : Option ℤ) → written_number token ≡ found → found ≡ None
     by None e = refl
     by (Some n) e = absurd (omega (arith, ap length (front ∙ number_whole token n e), length-take-le k token (omega arith)))

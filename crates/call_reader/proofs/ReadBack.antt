@@ -7,7 +7,7 @@ use Rattle.std.specs.List.{list_all}
 use Rattle.std.specs.Str.Parse.{AllDigits}
 use Rattle.std.proofs.lemmas.Bool.Decides.{nat_tests}
 use Rattle.std.proofs.lemmas.Fmt.{decimal_is_IsNumeral}
-use Rattle.call_reader.specs.Numbers.{with_sign, number_of}
+use Rattle.call_reader.specs.Numbers.{with_sign, written_number}
 use Rattle.call_reader.proofs.NumberWalk.{fit, sign_read}
 
 digit_is : (d : ℕ) → digit_value d < 10 → is_ascii_digit d ≡ true
@@ -20,7 +20,7 @@ digits_are (d ∷ ds) (first, others) = rw (digit_is d first, digits_are ds othe
 no_sign : (d : ℕ) → digit_value d < 10 → (d == 45) ≡ false
 no_sign d h = grind (arith, nat_tests)
 
-unsigned : (ds : List ℕ) → 0 < length ds → AllDigits 10 ds → number_of ds ≡ with_sign false ds ds
+unsigned : (ds : List ℕ) → 0 < length ds → AllDigits 10 ds → written_number ds ≡ with_sign false ds ds
 unsigned [] some all = absurd (omega arith)
 unsigned (d ∷ ds) some (first, others) = rw (no_sign d first) refl
 
@@ -30,7 +30,7 @@ magnitude_read sign n small =
     let is = decimal_is_IsNumeral n small in
     sign_read sign (decimal n) is.0.0 (digits_are (decimal n) is.0.1) ∙ ap (fit sign) is.1
 
-pub read_back : (z : ℤ) → FitsSigned w32 z → number_of (signed_decimal z) ≡ Some z
+pub read_back : (z : ℤ) → FitsSigned w32 z → written_number (signed_decimal z) ≡ Some z
 read_back (pos n) fits =
     let small : n < 2 ^ 31 = omega (arith, fits) in
     let is = decimal_is_IsNumeral n (omega arith) in

@@ -10,7 +10,7 @@ use Rattle.cvl_base.specs.Limits.{most_elements}
 use Rattle.call_reader.specs.declared.token.ByteClass.{ByteClass}
 use Rattle.call_reader.specs.declared.token.ByteClass.TheVariants.{Blank, Part}
 use Rattle.call_reader.specs.Tokens.{tokens_by}
-use Rattle.call_reader.specs.Numbers.{number_of}
+use Rattle.call_reader.specs.Numbers.{written_number}
 
 -- space, tab, line feed and carriage return are white space
 abbrev pub is_white_space : ℕ → Bool
@@ -25,4 +25,4 @@ abbrev pub input_of : List ℕ → Result (List ℤ) Fault
 input_of bytes =
     let tokens = tokens_by input_class bytes in
     fault_if (nat_lt most_elements (length tokens)) (fault TooLong)
-    (values_from BadInput 0 (map number_of tokens))
+    (values_from BadInput 0 (map written_number tokens))

@@ -21,7 +21,7 @@ use Rattle.cvl_base.specs.Words.{is_word, is_name}
 use Rattle.call_reader.specs.declared.token.ByteClass.{ByteClass}
 use Rattle.call_reader.specs.declared.token.ByteClass.TheVariants.{Blank, Alone, Part}
 use Rattle.call_reader.specs.Tokens.{tokens_by}
-use Rattle.call_reader.specs.Numbers.{number_of}
+use Rattle.call_reader.specs.Numbers.{written_number}
 
 -- space and tab stand between tokens, and `=` (61) is a token of its own
 abbrev pub line_class : ℕ → ByteClass
@@ -47,7 +47,7 @@ abbrev pub arg_of : List ℕ → Option Arg
 arg_of token =
     if is_name token then Some (arg.Name token)
     else (if is_truth_token token then Some (arg.Boolean (pointwise nat_eq token (codes "T")))
-    else option_map arg.Integer (number_of token))
+    else option_map arg.Integer (written_number token))
 
 abbrev pub args_of : List (List ℕ) → Result (List Arg) Fault
 args_of [] = Ok []

@@ -28,9 +28,9 @@ with_sign true token digits = option_and_then negative_of (magnitude_of digits)
 with_sign false token digits = option_and_then positive_of (magnitude_of token)
 
 -- an optional `-` (45) and at least one digit, inside 32 bits
-abbrev pub number_of : List ℕ → Option ℤ
-number_of [] = None
-number_of (b ∷ bs) = with_sign (b == 45) (b ∷ bs) bs
+abbrev pub written_number : List ℕ → Option ℤ
+written_number [] = None
+written_number (b ∷ bs) = with_sign (b == 45) (b ∷ bs) bs
 
 -- the `-` (45), if there is one, and all the digits after it, with which the bytes begin
 abbrev pub signed_digits : List ℕ → List ℕ

@@ -6,7 +6,7 @@ ghost use Rattle.cvl_base.specs.Faults.{fault, fault_at};
 ghost use Rattle.cvl_base.specs.Gives.{Gives};
 ghost use Rattle.cvl_base.specs.Limits.{most_elements};
 ghost use Rattle.call_reader.specs.Tokens.{tokens_by, IsFirstToken, begins_with_part};
-ghost use Rattle.call_reader.specs.Numbers.{number_of};
+ghost use Rattle.call_reader.specs.Numbers.{written_number};
 ghost use Rattle.call_reader.specs.Inputs.{is_white_space, input_class, input_of};
 
 use crate::number::{leading_number, number};
@@ -83,7 +83,7 @@ fn begins_with_token(bytes: &[u8]) -> bool
 fn first_number(bytes: &[u8]) -> Option<(&[u8], Option<i32>, &[u8])>
     ensures tokens { MatchOption result (tokens_by input_class bytes.now ≡ [])
         (λ t. IsFirstToken input_class bytes.now t.0.now t.2.now) }
-    ensures number { IfSome result (λ t. t.1 ≡ number_of t.0.now) }
+    ensures number { IfSome result (λ t. t.1 ≡ written_number t.0.now) }
     ensures shorter { IfSome result (λ t. length t.2.now < length bytes.now) }
 {
     let (_blank, rest) = bytes.split_at(blanks::<InputBytes>(bytes));

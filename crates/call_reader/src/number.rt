@@ -4,7 +4,7 @@ ghost use Rattle.std.specs.Prelude.{◌≡◌, ◌<◌, ◌≤◌, ◌^◌, leng
 ghost use Rattle.std.specs.List.{list_all, prefix_len};
 ghost use Rattle.std.specs.Char.{is_ascii_digit};
 ghost use Rattle.std.specs.Str.Parse.{digits_value};
-ghost use Rattle.call_reader.specs.Numbers.{number_of, signed_digits, AreLeading};
+ghost use Rattle.call_reader.specs.Numbers.{written_number, signed_digits, AreLeading};
 
 use crate::digits::{LANES, decimal, digit_run, moved};
 use std::simd::prelude::*;
@@ -59,7 +59,7 @@ fn signed(is_negative: bool, magnitude: u64) -> i64
 /// these are; `None` where there is no digit or the integer is outside 32 bits. What stands after them is not read.
 #[inline(always)]
 pub(crate) fn leading_number(bytes: &[u8]) -> Option<(i32, usize)>
-    ensures number { option_map (λ n. n.0) result ≡ number_of (signed_digits bytes.now) }
+    ensures number { option_map (λ n. n.0) result ≡ written_number (signed_digits bytes.now) }
     ensures front { IfSome result (λ n. take n.1 bytes.now ≡ signed_digits bytes.now) }
     ensures within { IfSome result (λ n. n.1 ≤ length bytes.now) }
 {
@@ -79,7 +79,7 @@ pub(crate) fn leading_number(bytes: &[u8]) -> Option<(i32, usize)>
 /// costs one pass over it; leading zeros and `-0` are numbers, and `+2` is none.
 #[tactic(auto, using(crate::proofs::NumberWalk::none_at_front, crate::proofs::NumberWalk::none_with_more))]
 pub(crate) fn number(token: &[u8]) -> Option<i32>
-    ensures { result ≡ number_of token.now }
+    ensures { result ≡ written_number token.now }
 {
     let (value, length) = leading_number(token)?;
     if length < token.len() {

@@ -2,7 +2,7 @@
 
 ghost use Rattle.std.specs.Prelude.{◌≡◌, true, false, [], ◌∷◌, codes, pos, negsuc, Some, None, Ok};
 ghost use Rattle.cvl_base.specs.declared.value.Value.TheVariants as value;
-ghost use Rattle.call_reader.specs.Numbers.{number_of};
+ghost use Rattle.call_reader.specs.Numbers.{written_number};
 ghost use Rattle.value_texts.specs.Texts.{text_of, value_text};
 
 use std::alloc::Allocator;
@@ -37,7 +37,7 @@ pub fn nested_text_values<A: Allocator>()
 
 /// The text of an integer, read as a number, is that integer. It does nothing: its contract says so of the definitions.
 pub fn integer_reads_back<A: Allocator>(number: i32)
-    ensures { number_of (text_of {A = A} (value.Integer number)) ≡ Some number }
+    ensures { written_number (text_of {A = A} (value.Integer number)) ≡ Some number }
 {
     let _number = number;
 }

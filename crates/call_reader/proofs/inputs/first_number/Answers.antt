@@ -1,6 +1,6 @@
 use Rattle.std.proofs.Common.{◌≡◌, drop, false, sym, ap, ◌∙◌}
 use Rattle.call_reader.specs.Tokens.{begins_with_part}
-use Rattle.call_reader.specs.Numbers.{number_of}
+use Rattle.call_reader.specs.Numbers.{written_number}
 use Rattle.call_reader.specs.Inputs.{input_class}
 use Rattle.call_reader.proofs.InputWalk.{number_first}
 use Rattle.call_reader.proofs.inputs.first_number.Goals as goal
@@ -12,5 +12,5 @@ returns-then-not-begins_with_token-clause-tokens c =
     let back = c.split_at-in-Some.ensures.back in
     let ends : begins_with_part input_class (drop k rest) ≡ false =
     ap (begins_with_part input_class) (sym back) ∙ sym c.begins_with_token.ensures ∙ c.if-not-begins_with_token.true in
-    let first = number_first rest k _ (ap number_of c.in-Some.ensures.front ∙ sym c.in-Some.ensures.number) ends in
+    let first = number_first rest k _ (ap written_number c.in-Some.ensures.front ∙ sym c.in-Some.ensures.number) ends in
     cc
