@@ -9,7 +9,8 @@ use Rattle.cvl_base.specs.Extracts.{element_at}
 use Rattle.cvl_base.specs.Permutes.{back_of, simple_of, all_targets}
 use Rattle.call_laws.specs.Permuted.{IsBackPermute, IsSimplePermute}
 use Rattle.call_laws.proofs.LeastFaults.{values-meaning}
-use Rattle.call_laws.proofs.Places.{there, same_elements}
+use Rattle.cvl_base.proofs.Lists.{element}
+use Rattle.call_laws.proofs.Places.{same_elements}
 use Rattle.call_laws.proofs.Sending.{simple-meaning, sent-from_simple, index-here, all_named}
 use Rattle.call_laws.proofs.Targets.{each_is_target, target_there}
 
@@ -22,7 +23,7 @@ taken-from_values source index result same =
       as_long = omega arith;
       taken = λ k i here.
           let within : k < length index = slice_get_within index k i here in
-          let x = there result k (omega arith) in
+          let x = element result k (omega arith) in
           let value : Some (element_at source i) ≡ Some (Some x.0) =
           sym (slice_get-map (element_at source) index k ∙ ap (option_map (element_at source)) here)
           ∙ ap (λ vs. slice_get vs k) same
@@ -36,8 +37,8 @@ values-from_taken source index result is =
     let made = length-map result (λ x. Some x) in
     let long : length result ≡ length index = is.as_long in
     same_elements (map (element_at source) index) (map (λ x. Some x) result) (omega arith) (λ k within.
-    let i = there index k (omega arith) in
-    let x = there result k (omega arith) in
+    let i = element index k (omega arith) in
+    let x = element result k (omega arith) in
     slice_get-map (element_at source) index k ∙ ap (option_map (element_at source)) i.1
     ∙ ap Some (sym (is.taken k i.0 i.1) ∙ x.1)
     ∙ sym (slice_get-map (λ x. Some x) result k ∙ ap (option_map (λ x. Some x)) x.1))

@@ -9,8 +9,11 @@ use Rattle.std.proofs.lemmas.Option.{slice_get_within}
 use Rattle.cvl_base.specs.Permutes.{all_targets, default_of, first_fault, is_target, sent_to, sent_over, wrongs}
 use Rattle.cvl_base.specs.Gives.{unless}
 use Rattle.call_laws.specs.Permuted.{IsDefaultPermute}
-use Rattle.call_laws.proofs.Places.{there, same_elements}
-use Rattle.call_laws.proofs.Sending.{if_as_long-Ok, if_as_long-fits, index-here, length-all_targets, sent_to-target, target-here, unless-Ok}
+use Rattle.cvl_base.proofs.Lists.{element}
+use Rattle.call_laws.proofs.Places.{same_elements}
+use Rattle.cvl_base.proofs.Elementwise.{if_as_long-fits}
+use Rattle.cvl_base.proofs.Permutes.{length-all_targets}
+use Rattle.call_laws.proofs.Sending.{if_as_long-Ok, index-here, sent_to-target, target-here, unless-Ok}
 use Rattle.call_laws.proofs.Targets.{IsRight, any-from_there, no_fault-from_right, once-from_right, right-from_no_fault, right-from_once, target_there}
 
 -- what each place of the result is, told by the targets
@@ -56,7 +59,7 @@ at-some values defaults d x within some =
     at-laid_over values 0 defaults d
     ∙ ap (λ k. option_map (λ x. unwrap_or (values k) x) (slice_get defaults d)) (omega arith)
     ∙ ap (λ o. option_map (λ x. unwrap_or o x) (slice_get defaults d)) some
-    ∙ ap (option_map (λ y. x)) (there defaults d within).1
+    ∙ ap (option_map (λ y. x)) (element defaults d within).1
 
 over_sent : {X : Type 0} (source : List X) (ts : List (Option ℤ)) (defaults : List X) → IsRight (length defaults) ts → length ts ≤ length source → IsSentOver source ts defaults (laid_over (sent_to source ts) 0 defaults)
 over_sent source ts defaults right long = record {
@@ -64,9 +67,9 @@ over_sent source ts defaults right long = record {
   right = right;
   sent = λ k d target.
       let here : k < length ts = slice_get_within ts k (Some (pos d)) target in
-      let element = there source k (omega arith) in
+      let there = element source k (omega arith) in
       let within : d < length defaults = ltb-true d (length defaults) (right.within k (pos d) target) in
-      at-some (sent_to source ts) defaults d element.0 within (sent_to-target (length defaults) source ts k d right long target ∙ element.1) ∙ sym element.1;
+      at-some (sent_to source ts) defaults d there.0 within (sent_to-target (length defaults) source ts k d right long target ∙ there.1) ∙ sym there.1;
   kept = λ d none. at-none (sent_to source ts) defaults d (nothing_sent source ts d none);
 }
 

@@ -10,13 +10,15 @@ use Rattle.std.proofs.lemmas.List.FromFn.{get_or-map-range_with_len, length-map-
 use Rattle.std.proofs.lemmas.Option.{slice_get-get_or, slice_get_past, slice_get_within}
 use Rattle.cvl_base.specs.declared.fault.Fault.{Fault}
 use Rattle.cvl_base.specs.declared.fault.FaultNo.TheVariants as no
-use Rattle.cvl_base.specs.Distributes.{as_length, distribute_of, index_of}
+use Rattle.cvl_base.specs.Distributes.{distribute_of, index_of}
 use Rattle.cvl_base.specs.Extracts.{extract_of, replace_of}
-use Rattle.cvl_base.specs.Faults.{fault, fault_at}
-use Rattle.cvl_base.specs.Gives.{◌>>=◌, fault_if}
+use Rattle.cvl_base.specs.Faults.{fault_at}
+use Rattle.cvl_base.specs.Gives.{◌>>=◌}
 use Rattle.cvl_base.specs.Integers.{wrap}
 use Rattle.cvl_base.specs.Limits.{most_elements}
-use Rattle.call_laws.proofs.Places.{there, same_elements}
+use Rattle.cvl_base.proofs.Distributes.{as_length-fits}
+use Rattle.cvl_base.proofs.Lists.{element}
+use Rattle.call_laws.proofs.Places.{same_elements}
 
 -- ---- extract
 
@@ -28,7 +30,7 @@ pub extract-meaning : {X : Type 0} (xs : List X) (k : ℕ) (x : X) → (extract_
 extract-meaning xs k x = (from-Some (slice_get xs k) (fault_at no.IndexOutOfRange 0) x, ap (λ o. ok_or o (fault_at no.IndexOutOfRange 0)))
 
 pub extract-exists : {X : Type 0} (xs : List X) (k : ℕ) → k < length xs → IsOk (extract_of xs (pos k))
-extract-exists xs k within = let e = (extract-meaning xs k (there xs k within).0).1 (there xs k within).1 in cc
+extract-exists xs k within = let e = (extract-meaning xs k (element xs k within).0).1 (element xs k within).1 in cc
 
 pub extract-past : {X : Type 0} (xs : List X) (k : ℕ) → length xs ≤ k → extract_of xs (pos k) ≡ Err (fault_at no.IndexOutOfRange 0)
 extract-past xs k past = ap (λ o. ok_or o (fault_at no.IndexOutOfRange 0)) (slice_get_past xs k past)
@@ -94,9 +96,6 @@ read-back xs (negsuc k) x result p = cc
 
 -- ---- distribute and index
 
-pub in_limit : (n : ℕ) → n ≤ most_elements → as_length (pos n) ≡ Ok n
-in_limit n few = ap (λ b. fault_if b (fault no.TooLong) (Ok n)) (le-ltb most_elements n few)
-
 -- a list of n elements, told by its places
 abbrev pub IsEachPlace : {X : Type 0} → ℕ → (ℕ → X) → List X → Type 0
 IsEachPlace n value result = (length result ≡ n) × ((k : ℕ) → k < n → slice_get result k ≡ Some (value k))
@@ -113,7 +112,7 @@ only-made n value answer made result gives is = (
 pub distribute-places : {X : Type 0} (value : X) (n : ℕ) (result : List X) → n ≤ most_elements → (distribute_of value (pos n) ≡ Ok result) ↔ IsEachPlace n (λ k. value) result
 distribute-places value n result few =
     let long : length (replicate n value) ≡ n = length-replicate n value in
-    only-made n (λ k. value) (distribute_of value (pos n)) (replicate n value) result (ap (λ r. r >>= λ n. Ok (replicate n value)) (in_limit n few)) (
+    only-made n (λ k. value) (distribute_of value (pos n)) (replicate n value) result (ap (λ r. r >>= λ n. Ok (replicate n value)) (as_length-fits n few)) (
       long,
       λ k below. slice_get-get_or (replicate n value) k value (omega arith) ∙ ap Some (get_or-replicate n k value value below),
     )
@@ -123,7 +122,7 @@ index-places init stride n result few =
     let value = λ (k : ℕ). wrap (init +ℤ pos k *ℤ stride) in
     let made = map value (range_with_len 0 n) in
     let long : length made ≡ n = length-map-range_with_len value 0 n in
-    only-made n value (index_of init stride (pos n)) made result (ap (λ r. r >>= λ n. Ok (map value (range_with_len 0 n))) (in_limit n few)) (
+    only-made n value (index_of init stride (pos n)) made result (ap (λ r. r >>= λ n. Ok (map value (range_with_len 0 n))) (as_length-fits n few)) (
       long,
       λ k below. slice_get-get_or made k init (omega arith) ∙ ap Some (get_or-map-range_with_len value 0 n k k init below (omega arith)),
     )

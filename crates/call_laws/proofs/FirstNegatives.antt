@@ -1,30 +1,29 @@
 -- Making a descriptor: the first negative number of a list, and the total where there is none.
-use Rattle.std.proofs.Common.{◌≡◌, ℕ, zero, suc, ◌<◌, ◌≤◌, Bool, true, false, ℤ, pos, negsuc, List, [], ◌∷◌, length, get_or, map, sum, unsigned_abs, refl, sym, ap, ◌∙◌, arith, Some, None, Ok, Err, Option, Result}
+use Rattle.std.proofs.Common.{◌≡◌, ℕ, ◌<◌, ◌≤◌, Bool, true, false, ℤ, pos, negsuc, List, length, get_or, map, sum, unsigned_abs, refl, sym, ap, ◌∙◌, arith, Some, None, Ok, Err, Option, Result}
 use Rattle.std.specs.Prelude.{◌↔◌, position, cond, nat_lt, option_map}
 use Rattle.std.specs.Int.{is_negative}
 use Rattle.std.specs.List.{position_or_len}
 use Rattle.std.proofs.lemmas.Bool.{false≢true, lt-ltb, le-ltb, ltb-true, ltb-false}
 use Rattle.std.proofs.lemmas.List.Quantifiers.{position-Some}
 use Rattle.std.proofs.lemmas.List.Sums.{fails_before_first, position_or_len_is}
-use Rattle.std.proofs.lemmas.Option.{none-some, get_or_from_slice_get, slice_get-get_or, slice_get_within}
+use Rattle.std.proofs.lemmas.Option.{get_or_from_slice_get, slice_get-get_or, slice_get_within}
 use Rattle.cvl_base.specs.declared.fault.Fault.{Fault}
 use Rattle.cvl_base.specs.declared.fault.FaultNo.TheVariants as no
 use Rattle.cvl_base.specs.Descriptors.{AreLengths, IsFirstNegative, descriptor_of}
 use Rattle.cvl_base.specs.Faults.{fault, fault_at}
 use Rattle.cvl_base.specs.Gives.{unless, fault_if}
 use Rattle.cvl_base.specs.Limits.{most_elements}
+use Rattle.cvl_base.proofs.Descriptors.{abs_pos, natural, not_negative, position-lengths}
+use Rattle.cvl_base.proofs.Lists.{not_found}
 
 -- ---- where the first negative number stands
-
-not-negative : (n : ℕ) → is_negative (pos n) ≡ false
-not-negative n = le-ltb n 0 (omega arith)
 
 natural-number : (z : ℤ) → is_negative z ≡ false → (n : ℕ) × (z ≡ pos n)
 natural-number (pos n) e = (n, refl)
 natural-number (negsuc n) e = cc
 
 negative-number : (z : ℤ) → is_negative z ≡ true → (n : ℕ) × (z ≡ negsuc n)
-negative-number (pos n) e = absurd (false≢true (sym (not-negative n) ∙ e))
+negative-number (pos n) e = absurd (false≢true (sym (not_negative n) ∙ e))
 negative-number (negsuc n) e = (n, refl)
 
 first-negative : (numbers : List ℤ) (k : ℕ) → position is_negative numbers ≡ Some k → IsFirstNegative numbers k
@@ -41,40 +40,15 @@ position-first : (numbers : List ℤ) (k : ℕ) → IsFirstNegative numbers k �
 position-first numbers k first =
     let within : k < length numbers = slice_get_within numbers k (negsuc first.here.0) first.here.1 in
     let at : position_or_len is_negative numbers ≡ k = position_or_len_is is_negative numbers k (pos 0) (omega arith)
-    (λ j below. let earlier = first.before j below in ap is_negative (get_or_from_slice_get numbers j (pos earlier.0) (pos 0) earlier.1) ∙ not-negative earlier.0)
+    (λ j below. let earlier = first.before j below in ap is_negative (get_or_from_slice_get numbers j (pos earlier.0) (pos 0) earlier.1) ∙ not_negative earlier.0)
     (λ _. ap is_negative (get_or_from_slice_get numbers k (negsuc first.here.0) (pos 0) first.here.1)) in
     (λ i. cond (nat_lt (at i) (length numbers)) (Some (at i)) None) ∙ ap (λ b. cond b (Some k) None) (lt-ltb k (length numbers) within)
 
 -- ---- lengths, of which none is negative
 
-length-not_negative : (sizes : List ℕ) (k : ℕ) → is_negative (get_or (map pos sizes) k (pos 0)) ≡ false
-length-not_negative [] k = not-negative 0
-length-not_negative (n ∷ ns) zero = not-negative n
-length-not_negative (n ∷ ns) (suc k) = length-not_negative ns k
-
-position-none : (sizes : List ℕ) → position is_negative (map pos sizes) ≡ None
-position-none sizes =
-    let ns = map pos sizes in
-    let at : position_or_len is_negative ns ≡ length ns = position_or_len_is is_negative ns (length ns) (pos 0) (omega arith)
-    (λ k _. length-not_negative sizes k) (λ below. absurd (omega arith)) in
-    (λ i. cond (nat_lt (at i) (length ns)) (Some (at i)) None) ∙ ap (λ b. cond b (Some (length ns)) None) (le-ltb (length ns) (length ns) (omega arith))
-
-abs-pos : (sizes : List ℕ) → map unsigned_abs (map pos sizes) ≡ sizes
-abs-pos [] = refl
-abs-pos (n ∷ ns) = ap (λ tail. n ∷ tail) (abs-pos ns)
-
-natural : (numbers : List ℤ) → ((k : ℕ) → k < length numbers → is_negative (get_or numbers k (pos 0)) ≡ false) → numbers ≡ map pos (map unsigned_abs numbers)
-natural [] h = refl
-natural (pos n ∷ ns) h = ap (λ tail. pos n ∷ tail) (natural ns (λ k below. h (suc k) (omega arith)))
-natural (negsuc n ∷ ns) h = let e = h 0 (omega arith) in cc
-
-not-found : (b : Bool) (n : ℕ) → cond b (Some n) None ≡ None → b ≡ false
-not-found true n e = absurd (none-some n (sym e))
-not-found false n e = refl
-
 none-negative : (numbers : List ℤ) → position is_negative numbers ≡ None → numbers ≡ map pos (map unsigned_abs numbers)
 none-negative numbers e =
-    let behind : length numbers ≤ position_or_len is_negative numbers = ltb-false _ _ (not-found _ (position_or_len is_negative numbers) e) in
+    let behind : length numbers ≤ position_or_len is_negative numbers = ltb-false _ _ (not_found _ (position_or_len is_negative numbers) e) in
     natural numbers (λ k below. fails_before_first is_negative numbers k (pos 0) (omega arith))
 
 -- ---- the definition, at the place that was found, whether the total is above the limit, and the lengths
@@ -115,8 +89,8 @@ module _ (numbers : List ℤ) where
         let m = make-ok (nat_lt most_elements (sum (map unsigned_abs numbers))) (map unsigned_abs numbers) sizes (sym (is-make None _ none refl) ∙ e) in
         let all = none-negative numbers none in
         (record { none_negative = all; few = few; in_limit = ltb-false most_elements (sum (map unsigned_abs numbers)) m.0 }, all ∙ ap (map pos) m.1)),
-    (λ h. is-make None false (ap (position is_negative) h.1 ∙ position-none sizes) (le-ltb most_elements (sum (map unsigned_abs numbers)) h.0.in_limit)
-        ∙ ap (λ (ns : List ℕ). Ok ns) (ap (map unsigned_abs) h.1 ∙ abs-pos sizes)),
+    (λ h. is-make None false (ap (position is_negative) h.1 ∙ position-lengths sizes) (le-ltb most_elements (sum (map unsigned_abs numbers)) h.0.in_limit)
+        ∙ ap (λ (ns : List ℕ). Ok ns) (ap (map unsigned_abs) h.1 ∙ abs_pos sizes)),
   )
 
   pub negative-meaning : (k : ℕ) → (descriptor_of numbers ≡ Err (fault_at no.NegativeLength k)) ↔ IsFirstNegative numbers k
@@ -132,6 +106,6 @@ module _ (numbers : List ℤ) where
       none-negative numbers none,
       ltb-true most_elements (sum (map unsigned_abs numbers)) (make-too_long _ (map unsigned_abs numbers) (sym (is-make None _ none refl) ∙ e)),
     )),
-    (λ h. is-make None true (ap (position is_negative) h.1 ∙ position-none h.0)
-        (ap (λ (ns : List ℕ). nat_lt most_elements (sum ns)) (ap (map unsigned_abs) h.1 ∙ abs-pos h.0) ∙ lt-ltb most_elements (sum h.0) h.2)),
+    (λ h. is-make None true (ap (position is_negative) h.1 ∙ position-lengths h.0)
+        (ap (λ (ns : List ℕ). nat_lt most_elements (sum ns)) (ap (map unsigned_abs) h.1 ∙ abs_pos h.0) ∙ lt-ltb most_elements (sum h.0) h.2)),
   )

@@ -5,7 +5,8 @@ use Rattle.std.proofs.lemmas.List.Sums.{sum_by-cons}
 use Rattle.cvl_base.specs.declared.fault.FaultNo.TheVariants as no
 use Rattle.cvl_base.specs.Faults.{fault}
 use Rattle.cvl_base.specs.Packs.{count_of, pack_of}
-use Rattle.call_laws.proofs.Sending.{if_as_long-Ok, if_as_long-fits, if_as_long-mismatch}
+use Rattle.cvl_base.proofs.Elementwise.{if_as_long-fits, if_as_long-misfits}
+use Rattle.call_laws.proofs.Sending.{if_as_long-Ok}
 
 -- what is kept
 abbrev pub kept_of : {X : Type 0} → List X → List Bool → List X
@@ -55,4 +56,4 @@ pack-counted xs flags kept p =
     ap length (sym same) ∙ length-kept xs flags parts.0
 
 pub pack-mismatch : {X : Type 0} (xs : List X) (flags : List Bool) → length xs ≢ length flags → pack_of xs flags ≡ Err (fault no.LengthMismatch)
-pack-mismatch xs flags differ = if_as_long-mismatch xs flags (Ok (kept_of xs flags)) differ
+pack-mismatch xs flags differ = if_as_long-misfits xs flags (Ok (kept_of xs flags)) differ

@@ -15,9 +15,10 @@ use Rattle.cvl_base.specs.Packs.{count_of}
 use Rattle.cvl_base.specs.Permutes.{all_targets, back_of, default_of, first_fault, flagged_targets, is_place, select_of, sent_over, sent_to, sent_to_all, simple_of, wrongs}
 use Rattle.call_laws.specs.Permuted.{AreOnce, AreOnceFlagged, AreWithin, AreWithinFlagged, IsGoodBefore}
 use Rattle.call_laws.proofs.FirstBadPlaces.{fault-again, fault-outside}
-use Rattle.call_laws.proofs.Places.{there}
+use Rattle.cvl_base.proofs.Lists.{element}
 use Rattle.call_laws.proofs.Selecting.{flagged-here, here-flagged}
-use Rattle.call_laws.proofs.Sending.{if_as_long-fits, if_as_long-mismatch, index-here, target-here}
+use Rattle.cvl_base.proofs.Elementwise.{if_as_long-fits, if_as_long-misfits}
+use Rattle.call_laws.proofs.Sending.{index-here, target-here}
 
 -- ---- the indices before a place, where each place takes part
 
@@ -45,7 +46,7 @@ simple-fault source index f long bad =
     ∙ sent_to_all-fault source (all_targets index) (length index) f bad
 
 pub simple-mismatch : {X : Type 0} (source : List X) (index : List ℤ) → length source ≢ length index → simple_of source index ≡ Err (fault LengthMismatch)
-simple-mismatch source index differ = if_as_long-mismatch source index (sent_to_all source (all_targets index) (length index)) differ
+simple-mismatch source index differ = if_as_long-misfits source index (sent_to_all source (all_targets index) (length index)) differ
 
 pub simple-outside : {X : Type 0} (source : List X) (index : List ℤ) (k : ℕ) (i : ℤ) → length source ≡ length index → AreWithin (length index) index k → AreOnce index k → slice_get index k ≡ Some i → is_place (length index) i ≡ false → simple_of source index ≡ Err (fault_at IndexOutOfRange k)
 simple-outside source index k i long within once here out =
@@ -75,13 +76,13 @@ select-fault source index flags f long flagged bad =
 
 pub select-index_mismatch : {X : Type 0} (source : List X) (index : List ℤ) (flags : List Bool) → length source ≢ length index → select_of source index flags ≡ Err (fault LengthMismatch)
 select-index_mismatch source index flags differ =
-    if_as_long-mismatch source index (if_as_long index flags (sent_to_all source (flagged_targets index flags) (count_of flags))) differ
+    if_as_long-misfits source index (if_as_long index flags (sent_to_all source (flagged_targets index flags) (count_of flags))) differ
 
 pub select-flag_mismatch : {X : Type 0} (source : List X) (index : List ℤ) (flags : List Bool) → length index ≢ length flags → select_of source index flags ≡ Err (fault LengthMismatch)
 select-flag_mismatch source index flags differ =
     let sends = sent_to_all source (flagged_targets index flags) (count_of flags) in
     elim (eqb_tells (length source) (length index)) [
-      | inl same ↦ if_as_long-fits source index (if_as_long index flags sends) same.1 ∙ if_as_long-mismatch index flags sends differ
+      | inl same ↦ if_as_long-fits source index (if_as_long index flags sends) same.1 ∙ if_as_long-misfits index flags sends differ
       | inr other ↦ select-index_mismatch source index flags other.1
     ]
 
@@ -104,7 +105,7 @@ default-fault source index defaults f long bad =
     ∙ ap (λ o. unless o (Ok (map (λ p. unwrap_or (sent_to source (all_targets index) p.0) p.1) (enumerate_from 0 defaults)))) bad
 
 pub default-mismatch : {X : Type 0} (source : List X) (index : List ℤ) (defaults : List X) → length source ≢ length index → default_of source index defaults ≡ Err (fault LengthMismatch)
-default-mismatch source index defaults differ = if_as_long-mismatch source index (sent_over source (all_targets index) defaults) differ
+default-mismatch source index defaults differ = if_as_long-misfits source index (sent_over source (all_targets index) defaults) differ
 
 pub default-outside : {X : Type 0} (source : List X) (index : List ℤ) (defaults : List X) (k : ℕ) (i : ℤ) → length source ≡ length index → AreWithin (length defaults) index k → AreOnce index k → slice_get index k ≡ Some i → is_place (length defaults) i ≡ false → default_of source index defaults ≡ Err (fault_at IndexOutOfRange k)
 default-outside source index defaults k i long within once here out =
@@ -117,7 +118,7 @@ default-again source index defaults g k i long within once below first here =
 -- ---- the back permute
 
 element-within : {X : Type 0} (source : List X) (i : ℤ) → is_place (length source) i ≡ true → (x : X) × (element_at source i ≡ Some x)
-element-within source (pos d) inside = there source d (ltb-true d (length source) inside)
+element-within source (pos d) inside = element source d (ltb-true d (length source) inside)
 element-within source (negsuc d) inside = absurd (false≢true inside)
 
 element-outside : {X : Type 0} (source : List X) (i : ℤ) → is_place (length source) i ≡ false → element_at source i ≡ None

@@ -22,11 +22,6 @@ slice_get_in_front [] (suc n) k x p = absurd (none-some x p)
 slice_get_in_front (a ∷ xs) (suc n) zero x p = (omega arith, p)
 slice_get_in_front (a ∷ xs) (suc n) (suc k) x p = let rest = slice_get_in_front xs n k x p in (omega arith, rest.1)
 
-pub there : {A : Type 0} (xs : List A) (k : ℕ) → k < length xs → (x : A) × (slice_get xs k ≡ Some x)
-there [] k within = absurd (omega arith)
-there (x ∷ xs) zero within = (x, refl)
-there (x ∷ xs) (suc k) within = there xs k (omega arith)
-
 pub same_elements : {A : Type 0} (xs ys : List A) → length xs ≡ length ys → ((k : ℕ) → k < length xs → slice_get xs k ≡ slice_get ys k) → xs ≡ ys
 same_elements [] [] long same = refl
 same_elements [] (y ∷ ys) long same = absurd (omega arith)

@@ -20,9 +20,9 @@ use Rattle.cvl_base.specs.Packs.{count_of, pack_of}
 use Rattle.cvl_base.specs.Permutes.{simple_of, back_of, select_of, default_of, sent_to_all, sent_over, all_targets, flagged_targets}
 use Rattle.cvl_base.specs.Segmented.{beside, of_two, of_three, in_vector, at_segment, moved, results_from, one_each, end_to_end}
 use Rattle.cvl_base.specs.SegmentedCalls.{seg_scan_of, seg_reduce_of, seg_simple_of, seg_back_of, seg_select_of, seg_default_of, seg_pack_of, seg_count_of, seg_distribute_of, seg_index_of, seg_extract_of, seg_replace_of}
-use Rattle.call_laws.proofs.Cuts.{nest-fits, nest-mismatch}
+use Rattle.cvl_base.proofs.Nests.{nest-fits, nest-misfits}
 use Rattle.call_laws.proofs.Packing.{pack-mismatch}
-use Rattle.call_laws.proofs.Sending.{if_as_long-fits, if_as_long-mismatch}
+use Rattle.cvl_base.proofs.Elementwise.{if_as_long-fits, if_as_long-misfits}
 
 -- ---- the results and the first fault
 
@@ -104,7 +104,7 @@ nest_one_of xs ys same = ap (λ n. nest (n ∷ []) ys) same ∙ nest_one ys
 nest_one_not : {X Y : Type 0} (xs : List X) (ys : List Y) → length xs ≢ length ys → nest (length xs ∷ []) ys ≡ Err (fault no.LengthMismatch)
 nest_one_not xs ys differ =
     let cons = sum_by-cons (λ (n : ℕ). n) (length xs) [] in
-    nest-mismatch (length xs ∷ []) ys (λ same. differ (omega arith))
+    nest-misfits (length xs ∷ []) ys (λ same. differ (omega arith))
 
 place-stays : (o : Option ℕ) (lengths : List ℕ) → option_map (in_vector lengths 0) o ≡ o
 place-stays None lengths = refl
@@ -133,7 +133,7 @@ two-again call xs ys mismatch =
     ]
 
 pub simple-again : {X : Type 0} (source : List X) (index : List ℤ) → seg_simple_of source index (length source ∷ []) ≡ simple_of source index
-simple-again source index = two-again simple_of source index (if_as_long-mismatch source index (sent_to_all source (all_targets index) (length index)))
+simple-again source index = two-again simple_of source index (if_as_long-misfits source index (sent_to_all source (all_targets index) (length index)))
 
 pub pack-again : {X : Type 0} (xs : List X) (flags : List Bool) → seg_pack_of xs flags (length xs ∷ []) ≡ pack_of xs flags
 pack-again xs flags = two-again pack_of xs flags (pack-mismatch xs flags)
@@ -151,7 +151,7 @@ default-again {X = X} source index defaults =
     ∙ ap (whole (Ok (source ∷ [])) (nest (length source ∷ []) index)) (nest_one defaults)
     ∙ elim (eqb_tells (length source) (length index)) [
       | inl t ↦ ap (λ b. whole (Ok (source ∷ [])) b (Ok (defaults ∷ []))) (nest_one_of source index t.1) ∙ flat-again (length source ∷ []) (of_three default_of) ((source, index), defaults)
-      | inr t ↦ ap (λ b. whole (Ok (source ∷ [])) b (Ok (defaults ∷ []))) (nest_one_not source index t.1) ∙ sym (if_as_long-mismatch source index (sent_over source (all_targets index) defaults) t.1)
+      | inr t ↦ ap (λ b. whole (Ok (source ∷ [])) b (Ok (defaults ∷ []))) (nest_one_not source index t.1) ∙ sym (if_as_long-misfits source index (sent_over source (all_targets index) defaults) t.1)
     ]
 
 pub select-again : {X : Type 0} (source : List X) (index : List ℤ) (flags : List Bool) → seg_select_of source index flags (length source ∷ []) ≡ select_of source index flags
@@ -164,10 +164,10 @@ select-again {X = X} source index flags =
           ∙ elim (eqb_tells (length source) (length flags)) [
             | inl u ↦ ap (whole (Ok (source ∷ [])) (Ok (index ∷ []))) (nest_one_of source flags u.1) ∙ flat-again (length source ∷ []) (of_three select_of) ((source, index), flags)
             | inr u ↦ ap (whole (Ok (source ∷ [])) (Ok (index ∷ []))) (nest_one_not source flags u.1)
-                ∙ sym (if_as_long-fits source index (if_as_long index flags sends) t.1 ∙ if_as_long-mismatch index flags sends (λ same. u.1 (t.1 ∙ same)))
+                ∙ sym (if_as_long-fits source index (if_as_long index flags sends) t.1 ∙ if_as_long-misfits index flags sends (λ same. u.1 (t.1 ∙ same)))
           ]
       | inr t ↦ ap (λ b. whole (Ok (source ∷ [])) b (nest (length source ∷ []) flags)) (nest_one_not source index t.1)
-          ∙ sym (if_as_long-mismatch source index (if_as_long index flags sends) t.1)
+          ∙ sym (if_as_long-misfits source index (if_as_long index flags sends) t.1)
     ]
 
 pub count-again : (flags : List Bool) → seg_count_of flags (length flags ∷ []) ≡ Ok (count_of flags ∷ [])

@@ -1,16 +1,16 @@
 -- What a select permute gives where no place that takes part is bad.
-use Rattle.std.proofs.Common.{◌≡◌, ℕ, zero, suc, ◌+◌, Bool, true, false, cond, List, [], ◌∷◌, length, refl, ◌∙◌, arith, ℤ, pos, negsuc, slice_get, Some, None, Ok, zip}
+use Rattle.std.proofs.Common.{◌≡◌, ℕ, zero, suc, Bool, true, false, List, [], ◌∷◌, length, refl, ◌∙◌, arith, ℤ, pos, negsuc, slice_get, Some, None, Ok}
 use Rattle.std.specs.Prelude.{◌↔◌}
 use Rattle.std.proofs.lemmas.Bool.{false≢true}
-use Rattle.std.proofs.lemmas.List.{length-map}
-use Rattle.std.proofs.lemmas.List.Sums.{sum_by-cons}
 use Rattle.std.proofs.lemmas.Option.{none-some, same_Some}
-use Rattle.std.proofs.lemmas.Slice.Zip.{length-zip}
 use Rattle.cvl_base.specs.Elementwise.{if_as_long}
 use Rattle.cvl_base.specs.Packs.{count_of}
 use Rattle.cvl_base.specs.Permutes.{flagged_targets, target_if, select_of, sent_to_all}
 use Rattle.call_laws.specs.Permuted.{IsSelectPermute}
-use Rattle.call_laws.proofs.Sending.{IsSent, if_as_long-Ok, if_as_long-fits, sent_to_all-meaning}
+use Rattle.cvl_base.proofs.Elementwise.{if_as_long-fits}
+use Rattle.cvl_base.proofs.Packs.{count-cons}
+use Rattle.cvl_base.proofs.Permutes.{length-flagged_targets}
+use Rattle.call_laws.proofs.Sending.{IsSent, if_as_long-Ok, sent_to_all-meaning}
 use Rattle.call_laws.proofs.Targets.{IsRight, named, once-from_right, right-from_once, tail-IsRight}
 
 -- a place takes part where its flag is true
@@ -27,15 +27,6 @@ here-flagged (j ∷ index) (true ∷ flags) zero i here = (refl, same_Some (Some
 here-flagged (j ∷ index) (false ∷ flags) zero i here = absurd (none-some i (same_Some None (Some i) here))
 here-flagged (j ∷ index) (flag ∷ flags) (suc k) i here = here-flagged index flags k i here
 
-length-flagged : (index : List ℤ) (flags : List Bool) → length index ≡ length flags → length (flagged_targets index flags) ≡ length index
-length-flagged index flags long =
-    let mapped = length-map (zip index flags) (λ (p : ℤ × Bool). target_if p.0 p.1) in
-    let zipped = length-zip index flags in
-    omega arith
-
-counted : (flag : Bool) (flags : List Bool) → count_of (flag ∷ flags) ≡ cond flag 1 0 + count_of flags
-counted flag flags = sum_by-cons (λ (flag : Bool). cond flag 1 0) flag flags
-
 -- as many places take part as there are true flags
 flagged-named : (m : ℕ) (index : List ℤ) (flags : List Bool) → length index ≡ length flags → IsRight m (flagged_targets index flags) → length (named (flagged_targets index flags)) ≡ count_of flags
 flagged-named m [] [] long right = refl
@@ -43,10 +34,10 @@ flagged-named m [] (flag ∷ flags) long right = absurd (omega arith)
 flagged-named m (i ∷ index) [] long right = absurd (omega arith)
 flagged-named m (i ∷ index) (false ∷ flags) long right =
     let rest = flagged-named m index flags (omega arith) (tail-IsRight m None (flagged_targets index flags) right) in
-    omega (arith, counted false flags)
+    omega (arith, count-cons false flags)
 flagged-named m (pos d ∷ index) (true ∷ flags) long right =
     let rest = flagged-named m index flags (omega arith) (tail-IsRight m (Some (pos d)) (flagged_targets index flags) right) in
-    omega (arith, counted true flags)
+    omega (arith, count-cons true flags)
 flagged-named m (negsuc d ∷ index) (true ∷ flags) long right = absurd (false≢true (right.within 0 (negsuc d) refl))
 
 select-from_sent : {X : Type 0} (source : List X) (index : List ℤ) (flags : List Bool) (result : List X) → length source ≡ length index → length index ≡ length flags → IsSent (count_of flags) source (flagged_targets index flags) result → IsSelectPermute source index flags result
@@ -70,7 +61,7 @@ sent-from_select source index flags result is = record {
 
 select_sent : {X : Type 0} (source : List X) (index : List ℤ) (flags : List Bool) (result : List X) → length source ≡ length index → length index ≡ length flags → (sent_to_all source (flagged_targets index flags) (count_of flags) ≡ Ok result) ↔ IsSent (count_of flags) source (flagged_targets index flags) result
 select_sent source index flags result long flagged =
-    let as_long = length-flagged index flags flagged in
+    let as_long = length-flagged_targets index flags flagged in
     sent_to_all-meaning (count_of flags) source (flagged_targets index flags) result (omega arith) (λ right. let e = flagged-named (count_of flags) index flags flagged right in omega arith)
 
 pub select-meaning : {X : Type 0} (source : List X) (index : List ℤ) (flags : List Bool) (result : List X) → (select_of source index flags ≡ Ok result) ↔ IsSelectPermute source index flags result

@@ -1,11 +1,10 @@
 -- What a permute gives where no place is bad.
-use Rattle.std.proofs.Common.{◌≡◌, ◌≢◌, ℕ, zero, suc, ◌+◌, ◌<◌, ◌≤◌, true, false, List, [], ◌∷◌, length, take, refl, sym, ap, ◌∙◌, subst, arith, inl, inr, not, eq-eqb, ℤ, pos, negsuc, slice_get, option_map, find, filter_map, Some, None, Ok, Err, Option, Result}
+use Rattle.std.proofs.Common.{◌≡◌, ℕ, zero, suc, ◌+◌, ◌<◌, ◌≤◌, true, false, List, [], ◌∷◌, length, take, refl, sym, ap, ◌∙◌, subst, arith, inl, inr, not, ℤ, pos, negsuc, slice_get, option_map, find, filter_map, Some, None, Ok, Option, Result}
 use Rattle.std.specs.Prelude.{◌↔◌}
 use Rattle.std.specs.List.{zip, list_any, range_with_len, cons_option}
 use Rattle.std.proofs.lemmas.Option.{none-some, same_Some, slice_get-map, slice_get_within}
-use Rattle.std.proofs.lemmas.Bool.{ne_eqb, false≢true, ltb-true, or_parts, cond-true, cond-false}
+use Rattle.std.proofs.lemmas.Bool.{false≢true, ltb-true, or_parts, cond-true, cond-false}
 use Rattle.std.proofs.lemmas.Bool.Decides.{eqb_tells, Decides-int_eq}
-use Rattle.std.proofs.lemmas.List.{length-map}
 use Rattle.cvl_base.specs.declared.fault.Fault.{Fault}
 use Rattle.cvl_base.specs.Elementwise.{if_as_long}
 use Rattle.cvl_base.specs.declared.fault.FaultNo.TheVariants.{LengthMismatch}
@@ -13,7 +12,10 @@ use Rattle.cvl_base.specs.Faults.{fault}
 use Rattle.cvl_base.specs.Gives.{unless, fault_if}
 use Rattle.cvl_base.specs.Permutes.{all_targets, first_fault, wrongs, is_target, sent_to, sent_to_all, simple_of}
 use Rattle.call_laws.specs.Permuted.{IsSimplePermute}
-use Rattle.call_laws.proofs.Places.{there, same_elements}
+use Rattle.cvl_base.proofs.Elementwise.{if_as_long-fits}
+use Rattle.cvl_base.proofs.Lists.{element}
+use Rattle.cvl_base.proofs.Permutes.{length-all_targets}
+use Rattle.call_laws.proofs.Places.{same_elements}
 use Rattle.call_laws.proofs.Targets.{IsRight, right-from_no_fault, no_fault-from_right, once-from_right, right-from_once, target_there, named, each_is_target, tail-IsRight}
 
 -- ---- what is sent to one place
@@ -56,16 +58,16 @@ pub record IsSent {X : Type 0} (m : ℕ) (source : List X) (ts : List (Option �
 pub sent_to-target : {X : Type 0} (m : ℕ) (source : List X) (ts : List (Option ℤ)) (k d : ℕ) → IsRight m ts → length ts ≤ length source → slice_get ts k ≡ Some (Some (pos d)) → sent_to source ts d ≡ slice_get source k
 sent_to-target m source ts k d right long target =
     let within : k < length ts = slice_get_within ts k (Some (pos d)) target in
-    let element = there source k (omega arith) in
-    sent_to-first source ts k d element.0 target element.1 (right.fresh k (pos d) target) ∙ sym element.1
+    let here = element source k (omega arith) in
+    sent_to-first source ts k d here.0 target here.1 (right.fresh k (pos d) target) ∙ sym here.1
 
 -- where no place is bad and enough places take part, all places are sent something
 sent_to-there : {X : Type 0} (m : ℕ) (source : List X) (ts : List (Option ℤ)) → IsRight m ts → length ts ≤ length source → m ≤ length (named ts) → (d : ℕ) → d < m → (x : X) × (sent_to source ts d ≡ Some x)
 sent_to-there m source ts right long enough d within =
     let sender = target_there (pos d) ts (each_is_target m ts right enough d within) in
     let here : sender.0 < length ts = slice_get_within ts sender.0 (Some (pos d)) sender.1 in
-    let element = there source sender.0 (omega arith) in
-    (element.0, sent_to-target m source ts sender.0 d right long sender.1 ∙ element.1)
+    let sent = element source sender.0 (omega arith) in
+    (sent.0, sent_to-target m source ts sender.0 d right long sender.1 ∙ sent.1)
 
 -- all that is sent, in a list
 pub all_sent : {X : Type 0} (m : ℕ) (source : List X) (ts : List (Option ℤ)) → IsRight m ts → length ts ≤ length source → m ≤ length (named ts) → IsSent m source ts (filter_map (sent_to source ts) (range_with_len 0 m))
@@ -100,12 +102,6 @@ if_as_long-Ok xs ys rest z p =
       | inl t ↦ (t.1, sym (ap (λ b. fault_if (not b) (fault LengthMismatch) rest) t.0) ∙ p)
       | inr t ↦ let bad : fault_if true (fault LengthMismatch) rest ≡ Ok z = sym (ap (λ b. fault_if (not b) (fault LengthMismatch) rest) t.0) ∙ p in cc
     ]
-
-pub if_as_long-fits : {A B Z : Type 0} (xs : List A) (ys : List B) (rest : Result Z Fault) → length xs ≡ length ys → if_as_long xs ys rest ≡ rest
-if_as_long-fits xs ys rest same = ap (λ b. fault_if (not b) (fault LengthMismatch) rest) (eq-eqb (length xs) (length ys) same)
-
-pub if_as_long-mismatch : {A B Z : Type 0} (xs : List A) (ys : List B) (rest : Result Z Fault) → length xs ≢ length ys → if_as_long xs ys rest ≡ Err (fault LengthMismatch)
-if_as_long-mismatch xs ys rest differ = ap (λ b. fault_if (not b) (fault LengthMismatch) rest) (ne_eqb (length xs) (length ys) differ)
 
 pub sent_to_all-meaning : {X : Type 0} (m : ℕ) (source : List X) (ts : List (Option ℤ)) (result : List X) → length ts ≤ length source → (IsRight m ts → m ≤ length (named ts)) → (sent_to_all source ts m ≡ Ok result) ↔ IsSent m source ts result
 sent_to_all-meaning m source ts result long enough = (
@@ -150,9 +146,6 @@ sent-from_simple source index result is = record {
   right = right-from_once (length index) (all_targets index) (λ k i here. is.within k i (index-here index k i here)) (λ j k i first second. is.once j k i (index-here index j i first) (index-here index k i second));
   sent = λ k d here. is.sent k d (index-here index k (pos d) here);
 }
-
-pub length-all_targets : (index : List ℤ) → length (all_targets index) ≡ length index
-length-all_targets index = length-map index (λ (i : ℤ). Some i)
 
 simple_sent : {X : Type 0} (source : List X) (index : List ℤ) (result : List X) → length source ≡ length index → (sent_to_all source (all_targets index) (length index) ≡ Ok result) ↔ IsSent (length index) source (all_targets index) result
 simple_sent source index result long =

@@ -15,7 +15,8 @@ use Rattle.cvl_base.specs.Faults.{fault_at}
 use Rattle.cvl_base.specs.Folds.{fronts}
 use Rattle.operators.proofs.FoldLaws.{slice_get-fronts, length-fronts}
 use Rattle.cvl_base.specs.Permutes.{first_fault, wrong_at, wrongs, is_place, is_target}
-use Rattle.call_laws.proofs.Places.{slice_get-zip, slice_get-take, slice_get_in_front, there}
+use Rattle.cvl_base.proofs.Lists.{element}
+use Rattle.call_laws.proofs.Places.{slice_get-zip, slice_get-take, slice_get_in_front}
 
 -- ---- the first fault of a list of faults
 
@@ -69,7 +70,7 @@ target_of_wrong m ts k w here =
     let mapped : length (wrongs m ts) ≡ length (zip (fronts ts) ts) = length-map (zip (fronts ts) ts) (λ (p : List (Option ℤ) × Option ℤ). wrong_at m p.0 p.1) in
     let zipped : length (zip (fronts ts) ts) ≡ min (length (fronts ts)) (length ts) = length-zip (fronts ts) ts in
     let long : length (fronts ts) ≡ length ts = length-fronts ts in
-    there ts k (omega arith)
+    element ts k (omega arith)
 
 pub no_fault-from_right : (m : ℕ) (ts : List (Option ℤ)) → IsRight m ts → first_fault 0 (wrongs m ts) ≡ None
 no_fault-from_right m ts right = none-first_fault 0 (wrongs m ts) (λ k w here.

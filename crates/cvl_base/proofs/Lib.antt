@@ -1,1 +1,11 @@
+pub mod Descriptors
+pub mod Distributes
+pub mod Elementwise
+pub mod Gives
+pub mod Lists
+pub mod Nests
+pub mod Packs
 pub mod Padding
+pub mod Permutes
+pub mod Segmented
+pub use Rattle.operators.proofs.FoldLaws

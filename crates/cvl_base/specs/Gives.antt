@@ -1,6 +1,6 @@
 -- How the answer of a call stands to its definition, and how definitions that may have a fault are chained.
 -- Source: this library's profile: which answers a call may give.
-use Rattle.std.specs.Prelude.{◌≡◌, Result, Ok, Err, Option, Some, None, Bool, true, false}
+use Rattle.std.specs.Prelude.{◌≡◌, Result, Ok, Err, Option, Some, None, Bool, true, false, List, ◌++◌}
 use Rattle.cvl_base.specs.declared.fault.Fault.{Fault}
 use Rattle.cvl_base.specs.declared.refused.Refused.{Refused}
 use Rattle.cvl_base.specs.declared.refused.Refused.TheVariants as refused
@@ -16,6 +16,10 @@ infixl 20 ◌>>=◌
 abbrev pub ◌>>=◌ : {X Y : Type 0} → Result X Fault → (X → Result Y Fault) → Result Y Fault
 Ok x >>= next = next x
 Err e >>= next = Err e
+
+-- what is done, and after it what the others give, or their fault
+abbrev pub after : {X : Type 0} → List X → Result (List X) Fault → Result (List X) Fault
+after done others = others >>= λ xs. Ok (done ++ xs)
 
 -- the fault where there is one, else what follows
 abbrev pub unless : {Y : Type 0} → Option Fault → Result Y Fault → Result Y Fault

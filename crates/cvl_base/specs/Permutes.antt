@@ -1,6 +1,6 @@
 -- Permutes as sets of pairs: in the pair (d, k) element k of the source goes to place d of the result.
 -- Source: CVL's permute and back permute; select, default and the faults are this library's profile.
-use Rattle.std.specs.Prelude.{ℕ, ◌+◌, ℤ, pos, negsuc, Bool, true, false, not, nat_lt, if◌then◌else◌, List, [], ◌∷◌, length, map, find, filter_map, Option, Some, None, unwrap_or, option_map, Result, Ok}
+use Rattle.std.specs.Prelude.{ℕ, ◌+◌, ℤ, pos, negsuc, Bool, true, false, not, nat_lt, if◌then◌else◌, List, [], ◌∷◌, length, map, find, filter_map, unsigned_abs, Option, Some, None, unwrap_or, option_map, Result, Ok}
 use Rattle.std.specs.List.{zip, list_any, range_with_len, enumerate_from}
 use Rattle.std.specs.Ordering.{int_eq}
 use Rattle.cvl_base.specs.declared.fault.Fault.{Fault}
@@ -35,6 +35,10 @@ is_target d (Some i) = int_eq i d
 abbrev pub is_place : ℕ → ℤ → Bool
 is_place m (pos d) = nat_lt d m
 is_place m (negsuc d) = false
+
+-- the place that an index names among m, if it is one of them
+abbrev pub place_among : ℕ → ℤ → Option ℕ
+place_among m i = if is_place m i then Some (unsigned_abs i) else None
 
 -- what is wrong with a place's target where the result has m places and the earlier places have those targets
 abbrev pub wrong_at : ℕ → List (Option ℤ) → Option ℤ → Option FaultNo

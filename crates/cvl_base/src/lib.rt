@@ -9,10 +9,12 @@ pub mod checks;
 pub mod config;
 pub mod elements;
 pub mod fault;
+pub mod flags;
 pub mod lengths;
 pub mod limits;
 pub mod memory;
 pub mod name;
+pub mod places;
 pub mod refused;
 pub mod value;
 
@@ -25,11 +27,13 @@ pub use checks::check_agree;
 pub use config::{BadConfig, Config};
 pub use elements::{Bools, Elements, Ints};
 pub use fault::{Fault, FaultNo};
+pub use flags::true_count;
 pub use lengths::Lengths;
 pub use memory::Memory;
 pub use name::Name;
 pub use operators::{
     Monoid, Packed, Seg, boolean, folds, integer, laws, monoid, monoids, seg, tile_sums,
 };
+pub use places::place_among;
 pub use refused::{NoResources, Refused};
 pub use value::Value;

@@ -1,23 +1,18 @@
 -- The walk of a segmented distribute: the copies so far, and what the segments left give.
 use Rattle.std.proofs.Common.{◌≡◌, ◌∙◌, ℕ, ◌+◌, ◌<◌, ◌≤◌, pos, List, [], ◌∷◌, ◌++◌, length, drop, replicate, get_or, sym, ap, Result, Ok}
 use Rattle.std.specs.List.{zip}
-use Rattle.std.proofs.lemmas.Bool.{le-ltb}
 use Rattle.std.proofs.lemmas.List.{drop_more, drop_all}
 use Rattle.cvl_base.specs.declared.fault.Fault.{Fault}
-use Rattle.cvl_base.specs.declared.fault.FaultNo.TheVariants as no
-use Rattle.cvl_base.specs.Distributes.{as_length, distribute_of}
-use Rattle.cvl_base.specs.Faults.{fault}
-use Rattle.cvl_base.specs.Gives.{◌>>=◌, fault_if}
+use Rattle.cvl_base.specs.Distributes.{distribute_of}
+use Rattle.cvl_base.specs.Gives.{◌>>=◌, after}
 use Rattle.cvl_base.specs.Limits.{most_elements}
 use Rattle.cvl_base.specs.Segmented.{of_two, in_vector, end_to_end}
 use Rattle.cvl_base.specs.SegmentedCalls.{seg_distribute_of}
-use Rattle.pack_dist.proofs.Agreement.{beside_agree}
-use Rattle.pack_dist.proofs.Parts.{uncons}
-use Rattle.pack_dist.proofs.Walk.{after, given, begins, ends, itself, step}
-
--- a count in the limit is a length
-pub length_of_count : (n : ℕ) → n ≤ most_elements → as_length (pos n) ≡ Ok n
-length_of_count n small = ap (λ b. fault_if b (fault no.TooLong) (Ok n)) (le-ltb most_elements n small)
+use Rattle.cvl_base.proofs.Distributes.{as_length-fits}
+use Rattle.cvl_base.proofs.Gives.{after-none, after-end}
+use Rattle.cvl_base.proofs.Lists.{uncons}
+use Rattle.cvl_base.proofs.Segmented.{beside-fits}
+use Rattle.pack_dist.proofs.Walk.{given, itself, step}
 
 -- the copies for one segment
 abbrev copies : {X : Type 0} → X × ℕ → Result (List X) Fault
@@ -30,8 +25,8 @@ left values lengths s = given itself (in_vector lengths) copies s (zip (drop s v
 module _ {X : Type 0} (values : List X) (lengths : List ℕ) where
   pub none_yet : (done : List X) → length values ≡ length lengths → done ≡ [] → seg_distribute_of values lengths ≡ after done (left values lengths 0)
   none_yet done same none =
-      ap (end_to_end (in_vector lengths) copies) (beside_agree values lengths same)
-      ∙ begins _
+      ap (end_to_end (in_vector lengths) copies) (beside-fits values lengths same)
+      ∙ sym (after-none _)
       ∙ ap (λ d. after d (left values lengths 0)) (sym none)
 
   pub one_more : (s n : ℕ) (v : X) (done now : List X) (whole : Result (List X) Fault) → s < length values → s < length lengths
@@ -43,11 +38,11 @@ module _ {X : Type 0} (values : List X) (lengths : List ℕ) where
       ∙ ap (λ ns. after done (given itself (in_vector lengths) copies s (zip (v ∷ drop (s + 1) values) ns)))
       (drop_more lengths s 0 lt ∙ ap (λ k. k ∷ drop (s + 1) lengths) (sym is_n))
       ∙ step itself (in_vector lengths) copies s (v, n) (zip (drop (s + 1) values) (drop (s + 1) lengths)) (replicate n v) done
-      (ap (λ r. r >>= λ k. Ok (replicate k v)) (length_of_count n small))
+      (ap (λ r. r >>= λ k. Ok (replicate k v)) (as_length-fits n small))
       ∙ ap (λ d. after d (left values lengths (s + 1))) (sym grown)
 
   pub all_done : (s : ℕ) (done : List X) (whole : Result (List X) Fault) → length values ≤ s → whole ≡ after done (left values lengths s) → whole ≡ Ok done
   all_done s done whole ge so_far =
       so_far
       ∙ ap (λ vs. after done (given itself (in_vector lengths) copies s (zip vs (drop s lengths)))) (drop_all s values ge)
-      ∙ ends done
+      ∙ after-end done

@@ -7,29 +7,32 @@ use Rattle.cvl_base.specs.declared.fault.Fault.{Fault}
 use Rattle.cvl_base.specs.declared.fault.FaultNo.TheVariants as no
 use Rattle.cvl_base.specs.Extracts.{extract_of}
 use Rattle.cvl_base.specs.Faults.{fault, fault_at}
+use Rattle.cvl_base.specs.Gives.{after}
 use Rattle.cvl_base.specs.Nests.{cut_of}
 use Rattle.cvl_base.specs.Segmented.{of_two, at_segment, one_each}
 use Rattle.cvl_base.specs.SegmentedCalls.{seg_extract_of}
-use Rattle.pack_dist.proofs.Agreement.{cut_agree, cut_differ}
+use Rattle.cvl_base.proofs.Gives.{after-none, after-end}
+use Rattle.cvl_base.proofs.Nests.{cut_more, cut_all}
+use Rattle.pack_dist.proofs.Agreement.{cut-fits, cut-misfits}
 use Rattle.pack_dist.proofs.Named.{NamesNone, extract_some, extract_none}
-use Rattle.pack_dist.proofs.Parts.{cut_more, cut_all, part_read, part_long, part_short}
-use Rattle.pack_dist.proofs.Walk.{after, given, begins, ends, fails, single, singles, step}
+use Rattle.pack_dist.proofs.Parts.{part_read, part_long, part_short}
+use Rattle.pack_dist.proofs.Walk.{given, fails, single, singles, step}
 
 -- what the segments from s on give, where they start at a place
 abbrev pub left : {X : Type 0} → List X → List ℤ → List ℕ → ℕ → ℕ → Result (List X) Fault
 left xs index lengths s start = given single at_segment (of_two extract_of) s (zip (cut_of (drop s lengths) (drop start xs)) (drop s index))
 
 module _ {X : Type 0} (xs : List X) (index : List ℤ) (lengths : List ℕ) where
-  pub differ : (m n : ℕ) → sum lengths ≡ length xs → length lengths ≡ m → length index ≡ n → m ≢ n
+  pub differ : sum lengths ≡ length xs → length lengths ≢ length index
       → seg_extract_of xs index lengths ≡ Err (fault no.LengthMismatch)
-  differ m n fits is_m is_n unlike = ap (one_each at_segment (of_two extract_of)) (cut_differ lengths xs index fits m n is_m is_n unlike)
+  differ fits unlike = ap (one_each at_segment (of_two extract_of)) (cut-misfits lengths xs index fits unlike)
 
   pub none_yet : (done : List X) → sum lengths ≡ length xs → length lengths ≡ length index → done ≡ []
       → seg_extract_of xs index lengths ≡ after done (left xs index lengths 0 0)
   none_yet done fits same none =
-      ap (one_each at_segment (of_two extract_of)) (cut_agree lengths xs index fits same)
+      ap (one_each at_segment (of_two extract_of)) (cut-fits lengths xs index fits same)
       ∙ singles _
-      ∙ begins _
+      ∙ sym (after-none _)
       ∙ ap (λ d. after d (left xs index lengths 0 0)) (sym none)
 
   -- the segments from s on, where the first of them has n elements
@@ -69,4 +72,4 @@ module _ {X : Type 0} (xs : List X) (index : List ℤ) (lengths : List ℕ) wher
   all_done s start done whole ge so_far =
       so_far
       ∙ ap (λ lists. after done (given single at_segment (of_two extract_of) s (zip lists (drop s index)))) (cut_all lengths (drop start xs) s ge)
-      ∙ ends done
+      ∙ after-end done

@@ -7,14 +7,15 @@ use Rattle.cvl_base.specs.declared.fault.Fault.{Fault}
 use Rattle.cvl_base.specs.declared.fault.FaultNo.TheVariants as no
 use Rattle.cvl_base.specs.Distributes.{index_of}
 use Rattle.cvl_base.specs.Faults.{fault}
-use Rattle.cvl_base.specs.Gives.{◌>>=◌}
+use Rattle.cvl_base.specs.Gives.{◌>>=◌, after}
 use Rattle.cvl_base.specs.Limits.{most_elements}
 use Rattle.cvl_base.specs.Segmented.{beside, of_three, in_vector, end_to_end}
 use Rattle.cvl_base.specs.SegmentedCalls.{seg_index_of}
 use Rattle.pack_dist.specs.Progressions.{progression}
-use Rattle.pack_dist.proofs.Agreement.{beside_agree, beside_differ}
-use Rattle.pack_dist.proofs.Distributed.{length_of_count}
-use Rattle.pack_dist.proofs.Walk.{after, given, begins, ends, itself, step}
+use Rattle.cvl_base.proofs.Distributes.{as_length-fits}
+use Rattle.cvl_base.proofs.Gives.{after-none, after-end}
+use Rattle.cvl_base.proofs.Segmented.{beside-fits, beside-misfits}
+use Rattle.pack_dist.proofs.Walk.{given, itself, step}
 
 -- the numbers for one segment
 abbrev numbers : (ℤ × ℤ) × ℕ → Result (List ℤ) Fault
@@ -28,16 +29,16 @@ module _ (inits strides : List ℤ) (lengths : List ℕ) (pairs : length inits �
   length-pairs : length (zip inits strides) ≡ length inits
   length-pairs = omega (arith, pairs, length-zip inits strides)
 
-  pub differ : (m n : ℕ) → length inits ≡ m → length lengths ≡ n → m ≢ n → seg_index_of inits strides lengths ≡ Err (fault no.LengthMismatch)
-  differ m n is_m is_n unlike =
-      ap (λ steps. end_to_end (in_vector lengths) numbers (beside steps (Ok lengths))) (beside_agree inits strides pairs)
-      ∙ ap (end_to_end (in_vector lengths) numbers) (beside_differ (zip inits strides) lengths m n (length-pairs ∙ is_m) is_n unlike)
+  pub differ : length inits ≢ length lengths → seg_index_of inits strides lengths ≡ Err (fault no.LengthMismatch)
+  differ unlike =
+      ap (λ steps. end_to_end (in_vector lengths) numbers (beside steps (Ok lengths))) (beside-fits inits strides pairs)
+      ∙ ap (end_to_end (in_vector lengths) numbers) (beside-misfits (zip inits strides) lengths (λ same. unlike (sym length-pairs ∙ same)))
 
   pub none_yet : (done : List ℤ) → length inits ≡ length lengths → done ≡ [] → seg_index_of inits strides lengths ≡ after done (left inits strides lengths 0)
   none_yet done same none =
-      ap (λ steps. end_to_end (in_vector lengths) numbers (beside steps (Ok lengths))) (beside_agree inits strides pairs)
-      ∙ ap (end_to_end (in_vector lengths) numbers) (beside_agree (zip inits strides) lengths (length-pairs ∙ same))
-      ∙ begins _
+      ap (λ steps. end_to_end (in_vector lengths) numbers (beside steps (Ok lengths))) (beside-fits inits strides pairs)
+      ∙ ap (end_to_end (in_vector lengths) numbers) (beside-fits (zip inits strides) lengths (length-pairs ∙ same))
+      ∙ sym (after-none _)
       ∙ ap (λ d. after d (left inits strides lengths 0)) (sym none)
 
   pub one_more : (s n : ℕ) (done now : List ℤ) (whole : Result (List ℤ) Fault) → s < length inits → s < length lengths
@@ -53,11 +54,11 @@ module _ (inits strides : List ℤ) (lengths : List ℕ) (pairs : length inits �
       ∙ ap (λ ns. after done (given itself (in_vector lengths) numbers s (zip (zip (init ∷ drop (s + 1) inits) (stride ∷ drop (s + 1) strides)) ns)))
       (drop_more lengths s 0 lt ∙ ap (λ k. k ∷ drop (s + 1) lengths) (sym is_n))
       ∙ step itself (in_vector lengths) numbers s ((init, stride), n) (zip (zip (drop (s + 1) inits) (drop (s + 1) strides)) (drop (s + 1) lengths))
-      (progression init stride n) done (ap (λ r. r >>= λ k. Ok (progression init stride k)) (length_of_count n small))
+      (progression init stride n) done (ap (λ r. r >>= λ k. Ok (progression init stride k)) (as_length-fits n small))
       ∙ ap (λ d. after d (left inits strides lengths (s + 1))) (sym grown)
 
   pub all_done : (s : ℕ) (done : List ℤ) (whole : Result (List ℤ) Fault) → length inits ≤ s → whole ≡ after done (left inits strides lengths s) → whole ≡ Ok done
   all_done s done whole ge so_far =
       so_far
       ∙ ap (λ is. after done (given itself (in_vector lengths) numbers s (zip (zip is (drop s strides)) (drop s lengths)))) (drop_all s inits ge)
-      ∙ ends done
+      ∙ after-end done

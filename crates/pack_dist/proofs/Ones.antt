@@ -1,20 +1,20 @@
 -- The sum of flags that are read as 1 and 0 is the number of true ones.
-use Rattle.std.proofs.Common.{◌≡◌, ℕ, zero, suc, ◌+◌, ◌<◌, ◌≤◌, ℤ, pos, to_z, of_z, w32, w64, Fits, Bool, true, false, cond, List, [], ◌∷◌, length, take, map, get_or, refl, sym, ap, ◌∙◌, arith, FitsSigned, subst}
+use Rattle.std.proofs.Common.{◌≡◌, ℕ, ◌+◌, ◌<◌, ◌≤◌, ℤ, pos, to_z, of_z, w32, w64, Fits, Bool, true, false, cond, List, [], ◌∷◌, length, take, map, get_or, sym, ap, ◌∙◌, arith, FitsSigned, subst, slice_get, Some}
 use Rattle.std.specs.Prelude.{unsigned_abs}
 use Rattle.std.specs.Int.{IsNonNegative}
 use Rattle.std.proofs.Math.Facts.{Fits-below}
 use Rattle.std.proofs.lemmas.Int.{int_wrap_fits, fits_signed_from_abs, to_z-of_z}
-use Rattle.std.proofs.lemmas.List.{get_or-map, get_or_default, length-map, length-take, take-map}
-use Rattle.std.proofs.lemmas.List.Sums.{sum_by-cons, count_by-le-length}
+use Rattle.std.proofs.lemmas.List.{get_or_default, length-map, length-take, take-map}
+use Rattle.std.proofs.lemmas.List.Sums.{count_by-le-length}
+use Rattle.std.proofs.lemmas.Option.{get_or_from_slice_get}
 use Rattle.cvl_base.specs.Conversions.{integer_of}
-use Rattle.cvl_base.specs.Folds.{fold_of, fronts, scan_of}
+use Rattle.cvl_base.specs.Folds.{fold_of, scan_of}
 use Rattle.cvl_base.specs.Integers.{sum_of, wrap}
 use Rattle.cvl_base.specs.Limits.{most_elements}
 use Rattle.cvl_base.specs.Packs.{count_of}
+use Rattle.cvl_base.proofs.FoldLaws.{slice_get-scan_of}
+use Rattle.cvl_base.proofs.Packs.{count-cons}
 use Rattle.pack_dist.specs.Kept.{ArePlaces}
-
-pub count-cons : (flag : Bool) (flags : List Bool) → count_of (flag ∷ flags) ≡ cond flag 1 0 + count_of flags
-count-cons flag flags = sum_by-cons (λ (f : Bool). cond f 1 0) flag flags
 
 wrap-few : (n : ℕ) → n ≤ most_elements → wrap (pos n) ≡ pos n
 wrap-few n few = int_wrap_fits w32 (pos n) (fits_signed_from_abs w32 (pos n) (omega arith))
@@ -39,23 +39,14 @@ ones_counted flags few = ones_from 0 flags (omega (arith, few)) ∙ ap pos (omeg
 
 -- ---- the counts before each flag
 
-length-fronts : {X : Type 0} (xs : List X) → length (fronts xs) ≡ length xs
-length-fronts [] = refl
-length-fronts (x ∷ xs) = omega (arith, length-map (fronts xs) (λ front. x ∷ front), length-fronts xs)
-
-get_or-fronts : {X : Type 0} (xs : List X) (k : ℕ) → k < length xs → get_or (fronts xs) k [] ≡ take k xs
-get_or-fronts [] k within = absurd (omega arith)
-get_or-fronts (x ∷ xs) zero within = refl
-get_or-fronts (x ∷ xs) (suc k) within =
-    get_or-map (λ front. x ∷ front) (fronts xs) k [] [] (omega (arith, within, length-fronts xs)) ∙ ap (λ front. x ∷ front) (get_or-fronts xs k (omega arith))
-
 pub scanned_ones : (flags : List Bool) (places : List ℤ) → length flags ≤ most_elements → places ≡ scan_of sum_of (pos 0) (map integer_of flags) → ArePlaces flags places
 scanned_ones flags places few is k within =
     let ones = map integer_of flags in
-    let in_ones : k < length ones = omega (arith, within, length-map flags integer_of) in
+    let at : slice_get (scan_of sum_of (pos 0) ones) k ≡ Some (fold_of sum_of (pos 0) (take k ones)) =
+    slice_get-scan_of sum_of (pos 0) ones k (omega (arith, within, length-map flags integer_of)) in
     ap (λ ps. get_or ps k (pos 0)) is
-    ∙ get_or-map (fold_of sum_of (pos 0)) (fronts ones) k [] (pos 0) (omega (arith, in_ones, length-fronts ones))
-    ∙ ap (fold_of sum_of (pos 0)) (get_or-fronts ones k in_ones ∙ take-map integer_of k flags)
+    ∙ get_or_from_slice_get (scan_of sum_of (pos 0) ones) k (fold_of sum_of (pos 0) (take k ones)) (pos 0) at
+    ∙ ap (fold_of sum_of (pos 0)) (take-map integer_of k flags)
     ∙ ones_counted (take k flags) (omega (arith, few, length-take k flags))
 
 pub count-fits : (flags : List Bool) → length flags ≤ most_elements → FitsSigned w32 (pos (count_of flags))

@@ -6,7 +6,7 @@ use Rattle.std.proofs.lemmas.List.Elements.{All-head, All-tail}
 use Rattle.std.proofs.lemmas.List.Sums.{sum_by-take-le, count_by_more_yes, count_by_more_no}
 use Rattle.cvl_base.specs.Packs.{count_of}
 use Rattle.pack_dist.specs.Kept.{kept_of}
-use Rattle.pack_dist.proofs.Ones.{count-cons}
+use Rattle.cvl_base.proofs.Packs.{count-cons}
 
 module _ {X : Type 0} where
   kept-cons : (x : X) (flag : Bool) (xs : List X) (flags : List Bool) → kept_of (x ∷ xs) (flag ∷ flags) ≡ cond flag (x ∷ []) [] ++ kept_of xs flags

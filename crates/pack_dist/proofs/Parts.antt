@@ -1,19 +1,8 @@
 -- The first of the segments that are left, where those before it end at a place.
-use Rattle.std.proofs.Common.{◌≡◌, ◌∙◌, ℕ, zero, suc, ◌+◌, ◌<◌, ◌≤◌, List, [], ◌∷◌, length, take, drop, get_or, refl, sym, ap, arith}
+use Rattle.std.proofs.Common.{◌≡◌, ◌∙◌, ℕ, ◌+◌, ◌<◌, ◌≤◌, List, length, take, drop, get_or, sym, ap, arith}
 use Rattle.std.specs.Prelude.{sum}
-use Rattle.std.proofs.lemmas.List.{drop_more, drop_all, drop-drop, get_or_default, get_or-take, get_or-drop, length-take, length-drop}
+use Rattle.std.proofs.lemmas.List.{drop_all, get_or-take, get_or-drop, length-take, length-drop}
 use Rattle.std.proofs.lemmas.List.Sums.{sum_by-drop_more}
-use Rattle.cvl_base.specs.Nests.{cut_of}
-
--- an argument of each segment: the first of those left
-pub uncons : {Y : Type 0} (ys : List Y) (s : ℕ) (y : Y) → s < length ys → y ≡ get_or ys s y → drop s ys ≡ y ∷ drop (s + 1) ys
-uncons ys s y lt is = drop_more ys s y lt ∙ ap (λ x. x ∷ drop (s + 1) ys) (sym is)
-
--- there is one
-pub element : {Y : Type 0} (ys : List Y) (s : ℕ) → s < length ys → (y : Y) × (y ≡ get_or ys s y)
-element [] s lt = absurd (omega arith)
-element (y ∷ ys) zero lt = (y, refl)
-element (y ∷ ys) (suc s) lt = element ys s (omega arith)
 
 -- so many elements are left without the first segment's
 pub left_more : (lengths : List ℕ) (s start n total : ℕ) → s < length lengths → n ≡ get_or lengths s 0 → start + sum (drop s lengths) ≡ total
@@ -24,19 +13,10 @@ pub none_left : (lengths : List ℕ) (s start total : ℕ) → length lengths �
 none_left lengths s start total ge covered = omega (arith, covered, ap sum (drop_all s lengths ge))
 
 module _ {X : Type 0} (lengths : List ℕ) (xs : List X) where
-  pub cut_more : (s start n : ℕ) → s < length lengths → n ≡ get_or lengths s 0
-      → cut_of (drop s lengths) (drop start xs) ≡ take n (drop start xs) ∷ cut_of (drop (s + 1) lengths) (drop (start + n) xs)
-  cut_more s start n lt is =
-      ap (λ ls. cut_of ls (drop start xs)) (uncons lengths s n lt (is ∙ get_or_default lengths s 0 n lt))
-      ∙ ap (λ rest. take n (drop start xs) ∷ cut_of (drop (s + 1) lengths) rest) (drop-drop n start xs)
-
   -- the first segment is as long as it should be
   pub part_long : (s start n : ℕ) → s < length lengths → n ≡ get_or lengths s 0 → start + sum (drop s lengths) ≡ length xs → length (take n (drop start xs)) ≡ n
   part_long s start n lt is covered =
       omega (arith, left_more lengths s start n (length xs) lt is covered, length-take n (drop start xs), length-drop start xs)
-
-pub cut_all : {X : Type 0} (lengths : List ℕ) (xs : List X) (s : ℕ) → length lengths ≤ s → cut_of (drop s lengths) xs ≡ []
-cut_all lengths xs s ge = ap (λ ls. cut_of ls xs) (drop_all s lengths ge)
 
 module _ {X : Type 0} (xs : List X) (start n : ℕ) where
   pub part_short : length (take n (drop start xs)) ≤ n

@@ -3,19 +3,25 @@ use Rattle.std.proofs.Common.{◌≡◌, ◌≢◌, ◌∙◌, ℕ, ◌+◌, ◌
 use Rattle.std.specs.Prelude.{sum}
 use Rattle.std.specs.List.{zip}
 use Rattle.std.proofs.lemmas.List.{drop_more, drop-drop, drop-set-add, drop-set-lt, take_all, take-set-le}
+use Rattle.std.proofs.lemmas.Option.{get_or_from_slice_get}
 use Rattle.std.proofs.lemmas.Slice.Zip.{length-zip}
 use Rattle.std.proofs.Math.Seq.{take-add, take-set-lt}
 use Rattle.cvl_base.specs.declared.fault.Fault.{Fault}
 use Rattle.cvl_base.specs.declared.fault.FaultNo.TheVariants as no
 use Rattle.cvl_base.specs.Extracts.{replace_of}
 use Rattle.cvl_base.specs.Faults.{fault, fault_at}
+use Rattle.cvl_base.specs.Gives.{after}
 use Rattle.cvl_base.specs.Nests.{cut_of}
 use Rattle.cvl_base.specs.Segmented.{beside, of_three, at_segment, end_to_end}
 use Rattle.cvl_base.specs.SegmentedCalls.{seg_replace_of}
-use Rattle.pack_dist.proofs.Agreement.{beside_agree, beside_differ, cut_agree, cut_differ, length-cut_of}
+use Rattle.cvl_base.proofs.Gives.{after-none, after-end}
+use Rattle.cvl_base.proofs.Lists.{element, uncons}
+use Rattle.cvl_base.proofs.Nests.{cut_more, cut_all, length-cut}
+use Rattle.cvl_base.proofs.Segmented.{beside-fits, beside-misfits}
+use Rattle.pack_dist.proofs.Agreement.{cut-fits, cut-misfits}
 use Rattle.pack_dist.proofs.Named.{NamesNone, replace_some, replace_none}
-use Rattle.pack_dist.proofs.Parts.{cut_more, cut_all, element, none_left, part_long, part_short, uncons}
-use Rattle.pack_dist.proofs.Walk.{after, given, begins, ends, fails, itself, step}
+use Rattle.pack_dist.proofs.Parts.{none_left, part_long, part_short}
+use Rattle.pack_dist.proofs.Walk.{given, fails, itself, step}
 
 -- what the segments from s on give, where they start at a place
 abbrev pub left : {X : Type 0} → List X → List ℤ → List X → List ℕ → ℕ → ℕ → Result (List X) Fault
@@ -23,27 +29,27 @@ left xs index values lengths s start =
     given itself at_segment (of_three replace_of) s (zip (zip (cut_of (drop s lengths) (drop start xs)) (drop s index)) (drop s values))
 
 module _ {X : Type 0} (xs : List X) (index : List ℤ) (values : List X) (lengths : List ℕ) where
-  pub index_differ : (m n : ℕ) → sum lengths ≡ length xs → length lengths ≡ m → length index ≡ n → m ≢ n
+  pub index_differ : sum lengths ≡ length xs → length lengths ≢ length index
       → seg_replace_of xs index values lengths ≡ Err (fault no.LengthMismatch)
-  index_differ m n fits is_m is_n unlike =
-      ap (λ places. end_to_end at_segment (of_three replace_of) (beside places (Ok values))) (cut_differ lengths xs index fits m n is_m is_n unlike)
+  index_differ fits differ =
+      ap (λ places. end_to_end at_segment (of_three replace_of) (beside places (Ok values))) (cut-misfits lengths xs index fits differ)
 
   length-places : length lengths ≡ length index → length (zip (cut_of lengths xs) index) ≡ length lengths
-  length-places same = omega (arith, same, length-cut_of lengths xs, length-zip (cut_of lengths xs) index)
+  length-places same = omega (arith, same, length-cut lengths xs, length-zip (cut_of lengths xs) index)
 
-  pub values_differ : (m n : ℕ) → sum lengths ≡ length xs → length lengths ≡ length index → length lengths ≡ m → length values ≡ n → m ≢ n
+  pub values_differ : sum lengths ≡ length xs → length lengths ≡ length index → length lengths ≢ length values
       → seg_replace_of xs index values lengths ≡ Err (fault no.LengthMismatch)
-  values_differ m n fits same is_m is_n unlike =
-      ap (λ places. end_to_end at_segment (of_three replace_of) (beside places (Ok values))) (cut_agree lengths xs index fits same)
+  values_differ fits same differ =
+      ap (λ places. end_to_end at_segment (of_three replace_of) (beside places (Ok values))) (cut-fits lengths xs index fits same)
       ∙ ap (end_to_end at_segment (of_three replace_of))
-      (beside_differ (zip (cut_of lengths xs) index) values m n (length-places same ∙ is_m) is_n unlike)
+      (beside-misfits (zip (cut_of lengths xs) index) values (λ as_many. differ (sym (length-places same) ∙ as_many)))
 
   pub none_yet : sum lengths ≡ length xs → length lengths ≡ length index → length lengths ≡ length values
       → seg_replace_of xs index values lengths ≡ after [] (left xs index values lengths 0 0)
   none_yet fits same as_many =
-      ap (λ places. end_to_end at_segment (of_three replace_of) (beside places (Ok values))) (cut_agree lengths xs index fits same)
-      ∙ ap (end_to_end at_segment (of_three replace_of)) (beside_agree (zip (cut_of lengths xs) index) values (length-places same ∙ as_many))
-      ∙ begins _
+      ap (λ places. end_to_end at_segment (of_three replace_of) (beside places (Ok values))) (cut-fits lengths xs index fits same)
+      ∙ ap (end_to_end at_segment (of_three replace_of)) (beside-fits (zip (cut_of lengths xs) index) values (length-places same ∙ as_many))
+      ∙ sym (after-none _)
 
   -- the segments after the first of those from s on, which has n elements
   abbrev segments : ℕ → ℕ → ℕ → List ((List X × ℤ) × X)
@@ -96,7 +102,8 @@ module _ {X : Type 0} (xs : List X) (index : List ℤ) (values : List X) (length
       → whole ≡ Err (fault_at no.IndexOutOfRange s)
   no_place s start n done whole lt in_index in_values is_n none so_far =
       let part = take n (drop start xs) in
-      let value = element values s in_values in
+      let there = element values s in_values in
+      let value : (v : X) × (v ≡ get_or values s v) = (there.0, sym (get_or_from_slice_get values s there.0 there.0 there.1)) in
       so_far
       ∙ ap (after done) (first s start n value.0 lt in_index in_values is_n value.1)
       ∙ fails itself at_segment (of_three replace_of) s ((part, get_or index s (pos 0)), value.0) (segments s start n) (fault_at no.IndexOutOfRange 0) done
@@ -107,5 +114,5 @@ module _ {X : Type 0} (xs : List X) (index : List ℤ) (values : List X) (length
   all_done s start held whole ge covered as_long so_far =
       so_far
       ∙ ap (λ lists. after (take start held) (given itself at_segment (of_three replace_of) s (zip (zip lists (drop s index)) (drop s values)))) (cut_all lengths (drop start xs) s ge)
-      ∙ ends (take start held)
+      ∙ after-end (take start held)
       ∙ ap Ok (take_all start held (omega (arith, as_long, none_left lengths s start (length xs) ge covered)))

@@ -1,19 +1,18 @@
 -- Counts and packs of segments, one segment after another.
 use Rattle.std.proofs.Common.{◌≡◌, ◌≢◌, ℕ, ◌+◌, ◌≤◌, ℤ, pos, Bool, List, [], ◌∷◌, ◌++◌, length, take, drop, map, zip, refl, sym, ap, ◌∙◌, arith, inl, inr, Result, Ok, Err, IfOk}
-use Rattle.std.specs.Prelude.{not, sum, unsigned_abs}
+use Rattle.std.specs.Prelude.{sum, unsigned_abs}
 use Rattle.std.proofs.lemmas.Bool.Decides.{eqb_tells}
 use Rattle.std.proofs.lemmas.List.{drop-map, length-drop, length-map, length-take, nil_from_length, take-map}
-use Rattle.std.proofs.lemmas.List.Sums.{count_by-le-length, sum_by-cons}
+use Rattle.std.proofs.lemmas.List.Sums.{count_by-le-length}
 use Rattle.cvl_base.specs.declared.fault.Fault.{Fault}
 use Rattle.cvl_base.specs.declared.fault.FaultNo.TheVariants as no
 use Rattle.cvl_base.specs.declared.refused.Refused.{Refused}
 use Rattle.cvl_base.specs.declared.refused.Refused.TheVariants as refused
 use Rattle.cvl_base.specs.Conversions.{integer_of}
 use Rattle.cvl_base.specs.Descriptors.{AreLengths}
-use Rattle.cvl_base.specs.Elementwise.{if_as_long}
 use Rattle.cvl_base.specs.Faults.{fault}
 use Rattle.cvl_base.specs.Folds.{fold_of}
-use Rattle.cvl_base.specs.Gives.{◌>>=◌, fault_if, Gives}
+use Rattle.cvl_base.specs.Gives.{◌>>=◌, Gives}
 use Rattle.cvl_base.specs.Integers.{sum_of}
 use Rattle.cvl_base.specs.Limits.{most_elements}
 use Rattle.cvl_base.specs.Lists.{joined}
@@ -21,36 +20,22 @@ use Rattle.cvl_base.specs.Nests.{cut_of, nest}
 use Rattle.cvl_base.specs.Packs.{count_of, pack_of}
 use Rattle.cvl_base.specs.Segmented.{beside, end_to_end, in_vector, moved, of_two, one_each, results_from}
 use Rattle.cvl_base.specs.SegmentedCalls.{seg_count_of, seg_pack_of, seg_reduce_of}
-use Rattle.scan_ops.proofs.Segmented.{results-ok, seg_reduce-fits, seg_reduce-misfits}
+use Rattle.cvl_base.proofs.Descriptors.{abs_pos}
+use Rattle.cvl_base.proofs.Elementwise.{if_as_long-fits}
+use Rattle.cvl_base.proofs.Lists.{sum-cons}
+use Rattle.cvl_base.proofs.Nests.{length-cut, nest-fits, nest-misfits}
+use Rattle.cvl_base.proofs.Segmented.{beside-fits, results-ok}
+use Rattle.scan_ops.proofs.Segmented.{seg_reduce-fits, seg_reduce-misfits}
 use Rattle.scan_ops.specs.Runs.{reduces_of}
-use Rattle.segdes.proofs.Sums.{abs_pos}
 use Rattle.pack_dist.specs.Kept.{kept_of}
-use Rattle.pack_dist.proofs.Agreement.{beside_agree, length-cut_of, nest_agree}
 use Rattle.pack_dist.proofs.Ones.{ones_counted}
 use Rattle.pack_dist.proofs.Packing.{kept-split}
-
-nest-misfits : {X : Type 0} (lengths : List ℕ) (xs : List X) → sum lengths ≢ length xs → nest lengths xs ≡ Err (fault no.LengthMismatch)
-nest-misfits lengths xs misfits =
-    elim (eqb_tells (sum lengths) (length xs)) [
-      | inl t ↦ absurd (misfits t.1)
-      | inr t ↦ ap (λ b. fault_if (not b) (fault no.LengthMismatch) (Ok (cut_of lengths xs))) t.0
-    ]
-
-as_long-fits : {X Y Z : Type 0} (xs : List X) (ys : List Y) (rest : Result Z Fault) → length xs ≡ length ys → if_as_long xs ys rest ≡ rest
-as_long-fits xs ys rest long =
-    elim (eqb_tells (length xs) (length ys)) [
-      | inl t ↦ ap (λ b. fault_if (not b) (fault no.LengthMismatch) rest) t.0
-      | inr t ↦ absurd (t.1 long)
-    ]
-
-sum-cons : (n : ℕ) (ns : List ℕ) → sum (n ∷ ns) ≡ n + sum ns
-sum-cons n ns = sum_by-cons (λ x. x) n ns
 
 -- ---- counts
 
 seg_count-fits : (flags : List Bool) (lengths : List ℕ) → sum lengths ≡ length flags → seg_count_of flags lengths ≡ Ok (map count_of (cut_of lengths flags))
 seg_count-fits flags lengths fits =
-    ap (one_each (in_vector lengths) (λ fs. Ok (count_of fs))) (nest_agree lengths flags fits) ∙ results-ok (in_vector lengths) count_of 0 (cut_of lengths flags)
+    ap (one_each (in_vector lengths) (λ fs. Ok (count_of fs))) (nest-fits lengths flags fits) ∙ results-ok (in_vector lengths) count_of 0 (cut_of lengths flags)
 
 seg_count-misfits : (flags : List Bool) (lengths : List ℕ) → sum lengths ≢ length flags → seg_count_of flags lengths ≡ Err (fault no.LengthMismatch)
 seg_count-misfits flags lengths misfits = ap (one_each (in_vector lengths) (λ fs. Ok (count_of fs))) (nest-misfits lengths flags misfits)
@@ -81,7 +66,7 @@ are_counts lengths flags numbers few small is =
     let read : map unsigned_abs numbers ≡ counts = ap (map unsigned_abs) is ∙ abs_pos counts in
     record {
       none_negative = is ∙ ap (map pos) (sym read);
-      few = omega (arith, few, ap length is, length-map counts pos, length-map (cut_of lengths flags) count_of, length-cut_of lengths flags);
+      few = omega (arith, few, ap length is, length-map counts pos, length-map (cut_of lengths flags) count_of, length-cut lengths flags);
       in_limit = omega (arith, small, ap sum read, sum-counts lengths flags);
     }
 
@@ -140,7 +125,7 @@ module _ (flags : List Bool) (lengths : List ℕ) (few : length lengths ≤ most
 
 module _ {X : Type 0} where
   pack-fits : (xs : List X) (flags : List Bool) → length xs ≡ length flags → pack_of xs flags ≡ Ok (kept_of xs flags)
-  pack-fits xs flags long = as_long-fits xs flags (Ok (kept_of xs flags)) long
+  pack-fits xs flags long = if_as_long-fits xs flags (Ok (kept_of xs flags)) long
 
   pack_each : (place : ℕ → ℕ → ℕ) (s : ℕ) (lengths : List ℕ) (xs : List X) (flags : List Bool) → length xs ≡ length flags
       → results_from place (of_two pack_of) s (zip (cut_of lengths xs) (cut_of lengths flags)) ≡ Ok (map (λ p. kept_of p.0 p.1) (zip (cut_of lengths xs) (cut_of lengths flags)))
@@ -165,9 +150,9 @@ module _ {X : Type 0} where
   seg_pack-fits xs flags lengths fits fits_flags =
       let long : length xs ≡ length flags = sym fits ∙ fits_flags in
       let call = end_to_end (in_vector lengths) (of_two pack_of) in
-      ap (λ lists. call (beside lists (nest lengths flags))) (nest_agree lengths xs fits)
-      ∙ ap (λ lists. call (beside (Ok (cut_of lengths xs)) lists)) (nest_agree lengths flags fits_flags)
-      ∙ ap call (beside_agree (cut_of lengths xs) (cut_of lengths flags) (length-cut_of lengths xs ∙ sym (length-cut_of lengths flags)))
+      ap (λ lists. call (beside lists (nest lengths flags))) (nest-fits lengths xs fits)
+      ∙ ap (λ lists. call (beside (Ok (cut_of lengths xs)) lists)) (nest-fits lengths flags fits_flags)
+      ∙ ap call (beside-fits (cut_of lengths xs) (cut_of lengths flags) (length-cut lengths xs ∙ sym (length-cut lengths flags)))
       ∙ ap (λ lists. lists >>= λ ls. Ok (joined ls)) (pack_each (in_vector lengths) 0 lengths xs flags long)
       ∙ ap Ok (packs_joined lengths xs flags long fits)
 
@@ -176,7 +161,7 @@ module _ {X : Type 0} where
       let call = end_to_end (in_vector lengths) (of_two pack_of) in
       ap (λ lists. call (beside (nest lengths xs) lists)) (nest-misfits lengths flags misfits)
       ∙ elim (eqb_tells (sum lengths) (length xs)) [
-        | inl t ↦ ap (λ lists. call (beside lists (Err (fault no.LengthMismatch)))) (nest_agree lengths xs t.1)
+        | inl t ↦ ap (λ lists. call (beside lists (Err (fault no.LengthMismatch)))) (nest-fits lengths xs t.1)
         | inr t ↦ ap (λ lists. call (beside lists (Err (fault no.LengthMismatch)))) (nest-misfits lengths xs t.1)
       ]
 

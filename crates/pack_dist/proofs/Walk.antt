@@ -1,16 +1,12 @@
 -- A segmented call, segment by segment: the results so far, and after them what the segments left give.
-use Rattle.std.proofs.Common.{◌≡◌, ◌∙◌, ℕ, ◌+◌, List, [], ◌∷◌, ◌++◌, append_assoc, append-nil, refl, sym, ap, Result, Ok, Err}
+use Rattle.std.proofs.Common.{◌≡◌, ◌∙◌, ℕ, ◌+◌, List, [], ◌∷◌, ◌++◌, append_assoc, refl, sym, ap, Result, Ok, Err}
 use Rattle.std.specs.Prelude.{option_map}
 use Rattle.std.specs.List.{flat_map}
 use Rattle.std.proofs.lemmas.List.{map-id}
 use Rattle.std.proofs.lemmas.List.Concat.{flat_map_single}
 use Rattle.cvl_base.specs.declared.fault.Fault.{Fault}
-use Rattle.cvl_base.specs.Gives.{◌>>=◌}
+use Rattle.cvl_base.specs.Gives.{◌>>=◌, after}
 use Rattle.cvl_base.specs.Segmented.{moved, results_from}
-
--- what is done, and then what the others give, or their fault
-abbrev pub after : {X : Type 0} → List X → Result (List X) Fault → Result (List X) Fault
-after done others = others >>= λ xs. Ok (done ++ xs)
 
 -- how a result stands for some elements: it is one, or is the list of them
 abbrev pub single : {X : Type 0} → X → List X
@@ -41,15 +37,6 @@ module _ {S R X : Type 0} (elements : R → List X) (place : ℕ → ℕ → ℕ
       → after done (given elements place call s (x ∷ xs)) ≡ Err (record { number = f.number; place = option_map (place s) f.place })
   fails s x xs f done has =
       ap (λ c. after done ((moved (place s) c >>= λ first. results_from place call (s + 1) xs >>= λ rs. Ok (first ∷ rs)) >>= λ rs. Ok (flat_map elements rs))) has
-
--- no segment is left
-pub ends : {X : Type 0} (done : List X) → after done (Ok []) ≡ Ok done
-ends done = ap Ok (append-nil done)
-
--- none is done
-pub begins : {X : Type 0} (others : Result (List X) Fault) → others ≡ after [] others
-begins (Ok xs) = refl
-begins (Err e) = refl
 
 -- a result that is one element
 pub singles : {X : Type 0} (others : Result (List X) Fault) → others ≡ (others >>= λ xs. Ok (flat_map single xs))

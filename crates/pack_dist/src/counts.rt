@@ -10,8 +10,8 @@ ghost use Rattle.cvl_base.specs.SegmentedCalls.{seg_count_of};
 ghost use Rattle.pack_dist.specs.Kept.{ArePlaces};
 
 use cvl_base::monoids::Add;
-use cvl_base::{Config, Memory, NoResources, Refused};
-use scan_ops::{Reading, reduce_readings, scan_readings, seg_reduce_readings};
+use cvl_base::{Config, Memory, NoResources, Refused, true_count};
+use scan_ops::{Reading, scan_readings, seg_reduce_readings};
 use segdes::SegDes;
 use std::thread::Threads;
 
@@ -33,7 +33,7 @@ pub fn count_true(flags: &[bool]) -> i32
     requires few { length flags.now ≤ most_elements }
     ensures { result ≡ pos (count_of flags.now) }
 {
-    reduce_readings::<Add, bool, Ones>(flags)
+    true_count(flags) as i32
 }
 
 /// For each flag the number of true flags before it, which is where a pack puts what it keeps.

@@ -5,8 +5,7 @@ ghost use Rattle.cvl_base.specs.Extracts.{extract_of};
 ghost use Rattle.cvl_base.specs.Gives.{Gives};
 ghost use Rattle.cvl_base.specs.SegmentedCalls.{seg_extract_of};
 
-use crate::places::place_among;
-use cvl_base::{Fault, FaultNo, Memory, Refused, check_agree};
+use cvl_base::{Fault, FaultNo, Memory, Refused, check_agree, place_among};
 use segdes::{SegDes, check_total};
 
 /// The element at the place that an index names, counted from 0: `ext_vuz` and its like.

@@ -7,7 +7,6 @@ mod distributes;
 mod extracts;
 mod indexes;
 mod packs;
-mod places;
 mod replaces;
 mod segment_packs;
 

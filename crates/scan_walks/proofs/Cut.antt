@@ -5,15 +5,12 @@ use Rattle.std.specs.List.{AllPass}
 use Rattle.std.proofs.lemmas.Bool.Decides.{leb_tells}
 use Rattle.std.proofs.lemmas.List.{length-map, length-take, length-take-le, length-drop, take_all, take_min, drop_min, drop-append-le, drop-take, drop-drop, drop-map, drop_at}
 use Rattle.std.proofs.lemmas.List.Elements.{All-head, All-take, All-drop}
-use Rattle.std.proofs.lemmas.List.Sums.{sum_by-cons}
 use Rattle.cvl_base.specs.Folds.{fold_of, scan_of}
 use Rattle.cvl_base.specs.Monoid.{MonoidLaws}
+use Rattle.cvl_base.proofs.Lists.{sum-cons}
 use Rattle.segdes.specs.Starts.{start_of}
 use Rattle.scan_walks.specs.Runs.{continued, started, with_starts, run_of, run_scan_of, scans_of}
 use Rattle.scan_walks.proofs.Scanned.{scan_of-cons}
-
-pub sum-cons : (n : ℕ) (ns : List ℕ) → sum (n ∷ ns) ≡ n + sum ns
-sum-cons n ns = sum_by-cons (λ x. x) n ns
 
 module _ {Item : Type 0} where
   pub length-started : (xs : List Item) → length (started xs) ≡ length xs

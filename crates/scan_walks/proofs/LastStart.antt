@@ -11,7 +11,8 @@ use Rattle.cvl_base.specs.Monoid.{MonoidLaws}
 use Rattle.cvl_base.specs.SegmentMonoid.{seg_join}
 use Rattle.segdes.specs.Starts.{start_of}
 use Rattle.scan_walks.specs.Runs.{continued, started, with_starts, run_of}
-use Rattle.scan_walks.proofs.Cut.{run_cut, sum-cons, length-started}
+use Rattle.cvl_base.proofs.Lists.{sum-cons}
+use Rattle.scan_walks.proofs.Cut.{run_cut, length-started}
 
 module _ {Item : Type 0} where
   with_starts-none : (lengths : List ℕ) → with_starts {Item = Item} lengths [] ≡ []

@@ -5,7 +5,7 @@ use Rattle.std.proofs.lemmas.List.Sums.{fold-append, sum_by_more}
 use Rattle.cvl_base.specs.Folds.{fold_of}
 use Rattle.segdes.specs.Starts.{start_of}
 use Rattle.scan_walks.specs.Runs.{IsOpenAt, reduces_of}
-use Rattle.scan_walks.proofs.Cut.{sum-cons}
+use Rattle.cvl_base.proofs.Lists.{sum-cons}
 
 module _ {Item : Type 0} (join : Item → Item → Item) (unit : Item) where
   reduces-take : (lengths : List ℕ) (xs : List Item) (n : ℕ) → take n (reduces_of join unit lengths xs) ≡ reduces_of join unit (take n lengths) xs

@@ -3,12 +3,14 @@ use Rattle.std.proofs.Common.{◌≡◌, ℕ, zero, suc, ◌-◌, ℤ, pos, to_z
 use Rattle.std.specs.Prelude.{sum, unsigned_abs}
 use Rattle.std.proofs.Math.Facts.{Fits-below}
 use Rattle.std.proofs.lemmas.List.{append_assoc, length-take, drop-map, take-map, drop-take, take-take, nil_from_length, length-drop, drop_more, take_all, drop_all, take_min, drop_min}
-use Rattle.std.proofs.lemmas.List.Sums.{sum_by-cons, sum_by-take-drop}
+use Rattle.std.proofs.lemmas.List.Sums.{sum_by-take-drop}
 use Rattle.std.specs.Int.{IsNonNegative}
 use Rattle.cvl_base.specs.Descriptors.{AreLengths}
 use Rattle.cvl_base.specs.Limits.{most_elements}
 use Rattle.cvl_base.specs.Folds.{fold_of, scan_of}
-use Rattle.segdes.proofs.Sums.{abs_pos, cast_fits, length_at}
+use Rattle.cvl_base.proofs.Descriptors.{abs_pos}
+use Rattle.cvl_base.proofs.Lists.{sum-cons}
+use Rattle.segdes.proofs.Sums.{cast_fits, length_at}
 use Rattle.segdes.specs.Starts.{start_of}
 use Rattle.scan_walks.specs.Runs.{scans_of, reduces_of}
 
@@ -53,7 +55,7 @@ scans_cut join unit zero lengths xs covered =
 scans_cut join unit (suc m) [] xs covered = refl
 scans_cut join unit (suc m) (n ∷ ls) xs covered =
     ap (λ sums. scan_of join unit (take n xs) ++ sums)
-    (scans_cut join unit m ls (drop n xs) (omega (arith, covered, sum_by-cons (λ x. x) n (take m ls), length-drop n xs)))
+    (scans_cut join unit m ls (drop n xs) (omega (arith, covered, sum-cons n (take m ls), length-drop n xs)))
 
 -- ---- the loops over the segments
 

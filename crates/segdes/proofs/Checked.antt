@@ -1,5 +1,5 @@
 -- The front of a list of numbers that was checked: none of it is negative, and its total is known.
-use Rattle.std.proofs.Common.{◌≡◌, ℕ, suc, ◌*◌, ◌<◌, ◌≤◌, Bool, true, false, ℤ, pos, negsuc, List, [], ◌∷◌, length, get_or, take, map, sum, unsigned_abs, refl, ap, ◌∙◌, subst, arith}
+use Rattle.std.proofs.Common.{◌≡◌, ℕ, ◌*◌, ◌<◌, ◌≤◌, Bool, true, false, ℤ, pos, List, length, get_or, take, map, sum, unsigned_abs, refl, ap, ◌∙◌, subst, arith}
 use Rattle.std.specs.Prelude.{position, Option, Some, None, Ok, Err, cond, nat_lt, option_map}
 use Rattle.std.specs.Int.{is_negative}
 use Rattle.std.specs.List.{position_or_len}
@@ -11,17 +11,12 @@ use Rattle.cvl_base.specs.Descriptors.{AreLengths, descriptor_of}
 use Rattle.cvl_base.specs.Faults.{fault, fault_at}
 use Rattle.cvl_base.specs.Gives.{unless, fault_if}
 use Rattle.cvl_base.specs.Limits.{most_elements}
+use Rattle.cvl_base.proofs.Descriptors.{natural, position-none}
 
 pub record IsCheckedTo (i : ℕ) (numbers : List ℤ) (total : ℕ) : Type 0 where
   pub none_negative : (k : ℕ) → k < i → is_negative (get_or numbers k (pos 0)) ≡ false
   pub is_total : total ≡ sum (map unsigned_abs (take i numbers))
   pub small : total ≤ i * 2147483648
-
--- numbers of which none is negative are natural numbers
-natural : (numbers : List ℤ) → ((k : ℕ) → k < length numbers → is_negative (get_or numbers k (pos 0)) ≡ false) → numbers ≡ map pos (map unsigned_abs numbers)
-natural [] h = refl
-natural (pos n ∷ ns) h = ap (λ tail. pos n ∷ tail) (natural ns (λ k lt. h (suc k) (omega arith)))
-natural (negsuc n ∷ ns) h = let e = h 0 (omega arith) in cc
 
 -- the definition at what the two checks found
 made : (numbers : List ℤ) (p : Option ℕ) (b : Bool) → position is_negative numbers ≡ p → nat_lt most_elements (sum (map unsigned_abs numbers)) ≡ b
@@ -32,11 +27,6 @@ made numbers p b e f =
 position-at : (numbers : List ℤ) (i : ℕ) → i < length numbers → position_or_len is_negative numbers ≡ i → position is_negative numbers ≡ Some i
 position-at numbers i lt e =
     (λ j. cond (nat_lt (e j) (length numbers)) (Some (e j)) None) ∙ ap (λ b. cond b (Some i) None) (lt-ltb i (length numbers) lt)
-
-position-none : (numbers : List ℤ) → position_or_len is_negative numbers ≡ length numbers → position is_negative numbers ≡ None
-position-none numbers e =
-    (λ j. cond (nat_lt (e j) (length numbers)) (Some (e j)) None)
-    ∙ ap (λ b. cond b (Some (length numbers)) None) (le-ltb (length numbers) (length numbers) (omega arith))
 
 pub negative_at : (i : ℕ) (numbers : List ℤ) (total : ℕ) → IsCheckedTo i numbers total → i < length numbers → is_negative (get_or numbers i (pos 0)) ≡ true
     → descriptor_of numbers ≡ Err (fault_at no.NegativeLength i)

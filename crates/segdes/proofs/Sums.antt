@@ -1,5 +1,5 @@
 -- Lengths as they lie in memory, and the starts of the segments so far.
-use Rattle.std.proofs.Common.{◌≡◌, ℕ, ◌+◌, ◌<◌, ◌≤◌, List, [], ◌∷◌, ◌++◌, length, get_or, take, map, ℤ, pos, w32, Fits, to_z, of_z, refl, ap, sym, ◌∙◌, subst, arith, below_more}
+use Rattle.std.proofs.Common.{◌≡◌, ℕ, ◌+◌, ◌<◌, ◌≤◌, List, [], ◌∷◌, ◌++◌, length, get_or, take, map, ℤ, pos, w32, Fits, to_z, of_z, ap, sym, ◌∙◌, subst, arith, below_more}
 use Rattle.std.specs.Prelude.{sum, unsigned_abs}
 use Rattle.std.specs.Int.{Width, IsNonNegative}
 use Rattle.std.proofs.lemmas.Int.{to_z-of_z, fits_signed_from_abs}
@@ -8,11 +8,6 @@ use Rattle.std.proofs.lemmas.List.Sums.{sum_by_more, sum_by_more_le}
 use Rattle.std.proofs.Math.Seq.{take-length, get_or-append_seam}
 use Rattle.cvl_base.specs.Limits.{most_elements}
 use Rattle.segdes.specs.Starts.{IsKept}
-
--- natural numbers as signed ones, and back
-pub abs_pos : (ns : List ℕ) → map unsigned_abs (map pos ns) ≡ ns
-abs_pos [] = refl
-abs_pos (n ∷ ns) = ap (λ tail. n ∷ tail) (abs_pos ns)
 
 within : (row : List ℤ) (s : ℕ) (ns : List ℕ) → row ≡ map pos ns → s < length row → s < length ns
 within row s ns is lt = omega (arith, ap length is, length-map ns pos)

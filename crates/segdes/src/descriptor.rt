@@ -51,7 +51,7 @@ impl<A: Memory> SegDes<A> {
     }
 
     /// The descriptor of segments with the lengths of a descriptor value, which are copied.
-    #[tactic(auto, using(crate::proofs::Sums::abs_pos))]
+    #[tactic(auto, using(cvl_base::proofs::Descriptors::abs_pos))]
     pub fn of(alloc: A, lengths: &Lengths<A>) -> Result<SegDes<A>, NoResources>
         ensures { IfOk result (λ d. d ≡ lengths.now) }
     {
@@ -128,7 +128,7 @@ impl<A: Allocator> SegDes<A> {
     }
 
     /// A copy of the lengths of the segments as a descriptor value.
-    #[tactic(auto, using(crate::proofs::Sums::abs_pos))]
+    #[tactic(auto, using(cvl_base::proofs::Descriptors::abs_pos))]
     pub fn to_lengths(&self, alloc: A) -> Result<Lengths<A>, NoResources>
         ensures { IfOk result (λ lengths. lengths ≡ self.now) }
     {

@@ -14,7 +14,8 @@ use Rattle.tile_plan.specs.Ranges.{count_of, range_of}
 use Rattle.tile_plan.proofs.Numbers.{starts_within}
 use Rattle.tile_scans.specs.Kernels.{tile_of, segmented_sums, starts_before, first_left, reduces_at}
 use Rattle.scan_walks.specs.Runs.{with_starts, run_of, run_scan_of, scans_of, reduces_of, IsOpenAt}
-use Rattle.scan_walks.proofs.Cut.{begins_by, segments_scanned, sum-cons}
+use Rattle.cvl_base.proofs.Lists.{sum-cons}
+use Rattle.scan_walks.proofs.Cut.{begins_by, segments_scanned}
 use Rattle.scan_walks.proofs.LastStart.{started_run_summed}
 use Rattle.tile_scans.proofs.RunScans.{run_of_is, run_scan_slice, with_starts-take, with_starts_passes}
 use Rattle.tile_scans.proofs.Tiled.{before_is_item, slices_joined, sums_before, sums_pass, tiles_joined}

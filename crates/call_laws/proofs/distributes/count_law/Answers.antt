@@ -6,14 +6,14 @@ use Rattle.cvl_base.specs.Faults.{fault}
 use Rattle.cvl_base.specs.Gives.{◌>>=◌, fault_if}
 use Rattle.cvl_base.specs.Integers.{wrap}
 use Rattle.cvl_base.specs.Limits.{most_elements}
-use Rattle.call_laws.proofs.ElementPlaces.{in_limit}
+use Rattle.cvl_base.proofs.Distributes.{as_length-fits}
 use Rattle.call_laws.proofs.distributes.count_law.Goals as goal
 
 pub returns-clause-copies : goal.returns-clause-copies
-returns-clause-copies g c = λ value n few. ap (λ r. r >>= λ n. Ok (replicate n value)) (in_limit n few)
+returns-clause-copies g c = λ value n few. ap (λ r. r >>= λ n. Ok (replicate n value)) (as_length-fits n few)
 
 pub returns-clause-steps : goal.returns-clause-steps
-returns-clause-steps g c = λ init stride n few. ap (λ r. r >>= λ n. Ok (map (λ k. wrap (init +ℤ pos k *ℤ stride)) (range_with_len 0 n))) (in_limit n few)
+returns-clause-steps g c = λ init stride n few. ap (λ r. r >>= λ n. Ok (map (λ k. wrap (init +ℤ pos k *ℤ stride)) (range_with_len 0 n))) (as_length-fits n few)
 
 above : (n : ℕ) → most_elements < n → as_length (pos n) ≡ Err (fault no.TooLong)
 above n many = ap (λ b. fault_if b (fault no.TooLong) (Ok n)) (lt-ltb most_elements n many)

@@ -9,21 +9,19 @@ loop-place-init g c = (search rules, search rules, begins _ _ c.in_ok-values.ens
 pub returns-in-None-clause-values : goal.returns-in-None-clause-values
 returns-in-None-clause-values g c =
     rw (c.at.ensures, c.fault.ensures)
-    (c.loop-place.invariant.2
-    ∙ ends g.O.PartialBinary.fault g.O.PartialBinary.value c.loop-place.place c.args.a.now c.args.b.now (pos 0) (pos 0)
-    c.loop-place.values.items c.loop-place-test.true (omega arith) (sym c.apply.ensures ∙ c.in-None.is))
+    (ends g.O.PartialBinary.fault g.O.PartialBinary.value c.args.a.now c.args.b.now c.loop-place.place (pos 0) (pos 0)
+    c.loop-place.values.items _ c.loop-place.invariant.2 c.loop-place-test.true (omega arith) (sym c.apply.ensures ∙ c.in-None.is))
 
 pub loop-place-preserved : goal.loop-place-preserved
 loop-place-preserved g c = (
   omega arith,
   omega arith,
-  step g.O.PartialBinary.fault g.O.PartialBinary.value c.loop-place.place c.args.a.now c.args.b.now (pos 0) (pos 0) _ _ _ _ _
-      c.loop-place-test.true (omega arith) (sym c.apply.ensures ∙ c.in-Some.is) c.push_reserved.ensures.items
-      (grind (arith, to_z-of_z)) c.loop-place.invariant.2,
+  step g.O.PartialBinary.fault g.O.PartialBinary.value c.args.a.now c.args.b.now c.loop-place.place (pos 0) (pos 0)
+      c.loop-place.values.items _ c.loop-place.invariant.2 _ _ _ c.loop-place-test.true (omega arith)
+      (sym c.apply.ensures ∙ c.in-Some.is) c.push_reserved.ensures.items (grind (arith, to_z-of_z)),
 )
 
 pub returns-clause-values : goal.returns-clause-values
 returns-clause-values g c =
-    c.loop-place.invariant.2
-    ∙ ends_all g.O.PartialBinary.fault g.O.PartialBinary.value c.loop-place.place c.args.a.now c.args.b.now
-    c.loop-place.values.items (omega arith)
+    ends_all g.O.PartialBinary.fault g.O.PartialBinary.value c.args.a.now c.args.b.now c.loop-place.place (pos 0) (pos 0)
+    c.loop-place.values.items _ c.loop-place.invariant.2 (omega arith)

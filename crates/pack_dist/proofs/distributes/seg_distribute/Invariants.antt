@@ -2,7 +2,7 @@ use Rattle.std.proofs.Common.{◌≡◌, ◌+◌, drop, vec_len, vec_capacity}
 use Rattle.std.specs.Prelude.{sum}
 use Rattle.cvl_base.specs.SegmentedCalls.{seg_distribute_of}
 use Rattle.pack_dist.proofs.Distributed.{left}
-use Rattle.pack_dist.proofs.Walk.{after}
+use Rattle.cvl_base.specs.Gives.{after}
 use Rattle.pack_dist.proofs.distributes.seg_distribute.Given as goal
 
 -- the copies so far, and those for the segments left

@@ -1,4 +1,4 @@
-use Rattle.std.proofs.Common.{◌≡◌, ◌∙◌, rules, arith, Err, refl, sym}
+use Rattle.std.proofs.Common.{◌≡◌, ◌∙◌, rules, arith, Err}
 use Rattle.cvl_base.specs.declared.fault.FaultNo.TheVariants as no
 use Rattle.cvl_base.specs.Faults.{fault_at}
 use Rattle.cvl_base.specs.SegmentedCalls.{seg_extract_of}
@@ -8,7 +8,7 @@ use Rattle.pack_dist.proofs.extracts.seg_extract.Goals as goal
 
 pub returns-in_err-check_agree-clause-values : goal.returns-in_err-check_agree-clause-values
 returns-in_err-check_agree-clause-values g c =
-    let e = differ c.args.vector.now c.args.index.now c.args.d.now _ _ (omega arith) (sym c.count.ensures.value) refl c.in_err-check_agree.ensures.1 in
+    let e = differ c.args.vector.now c.args.index.now c.args.d.now (omega arith) (λ same. c.in_err-check_agree.ensures.1 (c.count.ensures.value ∙ same)) in
     search rules
 
 pub loop-s-init : goal.loop-s-init
@@ -22,7 +22,7 @@ loop-s-init g c = record {
 pub loop-s-preserved : goal.loop-s-preserved
 loop-s-preserved g c = record {
   whole = one_more c.args.vector.now c.args.index.now c.args.d.now c.loop-s.s c.loop-s.start _ c.in-Some.place _ _ _ _
-      (omega arith) (omega arith) c.length-length.ensures c.in-Some.ensures.1 c.in-Some.ensures.0 c.index-vector-start.is
+      (omega arith) (omega arith) c.length-length.ensures c.in-Some.ensures.named.1 c.in-Some.ensures.named.0 c.index-vector-start.is
       c.loop-s.invariant.covered c.push_reserved.ensures.items c.loop-s.invariant.whole;
   as_long = omega arith;
   capacity = omega arith;
@@ -33,23 +33,23 @@ pub returns-in_default-clause-values : goal.returns-in_default-clause-values
 returns-in_default-clause-values g c =
     let e : seg_extract_of c.args.vector.now c.args.index.now c.args.d.now ≡ Err (fault_at no.IndexOutOfRange c.loop-s.s) =
     no_place c.args.vector.now c.args.index.now c.args.d.now c.loop-s.s c.loop-s.start _ _ _
-    (omega arith) (omega arith) c.length-length.ensures c.in_default.ensures c.loop-s.invariant.whole in
+    (omega arith) (omega arith) c.length-length.ensures c.in_default.ensures.named c.loop-s.invariant.whole in
     search rules
 
 pub overflow_add-start : goal.overflow_add-start
 overflow_add-start g c =
     let e = left_more c.args.d.now c.loop-s.s c.loop-s.start _ _ (omega arith) c.length-length.ensures c.loop-s.invariant.covered in
-    omega (arith, e, c.in_ok-check_total.ensures.in_limit, c.in-Some.ensures.0)
+    omega (arith, e, c.in_ok-check_total.ensures.in_limit, c.in-Some.ensures.named.0)
 
 pub bounds-vector-start : goal.bounds-vector-start
 bounds-vector-start g c =
     let e = left_more c.args.d.now c.loop-s.s c.loop-s.start _ _ (omega arith) c.length-length.ensures c.loop-s.invariant.covered in
-    omega (arith, e, c.in-Some.ensures.0)
+    omega (arith, e, c.in-Some.ensures.named.0)
 
 pub offset_bounds-vector-start : goal.offset_bounds-vector-start
 offset_bounds-vector-start g c =
     let e = left_more c.args.d.now c.loop-s.s c.loop-s.start _ _ (omega arith) c.length-length.ensures c.loop-s.invariant.covered in
-    omega (arith, e, c.in-Some.ensures.0)
+    omega (arith, e, c.in-Some.ensures.named.0)
 
 pub overflow_add-start-in-loop-s : goal.overflow_add-start-in-loop-s
 overflow_add-start-in-loop-s g c =

@@ -2,7 +2,7 @@ use Rattle.std.proofs.Common.{◌≡◌, ◌+◌, length, drop, vec_len, vec_cap
 use Rattle.std.specs.Prelude.{sum}
 use Rattle.cvl_base.specs.SegmentedCalls.{seg_extract_of}
 use Rattle.pack_dist.proofs.Extracted.{left}
-use Rattle.pack_dist.proofs.Walk.{after}
+use Rattle.cvl_base.specs.Gives.{after}
 use Rattle.pack_dist.proofs.extracts.seg_extract.Given as goal
 
 -- the elements so far, and those of the segments left

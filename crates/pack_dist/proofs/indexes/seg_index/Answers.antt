@@ -1,11 +1,11 @@
-use Rattle.std.proofs.Common.{◌∙◌, rules, arith, refl, sym}
+use Rattle.std.proofs.Common.{◌∙◌, rules, arith, sym}
 use Rattle.pack_dist.proofs.Indexed.{all_done, differ, none_yet, one_more}
 use Rattle.pack_dist.proofs.Parts.{left_more, none_left}
 use Rattle.pack_dist.proofs.indexes.seg_index.Goals as goal
 
 pub returns-in_err-check_agree-2-clause-values : goal.returns-in_err-check_agree-2-clause-values
 returns-in_err-check_agree-2-clause-values g c =
-    let e = differ c.args.inits.now c.args.strides.now c.args.d.now c.in_ok-check_agree.ensures _ _ refl (sym c.count.ensures.value) c.in_err-check_agree-2.ensures.1 in
+    let e = differ c.args.inits.now c.args.strides.now c.args.d.now c.in_ok-check_agree.ensures (λ same. c.in_err-check_agree-2.ensures.1 (same ∙ sym c.count.ensures.value)) in
     search rules
 
 pub loop-s-init : goal.loop-s-init

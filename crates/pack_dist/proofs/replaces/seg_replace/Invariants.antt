@@ -2,7 +2,7 @@ use Rattle.std.proofs.Common.{◌≡◌, ◌+◌, length, take, drop, vec_len}
 use Rattle.std.specs.Prelude.{sum}
 use Rattle.cvl_base.specs.SegmentedCalls.{seg_replace_of}
 use Rattle.pack_dist.proofs.Replaced.{left}
-use Rattle.pack_dist.proofs.Walk.{after}
+use Rattle.cvl_base.specs.Gives.{after}
 use Rattle.pack_dist.proofs.replaces.seg_replace.Given as goal
 
 -- the segments so far are done, and the others as they were

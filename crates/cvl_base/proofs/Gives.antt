@@ -1,0 +1,24 @@
+-- Results that are made one after another, and the first fault among them.
+use Rattle.std.proofs.Common.{◌≡◌, List, [], ◌∷◌, ◌++◌, append_assoc, append-nil, refl, sym, ap, Result, Ok, Err}
+use Rattle.cvl_base.specs.declared.fault.Fault.{Fault}
+use Rattle.cvl_base.specs.Gives.{◌>>=◌, after}
+
+module _ {X : Type 0} where
+  -- nothing is done yet
+  pub after-none : (others : Result (List X) Fault) → after [] others ≡ others
+  after-none (Ok xs) = refl
+  after-none (Err f) = refl
+
+  -- one more is done
+  pub after-one : (done : List X) (x : X) (others : Result (List X) Fault) → after done (others >>= λ xs. Ok (x ∷ xs)) ≡ after (done ++ x ∷ []) others
+  after-one done x (Ok xs) = ap Ok (sym (append_assoc done (x ∷ []) xs))
+  after-one done x (Err f) = refl
+
+  -- nothing is left
+  pub after-end : (done : List X) → after done (Ok []) ≡ Ok done
+  after-end done = ap Ok (append-nil done)
+
+  -- a fault is one of the others
+  pub after-fails : (done : List X) (others : Result (List X) Fault) (f : Fault) → after done others ≡ Err f → others ≡ Err f
+  after-fails done (Ok xs) f is = cc
+  after-fails done (Err e) f is = is
