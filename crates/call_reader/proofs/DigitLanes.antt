@@ -2,7 +2,7 @@
 use Rattle.std.proofs.Common.{◌≡◌, ℕ, zero, suc, ◌+◌, ◌-◌, ◌*◌, ◌^◌, ◌/◌, ◌%◌, ◌<◌, ◌≤◌, Bool, true, false, not, get_or, Fits, nat_lt, nat_le, List, []}
 use Rattle.std.proofs.Common.{◌∷◌, ◌++◌, length, take, map, replicate, refl, ap, sym, subst, ◌∙◌, arith, cond, w8}
 use Rattle.std.proofs.lemmas.Bool.Decides.{nat_tests}
-use Rattle.std.proofs.lemmas.Bool.{agree_below_at}
+use Rattle.std.proofs.lemmas.Bool.{agree_below_at, and_parts}
 use Rattle.std.proofs.lemmas.Simd.{below_from_Fits, chunk-fits, tops_compared, zip2_splat, zip2_splat_left, mask_l-mod, Each1-all, leading_from_mask_l, trailing_mask_l}
 use Rattle.std.proofs.lemmas.List.{length-map, length-take-le, take-take, take-map}
 use Rattle.std.proofs.lemmas.Int.Digits.{number_lt, digits_value_is}
@@ -13,7 +13,6 @@ use Rattle.std.specs.List.{prefix_len, list_all}
 use Rattle.std.specs.Char.{is_ascii_digit, digit_value}
 use Rattle.std.specs.Str.Parse.{digits_value}
 use Rattle.call_reader.proofs.NumberWalk.{all_digits}
-use Rattle.call_reader.proofs.TokenWalk.{both_true}
 use lib.Lanes.{Each1, zip2, mask_l, top, number_l, digits_l}
 use lib.Count.{count_trailing_zeros}
 
@@ -154,14 +153,14 @@ run_read bytes count room fits found few =
 values_are : (ds : List ℕ) → list_all is_ascii_digit ds ≡ true → map above_zero ds ≡ map digit_value ds
 values_are [] all = refl
 values_are (d ∷ ds) all =
-    let parts = both_true (is_ascii_digit d) (list_all is_ascii_digit ds) all in
+    let parts = and_parts (is_ascii_digit d) (list_all is_ascii_digit ds) all in
     let first : above_zero d ≡ digit_value d = grind (arith, nat_tests, parts.0) in
     rw first (ap (λ (r : List ℕ). digit_value d ∷ r) (values_are ds parts.1))
 
 values_below : (ds : List ℕ) → list_all is_ascii_digit ds ≡ true → AllBelowBase 10 (map above_zero ds)
 values_below [] all = tt
 values_below (d ∷ ds) all =
-    let parts = both_true (is_ascii_digit d) (list_all is_ascii_digit ds) all in
+    let parts = and_parts (is_ascii_digit d) (list_all is_ascii_digit ds) all in
     (grind (arith, nat_tests, parts.0), values_below ds parts.1)
 
 zeros_below : (j : ℕ) (ds : List ℕ) → AllBelowBase 10 ds → AllBelowBase 10 (replicate j 0 ++ ds)

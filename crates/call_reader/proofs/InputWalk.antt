@@ -16,7 +16,8 @@ use Rattle.call_reader.specs.declared.token.ByteClass.TheVariants.{Blank, Part}
 use Rattle.call_reader.specs.Tokens.{tokens_by, with_byte, is_part, begins_with_part}
 use Rattle.call_reader.specs.Numbers.{positive_of, negative_of, with_sign, written_number}
 use Rattle.call_reader.specs.Inputs.{is_white_space, input_class}
-use Rattle.call_reader.proofs.TokenWalk.{both_true, run_first, some_tokens}
+use Rattle.call_reader.proofs.TokenWalk.{run_first, some_tokens}
+use Rattle.std.proofs.lemmas.Bool.{and_parts}
 use Rattle.call_reader.proofs.NumberWalk.{magnitude_digits}
 
 pub at_most_one : (one : ℕ) (b : Bool) → one ≡ from_bool b → one ≤ 1
@@ -88,7 +89,7 @@ digit_is_part b e = grind (arith, nat_tests)
 digits_are_part : (digits : List ℕ) → list_all is_ascii_digit digits ≡ true → list_all (λ b. is_part (input_class b)) digits ≡ true
 digits_are_part [] all = refl
 digits_are_part (d ∷ ds) all =
-    let parts = both_true (is_ascii_digit d) (list_all is_ascii_digit ds) all in
+    let parts = and_parts (is_ascii_digit d) (list_all is_ascii_digit ds) all in
     rw (digit_is_part d parts.0) (digits_are_part ds parts.1)
 
 signed_run : (sign : Bool) (b : ℕ) (bs : List ℕ) (n : ℤ) → (sign ≡ true → b ≡ 45) → with_sign sign (b ∷ bs) bs ≡ Some n

@@ -12,7 +12,7 @@ use Rattle.std.proofs.lemmas.List.Folds.{list_all_more}
 use Rattle.std.proofs.lemmas.List.Sums.{take_while-cons}
 use Rattle.std.proofs.lemmas.Int.Digits.{digits_value_more}
 use Rattle.call_reader.specs.Numbers.{magnitude_of, positive_of, negative_of, with_sign, written_number, signed_digits}
-use Rattle.call_reader.proofs.TokenWalk.{both_true}
+use Rattle.std.proofs.lemmas.Bool.{and_parts}
 
 digit_value_is : (d : ℕ) → is_ascii_digit d ≡ true → digit_value d ≡ d - 48
 digit_value_is d e = grind (arith, nat_tests)
@@ -47,7 +47,7 @@ value_grows : (n : ℕ) (bytes : List ℕ) (count : ℕ) → list_all is_ascii_d
 value_grows n bytes zero all = grows n (take_while is_ascii_digit bytes)
 value_grows n [] (suc count) all = omega arith
 value_grows n (b ∷ bs) (suc count) all =
-    let parts = both_true (is_ascii_digit b) (list_all is_ascii_digit (take count bs)) all in
+    let parts = and_parts (is_ascii_digit b) (list_all is_ascii_digit (take count bs)) all in
     let front_is = take_while-cons is_ascii_digit b bs ∙ ap (λ d. cond d (b ∷ take_while is_ascii_digit bs) []) parts.0 in
     rw front_is (value_grows (n * 10 + digit_value b) bs count parts.1)
 
@@ -158,7 +158,7 @@ magnitude_digits (d ∷ ds) f n e = some_where (list_all is_ascii_digit (d ∷ d
 front_of_digits : (digits : List ℕ) → list_all is_ascii_digit digits ≡ true → take_while is_ascii_digit digits ≡ digits
 front_of_digits [] all = refl
 front_of_digits (d ∷ ds) all =
-    let parts = both_true (is_ascii_digit d) (list_all is_ascii_digit ds) all in
+    let parts = and_parts (is_ascii_digit d) (list_all is_ascii_digit ds) all in
     take_while-cons is_ascii_digit d ds ∙ rw parts.0 (ap (λ (others : List ℕ). d ∷ others) (front_of_digits ds parts.1))
 
 signed_whole : (sign : Bool) (b : ℕ) (bs : List ℕ) (n : ℤ) → sign ≡ (b == 45) → with_sign sign (b ∷ bs) bs ≡ Some n → signed_digits (b ∷ bs) ≡ b ∷ bs

@@ -1,7 +1,7 @@
 -- The tokens of bytes, found from the front: blanks are skipped, and a longest run or a lone byte is a token.
 use Rattle.std.proofs.Common.{◌≡◌, ℕ, ◌+◌, ◌<◌, ◌≤◌, Bool, true, false, ◌&&◌, List, [], ◌∷◌, ◌++◌, length, get_or, take, drop, refl, ap, sym, ◌∙◌, arith, ◌⊎◌, inl, inr, suc, zero}
 use Rattle.std.proofs.lemmas.List.{append-nil, drop_more, take-append-drop}
-use Rattle.std.proofs.lemmas.Bool.{false≢true}
+use Rattle.std.proofs.lemmas.Bool.{and_parts, false≢true}
 use Rattle.std.specs.Prelude.{not, if◌then◌else◌, filter}
 use Rattle.std.specs.List.{concat, list_all}
 use Rattle.call_reader.specs.Numbers.{is_empty}
@@ -19,21 +19,17 @@ pub tokens_at : (class_of : ℕ → ByteClass) (bs : List ℕ) (i : ℕ) → i <
     → tokens_by class_of (drop i bs) ≡ with_byte (class_of (get_or bs i 0)) (begins_with_part class_of (drop (i + 1) bs)) (get_or bs i 0) (tokens_by class_of (drop (i + 1) bs))
 tokens_at class_of bs i h = ap (tokens_by class_of) (drop_more bs i 0 h)
 
-pub both_true : (a b : Bool) → a && b ≡ true → (a ≡ true) × (b ≡ true)
-both_true true b e = (refl, e)
-both_true false b e = (e, cc)
-
 -- a run of one byte or more, after which no run goes on, is the first token
 pub run_first : (class_of : ℕ → ByteClass) (run rest : List ℕ) → list_all (λ b. is_part (class_of b)) run ≡ true → 0 < length run
     → begins_with_part class_of rest ≡ false → tokens_by class_of (run ++ rest) ≡ run ∷ tokens_by class_of rest
 run_first class_of [] rest all some ends = absurd (omega arith)
 run_first class_of (b ∷ []) rest all some ends =
-    let e = class_is_part (class_of b) (both_true (is_part (class_of b)) true all).0 in
+    let e = class_is_part (class_of b) (and_parts (is_part (class_of b)) true all).0 in
     rw (e, ends) refl
 run_first class_of (b ∷ c ∷ run) rest all some ends =
-    let parts = both_true (is_part (class_of b)) (list_all (λ b. is_part (class_of b)) (c ∷ run)) all in
+    let parts = and_parts (is_part (class_of b)) (list_all (λ b. is_part (class_of b)) (c ∷ run)) all in
     let e = class_is_part (class_of b) parts.0 in
-    let goes_on = (both_true (is_part (class_of c)) (list_all (λ b. is_part (class_of b)) run) parts.1).0 in
+    let goes_on = (and_parts (is_part (class_of c)) (list_all (λ b. is_part (class_of b)) run) parts.1).0 in
     rw (e, goes_on) (ap (onto_first b) (run_first class_of (c ∷ run) rest parts.1 (omega arith) ends))
 
 -- the first token of bytes that begin with part of a run
