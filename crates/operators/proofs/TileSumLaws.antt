@@ -2,7 +2,7 @@
 -- Source: what the definitions of TileSums and Monoid imply.
 use Rattle.std.proofs.Common.{◌≡◌, refl, sym, ap, ◌∙◌, ℕ, zero, suc, ◌+◌, ◌-◌, ◌<◌, ◌≤◌, Bool, true, List, [], ◌∷◌, ◌++◌, take, drop, map, get_or, IsTrue, arith, take-add}
 use Rattle.std.specs.List.{AllPass}
-use Rattle.std.proofs.lemmas.List.{append-nil, append_assoc}
+use Rattle.std.proofs.lemmas.List.{append-nil, append_assoc, drop-map, take-map}
 use Rattle.std.proofs.lemmas.List.Concat.{flat_map-append}
 use Rattle.std.proofs.lemmas.List.Elements.{All-nil, All-cons, All-head, All-tail, All-append, All-take, All-drop, All-map, All-weaker}
 use Rattle.operators.specs.Folds.{fold_of}
@@ -11,7 +11,7 @@ use Rattle.operators.specs.Monoid.{MonoidLaws}
 use Rattle.operators.specs.SegmentMonoid.{is_seg_item, seg_unit, seg_join}
 use Rattle.operators.specs.SegmentMonoidLaws.{seg_laws}
 use Rattle.operators.specs.Lists.{joined}
-use Rattle.operators.specs.TileSums.{sum_of_tiles, sum_at, upto, before, between, AllTilesPass}
+use Rattle.operators.specs.TileSums.{sum_of_tiles, sum_at, upto, before, between, listed_sums, own_sum, sums_before, sums_upto, sums_between, AllTilesPass}
 
 -- ---- the elements of a run of tiles
 
@@ -136,3 +136,28 @@ module _ {Item : Type 0} {is_item : Item → Bool} {unit : Item} {join : Item �
       ∙ ap (fold_of (seg_join join) (seg_unit unit)) (flat_map-append (λ tile. tile) (take first tiles) (take n (drop first tiles)))
       ∙ fold_of-append (seg_laws laws) (joined (take first tiles)) (joined (take n (drop first tiles))) (run_passes first) (middle_passes n first)
       ∙ ap (λ p. seg_join join p (between join unit tiles first t)) (sym (before_is join unit tiles first))
+
+  -- ---- the sums of tiles that are given by their sums
+
+  -- those of a run of tiles join to what its elements join to
+  run_listed : (first n : ℕ) → fold_of (seg_join join) (seg_unit unit) (take n (drop first (listed_sums join unit tiles))) ≡ sum_of_tiles join unit (take n (drop first tiles))
+  run_listed first n =
+      let sum = fold_of (seg_join join) (seg_unit unit) in
+      let run = All-take (AllPass (is_seg_item is_item)) n (drop first tiles) (All-drop (AllPass (is_seg_item is_item)) first tiles items) in
+      ap (λ sums. sum (take n sums)) (drop-map sum first tiles)
+      ∙ ap sum (take-map sum n (drop first tiles))
+      ∙ sym (by_sums (seg_laws laws) (take n (drop first tiles)) run)
+
+  pub upto_listed : (t : ℕ) → sums_upto join unit (listed_sums join unit tiles) t ≡ upto join unit tiles t
+  upto_listed t = run_listed 0 (t + 1)
+
+  pub before_listed : (t : ℕ) → sums_before join unit (listed_sums join unit tiles) t ≡ before join unit tiles t
+  before_listed t = run_listed 0 t ∙ sym (before_is join unit tiles t)
+
+  pub between_listed : (first t : ℕ) → sums_between join unit (listed_sums join unit tiles) first t ≡ between join unit tiles first t
+  between_listed first t = run_listed first (t - first)
+
+pub own_listed : {Item : Type 0} (join : Item → Item → Item) (unit : Item) (tiles : List (List (Bool × Item))) (t : ℕ) → own_sum unit (listed_sums join unit tiles) t ≡ sum_at join unit tiles t
+own_listed join unit [] t = refl
+own_listed join unit (tile ∷ tiles) zero = refl
+own_listed join unit (tile ∷ tiles) (suc t) = own_listed join unit tiles t

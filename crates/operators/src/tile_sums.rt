@@ -4,7 +4,7 @@ ghost use Rattle.std.specs.Prelude.{◌≡◌, ℕ, ◌+◌, ◌<◌, ◌≤◌,
 ghost use Rattle.operators.specs.Folds.{fold_of, fronts, scan_of};
 ghost use Rattle.operators.specs.Integers.{sum_of};
 ghost use Rattle.operators.specs.SegmentMonoid.{is_seg_item, seg_unit, seg_join};
-ghost use Rattle.operators.specs.TileSums.{sum_at, upto, before, between, worked_tiles, AllTilesPass};
+ghost use Rattle.operators.specs.TileSums.{sum_at, upto, before, between, listed_sums, own_sum, sums_before, sums_upto, sums_between, worked_tiles, AllTilesPass};
 
 use crate::monoid::Monoid;
 
@@ -53,6 +53,21 @@ pub fn know_sums_are_items<M: Monoid>()
         IsTrue (is_seg_item M.is_item (between M.join M.unit tiles first t)) }
 {}
 
+/// That the sums of tiles are the same where each tile is given by its sum alone, as a board and the world of workers
+/// have them.
+///
+/// The call does nothing; its contract names the laws.
+pub fn know_listed_sums<M: Monoid>()
+    ensures own { (tiles : List (List (Bool × M.Item))) (t : ℕ) →
+        own_sum M.unit (listed_sums M.join M.unit tiles) t ≡ sum_at M.join M.unit tiles t }
+    ensures inclusive { (tiles : List (List (Bool × M.Item))) (t : ℕ) → AllTilesPass (is_seg_item M.is_item) tiles →
+        sums_upto M.join M.unit (listed_sums M.join M.unit tiles) t ≡ upto M.join M.unit tiles t }
+    ensures exclusive { (tiles : List (List (Bool × M.Item))) (t : ℕ) → AllTilesPass (is_seg_item M.is_item) tiles →
+        sums_before M.join M.unit (listed_sums M.join M.unit tiles) t ≡ before M.join M.unit tiles t }
+    ensures middle { (tiles : List (List (Bool × M.Item))) (first t : ℕ) → AllTilesPass (is_seg_item M.is_item) tiles →
+        sums_between M.join M.unit (listed_sums M.join M.unit tiles) first t ≡ between M.join M.unit tiles first t }
+{}
+
 /// Worked values of the sums of tiles: a tile in which a segment starts doesn't count in what stood before it.
 pub fn tile_sum_values()
     ensures fronts_of_three { fronts (pos 3 ∷ (pos 1 ∷ (pos 7 ∷ []))) ≡ [] ∷ ((pos 3 ∷ []) ∷ ((pos 3 ∷ (pos 1 ∷ [])) ∷ [])) }
@@ -65,4 +80,6 @@ pub fn tile_sum_values()
     ensures before_first { before sum_of (pos 0) worked_tiles 0 ≡ (false, pos 0) }
     ensures before_third { before sum_of (pos 0) worked_tiles 2 ≡ (true, pos 14) }
     ensures between_first_and_third { between sum_of (pos 0) worked_tiles 1 2 ≡ (true, pos 14) }
+    ensures listed { listed_sums sum_of (pos 0) worked_tiles ≡ (true, pos 6) ∷ ((true, pos 14) ∷ ((false, pos 1) ∷ [])) }
+    ensures listed_before_third { sums_before sum_of (pos 0) (listed_sums sum_of (pos 0) worked_tiles) 2 ≡ (true, pos 14) }
 {}

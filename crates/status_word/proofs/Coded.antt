@@ -12,22 +12,22 @@ use Rattle.status_word.specs.Words.{state_of}
 use Rattle.status_word.proofs.Sums.{element_is_sum, front_is_sum, run_is_sum, front_more, run_more, front_split}
 
 module _ {Item : Type 0} {is_item : Item → Bool} (m : Coding Item) (coded : CodingLaws is_item m) (laws : MonoidLaws (is_seg_item is_item) (seg_unit m.unit) (seg_join m.join)) (sums : List (Bool × Item)) (items : AllPass (is_seg_item is_item) sums) where
-  pub told_is_item : (t rank : ℕ) → IsTrue (is_item_status is_item (told_of m sums t rank))
+  pub told_is_item : (t rank : ℕ) → IsTrue (is_item_status is_item (told_of m.join m.unit sums t rank))
   told_is_item t zero = refl
   told_is_item t (suc zero) = element_is_sum laws sums t items
   told_is_item t (suc (suc rank)) = front_is_sum laws sums items (t + 1)
 
   -- the word of each state is read as what it tells
-  pub code_read : (t rank : ℕ) → m.read (code m sums t rank) ≡ told_of m sums t rank
-  code_read t rank = coded.read_pack (told_of m sums t rank) (told_is_item t rank)
+  pub code_read : (t rank : ℕ) → m.read (code m sums t rank) ≡ told_of m.join m.unit sums t rank
+  code_read t rank = coded.read_pack (told_of m.join m.unit sums t rank) (told_is_item t rank)
 
   code_le : (t a b : ℕ) → a ≤ b → code m sums t a ≤ code m sums t b
   code_le t zero zero le = omega arith
-  code_le t zero (suc zero) le = let less = coded.ascending (told_of m sums t 0) (told_of m sums t 1) (told_is_item t 0) (told_is_item t 1) (omega arith) in omega arith
-  code_le t zero (suc (suc b)) le = let less = coded.ascending (told_of m sums t 0) (told_of m sums t 2) (told_is_item t 0) (told_is_item t 2) (omega arith) in omega arith
+  code_le t zero (suc zero) le = let less = coded.ascending (told_of m.join m.unit sums t 0) (told_of m.join m.unit sums t 1) (told_is_item t 0) (told_is_item t 1) (omega arith) in omega arith
+  code_le t zero (suc (suc b)) le = let less = coded.ascending (told_of m.join m.unit sums t 0) (told_of m.join m.unit sums t 2) (told_is_item t 0) (told_is_item t 2) (omega arith) in omega arith
   code_le t (suc zero) zero le = absurd (omega arith)
   code_le t (suc zero) (suc zero) le = omega arith
-  code_le t (suc zero) (suc (suc b)) le = let less = coded.ascending (told_of m sums t 1) (told_of m sums t 2) (told_is_item t 1) (told_is_item t 2) (omega arith) in omega arith
+  code_le t (suc zero) (suc (suc b)) le = let less = coded.ascending (told_of m.join m.unit sums t 1) (told_of m.join m.unit sums t 2) (told_is_item t 1) (told_is_item t 2) (omega arith) in omega arith
   code_le t (suc (suc a)) zero le = absurd (omega arith)
   code_le t (suc (suc a)) (suc zero) le = absurd (omega arith)
   code_le t (suc (suc a)) (suc (suc b)) le = omega arith
@@ -39,12 +39,12 @@ module _ {Item : Type 0} {is_item : Item → Bool} (m : Coding Item) (coded : Co
       (λ (more : b ≤ a). let up = code_le t b a more in let top : a ≡ max a b = omega arith in let word : max (code m sums t a) (code m sums t b) ≡ code m sums t a = omega arith in word ∙ ap (code m sums t) top)
       (cases_lt a b)
 
-  pub told_state_of : (t rank : ℕ) → rank ≤ 2 → state_of (told_of m sums t rank) ≡ rank
+  pub told_state_of : (t rank : ℕ) → rank ≤ 2 → state_of (told_of m.join m.unit sums t rank) ≡ rank
   told_state_of t zero state = refl
   told_state_of t (suc zero) state = refl
   told_state_of t (suc (suc rank)) state = omega arith
 
-  told_says : (t rank : ℕ) → Says m sums t (told_of m sums t rank)
+  told_says : (t rank : ℕ) → Says m sums t (told_of m.join m.unit sums t rank)
   told_says t zero = tt
   told_says t (suc zero) = refl
   told_says t (suc (suc rank)) = refl
@@ -54,7 +54,7 @@ module _ {Item : Type 0} {is_item : Item → Bool} (m : Coding Item) (coded : Co
     silent = λ t. coded.silent;
     greater = code_max;
     read = code_read;
-    fits = λ t rank. coded.fits (told_of m sums t rank) (told_is_item t rank);
+    fits = λ t rank. coded.fits (told_of m.join m.unit sums t rank) (told_is_item t rank);
     items = told_is_item;
     states = told_state_of;
     says = told_says;

@@ -13,7 +13,8 @@ use Rattle.status_word.specs.declared.action.Action.{Action}
 use Rattle.status_word.specs.declared.action.Answer.TheVariants.{Tile, Done}
 use Rattle.status_word.specs.declared.local.Local.{Local}
 use Rattle.status_word.specs.declared.local.Local.TheVariants.{Ready, Summing, Looking, Helping, Publishing, Stopped}
-use Rattle.status_word.specs.Codings.{Coding, sum_at}
+use Rattle.cvl_base.specs.TileSums.{own_sum}
+use Rattle.status_word.specs.Codings.{Coding}
 use Rattle.status_word.specs.Locals.{action_of, next_of, added_up_to, after_look}
 use Rattle.status_word.specs.Worlds.{Scene, new_scene, local_at, acted, step_of, run_of, answer_of, left_of, left_of_local, left_of_tiles, takes, steps_of}
 
@@ -50,7 +51,7 @@ module _ {Item : Type 0} (m : Coding Item) (w : Scene Item) (a : ℕ) where
   acted_lowers Ready moves = ready_lowers (ltb w.claims (length w.sums)) refl moves
   acted_lowers (Summing t) moves = let locals = moves (added_up_to t t (seg_unit m.unit)) in let less = left_added t t (seg_unit m.unit) in omega arith
   acted_lowers (Looking t at sum) moves = let status = m.read (get_or w.words at 0) in let locals = moves (after_look m.join t at sum status) in let less = left_looked m.join t at sum status in omega arith
-  acted_lowers (Helping t at sum) moves = let told = seg_join m.join (sum_at m w.sums at) sum in let locals = moves (added_up_to t at told) in let less = left_added t at told in omega arith
+  acted_lowers (Helping t at sum) moves = let told = seg_join m.join (own_sum m.unit w.sums at) sum in let locals = moves (added_up_to t at told) in let less = left_added t at told in omega arith
   acted_lowers (Publishing t prior) moves = let locals = moves Ready in omega arith
   acted_lowers Stopped moves = omega arith
 

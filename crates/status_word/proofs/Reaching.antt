@@ -14,7 +14,8 @@ use Rattle.status_word.specs.declared.action.Answer.TheVariants.{Tile, Done}
 use Rattle.status_word.specs.declared.local.Local.{Local}
 use Rattle.status_word.specs.declared.local.Local.TheVariants.{Ready, Summing, Looking, Helping, Publishing, Stopped}
 use Rattle.status_word.specs.declared.world.Stepped.TheVariants.{Took, Idle}
-use Rattle.status_word.specs.Codings.{Coding, CodingLaws, sum_at, before, between}
+use Rattle.cvl_base.specs.TileSums.{own_sum, sums_before, sums_between}
+use Rattle.status_word.specs.Codings.{Coding, CodingLaws}
 use Rattle.status_word.specs.Locals.{action_of, next_of, holds_item, tells_item, is_item_status}
 use Rattle.status_word.specs.declared.pass.Pass.{Pass}
 use Rattle.status_word.specs.Passes.{new_pass}
@@ -89,7 +90,7 @@ module _ {Item : Type 0} {is_item : Item → Bool} (m : Coding Item) (coded : Co
       let workers = r.workers in
       omega arith
 
-  sum_is_item : (t : ℕ) → IsTrue (is_item (sum_at m w.sums t).1)
+  sum_is_item : (t : ℕ) → IsTrue (is_item (own_sum m.unit w.sums t).1)
   sum_is_item t = element_is_sum laws w.sums t r.items
 
   claim_tells : (b : Bool) → IsTrue (tells_item is_item (cond b (Tile w.claims) Done))
@@ -102,10 +103,10 @@ module _ {Item : Type 0} {is_item : Item → Bool} (m : Coding Item) (coded : Co
       let P : Status Item → Type 0 = λ s. IsTrue (is_item_status is_item s) in
       subst P (sym (ap m.read lawful.1 ∙ code_read m coded laws w.sums r.items at lawful.0)) (told_is_item m coded laws w.sums r.items at lawful.0)
 
-  run_is_item : (first t : ℕ) (sum : Bool × Item) → sum ≡ between m w.sums first t → IsTrue (is_item sum.1)
+  run_is_item : (first t : ℕ) (sum : Bool × Item) → sum ≡ sums_between m.join m.unit w.sums first t → IsTrue (is_item sum.1)
   run_is_item first t sum same = let P : Bool × Item → Type 0 = λ s. IsTrue (is_item s.1) in subst P (sym same) (run_is_sum laws w.sums r.items first (t - first))
 
-  front_is_item : (t : ℕ) (sum : Bool × Item) → sum ≡ before m w.sums t → IsTrue (is_item sum.1)
+  front_is_item : (t : ℕ) (sum : Bool × Item) → sum ≡ sums_before m.join m.unit w.sums t → IsTrue (is_item sum.1)
   front_is_item t sum same = let P : Bool × Item → Type 0 = λ s. IsTrue (is_item s.1) in subst P (sym same) (front_is_sum laws w.sums r.items t)
 
   can_step : (l : Local Item) → IsRight m w.sums l → CanStepBy is_item m w l (action_of l)

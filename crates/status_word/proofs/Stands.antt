@@ -17,7 +17,8 @@ use Rattle.status_word.specs.declared.action.Action.TheVariants.{Claim, TellSum,
 use Rattle.status_word.specs.declared.action.Answer.TheVariants.{Tile, Done}
 use Rattle.status_word.specs.declared.local.Local.{Local}
 use Rattle.status_word.specs.declared.local.Local.TheVariants.{Ready, Summing, Looking, Helping, Publishing, Stopped}
-use Rattle.status_word.specs.Codings.{Coding, CodingLaws, sum_at, before, between, told_of, code}
+use Rattle.cvl_base.specs.TileSums.{own_sum, sums_before, sums_between}
+use Rattle.status_word.specs.Codings.{Coding, CodingLaws, told_of, code}
 use Rattle.status_word.specs.Locals.{action_of, next_of, after_look, added_up_to}
 use Rattle.status_word.specs.declared.pass.Pass.{Pass}
 use Rattle.status_word.specs.Hands.{times}
@@ -75,9 +76,9 @@ stops_added t zero sum = refl
 stops_added t (suc at) sum = refl
 
 -- the tiles from `at` to before t are added up
-right_added : {Item : Type 0} (m : Coding Item) (sums : List (Bool × Item)) (t at : ℕ) (sum : Bool × Item) → t < length sums → at ≤ t → sum ≡ between m sums at t → IsRight m sums (added_up_to t at sum)
+right_added : {Item : Type 0} (m : Coding Item) (sums : List (Bool × Item)) (t at : ℕ) (sum : Bool × Item) → t < length sums → at ≤ t → sum ≡ sums_between m.join m.unit sums at t → IsRight m sums (added_up_to t at sum)
 right_added m sums t zero sum tile within same = let all : t - 0 ≡ t = omega arith in (tile, same ∙ ap (λ k. fold_of (seg_join m.join) (seg_unit m.unit) (take k sums)) all)
-right_added m sums t (suc at) sum tile within same = let next : suc at ≡ at + 1 = omega arith in (tile, omega arith, same ∙ ap (λ k. between m sums k t) next)
+right_added m sums t (suc at) sum tile within same = let next : suc at ≡ at + 1 = omega arith in (tile, omega arith, same ∙ ap (λ k. sums_between m.join m.unit sums k t) next)
 
 module _ {Item : Type 0} {is_item : Item → Bool} (m : Coding Item) (coded : CodingLaws is_item m) (laws : MonoidLaws (is_seg_item is_item) (seg_unit m.unit) (seg_join m.join)) (workers : ℕ) (w : Scene Item) (passes : List (Pass Item)) (items : AllPass (is_seg_item is_item) w.sums) (stands : Stands m workers w passes) (a : ℕ) (is_worker : a < workers) where
   abbrev p : Pass Item
@@ -167,7 +168,7 @@ module _ {Item : Type 0} {is_item : Item → Bool} (m : Coding Item) (coded : Co
   told_prefix : (t : ℕ) (prior : Bool × Item) → Agrees m w.sums (Publishing t prior) p → Stands m workers (record { sums = w.sums; claims = w.claims; words = words_after m w.sums w.words (TellPrefix t prior); locals = set w.locals a Ready }) (set passes a (told_state p t 2))
   told_prefix t prior agrees =
       let below : t < length w.sums = agrees.right.0 in
-      let sum : before m w.sums (t + 1) ≡ seg_join m.join prior (sum_at m w.sums t) = front_more laws w.sums items t below ∙ ap (λ s. seg_join m.join s (sum_at m w.sums t)) (sym agrees.right.1) in
+      let sum : sums_before m.join m.unit w.sums (t + 1) ≡ seg_join m.join prior (own_sum m.unit w.sums t) = front_more laws w.sums items t below ∙ ap (λ s. seg_join m.join s (own_sum m.unit w.sums t)) (sym agrees.right.1) in
       let agreed : Agrees m w.sums Ready (told_state p t 2) = record {
         right = tt;
         holds = λ x. omega arith;
@@ -196,27 +197,27 @@ module _ {Item : Type 0} {is_item : Item → Bool} (m : Coding Item) (coded : Co
       (saw_keeps (code m w.sums) w.sums workers w.claims words words passes a p at (state_of status) stands.kept here (omega (arith, agrees.share)) (λ x tile. refl) known)
 
   -- the sum of tile `at` before that of the tiles after it
-  one_more : (t at : ℕ) → t < length w.sums → at < t → (sum : Bool × Item) → sum ≡ between m w.sums (at + 1) t → seg_join m.join (sum_at m w.sums at) sum ≡ between m w.sums at t
-  one_more t at tile less sum same = ap (seg_join m.join (sum_at m w.sums at)) same ∙ sym (run_more laws w.sums items at t less (omega arith))
+  one_more : (t at : ℕ) → t < length w.sums → at < t → (sum : Bool × Item) → sum ≡ sums_between m.join m.unit w.sums (at + 1) t → seg_join m.join (own_sum m.unit w.sums at) sum ≡ sums_between m.join m.unit w.sums at t
+  one_more t at tile less sum same = ap (seg_join m.join (own_sum m.unit w.sums at)) same ∙ sym (run_more laws w.sums items at t less (omega arith))
 
-  saw_told : (t at : ℕ) (sum : Bool × Item) (rank : ℕ) → rank ≡ highest (told_at at) passes → Agrees m w.sums (Looking t at sum) p → Stands m workers (record { sums = w.sums; claims = w.claims; words = w.words; locals = set w.locals a (after_look m.join t at sum (told_of m w.sums at rank)) }) (set passes a (looked p at (state_of (told_of m w.sums at rank))))
+  saw_told : (t at : ℕ) (sum : Bool × Item) (rank : ℕ) → rank ≡ highest (told_at at) passes → Agrees m w.sums (Looking t at sum) p → Stands m workers (record { sums = w.sums; claims = w.claims; words = w.words; locals = set w.locals a (after_look m.join t at sum (told_of m.join m.unit w.sums at rank)) }) (set passes a (looked p at (state_of (told_of m.join m.unit w.sums at rank))))
   saw_told t at sum zero top agrees = saw t at sum Silent agrees (omega arith) agrees.right refl refl
   saw_told t at sum (suc zero) top agrees =
-      saw t at sum (told_of m w.sums at 1) agrees (omega arith)
-      (right_added m w.sums t at (seg_join m.join (sum_at m w.sums at) sum) agrees.right.0 (omega (arith, agrees.right.1)) (one_more t at agrees.right.0 agrees.right.1 sum agrees.right.2))
-      (held_added t at (seg_join m.join (sum_at m w.sums at) sum))
-      (stops_added t at (seg_join m.join (sum_at m w.sums at) sum))
+      saw t at sum (told_of m.join m.unit w.sums at 1) agrees (omega arith)
+      (right_added m w.sums t at (seg_join m.join (own_sum m.unit w.sums at) sum) agrees.right.0 (omega (arith, agrees.right.1)) (one_more t at agrees.right.0 agrees.right.1 sum agrees.right.2))
+      (held_added t at (seg_join m.join (own_sum m.unit w.sums at) sum))
+      (stops_added t at (seg_join m.join (own_sum m.unit w.sums at) sum))
   saw_told t at sum (suc (suc rank)) top agrees =
       let next : at + 1 ≤ t = omega (arith, agrees.right.1) in
-      saw t at sum (told_of m w.sums at (suc (suc rank))) agrees (omega arith)
-      (agrees.right.0, ap (seg_join m.join (before m w.sums (at + 1))) agrees.right.2 ∙ front_split laws w.sums items (at + 1) t next)
+      saw t at sum (told_of m.join m.unit w.sums at (suc (suc rank))) agrees (omega arith)
+      (agrees.right.0, ap (seg_join m.join (sums_before m.join m.unit w.sums (at + 1))) agrees.right.2 ∙ front_split laws w.sums items (at + 1) t next)
       refl refl
 
   looking : (t at : ℕ) (sum : Bool × Item) → Agrees m w.sums (Looking t at sum) p → Stands m workers (record { sums = w.sums; claims = w.claims; words = w.words; locals = set w.locals a (after_look m.join t at sum (m.read (get_or w.words at 0))) }) (set passes a (looked p at (state_of (m.read (get_or w.words at 0)))))
   looking t at sum agrees =
       let rank = highest (told_at at) passes in
       let tile : at < length w.sums = omega (arith, agrees.right.0, agrees.right.1) in
-      let status : told_of m w.sums at rank ≡ m.read (get_or w.words at 0) = sym (ap m.read (stands.kept.words at tile) ∙ code_read m coded laws w.sums items at rank) in
+      let status : told_of m.join m.unit w.sums at rank ≡ m.read (get_or w.words at 0) = sym (ap m.read (stands.kept.words at tile) ∙ code_read m coded laws w.sums items at rank) in
       let P : Status Item → Type 0 = λ s. Stands m workers (record { sums = w.sums; claims = w.claims; words = w.words; locals = set w.locals a (after_look m.join t at sum s) }) (set passes a (looked p at (state_of s))) in
       subst P status (saw_told t at sum rank refl agrees)
 
@@ -228,12 +229,12 @@ module _ {Item : Type 0} {is_item : Item → Bool} (m : Coding Item) (coded : Co
       (right_added m w.sums t t (seg_unit m.unit) agrees.right (omega arith) (none_between t))
       (held_added t t (seg_unit m.unit)) (stops_added t t (seg_unit m.unit))
     where
-      none_between : (t : ℕ) → seg_unit m.unit ≡ between m w.sums t t
+      none_between : (t : ℕ) → seg_unit m.unit ≡ sums_between m.join m.unit w.sums t t
       none_between t = let none : 0 ≡ t - t = omega arith in ap (λ k. fold_of (seg_join m.join) (seg_unit m.unit) (take k (drop t w.sums))) none
   stepped (Looking t at sum) agrees = looking t at sum agrees
   stepped (Helping t at sum) agrees =
-      told_sum (Helping t at sum) (added_up_to t at (seg_join m.join (sum_at m w.sums at) sum)) at agrees (omega (arith, agrees.right.0, agrees.right.1))
-      (right_added m w.sums t at (seg_join m.join (sum_at m w.sums at) sum) agrees.right.0 (omega (arith, agrees.right.1)) (one_more t at agrees.right.0 agrees.right.1 sum agrees.right.2))
-      (held_added t at (seg_join m.join (sum_at m w.sums at) sum)) (stops_added t at (seg_join m.join (sum_at m w.sums at) sum))
+      told_sum (Helping t at sum) (added_up_to t at (seg_join m.join (own_sum m.unit w.sums at) sum)) at agrees (omega (arith, agrees.right.0, agrees.right.1))
+      (right_added m w.sums t at (seg_join m.join (own_sum m.unit w.sums at) sum) agrees.right.0 (omega (arith, agrees.right.1)) (one_more t at agrees.right.0 agrees.right.1 sum agrees.right.2))
+      (held_added t at (seg_join m.join (own_sum m.unit w.sums at) sum)) (stops_added t at (seg_join m.join (own_sum m.unit w.sums at) sum))
   stepped (Publishing t prior) agrees = told_prefix t prior agrees
   stepped Stopped agrees = stands

@@ -1,8 +1,8 @@
 -- How a monoid's statuses are kept as words, and the words that are lawful at a tile.
 -- Source: the status words of Merrill and Garland, Single-pass Parallel Prefix Scan with Decoupled Look-back, 2016.
 use Rattle.std.specs.Prelude.{◌≡◌, ℕ, zero, suc, ◌+◌, ◌-◌, ◌<◌, ◌≤◌, ◌^◌, max, ℤ, Bool, IsTrue, List, length, take, drop, slice_index_or, Option, Some, None}
-use Rattle.cvl_base.specs.Folds.{fold_of}
 use Rattle.cvl_base.specs.SegmentMonoid.{is_seg_item, seg_unit, seg_join}
+use Rattle.cvl_base.specs.TileSums.{own_sum, sums_before, sums_upto, sums_between}
 use Rattle.status_word.specs.declared.status.Status.{Status}
 use Rattle.status_word.specs.declared.status.Status.TheVariants.{Silent, Sum, Prefix}
 use Rattle.status_word.specs.Locals.{is_item_status}
@@ -40,54 +40,38 @@ coding_of join unit to_word from_word = record {
   read = λ word. status_by from_word (status_or_silent (read_word word));
 }
 
-module _ {Item : Type 0} (m : Coding Item) where
-  -- the sum of tile t; each tile is given by its sum, as a tile of one element
-  abbrev pub sum_at : List (Bool × Item) → ℕ → Bool × Item
-  sum_at sums t = slice_index_or sums t (seg_unit m.unit)
+-- the words of a monoid in a clause, as `coding M.Packed`
+abbrev pub coding : {Item : Type 0} → record { is_item : Item → Bool; unit : Item; join : Item → Item → Item; to_word : Item → ℤ; from_word : ℤ → Item } → Coding Item
+coding m = coding_of m.join m.unit m.to_word m.from_word
 
-  -- that of the tiles before tile t
-  abbrev pub before : List (Bool × Item) → ℕ → Bool × Item
-  before sums t = fold_of (seg_join m.join) (seg_unit m.unit) (take t sums)
+-- what a word tells of tile t in each state: nothing, the tile's sum, the sum of the tiles up to it. Each tile is given by its sum
+abbrev pub told_of : {Item : Type 0} → (Item → Item → Item) → Item → List (Bool × Item) → ℕ → ℕ → Status Item
+told_of join unit sums t zero = Silent
+told_of join unit sums t (suc zero) = Sum (own_sum unit sums t).0 (own_sum unit sums t).1
+told_of join unit sums t (suc (suc rank)) = Prefix (sums_upto join unit sums t).0 (sums_upto join unit sums t).1
 
-  -- that of the tiles from `first` on that stand before tile t
-  abbrev pub between : List (Bool × Item) → ℕ → ℕ → Bool × Item
-  between sums first t = fold_of (seg_join m.join) (seg_unit m.unit) (take (t - first) (drop first sums))
-
-  -- what a word tells of tile t in each state: nothing, the tile's sum, the sum of the tiles up to it
-  abbrev pub told_of : List (Bool × Item) → ℕ → ℕ → Status Item
-  told_of sums t zero = Silent
-  told_of sums t (suc zero) = Sum (sum_at sums t).0 (sum_at sums t).1
-  told_of sums t (suc (suc rank)) = Prefix (before sums (t + 1)).0 (before sums (t + 1)).1
-
-  -- the lawful words of tile t, by the state
-  abbrev pub code : List (Bool × Item) → ℕ → ℕ → ℕ
-  code sums t rank = m.pack (told_of sums t rank)
-
-  -- what a status says of tile t is so
-  abbrev pub Says : List (Bool × Item) → ℕ → Status Item → Type 0
-  Says sums t Silent = Unit {0}
-  Says sums t (Sum starts value) = (starts, value) ≡ sum_at sums t
-  Says sums t (Prefix starts value) = (starts, value) ≡ before sums (t + 1)
+-- the lawful words of tile t, by the state
+abbrev pub code : {Item : Type 0} → Coding Item → List (Bool × Item) → ℕ → ℕ → ℕ
+code m sums t rank = m.pack (told_of m.join m.unit sums t rank)
 
 -- what is true of the words of all tiles: they tell nothing at first, ascend with the states, are read again, and have 64 bits
 pub record CodeLaws {Item : Type 0} (is_item : Item → Bool) (m : Coding Item) (sums : List (Bool × Item)) : Type 0 where
   pub silent : (t : ℕ) → code m sums t 0 ≡ 0
   pub greater : (t a b : ℕ) → max (code m sums t a) (code m sums t b) ≡ code m sums t (max a b)
-  pub read : (t rank : ℕ) → m.read (code m sums t rank) ≡ told_of m sums t rank
+  pub read : (t rank : ℕ) → m.read (code m sums t rank) ≡ told_of m.join m.unit sums t rank
   pub fits : (t rank : ℕ) → code m sums t rank < 2 ^ 64
-  pub items : (t rank : ℕ) → IsTrue (is_item_status is_item (told_of m sums t rank))
-  -- a status that is told of its tile has the state of its word, and says what is so
-  pub states : (t rank : ℕ) → rank ≤ 2 → state_of (told_of m sums t rank) ≡ rank
-  pub says : (t rank : ℕ) → Says m sums t (told_of m sums t rank)
+  pub items : (t rank : ℕ) → IsTrue (is_item_status is_item (told_of m.join m.unit sums t rank))
+  -- a status that is told of its tile has the state of its word
+  pub states : (t rank : ℕ) → rank ≤ 2 → state_of (told_of m.join m.unit sums t rank) ≡ rank
 
 -- how a look-back nears the tiles before tile t: it starts from no tile, takes one tile more in front, and is done at a tile before which the sum is known
-pub record SumsLaws {Item : Type 0} (is_item : Item → Bool) (m : Coding Item) (sums : List (Bool × Item)) : Type 0 where
-  pub own : (t : ℕ) → IsTrue (is_seg_item is_item (sum_at m sums t))
-  pub exclusive : (t : ℕ) → IsTrue (is_seg_item is_item (before m sums t))
-  pub middle : (first t : ℕ) → IsTrue (is_seg_item is_item (between m sums first t))
-  pub none_before : before m sums 0 ≡ seg_unit m.unit
-  pub before_next : (t : ℕ) → t < length sums → before m sums (t + 1) ≡ seg_join m.join (before m sums t) (sum_at m sums t)
-  pub none_between : (t : ℕ) → between m sums t t ≡ seg_unit m.unit
-  pub one_more : (first t : ℕ) → first < t → t ≤ length sums → between m sums first t ≡ seg_join m.join (sum_at m sums first) (between m sums (first + 1) t)
-  pub met : (first t : ℕ) → first ≤ t → seg_join m.join (before m sums first) (between m sums first t) ≡ before m sums t
-  pub all_between : (t : ℕ) → between m sums 0 t ≡ before m sums t
+pub record SumsLaws {Item : Type 0} (is_item : Item → Bool) (join : Item → Item → Item) (unit : Item) (sums : List (Bool × Item)) : Type 0 where
+  pub own : (t : ℕ) → IsTrue (is_seg_item is_item (own_sum unit sums t))
+  pub exclusive : (t : ℕ) → IsTrue (is_seg_item is_item (sums_before join unit sums t))
+  pub middle : (first t : ℕ) → IsTrue (is_seg_item is_item (sums_between join unit sums first t))
+  pub none_before : sums_before join unit sums 0 ≡ seg_unit unit
+  pub before_next : (t : ℕ) → t < length sums → sums_before join unit sums (t + 1) ≡ seg_join join (sums_before join unit sums t) (own_sum unit sums t)
+  pub none_between : (t : ℕ) → sums_between join unit sums t t ≡ seg_unit unit
+  pub one_more : (first t : ℕ) → first < t → t ≤ length sums → sums_between join unit sums first t ≡ seg_join join (own_sum unit sums first) (sums_between join unit sums (first + 1) t)
+  pub met : (first t : ℕ) → first ≤ t → seg_join join (sums_before join unit sums first) (sums_between join unit sums first t) ≡ sums_before join unit sums t
+  pub all_between : (t : ℕ) → sums_between join unit sums 0 t ≡ sums_before join unit sums t

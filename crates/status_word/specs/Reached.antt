@@ -9,7 +9,8 @@ use Rattle.status_word.specs.declared.action.Action.TheVariants.{Claim, Look, Te
 use Rattle.status_word.specs.declared.local.Local.{Local}
 use Rattle.status_word.specs.declared.world.Stepped.{Stepped}
 use Rattle.status_word.specs.declared.world.Stepped.TheVariants.{Took, Idle}
-use Rattle.status_word.specs.Codings.{Coding, sum_at}
+use Rattle.cvl_base.specs.TileSums.{own_sum}
+use Rattle.status_word.specs.Codings.{Coding}
 use Rattle.status_word.specs.Locals.{action_of}
 use Rattle.status_word.specs.Worlds.{Scene, new_scene, run_of}
 
@@ -32,8 +33,8 @@ CanAnswer sums words (TellPrefix t prior) = t < length sums
 abbrev pub CanTell : {Item : Type 0} → (Item → Bool) → Coding Item → List (Bool × Item) → List ℕ → Action Item → Type 0
 CanTell is_item m sums words Claim = Unit {0}
 CanTell is_item m sums words (Look at) = Unit {0}
-CanTell is_item m sums words (TellSum t) = (t < length sums) × (t < length words) × IsTrue (is_item (sum_at m sums t).1)
-CanTell is_item m sums words (TellPrefix t prior) = (t < length sums) × (t < length words) × IsTrue (is_item (sum_at m sums t).1) × IsTrue (is_item prior.1)
+CanTell is_item m sums words (TellSum t) = (t < length sums) × (t < length words) × IsTrue (is_item (own_sum m.unit sums t).1)
+CanTell is_item m sums words (TellPrefix t prior) = (t < length sums) × (t < length words) × IsTrue (is_item (own_sum m.unit sums t).1) × IsTrue (is_item prior.1)
 
 -- a world that some list of its workers reaches from a new one
 pub record IsReached {Item : Type 0} (is_item : Item → Bool) (m : Coding Item) (w : Scene Item) : Type 0 where

@@ -12,7 +12,8 @@ use Rattle.status_word.specs.declared.action.Answer.{Answer}
 use Rattle.status_word.specs.declared.action.Answer.TheVariants.{Tile, Done, Saw, Told}
 use Rattle.status_word.specs.declared.local.Local.{Local}
 use Rattle.status_word.specs.declared.local.Local.TheVariants.{Ready, Summing, Looking, Helping, Publishing, Stopped}
-use Rattle.status_word.specs.Codings.{Coding, sum_at, before, between, code}
+use Rattle.cvl_base.specs.TileSums.{own_sum, sums_before, sums_between}
+use Rattle.status_word.specs.Codings.{Coding, code}
 use Rattle.status_word.specs.Locals.{action_of, next_of}
 use Rattle.status_word.specs.declared.pass.Pass.{Pass}
 use Rattle.status_word.specs.Hands.{times}
@@ -41,8 +42,8 @@ module _ {Item : Type 0} (m : Coding Item) where
   abbrev pub answer_of : List (Bool × Item) → ℕ → List ℕ → Action Item → Answer Item
   answer_of sums claims words Claim = if nat_lt claims (length sums) then Tile claims else Done
   answer_of sums claims words (Look at) = Saw (m.read (slice_index words at))
-  answer_of sums claims words (TellSum t) = Told (sum_at m sums t)
-  answer_of sums claims words (TellPrefix t prior) = Told (sum_at m sums t)
+  answer_of sums claims words (TellSum t) = Told (own_sum m.unit sums t)
+  answer_of sums claims words (TellPrefix t prior) = Told (own_sum m.unit sums t)
 
   abbrev pub status_of : Bool × Item → Status Item
   status_of sum = Sum sum.0 sum.1
@@ -52,8 +53,8 @@ module _ {Item : Type 0} (m : Coding Item) where
 
   -- both tells leave the greater of the two words
   abbrev pub words_after : List (Bool × Item) → List ℕ → Action Item → List ℕ
-  words_after sums words (TellSum t) = slice_set words t (max (slice_index words t) (m.pack (status_of (sum_at m sums t))))
-  words_after sums words (TellPrefix t prior) = slice_set words t (max (slice_index words t) (m.pack (prefix_of (seg_join m.join prior (sum_at m sums t)))))
+  words_after sums words (TellSum t) = slice_set words t (max (slice_index words t) (m.pack (status_of (own_sum m.unit sums t))))
+  words_after sums words (TellPrefix t prior) = slice_set words t (max (slice_index words t) (m.pack (prefix_of (seg_join m.join prior (own_sum m.unit sums t)))))
   words_after sums words action = words
 
   -- the step of a worker in the state `local`
@@ -138,9 +139,9 @@ held Stopped = []
 abbrev pub IsRight : {Item : Type 0} → Coding Item → List (Bool × Item) → Local Item → Type 0
 IsRight m sums Ready = Unit {0}
 IsRight m sums (Summing t) = t < length sums
-IsRight m sums (Looking t at after) = (t < length sums) × (at < t) × (after ≡ between m sums (at + 1) t)
-IsRight m sums (Helping t at after) = (t < length sums) × (at < t) × (after ≡ between m sums (at + 1) t)
-IsRight m sums (Publishing t prior) = (t < length sums) × (prior ≡ before m sums t)
+IsRight m sums (Looking t at after) = (t < length sums) × (at < t) × (after ≡ sums_between m.join m.unit sums (at + 1) t)
+IsRight m sums (Helping t at after) = (t < length sums) × (at < t) × (after ≡ sums_between m.join m.unit sums (at + 1) t)
+IsRight m sums (Publishing t prior) = (t < length sums) × (prior ≡ sums_before m.join m.unit sums t)
 IsRight m sums Stopped = Unit {0}
 
 -- how many workers hold tile t

@@ -29,3 +29,11 @@ returns-clause-before_third c = refl
 pub returns-clause-between_first_and_third : goal.returns-clause-between_first_and_third
 unfolding int_wrap
 returns-clause-between_first_and_third c = refl
+
+pub returns-clause-listed : goal.returns-clause-listed
+unfolding int_wrap
+returns-clause-listed c = refl
+
+pub returns-clause-listed_before_third : goal.returns-clause-listed_before_third
+unfolding int_wrap
+returns-clause-listed_before_third c = refl
