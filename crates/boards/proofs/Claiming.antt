@@ -27,11 +27,13 @@ module _ {Item : Type 0} (found : ℕ) (p : Pass Item) where
   share_by true = refl
   share_by false = refl
 
-  seat_by : (left : Bool) (id : TableId) → record { id = id; pass = pass_by left; is_done = is_last (answer_by found left) } ≡ after_answer record { id = id; pass = p; is_done = false } (answer_by found left)
+  seat_by : (left : Bool) (id : TableId) → record { id = id; pass = pass_by left; is_done = is_last (answer_by found left) } ≡ after_answer
+      record { id = id; pass = p; is_done = false } (answer_by found left)
   seat_by true id = refl
   seat_by false id = refl
 
-  claims_by : (left : Bool) (count : ℕ) → ltb found count ≡ left → (found < count → times found p.hand.given ≡ 0) → Claims count (answer_by found left) p.hand.given (pass_by left).hand.given false (is_last (answer_by found left))
+  claims_by : (left : Bool) (count : ℕ) → ltb found count ≡ left → (found < count → times found p.hand.given ≡ 0)
+      → Claims count (answer_by found left) p.hand.given (pass_by left).hand.given false (is_last (answer_by found left))
   claims_by true count is fresh = let below = ltb-true found count is in (below, fresh below, refl, refl, refl)
   claims_by false count is fresh = (refl, refl)
 
@@ -67,5 +69,6 @@ module _ {Item : Type 0} (found count : ℕ) (p now : Pass Item) (last : Bool) (
     pub claim_answered : (tiles : ℕ) → tiles ≡ length p.sums → (found < length p.sums → times found p.hand.given ≡ 0) → IsClaim tiles answer old record { id = now_id; pass = now; is_done = last }
     claim_answered tiles all fresh =
         let claims = claims_by found p left (length p.sums) refl fresh in
-        let of_old = subst (λ (s : Seated Item). Claims (length p.sums) (answer_by found left) s.pass.hand.given (pass_by found p left).hand.given s.is_done (is_last (answer_by found left))) before claims in
+        let of_old = subst (λ (s : Seated Item). Claims (length p.sums) (answer_by found left) s.pass.hand.given (pass_by found p left).hand.given s.is_done
+            (is_last (answer_by found left))) before claims in
         rw (all, answer_is, last_is, stepped) of_old

@@ -11,7 +11,7 @@ use Rattle.status_word.specs.Codings.{Coding, code}
 use Rattle.status_word.specs.RuleSteps.{WholeKnows}
 use Rattle.boards.specs.Answers.{IsEnd}
 use Rattle.boards.specs.Boards.{Seated}
-use Rattle.boards.specs.Gathered.{IsGathered}
+use Rattle.boards.specs.Joined.{AreJoined}
 use Rattle.boards.specs.Rules.{IsRuled}
 
 -- an element that stands at a place is read there
@@ -23,14 +23,17 @@ read_at (y ∷ ys) (suc i) x e = read_at ys i x e
 module _ {X : Type 0} where
   at_least_one : (p : X → Bool) (xs : List X) (k : ℕ) (x : X) → k < length xs → get_or xs k x ≡ x → p x ≡ true → 1 ≤ sum_by (λ z. cond (p z) 1 0) xs
   at_least_one p [] k x below here passes = absurd (omega arith)
-  at_least_one p (y ∷ ys) zero x below here passes = let one : cond {A = ℕ} (p y) 1 0 ≡ 1 = ap (λ b. cond {A = ℕ} b 1 0) (ap p here ∙ passes) in omega (arith, sum_by-append (λ z. cond (p z) 1 0) (y ∷ []) ys)
+  at_least_one p (y ∷ ys) zero x below here passes = let one : cond {A = ℕ} (p y) 1 0 ≡ 1 = ap (λ b. cond {A = ℕ} b 1 0) (ap p here ∙ passes) in
+      omega (arith, sum_by-append (λ z. cond (p z) 1 0) (y ∷ []) ys)
   at_least_one p (y ∷ ys) (suc k) x below here passes = let rest = at_least_one p ys k x (omega arith) here passes in omega (arith, sum_by-append (λ z. cond (p z) 1 0) (y ∷ []) ys)
 
   any_counts : (p : X → Bool) (xs : List X) → Any (λ x. IsTrue (p x)) xs → 1 ≤ count_by p xs
   any_counts p xs found = at_least_one p xs found.0 found.1 found.2 found.3 found.4
 
 module _ {Item : Type 0} (m : Coding Item) (sums : List (Bool × Item)) where
-  pub all_ended : WholeKnows Item → (workers claims given id : ℕ) (s : State (Unit {0}) (Pass Item)) (words : List ℕ) (p : Pass Item) (seats : List (Seated Item)) → 1 ≤ workers → length seats ≡ workers → IsRuled m sums workers s → get_elem? s.views id ≡ some p → s.words ≡ words → get_elem? words (length sums) ≡ some claims → given ≡ min claims (length sums) → IsGathered p [] seats → IsEnd (length sums) seats given
+  pub all_ended : WholeKnows Item → (workers claims given id : ℕ) (s : State (Unit {0}) (Pass Item)) (words : List ℕ) (p : Pass Item) (seats : List (Seated Item))
+      → 1 ≤ workers → length seats ≡ workers → IsRuled m sums workers s → get_elem? s.views id ≡ some p → s.words ≡ words → get_elem? words (length sums) ≡ some claims
+      → given ≡ min claims (length sums) → AreJoined p [] seats → IsEnd (length sums) seats given
   all_ended whole workers claims given id s words p seats several as_many ruled at same_words claimed is_given gathered =
       let here : get_or s.words (length sums) 0 ≡ claims = ap (λ ws. get_or ws (length sums) 0) same_words ∙ read_at words (length sums) claims claimed in
       let known = whole (code m sums) sums workers (get_or s.words (length sums) 0) (λ x. get_or s.words x 0) s.views id p ruled.kept at (omega (arith, gathered.shares)) in

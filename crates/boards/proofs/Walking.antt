@@ -7,7 +7,7 @@ use Rattle.status_word.specs.declared.pass.Mark.{Mark}
 use Rattle.status_word.specs.declared.pass.Pass.{Pass}
 use Rattle.status_word.specs.Passes.{highest_mark, known_at, looked, seen_at, told_at, told_state}
 use Rattle.boards.specs.Answers.{IsLookBack}
-use Rattle.boards.specs.Walks.{IsFind, IsWalk}
+use Rattle.boards.specs.Walks.{IsOneLook, IsWalk}
 
 -- the highest of the marks of a tile, after one more of that tile, and of another
 mark_here : (t rank : ℕ) (marks : List Mark) → highest_mark t (record { tile = t; rank = rank } ∷ marks) ≡ max rank (highest_mark t marks)
@@ -20,10 +20,10 @@ mark_elsewhere t x rank marks differ =
 
 module _ {Item : Type 0} where
   -- a look that found this state, which isn't below what was known
-  pub find_told : (at rank : ℕ) (old now : Pass Item) → now ≡ looked old at rank → known_at at old ≤ rank → IsFind at rank old now
+  pub find_told : (at rank : ℕ) (old now : Pass Item) → now ≡ looked old at rank → known_at at old ≤ rank → IsOneLook at rank old now
   find_told at rank old now is risen =
       let seen = mark_here at rank old.seen in
-      subst (IsFind at rank old) (sym is) record {
+      subst (IsOneLook at rank old) (sym is) record {
         looks = refl;
         known = omega arith;
         told = (omega arith, omega arith);
@@ -34,11 +34,11 @@ module _ {Item : Type 0} where
       }
 
   -- a look at a tile of which nothing was told, and then its sum was
-  pub find_silent : (at : ℕ) (old now : Pass Item) → now ≡ told_state (looked old at 0) at 1 → known_at at old ≤ 0 → IsFind at 1 old now
+  pub find_silent : (at : ℕ) (old now : Pass Item) → now ≡ told_state (looked old at 0) at 1 → known_at at old ≤ 0 → IsOneLook at 1 old now
   find_silent at old now is risen =
       let seen = mark_here at 0 old.seen in
       let told = mark_here at 1 old.told in
-      subst (IsFind at 1 old) (sym is) record {
+      subst (IsOneLook at 1 old) (sym is) record {
         looks = refl;
         known = omega arith;
         told = (omega arith, omega arith);
@@ -60,13 +60,14 @@ module _ {Item : Type 0} where
   }
 
   -- of each tile that was passed the same is known after a look at another
-  known_still : (t at next rank : ℕ) (old mid now : Pass Item) → at ≡ next + 1 → IsWalk t at old mid → IsFind next rank mid now → (x : ℕ) → next < x → x < t → known_at x now ≡ 1
+  known_still : (t at next rank : ℕ) (old mid now : Pass Item) → at ≡ next + 1 → IsWalk t at old mid → IsOneLook next rank mid now → (x : ℕ) → next < x → x < t → known_at x now ≡ 1
   known_still t at next rank old mid now one walk found x from to =
       let same = found.others x (λ e. omega arith) in
       let before = walk.known x (omega arith) to in
       omega arith
 
-  told_still : (t at next rank : ℕ) (old mid now : Pass Item) → at ≡ next + 1 → at ≤ t → IsWalk t at old mid → IsFind next rank mid now → (x : ℕ) → (told_at x old ≤ told_at x now) × (told_at x now ≤ max (told_at x old) 1) × (seen_at x old ≤ seen_at x now)
+  told_still : (t at next rank : ℕ) (old mid now : Pass Item) → at ≡ next + 1 → at ≤ t → IsWalk t at old mid → IsOneLook next rank mid now → (x : ℕ)
+      → (told_at x old ≤ told_at x now) × (told_at x now ≤ max (told_at x old) 1) × (seen_at x old ≤ seen_at x now)
   told_still t at next rank old mid now one within walk found x =
       let before = walk.told x in
       let seen_before = walk.seen x in
@@ -76,7 +77,8 @@ module _ {Item : Type 0} where
       (λ (differ : (eqb x next ≡ false) × (x ≢ next)). let same = found.others x differ.1 in (omega arith, omega arith, omega arith))
       (eqb_tells x next)
 
-  others_still : (t at next rank : ℕ) (old mid now : Pass Item) → at ≡ next + 1 → at ≤ t → IsWalk t at old mid → IsFind next rank mid now → (x : ℕ) → (x < next) ⊎ (t ≤ x) → (told_at x now ≡ told_at x old) × (seen_at x now ≡ seen_at x old)
+  others_still : (t at next rank : ℕ) (old mid now : Pass Item) → at ≡ next + 1 → at ≤ t → IsWalk t at old mid → IsOneLook next rank mid now → (x : ℕ)
+      → (x < next) ⊎ (t ≤ x) → (told_at x now ≡ told_at x old) × (seen_at x now ≡ seen_at x old)
   others_still t at next rank old mid now one within walk found x outside =
       let apart : x ≢ next = ⊎_elim (λ (low : x < next). λ e. omega arith) (λ (high : t ≤ x). λ e. omega arith) outside in
       let same = found.others x apart in
@@ -84,7 +86,7 @@ module _ {Item : Type 0} where
       (same.0 ∙ before.0, same.1 ∙ before.1)
 
   -- one more sum
-  pub walk_more : (t at next : ℕ) (old mid now : Pass Item) → at ≡ next + 1 → at ≤ t → IsWalk t at old mid → IsFind next 1 mid now → IsWalk t next old now
+  pub walk_more : (t at next : ℕ) (old mid now : Pass Item) → at ≡ next + 1 → at ≤ t → IsWalk t at old mid → IsOneLook next 1 mid now → IsWalk t next old now
   walk_more t at next old mid now one within walk found = record {
     looks = omega (arith, walk.looks, found.looks);
     known = λ x from to. ⊎_elim (λ (same : (eqb x next ≡ true) × (x ≡ next)). subst (λ y. known_at y now ≡ 1) (sym same.1) found.known)
@@ -97,7 +99,7 @@ module _ {Item : Type 0} where
   }
 
   -- a prefix ends the look-back
-  pub walk_met : (t at next looks : ℕ) (old mid now : Pass Item) → at ≡ next + 1 → at ≤ t → looks ≡ t - next → IsWalk t at old mid → IsFind next 2 mid now → IsLookBack t looks old now
+  pub walk_met : (t at next looks : ℕ) (old mid now : Pass Item) → at ≡ next + 1 → at ≤ t → looks ≡ t - next → IsWalk t at old mid → IsOneLook next 2 mid now → IsLookBack t looks old now
   walk_met t at next looks old mid now one within count walk found =
       let first : t - looks ≡ next = omega arith in
       record {
@@ -105,7 +107,8 @@ module _ {Item : Type 0} where
         at_least = λ some. omega arith;
         counted = omega (arith, walk.looks, found.looks);
         known = λ x from to. ⊎_elim (λ (same : (eqb x next ≡ true) × (x ≡ next)). subst (λ y. 1 ≤ known_at y now) (sym same.1) (let here = found.known in omega arith))
-            (λ (differ : (eqb x next ≡ false) × (x ≢ next)). let apart = differ.1 in let here = known_still t at next 2 old mid now one walk found x (omega arith) to in omega arith) (eqb_tells x next);
+            (λ (differ : (eqb x next ≡ false) × (x ≢ next)). let apart = differ.1 in let here = known_still t at next 2 old mid now one walk found x (omega arith) to in
+                omega arith) (eqb_tells x next);
         met = λ fewer. subst (λ y. known_at y now ≡ 2) (sym first) found.known;
         passed = λ x from to. let here = known_still t at next 2 old mid now one walk found x (omega arith) to in omega arith;
         told = λ x. let both = told_still t at next 2 old mid now one within walk found x in (both.0, both.1);

@@ -1,6 +1,6 @@
 -- What the calls of a scan board promise.
--- Source: the decoupled look-back of Merrill and Garland, Single-pass Parallel Prefix Scan with Decoupled Look-back, 2016. That a worker adds
--- up a tile of which nothing is told yet, in place of waiting for it, is this library's profile.
+-- Source: the decoupled look-back of Merrill and Garland, Single-pass Parallel Prefix Scan with Decoupled Look-back, 2016. That a worker
+-- adds up a tile of which nothing is told yet, in place of waiting for it, is this library's profile.
 use Rattle.std.specs.Prelude.{◌≡◌, ℕ, ◌+◌, ◌-◌, ◌<◌, ◌≤◌, ◌⊎◌, max, Bool, true, IsTrue, List, length, replicate, if◌then◌else◌}
 use Rattle.std.specs.List.{Any, sum_by}
 use Rattle.status_word.specs.declared.pass.Pass.{Pass}
@@ -33,7 +33,8 @@ pub record IsNew {Item : Type 0} (sums : List (Bool × Item)) (workers : ℕ) (b
 abbrev pub IsOutside : ℕ → ℕ → ℕ → Type 0
 IsOutside t looks x = (x < t - looks) ⊎ (t ≤ x)
 
--- What a look-back from tile t did that looked at so many tiles, one after another towards the first; `old` and `new` are its worker's pass.
+-- What a look-back from tile t did that looked at so many tiles, one after another towards the first; `old` and `new` are its worker's
+-- pass.
 pub record IsLookBack {Item : Type 0} (t looks : ℕ) (old new : Pass Item) : Type 0 where
   pub at_most : looks ≤ t
   pub at_least : 1 ≤ t → 1 ≤ looks

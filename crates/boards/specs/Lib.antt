@@ -1,7 +1,7 @@
 pub mod Answers
 pub mod Boards
 pub mod Claims
-pub mod Gathered
+pub mod Joined
 pub mod Rules
 pub mod Walks
 pub use Rattle.status_word.specs.Codings

@@ -2,22 +2,22 @@
 -- Source: the decoupled look-back of Merrill and Garland, 2016.
 use Rattle.std.specs.Prelude.{◌≡◌, ℕ, ◌+◌, ◌<◌, ◌≤◌, ◌⊎◌, max, Bool, List}
 use Rattle.status_word.specs.declared.pass.Pass.{Pass}
-use Rattle.status_word.specs.Codings.{Coding, before, sum_at}
+use Rattle.cvl_base.specs.TileSums.{own_sum, upto_tile}
 use Rattle.status_word.specs.Passes.{known_at, seen_at, told_at}
 use Rattle.boards.specs.declared.look_back.Found.{Found}
 use Rattle.boards.specs.declared.look_back.Found.TheVariants.{Sum, Prefix}
 
 -- what was found of tile `at` is so
-abbrev pub IsFound : {Item : Type 0} → Coding Item → List (Bool × Item) → ℕ → Found Item → Type 0
-IsFound m sums at (Sum starts value) = (starts, value) ≡ sum_at m sums at
-IsFound m sums at (Prefix starts value) = (starts, value) ≡ before m sums (at + 1)
+abbrev pub IsTrueOfTile : {Item : Type 0} → (Item → Item → Item) → Item → List (Bool × Item) → ℕ → Found Item → Type 0
+IsTrueOfTile join unit sums at (Sum starts value) = (starts, value) ≡ own_sum unit sums at
+IsTrueOfTile join unit sums at (Prefix starts value) = (starts, value) ≡ upto_tile join unit sums at
 
 abbrev pub rank_of : {Item : Type 0} → Found Item → ℕ
 rank_of (Sum starts value) = 1
 rank_of (Prefix starts value) = 2
 
 -- one look at tile `at`, whose state is known to be this afterwards, and perhaps its sum told
-pub record IsFind {Item : Type 0} (at rank : ℕ) (old new : Pass Item) : Type 0 where
+pub record IsOneLook {Item : Type 0} (at rank : ℕ) (old new : Pass Item) : Type 0 where
   pub looks : new.looks ≡ old.looks + 1
   pub known : known_at at new ≡ rank
   pub told : (told_at at old ≤ told_at at new) × (told_at at new ≤ max (told_at at old) 1)

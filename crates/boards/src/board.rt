@@ -7,7 +7,7 @@ ghost use Rattle.boards.specs.Answers.{IsClaim, IsEnd, IsNew, after_answer};
 ghost use Rattle.boards.specs.Boards.{IsSeatOf};
 
 use crate::claim::Claim;
-use crate::hands::{deal, gather};
+use crate::hands::{deal, join_seats};
 use crate::rule::{ClaimStep, Counted, PassOf, ScanRule};
 use crate::seat::ScanSeat;
 use crate::tiles::Tiles;
@@ -110,7 +110,7 @@ impl<T: Tiles, A: Allocator> ScanBoard<T, A> {
         ensures { IsEnd (length self.sums) seats.items result.given }
     {
         rule_law::<<T::M as Monoid>::Item>();
-        let whole = gather(&self, seats);
+        let whole = join_seats(&self, seats);
         let ScanBoard { table, counted } = self;
         let closed = table.close_with(whole);
         let claims = closed.word(counted.count as usize);

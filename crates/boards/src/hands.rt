@@ -3,7 +3,7 @@
 ghost use Rattle.std.specs.Prelude.{◌≡◌, ◌≤◌, [], IfOk, length, replicate};
 ghost use Rattle.std.specs.List.{All};
 ghost use Rattle.boards.specs.Boards.{IsSeatOf, new_seat};
-ghost use Rattle.boards.specs.Gathered.{IsGathered};
+ghost use Rattle.boards.specs.Joined.{AreJoined};
 ghost use Rattle.status_word.specs.Passes.{first_pass};
 
 use crate::board::ScanBoard;
@@ -44,14 +44,14 @@ pub(crate) fn deal<T: Tiles, A: Memory>(
 }
 
 /// All seats of a board in one.
-pub(crate) fn gather<T: Tiles, A: Allocator>(
+pub(crate) fn join_seats<T: Tiles, A: Allocator>(
     board: &ScanBoard<T, A>,
     mut seats: Vec<ScanSeat<T::M>, A>,
 ) -> Seat<(), PassOf<T>>
     requires seats { All (IsSeatOf board.now) seats.items }
     requires some { 1 ≤ length seats.items }
     ensures seat { (result.table_id ≡ board.now.id) × (result.me.1 ≡ []) }
-    ensures passes { IsGathered result.me.0 [] seats.items }
+    ensures passes { AreJoined result.me.0 [] seats.items }
 {
     rule_law::<<T::M as Monoid>::Item>();
     let Some(first) = seats.pop() else {

@@ -3,14 +3,15 @@
 ghost use Rattle.std.specs.Prelude.{◌≡◌, ◌<◌, length};
 ghost use Rattle.boards.specs.Answers.{IsLookBack};
 ghost use Rattle.boards.specs.Boards.{IsSeatOf};
-ghost use Rattle.boards.specs.Walks.{IsFind, IsFound, rank_of};
-ghost use Rattle.status_word.specs.Codings.{SumsLaws, before as before_tile, coding_of};
+ghost use Rattle.boards.specs.Walks.{IsOneLook, IsTrueOfTile, rank_of};
+ghost use Rattle.cvl_base.specs.TileSums.{SumsLaws, before_tile};
 
 use crate::board::ScanBoard;
 use crate::seat::ScanSeat;
 use crate::tiles::Tiles;
+use cvl_base::tile_sums::know_sums;
 use cvl_base::{Monoid, Seg};
-use status_word::{Status, sums_law};
+use status_word::Status;
 use std::alloc::Allocator;
 
 /// What a look-back answers.
@@ -42,7 +43,7 @@ impl<T: Tiles, A: Allocator> ScanBoard<T, A> {
         ensures same { IsSeatOf self.now seat.new }
         ensures done { seat.new.is_done ≡ seat.old.is_done }
         ensures before { result.before
-            ≡ before_tile (coding_of T.M.join T.M.unit T.M.to_word T.M.from_word) self.now.sums t }
+            ≡ before_tile T.M.join T.M.unit self.now.sums t }
         ensures looks { IsLookBack t result.looks seat.old.pass seat.new.pass }
     {
         self.know_sums();
@@ -72,9 +73,8 @@ impl<T: Tiles, A: Allocator> ScanBoard<T, A> {
         requires tile { at < length self.now.sums }
         ensures same { IsSeatOf self.now seat.new }
         ensures done { seat.new.is_done ≡ seat.old.is_done }
-        ensures found { IsFound
-            (coding_of T.M.join T.M.unit T.M.to_word T.M.from_word) self.now.sums at result }
-        ensures step { IsFind at (rank_of result) seat.old.pass seat.new.pass }
+        ensures found { IsTrueOfTile T.M.join T.M.unit self.now.sums at result }
+        ensures step { IsOneLook at (rank_of result) seat.old.pass seat.new.pass }
     {
         match self.look(seat, at) {
             Status::Silent => {
@@ -89,10 +89,9 @@ impl<T: Tiles, A: Allocator> ScanBoard<T, A> {
 
     /// How the sums of the tiles hang together, for the proof of a look-back: the call does nothing.
     fn know_sums(&self)
-        ensures { SumsLaws T.M.is_item
-            (coding_of T.M.join T.M.unit T.M.to_word T.M.from_word) self.now.sums }
+        ensures { SumsLaws T.M.is_item T.M.join T.M.unit self.now.sums }
     {
         let _counted = &self.counted;
-        sums_law::<T::M>();
+        know_sums::<T::M>();
     }
 }

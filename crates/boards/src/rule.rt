@@ -4,9 +4,9 @@ ghost use Rattle.std.specs.Prelude.{◌≡◌, ◌≤◌, length};
 ghost use Rattle.std.specs.List.{AllPass};
 ghost use Rattle.cvl_base.specs.Limits.{most_elements, most_workers};
 ghost use Rattle.cvl_base.specs.SegmentMonoid.{is_seg_item};
-ghost use Rattle.status_word.specs.Codings.{coding_of};
-ghost use Rattle.boards.specs.Rules.{Claimed, IsRuled, Looked, Told};
-ghost use Rattle.status_word.specs.Passes.{first_pass, joined, spent_pass, split_left, split_right};
+ghost use Rattle.status_word.specs.Codings.{coding};
+ghost use Rattle.boards.specs.Rules.{ClaimGives, IsRuled, LookGives, TellGives};
+ghost use Rattle.status_word.specs.Passes.{first_pass, passes_joined, spent_pass, split_left, split_right};
 
 use crate::tiles::Tiles;
 use atomic_table::{Join, Play, Seat, Split, Table, TableRule};
@@ -34,7 +34,7 @@ pub(crate) struct ScanRule<T>(PhantomData<T>);
 
 impl<T: Tiles> TableRule<(), PassOf<T>, Counted<T>> for ScanRule<T> {
     ghost holds = { λ key.
-        IsRuled (coding_of T.M.join T.M.unit T.M.to_word T.M.from_word) (T.sums key.tiles) key.workers };
+        IsRuled (coding T.M.Packed) (T.sums key.tiles) key.workers };
 
     ghost first = { λ key. first_pass (T.sums key.tiles) key.workers };
 }
@@ -43,28 +43,28 @@ impl<T: Tiles> TableRule<(), PassOf<T>, Counted<T>> for ScanRule<T> {
 pub(crate) struct ClaimStep;
 
 impl<I> Play<(), Pass<I>> for ClaimStep {
-    ghost then = { Claimed };
+    ghost then = { ClaimGives };
 }
 
 /// A look at a tile's word.
 pub(crate) struct LookStep<M>(PhantomData<M>);
 
 impl<M: Packed> Play<(), Pass<M::Item>> for LookStep<M> {
-    ghost then = { Looked (coding_of M.join M.unit M.to_word M.from_word) };
+    ghost then = { LookGives (coding M.Packed) };
 }
 
 /// A tile's sum is told.
 pub(crate) struct SumStep;
 
 impl<I> Play<(), Pass<I>> for SumStep {
-    ghost then = { Told 1 };
+    ghost then = { TellGives 1 };
 }
 
 /// A tile's prefix is told.
 pub(crate) struct PrefixStep;
 
 impl<I> Play<(), Pass<I>> for PrefixStep {
-    ghost then = { Told 2 };
+    ghost then = { TellGives 2 };
 }
 
 /// One more seat, and all seats in one.
@@ -77,7 +77,7 @@ impl<I> Split<Pass<I>> for OneMore {
 }
 
 impl<I> Join<Pass<I>> for OneMore {
-    ghost both = { joined };
+    ghost both = { passes_joined };
 
     ghost spent = { spent_pass };
 }

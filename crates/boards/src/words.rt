@@ -4,15 +4,17 @@ ghost use Rattle.std.specs.Prelude.{◌≡◌, ◌<◌, ◌≤◌, length};
 ghost use Rattle.boards.specs.Answers.{with_pass};
 ghost use Rattle.boards.specs.Boards.{IsSeatOf};
 ghost use Rattle.status_word.specs.Passes.{known_at, looked, told_state};
-ghost use Rattle.status_word.specs.Codings.{before as before_tile, coding_of, sum_at, told_of};
+ghost use Rattle.cvl_base.specs.TileSums.{before_tile, own_sum};
+ghost use Rattle.status_word.specs.Codings.{told_of};
 ghost use Rattle.status_word.specs.Words.{state_of};
 
 use crate::board::ScanBoard;
 use crate::rule::{LookStep, PrefixStep, SumStep};
 use crate::seat::ScanSeat;
 use crate::tiles::Tiles;
+use cvl_base::tile_sums::know_sums;
 use cvl_base::{Monoid, Seg};
-use status_word::{Status, code_law, pack_status, read_status, rule_law, sums_law};
+use status_word::{Status, code_law, pack_status, read_status, rule_law};
 use std::alloc::Allocator;
 
 impl<T: Tiles, A: Allocator> ScanBoard<T, A> {
@@ -23,7 +25,7 @@ impl<T: Tiles, A: Allocator> ScanBoard<T, A> {
         requires tile { t < length self.now.sums }
         ensures same { IsSeatOf self.now seat.new }
         ensures lawful { result
-            ≡ told_of (coding_of T.M.join T.M.unit T.M.to_word T.M.from_word) self.now.sums t (state_of result) }
+            ≡ told_of T.M.join T.M.unit self.now.sums t (state_of result) }
         ensures risen { known_at t seat.old.pass ≤ state_of result }
         ensures seen { seat.new ≡ with_pass seat.old (looked seat.old.pass t (state_of result)) }
     {
@@ -57,7 +59,7 @@ impl<T: Tiles, A: Allocator> ScanBoard<T, A> {
         requires seat { IsSeatOf self.now seat.old }
         requires tile { t < length self.now.sums }
         requires before { before
-            ≡ before_tile (coding_of T.M.join T.M.unit T.M.to_word T.M.from_word) self.now.sums t }
+            ≡ before_tile T.M.join T.M.unit self.now.sums t }
         ensures same { IsSeatOf self.now seat.new }
         ensures told { seat.new ≡ with_pass seat.old (told_state seat.old.pass t 2) }
     {
@@ -74,7 +76,7 @@ impl<T: Tiles, A: Allocator> ScanBoard<T, A> {
         requires seat { IsSeatOf self.now seat.old }
         requires tile { t < length self.now.sums }
         requires sum { sum
-            ≡ sum_at (coding_of T.M.join T.M.unit T.M.to_word T.M.from_word) self.now.sums t }
+            ≡ own_sum T.M.unit self.now.sums t }
         ensures same { IsSeatOf self.now seat.new }
         ensures told { seat.new ≡ with_pass seat.old (told_state seat.old.pass t 1) }
     {
@@ -96,15 +98,15 @@ impl<T: Tiles, A: Allocator> ScanBoard<T, A> {
         requires seat { IsSeatOf self.now seat.old }
         requires tile { t < length self.now.sums }
         requires before { before
-            ≡ before_tile (coding_of T.M.join T.M.unit T.M.to_word T.M.from_word) self.now.sums t }
+            ≡ before_tile T.M.join T.M.unit self.now.sums t }
         requires sum { sum
-            ≡ sum_at (coding_of T.M.join T.M.unit T.M.to_word T.M.from_word) self.now.sums t }
+            ≡ own_sum T.M.unit self.now.sums t }
         ensures same { IsSeatOf self.now seat.new }
         ensures told { seat.new ≡ with_pass seat.old (told_state seat.old.pass t 2) }
     {
         rule_law::<<T::M as Monoid>::Item>();
         code_law::<T::M>();
-        sums_law::<T::M>();
+        know_sums::<T::M>();
         let shared = &self.table.shared;
         let prefix = Seg::<T::M>::join(before, sum);
         let word = pack_status::<T::M>(Status::Prefix(prefix.0, prefix.1));

@@ -53,7 +53,7 @@ module _ {Item : Type 0} {is_item : Item → Bool} {unit : Item} {join : Item �
   fold_of_is_item xs items = fold_from_is_item unit xs laws.unit_is_item items
 
   -- a fold from a is a, joined with the fold from the unit
-  fold_from : (a : Item) (xs : List Item) → IsTrue (is_item a) → AllPass is_item xs → fold join a xs ≡ join a (fold_of join unit xs)
+  pub fold_from : (a : Item) (xs : List Item) → IsTrue (is_item a) → AllPass is_item xs → fold join a xs ≡ join a (fold_of join unit xs)
   fold_from a [] p items = sym (laws.right_unit a p)
   fold_from a (x ∷ xs) p items =
       let q = All-head (λ y. is_item y ≡ true) x xs items in

@@ -1,5 +1,6 @@
 pub mod Dividing
 pub mod Flooring
 pub mod FoldLaws
+pub mod ListedSums
 pub mod TileSumLaws
 pub mod Wrapping

@@ -11,7 +11,7 @@ use Rattle.operators.specs.Monoid.{MonoidLaws}
 use Rattle.operators.specs.SegmentMonoid.{is_seg_item, seg_unit, seg_join}
 use Rattle.operators.specs.SegmentMonoidLaws.{seg_laws}
 use Rattle.operators.specs.Lists.{joined}
-use Rattle.operators.specs.TileSums.{sum_of_tiles, sum_at, upto, before, between, listed_sums, own_sum, sums_before, sums_upto, sums_between, AllTilesPass}
+use Rattle.operators.specs.TileSums.{sum_of_tiles, sum_at, upto, before, between, listed_sums, own_sum, before_tile, upto_tile, between_tiles, AllTilesPass}
 
 -- ---- the elements of a run of tiles
 
@@ -79,7 +79,8 @@ module _ {Item : Type 0} (join : Item → Item → Item) (unit : Item) (tiles : 
   pub between_none : (t : ℕ) → between join unit tiles t t ≡ seg_unit unit
   between_none t = let none : t - t ≡ 0 = omega arith in ap (λ n. sum_of_tiles join unit (take n (drop t tiles))) none
 
-module _ {Item : Type 0} {is_item : Item → Bool} {unit : Item} {join : Item → Item → Item} (laws : MonoidLaws is_item unit join) (tiles : List (List (Bool × Item))) (items : AllTilesPass (is_seg_item is_item) tiles) where
+module _ {Item : Type 0} {is_item : Item → Bool} {unit : Item} {join : Item → Item → Item} (laws : MonoidLaws is_item unit join) (tiles : List (List (Bool × Item)))
+    (items : AllTilesPass (is_seg_item is_item) tiles) where
   run_passes : (n : ℕ) → AllPass (is_seg_item is_item) (joined (take n tiles))
   run_passes n = elements_pass (seg_laws laws) (take n tiles) (All-take (AllPass (is_seg_item is_item)) n tiles items)
 
@@ -148,13 +149,13 @@ module _ {Item : Type 0} {is_item : Item → Bool} {unit : Item} {join : Item �
       ∙ ap sum (take-map sum n (drop first tiles))
       ∙ sym (by_sums (seg_laws laws) (take n (drop first tiles)) run)
 
-  pub upto_listed : (t : ℕ) → sums_upto join unit (listed_sums join unit tiles) t ≡ upto join unit tiles t
+  pub upto_listed : (t : ℕ) → upto_tile join unit (listed_sums join unit tiles) t ≡ upto join unit tiles t
   upto_listed t = run_listed 0 (t + 1)
 
-  pub before_listed : (t : ℕ) → sums_before join unit (listed_sums join unit tiles) t ≡ before join unit tiles t
+  pub before_listed : (t : ℕ) → before_tile join unit (listed_sums join unit tiles) t ≡ before join unit tiles t
   before_listed t = run_listed 0 t ∙ sym (before_is join unit tiles t)
 
-  pub between_listed : (first t : ℕ) → sums_between join unit (listed_sums join unit tiles) first t ≡ between join unit tiles first t
+  pub between_listed : (first t : ℕ) → between_tiles join unit (listed_sums join unit tiles) first t ≡ between join unit tiles first t
   between_listed first t = run_listed first (t - first)
 
 pub own_listed : {Item : Type 0} (join : Item → Item → Item) (unit : Item) (tiles : List (List (Bool × Item))) (t : ℕ) → own_sum unit (listed_sums join unit tiles) t ≡ sum_at join unit tiles t

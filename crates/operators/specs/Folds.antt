@@ -1,5 +1,6 @@
 -- Folds, reduces and exclusive scans of a list, under an operator with a unit.
--- Source: Blelloch, Vector Models for Data-Parallel Computing, 1990, prescan: that of a0, a1, a2, .. under an operator with identity e is e, a0, a0 + a1, ..
+-- Source: Blelloch, Vector Models for Data-Parallel Computing, 1990, prescan: that of a0, a1, a2, .. under an operator with identity e is
+-- e, a0, a0 + a1, ..
 use Rattle.std.specs.Prelude.{List, [], ◌∷◌, map, fold}
 
 -- all elements joined, which a reduce gives: the unit of no elements, and one element more is joined on the right

@@ -1,6 +1,7 @@
 -- The operators on 32-bit integers in two's complement, as functions on whole numbers.
 -- Source: two's complement arithmetic; the names and the faults are those of CVL's elementwise calls in this library's profile.
-use Rattle.std.specs.Prelude.{◌≡◌, ℕ, ◌<◌, ◌⊎◌, unsigned_abs, ◌^◌, ◌/◌, Bool, not, Option, Some, None, ℤ, pos, negsuc, ◌+ℤ◌, ◌-ℤ◌, ◌*ℤ◌, if◌then◌else◌, nat_lt, int_lt, FitsSigned, int_div, int_rem}
+use Rattle.std.specs.Prelude.{◌≡◌, ℕ, ◌<◌, ◌⊎◌, unsigned_abs, ◌^◌, ◌/◌, Bool, not, Option, Some, None, ℤ, pos, negsuc, ◌+ℤ◌, ◌-ℤ◌, ◌*ℤ◌}
+use Rattle.std.specs.Prelude.{if◌then◌else◌, nat_lt, int_lt, FitsSigned, int_div, int_rem}
 use Rattle.std.specs.Int.{w32, is_negative, int_wrap, int_min, int_max, int_bit_and, int_bit_or, int_bit_xor, int_bit_not}
 use Rattle.std.specs.Ordering.{int_eq}
 

@@ -2,8 +2,10 @@
 -- Source: what the definitions of Integers and Monoid imply.
 use Rattle.std.proofs.Common.{◌≡◌, refl, sym, ap, ◌∙◌, ℕ, ◌-◌, ◌^◌, ◌<◌, max, IsTrue, ℤ, pos, negsuc, ◌+ℤ◌, ◌*ℤ◌, FitsSigned, arith}
 use Rattle.std.specs.Int.{w32, bit_at, int_wrap, int_min, int_max, cast_signed, cast_unsigned}
-use Rattle.std.specs.Int.Bits.{bit_and, bit_or, bit_xor, xor_assoc, xor_zero_l, xor_zero_r, or_zero_l, or_zero_r, and_lt, or_lt, xor_lt, and_mask, and_comm}
-use Rattle.std.proofs.lemmas.Int.{ints, clamps, to_z-of_z, of_z-to_z, int_wrap_fits, int_wrap-add_left, int_wrap-add_right, int_wrap-mul_left, int_wrap-mul_right, SFits-int_wrap}
+use Rattle.std.specs.Int.Bits.{bit_and, bit_or, bit_xor, xor_assoc, xor_zero_l, xor_zero_r, or_zero_l, or_zero_r, and_lt, or_lt, xor_lt}
+use Rattle.std.specs.Int.Bits.{and_mask, and_comm}
+use Rattle.std.proofs.lemmas.Int.{ints, clamps, to_z-of_z, of_z-to_z, int_wrap_fits, int_wrap-add_left, int_wrap-add_right}
+use Rattle.std.proofs.lemmas.Int.{int_wrap-mul_left, int_wrap-mul_right, SFits-int_wrap}
 use Rattle.std.proofs.Math.IntN.{+ℤ_assoc}
 use Rattle.std.proofs.lemmas.Nat.{and_assoc}
 use Rattle.std.proofs.lemmas.Bool.{ltb-true, lt-ltb}
@@ -56,7 +58,8 @@ product_laws = record {
 pub lesser_laws : MonoidLaws is_number (pos 2147483647) lesser_of
 lesser_laws = record {
   unit_is_item = refl;
-  join_is_item = λ a b p q. let f = fits-is_number a p in let g = fits-is_number b q in is_number-fits (int_min a b) (omega (arith, ints, clamps));
+  join_is_item = λ a b p q.
+      let f = fits-is_number a p in let g = fits-is_number b q in is_number-fits (int_min a b) (omega (arith, ints, clamps));
   assoc = λ a b c _ _ _. omega (arith, ints, clamps);
   left_unit = λ a h. let f = fits-is_number a h in omega (arith, ints, clamps);
   right_unit = λ a h. let f = fits-is_number a h in omega (arith, ints, clamps);
@@ -65,7 +68,8 @@ lesser_laws = record {
 pub greater_laws : MonoidLaws is_number (negsuc 2147483647) greater_of
 greater_laws = record {
   unit_is_item = refl;
-  join_is_item = λ a b p q. let f = fits-is_number a p in let g = fits-is_number b q in is_number-fits (int_max a b) (omega (arith, ints, clamps));
+  join_is_item = λ a b p q.
+      let f = fits-is_number a p in let g = fits-is_number b q in is_number-fits (int_max a b) (omega (arith, ints, clamps));
   assoc = λ a b c _ _ _. omega (arith, ints, clamps);
   left_unit = λ a h. let f = fits-is_number a h in omega (arith, ints, clamps);
   right_unit = λ a h. let f = fits-is_number a h in omega (arith, ints, clamps);
@@ -84,7 +88,8 @@ bits_below z h = (of_z_fits w32 z (fits-is_number z h)).fits
 read_is_number : (n : ℕ) → IsTrue (is_number (cast_signed w32 n))
 read_is_number n = is_number-fits (cast_signed w32 n) (omega (arith, ints, read_fits w32 n))
 
-bitwise_laws : (unit : ℕ) (op : ℕ → ℕ → ℕ) → unit < 2 ^ 32 → BitLaws unit op → MonoidLaws is_number (cast_signed w32 unit) (λ a b. cast_signed w32 (op (cast_unsigned w32 a) (cast_unsigned w32 b)))
+bitwise_laws : (unit : ℕ) (op : ℕ → ℕ → ℕ) → unit < 2 ^ 32 → BitLaws unit op
+    → MonoidLaws is_number (cast_signed w32 unit) (λ a b. cast_signed w32 (op (cast_unsigned w32 a) (cast_unsigned w32 b)))
 bitwise_laws unit op small laws = record {
   unit_is_item = read_is_number unit;
   join_is_item = λ a b _ _. read_is_number (op (cast_unsigned w32 a) (cast_unsigned w32 b));

@@ -6,11 +6,13 @@ use Rattle.operators.specs.SegmentMonoid.{is_seg_item, seg_unit, seg_join}
 use Rattle.operators.specs.TruthLaws.{either_assoc, either_false}
 
 module _ {Item : Type 0} {is_item : Item → Bool} {unit : Item} {join : Item → Item → Item} (laws : MonoidLaws is_item unit join) where
-  joined_is_item : (f : Bool) (v : Item) (g : Bool) (w : Item) → IsTrue (is_item v) → IsTrue (is_item w) → IsTrue (is_seg_item is_item (seg_join join (f, v) (g, w)))
+  joined_is_item : (f : Bool) (v : Item) (g : Bool) (w : Item) → IsTrue (is_item v) → IsTrue (is_item w)
+      → IsTrue (is_seg_item is_item (seg_join join (f, v) (g, w)))
   joined_is_item f v true w p q = q
   joined_is_item f v false w p q = laws.join_is_item v w p q
 
-  joined_assoc : (e : Bool) (u : Item) (f : Bool) (v : Item) (g : Bool) (w : Item) → IsTrue (is_item u) → IsTrue (is_item v) → IsTrue (is_item w) → seg_join join (seg_join join (e, u) (f, v)) (g, w) ≡ seg_join join (e, u) (seg_join join (f, v) (g, w))
+  joined_assoc : (e : Bool) (u : Item) (f : Bool) (v : Item) (g : Bool) (w : Item) → IsTrue (is_item u) → IsTrue (is_item v) → IsTrue (is_item w)
+      → seg_join join (seg_join join (e, u) (f, v)) (g, w) ≡ seg_join join (e, u) (seg_join join (f, v) (g, w))
   joined_assoc e u true v true w p q r = ap (λ b. (b, w)) (either_assoc e true true)
   joined_assoc e u false v true w p q r = ap (λ b. (b, w)) (either_assoc e false true)
   joined_assoc e u true v false w p q r = ap (λ b. (b, join v w)) (either_assoc e true false)

@@ -1,10 +1,11 @@
 //! The laws of the sums of tiles, for code that is generic over its monoid.
 
 ghost use Rattle.std.specs.Prelude.{◌≡◌, ℕ, ◌+◌, ◌<◌, ◌≤◌, pos, Bool, true, false, List, [], ◌∷◌, take, map, IsTrue};
+ghost use Rattle.std.specs.List.{AllPass};
 ghost use Rattle.operators.specs.Folds.{fold_of, fronts, scan_of};
 ghost use Rattle.operators.specs.Integers.{sum_of};
 ghost use Rattle.operators.specs.SegmentMonoid.{is_seg_item, seg_unit, seg_join};
-ghost use Rattle.operators.specs.TileSums.{sum_at, upto, before, between, listed_sums, own_sum, sums_before, sums_upto, sums_between, worked_tiles, AllTilesPass};
+ghost use Rattle.operators.specs.TileSums.{sum_at, upto, before, between, listed_sums, own_sum, before_tile, upto_tile, between_tiles, worked_tiles, AllTilesPass, SumsLaws};
 
 use crate::monoid::Monoid;
 
@@ -61,11 +62,19 @@ pub fn know_listed_sums<M: Monoid>()
     ensures own { (tiles : List (List (Bool × M.Item))) (t : ℕ) →
         own_sum M.unit (listed_sums M.join M.unit tiles) t ≡ sum_at M.join M.unit tiles t }
     ensures inclusive { (tiles : List (List (Bool × M.Item))) (t : ℕ) → AllTilesPass (is_seg_item M.is_item) tiles →
-        sums_upto M.join M.unit (listed_sums M.join M.unit tiles) t ≡ upto M.join M.unit tiles t }
+        upto_tile M.join M.unit (listed_sums M.join M.unit tiles) t ≡ upto M.join M.unit tiles t }
     ensures exclusive { (tiles : List (List (Bool × M.Item))) (t : ℕ) → AllTilesPass (is_seg_item M.is_item) tiles →
-        sums_before M.join M.unit (listed_sums M.join M.unit tiles) t ≡ before M.join M.unit tiles t }
+        before_tile M.join M.unit (listed_sums M.join M.unit tiles) t ≡ before M.join M.unit tiles t }
     ensures middle { (tiles : List (List (Bool × M.Item))) (first t : ℕ) → AllTilesPass (is_seg_item M.is_item) tiles →
-        sums_between M.join M.unit (listed_sums M.join M.unit tiles) first t ≡ between M.join M.unit tiles first t }
+        between_tiles M.join M.unit (listed_sums M.join M.unit tiles) first t ≡ between M.join M.unit tiles first t }
+{}
+
+/// How the sums of tiles hang together where each tile is given by its sum: a tile's own sum, that of the tiles before
+/// it, and that of the tiles between two, as a look-back nears them.
+///
+/// The call does nothing; its contract names the laws.
+pub fn know_sums<M: Monoid>()
+    ensures { (sums : List (Bool × M.Item)) → AllPass (is_seg_item M.is_item) sums → SumsLaws M.is_item M.join M.unit sums }
 {}
 
 /// Worked values of the sums of tiles: a tile in which a segment starts doesn't count in what stood before it.
@@ -81,5 +90,5 @@ pub fn tile_sum_values()
     ensures before_third { before sum_of (pos 0) worked_tiles 2 ≡ (true, pos 14) }
     ensures between_first_and_third { between sum_of (pos 0) worked_tiles 1 2 ≡ (true, pos 14) }
     ensures listed { listed_sums sum_of (pos 0) worked_tiles ≡ (true, pos 6) ∷ ((true, pos 14) ∷ ((false, pos 1) ∷ [])) }
-    ensures listed_before_third { sums_before sum_of (pos 0) (listed_sums sum_of (pos 0) worked_tiles) 2 ≡ (true, pos 14) }
+    ensures listed_before_third { before_tile sum_of (pos 0) (listed_sums sum_of (pos 0) worked_tiles) 2 ≡ (true, pos 14) }
 {}

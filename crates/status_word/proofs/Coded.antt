@@ -3,19 +3,20 @@
 use Rattle.std.proofs.Common.{◌≡◌, refl, ap, ◌∙◌, ℕ, zero, suc, ◌+◌, ◌-◌, ◌<◌, ◌≤◌, max, Bool, List, IsTrue, take, drop, arith, ⊎_elim}
 use Rattle.std.specs.List.{AllPass}
 use Rattle.std.proofs.lemmas.Bool.{cases_lt}
-use Rattle.cvl_base.specs.Monoid.{MonoidLaws}
+use Rattle.cvl_base.specs.TileSums.{SumsLaws}
 use Rattle.cvl_base.specs.SegmentMonoid.{is_seg_item, seg_unit, seg_join}
 use Rattle.cvl_base.specs.Folds.{fold_of}
-use Rattle.status_word.specs.Codings.{Coding, CodingLaws, told_of, code, Says, CodeLaws, SumsLaws}
+use Rattle.status_word.specs.Codings.{Coding, CodingLaws, told_of, code, CodeLaws}
 use Rattle.status_word.specs.Locals.{is_item_status}
 use Rattle.status_word.specs.Words.{state_of}
-use Rattle.status_word.proofs.Sums.{element_is_sum, front_is_sum, run_is_sum, front_more, run_more, front_split}
 
-module _ {Item : Type 0} {is_item : Item → Bool} (m : Coding Item) (coded : CodingLaws is_item m) (laws : MonoidLaws (is_seg_item is_item) (seg_unit m.unit) (seg_join m.join)) (sums : List (Bool × Item)) (items : AllPass (is_seg_item is_item) sums) where
+module _ {Item : Type 0} {is_item : Item → Bool} (m : Coding Item) (coded : CodingLaws is_item m)
+    (laws : (ss : List (Bool × Item)) → AllPass (is_seg_item is_item) ss → SumsLaws is_item m.join m.unit ss) (sums : List (Bool × Item))
+    (items : AllPass (is_seg_item is_item) sums) where
   pub told_is_item : (t rank : ℕ) → IsTrue (is_item_status is_item (told_of m.join m.unit sums t rank))
   told_is_item t zero = refl
-  told_is_item t (suc zero) = element_is_sum laws sums t items
-  told_is_item t (suc (suc rank)) = front_is_sum laws sums items (t + 1)
+  told_is_item t (suc zero) = (laws sums items).own t
+  told_is_item t (suc (suc rank)) = (laws sums items).exclusive (t + 1)
 
   -- the word of each state is read as what it tells
   pub code_read : (t rank : ℕ) → m.read (code m sums t rank) ≡ told_of m.join m.unit sums t rank
@@ -27,7 +28,8 @@ module _ {Item : Type 0} {is_item : Item → Bool} (m : Coding Item) (coded : Co
   code_le t zero (suc (suc b)) le = let less = coded.ascending (told_of m.join m.unit sums t 0) (told_of m.join m.unit sums t 2) (told_is_item t 0) (told_is_item t 2) (omega arith) in omega arith
   code_le t (suc zero) zero le = absurd (omega arith)
   code_le t (suc zero) (suc zero) le = omega arith
-  code_le t (suc zero) (suc (suc b)) le = let less = coded.ascending (told_of m.join m.unit sums t 1) (told_of m.join m.unit sums t 2) (told_is_item t 1) (told_is_item t 2) (omega arith) in omega arith
+  code_le t (suc zero) (suc (suc b)) le = let less = coded.ascending (told_of m.join m.unit sums t 1) (told_of m.join m.unit sums t 2) (told_is_item t 1)
+      (told_is_item t 2) (omega arith) in omega arith
   code_le t (suc (suc a)) zero le = absurd (omega arith)
   code_le t (suc (suc a)) (suc zero) le = absurd (omega arith)
   code_le t (suc (suc a)) (suc (suc b)) le = omega arith
@@ -35,19 +37,16 @@ module _ {Item : Type 0} {is_item : Item → Bool} (m : Coding Item) (coded : Co
   -- the greater word is that of the higher state
   pub code_max : (t a b : ℕ) → max (code m sums t a) (code m sums t b) ≡ code m sums t (max a b)
   code_max t a b =
-      ⊎_elim (λ (less : a < b). let up = code_le t a b (omega arith) in let top : b ≡ max a b = omega arith in let word : max (code m sums t a) (code m sums t b) ≡ code m sums t b = omega arith in word ∙ ap (code m sums t) top)
-      (λ (more : b ≤ a). let up = code_le t b a more in let top : a ≡ max a b = omega arith in let word : max (code m sums t a) (code m sums t b) ≡ code m sums t a = omega arith in word ∙ ap (code m sums t) top)
+      ⊎_elim (λ (less : a < b). let up = code_le t a b (omega arith) in let top : b ≡ max a b = omega arith in
+          let word : max (code m sums t a) (code m sums t b) ≡ code m sums t b = omega arith in word ∙ ap (code m sums t) top)
+      (λ (more : b ≤ a). let up = code_le t b a more in let top : a ≡ max a b = omega arith in
+          let word : max (code m sums t a) (code m sums t b) ≡ code m sums t a = omega arith in word ∙ ap (code m sums t) top)
       (cases_lt a b)
 
   pub told_state_of : (t rank : ℕ) → rank ≤ 2 → state_of (told_of m.join m.unit sums t rank) ≡ rank
   told_state_of t zero state = refl
   told_state_of t (suc zero) state = refl
   told_state_of t (suc (suc rank)) state = omega arith
-
-  told_says : (t rank : ℕ) → Says m sums t (told_of m.join m.unit sums t rank)
-  told_says t zero = tt
-  told_says t (suc zero) = refl
-  told_says t (suc (suc rank)) = refl
 
   pub code_laws : CodeLaws is_item m sums
   code_laws = record {
@@ -57,18 +56,4 @@ module _ {Item : Type 0} {is_item : Item → Bool} (m : Coding Item) (coded : Co
     fits = λ t rank. coded.fits (told_of m.join m.unit sums t rank) (told_is_item t rank);
     items = told_is_item;
     states = told_state_of;
-    says = told_says;
-  }
-
-  pub sums_laws : SumsLaws is_item m sums
-  sums_laws = record {
-    own = λ t. element_is_sum laws sums t items;
-    exclusive = front_is_sum laws sums items;
-    middle = λ first t. run_is_sum laws sums items first (t - first);
-    none_before = refl;
-    before_next = front_more laws sums items;
-    none_between = λ t. let none : t - t ≡ 0 = omega arith in ap (λ k. fold_of (seg_join m.join) (seg_unit m.unit) (take k (drop t sums))) none;
-    one_more = run_more laws sums items;
-    met = front_split laws sums items;
-    all_between = λ t. let all : t - 0 ≡ t = omega arith in ap (λ k. fold_of (seg_join m.join) (seg_unit m.unit) (take k sums)) all;
   }

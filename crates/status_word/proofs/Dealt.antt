@@ -177,7 +177,8 @@ module _ {P : Type 0} (hand : P → Hand) where
       omega arith
 
   -- where one pass stands for all workers, the others have nothing
-  pub others_idle : (tiles workers claims : ℕ) (passes : List P) (id : ℕ) (p : P) → AreDealt hand tiles workers claims passes → get_elem? passes id ≡ some p → (hand p).share ≡ workers → (j : ℕ) (z : P) → j ≢ id → get_elem? passes j ≡ some z → (hand z).share ≡ 0
+  pub others_idle : (tiles workers claims : ℕ) (passes : List P) (id : ℕ) (p : P) → AreDealt hand tiles workers claims passes → get_elem? passes id ≡ some p
+      → (hand p).share ≡ workers → (j : ℕ) (z : P) → j ≢ id → get_elem? passes j ≡ some z → (hand z).share ≡ 0
   others_idle tiles workers claims passes id p dealt here all = others_none (λ r. (hand r).share) passes id p here (dealt.shares ∙ sym all)
 
   pub whole_deals : WholeDeals hand

@@ -8,7 +8,8 @@ use lib.ListN.{get_elem?}
 use Rattle.status_word.specs.declared.pass.Mark.{Mark}
 use Rattle.status_word.specs.declared.pass.Pass.{Pass}
 use Rattle.status_word.specs.Hands.{AreDealt}
-use Rattle.status_word.specs.Passes.{first_pass, spent_pass, given_tile, told_done, looked, told_state, split_left, split_right, joined, highest_mark, told_at, seen_at, highest, IsFair, IsKept}
+use Rattle.status_word.specs.Passes.{first_pass, spent_pass, given_tile, told_done, looked, told_state, split_left, split_right, passes_joined, highest_mark, told_at, seen_at, highest, IsFair}
+use Rattle.status_word.specs.Passes.{IsRuleKept}
 use Rattle.status_word.specs.RuleSteps.{AreSame, FirstKeeps, ClaimKeeps, DoneKeeps, LookKeeps, TellKeeps, SplitKeeps, JoinKeeps, FewClaimed, WholeKnows, JoinAdds}
 use Rattle.status_word.proofs.Dealt.{times-append, first_deals, claim_deals, done_deals, same_deals, split_deals, join_deals, few_claims, others_idle, whole_deals}
 use Rattle.status_word.proofs.Places.{set_here, set_else, each_set, each_push, highest_at, highest_set, highest_same, highest_push, highest_moved, highest_alone}
@@ -44,7 +45,10 @@ module _ {Item : Type 0} where
   }
 
   -- a step that tells nothing and sees nothing
-  quiet : (code : ℕ → ℕ → ℕ) (sums : List (Bool × Item)) (workers claims next : ℕ) (word now : ℕ → ℕ) (passes : List (Pass Item)) (id : ℕ) (p q : Pass Item) → IsKept code sums workers claims word passes → get_elem? passes id ≡ some p → q.told ≡ p.told → q.seen ≡ p.seen → q.sums ≡ p.sums → 1 ≤ p.hand.share → 1 ≤ q.hand.share → AreSame (length sums) word now → AreDealt (λ r. r.hand) (length sums) workers next (set passes id q) → IsKept code sums workers next now (set passes id q)
+  quiet : (code : ℕ → ℕ → ℕ) (sums : List (Bool × Item)) (workers claims next : ℕ) (word now : ℕ → ℕ) (passes : List (Pass Item)) (id : ℕ) (p q : Pass Item)
+      → IsRuleKept code sums workers claims word passes → get_elem? passes id ≡ some p → q.told ≡ p.told → q.seen ≡ p.seen → q.sums ≡ p.sums → 1 ≤ p.hand.share
+      → 1 ≤ q.hand.share → AreSame (length sums) word now → AreDealt (λ r. r.hand) (length sums) workers next (set passes id q)
+      → IsRuleKept code sums workers next now (set passes id q)
   quiet code sums workers claims next word now passes id p q kept here same_told same_seen same_sums had has same dealt =
       let top : (t : ℕ) → highest (told_at t) (set passes id q) ≡ highest (told_at t) passes = λ t. highest_same (told_at t) passes id p q here (ap (highest_mark t) same_told) in
       record {
@@ -67,7 +71,9 @@ module _ {Item : Type 0} where
       quiet code sums workers claims next word now passes id p (told_done p) kept here refl refl refl share share same dealt
 
   -- a state that was told is seen
-  pub saw_keeps : (code : ℕ → ℕ → ℕ) (sums : List (Bool × Item)) (workers claims : ℕ) (word now : ℕ → ℕ) (passes : List (Pass Item)) (id : ℕ) (p : Pass Item) (t rank : ℕ) → IsKept code sums workers claims word passes → get_elem? passes id ≡ some p → 1 ≤ p.hand.share → AreSame (length sums) word now → rank ≤ highest (told_at t) passes → IsKept code sums workers claims now (set passes id (looked p t rank))
+  pub saw_keeps : (code : ℕ → ℕ → ℕ) (sums : List (Bool × Item)) (workers claims : ℕ) (word now : ℕ → ℕ) (passes : List (Pass Item)) (id : ℕ) (p : Pass Item) (t rank : ℕ)
+      → IsRuleKept code sums workers claims word passes → get_elem? passes id ≡ some p → 1 ≤ p.hand.share → AreSame (length sums) word now
+      → rank ≤ highest (told_at t) passes → IsRuleKept code sums workers claims now (set passes id (looked p t rank))
   saw_keeps code sums workers claims word now passes id p t rank kept here share same known =
       let q : Pass Item = looked p t rank in
       let top : (x : ℕ) → highest (told_at x) (set passes id q) ≡ highest (told_at x) passes = λ x. highest_same (told_at x) passes id p q here refl in
@@ -135,7 +141,8 @@ module _ {Item : Type 0} where
       let left : Pass Item = split_left p in
       let right : Pass Item = split_right p in
       let tiles : p.sums ≡ sums = (kept.fair id p here).tiles (omega arith) in
-      let top : (t : ℕ) → highest (told_at t) (set passes id left ++ right ∷ []) ≡ highest (told_at t) passes = λ t. let stays = highest_same (told_at t) passes id p left here refl in let pushed = highest_push (told_at t) (set passes id left) right in omega arith in
+      let top : (t : ℕ) → highest (told_at t) (set passes id left ++ right ∷ []) ≡ highest (told_at t) passes = λ t. let stays =
+          highest_same (told_at t) passes id p left here refl in let pushed = highest_push (told_at t) (set passes id left) right in omega arith in
       record {
         words = λ t tile. kept.words t tile ∙ ap (code t) (sym (top t));
         states = λ t. let told = top t in let before = kept.states t in omega arith;
@@ -150,9 +157,11 @@ module _ {Item : Type 0} where
       }
 
   -- a measure whose joined value is the greater of the two is as high as before
-  joined_high : (f : Pass Item → ℕ) (passes : List (Pass Item)) (id other : ℕ) (p q : Pass Item) → get_elem? passes id ≡ some p → other ≢ id → get_elem? (set passes id (joined p q)) other ≡ some q → f (joined p q) ≡ max (f p) (f q) → f spent_pass ≡ 0 → highest f (set (set passes id (joined p q)) other spent_pass) ≡ highest f passes
+  joined_high : (f : Pass Item → ℕ) (passes : List (Pass Item)) (id other : ℕ) (p q : Pass Item) → get_elem? passes id ≡ some p → other ≢ id
+      → get_elem? (set passes id (passes_joined p q)) other ≡ some q → f (passes_joined p q) ≡ max (f p) (f q) → f spent_pass ≡ 0
+      → highest f (set (set passes id (passes_joined p q)) other spent_pass) ≡ highest f passes
   joined_high f passes id other p q here differ there greater none =
-      let both : Pass Item = joined p q in
+      let both : Pass Item = passes_joined p q in
       let found : get_elem? passes other ≡ some q = sym (set_else passes id other both differ) ∙ there in
       let had = highest_at f passes other q found in
       let change = highest_set f passes id p both (f q) here greater in
@@ -161,9 +170,10 @@ module _ {Item : Type 0} where
 
   pub join_keeps : JoinKeeps Item
   join_keeps code sums workers claims word passes id other p q kept here differ there share =
-      let both : Pass Item = joined p q in
+      let both : Pass Item = passes_joined p q in
       let adds = join_adds p q in
-      let top : (t : ℕ) → highest (told_at t) (set (set passes id both) other spent_pass) ≡ highest (told_at t) passes = λ t. joined_high (told_at t) passes id other p q here differ there (adds.told t) refl in
+      let top : (t : ℕ) → highest (told_at t) (set (set passes id both) other spent_pass) ≡ highest (told_at t) passes = λ t.
+          joined_high (told_at t) passes id other p q here differ there (adds.told t) refl in
       record {
         words = λ t tile. kept.words t tile ∙ ap (code t) (sym (top t));
         states = λ t. let told = top t in let before = kept.states t in omega arith;

@@ -6,5 +6,4 @@ pub mod Packed
 pub mod Places
 pub mod Runs
 pub mod Stands
-pub mod Sums
 pub mod Reaching

@@ -38,7 +38,9 @@ module _ {Item : Type 0} (m : Coding Item) (w : Scene Item) (a : ℕ) where
   abbrev Moves : Local Item → Type 0
   Moves l = (next : Local Item) → sum_by left_of_local (set w.locals a next) + left_of_local l ≡ sum_by left_of_local w.locals + left_of_local next
 
-  ready_lowers : (b : Bool) → ltb w.claims (length w.sums) ≡ b → Moves Ready → 1 + (left_of_tiles (w.claims + 1) (length w.sums - (w.claims + 1)) + sum_by left_of_local (set w.locals a (next_of m.join m.unit Ready (cond b (Tile w.claims) Done)))) ≤ left_of w
+  ready_lowers : (b : Bool) → ltb w.claims (length w.sums) ≡ b → Moves Ready
+      → 1 + (left_of_tiles (w.claims + 1) (length w.sums - (w.claims + 1)) + sum_by left_of_local
+      (set w.locals a (next_of m.join m.unit Ready (cond b (Tile w.claims) Done)))) ≤ left_of w
   ready_lowers true test moves = let below = ltb-true w.claims (length w.sums) test in let tiles = left_claimed w.claims (length w.sums) below in let locals = moves (Summing w.claims) in omega arith
   ready_lowers false test moves =
       let past = ltb-false w.claims (length w.sums) test in
@@ -50,7 +52,8 @@ module _ {Item : Type 0} (m : Coding Item) (w : Scene Item) (a : ℕ) where
   acted_lowers : (l : Local Item) → Moves l → takes l + left_of (acted m w a l (action_of l)) ≤ left_of w
   acted_lowers Ready moves = ready_lowers (ltb w.claims (length w.sums)) refl moves
   acted_lowers (Summing t) moves = let locals = moves (added_up_to t t (seg_unit m.unit)) in let less = left_added t t (seg_unit m.unit) in omega arith
-  acted_lowers (Looking t at sum) moves = let status = m.read (get_or w.words at 0) in let locals = moves (after_look m.join t at sum status) in let less = left_looked m.join t at sum status in omega arith
+  acted_lowers (Looking t at sum) moves = let status = m.read (get_or w.words at 0) in let locals = moves (after_look m.join t at sum status) in
+      let less = left_looked m.join t at sum status in omega arith
   acted_lowers (Helping t at sum) moves = let told = seg_join m.join (own_sum m.unit w.sums at) sum in let locals = moves (added_up_to t at told) in let less = left_added t at told in omega arith
   acted_lowers (Publishing t prior) moves = let locals = moves Ready in omega arith
   acted_lowers Stopped moves = omega arith
@@ -67,7 +70,8 @@ run_lowers m [] w below = omega arith
 run_lowers m (a ∷ actors) w below =
     let here = step_lowers m w a (All-head (λ b. b < length w.locals) a actors below) in
     let same = acted_locals m w a (local_at w a) (action_of (local_at w a)) in
-    let still : All (λ b. b < length (step_of m w a).locals) actors = All-weaker (λ b. b < length w.locals) (λ b. b < length (step_of m w a).locals) (λ b h. omega arith) actors (All-tail (λ b. b < length w.locals) a actors below) in
+    let still : All (λ b. b < length (step_of m w a).locals) actors =
+        All-weaker (λ b. b < length w.locals) (λ b. b < length (step_of m w a).locals) (λ b h. omega arith) actors (All-tail (λ b. b < length w.locals) a actors below) in
     let rest = run_lowers m actors (step_of m w a) still in
     omega arith
 

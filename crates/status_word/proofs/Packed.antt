@@ -24,7 +24,8 @@ module _ {Item : Type 0} {is_item : Item → Bool} (join : Item → Item → Ite
   again (Sum starts value) item = ap (Sum starts) (words.inverse value item)
   again (Prefix starts value) item = ap (Prefix starts) (words.inverse value item)
 
-  pub coding_laws : ((s : Status ℤ) → FitsWord s → word_of s < 2 ^ 64) → ((s : Status ℤ) → FitsWord s → read_word (word_of s) ≡ Some s) → ((s t : Status ℤ) → FitsWord s → FitsWord t → state_of s < state_of t → word_of s < word_of t) → CodingLaws is_item (coding_of join unit to_word from_word)
+  pub coding_laws : ((s : Status ℤ) → FitsWord s → word_of s < 2 ^ 64) → ((s : Status ℤ) → FitsWord s → read_word (word_of s) ≡ Some s)
+      → ((s t : Status ℤ) → FitsWord s → FitsWord t → state_of s < state_of t → word_of s < word_of t) → CodingLaws is_item (coding_of join unit to_word from_word)
   coding_laws fits inverse ascending = record {
     silent = refl;
     fits = λ s item. fits (status_by to_word s) (fits_word s item);

@@ -9,7 +9,7 @@ use Rattle.std.proofs.lemmas.List.Folds.{sum_by-replicate}
 use Rattle.std.proofs.lemmas.List.Sums.{sum_by-cons}
 use Rattle.std.proofs.lemmas.List.Elements.{All-head, All-tail}
 use Rattle.std.proofs.lemmas.Bool.{cases_lt}
-use Rattle.cvl_base.specs.Monoid.{MonoidLaws}
+use Rattle.cvl_base.specs.TileSums.{SumsLaws}
 use Rattle.cvl_base.specs.SegmentMonoid.{is_seg_item, seg_unit, seg_join}
 use Rattle.status_word.specs.declared.action.Action.{Action}
 use Rattle.status_word.specs.declared.local.Local.{Local}
@@ -33,7 +33,9 @@ each_same P zero x here j z there = absurd (some-ne-none z (sym there))
 each_same P (suc n) x here zero z there = subst P (some-injective x z there) here
 each_same P (suc n) x here (suc j) z there = each_same P n x here j z there
 
-module _ {Item : Type 0} {is_item : Item → Bool} (m : Coding Item) (coded : CodingLaws is_item m) (laws : MonoidLaws (is_seg_item is_item) (seg_unit m.unit) (seg_join m.join)) (sums : List (Bool × Item)) (items : AllPass (is_seg_item is_item) sums) (workers : ℕ) where
+module _ {Item : Type 0} {is_item : Item → Bool} (m : Coding Item) (coded : CodingLaws is_item m)
+    (laws : (ss : List (Bool × Item)) → AllPass (is_seg_item is_item) ss → SumsLaws is_item m.join m.unit ss) (sums : List (Bool × Item))
+    (items : AllPass (is_seg_item is_item) sums) (workers : ℕ) where
   abbrev first : Pass Item
   first = new_pass sums
 
@@ -78,8 +80,10 @@ pub acted_sums : {Item : Type 0} (m : Coding Item) (w : Scene Item) (a : ℕ) (l
 acted_sums m w a l None = refl
 acted_sums m w a l (Some action) = refl
 
-module _ {Item : Type 0} {is_item : Item → Bool} (m : Coding Item) (coded : CodingLaws is_item m) (laws : MonoidLaws (is_seg_item is_item) (seg_unit m.unit) (seg_join m.join)) (workers : ℕ) where
-  stands_run : (actors : List ℕ) (w : Scene Item) (passes : List (Pass Item)) → AllPass (is_seg_item is_item) w.sums → All (λ a. a < workers) actors → Stands m workers w passes → Stands m workers (run_of m w actors) (passes_of m w passes actors)
+module _ {Item : Type 0} {is_item : Item → Bool} (m : Coding Item) (coded : CodingLaws is_item m)
+    (laws : (ss : List (Bool × Item)) → AllPass (is_seg_item is_item) ss → SumsLaws is_item m.join m.unit ss) (workers : ℕ) where
+  stands_run : (actors : List ℕ) (w : Scene Item) (passes : List (Pass Item)) → AllPass (is_seg_item is_item) w.sums → All (λ a. a < workers) actors
+      → Stands m workers w passes → Stands m workers (run_of m w actors) (passes_of m w passes actors)
   stands_run [] w passes items below stands = stands
   stands_run (a ∷ actors) w passes items below stands =
       let here : a < workers = All-head (λ b. b < workers) a actors below in
@@ -96,7 +100,8 @@ module _ {Item : Type 0} {is_item : Item → Bool} (m : Coding Item) (coded : Co
 -- ---- what follows of a world that stands
 
 -- as much is held as a sum over two lists, place by place
-pub sum_by_le : {X Y : Type 0} (f : X → ℕ) (g : Y → ℕ) (xs : List X) (ys : List Y) (d : X) (e : Y) → length xs ≡ length ys → ((a : ℕ) → a < length xs → f (get_or xs a d) ≤ g (get_or ys a e)) → sum_by f xs ≤ sum_by g ys
+pub sum_by_le : {X Y : Type 0} (f : X → ℕ) (g : Y → ℕ) (xs : List X) (ys : List Y) (d : X) (e : Y) → length xs ≡ length ys
+    → ((a : ℕ) → a < length xs → f (get_or xs a d) ≤ g (get_or ys a e)) → sum_by f xs ≤ sum_by g ys
 sum_by_le f g [] [] d e long each = omega arith
 sum_by_le f g [] (y ∷ ys) d e long each = absurd (omega arith)
 sum_by_le f g (x ∷ xs) [] d e long each = absurd (omega arith)
@@ -108,7 +113,8 @@ sum_by_le f g (x ∷ xs) (y ∷ ys) d e long each =
     omega arith
 
 -- a total that is above another is above it at some place
-some_above : {X Y : Type 0} (f : X → ℕ) (g : Y → ℕ) (xs : List X) (ys : List Y) (d : X) (e : Y) → length xs ≡ length ys → sum_by f xs < sum_by g ys → (a : ℕ) × (a < length ys) × (f (get_or xs a d) < g (get_or ys a e))
+some_above : {X Y : Type 0} (f : X → ℕ) (g : Y → ℕ) (xs : List X) (ys : List Y) (d : X) (e : Y) → length xs ≡ length ys → sum_by f xs < sum_by g ys → (a : ℕ)
+    × (a < length ys) × (f (get_or xs a d) < g (get_or ys a e))
 some_above f g [] [] d e long above = absurd (omega arith)
 some_above f g [] (y ∷ ys) d e long above = absurd (omega arith)
 some_above f g (x ∷ xs) [] d e long above = absurd (omega arith)
@@ -180,7 +186,10 @@ module _ {Item : Type 0} (m : Coding Item) (workers : ℕ) (w : Scene Item) (pas
     one_pass_each = stands.one_each;
   }
 
-pub world_after : {Item : Type 0} {is_item : Item → Bool} (m : Coding Item) (coded : CodingLaws is_item m) (laws : MonoidLaws (is_seg_item is_item) (seg_unit m.unit) (seg_join m.join)) (sums : List (Bool × Item)) (workers : ℕ) (actors : List ℕ) → AllPass (is_seg_item is_item) sums → All (λ a. a < workers) actors → IsWorld m sums workers (run_of m (new_scene sums workers) actors) (passes_of m (new_scene sums workers) (replicate workers (new_pass sums)) actors)
+pub world_after : {Item : Type 0} {is_item : Item → Bool} (m : Coding Item) (coded : CodingLaws is_item m)
+    (laws : (ss : List (Bool × Item)) → AllPass (is_seg_item is_item) ss → SumsLaws is_item m.join m.unit ss) (sums : List (Bool × Item)) (workers : ℕ) (actors : List ℕ)
+    → AllPass (is_seg_item is_item) sums → All (λ a. a < workers) actors
+    → IsWorld m sums workers (run_of m (new_scene sums workers) actors) (passes_of m (new_scene sums workers) (replicate workers (new_pass sums)) actors)
 world_after {Item = Item} m coded laws sums workers actors items below =
     let w = run_of m (new_scene sums workers) actors in
     let passes = passes_of m (new_scene sums workers) (replicate workers (new_pass sums)) actors in

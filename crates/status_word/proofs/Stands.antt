@@ -2,14 +2,14 @@
 -- Source: what the definitions of Worlds and Passes imply.
 use mathlib.Core.Option.{some}
 use lib.ListN.{get_elem?}
-use Rattle.std.proofs.Common.{◌≡◌, ◌≢◌, refl, sym, ap, ◌∙◌, subst, ℕ, zero, suc, ◌+◌, ◌-◌, ◌<◌, ◌≤◌, max, Bool, true, false, cond, eqb, ltb, List, [], ◌∷◌, length, take, drop, get_or, set, arith, length-set, ⊎_elim}
+use Rattle.std.proofs.Common.{◌≡◌, ◌≢◌, refl, sym, ap, ◌∙◌, subst, ℕ, zero, suc, ◌+◌, ◌-◌, ◌<◌, ◌≤◌, max, Bool, true, false, cond, eqb, ltb, List, [], ◌∷◌, length, take, drop, get_or, set, arith}
+use Rattle.std.proofs.Common.{length-set, ⊎_elim}
 use Rattle.std.specs.List.{AllPass}
 use Rattle.std.proofs.lemmas.List.{get_or-set_other, get_or-set_same}
 use Rattle.std.proofs.lemmas.Grind.{get_or-set_at}
 use Rattle.std.proofs.lemmas.Bool.{ltb-true, ltb-false}
 use Rattle.std.proofs.lemmas.Bool.Decides.{eqb_tells}
 use Rattle.cvl_base.specs.Folds.{fold_of}
-use Rattle.cvl_base.specs.Monoid.{MonoidLaws}
 use Rattle.cvl_base.specs.SegmentMonoid.{is_seg_item, seg_unit, seg_join}
 use Rattle.status_word.specs.declared.status.Status.{Status}
 use Rattle.status_word.specs.declared.status.Status.TheVariants.{Silent}
@@ -17,19 +17,18 @@ use Rattle.status_word.specs.declared.action.Action.TheVariants.{Claim, TellSum,
 use Rattle.status_word.specs.declared.action.Answer.TheVariants.{Tile, Done}
 use Rattle.status_word.specs.declared.local.Local.{Local}
 use Rattle.status_word.specs.declared.local.Local.TheVariants.{Ready, Summing, Looking, Helping, Publishing, Stopped}
-use Rattle.cvl_base.specs.TileSums.{own_sum, sums_before, sums_between}
+use Rattle.cvl_base.specs.TileSums.{own_sum, before_tile, between_tiles, SumsLaws}
 use Rattle.status_word.specs.Codings.{Coding, CodingLaws, told_of, code}
 use Rattle.status_word.specs.Locals.{action_of, next_of, after_look, added_up_to}
 use Rattle.status_word.specs.declared.pass.Pass.{Pass}
 use Rattle.status_word.specs.Hands.{times}
-use Rattle.status_word.specs.Passes.{new_pass, given_tile, told_done, looked, told_state, told_at, highest, IsKept}
+use Rattle.status_word.specs.Passes.{new_pass, given_tile, told_done, looked, told_state, told_at, highest, IsRuleKept}
 use Rattle.status_word.specs.RuleSteps.{AreRaised}
 use Rattle.status_word.specs.Worlds.{Scene, acted, passed, pass_after, words_after, prefix_of, held, IsRight}
 use Rattle.status_word.specs.Words.{state_of}
 use Rattle.status_word.proofs.Coded.{code_max, code_read}
 use Rattle.status_word.proofs.Kept.{claim_keeps, done_keeps, saw_keeps, tell_keeps}
 use Rattle.status_word.proofs.Places.{place_of}
-use Rattle.status_word.proofs.Sums.{front_more, run_more, front_split}
 
 -- how often a worker was told that no tile is left
 abbrev pub stops : {Item : Type 0} → Local Item → ℕ
@@ -54,14 +53,16 @@ pub record Stands {Item : Type 0} (m : Coding Item) (workers : ℕ) (w : Scene I
   pub actors : length w.locals ≡ workers
   pub one_each : length passes ≡ workers
   pub agree : (a : ℕ) → a < workers → Agrees m w.sums (get_or w.locals a Stopped) (get_or passes a (new_pass w.sums))
-  pub kept : IsKept (code m w.sums) w.sums workers w.claims (λ t. get_or w.words t 0) passes
+  pub kept : IsRuleKept (code m w.sums) w.sums workers w.claims (λ t. get_or w.words t 0) passes
 
 -- a worker that still holds what it held agrees with its pass, where no less is told
-still : {Item : Type 0} (m : Coding Item) (sums : List (Bool × Item)) (l next : Local Item) (p after : Pass Item) → Agrees m sums l p → IsRight m sums next → held next ≡ held l → stops next ≡ stops l → after.hand ≡ p.hand → after.sums ≡ p.sums → ((t : ℕ) → told_at t p ≤ told_at t after) → Agrees m sums next after
+still : {Item : Type 0} (m : Coding Item) (sums : List (Bool × Item)) (l next : Local Item) (p after : Pass Item) → Agrees m sums l p → IsRight m sums next
+    → held next ≡ held l → stops next ≡ stops l → after.hand ≡ p.hand → after.sums ≡ p.sums → ((t : ℕ) → told_at t p ≤ told_at t after) → Agrees m sums next after
 still m sums l next p after agrees right same_held same_stops same_hand same_sums more = record {
   right = right;
   holds = λ t. let h = agrees.holds t in let x = ap (times t) same_held in let y = ap (λ hand. times t hand.given) same_hand in omega arith;
-  told = λ t less. let x = ap (times t) same_held in let y = ap (λ hand. times t hand.given) same_hand in let lesser : times t (held l) < times t p.hand.given = omega arith in let h = agrees.told t lesser in let up = more t in omega arith;
+  told = λ t less. let x = ap (times t) same_held in let y = ap (λ hand. times t hand.given) same_hand in
+      let lesser : times t (held l) < times t p.hand.given = omega arith in let h = agrees.told t lesser in let up = more t in omega arith;
   done = ap (λ hand. hand.done) same_hand ∙ agrees.done ∙ sym same_stops;
   share = ap (λ hand. hand.share) same_hand ∙ agrees.share;
   tiles = same_sums ∙ agrees.tiles;
@@ -76,16 +77,21 @@ stops_added t zero sum = refl
 stops_added t (suc at) sum = refl
 
 -- the tiles from `at` to before t are added up
-right_added : {Item : Type 0} (m : Coding Item) (sums : List (Bool × Item)) (t at : ℕ) (sum : Bool × Item) → t < length sums → at ≤ t → sum ≡ sums_between m.join m.unit sums at t → IsRight m sums (added_up_to t at sum)
+right_added : {Item : Type 0} (m : Coding Item) (sums : List (Bool × Item)) (t at : ℕ) (sum : Bool × Item) → t < length sums → at ≤ t
+    → sum ≡ between_tiles m.join m.unit sums at t → IsRight m sums (added_up_to t at sum)
 right_added m sums t zero sum tile within same = let all : t - 0 ≡ t = omega arith in (tile, same ∙ ap (λ k. fold_of (seg_join m.join) (seg_unit m.unit) (take k sums)) all)
-right_added m sums t (suc at) sum tile within same = let next : suc at ≡ at + 1 = omega arith in (tile, omega arith, same ∙ ap (λ k. sums_between m.join m.unit sums k t) next)
+right_added m sums t (suc at) sum tile within same = let next : suc at ≡ at + 1 = omega arith in (tile, omega arith, same ∙ ap (λ k. between_tiles m.join m.unit sums k t) next)
 
-module _ {Item : Type 0} {is_item : Item → Bool} (m : Coding Item) (coded : CodingLaws is_item m) (laws : MonoidLaws (is_seg_item is_item) (seg_unit m.unit) (seg_join m.join)) (workers : ℕ) (w : Scene Item) (passes : List (Pass Item)) (items : AllPass (is_seg_item is_item) w.sums) (stands : Stands m workers w passes) (a : ℕ) (is_worker : a < workers) where
+module _ {Item : Type 0} {is_item : Item → Bool} (m : Coding Item) (coded : CodingLaws is_item m)
+    (laws : (ss : List (Bool × Item)) → AllPass (is_seg_item is_item) ss → SumsLaws is_item m.join m.unit ss) (workers : ℕ) (w : Scene Item) (passes : List (Pass Item))
+    (items : AllPass (is_seg_item is_item) w.sums) (stands : Stands m workers w passes) (a : ℕ) (is_worker : a < workers) where
   abbrev p : Pass Item
   p = get_or passes a (new_pass w.sums)
 
   -- one worker changes, and its pass with it
-  after : (claims : ℕ) (words : List ℕ) (l : Local Item) (q : Pass Item) → length words ≡ length w.sums → Agrees m w.sums l q → IsKept (code m w.sums) w.sums workers claims (λ t. get_or words t 0) (set passes a q) → Stands m workers (record { sums = w.sums; claims = claims; words = words; locals = set w.locals a l }) (set passes a q)
+  after : (claims : ℕ) (words : List ℕ) (l : Local Item) (q : Pass Item) → length words ≡ length w.sums → Agrees m w.sums l q
+      → IsRuleKept (code m w.sums) w.sums workers claims (λ t. get_or words t 0) (set passes a q)
+      → Stands m workers (record { sums = w.sums; claims = claims; words = words; locals = set w.locals a l }) (set passes a q)
   after claims words l q long agrees kept = record {
     long = long;
     actors = length-set w.locals a l ∙ stands.actors;
@@ -95,8 +101,10 @@ module _ {Item : Type 0} {is_item : Item → Bool} (m : Coding Item) (coded : Co
         let passed_on = stands.one_each in
         let P : Local Item → Type 0 = λ x. Agrees m w.sums x (get_or (set passes a q) b (new_pass w.sums)) in
         let Q : Local Item → Pass Item → Type 0 = λ x y. Agrees m w.sums x y in
-        ⊎_elim (λ (same : (eqb b a ≡ true) × (b ≡ a)). subst P (sym (get_or-set_at w.locals a b l Stopped same.1 (omega arith))) (subst (Q l) (sym (get_or-set_at passes a b q (new_pass w.sums) same.1 (omega arith))) agrees))
-        (λ (differ : (eqb b a ≡ false) × (b ≢ a)). subst P (sym (get_or-set_other w.locals a b l Stopped differ.1)) (subst (Q (get_or w.locals b Stopped)) (sym (get_or-set_other passes a b q (new_pass w.sums) differ.1)) (stands.agree b is_one)))
+        ⊎_elim (λ (same : (eqb b a ≡ true) × (b ≡ a)). subst P (sym (get_or-set_at w.locals a b l Stopped same.1 (omega arith)))
+            (subst (Q l) (sym (get_or-set_at passes a b q (new_pass w.sums) same.1 (omega arith))) agrees))
+        (λ (differ : (eqb b a ≡ false) × (b ≢ a)). subst P (sym (get_or-set_other w.locals a b l Stopped differ.1))
+            (subst (Q (get_or w.locals b Stopped)) (sym (get_or-set_other passes a b q (new_pass w.sums) differ.1)) (stands.agree b is_one)))
         (eqb_tells b a);
     kept = kept;
   }
@@ -113,7 +121,9 @@ module _ {Item : Type 0} {is_item : Item → Bool} (m : Coding Item) (coded : Co
   max_code : (t x y : ℕ) → max (code m w.sums t x) (code m w.sums t y) ≡ code m w.sums t (max x y)
   max_code = code_max m coded laws w.sums items
 
-  claimed : Agrees m w.sums Ready p → w.claims < length w.sums → Stands m workers (record { sums = w.sums; claims = w.claims + 1; words = w.words; locals = set w.locals a (Summing w.claims) }) (set passes a (given_tile p w.claims))
+  claimed : Agrees m w.sums Ready p → w.claims < length w.sums
+      → Stands m workers (record { sums = w.sums; claims = w.claims + 1; words = w.words; locals = set w.locals a (Summing w.claims) })
+      (set passes a (given_tile p w.claims))
   claimed agrees below =
       let next : Agrees m w.sums (Summing w.claims) (given_tile p w.claims) = record {
         right = below;
@@ -126,7 +136,8 @@ module _ {Item : Type 0} {is_item : Item → Bool} (m : Coding Item) (coded : Co
       after (w.claims + 1) w.words (Summing w.claims) (given_tile p w.claims) stands.long next
       (claim_keeps (code m w.sums) w.sums workers w.claims (w.claims + 1) words words passes a p stands.kept here below (omega (arith, agrees.share)) refl (λ t tile. refl)).0
 
-  stopped : Agrees m w.sums Ready p → length w.sums ≤ w.claims → Stands m workers (record { sums = w.sums; claims = w.claims + 1; words = w.words; locals = set w.locals a Stopped }) (set passes a (told_done p))
+  stopped : Agrees m w.sums Ready p → length w.sums ≤ w.claims
+      → Stands m workers (record { sums = w.sums; claims = w.claims + 1; words = w.words; locals = set w.locals a Stopped }) (set passes a (told_done p))
   stopped agrees past =
       let next : Agrees m w.sums Stopped (told_done p) = record {
         right = tt;
@@ -140,7 +151,9 @@ module _ {Item : Type 0} {is_item : Item → Bool} (m : Coding Item) (coded : Co
       (done_keeps (code m w.sums) w.sums workers w.claims (w.claims + 1) words words passes a p stands.kept here past (omega (arith, agrees.share, agrees.done)) refl (λ t tile. refl))
 
   -- a claim answers by the test of the claim word
-  ready_by : (b : Bool) → ltb w.claims (length w.sums) ≡ b → Agrees m w.sums Ready p → Stands m workers (record { sums = w.sums; claims = w.claims + 1; words = w.words; locals = set w.locals a (next_of m.join m.unit Ready (cond b (Tile w.claims) Done)) }) (set passes a (pass_after m p Claim (cond b (Tile w.claims) Done)))
+  ready_by : (b : Bool) → ltb w.claims (length w.sums) ≡ b → Agrees m w.sums Ready p
+      → Stands m workers (record { sums = w.sums; claims = w.claims + 1; words = w.words; locals =
+      set w.locals a (next_of m.join m.unit Ready (cond b (Tile w.claims) Done)) }) (set passes a (pass_after m p Claim (cond b (Tile w.claims) Done)))
   ready_by true test agrees = claimed agrees (ltb-true w.claims (length w.sums) test)
   ready_by false test agrees = stopped agrees (ltb-false w.claims (length w.sums) test)
 
@@ -152,12 +165,18 @@ module _ {Item : Type 0} {is_item : Item → Bool} (m : Coding Item) (coded : Co
       record { here = get_or-set_same w.words t v 0 (omega arith); others = λ x tile differ. get_or-set_other w.words t x v 0 differ }
 
   -- a state of tile t is told
-  told : (t rank : ℕ) → p.hand.share ≡ 1 → t < length w.sums → rank ≤ 2 → IsKept (code m w.sums) w.sums workers w.claims (λ x. get_or (set w.words t (max (get_or w.words t 0) (code m w.sums t rank))) x 0) (set passes a (told_state p t rank))
+  told : (t rank : ℕ) → p.hand.share ≡ 1 → t < length w.sums → rank ≤ 2
+      → IsRuleKept (code m w.sums) w.sums workers w.claims (λ x. get_or (set w.words t (max (get_or w.words t 0) (code m w.sums t rank))) x 0)
+      (set passes a (told_state p t rank))
   told t rank share below state =
-      tell_keeps (code m w.sums) max_code w.sums workers w.claims words (λ x. get_or (set w.words t (max (get_or w.words t 0) (code m w.sums t rank))) x 0) passes a p t rank stands.kept here (omega arith) below state (raised t rank below)
+      tell_keeps (code m w.sums) max_code w.sums workers w.claims words
+          (λ x. get_or (set w.words t (max (get_or w.words t 0) (code m w.sums t rank))) x 0) passes a p t rank stands.kept here (omega arith) below state
+          (raised t rank below)
 
   -- the sum of a tile is told
-  told_sum : (l next : Local Item) (t : ℕ) → Agrees m w.sums l p → t < length w.sums → IsRight m w.sums next → held next ≡ held l → stops next ≡ stops l → Stands m workers (record { sums = w.sums; claims = w.claims; words = words_after m w.sums w.words (TellSum t); locals = set w.locals a next }) (set passes a (told_state p t 1))
+  told_sum : (l next : Local Item) (t : ℕ) → Agrees m w.sums l p → t < length w.sums → IsRight m w.sums next → held next ≡ held l → stops next ≡ stops l
+      → Stands m workers (record { sums = w.sums; claims = w.claims; words = words_after m w.sums w.words (TellSum t); locals = set w.locals a next })
+      (set passes a (told_state p t 1))
   told_sum l next t agrees below right same_held same_stops =
       let agreed = still m w.sums l next p (told_state p t 1) agrees right same_held same_stops refl refl (λ x. omega arith) in
       after w.claims (words_after m w.sums w.words (TellSum t)) next (told_state p t 1)
@@ -165,10 +184,13 @@ module _ {Item : Type 0} {is_item : Item → Bool} (m : Coding Item) (coded : Co
       (told t 1 agrees.share below (omega arith))
 
   -- the prefix of a tile is told
-  told_prefix : (t : ℕ) (prior : Bool × Item) → Agrees m w.sums (Publishing t prior) p → Stands m workers (record { sums = w.sums; claims = w.claims; words = words_after m w.sums w.words (TellPrefix t prior); locals = set w.locals a Ready }) (set passes a (told_state p t 2))
+  told_prefix : (t : ℕ) (prior : Bool × Item) → Agrees m w.sums (Publishing t prior) p
+      → Stands m workers (record { sums = w.sums; claims = w.claims; words = words_after m w.sums w.words (TellPrefix t prior); locals = set w.locals a Ready })
+      (set passes a (told_state p t 2))
   told_prefix t prior agrees =
       let below : t < length w.sums = agrees.right.0 in
-      let sum : sums_before m.join m.unit w.sums (t + 1) ≡ seg_join m.join prior (own_sum m.unit w.sums t) = front_more laws w.sums items t below ∙ ap (λ s. seg_join m.join s (own_sum m.unit w.sums t)) (sym agrees.right.1) in
+      let sum : before_tile m.join m.unit w.sums (t + 1) ≡ seg_join m.join prior (own_sum m.unit w.sums t) = (laws w.sums items).before_next t below
+          ∙ ap (λ s. seg_join m.join s (own_sum m.unit w.sums t)) (sym agrees.right.1) in
       let agreed : Agrees m w.sums Ready (told_state p t 2) = record {
         right = tt;
         holds = λ x. omega arith;
@@ -183,24 +205,31 @@ module _ {Item : Type 0} {is_item : Item → Bool} (m : Coding Item) (coded : Co
         share = agrees.share;
         tiles = agrees.tiles;
       } in
-      let P : Bool × Item → Type 0 = λ s. Stands m workers (record { sums = w.sums; claims = w.claims; words = set w.words t (max (get_or w.words t 0) (m.pack (prefix_of m s))); locals = set w.locals a Ready }) (set passes a (told_state p t 2)) in
+      let P : Bool × Item → Type 0 = λ s. Stands m workers (record { sums = w.sums; claims = w.claims; words =
+          set w.words t (max (get_or w.words t 0) (m.pack (prefix_of m s))); locals = set w.locals a Ready }) (set passes a (told_state p t 2)) in
       subst P sum
       (after w.claims (set w.words t (max (get_or w.words t 0) (code m w.sums t 2))) Ready (told_state p t 2)
       (length-set w.words t (max (get_or w.words t 0) (code m w.sums t 2)) ∙ stands.long) agreed
       (told t 2 agrees.share below (omega arith)))
 
   -- a tile is looked at, and the status seen is one that was told
-  saw : (t at : ℕ) (sum : Bool × Item) (status : Status Item) → Agrees m w.sums (Looking t at sum) p → state_of status ≤ highest (told_at at) passes → IsRight m w.sums (after_look m.join t at sum status) → held (after_look m.join t at sum status) ≡ t ∷ [] → stops (after_look m.join t at sum status) ≡ 0 → Stands m workers (record { sums = w.sums; claims = w.claims; words = w.words; locals = set w.locals a (after_look m.join t at sum status) }) (set passes a (looked p at (state_of status)))
+  saw : (t at : ℕ) (sum : Bool × Item) (status : Status Item) → Agrees m w.sums (Looking t at sum) p → state_of status ≤ highest (told_at at) passes
+      → IsRight m w.sums (after_look m.join t at sum status) → held (after_look m.join t at sum status) ≡ t ∷ [] → stops (after_look m.join t at sum status) ≡ 0
+      → Stands m workers (record { sums = w.sums; claims = w.claims; words = w.words; locals = set w.locals a (after_look m.join t at sum status) })
+      (set passes a (looked p at (state_of status)))
   saw t at sum status agrees known right same_held same_stops =
       let agreed = still m w.sums (Looking t at sum) (after_look m.join t at sum status) p (looked p at (state_of status)) agrees right same_held same_stops refl refl (λ x. omega arith) in
       after w.claims w.words (after_look m.join t at sum status) (looked p at (state_of status)) stands.long agreed
       (saw_keeps (code m w.sums) w.sums workers w.claims words words passes a p at (state_of status) stands.kept here (omega (arith, agrees.share)) (λ x tile. refl) known)
 
   -- the sum of tile `at` before that of the tiles after it
-  one_more : (t at : ℕ) → t < length w.sums → at < t → (sum : Bool × Item) → sum ≡ sums_between m.join m.unit w.sums (at + 1) t → seg_join m.join (own_sum m.unit w.sums at) sum ≡ sums_between m.join m.unit w.sums at t
-  one_more t at tile less sum same = ap (seg_join m.join (own_sum m.unit w.sums at)) same ∙ sym (run_more laws w.sums items at t less (omega arith))
+  one_more : (t at : ℕ) → t < length w.sums → at < t → (sum : Bool × Item) → sum ≡ between_tiles m.join m.unit w.sums (at + 1) t
+      → seg_join m.join (own_sum m.unit w.sums at) sum ≡ between_tiles m.join m.unit w.sums at t
+  one_more t at tile less sum same = ap (seg_join m.join (own_sum m.unit w.sums at)) same ∙ sym ((laws w.sums items).one_more at t less (omega arith))
 
-  saw_told : (t at : ℕ) (sum : Bool × Item) (rank : ℕ) → rank ≡ highest (told_at at) passes → Agrees m w.sums (Looking t at sum) p → Stands m workers (record { sums = w.sums; claims = w.claims; words = w.words; locals = set w.locals a (after_look m.join t at sum (told_of m.join m.unit w.sums at rank)) }) (set passes a (looked p at (state_of (told_of m.join m.unit w.sums at rank))))
+  saw_told : (t at : ℕ) (sum : Bool × Item) (rank : ℕ) → rank ≡ highest (told_at at) passes → Agrees m w.sums (Looking t at sum) p
+      → Stands m workers (record { sums = w.sums; claims = w.claims; words = w.words; locals =
+      set w.locals a (after_look m.join t at sum (told_of m.join m.unit w.sums at rank)) }) (set passes a (looked p at (state_of (told_of m.join m.unit w.sums at rank))))
   saw_told t at sum zero top agrees = saw t at sum Silent agrees (omega arith) agrees.right refl refl
   saw_told t at sum (suc zero) top agrees =
       saw t at sum (told_of m.join m.unit w.sums at 1) agrees (omega arith)
@@ -210,15 +239,18 @@ module _ {Item : Type 0} {is_item : Item → Bool} (m : Coding Item) (coded : Co
   saw_told t at sum (suc (suc rank)) top agrees =
       let next : at + 1 ≤ t = omega (arith, agrees.right.1) in
       saw t at sum (told_of m.join m.unit w.sums at (suc (suc rank))) agrees (omega arith)
-      (agrees.right.0, ap (seg_join m.join (sums_before m.join m.unit w.sums (at + 1))) agrees.right.2 ∙ front_split laws w.sums items (at + 1) t next)
+      (agrees.right.0, ap (seg_join m.join (before_tile m.join m.unit w.sums (at + 1))) agrees.right.2 ∙ (laws w.sums items).met (at + 1) t next)
       refl refl
 
-  looking : (t at : ℕ) (sum : Bool × Item) → Agrees m w.sums (Looking t at sum) p → Stands m workers (record { sums = w.sums; claims = w.claims; words = w.words; locals = set w.locals a (after_look m.join t at sum (m.read (get_or w.words at 0))) }) (set passes a (looked p at (state_of (m.read (get_or w.words at 0)))))
+  looking : (t at : ℕ) (sum : Bool × Item) → Agrees m w.sums (Looking t at sum) p
+      → Stands m workers (record { sums = w.sums; claims = w.claims; words = w.words; locals =
+      set w.locals a (after_look m.join t at sum (m.read (get_or w.words at 0))) }) (set passes a (looked p at (state_of (m.read (get_or w.words at 0)))))
   looking t at sum agrees =
       let rank = highest (told_at at) passes in
       let tile : at < length w.sums = omega (arith, agrees.right.0, agrees.right.1) in
       let status : told_of m.join m.unit w.sums at rank ≡ m.read (get_or w.words at 0) = sym (ap m.read (stands.kept.words at tile) ∙ code_read m coded laws w.sums items at rank) in
-      let P : Status Item → Type 0 = λ s. Stands m workers (record { sums = w.sums; claims = w.claims; words = w.words; locals = set w.locals a (after_look m.join t at sum s) }) (set passes a (looked p at (state_of s))) in
+      let P : Status Item → Type 0 = λ s. Stands m workers (record { sums = w.sums; claims = w.claims; words = w.words; locals =
+          set w.locals a (after_look m.join t at sum s) }) (set passes a (looked p at (state_of s))) in
       subst P status (saw_told t at sum rank refl agrees)
 
   -- the step of a worker in any state that agrees with its pass
@@ -229,7 +261,7 @@ module _ {Item : Type 0} {is_item : Item → Bool} (m : Coding Item) (coded : Co
       (right_added m w.sums t t (seg_unit m.unit) agrees.right (omega arith) (none_between t))
       (held_added t t (seg_unit m.unit)) (stops_added t t (seg_unit m.unit))
     where
-      none_between : (t : ℕ) → seg_unit m.unit ≡ sums_between m.join m.unit w.sums t t
+      none_between : (t : ℕ) → seg_unit m.unit ≡ between_tiles m.join m.unit w.sums t t
       none_between t = let none : 0 ≡ t - t = omega arith in ap (λ k. fold_of (seg_join m.join) (seg_unit m.unit) (take k (drop t w.sums))) none
   stepped (Looking t at sum) agrees = looking t at sum agrees
   stepped (Helping t at sum) agrees =

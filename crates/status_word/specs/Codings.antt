@@ -1,8 +1,9 @@
 -- How a monoid's statuses are kept as words, and the words that are lawful at a tile.
 -- Source: the status words of Merrill and Garland, Single-pass Parallel Prefix Scan with Decoupled Look-back, 2016.
-use Rattle.std.specs.Prelude.{◌≡◌, ℕ, zero, suc, ◌+◌, ◌-◌, ◌<◌, ◌≤◌, ◌^◌, max, ℤ, Bool, IsTrue, List, length, take, drop, slice_index_or, Option, Some, None}
+use Rattle.std.specs.Prelude.{◌≡◌, ℕ, zero, suc, ◌+◌, ◌-◌, ◌<◌, ◌≤◌, ◌^◌, max, ℤ, Bool, IsTrue, List, length, take, drop, slice_index_or}
+use Rattle.std.specs.Prelude.{Option, Some, None}
 use Rattle.cvl_base.specs.SegmentMonoid.{is_seg_item, seg_unit, seg_join}
-use Rattle.cvl_base.specs.TileSums.{own_sum, sums_before, sums_upto, sums_between}
+use Rattle.cvl_base.specs.TileSums.{own_sum, upto_tile}
 use Rattle.status_word.specs.declared.status.Status.{Status}
 use Rattle.status_word.specs.declared.status.Status.TheVariants.{Silent, Sum, Prefix}
 use Rattle.status_word.specs.Locals.{is_item_status}
@@ -20,7 +21,8 @@ pub record CodingLaws {Item : Type 0} (is_item : Item → Bool) (m : Coding Item
   pub silent : m.pack Silent ≡ 0
   pub fits : (status : Status Item) → IsTrue (is_item_status is_item status) → m.pack status < 2 ^ 64
   pub read_pack : (status : Status Item) → IsTrue (is_item_status is_item status) → m.read (m.pack status) ≡ status
-  pub ascending : (lower upper : Status Item) → IsTrue (is_item_status is_item lower) → IsTrue (is_item_status is_item upper) → state_of lower < state_of upper → m.pack lower < m.pack upper
+  pub ascending : (lower upper : Status Item) → IsTrue (is_item_status is_item lower) → IsTrue (is_item_status is_item upper)
+      → state_of lower < state_of upper → m.pack lower < m.pack upper
 
 abbrev pub status_by : {X Y : Type 0} → (X → Y) → Status X → Status Y
 status_by f Silent = Silent
@@ -41,14 +43,15 @@ coding_of join unit to_word from_word = record {
 }
 
 -- the words of a monoid in a clause, as `coding M.Packed`
-abbrev pub coding : {Item : Type 0} → record { is_item : Item → Bool; unit : Item; join : Item → Item → Item; to_word : Item → ℤ; from_word : ℤ → Item } → Coding Item
+abbrev pub coding : {Item : Type 0}
+    → record { is_item : Item → Bool; unit : Item; join : Item → Item → Item; to_word : Item → ℤ; from_word : ℤ → Item } → Coding Item
 coding m = coding_of m.join m.unit m.to_word m.from_word
 
 -- what a word tells of tile t in each state: nothing, the tile's sum, the sum of the tiles up to it. Each tile is given by its sum
 abbrev pub told_of : {Item : Type 0} → (Item → Item → Item) → Item → List (Bool × Item) → ℕ → ℕ → Status Item
 told_of join unit sums t zero = Silent
 told_of join unit sums t (suc zero) = Sum (own_sum unit sums t).0 (own_sum unit sums t).1
-told_of join unit sums t (suc (suc rank)) = Prefix (sums_upto join unit sums t).0 (sums_upto join unit sums t).1
+told_of join unit sums t (suc (suc rank)) = Prefix (upto_tile join unit sums t).0 (upto_tile join unit sums t).1
 
 -- the lawful words of tile t, by the state
 abbrev pub code : {Item : Type 0} → Coding Item → List (Bool × Item) → ℕ → ℕ → ℕ
@@ -63,15 +66,3 @@ pub record CodeLaws {Item : Type 0} (is_item : Item → Bool) (m : Coding Item) 
   pub items : (t rank : ℕ) → IsTrue (is_item_status is_item (told_of m.join m.unit sums t rank))
   -- a status that is told of its tile has the state of its word
   pub states : (t rank : ℕ) → rank ≤ 2 → state_of (told_of m.join m.unit sums t rank) ≡ rank
-
--- how a look-back nears the tiles before tile t: it starts from no tile, takes one tile more in front, and is done at a tile before which the sum is known
-pub record SumsLaws {Item : Type 0} (is_item : Item → Bool) (join : Item → Item → Item) (unit : Item) (sums : List (Bool × Item)) : Type 0 where
-  pub own : (t : ℕ) → IsTrue (is_seg_item is_item (own_sum unit sums t))
-  pub exclusive : (t : ℕ) → IsTrue (is_seg_item is_item (sums_before join unit sums t))
-  pub middle : (first t : ℕ) → IsTrue (is_seg_item is_item (sums_between join unit sums first t))
-  pub none_before : sums_before join unit sums 0 ≡ seg_unit unit
-  pub before_next : (t : ℕ) → t < length sums → sums_before join unit sums (t + 1) ≡ seg_join join (sums_before join unit sums t) (own_sum unit sums t)
-  pub none_between : (t : ℕ) → sums_between join unit sums t t ≡ seg_unit unit
-  pub one_more : (first t : ℕ) → first < t → t ≤ length sums → sums_between join unit sums first t ≡ seg_join join (own_sum unit sums first) (sums_between join unit sums (first + 1) t)
-  pub met : (first t : ℕ) → first ≤ t → seg_join join (sums_before join unit sums first) (sums_between join unit sums first t) ≡ sums_before join unit sums t
-  pub all_between : (t : ℕ) → sums_between join unit sums 0 t ≡ sums_before join unit sums t

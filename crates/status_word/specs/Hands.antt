@@ -1,5 +1,7 @@
--- The tiles given to workers, the workers' shares, and their marks that no tile is left: what the passes of every board have, whatever its words tell.
--- Source: the claim counter of Merrill and Garland, Single-pass Parallel Prefix Scan with Decoupled Look-back, 2016: each claim takes the next number.
+-- The tiles given to workers, the workers' shares, and their marks that no tile is left: what the passes of every board have, whatever its
+-- words tell.
+-- Source: the claim counter of Merrill and Garland, Single-pass Parallel Prefix Scan with Decoupled Look-back, 2016: each claim takes the
+-- next number.
 use Rattle.std.specs.Prelude.{◌≡◌, ℕ, ◌+◌, ◌-◌, ◌<◌, ◌≤◌, ◌==◌, min, List, [], ◌∷◌, ◌++◌, length, nat_lt, if◌then◌else◌}
 use Rattle.std.specs.List.{sum_by}
 use mathlib.Core.Option.{some}

@@ -1,6 +1,6 @@
 -- What a worker of a single-pass scan does: its step in each of its states, and the state that follows on the step's answer.
--- Source: the decoupled look-back of Merrill and Garland, Single-pass Parallel Prefix Scan with Decoupled Look-back, 2016. That a worker adds
--- up a tile of which nothing is told yet, in place of waiting for it, is this library's profile.
+-- Source: the decoupled look-back of Merrill and Garland, Single-pass Parallel Prefix Scan with Decoupled Look-back, 2016. That a worker
+-- adds up a tile of which nothing is told yet, in place of waiting for it, is this library's profile.
 use Rattle.std.specs.Prelude.{ℕ, zero, suc, Bool, true, Option, Some, None}
 use Rattle.cvl_base.specs.SegmentMonoid.{seg_unit, seg_join}
 use Rattle.status_word.specs.declared.status.Status.{Status}

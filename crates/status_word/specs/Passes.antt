@@ -51,8 +51,14 @@ module _ {Item : Type 0} where
   split_right p = new_pass p.sums
 
   -- two passes are made one
-  abbrev pub joined : Pass Item → Pass Item → Pass Item
-  joined p other = record { sums = p.sums; hand = hands_joined p.hand other.hand; told = p.told ++ other.told; seen = p.seen ++ other.seen; looks = p.looks + other.looks }
+  abbrev pub passes_joined : Pass Item → Pass Item → Pass Item
+  passes_joined p other = record {
+    sums = p.sums;
+    hand = hands_joined p.hand other.hand;
+    told = p.told ++ other.told;
+    seen = p.seen ++ other.seen;
+    looks = p.looks + other.looks;
+  }
 
   -- ---- what a pass says of tile t
 
@@ -79,7 +85,8 @@ pub record IsFair {Item : Type 0} (sums : List (Bool × Item)) (p : Pass Item) :
   pub empty : p.hand.share ≡ 0 → (p.told ≡ []) × (p.seen ≡ []) × (p.looks ≡ 0)
 
 -- The rule of a scan board, over the claim word, the word of each tile and all passes; `code t r` is the word of state r at tile t.
-pub record IsKept {Item : Type 0} (code : ℕ → ℕ → ℕ) (sums : List (Bool × Item)) (workers claims : ℕ) (word : ℕ → ℕ) (passes : List (Pass Item)) : Type 0 where
+pub record IsRuleKept {Item : Type 0} (code : ℕ → ℕ → ℕ) (sums : List (Bool × Item)) (workers claims : ℕ) (word : ℕ → ℕ)
+    (passes : List (Pass Item)) : Type 0 where
   -- each word is lawful at its tile, and tells the highest state that any pass told
   pub words : (t : ℕ) → t < length sums → word t ≡ code t (highest (told_at t) passes)
   -- which is one of the three

@@ -1,5 +1,6 @@
 -- The worlds that steps of the workers reach from a new one, and what each step needs.
--- Source: the decoupled look-back of Merrill and Garland, Single-pass Parallel Prefix Scan with Decoupled Look-back, 2016, as an interleaving of atomic steps.
+-- Source: the decoupled look-back of Merrill and Garland, Single-pass Parallel Prefix Scan with Decoupled Look-back, 2016, as an
+-- interleaving of atomic steps.
 use Rattle.std.specs.Prelude.{◌≡◌, ℕ, ◌<◌, ◌≤◌, ◌^◌, Bool, List, length, IsTrue, Option, Some, None}
 use Rattle.std.specs.List.{All, AllPass}
 use Rattle.cvl_base.specs.Limits.{most_elements}
@@ -34,7 +35,8 @@ abbrev pub CanTell : {Item : Type 0} → (Item → Bool) → Coding Item → Lis
 CanTell is_item m sums words Claim = Unit {0}
 CanTell is_item m sums words (Look at) = Unit {0}
 CanTell is_item m sums words (TellSum t) = (t < length sums) × (t < length words) × IsTrue (is_item (own_sum m.unit sums t).1)
-CanTell is_item m sums words (TellPrefix t prior) = (t < length sums) × (t < length words) × IsTrue (is_item (own_sum m.unit sums t).1) × IsTrue (is_item prior.1)
+CanTell is_item m sums words (TellPrefix t prior) = (t < length sums) × (t < length words) × IsTrue (is_item (own_sum m.unit sums t).1)
+    × IsTrue (is_item prior.1)
 
 -- a world that some list of its workers reaches from a new one
 pub record IsReached {Item : Type 0} (is_item : Item → Bool) (m : Coding Item) (w : Scene Item) : Type 0 where

@@ -1,6 +1,7 @@
 -- Statuses as words of 64 bits: bits 63 and 62 hold the state (0 silent, 1 sum, 2 prefix), bit 61 the flag, bits 31 to 0 the value in
 -- two's complement, and all others are 0.
--- Source: the status words of Merrill and Garland, Single-pass Parallel Prefix Scan with Decoupled Look-back, 2016; the layout is this library's profile.
+-- Source: the status words of Merrill and Garland, Single-pass Parallel Prefix Scan with Decoupled Look-back, 2016; the layout is this
+-- library's profile.
 use Rattle.std.specs.Prelude.{ℕ, ◌+◌, ◌*◌, ◌/◌, ◌%◌, ◌^◌, Bool, if◌then◌else◌, nat_lt, ◌==◌, ℤ, FitsSigned, Option, Some, None}
 use Rattle.std.specs.Int.{w32, cast_signed, cast_unsigned}
 use Rattle.status_word.specs.declared.status.Status.{Status}
@@ -40,7 +41,8 @@ read_rest rest = if nat_lt (rest % flag_place) (2 ^ 32) then Some (rest / flag_p
 
 abbrev pub with_state : ℕ → Option (Bool × ℤ) → Option (Status ℤ)
 with_state state None = None
-with_state state (Some (flag, value)) = if state == 1 then Some (Sum flag value) else (if state == 2 then Some (Prefix flag value) else None)
+with_state state (Some (flag, value)) =
+    if state == 1 then Some (Sum flag value) else (if state == 2 then Some (Prefix flag value) else None)
 
 -- the status of a word, and none for a word that is no status's
 abbrev pub read_word : ℕ → Option (Status ℤ)

@@ -1,4 +1,5 @@
--- Worked passes over two tiles: one worker was given tile 0, told its sum and saw its prefix; the other was given tile 1, and then told that no tile is left.
+-- Worked passes over two tiles: one worker was given tile 0, told its sum and saw its prefix; the other was given tile 1, and then told
+-- that no tile is left.
 use Rattle.std.specs.Prelude.{ℤ}
 use Rattle.status_word.specs.declared.pass.Pass.{Pass}
 use Rattle.status_word.specs.Passes.{new_pass, given_tile, told_done, looked, told_state}

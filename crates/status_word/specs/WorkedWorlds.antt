@@ -34,7 +34,7 @@ abbrev pub empty_steps : List ℕ → ℕ
 empty_steps actors = steps_of additions (new_scene [] 3) actors
 
 -- all workers have stopped, and the claim word and the words are these
-pub record IsEnd (w : Scene ℤ) (claims : ℕ) (words : List ℕ) (workers : ℕ) : Type 0 where
+pub record AllStopped (w : Scene ℤ) (claims : ℕ) (words : List ℕ) (workers : ℕ) : Type 0 where
   pub claimed : w.claims ≡ claims
   pub told : w.words ≡ words
   pub stopped : w.locals ≡ replicate workers Stopped

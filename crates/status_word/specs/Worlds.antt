@@ -1,7 +1,9 @@
 -- The world of workers: a claim word, a word for each tile, and the state of each worker. One step of one worker is its row of the table of
 -- states: one atomic step on one word.
--- Source: the decoupled look-back of Merrill and Garland, Single-pass Parallel Prefix Scan with Decoupled Look-back, 2016, as an interleaving of atomic steps.
-use Rattle.std.specs.Prelude.{◌≡◌, ℕ, zero, suc, ◌+◌, ◌-◌, ◌*◌, ◌<◌, ◌≤◌, max, Bool, List, [], ◌∷◌, length, nat_lt, if◌then◌else◌, slice_index, slice_index_or, slice_set, replicate, Option, Some, None}
+-- Source: the decoupled look-back of Merrill and Garland, Single-pass Parallel Prefix Scan with Decoupled Look-back, 2016, as an
+-- interleaving of atomic steps.
+use Rattle.std.specs.Prelude.{◌≡◌, ℕ, zero, suc, ◌+◌, ◌-◌, ◌*◌, ◌<◌, ◌≤◌, max, Bool, List, [], ◌∷◌, length, nat_lt, if◌then◌else◌}
+use Rattle.std.specs.Prelude.{slice_index, slice_index_or, slice_set, replicate, Option, Some, None}
 use Rattle.std.specs.List.{sum_by}
 use Rattle.cvl_base.specs.SegmentMonoid.{seg_join}
 use Rattle.status_word.specs.declared.status.Status.{Status}
@@ -12,12 +14,12 @@ use Rattle.status_word.specs.declared.action.Answer.{Answer}
 use Rattle.status_word.specs.declared.action.Answer.TheVariants.{Tile, Done, Saw, Told}
 use Rattle.status_word.specs.declared.local.Local.{Local}
 use Rattle.status_word.specs.declared.local.Local.TheVariants.{Ready, Summing, Looking, Helping, Publishing, Stopped}
-use Rattle.cvl_base.specs.TileSums.{own_sum, sums_before, sums_between}
+use Rattle.cvl_base.specs.TileSums.{own_sum, before_tile, between_tiles}
 use Rattle.status_word.specs.Codings.{Coding, code}
 use Rattle.status_word.specs.Locals.{action_of, next_of}
 use Rattle.status_word.specs.declared.pass.Pass.{Pass}
 use Rattle.status_word.specs.Hands.{times}
-use Rattle.status_word.specs.Passes.{new_pass, given_tile, told_done, looked, told_state, IsKept}
+use Rattle.status_word.specs.Passes.{new_pass, given_tile, told_done, looked, told_state, IsRuleKept}
 use Rattle.status_word.specs.Words.{state_of}
 
 -- a world: each tile's sum, the claim word, the word of each tile, and the state of each worker
@@ -54,7 +56,8 @@ module _ {Item : Type 0} (m : Coding Item) where
   -- both tells leave the greater of the two words
   abbrev pub words_after : List (Bool × Item) → List ℕ → Action Item → List ℕ
   words_after sums words (TellSum t) = slice_set words t (max (slice_index words t) (m.pack (status_of (own_sum m.unit sums t))))
-  words_after sums words (TellPrefix t prior) = slice_set words t (max (slice_index words t) (m.pack (prefix_of (seg_join m.join prior (own_sum m.unit sums t)))))
+  words_after sums words (TellPrefix t prior) = slice_set words t
+      (max (slice_index words t) (m.pack (prefix_of (seg_join m.join prior (own_sum m.unit sums t)))))
   words_after sums words action = words
 
   -- the step of a worker in the state `local`
@@ -85,7 +88,8 @@ module _ {Item : Type 0} (m : Coding Item) where
 
   abbrev pub passed : Scene Item → ℕ → List (Pass Item) → Option (Action Item) → List (Pass Item)
   passed w actor passes None = passes
-  passed w actor passes (Some action) = slice_set passes actor (pass_after (slice_index_or passes actor (new_pass w.sums)) action (answer_of w.sums w.claims w.words action))
+  passed w actor passes (Some action) = slice_set passes actor
+      (pass_after (slice_index_or passes actor (new_pass w.sums)) action (answer_of w.sums w.claims w.words action))
 
   -- the passes of the workers after a list of them took their steps
   abbrev pub passes_of : Scene Item → List (Pass Item) → List ℕ → List (Pass Item)
@@ -139,9 +143,9 @@ held Stopped = []
 abbrev pub IsRight : {Item : Type 0} → Coding Item → List (Bool × Item) → Local Item → Type 0
 IsRight m sums Ready = Unit {0}
 IsRight m sums (Summing t) = t < length sums
-IsRight m sums (Looking t at after) = (t < length sums) × (at < t) × (after ≡ sums_between m.join m.unit sums (at + 1) t)
-IsRight m sums (Helping t at after) = (t < length sums) × (at < t) × (after ≡ sums_between m.join m.unit sums (at + 1) t)
-IsRight m sums (Publishing t prior) = (t < length sums) × (prior ≡ sums_before m.join m.unit sums t)
+IsRight m sums (Looking t at after) = (t < length sums) × (at < t) × (after ≡ between_tiles m.join m.unit sums (at + 1) t)
+IsRight m sums (Helping t at after) = (t < length sums) × (at < t) × (after ≡ between_tiles m.join m.unit sums (at + 1) t)
+IsRight m sums (Publishing t prior) = (t < length sums) × (prior ≡ before_tile m.join m.unit sums t)
 IsRight m sums Stopped = Unit {0}
 
 -- how many workers hold tile t
@@ -152,7 +156,8 @@ abbrev pub word_at : {Item : Type 0} → Scene Item → ℕ → ℕ
 word_at w t = slice_index w.words t
 
 -- What is true of a world and of its workers' passes, whatever steps they took since it was new.
-pub record IsWorld {Item : Type 0} (m : Coding Item) (sums : List (Bool × Item)) (workers : ℕ) (w : Scene Item) (passes : List (Pass Item)) : Type 0 where
+pub record IsWorld {Item : Type 0} (m : Coding Item) (sums : List (Bool × Item)) (workers : ℕ) (w : Scene Item)
+    (passes : List (Pass Item)) : Type 0 where
   pub same_sums : w.sums ≡ sums
   pub as_many_words : length w.words ≡ length sums
   pub as_many_locals : length w.locals ≡ workers
@@ -167,7 +172,7 @@ pub record IsWorld {Item : Type 0} (m : Coding Item) (sums : List (Bool × Item)
   -- so all tiles have theirs once all workers have stopped
   pub ended : 1 ≤ workers → ((a : ℕ) → a < workers → local_at w a ≡ Stopped) → (t : ℕ) → t < length sums → word_at w t ≡ code m sums t 2
   -- what the workers did, each as a pass of share 1, keeps the scan board's rule
-  pub passed_on : IsKept (code m sums) sums workers w.claims (word_at w) passes
+  pub passed_on : IsRuleKept (code m sums) sums workers w.claims (word_at w) passes
   pub one_pass_each : length passes ≡ workers
 
 -- the same of a new world in which these workers took their steps, one after another

@@ -2,18 +2,19 @@
 
 ghost use Rattle.std.specs.Prelude.{◌≡◌, ℕ, ◌+◌, ◌-◌, ◌*◌, ◌<◌, ◌^◌, ℤ, pos, negsuc, Bool, true, false, FitsSigned, Some, None, List, [], ◌∷◌, ◌++◌, length, replicate};
 ghost use Rattle.std.specs.List.{All, AllPass};
-ghost use Rattle.cvl_base.specs.SegmentMonoid.{is_seg_item, seg_join, seg_unit};
-ghost use Rattle.cvl_base.specs.Monoid.{MonoidLaws};
+ghost use Rattle.cvl_base.specs.SegmentMonoid.{is_seg_item};
+ghost use Rattle.cvl_base.specs.TileSums.{SumsLaws};
 ghost use Rattle.std.specs.Int.{w32};
 ghost use Rattle.status_word.specs.declared.status.Status.{Status};
 ghost use Rattle.status_word.specs.declared.status.Status.TheVariants as status;
-ghost use Rattle.status_word.specs.Codings.{CodingLaws, coding_of};
+ghost use Rattle.status_word.specs.Codings.{CodingLaws, coding};
 ghost use Rattle.status_word.specs.Words.{read_word, word_of, state_of, FitsWord};
-ghost use Rattle.status_word.specs.WorkedWorlds.{IsEnd, empty_steps, empty_world, worked_steps, worked_turns, worked_words, worked_world};
+ghost use Rattle.status_word.specs.WorkedWorlds.{AllStopped, empty_steps, empty_world, worked_steps, worked_turns, worked_words, worked_world};
 ghost use Rattle.status_word.specs.Worlds.{IsWorldAfter, LowersBy, RunLowers, Scene, left_of, new_scene};
 
-use cvl_base::monoid::{know_laws, know_words};
-use cvl_base::{Packed, Seg};
+use cvl_base::Packed;
+use cvl_base::monoid::know_words;
+use cvl_base::tile_sums::know_sums;
 
 /// Packing and reading a word are inverse, a word has 64 bits, and a lesser state has a lesser word.
 pub fn word_law()
@@ -35,14 +36,14 @@ pub fn word_values()
     ensures of_state_three { read_word 13835058055282163712 ≡ None }
 {}
 
-/// That the words of a packed monoid ascend with their states and are read again, and that its sums are a monoid.
+/// That the words of a packed monoid ascend with their states and are read again, and how its sums hang together.
 pub(crate) fn know_coding<M: Packed>()
-    ensures coded { CodingLaws M.is_item (coding_of M.join M.unit M.to_word M.from_word) }
-    ensures sums { MonoidLaws (is_seg_item M.is_item) (seg_unit M.unit) (seg_join M.join) }
+    ensures coded { CodingLaws M.is_item (coding M.Packed) }
+    ensures sums { (sums : List (Bool × M.Item)) → AllPass (is_seg_item M.is_item) sums → SumsLaws M.is_item M.join M.unit sums }
 {
     word_law();
-    know_laws::<Seg<M>>();
     know_words::<M>();
+    know_sums::<M>();
 }
 
 /// The world of workers, for each monoid with words, all sums of tiles and every list of the workers that take a step: each
@@ -53,7 +54,7 @@ pub(crate) fn know_coding<M: Packed>()
 pub fn world_law<M: Packed>()
     ensures { (sums : List (Bool × M.Item)) (workers : ℕ) (actors : List ℕ) →
         AllPass (is_seg_item M.is_item) sums → All (λ a. a < workers) actors →
-        IsWorldAfter (coding_of M.join M.unit M.to_word M.from_word) sums workers actors }
+        IsWorldAfter (coding M.Packed) sums workers actors }
 {
     know_coding::<M>();
 }
@@ -62,9 +63,9 @@ pub fn world_law<M: Packed>()
 /// its start less those that are left at its end; in a new world of n tiles and W workers these are 3n + n(n-1) + W.
 pub fn left_law<M: Packed>()
     ensures lowered { (w : Scene M.Item) (actor : ℕ) → actor < length w.locals →
-        LowersBy (coding_of M.join M.unit M.to_word M.from_word) w actor }
+        LowersBy (coding M.Packed) w actor }
     ensures run { (w : Scene M.Item) (actors : List ℕ) → All (λ a. a < length w.locals) actors →
-        RunLowers (coding_of M.join M.unit M.to_word M.from_word) w actors }
+        RunLowers (coding M.Packed) w actors }
     ensures first { (sums : List (Bool × M.Item)) (workers : ℕ) →
         left_of (new_scene sums workers)
         ≡ 3 * length sums + length sums * (length sums - 1) + workers }
@@ -73,13 +74,13 @@ pub fn left_law<M: Packed>()
 /// Worked values of the world. Over two tiles with the sums 5 and 7 two workers take ten steps in all, after which neither
 /// takes a further one, and one worker takes eight. With no tile, each of three workers takes one.
 pub fn world_values()
-    ensures two_workers { IsEnd (worked_world 2 worked_turns) 4 worked_words 2 }
+    ensures two_workers { AllStopped (worked_world 2 worked_turns) 4 worked_words 2 }
     ensures ten_steps { worked_steps 2 worked_turns ≡ 10 }
     ensures no_more_steps { worked_steps 2 (worked_turns ++ (0 ∷ (1 ∷ []))) ≡ 10 }
-    ensures one_worker { IsEnd (worked_world 1 (replicate 12 0)) 3 worked_words 1 }
+    ensures one_worker { AllStopped (worked_world 1 (replicate 12 0)) 3 worked_words 1 }
     ensures eight_steps { worked_steps 1 (replicate 12 0) ≡ 8 }
     ensures words { worked_words
         ≡ word_of (status.Prefix false (pos 5)) ∷ (word_of (status.Prefix false (pos 12)) ∷ []) }
-    ensures no_tile { IsEnd (empty_world (0 ∷ (1 ∷ (2 ∷ (0 ∷ []))))) 3 [] 3 }
+    ensures no_tile { AllStopped (empty_world (0 ∷ (1 ∷ (2 ∷ (0 ∷ []))))) 3 [] 3 }
     ensures three_steps { empty_steps (0 ∷ (1 ∷ (2 ∷ (0 ∷ [])))) ≡ 3 }
 {}

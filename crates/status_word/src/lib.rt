@@ -18,7 +18,7 @@ pub use items::{pack_status, read_status};
 pub use laws::{left_law, word_law, word_values, world_law, world_values};
 pub use local::{Local, next};
 pub use pass::{Hand, Mark, Pass};
-pub use rules::{code_law, hand_law, pass_values, rule_law, sums_law};
+pub use rules::{code_law, hand_law, pass_values, rule_law};
 pub use status::Status;
 pub use word::{pack, unpack};
 pub use world::{Stepped, World};

@@ -56,7 +56,7 @@ pub fn next<M: Monoid>(local: Local<M::Item>, answer: Answer<M::Item>) -> Local<
         (Local::Ready, Answer::Done) => Local::Stopped,
         (Local::Summing(tile), Answer::Told(_)) => added_up::<M>(tile, tile, (false, M::unit())),
         (Local::Looking(tile, at, after), Answer::Saw(status)) => {
-            looked::<M>(tile, at, after, status)
+            after_seeing::<M>(tile, at, after, status)
         }
         (Local::Helping(tile, at, after), Answer::Told(sum)) => {
             added_up::<M>(tile, at, Seg::<M>::join(sum, after))
@@ -78,7 +78,7 @@ fn added_up<M: Monoid>(tile: u32, at: u32, sum: (bool, M::Item)) -> Local<M::Ite
 }
 
 /// The state that follows where `status` was seen of the tile `at`, and `after` is the sum of the tiles after it.
-fn looked<M: Monoid>(
+fn after_seeing<M: Monoid>(
     tile: u32,
     at: u32,
     after: (bool, M::Item),

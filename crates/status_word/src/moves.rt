@@ -2,7 +2,8 @@
 
 ghost use Rattle.std.specs.Prelude.{◌≡◌, ℕ, ◌<◌, ◌^◌, max, IsTrue, length, vec_len, slice_index, slice_index_or, slice_set};
 ghost use Rattle.cvl_base.specs.SegmentMonoid.{seg_join, is_seg_item};
-ghost use Rattle.status_word.specs.Codings.{coding_of, sum_at};
+ghost use Rattle.status_word.specs.Codings.{coding};
+ghost use Rattle.cvl_base.specs.TileSums.{own_sum};
 ghost use Rattle.status_word.specs.Reached.{CanAnswer, CanTell};
 ghost use Rattle.status_word.specs.Worlds.{answer_of, claims_after as claims_then, words_after};
 
@@ -21,7 +22,7 @@ pub(crate) fn answer_to<M: Packed>(
 ) -> Answer<M::Item>
     requires { CanAnswer sums.now words.now action }
     ensures { result
-        ≡ answer_of (coding_of M.join M.unit M.to_word M.from_word) sums.now claims words.now action }
+        ≡ answer_of (coding M.Packed) sums.now claims words.now action }
 {
     match action {
         Action::Claim => {
@@ -54,10 +55,10 @@ pub(crate) fn write_word<M: Packed, A: Memory>(
     words: &mut Vec<u64, A>,
     action: Action<M::Item>,
 )
-    requires { CanTell M.is_item (coding_of M.join M.unit M.to_word M.from_word)
+    requires { CanTell M.is_item (coding M.Packed)
         sums.now words.old.items action }
     ensures { words.new.items
-        ≡ words_after (coding_of M.join M.unit M.to_word M.from_word) sums.now words.old.items action }
+        ≡ words_after (coding M.Packed) sums.now words.old.items action }
 {
     match action {
         Action::TellSum(tile) => {
@@ -81,15 +82,15 @@ pub(crate) fn write_word<M: Packed, A: Memory>(
 }
 
 /// The sum of a tile.
-fn sum_of_tile<M: Packed>(sums: &[(bool, M::Item)], tile: u32) -> (bool, M::Item)
+fn sum_of_tile<M: Monoid>(sums: &[(bool, M::Item)], tile: u32) -> (bool, M::Item)
     requires { tile < length sums.now }
-    ensures { result ≡ sum_at (coding_of M.join M.unit M.to_word M.from_word) sums.now tile }
+    ensures { result ≡ own_sum M.unit sums.now tile }
 {
     sums[tile as usize]
 }
 
 /// What stands before a tile, joined with the tile's sum.
-fn upto_tile<M: Packed>(before: (bool, M::Item), sum: (bool, M::Item)) -> (bool, M::Item)
+fn upto_tile<M: Monoid>(before: (bool, M::Item), sum: (bool, M::Item)) -> (bool, M::Item)
     requires before { IsTrue (M.is_item before.1) }
     requires sum { IsTrue (M.is_item sum.1) }
     ensures value { result ≡ seg_join M.join before sum }

@@ -4,11 +4,11 @@
 ghost use Rattle.std.specs.Prelude.{◌≡◌, Bool, List, [], ◌∷◌};
 ghost use Rattle.std.specs.List.{AllPass};
 ghost use Rattle.cvl_base.specs.SegmentMonoid.{is_seg_item};
-ghost use Rattle.status_word.specs.Codings.{CodeLaws, SumsLaws, coding_of};
+ghost use Rattle.status_word.specs.Codings.{CodeLaws, coding};
 ghost use Rattle.status_word.specs.declared.pass.Hand.{Hand};
 ghost use Rattle.status_word.specs.declared.pass.Pass.{Pass};
 ghost use Rattle.status_word.specs.Hands.{once_claimed};
-ghost use Rattle.status_word.specs.Passes.{first_pass, joined, known_at, new_pass, split_left, split_right, told_at};
+ghost use Rattle.status_word.specs.Passes.{first_pass, passes_joined, known_at, new_pass, split_left, split_right, told_at};
 ghost use Rattle.status_word.specs.RuleSteps.{ClaimDeals, DoneDeals, FewClaims, FirstDeals, JoinDeals, SameDeals, SplitDeals, WholeDeals};
 ghost use Rattle.status_word.specs.RuleSteps.{ClaimKeeps, DoneKeeps, FewClaimed, FirstKeeps, JoinAdds, JoinKeeps, LookKeeps, SplitKeeps, TellKeeps, WholeKnows};
 ghost use Rattle.status_word.specs.WorkedPasses.{other_pass, worked_pass};
@@ -55,15 +55,7 @@ pub fn rule_law<I>()
 /// and have 64 bits.
 pub fn code_law<M: Packed>()
     ensures { (sums : List (Bool × M.Item)) → AllPass (is_seg_item M.is_item) sums →
-        CodeLaws M.is_item (coding_of M.join M.unit M.to_word M.from_word) sums }
-{
-    know_coding::<M>();
-}
-
-/// How the sums of the tiles hang together: a tile's own sum, that of the tiles before it, and that of those between two.
-pub fn sums_law<M: Packed>()
-    ensures { (sums : List (Bool × M.Item)) → AllPass (is_seg_item M.is_item) sums →
-        SumsLaws M.is_item (coding_of M.join M.unit M.to_word M.from_word) sums }
+        CodeLaws M.is_item (coding M.Packed) sums }
 {
     know_coding::<M>();
 }
@@ -75,9 +67,9 @@ pub fn pass_values()
     ensures known { known_at 0 worked_pass ≡ 2 }
     ensures unknown { known_at 1 worked_pass ≡ 0 }
     ensures looks { worked_pass.looks ≡ 1 }
-    ensures given { (joined worked_pass other_pass).hand.given ≡ 0 ∷ (1 ∷ []) }
-    ensures done { (joined worked_pass other_pass).hand.done ≡ 1 }
-    ensures share { (joined worked_pass other_pass).hand.share ≡ 2 }
+    ensures given { (passes_joined worked_pass other_pass).hand.given ≡ 0 ∷ (1 ∷ []) }
+    ensures done { (passes_joined worked_pass other_pass).hand.done ≡ 1 }
+    ensures share { (passes_joined worked_pass other_pass).hand.share ≡ 2 }
     ensures stays { split_left (first_pass worked_sums 2) ≡ first_pass worked_sums 1 }
     ensures dealt { split_right (first_pass worked_sums 2) ≡ new_pass worked_sums }
     ensures both { once_claimed 2 3 1 ≡ 1 }

@@ -4,7 +4,7 @@ ghost use Rattle.std.specs.Prelude.{◌≡◌, ℕ, ◌+◌, ◌<◌, ◌≤◌,
 ghost use Rattle.std.specs.List.{All, AllPass};
 ghost use Rattle.cvl_base.specs.Limits.{most_elements};
 ghost use Rattle.cvl_base.specs.SegmentMonoid.{is_seg_item};
-ghost use Rattle.status_word.specs.Codings.{coding_of};
+ghost use Rattle.status_word.specs.Codings.{coding};
 ghost use Rattle.status_word.specs.Reached.{stepped_of};
 ghost use Rattle.status_word.specs.Worlds.{left_of, local_at, new_scene, run_of, step_of, steps_of};
 
@@ -56,7 +56,8 @@ impl<M: Packed, A: Allocator> Model for World<M, A> {
 
     ghost view = { λ w. record { sums = w.sums.items; claims = w.claims; words = w.words.items; locals = w.locals.items } };
 
-    ghost invariant = { λ w. IsReached M.is_item (coding_of M.join M.unit M.to_word M.from_word) (record { sums = w.sums.items; claims = w.claims; words = w.words.items; locals = w.locals.items }) };
+    ghost invariant = { λ w. IsReached M.is_item (coding_of M.join M.unit M.to_word M.from_word)
+        (record { sums = w.sums.items; claims = w.claims; words = w.words.items; locals = w.locals.items }) };
 }
 
 impl<M: Packed, A: Memory> World<M, A> {
@@ -85,7 +86,7 @@ impl<M: Packed, A: Memory> World<M, A> {
     pub fn step(&mut self, actor: u32) -> Stepped<M::Item>
         requires { actor < length self.old.locals }
         ensures world { self.new
-            ≡ step_of (coding_of M.join M.unit M.to_word M.from_word) self.old actor }
+            ≡ step_of (coding M.Packed) self.old actor }
         ensures stepped { result ≡ stepped_of (local_at self.old actor) }
     {
         know_coding::<M>();
@@ -114,9 +115,9 @@ impl<M: Packed, A: Memory> World<M, A> {
     pub fn run(&mut self, actors: &[u32]) -> u64
         requires { All (λ a. a < length self.old.locals) actors.now }
         ensures world { self.new
-            ≡ run_of (coding_of M.join M.unit M.to_word M.from_word) self.old actors.now }
+            ≡ run_of (coding M.Packed) self.old actors.now }
         ensures steps { result
-            ≡ steps_of (coding_of M.join M.unit M.to_word M.from_word) self.old actors.now }
+            ≡ steps_of (coding M.Packed) self.old actors.now }
         ensures bound { result + left_of self.new ≤ left_of self.old }
     {
         let mut steps = 0;

@@ -11,7 +11,8 @@ use Rattle.cvl_base.specs.Monoid.{MonoidLaws}
 use Rattle.cvl_base.specs.SegmentMonoid.{is_seg_item, seg_unit, seg_join}
 use Rattle.tile_plan.specs.Ranges.{count_of, range_of}
 use Rattle.tile_plan.proofs.Numbers.{starts_past, starts_within}
-use Rattle.tile_scans.specs.Kernels.{before_tile, tile_of, flat_sums, reduce_at}
+use Rattle.cvl_base.specs.TileSums.{before_tile}
+use Rattle.tile_scans.specs.Kernels.{tile_of, flat_sums, reduce_at}
 use Rattle.scan_walks.specs.Runs.{continued, run_scan_of}
 use Rattle.scan_walks.proofs.LastStart.{continued_summed}
 use Rattle.tile_scans.proofs.RunScans.{continued_passes, continued_run_scan, continued_slice, length-run_scan_of, run_scan_slice}

@@ -15,7 +15,8 @@ use Rattle.cvl_base.specs.Monoid.{MonoidLaws}
 use Rattle.cvl_base.specs.SegmentMonoid.{is_seg_item, seg_unit, seg_join}
 use Rattle.tile_plan.specs.Ranges.{count_of, range_of}
 use Rattle.tile_plan.proofs.Numbers.{starts_within, starts_past, ends_at}
-use Rattle.tile_scans.specs.Kernels.{before_tile, tile_of, sums_of}
+use Rattle.cvl_base.specs.TileSums.{before_tile}
+use Rattle.tile_scans.specs.Kernels.{tile_of, sums_of}
 
 numbers_more : (n : ℕ) → range_with_len 0 (n + 1) ≡ range_with_len 0 n ++ n ∷ []
 numbers_more n =

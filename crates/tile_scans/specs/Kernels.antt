@@ -1,9 +1,10 @@
 -- Vectors that are walked in tiles: what each tile sums up to, and what it gives of the answer.
 -- Source: the tiles of Merrill and Garland, Single-pass Parallel Prefix Scan with Decoupled Look-back, 2016.
-use Rattle.std.specs.Prelude.{◌≡◌, ℕ, zero, suc, ◌+◌, ◌-◌, ◌*◌, ◌<◌, ◌==◌, if◌then◌else◌, Bool, List, [], ◌∷◌, length, map, take, slice_index_or, slice_range}
+use Rattle.std.specs.Prelude.{◌≡◌, ℕ, zero, suc, ◌+◌, ◌-◌, ◌*◌, ◌<◌, ◌==◌, if◌then◌else◌, Bool, List, [], ◌∷◌, length, map, slice_range}
 use Rattle.std.specs.List.{range_with_len}
 use Rattle.cvl_base.specs.Folds.{fold_of}
 use Rattle.cvl_base.specs.SegmentMonoid.{seg_unit, seg_join}
+use Rattle.cvl_base.specs.TileSums.{before_tile, own_sum}
 use Rattle.tile_plan.specs.Ranges.{count_of, range_of}
 use Rattle.scan_walks.specs.Runs.{continued, with_starts, reduces_of}
 
@@ -21,15 +22,11 @@ flat_sums join unit plan xs = sums_of join unit plan.0 plan.1 (continued xs)
 abbrev pub segmented_sums : {Item : Type 0} → (Item → Item → Item) → Item → ℕ × ℕ → List ℕ → List Item → List (Bool × Item)
 segmented_sums join unit plan lengths xs = sums_of join unit plan.0 plan.1 (with_starts lengths xs)
 
--- what the tiles before tile t join to, where the tiles have these sums
-abbrev pub before_tile : {Item : Type 0} → (Item → Item → Item) → Item → List (Bool × Item) → ℕ → Bool × Item
-before_tile join unit sums t = fold_of (seg_join join) (seg_unit unit) (take t sums)
-
 -- t is one of the tiles that have these sums: this is what the tiles before it join to, and this its own sum
 pub record IsAtTile {Item : Type 0} (join : Item → Item → Item) (unit : Item) (sums : List (Bool × Item)) (t : ℕ) (before sum : Bool × Item) : Type 0 where
   pub within : t < length sums
   pub before_is : before ≡ before_tile join unit sums t
-  pub sum_is : sum ≡ slice_index_or sums t (seg_unit unit)
+  pub sum_is : sum ≡ own_sum unit sums t
 
 -- of a reduce, which the last tile gives
 abbrev pub reduce_at : {Item : Type 0} → ℕ → Item → ℕ → List Item

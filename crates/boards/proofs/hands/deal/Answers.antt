@@ -1,5 +1,4 @@
 use Rattle.std.proofs.Common.{sym, ap, ◌∙◌, arith}
-use Rattle.status_word.specs.Codings.{coding_of}
 use Rattle.boards.proofs.Dealing.{last_dealt}
 use Rattle.boards.proofs.Moves.{split_allowed}
 use Rattle.boards.proofs.hands.deal.Goals as goal
@@ -9,15 +8,15 @@ split_seat-seat-requires g c =
     let here = c.board.inside in
     let key = here.table.shared.key in
     let whole = c.loop-left.whole in
-    let m = coding_of g.T.M.Monoid.join g.T.M.Monoid.unit g.T.M.Packed.to_word g.T.M.Packed.from_word in
     let share = ap (λ v. v.0.hand.share) c.loop-left.invariant.4 in
     let done = ap (λ v. v.0.hand.done) c.loop-left.invariant.4 in (
       c.loop-left.invariant.3 ∙ sym (ap (λ b. b.id) c.board.view_is),
       omega (arith, c.board.invariant.1),
-      split_allowed m (g.T.Tiles.sums key.tiles) key.workers here.table.shared.table_id.slots whole.id c.rule_law.ensures.split whole.me.0 (omega arith) (omega arith),
+      split_allowed _ (g.T.Tiles.sums key.tiles) key.workers here.table.shared.table_id.slots whole.id c.rule_law.ensures.split whole.me.0 (omega arith) (omega arith),
     )
 
 pub returns : goal.returns
 returns g c =
     let inv = c.loop-left.invariant in
-    c.in_ok-push-2.ensures.items ∙ last_dealt c.args.board.now c.loop-left.left c.loop-left.seats.items c.loop-left.whole.table_id c.loop-left.whole.me c.loop-left-test.false inv.0 inv.1 inv.2 inv.3 inv.4
+    c.in_ok-push-2.ensures.items ∙ last_dealt c.args.board.now c.loop-left.left c.loop-left.seats.items c.loop-left.whole.table_id c.loop-left.whole.me
+        c.loop-left-test.false inv.0 inv.1 inv.2 inv.3 inv.4

@@ -2,7 +2,7 @@ use Rattle.std.proofs.Common.{◌≡◌, ℕ, Bool, cond, sym, ap, ◌∙◌, su
 use mathlib.Core.Option.{none}
 use Rattle.atomic_table.specs.Table.{Allows, step}
 use Rattle.status_word.specs.Codings.{coding_of}
-use Rattle.boards.specs.Rules.{IsRuled, Claimed}
+use Rattle.boards.specs.Rules.{IsRuled, ClaimGives}
 use Rattle.boards.proofs.Claiming.{claim_answered, claim_marks, claim_seat}
 use Rattle.boards.proofs.Moves.{claim_allowed}
 use Rattle.boards.proofs.board.ScanBoard.claim.Goals as goal
@@ -21,8 +21,9 @@ fetch_add-found-requires g c =
     let unmarked : seat.me.0.hand.done ≡ 0 = c.seat.invariant.1 ∙ ap (λ (b : Bool). cond {A = ℕ} b 1 0) c.if-seat.false in (
       same_board,
       omega (arith, c.self.invariant.1, here.counted.counts),
-      subst (λ i. Allows (IsRuled m sums key.workers) slots seat.id seat.me i (λ n. (n + 1) % 2 ^ 64) (Claimed (step slots i 1 0 none) seat.me)) (sym last)
-          (claim_allowed m sums key.workers slots seat.id c.rule_law.ensures.claim c.rule_law.ensures.done c.rule_law.ensures.few seat.me (omega (arith, key.few, key.few_workers)) same_sums unmarked c.seat.invariant.2),
+      subst (λ i. Allows (IsRuled m sums key.workers) slots seat.id seat.me i (λ n. (n + 1) % 2 ^ 64) (ClaimGives (step slots i 1 0 none) seat.me)) (sym last)
+          (claim_allowed _ sums key.workers slots seat.id c.rule_law.ensures.claim c.rule_law.ensures.done c.rule_law.ensures.few seat.me
+              (omega (arith, key.few, key.few_workers)) same_sums unmarked c.seat.invariant.2),
     )
 
 pub invariant_of-seat : goal.invariant_of-seat

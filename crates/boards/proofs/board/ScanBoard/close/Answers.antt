@@ -2,27 +2,25 @@ use Rattle.std.proofs.Common.{◌≡◌, sym, ap, ◌∙◌, subst, arith, lengt
 use mathlib.Core.Option.{some}
 use lib.ListN.{get_elem?}
 use Rattle.std.specs.Slots.{slots_items}
-use Rattle.status_word.specs.Codings.{coding_of}
 use Rattle.boards.specs.Answers.{IsEnd}
 use Rattle.boards.proofs.Ending.{all_ended}
 use Rattle.boards.proofs.board.ScanBoard.close.Goals as goal
 
-pub gather-whole-requires-clause-some : goal.gather-whole-requires-clause-some
-gather-whole-requires-clause-some g c = omega (arith, c.requires.every, c.self.inside.counted.some_workers, ap (λ b. b.workers) c.self.view_is)
+pub join_seats-whole-requires-clause-some : goal.join_seats-whole-requires-clause-some
+join_seats-whole-requires-clause-some g c = omega (arith, c.requires.every, c.self.inside.counted.some_workers, ap (λ b. b.workers) c.self.view_is)
 
 pub returns : goal.returns
 returns g c =
     let here = c.self.inside in
     let key = here.table.shared.key in
-    let m = coding_of g.T.M.Monoid.join g.T.M.Monoid.unit g.T.M.Packed.to_word g.T.M.Packed.from_word in
     let sums = g.T.Tiles.sums key.tiles in
     let of_key : c.args.self.sums ≡ sums = sym (ap (λ b. b.sums) c.self.view_is) ∙ sym (ap (λ k. g.T.Tiles.sums k.tiles) c.self.invariant.0) in
     let workers : c.args.self.workers ≡ key.workers = sym (ap (λ b. b.workers) c.self.view_is) ∙ sym (ap (λ k. k.workers) c.self.invariant.0) in
     let behind : here.counted.count ≡ length sums = here.counted.counts ∙ sym (ap (λ k. length (g.T.Tiles.sums k.tiles)) c.self.invariant.0) in
     let last = c.close_with-closed.ensures.values.2 in
-    let whole = c.gather-whole.result in
+    let whole = c.join_seats-whole.result in
     let words = slots_items c.close_with-closed.result.words in
     subst (λ ss. IsEnd (length ss) c.args.seats.items c.min.result) (sym of_key)
-    (all_ended m sums c.rule_law.ensures.whole key.workers c.word-claims.result c.min.result whole.id last.0 words whole.me.0 c.args.seats.items
+    (all_ended _ sums c.rule_law.ensures.whole key.workers c.word-claims.result c.min.result whole.id last.0 words whole.me.0 c.args.seats.items
     key.some_workers (c.requires.every ∙ workers) last.1.0 last.1.1 last.2 (subst (λ i. get_elem? words i ≡ some c.word-claims.result) behind c.word-claims.ensures)
-    (omega (arith, c.min.ensures, c.from.ensures)) c.gather-whole.ensures.passes)
+    (omega (arith, c.min.ensures, c.from.ensures)) c.join_seats-whole.ensures.passes)

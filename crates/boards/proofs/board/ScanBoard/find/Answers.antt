@@ -1,5 +1,5 @@
 use Rattle.std.proofs.Common.{◌∙◌, ap, ◌+◌, ◌≤◌, arith}
-use Rattle.status_word.specs.Codings.{before, coding_of, sum_at}
+use Rattle.cvl_base.specs.TileSums.{before_tile, own_sum}
 use Rattle.status_word.specs.Passes.{known_at, told_state}
 use Rattle.status_word.specs.Words.{state_of}
 use Rattle.boards.proofs.Telling.{pair_or}
@@ -9,8 +9,7 @@ use Rattle.boards.proofs.board.ScanBoard.find.Goals as goal
 
 pub returns-in-Silent-clause-found : goal.returns-in-Silent-clause-found
 returns-in-Silent-clause-found g c =
-    let m = coding_of g.T.M.Monoid.join g.T.M.Monoid.unit g.T.M.Packed.to_word g.T.M.Packed.from_word in
-    c.sum-sum.ensures ∙ ap (λ b. sum_at m b.sums c.args.at) c.self.view_is
+    c.sum-sum.ensures ∙ ap (λ b. own_sum g.T.M.Monoid.unit b.sums c.args.at) c.self.view_is
 
 -- a silent tile is one of which nothing was known
 silent_known : (g : Over) (c : goal.After-result-1 g) → known_at c.args.at c.args.seat.now.pass ≤ 0
@@ -23,8 +22,7 @@ returns-in-Silent-clause-step g c =
 
 pub returns-in-Sum-clause-found : goal.returns-in-Sum-clause-found
 returns-in-Sum-clause-found g c =
-    let m = coding_of g.T.M.Monoid.join g.T.M.Monoid.unit g.T.M.Packed.to_word g.T.M.Packed.from_word in
-    ap (pair_or (sum_at m c.args.self.now.sums c.args.at)) c.in-Sum.ensures.lawful
+    ap (pair_or (own_sum g.T.M.Monoid.unit c.args.self.now.sums c.args.at)) c.in-Sum.ensures.lawful
 
 pub returns-in-Sum-clause-step : goal.returns-in-Sum-clause-step
 returns-in-Sum-clause-step g c =
@@ -32,8 +30,7 @@ returns-in-Sum-clause-step g c =
 
 pub returns-in-Prefix-clause-found : goal.returns-in-Prefix-clause-found
 returns-in-Prefix-clause-found g c =
-    let m = coding_of g.T.M.Monoid.join g.T.M.Monoid.unit g.T.M.Packed.to_word g.T.M.Packed.from_word in
-    ap (pair_or (before m c.args.self.now.sums (c.args.at + 1))) c.in-Prefix.ensures.lawful
+    ap (pair_or (before_tile g.T.M.Monoid.join g.T.M.Monoid.unit c.args.self.now.sums (c.args.at + 1))) c.in-Prefix.ensures.lawful
 
 pub returns-in-Prefix-clause-step : goal.returns-in-Prefix-clause-step
 returns-in-Prefix-clause-step g c =

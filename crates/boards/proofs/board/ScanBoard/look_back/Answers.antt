@@ -1,6 +1,6 @@
 use Rattle.std.proofs.Common.{◌≡◌, refl, sym, ap, ◌∙◌, subst, ◌+◌, ◌-◌, arith, IsTrue}
 use Rattle.cvl_base.specs.SegmentMonoid.{is_seg_item, seg_join}
-use Rattle.status_word.specs.Codings.{between, coding_of, sum_at}
+use Rattle.cvl_base.specs.TileSums.{between_tiles, own_sum}
 use Rattle.boards.proofs.Walking.{walk_done, walk_met, walk_more, walk_start}
 use Rattle.boards.proofs.board.ScanBoard.look_back.Goals as goal
 
@@ -13,7 +13,6 @@ join-after-requires-clause-second g c =
 
 pub loop-at-preserved : goal.loop-at-preserved
 loop-at-preserved g c =
-    let m = coding_of g.T.M.Monoid.join g.T.M.Monoid.unit g.T.M.Packed.to_word g.T.M.Packed.from_word in
     let sums = c.args.self.now.sums in
     let t = c.args.t in
     let at = c.loop-at.at in
@@ -23,8 +22,8 @@ loop-at-preserved g c =
       c.in-Sum.ensures.same,
       c.in-Sum.ensures.done ∙ inv.2,
       c.join-after.ensures
-          ∙ ap (λ s. seg_join m.join s c.loop-at.after) c.in-Sum.ensures.found
-          ∙ ap (seg_join m.join (sum_at m sums (at - 1))) (inv.3 ∙ ap (λ k. between m sums k t) next)
+          ∙ ap (λ s. seg_join g.T.M.Monoid.join s c.loop-at.after) c.in-Sum.ensures.found
+          ∙ ap (seg_join g.T.M.Monoid.join (own_sum g.T.M.Monoid.unit sums (at - 1))) (inv.3 ∙ ap (λ k. between_tiles g.T.M.Monoid.join g.T.M.Monoid.unit sums k t) next)
           ∙ sym (c.know_sums.ensures.one_more (at - 1) t (omega arith) (omega (arith, c.requires.tile))),
       walk_more t at (at - 1) c.args.seat.now.pass c.loop-at.seat.pass c.find.new.seat.pass next inv.0 inv.4 c.in-Sum.ensures.step,
     )

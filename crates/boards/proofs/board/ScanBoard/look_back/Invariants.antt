@@ -1,5 +1,5 @@
 use Rattle.std.proofs.Common.{◌≡◌, ◌≤◌}
-use Rattle.status_word.specs.Codings.{between, coding_of}
+use Rattle.cvl_base.specs.TileSums.{between_tiles}
 use Rattle.boards.specs.Boards.{IsSeatOf}
 use Rattle.boards.specs.Walks.{IsWalk}
 use Rattle.boards.proofs.board.ScanBoard.look_back.Given as goal
@@ -10,7 +10,7 @@ invariant-loop-at g l =
     (l.at ≤ l.t)
     × IsSeatOf l.self l.seat
     × (l.seat.is_done ≡ l.fn.seat.is_done)
-    × (l.after ≡ between (coding_of g.T.M.Monoid.join g.T.M.Monoid.unit g.T.M.Packed.to_word g.T.M.Packed.from_word) l.self.sums l.at l.t)
+    × (l.after ≡ between_tiles g.T.M.Monoid.join g.T.M.Monoid.unit l.self.sums l.at l.t)
     × IsWalk l.t l.at l.fn.seat.pass l.seat.pass
 
 abbrev pub decreases-loop-at : goal.decreases-loop-at

@@ -1,37 +1,36 @@
 use Rattle.std.proofs.Common.{◌≡◌, ◌+◌, sym, ap, ◌∙◌, subst, arith, length, IsTrue}
 use Rattle.cvl_base.specs.SegmentMonoid.{is_seg_item, seg_join}
 use Rattle.status_word.specs.declared.status.Status.TheVariants.{Prefix}
-use Rattle.status_word.specs.Codings.{before, coding_of, sum_at}
+use Rattle.cvl_base.specs.TileSums.{before_tile, own_sum}
+use Rattle.status_word.specs.Codings.{coding_of}
 use Rattle.boards.proofs.Moves.{tell_allowed}
 use Rattle.boards.proofs.board.ScanBoard.tell_known_prefix.Goals as goal
 
 pub join-prefix-requires-clause-first : goal.join-prefix-requires-clause-first
 join-prefix-requires-clause-first g c =
     let here = c.self.inside in
-    let m = coding_of g.T.M.Monoid.join g.T.M.Monoid.unit g.T.M.Packed.to_word g.T.M.Packed.from_word in
     let sums = g.T.Tiles.sums here.counted.tiles in
-    let told : c.args.before ≡ before m sums c.args.t = c.requires.before ∙ sym (ap (λ b. before m b.sums c.args.t) c.self.view_is) in
-    subst (λ s. IsTrue (is_seg_item g.T.M.Monoid.is_item s)) (sym told) ((c.sums_law.ensures sums here.counted.items).exclusive c.args.t)
+    let told : c.args.before ≡ before_tile g.T.M.Monoid.join g.T.M.Monoid.unit sums c.args.t = c.requires.before
+        ∙ sym (ap (λ b. before_tile g.T.M.Monoid.join g.T.M.Monoid.unit b.sums c.args.t) c.self.view_is) in
+    subst (λ s. IsTrue (is_seg_item g.T.M.Monoid.is_item s)) (sym told) ((c.know_sums.ensures sums here.counted.items).exclusive c.args.t)
 
 pub join-prefix-requires-clause-second : goal.join-prefix-requires-clause-second
 join-prefix-requires-clause-second g c =
     let here = c.self.inside in
-    let m = coding_of g.T.M.Monoid.join g.T.M.Monoid.unit g.T.M.Packed.to_word g.T.M.Packed.from_word in
     let sums = g.T.Tiles.sums here.counted.tiles in
-    let told : c.args.sum ≡ sum_at m sums c.args.t = c.requires.sum ∙ sym (ap (λ b. sum_at m b.sums c.args.t) c.self.view_is) in
-    subst (λ s. IsTrue (is_seg_item g.T.M.Monoid.is_item s)) (sym told) ((c.sums_law.ensures sums here.counted.items).own c.args.t)
+    let told : c.args.sum ≡ own_sum g.T.M.Monoid.unit sums c.args.t = c.requires.sum ∙ sym (ap (λ b. own_sum g.T.M.Monoid.unit b.sums c.args.t) c.self.view_is) in
+    subst (λ s. IsTrue (is_seg_item g.T.M.Monoid.is_item s)) (sym told) ((c.know_sums.ensures sums here.counted.items).own c.args.t)
 
 pub pack_status-word-requires : goal.pack_status-word-requires
 pack_status-word-requires g c =
     let here = c.self.inside in
-    let m = coding_of g.T.M.Monoid.join g.T.M.Monoid.unit g.T.M.Packed.to_word g.T.M.Packed.from_word in
     let sums = g.T.Tiles.sums here.counted.tiles in
-    let laws = c.sums_law.ensures sums here.counted.items in
+    let laws = c.know_sums.ensures sums here.counted.items in
     let of_view = ap (λ b. b.sums) c.self.view_is in
-    let prefix : c.join-prefix.result ≡ before m sums (c.args.t + 1) =
+    let prefix : c.join-prefix.result ≡ before_tile g.T.M.Monoid.join g.T.M.Monoid.unit sums (c.args.t + 1) =
     c.join-prefix.ensures
-    ∙ ap (λ s. seg_join m.join s c.args.sum) (c.requires.before ∙ sym (ap (λ ss. before m ss c.args.t) of_view))
-    ∙ ap (seg_join m.join (before m sums c.args.t)) (c.requires.sum ∙ sym (ap (λ ss. sum_at m ss c.args.t) of_view))
+    ∙ ap (λ s. seg_join g.T.M.Monoid.join s c.args.sum) (c.requires.before ∙ sym (ap (λ ss. before_tile g.T.M.Monoid.join g.T.M.Monoid.unit ss c.args.t) of_view))
+    ∙ ap (seg_join g.T.M.Monoid.join (before_tile g.T.M.Monoid.join g.T.M.Monoid.unit sums c.args.t)) (c.requires.sum ∙ sym (ap (λ ss. own_sum g.T.M.Monoid.unit ss c.args.t) of_view))
     ∙ sym (laws.before_next c.args.t (omega (arith, ap length of_view, c.requires.tile))) in
     subst (λ s. IsTrue (is_seg_item g.T.M.Monoid.is_item s)) (sym prefix) (laws.exclusive (c.args.t + 1))
 
@@ -44,13 +43,13 @@ fetch_max-requires g c =
     let sums = g.T.Tiles.sums key.tiles in
     let same_board : seat.table_id ≡ here.table.shared.table_id = ap (λ s. s.id) c.seat.view_is ∙ c.requires.seat.0 ∙ sym (ap (λ b. b.id) c.self.view_is) in
     let of_key : c.args.self.now.sums ≡ sums = sym (ap (λ b. b.sums) c.self.view_is) ∙ sym (ap (λ k. g.T.Tiles.sums k.tiles) c.self.invariant.0) in
-    let prefix : c.join-prefix.result ≡ before m sums (c.args.t + 1) =
+    let prefix : c.join-prefix.result ≡ before_tile g.T.M.Monoid.join g.T.M.Monoid.unit sums (c.args.t + 1) =
     c.join-prefix.ensures
-    ∙ ap (λ s. seg_join m.join s c.args.sum) (c.requires.before ∙ ap (λ ss. before m ss c.args.t) of_key)
-    ∙ ap (seg_join m.join (before m sums c.args.t)) (c.requires.sum ∙ ap (λ ss. sum_at m ss c.args.t) of_key)
-    ∙ sym ((c.sums_law.ensures sums key.items).before_next c.args.t (omega (arith, ap length of_key, c.requires.tile))) in (
+    ∙ ap (λ s. seg_join g.T.M.Monoid.join s c.args.sum) (c.requires.before ∙ ap (λ ss. before_tile g.T.M.Monoid.join g.T.M.Monoid.unit ss c.args.t) of_key)
+    ∙ ap (seg_join g.T.M.Monoid.join (before_tile g.T.M.Monoid.join g.T.M.Monoid.unit sums c.args.t)) (c.requires.sum ∙ ap (λ ss. own_sum g.T.M.Monoid.unit ss c.args.t) of_key)
+    ∙ sym ((c.know_sums.ensures sums key.items).before_next c.args.t (omega (arith, ap length of_key, c.requires.tile))) in (
       same_board,
       omega (arith, c.self.invariant.1, ap (λ b. length b.sums) c.self.view_is, c.requires.tile),
-      tell_allowed m sums key.workers here.table.shared.table_id.slots seat.id c.rule_law.ensures.tell (c.code_law.ensures sums key.items).greater seat.me c.args.t 2 c.pack_status-word.result
+      tell_allowed _ sums key.workers here.table.shared.table_id.slots seat.id c.rule_law.ensures.tell (c.code_law.ensures sums key.items).greater seat.me c.args.t 2 c.pack_status-word.result
           (omega (arith, ap length of_key, c.requires.tile)) (omega arith) (c.pack_status-word.ensures ∙ ap (λ s. m.pack (Prefix s.0 s.1)) prefix) c.seat.invariant.2,
     )

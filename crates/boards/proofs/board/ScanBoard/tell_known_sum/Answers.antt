@@ -1,16 +1,16 @@
 use Rattle.std.proofs.Common.{◌≡◌, sym, ap, ◌∙◌, subst, arith, length, IsTrue}
 use Rattle.cvl_base.specs.SegmentMonoid.{is_seg_item}
 use Rattle.status_word.specs.declared.status.Status.TheVariants.{Sum}
-use Rattle.status_word.specs.Codings.{coding_of, sum_at}
+use Rattle.cvl_base.specs.TileSums.{own_sum}
+use Rattle.status_word.specs.Codings.{coding_of}
 use Rattle.boards.proofs.Moves.{tell_allowed}
 use Rattle.boards.proofs.board.ScanBoard.tell_known_sum.Goals as goal
 
 pub pack_status-word-requires : goal.pack_status-word-requires
 pack_status-word-requires g c =
     let here = c.self.inside in
-    let m = coding_of g.T.M.Monoid.join g.T.M.Monoid.unit g.T.M.Packed.to_word g.T.M.Packed.from_word in
     let sums = g.T.Tiles.sums here.counted.tiles in
-    let told : c.args.sum ≡ sum_at m sums c.args.t = c.requires.sum ∙ sym (ap (λ b. sum_at m b.sums c.args.t) c.self.view_is) in
+    let told : c.args.sum ≡ own_sum g.T.M.Monoid.unit sums c.args.t = c.requires.sum ∙ sym (ap (λ b. own_sum g.T.M.Monoid.unit b.sums c.args.t) c.self.view_is) in
     subst (λ s. IsTrue (is_seg_item g.T.M.Monoid.is_item s)) (sym told) ((c.code_law.ensures sums here.counted.items).items c.args.t 1)
 
 pub fetch_max-requires : goal.fetch_max-requires
@@ -22,9 +22,9 @@ fetch_max-requires g c =
     let sums = g.T.Tiles.sums key.tiles in
     let same_board : seat.table_id ≡ here.table.shared.table_id = ap (λ s. s.id) c.seat.view_is ∙ c.requires.seat.0 ∙ sym (ap (λ b. b.id) c.self.view_is) in
     let of_key : c.args.self.now.sums ≡ sums = sym (ap (λ b. b.sums) c.self.view_is) ∙ sym (ap (λ k. g.T.Tiles.sums k.tiles) c.self.invariant.0) in
-    let told : c.args.sum ≡ sum_at m sums c.args.t = c.requires.sum ∙ ap (λ ss. sum_at m ss c.args.t) of_key in (
+    let told : c.args.sum ≡ own_sum g.T.M.Monoid.unit sums c.args.t = c.requires.sum ∙ ap (λ ss. own_sum g.T.M.Monoid.unit ss c.args.t) of_key in (
       same_board,
       omega (arith, c.self.invariant.1, ap (λ b. length b.sums) c.self.view_is, c.requires.tile),
-      tell_allowed m sums key.workers here.table.shared.table_id.slots seat.id c.rule_law.ensures.tell (c.code_law.ensures sums key.items).greater seat.me c.args.t 1 c.pack_status-word.result
+      tell_allowed _ sums key.workers here.table.shared.table_id.slots seat.id c.rule_law.ensures.tell (c.code_law.ensures sums key.items).greater seat.me c.args.t 1 c.pack_status-word.result
           (omega (arith, ap length of_key, c.requires.tile)) (omega arith) (c.pack_status-word.ensures ∙ ap (λ s. m.pack (Sum s.0 s.1)) told) c.seat.invariant.2,
     )

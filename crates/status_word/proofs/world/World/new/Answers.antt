@@ -1,9 +1,8 @@
 use Rattle.std.proofs.Common.{rules, ◌≡◌, ◌∙◌, ap, length, replicate}
-use Rattle.status_word.specs.Codings.{coding_of}
 use Rattle.status_word.proofs.Reaching.{reached_first}
 use Rattle.status_word.proofs.world.World.new.Goals as goal
 
 pub invariant_of-result : goal.invariant_of-result
 invariant_of-result g c =
     let count : c.len.result ≡ length c.args.sums.items = search rules in
-    reached_first (coding_of g.M.Monoid.join g.M.Monoid.unit g.M.Packed.to_word g.M.Packed.from_word) c.args.sums.items c.args.actors c.requires.few c.ranges.actors.fits c.requires.items _ _ (c.in_ok-words.ensures ∙ ap (λ n. replicate n 0) count) c.in_ok-locals.ensures
+    reached_first _ c.args.sums.items c.args.actors c.requires.few c.ranges.actors.fits c.requires.items _ _ (c.in_ok-words.ensures ∙ ap (λ n. replicate n 0) count) c.in_ok-locals.ensures

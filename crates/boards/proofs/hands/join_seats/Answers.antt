@@ -1,11 +1,10 @@
 use Rattle.std.proofs.Common.{sym, ap, ◌∙◌, subst, cond, arith, Some}
 use Rattle.std.proofs.lemmas.List.Elements.{All-pop}
-use Rattle.status_word.specs.Codings.{coding_of}
 use Rattle.boards.specs.Boards.{IsSeatOf}
-use Rattle.boards.specs.Gathered.{IsGathered}
-use Rattle.boards.proofs.Dealing.{gathered_first, gathered_more, none_left}
+use Rattle.boards.specs.Joined.{AreJoined}
+use Rattle.boards.proofs.Dealing.{joined_first, joined_more, none_left}
 use Rattle.boards.proofs.Moves.{join_allowed}
-use Rattle.boards.proofs.hands.gather.Goals as goal
+use Rattle.boards.proofs.hands.join_seats.Goals as goal
 
 pub loop-next-init : goal.loop-next-init
 loop-next-init g c =
@@ -14,7 +13,7 @@ loop-next-init g c =
       c.first.invariant.0,
       omega (arith, c.first.invariant.2),
       rest.0,
-      gathered_first c.args.seats.items c.pop.new.self.items c.in-Some.first c.first.inside.seat.me.0 c.in-Some.ensures.items
+      joined_first c.args.seats.items c.pop.new.self.items c.in-Some.first c.first.inside.seat.me.0 c.in-Some.ensures.items
           (ap (λ s. s.pass) c.first.view_is, c.first.invariant.2, c.first.invariant.1 ∙ ap (λ s. cond s.is_done 1 0) c.first.view_is),
     )
 
@@ -25,14 +24,13 @@ join_seat-requires g c =
     let whole = c.loop-next.whole in
     let next = c.next.inside.seat in
     let inv = c.loop-next.invariant in
-    let m = coding_of g.T.M.Monoid.join g.T.M.Monoid.unit g.T.M.Packed.to_word g.T.M.Packed.from_word in
     let rest = All-pop (IsSeatOf c.args.board.now) c.loop-next.seats.items c.pop-in-loop-next.new.self.items (Some c.in-Some-pop.next) c.in-Some-pop.ensures.items inv.3 in
     let of_board = sym (ap (λ b. b.id) c.board.view_is) in (
       inv.0 ∙ of_board,
       ap (λ s. s.id) c.next.view_is ∙ rest.1.0 ∙ of_board,
       c.next.invariant.0,
       omega (arith, c.board.invariant.1),
-      join_allowed m (g.T.Tiles.sums key.tiles) key.workers here.table.shared.table_id.slots whole.id c.rule_law.ensures.join whole.me.0 next.me.0 next.id inv.2,
+      join_allowed _ (g.T.Tiles.sums key.tiles) key.workers here.table.shared.table_id.slots whole.id c.rule_law.ensures.join whole.me.0 next.me.0 next.id inv.2,
     )
 
 pub loop-next-preserved : goal.loop-next-preserved
@@ -46,10 +44,11 @@ loop-next-preserved g c =
       ap (λ v. v.1) c.join_seat.ensures.2 ∙ inv.1,
       omega (arith, ap (λ v. v.hand.share) both, inv.2),
       rest.0,
-      gathered_more c.loop-next.seats.items c.pop-in-loop-next.new.self.items c.args.seats.items c.in-Some-pop.next next.me.0 whole.me.0 c.join_seat.new.seat.me.0 c.in-Some-pop.ensures.items
+      joined_more c.loop-next.seats.items c.pop-in-loop-next.new.self.items c.args.seats.items c.in-Some-pop.next next.me.0 whole.me.0 c.join_seat.new.seat.me.0 c.in-Some-pop.ensures.items
           (ap (λ s. s.pass) c.next.view_is, c.next.invariant.2, c.next.invariant.1 ∙ ap (λ s. cond s.is_done 1 0) c.next.view_is) both (c.rule_law.ensures.added whole.me.0 next.me.0) inv.4,
     )
 
 pub returns-clause-passes : goal.returns-clause-passes
 returns-clause-passes g c =
-    subst (λ rest. IsGathered c.loop-next.whole.me.0 rest c.args.seats.items) (none_left c.loop-next.seats.items (omega (arith, c.loop-next.seats.ok, c.in_default-pop.ensures.cases.0))) c.loop-next.invariant.4
+    subst (λ rest. AreJoined c.loop-next.whole.me.0 rest c.args.seats.items)
+        (none_left c.loop-next.seats.items (omega (arith, c.loop-next.seats.ok, c.in_default-pop.ensures.cases.0))) c.loop-next.invariant.4

@@ -7,7 +7,7 @@ use Rattle.status_word.specs.Passes.{given_at, highest, seen_at, told_at}
 use Rattle.boards.specs.Boards.{Seated}
 
 -- this pass and the seats that are left have done what all seats did
-pub record IsGathered {Item : Type 0} (whole : Pass Item) (rest all : List (Seated Item)) : Type 0 where
+pub record AreJoined {Item : Type 0} (whole : Pass Item) (rest all : List (Seated Item)) : Type 0 where
   pub given : (t : ℕ) → given_at t whole + sum_by (λ s. given_at t s.pass) rest ≡ sum_by (λ s. given_at t s.pass) all
   pub count : length whole.hand.given + sum_by (λ s. length s.pass.hand.given) rest ≡ sum_by (λ s. length s.pass.hand.given) all
   pub done : whole.hand.done + count_by (λ s. s.is_done) rest ≡ count_by (λ s. s.is_done) all

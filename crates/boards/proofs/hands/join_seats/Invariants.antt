@@ -1,8 +1,8 @@
 use Rattle.std.proofs.Common.{◌≡◌, ◌≤◌, []}
 use Rattle.std.specs.List.{All}
 use Rattle.boards.specs.Boards.{IsSeatOf}
-use Rattle.boards.specs.Gathered.{IsGathered}
-use Rattle.boards.proofs.hands.gather.Given as goal
+use Rattle.boards.specs.Joined.{AreJoined}
+use Rattle.boards.proofs.hands.join_seats.Given as goal
 
 -- the seats that were taken are in one, which has what they did
 abbrev pub invariant-loop-next : goal.invariant-loop-next
@@ -11,7 +11,7 @@ invariant-loop-next g l =
     × (l.whole.me.1 ≡ [])
     × (1 ≤ l.whole.me.0.hand.share)
     × All (IsSeatOf l.board) l.seats.items
-    × IsGathered l.whole.me.0 l.seats.items l.fn.seats.items
+    × AreJoined l.whole.me.0 l.seats.items l.fn.seats.items
 
 abbrev pub decreases-loop-next : goal.decreases-loop-next
 decreases-loop-next g l = goal.left-loop-next g l
