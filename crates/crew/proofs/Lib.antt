@@ -1,4 +1,5 @@
 pub mod AllPieces
 pub mod Crews
+pub mod Facts
 pub mod Left
 pub mod Pieces

@@ -1,2 +1,3 @@
 pub mod Crews
+pub mod Facts
 pub mod Pieces

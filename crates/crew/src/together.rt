@@ -4,6 +4,7 @@ ghost use Rattle.std.specs.Prelude.{◌≡◌, ◌+◌, ◌≤◌, ◌++◌, [],
 ghost use Rattle.std.specs.List.{All};
 ghost use Rattle.cvl_base.specs.Limits.{most_workers};
 ghost use Rattle.crew.specs.Crews.{AreNewSeats, IsCrewed};
+ghost use Rattle.crew.specs.Facts.{HasFacts};
 ghost use Rattle.crew.specs.Pieces.{ArePiecesOf, given_to};
 ghost use denote.Param.Send.{IsSync, IsSend, Frees};
 
@@ -30,8 +31,8 @@ pub struct Crewed<W: Work, A: Allocator> {
 /// There are 1 to 64 seats, all of the work's board, to none of which a tile was given before. A worker passes `Claimed`
 /// before it works at a tile, and `Finished` after it has the tile's items. The seats are halved, and a half is given to a
 /// thread of its own, until each worker has one seat; where no thread can be made both halves are worked off in turn. With
-/// one seat no thread is started. Where a worker is out of memory the others end as usual, and the call answers
-/// `NoResources`.
+/// one seat no thread is started. At the end each seat has the fact of each tile that was given to it. Where a worker is out
+/// of memory the others end as usual, and the call answers `NoResources`.
 pub fn run_crew<R: Threads + Sync, A: Memory, W: Work, G: Gate>(
     rt: &R,
     alloc: A,
@@ -46,6 +47,7 @@ pub fn run_crew<R: Threads + Sync, A: Memory, W: Work, G: Gate>(
     ensures as_many { IfOk result (λ crewed. vec_len crewed.seats ≡ vec_len seats) }
     ensures of_board { IfOk result (λ crewed. All (λ seat. W.IsSeat work.now seat) crewed.seats.items) }
     ensures done { IfOk result (λ crewed. All (λ seat. IsTrue (W.is_done seat)) crewed.seats.items) }
+    ensures facts { IfOk result (λ crewed. All (HasFacts (W.HasFact work.now) W.given) crewed.seats.items) }
     ensures pieces { IfOk result (λ crewed. ArePiecesOf (W.count work.now) (W.items work.now)
         (given_to W.given crewed.seats.items)
         (map (λ p. (p.tile, p.items.items)) crewed.pieces.items)) }
@@ -66,7 +68,7 @@ fn run_from<R: Threads + Sync, A: Memory, W: Work, G: Gate>(
     requires at_most { first + vec_len seats ≤ most_workers }
     requires seats { AreNewSeats (W.IsSeat work.now) W.given seats.items }
     ensures { IfOk result (λ c. IsCrewed (W.count work.now) (W.items work.now)
-        (W.IsSeat work.now) W.given W.is_done
+        (W.IsSeat work.now) (W.HasFact work.now) W.given W.is_done
         (vec_len seats) c.seats.items (map (λ p. (p.tile, p.items.items)) c.pieces.items)) }
 {
     if seats.len() == 1 {
@@ -92,7 +94,7 @@ fn run_both<R: Threads + Sync, A: Memory, W: Work, G: Gate>(
     requires seats { AreNewSeats (W.IsSeat work.now) W.given seats.items }
     requires others { AreNewSeats (W.IsSeat work.now) W.given others.items }
     ensures { IfOk result (λ c. IsCrewed (W.count work.now) (W.items work.now)
-        (W.IsSeat work.now) W.given W.is_done
+        (W.IsSeat work.now) (W.HasFact work.now) W.given W.is_done
         (vec_len seats + vec_len others) c.seats.items (map (λ p. (p.tile, p.items.items)) c.pieces.items)) }
 {
     let next = first + seats.len() as u32;
@@ -103,7 +105,7 @@ fn run_both<R: Threads + Sync, A: Memory, W: Work, G: Gate>(
             × Frees A.Allocator A.dealloc_token
             × (first + vec_len seats ≤ most_workers) × AreNewSeats (W.IsSeat work.now) W.given seats.items }
         ensures { IfOk result (λ c. IsCrewed (W.count work.entry.now) (W.items work.entry.now)
-            (W.IsSeat work.entry.now) W.given W.is_done
+            (W.IsSeat work.entry.now) (W.HasFact work.entry.now) W.given W.is_done
             (vec_len seats) c.seats.items (map (λ p. (p.tile, p.items.items)) c.pieces.items)) }
     {
         let _named = item;
@@ -114,7 +116,7 @@ fn run_both<R: Threads + Sync, A: Memory, W: Work, G: Gate>(
             × Frees A.Allocator A.dealloc_token
             × (next + vec_len others ≤ most_workers) × AreNewSeats (W.IsSeat work.now) W.given others.items }
         ensures { IfOk result (λ c. IsCrewed (W.count work.entry.now) (W.items work.entry.now)
-            (W.IsSeat work.entry.now) W.given W.is_done
+            (W.IsSeat work.entry.now) (W.HasFact work.entry.now) W.given W.is_done
             (vec_len others) c.seats.items (map (λ p. (p.tile, p.items.items)) c.pieces.items)) }
     {
         let _named = item;

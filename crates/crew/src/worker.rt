@@ -2,6 +2,7 @@
 
 ghost use Rattle.std.specs.Prelude.{◌≡◌, [], IfOk, IsTrue, OnOk, map};
 ghost use Rattle.boards.specs.Passes.{times};
+ghost use Rattle.crew.specs.Facts.{HasFacts};
 ghost use Rattle.crew.specs.Pieces.{ArePiecesOf};
 
 use crate::gate::{Gate, Point};
@@ -11,7 +12,7 @@ use cvl_base::{Memory, NoResources};
 use tile_plan::Piece;
 
 /// The pieces of the tiles that are given to the seat, until it is told that none is left. Each claim gives a tile that
-/// the seat didn't have, so there are at most as many as the work has tiles.
+/// the seat didn't have, so there are at most as many as the work has tiles. The seat then has the fact of each.
 pub(crate) fn take_tiles<A: Memory, W: Work, G: Gate>(
     alloc: A,
     work: &W,
@@ -23,6 +24,7 @@ pub(crate) fn take_tiles<A: Memory, W: Work, G: Gate>(
     requires fresh { W.given seat.old ≡ [] }
     ensures of_board { W.IsSeat work.now seat.new }
     ensures done { OnOk result (IsTrue (W.is_done seat.new)) }
+    ensures facts { OnOk result (HasFacts (W.HasFact work.now) W.given seat.new) }
     ensures pieces { IfOk result (λ pieces. ArePiecesOf (W.count work.now) (W.items work.now)
         (λ t. times t (W.given seat.new))
         (map (λ p. (p.tile, p.items.items)) pieces.items)) }

@@ -5,11 +5,12 @@ ghost use Rattle.cvl_base.specs.Gives.{Gives};
 ghost use Rattle.cvl_base.specs.Scans.{bool_join_of, bool_reduce_of, bool_scan_of, bool_unit_of};
 ghost use Rattle.cvl_base.specs.SegmentedCalls.{seg_reduce_of, seg_scan_of};
 
+use crew::{Gate, OpenGate};
 use cvl_base::monoids::{BoolAnd, BoolIor, BoolXor};
 use cvl_base::{BoolBinary, Config, Memory, NoResources, Refused};
 use segdes::SegDes;
 use std::thread::Threads;
-use tile_scans::{reduce, scan, seg_reduce, seg_scan};
+use tile_scans::{reduce_gated, scan_gated, seg_reduce_gated, seg_scan_gated};
 
 /// The exclusive scan by an operator of the table: `and_sub` and its like.
 ///
@@ -24,10 +25,25 @@ pub fn bool_scan<R: Threads + Sync, A: Memory>(
     ensures values { IfOk result (λ sums. sums.items ≡ bool_scan_of op a.now) }
     ensures as_long { IfOk result (λ sums. vec_len sums ≡ length a.now) }
 {
+    bool_scan_gated(rt, alloc, config, op, a, &OpenGate)
+}
+
+/// The same as [`bool_scan`], by workers that pass a gate at each point of their way through a tile.
+pub fn bool_scan_gated<R: Threads + Sync, A: Memory, G: Gate>(
+    rt: &R,
+    alloc: A,
+    config: Config,
+    op: BoolBinary,
+    a: &[bool],
+    gate: &G,
+) -> Result<Vec<bool, A>, NoResources>
+    ensures values { IfOk result (λ sums. sums.items ≡ bool_scan_of op a.now) }
+    ensures as_long { IfOk result (λ sums. vec_len sums ≡ length a.now) }
+{
     match op {
-        BoolBinary::And => scan::<R, A, BoolAnd>(rt, alloc, config, a),
-        BoolBinary::Ior => scan::<R, A, BoolIor>(rt, alloc, config, a),
-        BoolBinary::Xor => scan::<R, A, BoolXor>(rt, alloc, config, a),
+        BoolBinary::And => scan_gated::<R, A, BoolAnd, G>(rt, alloc, config, a, gate),
+        BoolBinary::Ior => scan_gated::<R, A, BoolIor, G>(rt, alloc, config, a, gate),
+        BoolBinary::Xor => scan_gated::<R, A, BoolXor, G>(rt, alloc, config, a, gate),
     }
 }
 
@@ -43,10 +59,24 @@ pub fn bool_reduce<R: Threads + Sync, A: Memory>(
 ) -> Result<bool, NoResources>
     ensures { IfOk result (λ sum. sum ≡ bool_reduce_of op a.now) }
 {
+    bool_reduce_gated(rt, alloc, config, op, a, &OpenGate)
+}
+
+/// The same as [`bool_reduce`], by workers that pass a gate at each point of their way through a tile.
+pub fn bool_reduce_gated<R: Threads + Sync, A: Memory, G: Gate>(
+    rt: &R,
+    alloc: A,
+    config: Config,
+    op: BoolBinary,
+    a: &[bool],
+    gate: &G,
+) -> Result<bool, NoResources>
+    ensures { IfOk result (λ sum. sum ≡ bool_reduce_of op a.now) }
+{
     match op {
-        BoolBinary::And => reduce::<R, A, BoolAnd>(rt, alloc, config, a),
-        BoolBinary::Ior => reduce::<R, A, BoolIor>(rt, alloc, config, a),
-        BoolBinary::Xor => reduce::<R, A, BoolXor>(rt, alloc, config, a),
+        BoolBinary::And => reduce_gated::<R, A, BoolAnd, G>(rt, alloc, config, a, gate),
+        BoolBinary::Ior => reduce_gated::<R, A, BoolIor, G>(rt, alloc, config, a, gate),
+        BoolBinary::Xor => reduce_gated::<R, A, BoolXor, G>(rt, alloc, config, a, gate),
     }
 }
 
@@ -66,10 +96,27 @@ pub fn seg_bool_scan<R: Threads + Sync, A: Memory>(
         (seg_scan_of (bool_join_of op) (bool_unit_of op) a.now d.now) }
     ensures as_long { IfOk result (λ sums. vec_len sums ≡ length a.now) }
 {
+    seg_bool_scan_gated(rt, alloc, config, op, a, d, &OpenGate)
+}
+
+/// The same as [`seg_bool_scan`], by workers that pass a gate at each point of their way through a tile.
+pub fn seg_bool_scan_gated<R: Threads + Sync, A: Memory, G: Gate>(
+    rt: &R,
+    alloc: A,
+    config: Config,
+    op: BoolBinary,
+    a: &[bool],
+    d: &SegDes<A>,
+    gate: &G,
+) -> Result<Vec<bool, A>, Refused>
+    ensures values { Gives (λ sums. sums.items) result
+        (seg_scan_of (bool_join_of op) (bool_unit_of op) a.now d.now) }
+    ensures as_long { IfOk result (λ sums. vec_len sums ≡ length a.now) }
+{
     match op {
-        BoolBinary::And => seg_scan::<R, A, BoolAnd>(rt, alloc, config, a, d),
-        BoolBinary::Ior => seg_scan::<R, A, BoolIor>(rt, alloc, config, a, d),
-        BoolBinary::Xor => seg_scan::<R, A, BoolXor>(rt, alloc, config, a, d),
+        BoolBinary::And => seg_scan_gated::<R, A, BoolAnd, G>(rt, alloc, config, a, d, gate),
+        BoolBinary::Ior => seg_scan_gated::<R, A, BoolIor, G>(rt, alloc, config, a, d, gate),
+        BoolBinary::Xor => seg_scan_gated::<R, A, BoolXor, G>(rt, alloc, config, a, d, gate),
     }
 }
 
@@ -89,9 +136,26 @@ pub fn seg_bool_reduce<R: Threads + Sync, A: Memory>(
         (seg_reduce_of (bool_join_of op) (bool_unit_of op) a.now d.now) }
     ensures one_each { IfOk result (λ sums. vec_len sums ≡ length d.now) }
 {
+    seg_bool_reduce_gated(rt, alloc, config, op, a, d, &OpenGate)
+}
+
+/// The same as [`seg_bool_reduce`], by workers that pass a gate at each point of their way through a tile.
+pub fn seg_bool_reduce_gated<R: Threads + Sync, A: Memory, G: Gate>(
+    rt: &R,
+    alloc: A,
+    config: Config,
+    op: BoolBinary,
+    a: &[bool],
+    d: &SegDes<A>,
+    gate: &G,
+) -> Result<Vec<bool, A>, Refused>
+    ensures values { Gives (λ sums. sums.items) result
+        (seg_reduce_of (bool_join_of op) (bool_unit_of op) a.now d.now) }
+    ensures one_each { IfOk result (λ sums. vec_len sums ≡ length d.now) }
+{
     match op {
-        BoolBinary::And => seg_reduce::<R, A, BoolAnd>(rt, alloc, config, a, d),
-        BoolBinary::Ior => seg_reduce::<R, A, BoolIor>(rt, alloc, config, a, d),
-        BoolBinary::Xor => seg_reduce::<R, A, BoolXor>(rt, alloc, config, a, d),
+        BoolBinary::And => seg_reduce_gated::<R, A, BoolAnd, G>(rt, alloc, config, a, d, gate),
+        BoolBinary::Ior => seg_reduce_gated::<R, A, BoolIor, G>(rt, alloc, config, a, d, gate),
+        BoolBinary::Xor => seg_reduce_gated::<R, A, BoolXor, G>(rt, alloc, config, a, d, gate),
     }
 }

@@ -7,11 +7,12 @@ ghost use Rattle.cvl_base.specs.ItemWords.{is_number};
 ghost use Rattle.cvl_base.specs.Scans.{int_join_of, int_reduce_of, int_scan_of, int_unit_of};
 ghost use Rattle.cvl_base.specs.SegmentedCalls.{seg_reduce_of, seg_scan_of};
 
+use crew::{Gate, OpenGate};
 use cvl_base::monoids::{Add, And, Ior, Max, Min, Mul, Xor};
 use cvl_base::{Config, IntMonoid, Memory, NoResources, Refused};
 use segdes::SegDes;
 use std::thread::Threads;
-use tile_scans::{reduce, scan, seg_reduce, seg_scan};
+use tile_scans::{reduce_gated, scan_gated, seg_reduce_gated, seg_scan_gated};
 
 /// The exclusive scan by an operator of the table: `add_suz` and its like.
 ///
@@ -26,15 +27,30 @@ pub fn int_scan<R: Threads + Sync, A: Memory>(
     ensures values { IfOk result (λ sums. sums.items ≡ int_scan_of op a.now) }
     ensures as_long { IfOk result (λ sums. vec_len sums ≡ length a.now) }
 {
+    int_scan_gated(rt, alloc, config, op, a, &OpenGate)
+}
+
+/// The same as [`int_scan`], by workers that pass a gate at each point of their way through a tile.
+pub fn int_scan_gated<R: Threads + Sync, A: Memory, G: Gate>(
+    rt: &R,
+    alloc: A,
+    config: Config,
+    op: IntMonoid,
+    a: &[i32],
+    gate: &G,
+) -> Result<Vec<i32, A>, NoResources>
+    ensures values { IfOk result (λ sums. sums.items ≡ int_scan_of op a.now) }
+    ensures as_long { IfOk result (λ sums. vec_len sums ≡ length a.now) }
+{
     know_numbers(a);
     match op {
-        IntMonoid::Add => scan::<R, A, Add>(rt, alloc, config, a),
-        IntMonoid::Mul => scan::<R, A, Mul>(rt, alloc, config, a),
-        IntMonoid::Min => scan::<R, A, Min>(rt, alloc, config, a),
-        IntMonoid::Max => scan::<R, A, Max>(rt, alloc, config, a),
-        IntMonoid::And => scan::<R, A, And>(rt, alloc, config, a),
-        IntMonoid::Ior => scan::<R, A, Ior>(rt, alloc, config, a),
-        IntMonoid::Xor => scan::<R, A, Xor>(rt, alloc, config, a),
+        IntMonoid::Add => scan_gated::<R, A, Add, G>(rt, alloc, config, a, gate),
+        IntMonoid::Mul => scan_gated::<R, A, Mul, G>(rt, alloc, config, a, gate),
+        IntMonoid::Min => scan_gated::<R, A, Min, G>(rt, alloc, config, a, gate),
+        IntMonoid::Max => scan_gated::<R, A, Max, G>(rt, alloc, config, a, gate),
+        IntMonoid::And => scan_gated::<R, A, And, G>(rt, alloc, config, a, gate),
+        IntMonoid::Ior => scan_gated::<R, A, Ior, G>(rt, alloc, config, a, gate),
+        IntMonoid::Xor => scan_gated::<R, A, Xor, G>(rt, alloc, config, a, gate),
     }
 }
 
@@ -50,15 +66,29 @@ pub fn int_reduce<R: Threads + Sync, A: Memory>(
 ) -> Result<i32, NoResources>
     ensures { IfOk result (λ sum. sum ≡ int_reduce_of op a.now) }
 {
+    int_reduce_gated(rt, alloc, config, op, a, &OpenGate)
+}
+
+/// The same as [`int_reduce`], by workers that pass a gate at each point of their way through a tile.
+pub fn int_reduce_gated<R: Threads + Sync, A: Memory, G: Gate>(
+    rt: &R,
+    alloc: A,
+    config: Config,
+    op: IntMonoid,
+    a: &[i32],
+    gate: &G,
+) -> Result<i32, NoResources>
+    ensures { IfOk result (λ sum. sum ≡ int_reduce_of op a.now) }
+{
     know_numbers(a);
     match op {
-        IntMonoid::Add => reduce::<R, A, Add>(rt, alloc, config, a),
-        IntMonoid::Mul => reduce::<R, A, Mul>(rt, alloc, config, a),
-        IntMonoid::Min => reduce::<R, A, Min>(rt, alloc, config, a),
-        IntMonoid::Max => reduce::<R, A, Max>(rt, alloc, config, a),
-        IntMonoid::And => reduce::<R, A, And>(rt, alloc, config, a),
-        IntMonoid::Ior => reduce::<R, A, Ior>(rt, alloc, config, a),
-        IntMonoid::Xor => reduce::<R, A, Xor>(rt, alloc, config, a),
+        IntMonoid::Add => reduce_gated::<R, A, Add, G>(rt, alloc, config, a, gate),
+        IntMonoid::Mul => reduce_gated::<R, A, Mul, G>(rt, alloc, config, a, gate),
+        IntMonoid::Min => reduce_gated::<R, A, Min, G>(rt, alloc, config, a, gate),
+        IntMonoid::Max => reduce_gated::<R, A, Max, G>(rt, alloc, config, a, gate),
+        IntMonoid::And => reduce_gated::<R, A, And, G>(rt, alloc, config, a, gate),
+        IntMonoid::Ior => reduce_gated::<R, A, Ior, G>(rt, alloc, config, a, gate),
+        IntMonoid::Xor => reduce_gated::<R, A, Xor, G>(rt, alloc, config, a, gate),
     }
 }
 
@@ -78,15 +108,32 @@ pub fn seg_int_scan<R: Threads + Sync, A: Memory>(
         (seg_scan_of (int_join_of op) (int_unit_of op) a.now d.now) }
     ensures as_long { IfOk result (λ sums. vec_len sums ≡ length a.now) }
 {
+    seg_int_scan_gated(rt, alloc, config, op, a, d, &OpenGate)
+}
+
+/// The same as [`seg_int_scan`], by workers that pass a gate at each point of their way through a tile.
+pub fn seg_int_scan_gated<R: Threads + Sync, A: Memory, G: Gate>(
+    rt: &R,
+    alloc: A,
+    config: Config,
+    op: IntMonoid,
+    a: &[i32],
+    d: &SegDes<A>,
+    gate: &G,
+) -> Result<Vec<i32, A>, Refused>
+    ensures values { Gives (λ sums. sums.items) result
+        (seg_scan_of (int_join_of op) (int_unit_of op) a.now d.now) }
+    ensures as_long { IfOk result (λ sums. vec_len sums ≡ length a.now) }
+{
     know_numbers(a);
     match op {
-        IntMonoid::Add => seg_scan::<R, A, Add>(rt, alloc, config, a, d),
-        IntMonoid::Mul => seg_scan::<R, A, Mul>(rt, alloc, config, a, d),
-        IntMonoid::Min => seg_scan::<R, A, Min>(rt, alloc, config, a, d),
-        IntMonoid::Max => seg_scan::<R, A, Max>(rt, alloc, config, a, d),
-        IntMonoid::And => seg_scan::<R, A, And>(rt, alloc, config, a, d),
-        IntMonoid::Ior => seg_scan::<R, A, Ior>(rt, alloc, config, a, d),
-        IntMonoid::Xor => seg_scan::<R, A, Xor>(rt, alloc, config, a, d),
+        IntMonoid::Add => seg_scan_gated::<R, A, Add, G>(rt, alloc, config, a, d, gate),
+        IntMonoid::Mul => seg_scan_gated::<R, A, Mul, G>(rt, alloc, config, a, d, gate),
+        IntMonoid::Min => seg_scan_gated::<R, A, Min, G>(rt, alloc, config, a, d, gate),
+        IntMonoid::Max => seg_scan_gated::<R, A, Max, G>(rt, alloc, config, a, d, gate),
+        IntMonoid::And => seg_scan_gated::<R, A, And, G>(rt, alloc, config, a, d, gate),
+        IntMonoid::Ior => seg_scan_gated::<R, A, Ior, G>(rt, alloc, config, a, d, gate),
+        IntMonoid::Xor => seg_scan_gated::<R, A, Xor, G>(rt, alloc, config, a, d, gate),
     }
 }
 
@@ -106,19 +153,37 @@ pub fn seg_int_reduce<R: Threads + Sync, A: Memory>(
         (seg_reduce_of (int_join_of op) (int_unit_of op) a.now d.now) }
     ensures one_each { IfOk result (λ sums. vec_len sums ≡ length d.now) }
 {
+    seg_int_reduce_gated(rt, alloc, config, op, a, d, &OpenGate)
+}
+
+/// The same as [`seg_int_reduce`], by workers that pass a gate at each point of their way through a tile.
+pub fn seg_int_reduce_gated<R: Threads + Sync, A: Memory, G: Gate>(
+    rt: &R,
+    alloc: A,
+    config: Config,
+    op: IntMonoid,
+    a: &[i32],
+    d: &SegDes<A>,
+    gate: &G,
+) -> Result<Vec<i32, A>, Refused>
+    ensures values { Gives (λ sums. sums.items) result
+        (seg_reduce_of (int_join_of op) (int_unit_of op) a.now d.now) }
+    ensures one_each { IfOk result (λ sums. vec_len sums ≡ length d.now) }
+{
     know_numbers(a);
     match op {
-        IntMonoid::Add => seg_reduce::<R, A, Add>(rt, alloc, config, a, d),
-        IntMonoid::Mul => seg_reduce::<R, A, Mul>(rt, alloc, config, a, d),
-        IntMonoid::Min => seg_reduce::<R, A, Min>(rt, alloc, config, a, d),
-        IntMonoid::Max => seg_reduce::<R, A, Max>(rt, alloc, config, a, d),
-        IntMonoid::And => seg_reduce::<R, A, And>(rt, alloc, config, a, d),
-        IntMonoid::Ior => seg_reduce::<R, A, Ior>(rt, alloc, config, a, d),
-        IntMonoid::Xor => seg_reduce::<R, A, Xor>(rt, alloc, config, a, d),
+        IntMonoid::Add => seg_reduce_gated::<R, A, Add, G>(rt, alloc, config, a, d, gate),
+        IntMonoid::Mul => seg_reduce_gated::<R, A, Mul, G>(rt, alloc, config, a, d, gate),
+        IntMonoid::Min => seg_reduce_gated::<R, A, Min, G>(rt, alloc, config, a, d, gate),
+        IntMonoid::Max => seg_reduce_gated::<R, A, Max, G>(rt, alloc, config, a, d, gate),
+        IntMonoid::And => seg_reduce_gated::<R, A, And, G>(rt, alloc, config, a, d, gate),
+        IntMonoid::Ior => seg_reduce_gated::<R, A, Ior, G>(rt, alloc, config, a, d, gate),
+        IntMonoid::Xor => seg_reduce_gated::<R, A, Xor, G>(rt, alloc, config, a, d, gate),
     }
 }
 
-/// Each integer of a vector fits 32 bits, so that it is an item of all operators. The contract names the fact.
+/// Each integer of a vector fits 32 bits, so that it is an item of all operators. The contract names the fact, which a proof
+/// has only of an integer that is read. The loop does nothing with what it reads, so that the compiler leaves it out.
 fn know_numbers(a: &[i32])
     ensures { AllPass is_number a.now }
 {

@@ -1,9 +1,10 @@
 -- A flat vector in tiles: the sums of its tiles, and the parts of its scan.
-use Rattle.std.proofs.Common.{◌≡◌, ℕ, zero, suc, cond, inl, inr, ◌+◌, ◌-◌, ◌*◌, ◌<◌, ◌≤◌, min, Bool, false, true, IsTrue, List, [], ◌∷◌, ◌++◌, length, take, drop, map, get_or, slice_range, refl, sym, ap, subst, ◌∙◌, arith}
+use Rattle.std.proofs.Common.{◌≡◌, ℕ, zero, suc, cond, inl, inr, ◌+◌, ◌-◌, ◌*◌, ◌<◌, ◌≤◌, min, Bool, false, true, IsTrue, List, [], ◌∷◌, ◌++◌, length, take, drop, map, get_or, slice_range, refl, sym}
+use Rattle.std.proofs.Common.{ap, subst, ◌∙◌, arith}
 use Rattle.std.specs.List.{AllPass, flat_map, range_with_len, list_all}
 use Rattle.std.proofs.lemmas.List.{drop-map, length-map, take-map, take_all}
 use Rattle.std.proofs.lemmas.Bool.Decides.{eqb_tells}
-use Rattle.std.proofs.lemmas.List.Elements.{All-map, All-take, All-drop}
+use Rattle.std.proofs.lemmas.List.Elements.{All-map}
 use Rattle.std.proofs.lemmas.List.FromFn.{get_or-map-range_with_len, length-map-range_with_len}
 use Rattle.std.proofs.lemmas.List.Sums.{AllPass-from_list_all}
 use Rattle.cvl_base.specs.Folds.{fold_of, scan_of}
@@ -31,10 +32,6 @@ module _ {X Item : Type 0} (is_item : Item → Bool) (item : X → Item) where
   pub items_read : (xs : List X) → list_all (λ x. is_item (item x)) xs ≡ true → AllPass is_item (map item xs)
   items_read xs items = All-map (λ y. is_item y ≡ true) item xs (all_read_pass xs items)
 
-  pub tile_items_pass : (len tile : ℕ) (xs : List X) (t : ℕ) → list_all (λ x. is_item (item x)) xs ≡ true → AllPass (λ x. is_item (item x)) (tile_of len tile xs t)
-  tile_items_pass len tile xs t items =
-      All-take (λ x. is_item (item x) ≡ true) ((range_of len tile t).1 - (range_of len tile t).0) _ (All-drop (λ x. is_item (item x) ≡ true) (range_of len tile t).0 xs (all_read_pass xs items))
-
 pub length-flat_sums : {Item : Type 0} (join : Item → Item → Item) (unit : Item) (plan : ℕ × ℕ) (xs : List Item) → length (flat_sums join unit plan xs) ≡ count_of plan.0 plan.1
 length-flat_sums join unit plan xs = length-map-range_with_len (λ t. fold_of (seg_join join) (seg_unit unit) (tile_of plan.0 plan.1 (continued xs) t)) 0 (count_of plan.0 plan.1)
 
@@ -45,7 +42,8 @@ flat_sum_at join unit plan xs t below =
     ∙ ap (fold_of (seg_join join) (seg_unit unit)) (continued_slice xs (range_of plan.0 plan.1 t).0 (range_of plan.0 plan.1 t).1)
     ∙ continued_summed join false unit (tile_of plan.0 plan.1 xs t)
 
-module _ {Item : Type 0} {is_item : Item → Bool} {unit : Item} {join : Item → Item → Item} (laws : MonoidLaws is_item unit join) (plan : ℕ × ℕ) (xs : List Item) (some : 1 ≤ plan.1) (items : AllPass is_item xs) where
+module _ {Item : Type 0} {is_item : Item → Bool} {unit : Item} {join : Item → Item → Item} (laws : MonoidLaws is_item unit join)
+    (plan : ℕ × ℕ) (xs : List Item) (some : 1 ≤ plan.1) (items : AllPass is_item xs) where
   pub flat_sums_pass : AllPass (is_seg_item is_item) (flat_sums join unit plan xs)
   flat_sums_pass = sums_pass laws plan.0 plan.1 (continued xs) some (continued_passes is_item xs items)
 

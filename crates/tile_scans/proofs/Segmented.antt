@@ -30,9 +30,6 @@ module _ {Item : Type 0} (join : Item → Item → Item) (unit : Item) (xs : Lis
       ap (end_to_end (in_vector lengths) (λ ys. Ok (scan_of join unit ys))) (nest-fits lengths xs fits)
       ∙ ap (λ lists. lists >>= λ rs. Ok (joined rs)) (results-ok (in_vector lengths) (scan_of join unit) 0 (cut_of lengths xs))
 
-  pub seg_scan-misfits : (f : Fault) → nest lengths xs ≡ Err f → seg_scan_of join unit xs lengths ≡ Err f
-  seg_scan-misfits f misfits = ap (end_to_end (in_vector lengths) (λ ys. Ok (scan_of join unit ys))) misfits
-
   pub seg_reduce-fits : sum lengths ≡ length xs → seg_reduce_of join unit xs lengths ≡ Ok (reduces_of join unit lengths xs)
   seg_reduce-fits fits =
       ap (one_each (in_vector lengths) (λ ys. Ok (fold_of join unit ys))) (nest-fits lengths xs fits)

@@ -1,5 +1,6 @@
 -- A segmented vector in tiles: the sums of its tiles, the parts of its scan, and which tile gives which reduces.
-use Rattle.std.proofs.Common.{◌≡◌, ℕ, zero, suc, ◌+◌, ◌-◌, ◌*◌, ◌<◌, ◌≤◌, min, Bool, false, IsTrue, cond, List, [], ◌∷◌, length, take, drop, get_or, slice_range, refl, sym, ap, subst, ◌∙◌, arith, inl, inr}
+use Rattle.std.proofs.Common.{◌≡◌, ℕ, zero, suc, ◌+◌, ◌-◌, ◌*◌, ◌<◌, ◌≤◌, min, Bool, false, IsTrue, cond, List, [], ◌∷◌, length, take, drop, get_or, slice_range, refl, sym, ap, subst, ◌∙◌, arith, inl}
+use Rattle.std.proofs.Common.{inr}
 use Rattle.std.specs.Prelude.{sum}
 use Rattle.std.specs.List.{AllPass, flat_map, range_with_len}
 use Rattle.std.proofs.lemmas.Bool.Decides.{eqb_tells, leb_tells}
@@ -56,7 +57,8 @@ starts_are lengths place r within earlier later =
 starts_rise : (lengths : List ℕ) (from to : ℕ) → from ≤ to → starts_before lengths from ≤ starts_before lengths to
 starts_rise lengths from to le =
     let n : ℕ = starts_before lengths to in
-    let less : n < starts_before lengths from → ⊥ = λ lt. omega (arith, le, starts_earlier lengths from n lt, starts_later lengths to n (omega arith) (omega (arith, lt, starts_before_le lengths from))) in
+    let less : n < starts_before lengths from → ⊥ = λ lt.
+    omega (arith, le, starts_earlier lengths from n lt, starts_later lengths to n (omega arith) (omega (arith, lt, starts_before_le lengths from))) in
     omega (arith, less)
 
 none_before : (lengths : List ℕ) → starts_before lengths 0 ≡ 0
@@ -135,7 +137,8 @@ module _ {Item : Type 0} (join : Item → Item → Item) (unit : Item) (plan : �
       get_or-map-range_with_len (λ k. fold_of (seg_join join) (seg_unit unit) (tile_of plan.0 plan.1 (with_starts lengths xs) k)) 0 (count_of plan.0 plan.1) t t (seg_unit unit) below (omega arith)
       ∙ ap (fold_of (seg_join join) (seg_unit unit)) (sym (run_of_is lengths xs (range_of plan.0 plan.1 t).0 (range_of plan.0 plan.1 t).1 (range_in_order t some below)))
 
-module _ {Item : Type 0} {is_item : Item → Bool} {unit : Item} {join : Item → Item → Item} (laws : MonoidLaws is_item unit join) (plan : ℕ × ℕ) (lengths : List ℕ) (xs : List Item) (some : 1 ≤ plan.1) (items : AllPass is_item xs) where
+module _ {Item : Type 0} {is_item : Item → Bool} {unit : Item} {join : Item → Item → Item} (laws : MonoidLaws is_item unit join)
+    (plan : ℕ × ℕ) (lengths : List ℕ) (xs : List Item) (some : 1 ≤ plan.1) (items : AllPass is_item xs) where
   pub segmented_sums_pass : AllPass (is_seg_item is_item) (segmented_sums join unit plan lengths xs)
   segmented_sums_pass = sums_pass laws plan.0 plan.1 (with_starts lengths xs) some (with_starts_passes is_item lengths xs items)
 
@@ -173,6 +176,15 @@ module _ {Item : Type 0} {is_item : Item → Bool} {unit : Item} {join : Item �
       → flat_map (tile_of plan.0 plan.1 (scans_of join unit lengths xs)) (range_with_len 0 (count_of plan.0 plan.1)) ≡ scans_of join unit lengths xs
   segmented_scans_joined whole total =
       tiles_joined plan.0 plan.1 (scans_of join unit lengths xs) some (length-scans_of join unit lengths xs total ∙ sym whole)
+
+  -- what is gathered from as many tiles as there are sums
+  pub scans_gathered : (made : List Item) → plan.0 ≡ length xs → sum lengths ≡ length xs
+      → made ≡ flat_map (tile_of plan.0 plan.1 (scans_of join unit lengths xs)) (range_with_len 0 (length (segmented_sums join unit plan lengths xs)))
+      → made ≡ scans_of join unit lengths xs
+  scans_gathered made whole total are =
+      are
+      ∙ ap (λ n. flat_map (tile_of plan.0 plan.1 (scans_of join unit lengths xs)) (range_with_len 0 n)) (length-segmented_sums join unit plan lengths xs)
+      ∙ segmented_scans_joined whole total
 
   -- what stands before a place is what its segment's elements before it join to
   since_start : (place o : ℕ) → place ≤ length xs → sum lengths ≡ length xs → o ≡ starts_before lengths place - 1 → o < length lengths

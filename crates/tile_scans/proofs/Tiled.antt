@@ -1,6 +1,7 @@
 -- The tiles of a list, one after another, and what the tiles before a tile sum up to.
 use Rattle.std.specs.Prelude.{◌||◌}
-use Rattle.std.proofs.Common.{◌≡◌, ℕ, zero, suc, ◌+◌, ◌-◌, ◌*◌, ◌<◌, ◌≤◌, min, Bool, true, IsTrue, List, [], ◌∷◌, ◌++◌, length, take, get_or, slice_range, sym, ap, ◌∙◌, arith, append-nil, take-add, inl, inr}
+use Rattle.std.proofs.Common.{◌≡◌, ℕ, zero, suc, ◌+◌, ◌-◌, ◌*◌, ◌<◌, ◌≤◌, min, Bool, true, IsTrue, List, [], ◌∷◌, ◌++◌, length, take, get_or, slice_range, sym, ap, ◌∙◌, arith, append-nil, take-add}
+use Rattle.std.proofs.Common.{inl, inr}
 use Rattle.std.proofs.lemmas.Bool.Decides.{leb_tells}
 use Rattle.std.specs.List.{AllPass, flat_map, list_any, range_with_len}
 use Rattle.std.proofs.lemmas.List.{map-id, take_all}
@@ -62,12 +63,15 @@ module _ {X : Type 0} where
       (λ t below. tile_cut len tile t xs some below)
       ∙ take_all (min len (n * tile)) xs (omega (arith, long, starts_past len tile some))
 
-module _ {Item : Type 0} {is_item : Item → Bool} {unit : Item} {join : Item → Item → Item} (laws : MonoidLaws is_item unit join) (len tile : ℕ) (run : List (Bool × Item)) (some : 1 ≤ tile) (items : AllPass (is_seg_item is_item) run) where
+module _ {Item : Type 0} {is_item : Item → Bool} {unit : Item} {join : Item → Item → Item} (laws : MonoidLaws is_item unit join)
+    (len tile : ℕ) (run : List (Bool × Item)) (some : 1 ≤ tile) (items : AllPass (is_seg_item is_item) run) where
   one : Bool × Item → Type 0
   one w = is_seg_item is_item w ≡ true
 
   tile_passes : (t : ℕ) → AllPass (is_seg_item is_item) (tile_of len tile run t)
-  tile_passes t = All-take (λ w. is_seg_item is_item w ≡ true) ((range_of len tile t).1 - (range_of len tile t).0) _ (All-drop (λ w. is_seg_item is_item w ≡ true) (range_of len tile t).0 run items)
+  tile_passes t =
+      All-take (λ w. is_seg_item is_item w ≡ true) ((range_of len tile t).1 - (range_of len tile t).0) _
+      (All-drop (λ w. is_seg_item is_item w ≡ true) (range_of len tile t).0 run items)
 
   pub sum_is_item : (t : ℕ) → IsTrue (is_seg_item is_item (fold_of (seg_join join) (seg_unit unit) (tile_of len tile run t)))
   sum_is_item t = fold_of_is_item (seg_laws laws) (tile_of len tile run t) (tile_passes t)

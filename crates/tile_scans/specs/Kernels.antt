@@ -14,7 +14,8 @@ tile_of len tile xs t = slice_range xs (range_of len tile t).0 (range_of len til
 
 -- the sum of each tile, in order
 abbrev pub sums_of : {Item : Type 0} → (Item → Item → Item) → Item → ℕ → ℕ → List (Bool × Item) → List (Bool × Item)
-sums_of join unit len tile run = map (λ t. fold_of (seg_join join) (seg_unit unit) (tile_of len tile run t)) (range_with_len 0 (count_of len tile))
+sums_of join unit len tile run =
+    map (λ t. fold_of (seg_join join) (seg_unit unit) (tile_of len tile run t)) (range_with_len 0 (count_of len tile))
 
 abbrev pub flat_sums : {Item : Type 0} → (Item → Item → Item) → Item → ℕ × ℕ → List Item → List (Bool × Item)
 flat_sums join unit plan xs = sums_of join unit plan.0 plan.1 (continued xs)
@@ -23,7 +24,8 @@ abbrev pub segmented_sums : {Item : Type 0} → (Item → Item → Item) → Ite
 segmented_sums join unit plan lengths xs = sums_of join unit plan.0 plan.1 (with_starts lengths xs)
 
 -- t is one of the tiles that have these sums: this is what the tiles before it join to, and this its own sum
-pub record IsAtTile {Item : Type 0} (join : Item → Item → Item) (unit : Item) (sums : List (Bool × Item)) (t : ℕ) (before sum : Bool × Item) : Type 0 where
+pub record IsAtTile {Item : Type 0} (join : Item → Item → Item) (unit : Item) (sums : List (Bool × Item))
+    (t : ℕ) (before sum : Bool × Item) : Type 0 where
   pub within : t < length sums
   pub before_is : before ≡ before_tile join unit sums t
   pub sum_is : sum ≡ own_sum unit sums t
@@ -46,4 +48,5 @@ first_left plan lengths t = if t == count_of plan.0 plan.1 then length lengths e
 -- of the reduces of segments, those that tile t gives: of the segments that have ended when a segment starts in it, or
 -- when it is the last tile, and that no tile before it gave
 abbrev pub reduces_at : {Item : Type 0} → (Item → Item → Item) → Item → ℕ × ℕ → List ℕ → List Item → ℕ → List Item
-reduces_at join unit plan lengths xs t = slice_range (reduces_of join unit lengths xs) (first_left plan lengths t) (first_left plan lengths (t + 1))
+reduces_at join unit plan lengths xs t =
+    slice_range (reduces_of join unit lengths xs) (first_left plan lengths t) (first_left plan lengths (t + 1))

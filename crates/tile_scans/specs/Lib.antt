@@ -1,2 +1,2 @@
 pub mod Kernels
-pub use Rattle.scan_walks.specs.Runs
+pub mod Told

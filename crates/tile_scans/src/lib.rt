@@ -1,17 +1,24 @@
 //! Scans and reduces by any monoid, flat and by segments, in one pass over tiles for which workers race.
+//!
+//! Where tiles of fewer than 1,024 elements are asked for, as many workers as are asked for race for them, but no more than
+//! there are tiles. Else as many workers as have a share of a long vector race for its tiles, which may be made longer, and a
+//! vector that is too short to be shared is walked at once. That hangs on the configuration and on the vector's length alone.
+//!
+//! Each call has a gated form, whose workers pass a gate at each point of their way through a tile. The call itself is its
+//! gated form at the gate that holds nobody, so that a gate sees whatever the call does.
 #![tactic(auto)]
 
 mod flat_tiles;
 mod kernel;
 mod pace;
-mod prefixes;
 mod race;
-mod racing;
+mod reduces;
+mod scans;
 mod segmented_tiles;
-mod sums;
+mod tile_work;
 
-pub use prefixes::{scan, scan_gated, scan_readings, seg_scan, seg_scan_gated};
-pub use scan_walks::Reading;
-pub use sums::{
+pub use reduces::{
     reduce, reduce_gated, reduce_readings, seg_reduce, seg_reduce_gated, seg_reduce_readings,
+    seg_reduce_readings_gated,
 };
+pub use scans::{scan, scan_gated, scan_readings, scan_readings_gated, seg_scan, seg_scan_gated};

@@ -1,5 +1,5 @@
-//! Rules of thumb: whether workers race for the tiles of a vector, how many of them, and for tiles of which length. No
-//! result depends on them.
+//! Rules of thumb: whether workers race for the tiles of a vector, how many of them, and for tiles of which length. They look
+//! at the configuration and at the length alone, so that a gate sees what a call without one does. No result depends on them.
 
 ghost use Rattle.std.specs.Prelude.{◌≤◌, IfSome};
 ghost use Rattle.cvl_base.specs.Limits.{longest_tile, most_elements};
@@ -7,8 +7,8 @@ ghost use Rattle.cvl_base.specs.Limits.{longest_tile, most_elements};
 use cvl_base::Config;
 use cvl_base::limits::{LONGEST_TILE, MOST_ELEMENTS};
 
-/// From how many elements in a tile on these rules are followed. Who asks for shorter tiles asks for the race itself, and
-/// gets the tiles and the workers that are asked for.
+/// From how many elements in a tile on it hangs on a vector's length whether workers race. Who asks for shorter tiles asks for
+/// the race itself, and gets the tiles and the workers that are asked for.
 const LONG_TILE: u32 = 1_024;
 
 /// From how many elements on workers race for a scan. One thread is done with fewer before several have started, and have
@@ -31,45 +31,34 @@ const LONGEST_OF_SCAN: u32 = 16_384;
 /// How long the tiles of a reduce are made at most. They are read once.
 const LONGEST_OF_REDUCE: u32 = LONGEST_TILE;
 
-/// The race that a caller asks for, or none where there is no board for it: a vector of no elements has no tile, and one of
-/// more than 4,194,304 may have more tiles than a board.
-pub(crate) fn race_asked_for(config: Config, elements: usize) -> Option<Config>
-    ensures some { IfSome result (λ _. 1 ≤ elements) }
-    ensures few { IfSome result (λ _. elements ≤ most_elements) }
-{
-    if elements == 0 || elements > MOST_ELEMENTS {
-        return None;
-    }
-    Some(config)
-}
-
-/// The race by which so many elements are scanned, or none where one thread walks them at once.
-pub(crate) fn race_of_scan(config: Config, elements: usize) -> Option<Config>
+/// The tiles and the workers of the race by which so many elements are scanned, or none where one thread walks them at once.
+pub(crate) fn scan_pace(config: Config, elements: usize) -> Option<Config>
     ensures some { IfSome result (λ _. 1 ≤ elements) }
     ensures few { IfSome result (λ _. elements ≤ most_elements) }
 {
     let pays = elements >= LEAST_SCANNED;
-    race_where(pays, config, elements, LONGEST_OF_SCAN)
+    pace_where(pays, config, elements, LONGEST_OF_SCAN)
 }
 
-/// The race by which so many elements, which take so many bytes, are reduced, or none where one thread walks them at once.
-pub(crate) fn race_of_reduce(config: Config, elements: usize, bytes: usize) -> Option<Config>
+/// The tiles and the workers of the race by which so many elements, which take so many bytes, are reduced, or none where one
+/// thread walks them at once.
+pub(crate) fn reduce_pace(config: Config, elements: usize, bytes: usize) -> Option<Config>
     ensures some { IfSome result (λ _. 1 ≤ elements) }
     ensures few { IfSome result (λ _. elements ≤ most_elements) }
 {
     let pays = bytes >= LEAST_REDUCED;
-    race_where(pays, config, elements, LONGEST_OF_REDUCE)
+    pace_where(pays, config, elements, LONGEST_OF_REDUCE)
 }
 
-/// The race for long tiles where it pays, with a share of the elements for each worker, in tiles that are made longer up to
-/// `longest`; the race that is asked for where its tiles are short. None where there is one worker or one tile.
-fn race_where(pays: bool, config: Config, elements: usize, longest: u32) -> Option<Config>
+/// What is asked for where its tiles are short; for long tiles a share of the elements for each worker where the race pays, in
+/// tiles that are made longer up to `longest`. None where there is no board for the race: a vector of no elements has no tile,
+/// and one of more than 4,194,304 may have more tiles than a board.
+fn pace_where(pays: bool, config: Config, elements: usize, longest: u32) -> Option<Config>
     requires at_most { longest ≤ longest_tile }
     ensures some { IfSome result (λ _. 1 ≤ elements) }
     ensures few { IfSome result (λ _. elements ≤ most_elements) }
 {
-    let one_tile = elements <= config.tile() as usize;
-    if one_tile || elements > MOST_ELEMENTS || config.workers() == 1 {
+    if elements == 0 || elements > MOST_ELEMENTS {
         return None;
     }
     if config.tile() < LONG_TILE {

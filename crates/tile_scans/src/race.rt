@@ -6,7 +6,7 @@ ghost use Rattle.tile_plan.specs.Pieces.{AreOfTiles, in_order_of_tiles};
 ghost use denote.Param.Send.{IsSync, IsSend, Frees};
 
 use crate::kernel::Kernel;
-use crate::racing::{Lent, Race};
+use crate::tile_work::{LentTiles, TileWork};
 use boards::ScanBoard;
 use crew::{Gate, run_crew};
 use cvl_base::{Config, Memory, Monoid, NoResources, Packed};
@@ -103,10 +103,10 @@ where
     ensures { IfOk result (λ pieces. AreOfTiles (length (K.sums kernel.now)) (K.items kernel.now)
         (map (λ p. (p.tile, p.items.items)) pieces.items)) }
 {
-    let (board, seats) = ScanBoard::new(alloc, Lent { kernel }, workers)?;
-    let work = Race { board, kernel };
+    let (board, seats) = ScanBoard::new(alloc, LentTiles { kernel }, workers)?;
+    let work = TileWork { board, kernel };
     let crewed = run_crew(rt, alloc, &work, seats, gate)?;
-    let Race { board, .. } = work;
+    let TileWork { board, .. } = work;
     board.close(crewed.seats);
     Ok(crewed.pieces)
 }

@@ -5,10 +5,13 @@ use Rattle.crew.proofs.together.+crew.Goals as goal
 
 pub run_both-returns : goal.run_both-returns
 run_both-returns g t c =
+    let w = g.W.Work in
     let work = c.args.work.now in
-    let front = IfOk-at_ok (λ crewed. Ends (g.W.Work.count work) (g.W.Work.items work) (g.W.Work.IsSeat work) g.W.Work.given g.W.Work.is_done (λ p. (p.tile, p.items.items)) _ crewed.seats.items crewed.pieces.items) c.in_ok-front.was c.join-front.ensures.first in
-    let back = IfOk-at_ok (λ crewed. Ends (g.W.Work.count work) (g.W.Work.items work) (g.W.Work.IsSeat work) g.W.Work.given g.W.Work.is_done (λ p. (p.tile, p.items.items)) _ crewed.seats.items crewed.pieces.items) c.in_ok-back.was c.join-front.ensures.second in
-    crewed_both (g.W.Work.count work) (g.W.Work.items work) (g.W.Work.IsSeat work) g.W.Work.given g.W.Work.is_done (λ p. (p.tile, p.items.items))
+    let front = IfOk-at_ok (λ crewed. Ends (w.count work) (w.items work) (w.IsSeat work) (w.HasFact work) w.given w.is_done
+    (λ p. (p.tile, p.items.items)) _ crewed.seats.items crewed.pieces.items) c.in_ok-front.was c.join-front.ensures.first in
+    let back = IfOk-at_ok (λ crewed. Ends (w.count work) (w.items work) (w.IsSeat work) (w.HasFact work) w.given w.is_done
+    (λ p. (p.tile, p.items.items)) _ crewed.seats.items crewed.pieces.items) c.in_ok-back.was c.join-front.ensures.second in
+    crewed_both (w.count work) (w.items work) (w.IsSeat work) (w.HasFact work) w.given w.is_done (λ p. (p.tile, p.items.items))
     c.both.result (λ crewed. crewed.seats.items) (λ crewed. crewed.pieces.items) _ _ _ _ _ _ _ c.both.ensures.seats c.both.ensures.pieces refl front back
 
 pub run_from-run_both-requires-clause-seats : goal.run_from-run_both-requires-clause-seats
@@ -21,7 +24,8 @@ run_from-run_both-requires-clause-others g t c κs within =
 
 pub run_from-returns-then-len-eq1 : goal.run_from-returns-then-len-eq1
 run_from-returns-then-len-eq1 g t c =
+    let w = g.W.Work in
     let work = c.args.work.now in
-    one_ends (g.W.Work.count work) (g.W.Work.items work) (g.W.Work.IsSeat work) g.W.Work.given g.W.Work.is_done (λ p. (p.tile, p.items.items))
+    one_ends (w.count work) (w.items work) (w.IsSeat work) (w.HasFact work) w.given w.is_done (λ p. (p.tile, p.items.items))
     _ c.args.seats.items c.take_tiles.new.seat c.in_ok-pieces.pieces.items (omega arith) (omega arith)
-    c.in_ok-pieces.ensures.of_board c.in_ok-pieces.ensures.done c.in_ok-pieces.ensures.pieces
+    c.in_ok-pieces.ensures.of_board c.in_ok-pieces.ensures.done c.in_ok-pieces.ensures.facts c.in_ok-pieces.ensures.pieces

@@ -1,4 +1,5 @@
 use Rattle.std.proofs.Common.{◌∙◌}
+use Rattle.crew.proofs.Facts.{one_fact_more}
 use Rattle.crew.proofs.Left.{one_less}
 use Rattle.crew.proofs.Pieces.{one_more}
 use Rattle.crew.proofs.worker.take_tiles.Goals as goal
@@ -12,7 +13,11 @@ loop-t-smaller g c =
 
 pub loop-t-preserved : goal.loop-t-preserved
 loop-t-preserved g c =
+    let w = g.W.Work in
+    let work = c.args.work.now in
     let claim = c.in-Tile.ensures.claims in
     let same = c.in_ok-items.ensures.given ∙ claim.3 in
-    let all = one_more (g.W.Work.count c.args.work.now) (g.W.Work.items c.args.work.now) (λ p. (p.tile, p.items.items)) _ _ _ claim.0 c.in_ok-items.ensures.items c.loop-t.invariant.1 in
-    (c.in_ok-items.ensures.stays, rw (same, c.in_ok-push.ensures.items) all)
+    let facts = one_fact_more (w.HasFact work) w.given _ _ _ same c.in_ok-items.ensures.fact
+    (λ k had. c.in_ok-items.ensures.facts k (c.in-Tile.ensures.facts k had)) c.loop-t.invariant.1 in
+    let all = one_more (w.count work) (w.items work) (λ p. (p.tile, p.items.items)) _ _ _ claim.0 c.in_ok-items.ensures.items c.loop-t.invariant.2 in
+    (c.in_ok-items.ensures.stays, facts, rw (same, c.in_ok-push.ensures.items) all)

@@ -10,14 +10,16 @@ join-requires-clause-first g c =
     let m = g.M.Monoid in
     let item = g.E.Reading.item in
     let flat = c.args.self.now.flat in
-    flat_before_is_item c.know_laws.ensures flat.plan (map item flat.elements.now) flat.some (items_read m.is_item item flat.elements.now flat.items) c.args.t c.args.before c.requires.within c.requires.before_is
+    flat_before_is_item c.know_laws.ensures flat.plan (map item flat.elements.now) flat.some (items_read m.is_item item flat.elements.now flat.items)
+    c.args.t c.args.before c.requires.within c.requires.before_is
 
 pub join-requires-clause-second : goal.join-requires-clause-second
 join-requires-clause-second g c =
     let m = g.M.Monoid in
     let item = g.E.Reading.item in
     let flat = c.args.self.now.flat in
-    flat_sum_is_item c.know_laws.ensures flat.plan (map item flat.elements.now) flat.some (items_read m.is_item item flat.elements.now flat.items) c.args.t c.args.sum c.requires.within c.requires.sum_is
+    flat_sum_is_item c.know_laws.ensures flat.plan (map item flat.elements.now) flat.some (items_read m.is_item item flat.elements.now flat.items)
+    c.args.t c.args.sum c.requires.within c.requires.sum_is
 
 pub returns-then-t-count : goal.returns-then-t-count
 returns-then-t-count g c =

@@ -14,7 +14,8 @@ scan_readings_from-requires-clause-before g c =
     let m = g.M.Monoid in
     let item = g.E.Reading.item in
     let flat = c.args.self.now.flat in
-    flat_before_is_item c.know_laws.ensures flat.plan (map item flat.elements.now) flat.some (items_read m.is_item item flat.elements.now flat.items) c.args.t c.args.before c.requires.within c.requires.before_is
+    flat_before_is_item c.know_laws.ensures flat.plan (map item flat.elements.now) flat.some (items_read m.is_item item flat.elements.now flat.items)
+    c.args.t c.args.before c.requires.within c.requires.before_is
 
 pub returns : goal.returns
 returns g c =

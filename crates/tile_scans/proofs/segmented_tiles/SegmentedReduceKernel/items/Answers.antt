@@ -71,7 +71,8 @@ reduces_of_readings-requires-clause-before g c =
     let m = g.M.Monoid in
     let item = g.E.Reading.item in
     let v = c.args.self.now.vector in
-    segmented_before_is_item c.know_laws.ensures v.plan v.segments.now (map item v.elements.now) v.some (items_read m.is_item item v.elements.now v.items) c.args.t c.args.before c.requires.within c.requires.before_is
+    segmented_before_is_item c.know_laws.ensures v.plan v.segments.now (map item v.elements.now) v.some (items_read m.is_item item v.elements.now v.items)
+    c.args.t c.args.before c.requires.within c.requires.before_is
 
 pub reduces_of_readings-requires-clause-items : goal.reduces_of_readings-requires-clause-items
 reduces_of_readings-requires-clause-items g c =

@@ -15,7 +15,8 @@ scan_of_readings-requires-clause-before g c =
     let m = g.M.Monoid in
     let item = g.E.Reading.item in
     let v = c.args.self.now.vector in
-    segmented_before_is_item c.know_laws.ensures v.plan v.segments.now (map item v.elements.now) v.some (items_read m.is_item item v.elements.now v.items) c.args.t c.args.before c.requires.within c.requires.before_is
+    segmented_before_is_item c.know_laws.ensures v.plan v.segments.now (map item v.elements.now) v.some (items_read m.is_item item v.elements.now v.items)
+    c.args.t c.args.before c.requires.within c.requires.before_is
 
 pub scan_of_readings-requires-clause-items : goal.scan_of_readings-requires-clause-items
 scan_of_readings-requires-clause-items g c =

@@ -1,14 +1,13 @@
 //! Reduces by any monoid.
 
-ghost use Rattle.std.specs.Prelude.{◌≡◌, ◌≤◌, IfOk, IfSome, length, map, vec_len};
+ghost use Rattle.std.specs.Prelude.{◌≡◌, IfOk, length, map, vec_len};
 ghost use Rattle.std.specs.List.{AllPass};
 ghost use Rattle.cvl_base.specs.Folds.{fold_of};
 ghost use Rattle.cvl_base.specs.Gives.{Gives};
-ghost use Rattle.cvl_base.specs.Limits.{most_elements};
 ghost use Rattle.cvl_base.specs.SegmentedCalls.{seg_reduce_of};
 
 use crate::flat_tiles::{Flat, FlatReduce};
-use crate::pace::{race_asked_for, race_of_reduce};
+use crate::pace::reduce_pace;
 use crate::race::race;
 use crate::segmented_tiles::{Segmented, SegmentedReduce};
 use crew::{Gate, OpenGate};
@@ -33,12 +32,10 @@ where
     requires items { AllPass M.is_item a.now }
     ensures { IfOk result (λ sum. sum ≡ fold_of M.join M.unit a.now) }
 {
-    let racing = race_of_reduce(config, a.len(), size_of_val(a));
-    reduce_by::<R, A, M, M::Item, Itself, OpenGate>(rt, alloc, racing, a, &OpenGate)
+    reduce_gated::<R, A, M, OpenGate>(rt, alloc, config, a, &OpenGate)
 }
 
-/// The same as [`reduce`], by workers that pass a gate at each point of their way through a tile. The tiles are as long as the
-/// configuration says, and there are as many workers, but no more than tiles.
+/// The same as [`reduce`], by workers that pass a gate at each point of their way through a tile.
 pub fn reduce_gated<R: Threads + Sync, A: Memory, M: Packed + Send + Sync, G: Gate>(
     rt: &R,
     alloc: A,
@@ -51,38 +48,12 @@ where
     requires items { AllPass M.is_item a.now }
     ensures { IfOk result (λ sum. sum ≡ fold_of M.join M.unit a.now) }
 {
-    let racing = race_asked_for(config, a.len());
-    reduce_by::<R, A, M, M::Item, Itself, G>(rt, alloc, racing, a, gate)
-}
-
-/// What the elements are read as, joined from left to right, and the unit where there are none, by a race for its tiles, or
-/// where there is none by one walk.
-fn reduce_by<R, A, M, X, E, G>(
-    rt: &R,
-    alloc: A,
-    racing: Option<Config>,
-    a: &[X],
-    gate: &G,
-) -> Result<M::Item, NoResources>
-where
-    R: Threads + Sync,
-    A: Memory,
-    M: Packed + Send + Sync,
-    M::Item: Send + Sync,
-    X: Copy + Send + Sync,
-    E: Reading<X, M::Item> + Send + Sync,
-    G: Gate,
-    requires some { IfSome racing (λ _. 1 ≤ length a.now) }
-    requires few { IfSome racing (λ _. length a.now ≤ most_elements) }
-    requires items { AllPass (λ x. M.is_item (E.item x)) a.now }
-    ensures { IfOk result (λ sum. sum ≡ fold_of M.join M.unit (map E.item a.now)) }
-{
     know_laws::<M>();
-    let Some(config) = racing else {
-        return Ok(sum_readings_from::<M, X, E>(M::unit(), a));
+    let Some(pace) = reduce_pace(config, a.len(), size_of_val(a)) else {
+        return Ok(sum_readings_from::<M, M::Item, Itself>(M::unit(), a));
     };
-    let flat = Flat::<M, X, E>::new(a, config.tile());
-    let reduces = race(rt, alloc, config, &FlatReduce { flat }, gate)?;
+    let flat = Flat::<M, M::Item, Itself>::new(a, pace.tile());
+    let reduces = race(rt, alloc, pace, &FlatReduce { flat }, gate)?;
     Ok(reduces[0])
 }
 
@@ -114,11 +85,10 @@ where
     ensures values { Gives (λ sums. sums.items) result (seg_reduce_of M.join M.unit a.now d.now) }
     ensures one_each { IfOk result (λ sums. vec_len sums ≡ length d.now) }
 {
-    seg_reduce_readings::<R, A, M, M::Item, Itself>(rt, alloc, config, a, d)
+    seg_reduce_gated::<R, A, M, OpenGate>(rt, alloc, config, a, d, &OpenGate)
 }
 
-/// The same as [`seg_reduce`], by workers that pass a gate at each point of their way through a tile. The tiles are as long as the
-/// configuration says, and there are as many workers, but no more than tiles.
+/// The same as [`seg_reduce`], by workers that pass a gate at each point of their way through a tile.
 pub fn seg_reduce_gated<R: Threads + Sync, A: Memory, M: Packed + Send + Sync, G: Gate>(
     rt: &R,
     alloc: A,
@@ -133,8 +103,7 @@ where
     ensures values { Gives (λ sums. sums.items) result (seg_reduce_of M.join M.unit a.now d.now) }
     ensures one_each { IfOk result (λ sums. vec_len sums ≡ length d.now) }
 {
-    let racing = race_asked_for(config, a.len());
-    seg_reduce_by::<R, A, M, M::Item, Itself, G>(rt, alloc, racing, a, d, gate)
+    seg_reduce_readings_gated::<R, A, M, M::Item, Itself, G>(rt, alloc, config, a, d, gate)
 }
 
 /// For each segment what its elements are read as, joined from left to right, and the unit where it is empty.
@@ -160,16 +129,14 @@ where
         (seg_reduce_of M.join M.unit (map E.item a.now) d.now) }
     ensures one_each { IfOk result (λ sums. vec_len sums ≡ length d.now) }
 {
-    let racing = race_of_reduce(config, a.len(), size_of_val(a));
-    seg_reduce_by::<R, A, M, X, E, OpenGate>(rt, alloc, racing, a, d, &OpenGate)
+    seg_reduce_readings_gated::<R, A, M, X, E, OpenGate>(rt, alloc, config, a, d, &OpenGate)
 }
 
-/// The reduces of the segments, of what their elements are read as, by a race for the tiles, or where there is none by one
-/// walk.
-fn seg_reduce_by<R, A, M, X, E, G>(
+/// The same as [`seg_reduce_readings`], by workers that pass a gate at each point of their way through a tile.
+pub fn seg_reduce_readings_gated<R, A, M, X, E, G>(
     rt: &R,
     alloc: A,
-    racing: Option<Config>,
+    config: Config,
     a: &[X],
     d: &SegDes<A>,
     gate: &G,
@@ -182,7 +149,6 @@ where
     X: Copy + Send + Sync,
     E: Reading<X, M::Item> + Send + Sync,
     G: Gate,
-    requires some { IfSome racing (λ _. 1 ≤ length a.now) }
     requires items { AllPass (λ x. M.is_item (E.item x)) a.now }
     ensures values { Gives (λ sums. sums.items) result
         (seg_reduce_of M.join M.unit (map E.item a.now) d.now) }
@@ -190,11 +156,11 @@ where
 {
     know_laws::<M>();
     check_total(a, d)?;
-    let Some(config) = racing else {
+    let Some(pace) = reduce_pace(config, a.len(), size_of_val(a)) else {
         let walked = reduces_of_readings::<M, X, E, A, A>(alloc, a, d, 0, d.count(), 0, M::unit())?;
         return Ok(walked);
     };
-    let vector = Segmented::<M, X, E, A>::new(a, d, config.tile());
-    let reduces = race(rt, alloc, config, &SegmentedReduce { vector }, gate)?;
+    let vector = Segmented::<M, X, E, A>::new(a, d, pace.tile());
+    let reduces = race(rt, alloc, pace, &SegmentedReduce { vector }, gate)?;
     Ok(reduces)
 }

@@ -1,20 +1,19 @@
 //! Scans by any monoid.
 
-ghost use Rattle.std.specs.Prelude.{◌≡◌, ◌≤◌, IfOk, IfSome, length, map, vec_len};
+ghost use Rattle.std.specs.Prelude.{◌≡◌, IfOk, length, map, vec_len};
 ghost use Rattle.std.specs.List.{AllPass};
 ghost use Rattle.cvl_base.specs.Folds.{scan_of};
 ghost use Rattle.cvl_base.specs.Gives.{Gives};
-ghost use Rattle.cvl_base.specs.Limits.{most_elements};
 ghost use Rattle.cvl_base.specs.SegmentedCalls.{seg_scan_of};
 
 use crate::flat_tiles::{Flat, FlatScan};
-use crate::pace::{race_asked_for, race_of_scan};
+use crate::pace::scan_pace;
 use crate::race::race;
 use crate::segmented_tiles::{Segmented, SegmentedScan};
 use crew::{Gate, OpenGate};
 use cvl_base::monoid::know_laws;
 use cvl_base::{Config, Memory, NoResources, Packed, Refused};
-use scan_walks::{Itself, Reading, scan_of_readings, scan_readings_from};
+use scan_walks::{Itself, Reading, scan_of_run, scan_readings_from};
 use segdes::{SegDes, check_total};
 use std::thread::Threads;
 
@@ -34,11 +33,10 @@ where
     ensures values { IfOk result (λ sums. sums.items ≡ scan_of M.join M.unit a.now) }
     ensures as_long { IfOk result (λ sums. vec_len sums ≡ length a.now) }
 {
-    scan_readings::<R, A, M, M::Item, Itself>(rt, alloc, config, a)
+    scan_gated::<R, A, M, OpenGate>(rt, alloc, config, a, &OpenGate)
 }
 
-/// The same as [`scan`], by workers that pass a gate at each point of their way through a tile. The tiles are as long as the
-/// configuration says, and there are as many workers, but no more than tiles.
+/// The same as [`scan`], by workers that pass a gate at each point of their way through a tile.
 pub fn scan_gated<R: Threads + Sync, A: Memory, M: Packed + Send + Sync, G: Gate>(
     rt: &R,
     alloc: A,
@@ -52,8 +50,7 @@ where
     ensures values { IfOk result (λ sums. sums.items ≡ scan_of M.join M.unit a.now) }
     ensures as_long { IfOk result (λ sums. vec_len sums ≡ length a.now) }
 {
-    let racing = race_asked_for(config, a.len());
-    scan_by::<R, A, M, M::Item, Itself, G>(rt, alloc, racing, a, gate)
+    scan_readings_gated::<R, A, M, M::Item, Itself, G>(rt, alloc, config, a, gate)
 }
 
 /// The exclusive scan of what the elements are read as: element `k` of the result joins the items of the elements before
@@ -77,15 +74,14 @@ where
     ensures values { IfOk result (λ sums. sums.items ≡ scan_of M.join M.unit (map E.item a.now)) }
     ensures as_long { IfOk result (λ sums. vec_len sums ≡ length a.now) }
 {
-    let racing = race_of_scan(config, a.len());
-    scan_by::<R, A, M, X, E, OpenGate>(rt, alloc, racing, a, &OpenGate)
+    scan_readings_gated::<R, A, M, X, E, OpenGate>(rt, alloc, config, a, &OpenGate)
 }
 
-/// The scan of what the elements are read as, by a race for its tiles, or where there is none by one walk.
-fn scan_by<R, A, M, X, E, G>(
+/// The same as [`scan_readings`], by workers that pass a gate at each point of their way through a tile.
+pub fn scan_readings_gated<R, A, M, X, E, G>(
     rt: &R,
     alloc: A,
-    racing: Option<Config>,
+    config: Config,
     a: &[X],
     gate: &G,
 ) -> Result<Vec<M::Item, A>, NoResources>
@@ -97,17 +93,16 @@ where
     X: Copy + Send + Sync,
     E: Reading<X, M::Item> + Send + Sync,
     G: Gate,
-    requires few { IfSome racing (λ _. length a.now ≤ most_elements) }
     requires items { AllPass (λ x. M.is_item (E.item x)) a.now }
     ensures values { IfOk result (λ sums. sums.items ≡ scan_of M.join M.unit (map E.item a.now)) }
     ensures as_long { IfOk result (λ sums. vec_len sums ≡ length a.now) }
 {
     know_laws::<M>();
-    let Some(config) = racing else {
+    let Some(pace) = scan_pace(config, a.len()) else {
         return scan_readings_from::<M, X, E, A>(alloc, M::unit(), a);
     };
-    let flat = Flat::<M, X, E>::new(a, config.tile());
-    let sums = race(rt, alloc, config, &FlatScan { flat }, gate)?;
+    let flat = Flat::<M, X, E>::new(a, pace.tile());
+    let sums = race(rt, alloc, pace, &FlatScan { flat }, gate)?;
     Ok(sums)
 }
 
@@ -129,12 +124,10 @@ where
     ensures values { Gives (λ sums. sums.items) result (seg_scan_of M.join M.unit a.now d.now) }
     ensures as_long { IfOk result (λ sums. vec_len sums ≡ length a.now) }
 {
-    let racing = race_of_scan(config, a.len());
-    seg_scan_by::<R, A, M, M::Item, Itself, OpenGate>(rt, alloc, racing, a, d, &OpenGate)
+    seg_scan_gated::<R, A, M, OpenGate>(rt, alloc, config, a, d, &OpenGate)
 }
 
-/// The same as [`seg_scan`], by workers that pass a gate at each point of their way through a tile. The tiles are as long as the
-/// configuration says, and there are as many workers, but no more than tiles.
+/// The same as [`seg_scan`], by workers that pass a gate at each point of their way through a tile.
 pub fn seg_scan_gated<R: Threads + Sync, A: Memory, M: Packed + Send + Sync, G: Gate>(
     rt: &R,
     alloc: A,
@@ -149,39 +142,12 @@ where
     ensures values { Gives (λ sums. sums.items) result (seg_scan_of M.join M.unit a.now d.now) }
     ensures as_long { IfOk result (λ sums. vec_len sums ≡ length a.now) }
 {
-    let racing = race_asked_for(config, a.len());
-    seg_scan_by::<R, A, M, M::Item, Itself, G>(rt, alloc, racing, a, d, gate)
-}
-
-/// The scan of each segment, of what its elements are read as, by a race for the tiles, or where there is none by one walk.
-fn seg_scan_by<R, A, M, X, E, G>(
-    rt: &R,
-    alloc: A,
-    racing: Option<Config>,
-    a: &[X],
-    d: &SegDes<A>,
-    gate: &G,
-) -> Result<Vec<M::Item, A>, Refused>
-where
-    R: Threads + Sync,
-    A: Memory,
-    M: Packed + Send + Sync,
-    M::Item: Send + Sync,
-    X: Copy + Send + Sync,
-    E: Reading<X, M::Item> + Send + Sync,
-    G: Gate,
-    requires items { AllPass (λ x. M.is_item (E.item x)) a.now }
-    ensures values { Gives (λ sums. sums.items) result
-        (seg_scan_of M.join M.unit (map E.item a.now) d.now) }
-    ensures as_long { IfOk result (λ sums. vec_len sums ≡ length a.now) }
-{
     know_laws::<M>();
     check_total(a, d)?;
-    let Some(config) = racing else {
-        let walked = scan_of_readings::<M, X, E, A, A>(alloc, a, d, 0, a.len(), M::unit())?;
-        return Ok(walked);
+    let Some(pace) = scan_pace(config, a.len()) else {
+        return Ok(scan_of_run::<M, A>(alloc, a, d, 0, a.len(), M::unit())?);
     };
-    let vector = Segmented::<M, X, E, A>::new(a, d, config.tile());
-    let sums = race(rt, alloc, config, &SegmentedScan { vector }, gate)?;
+    let vector = Segmented::<M, M::Item, Itself, A>::new(a, d, pace.tile());
+    let sums = race(rt, alloc, pace, &SegmentedScan { vector }, gate)?;
     Ok(sums)
 }

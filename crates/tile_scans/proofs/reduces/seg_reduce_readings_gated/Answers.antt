@@ -6,7 +6,7 @@ use Rattle.scan_walks.specs.Runs.{reduces_of}
 use Rattle.tile_scans.proofs.Segmented.{seg_reduce-fits}
 use Rattle.tile_scans.proofs.SegmentedTiles.{length-reduces_of, length-segmented_sums, reduces_joined}
 use Rattle.tile_scans.proofs.Tiled.{some_tile}
-use Rattle.tile_scans.proofs.sums.seg_reduce_by.Goals as goal
+use Rattle.tile_scans.proofs.reduces.seg_reduce_readings_gated.Goals as goal
 
 pub returns-in_default-clause-values : goal.returns-in_default-clause-values
 returns-in_default-clause-values g c =
@@ -36,7 +36,7 @@ returns-clause-values g c =
     let d = c.args.d.now in
     let v = c.new-vector.result in
     let xs = map item v.elements.now in
-    let filled : 0 < v.plan.0 = omega (arith, rw c.in-Some.is at c.requires.some, v.whole, ap length c.new-vector.ensures.elements) in
+    let filled : 0 < v.plan.0 = omega (arith, c.in-Some.ensures.some, v.whole, ap length c.new-vector.ensures.elements) in
     seg_reduce-fits m.join m.unit (map item c.args.a.now) d (c.in_ok-check_total.ensures.agrees ∙ sym (length-map c.args.a.now item))
     ∙ ap (λ sums. Ok sums) (sym (c.in_ok-reduces.ensures
     ∙ ap (λ n. flat_map (reduces_at m.join m.unit v.plan v.segments.now xs) (range_with_len 0 n)) (length-segmented_sums m.join m.unit v.plan v.segments.now xs)
@@ -50,7 +50,7 @@ returns-clause-one_each g c =
     let item = g.E.Reading.item in
     let v = c.new-vector.result in
     let xs = map item v.elements.now in
-    let filled : 0 < v.plan.0 = omega (arith, rw c.in-Some.is at c.requires.some, v.whole, ap length c.new-vector.ensures.elements) in
+    let filled : 0 < v.plan.0 = omega (arith, c.in-Some.ensures.some, v.whole, ap length c.new-vector.ensures.elements) in
     let values : c.in_ok-reduces.reduces.items ≡ reduces_of m.join m.unit v.segments.now xs =
     c.in_ok-reduces.ensures
     ∙ ap (λ n. flat_map (reduces_at m.join m.unit v.plan v.segments.now xs) (range_with_len 0 n)) (length-segmented_sums m.join m.unit v.plan v.segments.now xs)

@@ -5,7 +5,7 @@ use Rattle.cvl_base.specs.Folds.{scan_of}
 use Rattle.tile_scans.specs.Kernels.{tile_of}
 use Rattle.tile_scans.proofs.FlatTiles.{flat_scans_joined, items_read, length-flat_sums}
 use Rattle.operators.proofs.FoldLaws.{length-scan_of}
-use Rattle.tile_scans.proofs.prefixes.scan_by.Goals as goal
+use Rattle.tile_scans.proofs.scans.scan_readings_gated.Goals as goal
 
 pub returns-clause-values : goal.returns-clause-values
 returns-clause-values g c =

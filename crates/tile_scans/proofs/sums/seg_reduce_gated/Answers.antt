@@ -1,9 +1,0 @@
-use Rattle.std.proofs.Common.{subst}
-use Rattle.std.proofs.lemmas.List.{map-id}
-use Rattle.cvl_base.specs.Gives.{Gives}
-use Rattle.cvl_base.specs.SegmentedCalls.{seg_reduce_of}
-use Rattle.tile_scans.proofs.sums.seg_reduce_gated.Goals as goal
-
-pub returns-clause-values : goal.returns-clause-values
-returns-clause-values g c =
-    subst (λ xs. Gives (λ sums. sums.items) c.seg_reduce_by.result (seg_reduce_of g.M.Monoid.join g.M.Monoid.unit xs c.args.d.now)) (map-id c.args.a.now) c.seg_reduce_by.ensures.values
