@@ -9,10 +9,14 @@ module _ {X : Type 0} where
   after-none (Ok xs) = refl
   after-none (Err f) = refl
 
+  -- some more are done
+  pub after-after : (done more : List X) (others : Result (List X) Fault) → after done (after more others) ≡ after (done ++ more) others
+  after-after done more (Ok xs) = ap Ok (sym (append_assoc done more xs))
+  after-after done more (Err f) = refl
+
   -- one more is done
   pub after-one : (done : List X) (x : X) (others : Result (List X) Fault) → after done (others >>= λ xs. Ok (x ∷ xs)) ≡ after (done ++ x ∷ []) others
-  after-one done x (Ok xs) = ap Ok (sym (append_assoc done (x ∷ []) xs))
-  after-one done x (Err f) = refl
+  after-one done x others = after-after done (x ∷ []) others
 
   -- nothing is left
   pub after-end : (done : List X) → after done (Ok []) ≡ Ok done

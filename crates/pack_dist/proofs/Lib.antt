@@ -1,7 +1,5 @@
-pub mod Agreement
 pub mod Distributed
 pub mod Extracted
-pub mod Indexed
 pub mod Named
 pub mod Ones
 pub mod Packing

@@ -1,5 +1,5 @@
 -- Counts and packs of segments, one segment after another.
-use Rattle.std.proofs.Common.{◌≡◌, ◌≢◌, ℕ, ◌+◌, ◌≤◌, ℤ, pos, Bool, List, [], ◌∷◌, ◌++◌, length, take, drop, map, zip, refl, sym, ap, ◌∙◌, arith, inl, inr, Result, Ok, Err, IfOk}
+use Rattle.std.proofs.Common.{◌≡◌, ◌≢◌, ℕ, ◌+◌, ◌≤◌, ℤ, pos, Bool, List, [], ◌∷◌, length, take, drop, map, zip, refl, sym, ap, ◌∙◌, arith, inl, inr, Result, Ok, Err, IfOk}
 use Rattle.std.specs.Prelude.{sum, unsigned_abs}
 use Rattle.std.proofs.lemmas.Bool.Decides.{eqb_tells}
 use Rattle.std.proofs.lemmas.List.{drop-map, length-drop, length-map, length-take, nil_from_length, take-map}
@@ -12,13 +12,12 @@ use Rattle.cvl_base.specs.Conversions.{integer_of}
 use Rattle.cvl_base.specs.Descriptors.{AreLengths}
 use Rattle.cvl_base.specs.Faults.{fault}
 use Rattle.cvl_base.specs.Folds.{fold_of}
-use Rattle.cvl_base.specs.Gives.{◌>>=◌, Gives}
+use Rattle.cvl_base.specs.Gives.{after, Gives}
 use Rattle.cvl_base.specs.Integers.{sum_of}
 use Rattle.cvl_base.specs.Limits.{most_elements}
-use Rattle.cvl_base.specs.Lists.{joined}
 use Rattle.cvl_base.specs.Nests.{cut_of, nest}
 use Rattle.cvl_base.specs.Packs.{count_of, pack_of}
-use Rattle.cvl_base.specs.Segmented.{beside, end_to_end, in_vector, moved, of_two, one_each, results_from}
+use Rattle.cvl_base.specs.Segmented.{beside, end_to_end, in_vector, of_two, one_each}
 use Rattle.cvl_base.specs.SegmentedCalls.{seg_count_of, seg_pack_of, seg_reduce_of}
 use Rattle.cvl_base.proofs.Descriptors.{abs_pos}
 use Rattle.cvl_base.proofs.Elementwise.{if_as_long-fits}
@@ -30,6 +29,7 @@ use Rattle.scan_ops.specs.Runs.{reduces_of}
 use Rattle.pack_dist.specs.Kept.{kept_of}
 use Rattle.pack_dist.proofs.Ones.{ones_counted}
 use Rattle.pack_dist.proofs.Packing.{kept-split}
+use Rattle.pack_dist.proofs.Walk.{given, given-more, itself}
 
 -- ---- counts
 
@@ -127,24 +127,18 @@ module _ {X : Type 0} where
   pack-fits : (xs : List X) (flags : List Bool) → length xs ≡ length flags → pack_of xs flags ≡ Ok (kept_of xs flags)
   pack-fits xs flags long = if_as_long-fits xs flags (Ok (kept_of xs flags)) long
 
-  pack_each : (place : ℕ → ℕ → ℕ) (s : ℕ) (lengths : List ℕ) (xs : List X) (flags : List Bool) → length xs ≡ length flags
-      → results_from place (of_two pack_of) s (zip (cut_of lengths xs) (cut_of lengths flags)) ≡ Ok (map (λ p. kept_of p.0 p.1) (zip (cut_of lengths xs) (cut_of lengths flags)))
-  pack_each place s [] xs flags long = refl
-  pack_each place s (n ∷ lengths) xs flags long =
-      let others = results_from place (of_two pack_of) (s + 1) (zip (cut_of lengths (drop n xs)) (cut_of lengths (drop n flags))) in
-      ap (λ first. moved (place s) first >>= λ r. others >>= λ rs. Ok (r ∷ rs))
-      (pack-fits (take n xs) (take n flags) (omega (arith, long, length-take n xs, length-take n flags)))
-      ∙ ap (λ rest. rest >>= λ rs. Ok (kept_of (take n xs) (take n flags) ∷ rs))
-      (pack_each place (s + 1) lengths (drop n xs) (drop n flags) (omega (arith, long, length-drop n xs, length-drop n flags)))
-
   -- the packs of the segments, one after another, are the pack of the whole
-  packs_joined : (lengths : List ℕ) (xs : List X) (flags : List Bool) → length xs ≡ length flags → sum lengths ≡ length xs
-      → joined (map (λ p. kept_of p.0 p.1) (zip (cut_of lengths xs) (cut_of lengths flags))) ≡ kept_of xs flags
-  packs_joined [] xs flags long fits = ap (λ ys. kept_of ys flags) (sym (nil_from_length xs (sym fits)))
-  packs_joined (n ∷ lengths) xs flags long fits =
-      ap (λ kept. kept_of (take n xs) (take n flags) ++ kept)
-      (packs_joined lengths (drop n xs) (drop n flags) (omega (arith, long, length-drop n xs, length-drop n flags)) (omega (arith, fits, sum-cons n lengths, length-drop n xs)))
-      ∙ sym (kept-split xs flags n long)
+  packed : (place : ℕ → ℕ → ℕ) (s : ℕ) (lengths : List ℕ) (xs : List X) (flags : List Bool) → length xs ≡ length flags → sum lengths ≡ length xs
+      → given itself place (of_two pack_of) s (zip (cut_of lengths xs) (cut_of lengths flags)) ≡ Ok (kept_of xs flags)
+  packed place s [] xs flags long fits = ap Ok (ap (λ ys. kept_of ys flags) (sym (nil_from_length xs (sym fits))))
+  packed place s (n ∷ lengths) xs flags long fits =
+      let first = kept_of (take n xs) (take n flags) in
+      given-more itself place (of_two pack_of) s (take n xs, take n flags) (zip (cut_of lengths (drop n xs)) (cut_of lengths (drop n flags))) first
+      (pack-fits (take n xs) (take n flags) (omega (arith, long, length-take n xs, length-take n flags)))
+      ∙ ap (after first)
+      (packed place (s + 1) lengths (drop n xs) (drop n flags)
+      (omega (arith, long, length-drop n xs, length-drop n flags)) (omega (arith, fits, sum-cons n lengths, length-drop n xs)))
+      ∙ ap Ok (sym (kept-split xs flags n long))
 
   pub seg_pack-fits : (xs : List X) (flags : List Bool) (lengths : List ℕ) → sum lengths ≡ length xs → sum lengths ≡ length flags → seg_pack_of xs flags lengths ≡ Ok (kept_of xs flags)
   seg_pack-fits xs flags lengths fits fits_flags =
@@ -153,8 +147,7 @@ module _ {X : Type 0} where
       ap (λ lists. call (beside lists (nest lengths flags))) (nest-fits lengths xs fits)
       ∙ ap (λ lists. call (beside (Ok (cut_of lengths xs)) lists)) (nest-fits lengths flags fits_flags)
       ∙ ap call (beside-fits (cut_of lengths xs) (cut_of lengths flags) (length-cut lengths xs ∙ sym (length-cut lengths flags)))
-      ∙ ap (λ lists. lists >>= λ ls. Ok (joined ls)) (pack_each (in_vector lengths) 0 lengths xs flags long)
-      ∙ ap Ok (packs_joined lengths xs flags long fits)
+      ∙ packed (in_vector lengths) 0 lengths xs flags long fits
 
   pack_without_counts : (xs : List X) (flags : List Bool) (lengths : List ℕ) → sum lengths ≢ length flags → seg_pack_of xs flags lengths ≡ Err (fault no.LengthMismatch)
   pack_without_counts xs flags lengths misfits =

@@ -7,6 +7,7 @@ mod distributes;
 mod extracts;
 mod indexes;
 mod packs;
+mod places;
 mod replaces;
 mod segment_packs;
 

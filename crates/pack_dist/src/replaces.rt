@@ -5,6 +5,7 @@ ghost use Rattle.cvl_base.specs.Extracts.{replace_of};
 ghost use Rattle.cvl_base.specs.Gives.{Gives};
 ghost use Rattle.cvl_base.specs.SegmentedCalls.{seg_replace_of};
 
+use crate::places::place_in_segment;
 use cvl_base::{Fault, FaultNo, Memory, Refused, check_agree, place_among};
 use segdes::{SegDes, check_total};
 
@@ -53,10 +54,8 @@ pub fn seg_replace<T: Copy, A: Memory>(
     let mut start = 0;
     for s in 0..d.count() {
         let length = d.length(s);
-        let Some(place) = place_among(length, &index[s]) else {
-            return Err(Fault::at(FaultNo::IndexOutOfRange, s as u32).into());
-        };
-        replaced[start + place] = values[s];
+        let place = place_in_segment(s, start, length, &index[s])?;
+        replaced[place] = values[s];
         start += length;
     }
     Ok(replaced)

@@ -1,61 +1,55 @@
-use Rattle.std.proofs.Common.{◌≡◌, ◌∙◌, rules, arith, Err}
+use Rattle.std.proofs.Common.{◌≡◌, ◌∙◌, ℕ, rules, arith, ap, get_or, refl, Err}
 use Rattle.cvl_base.specs.declared.fault.FaultNo.TheVariants as no
 use Rattle.cvl_base.specs.Faults.{fault_at}
 use Rattle.cvl_base.specs.SegmentedCalls.{seg_extract_of}
-use Rattle.pack_dist.proofs.Extracted.{all_done, differ, no_place, none_yet, one_more}
-use Rattle.pack_dist.proofs.Parts.{left_more}
+use Rattle.pack_dist.proofs.Extracted.{extract-begins, extract-ends, extract-fails, extract-misfits, extract-more}
+use Rattle.pack_dist.proofs.Parts.{ends_within, starts_more}
 use Rattle.pack_dist.proofs.extracts.seg_extract.Goals as goal
 
 pub returns-in_err-check_agree-clause-values : goal.returns-in_err-check_agree-clause-values
 returns-in_err-check_agree-clause-values g c =
-    let e = differ c.args.vector.now c.args.index.now c.args.d.now (omega arith) (λ same. c.in_err-check_agree.ensures.1 (c.count.ensures.value ∙ same)) in
+    let e = extract-misfits c.args.vector.now c.args.index.now c.args.d.now (omega arith) (λ same. c.in_err-check_agree.ensures.1 (c.count.ensures.value ∙ same)) in
     search rules
 
 pub loop-s-init : goal.loop-s-init
 loop-s-init g c = record {
-  whole = none_yet c.args.vector.now c.args.index.now c.args.d.now _ (omega arith) (omega arith) c.in_ok-elements.ensures.items;
+  whole = extract-begins c.args.vector.now c.args.index.now c.args.d.now _ (omega arith) (omega arith) c.in_ok-elements.ensures.items;
   as_long = c.in_ok-elements.ensures.len;
   capacity = c.in_ok-elements.ensures.exact ∙ c.count-2.ensures.value;
-  covered = omega arith;
+  starts = refl;
 }
 
 pub loop-s-preserved : goal.loop-s-preserved
-loop-s-preserved g c = record {
-  whole = one_more c.args.vector.now c.args.index.now c.args.d.now c.loop-s.s c.loop-s.start _ c.in-Some.place _ _ _ _
-      (omega arith) (omega arith) c.length-length.ensures c.in-Some.ensures.named.1 c.in-Some.ensures.named.0 c.index-vector-start.is
-      c.loop-s.invariant.covered c.push_reserved.ensures.items c.loop-s.invariant.whole;
-  as_long = omega arith;
-  capacity = omega arith;
-  covered = left_more c.args.d.now c.loop-s.s c.loop-s.start _ _ (omega arith) c.length-length.ensures c.loop-s.invariant.covered;
-}
+loop-s-preserved g c =
+    let found = c.in_ok-place.ensures in
+    let covered = ends_within c.args.d.now c.loop-s.s c.loop-s.start c.length-length.result c.loop-s.invariant.starts (omega arith) c.length-length.ensures in
+    let read = c.index-vector-place.is ∙ ap (λ (p : ℕ). get_or c.args.vector.now p c.index-vector-place.result) found.3 in
+    record {
+      whole = extract-more c.args.vector.now c.args.index.now c.args.d.now c.loop-s.s c.loop-s.start c.length-length.result c.loop-s.invariant.starts
+          (omega arith) (omega arith) c.length-length.ensures c.loop-s.elements.items _ c.loop-s.invariant.whole found.0 c.index-vector-place.result _
+          (omega (arith, covered, c.in_ok-check_total.ensures.agrees)) found.2 found.1 read c.push_reserved.ensures.items;
+      as_long = omega arith;
+      capacity = omega arith;
+      starts = starts_more c.args.d.now c.loop-s.s c.loop-s.start c.length-length.result c.loop-s.invariant.starts (omega arith) c.length-length.ensures;
+    }
 
-pub returns-in_default-clause-values : goal.returns-in_default-clause-values
-returns-in_default-clause-values g c =
+pub returns-in_err-place-clause-values : goal.returns-in_err-place-clause-values
+returns-in_err-place-clause-values g c =
     let e : seg_extract_of c.args.vector.now c.args.index.now c.args.d.now ≡ Err (fault_at no.IndexOutOfRange c.loop-s.s) =
-    no_place c.args.vector.now c.args.index.now c.args.d.now c.loop-s.s c.loop-s.start _ _ _
-    (omega arith) (omega arith) c.length-length.ensures c.in_default.ensures.named c.loop-s.invariant.whole in
+    extract-fails c.args.vector.now c.args.index.now c.args.d.now c.loop-s.s c.loop-s.start c.length-length.result c.loop-s.invariant.starts
+    (omega arith) (omega arith) c.length-length.ensures c.loop-s.elements.items _ c.loop-s.invariant.whole c.in_err-place.ensures.1 in
     search rules
 
-pub overflow_add-start : goal.overflow_add-start
-overflow_add-start g c =
-    let e = left_more c.args.d.now c.loop-s.s c.loop-s.start _ _ (omega arith) c.length-length.ensures c.loop-s.invariant.covered in
-    omega (arith, e, c.in_ok-check_total.ensures.in_limit, c.in-Some.ensures.named.0)
+pub offset_bounds-vector-place : goal.offset_bounds-vector-place
+offset_bounds-vector-place g c =
+    let covered = ends_within c.args.d.now c.loop-s.s c.loop-s.start c.length-length.result c.loop-s.invariant.starts (omega arith) c.length-length.ensures in
+    omega (arith, covered, c.in_ok-place.ensures.1, c.in_ok-place.ensures.3, c.in_ok-check_total.ensures.agrees)
 
-pub bounds-vector-start : goal.bounds-vector-start
-bounds-vector-start g c =
-    let e = left_more c.args.d.now c.loop-s.s c.loop-s.start _ _ (omega arith) c.length-length.ensures c.loop-s.invariant.covered in
-    omega (arith, e, c.in-Some.ensures.named.0)
-
-pub offset_bounds-vector-start : goal.offset_bounds-vector-start
-offset_bounds-vector-start g c =
-    let e = left_more c.args.d.now c.loop-s.s c.loop-s.start _ _ (omega arith) c.length-length.ensures c.loop-s.invariant.covered in
-    omega (arith, e, c.in-Some.ensures.named.0)
-
-pub overflow_add-start-in-loop-s : goal.overflow_add-start-in-loop-s
-overflow_add-start-in-loop-s g c =
-    let e = left_more c.args.d.now c.loop-s.s c.loop-s.start _ _ (omega arith) c.length-length.ensures c.loop-s.invariant.covered in
-    omega (arith, e, c.in_ok-check_total.ensures.in_limit)
+pub bounds-vector-place : goal.bounds-vector-place
+bounds-vector-place g c =
+    let covered = ends_within c.args.d.now c.loop-s.s c.loop-s.start c.length-length.result c.loop-s.invariant.starts (omega arith) c.length-length.ensures in
+    omega (arith, covered, c.in_ok-place.ensures.1, c.in_ok-place.ensures.3, c.in_ok-check_total.ensures.agrees)
 
 pub returns-clause-values : goal.returns-clause-values
 returns-clause-values g c =
-    all_done c.args.vector.now c.args.index.now c.args.d.now c.loop-s.s c.loop-s.start _ _ (omega arith) c.loop-s.invariant.whole
+    extract-ends c.args.vector.now c.args.index.now c.args.d.now c.loop-s.s c.loop-s.elements.items _ (omega arith) c.loop-s.invariant.whole
