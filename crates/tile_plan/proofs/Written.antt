@@ -51,18 +51,3 @@ module _ {X : Type 0} where
         items = take-put_mid written k run new (written + length fitting) (omega (arith, long, new_long)) (omega (arith, within)) ∙ ap₂ ◌++◌ w.items (new_is ∙ cut)
             ∙ sym (ap (take n) (drop_of_both start passed piece) ∙ take_of_both n (drop start passed) (drop (start - length passed) piece));
       }
-
-  -- lists that have the same elements
-  pub same_elements : (xs ys : List X) → length xs ≡ length ys → ((i : ℕ) (d : X) → i < length xs → get_or xs i d ≡ get_or ys i d) → xs ≡ ys
-  same_elements [] [] long same = refl
-  same_elements [] (y ∷ ys) long same = absurd (omega (arith, long))
-  same_elements (x ∷ xs) ys long same = ext_get_or x (x ∷ xs) ys long (λ i below. same i x below)
-
-  -- an element of a run that was written from place `start` of a list on
-  pub element_of_run : (start n k i : ℕ) (whole run : List X) (d : X) → run ≡ take n (drop start whole) → k < n → start + k ≡ i → get_or run k d ≡ get_or whole i d
-  element_of_run start n k i whole run d is below place =
-      ap (λ xs. get_or xs k d) is ∙ get_or-take n (drop start whole) k d below ∙ get_or-drop start whole k d ∙ ap (λ m. get_or whole m d) place
-
-  -- a list, cut off behind it
-  pub front_all : (n : ℕ) (xs rest : List X) → n ≡ length xs → take n (xs ++ rest) ≡ xs
-  front_all n xs rest long = ap (λ k. take k (xs ++ rest)) long ∙ take-append_seam xs rest

@@ -5,9 +5,10 @@ ghost use Rattle.std.specs.List.{flat_map};
 ghost use Rattle.tile_plan.specs.Pieces.{IsWholeOfRanges, IsWholeOfTiles};
 
 use crate::pieces::{Piece, sorted};
+use crate::runs::{Writer, write_in_runs};
 use cvl_base::{Memory, NoResources};
 use std::alloc::Allocator;
-use std::thread::{Threads, for_each_chunk_mut};
+use std::thread::Threads;
 
 /// The elements of all pieces, in the order of their tiles, written over the elements of `whole` by at most `threads`
 /// threads. A tile's piece may have any number of elements.
@@ -33,7 +34,7 @@ pub fn gather_over<T: Copy + Send + Sync, R: Threads + Sync, A: Memory>(
         return Err(NoResources);
     };
     whole.resize(len, blank)?;
-    write_pieces(rt, threads, &pieces, &mut whole);
+    write_in_runs(rt, threads, &pieces, &mut whole);
     Ok(whole)
 }
 
@@ -53,24 +54,18 @@ fn total<T, A: Allocator>(pieces: &[Piece<T, A>]) -> Option<usize>
     Some(sum)
 }
 
-/// Writes the elements of the pieces, in the order of the pieces, over `to`, which is as long as all of them. It is cut
-/// into runs of one length, one for each thread.
-fn write_pieces<T: Copy + Send + Sync, R: Threads + Sync, A: Memory>(
-    rt: &R,
-    threads: u32,
-    pieces: &[Piece<T, A>],
-    to: &mut [T],
-)
-    requires { length to.old ≡ length (flat_map (λ p. p.items.items) pieces.now) }
-    ensures { to.new ≡ flat_map (λ p. p.items.items) pieces.now }
-{
-    let share = to.len().div_ceil(threads.max(1) as usize).max(1);
-    let part = move |start: usize, run: &mut [T]|
-        requires { start + length run.now ≤ length (flat_map (λ p. p.items.items) pieces.now) }
-        ensures { run.exit.now ≡ take (length run.entry.now)
-            (drop start (flat_map (λ p. p.items.items) pieces.entry.now)) }
-    { write_run(pieces, start, run) };
-    for_each_chunk_mut(rt, to, share, &part);
+/// Pieces write their elements, one piece after another, over as many places.
+impl<T: Copy, A: Allocator> Writer<T> for Vec<Piece<T, A>, A> {
+    ghost use Rattle.std.specs.Prelude.{length, slice_index_or};
+    ghost use Rattle.std.specs.List.{flat_map};
+
+    ghost places = { λ pieces. length (flat_map (λ p. p.items.items) pieces.items) };
+
+    ghost written = { λ pieces k x. slice_index_or (flat_map (λ p. p.items.items) pieces.items) k x };
+
+    fn write(&self, start: usize, run: &mut [T]) {
+        write_run(self, start, run);
+    }
 }
 
 /// Writes over `run` the elements that the pieces, one after another, have from place `start` on.
