@@ -1,13 +1,15 @@
 -- The walk that writes the elements of senders over values.
 use Rattle.std.proofs.Common.{◌≡◌, ◌≢◌, ◌∙◌, ℕ, suc, ◌+◌, ◌<◌, ◌≤◌, List, [], ◌∷◌, length, filter_map, get_or, set, refl, sym, ap, arith, slice_get, unwrap_or, below_more, Option, Some, None}
 use Rattle.std.specs.List.{All, cons_option, zip}
-use Rattle.std.proofs.lemmas.List.{ext_get_or, get_or-map, get_or-set_same, get_or-set_other, length-map}
+use Rattle.std.proofs.lemmas.List.{get_or-map, get_or-set_same, get_or-set_other, length-map}
 use Rattle.std.proofs.lemmas.List.Elements.{All-head, All-tail}
 use Rattle.std.proofs.lemmas.Option.{slice_get-get_or}
 use Rattle.std.proofs.lemmas.Slice.Zip.{get_or-zip, length-zip}
-use Rattle.permute_walks.specs.Senders.{written_over}
+use Rattle.permute_walks.specs.Senders.{written_at, written_over}
+use Rattle.tile_plan.specs.Runs.{written_from}
+use Rattle.tile_plan.proofs.Halves.{written_each}
 
--- ---- a chunk, whose first value stands at place `start`
+-- ---- a run, whose first value stands at place `start`
 
 -- the first n values are written, and the others are as before
 pub record IsWrittenUpTo {X : Type 0} (n : ℕ) (source : List X) (senders : List ℕ) (start : ℕ) (before after : List X) : Type 0 where
@@ -36,24 +38,19 @@ module _ {X : Type 0} (n : ℕ) (source : List X) (senders : List ℕ) (start : 
     others = λ k ge x. so_far.others k (omega arith) x;
   }
 
--- ---- all chunks
+-- ---- all values
 
-same_at : {X : Type 0} (xs ys : List X) → length xs ≡ length ys → ((i : ℕ) → i < length xs → (x : X) → get_or xs i x ≡ get_or ys i x) → xs ≡ ys
-same_at [] [] long same = refl
-same_at (x ∷ xs) [] long same = absurd (omega arith)
-same_at [] (y ∷ ys) long same = absurd (omega arith)
-same_at (x ∷ xs) (y ∷ ys) long same = ext_get_or x (x ∷ xs) (y ∷ ys) long (λ i lt. same i lt x)
-
-pub over_each : {X : Type 0} (source : List X) (senders : List ℕ) (before after : List X) → length senders ≡ length before → length after ≡ length before
-    → ((i : ℕ) → i < length before → (x : X) → get_or after i x ≡ unwrap_or (slice_get source (get_or senders i 0)) (get_or before i x)) → after ≡ written_over source senders before
-over_each source senders before after long as_long each =
-    let count : length (written_over source senders before) ≡ length before = omega (arith, length-map (zip senders before) (λ p. unwrap_or (slice_get source p.0) p.1), length-zip senders before) in
-    same_at after (written_over source senders before) (omega (arith, count)) (λ i lt x.
-    let in_before : i < length before = omega arith in
-    let in_senders : i < length senders = omega arith in
-    each i in_before x
-    ∙ ap (λ p. unwrap_or (slice_get source p.0) p.1) (sym (get_or-zip senders before i (0, x) in_senders in_before))
-    ∙ sym (get_or-map (λ p. unwrap_or (slice_get source p.0) p.1) (zip senders before) i (0, x) x (omega (arith, length-zip senders before))))
+pub over_written : {X : Type 0} (source : List X) (senders : List ℕ) (values : List X) → length senders ≡ length values
+    → written_from (written_at source senders) 0 values ≡ written_over source senders values
+over_written source senders values long =
+    let pairs = length-zip senders values in
+    let count : length (written_over source senders values) ≡ length values =
+    omega (arith, length-map (zip senders values) (λ p. unwrap_or (slice_get source p.0) p.1), pairs, long) in
+    sym (written_each (written_at source senders) 0 values (written_over source senders values) count (λ k below x.
+    let here : k ≡ 0 + k = omega arith in
+    get_or-map (λ p. unwrap_or (slice_get source p.0) p.1) (zip senders values) k (0, x) x (omega (arith, pairs, long, below))
+    ∙ ap (λ p. unwrap_or (slice_get source p.0) p.1) (get_or-zip senders values k (0, x) (omega (arith, long, below)) below)
+    ∙ ap (λ j. written_at source senders j (get_or values k x)) here))
 
 -- ---- where each sender has an element
 

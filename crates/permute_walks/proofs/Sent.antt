@@ -1,5 +1,5 @@
 -- The walk that sends places to their targets: what it has found after the first places, and after all.
-use Rattle.std.proofs.Common.{◌≡◌, ◌∙◌, ℕ, zero, suc, ◌+◌, ◌<◌, ◌≤◌, Bool, true, false, not, ◌||◌, if◌then◌else◌, List, [], ◌∷◌, ◌++◌, length, map, take, drop, get_or, set, replicate, refl, sym, ap, add-one, arith, inl, inr, eqb, ltb, ℤ, pos, negsuc, unsigned_abs, option_map, Option, Some, None, Result}
+use Rattle.std.proofs.Common.{◌≡◌, ◌∙◌, ℕ, zero, suc, ◌+◌, ◌<◌, ◌≤◌, Bool, true, false, not, ◌||◌, if◌then◌else◌, List, [], ◌∷◌, ◌++◌, length, map, take, drop, get_or, min, set, replicate, refl, sym, ap, add-one, arith, inl, inr, eqb, ltb, ℤ, pos, negsuc, unsigned_abs, option_map, Option, Some, None, Result}
 use Rattle.std.specs.List.{zip, list_any, range_with_len}
 use Rattle.std.specs.Ordering.{int_eq}
 use Rattle.std.proofs.lemmas.Bool.{ltb-true, eqb-true, or_parts, false_from_ne_true}
@@ -210,19 +210,22 @@ sent_all place ts m k senders to ge = (
 
 -- ---- the targets of the indices
 
-pub all-target : (index : List ℤ) (k : ℕ) → k < length index → get_or (all_targets index) k None ≡ Some (get_or index k (pos 0))
-all-target index k lt = get_or-map (λ i. Some i) index k (pos 0) None lt
-
 pub length-all_targets : (index : List ℤ) → length (all_targets index) ≡ length index
 length-all_targets index = length-map index (λ i. Some i)
 
-pub flagged-target : (index : List ℤ) (flags : List Bool) (k : ℕ) → k < length index → length index ≡ length flags → get_or (flagged_targets index flags) k None ≡ target_if (get_or index k (pos 0)) (get_or flags k false)
-flagged-target index flags k lt long =
+-- where there are fewer flags than indices, or more, the places that have both
+pub count-flagged_targets : (index : List ℤ) (flags : List Bool) → length (flagged_targets index flags) ≡ min (length index) (length flags)
+count-flagged_targets index flags =
+    omega (arith, length-map (zip index flags) (λ (p : ℤ × Bool). target_if p.0 p.1), length-zip index flags)
+
+pub flagged-target : (index : List ℤ) (flags : List Bool) (k : ℕ) → k < length index → k < length flags
+    → get_or (flagged_targets index flags) k None ≡ target_if (get_or index k (pos 0)) (get_or flags k false)
+flagged-target index flags k lt flagged =
     get_or-map (λ (p : ℤ × Bool). target_if p.0 p.1) (zip index flags) k (pos 0, false) None (omega (arith, length-zip index flags))
-    ∙ ap (λ (p : ℤ × Bool). target_if p.0 p.1) (get_or-zip index flags k (pos 0, false) lt (omega arith))
+    ∙ ap (λ (p : ℤ × Bool). target_if p.0 p.1) (get_or-zip index flags k (pos 0, false) lt flagged)
 
 pub length-flagged_targets : (index : List ℤ) (flags : List Bool) → length index ≡ length flags → length (flagged_targets index flags) ≡ length index
-length-flagged_targets index flags long = omega (arith, length-map (zip index flags) (λ (p : ℤ × Bool). target_if p.0 p.1), length-zip index flags)
+length-flagged_targets index flags long = omega (arith, count-flagged_targets index flags)
 
 -- the fault of a `?` is told again
 pub told_again : {T : Type 0} (r : Result T Fault) (f : Fault) → IsErrAnd r (λ y. y ≡ f) → told r ≡ Some f

@@ -50,8 +50,6 @@ pub record IsStored (place : ℕ) (targets : List (Option ℤ)) (sent m : ℕ) (
 abbrev pub written_over : {X : Type 0} → List X → List ℕ → List X → List X
 written_over source senders values = map (λ p. unwrap_or (slice_get source p.0) p.1) (zip senders values)
 
--- The same of a chunk, which was `before` and is `after`, and whose first value stands at place `start`.
-abbrev pub IsWrittenFrom : {X : Type 0} → List X → List ℕ → ℕ → List X → List X → Type 0
-IsWrittenFrom {X} source senders start before after = (k : ℕ) → k < length before → (x : X)
-    → slice_index_or after k x
-    ≡ unwrap_or (slice_get source (slice_index senders (start + k))) (slice_index_or before k x)
+-- the same at place k, over the value x
+abbrev pub written_at : {X : Type 0} → List X → List ℕ → ℕ → X → X
+written_at source senders k x = unwrap_or (slice_get source (slice_index senders k)) x

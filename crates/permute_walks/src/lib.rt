@@ -6,8 +6,10 @@ pub mod places;
 pub mod sends;
 pub mod shared;
 mod stores;
+pub mod targets;
 
 pub use elements::{elements_of, elements_or_defaults};
 pub use places::{element_of, place_among};
-pub use sends::{NOBODY, send_all, send_flagged};
+pub use sends::{NOBODY, send_places};
 pub use shared::write_elements;
+pub use targets::{AllTargets, FlaggedTargets, Targets};

@@ -1,13 +1,34 @@
 //! The second walk of a permute on several threads, which write the elements of the senders over values.
 
 ghost use Rattle.std.specs.Prelude.{◌≡◌, ◌+◌, ◌≤◌, length};
-ghost use Rattle.permute_walks.specs.Senders.{IsWrittenFrom, written_over};
+ghost use Rattle.tile_plan.specs.Runs.{written_from};
+ghost use Rattle.permute_walks.specs.Senders.{written_at, written_over};
 
 use crate::places::element_of;
-use std::thread::{Threads, for_each_chunk_mut};
+use std::thread::Threads;
+use tile_plan::{Writer, write_in_runs};
 
-/// Writes over each value the element of its sender; the value of nobody stays. The values are cut into so many chunks,
-/// each of which has a thread of its own where one can be made.
+/// The elements of senders, which are written over the values at the same places.
+#[derive(Drop)]
+struct ElementsOf<'a, T> {
+    source: &'a [T],
+    senders: &'a [u32],
+}
+
+impl<'a, T: Copy> Writer<T> for ElementsOf<'a, T> {
+    ghost use Rattle.std.specs.Prelude.{length};
+    ghost use Rattle.permute_walks.specs.Senders.{written_at};
+
+    ghost places = { λ w. length w.senders.now };
+
+    ghost written = { λ w. written_at w.source.now w.senders.now };
+
+    fn write(&self, start: usize, run: &mut [T]) {
+        write_run(self.source, self.senders, start, run);
+    }
+}
+
+/// Writes over each value the element of its sender, by at most `threads` threads; the value of nobody stays.
 pub fn write_elements<T: Copy + Send + Sync, R: Threads + Sync>(
     rt: &R,
     threads: u32,
@@ -15,33 +36,24 @@ pub fn write_elements<T: Copy + Send + Sync, R: Threads + Sync>(
     senders: &[u32],
     values: &mut [T],
 )
-    requires some { 1 ≤ threads }
     requires as_long { length senders.now ≡ length values.old }
     ensures values { values.new ≡ written_over source.now senders.now values.old }
 {
-    let chunk_length = values.len().div_ceil(threads as usize).max(1);
-    for_each_chunk_mut(
-        rt,
-        values,
-        chunk_length,
-        &|start: usize, chunk: &mut [T]|
-            requires { start + length chunk.now ≤ length senders.now }
-            ensures { IsWrittenFrom source.entry.now senders.entry.now start chunk.old chunk.new }
-        { write_chunk(source, senders, start, chunk) },
-    );
+    let elements = ElementsOf { source, senders };
+    write_in_runs(rt, threads, &elements, values);
 }
 
-/// Writes over the values from place `start` on, as many as the chunk has.
+/// Writes over the values from place `start` on, as many as the run has.
 // Inlined into a large function the loop keeps its pointers on the stack.
 #[inline(never)]
-fn write_chunk<T: Copy>(source: &[T], senders: &[u32], start: usize, chunk: &mut [T])
-    requires within { start + length chunk.old ≤ length senders.now }
-    ensures { IsWrittenFrom source.now senders.now start chunk.old chunk.new }
+fn write_run<T: Copy>(source: &[T], senders: &[u32], start: usize, run: &mut [T])
+    requires within { start + length run.old ≤ length senders.now }
+    ensures { run.new ≡ written_from (written_at source.now senders.now) start run.old }
 {
     let (_, senders) = senders.split_at(start);
-    for k in 0..chunk.len() {
+    for k in 0..run.len() {
         if let Some(element) = element_of(source, senders[k] as usize) {
-            chunk[k] = element;
+            run[k] = element;
         }
     }
 }

@@ -2,7 +2,7 @@
 use Rattle.std.proofs.Common.{◌≡◌, ◌∙◌, cond, subst, ℕ, ◌+◌, ◌-◌, ◌<◌, ◌≤◌, Bool, List, [], ◌∷◌, ◌++◌, length, map, sum, take, drop, get_or, replicate, refl, sym, ap, append_assoc, append-nil, length-append, length-drop, arith, ℤ, Option, Some, None}
 use Rattle.std.specs.List.{zip}
 use Rattle.std.specs.Option.{option_or}
-use Rattle.std.proofs.lemmas.List.{drop_more, drop_all, take_all, take-replicate, drop-replicate, drop-drop, get_or-map, length-map, length-take-le}
+use Rattle.std.proofs.lemmas.List.{drop_more, drop_all, take_all, take-replicate, drop-replicate, drop-drop, get_or-map, length-map, length-take, length-take-le}
 use Rattle.std.proofs.lemmas.List.Sums.{sum_by-take-drop, sum_by_more_le, sum_by_more}
 use Rattle.std.proofs.lemmas.Slice.{take-put_mid, drop-put_mid}
 use Rattle.std.proofs.lemmas.Slice.Zip.{get_or-zip, length-zip}
@@ -11,28 +11,26 @@ use Rattle.cvl_base.specs.declared.fault.Fault.{Fault}
 use Rattle.cvl_base.specs.Nests.{cut_of}
 use Rattle.cvl_base.specs.Packs.{count_of}
 use Rattle.cvl_base.specs.Permutes.{all_targets, first_fault, flagged_targets, wrongs}
-use Rattle.permutes.specs.Parts.{fault_from, flagged_parts, parts_of, senders_from}
+use Rattle.permutes.specs.Parts.{fault_from, flagged_parts, parts_of, places_in, senders_from, targets_in}
 use Rattle.permute_walks.specs.Senders.{nobody, senders_of}
 use Rattle.permutes.proofs.Cuts.{cut_at, length-cut, sum-cons}
-use Rattle.permute_walks.proofs.Sent.{length-senders_of}
-
--- how many places the result has
-abbrev pub places_of : List (ℕ × List (Option ℤ)) → ℕ
-places_of parts = sum (map (λ p. p.0) parts)
+use Rattle.permute_walks.proofs.Sent.{length-senders_of, length-all_targets, count-flagged_targets}
 
 -- the first s parts are done: their targets end at the place given, and their part of the result at `start`
 pub record IsSentThrough (parts : List (ℕ × List (Option ℤ))) (place start s : ℕ) (senders : List ℕ) : Type 0 where
   pub fault_is : fault_from 0 parts ≡ fault_from place (drop s parts)
   pub senders_are : take start senders ++ senders_from place (drop s parts) ≡ senders_from 0 parts
   pub rest_is : drop start senders ≡ replicate (length senders - start) nobody
-  pub room_is : start + places_of (drop s parts) ≡ length senders
+  pub room_is : start + places_in (drop s parts) ≡ length senders
+  pub left_is : place + targets_in (drop s parts) ≡ targets_in parts
 
-pub through_none : (parts : List (ℕ × List (Option ℤ))) (senders : List ℕ) → senders ≡ replicate (length senders) nobody → places_of parts ≡ length senders → IsSentThrough parts 0 0 0 senders
+pub through_none : (parts : List (ℕ × List (Option ℤ))) (senders : List ℕ) → senders ≡ replicate (length senders) nobody → places_in parts ≡ length senders → IsSentThrough parts 0 0 0 senders
 through_none parts senders fresh room = record {
   fault_is = refl;
   senders_are = refl;
   rest_is = fresh ∙ ap (λ n. replicate n nobody) (omega arith);
   room_is = omega (arith, room);
+  left_is = omega arith;
 }
 
 -- a write to a range of a list keeps its length
@@ -44,8 +42,14 @@ module _ (parts : List (ℕ × List (Option ℤ))) (place start s : ℕ) (sender
   split : drop s parts ≡ (m, ts) ∷ drop (s + 1) parts
   split = drop_more parts s (0, []) lt ∙ ap (λ p. p ∷ drop (s + 1) parts) is
 
-  room_more : start + m + places_of (drop (s + 1) parts) ≡ length senders
-  room_more = omega (arith, to.room_is, ap places_of split, sum-cons m (map (λ (p : ℕ × List (Option ℤ)). p.0) (drop (s + 1) parts)))
+  room_more : start + m + places_in (drop (s + 1) parts) ≡ length senders
+  room_more = omega (arith, to.room_is, ap places_in split, sum-cons m (map (λ (p : ℕ × List (Option ℤ)). p.0) (drop (s + 1) parts)))
+
+  left_more : place + length ts + targets_in (drop (s + 1) parts) ≡ targets_in parts
+  left_more = omega (arith, to.left_is, ap targets_in split, sum-cons (length ts) (map (λ (p : ℕ × List (Option ℤ)). length p.1) (drop (s + 1) parts)))
+
+  pub through_left : place + length ts ≤ targets_in parts
+  through_left = omega (arith, left_more)
 
   pub through_room : start + m ≤ length senders
   through_room = omega (arith, room_more)
@@ -79,6 +83,7 @@ module _ (parts : List (ℕ × List (Option ℤ))) (place start s : ℕ) (sender
             ∙ drop-replicate m (length senders - start) nobody
             ∙ ap (λ n. replicate n nobody) (omega arith);
         room_is = omega (arith, room_more);
+        left_is = left_more;
       }
 
 -- the same as the code reads and writes it, by a range of the senders
@@ -112,7 +117,7 @@ moved_on parts place now start then s senders there here to = subst (λ (p : ℕ
 pub through_all : (parts : List (ℕ × List (Option ℤ))) (place start s : ℕ) (senders : List ℕ) → IsSentThrough parts place start s senders → length parts ≤ s → (None ≡ fault_from 0 parts) × (senders ≡ senders_from 0 parts)
 through_all parts place start s senders to past =
     let none = drop_all s parts past in
-    let full : start ≡ length senders = omega (arith, to.room_is, ap places_of none) in (
+    let full : start ≡ length senders = omega (arith, to.room_is, ap places_in none) in (
       sym (to.fault_is ∙ ap (fault_from place) none),
       sym (sym to.senders_are ∙ ap (λ ps. take start senders ++ senders_from place ps) none ∙ append-nil (take start senders) ∙ take_all start senders (omega arith)),
     )
@@ -134,8 +139,22 @@ module _ (lengths result_lengths : List ℕ) (index : List ℤ) (count : length 
       get_or-zip result_lengths (map all_targets (cut_of lengths index)) s (0, []) (omega arith) (omega (arith, length-map (cut_of lengths index) all_targets))
       ∙ ap (λ ts. (get_or result_lengths s 0, ts)) (get_or-map all_targets (cut_of lengths index) s [] [] (omega arith) ∙ ap all_targets (cut_at lengths index s lt))
 
-  pub places-parts : places_of (parts_of lengths result_lengths index) ≡ sum result_lengths
+  pub places-parts : places_in (parts_of lengths result_lengths index) ≡ sum result_lengths
   places-parts = ap sum (firsts result_lengths (map all_targets (cut_of lengths index)) (omega (arith, length-map (cut_of lengths index) all_targets, length-cut lengths index)))
+
+-- a segment has no more targets than indices
+targets_more : (n m : ℕ) (index : List ℤ) (ts : List (Option ℤ)) (parts : List (ℕ × List (Option ℤ))) → length ts ≤ length (take n index)
+    → targets_in parts ≤ length (drop n index) → targets_in ((m, ts) ∷ parts) ≤ length index
+targets_more n m index ts parts here rest =
+    omega (arith, here, rest, length-take n index, length-drop n index, sum-cons (length ts) (map (λ (p : ℕ × List (Option ℤ)). length p.1) parts))
+
+pub targets-parts : (lengths result_lengths : List ℕ) (index : List ℤ) → targets_in (parts_of lengths result_lengths index) ≤ length index
+targets-parts [] [] index = omega arith
+targets-parts [] (m ∷ ms) index = omega arith
+targets-parts (n ∷ ns) [] index = omega arith
+targets-parts (n ∷ ns) (m ∷ ms) index =
+    targets_more n m index (all_targets (take n index)) (parts_of ns ms (drop n index)) (omega (arith, length-all_targets (take n index)))
+    (targets-parts ns ms (drop n index))
 
 -- ---- a segment lies in the vector
 
@@ -154,7 +173,7 @@ start_more lengths s lt = sum_by_more (λ x. x) lengths s 0 lt
 abbrev flagged_part : List ℤ × List Bool → ℕ × List (Option ℤ)
 flagged_part p = (count_of p.1, flagged_targets p.0 p.1)
 
-counted : (lengths : List ℕ) (index : List ℤ) (flags : List Bool) → sum lengths ≡ length flags → places_of (flagged_parts lengths index flags) ≡ count_of flags
+counted : (lengths : List ℕ) (index : List ℤ) (flags : List Bool) → sum lengths ≡ length flags → places_in (flagged_parts lengths index flags) ≡ count_of flags
 counted [] index [] total = refl
 counted [] index (f ∷ flags) total = absurd (omega arith)
 counted (n ∷ ns) index flags total =
@@ -180,5 +199,11 @@ module _ (lengths : List ℕ) (index : List ℤ) (flags : List Bool) where
       ∙ ap flagged_part (get_or-zip (cut_of lengths index) (cut_of lengths flags) s ([], []) (omega arith) (omega arith))
       ∙ (λ i. (count_of (cut_at lengths flags s lt i), flagged_targets (cut_at lengths index s lt i) (cut_at lengths flags s lt i)))
 
-  pub places-flagged_parts : sum lengths ≡ length flags → places_of (flagged_parts lengths index flags) ≡ count_of flags
+  pub places-flagged_parts : sum lengths ≡ length flags → places_in (flagged_parts lengths index flags) ≡ count_of flags
   places-flagged_parts total = counted lengths index flags total
+
+pub targets-flagged_parts : (lengths : List ℕ) (index : List ℤ) (flags : List Bool) → targets_in (flagged_parts lengths index flags) ≤ length index
+targets-flagged_parts [] index flags = omega arith
+targets-flagged_parts (n ∷ ns) index flags =
+    targets_more n (count_of (take n flags)) index (flagged_targets (take n index) (take n flags)) (flagged_parts ns (drop n index) (drop n flags))
+    (omega (arith, count-flagged_targets (take n index) (take n flags))) (targets-flagged_parts ns (drop n index) (drop n flags))

@@ -11,11 +11,10 @@ use Rattle.cvl_base.specs.declared.refused.Refused.TheVariants as refused
 use Rattle.cvl_base.specs.Gives.{Gives, unless}
 use Rattle.cvl_base.specs.Packs.{count_of}
 use Rattle.cvl_base.specs.Permutes.{all_targets, first_fault, flagged_targets, wrongs}
-use Rattle.permutes.specs.Parts.{fault_from, flagged_parts, parts_of, senders_from}
+use Rattle.permutes.specs.Parts.{fault_from, flagged_parts, parts_of, places_in, senders_from}
 use Rattle.permutes.specs.Walks.{AreAllSent, IsFound, Sends}
 use Rattle.permute_walks.specs.Senders.{nobody, senders_of, told}
 use Rattle.permutes.proofs.Cuts.{sum-cons}
-use Rattle.permutes.proofs.Through.{places_of}
 use Rattle.permute_walks.proofs.EachSent.{takes_part, each_sent, all_take_part, flagged_take_part}
 use Rattle.permute_walks.proofs.Sent.{length-senders_of, length-all_targets, length-flagged_targets}
 
@@ -123,7 +122,7 @@ module _ (n : ℕ) (few : n ≤ nobody) where
       (flagged_segments_sent (place + length (flagged_targets js fs)) ks (drop k index) (drop k flags) (omega (arith, whole, left)) (omega (arith, left, flags_left)) (omega (arith, long, count, whole, left))) right
 
 -- as many senders as places
-pub length-senders_from : (place : ℕ) (parts : List (ℕ × List (Option ℤ))) → length (senders_from place parts) ≡ places_of parts
+pub length-senders_from : (place : ℕ) (parts : List (ℕ × List (Option ℤ))) → length (senders_from place parts) ≡ places_in parts
 length-senders_from place [] = refl
 length-senders_from place ((m, ts) ∷ parts) =
     omega (arith, length-append (senders_of place ts m) (senders_from (place + length ts) parts), length-senders_of place ts m, length-senders_from (place + length ts) parts, sum-cons m (map (λ (p : ℕ × List (Option ℤ)). p.0) parts))

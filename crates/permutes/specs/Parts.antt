@@ -1,6 +1,6 @@
 -- The parts of a segmented permute: for each segment how many places its part of the result has, and its targets.
 -- Source: CVL's segmented permutes, each of which permutes every segment by itself.
-use Rattle.std.specs.Prelude.{ℕ, ◌+◌, ℤ, Bool, List, [], ◌∷◌, ◌++◌, length, map, Option, None}
+use Rattle.std.specs.Prelude.{ℕ, ◌+◌, ℤ, Bool, List, [], ◌∷◌, ◌++◌, length, map, sum, Option, None}
 use Rattle.std.specs.List.{zip}
 use Rattle.std.specs.Option.{option_or}
 use Rattle.cvl_base.specs.declared.fault.Fault.{Fault}
@@ -17,6 +17,13 @@ parts_of lengths result_lengths index = zip result_lengths (map all_targets (cut
 abbrev pub flagged_parts : List ℕ → List ℤ → List Bool → List (ℕ × List (Option ℤ))
 flagged_parts lengths index flags =
     map (λ p. (count_of p.1, flagged_targets p.0 p.1)) (zip (cut_of lengths index) (cut_of lengths flags))
+
+-- how many places the result has, and how many targets there are in all
+abbrev pub places_in : List (ℕ × List (Option ℤ)) → ℕ
+places_in parts = sum (map (λ p. p.0) parts)
+
+abbrev pub targets_in : List (ℕ × List (Option ℤ)) → ℕ
+targets_in parts = sum (map (λ p. length p.1) parts)
 
 -- the fault of the first bad place of all parts, where the first target stands at the place given
 abbrev pub fault_from : ℕ → List (ℕ × List (Option ℤ)) → Option Fault

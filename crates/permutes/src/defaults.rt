@@ -9,7 +9,7 @@ ghost use Rattle.cvl_base.specs.SegmentedCalls.{seg_default_of};
 use crate::segments::send_segments;
 use crate::sent::elements_sent_over;
 use cvl_base::{Config, Memory, Refused, check_agree};
-use permute_walks::send_all;
+use permute_walks::{AllTargets, send_places};
 use segdes::{SegDes, check_total};
 use std::thread::Threads;
 
@@ -31,7 +31,7 @@ pub fn default_into<T: Copy + Send + Sync, R: Threads + Sync, A: Memory>(
 {
     check_agree(source.len(), index.len())?;
     elements_sent_over(rt, alloc, config, source, defaults, |senders| {
-        send_all(senders, 0, index)
+        send_places(senders, 0, &AllTargets { index })
     })
 }
 

@@ -1,16 +1,122 @@
 //! The first walk of a segmented permute, segment by segment.
 
-ghost use Rattle.std.specs.Prelude.{◌≡◌, ◌≤◌, length, OnOk, replicate, sum};
+ghost use Rattle.std.specs.Prelude.{◌≡◌, ◌<◌, ◌≤◌, ℕ, ℤ, List, [], length, OnOk, Option, replicate, slice_index_or, sum};
 ghost use Rattle.cvl_base.specs.Limits.{most_elements};
 ghost use Rattle.cvl_base.specs.Packs.{count_of};
-ghost use Rattle.permutes.specs.Parts.{fault_from, flagged_parts, parts_of, senders_from};
+ghost use Rattle.permutes.specs.Parts.{fault_from, flagged_parts, parts_of, places_in, senders_from, targets_in};
 ghost use Rattle.permute_walks.specs.Senders.{nobody, told};
 
 use crate::selects::count_true;
 use cvl_base::Fault;
-use permute_walks::{send_all, send_flagged};
+use permute_walks::{AllTargets, FlaggedTargets, Targets, send_places};
 use segdes::SegDes;
 use std::alloc::Allocator;
+
+/// The parts of a segmented permute, one for each segment.
+///
+/// Its meaning is how many places each part of the result has, with the targets of the segment, and whether the vectors
+/// are as long as the segments in all.
+trait Parts {
+    /// The targets of a segment.
+    type Part: Targets + Drop;
+
+    ghost parts: { Self → List (ℕ × List (Option ℤ)) };
+
+    ghost AreCut: { Self → Type 0 };
+
+    /// How many segments there are.
+    fn count(&self) -> usize
+        requires { AreCut self.now }
+        ensures { result ≡ length (parts self.now) };
+
+    /// How many places the part of segment `s` has, and its targets.
+    fn part(&self, s: usize) -> (usize, Self::Part)
+        requires cut { AreCut self.now }
+        requires within { s < length (parts self.now) }
+        ensures { slice_index_or (parts self.now) s (0, []) ≡ (result.0, Self.Part.targets result.1) };
+}
+
+/// Each place takes part, and the result has segments of its own lengths.
+#[derive(Drop)]
+struct AllParts<'a, A: Allocator> {
+    index: &'a [i32],
+    d: &'a SegDes<A>,
+    result_d: &'a SegDes<A>,
+}
+
+impl<'a, A: Allocator> Parts for AllParts<'a, A> {
+    ghost use Rattle.std.specs.Prelude.{◌≡◌, length, sum};
+    ghost use Rattle.permutes.specs.Parts.{parts_of};
+
+    type Part = AllTargets<'a>;
+
+    ghost parts = { λ p. parts_of p.d.now p.result_d.now p.index.now };
+
+    ghost AreCut = { λ p. (sum p.d.now ≡ length p.index.now) × (length p.d.now ≡ length p.result_d.now) };
+
+    fn count(&self) -> usize {
+        self.d.count()
+    }
+
+    fn part(&self, s: usize) -> (usize, AllTargets<'a>) {
+        let first = self.d.start(s);
+        let index = &self.index[first..first + self.d.length(s)];
+        (self.result_d.length(s), AllTargets { index })
+    }
+}
+
+/// The places whose flag is true take part, and a segment of the result has as many places.
+#[derive(Drop)]
+struct FlaggedParts<'a, A: Allocator> {
+    index: &'a [i32],
+    flags: &'a [bool],
+    d: &'a SegDes<A>,
+}
+
+impl<'a, A: Allocator> Parts for FlaggedParts<'a, A> {
+    ghost use Rattle.std.specs.Prelude.{◌≡◌, length, sum};
+    ghost use Rattle.permutes.specs.Parts.{flagged_parts};
+
+    type Part = FlaggedTargets<'a>;
+
+    ghost parts = { λ p. flagged_parts p.d.now p.index.now p.flags.now };
+
+    ghost AreCut = { λ p. (sum p.d.now ≡ length p.index.now) × (sum p.d.now ≡ length p.flags.now) };
+
+    fn count(&self) -> usize {
+        self.d.count()
+    }
+
+    fn part(&self, s: usize) -> (usize, FlaggedTargets<'a>) {
+        let first = self.d.start(s);
+        let last = first + self.d.length(s);
+        let index = &self.index[first..last];
+        let flags = &self.flags[first..last];
+        (count_true(flags), FlaggedTargets { index, flags })
+    }
+}
+
+/// Sends the places of each segment that take part. The senders are those of the whole result, nobody to begin with. The
+/// fault is that of the first bad place, a place of the whole index.
+fn send_parts<P: Parts>(senders: &mut [u32], parts: &P) -> Result<(), Fault>
+    requires cut { P.AreCut parts.now }
+    requires fresh { senders.old ≡ replicate (length senders.old) nobody }
+    requires as_long { places_in (P.parts parts.now) ≡ length senders.old }
+    requires in_limit { targets_in (P.parts parts.now) ≤ most_elements }
+    ensures fault { told result ≡ fault_from 0 (P.parts parts.now) }
+    ensures sent { OnOk result (senders.new ≡ senders_from 0 (P.parts parts.now)) }
+{
+    let mut first = 0;
+    let mut start = 0;
+    for s in 0..parts.count() {
+        let (places, targets) = parts.part(s);
+        let end = start + places;
+        send_places(&mut senders[start..end], first, &targets)?;
+        first += targets.count();
+        start = end;
+    }
+    Ok(())
+}
 
 /// Sends each place of each segment. The senders are those of a result with segments of its own lengths, nobody to begin
 /// with. The fault is that of the first bad place, a place of the whole index.
@@ -29,21 +135,11 @@ pub(crate) fn send_segments<A: Allocator>(
     ensures sent { OnOk result
         (senders.new ≡ senders_from 0 (parts_of d.now result_d.now index.now)) }
 {
-    for s in 0..d.count() {
-        let first = d.start(s);
-        let start = result_d.start(s);
-        let segment = &index[first..first + d.length(s)];
-        send_all(
-            &mut senders[start..start + result_d.length(s)],
-            first,
-            segment,
-        )?;
-    }
-    Ok(())
+    send_parts(senders, &AllParts { index, d, result_d })
 }
 
-/// Sends the places of each segment whose flag is true. Each segment of the result has as many places as the segment has
-/// true flags.
+/// Sends the places of each segment whose flag is true, in the way of `send_segments`. Each segment of the result has as
+/// many places as the segment has true flags.
 pub(crate) fn send_flagged_segments<A: Allocator>(
     senders: &mut [u32],
     index: &[i32],
@@ -59,19 +155,5 @@ pub(crate) fn send_flagged_segments<A: Allocator>(
     ensures sent { OnOk result
         (senders.new ≡ senders_from 0 (flagged_parts d.now index.now flags.now)) }
 {
-    let mut start = 0;
-    for s in 0..d.count() {
-        let first = d.start(s);
-        let last = first + d.length(s);
-        let segment_flags = &flags[first..last];
-        let end = start + count_true(segment_flags);
-        send_flagged(
-            &mut senders[start..end],
-            first,
-            &index[first..last],
-            segment_flags,
-        )?;
-        start = end;
-    }
-    Ok(())
+    send_parts(senders, &FlaggedParts { index, flags, d })
 }

@@ -1,16 +1,17 @@
 //! The select permute.
 
-ghost use Rattle.std.specs.Prelude.{◌≡◌, ◌≤◌, IfOk, length, vec_len};
+ghost use Rattle.std.specs.Prelude.{◌≡◌, ◌≤◌, IfOk, length, OnOk, replicate, vec_len};
 ghost use Rattle.cvl_base.specs.Gives.{Gives};
 ghost use Rattle.cvl_base.specs.Limits.{most_elements};
 ghost use Rattle.cvl_base.specs.Packs.{count_of};
-ghost use Rattle.cvl_base.specs.Permutes.{select_of};
+ghost use Rattle.cvl_base.specs.Permutes.{first_fault, flagged_targets, select_of, wrongs};
 ghost use Rattle.cvl_base.specs.SegmentedCalls.{seg_select_of};
+ghost use Rattle.permute_walks.specs.Senders.{nobody, senders_of, told};
 
 use crate::segments::send_flagged_segments;
 use crate::sent::elements_sent;
-use cvl_base::{Config, Memory, Refused, check_agree};
-use permute_walks::send_flagged;
+use cvl_base::{Config, Fault, Memory, Refused, check_agree};
+use permute_walks::{FlaggedTargets, send_places};
 use segdes::{SegDes, check_total};
 use std::thread::Threads;
 
@@ -25,6 +26,18 @@ pub(crate) fn count_true(flags: &[bool]) -> usize
         count += usize::from(*flag);
     }
     count
+}
+
+/// Sends the places whose flag is true. The senders are nobody to begin with. The fault is that of the first bad place.
+fn send_flagged(senders: &mut [u32], index: &[i32], flags: &[bool]) -> Result<(), Fault>
+    requires fresh { senders.old ≡ replicate (length senders.old) nobody }
+    requires in_limit { length index.now ≤ most_elements }
+    ensures fault { told result
+        ≡ first_fault 0 (wrongs (length senders.old) (flagged_targets index.now flags.now)) }
+    ensures sent { OnOk result
+        (senders.new ≡ senders_of 0 (flagged_targets index.now flags.now) (length senders.old)) }
+{
+    send_places(senders, 0, &FlaggedTargets { index, flags })
 }
 
 /// Each element whose flag is true goes to its index: `sel_puz` and `sel_pub`.
@@ -48,7 +61,7 @@ pub fn select<T: Copy + Send + Sync, R: Threads + Sync, A: Memory>(
     check_agree(index.len(), flags.len())?;
     let places = count_true(flags);
     elements_sent(rt, alloc, config, source, places, |senders| {
-        send_flagged(senders, 0, index, flags)
+        send_flagged(senders, index, flags)
     })
 }
 

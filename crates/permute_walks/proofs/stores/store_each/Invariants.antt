@@ -1,11 +1,10 @@
 use Rattle.std.proofs.Common.{◌≡◌, ◌<◌, ◌≤◌, get_or, length}
-use Rattle.cvl_base.specs.Permutes.{flagged_targets}
 use Rattle.permute_walks.proofs.Stored.{IsStoredTo}
-use Rattle.permute_walks.proofs.stores.store_flagged.Given as goal
+use Rattle.permute_walks.proofs.stores.store_each.Given as goal
 
 abbrev pub invariant-loop-k : goal.invariant-loop-k
-invariant-loop-k l = record {
-  so_far : IsStoredTo l.first (flagged_targets l.index l.flags) (length l.fn.senders) l.k l.sent l.senders;
+invariant-loop-k g l = record {
+  so_far : IsStoredTo l.first (g.T.Targets.targets l.targets) (length l.fn.senders) l.k l.sent l.senders;
   stands : l.destination < length l.senders → get_or l.senders l.destination 0 ≡ l.sender;
   in_length : l.sent ≤ l.k;
 }

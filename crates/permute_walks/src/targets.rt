@@ -1,0 +1,67 @@
+//! Which places of a permute take part, and where they are sent.
+
+ghost use Rattle.std.specs.Prelude.{◌≡◌, ◌<◌, ℤ, List, length, Option, None, slice_index_or};
+ghost use Rattle.cvl_base.specs.Permutes.{all_targets, flagged_targets, target_if};
+
+/// The targets of places, one after another: the index of each place that takes part.
+pub trait Targets {
+    ghost targets: { Self → List (Option ℤ) };
+
+    /// How many places there are.
+    fn count(&self) -> usize
+        ensures { result ≡ length (targets self.now) };
+
+    /// The index of place `k`, and whether the place takes part.
+    // The index is read in any case, so that a walk needs no branch on a flag.
+    fn at(&self, k: usize) -> (&i32, bool)
+        requires { k < length (targets self.now) }
+        ensures { slice_index_or (targets self.now) k None ≡ target_if result.0.now result.1 };
+}
+
+/// Each place takes part.
+#[derive(Clone, Copy, Debug)]
+pub struct AllTargets<'a> {
+    /// The index of each place.
+    pub index: &'a [i32],
+}
+
+impl<'a> Targets for AllTargets<'a> {
+    ghost use Rattle.cvl_base.specs.Permutes.{all_targets};
+
+    ghost targets = { λ t. all_targets t.index.now };
+
+    #[inline]
+    fn count(&self) -> usize {
+        self.index.len()
+    }
+
+    #[inline]
+    fn at(&self, k: usize) -> (&i32, bool) {
+        (&self.index[k], true)
+    }
+}
+
+/// The places whose flag is true take part.
+#[derive(Clone, Copy, Debug)]
+pub struct FlaggedTargets<'a> {
+    /// The index of each place.
+    pub index: &'a [i32],
+    /// A flag for each place.
+    pub flags: &'a [bool],
+}
+
+impl<'a> Targets for FlaggedTargets<'a> {
+    ghost use Rattle.cvl_base.specs.Permutes.{flagged_targets};
+
+    ghost targets = { λ t. flagged_targets t.index.now t.flags.now };
+
+    #[inline]
+    fn count(&self) -> usize {
+        self.index.len().min(self.flags.len())
+    }
+
+    #[inline]
+    fn at(&self, k: usize) -> (&i32, bool) {
+        (&self.index[k], self.flags[k])
+    }
+}
