@@ -1,1 +1,1 @@
-pub mod ArgumentFaults
+pub mod Resolved

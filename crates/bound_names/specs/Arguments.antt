@@ -1,6 +1,7 @@
 -- The arguments of a call as values, and the check of their kinds.
 -- Source: this library's script format.
-use Rattle.std.specs.Prelude.{◌≡◌, ℕ, ◌+◌, Bool, false, List, [], ◌∷◌, slice_get, Option, Some, None, option_and_then, option_map, unwrap_or, ℤ, pos, if◌then◌else◌}
+use Rattle.std.specs.Prelude.{◌≡◌, ℕ, ◌+◌, Bool, false, List, [], ◌∷◌, length, slice_get, ℤ, pos, if◌then◌else◌}
+use Rattle.std.specs.Prelude.{Option, Some, None, option_and_then, option_map, unwrap_or}
 use Rattle.cvl_base.specs.declared.value.Value.{Value}
 use Rattle.cvl_base.specs.declared.value.Value.TheVariants as value
 use Rattle.cvl_base.specs.declared.call.Arg.{Arg}
@@ -8,10 +9,10 @@ use Rattle.cvl_base.specs.declared.call.Arg.TheVariants as arg
 use Rattle.cvl_base.specs.declared.kind.Kind.{Kind}
 use Rattle.cvl_base.specs.declared.operation.Op.{Op}
 use Rattle.cvl_base.specs.declared.fault.Fault.{Fault}
-use Rattle.cvl_base.specs.declared.fault.FaultNo.TheVariants.{UnknownName, WrongKind}
+use Rattle.cvl_base.specs.declared.fault.FaultNo.TheVariants.{UnknownName, WrongArgumentCount, WrongKind}
 use Rattle.cvl_base.specs.Faults.{fault}
 use Rattle.cvl_base.specs.Values.{kind_of}
-use Rattle.cvl_base.specs.Calls.{accepts_of}
+use Rattle.cvl_base.specs.Calls.{accepts_of, takes_of}
 use Rattle.bound_names.specs.Names.{Entries, value_at}
 
 -- the fault of an argument of this kind, or of a name that is not bound
@@ -31,16 +32,28 @@ module _ {A : Type 0} where
   arg_value names (arg.Integer n) = Some (value.Integer n)
   arg_value names (arg.Boolean b) = Some (value.Boolean b)
 
-  -- each argument from left to right: is its name bound, is its kind right
-  abbrev pub args_fault : Entries A → Op → ℕ → ℕ → List Arg → Option Fault
-  args_fault names op count place [] = None
-  args_fault names op count place (first ∷ others) =
-      earlier (kind_fault (accepts_of op count place) (option_map kind_of (arg_value names first)))
-      (args_fault names op count (place + 1) others)
+  -- an argument at its place among so many: is its name bound, is its kind right
+  abbrev pub arg_fault : Entries A → Op → ℕ → ℕ → Arg → Option Fault
+  arg_fault names op count place arg = kind_fault (accepts_of op count place) (option_map kind_of (arg_value names arg))
+
+  -- each argument from left to right
+  abbrev pub each_fault : Entries A → Op → ℕ → ℕ → List Arg → Option Fault
+  each_fault names op count place [] = None
+  each_fault names op count place (first ∷ others) =
+      earlier (arg_fault names op count place first) (each_fault names op count (place + 1) others)
+
+  -- first that there are as many as the call takes, and then each
+  abbrev pub args_fault : Entries A → Op → List Arg → Option Fault
+  args_fault names op args =
+      if takes_of op (length args) then each_fault names op (length args) 0 args else Some (fault WrongArgumentCount)
 
   -- the value of the argument at a place
   abbrev pub argument_at : Entries A → List Arg → ℕ → Option (Value A)
   argument_at names args place = option_and_then (arg_value names) (slice_get args place)
+
+  -- the fault of the argument at a place, where there is one
+  abbrev pub place_fault : Entries A → Op → List Arg → ℕ → Option Fault
+  place_fault names op args place = option_and_then (arg_fault names op (length args) place) (slice_get args place)
 
   -- the lengths of a descriptor; no other value has any
   abbrev pub lengths_of : Value A → Option (List ℕ)

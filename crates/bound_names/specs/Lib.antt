@@ -3,3 +3,4 @@ pub use Rattle.cvl_base.specs.Limits
 pub use Rattle.cvl_base.specs.Values
 pub mod Arguments
 pub mod Names
+pub mod Operands

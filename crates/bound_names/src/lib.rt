@@ -3,9 +3,10 @@
 
 pub mod arguments;
 pub mod bound;
-pub mod lookups;
 pub mod names;
+pub mod operands;
 
-pub use arguments::fault_of_args;
+pub use arguments::resolve;
 pub use bound::Bound;
 pub use names::{Names, bind_answer, bind_name, bound_to, is_room, value_of};
+pub use operands::{Operand, Operands};

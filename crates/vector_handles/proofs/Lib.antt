@@ -1,2 +1,3 @@
 pub mod BoundNames
 pub mod ResultKinds
+pub mod Texts

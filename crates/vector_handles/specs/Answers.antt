@@ -1,7 +1,6 @@
 -- How the answers of a session's calls stand to their definitions.
 -- Source: this library.
 use Rattle.std.specs.Prelude.{ℕ, List, Option, Some, None, Result}
-use Rattle.cvl_base.specs.declared.call.Arg.{Arg}
 use Rattle.cvl_base.specs.declared.call.Call.{Call}
 use Rattle.cvl_base.specs.declared.fault.Fault.{Fault}
 use Rattle.cvl_base.specs.declared.operation.Op.{Op}
@@ -9,13 +8,15 @@ use Rattle.cvl_base.specs.declared.refused.Refused.{Refused}
 use Rattle.cvl_base.specs.declared.value.Value.{Value}
 use Rattle.cvl_base.specs.Gives.{Gives}
 use Rattle.call_reader.specs.Texts.{after_bytes}
+use Rattle.vector_handles.specs.declared.input.Input.{Input}
 use Rattle.vector_handles.specs.declared.shown.Shown.{Shown}
-use Rattle.bound_names.specs.Arguments.{argument_at}
+use Rattle.bound_names.specs.declared.operands.Operands.{Operands}
+use Rattle.bound_names.specs.Operands.{held_at}
 use Rattle.vector_handles.specs.CallValues.{table_value}
 use Rattle.vector_handles.specs.ElementTypes.{ElementType}
 use Rattle.vector_handles.specs.Families.{vector}
 use Rattle.vector_handles.specs.Sessions.{State, text_shown}
-use Rattle.vector_handles.specs.Steps.{Stepped, performed, step}
+use Rattle.vector_handles.specs.Steps.{Stepped, step}
 
 -- the answer to a call that appends a text to bytes
 abbrev pub Appends : {U : Type 0} →
@@ -24,9 +25,8 @@ Appends before after answer text = Gives (λ _. after) answer (after_bytes befor
 
 module _ {A : Type 0} where
   -- the answer is the value that the table gives the call
-  abbrev pub IsTableValue : State A → Op → List Arg → Result (Value A) Refused → Type 0
-  IsTableValue session op args answer =
-      Gives (λ v. v) answer (table_value session.inputs op (argument_at session.names args))
+  abbrev pub IsTableValue : List (Input A) → Op → Operands A → Result (Value A) Refused → Type 0
+  IsTableValue inputs op operands answer = Gives (λ v. v) answer (table_value inputs op (held_at operands))
 
   -- the answer is the value with the vector that a kernel's answer gives, seen by `view`, whatever the kernel's definition
   abbrev pub IsVectorOf : {V X : Type 0} → ElementType A X → (V → List X) → Result V Refused → Result (Value A) Refused → Type 0
@@ -36,12 +36,6 @@ module _ {A : Type 0} where
   -- what a call leaves: the names after it, and the text that it shows
   abbrev pub left_by : State A → Option (List ℕ) → Stepped A
   left_by after shown = record { names = after.names; shown = shown }
-
-  -- the answer to a binding, by the session before it and after it
-  abbrev pub IsBinding : {U : Type 0} →
-      State A → List ℕ → Op → List Arg → State A → Result U Refused → Type 0
-  IsBinding before target op args after answer =
-      Gives (λ _. left_by after None) answer (performed before.names before.inputs (Some target) op args)
 
   -- the answer to a line's call is its meaning
   abbrev pub IsStep : State A → Call A → State A → Result (Shown A) Refused → Type 0

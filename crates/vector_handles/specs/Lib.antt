@@ -4,5 +4,6 @@ pub mod CallValues
 pub mod ElementTypes
 pub mod Families
 pub use Rattle.bound_names.specs.Names
+pub use Rattle.bound_names.specs.Operands
 pub mod Sessions
 pub mod Steps

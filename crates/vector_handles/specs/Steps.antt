@@ -1,7 +1,7 @@
 -- The meaning of a line: from the bound names and the inputs, either the new names with the text of the line, or the
 -- first fault in the order of checks. A binding changes its one name, and a write changes none.
 -- Source: this library's script format.
-use Rattle.std.specs.Prelude.{ℕ, not, List, [], ◌∷◌, ◌++◌, length, codes, slice_get, Option, Some, None, Result, Ok}
+use Rattle.std.specs.Prelude.{ℕ, not, List, [], ◌∷◌, ◌++◌, codes, slice_get, Option, Some, None, Result, Ok}
 use Rattle.cvl_base.specs.declared.value.Value.{Value}
 use Rattle.cvl_base.specs.declared.call.Arg.{Arg}
 use Rattle.cvl_base.specs.declared.call.Arg.TheVariants as arg
@@ -14,6 +14,7 @@ use Rattle.cvl_base.specs.Gives.{◌>>=◌, unless, fault_if}
 use Rattle.call_reader.specs.Texts.{value_text}
 use Rattle.vector_handles.specs.declared.input.Input.{Input}
 use Rattle.vector_handles.specs.CallValues.{table_value}
+use Rattle.vector_handles.specs.Families.{ArgumentAt}
 use Rattle.bound_names.specs.Names.{Entries, bind, has_room}
 use Rattle.bound_names.specs.Arguments.{args_fault, argument_at, descriptor_in}
 
@@ -34,21 +35,26 @@ module _ {A : Type 0} where
   text_beside (Some v) beside = value_text (descriptor_in beside) v
 
   -- the text of the first argument, beside the second
-  abbrev pub shown_text_of : Entries A → List Arg → Result (List ℕ) Fault
-  shown_text_of names args = text_beside (argument_at names args 0) (argument_at names args 1)
+  abbrev pub shown_text_of : ArgumentAt A → Result (List ℕ) Fault
+  shown_text_of arg = text_beside (arg 0) (arg 1)
 
   -- the name, ` = `, the value and a line feed (10)
-  abbrev pub written : Entries A → List Arg → Result (List ℕ) Fault
-  written names args =
-      shown_text_of names args >>= λ text. Ok (name_in (slice_get args 0) ++ codes " = " ++ text ++ (10 ∷ []))
+  abbrev pub written : List Arg → ArgumentAt A → Result (List ℕ) Fault
+  written args arg =
+      shown_text_of arg >>= λ text. Ok (name_in (slice_get args 0) ++ codes " = " ++ text ++ (10 ∷ []))
+
+  -- the names with this value bound, and no text
+  abbrev pub bound_to : Entries A → List ℕ → Value A → Stepped A
+  bound_to names target v = record { names = bind names target v; shown = None }
 
   -- what is done once the arguments are right
   abbrev pub performed : Entries A → List (Input A) → Option (List ℕ) → Op → List Arg → Result (Stepped A) Fault
-  performed names inputs None op args = written names args >>= λ text. Ok (record { names = names; shown = Some text })
+  performed names inputs None op args =
+      written args (argument_at names args) >>= λ text. Ok (record { names = names; shown = Some text })
   performed names inputs (Some target) op args =
       fault_if (not (has_room names target)) (fault TooManyNames)
-      (table_value inputs op (argument_at names args) >>= λ v. Ok (record { names = bind names target v; shown = None }))
+      (table_value inputs op (argument_at names args) >>= λ v. Ok (bound_to names target v))
 
   abbrev pub step : Entries A → List (Input A) → Call A → Result (Stepped A) Fault
   step names inputs call =
-      unless (args_fault names call.op (length call.args) 0 call.args) (performed names inputs call.target call.op call.args)
+      unless (args_fault names call.op call.args) (performed names inputs call.target call.op call.args)

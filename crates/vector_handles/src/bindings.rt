@@ -1,16 +1,18 @@
 //! The binding of a name to what a call gives.
 
-ghost use Rattle.std.specs.Prelude.{◌≡◌, OnErr};
-ghost use Rattle.vector_handles.specs.Answers.{IsBinding};
+ghost use Rattle.std.specs.Prelude.{◌≡◌, None, OnErr};
+ghost use Rattle.vector_handles.specs.Answers.{left_by};
+ghost use Rattle.cvl_base.specs.Gives.{Gives, unless};
+ghost use Rattle.bound_names.specs.Arguments.{args_fault};
+ghost use Rattle.vector_handles.specs.Steps.{bound_to, performed};
 
 use crate::session::Session;
-use bound_names::{bind_answer, is_room};
+use bound_names::{Bound, bind_answer, is_room, resolve};
 use cvl_base::{Arg, Fault, FaultNo, Memory, Name, Op, Refused};
 use std::thread::Threads;
 
 impl<A: Memory> Session<A> {
-    /// Binds the name to the value that a call gives, once all memory is there: `TooManyNames` where it is a new name
-    /// and no more may be bound, and then the call's faults.
+    /// Binds the name to the value that a call gives, once all memory is there.
     pub(crate) fn bind<R: Threads + Sync>(
         &mut self,
         rt: &R,
@@ -18,14 +20,33 @@ impl<A: Memory> Session<A> {
         op: Op,
         args: &[Arg],
     ) -> Result<(), Refused>
-        ensures meaning { IsBinding self.old target.now op args.now self.new result }
+        ensures meaning { Gives (λ _. left_by self.new None) result
+            (unless (args_fault self.old.names op args.now)
+            (performed self.old.names self.old.inputs (Some target.now) op args.now)) }
         ensures inputs { self.new.inputs ≡ self.old.inputs }
         ensures refused { OnErr result (self.new.names ≡ self.old.names) }
     {
+        let answer = self.value_for(rt, target, op, args);
+        bind_answer(&mut self.names, target, answer)
+    }
+
+    /// The value that a call gives, to be bound to a name: the first fault of the arguments, `TooManyNames` where it is a
+    /// new name and no more may be bound, and then the call's faults.
+    fn value_for<R: Threads + Sync>(
+        &self,
+        rt: &R,
+        target: &Name,
+        op: Op,
+        args: &[Arg],
+    ) -> Result<Bound<A>, Refused>
+        ensures { Gives (bound_to self.now.names target.now) result
+            (unless (args_fault self.now.names op args.now)
+            (performed self.now.names self.now.inputs (Some target.now) op args.now)) }
+    {
+        let operands = resolve(&self.names, op, args)?;
         if !is_room(&self.names, target) {
             return Err(Refused::Fault(Fault::new(FaultNo::TooManyNames)));
         }
-        let answer = self.value_of_call(rt, op, args);
-        bind_answer(&mut self.names, target, answer)
+        self.value_of_call(rt, op, &operands)
     }
 }

@@ -1,13 +1,13 @@
 //! The value that an elementwise call gives, shape by shape.
 
 ghost use Rattle.cvl_base.specs.declared.operation.Op.TheVariants as op;
+ghost use Rattle.bound_names.specs.Operands.{AreTaken};
 ghost use Rattle.vector_handles.specs.Answers.{IsTableValue};
 
 use crate::answers::{bound_booleans, bound_integers};
 use crate::session::Session;
-use bound_names::Bound;
-use bound_names::lookups::{booleans_at, integers_at};
-use cvl_base::{Arg, BoolBinary, Comparison, Element, IntBinary, Memory, Refused, Unary};
+use bound_names::{Bound, Operands};
+use cvl_base::{BoolBinary, Comparison, Element, IntBinary, Memory, Refused, Unary};
 use elementwise::{bool_from_int, bool1, bool2, compare, int_from_bool, int1, int2, select};
 use std::thread::Threads;
 
@@ -17,12 +17,13 @@ impl<A: Memory> Session<A> {
         &self,
         rt: &R,
         operator: IntBinary,
-        args: &[Arg],
+        operands: &Operands<'_, A>,
     ) -> Result<Bound<A>, Refused>
-        ensures { IsTableValue self.now (op.Ints2 operator) args.now result }
+        requires kinds { AreTaken (op.Ints2 operator) operands.now }
+        ensures { IsTableValue self.now.inputs (op.Ints2 operator) operands.now result }
     {
-        let a = integers_at(&self.names, args, 0);
-        let b = integers_at(&self.names, args, 1);
+        let a = operands.first.integers();
+        let b = operands.second.integers();
         bound_integers(int2(rt, self.alloc, self.config, operator, a, b))
     }
 
@@ -31,11 +32,12 @@ impl<A: Memory> Session<A> {
         &self,
         rt: &R,
         operator: Unary,
-        args: &[Arg],
+        operands: &Operands<'_, A>,
     ) -> Result<Bound<A>, Refused>
-        ensures { IsTableValue self.now (op.Ints1 operator) args.now result }
+        requires kinds { AreTaken (op.Ints1 operator) operands.now }
+        ensures { IsTableValue self.now.inputs (op.Ints1 operator) operands.now result }
     {
-        let a = integers_at(&self.names, args, 0);
+        let a = operands.first.integers();
         let values = int1(rt, self.alloc, self.config, operator, a)?;
         Ok(Bound::from_integers(values))
     }
@@ -45,12 +47,13 @@ impl<A: Memory> Session<A> {
         &self,
         rt: &R,
         operator: Comparison,
-        args: &[Arg],
+        operands: &Operands<'_, A>,
     ) -> Result<Bound<A>, Refused>
-        ensures { IsTableValue self.now (op.Compare operator) args.now result }
+        requires kinds { AreTaken (op.Compare operator) operands.now }
+        ensures { IsTableValue self.now.inputs (op.Compare operator) operands.now result }
     {
-        let a = integers_at(&self.names, args, 0);
-        let b = integers_at(&self.names, args, 1);
+        let a = operands.first.integers();
+        let b = operands.second.integers();
         bound_booleans(compare(rt, self.alloc, self.config, operator, a, b))
     }
 
@@ -59,12 +62,13 @@ impl<A: Memory> Session<A> {
         &self,
         rt: &R,
         operator: BoolBinary,
-        args: &[Arg],
+        operands: &Operands<'_, A>,
     ) -> Result<Bound<A>, Refused>
-        ensures { IsTableValue self.now (op.Bools2 operator) args.now result }
+        requires kinds { AreTaken (op.Bools2 operator) operands.now }
+        ensures { IsTableValue self.now.inputs (op.Bools2 operator) operands.now result }
     {
-        let a = booleans_at(&self.names, args, 0);
-        let b = booleans_at(&self.names, args, 1);
+        let a = operands.first.booleans();
+        let b = operands.second.booleans();
         bound_booleans(bool2(rt, self.alloc, self.config, operator, a, b))
     }
 
@@ -73,11 +77,12 @@ impl<A: Memory> Session<A> {
         &self,
         rt: &R,
         operator: Unary,
-        args: &[Arg],
+        operands: &Operands<'_, A>,
     ) -> Result<Bound<A>, Refused>
-        ensures { IsTableValue self.now (op.Bools1 operator) args.now result }
+        requires kinds { AreTaken (op.Bools1 operator) operands.now }
+        ensures { IsTableValue self.now.inputs (op.Bools1 operator) operands.now result }
     {
-        let a = booleans_at(&self.names, args, 0);
+        let a = operands.first.booleans();
         let values = bool1(rt, self.alloc, self.config, operator, a)?;
         Ok(Bound::from_booleans(values))
     }
@@ -87,20 +92,21 @@ impl<A: Memory> Session<A> {
         &self,
         rt: &R,
         element: Element,
-        args: &[Arg],
+        operands: &Operands<'_, A>,
     ) -> Result<Bound<A>, Refused>
-        ensures { IsTableValue self.now (op.Choose element) args.now result }
+        requires kinds { AreTaken (op.Choose element) operands.now }
+        ensures { IsTableValue self.now.inputs (op.Choose element) operands.now result }
     {
-        let flags = booleans_at(&self.names, args, 0);
+        let flags = operands.first.booleans();
         match element {
             Element::Integer => {
-                let a = integers_at(&self.names, args, 1);
-                let b = integers_at(&self.names, args, 2);
+                let a = operands.second.integers();
+                let b = operands.third.integers();
                 bound_integers(select(rt, self.alloc, self.config, flags, a, b))
             }
             Element::Boolean => {
-                let a = booleans_at(&self.names, args, 1);
-                let b = booleans_at(&self.names, args, 2);
+                let a = operands.second.booleans();
+                let b = operands.third.booleans();
                 bound_booleans(select(rt, self.alloc, self.config, flags, a, b))
             }
         }
@@ -110,11 +116,12 @@ impl<A: Memory> Session<A> {
     pub(crate) fn value_of_int_from_bool<R: Threads + Sync>(
         &self,
         rt: &R,
-        args: &[Arg],
+        operands: &Operands<'_, A>,
     ) -> Result<Bound<A>, Refused>
-        ensures { IsTableValue self.now op.IntFromBool args.now result }
+        requires kinds { AreTaken op.IntFromBool operands.now }
+        ensures { IsTableValue self.now.inputs op.IntFromBool operands.now result }
     {
-        let a = booleans_at(&self.names, args, 0);
+        let a = operands.first.booleans();
         let values = int_from_bool(rt, self.alloc, self.config, a)?;
         Ok(Bound::from_integers(values))
     }
@@ -123,11 +130,12 @@ impl<A: Memory> Session<A> {
     pub(crate) fn value_of_bool_from_int<R: Threads + Sync>(
         &self,
         rt: &R,
-        args: &[Arg],
+        operands: &Operands<'_, A>,
     ) -> Result<Bound<A>, Refused>
-        ensures { IsTableValue self.now op.BoolFromInt args.now result }
+        requires kinds { AreTaken op.BoolFromInt operands.now }
+        ensures { IsTableValue self.now.inputs op.BoolFromInt operands.now result }
     {
-        let a = integers_at(&self.names, args, 0);
+        let a = operands.first.integers();
         let values = bool_from_int(rt, self.alloc, self.config, a)?;
         Ok(Bound::from_booleans(values))
     }

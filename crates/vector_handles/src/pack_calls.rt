@@ -1,17 +1,18 @@
 //! The value that a length, a count or a pack gives, of a whole vector or of each segment.
 
-ghost use Rattle.std.specs.Prelude.{◌≤◌, IfOk, length, vec_len};
+ghost use Rattle.std.specs.Prelude.{◌≡◌, ◌≤◌, Some, IfOk, length, slice_get, vec_len};
+ghost use Rattle.cvl_base.specs.declared.kind.Kind.TheVariants as kind;
 ghost use Rattle.cvl_base.specs.declared.operation.Op.TheVariants as op;
+ghost use Rattle.cvl_base.specs.Calls.{cut_by};
 ghost use Rattle.cvl_base.specs.Gives.{Gives};
-ghost use Rattle.bound_names.specs.Arguments.{argument_at};
+ghost use Rattle.bound_names.specs.Operands.{AreTaken, held_at, kind_held};
 ghost use Rattle.vector_handles.specs.Answers.{IsTableValue};
 ghost use Rattle.vector_handles.specs.Families.{packed};
 
 use crate::answers::{bound_booleans, bound_integers};
 use crate::session::Session;
-use bound_names::Bound;
-use bound_names::lookups::{booleans_at, integers_at};
-use cvl_base::{Arg, Cut, Element, Memory, Refused, Value};
+use bound_names::{Bound, Operands};
+use cvl_base::{Cut, Element, Memory, Refused, Value};
 use pack_dist::{count_true, pack, packed_descriptor, seg_count, seg_pack_values};
 use std::thread::Threads;
 
@@ -20,13 +21,14 @@ impl<A: Memory> Session<A> {
     pub(crate) fn value_of_length(
         &self,
         element: Element,
-        args: &[Arg],
+        operands: &Operands<'_, A>,
     ) -> Result<Bound<A>, Refused>
-        ensures { IsTableValue self.now (op.Length element) args.now result }
+        requires kinds { AreTaken (op.Length element) operands.now }
+        ensures { IsTableValue self.now.inputs (op.Length element) operands.now result }
     {
         let length = match element {
-            Element::Integer => integers_at(&self.names, args, 0).len(),
-            Element::Boolean => booleans_at(&self.names, args, 0).len(),
+            Element::Integer => operands.first.integers().len(),
+            Element::Boolean => operands.first.booleans().len(),
         };
         Ok(Bound::alone(Value::Integer(length as i32)))
     }
@@ -36,15 +38,16 @@ impl<A: Memory> Session<A> {
         &self,
         rt: &R,
         cut: Cut,
-        args: &[Arg],
+        operands: &Operands<'_, A>,
     ) -> Result<Bound<A>, Refused>
-        ensures { IsTableValue self.now (op.Count cut) args.now result }
+        requires kinds { AreTaken (op.Count cut) operands.now }
+        ensures { IsTableValue self.now.inputs (op.Count cut) operands.now result }
     {
-        let flags = booleans_at(&self.names, args, 0);
+        let flags = operands.first.booleans();
         match cut {
             Cut::Flat => { Ok(Bound::alone(Value::Integer(count_true(flags)))) }
             Cut::Segmented => {
-                let d = self.descriptor_at(args, 1);
+                let d = operands.second.descriptor();
                 let counts = seg_count(rt, self.alloc, self.config, flags, d)?;
                 Ok(Bound::from_integers(counts))
             }
@@ -57,38 +60,41 @@ impl<A: Memory> Session<A> {
         rt: &R,
         cut: Cut,
         element: Element,
-        args: &[Arg],
+        operands: &Operands<'_, A>,
     ) -> Result<Bound<A>, Refused>
-        ensures { IsTableValue self.now (op.Pack cut element) args.now result }
+        requires kinds { AreTaken (op.Pack cut element) operands.now }
+        ensures { IsTableValue self.now.inputs (op.Pack cut element) operands.now result }
     {
         match element {
             Element::Integer => {
-                let values = integers_at(&self.names, args, 0);
-                bound_integers(self.packed(rt, cut, values, args))
+                let values = operands.first.integers();
+                bound_integers(self.packed(rt, cut, values, operands))
             }
             Element::Boolean => {
-                let values = booleans_at(&self.names, args, 0);
-                bound_booleans(self.packed(rt, cut, values, args))
+                let values = operands.first.booleans();
+                bound_booleans(self.packed(rt, cut, values, operands))
             }
         }
     }
 
-    /// The elements of a vector whose flag is true. The flags and the descriptor are the arguments at their places.
+    /// The elements of a vector whose flag is true. The flags and the descriptor are the operands at their places.
     fn packed<T: Copy, R: Threads + Sync>(
         &self,
         rt: &R,
         cut: Cut,
         values: &[T],
-        args: &[Arg],
+        operands: &Operands<'_, A>,
     ) -> Result<Vec<T, A>, Refused>
-        ensures values { Gives (λ v. v.items) result (packed cut values.now (argument_at self.now.names args.now)) }
+        requires flags { kind_held operands.now.second ≡ Some kind.Booleans }
+        requires cut { kind_held operands.now.third ≡ slice_get (cut_by cut) 0 }
+        ensures values { Gives (λ v. v.items) result (packed cut values.now (held_at operands.now)) }
         ensures no_longer { IfOk result (λ v. vec_len v ≤ length values.now) }
     {
-        let flags = booleans_at(&self.names, args, 1);
+        let flags = operands.second.booleans();
         match cut {
             Cut::Flat => pack(rt, self.alloc, self.config, values, flags),
             Cut::Segmented => {
-                let d = self.descriptor_at(args, 2);
+                let d = operands.third.descriptor();
                 seg_pack_values(rt, self.alloc, self.config, values, flags, d)
             }
         }
@@ -98,12 +104,13 @@ impl<A: Memory> Session<A> {
     pub(crate) fn value_of_packed_lengths<R: Threads + Sync>(
         &self,
         rt: &R,
-        args: &[Arg],
+        operands: &Operands<'_, A>,
     ) -> Result<Bound<A>, Refused>
-        ensures { IsTableValue self.now op.PackedLengths args.now result }
+        requires kinds { AreTaken op.PackedLengths operands.now }
+        ensures { IsTableValue self.now.inputs op.PackedLengths operands.now result }
     {
-        let flags = booleans_at(&self.names, args, 0);
-        let d = self.descriptor_at(args, 1);
+        let flags = operands.first.booleans();
+        let d = operands.second.descriptor();
         let packed = packed_descriptor(rt, self.alloc, self.config, flags, d)?;
         Ok(Bound::from_descriptor(self.alloc, packed)?)
     }

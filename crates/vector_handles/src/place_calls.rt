@@ -1,17 +1,18 @@
 //! The value that a distribute, an index, an extract or a replace gives, of a whole vector or of each segment.
 
-ghost use Rattle.std.specs.Prelude.{◌≡◌, IfOk, length, vec_len};
+ghost use Rattle.std.specs.Prelude.{◌≡◌, Some, IfOk, length, vec_len};
+ghost use Rattle.cvl_base.specs.declared.kind.Kind.TheVariants as kind;
 ghost use Rattle.cvl_base.specs.declared.operation.Op.TheVariants as op;
 ghost use Rattle.cvl_base.specs.Gives.{Gives};
 ghost use Rattle.cvl_base.specs.SegmentedCalls.{seg_replace_of};
-ghost use Rattle.bound_names.specs.Arguments.{argument_at, integers_in, lengths_in};
+ghost use Rattle.bound_names.specs.Arguments.{integers_in, lengths_in};
+ghost use Rattle.bound_names.specs.Operands.{AreTaken, held, kind_held};
 ghost use Rattle.vector_handles.specs.Answers.{IsTableValue};
 
 use crate::answers::{bound_boolean, bound_booleans, bound_integer, bound_integers};
 use crate::session::Session;
-use bound_names::Bound;
-use bound_names::lookups::{boolean_at, booleans_at, integer_at, integers_at};
-use cvl_base::{Arg, Cut, Element, Memory, Refused};
+use bound_names::{Bound, Operands};
+use cvl_base::{Cut, Element, Memory, Refused};
 use pack_dist::{
     distribute, extract, index, replace, seg_distribute, seg_extract, seg_index, seg_replace,
 };
@@ -22,65 +23,77 @@ impl<A: Memory> Session<A> {
         &self,
         cut: Cut,
         element: Element,
-        args: &[Arg],
+        operands: &Operands<'_, A>,
     ) -> Result<Bound<A>, Refused>
-        ensures { IsTableValue self.now (op.Distribute cut element) args.now result }
+        requires kinds { AreTaken (op.Distribute cut element) operands.now }
+        ensures { IsTableValue self.now.inputs (op.Distribute cut element) operands.now result }
     {
         match cut {
-            Cut::Flat => self.distributed(element, args),
-            Cut::Segmented => self.distributed_by_segments(element, args),
+            Cut::Flat => self.distributed(element, operands),
+            Cut::Segmented => self.distributed_by_segments(element, operands),
         }
     }
 
     /// Copies of one value.
-    fn distributed(&self, element: Element, args: &[Arg]) -> Result<Bound<A>, Refused>
-        ensures { IsTableValue self.now (op.Distribute Cut.Flat element) args.now result }
+    fn distributed(&self, element: Element, operands: &Operands<'_, A>) -> Result<Bound<A>, Refused>
+        requires kinds { AreTaken (op.Distribute Cut.Flat element) operands.now }
+        ensures { IsTableValue self.now.inputs (op.Distribute Cut.Flat element) operands.now result }
     {
-        let count = integer_at(&self.names, args, 1);
+        let count = operands.second.integer();
         match element {
             Element::Integer => {
-                let value = integer_at(&self.names, args, 0);
+                let value = operands.first.integer();
                 bound_integers(distribute(self.alloc, value, count))
             }
             Element::Boolean => {
-                let value = boolean_at(&self.names, args, 0);
+                let value = operands.first.boolean();
                 bound_booleans(distribute(self.alloc, value, count))
             }
         }
     }
 
     /// Copies of one value for each segment.
-    fn distributed_by_segments(&self, element: Element, args: &[Arg]) -> Result<Bound<A>, Refused>
-        ensures { IsTableValue self.now (op.Distribute Cut.Segmented element) args.now result }
+    fn distributed_by_segments(
+        &self,
+        element: Element,
+        operands: &Operands<'_, A>,
+    ) -> Result<Bound<A>, Refused>
+        requires kinds { AreTaken (op.Distribute Cut.Segmented element) operands.now }
+        ensures { IsTableValue self.now.inputs (op.Distribute Cut.Segmented element) operands.now result }
     {
-        let d = self.descriptor_at(args, 1);
+        let d = operands.second.descriptor();
         match element {
             Element::Integer => {
-                let values = integers_at(&self.names, args, 0);
+                let values = operands.first.integers();
                 bound_integers(seg_distribute(self.alloc, values, d))
             }
             Element::Boolean => {
-                let values = booleans_at(&self.names, args, 0);
+                let values = operands.first.booleans();
                 bound_booleans(seg_distribute(self.alloc, values, d))
             }
         }
     }
 
     /// Numbers from a first one on, by a stride, or such numbers in each segment.
-    pub(crate) fn value_of_index(&self, cut: Cut, args: &[Arg]) -> Result<Bound<A>, Refused>
-        ensures { IsTableValue self.now (op.Index cut) args.now result }
+    pub(crate) fn value_of_index(
+        &self,
+        cut: Cut,
+        operands: &Operands<'_, A>,
+    ) -> Result<Bound<A>, Refused>
+        requires kinds { AreTaken (op.Index cut) operands.now }
+        ensures { IsTableValue self.now.inputs (op.Index cut) operands.now result }
     {
         match cut {
             Cut::Flat => {
-                let init = integer_at(&self.names, args, 0);
-                let stride = integer_at(&self.names, args, 1);
-                let count = integer_at(&self.names, args, 2);
+                let init = operands.first.integer();
+                let stride = operands.second.integer();
+                let count = operands.third.integer();
                 bound_integers(index(self.alloc, init, stride, count))
             }
             Cut::Segmented => {
-                let inits = integers_at(&self.names, args, 0);
-                let strides = integers_at(&self.names, args, 1);
-                let d = self.descriptor_at(args, 2);
+                let inits = operands.first.integers();
+                let strides = operands.second.integers();
+                let d = operands.third.descriptor();
                 bound_integers(seg_index(self.alloc, inits, strides, d))
             }
         }
@@ -91,46 +104,53 @@ impl<A: Memory> Session<A> {
         &self,
         cut: Cut,
         element: Element,
-        args: &[Arg],
+        operands: &Operands<'_, A>,
     ) -> Result<Bound<A>, Refused>
-        ensures { IsTableValue self.now (op.Extract cut element) args.now result }
+        requires kinds { AreTaken (op.Extract cut element) operands.now }
+        ensures { IsTableValue self.now.inputs (op.Extract cut element) operands.now result }
     {
         match cut {
-            Cut::Flat => self.extracted(element, args),
-            Cut::Segmented => self.extracted_by_segments(element, args),
+            Cut::Flat => self.extracted(element, operands),
+            Cut::Segmented => self.extracted_by_segments(element, operands),
         }
     }
 
     /// The element at an index.
-    fn extracted(&self, element: Element, args: &[Arg]) -> Result<Bound<A>, Refused>
-        ensures { IsTableValue self.now (op.Extract Cut.Flat element) args.now result }
+    fn extracted(&self, element: Element, operands: &Operands<'_, A>) -> Result<Bound<A>, Refused>
+        requires kinds { AreTaken (op.Extract Cut.Flat element) operands.now }
+        ensures { IsTableValue self.now.inputs (op.Extract Cut.Flat element) operands.now result }
     {
-        let place = integer_at(&self.names, args, 1);
+        let place = operands.second.integer();
         match element {
             Element::Integer => {
-                let vector = integers_at(&self.names, args, 0);
+                let vector = operands.first.integers();
                 bound_integer(extract(vector, place))
             }
             Element::Boolean => {
-                let vector = booleans_at(&self.names, args, 0);
+                let vector = operands.first.booleans();
                 bound_boolean(extract(vector, place))
             }
         }
     }
 
     /// The element at the index of each segment.
-    fn extracted_by_segments(&self, element: Element, args: &[Arg]) -> Result<Bound<A>, Refused>
-        ensures { IsTableValue self.now (op.Extract Cut.Segmented element) args.now result }
+    fn extracted_by_segments(
+        &self,
+        element: Element,
+        operands: &Operands<'_, A>,
+    ) -> Result<Bound<A>, Refused>
+        requires kinds { AreTaken (op.Extract Cut.Segmented element) operands.now }
+        ensures { IsTableValue self.now.inputs (op.Extract Cut.Segmented element) operands.now result }
     {
-        let places = integers_at(&self.names, args, 1);
-        let d = self.descriptor_at(args, 2);
+        let places = operands.second.integers();
+        let d = operands.third.descriptor();
         match element {
             Element::Integer => {
-                let vector = integers_at(&self.names, args, 0);
+                let vector = operands.first.integers();
                 bound_integers(seg_extract(self.alloc, vector, places, d))
             }
             Element::Boolean => {
-                let vector = booleans_at(&self.names, args, 0);
+                let vector = operands.first.booleans();
                 bound_booleans(seg_extract(self.alloc, vector, places, d))
             }
         }
@@ -141,68 +161,77 @@ impl<A: Memory> Session<A> {
         &self,
         cut: Cut,
         element: Element,
-        args: &[Arg],
+        operands: &Operands<'_, A>,
     ) -> Result<Bound<A>, Refused>
-        ensures { IsTableValue self.now (op.Replace cut element) args.now result }
+        requires kinds { AreTaken (op.Replace cut element) operands.now }
+        ensures { IsTableValue self.now.inputs (op.Replace cut element) operands.now result }
     {
         match cut {
-            Cut::Flat => self.replaced(element, args),
-            Cut::Segmented => self.replaced_by_segments(element, args),
+            Cut::Flat => self.replaced(element, operands),
+            Cut::Segmented => self.replaced_by_segments(element, operands),
         }
     }
 
     /// A vector with the element at an index changed.
-    fn replaced(&self, element: Element, args: &[Arg]) -> Result<Bound<A>, Refused>
-        ensures { IsTableValue self.now (op.Replace Cut.Flat element) args.now result }
+    fn replaced(&self, element: Element, operands: &Operands<'_, A>) -> Result<Bound<A>, Refused>
+        requires kinds { AreTaken (op.Replace Cut.Flat element) operands.now }
+        ensures { IsTableValue self.now.inputs (op.Replace Cut.Flat element) operands.now result }
     {
-        let place = integer_at(&self.names, args, 1);
+        let place = operands.second.integer();
         match element {
             Element::Integer => {
-                let vector = integers_at(&self.names, args, 0);
-                let value = integer_at(&self.names, args, 2);
+                let vector = operands.first.integers();
+                let value = operands.third.integer();
                 bound_integers(replace(self.alloc, vector, place, value))
             }
             Element::Boolean => {
-                let vector = booleans_at(&self.names, args, 0);
-                let value = boolean_at(&self.names, args, 2);
+                let vector = operands.first.booleans();
+                let value = operands.third.boolean();
                 bound_booleans(replace(self.alloc, vector, place, value))
             }
         }
     }
 
     /// A vector with the element at the index of each segment changed.
-    fn replaced_by_segments(&self, element: Element, args: &[Arg]) -> Result<Bound<A>, Refused>
-        ensures { IsTableValue self.now (op.Replace Cut.Segmented element) args.now result }
+    fn replaced_by_segments(
+        &self,
+        element: Element,
+        operands: &Operands<'_, A>,
+    ) -> Result<Bound<A>, Refused>
+        requires kinds { AreTaken (op.Replace Cut.Segmented element) operands.now }
+        ensures { IsTableValue self.now.inputs (op.Replace Cut.Segmented element) operands.now result }
     {
         match element {
             Element::Integer => {
-                let vector = integers_at(&self.names, args, 0);
-                let values = integers_at(&self.names, args, 2);
-                bound_integers(self.with_values(vector, values, args))
+                let vector = operands.first.integers();
+                let values = operands.third.integers();
+                bound_integers(self.with_values(vector, values, operands))
             }
             Element::Boolean => {
-                let vector = booleans_at(&self.names, args, 0);
-                let values = booleans_at(&self.names, args, 2);
-                bound_booleans(self.with_values(vector, values, args))
+                let vector = operands.first.booleans();
+                let values = operands.third.booleans();
+                bound_booleans(self.with_values(vector, values, operands))
             }
         }
     }
 
-    /// A vector with these values at the indexes of its segments. The indexes and the descriptor are the arguments at
+    /// A vector with these values at the indexes of its segments. The indexes and the descriptor are the operands at
     /// their places.
     fn with_values<T: Copy>(
         &self,
         vector: &[T],
         values: &[T],
-        args: &[Arg],
+        operands: &Operands<'_, A>,
     ) -> Result<Vec<T, A>, Refused>
+        requires places { kind_held operands.now.second ≡ Some kind.Integers }
+        requires descriptor { kind_held operands.now.fourth ≡ Some kind.Descriptor }
         ensures values { Gives (λ v. v.items) result
-            (seg_replace_of vector.now (integers_in (argument_at self.now.names args.now 1)) values.now
-            (lengths_in (argument_at self.now.names args.now 3))) }
+            (seg_replace_of vector.now (integers_in (held operands.now.second)) values.now
+            (lengths_in (held operands.now.fourth))) }
         ensures as_long { IfOk result (λ v. vec_len v ≡ length vector.now) }
     {
-        let places = integers_at(&self.names, args, 1);
-        let d = self.descriptor_at(args, 3);
+        let places = operands.second.integers();
+        let d = operands.fourth.descriptor();
         seg_replace(self.alloc, vector, places, values, d)
     }
 }

@@ -1,13 +1,13 @@
 //! The value that a scan or a reduce gives, of a whole vector or of each segment.
 
 ghost use Rattle.cvl_base.specs.declared.operation.Op.TheVariants as op;
+ghost use Rattle.bound_names.specs.Operands.{AreTaken};
 ghost use Rattle.vector_handles.specs.Answers.{IsTableValue};
 
 use crate::answers::{bound_booleans, bound_integers};
 use crate::session::Session;
-use bound_names::Bound;
-use bound_names::lookups::{booleans_at, integers_at};
-use cvl_base::{Arg, BoolBinary, Cut, IntMonoid, Memory, Refused, Value};
+use bound_names::{Bound, Operands};
+use cvl_base::{BoolBinary, Cut, IntMonoid, Memory, Refused, Value};
 use scan_ops::{
     bool_reduce, bool_scan, int_reduce, int_scan, seg_bool_reduce, seg_bool_scan, seg_int_reduce,
     seg_int_scan,
@@ -21,18 +21,19 @@ impl<A: Memory> Session<A> {
         rt: &R,
         operator: IntMonoid,
         cut: Cut,
-        args: &[Arg],
+        operands: &Operands<'_, A>,
     ) -> Result<Bound<A>, Refused>
-        ensures { IsTableValue self.now (op.Scan operator cut) args.now result }
+        requires kinds { AreTaken (op.Scan operator cut) operands.now }
+        ensures { IsTableValue self.now.inputs (op.Scan operator cut) operands.now result }
     {
-        let a = integers_at(&self.names, args, 0);
+        let a = operands.first.integers();
         match cut {
             Cut::Flat => {
                 let sums = int_scan(rt, self.alloc, self.config, operator, a)?;
                 Ok(Bound::from_integers(sums))
             }
             Cut::Segmented => {
-                let d = self.descriptor_at(args, 1);
+                let d = operands.second.descriptor();
                 bound_integers(seg_int_scan(rt, self.alloc, self.config, operator, a, d))
             }
         }
@@ -44,18 +45,19 @@ impl<A: Memory> Session<A> {
         rt: &R,
         operator: IntMonoid,
         cut: Cut,
-        args: &[Arg],
+        operands: &Operands<'_, A>,
     ) -> Result<Bound<A>, Refused>
-        ensures { IsTableValue self.now (op.Reduce operator cut) args.now result }
+        requires kinds { AreTaken (op.Reduce operator cut) operands.now }
+        ensures { IsTableValue self.now.inputs (op.Reduce operator cut) operands.now result }
     {
-        let a = integers_at(&self.names, args, 0);
+        let a = operands.first.integers();
         match cut {
             Cut::Flat => {
                 let sum = int_reduce(rt, self.alloc, self.config, operator, a)?;
                 Ok(Bound::alone(Value::Integer(sum)))
             }
             Cut::Segmented => {
-                let d = self.descriptor_at(args, 1);
+                let d = operands.second.descriptor();
                 bound_integers(seg_int_reduce(rt, self.alloc, self.config, operator, a, d))
             }
         }
@@ -67,18 +69,19 @@ impl<A: Memory> Session<A> {
         rt: &R,
         operator: BoolBinary,
         cut: Cut,
-        args: &[Arg],
+        operands: &Operands<'_, A>,
     ) -> Result<Bound<A>, Refused>
-        ensures { IsTableValue self.now (op.BoolScan operator cut) args.now result }
+        requires kinds { AreTaken (op.BoolScan operator cut) operands.now }
+        ensures { IsTableValue self.now.inputs (op.BoolScan operator cut) operands.now result }
     {
-        let a = booleans_at(&self.names, args, 0);
+        let a = operands.first.booleans();
         match cut {
             Cut::Flat => {
                 let sums = bool_scan(rt, self.alloc, self.config, operator, a)?;
                 Ok(Bound::from_booleans(sums))
             }
             Cut::Segmented => {
-                let d = self.descriptor_at(args, 1);
+                let d = operands.second.descriptor();
                 bound_booleans(seg_bool_scan(rt, self.alloc, self.config, operator, a, d))
             }
         }
@@ -90,18 +93,19 @@ impl<A: Memory> Session<A> {
         rt: &R,
         operator: BoolBinary,
         cut: Cut,
-        args: &[Arg],
+        operands: &Operands<'_, A>,
     ) -> Result<Bound<A>, Refused>
-        ensures { IsTableValue self.now (op.BoolReduce operator cut) args.now result }
+        requires kinds { AreTaken (op.BoolReduce operator cut) operands.now }
+        ensures { IsTableValue self.now.inputs (op.BoolReduce operator cut) operands.now result }
     {
-        let a = booleans_at(&self.names, args, 0);
+        let a = operands.first.booleans();
         match cut {
             Cut::Flat => {
                 let sum = bool_reduce(rt, self.alloc, self.config, operator, a)?;
                 Ok(Bound::alone(Value::Boolean(sum)))
             }
             Cut::Segmented => {
-                let d = self.descriptor_at(args, 1);
+                let d = operands.second.descriptor();
                 bound_booleans(seg_bool_reduce(rt, self.alloc, self.config, operator, a, d))
             }
         }

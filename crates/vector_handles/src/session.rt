@@ -1,14 +1,11 @@
 //! Sessions: bound names and inputs, on which calls are made.
 
-ghost use Rattle.std.specs.Prelude.{◌≡◌, ◌≤◌, [], IfOk, OnErr, length, option_copied, sum};
+ghost use Rattle.std.specs.Prelude.{◌≡◌, [], IfOk, OnErr, option_copied};
 
 use crate::input::Input;
 use crate::shown::Shown;
-use bound_names::lookups::descriptor_at;
-use bound_names::{Names, fault_of_args, value_of};
-use cvl_base::limits::MOST_ELEMENTS;
-use cvl_base::{Arg, Call, Config, Lengths, Memory, Name, NoResources, Refused, Value};
-use segdes::SegDes;
+use bound_names::{Names, value_of};
+use cvl_base::{Call, Config, Memory, Name, NoResources, Refused, Value};
 use std::collections::BTreeMap;
 use std::marker::Model;
 use std::thread::Threads;
@@ -22,26 +19,19 @@ pub struct Session<A: Memory> {
     pub(crate) names: Names<A>,
     pub(crate) inputs: Vec<Input<A>, A>,
     pub(crate) alloc: A,
-    /// What stands for a descriptor where an argument is none, which no checked call meets.
-    no_segments: SegDes<A>,
 }
 
 impl<A: Memory> Model for Session<A> {
-    ghost use Rattle.std.specs.Prelude.{◌≡◌, []};
     ghost use Rattle.vector_handles.specs.Sessions.{State};
 
     ghost Value = { State A };
 
     ghost view = { λ s. record { names = s.names.entries; inputs = s.inputs.items } };
-
-    ghost invariant = { λ s. s.no_segments ≡ [] };
 }
 
 impl<A: Memory> Session<A> {
-    ghost use Rattle.cvl_base.specs.Limits.{most_elements};
     ghost use Rattle.bound_names.specs.Names.{value_at};
     ghost use Rattle.vector_handles.specs.Answers.{IsStep};
-    ghost use Rattle.bound_names.specs.Arguments.{argument_at, lengths_in};
 
     /// A session with no name bound, over these inputs, which a script counts from 1.
     pub fn new(
@@ -57,28 +47,25 @@ impl<A: Memory> Session<A> {
             names: BTreeMap::new(alloc),
             inputs,
             alloc,
-            no_segments: SegDes::new(alloc, Lengths::from_vec(Vec::new(alloc)))?,
         })
     }
 
     /// Makes one call, as a line of a script asks for it: a binding binds its one name to what the call gives and shows
     /// nothing, and a write shows its text and binds nothing.
     ///
-    /// The first fault is told, in this order: for each argument from left to right `UnknownName` and then `WrongKind`;
-    /// `TooManyNames` where the target is a new name and 4,096 are bound; then those of the call, or `LengthMismatch`
-    /// where the lengths of a written descriptor don't add up to the vector's. After a refusal no name has changed, so
-    /// that the same call can be made again. Source: this library's script format.
+    /// The first fault is told, in this order: `WrongArgumentCount` where the call takes more arguments or fewer; for
+    /// each argument from left to right `UnknownName` and then `WrongKind`; `TooManyNames` where the target is a new
+    /// name and 4,096 are bound; then those of the call, or `LengthMismatch` where the lengths of a written descriptor
+    /// don't add up to the vector's. After a refusal no name has changed, so that the same call can be made again.
+    /// Source: this library's script format.
     pub fn apply<R: Threads + Sync>(&mut self, rt: &R, call: &Call<A>) -> Result<Shown<A>, Refused>
         ensures meaning { IsStep self.old call.now self.new result }
         ensures inputs { self.new.inputs ≡ self.old.inputs }
         ensures refused { OnErr result (self.new.names ≡ self.old.names) }
     {
         let args = call.args.as_slice();
-        if let Some(fault) = fault_of_args(&self.names, call.op, args) {
-            return Err(Refused::Fault(fault));
-        }
         match call.target {
-            None => Ok(Shown::Text(self.text_of_write(args)?)),
+            None => Ok(Shown::Text(self.text_of_call(call.op, args)?)),
             Some(target) => {
                 self.bind(rt, &target, call.op, args)?;
                 Ok(Shown::Nothing)
@@ -91,19 +78,5 @@ impl<A: Memory> Session<A> {
         ensures { option_copied result ≡ value_at self.now.names name.now }
     {
         value_of(&self.names, name)
-    }
-
-    /// The descriptor that an argument stands for, with its starts; of another argument, one without segments.
-    pub(crate) fn descriptor_at(&self, args: &[Arg], place: usize) -> &SegDes<A>
-        ensures value { result.now ≡ lengths_in (argument_at self.now.names args.now place) }
-        ensures few_segments { length result.now ≤ most_elements }
-        ensures total_in_limit { sum result.now ≤ most_elements }
-    {
-        let descriptor = match descriptor_at(&self.names, args, place) {
-            Some(descriptor) => descriptor,
-            None => &self.no_segments,
-        };
-        prove!(descriptor.count() <= MOST_ELEMENTS && descriptor.total() <= MOST_ELEMENTS);
-        descriptor
     }
 }

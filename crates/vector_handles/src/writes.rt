@@ -1,30 +1,40 @@
 //! The text of a write.
 
-ghost use Rattle.std.specs.Prelude.{◌≡◌, is_ok, slice_get};
+ghost use Rattle.std.specs.Prelude.{◌≡◌, None, Some, is_ok, slice_get};
 ghost use Rattle.std.specs.Option.{option_copied};
 ghost use Rattle.call_reader.specs.Texts.{cut_text, value_text};
-ghost use Rattle.cvl_base.specs.Gives.{Gives};
+ghost use Rattle.cvl_base.specs.Gives.{Gives, unless};
 ghost use Rattle.vector_handles.specs.Answers.{Appends};
-ghost use Rattle.bound_names.specs.Arguments.{argument_at};
-ghost use Rattle.vector_handles.specs.Steps.{name_in, shown_text_of, written};
+ghost use Rattle.bound_names.specs.Arguments.{args_fault};
+ghost use Rattle.bound_names.specs.Operands.{held_at};
+ghost use Rattle.vector_handles.specs.Steps.{name_in, performed, shown_text_of, written};
 
 use crate::session::Session;
-use bound_names::lookups::descriptor_at;
-use bound_names::{Names, value_of};
+use bound_names::{Operand, Operands, resolve};
 use call_reader::put_value;
-use cvl_base::{Arg, Fault, FaultNo, Memory, Refused, Value};
+use cvl_base::{Arg, Fault, FaultNo, Memory, Op, Refused, Value};
 use segdes::SegDes;
 
 impl<A: Memory> Session<A> {
+    /// The text of a call without a target: the first fault of its arguments, and then those of a write.
+    pub(crate) fn text_of_call(&self, op: Op, args: &[Arg]) -> Result<Vec<u8, A>, Refused>
+        ensures { Gives (λ text. record { names = self.now.names; shown = Some text.items }) result
+            (unless (args_fault self.now.names op args.now)
+            (performed self.now.names self.now.inputs None op args.now)) }
+    {
+        let operands = resolve(&self.names, op, args)?;
+        self.text_of_write(args, &operands)
+    }
+
     /// The name, ` = `, the value and a line feed: `LengthMismatch` where a descriptor beside the value doesn't add up
     /// to the value's length.
-    pub(crate) fn text_of_write(&self, args: &[Arg]) -> Result<Vec<u8, A>, Refused>
-        ensures { Gives (λ text. text.items) result (written self.now.names args.now) }
+    fn text_of_write(&self, args: &[Arg], operands: &Operands<'_, A>) -> Result<Vec<u8, A>, Refused>
+        ensures { Gives (λ text. text.items) result (written args.now (held_at operands.now)) }
     {
         let mut text = Vec::new(self.alloc);
         text.extend_from_slice(name_of_first(args))?;
         text.extend_from_slice(b" = ")?;
-        put_first(&self.names, args, &mut text)?;
+        put_first(operands, &mut text)?;
         text.push(b'\n')?;
         Ok(text)
     }
@@ -40,28 +50,21 @@ fn name_of_first(args: &[Arg]) -> &[u8]
     }
 }
 
-/// Appends the text of the first argument, beside the second where that is a descriptor.
-fn put_first<A: Memory>(
-    names: &Names<A>,
-    args: &[Arg],
-    text: &mut Vec<u8, A>,
-) -> Result<(), Refused>
-    ensures { Appends text.old.items text.new.items result (shown_text_of names.now.entries args.now) }
+/// Appends the text of the first operand, beside the second where that is a descriptor.
+fn put_first<A: Memory>(operands: &Operands<'_, A>, text: &mut Vec<u8, A>) -> Result<(), Refused>
+    ensures { Appends text.old.items text.new.items result (shown_text_of (held_at operands.now)) }
 {
-    let beside = descriptor_at(names, args, 1);
-    match args.first() {
-        None => Ok(()),
-        Some(Arg::Name(name)) => match value_of(names, name) {
-            None => Ok(()),
-            Some(value) => put_beside(value, beside, text),
-        },
-        Some(Arg::Integer(n)) => put_beside(&Value::Integer(*n), beside, text),
-        Some(Arg::Boolean(b)) => put_beside(&Value::Boolean(*b), beside, text),
+    let beside = operands.second.descriptor_if_any();
+    match operands.first {
+        Operand::Absent => Ok(()),
+        Operand::Bound(bound) => put_beside(bound.value(), beside, text),
+        Operand::Integer(n) => put_beside(&Value::Integer(n), beside, text),
+        Operand::Boolean(b) => put_beside(&Value::Boolean(b), beside, text),
     }
 }
 
-/// Appends the text of a value, beside a descriptor if there is one: `LengthMismatch` where the value is no vector of as
-/// many elements as the descriptor's segments.
+/// Appends the text of a value, beside a descriptor if there is one: `LengthMismatch` where the value is no vector of
+/// as many elements as the descriptor's segments.
 fn put_beside<A: Memory>(
     value: &Value<A>,
     beside: Option<&SegDes<A>>,

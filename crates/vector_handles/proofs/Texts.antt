@@ -1,0 +1,32 @@
+-- The text of a call without a target, once its arguments are found to be right.
+use Rattle.std.proofs.Common.{◌≡◌, ◌∙◌, ℕ, List, refl, sym, ap, subst, Option, Some, None, Result, Ok, Err}
+use Rattle.cvl_base.specs.declared.call.Arg.{Arg}
+use Rattle.cvl_base.specs.declared.fault.Fault.{Fault}
+use Rattle.cvl_base.specs.declared.operation.Op.{Op}
+use Rattle.cvl_base.specs.declared.refused.Refused.{Refused}
+use Rattle.cvl_base.specs.declared.refused.Refused.TheVariants as refused
+use Rattle.cvl_base.specs.Gives.{Gives, ◌>>=◌, unless}
+use Rattle.bound_names.specs.Arguments.{args_fault, argument_at}
+use Rattle.bound_names.specs.Names.{Entries}
+use Rattle.vector_handles.specs.declared.input.Input.{Input}
+use Rattle.vector_handles.specs.Families.{ArgumentAt}
+use Rattle.vector_handles.specs.Steps.{Stepped, performed, written}
+
+-- what is made of an answer is given where the answer is
+made : {X Y Z : Type 0} (view : X → Y) (make : Y → Z) (answer : Result X Refused) (meaning : Result Y Fault) →
+    Gives view answer meaning → Gives (λ x. make (view x)) answer (meaning >>= λ y. Ok (make y))
+made view make (Ok x) meaning is = ap (λ m. m >>= λ y. Ok (make y)) is
+made view make (Err (refused.Fault f)) meaning is = ap (λ m. m >>= λ y. Ok (make y)) is
+made view make (Err refused.NoResources) meaning is = tt
+
+pub told : {V A : Type 0} (view : V → List ℕ) (names here : Entries A) (inputs : List (Input A)) (op : Op) (args : List Arg) (arg : ArgumentAt A)
+    (answer : Result V Refused) → here ≡ names → args_fault here op args ≡ None → arg ≡ argument_at here args →
+    Gives view answer (written args arg) →
+    Gives (λ v. record { names = names; shown = Some (view v) }) answer (unless (args_fault names op args) (performed names inputs None op args))
+told {V} {A} view names here inputs op args arg answer same right values is =
+    let shows : List ℕ → Stepped A = λ text. record { names = names; shown = Some text } in
+    let right_here : args_fault names op args ≡ None = ap (λ n. args_fault n op args) (sym same) ∙ right in
+    let values_here : arg ≡ argument_at names args = values ∙ ap (λ n. argument_at n args) same in
+    let whole : (written args arg >>= λ text. Ok (shows text)) ≡ unless (args_fault names op args) (performed names inputs None op args) =
+      λ i. unless (sym right_here i) (written args (values_here i) >>= λ text. Ok (shows text)) in
+    subst (λ m. Gives (λ v. shows (view v)) answer m) whole (made view shows answer (written args arg) is)
