@@ -23,6 +23,7 @@ use Rattle.clap.specs.declared.parser.matches.ArgMatches.{ArgMatches}
 use Rattle.clap.proofs.CallerLemmas.{required_has_value}
 use Rattle.clap.proofs.OnLiterals.{clap_on_literals}
 use Rattle.clap.proofs.WalkLemmas.{both}
+use Rattle.cvl_base.specs.Limits.{longest_tile, most_workers}
 use Rattle.command_line.specs.Command.{cvl, inputs_rule, number_rule, script_rule, tile_rule, up_to, workers_rule}
 use Rattle.command_line.specs.Reads.{HasNumber, IsFaultOf, IsWhole, ReadsBy}
 use Rattle.command_line.specs.declared.fault.WordsFault.{WordsFault}
@@ -192,8 +193,8 @@ has_script c m e p =
 
 pub whole : (c : Command) (m : ArgMatches) → app_of c ≡ cvl → IsParsedFrom c m → IsWhole m
 whole c m e p = record {
-  tile = has_number c m e p 0 (codes "tile") 65536 (codes "4096") (omega arith) refl tile_alone tile_is_own;
-  workers = has_number c m e p 1 (codes "workers") 64 (codes "4") (omega arith) refl workers_alone workers_is_own;
+  tile = has_number c m e p 0 (codes "tile") longest_tile (codes "4096") (omega arith) refl tile_alone tile_is_own;
+  workers = has_number c m e p 1 (codes "workers") most_workers (codes "4") (omega arith) refl workers_alone workers_is_own;
   script = is_some_of _ (has_script c m e p);
 }
   where

@@ -2,6 +2,7 @@
 -- the script, and then its inputs.
 -- Source: this library's program.
 use Rattle.std.specs.Prelude.{ℕ, [], ◌∷◌, Some, codes, pos, true}
+use Rattle.cvl_base.specs.Limits.{longest_tile, most_workers}
 use Rattle.clap.specs.Words.{App, Rule, Text, new_app, new_rule, with_rule}
 use Rattle.clap.specs.declared.builder.action.ArgAction.TheVariants.{Set, Append}
 use Rattle.clap.specs.declared.builder.value_parser.ValueParser.{ValueParser}
@@ -31,10 +32,10 @@ abbrev pub inputs_rule : Rule
 inputs_rule = record (new_rule (codes "inputs")) { action = Some Append; value_names = 1 }
 
 abbrev pub tile_rule : Rule
-tile_rule = number_rule (codes "tile") (up_to 65536) (codes "4096")
+tile_rule = number_rule (codes "tile") (up_to longest_tile) (codes "4096")
 
 abbrev pub workers_rule : Rule
-workers_rule = number_rule (codes "workers") (up_to 64) (codes "4")
+workers_rule = number_rule (codes "workers") (up_to most_workers) (codes "4")
 
 unfoldable pub cvl : App
 cvl = with_rule (with_rule (with_rule (with_rule (new_app (codes "cvl")) tile_rule) workers_rule)

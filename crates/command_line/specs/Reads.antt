@@ -8,6 +8,7 @@ use Rattle.clap.specs.Words.{App, IsAmong, IsSignedIn, Kinds, Row, Text, all_of,
 use Rattle.clap.specs.declared.error.Error.{Error}
 use Rattle.clap.specs.declared.error.kind.ErrorKind.TheVariants.{OutOfMemory}
 use Rattle.clap.specs.declared.parser.matches.ArgMatches.{ArgMatches}
+use Rattle.cvl_base.specs.Limits.{longest_tile, most_workers}
 use Rattle.command_line.specs.Command.{cvl}
 use Rattle.command_line.specs.declared.fault.WordsFault.{WordsFault}
 use Rattle.command_line.specs.declared.fault.WordsFault.TheVariants as fault
@@ -55,6 +56,6 @@ pub record HasNumber (m : ArgMatches) (name : Text) (greatest : ℕ) : Type 0 wh
 
 -- the matches of the command have both numbers and the script
 pub record IsWhole (m : ArgMatches) : Type 0 where
-  pub tile : HasNumber m (codes "tile") 65536
-  pub workers : HasNumber m (codes "workers") 64
+  pub tile : HasNumber m (codes "tile") longest_tile
+  pub workers : HasNumber m (codes "workers") most_workers
   pub script : IsSome (first_value (found_of m) (codes "script"))

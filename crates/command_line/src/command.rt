@@ -6,6 +6,7 @@ ghost use Rattle.command_line.specs.Command.{cvl, number_rule, script_rule, inpu
 
 use clap::builder::ValueParser;
 use clap::{Arg, ArgAction, Command};
+use cvl_base::limits::{LONGEST_TILE, MOST_WORKERS};
 use std::alloc::{AllocError, Global};
 
 /// The length of tiles where none is given, in elements.
@@ -62,14 +63,14 @@ pub(crate) fn cvl_command<'a>(alloc: Global) -> Result<Command<'a>, AllocError>
     let tile = number_option(
         alloc,
         "tile",
-        clap::value_parser!(u32).range(1..=65536),
+        clap::value_parser!(u32).range(1..=i64::from(LONGEST_TILE)),
         TILE,
     )
     .help("The length of a tile, in elements");
     let workers = number_option(
         alloc,
         "workers",
-        clap::value_parser!(u32).range(1..=64),
+        clap::value_parser!(u32).range(1..=i64::from(MOST_WORKERS)),
         WORKERS,
     )
     .help("The number of workers");

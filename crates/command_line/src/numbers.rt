@@ -2,6 +2,7 @@
 
 ghost use Rattle.std.specs.Prelude.{◌≡◌, ℕ, ◌≤◌, Some, codes};
 ghost use Rattle.clap.specs.Words.{found_of, rows_of};
+ghost use Rattle.cvl_base.specs.Limits.{longest_tile, most_workers};
 ghost use Rattle.command_line.specs.Reads.{HasNumber, number_in};
 
 use clap::ArgMatches;
@@ -9,9 +10,9 @@ use cvl_base::Config;
 
 /// The number of an option.
 fn number(matches: &ArgMatches<'_>, name: &str) -> u32
-    requires { (greatest : ℕ) × (greatest ≤ 65536) × HasNumber matches.now name.now greatest }
+    requires { (greatest : ℕ) × (greatest ≤ longest_tile) × HasNumber matches.now name.now greatest }
     ensures value { number_in name.now (rows_of (found_of matches.now)) ≡ Some result }
-    ensures range { (greatest : ℕ) → greatest ≤ 65536 → HasNumber matches.now name.now greatest
+    ensures range { (greatest : ℕ) → greatest ≤ longest_tile → HasNumber matches.now name.now greatest
         → (1 ≤ result) × (result ≤ greatest) }
 {
     matches.get_one::<u32>(name).unwrap()
@@ -19,8 +20,8 @@ fn number(matches: &ArgMatches<'_>, name: &str) -> u32
 
 /// The tile length and the number of workers.
 pub(crate) fn config(matches: &ArgMatches<'_>) -> Config
-    requires tile { HasNumber matches.now (codes "tile") 65536 }
-    requires workers { HasNumber matches.now (codes "workers") 64 }
+    requires tile { HasNumber matches.now (codes "tile") longest_tile }
+    requires workers { HasNumber matches.now (codes "workers") most_workers }
     ensures tile { number_in (codes "tile") (rows_of (found_of matches.now)) ≡ Some result.0 }
     ensures workers { number_in (codes "workers") (rows_of (found_of matches.now)) ≡ Some result.1 }
 {

@@ -3,6 +3,7 @@
 ghost use Rattle.std.specs.Prelude.{◌≡◌, ℕ, ◌≤◌, Some, IfOk, IfErr, true, codes, unwrap_or, []};
 ghost use Rattle.clap.specs.Words.{all_of, fault_of, first_of, found_of, rows_of, takes};
 ghost use Rattle.clap.specs.Walk.{texts};
+ghost use Rattle.cvl_base.specs.Limits.{longest_tile, most_workers};
 ghost use Rattle.command_line.specs.Command.{cvl};
 ghost use Rattle.command_line.specs.Reads.{IsWhole, ReadsBy, inputs_given, is_left_out, number_given, number_in, script_given};
 ghost use Rattle.command_line.specs.declared.fault.WordsFault.TheVariants as fault;
@@ -68,8 +69,8 @@ pub fn read_words<'a>(alloc: Global, words: &'a [&'a str]) -> Result<Words<'a>, 
         number_given (codes "tile") (texts words.entry.now) ≡ Some w.config.0) }
     ensures workers { IfOk result (λ w.
         number_given (codes "workers") (texts words.entry.now) ≡ Some w.config.1) }
-    ensures tile_range { IfOk result (λ w. (1 ≤ w.config.0) × (w.config.0 ≤ 65536)) }
-    ensures workers_range { IfOk result (λ w. (1 ≤ w.config.1) × (w.config.1 ≤ 64)) }
+    ensures tile_range { IfOk result (λ w. (1 ≤ w.config.0) × (w.config.0 ≤ longest_tile)) }
+    ensures workers_range { IfOk result (λ w. (1 ≤ w.config.1) × (w.config.1 ≤ most_workers)) }
     ensures tile_default { IfOk result (λ w.
         is_left_out (codes "tile") (texts words.entry.now) ≡ true → w.config.0 ≡ 4096) }
     ensures workers_default { IfOk result (λ w.

@@ -1,14 +1,15 @@
 use Rattle.std.proofs.Common.{◌≡◌, ◌∙◌, ap, ap₂, rules}
 use Rattle.std.proofs.lemmas.Result.{IfOk-weaker}
 use Rattle.clap.specs.Words.{rule_of, with_rule}
+use Rattle.cvl_base.specs.Limits.{longest_tile, most_workers}
 use Rattle.command_line.specs.Command.{cvl, tile_rule, workers_rule, up_to}
 use Rattle.command_line.proofs.command.cvl_command.Goals as goal
 
 pub returns : goal.returns
 unfolding cvl
 returns c =
-    let tile_range : c.range.result ≡ up_to 65536 = rw (c.value_parser.ensures, c.new.ensures.start, c.new.ensures.end) at c.range.ensures in
-    let workers_range : c.range-2.result ≡ up_to 64 = rw (c.value_parser-2.ensures, c.new-2.ensures.start, c.new-2.ensures.end) at c.range-2.ensures in
+    let tile_range : c.range.result ≡ up_to longest_tile = rw (c.value_parser.ensures, c.new.ensures.start, c.new.ensures.end, c.from.ensures) at c.range.ensures in
+    let workers_range : c.range-2.result ≡ up_to most_workers = rw (c.value_parser-2.ensures, c.new-2.ensures.start, c.new-2.ensures.end, c.from-2.ensures) at c.range-2.ensures in
     let tile : rule_of c.help-tile.result ≡ tile_rule =
     ap rule_of c.help-tile.ensures ∙ (rw tile_range at c.number_option.ensures.rule) in
     let workers : rule_of c.help-workers.result ≡ workers_rule =
