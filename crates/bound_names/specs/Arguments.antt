@@ -82,8 +82,3 @@ module _ {A : Type 0} where
   abbrev pub boolean_in : Option (Value A) → Bool
   boolean_in (Some (value.Boolean b)) = b
   boolean_in _ = false
-
-  -- two arguments hold the same vector, or the same descriptor
-  abbrev pub SameVector : Option (Value A) → Option (Value A) → Type 0
-  SameVector v w =
-      (integers_in v ≡ integers_in w) × (booleans_in v ≡ booleans_in w) × (descriptor_in v ≡ descriptor_in w)

@@ -49,7 +49,8 @@ back-meaning source index result =
     (λ p. taken-from_values source index result (values.0 p), λ is. values.1 (values-from_taken source index result is))
 
 -- an index in range has an element
-element-sent : {X : Type 0} (source : List X) (index : List ℤ) (result : List X) → IsSimplePermute source index result → (k : ℕ) (i : ℤ) → slice_get index k ≡ Some i → slice_get source k ≡ element_at result i
+element-sent : {X : Type 0} (source : List X) (index : List ℤ) (result : List X) → IsSimplePermute source index result → (k : ℕ) (i : ℤ) → slice_get index k ≡ Some i
+    → slice_get source k ≡ element_at result i
 element-sent source index result is k (pos d) here = sym (is.sent k d here)
 element-sent source index result is k (negsuc d) here = absurd (false≢true (is.within k (negsuc d) here))
 

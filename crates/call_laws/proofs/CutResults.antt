@@ -36,7 +36,8 @@ use Rattle.call_laws.proofs.Sending.{if_as_long-Ok, simple-meaning}
 nest-joined : {X : Type 0} (lists : List (List X)) → nest (map length lists) (joined lists) ≡ Ok lists
 nest-joined lists = (nest-meaning (map length lists) (joined lists) lists).1 (record { has_lengths = refl; has_elements = refl })
 
-pub cut-again : {S X : Type 0} (place : ℕ → ℕ → ℕ) (call : S → Result (List X) Fault) (segments : List S) (lists : List (List X)) (result : List X) → map call segments ≡ map (λ r. Ok r) lists → (end_to_end place call (Ok segments) ≡ Ok result) ↔ (nest (map length lists) result ≡ Ok lists)
+pub cut-again : {S X : Type 0} (place : ℕ → ℕ → ℕ) (call : S → Result (List X) Fault) (segments : List S) (lists : List (List X)) (result : List X) → map call segments ≡ map (λ r. Ok r) lists
+    → (end_to_end place call (Ok segments) ≡ Ok result) ↔ (nest (map length lists) result ≡ Ok lists)
 cut-again place call segments lists result same =
     let whole : end_to_end place call (Ok segments) ≡ Ok (joined lists) = (joined-meaning place call segments (joined lists)).1 (lists, same, refl) in (
       λ p. let e : joined lists ≡ result = cc in ap (nest (map length lists)) (sym e) ∙ nest-joined lists,
@@ -64,7 +65,8 @@ module _ {S X : Type 0} (place : ℕ → ℕ → ℕ) (call : S → Result (List
 
 -- ---- the segments of a call with several arguments
 
-given-segments : {S X : Type 0} (place : ℕ → ℕ → ℕ) (call : S → Result (List X) Fault) (segments : Result (List S) Fault) (result : List X) → end_to_end place call segments ≡ Ok result → (ss : List S) × (segments ≡ Ok ss) × (end_to_end place call (Ok ss) ≡ Ok result)
+given-segments : {S X : Type 0} (place : ℕ → ℕ → ℕ) (call : S → Result (List X) Fault) (segments : Result (List S) Fault) (result : List X) → end_to_end place call segments ≡ Ok result → (ss : List S)
+    × (segments ≡ Ok ss) × (end_to_end place call (Ok ss) ≡ Ok result)
 given-segments place call (Ok ss) result p = (ss, refl, p)
 given-segments place call (Err f) result p = cc
 
@@ -72,20 +74,24 @@ firsts-given : {A B : Type 0} (firsts : Result (List A) Fault) (seconds : Result
 firsts-given (Ok xs) seconds ss p = (xs, refl)
 firsts-given (Err f) seconds ss p = cc
 
-beside-Ok : {A B : Type 0} (firsts : Result (List A) Fault) (seconds : Result (List B) Fault) (xs : List A) (ys : List B) (ss : List (A × B)) → firsts ≡ Ok xs → seconds ≡ Ok ys → beside firsts seconds ≡ Ok ss → (length xs ≡ length ys) × (ss ≡ zip xs ys)
+beside-Ok : {A B : Type 0} (firsts : Result (List A) Fault) (seconds : Result (List B) Fault) (xs : List A) (ys : List B) (ss : List (A × B)) → firsts ≡ Ok xs → seconds ≡ Ok ys
+    → beside firsts seconds ≡ Ok ss → (length xs ≡ length ys) × (ss ≡ zip xs ys)
 beside-Ok firsts seconds xs ys ss first second p =
     let parts = if_as_long-Ok xs ys (Ok (zip xs ys)) ss (sym (λ i. beside (first i) (second i)) ∙ p) in
     let zipped = parts.1 in
     let same : ss ≡ zip xs ys = cc in
     (parts.0, same)
 
-two-segments : {A B X : Type 0} (place : ℕ → ℕ → ℕ) (call : A × B → Result (List X) Fault) (firsts : Result (List A) Fault) (seconds : Result (List B) Fault) (xs : List A) (ys : List B) (result : List X) → firsts ≡ Ok xs → seconds ≡ Ok ys → end_to_end place call (beside firsts seconds) ≡ Ok result → (length xs ≡ length ys) × (end_to_end place call (Ok (zip xs ys)) ≡ Ok result)
+two-segments : {A B X : Type 0} (place : ℕ → ℕ → ℕ) (call : A × B → Result (List X) Fault) (firsts : Result (List A) Fault) (seconds : Result (List B) Fault) (xs : List A) (ys : List B)
+    (result : List X) → firsts ≡ Ok xs → seconds ≡ Ok ys → end_to_end place call (beside firsts seconds) ≡ Ok result → (length xs ≡ length ys) × (end_to_end place call (Ok (zip xs ys)) ≡ Ok result)
 two-segments place call firsts seconds xs ys result first second p =
     let given = given-segments place call (beside firsts seconds) result p in
     let parts = beside-Ok firsts seconds xs ys given.0 first second given.1 in
     (parts.0, ap (λ ss. end_to_end place call (Ok ss)) (sym parts.1) ∙ given.2)
 
-three-segments : {A B C X : Type 0} (place : ℕ → ℕ → ℕ) (call : (A × B) × C → Result (List X) Fault) (firsts : Result (List A) Fault) (seconds : Result (List B) Fault) (thirds : Result (List C) Fault) (xs : List A) (ys : List B) (zs : List C) (result : List X) → firsts ≡ Ok xs → seconds ≡ Ok ys → thirds ≡ Ok zs → end_to_end place call (beside (beside firsts seconds) thirds) ≡ Ok result → (length xs ≡ length ys) × (length (zip xs ys) ≡ length zs) × (end_to_end place call (Ok (zip (zip xs ys) zs)) ≡ Ok result)
+three-segments : {A B C X : Type 0} (place : ℕ → ℕ → ℕ) (call : (A × B) × C → Result (List X) Fault) (firsts : Result (List A) Fault) (seconds : Result (List B) Fault) (thirds : Result (List C) Fault)
+    (xs : List A) (ys : List B) (zs : List C) (result : List X) → firsts ≡ Ok xs → seconds ≡ Ok ys → thirds ≡ Ok zs → end_to_end place call (beside (beside firsts seconds) thirds) ≡ Ok result
+    → (length xs ≡ length ys) × (length (zip xs ys) ≡ length zs) × (end_to_end place call (Ok (zip (zip xs ys) zs)) ≡ Ok result)
 three-segments place call firsts seconds thirds xs ys zs result first second third p =
     let given = given-segments place call (beside (beside firsts seconds) thirds) result p in
     let pairs = firsts-given (beside firsts seconds) thirds given.0 given.1 in
@@ -115,9 +121,11 @@ module _ {Item : Type 0} (join : Item → Item → Item) (unit : Item) where
   scan-lengths [] = refl
   scan-lengths (xs ∷ lists) = let first = length-scan_of join unit xs in let rest = scan-lengths lists in λ i. first i ∷ rest i
 
-  pub scan-cut : (xs ys : List Item) (lengths : List ℕ) (lists : List (List Item)) → nest lengths xs ≡ Ok lists → (seg_scan_of join unit xs lengths ≡ Ok ys) ↔ (nest lengths ys ≡ Ok (map (scan_of join unit) lists))
+  pub scan-cut : (xs ys : List Item) (lengths : List ℕ) (lists : List (List Item)) → nest lengths xs ≡ Ok lists
+      → (seg_scan_of join unit xs lengths ≡ Ok ys) ↔ (nest lengths ys ≡ Ok (map (scan_of join unit) lists))
   scan-cut xs ys lengths lists cut =
-      let segments : seg_scan_of join unit xs lengths ≡ end_to_end (in_vector lengths) (λ ys. Ok (scan_of join unit ys)) (Ok lists) = ap (end_to_end (in_vector lengths) (λ ys. Ok (scan_of join unit ys))) cut in
+      let segments : seg_scan_of join unit xs lengths ≡ end_to_end (in_vector lengths) (λ ys. Ok (scan_of join unit ys)) (Ok lists) =
+          ap (end_to_end (in_vector lengths) (λ ys. Ok (scan_of join unit ys))) cut in
       let same : map length (map (scan_of join unit) lists) ≡ lengths = scan-lengths lists ∙ ((nest-meaning lengths xs lists).0 cut).has_lengths in
       let again = cut-again (in_vector lengths) (λ ys. Ok (scan_of join unit ys)) lists (map (scan_of join unit) lists) ys (scans-given lists) in
       (λ p. ap (λ ns. nest ns ys) (sym same) ∙ again.0 (sym segments ∙ p), λ q. segments ∙ again.1 (ap (λ ns. nest ns ys) same ∙ q))
@@ -141,7 +149,8 @@ same-lengths : (lengths : List ℕ) → map (λ n. n) lengths ≡ lengths
 same-lengths [] = refl
 same-lengths (n ∷ lengths) = ap (λ ns. n ∷ ns) (same-lengths lengths)
 
-pub distribute-cut : {X : Type 0} (values result : List X) (lengths : List ℕ) → seg_distribute_of values lengths ≡ Ok result → IsCutInto (of_two (λ value n. distribute_of value (pos n))) (zip values lengths) lengths result
+pub distribute-cut : {X : Type 0} (values result : List X) (lengths : List ℕ) → seg_distribute_of values lengths ≡ Ok result
+    → IsCutInto (of_two (λ value n. distribute_of value (pos n))) (zip values lengths) lengths result
 distribute-cut values result lengths p =
     let call = of_two (λ value n. distribute_of value (pos n)) in
     let parts = two-segments (in_vector lengths) call (Ok values) (Ok lengths) values lengths result refl refl p in
@@ -149,7 +158,8 @@ distribute-cut values result lengths p =
     (map-seconds (λ n. n) values lengths parts.0 ∙ same-lengths lengths)
     parts.1
 
-pub index-cut : (inits strides result : List ℤ) (lengths : List ℕ) → seg_index_of inits strides lengths ≡ Ok result → IsCutInto (of_three (λ init stride n. index_of init stride (pos n))) (zip (zip inits strides) lengths) lengths result
+pub index-cut : (inits strides result : List ℤ) (lengths : List ℕ) → seg_index_of inits strides lengths ≡ Ok result
+    → IsCutInto (of_three (λ init stride n. index_of init stride (pos n))) (zip (zip inits strides) lengths) lengths result
 index-cut inits strides result lengths p =
     let call = of_three (λ init stride n. index_of init stride (pos n)) in
     let parts = three-segments (in_vector lengths) call (Ok inits) (Ok strides) (Ok lengths) inits strides lengths result refl refl refl p in
@@ -166,7 +176,8 @@ replaced-length xs (negsuc k) x r p = cc
 has-lengths : {X : Type 0} (lengths : List ℕ) (xs : List X) (lists : List (List X)) → nest lengths xs ≡ Ok lists → map length lists ≡ lengths
 has-lengths lengths xs lists cut = ((nest-meaning lengths xs lists).0 cut).has_lengths
 
-pub replace-cut : {X : Type 0} (xs values result : List X) (index : List ℤ) (lengths : List ℕ) (lists : List (List X)) → nest lengths xs ≡ Ok lists → seg_replace_of xs index values lengths ≡ Ok result → IsCutInto (of_three replace_of) (zip (zip lists index) values) lengths result
+pub replace-cut : {X : Type 0} (xs values result : List X) (index : List ℤ) (lengths : List ℕ) (lists : List (List X)) → nest lengths xs ≡ Ok lists → seg_replace_of xs index values lengths ≡ Ok result
+    → IsCutInto (of_three replace_of) (zip (zip lists index) values) lengths result
 replace-cut xs values result index lengths lists cut p =
     let parts = three-segments at_segment (of_three replace_of) (nest lengths xs) (Ok index) (Ok values) lists index values result cut refl refl p in
     cut-by at_segment (of_three replace_of) (λ s. length s.0.0) (λ s r q. replaced-length s.0.0 s.0.1 s.1 r q) (zip (zip lists index) values) lengths result
@@ -186,7 +197,8 @@ counts-given : (flags : List Bool) (lengths counts : List ℕ) (lists : List (Li
 counts-given flags lengths counts lists cut p =
     values-of count_of lists counts ((results-meaning (in_vector lengths) (λ fs. Ok (count_of fs)) lists counts).0 (sym (ap (one_each (in_vector lengths) (λ fs. Ok (count_of fs))) cut) ∙ p))
 
-pub pack-cut : {X : Type 0} (xs result : List X) (flags : List Bool) (lengths counts : List ℕ) (lists : List (List X)) (flag_lists : List (List Bool)) → nest lengths xs ≡ Ok lists → nest lengths flags ≡ Ok flag_lists → seg_count_of flags lengths ≡ Ok counts → seg_pack_of xs flags lengths ≡ Ok result → IsCutInto (of_two pack_of) (zip lists flag_lists) counts result
+pub pack-cut : {X : Type 0} (xs result : List X) (flags : List Bool) (lengths counts : List ℕ) (lists : List (List X)) (flag_lists : List (List Bool)) → nest lengths xs ≡ Ok lists
+    → nest lengths flags ≡ Ok flag_lists → seg_count_of flags lengths ≡ Ok counts → seg_pack_of xs flags lengths ≡ Ok result → IsCutInto (of_two pack_of) (zip lists flag_lists) counts result
 pack-cut xs result flags lengths counts lists flag_lists cut cut_flags counted p =
     let parts = two-segments (in_vector lengths) (of_two pack_of) (nest lengths xs) (nest lengths flags) lists flag_lists result cut cut_flags p in
     cut-by (in_vector lengths) (of_two pack_of) (λ s. count_of s.1) (λ s r q. pack-counted s.0 s.1 r q) (zip lists flag_lists) counts result
@@ -195,30 +207,39 @@ pack-cut xs result flags lengths counts lists flag_lists cut cut_flags counted p
 
 -- ---- permutes
 
-pub simple-cut : {X : Type 0} (source result : List X) (index : List ℤ) (lengths : List ℕ) (sources : List (List X)) (indices : List (List ℤ)) → nest lengths source ≡ Ok sources → nest lengths index ≡ Ok indices → seg_simple_of source index lengths ≡ Ok result → IsCutInto (of_two simple_of) (zip sources indices) lengths result
+pub simple-cut : {X : Type 0} (source result : List X) (index : List ℤ) (lengths : List ℕ) (sources : List (List X)) (indices : List (List ℤ)) → nest lengths source ≡ Ok sources
+    → nest lengths index ≡ Ok indices → seg_simple_of source index lengths ≡ Ok result → IsCutInto (of_two simple_of) (zip sources indices) lengths result
 simple-cut source result index lengths sources indices cut cut_index p =
     let parts = two-segments (in_vector lengths) (of_two simple_of) (nest lengths source) (nest lengths index) sources indices result cut cut_index p in
     cut-by (in_vector lengths) (of_two simple_of) (λ s. length s.1) (λ s r q. ((simple-meaning s.0 s.1 r).0 q).as_long) (zip sources indices) lengths result
     (map-seconds length sources indices parts.0 ∙ has-lengths lengths index indices cut_index)
     parts.1
 
-pub back-cut : {X : Type 0} (source result : List X) (index : List ℤ) (source_lengths index_lengths : List ℕ) (sources : List (List X)) (indices : List (List ℤ)) → nest source_lengths source ≡ Ok sources → nest index_lengths index ≡ Ok indices → seg_back_of source index source_lengths index_lengths ≡ Ok result → IsCutInto (of_two back_of) (zip sources indices) index_lengths result
+pub back-cut : {X : Type 0} (source result : List X) (index : List ℤ) (source_lengths index_lengths : List ℕ) (sources : List (List X)) (indices : List (List ℤ))
+    → nest source_lengths source ≡ Ok sources → nest index_lengths index ≡ Ok indices → seg_back_of source index source_lengths index_lengths ≡ Ok result
+    → IsCutInto (of_two back_of) (zip sources indices) index_lengths result
 back-cut source result index source_lengths index_lengths sources indices cut cut_index p =
     let parts = two-segments (in_vector index_lengths) (of_two back_of) (nest source_lengths source) (nest index_lengths index) sources indices result cut cut_index p in
     cut-by (in_vector index_lengths) (of_two back_of) (λ s. length s.1) (λ s r q. ((back-meaning s.0 s.1 r).0 q).as_long) (zip sources indices) index_lengths result
     (map-seconds length sources indices parts.0 ∙ has-lengths index_lengths index indices cut_index)
     parts.1
 
-pub select-cut : {X : Type 0} (source result : List X) (index : List ℤ) (flags : List Bool) (lengths counts : List ℕ) (sources : List (List X)) (indices : List (List ℤ)) (flag_lists : List (List Bool)) → nest lengths source ≡ Ok sources → nest lengths index ≡ Ok indices → nest lengths flags ≡ Ok flag_lists → seg_count_of flags lengths ≡ Ok counts → seg_select_of source index flags lengths ≡ Ok result → IsCutInto (of_three select_of) (zip (zip sources indices) flag_lists) counts result
+pub select-cut : {X : Type 0} (source result : List X) (index : List ℤ) (flags : List Bool) (lengths counts : List ℕ) (sources : List (List X)) (indices : List (List ℤ))
+    (flag_lists : List (List Bool)) → nest lengths source ≡ Ok sources → nest lengths index ≡ Ok indices → nest lengths flags ≡ Ok flag_lists → seg_count_of flags lengths ≡ Ok counts
+    → seg_select_of source index flags lengths ≡ Ok result → IsCutInto (of_three select_of) (zip (zip sources indices) flag_lists) counts result
 select-cut source result index flags lengths counts sources indices flag_lists cut cut_index cut_flags counted p =
     let parts = three-segments (in_vector lengths) (of_three select_of) (nest lengths source) (nest lengths index) (nest lengths flags) sources indices flag_lists result cut cut_index cut_flags p in
     cut-by (in_vector lengths) (of_three select_of) (λ s. count_of s.1) (λ s r q. ((select-meaning s.0.0 s.0.1 s.1 r).0 q).as_long) (zip (zip sources indices) flag_lists) counts result
     (map-seconds count_of (zip sources indices) flag_lists parts.1 ∙ counts-given flags lengths counts flag_lists cut_flags counted)
     parts.2
 
-pub default-cut : {X : Type 0} (source defaults result : List X) (index : List ℤ) (source_lengths default_lengths : List ℕ) (sources default_lists : List (List X)) (indices : List (List ℤ)) → nest source_lengths source ≡ Ok sources → nest source_lengths index ≡ Ok indices → nest default_lengths defaults ≡ Ok default_lists → seg_default_of source index defaults source_lengths default_lengths ≡ Ok result → IsCutInto (of_three default_of) (zip (zip sources indices) default_lists) default_lengths result
+pub default-cut : {X : Type 0} (source defaults result : List X) (index : List ℤ) (source_lengths default_lengths : List ℕ) (sources default_lists : List (List X)) (indices : List (List ℤ))
+    → nest source_lengths source ≡ Ok sources → nest source_lengths index ≡ Ok indices → nest default_lengths defaults ≡ Ok default_lists
+    → seg_default_of source index defaults source_lengths default_lengths ≡ Ok result → IsCutInto (of_three default_of) (zip (zip sources indices) default_lists) default_lengths result
 default-cut source defaults result index source_lengths default_lengths sources default_lists indices cut cut_index cut_defaults p =
-    let parts = three-segments (in_vector source_lengths) (of_three default_of) (nest source_lengths source) (nest source_lengths index) (nest default_lengths defaults) sources indices default_lists result cut cut_index cut_defaults p in
-    cut-by (in_vector source_lengths) (of_three default_of) (λ s. length s.1) (λ s r q. ((default-meaning s.0.0 s.0.1 s.1 r).0 q).as_long) (zip (zip sources indices) default_lists) default_lengths result
+    let parts = three-segments (in_vector source_lengths) (of_three default_of) (nest source_lengths source) (nest source_lengths index)
+        (nest default_lengths defaults) sources indices default_lists result cut cut_index cut_defaults p in
+    cut-by (in_vector source_lengths) (of_three default_of) (λ s. length s.1) (λ s r q. ((default-meaning s.0.0 s.0.1 s.1 r).0 q).as_long)
+        (zip (zip sources indices) default_lists) default_lengths result
     (map-seconds length (zip sources indices) default_lists parts.1 ∙ has-lengths default_lengths defaults default_lists cut_defaults)
     parts.2

@@ -1,5 +1,6 @@
 -- What a default permute gives where no place is bad.
-use Rattle.std.proofs.Common.{◌≡◌, ℕ, zero, suc, ◌+◌, ◌<◌, ◌≤◌, false, List, [], ◌∷◌, length, map, find, refl, sym, ap, ◌∙◌, subst, arith, inl, inr, ℤ, pos, slice_get, option_map, Some, None, Ok, Option, zip, ltb-true}
+use Rattle.std.proofs.Common.{◌≡◌, ℕ, zero, suc, ◌+◌, ◌<◌, ◌≤◌, false, List, [], ◌∷◌, length, map, find, refl, sym, ap, ◌∙◌, subst, arith, inl, inr, ℤ, pos, slice_get, option_map, Some, None, Ok}
+use Rattle.std.proofs.Common.{Option, zip, ltb-true}
 use Rattle.std.specs.Prelude.{◌↔◌, unwrap_or}
 use Rattle.std.specs.List.{list_any, enumerate_from}
 use Rattle.std.proofs.lemmas.Bool.{both_ways, or_parts, cond-false, cases_Bool, false_from_ne_true}
@@ -38,7 +39,8 @@ laid_over values n defaults = map (λ p. unwrap_or (values p.0) p.1) (enumerate_
 length-laid_over : {X : Type 0} (values : ℕ → Option X) (n : ℕ) (defaults : List X) → length (laid_over values n defaults) ≡ length defaults
 length-laid_over values n defaults = length-map (enumerate_from n defaults) (λ p. unwrap_or (values p.0) p.1) ∙ length-enumerate_from n defaults
 
-at-laid_over : {X : Type 0} (values : ℕ → Option X) (n : ℕ) (defaults : List X) (d : ℕ) → slice_get (laid_over values n defaults) d ≡ option_map (λ x. unwrap_or (values (n + d)) x) (slice_get defaults d)
+at-laid_over : {X : Type 0} (values : ℕ → Option X) (n : ℕ) (defaults : List X) (d : ℕ) → slice_get (laid_over values n defaults) d
+    ≡ option_map (λ x. unwrap_or (values (n + d)) x) (slice_get defaults d)
 at-laid_over values n [] d = refl
 at-laid_over values n (x ∷ defaults) zero = ap (λ k. Some (unwrap_or (values k) x)) (omega arith)
 at-laid_over values n (x ∷ defaults) (suc d) = at-laid_over values (n + 1) defaults d ∙ ap (λ k. option_map (λ x. unwrap_or (values k) x) (slice_get defaults d)) (omega arith)
@@ -61,7 +63,8 @@ at-some values defaults d x within some =
     ∙ ap (λ o. option_map (λ x. unwrap_or o x) (slice_get defaults d)) some
     ∙ ap (option_map (λ y. x)) (element defaults d within).1
 
-over_sent : {X : Type 0} (source : List X) (ts : List (Option ℤ)) (defaults : List X) → IsRight (length defaults) ts → length ts ≤ length source → IsSentOver source ts defaults (laid_over (sent_to source ts) 0 defaults)
+over_sent : {X : Type 0} (source : List X) (ts : List (Option ℤ)) (defaults : List X) → IsRight (length defaults) ts → length ts ≤ length source
+    → IsSentOver source ts defaults (laid_over (sent_to source ts) 0 defaults)
 over_sent source ts defaults right long = record {
   as_long = length-laid_over (sent_to source ts) 0 defaults;
   right = right;
@@ -83,7 +86,8 @@ only_over source ts defaults xs ys p q =
       | inr none ↦ p.kept d none ∙ sym (q.kept d none)
     ])
 
-sent_over-meaning : {X : Type 0} (source : List X) (ts : List (Option ℤ)) (defaults result : List X) → length ts ≤ length source → (sent_over source ts defaults ≡ Ok result) ↔ IsSentOver source ts defaults result
+sent_over-meaning : {X : Type 0} (source : List X) (ts : List (Option ℤ)) (defaults result : List X) → length ts ≤ length source
+    → (sent_over source ts defaults ≡ Ok result) ↔ IsSentOver source ts defaults result
 sent_over-meaning source ts defaults result long =
     let over = laid_over (sent_to source ts) 0 defaults in (
       λ p.
@@ -95,7 +99,8 @@ sent_over-meaning source ts defaults result long =
           ∙ ap Ok (only_over source ts defaults over result (over_sent source ts defaults is.right long) is),
     )
 
-default-from_sent : {X : Type 0} (source : List X) (index : List ℤ) (defaults result : List X) → length source ≡ length index → IsSentOver source (all_targets index) defaults result → IsDefaultPermute source index defaults result
+default-from_sent : {X : Type 0} (source : List X) (index : List ℤ) (defaults result : List X) → length source ≡ length index → IsSentOver source (all_targets index) defaults result
+    → IsDefaultPermute source index defaults result
 default-from_sent source index defaults result long is = record {
   one_index_each = long;
   as_long = is.as_long;
@@ -110,7 +115,8 @@ default-from_sent source index defaults result long is = record {
 sent-from_default : {X : Type 0} (source : List X) (index : List ℤ) (defaults result : List X) → IsDefaultPermute source index defaults result → IsSentOver source (all_targets index) defaults result
 sent-from_default source index defaults result is = record {
   as_long = is.as_long;
-  right = right-from_once (length defaults) (all_targets index) (λ k i here. is.within k i (index-here index k i here)) (λ j k i first second. is.once j k i (index-here index j i first) (index-here index k i second));
+  right = right-from_once (length defaults) (all_targets index) (λ k i here. is.within k i (index-here index k i here))
+      (λ j k i first second. is.once j k i (index-here index j i first) (index-here index k i second));
   sent = λ k d here. is.sent k d (index-here index k (pos d) here);
   kept = λ d none. is.kept d (λ k here. both_ways (list_any (is_target (pos d)) (all_targets index)) none (any-from_there (pos d) (all_targets index) k (target-here index k (pos d) here)));
 }

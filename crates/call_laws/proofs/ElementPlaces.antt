@@ -1,5 +1,6 @@
 -- Extracts, replaces, distributes and indexes, place by place.
-use Rattle.std.proofs.Common.{◌≡◌, ◌≢◌, ℕ, zero, suc, ◌<◌, ◌≤◌, Bool, true, false, List, [], ◌∷◌, length, map, replicate, refl, sym, ap, ◌∙◌, arith, inl, inr, ℤ, pos, negsuc, ◌+ℤ◌, ◌*ℤ◌, le-ltb, lt-ltb, nat_lt, if◌then◌else◌, slice_get, slice_set, Some, None, Ok, Err, Option, Result, length-set}
+use Rattle.std.proofs.Common.{◌≡◌, ◌≢◌, ℕ, zero, suc, ◌<◌, ◌≤◌, Bool, true, false, List, [], ◌∷◌, length, map, replicate, refl, sym, ap, ◌∙◌, arith, inl, inr, ℤ, pos, negsuc, ◌+ℤ◌, ◌*ℤ◌, le-ltb}
+use Rattle.std.proofs.Common.{lt-ltb, nat_lt, if◌then◌else◌, slice_get, slice_set, Some, None, Ok, Err, Option, Result, length-set}
 use Rattle.std.specs.List.{range_with_len}
 use Rattle.std.specs.Option.{ok_or}
 use Rattle.std.specs.Prelude.{◌↔◌, IsOk}
@@ -100,7 +101,8 @@ read-back xs (negsuc k) x result p = cc
 abbrev pub IsEachPlace : {X : Type 0} → ℕ → (ℕ → X) → List X → Type 0
 IsEachPlace n value result = (length result ≡ n) × ((k : ℕ) → k < n → slice_get result k ≡ Some (value k))
 
-only-made : {X : Type 0} (n : ℕ) (value : ℕ → X) (answer : Result (List X) Fault) (made result : List X) → answer ≡ Ok made → IsEachPlace n value made → (answer ≡ Ok result) ↔ IsEachPlace n value result
+only-made : {X : Type 0} (n : ℕ) (value : ℕ → X) (answer : Result (List X) Fault) (made result : List X) → answer ≡ Ok made → IsEachPlace n value made
+    → (answer ≡ Ok result) ↔ IsEachPlace n value result
 only-made n value answer made result gives is = (
   λ p. let same : made ≡ result = cc in (ap length (sym same) ∙ is.0, λ k below. ap (λ ys. slice_get ys k) (sym same) ∙ is.1 k below),
   λ other.

@@ -11,7 +11,8 @@ use Rattle.call_laws.specs.Permuted.{IsGoodBefore}
 use Rattle.call_laws.proofs.Places.{slice_get-take, slice_get_in_front}
 use Rattle.call_laws.proofs.Targets.{any-from_there, no_fault-from_right, target_there, target_of_wrong, tests_by_right, wrong-here}
 
-first_fault-at : (place : ℕ) (ws : List (Option FaultNo)) (k : ℕ) (number : FaultNo) → slice_get ws k ≡ Some (Some number) → ((j : ℕ) (w : Option FaultNo) → j < k → slice_get ws j ≡ Some w → w ≡ None) → first_fault place ws ≡ Some (fault_at number (place + k))
+first_fault-at : (place : ℕ) (ws : List (Option FaultNo)) (k : ℕ) (number : FaultNo) → slice_get ws k ≡ Some (Some number) → ((j : ℕ) (w : Option FaultNo) → j < k → slice_get ws j ≡ Some w → w ≡ None)
+    → first_fault place ws ≡ Some (fault_at number (place + k))
 first_fault-at place [] k number here before = absurd (none-some (Some number) here)
 first_fault-at place (None ∷ others) zero number here before = absurd (none-some number (same_Some None (Some number) here))
 first_fault-at place (Some other ∷ others) zero number here before =
@@ -48,11 +49,13 @@ module _ (m : ℕ) (ts : List (Option ℤ)) (k : ℕ) (good : IsGoodBefore m ts 
       same_Some w None (sym there ∙ wrong-here m ts j u.0 u.1 ∙ ap Some (none_wrong_before j u.0 below u.1)))
       ∙ ap (λ p. Some (fault_at number p)) (omega arith)
 
-pub fault-outside : (m : ℕ) (ts : List (Option ℤ)) (k : ℕ) (i : ℤ) → IsGoodBefore m ts k → slice_get ts k ≡ Some (Some i) → is_place m i ≡ false → first_fault 0 (wrongs m ts) ≡ Some (fault_at IndexOutOfRange k)
+pub fault-outside : (m : ℕ) (ts : List (Option ℤ)) (k : ℕ) (i : ℤ) → IsGoodBefore m ts k → slice_get ts k ≡ Some (Some i) → is_place m i ≡ false
+    → first_fault 0 (wrongs m ts) ≡ Some (fault_at IndexOutOfRange k)
 fault-outside m ts k i good here out =
     fault_here m ts k good (Some i) IndexOutOfRange here (outside_by_tests (is_place m i) (list_any (is_target i) (take k ts)) out)
 
-pub fault-again : (m : ℕ) (ts : List (Option ℤ)) (j k : ℕ) (i : ℤ) → IsGoodBefore m ts k → j < k → slice_get ts j ≡ Some (Some i) → slice_get ts k ≡ Some (Some i) → is_place m i ≡ true → first_fault 0 (wrongs m ts) ≡ Some (fault_at IndexRepeated k)
+pub fault-again : (m : ℕ) (ts : List (Option ℤ)) (j k : ℕ) (i : ℤ) → IsGoodBefore m ts k → j < k → slice_get ts j ≡ Some (Some i) → slice_get ts k ≡ Some (Some i) → is_place m i ≡ true
+    → first_fault 0 (wrongs m ts) ≡ Some (fault_at IndexRepeated k)
 fault-again m ts j k i good below first here inside =
     let repeated = any-from_there i (take k ts) j (slice_get-take ts k j below ∙ first) in
     fault_here m ts k good (Some i) IndexRepeated here (again_by_tests (is_place m i) (list_any (is_target i) (take k ts)) inside repeated)

@@ -77,7 +77,8 @@ make-too_long true sizes e = refl
 make-too_long false sizes e = cc
 
 module _ (numbers : List ℤ) where
-  is-make : (place : Option ℕ) (above : Bool) → position is_negative numbers ≡ place → nat_lt most_elements (sum (map unsigned_abs numbers)) ≡ above → descriptor_of numbers ≡ make place above (map unsigned_abs numbers)
+  is-make : (place : Option ℕ) (above : Bool) → position is_negative numbers ≡ place → nat_lt most_elements (sum (map unsigned_abs numbers)) ≡ above
+      → descriptor_of numbers ≡ make place above (map unsigned_abs numbers)
   is-make place above e f = λ i. make (e i) (f i) (map unsigned_abs numbers)
 
   no-place : (answer : Result (List ℕ) Fault) → descriptor_of numbers ≡ answer → place-of answer ≡ None → position is_negative numbers ≡ None

@@ -26,7 +26,8 @@ pub values-meaning : {Y : Type 0} (number : FaultNo) (place : ℕ) (vs : List (O
 values-meaning number place vs ys = (all-values number place vs ys, λ same. ap (values_from number place) same ∙ values-all number place ys)
 
 -- the first value that is missing is at fault
-pub values-fault : {Y : Type 0} (number : FaultNo) (place : ℕ) (ys : List Y) (others : List (Option Y)) → values_from number place (map (λ y. Some y) ys ++ None ∷ others) ≡ Err (fault_at number (place + length ys))
+pub values-fault : {Y : Type 0} (number : FaultNo) (place : ℕ) (ys : List Y) (others : List (Option Y)) → values_from number place (map (λ y. Some y) ys ++ None ∷ others)
+    ≡ Err (fault_at number (place + length ys))
 values-fault number place [] others = ap (λ n. Err (fault_at number n)) (omega arith)
 values-fault number place (y ∷ ys) others =
     ap (λ r. r >>= λ zs. Ok (y ∷ zs)) (values-fault number (place + 1) ys others) ∙ ap (λ n. Err (fault_at number n)) (omega arith)

@@ -20,7 +20,8 @@ kept-filter : {X : Type 0} (test : X → Bool) (xs : List X) → kept_of xs (map
 kept-filter test [] = refl
 kept-filter test (x ∷ xs) = kept-cons x (test x) xs (map test xs) ∙ ap (λ ys. cond (test x) (x ∷ ys) ys) (kept-filter test xs)
 
-kept-push : {X : Type 0} (xs : List X) (flags : List Bool) (x : X) (flag : Bool) → length xs ≡ length flags → kept_of (xs ++ x ∷ []) (flags ++ flag ∷ []) ≡ kept_of xs flags ++ (if flag then x ∷ [] else [])
+kept-push : {X : Type 0} (xs : List X) (flags : List Bool) (x : X) (flag : Bool) → length xs ≡ length flags → kept_of (xs ++ x ∷ []) (flags ++ flag ∷ [])
+    ≡ kept_of xs flags ++ (if flag then x ∷ [] else [])
 kept-push [] [] x true long = refl
 kept-push [] [] x false long = refl
 kept-push [] (g ∷ flags) x flag long = absurd (omega arith)
@@ -41,7 +42,8 @@ pack-fits xs flags long = if_as_long-fits xs flags (Ok (kept_of xs flags)) long
 pub pack-filter : {X : Type 0} (xs : List X) (test : X → Bool) → pack_of xs (map test xs) ≡ Ok (filter test xs)
 pack-filter xs test = pack-fits xs (map test xs) (sym (length-map xs test)) ∙ ap Ok (kept-filter test xs)
 
-pub pack-push : {X : Type 0} (xs : List X) (flags : List Bool) (kept : List X) (x : X) (flag : Bool) → pack_of xs flags ≡ Ok kept → pack_of (xs ++ x ∷ []) (flags ++ flag ∷ []) ≡ Ok (kept ++ (if flag then x ∷ [] else []))
+pub pack-push : {X : Type 0} (xs : List X) (flags : List Bool) (kept : List X) (x : X) (flag : Bool) → pack_of xs flags ≡ Ok kept → pack_of (xs ++ x ∷ []) (flags ++ flag ∷ [])
+    ≡ Ok (kept ++ (if flag then x ∷ [] else []))
 pack-push xs flags kept x flag p =
     let parts = if_as_long-Ok xs flags (Ok (kept_of xs flags)) kept p in
     let same : kept_of xs flags ≡ kept = let e = parts.1 in cc in

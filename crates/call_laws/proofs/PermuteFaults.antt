@@ -1,5 +1,6 @@
 -- The faults of the permutes, told by the places of their operands.
-use Rattle.std.proofs.Common.{◌≡◌, ◌≢◌, ℕ, zero, suc, ◌+◌, ◌<◌, true, false, Bool, List, [], ◌∷◌, length, filter_map, map, refl, ap, ◌∙◌, arith, inl, inr, ℤ, pos, negsuc, slice_get, Some, None, Ok, Err, Option}
+use Rattle.std.proofs.Common.{◌≡◌, ◌≢◌, ℕ, zero, suc, ◌+◌, ◌<◌, true, false, Bool, List, [], ◌∷◌, length, filter_map, map, refl, ap, ◌∙◌, arith, inl, inr, ℤ, pos, negsuc, slice_get, Some, None, Ok}
+use Rattle.std.proofs.Common.{Err, Option}
 use Rattle.std.specs.List.{enumerate_from, range_with_len}
 use Rattle.std.specs.Prelude.{unwrap_or}
 use Rattle.std.proofs.lemmas.Bool.{false≢true, ltb-true, ltb-false}
@@ -28,10 +29,12 @@ all_good m index k within once = record {
   once = λ h j i before below first second. once h j i before below (index-here index h i first) (index-here index j i second);
 }
 
-all-outside : (m : ℕ) (index : List ℤ) (k : ℕ) (i : ℤ) → AreWithin m index k → AreOnce index k → slice_get index k ≡ Some i → is_place m i ≡ false → first_fault 0 (wrongs m (all_targets index)) ≡ Some (fault_at IndexOutOfRange k)
+all-outside : (m : ℕ) (index : List ℤ) (k : ℕ) (i : ℤ) → AreWithin m index k → AreOnce index k → slice_get index k ≡ Some i → is_place m i ≡ false → first_fault 0 (wrongs m (all_targets index))
+    ≡ Some (fault_at IndexOutOfRange k)
 all-outside m index k i within once here out = fault-outside m (all_targets index) k i (all_good m index k within once) (target-here index k i here) out
 
-all-again : (m : ℕ) (index : List ℤ) (g k : ℕ) (i : ℤ) → AreWithin m index k → AreOnce index k → g < k → slice_get index g ≡ Some i → slice_get index k ≡ Some i → first_fault 0 (wrongs m (all_targets index)) ≡ Some (fault_at IndexRepeated k)
+all-again : (m : ℕ) (index : List ℤ) (g k : ℕ) (i : ℤ) → AreWithin m index k → AreOnce index k → g < k → slice_get index g ≡ Some i → slice_get index k ≡ Some i
+    → first_fault 0 (wrongs m (all_targets index)) ≡ Some (fault_at IndexRepeated k)
 all-again m index g k i within once below first here =
     fault-again m (all_targets index) g k i (all_good m index k within once) below (target-here index g i first) (target-here index k i here) (within g i below first)
 
@@ -40,7 +43,8 @@ all-again m index g k i within once below first here =
 sent_to_all-fault : {X : Type 0} (source : List X) (ts : List (Option ℤ)) (m : ℕ) (f : Fault) → first_fault 0 (wrongs m ts) ≡ Some f → sent_to_all source ts m ≡ Err f
 sent_to_all-fault source ts m f bad = ap (λ o. unless o (Ok (filter_map (sent_to source ts) (range_with_len 0 m)))) bad
 
-simple-fault : {X : Type 0} (source : List X) (index : List ℤ) (f : Fault) → length source ≡ length index → first_fault 0 (wrongs (length index) (all_targets index)) ≡ Some f → simple_of source index ≡ Err f
+simple-fault : {X : Type 0} (source : List X) (index : List ℤ) (f : Fault) → length source ≡ length index → first_fault 0 (wrongs (length index) (all_targets index)) ≡ Some f
+    → simple_of source index ≡ Err f
 simple-fault source index f long bad =
     if_as_long-fits source index (sent_to_all source (all_targets index) (length index)) long
     ∙ sent_to_all-fault source (all_targets index) (length index) f bad
@@ -48,11 +52,13 @@ simple-fault source index f long bad =
 pub simple-mismatch : {X : Type 0} (source : List X) (index : List ℤ) → length source ≢ length index → simple_of source index ≡ Err (fault LengthMismatch)
 simple-mismatch source index differ = if_as_long-misfits source index (sent_to_all source (all_targets index) (length index)) differ
 
-pub simple-outside : {X : Type 0} (source : List X) (index : List ℤ) (k : ℕ) (i : ℤ) → length source ≡ length index → AreWithin (length index) index k → AreOnce index k → slice_get index k ≡ Some i → is_place (length index) i ≡ false → simple_of source index ≡ Err (fault_at IndexOutOfRange k)
+pub simple-outside : {X : Type 0} (source : List X) (index : List ℤ) (k : ℕ) (i : ℤ) → length source ≡ length index → AreWithin (length index) index k → AreOnce index k → slice_get index k ≡ Some i
+    → is_place (length index) i ≡ false → simple_of source index ≡ Err (fault_at IndexOutOfRange k)
 simple-outside source index k i long within once here out =
     simple-fault source index (fault_at IndexOutOfRange k) long (all-outside (length index) index k i within once here out)
 
-pub simple-again : {X : Type 0} (source : List X) (index : List ℤ) (g k : ℕ) (i : ℤ) → length source ≡ length index → AreWithin (length index) index k → AreOnce index k → g < k → slice_get index g ≡ Some i → slice_get index k ≡ Some i → simple_of source index ≡ Err (fault_at IndexRepeated k)
+pub simple-again : {X : Type 0} (source : List X) (index : List ℤ) (g k : ℕ) (i : ℤ) → length source ≡ length index → AreWithin (length index) index k → AreOnce index k → g < k
+    → slice_get index g ≡ Some i → slice_get index k ≡ Some i → simple_of source index ≡ Err (fault_at IndexRepeated k)
 simple-again source index g k i long within once below first here =
     simple-fault source index (fault_at IndexRepeated k) long (all-again (length index) index g k i within once below first here)
 
@@ -67,7 +73,8 @@ flagged_good m index flags k within once = record {
       once h j i before below p.0 q.0 p.1 q.1;
 }
 
-select-fault : {X : Type 0} (source : List X) (index : List ℤ) (flags : List Bool) (f : Fault) → length source ≡ length index → length index ≡ length flags → first_fault 0 (wrongs (count_of flags) (flagged_targets index flags)) ≡ Some f → select_of source index flags ≡ Err f
+select-fault : {X : Type 0} (source : List X) (index : List ℤ) (flags : List Bool) (f : Fault) → length source ≡ length index → length index ≡ length flags
+    → first_fault 0 (wrongs (count_of flags) (flagged_targets index flags)) ≡ Some f → select_of source index flags ≡ Err f
 select-fault source index flags f long flagged bad =
     let sends = sent_to_all source (flagged_targets index flags) (count_of flags) in
     if_as_long-fits source index (if_as_long index flags sends) long
@@ -86,12 +93,16 @@ select-flag_mismatch source index flags differ =
       | inr other ↦ select-index_mismatch source index flags other.1
     ]
 
-pub select-outside : {X : Type 0} (source : List X) (index : List ℤ) (flags : List Bool) (k : ℕ) (i : ℤ) → length source ≡ length index → length index ≡ length flags → AreWithinFlagged (count_of flags) index flags k → AreOnceFlagged index flags k → slice_get flags k ≡ Some true → slice_get index k ≡ Some i → is_place (count_of flags) i ≡ false → select_of source index flags ≡ Err (fault_at IndexOutOfRange k)
+pub select-outside : {X : Type 0} (source : List X) (index : List ℤ) (flags : List Bool) (k : ℕ) (i : ℤ) → length source ≡ length index → length index ≡ length flags
+    → AreWithinFlagged (count_of flags) index flags k → AreOnceFlagged index flags k → slice_get flags k ≡ Some true → slice_get index k ≡ Some i → is_place (count_of flags) i ≡ false
+    → select_of source index flags ≡ Err (fault_at IndexOutOfRange k)
 select-outside source index flags k i long flagged within once flag here out =
     select-fault source index flags (fault_at IndexOutOfRange k) long flagged
     (fault-outside (count_of flags) (flagged_targets index flags) k i (flagged_good (count_of flags) index flags k within once) (flagged-here index flags k i flag here) out)
 
-pub select-again : {X : Type 0} (source : List X) (index : List ℤ) (flags : List Bool) (g k : ℕ) (i : ℤ) → length source ≡ length index → length index ≡ length flags → AreWithinFlagged (count_of flags) index flags k → AreOnceFlagged index flags k → g < k → slice_get flags g ≡ Some true → slice_get flags k ≡ Some true → slice_get index g ≡ Some i → slice_get index k ≡ Some i → select_of source index flags ≡ Err (fault_at IndexRepeated k)
+pub select-again : {X : Type 0} (source : List X) (index : List ℤ) (flags : List Bool) (g k : ℕ) (i : ℤ) → length source ≡ length index → length index ≡ length flags
+    → AreWithinFlagged (count_of flags) index flags k → AreOnceFlagged index flags k → g < k → slice_get flags g ≡ Some true → slice_get flags k ≡ Some true → slice_get index g ≡ Some i
+    → slice_get index k ≡ Some i → select_of source index flags ≡ Err (fault_at IndexRepeated k)
 select-again source index flags g k i long flagged within once below first_flag flag first here =
     select-fault source index flags (fault_at IndexRepeated k) long flagged
     (fault-again (count_of flags) (flagged_targets index flags) g k i (flagged_good (count_of flags) index flags k within once) below
@@ -99,7 +110,8 @@ select-again source index flags g k i long flagged within once below first_flag 
 
 -- ---- the default permute
 
-default-fault : {X : Type 0} (source : List X) (index : List ℤ) (defaults : List X) (f : Fault) → length source ≡ length index → first_fault 0 (wrongs (length defaults) (all_targets index)) ≡ Some f → default_of source index defaults ≡ Err f
+default-fault : {X : Type 0} (source : List X) (index : List ℤ) (defaults : List X) (f : Fault) → length source ≡ length index → first_fault 0 (wrongs (length defaults) (all_targets index)) ≡ Some f
+    → default_of source index defaults ≡ Err f
 default-fault source index defaults f long bad =
     if_as_long-fits source index (sent_over source (all_targets index) defaults) long
     ∙ ap (λ o. unless o (Ok (map (λ p. unwrap_or (sent_to source (all_targets index) p.0) p.1) (enumerate_from 0 defaults)))) bad
@@ -107,11 +119,13 @@ default-fault source index defaults f long bad =
 pub default-mismatch : {X : Type 0} (source : List X) (index : List ℤ) (defaults : List X) → length source ≢ length index → default_of source index defaults ≡ Err (fault LengthMismatch)
 default-mismatch source index defaults differ = if_as_long-misfits source index (sent_over source (all_targets index) defaults) differ
 
-pub default-outside : {X : Type 0} (source : List X) (index : List ℤ) (defaults : List X) (k : ℕ) (i : ℤ) → length source ≡ length index → AreWithin (length defaults) index k → AreOnce index k → slice_get index k ≡ Some i → is_place (length defaults) i ≡ false → default_of source index defaults ≡ Err (fault_at IndexOutOfRange k)
+pub default-outside : {X : Type 0} (source : List X) (index : List ℤ) (defaults : List X) (k : ℕ) (i : ℤ) → length source ≡ length index → AreWithin (length defaults) index k → AreOnce index k
+    → slice_get index k ≡ Some i → is_place (length defaults) i ≡ false → default_of source index defaults ≡ Err (fault_at IndexOutOfRange k)
 default-outside source index defaults k i long within once here out =
     default-fault source index defaults (fault_at IndexOutOfRange k) long (all-outside (length defaults) index k i within once here out)
 
-pub default-again : {X : Type 0} (source : List X) (index : List ℤ) (defaults : List X) (g k : ℕ) (i : ℤ) → length source ≡ length index → AreWithin (length defaults) index k → AreOnce index k → g < k → slice_get index g ≡ Some i → slice_get index k ≡ Some i → default_of source index defaults ≡ Err (fault_at IndexRepeated k)
+pub default-again : {X : Type 0} (source : List X) (index : List ℤ) (defaults : List X) (g k : ℕ) (i : ℤ) → length source ≡ length index → AreWithin (length defaults) index k → AreOnce index k → g < k
+    → slice_get index g ≡ Some i → slice_get index k ≡ Some i → default_of source index defaults ≡ Err (fault_at IndexRepeated k)
 default-again source index defaults g k i long within once below first here =
     default-fault source index defaults (fault_at IndexRepeated k) long (all-again (length defaults) index g k i within once below first here)
 
@@ -126,7 +140,8 @@ element-outside source (pos d) out = slice_get_past source d (ltb-false d (lengt
 element-outside source (negsuc d) out = refl
 
 -- the fault of a list of values is at the first that is missing
-missing_at : {X : Type 0} (source : List X) (place : ℕ) (index : List ℤ) (k : ℕ) (i : ℤ) → AreWithin (length source) index k → slice_get index k ≡ Some i → is_place (length source) i ≡ false → values_from IndexOutOfRange place (map (element_at source) index) ≡ Err (fault_at IndexOutOfRange (place + k))
+missing_at : {X : Type 0} (source : List X) (place : ℕ) (index : List ℤ) (k : ℕ) (i : ℤ) → AreWithin (length source) index k → slice_get index k ≡ Some i → is_place (length source) i ≡ false
+    → values_from IndexOutOfRange place (map (element_at source) index) ≡ Err (fault_at IndexOutOfRange (place + k))
 missing_at source place [] k i within here out = absurd (none-some i here)
 missing_at source place (e ∷ index) zero i within here out =
     let none : element_at source e ≡ None = ap (element_at source) (same_Some e i here) ∙ element-outside source i out in
@@ -137,5 +152,6 @@ missing_at source place (e ∷ index) (suc k) i within here out =
     ∙ ap (λ r. r >>= λ ys. Ok (first.0 ∷ ys)) (missing_at source (place + 1) index k i (λ j e below there. within (suc j) e (omega arith) there) here out)
     ∙ ap (λ n. Err (fault_at IndexOutOfRange n)) (omega arith)
 
-pub back-outside : {X : Type 0} (source : List X) (index : List ℤ) (k : ℕ) (i : ℤ) → AreWithin (length source) index k → slice_get index k ≡ Some i → is_place (length source) i ≡ false → back_of source index ≡ Err (fault_at IndexOutOfRange k)
+pub back-outside : {X : Type 0} (source : List X) (index : List ℤ) (k : ℕ) (i : ℤ) → AreWithin (length source) index k → slice_get index k ≡ Some i → is_place (length source) i ≡ false
+    → back_of source index ≡ Err (fault_at IndexOutOfRange k)
 back-outside source index k i within here out = missing_at source 0 index k i within here out ∙ ap (λ n. Err (fault_at IndexOutOfRange n)) (omega arith)

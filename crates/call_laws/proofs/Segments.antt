@@ -19,7 +19,8 @@ use Rattle.cvl_base.specs.Nests.{nest}
 use Rattle.cvl_base.specs.Packs.{count_of, pack_of}
 use Rattle.cvl_base.specs.Permutes.{simple_of, back_of, select_of, default_of, sent_to_all, sent_over, all_targets, flagged_targets}
 use Rattle.cvl_base.specs.Segmented.{beside, of_two, of_three, in_vector, at_segment, moved, results_from, one_each, end_to_end}
-use Rattle.cvl_base.specs.SegmentedCalls.{seg_scan_of, seg_reduce_of, seg_simple_of, seg_back_of, seg_select_of, seg_default_of, seg_pack_of, seg_count_of, seg_distribute_of, seg_index_of, seg_extract_of, seg_replace_of}
+use Rattle.cvl_base.specs.SegmentedCalls.{seg_scan_of, seg_reduce_of, seg_simple_of, seg_back_of, seg_select_of, seg_default_of, seg_pack_of, seg_count_of, seg_distribute_of, seg_index_of}
+use Rattle.cvl_base.specs.SegmentedCalls.{seg_extract_of, seg_replace_of}
 use Rattle.cvl_base.proofs.Nests.{nest-fits, nest-misfits}
 use Rattle.call_laws.proofs.Packing.{pack-mismatch}
 use Rattle.cvl_base.proofs.Elementwise.{if_as_long-fits, if_as_long-misfits}
@@ -39,7 +40,8 @@ module _ {S R : Type 0} (place : ℕ → ℕ → ℕ) (call : S → Result R Fau
       let rest : map call xs ≡ map (λ r. Ok r) rs = cc in
       one_more s x xs r first ∙ ap (λ a. a >>= λ rs. Ok (r ∷ rs)) (from_each (s + 1) xs rs rest)
 
-  first_bad : (s : ℕ) (good : List S) (bad : S) (others : List S) (rs : List R) (f : Fault) → map call good ≡ map (λ r. Ok r) rs → call bad ≡ Err f → results_from place call s (good ++ bad ∷ others) ≡ moved (place (s + length good)) (Err f)
+  first_bad : (s : ℕ) (good : List S) (bad : S) (others : List S) (rs : List R) (f : Fault) → map call good ≡ map (λ r. Ok r) rs → call bad ≡ Err f → results_from place call s (good ++ bad ∷ others)
+      ≡ moved (place (s + length good)) (Err f)
   first_bad s [] bad others rs f same fails =
       ap (λ a. moved (place s) a >>= λ r. results_from place call (s + 1) others >>= λ rs. Ok (r ∷ rs)) fails
       ∙ ap (λ n. moved (place n) (Err f)) (omega arith)
@@ -52,7 +54,8 @@ module _ {S R : Type 0} (place : ℕ → ℕ → ℕ) (call : S → Result R Fau
       ∙ ap (λ n. moved (place n) (Err f)) (omega arith)
 
   -- what a call with results gave on the first segment and on the others
-  parts_of : (s : ℕ) (first : Result R Fault) (others : Result (List R) Fault) (rs : List R) → (moved (place s) first >>= λ r. others >>= λ rs. Ok (r ∷ rs)) ≡ Ok rs → (r : R) × (more : List R) × (first ≡ Ok r) × (others ≡ Ok more) × (r ∷ more ≡ rs)
+  parts_of : (s : ℕ) (first : Result R Fault) (others : Result (List R) Fault) (rs : List R) → (moved (place s) first >>= λ r. others >>= λ rs. Ok (r ∷ rs)) ≡ Ok rs → (r : R) × (more : List R)
+      × (first ≡ Ok r) × (others ≡ Ok more) × (r ∷ more ≡ rs)
   parts_of s (Ok r) (Ok more) rs p = (r, more, refl, refl, cc)
   parts_of s (Ok r) (Err f) rs p = cc
   parts_of s (Err f) others rs p = cc
@@ -64,10 +67,12 @@ module _ {S R : Type 0} (place : ℕ → ℕ → ℕ) (call : S → Result R Fau
       let rest = to_each (s + 1) xs parts.1 parts.3 in
       (λ i. parts.2 i ∷ rest i) ∙ ap (map (λ r. Ok r)) parts.4
 
-pub results-meaning : {S R : Type 0} (place : ℕ → ℕ → ℕ) (call : S → Result R Fault) (segments : List S) (results : List R) → (one_each place call (Ok segments) ≡ Ok results) ↔ (map call segments ≡ map (λ r. Ok r) results)
+pub results-meaning : {S R : Type 0} (place : ℕ → ℕ → ℕ) (call : S → Result R Fault) (segments : List S) (results : List R)
+    → (one_each place call (Ok segments) ≡ Ok results) ↔ (map call segments ≡ map (λ r. Ok r) results)
 results-meaning place call segments results = (to_each place call 0 segments results, from_each place call 0 segments results)
 
-pub first-fault : {S R : Type 0} (place : ℕ → ℕ → ℕ) (call : S → Result R Fault) (good : List S) (bad : S) (others : List S) (results : List R) (f : Fault) → map call good ≡ map (λ r. Ok r) results → call bad ≡ Err f → one_each place call (Ok (good ++ bad ∷ others)) ≡ moved (place (length good)) (Err f)
+pub first-fault : {S R : Type 0} (place : ℕ → ℕ → ℕ) (call : S → Result R Fault) (good : List S) (bad : S) (others : List S) (results : List R) (f : Fault) → map call good ≡ map (λ r. Ok r) results
+    → call bad ≡ Err f → one_each place call (Ok (good ++ bad ∷ others)) ≡ moved (place (length good)) (Err f)
 first-fault place call good bad others results f same fails =
     first_bad place call 0 good bad others results f same fails ∙ ap (λ n. moved (place n) (Err f)) (omega arith)
 
@@ -77,7 +82,8 @@ lists_of : {X : Type 0} (r : Result (List (List X)) Fault) (result : List X) →
 lists_of (Ok lists) result p = let e : joined lists ≡ result = cc in (lists, refl, sym e)
 lists_of (Err f) result p = cc
 
-pub joined-meaning : {S X : Type 0} (place : ℕ → ℕ → ℕ) (call : S → Result (List X) Fault) (segments : List S) (result : List X) → (end_to_end place call (Ok segments) ≡ Ok result) ↔ ((lists : List (List X)) × (map call segments ≡ map (λ r. Ok r) lists) × (result ≡ joined lists))
+pub joined-meaning : {S X : Type 0} (place : ℕ → ℕ → ℕ) (call : S → Result (List X) Fault) (segments : List S) (result : List X)
+    → (end_to_end place call (Ok segments) ≡ Ok result) ↔ ((lists : List (List X)) × (map call segments ≡ map (λ r. Ok r) lists) × (result ≡ joined lists))
 joined-meaning place call segments result = (
   λ p.
       let parts = lists_of (one_each place call (Ok segments)) result p in
@@ -86,7 +92,8 @@ joined-meaning place call segments result = (
       ap (λ r. r >>= λ lists. Ok (joined lists)) ((results-meaning place call segments parts.0).1 parts.1) ∙ ap Ok (sym parts.2),
 )
 
-pub joined-first_fault : {S X : Type 0} (place : ℕ → ℕ → ℕ) (call : S → Result (List X) Fault) (good : List S) (bad : S) (others : List S) (lists : List (List X)) (f : Fault) → map call good ≡ map (λ r. Ok r) lists → call bad ≡ Err f → end_to_end place call (Ok (good ++ bad ∷ others)) ≡ moved (place (length good)) (Err f)
+pub joined-first_fault : {S X : Type 0} (place : ℕ → ℕ → ℕ) (call : S → Result (List X) Fault) (good : List S) (bad : S) (others : List S) (lists : List (List X)) (f : Fault)
+    → map call good ≡ map (λ r. Ok r) lists → call bad ≡ Err f → end_to_end place call (Ok (good ++ bad ∷ others)) ≡ moved (place (length good)) (Err f)
 joined-first_fault place call good bad others lists f same fails =
     ap (λ r. r >>= λ lists. Ok (joined lists)) (first-fault place call good bad others lists f same fails)
 
@@ -115,7 +122,8 @@ alone : {X : Type 0} (lengths : List ℕ) (r : Result (List X) Fault) → (moved
 alone lengths (Ok xs) = ap Ok (append-nil xs)
 alone lengths (Err f) = λ i. Err (record { number = f.number; place = place-stays f.place lengths i })
 
-one_result : {X : Type 0} (lengths : List ℕ) (r : Result (List X) Fault) → ((moved (in_vector lengths 0) r >>= λ xs. Ok [] >>= λ rs. Ok (xs ∷ rs)) >>= λ lists. Ok (joined lists)) ≡ (moved (in_vector lengths 0) r >>= λ xs. Ok (joined (xs ∷ [])))
+one_result : {X : Type 0} (lengths : List ℕ) (r : Result (List X) Fault) → ((moved (in_vector lengths 0) r >>= λ xs. Ok [] >>= λ rs. Ok (xs ∷ rs)) >>= λ lists. Ok (joined lists))
+    ≡ (moved (in_vector lengths 0) r >>= λ xs. Ok (joined (xs ∷ [])))
 one_result lengths (Ok xs) = refl
 one_result lengths (Err f) = refl
 
@@ -123,7 +131,8 @@ flat-again : {S X : Type 0} (lengths : List ℕ) (call : S → Result (List X) F
 flat-again lengths call x = one_result lengths (call x) ∙ alone lengths (call x)
 
 -- a call of two vectors that must be equally long
-two-again : {A B X : Type 0} (call : List A → List B → Result (List X) Fault) (xs : List A) (ys : List B) → (length xs ≢ length ys → call xs ys ≡ Err (fault no.LengthMismatch)) → end_to_end (in_vector (length xs ∷ [])) (of_two call) (beside (nest (length xs ∷ []) xs) (nest (length xs ∷ []) ys)) ≡ call xs ys
+two-again : {A B X : Type 0} (call : List A → List B → Result (List X) Fault) (xs : List A) (ys : List B) → (length xs ≢ length ys → call xs ys ≡ Err (fault no.LengthMismatch))
+    → end_to_end (in_vector (length xs ∷ [])) (of_two call) (beside (nest (length xs ∷ []) xs) (nest (length xs ∷ []) ys)) ≡ call xs ys
 two-again call xs ys mismatch =
     let place = in_vector (length xs ∷ []) in
     ap (λ a. end_to_end place (of_two call) (beside a (nest (length xs ∷ []) ys))) (nest_one xs)
@@ -144,9 +153,11 @@ back-again source index =
     ∙ ap (λ a. end_to_end (in_vector (length index ∷ [])) (of_two back_of) (beside (Ok (source ∷ [])) a)) (nest_one index)
     ∙ flat-again (length index ∷ []) (of_two back_of) (source, index)
 
-pub default-again : {X : Type 0} (source : List X) (index : List ℤ) (defaults : List X) → seg_default_of source index defaults (length source ∷ []) (length defaults ∷ []) ≡ default_of source index defaults
+pub default-again : {X : Type 0} (source : List X) (index : List ℤ) (defaults : List X) → seg_default_of source index defaults (length source ∷ []) (length defaults ∷ [])
+    ≡ default_of source index defaults
 default-again {X = X} source index defaults =
-    let whole = λ (a : Result (List (List X)) Fault) (b : Result (List (List ℤ)) Fault) (c : Result (List (List X)) Fault). end_to_end (in_vector (length source ∷ [])) (of_three default_of) (beside (beside a b) c) in
+    let whole = λ (a : Result (List (List X)) Fault) (b : Result (List (List ℤ)) Fault) (c : Result (List (List X)) Fault). end_to_end (in_vector (length source ∷ [])) (of_three default_of)
+        (beside (beside a b) c) in
     ap (λ a. whole a (nest (length source ∷ []) index) (nest (length defaults ∷ []) defaults)) (nest_one source)
     ∙ ap (whole (Ok (source ∷ [])) (nest (length source ∷ []) index)) (nest_one defaults)
     ∙ elim (eqb_tells (length source) (length index)) [
@@ -156,7 +167,8 @@ default-again {X = X} source index defaults =
 
 pub select-again : {X : Type 0} (source : List X) (index : List ℤ) (flags : List Bool) → seg_select_of source index flags (length source ∷ []) ≡ select_of source index flags
 select-again {X = X} source index flags =
-    let whole = λ (a : Result (List (List X)) Fault) (b : Result (List (List ℤ)) Fault) (c : Result (List (List Bool)) Fault). end_to_end (in_vector (length source ∷ [])) (of_three select_of) (beside (beside a b) c) in
+    let whole = λ (a : Result (List (List X)) Fault) (b : Result (List (List ℤ)) Fault) (c : Result (List (List Bool)) Fault). end_to_end (in_vector (length source ∷ [])) (of_three select_of)
+        (beside (beside a b) c) in
     let sends = sent_to_all source (flagged_targets index flags) (count_of flags) in
     ap (λ a. whole a (nest (length source ∷ []) index) (nest (length source ∷ []) flags)) (nest_one source)
     ∙ elim (eqb_tells (length source) (length index)) [
@@ -180,7 +192,8 @@ pub index-again : (init stride : ℤ) (n : ℕ) → seg_index_of (init ∷ []) (
 index-again init stride n = flat-again (n ∷ []) (of_three (λ init stride n. index_of init stride (pos n))) ((init, stride), n)
 
 -- where a fault of one segment stands at the segment, its place is 0 as the flat one's
-extract-one : {X : Type 0} (o : Option X) → (moved (at_segment 0) (ok_or o (fault_at no.IndexOutOfRange 0)) >>= λ x. Ok [] >>= λ xs. Ok (x ∷ xs)) ≡ result_map_both (λ x. x ∷ []) (λ f. f) (ok_or o (fault_at no.IndexOutOfRange 0))
+extract-one : {X : Type 0} (o : Option X) → (moved (at_segment 0) (ok_or o (fault_at no.IndexOutOfRange 0)) >>= λ x. Ok [] >>= λ xs. Ok (x ∷ xs))
+    ≡ result_map_both (λ x. x ∷ []) (λ f. f) (ok_or o (fault_at no.IndexOutOfRange 0))
 extract-one None = refl
 extract-one (Some x) = refl
 
@@ -188,7 +201,8 @@ pub extract-again : {X : Type 0} (xs : List X) (index : ℤ) → seg_extract_of 
 extract-again xs index =
     ap (λ a. one_each at_segment (of_two extract_of) (beside a (Ok (index ∷ [])))) (nest_one xs) ∙ extract-one (element_at xs index)
 
-replace-one : {X : Type 0} (o : Option (List X)) → ((moved (at_segment 0) (ok_or o (fault_at no.IndexOutOfRange 0)) >>= λ ys. Ok [] >>= λ lists. Ok (ys ∷ lists)) >>= λ lists. Ok (joined lists)) ≡ ok_or o (fault_at no.IndexOutOfRange 0)
+replace-one : {X : Type 0} (o : Option (List X)) → ((moved (at_segment 0) (ok_or o (fault_at no.IndexOutOfRange 0)) >>= λ ys. Ok [] >>= λ lists. Ok (ys ∷ lists)) >>= λ lists. Ok (joined lists))
+    ≡ ok_or o (fault_at no.IndexOutOfRange 0)
 replace-one None = refl
 replace-one (Some ys) = ap Ok (append-nil ys)
 

@@ -40,7 +40,8 @@ flagged-named m (pos d ∷ index) (true ∷ flags) long right =
     omega (arith, count-cons true flags)
 flagged-named m (negsuc d ∷ index) (true ∷ flags) long right = absurd (false≢true (right.within 0 (negsuc d) refl))
 
-select-from_sent : {X : Type 0} (source : List X) (index : List ℤ) (flags : List Bool) (result : List X) → length source ≡ length index → length index ≡ length flags → IsSent (count_of flags) source (flagged_targets index flags) result → IsSelectPermute source index flags result
+select-from_sent : {X : Type 0} (source : List X) (index : List ℤ) (flags : List Bool) (result : List X) → length source ≡ length index → length index ≡ length flags
+    → IsSent (count_of flags) source (flagged_targets index flags) result → IsSelectPermute source index flags result
 select-from_sent source index flags result long flagged is = record {
   one_index_each = long;
   one_flag_each = flagged;
@@ -50,7 +51,8 @@ select-from_sent source index flags result long flagged is = record {
   sent = λ k d f here. is.sent k d (flagged-here index flags k (pos d) f here);
 }
 
-sent-from_select : {X : Type 0} (source : List X) (index : List ℤ) (flags : List Bool) (result : List X) → IsSelectPermute source index flags result → IsSent (count_of flags) source (flagged_targets index flags) result
+sent-from_select : {X : Type 0} (source : List X) (index : List ℤ) (flags : List Bool) (result : List X) → IsSelectPermute source index flags result
+    → IsSent (count_of flags) source (flagged_targets index flags) result
 sent-from_select source index flags result is = record {
   as_long = is.as_long;
   right = right-from_once (count_of flags) (flagged_targets index flags)
@@ -59,7 +61,8 @@ sent-from_select source index flags result is = record {
   sent = λ k d here. let p = here-flagged index flags k (pos d) here in is.sent k d p.0 p.1;
 }
 
-select_sent : {X : Type 0} (source : List X) (index : List ℤ) (flags : List Bool) (result : List X) → length source ≡ length index → length index ≡ length flags → (sent_to_all source (flagged_targets index flags) (count_of flags) ≡ Ok result) ↔ IsSent (count_of flags) source (flagged_targets index flags) result
+select_sent : {X : Type 0} (source : List X) (index : List ℤ) (flags : List Bool) (result : List X) → length source ≡ length index → length index ≡ length flags
+    → (sent_to_all source (flagged_targets index flags) (count_of flags) ≡ Ok result) ↔ IsSent (count_of flags) source (flagged_targets index flags) result
 select_sent source index flags result long flagged =
     let as_long = length-flagged_targets index flags flagged in
     sent_to_all-meaning (count_of flags) source (flagged_targets index flags) result (omega arith) (λ right. let e = flagged-named (count_of flags) index flags flagged right in omega arith)

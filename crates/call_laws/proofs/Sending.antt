@@ -1,5 +1,6 @@
 -- What a permute gives where no place is bad.
-use Rattle.std.proofs.Common.{◌≡◌, ℕ, zero, suc, ◌+◌, ◌<◌, ◌≤◌, true, false, List, [], ◌∷◌, length, take, refl, sym, ap, ◌∙◌, subst, arith, inl, inr, not, ℤ, pos, negsuc, slice_get, option_map, find, filter_map, Some, None, Ok, Option, Result}
+use Rattle.std.proofs.Common.{◌≡◌, ℕ, zero, suc, ◌+◌, ◌<◌, ◌≤◌, true, false, List, [], ◌∷◌, length, take, refl, sym, ap, ◌∙◌, subst, arith, inl, inr, not, ℤ, pos, negsuc, slice_get, option_map, find}
+use Rattle.std.proofs.Common.{filter_map, Some, None, Ok, Option, Result}
 use Rattle.std.specs.Prelude.{◌↔◌}
 use Rattle.std.specs.List.{zip, list_any, range_with_len, cons_option}
 use Rattle.std.proofs.lemmas.Option.{none-some, same_Some, slice_get-map, slice_get_within}
@@ -21,7 +22,8 @@ use Rattle.call_laws.proofs.Targets.{IsRight, right-from_no_fault, no_fault-from
 -- ---- what is sent to one place
 
 -- the element beside the first place with the target d
-pub sent_to-first : {X : Type 0} (source : List X) (ts : List (Option ℤ)) (k d : ℕ) (x : X) → slice_get ts k ≡ Some (Some (pos d)) → slice_get source k ≡ Some x → list_any (is_target (pos d)) (take k ts) ≡ false → sent_to source ts d ≡ Some x
+pub sent_to-first : {X : Type 0} (source : List X) (ts : List (Option ℤ)) (k d : ℕ) (x : X) → slice_get ts k ≡ Some (Some (pos d)) → slice_get source k ≡ Some x
+    → list_any (is_target (pos d)) (take k ts) ≡ false → sent_to source ts d ≡ Some x
 sent_to-first source [] k d x target element fresh = absurd (none-some (Some (pos d)) target)
 sent_to-first [] (t ∷ ts) k d x target element fresh = absurd (none-some x element)
 sent_to-first (y ∷ source) (t ∷ ts) zero d x target element fresh =
@@ -38,7 +40,8 @@ at_place : {X : Type 0} (f : ℕ → Option X) (a n : ℕ) (x : X) (xs : List X)
 at_place f a n x xs zero within first rest = sym first ∙ ap f (omega arith)
 at_place f a n x xs (suc j) within first rest = rest j (omega arith) ∙ ap f (omega arith)
 
-pub all_there : {X : Type 0} (f : ℕ → Option X) (a n : ℕ) → ((d : ℕ) → a ≤ d → d < a + n → (x : X) × (f d ≡ Some x)) → (length (filter_map f (range_with_len a n)) ≡ n) × ((j : ℕ) → j < n → slice_get (filter_map f (range_with_len a n)) j ≡ f (a + j))
+pub all_there : {X : Type 0} (f : ℕ → Option X) (a n : ℕ) → ((d : ℕ) → a ≤ d → d < a + n → (x : X) × (f d ≡ Some x)) → (length (filter_map f (range_with_len a n)) ≡ n)
+    × ((j : ℕ) → j < n → slice_get (filter_map f (range_with_len a n)) j ≡ f (a + j))
 all_there f a zero each = (refl, λ j within. absurd (omega arith))
 all_there f a (suc n) each =
     let first = each a (omega arith) (omega arith) in
@@ -55,14 +58,16 @@ pub record IsSent {X : Type 0} (m : ℕ) (source : List X) (ts : List (Option �
   pub sent : (k d : ℕ) → slice_get ts k ≡ Some (Some (pos d)) → slice_get result d ≡ slice_get source k
 
 -- what is sent to a target is the source's element there
-pub sent_to-target : {X : Type 0} (m : ℕ) (source : List X) (ts : List (Option ℤ)) (k d : ℕ) → IsRight m ts → length ts ≤ length source → slice_get ts k ≡ Some (Some (pos d)) → sent_to source ts d ≡ slice_get source k
+pub sent_to-target : {X : Type 0} (m : ℕ) (source : List X) (ts : List (Option ℤ)) (k d : ℕ) → IsRight m ts → length ts ≤ length source → slice_get ts k ≡ Some (Some (pos d))
+    → sent_to source ts d ≡ slice_get source k
 sent_to-target m source ts k d right long target =
     let within : k < length ts = slice_get_within ts k (Some (pos d)) target in
     let here = element source k (omega arith) in
     sent_to-first source ts k d here.0 target here.1 (right.fresh k (pos d) target) ∙ sym here.1
 
 -- where no place is bad and enough places take part, all places are sent something
-sent_to-there : {X : Type 0} (m : ℕ) (source : List X) (ts : List (Option ℤ)) → IsRight m ts → length ts ≤ length source → m ≤ length (named ts) → (d : ℕ) → d < m → (x : X) × (sent_to source ts d ≡ Some x)
+sent_to-there : {X : Type 0} (m : ℕ) (source : List X) (ts : List (Option ℤ)) → IsRight m ts → length ts ≤ length source → m ≤ length (named ts) → (d : ℕ) → d < m → (x : X)
+    × (sent_to source ts d ≡ Some x)
 sent_to-there m source ts right long enough d within =
     let sender = target_there (pos d) ts (each_is_target m ts right enough d within) in
     let here : sender.0 < length ts = slice_get_within ts sender.0 (Some (pos d)) sender.1 in
@@ -70,7 +75,8 @@ sent_to-there m source ts right long enough d within =
     (sent.0, sent_to-target m source ts sender.0 d right long sender.1 ∙ sent.1)
 
 -- all that is sent, in a list
-pub all_sent : {X : Type 0} (m : ℕ) (source : List X) (ts : List (Option ℤ)) → IsRight m ts → length ts ≤ length source → m ≤ length (named ts) → IsSent m source ts (filter_map (sent_to source ts) (range_with_len 0 m))
+pub all_sent : {X : Type 0} (m : ℕ) (source : List X) (ts : List (Option ℤ)) → IsRight m ts → length ts ≤ length source → m ≤ length (named ts)
+    → IsSent m source ts (filter_map (sent_to source ts) (range_with_len 0 m))
 all_sent m source ts right long enough =
     let values = all_there (sent_to source ts) 0 m (λ d low high. sent_to-there m source ts right long enough d (omega arith)) in
     record {
@@ -103,7 +109,8 @@ if_as_long-Ok xs ys rest z p =
       | inr t ↦ let bad : fault_if true (fault LengthMismatch) rest ≡ Ok z = sym (ap (λ b. fault_if (not b) (fault LengthMismatch) rest) t.0) ∙ p in cc
     ]
 
-pub sent_to_all-meaning : {X : Type 0} (m : ℕ) (source : List X) (ts : List (Option ℤ)) (result : List X) → length ts ≤ length source → (IsRight m ts → m ≤ length (named ts)) → (sent_to_all source ts m ≡ Ok result) ↔ IsSent m source ts result
+pub sent_to_all-meaning : {X : Type 0} (m : ℕ) (source : List X) (ts : List (Option ℤ)) (result : List X) → length ts ≤ length source → (IsRight m ts → m ≤ length (named ts))
+    → (sent_to_all source ts m ≡ Ok result) ↔ IsSent m source ts result
 sent_to_all-meaning m source ts result long enough = (
   λ p.
       let parts = unless-Ok (first_fault 0 (wrongs m ts)) (Ok (filter_map (sent_to source ts) (range_with_len 0 m))) result p in
@@ -131,7 +138,8 @@ all_named m [] right = refl
 all_named m (pos d ∷ index) right = ap suc (all_named m index (tail-IsRight m (Some (pos d)) (all_targets index) right))
 all_named m (negsuc d ∷ index) right = absurd (false≢true (right.within 0 (negsuc d) refl))
 
-simple-from_sent : {X : Type 0} (source : List X) (index : List ℤ) (result : List X) → length source ≡ length index → IsSent (length index) source (all_targets index) result → IsSimplePermute source index result
+simple-from_sent : {X : Type 0} (source : List X) (index : List ℤ) (result : List X) → length source ≡ length index → IsSent (length index) source (all_targets index) result
+    → IsSimplePermute source index result
 simple-from_sent source index result long is = record {
   one_index_each = long;
   as_long = is.as_long;
@@ -143,11 +151,13 @@ simple-from_sent source index result long is = record {
 pub sent-from_simple : {X : Type 0} (source : List X) (index : List ℤ) (result : List X) → IsSimplePermute source index result → IsSent (length index) source (all_targets index) result
 sent-from_simple source index result is = record {
   as_long = is.as_long;
-  right = right-from_once (length index) (all_targets index) (λ k i here. is.within k i (index-here index k i here)) (λ j k i first second. is.once j k i (index-here index j i first) (index-here index k i second));
+  right = right-from_once (length index) (all_targets index) (λ k i here. is.within k i (index-here index k i here))
+      (λ j k i first second. is.once j k i (index-here index j i first) (index-here index k i second));
   sent = λ k d here. is.sent k d (index-here index k (pos d) here);
 }
 
-simple_sent : {X : Type 0} (source : List X) (index : List ℤ) (result : List X) → length source ≡ length index → (sent_to_all source (all_targets index) (length index) ≡ Ok result) ↔ IsSent (length index) source (all_targets index) result
+simple_sent : {X : Type 0} (source : List X) (index : List ℤ) (result : List X) → length source ≡ length index
+    → (sent_to_all source (all_targets index) (length index) ≡ Ok result) ↔ IsSent (length index) source (all_targets index) result
 simple_sent source index result long =
     let as_long = length-all_targets index in
     sent_to_all-meaning (length index) source (all_targets index) result (omega arith) (λ right. let e = all_named (length index) index right in omega arith)

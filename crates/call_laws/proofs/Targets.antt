@@ -1,5 +1,6 @@
 -- The targets of a permute: when no place is bad, and that then every place of the result is a target.
-use Rattle.std.proofs.Common.{◌≡◌, ℕ, zero, suc, ◌+◌, ◌<◌, ◌≤◌, Bool, true, false, not, ◌||◌, if◌then◌else◌, List, [], ◌∷◌, length, take, min, refl, sym, ap, ◌∙◌, arith, inl, inr, eqb, ℤ, pos, negsuc, slice_get, option_map, Some, None, Option}
+use Rattle.std.proofs.Common.{◌≡◌, ℕ, zero, suc, ◌+◌, ◌<◌, ◌≤◌, Bool, true, false, not, ◌||◌, if◌then◌else◌, List, [], ◌∷◌, length, take, min, refl, sym, ap, ◌∙◌, arith, inl, inr, eqb, ℤ, pos, negsuc}
+use Rattle.std.proofs.Common.{slice_get, option_map, Some, None, Option}
 use Rattle.std.specs.List.{zip, list_any, IsDistinct, AllByRecursion}
 use Rattle.std.specs.Ordering.{int_eq}
 use Rattle.std.proofs.lemmas.Option.{none-some, same_Some, slice_get-map, slice_get_within}
@@ -109,7 +110,8 @@ once-from_right m ts right j k i first second =
       | inr (inr after) ↦ absurd (not_before m ts right k j i after second first)
     ]
 
-pub right-from_once : (m : ℕ) (ts : List (Option ℤ)) → ((k : ℕ) (i : ℤ) → slice_get ts k ≡ Some (Some i) → is_place m i ≡ true) → ((j k : ℕ) (i : ℤ) → slice_get ts j ≡ Some (Some i) → slice_get ts k ≡ Some (Some i) → j ≡ k) → IsRight m ts
+pub right-from_once : (m : ℕ) (ts : List (Option ℤ)) → ((k : ℕ) (i : ℤ) → slice_get ts k ≡ Some (Some i) → is_place m i ≡ true)
+    → ((j k : ℕ) (i : ℤ) → slice_get ts j ≡ Some (Some i) → slice_get ts k ≡ Some (Some i) → j ≡ k) → IsRight m ts
 right-from_once m ts within once = record {
   within = within;
   fresh = λ k i here. false_from_ne_true (list_any (is_target i) (take k ts)) (λ repeated.
@@ -130,7 +132,8 @@ named (Some (pos d) ∷ ts) = d ∷ named ts
 named (Some (negsuc d) ∷ ts) = named ts
 
 eqb-int_eq : (d e : ℕ) → eqb d e ≡ int_eq (pos e) (pos d)
-eqb-int_eq d e = same_from_decides (eqb d e) (int_eq (pos e) (pos d)) (Decides-like (eqb d e) (λ same. ap pos (sym same)) (λ same. let h : e ≡ d = cc in sym h) (Decides-eqb d e)) (Decides-int_eq (pos e) (pos d))
+eqb-int_eq d e = same_from_decides (eqb d e) (int_eq (pos e) (pos d)) (Decides-like (eqb d e) (λ same. ap pos (sym same)) (λ same. let h : e ≡ d = cc in sym h) (Decides-eqb d e))
+    (Decides-int_eq (pos e) (pos d))
 
 any-named : (d : ℕ) (ts : List (Option ℤ)) → list_any (eqb d) (named ts) ≡ list_any (is_target (pos d)) ts
 any-named d [] = refl

@@ -19,7 +19,8 @@ pub record IsSelectPermute {X : Type 0} (source : List X) (index : List ℤ) (fl
   pub one_flag_each : length index ≡ length flags
   pub as_long : length result ≡ count_of flags
   pub within : (k : ℕ) (i : ℤ) → slice_get flags k ≡ Some true → slice_get index k ≡ Some i → IsTrue (is_place (count_of flags) i)
-  pub once : (j k : ℕ) (i : ℤ) → slice_get flags j ≡ Some true → slice_get flags k ≡ Some true → slice_get index j ≡ Some i → slice_get index k ≡ Some i → j ≡ k
+  pub once : (j k : ℕ) (i : ℤ) → slice_get flags j ≡ Some true → slice_get flags k ≡ Some true → slice_get index j ≡ Some i
+      → slice_get index k ≡ Some i → j ≡ k
   pub sent : (k d : ℕ) → slice_get flags k ≡ Some true → slice_get index k ≡ Some (pos d) → slice_get result d ≡ slice_get source k
 
 -- each element goes to its index, and a place to which none goes keeps its default

@@ -1,5 +1,6 @@
 -- What a parse of the program's command holds.
-use Rattle.std.proofs.Common.{◌≡◌, ◌∙◌, ◌<◌, ◌≤◌, ap, ℕ, zero, suc, true, false, List, [], ◌∷◌, length, map, is_some, Option, Some, None, Err, slice_index, refl, sym, subst, inl, inr, arith, codes, IsSome}
+use Rattle.std.proofs.Common.{◌≡◌, ◌∙◌, ◌<◌, ◌≤◌, ap, ℕ, zero, suc, true, false, List, [], ◌∷◌, length, map, is_some, Option, Some, None, Err, slice_index, refl, sym, subst, inl, inr, arith, codes}
+use Rattle.std.proofs.Common.{IsSome}
 use Rattle.std.specs.List.{slice_index_or}
 use Rattle.std.proofs.lemmas.List.{length-map}
 use Rattle.std.specs.Str.{bytes_eq}
@@ -25,7 +26,7 @@ use Rattle.clap.proofs.OnLiterals.{clap_on_literals}
 use Rattle.clap.proofs.WalkLemmas.{both}
 use Rattle.cvl_base.specs.Limits.{longest_tile, most_workers}
 use Rattle.command_line.specs.Command.{cvl, inputs_rule, number_rule, script_rule, tile_rule, up_to, workers_rule}
-use Rattle.command_line.specs.Reads.{HasNumber, IsFaultOf, IsWhole, ReadsBy}
+use Rattle.command_line.specs.Reads.{HasNumber, IsFaultOf, HoldsAllArguments, ReadsBy}
 use Rattle.command_line.specs.declared.fault.WordsFault.{WordsFault}
 use Rattle.command_line.specs.declared.fault.WordsFault.TheVariants as fault
 use Rattle.command_line.proofs.Accepted.{accepted}
@@ -191,7 +192,7 @@ has_script c m e p =
     (λ auto. elim auto [ inl h ↦ script_is_own.help (sym id ∙ h) | inr h ↦ script_is_own.version (sym id ∙ h) ]) in
     subst (λ (w : Text). is_some (first_value (found_of m) w) ≡ true) id has
 
-pub whole : (c : Command) (m : ArgMatches) → app_of c ≡ cvl → IsParsedFrom c m → IsWhole m
+pub whole : (c : Command) (m : ArgMatches) → app_of c ≡ cvl → IsParsedFrom c m → HoldsAllArguments m
 whole c m e p = record {
   tile = has_number c m e p 0 (codes "tile") longest_tile (codes "4096") (omega arith) refl tile_alone tile_is_own;
   workers = has_number c m e p 1 (codes "workers") most_workers (codes "4") (omega arith) refl workers_alone workers_is_own;

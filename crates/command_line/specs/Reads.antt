@@ -4,7 +4,8 @@ use Rattle.std.specs.Prelude.{◌≡◌, ℕ, List, [], Option, Some, unwrap_or,
 use Rattle.std.specs.Str.Parse.{digits_value, without_leading_plus}
 use Rattle.clap.specs.Walk.{has_row, nothing_held, settled, walk}
 use Rattle.clap.specs.Simple.{argument_words, names_of}
-use Rattle.clap.specs.Words.{App, IsAmong, IsSignedIn, Kinds, Row, Text, all_of, built, first_of, first_value, found_of, kind_of, matches_of, one_of, one_text, without_minus}
+use Rattle.clap.specs.Words.{App, IsAmong, IsSignedIn, Kinds, Row, Text, all_of, built, first_of, first_value, found_of, kind_of}
+use Rattle.clap.specs.Words.{matches_of, one_of, one_text, without_minus}
 use Rattle.clap.specs.declared.error.Error.{Error}
 use Rattle.clap.specs.declared.error.kind.ErrorKind.TheVariants.{OutOfMemory}
 use Rattle.clap.specs.declared.parser.matches.ArgMatches.{ArgMatches}
@@ -55,7 +56,7 @@ pub record HasNumber (m : ArgMatches) (name : Text) (greatest : ℕ) : Type 0 wh
   pub range : IsSignedIn (pos 1) (pos greatest) text
 
 -- the matches of the command have both numbers and the script
-pub record IsWhole (m : ArgMatches) : Type 0 where
+pub record HoldsAllArguments (m : ArgMatches) : Type 0 where
   pub tile : HasNumber m (codes "tile") longest_tile
   pub workers : HasNumber m (codes "workers") most_workers
   pub script : IsSome (first_value (found_of m) (codes "script"))

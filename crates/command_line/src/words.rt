@@ -5,7 +5,7 @@ ghost use Rattle.clap.specs.Words.{all_of, fault_of, first_of, found_of, rows_of
 ghost use Rattle.clap.specs.Walk.{texts};
 ghost use Rattle.cvl_base.specs.Limits.{longest_tile, most_workers};
 ghost use Rattle.command_line.specs.Command.{cvl};
-ghost use Rattle.command_line.specs.Reads.{IsWhole, ReadsBy, inputs_given, is_left_out, number_given, number_in, script_given};
+ghost use Rattle.command_line.specs.Reads.{HoldsAllArguments, ReadsBy, inputs_given, is_left_out, number_given, number_in, script_given};
 ghost use Rattle.command_line.specs.declared.fault.WordsFault.TheVariants as fault;
 
 use crate::fault::WordsFault;
@@ -39,7 +39,7 @@ fn inputs<'a>(alloc: Global, matches: &ArgMatches<'a>) -> Result<Vec<&'a str>, A
 
 /// What the matches of the command say.
 fn words_of<'a>(alloc: Global, matches: &ArgMatches<'a>) -> Result<Words<'a>, AllocError>
-    requires { IsWhole matches.now }
+    requires { HoldsAllArguments matches.now }
     ensures tile { IfOk result (λ w.
         number_in (codes "tile") (rows_of (found_of matches.now)) ≡ Some w.config.0) }
     ensures workers { IfOk result (λ w.

@@ -1,6 +1,7 @@
 -- Descriptors of segmented vectors: the lengths of the segments, in order.
 -- Source: CVL's segment descriptors.
-use Rattle.std.specs.Prelude.{◌≡◌, ℕ, ◌<◌, ◌≤◌, ℤ, pos, negsuc, slice_get, Some, Result, Ok, option_map, List, length, map, sum, unsigned_abs, position, nat_lt}
+use Rattle.std.specs.Prelude.{◌≡◌, ℕ, ◌<◌, ◌≤◌, ℤ, pos, negsuc, slice_get, Some, Result, Ok, option_map, List, length, map, sum}
+use Rattle.std.specs.Prelude.{unsigned_abs, position, nat_lt}
 use Rattle.std.specs.Int.{is_negative}
 use Rattle.cvl_base.specs.declared.fault.Fault.{Fault}
 use Rattle.cvl_base.specs.declared.fault.FaultNo.TheVariants as no

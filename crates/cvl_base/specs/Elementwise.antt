@@ -19,7 +19,9 @@ use Rattle.operators.specs.Booleans.{both, either, differ}
 use Rattle.operators.specs.Conversions.{integer_of, boolean_of}
 use Rattle.cvl_base.specs.Faults.{fault, fault_at}
 use Rattle.cvl_base.specs.Gives.{◌>>=◌, fault_if}
-use Rattle.operators.specs.Integers.{sum_of, difference_of, product_of, quotient_of, remainder_of, lesser_of, greater_of, left_shift_of, right_shift_of, and_of, ior_of, xor_of, not_of, is_greater, is_less, is_at_least, is_at_most, is_equal, is_unequal}
+use Rattle.operators.specs.Integers.{sum_of, difference_of, product_of, quotient_of, remainder_of, lesser_of, greater_of, left_shift_of}
+use Rattle.operators.specs.Integers.{right_shift_of, and_of, ior_of, xor_of, not_of, is_greater, is_less, is_at_least, is_at_most, is_equal}
+use Rattle.operators.specs.Integers.{is_unequal}
 
 -- all the values, or the fault at the least place that has none, where the first stands at the place given
 abbrev pub values_from : {Y : Type 0} → FaultNo → ℕ → List (Option Y) → Result (List Y) Fault

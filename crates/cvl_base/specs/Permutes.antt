@@ -1,6 +1,7 @@
 -- Permutes as sets of pairs: in the pair (d, k) element k of the source goes to place d of the result.
 -- Source: CVL's permute and back permute; select, default and the faults are this library's profile.
-use Rattle.std.specs.Prelude.{ℕ, ◌+◌, ℤ, pos, negsuc, Bool, true, false, not, nat_lt, if◌then◌else◌, List, [], ◌∷◌, length, map, find, filter_map, unsigned_abs, Option, Some, None, unwrap_or, option_map, Result, Ok}
+use Rattle.std.specs.Prelude.{ℕ, ◌+◌, ℤ, pos, negsuc, Bool, true, false, not, nat_lt, if◌then◌else◌, List, [], ◌∷◌, length, map, find}
+use Rattle.std.specs.Prelude.{filter_map, unsigned_abs, Option, Some, None, unwrap_or, option_map, Result, Ok}
 use Rattle.std.specs.List.{zip, list_any, range_with_len, enumerate_from}
 use Rattle.std.specs.Ordering.{int_eq}
 use Rattle.cvl_base.specs.declared.fault.Fault.{Fault}

@@ -11,7 +11,8 @@ module _ {Item : Type 0} {is_item : Item → Bool} {unit : Item} {join : Item �
   joined_is_item f v true w p q = q
   joined_is_item f v false w p q = laws.join_is_item v w p q
 
-  joined_assoc : (e : Bool) (u : Item) (f : Bool) (v : Item) (g : Bool) (w : Item) → IsTrue (is_item u) → IsTrue (is_item v) → IsTrue (is_item w)
+  joined_assoc : (e : Bool) (u : Item) (f : Bool) (v : Item) (g : Bool) (w : Item) → IsTrue (is_item u) → IsTrue (is_item v)
+      → IsTrue (is_item w)
       → seg_join join (seg_join join (e, u) (f, v)) (g, w) ≡ seg_join join (e, u) (seg_join join (f, v) (g, w))
   joined_assoc e u true v true w p q r = ap (λ b. (b, w)) (either_assoc e true true)
   joined_assoc e u false v true w p q r = ap (λ b. (b, w)) (either_assoc e false true)

@@ -1,5 +1,6 @@
 -- The sum of flags that are read as 1 and 0 is the number of true ones.
-use Rattle.std.proofs.Common.{◌≡◌, ℕ, ◌+◌, ◌<◌, ◌≤◌, ℤ, pos, to_z, of_z, w32, w64, Fits, Bool, true, false, cond, List, [], ◌∷◌, length, take, map, get_or, sym, ap, ◌∙◌, arith, FitsSigned, subst, slice_get, Some}
+use Rattle.std.proofs.Common.{◌≡◌, ℕ, ◌+◌, ◌<◌, ◌≤◌, ℤ, pos, to_z, of_z, w32, w64, Fits, Bool, true, false, cond, List, [], ◌∷◌, length, take, map, get_or, sym, ap, ◌∙◌, arith, FitsSigned, subst}
+use Rattle.std.proofs.Common.{slice_get, Some}
 use Rattle.std.specs.Prelude.{unsigned_abs}
 use Rattle.std.specs.Int.{IsNonNegative}
 use Rattle.std.proofs.Math.Facts.{Fits-below}

@@ -60,7 +60,8 @@ sum-counts (n ∷ lengths) flags =
       length-drop n flags,
     )
 
-are_counts : (lengths : List ℕ) (flags : List Bool) (numbers : List ℤ) → length lengths ≤ most_elements → length flags ≤ most_elements → numbers ≡ map pos (map count_of (cut_of lengths flags)) → AreLengths numbers
+are_counts : (lengths : List ℕ) (flags : List Bool) (numbers : List ℤ) → length lengths ≤ most_elements → length flags ≤ most_elements → numbers ≡ map pos (map count_of (cut_of lengths flags))
+    → AreLengths numbers
 are_counts lengths flags numbers few small is =
     let counts = map count_of (cut_of lengths flags) in
     let read : map unsigned_abs numbers ≡ counts = ap (map unsigned_abs) is ∙ abs_pos counts in

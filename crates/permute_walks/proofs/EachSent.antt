@@ -1,5 +1,6 @@
 -- Where no place is bad and as many places take part as the result has, each place of the result has a sender.
-use Rattle.std.proofs.Common.{◌≡◌, ◌∙◌, ℕ, zero, suc, ◌+◌, ◌<◌, ◌≤◌, Bool, true, false, not, if◌then◌else◌, cond, List, [], ◌∷◌, length, take, drop, get_or, set, replicate, refl, sym, ap, subst, arith, eqb, ltb, ℤ, pos, negsuc, Option, Some, None}
+use Rattle.std.proofs.Common.{◌≡◌, ◌∙◌, ℕ, zero, suc, ◌+◌, ◌<◌, ◌≤◌, Bool, true, false, not, if◌then◌else◌, cond, List, [], ◌∷◌, length, take, drop, get_or, set, replicate, refl, sym, ap, subst}
+use Rattle.std.proofs.Common.{arith, eqb, ltb, ℤ, pos, negsuc, Option, Some, None}
 use Rattle.std.specs.List.{All, sum_by}
 use Rattle.std.proofs.lemmas.Bool.{ltb-true, ne_eqb, false≢true}
 use Rattle.std.proofs.lemmas.List.{take_all}
@@ -102,7 +103,8 @@ sender_below : (place : ℕ) (ts : List (Option ℤ)) (d : ℕ) → eqb (sender_
 sender_below place [] d some = absurd (false≢true (sym some))
 sender_below place (t ∷ ts) d some = below_if (is_target (pos d) t) place (sender_from (place + 1) ts d) (length ts) (sender_below (place + 1) ts d) some
 
-pub each_sent : (place : ℕ) (ts : List (Option ℤ)) (m : ℕ) → place + length ts ≤ nobody → None ≡ first_fault place (wrongs m ts) → sum_by takes_part ts ≡ m → All (λ s. s < place + length ts) (senders_of place ts m)
+pub each_sent : (place : ℕ) (ts : List (Option ℤ)) (m : ℕ) → place + length ts ≤ nobody → None ≡ first_fault place (wrongs m ts) → sum_by takes_part ts ≡ m
+    → All (λ s. s < place + length ts) (senders_of place ts m)
 each_sent place ts m small right as_many =
     let last = counted place ts m small right (length ts) (omega arith) in
     let whole : take (length ts) ts ≡ ts = take_all (length ts) ts (omega arith) in

@@ -19,7 +19,8 @@ pub record IsWrittenUpTo {X : Type 0} (n : ℕ) (source : List X) (senders : Lis
 pub written_none : {X : Type 0} (source : List X) (senders : List ℕ) (start : ℕ) (before : List X) → IsWrittenUpTo 0 source senders start before before
 written_none source senders start before = record { written = λ k lt x. absurd (omega arith); others = λ k ge x. refl }
 
-module _ {X : Type 0} (n : ℕ) (source : List X) (senders : List ℕ) (start : ℕ) (before after : List X) (so_far : IsWrittenUpTo n source senders start before after) (o : Option X) (read : o ≡ slice_get source (get_or senders (start + n) 0)) where
+module _ {X : Type 0} (n : ℕ) (source : List X) (senders : List ℕ) (start : ℕ) (before after : List X) (so_far : IsWrittenUpTo n source senders start before after) (o : Option X)
+    (read : o ≡ slice_get source (get_or senders (start + n) 0)) where
   -- an element is written
   pub written_some : (e : X) → o ≡ Some e → n < length after → IsWrittenUpTo (n + 1) source senders start before (set after n e)
   written_some e some lt = record {
@@ -58,7 +59,8 @@ read_at : {X : Type 0} (source : List X) (s : ℕ) → s < length source → (x 
 read_at [] s below = absurd (omega arith)
 read_at (x ∷ source) s below = (get_or (x ∷ source) s x, slice_get-get_or (x ∷ source) s x below)
 
-pub over_all : {X : Type 0} (source : List X) (senders : List ℕ) (values : List X) → length senders ≡ length values → All (λ s. s < length source) senders → written_over source senders values ≡ filter_map (slice_get source) senders
+pub over_all : {X : Type 0} (source : List X) (senders : List ℕ) (values : List X) → length senders ≡ length values → All (λ s. s < length source) senders → written_over source senders values
+    ≡ filter_map (slice_get source) senders
 over_all source [] values same below = refl
 over_all source (s ∷ senders) [] same below = absurd (omega arith)
 over_all source (s ∷ senders) (v ∷ values) same below =

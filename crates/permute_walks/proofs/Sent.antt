@@ -1,5 +1,6 @@
 -- The walk that sends places to their targets: what it has found after the first places, and after all.
-use Rattle.std.proofs.Common.{◌≡◌, ◌∙◌, ℕ, zero, suc, ◌+◌, ◌<◌, ◌≤◌, Bool, true, false, not, ◌||◌, if◌then◌else◌, List, [], ◌∷◌, ◌++◌, length, map, take, drop, get_or, min, set, replicate, refl, sym, ap, add-one, arith, inl, inr, eqb, ltb, ℤ, pos, negsuc, unsigned_abs, option_map, Option, Some, None, Result}
+use Rattle.std.proofs.Common.{◌≡◌, ◌∙◌, ℕ, zero, suc, ◌+◌, ◌<◌, ◌≤◌, Bool, true, false, not, ◌||◌, if◌then◌else◌, List, [], ◌∷◌, ◌++◌, length, map, take, drop, get_or, min, set, replicate, refl, sym}
+use Rattle.std.proofs.Common.{ap, add-one, arith, inl, inr, eqb, ltb, ℤ, pos, negsuc, unsigned_abs, option_map, Option, Some, None, Result}
 use Rattle.std.specs.List.{zip, list_any, range_with_len}
 use Rattle.std.specs.Ordering.{int_eq}
 use Rattle.std.proofs.lemmas.Bool.{ltb-true, eqb-true, or_parts, false_from_ne_true}
@@ -17,7 +18,7 @@ use Rattle.cvl_base.specs.declared.fault.FaultNo.TheVariants.{IndexOutOfRange, I
 use Rattle.cvl_base.specs.Faults.{fault_at}
 use Rattle.cvl_base.specs.Folds.{fronts}
 use Rattle.cvl_base.specs.Permutes.{all_targets, first_fault, flagged_targets, is_target, target_if, wrong_at, wrongs}
-use Rattle.permute_walks.specs.Senders.{nobody, sender_from, senders_of, told, wrong_with}
+use Rattle.permute_walks.specs.Senders.{nobody, sender_from, senders_of, fault_told, wrong_with}
 
 -- ---- what is wrong with a place
 
@@ -55,7 +56,8 @@ first_fault-past place ws k lt none =
     ∙ ap (λ w. first_fault (place + k) (w ∷ drop (k + 1) ws)) none
     ∙ ap (λ p. first_fault p (drop (k + 1) ws)) (omega arith)
 
-first_fault-here : (place : ℕ) (ws : List (Option FaultNo)) (k : ℕ) (number : FaultNo) → k < length ws → get_or ws k None ≡ Some number → first_fault (place + k) (drop k ws) ≡ Some (fault_at number (place + k))
+first_fault-here : (place : ℕ) (ws : List (Option FaultNo)) (k : ℕ) (number : FaultNo) → k < length ws → get_or ws k None ≡ Some number → first_fault (place + k) (drop k ws)
+    ≡ Some (fault_at number (place + k))
 first_fault-here place ws k number lt some =
     ap (first_fault (place + k)) (uncons ws k None lt) ∙ ap (λ w. first_fault (place + k) (w ∷ drop (k + 1) ws)) some
 
@@ -112,7 +114,8 @@ sent_none place ts m senders fresh = record {
 }
 
 -- the index's fault is that of its target
-by_tests : (inside any : Bool) (sender : ℕ) → (inside ≡ true → not (eqb sender nobody) ≡ any) → (if not inside then Some IndexOutOfRange else if any then Some IndexRepeated else None) ≡ (if not inside then Some IndexOutOfRange else if not (eqb sender nobody) then Some IndexRepeated else None)
+by_tests : (inside any : Bool) (sender : ℕ) → (inside ≡ true → not (eqb sender nobody) ≡ any) → (if not inside then Some IndexOutOfRange else if any then Some IndexRepeated else None)
+    ≡ (if not inside then Some IndexOutOfRange else if not (eqb sender nobody) then Some IndexRepeated else None)
 by_tests true any sender same = ap (λ b. if b then Some IndexRepeated else None) (sym (same refl))
 by_tests false any sender same = refl
 
@@ -132,7 +135,8 @@ right_tests true false right = absurd (none-some IndexRepeated (sym right))
 right_tests false free right = absurd (none-some IndexOutOfRange (sym right))
 
 -- one more target
-sent-same : (place : ℕ) (us : List (Option ℤ)) (t : Option ℤ) (m d : ℕ) (senders : List ℕ) → place + length us < nobody → senders ≡ senders_of place us m → t ≡ Some (pos d) → d < m → get_or senders d 0 ≡ nobody → set senders d (place + length us) ≡ senders_of place (us ++ t ∷ []) m
+sent-same : (place : ℕ) (us : List (Option ℤ)) (t : Option ℤ) (m d : ℕ) (senders : List ℕ) → place + length us < nobody → senders ≡ senders_of place us m → t ≡ Some (pos d) → d < m
+    → get_or senders d 0 ≡ nobody → set senders d (place + length us) ≡ senders_of place (us ++ t ∷ []) m
 sent-same place us t m d senders small are is lt free =
     let long : length senders ≡ m = ap length are ∙ length-senders_of place us m in
     let now : sender_from place us d ≡ nobody = sym (sender_at place us m d lt) ∙ ap (λ ss. get_or ss d 0) (sym are) ∙ free in
@@ -150,7 +154,8 @@ sent-same place us t m d senders small are is lt free =
           get_or-set_other senders d e (place + length us) 0 other.1
           ∙ ap (λ ss. get_or ss e 0) are
           ∙ sender_at place us m e below
-          ∙ sym (sender-other place us t e (ap (is_target (pos e)) is ∙ false_from_ne_true (int_eq (pos d) (pos e)) (λ yes. let same : pos d ≡ pos e = (Decides-int_eq (pos d) (pos e)).0 yes in other.1 (cc))))
+          ∙ sym (sender-other place us t e (ap (is_target (pos e)) is ∙ false_from_ne_true (int_eq (pos d) (pos e))
+          (λ yes. let same : pos d ≡ pos e = (Decides-int_eq (pos d) (pos e)).0 yes in other.1 (cc))))
           ∙ sym (sender_at place (us ++ t ∷ []) m e below)
     ])
 
@@ -202,7 +207,8 @@ right_told None place right = refl
 right_told (Some number) place right = absurd (none-some (fault_at number place) right)
 
 -- all places
-pub sent_all : (place : ℕ) (ts : List (Option ℤ)) (m k : ℕ) (senders : List ℕ) → IsSentTo place ts m k senders → length ts ≤ k → (None ≡ first_fault place (wrongs m ts)) × (senders ≡ senders_of place ts m)
+pub sent_all : (place : ℕ) (ts : List (Option ℤ)) (m k : ℕ) (senders : List ℕ) → IsSentTo place ts m k senders → length ts ≤ k → (None ≡ first_fault place (wrongs m ts))
+    × (senders ≡ senders_of place ts m)
 sent_all place ts m k senders to ge = (
   sym (to.fault_is ∙ ap (first_fault (place + k)) (drop_all k (wrongs m ts) (omega (arith, length-wrongs m ts)))),
   to.senders_are ∙ ap (λ us. senders_of place us m) (take_all k ts ge),
@@ -228,5 +234,5 @@ pub length-flagged_targets : (index : List ℤ) (flags : List Bool) → length i
 length-flagged_targets index flags long = omega (arith, count-flagged_targets index flags)
 
 -- the fault of a `?` is told again
-pub told_again : {T : Type 0} (r : Result T Fault) (f : Fault) → IsErrAnd r (λ y. y ≡ f) → told r ≡ Some f
-told_again r f is = let p = err_from_is_err_and r is in ap told p.1 ∙ ap (λ y. Some y) p.2
+pub told_again : {T : Type 0} (r : Result T Fault) (f : Fault) → IsErrAnd r (λ y. y ≡ f) → fault_told r ≡ Some f
+told_again r f is = let p = err_from_is_err_and r is in ap fault_told p.1 ∙ ap (λ y. Some y) p.2

@@ -1,5 +1,6 @@
 -- The walk that stores places at their targets: how many places then have a sender tells whether a target was bad.
-use Rattle.std.proofs.Common.{◌≡◌, ◌∙◌, ℕ, ◌+◌, ◌<◌, ◌≤◌, Bool, true, false, not, if◌then◌else◌, cond, List, length, get_or, set, replicate, refl, sym, ap, subst, arith, eqb, ltb, ℤ, pos, negsuc, w32, to_z, of_z, FitsSigned, Option, Some, None}
+use Rattle.std.proofs.Common.{◌≡◌, ◌∙◌, ℕ, ◌+◌, ◌<◌, ◌≤◌, Bool, true, false, not, if◌then◌else◌, cond, List, length, get_or, set, replicate, refl, sym, ap, subst, arith, eqb, ltb, ℤ, pos, negsuc, w32}
+use Rattle.std.proofs.Common.{to_z, of_z, FitsSigned, Option, Some, None}
 use Rattle.std.proofs.lemmas.Bool.{lt-ltb, ne_eqb, false≢true}
 use Rattle.std.proofs.lemmas.Int.{ints, to_z-of_z}
 use Rattle.std.proofs.lemmas.List.{length-set, length-replicate}

@@ -1,5 +1,6 @@
 -- The walk that takes the elements of senders: what it gives, and that this is what was sent.
-use Rattle.std.proofs.Common.{◌≡◌, ◌∙◌, ℕ, zero, suc, ◌+◌, ◌<◌, ◌≤◌, Bool, true, false, if◌then◌else◌, cond, List, [], ◌∷◌, ◌++◌, length, map, filter_map, take, get_or, refl, sym, ap, append_assoc, append-nil, length-append, arith, ℤ, pos, slice_get, option_map, unwrap_or, Option, Some, None}
+use Rattle.std.proofs.Common.{◌≡◌, ◌∙◌, ℕ, zero, suc, ◌+◌, ◌<◌, ◌≤◌, Bool, true, false, if◌then◌else◌, cond, List, [], ◌∷◌, ◌++◌, length, map, filter_map, take, get_or, refl, sym, ap, append_assoc}
+use Rattle.std.proofs.Common.{append-nil, length-append, arith, ℤ, pos, slice_get, option_map, unwrap_or, Option, Some, None}
 use Rattle.std.specs.List.{zip, find, range_with_len, enumerate_from, cons_option}
 use Rattle.std.specs.Option.{option_to_list}
 use Rattle.std.proofs.lemmas.Option.{slice_get_past, slice_get_read}
@@ -22,7 +23,8 @@ taken_more h xs i d lt =
     ∙ filter_map-append h (take i xs) (get_or xs i d ∷ [])
     ∙ ap (λ ys. filter_map h (take i xs) ++ ys) (cons_alone (h (get_or xs i d)))
 
-pub on_pairs_more : {X Y Z : Type 0} (f : X × Y → Z) (xs : List X) (ys : List Y) (i : ℕ) (x : X) (y : Y) → i < length xs → i < length ys → take (i + 1) (map f (zip xs ys)) ≡ take i (map f (zip xs ys)) ++ f (get_or xs i x, get_or ys i y) ∷ []
+pub on_pairs_more : {X Y Z : Type 0} (f : X × Y → Z) (xs : List X) (ys : List Y) (i : ℕ) (x : X) (y : Y) → i < length xs → i < length ys → take (i + 1) (map f (zip xs ys))
+    ≡ take i (map f (zip xs ys)) ++ f (get_or xs i x, get_or ys i y) ∷ []
 on_pairs_more f xs ys i x y in_xs in_ys =
     let in_zip : i < length (zip xs ys) = omega (arith, length-zip xs ys) in
     take_more (map f (zip xs ys)) i (f (x, y)) (omega (arith, length-map (zip xs ys) f))
@@ -50,7 +52,8 @@ sent_at before (y ∷ ys) behind place (t ∷ ts) d there long small =
     (sym (ap (λ xs. slice_get xs (sender_from (place + 1) ts d)) again)
     ∙ sent_at (before ++ y ∷ []) ys behind (place + 1) ts d (omega (arith, length-append before (y ∷ []))) (omega arith) (omega (arith, ap length again)))
 
-same_filter : {X : Type 0} (read : ℕ → Option X) (sender : ℕ → ℕ) (sent : ℕ → Option X) → ((d : ℕ) → read (sender d) ≡ sent d) → (a m : ℕ) → filter_map read (map sender (range_with_len a m)) ≡ filter_map sent (range_with_len a m)
+same_filter : {X : Type 0} (read : ℕ → Option X) (sender : ℕ → ℕ) (sent : ℕ → Option X) → ((d : ℕ) → read (sender d) ≡ sent d) → (a m : ℕ) → filter_map read (map sender (range_with_len a m))
+    ≡ filter_map sent (range_with_len a m)
 same_filter read sender sent each a zero = refl
 same_filter read sender sent each a (suc m) =
     let rest = same_filter read sender sent each (a + 1) m in
@@ -72,8 +75,10 @@ same_over read sender sent each a (x ∷ xs) =
     λ i. unwrap_or (first i) x ∷ rest i
 
 -- the elements or defaults of a segment's senders
-pub taken_over : {X : Type 0} (before ys behind : List X) (place : ℕ) (ts : List (Option ℤ)) (defaults : List X) → length before ≡ place → length ys ≡ length ts → length (before ++ (ys ++ behind)) ≤ nobody
-    → map (λ p. unwrap_or (slice_get (before ++ (ys ++ behind)) p.0) p.1) (zip (senders_of place ts (length defaults)) defaults) ≡ map (λ p. unwrap_or (sent_to ys ts p.0) p.1) (enumerate_from 0 defaults)
+pub taken_over : {X : Type 0} (before ys behind : List X) (place : ℕ) (ts : List (Option ℤ)) (defaults : List X) → length before ≡ place → length ys ≡ length ts
+    → length (before ++ (ys ++ behind)) ≤ nobody
+    → map (λ p. unwrap_or (slice_get (before ++ (ys ++ behind)) p.0) p.1) (zip (senders_of place ts (length defaults)) defaults)
+    ≡ map (λ p. unwrap_or (sent_to ys ts p.0) p.1) (enumerate_from 0 defaults)
 taken_over before ys behind place ts defaults there long small =
     same_over (slice_get (before ++ (ys ++ behind))) (sender_from place ts) (sent_to ys ts) (λ d. sent_at before ys behind place ts d there long small) 0 defaults
 
@@ -104,14 +109,17 @@ pushed_none h senders i items o lt so_far read none =
 
 -- an element or a default is pushed
 pub pushed_or : {X : Type 0} (source : List X) (senders : List ℕ) (defaults : List X) (i : ℕ) (items now : List X) (o : Option X) (default pushed : X) → i < length senders → i < length defaults
-    → items ≡ take i (map (λ p. unwrap_or (slice_get source p.0) p.1) (zip senders defaults)) → o ≡ slice_get source (get_or senders i 0) → default ≡ get_or defaults i default → pushed ≡ unwrap_or o default → now ≡ items ++ pushed ∷ []
+    → items ≡ take i (map (λ p. unwrap_or (slice_get source p.0) p.1) (zip senders defaults)) → o ≡ slice_get source (get_or senders i 0) → default ≡ get_or defaults i default
+    → pushed ≡ unwrap_or o default → now ≡ items ++ pushed ∷ []
     → now ≡ take (i + 1) (map (λ p. unwrap_or (slice_get source p.0) p.1) (zip senders defaults))
 pushed_or source senders defaults i items now o default pushed in_senders in_defaults so_far read at is grown =
     grown ∙ ap (λ xs. xs ++ pushed ∷ []) so_far
-    ∙ ap (λ x. take i (map (λ p. unwrap_or (slice_get source p.0) p.1) (zip senders defaults)) ++ x ∷ []) (is ∙ ap (λ v. unwrap_or v default) read ∙ ap (unwrap_or (slice_get source (get_or senders i 0))) at)
+    ∙ ap (λ x. take i (map (λ p. unwrap_or (slice_get source p.0) p.1) (zip senders defaults)) ++ x ∷ [])
+    (is ∙ ap (λ v. unwrap_or v default) read ∙ ap (unwrap_or (slice_get source (get_or senders i 0))) at)
     ∙ sym (on_pairs_more (λ p. unwrap_or (slice_get source p.0) p.1) senders defaults i 0 default in_senders in_defaults)
 
 pub pushed_all : {X : Type 0} (source : List X) (senders : List ℕ) (defaults : List X) (i : ℕ) (items : List X) → length senders ≡ length defaults → length defaults ≤ i
     → items ≡ take i (map (λ p. unwrap_or (slice_get source p.0) p.1) (zip senders defaults)) → items ≡ map (λ p. unwrap_or (slice_get source p.0) p.1) (zip senders defaults)
 pushed_all source senders defaults i items long past so_far =
-    so_far ∙ take_all i (map (λ p. unwrap_or (slice_get source p.0) p.1) (zip senders defaults)) (omega (arith, length-map (zip senders defaults) (λ p. unwrap_or (slice_get source p.0) p.1), length-zip senders defaults))
+    so_far ∙ take_all i (map (λ p. unwrap_or (slice_get source p.0) p.1) (zip senders defaults))
+    (omega (arith, length-map (zip senders defaults) (λ p. unwrap_or (slice_get source p.0) p.1), length-zip senders defaults))

@@ -1,6 +1,7 @@
 -- Senders: for each place of a permute's result, the place whose element goes there.
 -- Source: CVL's permute, d[i[k]] = s[k], in which k is the sender of its index.
-use Rattle.std.specs.Prelude.{◌≡◌, ℕ, ◌+◌, ◌<◌, ◌≤◌, ◌==◌, ℤ, pos, not, if◌then◌else◌, unsigned_abs, List, [], ◌∷◌, count_by, length, map, slice_get, slice_index, slice_index_or, Option, Some, None, unwrap_or, Result, Ok, Err}
+use Rattle.std.specs.Prelude.{◌≡◌, ℕ, ◌+◌, ◌<◌, ◌≤◌, ◌==◌, ℤ, pos, not, if◌then◌else◌, unsigned_abs, List, [], ◌∷◌, count_by, length, map}
+use Rattle.std.specs.Prelude.{slice_get, slice_index, slice_index_or, Option, Some, None, unwrap_or, Result, Ok, Err}
 use Rattle.std.specs.List.{range_with_len, zip}
 use Rattle.cvl_base.specs.declared.fault.Fault.{Fault}
 use Rattle.cvl_base.specs.declared.fault.FaultNo.{FaultNo}
@@ -26,14 +27,10 @@ wrong_with senders i =
     if not (is_place (length senders) i) then Some IndexOutOfRange
     else if not (slice_index senders (unsigned_abs i) == nobody) then Some IndexRepeated else None
 
--- the place that an index names among m, if it is one of them
-abbrev pub place_among : ℕ → ℤ → Option ℕ
-place_among m i = if is_place m i then Some (unsigned_abs i) else None
-
 -- the fault that was told, if one was
-abbrev pub told : {X : Type 0} → Result X Fault → Option Fault
-told (Ok x) = None
-told (Err f) = Some f
+abbrev pub fault_told : {X : Type 0} → Result X Fault → Option Fault
+fault_told (Ok x) = None
+fault_told (Err f) = Some f
 
 -- how many places have a sender
 abbrev pub count_sent : List ℕ → ℕ

@@ -9,7 +9,7 @@ mod stores;
 pub mod targets;
 
 pub use elements::{elements_of, elements_or_defaults};
-pub use places::{element_of, place_among};
+pub use places::element_of;
 pub use sends::{NOBODY, send_places};
 pub use shared::write_elements;
 pub use targets::{AllTargets, FlaggedTargets, Targets};

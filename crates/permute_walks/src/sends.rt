@@ -5,12 +5,11 @@ ghost use Rattle.std.specs.Prelude.{◌≡◌, ◌+◌, ◌≤◌, unsigned_abs,
 ghost use Rattle.cvl_base.specs.Faults.{fault_at};
 ghost use Rattle.cvl_base.specs.Limits.{most_elements};
 ghost use Rattle.cvl_base.specs.Permutes.{first_fault, wrongs};
-ghost use Rattle.permute_walks.specs.Senders.{nobody, senders_of, told, wrong_with};
+ghost use Rattle.permute_walks.specs.Senders.{nobody, senders_of, fault_told, wrong_with};
 
-use crate::places::place_among;
 use crate::stores::{are_apart, store_each};
 use crate::targets::Targets;
-use cvl_base::{Fault, FaultNo};
+use cvl_base::{Fault, FaultNo, place_among};
 
 /// Stands among the senders where no element goes.
 pub const NOBODY: u32 = u32::MAX;
@@ -23,7 +22,7 @@ const LONG: usize = 32;
 /// else `IndexRepeated` at it where the index has a sender already.
 #[inline]
 fn send_one(senders: &mut [u32], index: &i32, place: u32) -> Result<(), Fault>
-    ensures fault { told result
+    ensures fault { fault_told result
         ≡ option_map (λ number. fault_at number place) (wrong_with senders.old index.now) }
     ensures sent { OnOk result
         (senders.new ≡ slice_set senders.old (unsigned_abs index.now) place) }
@@ -43,7 +42,7 @@ fn send_one(senders: &mut [u32], index: &i32, place: u32) -> Result<(), Fault>
 fn send_each<T: Targets>(senders: &mut [u32], first: usize, targets: &T) -> Result<(), Fault>
     requires fresh { senders.old ≡ replicate (length senders.old) nobody }
     requires in_limit { first + length (T.targets targets.now) ≤ most_elements }
-    ensures fault { told result
+    ensures fault { fault_told result
         ≡ first_fault first (wrongs (length senders.old) (T.targets targets.now)) }
     ensures sent { OnOk result
         (senders.new ≡ senders_of first (T.targets targets.now) (length senders.old)) }
@@ -63,7 +62,7 @@ fn send_each<T: Targets>(senders: &mut [u32], first: usize, targets: &T) -> Resu
 pub fn send_places<T: Targets>(senders: &mut [u32], first: usize, targets: &T) -> Result<(), Fault>
     requires fresh { senders.old ≡ replicate (length senders.old) nobody }
     requires in_limit { first + length (T.targets targets.now) ≤ most_elements }
-    ensures fault { told result
+    ensures fault { fault_told result
         ≡ first_fault first (wrongs (length senders.old) (T.targets targets.now)) }
     ensures sent { OnOk result
         (senders.new ≡ senders_of first (T.targets targets.now) (length senders.old)) }

@@ -35,7 +35,8 @@ simple-meaning source index long few =
     ∙ ap (λ xs. unless (first_fault 0 (wrongs (length index) ts)) (Ok xs)) (sym (taken_flat source ts (length index) (omega (arith, length-all_targets index)) (omega arith)))
 
 pub select-meaning : {X : Type 0} (source : List X) (index : List ℤ) (flags : List Bool) → length source ≡ length index → length index ≡ length flags → length index ≤ most_elements
-    → select_of source index flags ≡ unless (first_fault 0 (wrongs (count_of flags) (flagged_targets index flags))) (Ok (filter_map (slice_get source) (senders_of 0 (flagged_targets index flags) (count_of flags))))
+    → select_of source index flags ≡ unless (first_fault 0 (wrongs (count_of flags) (flagged_targets index flags)))
+    (Ok (filter_map (slice_get source) (senders_of 0 (flagged_targets index flags) (count_of flags))))
 select-meaning source index flags long flagged few =
     let ts = flagged_targets index flags in
     if_as_long-fits source index (if_as_long index flags (sent_to_all source ts (count_of flags))) long

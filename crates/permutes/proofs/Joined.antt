@@ -1,5 +1,6 @@
 -- The two walks of a segmented call give what its definition gives: the flat calls on the segments, end to end.
-use Rattle.std.proofs.Common.{◌≡◌, ◌∙◌, ℕ, ◌+◌, ◌≤◌, List, [], ◌∷◌, ◌++◌, length, map, filter_map, sum, take, refl, sym, ap, append_assoc, arith, ℤ, slice_get, option_map, unwrap_or, Option, Some, None, Result, Ok, Err}
+use Rattle.std.proofs.Common.{◌≡◌, ◌∙◌, ℕ, ◌+◌, ◌≤◌, List, [], ◌∷◌, ◌++◌, length, map, filter_map, sum, take, refl, sym, ap, append_assoc, arith, ℤ, slice_get, option_map, unwrap_or, Option, Some}
+use Rattle.std.proofs.Common.{None, Result, Ok, Err}
 use Rattle.std.specs.List.{zip, range_with_len, enumerate_from}
 use Rattle.std.specs.Option.{option_or}
 use Rattle.std.proofs.lemmas.List.{map-append}
@@ -21,7 +22,8 @@ use Rattle.permute_walks.proofs.Taken.{taken_sent, taken_over}
 moved_fault : (ℕ → ℕ) → Fault → Fault
 moved_fault to f = record { number = f.number; place = option_map to f.place }
 
-fault_moved : (lengths : List ℕ) (s start k : ℕ) (ws : List (Option FaultNo)) → sum (take s lengths) ≡ start → first_fault (start + k) ws ≡ option_map (moved_fault (in_vector lengths s)) (first_fault k ws)
+fault_moved : (lengths : List ℕ) (s start k : ℕ) (ws : List (Option FaultNo)) → sum (take s lengths) ≡ start
+    → first_fault (start + k) ws ≡ option_map (moved_fault (in_vector lengths s)) (first_fault k ws)
 unfolding moved_fault
 fault_moved lengths s start k [] is = refl
 fault_moved lengths s start k (None ∷ ws) is = ap (λ p. first_fault p ws) (omega arith) ∙ fault_moved lengths s start (k + 1) ws is
@@ -46,7 +48,8 @@ zip-joined (x ∷ xs) us (y ∷ ys) vs same = ap (λ rest. (x, y) ∷ rest) (zip
 
 -- ---- a segment's elements are ys, after `before` and in front of `behind`
 
-module _ {X : Type 0} (lengths : List ℕ) (s start n : ℕ) (result : Result (List X) Fault) (m : ℕ) (ts : List (Option ℤ)) (before ys behind : List X) (rest : Result (List (List X)) Fault) (parts : List (ℕ × List (Option ℤ)))
+module _ {X : Type 0} (lengths : List ℕ) (s start n : ℕ) (result : Result (List X) Fault) (m : ℕ) (ts : List (Option ℤ)) (before ys behind : List X) (rest : Result (List (List X)) Fault)
+    (parts : List (ℕ × List (Option ℤ)))
     (there : sum (take s lengths) ≡ start) (here : length before ≡ start) (long : length ys ≡ n) (as_long : length ts ≡ n) (small : length (before ++ (ys ++ behind)) ≤ nobody) where
   again : (before ++ ys) ++ behind ≡ before ++ (ys ++ behind)
   again = append_assoc before ys behind
@@ -73,16 +76,20 @@ module _ {X : Type 0} (lengths : List ℕ) (s start n : ℕ) (result : Result (L
       ∙ sym (filter_map-append (slice_get (before ++ (ys ++ behind))) (senders_of start ts m) (senders_from (start + length ts) parts)))
 
   -- the elements or defaults of the senders
-  pub front_over : (first_defaults other_defaults : List X) → m ≡ length first_defaults → result ≡ unless (first_fault 0 (wrongs m ts)) (Ok (map (λ p. unwrap_or (sent_to ys ts p.0) p.1) (enumerate_from 0 first_defaults)))
-      → (rest >>= λ lists. Ok (joined lists)) ≡ unless (fault_from (start + n) parts) (Ok (map (λ p. unwrap_or (slice_get ((before ++ ys) ++ behind) p.0) p.1) (zip (senders_from (start + n) parts) other_defaults)))
+  pub front_over : (first_defaults other_defaults : List X) → m ≡ length first_defaults
+      → result ≡ unless (first_fault 0 (wrongs m ts)) (Ok (map (λ p. unwrap_or (sent_to ys ts p.0) p.1) (enumerate_from 0 first_defaults)))
+      → (rest >>= λ lists. Ok (joined lists)) ≡ unless (fault_from (start + n) parts)
+      (Ok (map (λ p. unwrap_or (slice_get ((before ++ ys) ++ behind) p.0) p.1) (zip (senders_from (start + n) parts) other_defaults)))
       → ((moved (in_vector lengths s) result >>= λ r. rest >>= λ rs. Ok (r ∷ rs)) >>= λ lists. Ok (joined lists))
-      ≡ unless (fault_from start ((m, ts) ∷ parts)) (Ok (map (λ p. unwrap_or (slice_get (before ++ (ys ++ behind)) p.0) p.1) (zip (senders_from start ((m, ts) ∷ parts)) (first_defaults ++ other_defaults))))
+      ≡ unless (fault_from start ((m, ts) ∷ parts)) (Ok (map (λ p. unwrap_or (slice_get (before ++ (ys ++ behind)) p.0) p.1)
+      (zip (senders_from start ((m, ts) ∷ parts)) (first_defaults ++ other_defaults))))
   front_over first_defaults other_defaults wide is others =
       let read = λ (xs : List X) (p : ℕ × X). unwrap_or (slice_get xs p.0) p.1 in
       let whole = before ++ (ys ++ behind) in
       front (map (λ p. unwrap_or (sent_to ys ts p.0) p.1) (enumerate_from 0 first_defaults)) (map (read ((before ++ ys) ++ behind)) (zip (senders_from (start + n) parts) other_defaults)) is others
       ∙ ap (λ xs. unless (fault_from start ((m, ts) ∷ parts)) (Ok xs))
-      (ap (λ xs. xs ++ map (read ((before ++ ys) ++ behind)) (zip (senders_from (start + n) parts) other_defaults)) (sym (taken_over before ys behind start ts first_defaults here (long ∙ sym as_long) small))
+      (ap (λ xs. xs ++ map (read ((before ++ ys) ++ behind)) (zip (senders_from (start + n) parts) other_defaults))
+      (sym (taken_over before ys behind start ts first_defaults here (long ∙ sym as_long) small))
       ∙ ap (λ xs. map (read whole) (zip (senders_of start ts (length first_defaults)) first_defaults) ++ map (read xs) (zip (senders_from (start + n) parts) other_defaults)) again
       ∙ ap (λ k. map (read whole) (zip (senders_of start ts (length first_defaults)) first_defaults) ++ map (read whole) (zip (senders_from (start + k) parts) other_defaults)) (sym as_long)
       ∙ ap (λ w. map (read whole) (zip (senders_of start ts w) first_defaults) ++ map (read whole) (zip (senders_from (start + length ts) parts) other_defaults)) (sym wide)

@@ -1,5 +1,6 @@
 -- The first walk through the segments: what it has found after the first segments, and after all.
-use Rattle.std.proofs.Common.{◌≡◌, ◌∙◌, cond, subst, ℕ, ◌+◌, ◌-◌, ◌<◌, ◌≤◌, Bool, List, [], ◌∷◌, ◌++◌, length, map, sum, take, drop, get_or, replicate, refl, sym, ap, append_assoc, append-nil, length-append, length-drop, arith, ℤ, Option, Some, None}
+use Rattle.std.proofs.Common.{◌≡◌, ◌∙◌, cond, subst, ℕ, ◌+◌, ◌-◌, ◌<◌, ◌≤◌, Bool, List, [], ◌∷◌, ◌++◌, length, map, sum, take, drop, get_or, replicate, refl, sym, ap, append_assoc, append-nil}
+use Rattle.std.proofs.Common.{length-append, length-drop, arith, ℤ, Option, Some, None}
 use Rattle.std.specs.List.{zip}
 use Rattle.std.specs.Option.{option_or}
 use Rattle.std.proofs.lemmas.List.{drop_more, drop_all, take_all, take-replicate, drop-replicate, drop-drop, get_or-map, length-map, length-take, length-take-le}
@@ -36,9 +37,17 @@ through_none parts senders fresh room = record {
 -- a write to a range of a list keeps its length
 put_length : {X : Type 0} (start k : ℕ) (xs ys : List X) → start + k ≤ length xs → length ys ≡ k → length (put_mid start k xs ys) ≡ length xs
 put_length start k xs ys within long =
-    omega (arith, length-append (take start xs) (ys ++ drop k (drop start xs)), length-append ys (drop k (drop start xs)), length-take-le start xs (omega arith), length-drop k (drop start xs), length-drop start xs)
+    omega (
+      arith,
+      length-append (take start xs) (ys ++ drop k (drop start xs)),
+      length-append ys (drop k (drop start xs)),
+      length-take-le start xs (omega arith),
+      length-drop k (drop start xs),
+      length-drop start xs,
+    )
 
-module _ (parts : List (ℕ × List (Option ℤ))) (place start s : ℕ) (senders : List ℕ) (m : ℕ) (ts : List (Option ℤ)) (to : IsSentThrough parts place start s senders) (lt : s < length parts) (is : get_or parts s (0, []) ≡ (m, ts)) where
+module _ (parts : List (ℕ × List (Option ℤ))) (place start s : ℕ) (senders : List ℕ) (m : ℕ) (ts : List (Option ℤ)) (to : IsSentThrough parts place start s senders) (lt : s < length parts)
+    (is : get_or parts s (0, []) ≡ (m, ts)) where
   split : drop s parts ≡ (m, ts) ∷ drop (s + 1) parts
   split = drop_more parts s (0, []) lt ∙ ap (λ p. p ∷ drop (s + 1) parts) is
 
@@ -72,7 +81,8 @@ module _ (parts : List (ℕ × List (Option ℤ))) (place start s : ℕ) (sender
       record {
         fault_is = first_of_part ∙ ap (λ o. option_or o (fault_from (place + length ts) (drop (s + 1) parts))) (sym right);
         senders_are = ap (λ xs. take (start + m) xs ++ senders_from (place + length ts) (drop (s + 1) parts)) put
-            ∙ ap (λ xs. xs ++ senders_from (place + length ts) (drop (s + 1) parts)) (take-put_mid start k senders sent (start + m) (omega arith) (omega arith) ∙ ap (λ xs. take start senders ++ xs) are)
+            ∙ ap (λ xs. xs ++ senders_from (place + length ts) (drop (s + 1) parts))
+            (take-put_mid start k senders sent (start + m) (omega arith) (omega arith) ∙ ap (λ xs. take start senders ++ xs) are)
             ∙ append_assoc (take start senders) (senders_of place ts m) (senders_from (place + length ts) (drop (s + 1) parts))
             ∙ ap (λ ps. take start senders ++ senders_from place ps) (sym split)
             ∙ to.senders_are;
@@ -87,7 +97,8 @@ module _ (parts : List (ℕ × List (Option ℤ))) (place start s : ℕ) (sender
       }
 
 -- the same as the code reads and writes it, by a range of the senders
-module _ (parts : List (ℕ × List (Option ℤ))) (place start s : ℕ) (senders : List ℕ) (m : ℕ) (ts : List (Option ℤ)) (to : IsSentThrough parts place start s senders) (lt : s < length parts) (is : get_or parts s (0, []) ≡ (m, ts)) where
+module _ (parts : List (ℕ × List (Option ℤ))) (place start s : ℕ) (senders : List ℕ) (m : ℕ) (ts : List (Option ℤ)) (to : IsSentThrough parts place start s senders) (lt : s < length parts)
+    (is : get_or parts s (0, []) ≡ (m, ts)) where
   range_wide : start + m - start ≡ m
   range_wide = omega arith
 
@@ -111,10 +122,12 @@ module _ (parts : List (ℕ × List (Option ℤ))) (place start s : ℕ) (sender
       through_more parts place start s senders m ts to lt is (start + m - start) sent new range_wide (right ∙ ap (λ n. first_fault place (wrongs n ts)) range_long)
       (are ∙ ap (senders_of place ts) range_long) put
 
-pub moved_on : (parts : List (ℕ × List (Option ℤ))) (place now start then s : ℕ) (senders : List ℕ) → place ≡ now → start ≡ then → IsSentThrough parts place start s senders → IsSentThrough parts now then s senders
+pub moved_on : (parts : List (ℕ × List (Option ℤ))) (place now start then s : ℕ) (senders : List ℕ) → place ≡ now → start ≡ then → IsSentThrough parts place start s senders
+    → IsSentThrough parts now then s senders
 moved_on parts place now start then s senders there here to = subst (λ (p : ℕ). IsSentThrough parts p then s senders) there (subst (λ (q : ℕ). IsSentThrough parts place q s senders) here to)
 
-pub through_all : (parts : List (ℕ × List (Option ℤ))) (place start s : ℕ) (senders : List ℕ) → IsSentThrough parts place start s senders → length parts ≤ s → (None ≡ fault_from 0 parts) × (senders ≡ senders_from 0 parts)
+pub through_all : (parts : List (ℕ × List (Option ℤ))) (place start s : ℕ) (senders : List ℕ) → IsSentThrough parts place start s senders → length parts ≤ s → (None ≡ fault_from 0 parts)
+    × (senders ≡ senders_from 0 parts)
 through_all parts place start s senders to past =
     let none = drop_all s parts past in
     let full : start ≡ length senders = omega (arith, to.room_is, ap places_in none) in (
@@ -133,7 +146,8 @@ module _ (lengths result_lengths : List ℕ) (index : List ℤ) (count : length 
   pub length-parts : length (parts_of lengths result_lengths index) ≡ length lengths
   length-parts = omega (arith, length-zip result_lengths (map all_targets (cut_of lengths index)), length-map (cut_of lengths index) all_targets, length-cut lengths index)
 
-  pub part_at : (s : ℕ) → s < length lengths → get_or (parts_of lengths result_lengths index) s (0, []) ≡ (get_or result_lengths s 0, all_targets (take (get_or lengths s 0) (drop (sum (take s lengths)) index)))
+  pub part_at : (s : ℕ) → s < length lengths → get_or (parts_of lengths result_lengths index) s (0, [])
+      ≡ (get_or result_lengths s 0, all_targets (take (get_or lengths s 0) (drop (sum (take s lengths)) index)))
   part_at s lt =
       let long = length-cut lengths index in
       get_or-zip result_lengths (map all_targets (cut_of lengths index)) s (0, []) (omega arith) (omega (arith, length-map (cut_of lengths index) all_targets))
@@ -187,11 +201,21 @@ counted (n ∷ ns) index flags total =
 module _ (lengths : List ℕ) (index : List ℤ) (flags : List Bool) where
   pub length-flagged_parts : length (flagged_parts lengths index flags) ≡ length lengths
   length-flagged_parts =
-      omega (arith, length-map (zip (cut_of lengths index) (cut_of lengths flags)) flagged_part, length-zip (cut_of lengths index) (cut_of lengths flags), length-cut lengths index, length-cut lengths flags)
+      omega (
+        arith,
+        length-map (zip (cut_of lengths index) (cut_of lengths flags)) flagged_part,
+        length-zip (cut_of lengths index) (cut_of lengths flags),
+        length-cut lengths index,
+        length-cut lengths flags,
+      )
 
   pub flagged_part_at : (s : ℕ) → s < length lengths
       → get_or (flagged_parts lengths index flags) s (0, [])
-      ≡ (count_of (take (get_or lengths s 0) (drop (sum (take s lengths)) flags)), flagged_targets (take (get_or lengths s 0) (drop (sum (take s lengths)) index)) (take (get_or lengths s 0) (drop (sum (take s lengths)) flags)))
+      ≡ (
+        count_of (take (get_or lengths s 0) (drop (sum (take s lengths)) flags)),
+        flagged_targets (take (get_or lengths s 0) (drop (sum (take s lengths)) index))
+            (take (get_or lengths s 0) (drop (sum (take s lengths)) flags)),
+      )
   flagged_part_at s lt =
       let long = length-cut lengths index in
       let flag_long = length-cut lengths flags in

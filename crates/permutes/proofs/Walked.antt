@@ -1,5 +1,6 @@
 -- Both walks: what follows of a first walk that tells a fault or leaves senders.
-use Rattle.std.proofs.Common.{◌≡◌, ◌∙◌, ℕ, ◌+◌, ◌<◌, ◌≤◌, Bool, List, [], ◌∷◌, length, map, sum, take, drop, refl, sym, ap, subst, length-append, length-drop, arith, ℤ, Option, Some, None, Result, Ok, Err, IfOk, OnOk}
+use Rattle.std.proofs.Common.{◌≡◌, ◌∙◌, ℕ, ◌+◌, ◌<◌, ◌≤◌, Bool, List, [], ◌∷◌, length, map, sum, take, drop, refl, sym, ap, subst, length-append, length-drop, arith, ℤ, Option, Some, None, Result, Ok}
+use Rattle.std.proofs.Common.{Err, IfOk, OnOk}
 use Rattle.std.specs.List.{All, sum_by}
 use Rattle.std.specs.Option.{option_or}
 use Rattle.std.proofs.lemmas.List.{length-take-le}
@@ -13,7 +14,7 @@ use Rattle.cvl_base.specs.Packs.{count_of}
 use Rattle.cvl_base.specs.Permutes.{all_targets, first_fault, flagged_targets, wrongs}
 use Rattle.permutes.specs.Parts.{fault_from, flagged_parts, parts_of, places_in, senders_from}
 use Rattle.permutes.specs.Walks.{AreAllSent, IsFound, Sends}
-use Rattle.permute_walks.specs.Senders.{nobody, senders_of, told}
+use Rattle.permute_walks.specs.Senders.{nobody, senders_of, fault_told}
 use Rattle.permutes.proofs.Cuts.{sum-cons}
 use Rattle.permute_walks.proofs.EachSent.{takes_part, each_sent, all_take_part, flagged_take_part}
 use Rattle.permute_walks.proofs.Sent.{length-senders_of, length-all_targets, length-flagged_targets}
@@ -29,19 +30,22 @@ pub found_fault : {X : Type 0} (fault : Option Fault) (xs : X) (f : Fault) → S
 found_fault fault xs f is = ap (λ o. unless o (Ok xs)) (sym is)
 
 -- the second walk takes from the senders that were found
-pub taken_ok : {X : Type 0} (take_from : List ℕ → List X) (fault : Option Fault) (senders found : List ℕ) (items : List X) → unless fault (Ok senders) ≡ Ok found → (fault ≡ None → found ≡ senders → items ≡ take_from senders)
+pub taken_ok : {X : Type 0} (take_from : List ℕ → List X) (fault : Option Fault) (senders found : List ℕ) (items : List X) → unless fault (Ok senders) ≡ Ok found
+    → (fault ≡ None → found ≡ senders → items ≡ take_from senders)
     → unless fault (Ok (take_from senders)) ≡ Ok items
 taken_ok take_from None senders found items same taken = let are : senders ≡ found = cc in ap Ok (sym (taken refl (sym are)))
 taken_ok take_from (Some f) senders found items same taken = absurd (cc)
 
 -- a refusal of the first walk is that of both
-pub taken_err : {X V W : Type 0} (view : V → List ℕ) (see : W → List X) (fault : Option Fault) (senders : List ℕ) (xs : List X) (e : Refused) → Gives view (Err e) (unless fault (Ok senders)) → Gives see (Err e) (unless fault (Ok xs))
+pub taken_err : {X V W : Type 0} (view : V → List ℕ) (see : W → List X) (fault : Option Fault) (senders : List ℕ) (xs : List X) (e : Refused) → Gives view (Err e) (unless fault (Ok senders))
+    → Gives see (Err e) (unless fault (Ok xs))
 taken_err view see (Some f) senders xs (refused.Fault g) given = cc
 taken_err view see None senders xs (refused.Fault g) given = absurd (cc)
 taken_err view see fault senders xs refused.NoResources given = tt
 
 -- the same where the first walk's answer is known by an equation
-module _ {V : Type 0} (leaves : Result (Unit {0}) Fault → List ℕ → Type 0) (view : V → List ℕ) (places : ℕ) (r : Result V Refused) (found : IsFound leaves view places r) (fault : Option Fault) (senders : List ℕ) (long : length senders ≡ places) (sends : Sends leaves fault senders) where
+module _ {V : Type 0} (leaves : Result (Unit {0}) Fault → List ℕ → Type 0) (view : V → List ℕ) (places : ℕ) (r : Result V Refused) (found : IsFound leaves view places r) (fault : Option Fault)
+    (senders : List ℕ) (long : length senders ≡ places) (sends : Sends leaves fault senders) where
   pub found_at : (v : V) → r ≡ Ok v → unless fault (Ok senders) ≡ Ok (view v)
   found_at v is = subst (λ a. Gives view a (unless fault (Ok senders))) is (found.1 fault senders long sends)
 
@@ -49,7 +53,8 @@ module _ {V : Type 0} (leaves : Result (Unit {0}) Fault → List ℕ → Type 0)
   refused_at see e xs is = taken_err view see fault senders xs e (subst (λ a. Gives view a (unless fault (Ok senders))) is (found.1 fault senders long sends))
 
 -- the length of a value that both walks gave
-pub length_given : {X V : Type 0} (view : V → List X) (len : V → ℕ) → ((v : V) → len v ≡ length (view v)) → (r : Result V Refused) (fault : Option Fault) (xs : List X) (n : ℕ) → (fault ≡ None → length xs ≡ n)
+pub length_given : {X V : Type 0} (view : V → List X) (len : V → ℕ) → ((v : V) → len v ≡ length (view v)) → (r : Result V Refused) (fault : Option Fault) (xs : List X) (n : ℕ)
+    → (fault ≡ None → length xs ≡ n)
     → Gives view r (unless fault (Ok xs)) → IfOk r (λ v. len v ≡ n)
 length_given view len is (Ok v) None xs n long given = let same : xs ≡ view v = cc in is v ∙ ap length (sym same) ∙ long refl
 length_given view len is (Ok v) (Some f) xs n long given = absurd (cc)
@@ -57,14 +62,15 @@ length_given view len is (Err e) fault xs n long given = tt
 
 -- what a walk gave and left where it was shown m senders and left some that a vector holds
 pub sends_at : (fault_of : ℕ → Option Fault) (senders_at : ℕ → List ℕ) (given : Result (Unit {0}) Fault) (now left : List ℕ) (m n : ℕ) → m ≡ n → now ≡ left
-    → (told given ≡ fault_of m) × OnOk given (now ≡ senders_at m) → (told given ≡ fault_of n) × OnOk given (left ≡ senders_at n)
+    → (fault_told given ≡ fault_of m) × OnOk given (now ≡ senders_at m) → (fault_told given ≡ fault_of n) × OnOk given (left ≡ senders_at n)
 sends_at fault_of senders_at given now left m n same is met =
-    subst (λ k. (told given ≡ fault_of k) × OnOk given (left ≡ senders_at k)) same
-    (subst (λ xs. (told given ≡ fault_of m) × OnOk given (xs ≡ senders_at m)) is met)
+    subst (λ k. (fault_told given ≡ fault_of k) × OnOk given (left ≡ senders_at k)) same
+    (subst (λ xs. (fault_told given ≡ fault_of m) × OnOk given (xs ≡ senders_at m)) is met)
 
 -- ---- each place of a result has a sender
 
-pub simple_sent : (index : List ℤ) (n : ℕ) → n ≡ length index → length index ≤ nobody → AreAllSent (first_fault 0 (wrongs (length index) (all_targets index))) n (senders_of 0 (all_targets index) (length index))
+pub simple_sent : (index : List ℤ) (n : ℕ) → n ≡ length index → length index ≤ nobody
+    → AreAllSent (first_fault 0 (wrongs (length index) (all_targets index))) n (senders_of 0 (all_targets index) (length index))
 simple_sent index n same few right =
     let long = length-all_targets index in
     All-weaker (λ s. s < 0 + length (all_targets index)) (λ s. s < n) (λ s below. omega (arith, long)) (senders_of 0 (all_targets index) (length index))
@@ -95,7 +101,8 @@ module _ (n : ℕ) (few : n ≤ nobody) where
       (All-weaker (λ s. s < place + length ts) (λ s. s < n) (λ s below. omega arith) (senders_of place ts m) (each_sent place ts m (omega arith) (sym none.0) as_many))
       (rest none.1)
 
-  pub segments_sent : (place : ℕ) (lengths : List ℕ) (index : List ℤ) → sum lengths ≡ length index → place + length index ≤ n → AreAllSent (fault_from place (parts_of lengths lengths index)) n (senders_from place (parts_of lengths lengths index))
+  pub segments_sent : (place : ℕ) (lengths : List ℕ) (index : List ℤ) → sum lengths ≡ length index → place + length index ≤ n
+      → AreAllSent (fault_from place (parts_of lengths lengths index)) n (senders_from place (parts_of lengths lengths index))
   segments_sent place [] index total within right = All-nil (λ s. s < n)
   segments_sent place (k ∷ ks) index total within right =
       let js = take k index in
@@ -119,10 +126,18 @@ module _ (n : ℕ) (few : n ≤ nobody) where
       let left = length-drop k index in
       let flags_left = length-drop k flags in
       in_front place (count_of fs) (flagged_targets js fs) (flagged_parts ks (drop k index) (drop k flags)) (omega (arith, long, count, whole)) (flagged_take_part js fs (long ∙ sym flag_long))
-      (flagged_segments_sent (place + length (flagged_targets js fs)) ks (drop k index) (drop k flags) (omega (arith, whole, left)) (omega (arith, left, flags_left)) (omega (arith, long, count, whole, left))) right
+      (flagged_segments_sent (place + length (flagged_targets js fs)) ks (drop k index) (drop k flags) (omega (arith, whole, left)) (omega (arith, left, flags_left))
+      (omega (arith, long, count, whole, left))) right
 
 -- as many senders as places
 pub length-senders_from : (place : ℕ) (parts : List (ℕ × List (Option ℤ))) → length (senders_from place parts) ≡ places_in parts
 length-senders_from place [] = refl
 length-senders_from place ((m, ts) ∷ parts) =
-    omega (arith, length-append (senders_of place ts m) (senders_from (place + length ts) parts), length-senders_of place ts m, length-senders_from (place + length ts) parts, sum-cons m (map (λ (p : ℕ × List (Option ℤ)). p.0) parts))
+    omega (
+      arith,
+      length-append (senders_of place ts m) (senders_from (place + length ts) parts),
+      length-senders_of place ts m,
+      length-senders_from (place + length ts) parts,
+      sum-cons m
+          (map (λ (p : ℕ × List (Option ℤ)). p.0) parts),
+    )

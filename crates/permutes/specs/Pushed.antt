@@ -5,11 +5,7 @@ use Rattle.cvl_base.specs.declared.fault.Fault.{Fault}
 use Rattle.cvl_base.specs.declared.fault.FaultNo.TheVariants.{IndexOutOfRange}
 use Rattle.cvl_base.specs.Elementwise.{values_from}
 use Rattle.cvl_base.specs.Extracts.{element_at}
-use Rattle.cvl_base.specs.Gives.{◌>>=◌}
-
--- what was there, and after it the values
-abbrev pub after : {X : Type 0} → List X → Result (List X) Fault → Result (List X) Fault
-after done values = values >>= λ xs. Ok (done ++ xs)
+use Rattle.cvl_base.specs.Gives.{◌>>=◌, after}
 
 -- the vector, seen by view, has the values after what was there, or their fault was told
 abbrev pub IsPushed : {X V : Type 0} → (V → List X) → List X → Result V Fault → Result (List X) Fault → Type 0

@@ -5,12 +5,12 @@ use Rattle.std.specs.List.{All}
 use Rattle.cvl_base.specs.declared.fault.Fault.{Fault}
 use Rattle.cvl_base.specs.declared.refused.Refused.{Refused}
 use Rattle.cvl_base.specs.Gives.{Gives, unless}
-use Rattle.permute_walks.specs.Senders.{told}
+use Rattle.permute_walks.specs.Senders.{fault_told}
 
 -- what the walk may give and leave: it tells that fault, or leaves those senders
 abbrev pub Sends : (Result (Unit {0}) Fault → List ℕ → Type 0) → Option Fault → List ℕ → Type 0
 Sends leaves fault senders = (given : Result (Unit {0}) Fault) (left : List ℕ) → leaves given left
-    → (told given ≡ fault) × OnOk given (left ≡ senders)
+    → (fault_told given ≡ fault) × OnOk given (left ≡ senders)
 
 -- what was found in so many places, seen by `view`: the fault or the senders of the walk, or memory was out
 abbrev pub IsFound : {V : Type 0} → (Result (Unit {0}) Fault → List ℕ → Type 0)

@@ -10,8 +10,7 @@ ghost use Rattle.cvl_base.specs.Permutes.{back_of};
 ghost use Rattle.cvl_base.specs.SegmentedCalls.{seg_back_of};
 ghost use Rattle.permutes.specs.Pushed.{IsPushed, back_from};
 
-use cvl_base::{Config, Fault, FaultNo, Memory, Refused, check_agree};
-use permute_walks::place_among;
+use cvl_base::{Config, Fault, FaultNo, Memory, Refused, check_agree, place_among};
 use segdes::{SegDes, check_total};
 use std::thread::Threads;
 

@@ -4,7 +4,7 @@ ghost use Rattle.std.specs.Prelude.{◌≡◌, ◌<◌, ◌≤◌, ℕ, ℤ, Lis
 ghost use Rattle.cvl_base.specs.Limits.{most_elements};
 ghost use Rattle.cvl_base.specs.Packs.{count_of};
 ghost use Rattle.permutes.specs.Parts.{fault_from, flagged_parts, parts_of, places_in, senders_from, targets_in};
-ghost use Rattle.permute_walks.specs.Senders.{nobody, told};
+ghost use Rattle.permute_walks.specs.Senders.{nobody, fault_told};
 
 use crate::selects::count_true;
 use cvl_base::Fault;
@@ -103,7 +103,7 @@ fn send_parts<P: Parts>(senders: &mut [u32], parts: &P) -> Result<(), Fault>
     requires fresh { senders.old ≡ replicate (length senders.old) nobody }
     requires as_long { places_in (P.parts parts.now) ≡ length senders.old }
     requires in_limit { targets_in (P.parts parts.now) ≤ most_elements }
-    ensures fault { told result ≡ fault_from 0 (P.parts parts.now) }
+    ensures fault { fault_told result ≡ fault_from 0 (P.parts parts.now) }
     ensures sent { OnOk result (senders.new ≡ senders_from 0 (P.parts parts.now)) }
 {
     let mut first = 0;
@@ -131,7 +131,7 @@ pub(crate) fn send_segments<A: Allocator>(
     requires result_total { sum result_d.now ≡ length senders.old }
     requires count { length d.now ≡ length result_d.now }
     requires in_limit { length index.now ≤ most_elements }
-    ensures fault { told result ≡ fault_from 0 (parts_of d.now result_d.now index.now) }
+    ensures fault { fault_told result ≡ fault_from 0 (parts_of d.now result_d.now index.now) }
     ensures sent { OnOk result
         (senders.new ≡ senders_from 0 (parts_of d.now result_d.now index.now)) }
 {
@@ -151,7 +151,7 @@ pub(crate) fn send_flagged_segments<A: Allocator>(
     requires as_long { length index.now ≡ length flags.now }
     requires result_total { count_of flags.now ≡ length senders.old }
     requires in_limit { length index.now ≤ most_elements }
-    ensures fault { told result ≡ fault_from 0 (flagged_parts d.now index.now flags.now) }
+    ensures fault { fault_told result ≡ fault_from 0 (flagged_parts d.now index.now flags.now) }
     ensures sent { OnOk result
         (senders.new ≡ senders_from 0 (flagged_parts d.now index.now flags.now)) }
 {

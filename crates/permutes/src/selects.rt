@@ -6,7 +6,7 @@ ghost use Rattle.cvl_base.specs.Limits.{most_elements};
 ghost use Rattle.cvl_base.specs.Packs.{count_of};
 ghost use Rattle.cvl_base.specs.Permutes.{first_fault, flagged_targets, select_of, wrongs};
 ghost use Rattle.cvl_base.specs.SegmentedCalls.{seg_select_of};
-ghost use Rattle.permute_walks.specs.Senders.{nobody, senders_of, told};
+ghost use Rattle.permute_walks.specs.Senders.{nobody, senders_of, fault_told};
 
 use crate::segments::send_flagged_segments;
 use crate::sent::elements_sent;
@@ -32,7 +32,7 @@ pub(crate) fn count_true(flags: &[bool]) -> usize
 fn send_flagged(senders: &mut [u32], index: &[i32], flags: &[bool]) -> Result<(), Fault>
     requires fresh { senders.old ≡ replicate (length senders.old) nobody }
     requires in_limit { length index.now ≤ most_elements }
-    ensures fault { told result
+    ensures fault { fault_told result
         ≡ first_fault 0 (wrongs (length senders.old) (flagged_targets index.now flags.now)) }
     ensures sent { OnOk result
         (senders.new ≡ senders_of 0 (flagged_targets index.now flags.now) (length senders.old)) }

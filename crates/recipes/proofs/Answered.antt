@@ -29,7 +29,8 @@ module _ {A X : Type 0} (view : X → Value A) (script : List ℕ) (inputs : Lis
   bound_after_run names x run here = ap (λ r. r >>= λ after. Ok (value_at after name)) run ∙ ap Ok here
 
 -- an answer by a script that binds this value is the value
-pub is_answer : {A X Y : Type 0} (make : Y → Value A) (view : X → Y) (answer : Result X Refused) (bound : Result (Option (Value A)) Fault) (y : Y) → ((a b : Y) → make a ≡ make b → a ≡ b) → Gives (λ x. Some (make (view x))) answer bound → bound ≡ Ok (Some (make y)) → Gives view answer (Ok y)
+pub is_answer : {A X Y : Type 0} (make : Y → Value A) (view : X → Y) (answer : Result X Refused) (bound : Result (Option (Value A)) Fault) (y : Y) → ((a b : Y) → make a ≡ make b → a ≡ b)
+    → Gives (λ x. Some (make (view x))) answer bound → bound ≡ Ok (Some (make y)) → Gives view answer (Ok y)
 is_answer make view (Ok x) bound y apart gives is =
     let same : make y ≡ make (view x) = cc in ap Ok (apart y (view x) same)
 is_answer make view (Err (refused.Fault f)) bound y apart gives is = cc

@@ -31,7 +31,8 @@ module _ {A : Type 0} where
   names_after_calls names inputs (call ∷ others) =
       (step names inputs call >>= λ stepped. Ok stepped.names) >>= λ after. names_after_calls after inputs others
 
-  pub by_calls : (names : Entries A) (inputs : List (Input A)) (lines : List (List ℕ)) (calls : List (Call A)) → map call_of lines ≡ map reads_as calls → names_after names inputs lines ≡ names_after_calls names inputs calls
+  pub by_calls : (names : Entries A) (inputs : List (Input A)) (lines : List (List ℕ)) (calls : List (Call A)) → map call_of lines ≡ map reads_as calls → names_after names inputs lines
+      ≡ names_after_calls names inputs calls
   by_calls names inputs [] [] is = refl
   by_calls names inputs [] (call ∷ calls) is = cc
   by_calls names inputs (line ∷ lines) [] is = cc
@@ -51,10 +52,12 @@ module _ {A : Type 0} where
       >>= λ after. names_after_calls after inputs others
 
   -- a call whose answer is known
-  pub goes_on : {X : Type 0} (answer : Result X Fault) (x : X) (make : X → Value A) (bound : Value A → Entries A) (inputs : List (Input A)) (others : List (Call A)) → answer ≡ Ok x → bound_before answer make bound inputs others ≡ names_after_calls (bound (make x)) inputs others
+  pub goes_on : {X : Type 0} (answer : Result X Fault) (x : X) (make : X → Value A) (bound : Value A → Entries A) (inputs : List (Input A)) (others : List (Call A)) → answer ≡ Ok x
+      → bound_before answer make bound inputs others ≡ names_after_calls (bound (make x)) inputs others
   goes_on answer x make bound inputs others is = ap (λ r. bound_before r make bound inputs others) is
 
   -- a call that may have a fault
-  pub may_go_on : {X : Type 0} (answer : Result X Fault) (make : X → Value A) (bound : Value A → Entries A) (inputs : List (Input A)) (others : List (Call A)) → bound_before answer make bound inputs others ≡ (answer >>= λ x. names_after_calls (bound (make x)) inputs others)
+  pub may_go_on : {X : Type 0} (answer : Result X Fault) (make : X → Value A) (bound : Value A → Entries A) (inputs : List (Input A)) (others : List (Call A))
+      → bound_before answer make bound inputs others ≡ (answer >>= λ x. names_after_calls (bound (make x)) inputs others)
   may_go_on (Ok x) make bound inputs others = refl
   may_go_on (Err f) make bound inputs others = refl

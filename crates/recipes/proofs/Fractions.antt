@@ -50,5 +50,7 @@ floors_as_fractions d e f g i j p q i_small j_small =
     let second_left : q.left * i < i * j = let h = part_below q.left j i q.smaller (omega (arith, p.smaller)) in omega arith in
     let few : i * j < 65536 = let i_most : i ≤ 255 = omega arith in omega (arith, mul-le-mul_right j i_most) in
     by_lt_z g f
-    (λ below. both_less g f (e *ℤ pos i) (d *ℤ pos j) below (apart (d *ℤ pos j) (e *ℤ pos i) (f *ℤ pos (i * j)) (g *ℤ pos (i * j)) (p.left * j) (q.left * i) (i * j) first (omega (arith, ints)) second_left (below_times g f (i * j) below)))
-    (λ above. neither_less g f (e *ℤ pos i) (d *ℤ pos j) above (not_apart (d *ℤ pos j) (e *ℤ pos i) (f *ℤ pos (i * j)) (g *ℤ pos (i * j)) (p.left * j) (q.left * i) (i * j) first (omega (arith, ints)) first_left few (at_most_times f g (i * j) above)))
+    (λ below. both_less g f (e *ℤ pos i) (d *ℤ pos j) below (apart (d *ℤ pos j) (e *ℤ pos i) (f *ℤ pos (i * j)) (g *ℤ pos (i * j)) (p.left * j) (q.left * i) (i * j) first
+    (omega (arith, ints)) second_left (below_times g f (i * j) below)))
+    (λ above. neither_less g f (e *ℤ pos i) (d *ℤ pos j) above (not_apart (d *ℤ pos j) (e *ℤ pos i) (f *ℤ pos (i * j)) (g *ℤ pos (i * j)) (p.left * j) (q.left * i) (i * j) first
+    (omega (arith, ints)) first_left few (at_most_times f g (i * j) above)))

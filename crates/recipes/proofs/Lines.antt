@@ -20,13 +20,15 @@ refused_first refused.NoResources first next gives = tt
 
 module _ {A : Type 0} (names : Entries A) (inputs : List (Input A)) where
   -- the lines from the one at a place on
-  pub line_at : (all : List (List ℕ)) (n : ℕ) (line : List ℕ) → (n < length all) × (line ≡ get_or all n line) → names_after names inputs (drop n all) ≡ (names_after_line names inputs line >>= λ after. names_after after inputs (drop (n + 1) all))
+  pub line_at : (all : List (List ℕ)) (n : ℕ) (line : List ℕ) → (n < length all) × (line ≡ get_or all n line) → names_after names inputs (drop n all)
+      ≡ (names_after_line names inputs line >>= λ after. names_after after inputs (drop (n + 1) all))
   line_at all n line here =
       let next : suc n ≡ n + 1 = omega arith in
       ap (names_after names inputs) (drop-cons all n line here.0 ∙ ap (λ m. get_or all n line ∷ drop m all) next)
       ∙ ap (λ first. names_after_line names inputs first >>= λ after. names_after after inputs (drop (n + 1) all)) (sym here.1)
 
-  pub refused_at : (e : Refused) (all : List (List ℕ)) (n : ℕ) (line : List ℕ) (whole : Result (Entries A) Fault) → whole ≡ names_after names inputs (drop n all) → (n < length all) × (line ≡ get_or all n line) → Refuses e (names_after_line names inputs line) → Refuses e whole
+  pub refused_at : (e : Refused) (all : List (List ℕ)) (n : ℕ) (line : List ℕ) (whole : Result (Entries A) Fault) → whole ≡ names_after names inputs (drop n all) → (n < length all)
+      × (line ≡ get_or all n line) → Refuses e (names_after_line names inputs line) → Refuses e whole
   refused_at e all n line whole is here gives =
       rw (is ∙ line_at all n line here)
       (refused_first e (names_after_line names inputs line) (λ after. names_after after inputs (drop (n + 1) all)) gives)

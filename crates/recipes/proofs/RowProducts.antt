@@ -104,14 +104,16 @@ row_sums x (n ∷ lengths) entries =
     (λ i. fold_of sum_of (pos 0) (take-map (wrapped_term x) n entries i) ∷ map (fold_of sum_of (pos 0)) (cut_of lengths (drop-map (wrapped_term x) n entries i)))
     ∙ (λ i. row_sum x (take n entries) i ∷ row_sums x lengths (drop n entries) i)
 
-each_fold : {Item : Type 0} (join : Item → Item → Item) (unit : Item) (place : ℕ → ℕ → ℕ) (s : ℕ) (lists : List (List Item)) → results_from place (λ ys. Ok (fold_of join unit ys)) s lists ≡ Ok (map (fold_of join unit) lists)
+each_fold : {Item : Type 0} (join : Item → Item → Item) (unit : Item) (place : ℕ → ℕ → ℕ) (s : ℕ) (lists : List (List Item)) → results_from place (λ ys. Ok (fold_of join unit ys)) s lists
+    ≡ Ok (map (fold_of join unit) lists)
 each_fold join unit place s [] = refl
 each_fold join unit place s (ys ∷ lists) = ap (λ r. r >>= λ others. Ok (fold_of join unit ys ∷ others)) (each_fold join unit place (s + 1) lists)
 
 nest_made : {X : Type 0} (lengths : List ℕ) (xs : List X) → sum lengths ≡ length xs → nest lengths xs ≡ Ok (cut_of lengths xs)
 nest_made lengths xs fits = ap (λ b. fault_if (not b) (fault no.LengthMismatch) (Ok (cut_of lengths xs))) (eq-eqb _ _ fits)
 
-pub rows_summed : (x : List ℤ) (lengths : List ℕ) (entries : List (ℤ × ℤ)) → sum lengths ≡ length (map (wrapped_term x) entries) → seg_reduce_of sum_of (pos 0) (map (wrapped_term x) entries) lengths ≡ Ok (map (row_product x) (cut_of lengths entries))
+pub rows_summed : (x : List ℤ) (lengths : List ℕ) (entries : List (ℤ × ℤ)) → sum lengths ≡ length (map (wrapped_term x) entries) → seg_reduce_of sum_of (pos 0) (map (wrapped_term x) entries) lengths
+    ≡ Ok (map (row_product x) (cut_of lengths entries))
 rows_summed x lengths entries fits =
     ap (λ r. r >>= λ lists. results_from (in_vector lengths) (λ ys. Ok (fold_of sum_of (pos 0) ys)) 0 lists) (nest_made lengths (map (wrapped_term x) entries) fits)
     ∙ each_fold sum_of (pos 0) (in_vector lengths) 0 (cut_of lengths (map (wrapped_term x) entries))

@@ -76,7 +76,8 @@ module _ (a : List ℤ) where
         k_is = distributed (pos 65536) n few;
         p_is = pairs product_of (λ k. difference_of (height k) (height 0)) (λ _. pos 65536) ks;
         q_is = pairs_or no.DivideByZero quotient_of (λ k. scaled_rise (height k) (height 0)) place (λ k. quotient (height k) (height 0) k) ks (λ k. quotient_is (scaled_rise (height k) (height 0)) k);
-        r_is = pairs_or no.DivideByZero remainder_of (λ k. scaled_rise (height k) (height 0)) place (λ k. remainder (height k) (height 0) k) ks (λ k. remainder_is (scaled_rise (height k) (height 0)) k);
+        r_is = pairs_or no.DivideByZero remainder_of (λ k. scaled_rise (height k) (height 0)) place (λ k. remainder (height k) (height 0) k) ks
+            (λ k. remainder_is (scaled_rise (height k) (height 0)) k);
         z_is = distributed (pos 0) n few;
         neg_is = pairs is_less (λ k. remainder (height k) (height 0) k) (λ _. pos 0) ks;
         s0_is =

@@ -67,7 +67,8 @@ all_values number h o place (k ∷ ks) is =
     ∙ ap (λ r. r >>= λ ys. Ok (h k ∷ ys)) (all_values number h o (place + 1) ks is)
 
 -- an operator that has a value at each place
-pub pairs_or : {X Y Z : Type 0} (number : FaultNo) (op : X → Y → Option Z) (f : ℕ → X) (g : ℕ → Y) (h : ℕ → Z) (ks : List ℕ) → ((k : ℕ) → op (f k) (g k) ≡ Some (h k)) → on_pairs_or number op (map f ks) (map g ks) ≡ Ok (map h ks)
+pub pairs_or : {X Y Z : Type 0} (number : FaultNo) (op : X → Y → Option Z) (f : ℕ → X) (g : ℕ → Y) (h : ℕ → Z) (ks : List ℕ) → ((k : ℕ) → op (f k) (g k) ≡ Some (h k))
+    → on_pairs_or number op (map f ks) (map g ks) ≡ Ok (map h ks)
 pairs_or number op f g h ks is =
     ap (λ b. fault_if (not b) (fault no.LengthMismatch) (values_from number 0 (map (λ p. op p.0 p.1) (zip (map f ks) (map g ks))))) (eq-eqb _ _ (as_long f g ks))
     ∙ ap (values_from number 0) (zipped op f g ks)

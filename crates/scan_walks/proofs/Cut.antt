@@ -9,7 +9,7 @@ use Rattle.cvl_base.specs.Folds.{fold_of, scan_of}
 use Rattle.cvl_base.specs.Monoid.{MonoidLaws}
 use Rattle.cvl_base.proofs.Lists.{sum-cons}
 use Rattle.segdes.specs.Starts.{start_of}
-use Rattle.scan_walks.specs.Runs.{continued, started, with_starts, run_of, run_scan_of, scans_of}
+use Rattle.scan_walks.specs.Runs.{continued, started, with_starts, run_between, run_scan_of, scans_of}
 use Rattle.scan_walks.proofs.Scanned.{scan_of-cons}
 
 module _ {Item : Type 0} where
@@ -113,7 +113,7 @@ module _ {Item : Type 0} {is_item : Item → Bool} {unit : Item} {join : Item �
   -- what a walk over the run gives, where `rest` are the run's elements
   pub run_scanned : (lengths : List ℕ) (xs rest : List Item) (before : Item) (from m k first : ℕ) → first ≤ length lengths → from + m ≤ length xs
       → from + k ≡ start_of lengths first → ((s : ℕ) → s < first → start_of lengths s < from) → AllPass is_item xs → rest ≡ take m (drop from xs)
-      → run_scan_of join unit before (run_of lengths xs from (from + m)) ≡ scan_of join before (take k rest) ++ scans_of join unit (drop first lengths) (drop k rest)
+      → run_scan_of join unit before (run_between lengths xs from (from + m)) ≡ scan_of join before (take k rest) ++ scans_of join unit (drop first lengths) (drop k rest)
   run_scanned lengths xs rest before from m k first le within is earlier items is_rest =
       let parts = run_cut lengths (take (from + m) xs) from k first le (omega (arith, length-take (from + m) xs)) is earlier in
       let same : drop from (take (from + m) xs) ≡ rest = drop-take from m xs ∙ sym is_rest in
@@ -124,7 +124,7 @@ module _ {Item : Type 0} {is_item : Item → Bool} {unit : Item} {join : Item �
       (All-drop (λ x. is_item x ≡ true) k rest (subst (AllPass is_item) (sym is_rest) (All-take (λ x. is_item x ≡ true) m (drop from xs) (All-drop (λ x. is_item x ≡ true) from xs items)))))
 
   -- the whole vector is a run
-  pub whole_scanned : (lengths : List ℕ) (xs : List Item) (before : Item) → AllPass is_item xs → run_scan_of join unit before (run_of lengths xs 0 (length xs)) ≡ scans_of join unit lengths xs
+  pub whole_scanned : (lengths : List ℕ) (xs : List Item) (before : Item) → AllPass is_item xs → run_scan_of join unit before (run_between lengths xs 0 (length xs)) ≡ scans_of join unit lengths xs
   whole_scanned lengths xs before items =
       ap (λ ys. run_scan_of join unit before (with_starts lengths ys)) (take_all (length xs) xs (omega arith)) ∙ segments_scanned lengths xs before items
 
@@ -133,7 +133,7 @@ module _ {Item : Type 0} {is_item : Item → Bool} {unit : Item} {join : Item �
       → sum lengths ≡ length xs → from ≤ to → to ≤ length xs → first ≤ length lengths
       → ((s : ℕ) → s < first → start_of lengths s < from) → ((s : ℕ) → first ≤ s → s < length lengths → from ≤ start_of lengths s)
       → AllPass is_item xs → rest ≡ take (to - from) (drop from xs) → start ≡ start_of lengths first → j ≡ min start to - from → front ≡ take j rest → others ≡ drop j rest
-      → run_scan_of join unit before (run_of lengths xs from to) ≡ scan_of join before front ++ scans_of join unit (drop first lengths) others
+      → run_scan_of join unit before (run_between lengths xs from to) ≡ scan_of join before front ++ scans_of join unit (drop first lengths) others
   run_walked lengths xs rest front others before from to first start j total in_order within le earlier later items is_rest is_start is_j is_front is_others =
       let begins : from ≤ start_of lengths first = begins_by lengths from first (omega (arith, total)) later in
       let m : ℕ = to - from in
@@ -141,7 +141,7 @@ module _ {Item : Type 0} {is_item : Item → Bool} {unit : Item} {join : Item �
       let end : from + m ≡ to = omega (arith, in_order) in
       let long : length rest ≡ m = ap length is_rest ∙ omega (arith, length-take m (drop from xs), length-drop from xs) in
       let split : min k (length rest) ≡ j = omega (arith, long, is_j, is_start, begins) in
-      ap (λ t. run_scan_of join unit before (run_of lengths xs from t)) (sym end)
+      ap (λ t. run_scan_of join unit before (run_between lengths xs from t)) (sym end)
       ∙ run_scanned lengths xs rest before from m k first le (omega (arith, end)) (omega (arith, begins)) earlier items is_rest
       ∙ ap (λ ys. scan_of join before ys ++ scans_of join unit (drop first lengths) (drop k rest)) (sym (take_min k rest) ∙ ap (λ i. take i rest) split ∙ sym is_front)
       ∙ ap (λ ys. scan_of join before front ++ scans_of join unit (drop first lengths) ys) (sym (drop_min k rest) ∙ ap (λ i. drop i rest) split ∙ sym is_others)

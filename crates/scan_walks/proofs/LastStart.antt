@@ -10,7 +10,7 @@ use Rattle.cvl_base.specs.Folds.{fold_of}
 use Rattle.cvl_base.specs.Monoid.{MonoidLaws}
 use Rattle.cvl_base.specs.SegmentMonoid.{seg_join}
 use Rattle.segdes.specs.Starts.{start_of}
-use Rattle.scan_walks.specs.Runs.{continued, started, with_starts, run_of}
+use Rattle.scan_walks.specs.Runs.{continued, started, with_starts, run_between}
 use Rattle.cvl_base.proofs.Lists.{sum-cons}
 use Rattle.scan_walks.proofs.Cut.{run_cut, length-started}
 
@@ -52,7 +52,7 @@ module _ {Item : Type 0} where
   -- a run at whose elements no segment starts
   pub run_continued : (lengths : List ℕ) (xs : List Item) (from to k first : ℕ) → from ≤ to → to ≤ length xs → first ≤ length lengths
       → from + k ≡ start_of lengths first → to ≤ from + k → ((s : ℕ) → s < first → start_of lengths s < from)
-      → run_of lengths xs from to ≡ continued (take (to - from) (drop from xs))
+      → run_between lengths xs from to ≡ continued (take (to - from) (drop from xs))
   run_continued lengths xs from to k first in_order within le is past earlier =
       let m : ℕ = to - from in
       let end : from + m ≡ to = omega (arith, in_order) in
@@ -69,7 +69,7 @@ module _ {Item : Type 0} where
   -- a run in which segment s is the last that starts
   pub run_started : (lengths : List ℕ) (xs : List Item) (from to s : ℕ) → to ≤ length xs → s < length lengths
       → from ≤ start_of lengths s → start_of lengths s < to → to ≤ start_of lengths (s + 1)
-      → (front : List (Bool × Item)) × (run_of lengths xs from to ≡ front ++ started (take (to - start_of lengths s) (drop (start_of lengths s) xs)))
+      → (front : List (Bool × Item)) × (run_between lengths xs from to ≡ front ++ started (take (to - start_of lengths s) (drop (start_of lengths s) xs)))
   run_started lengths xs from to s within lt le before last =
       let p : ℕ = start_of lengths s in
       let n : ℕ = get_or lengths s 0 in
@@ -111,7 +111,7 @@ module _ {Item : Type 0} (join : Item → Item → Item) where
 
   pub run_summed : (lengths : List ℕ) (xs : List Item) (f : Bool) (before : Item) (from to k first : ℕ) → from ≤ to → to ≤ length xs → first ≤ length lengths
       → from + k ≡ start_of lengths first → to ≤ from + k → ((s : ℕ) → s < first → start_of lengths s < from)
-      → fold_of (seg_join join) (f, before) (run_of lengths xs from to) ≡ (f, fold_of join before (take (to - from) (drop from xs)))
+      → fold_of (seg_join join) (f, before) (run_between lengths xs from to) ≡ (f, fold_of join before (take (to - from) (drop from xs)))
   run_summed lengths xs f before from to k first in_order within le is past earlier =
       ap (fold_of (seg_join join) (f, before)) (run_continued lengths xs from to k first in_order within le is past earlier)
       ∙ continued_summed f before (take (to - from) (drop from xs))
@@ -126,7 +126,7 @@ module _ {Item : Type 0} {is_item : Item → Bool} {unit : Item} {join : Item �
 
   pub started_run_summed : (lengths : List ℕ) (xs : List Item) (before : Bool × Item) (from to s : ℕ) → to ≤ length xs → s < length lengths
       → from ≤ start_of lengths s → start_of lengths s < to → to ≤ start_of lengths (s + 1) → AllPass is_item xs
-      → fold_of (seg_join join) before (run_of lengths xs from to) ≡ (true, fold_of join unit (take (to - start_of lengths s) (drop (start_of lengths s) xs)))
+      → fold_of (seg_join join) before (run_between lengths xs from to) ≡ (true, fold_of join unit (take (to - start_of lengths s) (drop (start_of lengths s) xs)))
   started_run_summed lengths xs before from to s within lt le ends last items =
       let p : ℕ = start_of lengths s in
       let ys = take (to - p) (drop p xs) in

@@ -6,7 +6,7 @@ use Rattle.std.proofs.lemmas.List.{length-drop, length-take}
 use Rattle.cvl_base.specs.Folds.{scan_of}
 use Rattle.cvl_base.specs.Monoid.{MonoidLaws}
 use Rattle.segdes.specs.Starts.{start_of}
-use Rattle.scan_walks.specs.Runs.{run_of, run_scan_of, scans_of}
+use Rattle.scan_walks.specs.Runs.{run_between, run_scan_of, scans_of}
 use Rattle.scan_walks.proofs.Cut.{begins_by, run_walked, starts_in_order}
 use Rattle.scan_walks.proofs.Segments.{range_sum, scans_cut}
 
@@ -27,8 +27,9 @@ pub run_pushed : {Item : Type 0} {is_item : Item → Bool} {unit : Item} {join :
     → ((s : ℕ) → next ≤ s → s < length d → to ≤ start_of d s) → AllPass is_item xs
     → rest ≡ take (to - from) (drop from xs) → start ≡ start_of d first → j ≡ min start to - from → front ≡ take j rest → others ≡ drop j rest
     → pushed ≡ old ++ scan_of join before front → all ≡ pushed ++ scans_of join unit (take (next - first) (drop first d)) others
-    → all ≡ old ++ run_scan_of join unit before (run_of d xs from to)
-run_pushed {unit} {join} laws d xs rest front others old pushed all before from to first next start j total in_order within le earlier later past items is_rest is_start is_j is_front is_others first_pushed all_pushed =
+    → all ≡ old ++ run_scan_of join unit before (run_between d xs from to)
+run_pushed {unit} {join} laws d xs rest front others old pushed all before from to first next start j total in_order within le earlier later past items is_rest is_start is_j is_front is_others
+    first_pushed all_pushed =
     let sums = scans_of join unit (drop first d) others in
     let long : length rest ≡ to - from = ap length is_rest ∙ omega (arith, length-take (to - from) (drop from xs), length-drop from xs, within, in_order) in
     let left : length others ≡ (to - from) - j = ap length is_others ∙ length-drop j rest ∙ ap (λ n. n - j) long in

@@ -20,7 +20,8 @@ module _ {Item : Type 0} (join : Item → Item → Item) where
       ∙ ap (λ sums. sums ++ fold_of join before (y ∷ ys) ∷ []) (sym (scan_of-cons before y ys))
 
   -- the step of a loop over xs
-  pub scan_of_more : (before : Item) (xs : List Item) (i : ℕ) (other : Item) → i < length xs → scan_of join before (take (i + 1) xs) ≡ scan_of join before (take i xs) ++ fold_of join before (take i xs) ∷ []
+  pub scan_of_more : (before : Item) (xs : List Item) (i : ℕ) (other : Item) → i < length xs → scan_of join before (take (i + 1) xs)
+      ≡ scan_of join before (take i xs) ++ fold_of join before (take i xs) ∷ []
   scan_of_more before xs i other within = ap (scan_of join before) (take_more xs i other within) ∙ scan_of_push before (take i xs) (get_or xs i other)
 
   -- the same where the sums are pushed onto others

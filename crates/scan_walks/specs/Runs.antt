@@ -21,8 +21,8 @@ abbrev pub with_starts : {Item : Type 0} → List ℕ → List Item → List (Bo
 with_starts lengths xs = flat_map started (cut_of lengths xs)
 
 -- of those before place `to`, the ones from place `from` on
-abbrev pub run_of : {Item : Type 0} → List ℕ → List Item → ℕ → ℕ → List (Bool × Item)
-run_of lengths xs from to = drop from (with_starts lengths (take to xs))
+abbrev pub run_between : {Item : Type 0} → List ℕ → List Item → ℕ → ℕ → List (Bool × Item)
+run_between lengths xs from to = drop from (with_starts lengths (take to xs))
 
 -- the scan of a run after what stands before it: the unit where a segment starts, else what the elements since the last
 -- start join to
@@ -40,7 +40,8 @@ abbrev pub reduces_of : {Item : Type 0} → (Item → Item → Item) → Item �
 reduces_of join unit lengths xs = map (fold_of join unit) (cut_of lengths xs)
 
 -- segment s holds the place, or ends or starts there, and its elements before the place join to this
-pub record IsOpenAt {Item : Type 0} (join : Item → Item → Item) (unit : Item) (lengths : List ℕ) (xs : List Item) (s place : ℕ) (before : Item) : Type 0 where
+pub record IsOpenAt {Item : Type 0} (join : Item → Item → Item) (unit : Item) (lengths : List ℕ) (xs : List Item) (s place : ℕ)
+    (before : Item) : Type 0 where
   pub begun : start_of lengths s ≤ place
   pub not_past : place ≤ start_of lengths (s + 1)
   pub before_is : before ≡ fold_of join unit (slice_range xs (start_of lengths s) place)

@@ -9,7 +9,7 @@ ghost use Rattle.cvl_base.specs.Descriptors.{AreLengths};
 ghost use Rattle.cvl_base.specs.Folds.{fold_of};
 ghost use Rattle.cvl_base.specs.SegmentMonoid.{seg_join};
 ghost use Rattle.segdes.specs.Starts.{start_of};
-ghost use Rattle.scan_walks.specs.Runs.{IsOpenAt, reduces_of, run_of, run_scan_of, scans_of};
+ghost use Rattle.scan_walks.specs.Runs.{IsOpenAt, reduces_of, run_between, run_scan_of, scans_of};
 
 use crate::plain::{push_scan_readings_from, sum_readings_from};
 use crate::readings::{Itself, Reading};
@@ -128,7 +128,7 @@ pub fn sum_of_readings<M: Monoid, X: Copy, E: Reading<X, M::Item>, A: Allocator>
     requires within { to ≤ length a.now }
     requires before { IsTrue (M.is_item before) }
     requires items { AllPass (λ x. M.is_item (E.item x)) a.now }
-    ensures { result ≡ fold_of (seg_join M.join) (false, before) (run_of d.now (map E.item a.now) from to) }
+    ensures { result ≡ fold_of (seg_join M.join) (false, before) (run_between d.now (map E.item a.now) from to) }
 {
     know_laws::<M>();
     let first = d.starts_before(from);
@@ -159,7 +159,7 @@ pub fn sum_of_run<M: Monoid, A: Allocator>(
     requires within { to ≤ length a.now }
     requires before { IsTrue (M.is_item before) }
     requires items { AllPass M.is_item a.now }
-    ensures { result ≡ fold_of (seg_join M.join) (false, before) (run_of d.now a.now from to) }
+    ensures { result ≡ fold_of (seg_join M.join) (false, before) (run_between d.now a.now from to) }
 {
     sum_of_readings::<M, M::Item, Itself, A>(a, d, from, to, before)
 }
@@ -183,7 +183,7 @@ pub fn scan_of_readings<M: Monoid, X: Copy, E: Reading<X, M::Item>, A: Allocator
     requires before { IsTrue (M.is_item before) }
     requires items { AllPass (λ x. M.is_item (E.item x)) a.now }
     ensures values { IfOk result (λ sums. sums.items
-        ≡ run_scan_of M.join M.unit before (run_of d.now (map E.item a.now) from to)) }
+        ≡ run_scan_of M.join M.unit before (run_between d.now (map E.item a.now) from to)) }
     ensures as_long { IfOk result (λ sums. vec_len sums ≡ to - from) }
 {
     know_laws::<M>();
@@ -216,7 +216,7 @@ pub fn scan_of_run<M: Monoid, A: Allocator>(
     requires before { IsTrue (M.is_item before) }
     requires items { AllPass M.is_item a.now }
     ensures values { IfOk result (λ sums. sums.items
-        ≡ run_scan_of M.join M.unit before (run_of d.now a.now from to)) }
+        ≡ run_scan_of M.join M.unit before (run_between d.now a.now from to)) }
     ensures as_long { IfOk result (λ sums. vec_len sums ≡ to - from) }
 {
     let sums = scan_of_readings::<M, M::Item, Itself, A, A>(alloc, a, d, from, to, before)?;

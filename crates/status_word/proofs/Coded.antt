@@ -38,9 +38,9 @@ module _ {Item : Type 0} {is_item : Item → Bool} (m : Coding Item) (coded : Co
   pub code_max : (t a b : ℕ) → max (code m sums t a) (code m sums t b) ≡ code m sums t (max a b)
   code_max t a b =
       ⊎_elim (λ (less : a < b). let up = code_le t a b (omega arith) in let top : b ≡ max a b = omega arith in
-          let word : max (code m sums t a) (code m sums t b) ≡ code m sums t b = omega arith in word ∙ ap (code m sums t) top)
+      let word : max (code m sums t a) (code m sums t b) ≡ code m sums t b = omega arith in word ∙ ap (code m sums t) top)
       (λ (more : b ≤ a). let up = code_le t b a more in let top : a ≡ max a b = omega arith in
-          let word : max (code m sums t a) (code m sums t b) ≡ code m sums t a = omega arith in word ∙ ap (code m sums t) top)
+      let word : max (code m sums t a) (code m sums t b) ≡ code m sums t a = omega arith in word ∙ ap (code m sums t) top)
       (cases_lt a b)
 
   pub told_state_of : (t rank : ℕ) → rank ≤ 2 → state_of (told_of m.join m.unit sums t rank) ≡ rank

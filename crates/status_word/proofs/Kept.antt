@@ -142,7 +142,7 @@ module _ {Item : Type 0} where
       let right : Pass Item = split_right p in
       let tiles : p.sums ≡ sums = (kept.fair id p here).tiles (omega arith) in
       let top : (t : ℕ) → highest (told_at t) (set passes id left ++ right ∷ []) ≡ highest (told_at t) passes = λ t. let stays =
-          highest_same (told_at t) passes id p left here refl in let pushed = highest_push (told_at t) (set passes id left) right in omega arith in
+      highest_same (told_at t) passes id p left here refl in let pushed = highest_push (told_at t) (set passes id left) right in omega arith in
       record {
         words = λ t tile. kept.words t tile ∙ ap (code t) (sym (top t));
         states = λ t. let told = top t in let before = kept.states t in omega arith;
@@ -173,7 +173,7 @@ module _ {Item : Type 0} where
       let both : Pass Item = passes_joined p q in
       let adds = join_adds p q in
       let top : (t : ℕ) → highest (told_at t) (set (set passes id both) other spent_pass) ≡ highest (told_at t) passes = λ t.
-          joined_high (told_at t) passes id other p q here differ there (adds.told t) refl in
+      joined_high (told_at t) passes id other p q here differ there (adds.told t) refl in
       record {
         words = λ t tile. kept.words t tile ∙ ap (code t) (sym (top t));
         states = λ t. let told = top t in let before = kept.states t in omega arith;

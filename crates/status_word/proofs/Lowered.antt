@@ -16,7 +16,7 @@ use Rattle.status_word.specs.declared.local.Local.TheVariants.{Ready, Summing, L
 use Rattle.cvl_base.specs.TileSums.{own_sum}
 use Rattle.status_word.specs.Codings.{Coding}
 use Rattle.status_word.specs.Locals.{action_of, next_of, added_up_to, after_look}
-use Rattle.status_word.specs.Worlds.{Scene, new_scene, local_at, acted, step_of, run_of, answer_of, left_of, left_of_local, left_of_tiles, takes, steps_of}
+use Rattle.status_word.specs.Worlds.{Scene, new_scene, local_at, acted, step_of, scene_after, answer_of, left_of, left_of_local, left_of_tiles, takes, steps_of}
 
 left_added : {Item : Type 0} (t at : ℕ) (sum : Bool × Item) → left_of_local (added_up_to t at sum) ≤ 2 + 2 * at
 left_added t zero sum = omega arith
@@ -65,13 +65,13 @@ pub acted_locals : {Item : Type 0} (m : Coding Item) (w : Scene Item) (a : ℕ) 
 acted_locals m w a l None = refl
 acted_locals m w a l (Some action) = length-set w.locals a (next_of m.join m.unit l (answer_of m w.sums w.claims w.words action))
 
-pub run_lowers : {Item : Type 0} (m : Coding Item) (actors : List ℕ) (w : Scene Item) → All (λ a. a < length w.locals) actors → steps_of m w actors + left_of (run_of m w actors) ≤ left_of w
+pub run_lowers : {Item : Type 0} (m : Coding Item) (actors : List ℕ) (w : Scene Item) → All (λ a. a < length w.locals) actors → steps_of m w actors + left_of (scene_after m w actors) ≤ left_of w
 run_lowers m [] w below = omega arith
 run_lowers m (a ∷ actors) w below =
     let here = step_lowers m w a (All-head (λ b. b < length w.locals) a actors below) in
     let same = acted_locals m w a (local_at w a) (action_of (local_at w a)) in
     let still : All (λ b. b < length (step_of m w a).locals) actors =
-        All-weaker (λ b. b < length w.locals) (λ b. b < length (step_of m w a).locals) (λ b h. omega arith) actors (All-tail (λ b. b < length w.locals) a actors below) in
+    All-weaker (λ b. b < length w.locals) (λ b. b < length (step_of m w a).locals) (λ b h. omega arith) actors (All-tail (λ b. b < length w.locals) a actors below) in
     let rest = run_lowers m actors (step_of m w a) still in
     omega arith
 

@@ -20,7 +20,7 @@ use Rattle.status_word.specs.Locals.{action_of, next_of, holds_item, tells_item,
 use Rattle.status_word.specs.declared.pass.Pass.{Pass}
 use Rattle.status_word.specs.Passes.{new_pass}
 use Rattle.status_word.specs.Reached.{CanAnswer, CanTell, IsReached, stepped_of}
-use Rattle.status_word.specs.Worlds.{Scene, new_scene, local_at, acted, step_of, run_of, passes_of, answer_of, claims_after, words_after, IsRight, IsWorld, steps_of, takes}
+use Rattle.status_word.specs.Worlds.{Scene, new_scene, local_at, acted, step_of, scene_after, passes_of, answer_of, claims_after, words_after, IsRight, IsWorld, steps_of, takes}
 use Rattle.status_word.proofs.Coded.{code_read, told_is_item}
 use Rattle.status_word.proofs.Dealt.{few_claims}
 use Rattle.status_word.proofs.Lowered.{acted_locals}
@@ -40,7 +40,7 @@ reached_first m sums actors few workers items words locals same_words same_local
       reached = λ i. record { sums = sums; claims = 0; words = same_words i; locals = (same_locals ∙ ap (λ n. replicate n Ready) (sym long)) i };
     }
 
-run_push : {Item : Type 0} (m : Coding Item) (actors : List ℕ) (w : Scene Item) (a : ℕ) → run_of m w (actors ++ a ∷ []) ≡ step_of m (run_of m w actors) a
+run_push : {Item : Type 0} (m : Coding Item) (actors : List ℕ) (w : Scene Item) (a : ℕ) → scene_after m w (actors ++ a ∷ []) ≡ step_of m (scene_after m w actors) a
 run_push m [] w a = refl
 run_push m (b ∷ actors) w a = run_push m actors (step_of m w b) a
 
@@ -53,7 +53,7 @@ reached_next {is_item = is_item} m w a r below =
     let few = r.few in
     let workers = r.workers in
     let all : All (λ b. b < length w.locals) (r.actors ++ a ∷ []) =
-        All-append (λ b. b < length w.locals) r.actors (a ∷ []) r.of_them (All-cons (λ b. b < length w.locals) a [] below (All-nil (λ b. b < length w.locals))) in
+    All-append (λ b. b < length w.locals) r.actors (a ∷ []) r.of_them (All-cons (λ b. b < length w.locals) a [] below (All-nil (λ b. b < length w.locals))) in
     record {
       few = omega arith;
       workers = omega arith;
@@ -62,7 +62,7 @@ reached_next {is_item = is_item} m w a r below =
       of_them = All-weaker (λ b. b < length w.locals) (λ b. b < length (step_of m w a).locals) (λ b h. omega arith) (r.actors ++ a ∷ []) all;
       reached = ap (λ x. step_of m x a) r.reached
           ∙ sym (run_push m r.actors (new_scene w.sums (length w.locals)) a)
-          ∙ (λ i. run_of m (new_scene (sym tiles i) (sym same i)) (r.actors ++ a ∷ []));
+          ∙ (λ i. scene_after m (new_scene (sym tiles i) (sym same i)) (r.actors ++ a ∷ []));
     }
 
 -- what the step of a worker asks for
@@ -122,8 +122,13 @@ module _ {Item : Type 0} {is_item : Item → Bool} (m : Coding Item) (coded : Co
       record { answer = omega (arith, right.0, right.1); tell = tt; held = run_is_item (at + 1) t sum right.2; told = seen_is_item at (omega (arith, right.0, right.1)) }
   can_step (Helping t at sum) right =
       let words = world.as_many_words in
-      record { answer = omega (arith, right.0, right.1); tell = (omega (arith, right.0, right.1), omega (arith, right.0, right.1), sum_is_item at); held =
-          run_is_item (at + 1) t sum right.2; told = sum_is_item at }
+      record {
+        answer = omega (arith, right.0, right.1);
+        tell = (omega (arith, right.0, right.1), omega (arith, right.0, right.1), sum_is_item at);
+        held =
+            run_is_item (at + 1) t sum right.2;
+        told = sum_is_item at;
+      }
   can_step (Publishing t prior) right =
       let words = world.as_many_words in
       record { answer = right.0; tell = (right.0, omega (arith, right.0), sum_is_item t, front_is_item t prior right.1); held = front_is_item t prior right.1; told = sum_is_item t }
@@ -165,24 +170,24 @@ reached_by {Item = Item} {is_item = is_item} m w r a below l action same taken c
     let moved : next ≡ next_of m.join m.unit l (answer_of m w.sums w.claims w.words action) = next_is ∙ ap (next_of m.join m.unit l) answer_is in
     let after : acted m w a l (Some action) ≡ step_of m w a = step_is m w a below l (Some action) same taken in
     let parts : acted m w a l (Some action) ≡ record { sums = w.sums; claims = claims; words = words; locals = set w.locals a next } = λ i.
-        record { sums = w.sums; claims = sym claims_are i; words = sym words_are i; locals = set w.locals a (sym moved i) } in
+    record { sums = w.sums; claims = sym claims_are i; words = sym words_are i; locals = set w.locals a (sym moved i) } in
     let P : Scene Item → Type 0 = λ x. IsReached is_item m x in
     subst P (sym after ∙ parts) (reached_next m w a r below)
 
 -- ---- a list of workers, one after another
 
-steps_push : {Item : Type 0} (m : Coding Item) (actors : List ℕ) (w : Scene Item) (a : ℕ) → steps_of m w (actors ++ a ∷ []) ≡ steps_of m w actors + takes (local_at (run_of m w actors) a)
+steps_push : {Item : Type 0} (m : Coding Item) (actors : List ℕ) (w : Scene Item) (a : ℕ) → steps_of m w (actors ++ a ∷ []) ≡ steps_of m w actors + takes (local_at (scene_after m w actors) a)
 steps_push m [] w a = omega arith
 steps_push m (b ∷ actors) w a = let rest = steps_push m actors (step_of m w b) a in omega arith
 
 -- the step of a loop over the workers
 pub run_more : {Item : Type 0} (m : Coding Item) (actors : List ℕ) (w now : Scene Item) (i a : ℕ) → i < length actors → a ≡ get_or actors i 0
-    → now ≡ run_of m w (take i actors) → step_of m now a ≡ run_of m w (take (i + 1) actors)
+    → now ≡ scene_after m w (take i actors) → step_of m now a ≡ scene_after m w (take (i + 1) actors)
 run_more m actors w now i a below here so_far =
-    (λ j. step_of m (so_far j) (here j)) ∙ sym (run_push m (take i actors) w (get_or actors i 0)) ∙ ap (run_of m w) (sym (take_more actors i 0 below))
+    (λ j. step_of m (so_far j) (here j)) ∙ sym (run_push m (take i actors) w (get_or actors i 0)) ∙ ap (scene_after m w) (sym (take_more actors i 0 below))
 
 pub steps_more : {Item : Type 0} (m : Coding Item) (actors : List ℕ) (w now : Scene Item) (i a steps : ℕ) → i < length actors → a ≡ get_or actors i 0
-    → now ≡ run_of m w (take i actors) → steps ≡ steps_of m w (take i actors) → steps + takes (local_at now a) ≡ steps_of m w (take (i + 1) actors)
+    → now ≡ scene_after m w (take i actors) → steps ≡ steps_of m w (take i actors) → steps + takes (local_at now a) ≡ steps_of m w (take (i + 1) actors)
 steps_more m actors w now i a steps below here so_far counted =
     (λ j. counted j + takes (local_at (so_far j) (here j))) ∙ sym (steps_push m (take i actors) w (get_or actors i 0)) ∙ ap (steps_of m w) (sym (take_more actors i 0 below))
 

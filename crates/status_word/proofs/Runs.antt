@@ -19,7 +19,7 @@ use Rattle.status_word.specs.Locals.{action_of}
 use Rattle.status_word.specs.declared.pass.Pass.{Pass}
 use Rattle.status_word.specs.Hands.{times, IsFairHand}
 use Rattle.status_word.specs.Passes.{new_pass, told_at, seen_at, given_at, highest, IsFair}
-use Rattle.status_word.specs.Worlds.{Scene, new_scene, local_at, acted, step_of, run_of, passed, passes_of, held, holders, IsWorld}
+use Rattle.status_word.specs.Worlds.{Scene, new_scene, local_at, acted, step_of, scene_after, passed, passes_of, tiles_held, holders, IsWorld}
 use Rattle.status_word.proofs.Dealt.{none_claimed, claimed_once, claimed_below, claimed_is}
 use Rattle.status_word.proofs.Places.{place_of, highest_at}
 use Rattle.status_word.proofs.Stands.{Agrees, Stands, stops, stepped}
@@ -83,7 +83,7 @@ acted_sums m w a l (Some action) = refl
 module _ {Item : Type 0} {is_item : Item → Bool} (m : Coding Item) (coded : CodingLaws is_item m)
     (laws : (ss : List (Bool × Item)) → AllPass (is_seg_item is_item) ss → SumsLaws is_item m.join m.unit ss) (workers : ℕ) where
   stands_run : (actors : List ℕ) (w : Scene Item) (passes : List (Pass Item)) → AllPass (is_seg_item is_item) w.sums → All (λ a. a < workers) actors
-      → Stands m workers w passes → Stands m workers (run_of m w actors) (passes_of m w passes actors)
+      → Stands m workers w passes → Stands m workers (scene_after m w actors) (passes_of m w passes actors)
   stands_run [] w passes items below stands = stands
   stands_run (a ∷ actors) w passes items below stands =
       let here : a < workers = All-head (λ b. b < workers) a actors below in
@@ -93,7 +93,7 @@ module _ {Item : Type 0} {is_item : Item → Bool} (m : Coding Item) (coded : Co
       (All-tail (λ b. b < workers) a actors below)
       (stepped m coded laws workers w passes items stands a here (local_at w a) (stands.agree a here))
 
-  sums_run : (actors : List ℕ) (w : Scene Item) → (run_of m w actors).sums ≡ w.sums
+  sums_run : (actors : List ℕ) (w : Scene Item) → (scene_after m w actors).sums ≡ w.sums
   sums_run [] w = refl
   sums_run (a ∷ actors) w = sums_run actors (step_of m w a) ∙ acted_sums m w a (local_at w a) (action_of (local_at w a))
 
@@ -150,12 +150,13 @@ module _ {Item : Type 0} (m : Coding Item) (workers : ℕ) (w : Scene Item) (pas
   as_long = stands.actors ∙ sym stands.one_each
 
   held_given : (t : ℕ) → holders w t ≤ sum_by (given_at t) passes
-  held_given t = sum_by_le (λ l. times t (held l)) (given_at t) w.locals passes Stopped (new_pass w.sums) as_long (λ a below. let actors = stands.actors in (stands.agree a (omega arith)).holds t)
+  held_given t = sum_by_le (λ l. times t (tiles_held l)) (given_at t) w.locals passes Stopped (new_pass w.sums) as_long
+      (λ a below. let actors = stands.actors in (stands.agree a (omega arith)).holds t)
 
   prefix_told : (t : ℕ) → t < w.claims → t < length w.sums → holders w t ≡ 0 → get_or w.words t 0 ≡ code m w.sums t 2
   prefix_told t below tile none =
       let one : sum_by (given_at t) passes ≡ 1 = stands.kept.dealt.given t ∙ claimed_is t w.claims (length w.sums) below tile in
-      let other = some_above (λ l. times t (held l)) (given_at t) w.locals passes Stopped (new_pass w.sums) as_long (omega arith) in
+      let other = some_above (λ l. times t (tiles_held l)) (given_at t) w.locals passes Stopped (new_pass w.sums) as_long (omega arith) in
       let inside : other.0 < workers = let n = stands.one_each in let b = other.1 in omega arith in
       let told = (stands.agree other.0 inside).told t other.2 in
       let top = highest_at (told_at t) passes other.0 (get_or passes other.0 (new_pass w.sums)) (place_of passes other.0 (new_pass w.sums) other.1) in
@@ -168,7 +169,8 @@ module _ {Item : Type 0} (m : Coding Item) (workers : ℕ) (w : Scene Item) (pas
       let first_done : (get_or passes 0 (new_pass w.sums)).hand.done ≡ 1 = (stands.agree 0 one_there).done ∙ ap stops (stopped 0 one_there) in
       let done = total_at (λ p. p.hand.done) passes 0 (new_pass w.sums) (omega arith) in
       let past = stands.kept.dealt.done in
-      let none : holders w t ≡ 0 = total_zero (λ l. times t (held l)) w.locals Stopped (λ a below. let is_one : a < workers = omega arith in ap (λ l. times t (held l)) (stopped a is_one)) in
+      let none : holders w t ≡ 0 = total_zero (λ l. times t (tiles_held l)) w.locals Stopped
+      (λ a below. let is_one : a < workers = omega arith in ap (λ l. times t (tiles_held l)) (stopped a is_one)) in
       prefix_told t (omega arith) tile none
 
   world_of : IsWorld m w.sums workers w passes
@@ -189,9 +191,9 @@ module _ {Item : Type 0} (m : Coding Item) (workers : ℕ) (w : Scene Item) (pas
 pub world_after : {Item : Type 0} {is_item : Item → Bool} (m : Coding Item) (coded : CodingLaws is_item m)
     (laws : (ss : List (Bool × Item)) → AllPass (is_seg_item is_item) ss → SumsLaws is_item m.join m.unit ss) (sums : List (Bool × Item)) (workers : ℕ) (actors : List ℕ)
     → AllPass (is_seg_item is_item) sums → All (λ a. a < workers) actors
-    → IsWorld m sums workers (run_of m (new_scene sums workers) actors) (passes_of m (new_scene sums workers) (replicate workers (new_pass sums)) actors)
+    → IsWorld m sums workers (scene_after m (new_scene sums workers) actors) (passes_of m (new_scene sums workers) (replicate workers (new_pass sums)) actors)
 world_after {Item = Item} m coded laws sums workers actors items below =
-    let w = run_of m (new_scene sums workers) actors in
+    let w = scene_after m (new_scene sums workers) actors in
     let passes = passes_of m (new_scene sums workers) (replicate workers (new_pass sums)) actors in
     let stands = stands_run m coded laws workers actors (new_scene sums workers) (replicate workers (new_pass sums)) items below (stands_first m coded laws sums items workers) in
     let P : List (Bool × Item) → Type 0 = λ tiles. IsWorld m tiles workers w passes in

@@ -24,7 +24,7 @@ use Rattle.status_word.specs.declared.pass.Pass.{Pass}
 use Rattle.status_word.specs.Hands.{times}
 use Rattle.status_word.specs.Passes.{new_pass, given_tile, told_done, looked, told_state, told_at, highest, IsRuleKept}
 use Rattle.status_word.specs.RuleSteps.{AreRaised}
-use Rattle.status_word.specs.Worlds.{Scene, acted, passed, pass_after, words_after, prefix_of, held, IsRight}
+use Rattle.status_word.specs.Worlds.{Scene, acted, passed, pass_after, words_after, as_prefix, tiles_held, IsRight}
 use Rattle.status_word.specs.Words.{state_of}
 use Rattle.status_word.proofs.Coded.{code_max, code_read}
 use Rattle.status_word.proofs.Kept.{claim_keeps, done_keeps, saw_keeps, tell_keeps}
@@ -42,8 +42,8 @@ stops Stopped = 1
 -- one worker and its pass: the tiles that it holds were given to it, and of the others that were given to it the prefix was told
 pub record Agrees {Item : Type 0} (m : Coding Item) (sums : List (Bool × Item)) (l : Local Item) (p : Pass Item) : Type 0 where
   pub right : IsRight m sums l
-  pub holds : (t : ℕ) → times t (held l) ≤ times t p.hand.given
-  pub told : (t : ℕ) → times t (held l) < times t p.hand.given → 2 ≤ told_at t p
+  pub holds : (t : ℕ) → times t (tiles_held l) ≤ times t p.hand.given
+  pub told : (t : ℕ) → times t (tiles_held l) < times t p.hand.given → 2 ≤ told_at t p
   pub done : p.hand.done ≡ stops l
   pub share : p.hand.share ≡ 1
   pub tiles : p.sums ≡ sums
@@ -57,18 +57,18 @@ pub record Stands {Item : Type 0} (m : Coding Item) (workers : ℕ) (w : Scene I
 
 -- a worker that still holds what it held agrees with its pass, where no less is told
 still : {Item : Type 0} (m : Coding Item) (sums : List (Bool × Item)) (l next : Local Item) (p after : Pass Item) → Agrees m sums l p → IsRight m sums next
-    → held next ≡ held l → stops next ≡ stops l → after.hand ≡ p.hand → after.sums ≡ p.sums → ((t : ℕ) → told_at t p ≤ told_at t after) → Agrees m sums next after
+    → tiles_held next ≡ tiles_held l → stops next ≡ stops l → after.hand ≡ p.hand → after.sums ≡ p.sums → ((t : ℕ) → told_at t p ≤ told_at t after) → Agrees m sums next after
 still m sums l next p after agrees right same_held same_stops same_hand same_sums more = record {
   right = right;
   holds = λ t. let h = agrees.holds t in let x = ap (times t) same_held in let y = ap (λ hand. times t hand.given) same_hand in omega arith;
   told = λ t less. let x = ap (times t) same_held in let y = ap (λ hand. times t hand.given) same_hand in
-      let lesser : times t (held l) < times t p.hand.given = omega arith in let h = agrees.told t lesser in let up = more t in omega arith;
+      let lesser : times t (tiles_held l) < times t p.hand.given = omega arith in let h = agrees.told t lesser in let up = more t in omega arith;
   done = ap (λ hand. hand.done) same_hand ∙ agrees.done ∙ sym same_stops;
   share = ap (λ hand. hand.share) same_hand ∙ agrees.share;
   tiles = same_sums ∙ agrees.tiles;
 }
 
-held_added : {Item : Type 0} (t at : ℕ) (sum : Bool × Item) → held (added_up_to t at sum) ≡ t ∷ []
+held_added : {Item : Type 0} (t at : ℕ) (sum : Bool × Item) → tiles_held (added_up_to t at sum) ≡ t ∷ []
 held_added t zero sum = refl
 held_added t (suc at) sum = refl
 
@@ -102,9 +102,9 @@ module _ {Item : Type 0} {is_item : Item → Bool} (m : Coding Item) (coded : Co
         let P : Local Item → Type 0 = λ x. Agrees m w.sums x (get_or (set passes a q) b (new_pass w.sums)) in
         let Q : Local Item → Pass Item → Type 0 = λ x y. Agrees m w.sums x y in
         ⊎_elim (λ (same : (eqb b a ≡ true) × (b ≡ a)). subst P (sym (get_or-set_at w.locals a b l Stopped same.1 (omega arith)))
-            (subst (Q l) (sym (get_or-set_at passes a b q (new_pass w.sums) same.1 (omega arith))) agrees))
+        (subst (Q l) (sym (get_or-set_at passes a b q (new_pass w.sums) same.1 (omega arith))) agrees))
         (λ (differ : (eqb b a ≡ false) × (b ≢ a)). subst P (sym (get_or-set_other w.locals a b l Stopped differ.1))
-            (subst (Q (get_or w.locals b Stopped)) (sym (get_or-set_other passes a b q (new_pass w.sums) differ.1)) (stands.agree b is_one)))
+        (subst (Q (get_or w.locals b Stopped)) (sym (get_or-set_other passes a b q (new_pass w.sums) differ.1)) (stands.agree b is_one)))
         (eqb_tells b a);
     kept = kept;
   }
@@ -152,8 +152,13 @@ module _ {Item : Type 0} {is_item : Item → Bool} (m : Coding Item) (coded : Co
 
   -- a claim answers by the test of the claim word
   ready_by : (b : Bool) → ltb w.claims (length w.sums) ≡ b → Agrees m w.sums Ready p
-      → Stands m workers (record { sums = w.sums; claims = w.claims + 1; words = w.words; locals =
-      set w.locals a (next_of m.join m.unit Ready (cond b (Tile w.claims) Done)) }) (set passes a (pass_after m p Claim (cond b (Tile w.claims) Done)))
+      → Stands m workers (record {
+        sums = w.sums;
+        claims = w.claims + 1;
+        words = w.words;
+        locals =
+            set w.locals a (next_of m.join m.unit Ready (cond b (Tile w.claims) Done));
+      }) (set passes a (pass_after m p Claim (cond b (Tile w.claims) Done)))
   ready_by true test agrees = claimed agrees (ltb-true w.claims (length w.sums) test)
   ready_by false test agrees = stopped agrees (ltb-false w.claims (length w.sums) test)
 
@@ -170,11 +175,11 @@ module _ {Item : Type 0} {is_item : Item → Bool} (m : Coding Item) (coded : Co
       (set passes a (told_state p t rank))
   told t rank share below state =
       tell_keeps (code m w.sums) max_code w.sums workers w.claims words
-          (λ x. get_or (set w.words t (max (get_or w.words t 0) (code m w.sums t rank))) x 0) passes a p t rank stands.kept here (omega arith) below state
-          (raised t rank below)
+      (λ x. get_or (set w.words t (max (get_or w.words t 0) (code m w.sums t rank))) x 0) passes a p t rank stands.kept here (omega arith) below state
+      (raised t rank below)
 
   -- the sum of a tile is told
-  told_sum : (l next : Local Item) (t : ℕ) → Agrees m w.sums l p → t < length w.sums → IsRight m w.sums next → held next ≡ held l → stops next ≡ stops l
+  told_sum : (l next : Local Item) (t : ℕ) → Agrees m w.sums l p → t < length w.sums → IsRight m w.sums next → tiles_held next ≡ tiles_held l → stops next ≡ stops l
       → Stands m workers (record { sums = w.sums; claims = w.claims; words = words_after m w.sums w.words (TellSum t); locals = set w.locals a next })
       (set passes a (told_state p t 1))
   told_sum l next t agrees below right same_held same_stops =
@@ -190,7 +195,7 @@ module _ {Item : Type 0} {is_item : Item → Bool} (m : Coding Item) (coded : Co
   told_prefix t prior agrees =
       let below : t < length w.sums = agrees.right.0 in
       let sum : before_tile m.join m.unit w.sums (t + 1) ≡ seg_join m.join prior (own_sum m.unit w.sums t) = (laws w.sums items).before_next t below
-          ∙ ap (λ s. seg_join m.join s (own_sum m.unit w.sums t)) (sym agrees.right.1) in
+      ∙ ap (λ s. seg_join m.join s (own_sum m.unit w.sums t)) (sym agrees.right.1) in
       let agreed : Agrees m w.sums Ready (told_state p t 2) = record {
         right = tt;
         holds = λ x. omega arith;
@@ -205,8 +210,13 @@ module _ {Item : Type 0} {is_item : Item → Bool} (m : Coding Item) (coded : Co
         share = agrees.share;
         tiles = agrees.tiles;
       } in
-      let P : Bool × Item → Type 0 = λ s. Stands m workers (record { sums = w.sums; claims = w.claims; words =
-          set w.words t (max (get_or w.words t 0) (m.pack (prefix_of m s))); locals = set w.locals a Ready }) (set passes a (told_state p t 2)) in
+      let P : Bool × Item → Type 0 = λ s. Stands m workers (record {
+        sums = w.sums;
+        claims = w.claims;
+        words =
+            set w.words t (max (get_or w.words t 0) (m.pack (as_prefix m s)));
+        locals = set w.locals a Ready;
+      }) (set passes a (told_state p t 2)) in
       subst P sum
       (after w.claims (set w.words t (max (get_or w.words t 0) (code m w.sums t 2))) Ready (told_state p t 2)
       (length-set w.words t (max (get_or w.words t 0) (code m w.sums t 2)) ∙ stands.long) agreed
@@ -214,7 +224,7 @@ module _ {Item : Type 0} {is_item : Item → Bool} (m : Coding Item) (coded : Co
 
   -- a tile is looked at, and the status seen is one that was told
   saw : (t at : ℕ) (sum : Bool × Item) (status : Status Item) → Agrees m w.sums (Looking t at sum) p → state_of status ≤ highest (told_at at) passes
-      → IsRight m w.sums (after_look m.join t at sum status) → held (after_look m.join t at sum status) ≡ t ∷ [] → stops (after_look m.join t at sum status) ≡ 0
+      → IsRight m w.sums (after_look m.join t at sum status) → tiles_held (after_look m.join t at sum status) ≡ t ∷ [] → stops (after_look m.join t at sum status) ≡ 0
       → Stands m workers (record { sums = w.sums; claims = w.claims; words = w.words; locals = set w.locals a (after_look m.join t at sum status) })
       (set passes a (looked p at (state_of status)))
   saw t at sum status agrees known right same_held same_stops =
@@ -228,8 +238,13 @@ module _ {Item : Type 0} {is_item : Item → Bool} (m : Coding Item) (coded : Co
   one_more t at tile less sum same = ap (seg_join m.join (own_sum m.unit w.sums at)) same ∙ sym ((laws w.sums items).one_more at t less (omega arith))
 
   saw_told : (t at : ℕ) (sum : Bool × Item) (rank : ℕ) → rank ≡ highest (told_at at) passes → Agrees m w.sums (Looking t at sum) p
-      → Stands m workers (record { sums = w.sums; claims = w.claims; words = w.words; locals =
-      set w.locals a (after_look m.join t at sum (told_of m.join m.unit w.sums at rank)) }) (set passes a (looked p at (state_of (told_of m.join m.unit w.sums at rank))))
+      → Stands m workers (record {
+        sums = w.sums;
+        claims = w.claims;
+        words = w.words;
+        locals =
+            set w.locals a (after_look m.join t at sum (told_of m.join m.unit w.sums at rank));
+      }) (set passes a (looked p at (state_of (told_of m.join m.unit w.sums at rank))))
   saw_told t at sum zero top agrees = saw t at sum Silent agrees (omega arith) agrees.right refl refl
   saw_told t at sum (suc zero) top agrees =
       saw t at sum (told_of m.join m.unit w.sums at 1) agrees (omega arith)
@@ -243,14 +258,24 @@ module _ {Item : Type 0} {is_item : Item → Bool} (m : Coding Item) (coded : Co
       refl refl
 
   looking : (t at : ℕ) (sum : Bool × Item) → Agrees m w.sums (Looking t at sum) p
-      → Stands m workers (record { sums = w.sums; claims = w.claims; words = w.words; locals =
-      set w.locals a (after_look m.join t at sum (m.read (get_or w.words at 0))) }) (set passes a (looked p at (state_of (m.read (get_or w.words at 0)))))
+      → Stands m workers (record {
+        sums = w.sums;
+        claims = w.claims;
+        words = w.words;
+        locals =
+            set w.locals a (after_look m.join t at sum (m.read (get_or w.words at 0)));
+      }) (set passes a (looked p at (state_of (m.read (get_or w.words at 0)))))
   looking t at sum agrees =
       let rank = highest (told_at at) passes in
       let tile : at < length w.sums = omega (arith, agrees.right.0, agrees.right.1) in
       let status : told_of m.join m.unit w.sums at rank ≡ m.read (get_or w.words at 0) = sym (ap m.read (stands.kept.words at tile) ∙ code_read m coded laws w.sums items at rank) in
-      let P : Status Item → Type 0 = λ s. Stands m workers (record { sums = w.sums; claims = w.claims; words = w.words; locals =
-          set w.locals a (after_look m.join t at sum s) }) (set passes a (looked p at (state_of s))) in
+      let P : Status Item → Type 0 = λ s. Stands m workers (record {
+        sums = w.sums;
+        claims = w.claims;
+        words = w.words;
+        locals =
+            set w.locals a (after_look m.join t at sum s);
+      }) (set passes a (looked p at (state_of s))) in
       subst P status (saw_told t at sum rank refl agrees)
 
   -- the step of a worker in any state that agrees with its pass

@@ -13,7 +13,7 @@ use Rattle.status_word.specs.declared.world.Stepped.TheVariants.{Took, Idle}
 use Rattle.cvl_base.specs.TileSums.{own_sum}
 use Rattle.status_word.specs.Codings.{Coding}
 use Rattle.status_word.specs.Locals.{action_of}
-use Rattle.status_word.specs.Worlds.{Scene, new_scene, run_of}
+use Rattle.status_word.specs.Worlds.{Scene, new_scene, scene_after}
 
 -- a worker takes the step of its state, and is idle where it has stopped
 abbrev pub stepped_by : {Item : Type 0} → Option (Action Item) → Stepped Item
@@ -45,4 +45,4 @@ pub record IsReached {Item : Type 0} (is_item : Item → Bool) (m : Coding Item)
   pub items : AllPass (is_seg_item is_item) w.sums
   pub actors : List ℕ
   pub of_them : All (λ a. a < length w.locals) actors
-  pub reached : w ≡ run_of m (new_scene w.sums (length w.locals)) actors
+  pub reached : w ≡ scene_after m (new_scene w.sums (length w.locals)) actors

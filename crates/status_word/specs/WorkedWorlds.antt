@@ -4,7 +4,7 @@ use Rattle.cvl_base.specs.Integers.{sum_of}
 use Rattle.cvl_base.specs.ItemWords.{same_word}
 use Rattle.status_word.specs.declared.local.Local.TheVariants.{Stopped}
 use Rattle.status_word.specs.Codings.{Coding, coding_of}
-use Rattle.status_word.specs.Worlds.{Scene, new_scene, run_of, steps_of}
+use Rattle.status_word.specs.Worlds.{Scene, new_scene, scene_after, steps_of}
 
 abbrev pub additions : Coding ℤ
 additions = coding_of sum_of (pos 0) same_word same_word
@@ -13,7 +13,7 @@ abbrev pub worked_sums : List (Bool × ℤ)
 worked_sums = (false, pos 5) ∷ (false, pos 7) ∷ []
 
 abbrev pub worked_world : ℕ → List ℕ → Scene ℤ
-worked_world workers actors = run_of additions (new_scene worked_sums workers) actors
+worked_world workers actors = scene_after additions (new_scene worked_sums workers) actors
 
 abbrev pub worked_steps : ℕ → List ℕ → ℕ
 worked_steps workers actors = steps_of additions (new_scene worked_sums workers) actors
@@ -28,7 +28,7 @@ worked_words = 9223372036854775813 ∷ 9223372036854775820 ∷ []
 
 -- three workers over no tile
 abbrev pub empty_world : List ℕ → Scene ℤ
-empty_world actors = run_of additions (new_scene [] 3) actors
+empty_world actors = scene_after additions (new_scene [] 3) actors
 
 abbrev pub empty_steps : List ℕ → ℕ
 empty_steps actors = steps_of additions (new_scene [] 3) actors

@@ -47,17 +47,17 @@ module _ {Item : Type 0} (m : Coding Item) where
   answer_of sums claims words (TellSum t) = Told (own_sum m.unit sums t)
   answer_of sums claims words (TellPrefix t prior) = Told (own_sum m.unit sums t)
 
-  abbrev pub status_of : Bool × Item → Status Item
-  status_of sum = Sum sum.0 sum.1
+  abbrev pub as_sum : Bool × Item → Status Item
+  as_sum sum = Sum sum.0 sum.1
 
-  abbrev pub prefix_of : Bool × Item → Status Item
-  prefix_of sum = Prefix sum.0 sum.1
+  abbrev pub as_prefix : Bool × Item → Status Item
+  as_prefix sum = Prefix sum.0 sum.1
 
   -- both tells leave the greater of the two words
   abbrev pub words_after : List (Bool × Item) → List ℕ → Action Item → List ℕ
-  words_after sums words (TellSum t) = slice_set words t (max (slice_index words t) (m.pack (status_of (own_sum m.unit sums t))))
+  words_after sums words (TellSum t) = slice_set words t (max (slice_index words t) (m.pack (as_sum (own_sum m.unit sums t))))
   words_after sums words (TellPrefix t prior) = slice_set words t
-      (max (slice_index words t) (m.pack (prefix_of (seg_join m.join prior (own_sum m.unit sums t)))))
+      (max (slice_index words t) (m.pack (as_prefix (seg_join m.join prior (own_sum m.unit sums t)))))
   words_after sums words action = words
 
   -- the step of a worker in the state `local`
@@ -73,9 +73,9 @@ module _ {Item : Type 0} (m : Coding Item) where
   abbrev pub step_of : Scene Item → ℕ → Scene Item
   step_of w actor = acted w actor (local_at w actor) (action_of (local_at w actor))
 
-  abbrev pub run_of : Scene Item → List ℕ → Scene Item
-  run_of w [] = w
-  run_of w (actor ∷ actors) = run_of (step_of w actor) actors
+  abbrev pub scene_after : Scene Item → List ℕ → Scene Item
+  scene_after w [] = w
+  scene_after w (actor ∷ actors) = scene_after (step_of w actor) actors
 
   -- what a step adds to the pass of the worker that takes it
   abbrev pub pass_after : Pass Item → Action Item → Answer Item → Pass Item
@@ -128,16 +128,16 @@ abbrev pub LowersBy : {Item : Type 0} → Coding Item → Scene Item → ℕ →
 LowersBy m w actor = takes (local_at w actor) + left_of (step_of m w actor) ≤ left_of w
 
 abbrev pub RunLowers : {Item : Type 0} → Coding Item → Scene Item → List ℕ → Type 0
-RunLowers m w actors = steps_of m w actors + left_of (run_of m w actors) ≤ left_of w
+RunLowers m w actors = steps_of m w actors + left_of (scene_after m w actors) ≤ left_of w
 
 -- the tile that a worker holds
-abbrev pub held : {Item : Type 0} → Local Item → List ℕ
-held Ready = []
-held (Summing t) = t ∷ []
-held (Looking t at after) = t ∷ []
-held (Helping t at after) = t ∷ []
-held (Publishing t prior) = t ∷ []
-held Stopped = []
+abbrev pub tiles_held : {Item : Type 0} → Local Item → List ℕ
+tiles_held Ready = []
+tiles_held (Summing t) = t ∷ []
+tiles_held (Looking t at after) = t ∷ []
+tiles_held (Helping t at after) = t ∷ []
+tiles_held (Publishing t prior) = t ∷ []
+tiles_held Stopped = []
 
 -- what a state holds is right: its tiles are tiles, and its sum is that of the tiles which it speaks of
 abbrev pub IsRight : {Item : Type 0} → Coding Item → List (Bool × Item) → Local Item → Type 0
@@ -150,7 +150,7 @@ IsRight m sums Stopped = Unit {0}
 
 -- how many workers hold tile t
 abbrev pub holders : {Item : Type 0} → Scene Item → ℕ → ℕ
-holders w t = sum_by (λ l. times t (held l)) w.locals
+holders w t = sum_by (λ l. times t (tiles_held l)) w.locals
 
 abbrev pub word_at : {Item : Type 0} → Scene Item → ℕ → ℕ
 word_at w t = slice_index w.words t
@@ -178,5 +178,5 @@ pub record IsWorld {Item : Type 0} (m : Coding Item) (sums : List (Bool × Item)
 -- the same of a new world in which these workers took their steps, one after another
 abbrev pub IsWorldAfter : {Item : Type 0} → Coding Item → List (Bool × Item) → ℕ → List ℕ → Type 0
 IsWorldAfter m sums workers actors =
-    IsWorld m sums workers (run_of m (new_scene sums workers) actors)
+    IsWorld m sums workers (scene_after m (new_scene sums workers) actors)
     (passes_of m (new_scene sums workers) (replicate workers (new_pass sums)) actors)

@@ -6,7 +6,7 @@ ghost use Rattle.cvl_base.specs.Limits.{most_elements};
 ghost use Rattle.cvl_base.specs.SegmentMonoid.{is_seg_item};
 ghost use Rattle.status_word.specs.Codings.{coding};
 ghost use Rattle.status_word.specs.Reached.{stepped_of};
-ghost use Rattle.status_word.specs.Worlds.{left_of, local_at, new_scene, run_of, step_of, steps_of};
+ghost use Rattle.status_word.specs.Worlds.{left_of, local_at, new_scene, scene_after, step_of, steps_of};
 
 use crate::action::Action;
 use crate::laws::know_coding;
@@ -115,7 +115,7 @@ impl<M: Packed, A: Memory> World<M, A> {
     pub fn run(&mut self, actors: &[u32]) -> u64
         requires { All (λ a. a < length self.old.locals) actors.now }
         ensures world { self.new
-            ≡ run_of (coding M.Packed) self.old actors.now }
+            ≡ scene_after (coding M.Packed) self.old actors.now }
         ensures steps { result
             ≡ steps_of (coding M.Packed) self.old actors.now }
         ensures bound { result + left_of self.new ≤ left_of self.old }

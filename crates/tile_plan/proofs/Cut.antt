@@ -5,7 +5,7 @@ use Rattle.std.proofs.lemmas.List.{take-append-drop}
 use Rattle.std.proofs.lemmas.List.Concat.{flat_map-append}
 use Rattle.std.proofs.Math.Seq.{take-append_seam}
 use Rattle.cvl_base.specs.Lists.{joined}
-use Rattle.tile_plan.specs.Ranges.{count_of, range_of, IsCutBy}
+use Rattle.tile_plan.specs.Ranges.{tile_count, range_of, IsCutBy}
 use Rattle.tile_plan.proofs.Fronts.{next_of_front}
 use Rattle.tile_plan.proofs.Numbers.{ends_at}
 
@@ -13,7 +13,8 @@ joined_more : {Element : Type 0} (tiles : List (List Element)) (t : ℕ) → t <
 joined_more tiles t within = next_of_front (λ xs. xs) tiles t [] within
 
 -- the tiles before tile t are as long as the places before it
-pub length_before : {Element : Type 0} (len tile : ℕ) (xs : List Element) (tiles : List (List Element)) → 1 ≤ tile → IsCutBy len tile xs tiles → (t : ℕ) → t ≤ count_of len tile → length (joined (take t tiles)) ≡ min len (t * tile)
+pub length_before : {Element : Type 0} (len tile : ℕ) (xs : List Element) (tiles : List (List Element)) → 1 ≤ tile → IsCutBy len tile xs tiles → (t : ℕ) → t ≤ tile_count len tile
+    → length (joined (take t tiles)) ≡ min len (t * tile)
 length_before len tile xs tiles some cut zero within = omega arith
 length_before len tile xs tiles some cut (suc t) within =
     let next : suc t ≡ t + 1 = omega arith in
@@ -25,7 +26,8 @@ length_before len tile xs tiles some cut (suc t) within =
     omega (arith, parts, front, here, ends)
 
 -- the tiles up to tile t are the list's front that ends where tile t does
-pub front_is : {Element : Type 0} (len tile : ℕ) (xs : List Element) (tiles : List (List Element)) → 1 ≤ tile → IsCutBy len tile xs tiles → (t : ℕ) → t < count_of len tile → joined (take (t + 1) tiles) ≡ take (range_of len tile t).1 xs
+pub front_is : {Element : Type 0} (len tile : ℕ) (xs : List Element) (tiles : List (List Element)) → 1 ≤ tile → IsCutBy len tile xs tiles → (t : ℕ) → t < tile_count len tile
+    → joined (take (t + 1) tiles) ≡ take (range_of len tile t).1 xs
 front_is len tile xs tiles some cut t below =
     let front = joined (take (t + 1) tiles) in
     let rest = joined (drop (t + 1) tiles) in

@@ -2,12 +2,12 @@
 -- Source: the tiles of Merrill and Garland, Single-pass Parallel Prefix Scan with Decoupled Look-back, 2016, which end in any order.
 use Rattle.std.specs.Prelude.{◌≡◌, ℕ, ◌<◌, ◌≤◌, ◌==◌, List, length}
 use Rattle.std.specs.List.{All, count_by, flat_map, range_with_len, slice_range}
-use Rattle.tile_plan.specs.Ranges.{count_of, range_of, length_of}
+use Rattle.tile_plan.specs.Ranges.{tile_count, range_of, length_of}
 
 -- each tile has one piece, each piece is as long as its tile, and there is no other piece
 pub record AreAllPieces {X : Type 0} (len tile : ℕ) (pieces : List (ℕ × List X)) : Type 0 where
-  pub of_tiles : All (λ p. p.0 < count_of len tile) pieces
-  pub once : (t : ℕ) → t < count_of len tile → count_by (λ p. p.0 == t) pieces ≡ 1
+  pub of_tiles : All (λ p. p.0 < tile_count len tile) pieces
+  pub once : (t : ℕ) → t < tile_count len tile → count_by (λ p. p.0 == t) pieces ≡ 1
   pub as_long : All (λ p. length p.1 ≡ length_of len tile p.0) pieces
 
 -- each tile has one piece, each piece has the elements that its tile is made into, and there is no other piece

@@ -5,8 +5,8 @@ use Rattle.std.specs.Int.{div_ceil}
 use Rattle.cvl_base.specs.Lists.{joined}
 
 -- how many tiles there are: len / tile, rounded up
-abbrev pub count_of : ℕ → ℕ → ℕ
-count_of len tile = div_ceil len tile
+abbrev pub tile_count : ℕ → ℕ → ℕ
+tile_count len tile = div_ceil len tile
 
 -- where tile t starts, and where it ends, which is not counted in
 abbrev pub range_of : ℕ → ℕ → ℕ → ℕ × ℕ
@@ -28,5 +28,5 @@ pub record IsPartition (len count : ℕ) (range : ℕ → ℕ × ℕ) : Type 0 w
 -- the tiles that a plan cuts a list into: as many as its ranges, each as long as its range, and one after another the list
 pub record IsCutBy {Element : Type 0} (len tile : ℕ) (xs : List Element) (tiles : List (List Element)) : Type 0 where
   pub whole : joined tiles ≡ xs
-  pub as_many : length tiles ≡ count_of len tile
-  pub as_long : (t : ℕ) → t < count_of len tile → length (slice_index_or tiles t []) ≡ length_of len tile t
+  pub as_many : length tiles ≡ tile_count len tile
+  pub as_long : (t : ℕ) → t < tile_count len tile → length (slice_index_or tiles t []) ≡ length_of len tile t

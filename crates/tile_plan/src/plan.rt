@@ -1,7 +1,7 @@
 //! How a list is cut into tiles.
 
 ghost use Rattle.std.specs.Prelude.{◌≡◌, ℕ, ◌<◌, ◌≤◌, ◌==◌};
-ghost use Rattle.tile_plan.specs.Ranges.{count_of, range_of};
+ghost use Rattle.tile_plan.specs.Ranges.{tile_count, range_of};
 
 use std::marker::Model;
 
@@ -51,7 +51,7 @@ impl Plan {
 
     /// How many tiles there are: the number of elements divided by the length of a tile, rounded up.
     pub fn count(self) -> u32
-        ensures value { result ≡ count_of self.0 self.1 }
+        ensures value { result ≡ tile_count self.0 self.1 }
         ensures at_most { result ≤ self.0 }
         ensures tile { 1 ≤ self.1 }
     {
@@ -61,7 +61,7 @@ impl Plan {
     /// Where tile `t` starts and where it ends, in places of the list, the end not counted in. `t` must be below the
     /// count.
     pub fn range(self, t: u32) -> (u32, u32)
-        requires { t < count_of self.0 self.1 }
+        requires { t < tile_count self.0 self.1 }
         ensures value { result ≡ range_of self.0 self.1 t }
         ensures filled { result.0 < result.1 }
         ensures within { result.1 ≤ self.0 }

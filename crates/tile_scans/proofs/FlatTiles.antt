@@ -10,7 +10,7 @@ use Rattle.std.proofs.lemmas.List.Sums.{AllPass-from_list_all}
 use Rattle.cvl_base.specs.Folds.{fold_of, scan_of}
 use Rattle.cvl_base.specs.Monoid.{MonoidLaws}
 use Rattle.cvl_base.specs.SegmentMonoid.{is_seg_item, seg_unit, seg_join}
-use Rattle.tile_plan.specs.Ranges.{count_of, range_of}
+use Rattle.tile_plan.specs.Ranges.{tile_count, range_of}
 use Rattle.tile_plan.proofs.Numbers.{starts_past, starts_within}
 use Rattle.cvl_base.specs.TileSums.{before_tile}
 use Rattle.tile_scans.specs.Kernels.{tile_of, flat_sums, reduce_at}
@@ -32,13 +32,13 @@ module _ {X Item : Type 0} (is_item : Item → Bool) (item : X → Item) where
   pub items_read : (xs : List X) → list_all (λ x. is_item (item x)) xs ≡ true → AllPass is_item (map item xs)
   items_read xs items = All-map (λ y. is_item y ≡ true) item xs (all_read_pass xs items)
 
-pub length-flat_sums : {Item : Type 0} (join : Item → Item → Item) (unit : Item) (plan : ℕ × ℕ) (xs : List Item) → length (flat_sums join unit plan xs) ≡ count_of plan.0 plan.1
-length-flat_sums join unit plan xs = length-map-range_with_len (λ t. fold_of (seg_join join) (seg_unit unit) (tile_of plan.0 plan.1 (continued xs) t)) 0 (count_of plan.0 plan.1)
+pub length-flat_sums : {Item : Type 0} (join : Item → Item → Item) (unit : Item) (plan : ℕ × ℕ) (xs : List Item) → length (flat_sums join unit plan xs) ≡ tile_count plan.0 plan.1
+length-flat_sums join unit plan xs = length-map-range_with_len (λ t. fold_of (seg_join join) (seg_unit unit) (tile_of plan.0 plan.1 (continued xs) t)) 0 (tile_count plan.0 plan.1)
 
-pub flat_sum_at : {Item : Type 0} (join : Item → Item → Item) (unit : Item) (plan : ℕ × ℕ) (xs : List Item) (t : ℕ) → t < count_of plan.0 plan.1
+pub flat_sum_at : {Item : Type 0} (join : Item → Item → Item) (unit : Item) (plan : ℕ × ℕ) (xs : List Item) (t : ℕ) → t < tile_count plan.0 plan.1
     → get_or (flat_sums join unit plan xs) t (seg_unit unit) ≡ (false, fold_of join unit (tile_of plan.0 plan.1 xs t))
 flat_sum_at join unit plan xs t below =
-    get_or-map-range_with_len (λ k. fold_of (seg_join join) (seg_unit unit) (tile_of plan.0 plan.1 (continued xs) k)) 0 (count_of plan.0 plan.1) t t (seg_unit unit) below (omega arith)
+    get_or-map-range_with_len (λ k. fold_of (seg_join join) (seg_unit unit) (tile_of plan.0 plan.1 (continued xs) k)) 0 (tile_count plan.0 plan.1) t t (seg_unit unit) below (omega arith)
     ∙ ap (fold_of (seg_join join) (seg_unit unit)) (continued_slice xs (range_of plan.0 plan.1 t).0 (range_of plan.0 plan.1 t).1)
     ∙ continued_summed join false unit (tile_of plan.0 plan.1 xs t)
 
@@ -50,11 +50,11 @@ module _ {Item : Type 0} {is_item : Item → Bool} {unit : Item} {join : Item �
   pub flat_before_is_item : (t : ℕ) (before : Bool × Item) → t < length (flat_sums join unit plan xs)
       → before ≡ fold_of (seg_join join) (seg_unit unit) (take t (flat_sums join unit plan xs)) → IsTrue (is_item before.1)
   flat_before_is_item t before below is =
-      let within : t ≤ count_of plan.0 plan.1 = omega (arith, below, length-flat_sums join unit plan xs) in
+      let within : t ≤ tile_count plan.0 plan.1 = omega (arith, below, length-flat_sums join unit plan xs) in
       subst (λ w. IsTrue (is_item w.1)) (sym is) (before_is_item laws plan.0 plan.1 (continued xs) some (continued_passes is_item xs items) t within)
 
   -- what stands before a tile is what all elements before it join to
-  pub flat_before : (t : ℕ) → t ≤ count_of plan.0 plan.1
+  pub flat_before : (t : ℕ) → t ≤ tile_count plan.0 plan.1
       → fold_of (seg_join join) (seg_unit unit) (take t (flat_sums join unit plan xs)) ≡ (false, fold_of join unit (take (min plan.0 (t * plan.1)) xs))
   flat_before t within =
       let from : ℕ = min plan.0 (t * plan.1) in
@@ -67,7 +67,7 @@ module _ {Item : Type 0} {is_item : Item → Bool} {unit : Item} {join : Item �
       → before ≡ fold_of (seg_join join) (seg_unit unit) (take t (flat_sums join unit plan xs))
       → tile_of plan.0 plan.1 (scan_of join unit xs) t ≡ scan_of join before.1 (tile_of plan.0 plan.1 xs t)
   flat_scanned t before within is =
-      let below : t < count_of plan.0 plan.1 = omega (arith, within, length-flat_sums join unit plan xs) in
+      let below : t < tile_count plan.0 plan.1 = omega (arith, within, length-flat_sums join unit plan xs) in
       let from : ℕ = (range_of plan.0 plan.1 t).0 in
       let to : ℕ = (range_of plan.0 plan.1 t).1 in
       let starts : min plan.0 (t * plan.1) ≡ from = omega (arith, starts_within plan.0 plan.1 t some below) in
@@ -84,23 +84,23 @@ module _ {Item : Type 0} {is_item : Item → Bool} {unit : Item} {join : Item �
   length-scan = ap length (sym (continued_run_scan join unit unit xs)) ∙ length-run_scan_of join unit unit (continued xs) ∙ length-map xs (λ x. (false, x))
 
   -- the parts of all tiles, one after another, are the scan
-  pub flat_scans_joined : plan.0 ≡ length xs → flat_map (tile_of plan.0 plan.1 (scan_of join unit xs)) (range_with_len 0 (count_of plan.0 plan.1)) ≡ scan_of join unit xs
+  pub flat_scans_joined : plan.0 ≡ length xs → flat_map (tile_of plan.0 plan.1 (scan_of join unit xs)) (range_with_len 0 (tile_count plan.0 plan.1)) ≡ scan_of join unit xs
   flat_scans_joined whole = tiles_joined plan.0 plan.1 (scan_of join unit xs) some (length-scan ∙ sym whole)
 
   -- what all tiles join to is the reduce
-  pub flat_all_joined : (t : ℕ) (after : Bool × Item) → plan.0 ≡ length xs → t + 1 ≡ count_of plan.0 plan.1
+  pub flat_all_joined : (t : ℕ) (after : Bool × Item) → plan.0 ≡ length xs → t + 1 ≡ tile_count plan.0 plan.1
       → after ≡ before_tile join unit (flat_sums join unit plan xs) (t + 1) → after.1 ≡ fold_of join unit xs
   flat_all_joined t after whole last is =
       ap (λ w. w.1) (is ∙ flat_before (t + 1) (omega (arith, last)))
       ∙ ap (fold_of join unit) (take_all (min plan.0 ((t + 1) * plan.1)) xs
-      (let past = starts_past plan.0 plan.1 some in let end : (t + 1) * plan.1 ≡ count_of plan.0 plan.1 * plan.1 = ap (λ n. n * plan.1) last in omega (arith, past, end, whole)))
+      (let past = starts_past plan.0 plan.1 some in let end : (t + 1) * plan.1 ≡ tile_count plan.0 plan.1 * plan.1 = ap (λ n. n * plan.1) last in omega (arith, past, end, whole)))
 
   -- what the last tile gives is the reduce
-  pub flat_reduced : (t : ℕ) (before sum : Bool × Item) → plan.0 ≡ length xs → t + 1 ≡ count_of plan.0 plan.1
+  pub flat_reduced : (t : ℕ) (before sum : Bool × Item) → plan.0 ≡ length xs → t + 1 ≡ tile_count plan.0 plan.1
       → before ≡ before_tile join unit (flat_sums join unit plan xs) t
       → sum ≡ get_or (flat_sums join unit plan xs) t (seg_unit unit) → join before.1 sum.1 ≡ fold_of join unit xs
   flat_reduced t before sum whole last is_before is_sum =
-      let below : t < count_of plan.0 plan.1 = omega (arith, last) in
+      let below : t < tile_count plan.0 plan.1 = omega (arith, last) in
       let long : t < length (flat_sums join unit plan xs) = omega (arith, below, length-flat_sums join unit plan xs) in
       let unset : sum.0 ≡ false = ap (λ w. w.0) (is_sum ∙ flat_sum_at join unit plan xs t below) in
       ap (λ g. (seg_join join before (g, sum.1)).1) (sym unset)

@@ -8,7 +8,7 @@ use Rattle.std.proofs.lemmas.List.Elements.{All-nil, All-cons, All-head, All-tai
 use Rattle.cvl_base.specs.Booleans.{either}
 use Rattle.cvl_base.specs.Folds.{fold_of, scan_of}
 use Rattle.cvl_base.specs.SegmentMonoid.{is_seg_item, seg_join}
-use Rattle.scan_walks.specs.Runs.{continued, started, with_starts, run_of, run_scan_of}
+use Rattle.scan_walks.specs.Runs.{continued, started, with_starts, run_between, run_scan_of}
 use Rattle.scan_walks.proofs.Cut.{length-started}
 use Rattle.scan_walks.proofs.Scanned.{scan_of-cons}
 
@@ -119,7 +119,7 @@ module _ {Item : Type 0} where
       ∙ ap (with_starts ls) (rest_of_front k n xs))
 
   -- a run is a part of the segmented vector
-  pub run_of_is : (lengths : List ℕ) (xs : List Item) (from to : ℕ) → from ≤ to → run_of lengths xs from to ≡ slice_range (with_starts lengths xs) from to
+  pub run_of_is : (lengths : List ℕ) (xs : List Item) (from to : ℕ) → from ≤ to → run_between lengths xs from to ≡ slice_range (with_starts lengths xs) from to
   run_of_is lengths xs from to in_order =
       let m : ℕ = to - from in
       let end : from + m ≡ to = omega (arith, in_order) in

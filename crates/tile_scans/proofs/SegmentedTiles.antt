@@ -11,10 +11,10 @@ use Rattle.cvl_base.specs.Folds.{fold_of, scan_of}
 use Rattle.cvl_base.specs.Monoid.{MonoidLaws}
 use Rattle.cvl_base.specs.SegmentMonoid.{is_seg_item, seg_unit, seg_join}
 use Rattle.segdes.specs.Starts.{start_of}
-use Rattle.tile_plan.specs.Ranges.{count_of, range_of}
+use Rattle.tile_plan.specs.Ranges.{tile_count, range_of}
 use Rattle.tile_plan.proofs.Numbers.{starts_within}
 use Rattle.tile_scans.specs.Kernels.{tile_of, segmented_sums, starts_before, first_left, reduces_at}
-use Rattle.scan_walks.specs.Runs.{with_starts, run_of, run_scan_of, scans_of, reduces_of, IsOpenAt}
+use Rattle.scan_walks.specs.Runs.{with_starts, run_between, run_scan_of, scans_of, reduces_of, IsOpenAt}
 use Rattle.cvl_base.proofs.Lists.{sum-cons}
 use Rattle.scan_walks.proofs.Cut.{begins_by, segments_scanned}
 use Rattle.scan_walks.proofs.LastStart.{started_run_summed}
@@ -68,30 +68,30 @@ none_before (n ∷ ls) = refl
 -- ---- which reduces a tile gives
 
 module _ (plan : ℕ × ℕ) (lengths : List ℕ) where
-  pub first_left_at_end : (t : ℕ) → t ≡ count_of plan.0 plan.1 → first_left plan lengths t ≡ length lengths
+  pub first_left_at_end : (t : ℕ) → t ≡ tile_count plan.0 plan.1 → first_left plan lengths t ≡ length lengths
   first_left_at_end t end =
-      elim (eqb_tells t (count_of plan.0 plan.1)) [
+      elim (eqb_tells t (tile_count plan.0 plan.1)) [
         | inl e ↦ ap (λ b. cond b (length lengths) (starts_before lengths (t * plan.1) - 1)) e.0
         | inr e ↦ absurd (e.1 end)
       ]
 
-  pub first_left_within : (t : ℕ) → t < count_of plan.0 plan.1 → first_left plan lengths t ≡ starts_before lengths (t * plan.1) - 1
+  pub first_left_within : (t : ℕ) → t < tile_count plan.0 plan.1 → first_left plan lengths t ≡ starts_before lengths (t * plan.1) - 1
   first_left_within t below =
-      elim (eqb_tells t (count_of plan.0 plan.1)) [
+      elim (eqb_tells t (tile_count plan.0 plan.1)) [
         | inl e ↦ absurd (omega (arith, e.1, below))
         | inr e ↦ ap (λ b. cond b (length lengths) (starts_before lengths (t * plan.1) - 1)) e.0
       ]
 
-  pub first_left_le : (t : ℕ) → t ≤ count_of plan.0 plan.1 → first_left plan lengths t ≤ length lengths
+  pub first_left_le : (t : ℕ) → t ≤ tile_count plan.0 plan.1 → first_left plan lengths t ≤ length lengths
   first_left_le t within =
-      elim (leb_tells (count_of plan.0 plan.1) t) [
+      elim (leb_tells (tile_count plan.0 plan.1) t) [
         | inl e ↦ omega (arith, first_left_at_end t (omega (arith, within, e.1)))
         | inr e ↦ omega (arith, first_left_within t (omega (arith, e.1)), starts_before_le lengths (t * plan.1))
       ]
 
-  pub first_left_rises : (t : ℕ) → t < count_of plan.0 plan.1 → first_left plan lengths t ≤ first_left plan lengths (t + 1)
+  pub first_left_rises : (t : ℕ) → t < tile_count plan.0 plan.1 → first_left plan lengths t ≤ first_left plan lengths (t + 1)
   first_left_rises t below =
-      elim (leb_tells (count_of plan.0 plan.1) (t + 1)) [
+      elim (leb_tells (tile_count plan.0 plan.1) (t + 1)) [
         | inl e ↦ omega (arith, first_left_at_end (t + 1) (omega (arith, below, e.1)), first_left_le t (omega (arith, below)))
         | inr e ↦
             let more : t * plan.1 ≤ (t + 1) * plan.1 = omega arith in
@@ -111,10 +111,10 @@ length-reduces_of join unit [] xs = refl
 length-reduces_of join unit (n ∷ ls) xs = ap suc (length-reduces_of join unit ls (drop n xs))
 
 -- what the tiles give, one after another, are all reduces
-pub reduces_joined : {Item : Type 0} (join : Item → Item → Item) (unit : Item) (plan : ℕ × ℕ) (lengths : List ℕ) (xs : List Item) → 0 < count_of plan.0 plan.1
-    → flat_map (reduces_at join unit plan lengths xs) (range_with_len 0 (count_of plan.0 plan.1)) ≡ reduces_of join unit lengths xs
+pub reduces_joined : {Item : Type 0} (join : Item → Item → Item) (unit : Item) (plan : ℕ × ℕ) (lengths : List ℕ) (xs : List Item) → 0 < tile_count plan.0 plan.1
+    → flat_map (reduces_at join unit plan lengths xs) (range_with_len 0 (tile_count plan.0 plan.1)) ≡ reduces_of join unit lengths xs
 reduces_joined join unit plan lengths xs some =
-    let count = count_of plan.0 plan.1 in
+    let count = tile_count plan.0 plan.1 in
     let whole = reduces_of join unit lengths xs in
     let none : 0 * plan.1 ≡ 0 = omega arith in
     let first : first_left plan lengths 0 ≡ 0 = omega (arith, first_left_within plan lengths 0 some, ap (starts_before lengths) none, none_before lengths) in
@@ -124,17 +124,17 @@ reduces_joined join unit plan lengths xs some =
 -- ---- the sums of the tiles
 
 module _ {Item : Type 0} (join : Item → Item → Item) (unit : Item) (plan : ℕ × ℕ) (lengths : List ℕ) (xs : List Item) where
-  pub length-segmented_sums : length (segmented_sums join unit plan lengths xs) ≡ count_of plan.0 plan.1
-  length-segmented_sums = length-map-range_with_len (λ t. fold_of (seg_join join) (seg_unit unit) (tile_of plan.0 plan.1 (with_starts lengths xs) t)) 0 (count_of plan.0 plan.1)
+  pub length-segmented_sums : length (segmented_sums join unit plan lengths xs) ≡ tile_count plan.0 plan.1
+  length-segmented_sums = length-map-range_with_len (λ t. fold_of (seg_join join) (seg_unit unit) (tile_of plan.0 plan.1 (with_starts lengths xs) t)) 0 (tile_count plan.0 plan.1)
 
-  range_in_order : (t : ℕ) → 1 ≤ plan.1 → t < count_of plan.0 plan.1 → (range_of plan.0 plan.1 t).0 ≤ (range_of plan.0 plan.1 t).1
+  range_in_order : (t : ℕ) → 1 ≤ plan.1 → t < tile_count plan.0 plan.1 → (range_of plan.0 plan.1 t).0 ≤ (range_of plan.0 plan.1 t).1
   range_in_order t some below = omega (arith, starts_within plan.0 plan.1 t some below)
 
-  pub segmented_sum_at : (t : ℕ) → 1 ≤ plan.1 → t < count_of plan.0 plan.1
+  pub segmented_sum_at : (t : ℕ) → 1 ≤ plan.1 → t < tile_count plan.0 plan.1
       → get_or (segmented_sums join unit plan lengths xs) t (seg_unit unit)
-      ≡ fold_of (seg_join join) (seg_unit unit) (run_of lengths xs (range_of plan.0 plan.1 t).0 (range_of plan.0 plan.1 t).1)
+      ≡ fold_of (seg_join join) (seg_unit unit) (run_between lengths xs (range_of plan.0 plan.1 t).0 (range_of plan.0 plan.1 t).1)
   segmented_sum_at t some below =
-      get_or-map-range_with_len (λ k. fold_of (seg_join join) (seg_unit unit) (tile_of plan.0 plan.1 (with_starts lengths xs) k)) 0 (count_of plan.0 plan.1) t t (seg_unit unit) below (omega arith)
+      get_or-map-range_with_len (λ k. fold_of (seg_join join) (seg_unit unit) (tile_of plan.0 plan.1 (with_starts lengths xs) k)) 0 (tile_count plan.0 plan.1) t t (seg_unit unit) below (omega arith)
       ∙ ap (fold_of (seg_join join) (seg_unit unit)) (sym (run_of_is lengths xs (range_of plan.0 plan.1 t).0 (range_of plan.0 plan.1 t).1 (range_in_order t some below)))
 
 module _ {Item : Type 0} {is_item : Item → Bool} {unit : Item} {join : Item → Item → Item} (laws : MonoidLaws is_item unit join)
@@ -145,11 +145,11 @@ module _ {Item : Type 0} {is_item : Item → Bool} {unit : Item} {join : Item �
   pub segmented_before_is_item : (t : ℕ) (before : Bool × Item) → t < length (segmented_sums join unit plan lengths xs)
       → before ≡ fold_of (seg_join join) (seg_unit unit) (take t (segmented_sums join unit plan lengths xs)) → IsTrue (is_item before.1)
   segmented_before_is_item t before below is =
-      let within : t ≤ count_of plan.0 plan.1 = omega (arith, below, length-segmented_sums join unit plan lengths xs) in
+      let within : t ≤ tile_count plan.0 plan.1 = omega (arith, below, length-segmented_sums join unit plan lengths xs) in
       subst (λ w. IsTrue (is_item w.1)) (sym is) (before_is_item laws plan.0 plan.1 (with_starts lengths xs) some (with_starts_passes is_item lengths xs items) t within)
 
   -- what stands before a tile is what the elements before it join to
-  segmented_before : (t : ℕ) (before : Bool × Item) → t < count_of plan.0 plan.1
+  segmented_before : (t : ℕ) (before : Bool × Item) → t < tile_count plan.0 plan.1
       → before ≡ fold_of (seg_join join) (seg_unit unit) (take t (segmented_sums join unit plan lengths xs))
       → before ≡ fold_of (seg_join join) (false, unit) (take (range_of plan.0 plan.1 t).0 (with_starts lengths xs))
   segmented_before t before below is =
@@ -161,9 +161,9 @@ module _ {Item : Type 0} {is_item : Item → Bool} {unit : Item} {join : Item �
   -- a tile's part of the scans is the scan of its run after what stands before it
   pub segmented_scanned : (t : ℕ) (before : Bool × Item) → t < length (segmented_sums join unit plan lengths xs)
       → before ≡ fold_of (seg_join join) (seg_unit unit) (take t (segmented_sums join unit plan lengths xs))
-      → tile_of plan.0 plan.1 (scans_of join unit lengths xs) t ≡ run_scan_of join unit before.1 (run_of lengths xs (range_of plan.0 plan.1 t).0 (range_of plan.0 plan.1 t).1)
+      → tile_of plan.0 plan.1 (scans_of join unit lengths xs) t ≡ run_scan_of join unit before.1 (run_between lengths xs (range_of plan.0 plan.1 t).0 (range_of plan.0 plan.1 t).1)
   segmented_scanned t before within is =
-      let below : t < count_of plan.0 plan.1 = omega (arith, within, length-segmented_sums join unit plan lengths xs) in
+      let below : t < tile_count plan.0 plan.1 = omega (arith, within, length-segmented_sums join unit plan lengths xs) in
       let from : ℕ = (range_of plan.0 plan.1 t).0 in
       let to : ℕ = (range_of plan.0 plan.1 t).1 in
       ap (λ sums. slice_range sums from to) (sym (segments_scanned laws lengths xs unit items))
@@ -173,7 +173,7 @@ module _ {Item : Type 0} {is_item : Item → Bool} {unit : Item} {join : Item �
 
   -- the parts of all tiles, one after another, are the scans
   pub segmented_scans_joined : plan.0 ≡ length xs → sum lengths ≡ length xs
-      → flat_map (tile_of plan.0 plan.1 (scans_of join unit lengths xs)) (range_with_len 0 (count_of plan.0 plan.1)) ≡ scans_of join unit lengths xs
+      → flat_map (tile_of plan.0 plan.1 (scans_of join unit lengths xs)) (range_with_len 0 (tile_count plan.0 plan.1)) ≡ scans_of join unit lengths xs
   segmented_scans_joined whole total =
       tiles_joined plan.0 plan.1 (scans_of join unit lengths xs) some (length-scans_of join unit lengths xs total ∙ sym whole)
 
@@ -213,7 +213,7 @@ module _ {Item : Type 0} {is_item : Item → Bool} {unit : Item} {join : Item �
       → plan.0 ≡ length xs → sum lengths ≡ length xs → first_left plan lengths t < length lengths
       → IsOpenAt join unit lengths xs (first_left plan lengths t) (range_of plan.0 plan.1 t).0 before.1
   first_is_open t before within is whole total lt =
-      let below : t < count_of plan.0 plan.1 = omega (arith, within, length-segmented_sums join unit plan lengths xs) in
+      let below : t < tile_count plan.0 plan.1 = omega (arith, within, length-segmented_sums join unit plan lengths xs) in
       let place : ℕ = t * plan.1 in
       let o : ℕ = first_left plan lengths t in
       let is_first : o ≡ starts_before lengths place - 1 = first_left_within plan lengths t below in

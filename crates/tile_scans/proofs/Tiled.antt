@@ -14,7 +14,7 @@ use Rattle.operators.specs.SegmentMonoidLaws.{seg_laws}
 use Rattle.cvl_base.specs.Folds.{fold_of}
 use Rattle.cvl_base.specs.Monoid.{MonoidLaws}
 use Rattle.cvl_base.specs.SegmentMonoid.{is_seg_item, seg_unit, seg_join}
-use Rattle.tile_plan.specs.Ranges.{count_of, range_of}
+use Rattle.tile_plan.specs.Ranges.{tile_count, range_of}
 use Rattle.tile_plan.proofs.Numbers.{starts_within, starts_past, ends_at}
 use Rattle.cvl_base.specs.TileSums.{before_tile}
 use Rattle.tile_scans.specs.Kernels.{tile_of, sums_of}
@@ -49,15 +49,15 @@ module _ {X : Type 0} where
       ∙ ap (λ m. take m whole) end
       ∙ ap (λ m. take (cut m) whole) (sym next)
 
-  tile_cut : (len tile t : ℕ) (xs : List X) → 1 ≤ tile → t < count_of len tile → tile_of len tile xs t ≡ slice_range xs (min len (t * tile)) (min len ((t + 1) * tile))
+  tile_cut : (len tile t : ℕ) (xs : List X) → 1 ≤ tile → t < tile_count len tile → tile_of len tile xs t ≡ slice_range xs (min len (t * tile)) (min len ((t + 1) * tile))
   tile_cut len tile t xs some below =
       let starts : t * tile ≡ min len (t * tile) = omega (arith, starts_within len tile t some below) in
       ap (λ k. slice_range xs k (min len ((t + 1) * tile))) starts
 
   -- the tiles of a list, one after another, are the list
-  pub tiles_joined : (len tile : ℕ) (xs : List X) → 1 ≤ tile → length xs ≡ len → flat_map (tile_of len tile xs) (range_with_len 0 (count_of len tile)) ≡ xs
+  pub tiles_joined : (len tile : ℕ) (xs : List X) → 1 ≤ tile → length xs ≡ len → flat_map (tile_of len tile xs) (range_with_len 0 (tile_count len tile)) ≡ xs
   tiles_joined len tile xs some long =
-      let n = count_of len tile in
+      let n = tile_count len tile in
       slices_joined xs (λ t. min len (t * tile)) (tile_of len tile xs) n (omega arith)
       (λ t below. let ends = ends_at len tile t some below in let same : suc t * tile ≡ (t + 1) * tile = omega arith in omega arith)
       (λ t below. tile_cut len tile t xs some below)
@@ -79,26 +79,26 @@ module _ {Item : Type 0} {is_item : Item → Bool} {unit : Item} {join : Item �
   -- the sums of tiles are items
   pub sums_pass : AllPass (is_seg_item is_item) (sums_of join unit len tile run)
   sums_pass =
-      All-map (λ w. is_seg_item is_item w ≡ true) (λ t. fold_of (seg_join join) (seg_unit unit) (tile_of len tile run t)) (range_with_len 0 (count_of len tile))
-      (All-from_get_or (λ t. is_seg_item is_item (fold_of (seg_join join) (seg_unit unit) (tile_of len tile run t)) ≡ true) (range_with_len 0 (count_of len tile)) 0 (λ i below. sum_is_item _))
+      All-map (λ w. is_seg_item is_item w ≡ true) (λ t. fold_of (seg_join join) (seg_unit unit) (tile_of len tile run t)) (range_with_len 0 (tile_count len tile))
+      (All-from_get_or (λ t. is_seg_item is_item (fold_of (seg_join join) (seg_unit unit) (tile_of len tile run t)) ≡ true) (range_with_len 0 (tile_count len tile)) 0 (λ i below. sum_is_item _))
 
   -- what the tiles before tile t join to is what their elements join to
-  pub sums_before : (t : ℕ) → t ≤ count_of len tile
+  pub sums_before : (t : ℕ) → t ≤ tile_count len tile
       → fold_of (seg_join join) (seg_unit unit) (take t (sums_of join unit len tile run)) ≡ fold_of (seg_join join) (seg_unit unit) (take (min len (t * tile)) run)
   sums_before zero within = let none : 0 ≡ min len (0 * tile) = omega arith in ap (λ k. fold_of (seg_join join) (seg_unit unit) (take k run)) none
   sums_before (suc t) within =
       let next : suc t ≡ t + 1 = omega arith in
-      let below : t < count_of len tile = omega arith in
+      let below : t < tile_count len tile = omega arith in
       let sums = sums_of join unit len tile run in
       let sum : ℕ → Bool × Item = λ k. fold_of (seg_join join) (seg_unit unit) (tile_of len tile run k) in
       let from : ℕ = min len (t * tile) in
       let to : ℕ = min len ((t + 1) * tile) in
       let front = take from run in
-      let long : t < length sums = omega (arith, length-map-range_with_len sum 0 (count_of len tile), below) in
+      let long : t < length sums = omega (arith, length-map-range_with_len sum 0 (tile_count len tile), below) in
       let end : from + (to - from) ≡ to = (let ends = ends_at len tile t some below in let same : suc t * tile ≡ (t + 1) * tile = omega arith in omega arith) in
       ap (λ k. fold_of (seg_join join) (seg_unit unit) (take k sums)) next
       ∙ fold_more (seg_join join) (seg_unit unit) sums t (seg_unit unit) long
-      ∙ ap (λ w. seg_join join (fold_of (seg_join join) (seg_unit unit) (take t sums)) w) (get_or-map-range_with_len sum 0 (count_of len tile) t t (seg_unit unit) below (omega arith))
+      ∙ ap (λ w. seg_join join (fold_of (seg_join join) (seg_unit unit) (take t sums)) w) (get_or-map-range_with_len sum 0 (tile_count len tile) t t (seg_unit unit) below (omega arith))
       ∙ ap (λ w. seg_join join w (sum t)) (sums_before t (omega arith))
       ∙ sym (fold_of-append (seg_laws laws) front (tile_of len tile run t) (All-take (λ w. is_seg_item is_item w ≡ true) from run items) (tile_passes t))
       ∙ ap (λ ws. fold_of (seg_join join) (seg_unit unit) (front ++ ws)) (tile_cut len tile t run some below)
@@ -107,18 +107,18 @@ module _ {Item : Type 0} {is_item : Item → Bool} {unit : Item} {join : Item �
       ∙ ap (λ k. fold_of (seg_join join) (seg_unit unit) (take (min len (k * tile)) run)) (sym next)
 
   -- and it is an item
-  pub before_is_item : (t : ℕ) → t ≤ count_of len tile → IsTrue (is_seg_item is_item (fold_of (seg_join join) (seg_unit unit) (take t (sums_of join unit len tile run))))
+  pub before_is_item : (t : ℕ) → t ≤ tile_count len tile → IsTrue (is_seg_item is_item (fold_of (seg_join join) (seg_unit unit) (take t (sums_of join unit len tile run))))
   before_is_item t within =
       fold_of_is_item (seg_laws laws) (take t (sums_of join unit len tile run)) (All-take (λ w. is_seg_item is_item w ≡ true) t (sums_of join unit len tile run) sums_pass)
 
 -- a list that isn't empty has a tile
-pub some_tile : (len tile : ℕ) → 1 ≤ tile → 0 < len → 0 < count_of len tile
+pub some_tile : (len tile : ℕ) → 1 ≤ tile → 0 < len → 0 < tile_count len tile
 some_tile len tile some filled =
-    elim (leb_tells 1 (count_of len tile)) [
+    elim (leb_tells 1 (tile_count len tile)) [
       | inl e ↦ e.1
       | inr e ↦
-          let none : count_of len tile ≡ 0 = omega (arith, e.1) in
-          let product : count_of len tile * tile ≡ 0 * tile = ap (λ n. n * tile) none in
+          let none : tile_count len tile ≡ 0 = omega (arith, e.1) in
+          let product : tile_count len tile * tile ≡ 0 * tile = ap (λ n. n * tile) none in
           absurd (omega (arith, starts_past len tile some, product, filled))
     ]
 

@@ -5,7 +5,7 @@ use Rattle.std.specs.List.{range_with_len}
 use Rattle.cvl_base.specs.Folds.{fold_of}
 use Rattle.cvl_base.specs.SegmentMonoid.{seg_unit, seg_join}
 use Rattle.cvl_base.specs.TileSums.{before_tile, own_sum}
-use Rattle.tile_plan.specs.Ranges.{count_of, range_of}
+use Rattle.tile_plan.specs.Ranges.{tile_count, range_of}
 use Rattle.scan_walks.specs.Runs.{continued, with_starts, reduces_of}
 
 -- of a list that is cut into tiles, the elements of tile t
@@ -15,7 +15,7 @@ tile_of len tile xs t = slice_range xs (range_of len tile t).0 (range_of len til
 -- the sum of each tile, in order
 abbrev pub sums_of : {Item : Type 0} → (Item → Item → Item) → Item → ℕ → ℕ → List (Bool × Item) → List (Bool × Item)
 sums_of join unit len tile run =
-    map (λ t. fold_of (seg_join join) (seg_unit unit) (tile_of len tile run t)) (range_with_len 0 (count_of len tile))
+    map (λ t. fold_of (seg_join join) (seg_unit unit) (tile_of len tile run t)) (range_with_len 0 (tile_count len tile))
 
 abbrev pub flat_sums : {Item : Type 0} → (Item → Item → Item) → Item → ℕ × ℕ → List Item → List (Bool × Item)
 flat_sums join unit plan xs = sums_of join unit plan.0 plan.1 (continued xs)
@@ -43,7 +43,7 @@ starts_before (n ∷ lengths) (suc place) = 1 + starts_before lengths (suc place
 -- the first segment whose reduce isn't given by the tiles before tile t: the last one that starts before the tile, or
 -- none where there is no such tile
 abbrev pub first_left : ℕ × ℕ → List ℕ → ℕ → ℕ
-first_left plan lengths t = if t == count_of plan.0 plan.1 then length lengths else starts_before lengths (t * plan.1) - 1
+first_left plan lengths t = if t == tile_count plan.0 plan.1 then length lengths else starts_before lengths (t * plan.1) - 1
 
 -- of the reduces of segments, those that tile t gives: of the segments that have ended when a segment starts in it, or
 -- when it is the last tile, and that no tile before it gave

@@ -29,7 +29,7 @@ pub(crate) struct Flat<'a, M: Packed, X: Copy, E: Reading<X, M::Item>> {
 impl<'a, M: Packed, X: Copy, E: Reading<X, M::Item>> Flat<'a, M, X, E> {
     ghost use Rattle.cvl_base.specs.SegmentMonoid.{is_seg_item, seg_unit};
     ghost use Rattle.tile_scans.specs.Kernels.{flat_sums, tile_of};
-    ghost use Rattle.tile_plan.specs.Ranges.{count_of};
+    ghost use Rattle.tile_plan.specs.Ranges.{tile_count};
 
     /// A vector of at most 4,194,304 elements in tiles of `tile` elements, of which there is at least one.
     pub(crate) fn new(elements: &'a [X], tile: u32) -> Flat<'a, M, X, E>
@@ -62,7 +62,7 @@ impl<'a, M: Packed, X: Copy, E: Reading<X, M::Item>> Flat<'a, M, X, E> {
 
     /// The elements of tile `t`.
     fn tile(&self, t: u32) -> &'a [X]
-        requires { t < count_of self.now.plan.0 self.now.plan.1 }
+        requires { t < tile_count self.now.plan.0 self.now.plan.1 }
         ensures elements { result.now ≡ tile_of self.now.plan.0 self.now.plan.1 self.now.elements.now t }
         ensures items { AllPass (λ x. M.is_item (E.item x)) result.now }
     {
@@ -160,9 +160,9 @@ impl<'a, M: Packed, X: Copy, E: Reading<X, M::Item>> Kernel for FlatReduce<'a, M
     ghost use Rattle.std.specs.Prelude.{IfOk};
     ghost use Rattle.cvl_base.specs.Folds.{fold_of};
     ghost use Rattle.tile_scans.specs.Kernels.{IsAtTile, flat_sums, reduce_at};
-    ghost use Rattle.tile_plan.specs.Ranges.{count_of};
+    ghost use Rattle.tile_plan.specs.Ranges.{tile_count};
 
-    ghost items = { λ k t. reduce_at (count_of k.flat.plan.0 k.flat.plan.1) (fold_of M.join M.unit
+    ghost items = { λ k t. reduce_at (tile_count k.flat.plan.0 k.flat.plan.1) (fold_of M.join M.unit
         (map E.item k.flat.elements.now)) t };
 
     fn len(&self) -> usize {
@@ -179,7 +179,7 @@ impl<'a, M: Packed, X: Copy, E: Reading<X, M::Item>> Kernel for FlatReduce<'a, M
         requires { IsAtTile M.join M.unit (flat_sums M.join M.unit self.now.flat.plan
             (map E.item self.now.flat.elements.now)) t before sum }
         ensures { IfOk result (λ made. made.items
-            ≡ reduce_at (count_of self.now.flat.plan.0 self.now.flat.plan.1) (fold_of M.join M.unit
+            ≡ reduce_at (tile_count self.now.flat.plan.0 self.now.flat.plan.1) (fold_of M.join M.unit
             (map E.item self.now.flat.elements.now)) t) }
     {
         know_laws::<M>();

@@ -32,7 +32,7 @@ pub(crate) struct Segmented<'a, M: Packed, X: Copy, E: Reading<X, M::Item>, A: A
 impl<'a, M: Packed, X: Copy, E: Reading<X, M::Item>, A: Allocator> Segmented<'a, M, X, E, A> {
     ghost use Rattle.cvl_base.specs.SegmentMonoid.{is_seg_item, seg_unit};
     ghost use Rattle.tile_scans.specs.Kernels.{first_left, segmented_sums};
-    ghost use Rattle.tile_plan.specs.Ranges.{count_of};
+    ghost use Rattle.tile_plan.specs.Ranges.{tile_count};
 
     /// A vector of at most 4,194,304 elements beside its descriptor, in tiles of `tile` elements, of which there is at least
     /// one.
@@ -86,7 +86,7 @@ impl<'a, M: Packed, X: Copy, E: Reading<X, M::Item>, A: Allocator> Segmented<'a,
 
     /// The first segment whose reduce the tiles before tile `t` don't give, where `t` may be the number of tiles.
     fn first_segment(&self, t: u32) -> usize
-        requires { t ≤ count_of self.now.plan.0 self.now.plan.1 }
+        requires { t ≤ tile_count self.now.plan.0 self.now.plan.1 }
         ensures { result ≡ first_left self.now.plan self.now.segments.now t }
     {
         if t == self.plan.count() {

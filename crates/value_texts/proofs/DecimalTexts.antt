@@ -1,5 +1,6 @@
 -- How many digits a number's decimal has, and where it stands after a digit more.
-use Rattle.std.proofs.Common.{◌≡◌, ℕ, zero, suc, ◌+◌, ◌-◌, ◌*◌, ◌^◌, ◌/◌, ◌%◌, ◌<◌, ◌≤◌, Bool, true, false, nat_le, List, [], ◌∷◌, ◌++◌, length, drop, drop-drop, slice_set, ℤ, pos, negsuc, int_lt, unsigned_abs, refl, ap, sym, ◌∙◌, arith}
+use Rattle.std.proofs.Common.{◌≡◌, ℕ, zero, suc, ◌+◌, ◌-◌, ◌*◌, ◌^◌, ◌/◌, ◌%◌, ◌<◌, ◌≤◌, Bool, true, false, nat_le, List, [], ◌∷◌, ◌++◌, length, drop, drop-drop, slice_set, ℤ, pos, negsuc, int_lt}
+use Rattle.std.proofs.Common.{unsigned_abs, refl, ap, sym, ◌∙◌, arith}
 use Rattle.std.proofs.lemmas.Bool.Decides.{nat_tests}
 use Rattle.std.proofs.Math.Nat.{pow-succ', one-le-pow}
 use Rattle.std.proofs.lemmas.Fmt.{decimal_digit, decimal_step}

@@ -10,7 +10,8 @@ join_spaced f x [] = sym (append-nil (f x))
 join_spaced f x (y ∷ ys) = ap (λ t. f x ++ (32 ∷ t)) (join_spaced f y ys)
 
 -- the first text appended, and then the others with a space before each: the texts joined by spaces
-pub joined_onto : {X : Type 0} (f : X → List ℕ) (old mid new : List ℕ) (x : X) (xs whole : List X) → whole ≡ x ∷ xs → mid ≡ old ++ f x → new ≡ mid ++ spaced f xs → new ≡ old ++ join_with_byte 32 (map f whole)
+pub joined_onto : {X : Type 0} (f : X → List ℕ) (old mid new : List ℕ) (x : X) (xs whole : List X) → whole ≡ x ∷ xs → mid ≡ old ++ f x → new ≡ mid ++ spaced f xs
+    → new ≡ old ++ join_with_byte 32 (map f whole)
 joined_onto f old mid new x xs whole parts first others = rw (others, first, parts, append_assoc old (f x) (spaced f xs), ← join_spaced f x xs)
 
 -- a text that begins with a longer text begins with what that one begins with

@@ -22,5 +22,5 @@ abbrev pub outcome_of : Meaning → List ℕ × Option (ℕ × Fault)
 outcome_of m = (text_of_script m, m.stop)
 
 -- what a script does whose inputs are these vectors
-abbrev pub run_of : List ℕ → List (List ℤ) → List ℕ × Option (ℕ × Fault)
-run_of script vectors = outcome_of (meaning {A = Unit {0}} script (map (λ xs. Vector xs) vectors))
+abbrev pub outcome_on : List ℕ → List (List ℤ) → List ℕ × Option (ℕ × Fault)
+outcome_on script vectors = outcome_of (meaning {A = Unit {0}} script (map (λ xs. Vector xs) vectors))

@@ -4,26 +4,26 @@ ghost use Rattle.std.specs.Prelude.{◌≡◌, pos, codes, take, [], ◌∷◌};
 ghost use Rattle.cvl_base.specs.declared.fault.FaultNo.TheVariants as no;
 ghost use Rattle.cvl_base.specs.Faults.{fault};
 ghost use Rattle.worked_scripts.specs.BoundNames.{full, step_over};
-ghost use Rattle.worked_scripts.specs.Outcomes.{run_of};
+ghost use Rattle.worked_scripts.specs.Outcomes.{outcome_on};
 
 /// The form of the line, the call's name, the number of its arguments and the line's numbers come before what the names
 /// stand for.
 pub fn reading()
-    ensures form_before_call { run_of (codes "c = xyz_wuz ?") [] ≡ ([], Some (1, fault no.BadLine)) }
-    ensures call_before_number_of_arguments { run_of (codes "c = xyz_wuz") [] ≡ ([], Some (1, fault no.UnknownCall)) }
-    ensures number_of_arguments_before_numbers { run_of (codes "c = add_wuz 99999999999") []
+    ensures form_before_call { outcome_on (codes "c = xyz_wuz ?") [] ≡ ([], Some (1, fault no.BadLine)) }
+    ensures call_before_number_of_arguments { outcome_on (codes "c = xyz_wuz") [] ≡ ([], Some (1, fault no.UnknownCall)) }
+    ensures number_of_arguments_before_numbers { outcome_on (codes "c = add_wuz 99999999999") []
         ≡ ([], Some (1, fault no.WrongArgumentCount)) }
-    ensures numbers_before_names { run_of (codes "c = add_wuz q 99999999999") []
+    ensures numbers_before_names { outcome_on (codes "c = add_wuz q 99999999999") []
         ≡ ([], Some (1, fault no.BadNumber)) }
 {}
 
 /// Arguments are checked from left to right, each for its name and then its kind.
 pub fn arguments()
-    ensures unknown_name_before_wrong_kind { run_of (codes "c = add_wuz q 1") [] ≡ ([], Some (1, fault no.UnknownName)) }
-    ensures wrong_kind_before_unknown_name { run_of (codes "c = add_wuz 1 q") [] ≡ ([], Some (1, fault no.WrongKind)) }
-    ensures unknown_name_before_missing_input { run_of (codes "c = input q") [] ≡ ([], Some (1, fault no.UnknownName)) }
-    ensures wrong_kind_before_missing_input { run_of (codes "c = input T") [] ≡ ([], Some (1, fault no.WrongKind)) }
-    ensures wrong_kind_before_lengths { run_of (codes "v = input 1\nd = mke_fov v\nc = sel_wuz d v v") ((pos 1 ∷ []) ∷ [])
+    ensures unknown_name_before_wrong_kind { outcome_on (codes "c = add_wuz q 1") [] ≡ ([], Some (1, fault no.UnknownName)) }
+    ensures wrong_kind_before_unknown_name { outcome_on (codes "c = add_wuz 1 q") [] ≡ ([], Some (1, fault no.WrongKind)) }
+    ensures unknown_name_before_missing_input { outcome_on (codes "c = input q") [] ≡ ([], Some (1, fault no.UnknownName)) }
+    ensures wrong_kind_before_missing_input { outcome_on (codes "c = input T") [] ≡ ([], Some (1, fault no.WrongKind)) }
+    ensures wrong_kind_before_lengths { outcome_on (codes "v = input 1\nd = mke_fov v\nc = sel_wuz d v v") ((pos 1 ∷ []) ∷ [])
         ≡ ([], Some (3, fault no.WrongKind)) }
 {}
 
@@ -42,7 +42,7 @@ pub fn too_many_names()
 
 /// Inputs are counted from 1.
 pub fn missing_inputs()
-    ensures past_the_last { run_of (codes "a = input 2") ([] ∷ []) ≡ ([], Some (1, fault no.NoSuchInput)) }
-    ensures before_the_first { run_of (codes "a = input 0") ([] ∷ []) ≡ ([], Some (1, fault no.NoSuchInput)) }
-    ensures below_0 { run_of (codes "a = input -1") ([] ∷ []) ≡ ([], Some (1, fault no.NoSuchInput)) }
+    ensures past_the_last { outcome_on (codes "a = input 2") ([] ∷ []) ≡ ([], Some (1, fault no.NoSuchInput)) }
+    ensures before_the_first { outcome_on (codes "a = input 0") ([] ∷ []) ≡ ([], Some (1, fault no.NoSuchInput)) }
+    ensures below_0 { outcome_on (codes "a = input -1") ([] ∷ []) ≡ ([], Some (1, fault no.NoSuchInput)) }
 {}

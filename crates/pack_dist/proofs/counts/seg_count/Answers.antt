@@ -5,10 +5,12 @@ pub returns-clause-values : goal.returns-clause-values
 returns-clause-values g c =
     let d = c.args.d.now in
     let row = c.lengths-lengths.ensures in
-    (reduced c.args.flags.now d (descriptor-few d _ row.value row.lengths) (descriptor-small d _ row.value row.lengths) (λ v. v.items) c.seg_reduce_readings.result c.seg_reduce_readings.ensures.values).0
+    (reduced c.args.flags.now d (descriptor-few d _ row.value row.lengths) (descriptor-small d _ row.value row.lengths)
+    (λ v. v.items) c.seg_reduce_readings.result c.seg_reduce_readings.ensures.values).0
 
 pub returns-clause-lengths : goal.returns-clause-lengths
 returns-clause-lengths g c =
     let d = c.args.d.now in
     let row = c.lengths-lengths.ensures in
-    (reduced c.args.flags.now d (descriptor-few d _ row.value row.lengths) (descriptor-small d _ row.value row.lengths) (λ v. v.items) c.seg_reduce_readings.result c.seg_reduce_readings.ensures.values).1
+    (reduced c.args.flags.now d (descriptor-few d _ row.value row.lengths) (descriptor-small d _ row.value row.lengths)
+    (λ v. v.items) c.seg_reduce_readings.result c.seg_reduce_readings.ensures.values).1

@@ -2,7 +2,7 @@ use Rattle.std.proofs.Common.{◌≡◌, ◌+◌, drop, map, vec_capacity, vec_l
 use Rattle.cvl_base.specs.declared.fault.FaultNo.TheVariants.{IndexOutOfRange}
 use Rattle.cvl_base.specs.Elementwise.{values_from}
 use Rattle.cvl_base.specs.Extracts.{element_at}
-use Rattle.permutes.specs.Pushed.{after}
+use Rattle.cvl_base.specs.Gives.{after}
 use Rattle.permutes.proofs.backs.with_elements_at.Given as goal
 
 -- the elements pushed, and after them those of the other indices

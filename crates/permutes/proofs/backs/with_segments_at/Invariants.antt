@@ -1,6 +1,7 @@
 use Rattle.std.proofs.Common.{◌≡◌, ◌+◌, drop, vec_capacity, vec_len}
 use Rattle.segdes.specs.Starts.{start_of}
-use Rattle.permutes.specs.Pushed.{after, back_from}
+use Rattle.cvl_base.specs.Gives.{after}
+use Rattle.permutes.specs.Pushed.{back_from}
 use Rattle.permutes.proofs.backs.with_segments_at.Given as goal
 
 -- the elements pushed, and after them those of the other segments

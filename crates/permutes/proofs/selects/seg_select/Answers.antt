@@ -1,7 +1,7 @@
 use Rattle.std.proofs.Common.{◌≡◌, ◌∙◌, subst, sym, arith, length, refl, rules, OnOk}
 use Rattle.cvl_base.specs.Gives.{Gives}
 use Rattle.permutes.specs.Parts.{fault_from, flagged_parts, senders_from}
-use Rattle.permute_walks.specs.Senders.{told}
+use Rattle.permute_walks.specs.Senders.{fault_told}
 use Rattle.permutes.proofs.Through.{places-flagged_parts}
 use Rattle.permutes.proofs.Walked.{sends_at, flagged_segments_sent, length-senders_from}
 use Rattle.permutes.proofs.Whole.{seg_select-meaning}
@@ -21,5 +21,5 @@ returns-clause-values g c =
     (c.elements_sent.ensures.values (fault_from 0 parts) (senders_from 0 parts) (length-senders_from 0 parts ∙ places-flagged_parts d index flags flag_total ∙ sym c.count_true-places.ensures.value)
     (flagged_segments_sent (length source) (omega (arith, source_total, total, c.requires.in_limit)) 0 d index flags total (sym total ∙ flag_total) (omega (arith, source_total, total)))
     (λ given left p.
-    let met : (told given ≡ fault_from 0 parts) × OnOk given (p.left.now ≡ senders_from 0 parts) = search rules in
+    let met : (fault_told given ≡ fault_from 0 parts) × OnOk given (p.left.now ≡ senders_from 0 parts) = search rules in
     sends_at (λ n. fault_from 0 parts) (λ n. senders_from 0 parts) given p.left.now left 0 0 refl p.leaves met))

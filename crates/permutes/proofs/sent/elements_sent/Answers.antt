@@ -20,7 +20,8 @@ returns-in_err-senders-in_default-clause-values g c fault senders long sent send
     let p = err_from_is_err_and c.from_residual-in_err-senders-in_default.result c.from_residual-in_err-senders-in_default.ensures.1 in
     let e = c.in_err-senders-in_default.field-0.0 in
     rw (p.1, p.2)
-    (taken_err (λ (v : Vec ℕ g.row.A.Denot). v.items) (λ (v : Vec g.row.T.Denot g.row.A.Denot). v.items) fault senders (filter_map (slice_get c.args.source.now) senders) e (c.in_err-senders-in_default.ensures.1 fault senders long sends))
+    (taken_err (λ (v : Vec ℕ g.row.A.Denot). v.items) (λ (v : Vec g.row.T.Denot g.row.A.Denot). v.items) fault senders (filter_map (slice_get c.args.source.now) senders) e
+    (c.in_err-senders-in_default.ensures.1 fault senders long sends))
 
 pub returns-in_ok-values-in-Some-clause-values : goal.returns-in_ok-values-in-Some-clause-values
 returns-in_ok-values-in-Some-clause-values g c fault senders long sent sends =

@@ -10,7 +10,8 @@ pub returns-in_err-senders-clause-values : goal.returns-in_err-senders-clause-va
 returns-in_err-senders-clause-values g c fault senders long sends =
     let p = err_from_is_err_and c.from_residual.result c.from_residual.ensures.1 in
     rw (p.1, p.2)
-    (taken_err (λ (v : Vec ℕ g.row.A.Denot). v.items) (λ (v : Vec g.row.T.Denot g.row.A.Denot). v.items) fault senders (written_over c.args.source.now senders c.args.defaults.now) c.in_err-senders.field-0.0 (c.in_err-senders.ensures.1 fault senders long sends))
+    (taken_err (λ (v : Vec ℕ g.row.A.Denot). v.items) (λ (v : Vec g.row.T.Denot g.row.A.Denot). v.items) fault senders
+    (written_over c.args.source.now senders c.args.defaults.now) c.in_err-senders.field-0.0 (c.in_err-senders.ensures.1 fault senders long sends))
 
 pub returns-in_default-clause-values : goal.returns-in_default-clause-values
 returns-in_default-clause-values g c fault senders long sends =

@@ -2,7 +2,7 @@ use Rattle.std.proofs.Common.{◌≡◌, ◌∙◌, ap, filter_map, subst, sym, 
 use Rattle.std.proofs.lemmas.List.{length-replicate}
 use Rattle.cvl_base.specs.Gives.{Gives, unless}
 use Rattle.cvl_base.specs.Permutes.{all_targets, first_fault, wrongs}
-use Rattle.permute_walks.specs.Senders.{nobody, senders_of, told}
+use Rattle.permute_walks.specs.Senders.{nobody, senders_of, fault_told}
 use Rattle.permute_walks.proofs.Over.{length-taken}
 use Rattle.permute_walks.proofs.Sent.{length-senders_of}
 use Rattle.permutes.proofs.Flat.{simple-meaning}
@@ -21,7 +21,7 @@ given_by g c =
     c.elements_sent.ensures.values (first_fault 0 (wrongs places ts)) (senders_of 0 ts places) (length-senders_of 0 ts places)
     (simple_sent index (length c.args.source.now) c.in_ok-check_agree.ensures (omega (arith, c.requires.in_limit)))
     (λ given left p.
-    let met : (told given ≡ first_fault 0 (wrongs (length p.shown.now) ts)) × OnOk given (p.left.now ≡ senders_of 0 ts (length p.shown.now)) = search rules in
+    let met : (fault_told given ≡ first_fault 0 (wrongs (length p.shown.now) ts)) × OnOk given (p.left.now ≡ senders_of 0 ts (length p.shown.now)) = search rules in
     sends_at (λ n. first_fault 0 (wrongs n ts)) (senders_of 0 ts) given p.left.now left (length p.shown.now) places (ap length p.shows ∙ length-replicate places nobody) p.leaves met)
 
 pub returns-clause-values : goal.returns-clause-values

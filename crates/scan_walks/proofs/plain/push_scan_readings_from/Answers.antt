@@ -9,8 +9,10 @@ loop-x-preserved g c =
     let item = g.E.Reading.item in
     record {
       item = search rules;
-      sum = joined_reading m.join item c.args.before c.loop-x.so_far _ c.x-item.result c.args.xs.now _ c.loop-x-test.true c.x-item.is c.loop-x.invariant.sum (c.join-so_far.ensures ∙ ap (m.join c.loop-x.so_far) c.item.ensures);
-      values = pushed_more m.join _ _ _ c.args.before c.loop-x.so_far _ _ (length-read item c.args.xs.now _ c.loop-x-test.true) c.loop-x.invariant.values c.loop-x.invariant.sum c.push_reserved.ensures.items;
+      sum = joined_reading m.join item c.args.before c.loop-x.so_far _ c.x-item.result c.args.xs.now _ c.loop-x-test.true c.x-item.is c.loop-x.invariant.sum
+          (c.join-so_far.ensures ∙ ap (m.join c.loop-x.so_far) c.item.ensures);
+      values = pushed_more m.join _ _ _ c.args.before c.loop-x.so_far _ _ (length-read item c.args.xs.now _ c.loop-x-test.true) c.loop-x.invariant.values c.loop-x.invariant.sum
+          c.push_reserved.ensures.items;
       as_long = omega arith;
       capacity = omega arith;
     }

@@ -8,7 +8,8 @@ loop-x-preserved g c =
     let m = g.M.Monoid in
     record {
       item = search rules;
-      sum = joined_reading m.join g.E.Reading.item c.args.before c.loop-x.sum _ c.x-item.result c.args.xs.now _ c.loop-x-test.true c.x-item.is c.loop-x.invariant.sum (c.join-sum.ensures ∙ ap (m.join c.loop-x.sum) c.item.ensures);
+      sum = joined_reading m.join g.E.Reading.item c.args.before c.loop-x.sum _ c.x-item.result c.args.xs.now _ c.loop-x-test.true c.x-item.is c.loop-x.invariant.sum
+          (c.join-sum.ensures ∙ ap (m.join c.loop-x.sum) c.item.ensures);
     }
 
 pub returns : goal.returns

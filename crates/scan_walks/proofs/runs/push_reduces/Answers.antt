@@ -24,7 +24,8 @@ pub sum_readings_from-requires-clause-items : goal.sum_readings_from-requires-cl
 sum_readings_from-requires-clause-items g c =
     let m = g.M.Monoid in
     let item = g.E.Reading.item in
-    subst (λ xs. AllPass (λ x. m.is_item (item x)) xs) (sym c.split_at.ensures.front) (All-take (λ x. m.is_item (item x) ≡ true) (read_at c.args.lengths.now c.loop-length.length-index) c.loop-length.rest.now c.loop-length.invariant.items)
+    subst (λ xs. AllPass (λ x. m.is_item (item x)) xs) (sym c.split_at.ensures.front)
+    (All-take (λ x. m.is_item (item x) ≡ true) (read_at c.args.lengths.now c.loop-length.length-index) c.loop-length.rest.now c.loop-length.invariant.items)
 
 pub loop-length-preserved : goal.loop-length-preserved
 loop-length-preserved g c =
@@ -39,7 +40,8 @@ loop-length-preserved g c =
     let n = read_at row s in
     record {
       whole = reduces_pushed m.join m.unit lengths _ _ _ (map item rest) _ _ c.unit.result c.sum_readings_from.result s n lt is_length
-          (ap (map item) c.split_at.ensures.front ∙ sym (take-map item n rest)) (ap (map item) c.split_at.ensures.back ∙ sym (drop-map item n rest)) c.unit.ensures c.sum_readings_from.ensures c.push_reserved.ensures.items c.loop-length.invariant.whole;
+          (ap (map item) c.split_at.ensures.front ∙ sym (take-map item n rest)) (ap (map item) c.split_at.ensures.back ∙ sym (drop-map item n rest)) c.unit.ensures c.sum_readings_from.ensures
+          c.push_reserved.ensures.items c.loop-length.invariant.whole;
       as_long = omega arith;
       capacity = omega arith;
       covered = omega (arith, is_length, c.split_at.ensures.back_len, c.loop-length.invariant.covered, sum_by-drop_more (λ x. x) lengths s 0 lt);

@@ -25,7 +25,8 @@ loop-length-preserved g c =
     let cut_read : c.min.result ≡ min (read_at row s) (length (map item rest)) = omega (arith, cut, length-map rest item) in
     record {
       whole = scans_pushed m.join m.unit lengths _ _ _ (map item rest) _ _ c.unit.result s (read_at row s) c.min.result lt is_length cut_read
-          (ap (map item) c.split_at.ensures.front ∙ sym (take-map item c.min.result rest)) (ap (map item) c.split_at.ensures.back ∙ sym (drop-map item c.min.result rest)) c.unit.ensures c.push_scan_readings_from.ensures.values c.loop-length.invariant.whole;
+          (ap (map item) c.split_at.ensures.front ∙ sym (take-map item c.min.result rest))
+          (ap (map item) c.split_at.ensures.back ∙ sym (drop-map item c.min.result rest)) c.unit.ensures c.push_scan_readings_from.ensures.values c.loop-length.invariant.whole;
       as_long = omega arith;
       covered = omega (arith, is_length, cut, c.split_at.ensures.back_len, c.loop-length.invariant.covered, sum_by-drop_more (λ x. x) lengths s 0 lt);
       room = omega arith;

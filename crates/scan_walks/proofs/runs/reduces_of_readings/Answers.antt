@@ -35,14 +35,29 @@ push_reduces-requires-clause-covered g c =
     ap sum (range_read c.lengths.result.now d (first + 1) m c.lengths.ensures.value) in
     let ends : start_of d first + get_or d first 0 ≡ start_of d (first + 1) = sym (sum_by_more (λ x. x) d first 0 (omega (arith, some, c.requires.within))) in
     let begun = c.requires.begun some in
-    omega (arith, read, ends, begun.not_past, begun.begun, range_sum d (first + 1) next (omega (arith, some)), sum_by-take-drop (λ x. x) d next, c.requires.total, c.start.ensures.value, c.length.ensures, c.split_at-2.ensures.back_len, c.split_at.ensures.back_len, length-drop c.args.from c.args.a.now)
+    omega (
+      arith,
+      read,
+      ends,
+      begun.not_past,
+      begun.begun,
+      range_sum d (first + 1) next (omega (arith, some)),
+      sum_by-take-drop (λ x. x) d next,
+      c.requires.total,
+      c.start.ensures.value,
+      c.length.ensures,
+      c.split_at-2.ensures.back_len,
+      c.split_at.ensures.back_len,
+      length-drop c.args.from c.args.a.now,
+    )
 
 pub push_reduces-requires-clause-items : goal.push_reduces-requires-clause-items
 push_reduces-requires-clause-items g c =
     let m = g.M.Monoid in
     let item = g.E.Reading.item in
     subst (λ xs. AllPass (λ x. m.is_item (item x)) xs) (sym (c.split_at-2.ensures.back ∙ ap (drop (c.start.result + c.length.result - c.args.from)) c.split_at.ensures.back))
-    (All-drop (λ x. m.is_item (item x) ≡ true) (c.start.result + c.length.result - c.args.from) (drop c.args.from c.args.a.now) (All-drop (λ x. m.is_item (item x) ≡ true) c.args.from c.args.a.now c.requires.items))
+    (All-drop (λ x. m.is_item (item x) ≡ true) (c.start.result + c.length.result - c.args.from) (drop c.args.from c.args.a.now)
+    (All-drop (λ x. m.is_item (item x) ≡ true) c.args.from c.args.a.now c.requires.items))
 
 pub returns : goal.returns
 returns g c =

@@ -3,7 +3,7 @@ use Rattle.std.specs.Prelude.{sum, unsigned_abs}
 use Rattle.std.specs.List.{AllPass}
 use Rattle.std.proofs.lemmas.List.{drop-map, length-map, take-map}
 use Rattle.std.proofs.lemmas.List.Elements.{All-drop, All-map, All-take}
-use Rattle.scan_walks.specs.Runs.{run_of, run_scan_of, scans_of}
+use Rattle.scan_walks.specs.Runs.{run_between, run_scan_of, scans_of}
 use Rattle.scan_walks.proofs.Cut.{starts_in_order}
 use Rattle.scan_walks.proofs.RunPushed.{run_pushed, segments_cover}
 use Rattle.scan_walks.proofs.Scanned.{part_read}
@@ -73,4 +73,4 @@ returns-clause-values g c =
     (ap (map item) c.split_at.ensures.front ∙ sym (take-map item k _) ∙ ap (take k) part) (ap (map item) c.split_at.ensures.back ∙ sym (drop-map item k _) ∙ ap (drop k) part)
     c.push_scan_readings_from.ensures.values
     (c.push_scans.ensures.values ∙ ap (λ ls. pushed ++ scans_of m.join m.unit ls others) (range_read c.lengths.result.now d first.result n c.lengths.ensures.value))
-    ∙ ap (λ sums. sums ++ run_scan_of m.join m.unit c.args.before (run_of d xs c.args.from c.args.to)) c.in_ok-sums.ensures.items
+    ∙ ap (λ sums. sums ++ run_scan_of m.join m.unit c.args.before (run_between d xs c.args.from c.args.to)) c.in_ok-sums.ensures.items

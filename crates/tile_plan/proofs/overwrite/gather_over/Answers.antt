@@ -12,4 +12,4 @@ returns g c =
     let long : length c.deref_mut.result.now ≡ length whole = omega (arith, count, c.in_ok-resize.ensures.len, c.in-Some.ensures, total) in
     let are = whole_written c.resize.new.self.len whole c.deref_mut.result.now after (drop (length after) c.resize.new.self.items) long
     c.write_in_runs.ensures count in
-    record { made = rw are c.sorted-pieces.ensures.made; ranges = rw are c.sorted-pieces.ensures.ranges; }
+    record { made = rw are c.sorted-pieces.ensures.made; ranges = rw are c.sorted-pieces.ensures.ranges }

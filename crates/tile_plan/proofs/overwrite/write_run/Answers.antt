@@ -20,5 +20,6 @@ loop-piece-preserved g c =
     let wanted_is : wanted ≡ drop (min left (length piece)) piece = c.split_at.ensures.back ∙ ap₂ drop at c.deref.ensures.value in
     let end : c.min-in-loop-piece.result ≡ min (length wanted) (length c.args.run.now - written) = c.min-in-loop-piece.ensures ∙ ap (λ k. min (length wanted) (k - written)) so_far.as_long in
     let fitting_is : fitting ≡ take (min (length wanted) (length c.args.run.now - written)) wanted = c.split_at-in-loop-piece.ensures.front ∙ ap (λ k. take k wanted) end in
-    let more = written_more c.args.start (length c.args.run.now) left written passed piece wanted fitting run c.copy_from_slice.new.self (written + length fitting - written) so_far wanted_is fitting_is c.copy_from_slice.ensures.after (omega arith) in
+    let more = written_more c.args.start (length c.args.run.now) left written passed piece wanted fitting run c.copy_from_slice.new.self
+    (written + length fitting - written) so_far wanted_is fitting_is c.copy_from_slice.ensures.after (omega arith) in
     rw (next_passed, c.split_at.ensures.front_len, at) more

@@ -2,7 +2,7 @@ use Rattle.std.proofs.Common.{◌≡◌, ◌<◌, ◌∷◌, [], get_or, arith, 
 use Rattle.std.specs.List.{flat_map, range_with_len}
 use Rattle.std.proofs.lemmas.List.{map-id}
 use Rattle.cvl_base.specs.Folds.{fold_of}
-use Rattle.tile_plan.specs.Ranges.{count_of}
+use Rattle.tile_plan.specs.Ranges.{tile_count}
 use Rattle.tile_scans.specs.Kernels.{reduce_at}
 use Rattle.tile_scans.proofs.Tiled.{some_tile}
 use Rattle.tile_scans.proofs.FlatTiles.{flat_reduces_joined, length-flat_sums}
@@ -14,7 +14,7 @@ index-requires g c =
     let flat = c.new-flat.result in
     let xs = map (λ x. x) flat.elements.now in
     let whole = fold_of m.join m.unit xs in
-    let count = count_of flat.plan.0 flat.plan.1 in
+    let count = tile_count flat.plan.0 flat.plan.1 in
     let filled : 0 < flat.plan.0 = omega (arith, c.in-Some.ensures.some, flat.whole, ap length c.new-flat.ensures.elements) in
     let values : c.in_ok-reduces.reduces.items ≡ whole ∷ [] =
     c.in_ok-reduces.ensures
@@ -28,7 +28,7 @@ returns g c =
     let flat = c.new-flat.result in
     let xs = map (λ x. x) flat.elements.now in
     let whole = fold_of m.join m.unit xs in
-    let count = count_of flat.plan.0 flat.plan.1 in
+    let count = tile_count flat.plan.0 flat.plan.1 in
     let filled : 0 < flat.plan.0 = omega (arith, c.in-Some.ensures.some, flat.whole, ap length c.new-flat.ensures.elements) in
     let values : c.in_ok-reduces.reduces.items ≡ whole ∷ [] =
     c.in_ok-reduces.ensures

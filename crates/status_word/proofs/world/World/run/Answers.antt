@@ -27,10 +27,20 @@ loop-actor-preserved g c =
     let locals = ap (λ s. length s.locals) c.step.ensures.world ∙ acted_locals m now a (local_at now a) (action_of (local_at now a)) ∙ c.loop-actor.invariant.3 in
     let world = c.step.ensures.world ∙ run_more m c.args.actors.now c.args.self.now now c.loop-actor.actor-index a c.loop-actor-test.true refl c.loop-actor.invariant.0 in
     elim c.match-step.branch [
-      | in-Took w ↦ (world, w.steps-is ∙ ap (λ n. c.loop-actor.steps + n) (sym (takes_some (local_at now a) w.in-Took.field-0 w.in-Took.ensures.stepped))
-          ∙ counted, (let s = w.steps-is in omega arith), locals)
-      | in-Idle w ↦ (world, w.steps-is ∙ (let none = takes_none (local_at now a) w.in-Idle.ensures.stepped in
-          let same : c.loop-actor.steps ≡ c.loop-actor.steps + takes (local_at now a) = omega arith in same) ∙ counted, (let s = w.steps-is in omega arith), locals)
+      | in-Took w ↦ (
+        world,
+        w.steps-is ∙ ap (λ n. c.loop-actor.steps + n) (sym (takes_some (local_at now a) w.in-Took.field-0 w.in-Took.ensures.stepped))
+            ∙ counted,
+        (let s = w.steps-is in omega arith),
+        locals,
+      )
+      | in-Idle w ↦ (
+        world,
+        w.steps-is ∙ (let none = takes_none (local_at now a) w.in-Idle.ensures.stepped in
+            let same : c.loop-actor.steps ≡ c.loop-actor.steps + takes (local_at now a) = omega arith in same) ∙ counted,
+        (let s = w.steps-is in omega arith),
+        locals,
+      )
     ]
 
 pub returns-clause-bound : goal.returns-clause-bound

@@ -1,6 +1,6 @@
 use Rattle.std.proofs.Common.{◌<◌, arith, false, map, sym, ap, ◌∙◌}
 use Rattle.cvl_base.specs.Folds.{fold_of}
-use Rattle.tile_plan.specs.Ranges.{count_of}
+use Rattle.tile_plan.specs.Ranges.{tile_count}
 use Rattle.tile_scans.proofs.FlatTiles.{flat_sum_at, length-flat_sums, tile_read}
 use Rattle.tile_scans.proofs.flat_tiles.Flat.sum.Goals as goal
 
@@ -18,7 +18,7 @@ returns g c =
     let plan = self.plan in
     let xs = self.elements.now in
     let t = c.args.t in
-    let below : t < count_of plan.0 plan.1 = omega (arith, c.requires, length-flat_sums m.join m.unit plan (map item xs)) in
+    let below : t < tile_count plan.0 plan.1 = omega (arith, c.requires, length-flat_sums m.join m.unit plan (map item xs)) in
     ap (λ v. (false, v))
     (c.sum_readings_from.ensures
     ∙ ap (λ u. fold_of m.join u (map item c.tile.result.now)) c.unit.ensures

@@ -1,7 +1,7 @@
 use Rattle.std.proofs.Common.{◌+◌, ◌*◌, ◌<◌, ◌≤◌, arith, rules, length, map, sym, ap, subst, slice_range, ◌∙◌}
 use Rattle.std.proofs.lemmas.List.{length-map}
 use Rattle.std.proofs.Math.Nat.{mul-le-mul_left}
-use Rattle.tile_plan.specs.Ranges.{count_of}
+use Rattle.tile_plan.specs.Ranges.{tile_count}
 use Rattle.tile_plan.proofs.Numbers.{starts_within}
 use Rattle.tile_scans.specs.Kernels.{first_left}
 use Rattle.scan_walks.specs.Runs.{IsOpenAt, reduces_of}
@@ -19,7 +19,7 @@ pub overflow_add-t : goal.overflow_add-t
 overflow_add-t g c =
     let m = g.M.Monoid in
     let v = c.args.self.now.vector in
-    let below : c.args.t < count_of v.plan.0 v.plan.1 = omega (arith, c.requires.within, length-segmented_sums m.join m.unit v.plan v.segments.now (map g.E.Reading.item v.elements.now)) in
+    let below : c.args.t < tile_count v.plan.0 v.plan.1 = omega (arith, c.requires.within, length-segmented_sums m.join m.unit v.plan v.segments.now (map g.E.Reading.item v.elements.now)) in
     let at_least : c.args.t * 1 ≤ c.args.t * v.plan.1 = mul-le-mul_left c.args.t v.some in
     let small : c.args.t + 1 ≤ 4194304 = omega (arith, starts_within v.plan.0 v.plan.1 c.args.t v.some below, at_least, v.few) in
     search (rules, small)
@@ -40,14 +40,14 @@ pub reduces_of_readings-requires-clause-in_order : goal.reduces_of_readings-requ
 reduces_of_readings-requires-clause-in_order g c =
     let m = g.M.Monoid in
     let v = c.args.self.now.vector in
-    let below : c.args.t < count_of v.plan.0 v.plan.1 = omega (arith, c.requires.within, length-segmented_sums m.join m.unit v.plan v.segments.now (map g.E.Reading.item v.elements.now)) in
+    let below : c.args.t < tile_count v.plan.0 v.plan.1 = omega (arith, c.requires.within, length-segmented_sums m.join m.unit v.plan v.segments.now (map g.E.Reading.item v.elements.now)) in
     omega (arith, first_left_rises v.plan v.segments.now c.args.t below, c.first_segment-first.ensures, c.first_segment-next.ensures)
 
 pub reduces_of_readings-requires-clause-within : goal.reduces_of_readings-requires-clause-within
 reduces_of_readings-requires-clause-within g c =
     let m = g.M.Monoid in
     let v = c.args.self.now.vector in
-    let within : c.args.t + 1 ≤ count_of v.plan.0 v.plan.1 = omega (arith, c.requires.within, length-segmented_sums m.join m.unit v.plan v.segments.now (map g.E.Reading.item v.elements.now)) in
+    let within : c.args.t + 1 ≤ tile_count v.plan.0 v.plan.1 = omega (arith, c.requires.within, length-segmented_sums m.join m.unit v.plan v.segments.now (map g.E.Reading.item v.elements.now)) in
     omega (arith, first_left_le v.plan v.segments.now (c.args.t + 1) within, c.first_segment-next.ensures)
 
 pub reduces_of_readings-requires-clause-begun : goal.reduces_of_readings-requires-clause-begun
@@ -58,7 +58,7 @@ reduces_of_readings-requires-clause-begun g c =
     let d = v.segments.now in
     let xs = map item v.elements.now in
     let t = c.args.t in
-    let within : t + 1 ≤ count_of v.plan.0 v.plan.1 = omega (arith, c.requires.within, length-segmented_sums m.join m.unit v.plan d xs) in
+    let within : t + 1 ≤ tile_count v.plan.0 v.plan.1 = omega (arith, c.requires.within, length-segmented_sums m.join m.unit v.plan d xs) in
     λ lt.
     let some : first_left v.plan d t < length d = omega (arith, lt, first_left_le v.plan d (t + 1) within, c.first_segment-first.ensures, c.first_segment-next.ensures) in
     let opened = first_is_open c.know_laws.ensures v.plan d xs v.some (items_read m.is_item item v.elements.now v.items) t c.args.before c.requires.within c.requires.before_is

@@ -1,5 +1,5 @@
 use Rattle.std.proofs.Common.{arith, map, sym, ap, ◌∙◌}
-use Rattle.scan_walks.specs.Runs.{run_of, run_scan_of}
+use Rattle.scan_walks.specs.Runs.{run_between, run_scan_of}
 use Rattle.tile_scans.proofs.FlatTiles.{all_read_pass, items_read}
 use Rattle.tile_scans.proofs.SegmentedTiles.{length-segmented_sums, segmented_before_is_item, segmented_scanned}
 use Rattle.tile_scans.proofs.segmented_tiles.SegmentedScanKernel.items.Goals as goal
@@ -32,5 +32,5 @@ returns g c =
     let d = v.segments.now in
     let before = c.args.before in
     c.in_ok-sums.ensures.values
-    ∙ ap (λ r. run_scan_of m.join m.unit before.1 (run_of d xs r.0 r.1)) c.range-from.ensures.value
+    ∙ ap (λ r. run_scan_of m.join m.unit before.1 (run_between d xs r.0 r.1)) c.range-from.ensures.value
     ∙ sym (segmented_scanned c.know_laws.ensures v.plan d xs v.some (items_read m.is_item item v.elements.now v.items) c.args.t before c.requires.within c.requires.before_is)
