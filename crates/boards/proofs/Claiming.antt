@@ -70,5 +70,5 @@ module _ {Item : Type 0} (found count : ℕ) (p now : Pass Item) (last : Bool) (
     claim_answered tiles all fresh =
         let claims = claims_by found p left (length p.sums) refl fresh in
         let of_old = subst (λ (s : Seated Item). Claims (length p.sums) (answer_by found left) s.pass.hand.given (pass_by found p left).hand.given s.is_done
-            (is_last (answer_by found left))) before claims in
+        (is_last (answer_by found left))) before claims in
         rw (all, answer_is, last_is, stepped) of_old

@@ -28,9 +28,9 @@ module _ {Item : Type 0} where
       let one : left ≡ 1 = omega arith in
       let n = length seats in
       let named : ◌≡◌ {A = Seated Item} record { id = id; pass = me.0; is_done = false } record { id = board.id; pass = first_pass board.sums left; is_done = false } =
-          λ i. record { id = same_id i; pass = (same_me i).0; is_done = false } in
+      λ i. record { id = same_id i; pass = (same_me i).0; is_done = false } in
       let last : ◌≡◌ {A = Seated Item} record { id = id; pass = me.0; is_done = false } (new_seat board) = named
-          ∙ ap (λ k. record { id = board.id; pass = first_pass board.sums k; is_done = false }) one in
+      ∙ ap (λ k. record { id = board.id; pass = first_pass board.sums k; is_done = false }) one in
       ap (λ xs. xs ++ record { id = id; pass = me.0; is_done = false } ∷ []) dealt
       ∙ ap (λ x. replicate n (new_seat board) ++ x ∷ []) last
       ∙ replicate_more n (new_seat board)

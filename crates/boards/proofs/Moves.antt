@@ -28,13 +28,13 @@ module _ {Item : Type 0} (m : Coding Item) (sums : List (Bool × Item)) (workers
       ⊎_elim
       (λ (below : (ltb found (length me.0.sums) ≡ true) × (suc found ≤ length me.0.sums)).
       let kept = claim (code m sums) sums workers found (get_or (set s.words (length sums) after) (length sums) 0) (λ x. get_or s.words x 0)
-          (λ x. get_or (set s.words (length sums) after) x 0) s.views id me.0 ruled.kept at (omega (arith, ap length same_sums)) (omega arith) here
-          (same_but_last s.words after) in
+      (λ x. get_or (set s.words (length sums) after) x 0) s.views id me.0 ruled.kept at (omega (arith, ap length same_sums)) (omega arith) here
+      (same_but_last s.words after) in
       (given_tile me.0 found, keeps, tt, record { long = long; kept = kept.0 }, (ap (λ (b : Bool). (cond b (given_tile me.0 found) (told_done me.0), me.1)) (sym below.0), λ h. kept.1)))
       (λ (past : (ltb found (length me.0.sums) ≡ false) × (length me.0.sums < suc found)).
       let kept = done (code m sums) sums workers found (get_or (set s.words (length sums) after) (length sums) 0) (λ x. get_or s.words x 0)
-          (λ x. get_or (set s.words (length sums) after) x 0) s.views id me.0 ruled.kept at (omega (arith, ap length same_sums)) (omega arith) here
-          (same_but_last s.words after) in
+      (λ x. get_or (set s.words (length sums) after) x 0) s.views id me.0 ruled.kept at (omega (arith, ap length same_sums)) (omega arith) here
+      (same_but_last s.words after) in
       (told_done me.0, keeps, tt, record { long = long; kept = kept }, (ap (λ (b : Bool). (cond b (given_tile me.0 found) (told_done me.0), me.1)) (sym past.0), λ h. absurd (omega arith))))
       (leb_tells (suc found) (length me.0.sums))
 
@@ -43,7 +43,7 @@ module _ {Item : Type 0} (m : Coding Item) (sums : List (Bool × Item)) (workers
   look_allowed look me t below same_sums one s ruled homes at fits =
       let rank = highest (told_at t) s.views in
       let kept = look (code m sums) sums workers (get_or s.words (length sums) 0) (λ x. get_or s.words x 0)
-          (λ x. get_or s.words x 0) s.views id me.0 t ruled.kept at (omega arith) (λ x within. refl) in
+      (λ x. get_or s.words x 0) s.views id me.0 t ruled.kept at (omega arith) (λ x within. refl) in
       let seen : IsRuled m sums workers record { words = s.words; homes = s.homes; views = set s.views id (looked me.0 t rank) } = record { long = ruled.long; kept = kept.0 } in (
         looked me.0 t rank,
         keeps,
@@ -66,8 +66,11 @@ module _ {Item : Type 0} (m : Coding Item) (sums : List (Bool × Item)) (workers
         told_state me.0 t rank,
         keeps,
         tt,
-        record { long = omega (arith, length-set {A = ℕ}, ruled.long); kept =
-            subst (λ c. IsRuleKept (code m sums) sums workers c (λ x. get_or (set s.words t v) x 0) (set s.views id (told_state me.0 t rank))) (sym same) kept },
+        record {
+          long = omega (arith, length-set {A = ℕ}, ruled.long);
+          kept =
+              subst (λ c. IsRuleKept (code m sums) sums workers c (λ x. get_or (set s.words t v) x 0) (set s.views id (told_state me.0 t rank))) (sym same) kept;
+        },
         refl,
       )
 

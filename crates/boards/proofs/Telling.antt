@@ -31,5 +31,5 @@ module _ {Item : Type 0} where
       → record { id = now_id; pass = now_p; is_done = done } ≡ with_pass old (change old.pass)
   seat_after change id now_id p now_p done old is same_id changed =
       let stepped : ◌≡◌ {A = Seated Item} record { id = now_id; pass = now_p; is_done = done } record { id = id; pass = change p; is_done = done } = λ i.
-          record { id = same_id i; pass = changed i; is_done = done } in
+      record { id = same_id i; pass = changed i; is_done = done } in
       stepped ∙ ap (λ (s : Seated Item). with_pass s (change s.pass)) is

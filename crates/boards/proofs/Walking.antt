@@ -108,7 +108,7 @@ module _ {Item : Type 0} where
         counted = omega (arith, walk.looks, found.looks);
         known = λ x from to. ⊎_elim (λ (same : (eqb x next ≡ true) × (x ≡ next)). subst (λ y. 1 ≤ known_at y now) (sym same.1) (let here = found.known in omega arith))
             (λ (differ : (eqb x next ≡ false) × (x ≢ next)). let apart = differ.1 in let here = known_still t at next 2 old mid now one walk found x (omega arith) to in
-                omega arith) (eqb_tells x next);
+            omega arith) (eqb_tells x next);
         met = λ fewer. subst (λ y. known_at y now ≡ 2) (sym first) found.known;
         passed = λ x from to. let here = known_still t at next 2 old mid now one walk found x (omega arith) to in omega arith;
         told = λ x. let both = told_still t at next 2 old mid now one within walk found x in (both.0, both.1);

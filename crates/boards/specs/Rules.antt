@@ -28,7 +28,7 @@ ClaimGives s me found after = (after ≡ (after_claim me.0 found, me.1)) × (fou
 abbrev pub LookGives : {Item : Type 0} → Coding Item → Step (Unit {0}) → PassOf Item → ℕ → PassOf Item → Type 0
 LookGives m s me found after =
     (rank : ℕ) × (found ≡ code m me.0.sums s.word rank) × (rank ≤ 2) × (known_at s.word me.0 ≤ rank)
-        × (after ≡ (looked me.0 s.word rank, me.1))
+    × (after ≡ (looked me.0 s.word rank, me.1))
 
 -- a state that was told
 abbrev pub TellGives : {Item : Type 0} → ℕ → Step (Unit {0}) → PassOf Item → ℕ → PassOf Item → Type 0

@@ -125,7 +125,7 @@ module _ {Item : Type 0} (join : Item → Item → Item) (unit : Item) where
       → (seg_scan_of join unit xs lengths ≡ Ok ys) ↔ (nest lengths ys ≡ Ok (map (scan_of join unit) lists))
   scan-cut xs ys lengths lists cut =
       let segments : seg_scan_of join unit xs lengths ≡ end_to_end (in_vector lengths) (λ ys. Ok (scan_of join unit ys)) (Ok lists) =
-          ap (end_to_end (in_vector lengths) (λ ys. Ok (scan_of join unit ys))) cut in
+      ap (end_to_end (in_vector lengths) (λ ys. Ok (scan_of join unit ys))) cut in
       let same : map length (map (scan_of join unit) lists) ≡ lengths = scan-lengths lists ∙ ((nest-meaning lengths xs lists).0 cut).has_lengths in
       let again = cut-again (in_vector lengths) (λ ys. Ok (scan_of join unit ys)) lists (map (scan_of join unit) lists) ys (scans-given lists) in
       (λ p. ap (λ ns. nest ns ys) (sym same) ∙ again.0 (sym segments ∙ p), λ q. segments ∙ again.1 (ap (λ ns. nest ns ys) same ∙ q))
@@ -238,8 +238,8 @@ pub default-cut : {X : Type 0} (source defaults result : List X) (index : List �
     → seg_default_of source index defaults source_lengths default_lengths ≡ Ok result → IsCutInto (of_three default_of) (zip (zip sources indices) default_lists) default_lengths result
 default-cut source defaults result index source_lengths default_lengths sources default_lists indices cut cut_index cut_defaults p =
     let parts = three-segments (in_vector source_lengths) (of_three default_of) (nest source_lengths source) (nest source_lengths index)
-        (nest default_lengths defaults) sources indices default_lists result cut cut_index cut_defaults p in
+    (nest default_lengths defaults) sources indices default_lists result cut cut_index cut_defaults p in
     cut-by (in_vector source_lengths) (of_three default_of) (λ s. length s.1) (λ s r q. ((default-meaning s.0.0 s.0.1 s.1 r).0 q).as_long)
-        (zip (zip sources indices) default_lists) default_lengths result
+    (zip (zip sources indices) default_lists) default_lengths result
     (map-seconds length (zip sources indices) default_lists parts.1 ∙ has-lengths default_lengths defaults default_lists cut_defaults)
     parts.2

@@ -157,7 +157,7 @@ pub default-again : {X : Type 0} (source : List X) (index : List ℤ) (defaults 
     ≡ default_of source index defaults
 default-again {X = X} source index defaults =
     let whole = λ (a : Result (List (List X)) Fault) (b : Result (List (List ℤ)) Fault) (c : Result (List (List X)) Fault). end_to_end (in_vector (length source ∷ [])) (of_three default_of)
-        (beside (beside a b) c) in
+    (beside (beside a b) c) in
     ap (λ a. whole a (nest (length source ∷ []) index) (nest (length defaults ∷ []) defaults)) (nest_one source)
     ∙ ap (whole (Ok (source ∷ [])) (nest (length source ∷ []) index)) (nest_one defaults)
     ∙ elim (eqb_tells (length source) (length index)) [
@@ -168,7 +168,7 @@ default-again {X = X} source index defaults =
 pub select-again : {X : Type 0} (source : List X) (index : List ℤ) (flags : List Bool) → seg_select_of source index flags (length source ∷ []) ≡ select_of source index flags
 select-again {X = X} source index flags =
     let whole = λ (a : Result (List (List X)) Fault) (b : Result (List (List ℤ)) Fault) (c : Result (List (List Bool)) Fault). end_to_end (in_vector (length source ∷ [])) (of_three select_of)
-        (beside (beside a b) c) in
+    (beside (beside a b) c) in
     let sends = sent_to_all source (flagged_targets index flags) (count_of flags) in
     ap (λ a. whole a (nest (length source ∷ []) index) (nest (length source ∷ []) flags)) (nest_one source)
     ∙ elim (eqb_tells (length source) (length index)) [

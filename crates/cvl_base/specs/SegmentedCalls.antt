@@ -35,7 +35,7 @@ seg_select_of source index flags lengths =
 abbrev pub seg_default_of : {X : Type 0} → List X → List ℤ → List X → List ℕ → List ℕ → Result (List X) Fault
 seg_default_of source index defaults source_lengths default_lengths =
     end_to_end (in_vector source_lengths) (of_three default_of)
-        (beside (beside (nest source_lengths source) (nest source_lengths index)) (nest default_lengths defaults))
+    (beside (beside (nest source_lengths source) (nest source_lengths index)) (nest default_lengths defaults))
 
 -- ---- pack and count
 
@@ -55,7 +55,7 @@ seg_distribute_of values lengths =
 abbrev pub seg_index_of : List ℤ → List ℤ → List ℕ → Result (List ℤ) Fault
 seg_index_of inits strides lengths =
     end_to_end (in_vector lengths) (of_three (λ init stride n. index_of init stride (pos n)))
-        (beside (beside (Ok inits) (Ok strides)) (Ok lengths))
+    (beside (beside (Ok inits) (Ok strides)) (Ok lengths))
 
 -- ---- extract and replace: one index for each segment, and a fault stands at the segment
 

@@ -28,5 +28,5 @@ told {V} {A} view names here inputs op args arg answer same right values is =
     let right_here : args_fault names op args ≡ None = ap (λ n. args_fault n op args) (sym same) ∙ right in
     let values_here : arg ≡ argument_at names args = values ∙ ap (λ n. argument_at n args) same in
     let whole : (written args arg >>= λ text. Ok (shows text)) ≡ unless (args_fault names op args) (performed names inputs None op args) =
-      λ i. unless (sym right_here i) (written args (values_here i) >>= λ text. Ok (shows text)) in
+    λ i. unless (sym right_here i) (written args (values_here i) >>= λ text. Ok (shows text)) in
     subst (λ m. Gives (λ v. shows (view v)) answer m) whole (made view shows answer (written args arg) is)

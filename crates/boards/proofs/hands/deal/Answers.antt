@@ -19,4 +19,4 @@ pub returns : goal.returns
 returns g c =
     let inv = c.loop-left.invariant in
     c.in_ok-push-2.ensures.items ∙ last_dealt c.args.board.now c.loop-left.left c.loop-left.seats.items c.loop-left.whole.table_id c.loop-left.whole.me
-        c.loop-left-test.false inv.0 inv.1 inv.2 inv.3 inv.4
+    c.loop-left-test.false inv.0 inv.1 inv.2 inv.3 inv.4

@@ -51,4 +51,4 @@ loop-next-preserved g c =
 pub returns-clause-passes : goal.returns-clause-passes
 returns-clause-passes g c =
     subst (λ rest. AreJoined c.loop-next.whole.me.0 rest c.args.seats.items)
-        (none_left c.loop-next.seats.items (omega (arith, c.loop-next.seats.ok, c.in_default-pop.ensures.cases.0))) c.loop-next.invariant.4
+    (none_left c.loop-next.seats.items (omega (arith, c.loop-next.seats.ok, c.in_default-pop.ensures.cases.0))) c.loop-next.invariant.4

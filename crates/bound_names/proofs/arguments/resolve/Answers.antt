@@ -32,15 +32,15 @@ returns-in_err-fifth-clause-fault g c =
 pub returns-clause-fault : goal.returns-clause-fault
 returns-clause-fault g c =
     first_fault c.args.names.now.entries c.args.op c.args.args.now (sym c.if-not-takes.ensures) c.in_ok-first.ensures.fault c.in_ok-second.ensures.fault c.in_ok-third.ensures.fault
-        c.in_ok-fourth.ensures.fault c.in_ok-fifth.ensures.fault
+    c.in_ok-fourth.ensures.fault c.in_ok-fifth.ensures.fault
 
 pub returns-clause-values : goal.returns-clause-values
 returns-clause-values g c =
     values c.args.names.now.entries c.args.op c.args.args.now _ (sym c.if-not-takes.ensures) c.in_ok-first.ensures.value c.in_ok-second.ensures.value c.in_ok-third.ensures.value
-        c.in_ok-fourth.ensures.value c.in_ok-fifth.ensures.value
+    c.in_ok-fourth.ensures.value c.in_ok-fifth.ensures.value
 
 pub returns-clause-kinds : goal.returns-clause-kinds
 returns-clause-kinds g c =
     kinds c.args.names.now.entries c.args.op c.args.args.now _ (sym c.if-not-takes.ensures) c.in_ok-first.ensures.value c.in_ok-second.ensures.value c.in_ok-third.ensures.value
-        c.in_ok-fourth.ensures.value c.in_ok-fifth.ensures.value
+    c.in_ok-fourth.ensures.value c.in_ok-fifth.ensures.value
     c.in_ok-first.ensures.fault c.in_ok-second.ensures.fault c.in_ok-third.ensures.fault c.in_ok-fourth.ensures.fault c.in_ok-fifth.ensures.fault

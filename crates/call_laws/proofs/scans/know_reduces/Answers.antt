@@ -11,6 +11,6 @@ returns g c = λ xs x before here.
     let unit = g.M.Monoid.unit in
     let long = length_push xs x in
     let there : slice_get (scan_of join unit (xs ++ x ∷ [])) (length xs) ≡ Some (fold_of join unit (take (length xs) (xs ++ x ∷ []))) =
-        slice_get-scan_of join unit (xs ++ x ∷ []) (length xs) (omega arith) in
+    slice_get-scan_of join unit (xs ++ x ∷ []) (length xs) (omega arith) in
     let front : fold_of join unit (take (length xs) (xs ++ x ∷ [])) ≡ fold_of join unit xs = ap (fold_of join unit) (take_at xs (x ∷ []) (length xs) refl) in
     fold_of_push join unit xs x ∙ ap (λ a. join a x) (sym front ∙ same_Some _ _ (sym there ∙ here))

@@ -23,7 +23,7 @@ fetch_add-found-requires g c =
       omega (arith, c.self.invariant.1, here.counted.counts),
       subst (λ i. Allows (IsRuled m sums key.workers) slots seat.id seat.me i (λ n. (n + 1) % 2 ^ 64) (ClaimGives (step slots i 1 0 none) seat.me)) (sym last)
           (claim_allowed _ sums key.workers slots seat.id c.rule_law.ensures.claim c.rule_law.ensures.done c.rule_law.ensures.few seat.me
-              (omega (arith, key.few, key.few_workers)) same_sums unmarked c.seat.invariant.2),
+          (omega (arith, key.few, key.few_workers)) same_sums unmarked c.seat.invariant.2),
     )
 
 pub invariant_of-seat : goal.invariant_of-seat

@@ -28,7 +28,7 @@ returns-clause-lawful g c =
     let same_sums : c.seat.inside.seat.me.0.sums ≡ sums = ap (λ s. s.pass.sums) c.seat.view_is ∙ c.requires.seat.1 ∙ sym (ap (λ b. b.sums) c.self.view_is) in
     let saw = c.load-word.ensures.2 in
     (look_told _ sums (c.code_law.ensures sums here.counted.items) c.args.t saw.0 c.load-word.result c.read_status.result c.read_status.ensures
-        (saw.1 ∙ ap (λ ss. code m ss c.args.t saw.0) same_sums) saw.2).0
+    (saw.1 ∙ ap (λ ss. code m ss c.args.t saw.0) same_sums) saw.2).0
     ∙ ap (λ b. told_of g.T.M.Monoid.join g.T.M.Monoid.unit b.sums c.args.t (state_of c.read_status.result)) c.self.view_is
 
 pub returns-clause-risen : goal.returns-clause-risen
@@ -39,7 +39,7 @@ returns-clause-risen g c =
     let same_sums : c.seat.inside.seat.me.0.sums ≡ sums = ap (λ s. s.pass.sums) c.seat.view_is ∙ c.requires.seat.1 ∙ sym (ap (λ b. b.sums) c.self.view_is) in
     let saw = c.load-word.ensures.2 in
     let state = (look_told _ sums (c.code_law.ensures sums here.counted.items) c.args.t saw.0 c.load-word.result c.read_status.result c.read_status.ensures
-        (saw.1 ∙ ap (λ ss. code m ss c.args.t saw.0) same_sums) saw.2).1 in
+    (saw.1 ∙ ap (λ ss. code m ss c.args.t saw.0) same_sums) saw.2).1 in
     subst (λ p. known_at c.args.t p ≤ state_of c.read_status.result) (ap (λ s. s.pass) c.seat.view_is) (subst (λ n. known_at c.args.t c.seat.inside.seat.me.0 ≤ n) (sym state) saw.3)
 
 pub returns-clause-seen : goal.returns-clause-seen
@@ -51,6 +51,6 @@ returns-clause-seen g c =
     let same_sums : seat.me.0.sums ≡ sums = ap (λ s. s.pass.sums) c.seat.view_is ∙ c.requires.seat.1 ∙ sym (ap (λ b. b.sums) c.self.view_is) in
     let saw = c.load-word.ensures.2 in
     let state = (look_told _ sums (c.code_law.ensures sums here.counted.items) c.args.t saw.0 c.load-word.result c.read_status.result c.read_status.ensures
-        (saw.1 ∙ ap (λ ss. code m ss c.args.t saw.0) same_sums) saw.2).1 in
+    (saw.1 ∙ ap (λ ss. code m ss c.args.t saw.0) same_sums) saw.2).1 in
     seat_after (λ p. looked p c.args.t (state_of c.read_status.result)) seat.table_id c.load-word.new.seat.table_id seat.me.0 c.load-word.new.seat.me.0 c.seat.inside.done c.args.seat.now
     c.seat.view_is c.load-word.ensures.0 (ap (λ v. v.0) saw.4 ∙ ap (looked seat.me.0 c.args.t) (sym state))

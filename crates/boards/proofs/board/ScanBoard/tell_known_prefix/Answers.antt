@@ -11,7 +11,7 @@ join-prefix-requires-clause-first g c =
     let here = c.self.inside in
     let sums = g.T.Tiles.sums here.counted.tiles in
     let told : c.args.before ≡ before_tile g.T.M.Monoid.join g.T.M.Monoid.unit sums c.args.t = c.requires.before
-        ∙ sym (ap (λ b. before_tile g.T.M.Monoid.join g.T.M.Monoid.unit b.sums c.args.t) c.self.view_is) in
+    ∙ sym (ap (λ b. before_tile g.T.M.Monoid.join g.T.M.Monoid.unit b.sums c.args.t) c.self.view_is) in
     subst (λ s. IsTrue (is_seg_item g.T.M.Monoid.is_item s)) (sym told) ((c.know_sums.ensures sums here.counted.items).exclusive c.args.t)
 
 pub join-prefix-requires-clause-second : goal.join-prefix-requires-clause-second
