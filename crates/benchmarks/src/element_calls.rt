@@ -2,25 +2,22 @@
 
 mod plain;
 
-use crate::numbers::{last, last_flag, random, random_flags};
-use crate::timing::{best_times, print_times};
+use crate::cases::{Case, last_flag, last_number};
+use crate::timing::measure_cases;
+use crate::vectors::{Shape, Vectors};
 use cvl_base::limits::MOST_ELEMENTS;
-use cvl_base::{BoolBinary, Comparison, Config, IntBinary, Refused, Unary};
+use cvl_base::{BoolBinary, Comparison, Config, IntBinary, Unary};
 use elementwise::{bool_from_int, bool1, bool2, compare, int_from_bool, int1, int2, select};
-use std::alloc::{AllocError, Global};
+use std::alloc::Global;
 use std::io;
 use std::rt::Clock;
 use std::thread::Threads;
-
-/// How often a case is measured. The best time counts.
-const ROUNDS: usize = 40;
 
 /// The vectors' lengths, among them those around which a call begins to run on threads.
 const LENGTHS: [usize; 6] = [4_194_304, 3_145_728, 2_097_152, 1_048_576, 65_536, 1_000];
 
 /// What is measured.
-#[derive(Clone, Copy)]
-enum Case {
+pub enum ElementCase {
     Add,
     Div,
     Greater,
@@ -34,81 +31,70 @@ enum Case {
 
 /// The cases, each with what its line begins with.
 const CASES: &[(Case, &str)] = &[
-    (Case::Add, "sum"),
-    (Case::Div, "quotient"),
-    (Case::Greater, "greater"),
-    (Case::And, "and"),
-    (Case::Select, "select"),
-    (Case::NotOfIntegers, "not of integers"),
-    (Case::NotOfBooleans, "not of booleans"),
-    (Case::IntFromBool, "integers from booleans"),
-    (Case::BoolFromInt, "booleans from integers"),
+    (Case::Elementwise(ElementCase::Add), "sum"),
+    (Case::Elementwise(ElementCase::Div), "quotient"),
+    (Case::Elementwise(ElementCase::Greater), "greater"),
+    (Case::Elementwise(ElementCase::And), "and"),
+    (Case::Elementwise(ElementCase::Select), "select"),
+    (
+        Case::Elementwise(ElementCase::NotOfIntegers),
+        "not of integers",
+    ),
+    (
+        Case::Elementwise(ElementCase::NotOfBooleans),
+        "not of booleans",
+    ),
+    (
+        Case::Elementwise(ElementCase::IntFromBool),
+        "integers from booleans",
+    ),
+    (
+        Case::Elementwise(ElementCase::BoolFromInt),
+        "booleans from integers",
+    ),
 ];
 
-/// The vectors on which the calls are measured, all equally long.
-#[derive(Drop)]
-struct Vectors {
-    a: Vec<i32>,
-    b: Vec<i32>,
-    flags: Vec<bool>,
-    others: Vec<bool>,
-}
-
-/// Makes the call of a case. The answer is the last element of its result, so that no call is left out as unneeded.
-fn call<R: Threads + Sync>(
+/// Makes the call of a case.
+pub fn call<R: Threads + Sync>(
     rt: &R,
     alloc: Global,
     config: Config,
-    case: Case,
+    case: &ElementCase,
     vectors: &Vectors,
-) -> Result<i32, Refused> {
-    let (a, b) = (vectors.a.as_slice(), vectors.b.as_slice());
+) -> Option<i32> {
+    let (a, b) = (vectors.numbers.as_slice(), vectors.divisors.as_slice());
     let (flags, others) = (vectors.flags.as_slice(), vectors.others.as_slice());
     if a.len() > MOST_ELEMENTS {
-        return Err(Refused::NoResources);
+        return None;
     }
-    let answer = match case {
-        Case::Add => last(&int2(rt, alloc, config, IntBinary::Add, a, b)?),
-        Case::Div => last(&int2(rt, alloc, config, IntBinary::Div, a, b)?),
-        Case::Greater => last_flag(&compare(rt, alloc, config, Comparison::Greater, a, b)?),
-        Case::And => last_flag(&bool2(rt, alloc, config, BoolBinary::And, flags, others)?),
-        Case::Select => last(&select(rt, alloc, config, flags, a, b)?),
-        Case::NotOfIntegers => last(&int1(rt, alloc, config, Unary::Not, a)?),
-        Case::NotOfBooleans => last_flag(&bool1(rt, alloc, config, Unary::Not, flags)?),
-        Case::IntFromBool => last(&int_from_bool(rt, alloc, config, flags)?),
-        Case::BoolFromInt => last_flag(&bool_from_int(rt, alloc, config, a)?),
-    };
-    Ok(answer)
+    match case {
+        ElementCase::Add => last_number(int2(rt, alloc, config, IntBinary::Add, a, b)),
+        ElementCase::Div => last_number(int2(rt, alloc, config, IntBinary::Div, a, b)),
+        ElementCase::Greater => last_flag(compare(rt, alloc, config, Comparison::Greater, a, b)),
+        ElementCase::And => last_flag(bool2(rt, alloc, config, BoolBinary::And, flags, others)),
+        ElementCase::Select => last_number(select(rt, alloc, config, flags, a, b)),
+        ElementCase::NotOfIntegers => last_number(int1(rt, alloc, config, Unary::Not, a)),
+        ElementCase::NotOfBooleans => last_flag(bool1(rt, alloc, config, Unary::Not, flags)),
+        ElementCase::IntFromBool => last_number(int_from_bool(rt, alloc, config, flags)),
+        ElementCase::BoolFromInt => last_flag(bool_from_int(rt, alloc, config, a)),
+    }
 }
 
 /// The same by a plain loop.
-fn call_plain(alloc: Global, case: Case, vectors: &Vectors) -> Result<i32, AllocError> {
-    let (a, b) = (vectors.a.as_slice(), vectors.b.as_slice());
+pub fn plain_call(alloc: Global, case: &ElementCase, vectors: &Vectors) -> Option<i32> {
+    let (a, b) = (vectors.numbers.as_slice(), vectors.divisors.as_slice());
     let (flags, others) = (vectors.flags.as_slice(), vectors.others.as_slice());
-    let answer = match case {
-        Case::Add => last(&plain::sums(alloc, a, b)?),
-        Case::Div => last(&plain::quotients(alloc, a, b)?),
-        Case::Greater => last_flag(&plain::greater(alloc, a, b)?),
-        Case::And => last_flag(&plain::both(alloc, flags, others)?),
-        Case::Select => last(&plain::chosen(alloc, flags, a, b)?),
-        Case::NotOfIntegers => last(&plain::inverted(alloc, a)?),
-        Case::NotOfBooleans => last_flag(&plain::opposites(alloc, flags)?),
-        Case::IntFromBool => last(&plain::ints(alloc, flags)?),
-        Case::BoolFromInt => last_flag(&plain::bools(alloc, a)?),
-    };
-    Ok(answer)
-}
-
-/// Vectors of this length. No element of the second is 0, so that it divides.
-fn vectors_of(alloc: Global, length: usize) -> Result<Vectors, AllocError> {
-    let a = random(alloc, 1, length)?;
-    let b = a.iter().map(|x| *x | 1).collect(alloc)?;
-    Ok(Vectors {
-        a,
-        b,
-        flags: random_flags(alloc, 1, length, 50)?,
-        others: random_flags(alloc, 2, length, 33)?,
-    })
+    match case {
+        ElementCase::Add => last_number(plain::on_pairs(alloc, a, b, plain::sum)),
+        ElementCase::Div => last_number(plain::on_pairs(alloc, a, b, plain::quotient)),
+        ElementCase::Greater => last_flag(plain::on_pairs(alloc, a, b, plain::is_greater)),
+        ElementCase::And => last_flag(plain::on_pairs(alloc, flags, others, plain::are_both)),
+        ElementCase::Select => last_number(plain::chosen(alloc, flags, a, b)),
+        ElementCase::NotOfIntegers => last_number(plain::on_each(alloc, a, plain::inverse)),
+        ElementCase::NotOfBooleans => last_flag(plain::on_each(alloc, flags, plain::opposite)),
+        ElementCase::IntFromBool => last_number(plain::on_each(alloc, flags, plain::int_of)),
+        ElementCase::BoolFromInt => last_flag(plain::on_each(alloc, a, plain::bool_of)),
+    }
 }
 
 /// Measures each call on vectors of each length.
@@ -118,17 +104,7 @@ pub fn measure<R: Print + Clock + Threads + Sync>(
     config: Config,
 ) -> io::Result<()> {
     for length in LENGTHS {
-        let vectors = vectors_of(alloc, length)?;
-        for (case, name) in CASES {
-            let times = best_times(
-                rt,
-                ROUNDS,
-                || call(rt, alloc, config, *case, &vectors).ok(),
-                || call_plain(alloc, *case, &vectors).ok(),
-            )?;
-            let measured = format!(in alloc; "{name}, {length} elements")?;
-            print_times(rt, &measured, times)?;
-        }
+        measure_cases(rt, alloc, config, CASES, &Shape::whole(length))?;
     }
     Ok(())
 }

@@ -3,15 +3,16 @@
 //! `recipes`, and all of them where there is none. The third is the number of workers, which is 4 where there is none.
 #![tactic(auto)]
 
+mod cases;
 mod element_calls;
 mod numbers;
 mod pack_calls;
 mod permute_calls;
 mod recipe_calls;
 mod scan_calls;
-mod segments;
 mod texts;
 mod timing;
+mod vectors;
 
 use cvl_base::Config;
 use std::alloc::Global;
@@ -26,7 +27,6 @@ const TILE: u32 = 4096;
 const LENGTHS: [usize; 3] = [4_194_304, 65_536, 1_000];
 
 /// What is measured.
-#[derive(Clone, Copy)]
 enum Subject {
     Text,
     Elementwise,
@@ -51,7 +51,7 @@ fn measure<R: Print + Clock + Threads + Sync>(
     rt: &R,
     alloc: Global,
     config: Config,
-    subject: Subject,
+    subject: &Subject,
 ) -> io::Result<()> {
     match subject {
         Subject::Text => texts::measure(rt, alloc),
@@ -89,7 +89,7 @@ fn main(rt: HostRuntime) -> io::Result<()> {
         };
         if is_wanted {
             is_known = true;
-            measure(&rt, rt.alloc(), config, *subject)?;
+            measure(&rt, rt.alloc(), config, subject)?;
         }
     }
     if !is_known {

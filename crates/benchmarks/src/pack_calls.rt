@@ -1,65 +1,136 @@
 //! The packs, counts, distributes and indexes.
 
-mod cases;
-mod inputs;
 mod plain;
 
 use crate::LENGTHS;
-use crate::pack_calls::cases::{Case, OF_FLAGS, SEGMENTED, WITHOUT_FLAGS, answer, plain_answer};
-use crate::pack_calls::inputs::{Input, input_of};
-use crate::timing::{best_times, print_times};
+use crate::cases::{Case, last_number};
+use crate::numbers::count_true;
+use crate::timing::measure_cases;
+use crate::vectors::{Shape, Vectors};
 use cvl_base::Config;
+use cvl_base::limits::MOST_ELEMENTS;
+use pack_dist::{distribute, index, pack, seg_count, seg_distribute, seg_index, seg_pack};
 use std::alloc::Global;
 use std::io;
 use std::rt::Clock;
 use std::thread::Threads;
 
-/// How often a case is measured. The best time counts.
-const ROUNDS: usize = 40;
+/// What is measured.
+pub enum PackCase {
+    Pack,
+    Count,
+    Distribute,
+    Index,
+    SegmentPack,
+    SegmentCounts,
+    SegmentDistribute,
+    SegmentIndex,
+}
 
-/// Measures these cases.
-fn measure_cases<R: Print + Clock + Threads + Sync>(
+/// The flat calls that take flags, each with what its line begins with.
+const OF_FLAGS: &[(Case, &str)] = &[
+    (Case::Pack(PackCase::Pack), "pack"),
+    (Case::Pack(PackCase::Count), "count"),
+];
+
+/// The other flat calls.
+const WITHOUT_FLAGS: &[(Case, &str)] = &[
+    (Case::Pack(PackCase::Distribute), "distribute"),
+    (Case::Pack(PackCase::Index), "index"),
+];
+
+/// The segmented calls.
+const SEGMENTED: &[(Case, &str)] = &[
+    (Case::Pack(PackCase::SegmentCounts), "count by segments"),
+    (Case::Pack(PackCase::SegmentPack), "pack by segments"),
+    (
+        Case::Pack(PackCase::SegmentDistribute),
+        "distribute by segments",
+    ),
+    (Case::Pack(PackCase::SegmentIndex), "index by segments"),
+];
+
+/// How many of a hundred flags are true, each with its words.
+const PARTS: &[(i32, &str)] = &[(1, ", 1 % true"), (50, ", 50 % true"), (99, ", 99 % true")];
+
+/// Makes the call of a case.
+pub fn call<R: Threads + Sync>(
     rt: &R,
     alloc: Global,
     config: Config,
-    cases: &[(Case, &str)],
-    input: &Input,
-) -> io::Result<()> {
-    for (case, name) in cases {
-        let times = best_times(
-            rt,
-            ROUNDS,
-            || answer(rt, alloc, config, *case, input),
-            || plain_answer(alloc, *case, input),
-        )?;
-        let (length, what) = (input.flags.len(), input.what.as_str());
-        let measured = format!(in alloc; "{name}, {length} elements, {what}")?;
-        print_times(rt, &measured, times)?;
+    case: &PackCase,
+    vectors: &Vectors,
+) -> Option<i32> {
+    let (xs, flags) = (vectors.numbers.as_slice(), vectors.flags.as_slice());
+    let (firsts, d) = (vectors.firsts.as_slice(), &vectors.segments);
+    if flags.len() > MOST_ELEMENTS {
+        return None;
     }
-    Ok(())
+    let first = firsts.first().copied().unwrap_or(0);
+    let count = flags.len() as i32;
+    match case {
+        PackCase::Pack => last_number(pack(rt, alloc, config, xs, flags)),
+        PackCase::Count => i32::try_from(pack_dist::count_true(flags)).ok(),
+        PackCase::Distribute => last_number(distribute(alloc, first, count)),
+        PackCase::Index => last_number(index(alloc, first, first, count)),
+        PackCase::SegmentPack => match seg_pack(rt, alloc, config, xs, flags, d) {
+            Ok((packed, _lengths)) => packed.last().copied(),
+            Err(_) => None,
+        },
+        PackCase::SegmentCounts => last_number(seg_count(rt, alloc, config, flags, d)),
+        PackCase::SegmentDistribute => last_number(seg_distribute(alloc, firsts, d)),
+        PackCase::SegmentIndex => last_number(seg_index(alloc, firsts, firsts, d)),
+    }
 }
 
-/// Measures each call on vectors of each length, a pack with several parts of the flags true, a segmented call on segments
-/// of several lengths.
+/// The same by a plain loop. A flat vector is one segment, and copies are numbers in steps of 0.
+pub fn plain_call(alloc: Global, case: &PackCase, vectors: &Vectors) -> Option<i32> {
+    let (xs, flags) = (vectors.numbers.as_slice(), vectors.flags.as_slice());
+    let (firsts, lengths) = (vectors.firsts.as_slice(), vectors.segments.lengths());
+    if xs.len() < flags.len() {
+        return None;
+    }
+    match case {
+        PackCase::Pack | PackCase::SegmentPack => {
+            let (kept, _counts) = plain::kept(alloc, lengths, xs, flags).ok()?;
+            kept.last().copied()
+        }
+        PackCase::Count => Some(count_true(flags)),
+        PackCase::SegmentCounts => last_number(plain::counts(alloc, lengths, flags)),
+        PackCase::Distribute | PackCase::SegmentDistribute => {
+            last_number(plain::steps(alloc, lengths, firsts, 0, xs.len()))
+        }
+        PackCase::Index | PackCase::SegmentIndex => {
+            last_number(plain::steps(alloc, lengths, firsts, 1, xs.len()))
+        }
+    }
+}
+
+/// Measures each call on vectors of each length, a flat one that takes flags with several parts of them true, a segmented
+/// one on segments of several lengths.
 pub fn measure<R: Print + Clock + Threads + Sync>(
     rt: &R,
     alloc: Global,
     config: Config,
 ) -> io::Result<()> {
     for length in LENGTHS {
-        for percent in [1, 50, 99] {
-            if let Ok(input) = input_of(alloc, length, percent, 1_000) {
-                measure_cases(rt, alloc, config, OF_FLAGS, &input)?;
-            }
+        for (percent, words) in PARTS {
+            let part = Shape {
+                percent: *percent,
+                words,
+                ..Shape::whole(length)
+            };
+            measure_cases(rt, alloc, config, OF_FLAGS, &part)?;
         }
         for segment in [1, 16, 1_000] {
-            if let Ok(input) = input_of(alloc, length, 50, segment) {
-                measure_cases(rt, alloc, config, SEGMENTED, &input)?;
-            }
+            let cut = Shape {
+                segment,
+                words: ", 50 % true",
+                ..Shape::whole(length)
+            };
+            measure_cases(rt, alloc, config, SEGMENTED, &cut)?;
         }
-        if let Ok(input) = input_of(alloc, length, 50, 1_000) {
-            measure_cases(rt, alloc, config, WITHOUT_FLAGS, &input)?;
-        }
+        measure_cases(rt, alloc, config, WITHOUT_FLAGS, &Shape::whole(length))?;
     }
     Ok(())
 }

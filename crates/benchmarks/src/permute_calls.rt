@@ -1,11 +1,11 @@
 //! The permutes.
 
-mod orders;
 mod plain;
 
 use crate::LENGTHS;
-use crate::permute_calls::orders::{Order, Vectors, vectors_of};
-use crate::timing::{best_times, print_times};
+use crate::cases::{Case, last_number};
+use crate::timing::measure_cases;
+use crate::vectors::{Shape, Vectors};
 use cvl_base::Config;
 use cvl_base::limits::MOST_ELEMENTS;
 use permutes::{
@@ -16,16 +16,14 @@ use std::io;
 use std::rt::Clock;
 use std::thread::Threads;
 
-/// How often a case is measured. The best time counts.
-const ROUNDS: usize = 20;
+/// How many elements a segment has; the last one may have fewer.
+const SEGMENT: usize = 1_000;
 
 /// What is measured.
-#[derive(Clone, Copy)]
-enum Case {
+pub enum PermuteCase {
     Simple,
     Back,
-    SelectAll,
-    SelectSome,
+    Select,
     Default,
     SegmentsSimple,
     SegmentsBack,
@@ -33,117 +31,101 @@ enum Case {
     SegmentsDefault,
 }
 
-/// The cases, each with what its line begins with.
-const CASES: &[(Case, &str)] = &[
-    (Case::Simple, "simple"),
-    (Case::Back, "back"),
-    (Case::SelectAll, "select of all"),
-    (Case::SelectSome, "select of some"),
-    (Case::Default, "default"),
-    (Case::SegmentsSimple, "simple by segments"),
-    (Case::SegmentsBack, "back by segments"),
-    (Case::SegmentsSelect, "select by segments"),
-    (Case::SegmentsDefault, "default by segments"),
+/// The flat cases, each with what its line begins with.
+const FLAT_CASES: &[(Case, &str)] = &[
+    (Case::Permute(PermuteCase::Simple), "simple"),
+    (Case::Permute(PermuteCase::Back), "back"),
+    (Case::Permute(PermuteCase::Select), "select of half"),
+    (Case::Permute(PermuteCase::Default), "default"),
+];
+
+/// The segmented cases.
+const SEGMENTED_CASES: &[(Case, &str)] = &[
+    (
+        Case::Permute(PermuteCase::SegmentsSimple),
+        "simple by segments",
+    ),
+    (Case::Permute(PermuteCase::SegmentsBack), "back by segments"),
+    (
+        Case::Permute(PermuteCase::SegmentsSelect),
+        "select of half by segments",
+    ),
+    (
+        Case::Permute(PermuteCase::SegmentsDefault),
+        "default by segments",
+    ),
 ];
 
 /// The orders of an index, each with its words.
-const ORDERS: &[(Order, &str)] = &[
-    (Order::Identity, "in order"),
-    (Order::Random, "at random"),
-    (Order::Reversal, "reversed"),
-];
+const ORDERS: &[(bool, &str)] = &[(false, ", in order"), (true, ", at random")];
 
-/// The result of the case's call; none where it was refused.
-fn call<R: Threads + Sync>(
+/// Makes the call of a case. The defaults are the divisors.
+pub fn call<R: Threads + Sync>(
     rt: &R,
     alloc: Global,
     config: Config,
-    case: Case,
-    v: &Vectors,
-) -> Option<Vec<i32>> {
-    let (xs, is, some_is) = (
-        v.source.as_slice(),
-        v.index.as_slice(),
-        v.some_index.as_slice(),
-    );
-    let segment_is = v.segment_index.as_slice();
-    let (all, some, d) = (v.all.as_slice(), v.some.as_slice(), &v.segments);
-    if is.len() > MOST_ELEMENTS
-        || some_is.len() > MOST_ELEMENTS
-        || segment_is.len() > MOST_ELEMENTS
-    {
+    case: &PermuteCase,
+    vectors: &Vectors,
+) -> Option<i32> {
+    let (xs, is) = (vectors.numbers.as_slice(), vectors.index.as_slice());
+    let (defaults, chosen) = (vectors.divisors.as_slice(), vectors.chosen.as_slice());
+    let d = &vectors.segments;
+    if is.len() > MOST_ELEMENTS {
         return None;
     }
-    let result = match case {
-        Case::Simple => simple(rt, alloc, config, xs, is),
-        Case::Back => back(rt, alloc, config, xs, is),
-        Case::SelectAll => select(rt, alloc, config, xs, is, all),
-        Case::SelectSome => select(rt, alloc, config, xs, some_is, some),
-        Case::Default => default_into(rt, alloc, config, xs, is, xs),
-        Case::SegmentsSimple => seg_simple(rt, alloc, config, xs, segment_is, d),
-        Case::SegmentsBack => seg_back(rt, alloc, config, xs, segment_is, d, d),
-        Case::SegmentsSelect => seg_select(rt, alloc, config, xs, segment_is, all, d),
-        Case::SegmentsDefault => { seg_default_into(rt, alloc, config, xs, segment_is, xs, d, d) }
+    last_number(match case {
+        PermuteCase::Simple => simple(rt, alloc, config, xs, is),
+        PermuteCase::Back => back(rt, alloc, config, xs, is),
+        PermuteCase::Select => select(rt, alloc, config, xs, is, chosen),
+        PermuteCase::Default => default_into(rt, alloc, config, xs, is, defaults),
+        PermuteCase::SegmentsSimple => seg_simple(rt, alloc, config, xs, is, d),
+        PermuteCase::SegmentsBack => seg_back(rt, alloc, config, xs, is, d, d),
+        PermuteCase::SegmentsSelect => seg_select(rt, alloc, config, xs, is, chosen, d),
+        PermuteCase::SegmentsDefault => {
+            seg_default_into(rt, alloc, config, xs, is, defaults, d, d)
+        }
+    })
+}
+
+/// The same by a plain loop. A flat vector is one segment.
+pub fn plain_call(alloc: Global, case: &PermuteCase, vectors: &Vectors) -> Option<i32> {
+    let (xs, is) = (vectors.numbers.as_slice(), vectors.index.as_slice());
+    let (defaults, chosen) = (vectors.divisors.as_slice(), vectors.chosen.as_slice());
+    let d = &vectors.segments;
+    let values = match case {
+        PermuteCase::Simple | PermuteCase::SegmentsSimple => {
+            plain::sent(alloc, vec![in alloc; 0; xs.len()].ok()?, xs, is, d)
+        }
+        PermuteCase::Default | PermuteCase::SegmentsDefault => {
+            plain::sent(alloc, Vec::from_slice(alloc, defaults).ok()?, xs, is, d)
+        }
+        PermuteCase::Select | PermuteCase::SegmentsSelect => {
+            plain::sent_flagged(alloc, xs, is, chosen, d)
+        }
+        PermuteCase::Back | PermuteCase::SegmentsBack => plain::taken(alloc, xs, is, d),
     };
-    result.ok()
+    values?.last().copied()
 }
 
-/// The result of the plain loop of the case; none where an index is bad or memory is missing.
-fn plain_call(alloc: Global, case: Case, v: &Vectors) -> Option<Vec<i32>> {
-    let (xs, is, some_is) = (
-        v.source.as_slice(),
-        v.index.as_slice(),
-        v.some_index.as_slice(),
-    );
-    let segment_is = v.segment_index.as_slice();
-    let (all, some, d) = (v.all.as_slice(), v.some.as_slice(), &v.segments);
-    let result = match case {
-        Case::Simple => plain::simple(alloc, xs, is),
-        Case::Back => plain::back(alloc, xs, is),
-        Case::SelectAll => plain::select(alloc, xs, is, all),
-        Case::SelectSome => plain::select(alloc, xs, some_is, some),
-        Case::Default => plain::default_into(alloc, xs, is, xs),
-        Case::SegmentsSimple => plain::seg_simple(alloc, xs, segment_is, d),
-        Case::SegmentsBack => plain::seg_back(alloc, xs, segment_is, d),
-        Case::SegmentsSelect => plain::seg_select(alloc, xs, segment_is, all, d),
-        Case::SegmentsDefault => plain::seg_default_into(alloc, xs, segment_is, xs, d),
-    };
-    result.ok().flatten()
-}
-
-/// Measures all cases on vectors of one order.
-fn measure_cases<R: Print + Clock + Threads + Sync>(
-    rt: &R,
-    alloc: Global,
-    config: Config,
-    order: &str,
-    vectors: &Vectors,
-) -> io::Result<()> {
-    let length = vectors.source.len();
-    for (case, name) in CASES {
-        let times = best_times(
-            rt,
-            ROUNDS,
-            || call(rt, alloc, config, *case, vectors),
-            || plain_call(alloc, *case, vectors),
-        )?;
-        let measured = format!(in alloc; "{name} {order}, {length} elements")?;
-        print_times(rt, &measured, times)?;
-    }
-    Ok(())
-}
-
-/// Measures each call on vectors of each length, with indices in three orders.
+/// Measures each call on vectors of each length, with an index in order and one at random.
 pub fn measure<R: Print + Clock + Threads + Sync>(
     rt: &R,
     alloc: Global,
     config: Config,
 ) -> io::Result<()> {
     for length in LENGTHS {
-        for (order, name) in ORDERS {
-            if let Ok(vectors) = vectors_of(alloc, *order, length) {
-                measure_cases(rt, alloc, config, name, &vectors)?;
-            }
+        for (at_random, words) in ORDERS {
+            let whole = Shape {
+                at_random: *at_random,
+                words,
+                ..Shape::whole(length)
+            };
+            measure_cases(rt, alloc, config, FLAT_CASES, &whole)?;
+            let cut = Shape {
+                segment: SEGMENT,
+                ..whole
+            };
+            measure_cases(rt, alloc, config, SEGMENTED_CASES, &cut)?;
         }
     }
     Ok(())

@@ -1,24 +1,64 @@
 //! The recipe of the sparse product.
 
-mod matrix;
 mod plain;
 
-use crate::recipe_calls::matrix::{Matrix, matrix_of};
-use crate::timing::{Times, print_times};
+use crate::numbers::{next, random};
+use crate::timing::{ROUNDS, Times};
 use cvl_base::limits::MOST_ELEMENTS;
 use cvl_base::{Config, Refused};
 use recipes::sparse_matvec;
-use std::alloc::Global;
+use std::alloc::{AllocError, Global};
 use std::io;
 use std::rt::Clock;
 use std::thread::Threads;
 use std::time::Instant;
 
-/// How often the product is measured. The best time counts.
-const ROUNDS: usize = 40;
-
 /// How many pairs of rows the matrix has. A pair has 32 entries.
 const PAIRS: usize = 32_768;
+
+/// How many columns the matrix has, and how many elements the vector.
+const COLUMNS: usize = 65_536;
+
+/// A matrix in compressed rows, and the vector that it is multiplied by.
+#[derive(Drop)]
+pub struct Matrix {
+    /// How many entries each row has.
+    pub lens: Vec<i32>,
+    /// The column of each entry, row by row.
+    pub cols: Vec<i32>,
+    /// The value of each entry.
+    pub vals: Vec<i32>,
+    /// The vector.
+    pub x: Vec<i32>,
+}
+
+/// The lengths of so many pairs of rows, from 0 to 32 at random. The two of a pair have 32 entries in all.
+fn row_lengths(alloc: Global, pairs: usize) -> Result<Vec<i32>, AllocError> {
+    let mut lens = Vec::new(alloc);
+    let mut state: i32 = 1;
+    for _ in 0..pairs {
+        state = next(state);
+        let len = ((state >> 8) & 65_535) % 33;
+        lens.push(len)?;
+        lens.push(32 - len)?;
+    }
+    Ok(lens)
+}
+
+/// A matrix of so many pairs of rows, with random columns and values, and a random vector.
+fn matrix_of(alloc: Global, pairs: usize) -> Result<Matrix, AllocError> {
+    let entries = pairs.saturating_mul(32);
+    let mut cols = random(alloc, 2, entries, 0)?;
+    for col in &mut cols {
+        *col = (*col >> 8) & 65_535;
+    }
+    Ok(Matrix {
+        lens: row_lengths(alloc, pairs)?,
+        cols,
+        vals: random(alloc, 3, entries, 0)?,
+        x: random(alloc, 4, COLUMNS, 0)?,
+    })
+}
 
 /// The product by the recipe. Vectors that are too long for it are refused.
 fn product<R: Threads + Sync>(
@@ -43,40 +83,26 @@ fn product<R: Threads + Sync>(
     sparse_matvec(rt, alloc, config, lens, cols, vals, x)
 }
 
-/// Measures the recipe and the plain loop in turn. The recipe takes its vectors; their copies are made before its time
-/// starts.
-fn best_of_product<R: Clock + Threads + Sync>(
-    rt: &R,
-    alloc: Global,
-    config: Config,
-    matrix: &Matrix,
-) -> io::Result<Times> {
-    let mut times = Times::none();
-    for _ in 0..ROUNDS {
-        let copy = matrix.copy(alloc)?;
-        let start = Instant::now(rt)?;
-        let answer = product(rt, alloc, config, copy).ok();
-        let call_time = start.elapsed(rt)?;
-        let start = Instant::now(rt)?;
-        let plain_answer = plain::product(alloc, matrix).ok();
-        let plain_time = start.elapsed(rt)?;
-        let same = answer.is_some() && answer == plain_answer;
-        times.add_turn(call_time, plain_time, same);
-    }
-    Ok(times)
-}
-
-/// Measures the sparse product.
+/// Measures the recipe and the plain loop in turn. The recipe takes its vectors; they are made anew before its time starts.
 pub fn measure<R: Print + Clock + Threads + Sync>(
     rt: &R,
     alloc: Global,
     config: Config,
 ) -> io::Result<()> {
     let matrix = matrix_of(alloc, PAIRS)?;
-    let times = best_of_product(rt, alloc, config, &matrix)?;
+    let mut times = Times::none();
+    for _ in 0..ROUNDS {
+        let copy = matrix_of(alloc, PAIRS)?;
+        let start = Instant::now(rt)?;
+        let answer = product(rt, alloc, config, copy).ok();
+        let call_time = start.elapsed(rt)?;
+        let start = Instant::now(rt)?;
+        let plain_answer = plain::product(alloc, &matrix).ok();
+        let plain_time = start.elapsed(rt)?;
+        let same = answer.is_some() && answer == plain_answer;
+        times.add_turn(call_time, plain_time, same);
+    }
     let (entries, rows, columns) = (matrix.cols.len(), matrix.lens.len(), matrix.x.len());
-    let measured = format!(in alloc;
-        "sparse product, {entries} entries, {rows} rows, {columns} columns"
-    )?;
-    print_times(rt, &measured, times)
+    let what = format!(in alloc; "{entries} entries, {rows} rows, {columns} columns")?;
+    times.print(rt, "sparse product", &what)
 }

@@ -4,7 +4,7 @@ use crate::numbers::{next, random};
 use call_reader::{put_value, read_vector};
 use cvl_base::limits::MOST_ELEMENTS;
 use cvl_base::{Ints, Refused, Value};
-use std::alloc::{AllocError, Global};
+use std::alloc::Global;
 use std::io;
 use std::rt::Clock;
 use std::time::{Duration, Instant};
@@ -15,21 +15,14 @@ const NUMBERS: usize = 4_194_304;
 /// How often a case is measured. The best time counts.
 const ROUNDS: usize = 20;
 
-/// Random numbers, all of 32 bits, or each of a random number of bits.
-fn random_numbers(alloc: Global, are_all_long: bool) -> Result<Vec<i32>, AllocError> {
-    let numbers = random(alloc, 1, NUMBERS)?;
-    if are_all_long {
-        return Ok(numbers);
-    }
-    numbers
-        .iter()
-        .map(|n| n.wrapping_shr(next(*n).cast_unsigned() >> 27))
-        .collect(alloc)
-}
-
-/// A vector of such numbers.
+/// A vector of random numbers, all of 32 bits, or each of a random number of bits.
 fn random_value(alloc: Global, are_all_long: bool) -> Result<Value<Global>, Refused> {
-    let numbers = random_numbers(alloc, are_all_long)?;
+    let mut numbers = random(alloc, 1, NUMBERS, 0)?;
+    if !are_all_long {
+        for number in &mut numbers {
+            *number = number.wrapping_shr(next(*number).cast_unsigned() >> 27);
+        }
+    }
     if numbers.len() > MOST_ELEMENTS {
         return Err(Refused::NoResources);
     }

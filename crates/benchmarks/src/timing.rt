@@ -1,11 +1,19 @@
-//! Times of a call and of a plain loop.
+//! Times of calls and of plain loops.
 
+use crate::cases::{Case, call, plain_call};
+use crate::vectors::{Shape, Vectors, vectors_of};
+use cvl_base::Config;
+use std::alloc::Global;
 use std::io;
 use std::rt::Clock;
+use std::thread::Threads;
 use std::time::{Duration, Instant};
 
+/// How often a case is measured. The best time counts.
+pub const ROUNDS: usize = 40;
+
 /// The best times of a call and of a plain loop, and whether their answers were always the same.
-#[derive(Clone, Copy)]
+#[derive(Drop)]
 pub struct Times {
     call: Duration,
     plain: Duration,
@@ -28,25 +36,33 @@ impl Times {
         self.plain = self.plain.min(plain);
         self.same &= same;
     }
+
+    /// Prints the times of what was measured, or that the answers differ.
+    pub fn print<R: Print>(&self, rt: &R, name: &str, what: &str) -> io::Result<()> {
+        let (call, plain) = (self.call.as_nanos(), self.plain.as_nanos());
+        if self.same {
+            println!(rt; "{name}, {what}: {call} ns, a plain loop {plain} ns")
+        } else {
+            println!(rt; "{name}, {what}: the answers differ")
+        }
+    }
 }
 
-/// Makes a call and its plain loop in turn, so many times.
-pub fn best_times<R, T, C, P>(rt: &R, rounds: usize, call: C, plain: P) -> io::Result<Times>
-where
-    R: Clock,
-    T: PartialEq + Drop,
-    C: Fn() -> Option<T> + Drop,
-    P: Fn() -> Option<T> + Drop,
-    requires call { C.IsAlwaysCallable call }
-    requires plain { P.IsAlwaysCallable plain }
-{
+/// Makes a case's call and its plain loop in turn.
+fn best_times<R: Clock + Threads + Sync>(
+    rt: &R,
+    alloc: Global,
+    config: Config,
+    case: &Case,
+    vectors: &Vectors,
+) -> io::Result<Times> {
     let mut times = Times::none();
-    for _ in 0..rounds {
+    for _ in 0..ROUNDS {
         let start = Instant::now(rt)?;
-        let answer = call();
+        let answer = call(rt, alloc, config, case, vectors);
         let call_time = start.elapsed(rt)?;
         let start = Instant::now(rt)?;
-        let plain_answer = plain();
+        let plain_answer = plain_call(alloc, case, vectors);
         let plain_time = start.elapsed(rt)?;
         let same = answer.is_some() && answer == plain_answer;
         times.add_turn(call_time, plain_time, same);
@@ -54,12 +70,22 @@ where
     Ok(times)
 }
 
-/// Prints the times of what was measured, or that the answers differ.
-pub fn print_times<R: Print>(rt: &R, measured: &str, times: Times) -> io::Result<()> {
-    let (call, plain) = (times.call.as_nanos(), times.plain.as_nanos());
-    if times.same {
-        println!(rt; "{measured}: {call} ns, a plain loop {plain} ns")
-    } else {
-        println!(rt; "{measured}: the answers differ")
+/// Measures these cases, each with what its line begins with, on vectors of a shape, and prints a line for each.
+pub fn measure_cases<R: Print + Clock + Threads + Sync>(
+    rt: &R,
+    alloc: Global,
+    config: Config,
+    cases: &[(Case, &str)],
+    shape: &Shape,
+) -> io::Result<()> {
+    let Ok(vectors) = vectors_of(alloc, shape) else {
+        return Ok(());
+    };
+    let (length, segments) = (vectors.numbers.len(), vectors.segments.count());
+    let words = shape.words;
+    let what = format!(in alloc; "{length} elements, {segments} segments{words}")?;
+    for (case, name) in cases {
+        best_times(rt, alloc, config, case, &vectors)?.print(rt, name, &what)?;
     }
+    Ok(())
 }

@@ -2,30 +2,71 @@
 
 use std::alloc::{AllocError, Global};
 
-/// The wrapped sums.
-pub fn sums(alloc: Global, a: &[i32], b: &[i32]) -> Result<Vec<i32>, AllocError> {
+/// What an operator gives on each element.
+pub fn on_each<T: Copy, U: Drop, F: FnMut(T) -> U + Drop>(
+    alloc: Global,
+    a: &[T],
+    operator: F,
+) -> Result<Vec<U>, AllocError>
+    requires { (state : F) (x : _) → F.pre state x }
+{
+    a.iter().copied().map(operator).collect(alloc)
+}
+
+/// What an operator gives on each two elements at the same place.
+pub fn on_pairs<T: Copy, U: Drop, F: FnMut((T, T)) -> U + Drop>(
+    alloc: Global,
+    a: &[T],
+    b: &[T],
+    operator: F,
+) -> Result<Vec<U>, AllocError>
+    requires { (state : F) (x : _) → F.pre state x }
+{
     a.iter()
-        .zip(b)
-        .map(|(x, y)| x.wrapping_add(*y))
+        .copied()
+        .zip(b.iter().copied())
+        .map(operator)
         .collect(alloc)
 }
 
-/// The quotients, and 0 for those by 0.
-pub fn quotients(alloc: Global, a: &[i32], b: &[i32]) -> Result<Vec<i32>, AllocError> {
-    a.iter()
-        .zip(b)
-        .map(|(x, y)| if *y == 0 { 0 } else { x.wrapping_div(*y) })
-        .collect(alloc)
+/// The wrapped sum.
+pub fn sum((x, y): (i32, i32)) -> i32 {
+    x.wrapping_add(y)
+}
+
+/// The quotient, and 0 for one by 0.
+pub fn quotient((x, y): (i32, i32)) -> i32 {
+    if y == 0 { 0 } else { x.wrapping_div(y) }
 }
 
 /// Whether the first is greater.
-pub fn greater(alloc: Global, a: &[i32], b: &[i32]) -> Result<Vec<bool>, AllocError> {
-    a.iter().zip(b).map(|(x, y)| *x > *y).collect(alloc)
+pub fn is_greater((x, y): (i32, i32)) -> bool {
+    x > y
 }
 
 /// Whether both are true.
-pub fn both(alloc: Global, a: &[bool], b: &[bool]) -> Result<Vec<bool>, AllocError> {
-    a.iter().zip(b).map(|(x, y)| *x & *y).collect(alloc)
+pub fn are_both((x, y): (bool, bool)) -> bool {
+    x & y
+}
+
+/// Each bit inverted.
+pub fn inverse(x: i32) -> i32 {
+    !x
+}
+
+/// The opposite.
+pub fn opposite(x: bool) -> bool {
+    !x
+}
+
+/// 1 for true and 0 for false.
+pub fn int_of(x: bool) -> i32 {
+    i32::from(x)
+}
+
+/// True for all numbers but 0.
+pub fn bool_of(x: i32) -> bool {
+    x != 0
 }
 
 /// The first where the flag is true, else the second.
@@ -35,24 +76,4 @@ pub fn chosen(alloc: Global, flags: &[bool], a: &[i32], b: &[i32]) -> Result<Vec
         .zip(a.iter().zip(b))
         .map(|(flag, (x, y))| if *flag { *x } else { *y })
         .collect(alloc)
-}
-
-/// Each bit inverted.
-pub fn inverted(alloc: Global, a: &[i32]) -> Result<Vec<i32>, AllocError> {
-    a.iter().map(|x| !*x).collect(alloc)
-}
-
-/// The opposites.
-pub fn opposites(alloc: Global, a: &[bool]) -> Result<Vec<bool>, AllocError> {
-    a.iter().map(|x| !*x).collect(alloc)
-}
-
-/// 1 for true and 0 for false.
-pub fn ints(alloc: Global, a: &[bool]) -> Result<Vec<i32>, AllocError> {
-    a.iter().map(|x| i32::from(*x)).collect(alloc)
-}
-
-/// True for all numbers but 0.
-pub fn bools(alloc: Global, a: &[i32]) -> Result<Vec<bool>, AllocError> {
-    a.iter().map(|x| *x != 0).collect(alloc)
 }

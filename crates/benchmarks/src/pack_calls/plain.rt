@@ -6,7 +6,7 @@ use crate::numbers::count_true;
 use std::alloc::{AllocError, Global};
 
 /// Pushes the elements whose flag is true. There must be room for all.
-fn push_kept<T: Copy>(kept: &mut Vec<T>, values: &[T], flags: &[bool])
+fn push_kept(kept: &mut Vec<i32>, values: &[i32], flags: &[bool])
     requires as_long { length flags.now ≤ length values.now }
     requires room { vec_len kept.old + length flags.now ≤ vec_capacity kept.old }
     ensures len { vec_len kept.new ≤ vec_len kept.old + length flags.now }
@@ -19,34 +19,14 @@ fn push_kept<T: Copy>(kept: &mut Vec<T>, values: &[T], flags: &[bool])
     }
 }
 
-/// The elements whose flag is true. It takes room for all elements, so that the flags are not counted first.
-pub fn kept<T: Copy>(alloc: Global, values: &[T], flags: &[bool]) -> Result<Vec<T>, AllocError>
-    requires { length flags.now ≤ length values.now }
-{
-    let mut kept = Vec::with_capacity(alloc, flags.len())?;
-    push_kept(&mut kept, values, flags);
-    Ok(kept)
-}
-
-/// How many flags of each segment are true.
-pub fn counts(alloc: Global, lengths: &[i32], flags: &[bool]) -> Result<Vec<usize>, AllocError> {
-    let mut counts = Vec::with_capacity(alloc, lengths.len())?;
-    let mut rest = flags;
-    for length in lengths {
-        let (segment, others) = rest.split_at((length.cast_unsigned() as usize).min(rest.len()));
-        counts.push_reserved(count_true(segment));
-        rest = others;
-    }
-    Ok(counts)
-}
-
-/// The elements of each segment whose flag is true, and how many they are, with room for all elements too.
-pub fn kept_by_segments<T: Copy>(
+/// The elements of each segment whose flag is true, and how many they are. It takes room for all elements, so that the flags
+/// are not counted first.
+pub fn kept(
     alloc: Global,
     lengths: &[i32],
-    values: &[T],
+    values: &[i32],
     flags: &[bool],
-) -> Result<(Vec<T>, Vec<usize>), AllocError>
+) -> Result<(Vec<i32>, Vec<usize>), AllocError>
     requires { length flags.now ≤ length values.now }
 {
     let mut kept = Vec::with_capacity(alloc, flags.len())?;
@@ -65,39 +45,16 @@ pub fn kept_by_segments<T: Copy>(
     Ok((kept, counts))
 }
 
-/// Pushes so many copies of a value. There must be room for them.
-fn push_copies<T: Copy>(copies: &mut Vec<T>, value: T, count: usize)
-    requires { vec_len copies.old + count ≤ vec_capacity copies.old }
-    ensures len { vec_len copies.new ≡ vec_len copies.old + count }
-    ensures capacity { vec_capacity copies.new ≡ vec_capacity copies.old }
-{
-    for _ in 0..count {
-        copies.push_reserved(value);
+/// How many flags of each segment are true.
+pub fn counts(alloc: Global, lengths: &[i32], flags: &[bool]) -> Result<Vec<i32>, AllocError> {
+    let mut counts = Vec::with_capacity(alloc, lengths.len())?;
+    let mut rest = flags;
+    for length in lengths {
+        let (segment, others) = rest.split_at((length.cast_unsigned() as usize).min(rest.len()));
+        counts.push_reserved(count_true(segment));
+        rest = others;
     }
-}
-
-/// So many copies of a value.
-pub fn copies<T: Copy>(alloc: Global, value: T, count: usize) -> Result<Vec<T>, AllocError> {
-    let mut copies = Vec::with_capacity(alloc, count)?;
-    push_copies(&mut copies, value, count);
-    Ok(copies)
-}
-
-/// For each segment as many copies of its value as it is long, but no more than `total` in all.
-pub fn copies_by_segments<T: Copy>(
-    alloc: Global,
-    lengths: &[i32],
-    values: &[T],
-    total: usize,
-) -> Result<Vec<T>, AllocError> {
-    let mut copies = Vec::with_capacity(alloc, total)?;
-    let mut left = total;
-    for (length, value) in lengths.iter().zip(values) {
-        let length = (length.cast_unsigned() as usize).min(left);
-        push_copies(&mut copies, *value, length);
-        left -= length;
-    }
-    Ok(copies)
+    Ok(counts)
 }
 
 /// Pushes so many numbers in equal steps. There must be room for them.
@@ -113,26 +70,20 @@ fn push_steps(numbers: &mut Vec<i32>, init: i32, stride: i32, count: usize)
     }
 }
 
-/// So many numbers in equal steps.
-pub fn steps(alloc: Global, init: i32, stride: i32, count: usize) -> Result<Vec<i32>, AllocError> {
-    let mut numbers = Vec::with_capacity(alloc, count)?;
-    push_steps(&mut numbers, init, stride, count);
-    Ok(numbers)
-}
-
-/// For each segment as many numbers in equal steps as it is long, but no more than `total` in all. A segment's first
-/// number is its step too.
-pub fn steps_by_segments(
+/// For each segment as many numbers in equal steps as it is long, but no more than `total` in all. The step is the segment's
+/// first number times `factor`.
+pub fn steps(
     alloc: Global,
     lengths: &[i32],
     inits: &[i32],
+    factor: i32,
     total: usize,
 ) -> Result<Vec<i32>, AllocError> {
     let mut numbers = Vec::with_capacity(alloc, total)?;
     let mut left = total;
     for (length, init) in lengths.iter().zip(inits) {
         let length = (length.cast_unsigned() as usize).min(left);
-        push_steps(&mut numbers, *init, *init, length);
+        push_steps(&mut numbers, *init, init.wrapping_mul(factor), length);
         left -= length;
     }
     Ok(numbers)

@@ -1,8 +1,9 @@
-//! The same work in plain loops of one thread, with a mark for each place that is taken.
+//! The same work in plain loops of one thread, with a mark for each place that is taken. None is answered where an index is
+//! bad, or memory is missing.
 
 use crate::numbers::count_true;
 use segdes::SegDes;
-use std::alloc::{AllocError, Global};
+use std::alloc::Global;
 
 /// Sends each element to its index, and tells whether each index was a free place.
 // One loop for all that send, so that each call is measured beside the same machine code.
@@ -60,52 +61,6 @@ fn take(values: &mut [i32], source: &[i32], index: &[i32]) -> bool {
     true
 }
 
-/// A simple permute; none where an index is bad.
-pub fn simple(
-    alloc: Global,
-    source: &[i32],
-    index: &[i32],
-) -> Result<Option<Vec<i32>>, AllocError> {
-    let mut values = vec![in alloc; 0; index.len()]?;
-    let mut taken = vec![in alloc; false; index.len()]?;
-    let sent = send(&mut values, &mut taken, source, index);
-    Ok(if sent { Some(values) } else { None })
-}
-
-/// A select permute; none where an index is bad.
-pub fn select(
-    alloc: Global,
-    source: &[i32],
-    index: &[i32],
-    flags: &[bool],
-) -> Result<Option<Vec<i32>>, AllocError> {
-    let count = count_true(flags);
-    let mut values = vec![in alloc; 0; count]?;
-    let mut taken = vec![in alloc; false; count]?;
-    let sent = send_flagged(&mut values, &mut taken, source, index, flags);
-    Ok(if sent { Some(values) } else { None })
-}
-
-/// A default permute; none where an index is bad.
-pub fn default_into(
-    alloc: Global,
-    source: &[i32],
-    index: &[i32],
-    defaults: &[i32],
-) -> Result<Option<Vec<i32>>, AllocError> {
-    let mut values = Vec::from_slice(alloc, defaults)?;
-    let mut taken = vec![in alloc; false; defaults.len()]?;
-    let sent = send(&mut values, &mut taken, source, index);
-    Ok(if sent { Some(values) } else { None })
-}
-
-/// A back permute; none where an index is bad.
-pub fn back(alloc: Global, source: &[i32], index: &[i32]) -> Result<Option<Vec<i32>>, AllocError> {
-    let mut values = vec![in alloc; 0; index.len()]?;
-    let taken = take(&mut values, source, index);
-    Ok(if taken { Some(values) } else { None })
-}
-
 /// Sends by segments into a vector as long as they are.
 fn send_segments(
     values: &mut [i32],
@@ -137,28 +92,42 @@ fn send_segments(
     true
 }
 
-/// Sends the elements whose flag is true by segments.
-fn send_flagged_segments(
-    values: &mut [i32],
-    taken: &mut [bool],
+/// The values over which the elements of each segment are sent.
+pub fn sent(
+    alloc: Global,
+    mut values: Vec<i32>,
+    source: &[i32],
+    index: &[i32],
+    d: &SegDes<Global>,
+) -> Option<Vec<i32>> {
+    let mut taken = vec![in alloc; false; values.len()].ok()?;
+    let is_sent = send_segments(&mut values, &mut taken, source, index, d);
+    if is_sent { Some(values) } else { None }
+}
+
+/// The elements whose flag is true, sent in each segment.
+pub fn sent_flagged(
+    alloc: Global,
     source: &[i32],
     index: &[i32],
     flags: &[bool],
     d: &SegDes<Global>,
-) -> bool {
+) -> Option<Vec<i32>> {
     let total = d.total();
     if flags.len() != total || source.len() != total || index.len() != total {
-        return false;
+        return None;
     }
+    let count = count_true(flags).cast_unsigned() as usize;
+    let mut values = vec![in alloc; 0; count].ok()?;
+    let mut taken = vec![in alloc; false; count].ok()?;
     let mut start: usize = 0;
     for s in 0..d.count() {
         let first = d.start(s);
         let last = first + d.length(s);
         let some = &flags[first..last];
-        let count = count_true(some);
-        let end = start.saturating_add(count);
+        let end = start.saturating_add(count_true(some).cast_unsigned() as usize);
         if end < start || end > values.len() || end > taken.len() {
-            return false;
+            return None;
         }
         if !send_flagged(
             &mut values[start..end],
@@ -167,53 +136,11 @@ fn send_flagged_segments(
             &index[first..last],
             some,
         ) {
-            return false;
+            return None;
         }
         start = end;
     }
-    true
-}
-
-/// A simple permute by segments; none where an index is bad.
-pub fn seg_simple(
-    alloc: Global,
-    source: &[i32],
-    index: &[i32],
-    d: &SegDes<Global>,
-) -> Result<Option<Vec<i32>>, AllocError> {
-    let mut values = vec![in alloc; 0; index.len()]?;
-    let mut taken = vec![in alloc; false; index.len()]?;
-    let sent = send_segments(&mut values, &mut taken, source, index, d);
-    Ok(if sent { Some(values) } else { None })
-}
-
-/// A select permute of all elements by segments; none where an index is bad.
-pub fn seg_select(
-    alloc: Global,
-    source: &[i32],
-    index: &[i32],
-    flags: &[bool],
-    d: &SegDes<Global>,
-) -> Result<Option<Vec<i32>>, AllocError> {
-    let count = count_true(flags);
-    let mut values = vec![in alloc; 0; count]?;
-    let mut taken = vec![in alloc; false; count]?;
-    let sent = send_flagged_segments(&mut values, &mut taken, source, index, flags, d);
-    Ok(if sent { Some(values) } else { None })
-}
-
-/// A default permute by segments; none where an index is bad.
-pub fn seg_default_into(
-    alloc: Global,
-    source: &[i32],
-    index: &[i32],
-    defaults: &[i32],
-    d: &SegDes<Global>,
-) -> Result<Option<Vec<i32>>, AllocError> {
-    let mut values = Vec::from_slice(alloc, defaults)?;
-    let mut taken = vec![in alloc; false; defaults.len()]?;
-    let sent = send_segments(&mut values, &mut taken, source, index, d);
-    Ok(if sent { Some(values) } else { None })
+    Some(values)
 }
 
 /// Takes by segments.
@@ -236,14 +163,9 @@ fn take_segments(values: &mut [i32], source: &[i32], index: &[i32], d: &SegDes<G
     true
 }
 
-/// A back permute by segments; none where an index is bad.
-pub fn seg_back(
-    alloc: Global,
-    source: &[i32],
-    index: &[i32],
-    d: &SegDes<Global>,
-) -> Result<Option<Vec<i32>>, AllocError> {
-    let mut values = vec![in alloc; 0; index.len()]?;
-    let taken = take_segments(&mut values, source, index, d);
-    Ok(if taken { Some(values) } else { None })
+/// The elements that the index takes in each segment.
+pub fn taken(alloc: Global, source: &[i32], index: &[i32], d: &SegDes<Global>) -> Option<Vec<i32>> {
+    let mut values = vec![in alloc; 0; index.len()].ok()?;
+    let is_taken = take_segments(&mut values, source, index, d);
+    if is_taken { Some(values) } else { None }
 }

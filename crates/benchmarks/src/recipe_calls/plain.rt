@@ -1,6 +1,6 @@
 //! The same work in plain loops of one thread.
 
-use crate::recipe_calls::matrix::Matrix;
+use crate::recipe_calls::Matrix;
 use std::alloc::{AllocError, Global};
 
 /// The sum of a row's products. A column outside the vector counts as 0.

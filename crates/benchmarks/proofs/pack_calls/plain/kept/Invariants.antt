@@ -1,8 +1,8 @@
 use Rattle.std.proofs.Common.{◌≡◌, ◌+◌, ◌≤◌, length, vec_len, vec_capacity}
-use Rattle.benchmarks.proofs.pack_calls.plain.kept_by_segments.Given as goal
+use Rattle.benchmarks.proofs.pack_calls.plain.kept.Given as goal
 
 abbrev pub invariant-loop-length : goal.invariant-loop-length
-invariant-loop-length g l = record {
+invariant-loop-length l = record {
   counts : vec_len l.counts ≡ l.length-index;
   counts_room : vec_capacity l.counts ≡ length l.lengths;
   as_long : length l.flags ≤ length l.values;

@@ -1,5 +1,5 @@
 use Rattle.std.proofs.Common.{◌+◌, ◌≤◌, vec_len, vec_capacity}
-use Rattle.benchmarks.proofs.pack_calls.plain.steps_by_segments.Given as goal
+use Rattle.benchmarks.proofs.pack_calls.plain.steps.Given as goal
 
 abbrev pub invariant-loop-length : goal.invariant-loop-length
 invariant-loop-length l =

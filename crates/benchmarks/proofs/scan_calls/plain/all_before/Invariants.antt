@@ -1,5 +1,0 @@
-use Rattle.std.proofs.Common.{◌≡◌, length, vec_len, vec_capacity}
-use Rattle.benchmarks.proofs.scan_calls.plain.all_before.Given as goal
-
-abbrev pub invariant-loop-x : goal.invariant-loop-x
-invariant-loop-x l = (vec_len l.answers ≡ l.x-index) × (vec_capacity l.answers ≡ length l.a)

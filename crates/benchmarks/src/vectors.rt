@@ -1,0 +1,145 @@
+//! The vectors on which the calls are measured.
+
+use crate::numbers::{next, random, random_flags};
+use cvl_base::Refused;
+use cvl_base::limits::MOST_ELEMENTS;
+use segdes::SegDes;
+use std::alloc::{AllocError, Global};
+
+/// How the vectors are made.
+#[derive(Drop)]
+pub struct Shape<'a> {
+    /// What a line says of it after the numbers of elements and of segments.
+    pub words: &'a str,
+    /// How many elements there are at most.
+    pub most: usize,
+    /// How many of them a segment has; the last one may have fewer.
+    pub segment: usize,
+    /// Whether an empty segment stands before each of these.
+    pub with_empty: bool,
+    /// About how many of a hundred flags are true.
+    pub percent: i32,
+    /// Whether the index has its places at random, and not in order.
+    pub at_random: bool,
+}
+
+impl<'a> Shape<'a> {
+    /// So many elements in one segment, half of the flags true, the index in order.
+    pub fn whole(length: usize) -> Shape<'a> {
+        Shape {
+            words: "",
+            most: length,
+            segment: length,
+            with_empty: false,
+            percent: 50,
+            at_random: false,
+        }
+    }
+}
+
+/// Vectors of one length, what cuts them into segments, and a number for each segment.
+#[derive(Drop)]
+pub struct Vectors {
+    /// Random integers.
+    pub numbers: Vec<i32>,
+    /// Random integers that are odd, so that each divides.
+    pub divisors: Vec<i32>,
+    /// Random flags.
+    pub flags: Vec<bool>,
+    /// Other random flags.
+    pub others: Vec<bool>,
+    /// Each place of a segment once, segment by segment, counted from the segment's start.
+    pub index: Vec<i32>,
+    /// True where the index is below half of a full segment, so that the places that it names there are packed.
+    pub chosen: Vec<bool>,
+    /// A random integer for each segment.
+    pub firsts: Vec<i32>,
+    /// The segments.
+    pub segments: SegDes<Global>,
+}
+
+/// The lengths of such segments, at most 4,194,304.
+fn lengths_of(
+    alloc: Global,
+    most: usize,
+    segment: usize,
+    with_empty: bool,
+) -> Result<Vec<i32>, AllocError> {
+    let most_cut = if with_empty {
+        MOST_ELEMENTS / 2
+    } else {
+        MOST_ELEMENTS
+    };
+    let mut lengths = Vec::new(alloc);
+    let mut left = most;
+    for _ in 0..most_cut {
+        let taken = segment.min(left);
+        if taken == 0 {
+            break;
+        }
+        if with_empty {
+            lengths.push(0)?;
+        }
+        lengths.push(i32::try_from(taken).unwrap_or(0))?;
+        left -= taken;
+    }
+    Ok(lengths)
+}
+
+/// The places 0 to n - 1, in order or at random.
+fn places(alloc: Global, at_random: bool, n: usize) -> Result<Vec<i32>, AllocError> {
+    let mut places = vec![in alloc; 0; n]?;
+    let mut state: i32 = 1;
+    for k in 0..n {
+        state = next(state);
+        let other = if at_random {
+            (state.cast_unsigned() >> 4) as usize % (k + 1)
+        } else {
+            k
+        };
+        places[k] = places[other];
+        places[other] = i32::try_from(k).unwrap_or(0);
+    }
+    Ok(places)
+}
+
+/// For each segment its places.
+fn index_of(alloc: Global, at_random: bool, lengths: &[i32]) -> Result<Vec<i32>, AllocError> {
+    let mut index = Vec::new(alloc);
+    for length in lengths {
+        let part = places(alloc, at_random, length.cast_unsigned() as usize)?;
+        index.extend_from_slice(&part)?;
+    }
+    Ok(index)
+}
+
+/// Which numbers are below a limit.
+fn below(alloc: Global, numbers: &[i32], limit: i32) -> Result<Vec<bool>, AllocError> {
+    let mut flags = vec![in alloc; false; numbers.len()]?;
+    for k in 0..numbers.len() {
+        flags[k] = numbers[k] < limit;
+    }
+    Ok(flags)
+}
+
+/// The vectors of a shape.
+pub fn vectors_of(alloc: Global, shape: &Shape) -> Result<Vectors, Refused> {
+    let lengths = lengths_of(alloc, shape.most, shape.segment, shape.with_empty)?;
+    if lengths.len() > MOST_ELEMENTS {
+        return Err(Refused::NoResources);
+    }
+    let segments = SegDes::from_lengths(alloc, &lengths)?;
+    let length = segments.total();
+    let index = index_of(alloc, shape.at_random, &lengths)?;
+    let half = i32::try_from(shape.segment / 2).unwrap_or(0);
+    Ok(Vectors {
+        numbers: random(alloc, 1, length, 0)?,
+        divisors: random(alloc, 2, length, 1)?,
+        flags: random_flags(alloc, 1, length, shape.percent)?,
+        others: random_flags(alloc, 2, length, 33)?,
+        chosen: below(alloc, &index, half)?,
+        firsts: random(alloc, 3, segments.count(), 0)?,
+        index,
+        segments,
+    })
+}
