@@ -6,8 +6,7 @@ ghost use Rattle.cvl_base.specs.Packs.{count_of};
 ghost use Rattle.permutes.specs.Parts.{fault_from, flagged_parts, parts_of, places_in, senders_from, targets_in};
 ghost use Rattle.permute_walks.specs.Senders.{nobody, fault_told};
 
-use crate::selects::count_true;
-use cvl_base::Fault;
+use cvl_base::{Fault, true_count};
 use permute_walks::{AllTargets, FlaggedTargets, Targets, send_places};
 use segdes::SegDes;
 use std::alloc::Allocator;
@@ -74,14 +73,16 @@ struct FlaggedParts<'a, A: Allocator> {
 }
 
 impl<'a, A: Allocator> Parts for FlaggedParts<'a, A> {
-    ghost use Rattle.std.specs.Prelude.{◌≡◌, length, sum};
+    ghost use Rattle.std.specs.Prelude.{◌≡◌, ◌≤◌, length, sum};
+    ghost use Rattle.cvl_base.specs.Limits.{most_elements};
     ghost use Rattle.permutes.specs.Parts.{flagged_parts};
 
     type Part = FlaggedTargets<'a>;
 
     ghost parts = { λ p. flagged_parts p.d.now p.index.now p.flags.now };
 
-    ghost AreCut = { λ p. (sum p.d.now ≡ length p.index.now) × (sum p.d.now ≡ length p.flags.now) };
+    ghost AreCut = { λ p. (sum p.d.now ≡ length p.index.now) × (sum p.d.now ≡ length p.flags.now)
+        × (length p.flags.now ≤ most_elements) };
 
     fn count(&self) -> usize {
         self.d.count()
@@ -92,7 +93,7 @@ impl<'a, A: Allocator> Parts for FlaggedParts<'a, A> {
         let last = first + self.d.length(s);
         let index = &self.index[first..last];
         let flags = &self.flags[first..last];
-        (count_true(flags), FlaggedTargets { index, flags })
+        (true_count(flags), FlaggedTargets { index, flags })
     }
 }
 

@@ -3,30 +3,16 @@
 ghost use Rattle.std.specs.Prelude.{◌≡◌, ◌≤◌, IfOk, length, OnOk, replicate, vec_len};
 ghost use Rattle.cvl_base.specs.Gives.{Gives};
 ghost use Rattle.cvl_base.specs.Limits.{most_elements};
-ghost use Rattle.cvl_base.specs.Packs.{count_of};
 ghost use Rattle.cvl_base.specs.Permutes.{first_fault, flagged_targets, select_of, wrongs};
 ghost use Rattle.cvl_base.specs.SegmentedCalls.{seg_select_of};
 ghost use Rattle.permute_walks.specs.Senders.{nobody, senders_of, fault_told};
 
 use crate::segments::send_flagged_segments;
 use crate::sent::elements_sent;
-use cvl_base::{Config, Fault, Memory, Refused, check_agree};
+use cvl_base::{Config, Fault, Memory, Refused, check_agree, true_count};
 use permute_walks::{FlaggedTargets, send_places};
 use segdes::{SegDes, check_total};
 use std::thread::Threads;
-
-/// How many flags are true.
-// A filter would have a branch on each flag.
-pub(crate) fn count_true(flags: &[bool]) -> usize
-    ensures value { result ≡ count_of flags.now }
-    ensures in_length { result ≤ length flags.now }
-{
-    let mut count = 0;
-    for flag in flags {
-        count += usize::from(*flag);
-    }
-    count
-}
 
 /// Sends the places whose flag is true. The senders are nobody to begin with. The fault is that of the first bad place.
 fn send_flagged(senders: &mut [u32], index: &[i32], flags: &[bool]) -> Result<(), Fault>
@@ -59,7 +45,7 @@ pub fn select<T: Copy + Send + Sync, R: Threads + Sync, A: Memory>(
 {
     check_agree(source.len(), index.len())?;
     check_agree(index.len(), flags.len())?;
-    let places = count_true(flags);
+    let places = true_count(flags);
     elements_sent(rt, alloc, config, source, places, |senders| {
         send_flagged(senders, index, flags)
     })
@@ -87,7 +73,7 @@ pub fn seg_select<T: Copy + Send + Sync, R: Threads + Sync, A: Memory>(
     check_total(source, d)?;
     check_total(index, d)?;
     check_total(flags, d)?;
-    let places = count_true(flags);
+    let places = true_count(flags);
     elements_sent(rt, alloc, config, source, places, |senders| {
         send_flagged_segments(senders, index, flags, d)
     })

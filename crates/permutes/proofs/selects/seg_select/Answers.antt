@@ -18,7 +18,7 @@ returns-clause-values g c =
     let total = c.in_ok-check_total-2.ensures.agrees in
     let flag_total = c.in_ok-check_total-3.ensures.agrees in
     subst (Gives (λ v. v.items) c.elements_sent.result) (sym (seg_select-meaning source index flags d source_total total flag_total c.requires.in_limit))
-    (c.elements_sent.ensures.values (fault_from 0 parts) (senders_from 0 parts) (length-senders_from 0 parts ∙ places-flagged_parts d index flags flag_total ∙ sym c.count_true-places.ensures.value)
+    (c.elements_sent.ensures.values (fault_from 0 parts) (senders_from 0 parts) (length-senders_from 0 parts ∙ places-flagged_parts d index flags flag_total ∙ sym c.true_count-places.ensures.value)
     (flagged_segments_sent (length source) (omega (arith, source_total, total, c.requires.in_limit)) 0 d index flags total (sym total ∙ flag_total) (omega (arith, source_total, total)))
     (λ given left p.
     let met : (fault_told given ≡ fault_from 0 parts) × OnOk given (p.left.now ≡ senders_from 0 parts) = search rules in

@@ -16,6 +16,6 @@ length-requires g c =
 pub returns : goal.returns
 returns g c =
     let parts = c.args.self.now in
-    flagged_part_of_range parts.d.now parts.index.now c.requires.cut.0 c.args.s c.start-first.result c.length.result c.count_true.result
+    flagged_part_of_range parts.d.now parts.index.now c.requires.cut.0 c.args.s c.start-first.result c.length.result c.true_count.result
     (omega (arith, length-flagged_parts parts.d.now parts.index.now parts.flags.now, c.requires.within))
-    c.start-first.ensures.value c.length.ensures parts.flags.now c.requires.cut.1 c.count_true.ensures.value
+    c.start-first.ensures.value c.length.ensures parts.flags.now c.requires.cut.1 c.true_count.ensures.value

@@ -1,6 +1,0 @@
-use Rattle.std.proofs.Common.{◌≡◌, take}
-use Rattle.cvl_base.specs.Packs.{count_of}
-use Rattle.permutes.proofs.selects.count_true.Given as goal
-
-abbrev pub invariant-loop-flag : goal.invariant-loop-flag
-invariant-loop-flag l = l.count ≡ count_of (take l.flag-index l.flags)
