@@ -1,8 +1,9 @@
-//! Two seats of a board over four tiles, whose workers take their steps in turn.
+//! Seats of a board, whose workers take their steps in turn.
 
-ghost use Rattle.std.specs.Prelude.{◌≤◌, length};
+ghost use Rattle.std.specs.Prelude.{◌≡◌, ◌≤◌, length, vec_len};
+ghost use Rattle.std.specs.List.{All};
 ghost use Rattle.boards.specs.Boards.{IsSeatOf};
-ghost use Rattle.cvl_base.specs.Limits.{most_elements};
+ghost use Rattle.cvl_base.specs.Limits.{most_elements, most_workers};
 
 use crate::tiles::CountedTiles;
 use boards::{Back, Claim, ScanBoard, ScanSeat};
@@ -57,39 +58,36 @@ fn with_claim<A: Memory>(
     }
 }
 
-/// The tiles that two seats are given in turn, as the digits of a number after a 9.
-fn claimed_in_turn<A: Memory>(
+/// The same for one claim of each seat, one after another.
+fn with_claims<A: Memory>(
     board: &ScanBoard<CountedTiles<'_>, A>,
-    first: &mut ScanSeat<Add>,
-    second: &mut ScanSeat<Add>,
+    seats: &mut Vec<ScanSeat<Add>, A>,
+    mut digits: u64,
 ) -> u64
-    requires first { IsSeatOf board.now first.old }
-    requires second { IsSeatOf board.now second.old }
-    ensures first { IsSeatOf board.now first.new }
-    ensures second { IsSeatOf board.now second.new }
+    requires { All (IsSeatOf board.now) seats.old.items }
+    ensures seats { All (IsSeatOf board.now) seats.new.items }
+    ensures as_many { vec_len seats.new ≡ vec_len seats.old }
 {
-    let mut digits = 9;
-    for _ in 0..1000 {
-        digits = with_claim(board, first, digits);
-        digits = with_claim(board, second, digits);
+    for k in 0..seats.len() {
+        digits = with_claim(board, &mut seats[k], digits);
     }
     digits
 }
 
-/// The same of a new board over these numbers, and how many tiles it tells of when it is closed.
-fn claims_of<A: Memory>(alloc: A, numbers: &[i32]) -> Result<(u64, u32), NoResources>
-    requires { length numbers.now ≤ most_elements }
+/// The tiles that so many seats of a new board over these numbers are given, each of which claims 1,000 times, as the digits
+/// of a number after a 9; and how many tiles the board tells of when it is closed.
+fn claims_of<A: Memory>(alloc: A, numbers: &[i32], workers: u32) -> Result<(u64, u32), NoResources>
+    requires numbers { length numbers.now ≤ most_elements }
+    requires some { 1 ≤ workers }
+    requires few { workers ≤ most_workers }
 {
     let added_up = AtomicU64::new(0);
     let tiles = CountedTiles::new(numbers, &added_up);
-    let (board, mut seats) = ScanBoard::new(alloc, tiles, 2)?;
-    let (Some(mut second), Some(mut first)) = (seats.pop(), seats.pop()) else {
-        return Ok((0, 0));
-    };
-    let digits = claimed_in_turn(&board, &mut first, &mut second);
-    let mut seats = Vec::with_capacity(alloc, 2)?;
-    seats.push_reserved(first);
-    seats.push_reserved(second);
+    let (board, mut seats) = ScanBoard::new(alloc, tiles, workers)?;
+    let mut digits = 9;
+    for _ in 0..1000 {
+        digits = with_claims(&board, &mut seats, digits);
+    }
     Ok((digits, board.close(seats).given))
 }
 
@@ -102,7 +100,7 @@ fn two_workers_in_turn(rt: HostRuntime) -> Result<(), Fail> {
         Ok(true),
         Err(NoResources),
     )?;
-    assert_eq!(rt; claims_of(heap, NUMBERS.as_slice()), Ok((90123, 4)));
-    assert_eq!(rt; claims_of(heap, &[]), Ok((9, 0)));
+    assert_eq!(rt; claims_of(heap, NUMBERS.as_slice(), 2), Ok((90123, 4)));
+    assert_eq!(rt; claims_of(heap, &[], 64), Ok((9, 0)));
     Ok(())
 }

@@ -1,18 +1,20 @@
 //! Every cut of short vectors into tiles, by one worker and by many.
 
-use crate::plain;
-use cvl_base::limits::MOST_ELEMENTS;
-use cvl_base::{Config, IntMonoid, Refused};
-use scan_ops::{int_reduce, int_scan, seg_int_reduce, seg_int_scan};
-use segdes::SegDes;
-use std::alloc::{AllocError, Global};
+use crate::calls::{agree_at_gates, case_of};
+use cvl_base::{Config, IntMonoid};
 use std::test::Fail;
-use std::thread::Threads;
 
 /// The greatest length of a vector that is cut.
 const LONGEST: u16 = 40;
 
-const WORKERS: &[u32] = &[1, 2, 3, 7, 64];
+/// How many workers there are, and an operator whose scans and reduces they make.
+const CREWS: [(u32, IntMonoid); 5] = [
+    (1, IntMonoid::Add),
+    (2, IntMonoid::Max),
+    (3, IntMonoid::Add),
+    (7, IntMonoid::Max),
+    (64, IntMonoid::Add),
+];
 
 /// Numbers of both signs, some of which are great, so that sums wrap.
 const NUMBERS: &[i32] = &[
@@ -59,56 +61,31 @@ const NUMBERS: &[i32] = &[
 ];
 
 /// The lengths of segments, of which the first few cut a vector. Some are empty, also next to each other.
-const LENGTHS: &[i32] = &[0, 2, 0, 0, 3, 1, 1, 5, 0, 8, 4, 0, 2, 6, 0, 1, 3, 0, 4, 0];
+const LENGTHS: [i32; 20] = [0, 2, 0, 0, 3, 1, 1, 5, 0, 8, 4, 0, 2, 6, 0, 1, 3, 0, 4, 0];
 
 /// The lengths of segments that have so many elements in all: the first of the table, the last one cut short, and empty
 /// ones after it.
-fn lengths_of(alloc: Global, total: u16) -> Result<Vec<i32>, AllocError> {
-    let mut lengths = Vec::new(alloc);
+fn lengths_of(total: u16) -> [i32; 20] {
+    let mut lengths = LENGTHS;
     let mut left = i32::from(total);
-    for length in LENGTHS {
-        let here = (*length).min(left);
-        lengths.push(here)?;
-        left = left.wrapping_sub(here);
+    for k in 0..lengths.len() {
+        lengths[k] = lengths[k].min(left);
+        left = left.wrapping_sub(lengths[k]);
     }
-    Ok(lengths)
-}
-
-/// Whether the calls of one operator on the first numbers, cut into such tiles, answer what plain loops answer.
-fn agrees<R: Threads + Sync>(
-    rt: &R,
-    alloc: Global,
-    config: Config,
-    op: IntMonoid,
-    length: u16,
-) -> Result<bool, Refused> {
-    let numbers = &NUMBERS[..usize::from(length).min(NUMBERS.len())];
-    let lengths = lengths_of(alloc, length)?;
-    if lengths.len() > MOST_ELEMENTS {
-        return Ok(false);
-    }
-    let d = SegDes::from_lengths(alloc, &lengths)?;
-    let (scans, reduces) = plain::segments(alloc, op, numbers, &lengths)?;
-    let (scan, reduce) = plain::segments(alloc, op, numbers, &[i32::from(length)])?;
-    let sum = int_reduce(rt, alloc, config, op, numbers)?;
-    Ok(
-        int_scan(rt, alloc, config, op, numbers)? == scan
-            && reduce.as_slice() == [sum].as_slice()
-            && seg_int_scan(rt, alloc, config, op, numbers, &d)? == scans
-            && seg_int_reduce(rt, alloc, config, op, numbers, &d)? == reduces,
-    )
+    lengths
 }
 
 #[test]
 fn every_cut(rt: HostRuntime) -> Result<(), Fail> {
     for length in 0..=LONGEST {
-        for tile in 1..=8 {
-            for workers in WORKERS {
-                let config = Config::new(tile, *workers)?;
-                for op in [IntMonoid::Add, IntMonoid::Max] {
-                    let same = agrees(&rt, rt.alloc(), config, op, length)?;
-                    assert!(rt; same, "{op:?} of {length} in tiles of {tile} by {workers}");
-                }
+        let numbers = &NUMBERS[..usize::from(length).min(NUMBERS.len())];
+        for (workers, op) in CREWS {
+            let case = case_of(rt.alloc(), op, numbers, lengths_of(length))?;
+            for tile in 1..=8 {
+                let tiles = u32::from(length).div_ceil(tile);
+                let config = Config::new(tile, workers)?;
+                let right = agree_at_gates(&rt, rt.alloc(), config, tiles, &case)?;
+                assert!(rt; right, "{op:?} of {length} in tiles of {tile} by {workers}");
             }
         }
     }

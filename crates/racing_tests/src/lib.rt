@@ -2,12 +2,14 @@
 //!
 //! Of what they share: monoids and the words of their items, the world of workers beside a plain reading of the table of
 //! their states, the scan board by hand and by two threads of the test's own, and a list gathered from pieces. Of the
-//! scans and reduces: every cut into tiles beside plain lists, workers held at a gate, and each request for memory refused
-//! in turn.
+//! scans and reduces: every cut into tiles beside plain lists, at a gate that sees each point of each tile; workers held
+//! at it; how often elements were read at each point; and each request for memory refused in turn.
 #![tactic(auto)]
 
 #[cfg(test)]
 mod by_hand;
+#[cfg(test)]
+mod calls;
 #[cfg(test)]
 mod cuts;
 #[cfg(test)]
@@ -25,6 +27,8 @@ mod plain;
 #[cfg(test)]
 mod plain_world;
 #[cfg(test)]
+mod readings;
+#[cfg(test)]
 mod refusals;
 #[cfg(test)]
 mod repeats;
@@ -32,3 +36,5 @@ mod repeats;
 mod schedules;
 #[cfg(test)]
 mod tiles;
+#[cfg(test)]
+mod watch;

@@ -11,19 +11,28 @@ use std::test::Fail;
 use std::thread::{Threads, join};
 
 /// How many tiles there are.
-const TILES: u32 = 1000;
+const TILES: usize = 1000;
 
-/// The numbers of the tiles.
-const NUMBERS: [i32; 1000] = [3; 1000];
-
-/// What the tiles before tile `t` join to.
-fn sum_before(t: u32) -> i32 {
-    t.cast_signed().wrapping_mul(3)
+/// The numbers of the tiles, and what stands before each.
+fn numbers() -> ([i32; 1000], [i32; 1000]) {
+    let mut numbers = [0; TILES];
+    let mut before = [0; TILES];
+    let mut sum: i32 = 0;
+    for k in 0..TILES {
+        numbers[k] = (k as i32 * 7919) % 101 - 50;
+        before[k] = sum;
+        sum = sum.wrapping_add(numbers[k]);
+    }
+    (numbers, before)
 }
 
 /// One worker's part: it claims tiles until none is left, and tells the sum and the prefix of each. The answer is how many
 /// tiles it was given, and whether each look-back answered what the tiles before join to.
-fn work<A: Memory>(board: &ScanBoard<CountedTiles<'_>, A>, mut seat: ScanSeat<Add>) -> (u32, bool)
+fn work<A: Memory>(
+    board: &ScanBoard<CountedTiles<'_>, A>,
+    before: &[i32],
+    mut seat: ScanSeat<Add>,
+) -> (u32, bool)
     requires { IsSeatOf board.now seat }
 {
     let mut given: u32 = 0;
@@ -35,7 +44,7 @@ fn work<A: Memory>(board: &ScanBoard<CountedTiles<'_>, A>, mut seat: ScanSeat<Ad
         given = given.wrapping_add(1);
         board.tell_sum(&mut seat, t);
         let back = board.look_back(&mut seat, t);
-        right &= back.before == (false, sum_before(t));
+        right &= before.get(t as usize) == Some(&back.before.1);
         board.tell_prefix(&mut seat, t, back.before);
     }
     (given, right)
@@ -46,21 +55,22 @@ fn by_two_threads<R: Threads + Sync, A: Memory>(
     rt: &R,
     alloc: A,
 ) -> Result<(u32, bool), NoResources> {
+    let (numbers, before) = numbers();
     let added_up = AtomicU64::new(0);
-    let tiles = CountedTiles::new(NUMBERS.as_slice(), &added_up);
+    let tiles = CountedTiles::new(numbers.as_slice(), &added_up);
     let (board, mut seats) = ScanBoard::new(alloc, tiles, 2)?;
     let (Some(second), Some(first)) = (seats.pop(), seats.pop()) else {
         return Ok((0, false));
     };
-    let shared = &board;
+    let (shared, expected) = (&board, before.as_slice());
     let (first, second) = join(
         rt,
         move || -> (u32, bool)
             requires { IsSeatOf shared.now first }
-        { work(shared, first) },
+        { work(shared, expected, first) },
         move || -> (u32, bool)
             requires { IsSeatOf shared.now second }
-        { work(shared, second) },
+        { work(shared, expected, second) },
     );
     Ok((first.0.wrapping_add(second.0), first.1 && second.1))
 }
@@ -68,7 +78,7 @@ fn by_two_threads<R: Threads + Sync, A: Memory>(
 #[test]
 fn each_tile_by_one_of_two_threads(rt: HostRuntime) -> Result<(), Fail> {
     for _ in 0..20 {
-        assert_eq!(rt; by_two_threads(&rt, rt.alloc()), Ok((TILES, true)));
+        assert_eq!(rt; by_two_threads(&rt, rt.alloc()), Ok((1000, true)));
     }
     Ok(())
 }

@@ -1,7 +1,7 @@
 //! Tiles for tests.
 
 ghost use Rattle.std.specs.Prelude.{◌≡◌, ◌≤◌, false, true, length, map};
-ghost use Rattle.std.specs.List.{AllPass};
+ghost use Rattle.std.specs.List.{AllPass, list_all};
 ghost use Rattle.cvl_base.specs.ItemWords.{is_number};
 ghost use Rattle.cvl_base.specs.Limits.{most_elements};
 
@@ -15,6 +15,7 @@ pub struct CountedTiles<'a> {
     numbers: &'a [i32],
     added_up: &'a AtomicU64,
     ghost few: { length numbers.now ≤ most_elements },
+    ghost items: { list_all is_number numbers.now ≡ true },
 }
 
 impl<'a> CountedTiles<'a> {
@@ -23,6 +24,7 @@ impl<'a> CountedTiles<'a> {
         requires { length numbers.now ≤ most_elements }
         ensures { result.numbers.now ≡ numbers.now }
     {
+        know_numbers(numbers);
         CountedTiles { numbers, added_up }
     }
 }
@@ -33,7 +35,6 @@ impl Tiles for CountedTiles<'_> {
     ghost sums = { λ tiles. map (λ x. (false, x)) tiles.numbers.now };
 
     fn count(&self) -> u32 {
-        know_numbers(self.numbers);
         self.numbers.len() as u32
     }
 

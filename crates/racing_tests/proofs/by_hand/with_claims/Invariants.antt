@@ -1,5 +1,7 @@
+use Rattle.std.proofs.Common.{◌≡◌, length}
+use Rattle.std.specs.List.{All}
 use Rattle.boards.specs.Boards.{IsSeatOf}
-use Rattle.racing_tests.proofs.by_hand.claimed_in_turn.Given as goal
+use Rattle.racing_tests.proofs.by_hand.with_claims.Given as goal
 
-abbrev pub invariant-loop : goal.invariant-loop
-invariant-loop g l = IsSeatOf l.board l.first × IsSeatOf l.board l.second
+abbrev pub invariant-loop-k : goal.invariant-loop-k
+invariant-loop-k g l = All (IsSeatOf l.board) l.seats.items × (length l.seats.items ≡ length l.fn.seats.items)
