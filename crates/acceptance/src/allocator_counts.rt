@@ -2,7 +2,6 @@
 use cvl_base::Memory;
 use refusing_memory::{Flaw, Refusal, Refusing, withstands_refusals};
 use std::alloc::{AllocError, Global};
-use std::thread::Threads;
 use std::{mem, thread};
 
 /// Three requests, and three frees where none is refused.
@@ -15,17 +14,6 @@ fn three_boxes<A: Memory>(alloc: A) -> Result<u64, AllocError> {
     Ok(sum)
 }
 
-/// How long a vector gets that asked for room for 5 numbers and then takes them until it can't grow, at most 100.
-fn filled<A: Memory>(alloc: A) -> Result<usize, AllocError> {
-    let mut numbers = Vec::with_capacity(alloc, 5)?;
-    for n in 0..100u64 {
-        if numbers.push(n).is_err() {
-            break;
-        }
-    }
-    Ok(numbers.len())
-}
-
 /// How many of 1000 requests in a row are refused.
 fn refused_of_1000<A: Memory>(alloc: A) -> usize {
     let mut refused = 0usize;
@@ -35,12 +23,6 @@ fn refused_of_1000<A: Memory>(alloc: A) -> usize {
         }
     }
     refused
-}
-
-/// Three requests in each of two threads.
-fn six_boxes<R: Threads + Sync, A: Memory>(rt: &R, alloc: A) -> Result<u64, AllocError> {
-    let (left, right) = thread::join(rt, || three_boxes(alloc), || three_boxes(alloc));
-    Ok(left?.wrapping_add(right?))
 }
 
 /// Keeps a block for good.
@@ -57,62 +39,42 @@ fn until_refused<A: Memory>(alloc: A) -> Result<u64, AllocError> {
     Ok(u64::MAX)
 }
 
-/// A rule, what two runs of three requests answer under it, and how many requests, refusals and frees are counted then.
+/// What an allocator has counted: requests, refusals, frees, and blocks that are held.
+fn counts_of(heap: &Refusing<Global>) -> [u64; 4] {
+    [heap.requests(), heap.refused(), heap.frees(), heap.held()]
+}
+
+/// A rule, what two runs of three requests answer under it, and what is counted then.
 type Row = (
     Refusal,
     Result<u64, AllocError>,
     Result<u64, AllocError>,
-    [u64; 3],
+    [u64; 4],
 );
 
 const ROWS: &[Row] = &[
-    (Refusal::Never, Ok(6), Ok(6), [6, 0, 6]),
-    (Refusal::Only(1), Err(AllocError), Ok(6), [5, 1, 4]),
+    (Refusal::Never, Ok(6), Ok(6), [6, 0, 6, 0]),
+    (Refusal::Only(1), Err(AllocError), Ok(6), [5, 1, 4, 0]),
     (
         Refusal::From(1),
         Err(AllocError),
         Err(AllocError),
-        [3, 2, 1],
+        [3, 2, 1, 0],
     ),
 ];
 
-/// Whether an allocator has counted so many requests, refusals and frees, and no block is held.
-fn has_counted(heap: &Refusing<Global>, counts: [u64; 3]) -> bool {
-    let [requests, refused, frees] = counts;
-    heap.requests() == requests
-        && heap.refused() == refused
-        && heap.frees() == frees
-        && heap.held() == 0
-}
-
-/// Whether two runs under the rule of a row answer and are counted as it says.
-fn comes_out(alloc: Global, (rule, first, second, counts): &Row) -> bool {
-    let heap = Refusing::new(*rule, alloc);
-    let answers = [three_boxes(&heap), three_boxes(&heap)];
-    answers == [*first, *second] && heap.rule() == *rule && has_counted(&heap, *counts)
-}
-
 #[test]
 fn counts_and_refusals(rt: HostRuntime) {
-    for row in ROWS {
-        assert!(rt; comes_out(rt.alloc(), row), "{:?}", row.0);
+    for (rule, first, second, counts) in ROWS {
+        let heap = Refusing::new(*rule, rt.alloc());
+        assert!(rt; three_boxes(&heap) == *first && three_boxes(&heap) == *second);
+        assert!(rt; heap.rule() == *rule && counts_of(&heap) == *counts);
     }
-}
-
-#[test]
-fn a_vector_that_is_not_to_grow(rt: HostRuntime) {
-    let heap = Refusing::from(1, rt.alloc());
-    assert!(rt; filled(&heap) == Ok(5));
-    assert!(rt; heap.refused() == 1 && heap.frees() == 1 && heap.held() == 0);
-}
-
-#[test]
-fn a_block_that_is_held(rt: HostRuntime) {
     let heap = Refusing::none(rt.alloc());
     let kept = Box::new(&heap, 7u64);
-    assert!(rt; heap.held() == 1);
+    assert!(rt; counts_of(&heap) == [1, 0, 0, 1]);
     drop(kept);
-    assert!(rt; heap.held() == 0);
+    assert!(rt; counts_of(&heap) == [1, 0, 1, 0]);
 }
 
 #[test]
@@ -120,7 +82,7 @@ fn counts_across_threads(rt: HostRuntime) {
     let heap = Refusing::only(500, rt.alloc());
     let shared = &heap;
     let (left, right) = thread::join(&rt, || refused_of_1000(shared), || refused_of_1000(shared));
-    assert!(rt; left.wrapping_add(right) == 1 && has_counted(shared, [2000, 1, 1999]));
+    assert!(rt; left.wrapping_add(right) == 1 && counts_of(shared) == [2000, 1, 1999, 0]);
 }
 
 /// What is run on the allocator.
@@ -128,8 +90,6 @@ fn counts_across_threads(rt: HostRuntime) {
 enum Work {
     /// Three requests.
     Three,
-    /// Three requests in each of two threads.
-    Six,
     /// Three requests whose refusal is not told.
     Silent,
     /// A request whose block is kept for good.
@@ -139,14 +99,9 @@ enum Work {
 }
 
 /// The answer of the work.
-fn answer_of<R: Threads + Sync, A: Memory>(
-    rt: &R,
-    alloc: A,
-    work: Work,
-) -> Result<u64, AllocError> {
+fn answer_of<A: Memory>(alloc: A, work: Work) -> Result<u64, AllocError> {
     match work {
         Work::Three => three_boxes(alloc),
-        Work::Six => six_boxes(rt, alloc),
         Work::Silent => Ok(three_boxes(alloc).unwrap_or(0)),
         Work::Leaking => leaked(alloc),
         Work::Endless => until_refused(alloc),
@@ -156,7 +111,6 @@ fn answer_of<R: Threads + Sync, A: Memory>(
 /// The work, its right answer, and how many requests it makes, or what is wrong with it.
 const WORKS: &[(Work, u64, Result<u64, Flaw>)] = &[
     (Work::Three, 6, Ok(3)),
-    (Work::Six, 12, Ok(6)),
     (Work::Silent, 6, Err(Flaw::WrongAnswer(0))),
     (Work::Leaking, 6, Err(Flaw::Leak(1))),
     (Work::Endless, 0, Err(Flaw::NoEnd)),
@@ -167,7 +121,7 @@ fn requests_and_flaws(rt: HostRuntime) {
     for (work, right, found) in WORKS {
         let requests = withstands_refusals(
             rt.alloc(),
-            |heap| answer_of(&rt, heap, *work),
+            |heap| answer_of(heap, *work),
             Ok(*right),
             Err(AllocError),
         );

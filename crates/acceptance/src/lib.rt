@@ -1,6 +1,6 @@
-//! Tests of what needs a host, a sink, refused memory or a script that is long by construction: sinks, the program, the
-//! limits, the recipes, what reads and writes bytes, and each request for memory refused in turn. Scripts with their texts
-//! and faults are the cases of `script_cases`.
+//! Tests of what needs a host, a sink, refused memory, or a script, an input or a text that is long by construction: sinks,
+//! the program, the limits, the recipes, and each request for memory refused in turn. Scripts with their texts and faults
+//! are the cases of `script_cases`.
 #![tactic(auto)]
 
 #[cfg(test)]
@@ -16,17 +16,13 @@ mod narrow_sink;
 #[cfg(test)]
 mod pieces;
 #[cfg(test)]
-mod products;
-#[cfg(test)]
 mod programs;
 #[cfg(test)]
-mod reading;
+mod recipe_calls;
 #[cfg(test)]
 mod refusals;
 #[cfg(test)]
 mod sessions;
-#[cfg(test)]
-mod sight;
 #[cfg(test)]
 mod sinks;
 #[cfg(test)]
@@ -35,7 +31,5 @@ mod small_host;
 mod small_types;
 #[cfg(test)]
 mod texts;
-#[cfg(test)]
-mod vectors;
 #[cfg(test)]
 mod walks;

@@ -1,149 +1,191 @@
-//! Scripts, names and vectors at the limits.
-
-ghost use Rattle.std.specs.Prelude.{◌≤◌, vec_len};
-ghost use Rattle.cvl_base.specs.Limits.{most_elements};
+//! Scripts, inputs, texts and names at the limits, and inputs of many bytes.
 
 use crate::inputs::inputs_of;
+use crate::pieces::{Pieces, text_of};
 use cvl_base::limits::{MOST_ELEMENTS, MOST_NAMES, MOST_SCRIPT_BYTES};
-use cvl_base::{Config, Fault, FaultNo, Ints, NoResources};
-use shell::{MemSink, Stop, run};
+use cvl_base::{Config, NoResources};
+use shell::{MemSink, put_stop, run};
 use std::alloc::{AllocError, Global};
 use std::test::Fail;
 use std::thread::Threads;
-use vector_handles::Input;
 
-/// How a run of the script on these inputs stops.
-fn stop_of<R: Threads + Sync>(
+/// What a script writes on these inputs, and after it the line that tells why it stops.
+fn outcome_of<R: Threads + Sync>(
     rt: &R,
     alloc: Global,
-    script: &[u8],
+    script: &str,
     inputs: &[&str],
-) -> Result<Option<Stop>, NoResources> {
+) -> Result<Vec<u8>, NoResources> {
     let mut sink = MemSink::new(alloc);
     let inputs = inputs_of(alloc, inputs)?;
-    let config = Config::new(2, 3).unwrap();
-    Ok(run(rt, alloc, config, script, inputs, &mut sink).err())
-}
-
-/// The stop at a fault without a place.
-fn stop_at(line: u32, number: FaultNo) -> Stop {
-    Stop::Script {
-        line,
-        fault: Fault::new(number),
+    let config = Config::new(4096, 4).unwrap();
+    let ran = run(rt, alloc, config, script.as_bytes(), inputs, &mut sink);
+    let mut text = sink.into_vec();
+    if let Err(stop) = ran {
+        put_stop(&stop, &mut text)?;
     }
+    Ok(text)
 }
 
-/// How a run of as many line feeds stops.
-fn stop_of_line_feeds<R: Threads + Sync>(
-    rt: &R,
-    alloc: Global,
-    count: usize,
-) -> Result<Option<Stop>, NoResources> {
-    let script = vec![in alloc; b'\n'; count]?;
-    stop_of(rt, alloc, &script, &[])
-}
+/// A script, its one input, and what comes of it.
+type Row = (Pieces, Pieces, Pieces);
+
+/// No bytes.
+const NOTHING: Pieces = ("", "", 0, "");
+
+/// Writes how many numbers an input has, and their sum.
+const COUNT: Pieces = (
+    "a = input 1\nn = len_luz a\nwrite n\ns = add_ruz a\nwrite s\n",
+    "",
+    0,
+    "",
+);
+
+/// More bytes than the numbers of a usual input have.
+const MANY_BYTES: usize = 20_000_000;
+
+const ROWS: &[Row] = &[
+    (("", "\n", MOST_SCRIPT_BYTES, ""), NOTHING, NOTHING),
+    (
+        ("", "\n", MOST_SCRIPT_BYTES, "\n"),
+        NOTHING,
+        ("line 0: fault 17 ScriptTooLong\n", "", 0, ""),
+    ),
+    (("#", "=", MOST_SCRIPT_BYTES - 1, ""), NOTHING, NOTHING),
+    // 16 bytes stand before the blanks, and 7 after them
+    (
+        ("a = dis_vuz 7 2\n", " ", MOST_SCRIPT_BYTES - 23, "write a"),
+        NOTHING,
+        ("a = [7 7]\n", "", 0, ""),
+    ),
+    (
+        COUNT,
+        ("0", " ", MANY_BYTES, "-8 11"),
+        ("n = 3\ns = 3\n", "", 0, ""),
+    ),
+    (
+        COUNT,
+        ("-8 ", "0", MANY_BYTES, "5"),
+        ("n = 2\ns = -3\n", "", 0, ""),
+    ),
+    // as many numbers as there may be: 7 is there 2,097,151 times
+    (
+        COUNT,
+        ("-8", "\t\r\n    0   7", MOST_ELEMENTS / 2 - 1, " 1"),
+        ("n = 4194304\ns = 14680050\n", "", 0, ""),
+    ),
+    (
+        COUNT,
+        ("-8", " 7", MOST_ELEMENTS, ""),
+        ("line 1: fault 13 TooLong\n", "", 0, ""),
+    ),
+    (
+        COUNT,
+        ("+", " +", MOST_ELEMENTS - 1, ""),
+        ("line 1: fault 15 BadInput at 0\n", "", 0, ""),
+    ),
+    (
+        COUNT,
+        ("+", " +", MOST_ELEMENTS, ""),
+        ("line 1: fault 13 TooLong\n", "", 0, ""),
+    ),
+    (
+        COUNT,
+        ("-8 ", "9", 1_000_000, ""),
+        ("line 1: fault 15 BadInput at 1\n", "", 0, ""),
+    ),
+    (
+        ("v = dis_vuz -7 4194304\nwrite v\n", "", 0, ""),
+        NOTHING,
+        ("v = [", "-7 ", MOST_ELEMENTS - 1, "-7]\n"),
+    ),
+    (
+        ("b = dis_vub F 4194304\nwrite b\n", "", 0, ""),
+        NOTHING,
+        ("b = [", "F ", MOST_ELEMENTS - 1, "F]\n"),
+    ),
+    (
+        ("l = dis_vuz 1 4194304\nd = mke_fov l\nwrite d\n", "", 0, ""),
+        NOTHING,
+        ("d = [", "1 ", MOST_ELEMENTS - 1, "1]\n"),
+    ),
+    (
+        (
+            "l = dis_vuz 4194304 1\nd = mke_fov l\nv = dis_vuz 7 4194304\nwrite v d\n",
+            "",
+            0,
+            "",
+        ),
+        NOTHING,
+        ("v = [[", "7 ", MOST_ELEMENTS - 1, "7]]\n"),
+    ),
+    (
+        (
+            "l = dis_vuz 1 4194304\nd = mke_fov l\nb = dis_vub T 4194304\nwrite b d\n",
+            "",
+            0,
+            "",
+        ),
+        NOTHING,
+        ("b = [", "[T] ", MOST_ELEMENTS - 1, "[T]]\n"),
+    ),
+    (
+        (
+            "l = dis_vuz 0 4194304\nd = mke_fov l\nv = dis_vuz 0 0\nwrite v d\n",
+            "",
+            0,
+            "",
+        ),
+        NOTHING,
+        ("v = [", "[] ", MOST_ELEMENTS - 1, "[]]\n"),
+    ),
+];
 
 #[test]
-fn the_longest_script(rt: HostRuntime) -> Result<(), Fail> {
-    let longest = stop_of_line_feeds(&rt, rt.alloc(), MOST_SCRIPT_BYTES)?;
-    assert!(rt; longest.is_none());
-    let longer = stop_of_line_feeds(&rt, rt.alloc(), MOST_SCRIPT_BYTES + 1)?;
-    assert!(rt; longer == Some(stop_at(0, FaultNo::ScriptTooLong)));
+fn scripts_inputs_and_texts(rt: HostRuntime) -> Result<(), Fail> {
+    for (script, input, wanted) in ROWS {
+        let shown = wanted.0;
+        let script = text_of(rt.alloc(), *script)?;
+        let input = text_of(rt.alloc(), *input)?;
+        let wanted = text_of(rt.alloc(), *wanted)?;
+        let outcome = outcome_of(&rt, rt.alloc(), &script, &[input.as_str()])?;
+        assert!(rt; outcome.as_slice() == wanted.as_bytes(), "{shown}");
+    }
     Ok(())
 }
 
-/// As many lines, each of which binds a name of its own: the first input, but for `a0`, which is the second.
-fn bindings(alloc: Global, count: usize) -> Result<String, AllocError> {
+/// As many lines as there may be names, each of which binds one: the first input, but for `a0`, which is the second. Then
+/// one more line.
+fn bindings_and(alloc: Global, line: &str) -> Result<String, AllocError> {
     let mut script = String::from_str(alloc, "a0 = input 2\n")?;
-    for k in 1..count {
-        let line = format!(in alloc; "a{k} = input 1\n")?;
-        script.push_str(&line)?;
+    for k in 1..MOST_NAMES {
+        write!(script, "a{k} = input 1\n")?;
     }
+    script.push_str(line)?;
     Ok(script)
 }
 
-/// The line after the bindings, and its fault.
-const LAST_LINES: &[(&str, FaultNo)] = &[
-    ("b = add_wuz a1 a1\n", FaultNo::TooManyNames),
-    ("b = add_wuz q T\n", FaultNo::UnknownName),
-    ("b = add_wuz T q\n", FaultNo::WrongKind),
-    ("b = input 3\n", FaultNo::TooManyNames),
-    ("a0 = input 3\n", FaultNo::NoSuchInput),
-    ("b = add_wuz a0 a1\n", FaultNo::TooManyNames),
-    ("a0 = add_wuz a0 a1\n", FaultNo::LengthMismatch),
+/// The line after the bindings, and the line that tells of its fault.
+const LAST_LINES: &[(&str, &str)] = &[
+    ("b = add_wuz a1 a1\n", "line 4097: fault 16 TooManyNames\n"),
+    ("b = add_wuz q T\n", "line 4097: fault 4 UnknownName\n"),
+    ("b = add_wuz T q\n", "line 4097: fault 5 WrongKind\n"),
+    ("b = input 3\n", "line 4097: fault 16 TooManyNames\n"),
+    ("a0 = input 3\n", "line 4097: fault 14 NoSuchInput\n"),
+    ("b = add_wuz a0 a1\n", "line 4097: fault 16 TooManyNames\n"),
+    (
+        "a0 = add_wuz a0 a1\n",
+        "line 4097: fault 7 LengthMismatch\n",
+    ),
+    ("a0 = add_wuz a1 a1\nwrite a0\n", "a0 = []\n"),
 ];
-
-/// How a run of the bindings, and of a line after them, stops.
-fn stop_after<R: Threads + Sync>(
-    rt: &R,
-    alloc: Global,
-    bound: &str,
-    line: &str,
-) -> Result<Option<Stop>, NoResources> {
-    let script = format!(in alloc; "{bound}{line}")?;
-    let inputs = ["", "1"];
-    stop_of(rt, alloc, script.as_bytes(), inputs.as_slice())
-}
 
 #[test]
 fn as_many_names_as_there_may_be(rt: HostRuntime) -> Result<(), Fail> {
-    let bound = bindings(rt.alloc(), MOST_NAMES)?;
-    for (line, number) in LAST_LINES {
-        let stop = stop_after(&rt, rt.alloc(), &bound, line)?;
-        assert!(rt; stop == Some(stop_at(4097, *number)), "{line}");
+    for (line, wanted) in LAST_LINES {
+        let script = bindings_and(rt.alloc(), line)?;
+        let outcome = outcome_of(&rt, rt.alloc(), &script, &["", "1"])?;
+        assert!(rt; outcome.as_slice() == wanted.as_bytes(), "{line}");
     }
-    let stop = stop_after(&rt, rt.alloc(), &bound, "a0 = add_wuz a1 a1\n")?;
-    assert!(rt; stop.is_none());
-    Ok(())
-}
-
-/// Two vectors as inputs.
-fn two_inputs(
-    alloc: Global,
-    lengths: Vec<i32>,
-    elements: Vec<i32>,
-) -> Result<Vec<Input<Global>>, NoResources>
-    requires lengths { vec_len lengths ≤ most_elements }
-    requires elements { vec_len elements ≤ most_elements }
-{
-    let mut inputs = Vec::with_capacity(alloc, 2)?;
-    inputs.push(Input::Vector(Ints::from_vec(lengths)))?;
-    inputs.push(Input::Vector(Ints::from_vec(elements)))?;
-    Ok(inputs)
-}
-
-/// The text of the second of two vectors cut by the first.
-fn nested_text<R: Threads + Sync>(
-    rt: &R,
-    alloc: Global,
-    inputs: Vec<Input<Global>>,
-) -> Result<Vec<u8>, Fail> {
-    let mut sink = MemSink::new(alloc);
-    let script = b"l = input 1\nv = input 2\nd = mke_fov l\nwrite v d\n";
-    let config = Config::new(4096, 4).unwrap();
-    run(rt, alloc, config, script, inputs, &mut sink)?;
-    Ok(sink.into_vec())
-}
-
-#[test]
-fn the_longest_descriptor(rt: HostRuntime) -> Result<(), Fail> {
-    let lengths = vec![in rt.alloc(); 0; MOST_ELEMENTS]?;
-    let inputs = two_inputs(rt.alloc(), lengths, Vec::new(rt.alloc()))?;
-    let text = nested_text(&rt, rt.alloc(), inputs)?;
-    // `v = [`, three bytes a segment with the space before the next, `]` and a line feed
-    assert!(rt; text.len() == 3 * MOST_ELEMENTS + 6);
-    assert!(rt; text.starts_with(b"v = [[] [] [] ") && text.ends_with(b" [] [] []]\n"));
-    Ok(())
-}
-
-#[test]
-fn the_longest_vectors(rt: HostRuntime) -> Result<(), Fail> {
-    let lengths = vec![in rt.alloc(); 4_194_304; 1]?;
-    let elements = vec![in rt.alloc(); 7; MOST_ELEMENTS]?;
-    let inputs = two_inputs(rt.alloc(), lengths, elements)?;
-    let text = nested_text(&rt, rt.alloc(), inputs)?;
-    // `v = [[`, two bytes an element with the space before the next, `]]` and a line feed
-    assert!(rt; text.len() == 2 * MOST_ELEMENTS + 8);
-    assert!(rt; text.starts_with(b"v = [[7 7 7 ") && text.ends_with(b" 7 7 7]]\n"));
     Ok(())
 }

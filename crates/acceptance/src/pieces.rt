@@ -1,30 +1,16 @@
 //! Texts of one piece many times over.
 
-use cvl_base::Memory;
-use std::alloc::AllocError;
+use std::alloc::{AllocError, Global};
 
-/// Appends the piece so many times.
-fn put_repeated<A: Memory>(
-    text: &mut String<A>,
-    piece: &str,
-    times: usize,
-) -> Result<(), AllocError> {
+/// A text: how it begins, a piece with the number of times that it stands there, and how it ends.
+pub type Pieces = (&'static str, &'static str, usize, &'static str);
+
+/// The text of these pieces.
+pub fn text_of(alloc: Global, (first, piece, times, last): Pieces) -> Result<String, AllocError> {
+    let mut text = String::from_str(alloc, first)?;
     for _ in 0..times {
         text.push_str(piece)?;
     }
-    Ok(())
-}
-
-/// The first text, the piece so many times, and the last text.
-pub fn repeated<A: Memory>(
-    heap: A,
-    first: &str,
-    piece: &str,
-    times: usize,
-    last: &str,
-) -> Result<String<A>, AllocError> {
-    let mut text = String::from_str(heap, first)?;
-    put_repeated(&mut text, piece, times)?;
     text.push_str(last)?;
     Ok(text)
 }

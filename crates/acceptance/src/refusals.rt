@@ -1,7 +1,8 @@
 //! Each request for memory refused in turn: over a script with every family of calls, over one whose vectors are so long
-//! that threads share them, and over the whole program.
+//! that threads share them, over the whole program, and over the recipes.
 use crate::inputs::inputs_of;
-use crate::pieces::repeated;
+use crate::pieces::{Pieces, text_of};
+use crate::recipe_calls::{RECIPES, Recipe, is_answered};
 use crate::small_host::SmallHost;
 use cvl_base::{Config, Memory, NoResources};
 use refusing_memory::{Flaw, withstands_refusals};
@@ -9,17 +10,6 @@ use shell::{MemSink, Stop, program, run};
 use std::alloc::{AllocError, Global};
 use std::test::Fail;
 use std::thread::Threads;
-
-/// How a run ended.
-#[derive(Clone, Copy, PartialEq, Eq, Debug)]
-enum Ended {
-    /// As with ample memory.
-    Whole,
-    /// With what may come where a request was refused.
-    Refused,
-    /// Otherwise.
-    Wrong,
-}
 
 /// So many elements that the texts grow more than once.
 const COUNT: usize = 3_000;
@@ -36,6 +26,7 @@ write v d
 m = len_fos d
 e = eql_wuz m l
 write e d
+write e
 s = add_suz l
 q = div_wuz v v
 c = sel_wuz e q s
@@ -89,41 +80,41 @@ write r
 /// The text of the script of long vectors: the sum of the numbers -1 to -3145728, wrapped.
 const LONG_TEXT: &[u8] = b"r = -1572864\n";
 
-/// The lines of the script's text: how each begins, each element but the last with the space after it, and how it ends.
-const LINES: &[(&str, &str, &str)] = &[
-    ("v = [", "[-7] ", "[-7]]\n"),
-    ("e = [", "[T] ", "[T]]\n"),
-    ("i = [", "1 ", "1]\n"),
-    ("d = [", "1 ", "1]\n"),
+/// The lines of the script's text.
+const LINES: &[Pieces] = &[
+    ("v = [", "[-7] ", COUNT - 1, "[-7]]\n"),
+    ("e = [", "[T] ", COUNT - 1, "[T]]\n"),
+    ("e = [", "T ", COUNT - 1, "T]\n"),
+    ("i = [", "1 ", COUNT - 1, "1]\n"),
+    ("d = [", "1 ", COUNT - 1, "1]\n"),
 ];
 
 /// The text of the script.
 fn whole_text(alloc: Global) -> Result<String, AllocError> {
     let mut text = String::new(alloc);
-    for (first, element, last) in LINES {
-        let line = repeated(alloc, first, element, COUNT - 1, last)?;
-        text.push_str(&line)?;
+    for line in LINES {
+        text.push_str(&text_of(alloc, *line)?)?;
     }
     Ok(text)
 }
 
-/// Runs a script on this memory, with room for the text made first.
+/// Whether a script that is run on this memory writes this text, for which room is made first. Where memory is refused it
+/// is to write a beginning of the text.
 fn run_on<R: Threads + Sync, A: Memory>(
     rt: &R,
     heap: A,
     script: &[u8],
     inputs: &[&str],
     text: &[u8],
-) -> Result<Ended, NoResources> {
+) -> Result<bool, NoResources> {
     let config = Config::new(TILE, 3).unwrap();
     let mut sink = MemSink::with_room(heap, text.len())?;
     let inputs = inputs_of(heap, inputs)?;
-    let ended = match run(rt, heap, config, script, inputs, &mut sink) {
-        Ok(()) if sink.bytes() == text => Ended::Whole,
-        Err(Stop::NoResources { .. }) if text.starts_with(sink.bytes()) => Ended::Refused,
-        _ => Ended::Wrong,
-    };
-    Ok(ended)
+    match run(rt, heap, config, script, inputs, &mut sink) {
+        Ok(()) => Ok(sink.bytes() == text),
+        Err(Stop::NoResources { .. }) if text.starts_with(sink.bytes()) => Err(NoResources),
+        Err(_) => Ok(false),
+    }
 }
 
 const FILES: &[(&str, &str)] = &[
@@ -160,26 +151,27 @@ fn is_message(errors: &[u8]) -> bool {
     false
 }
 
-/// Judges how the program ended by its status and what it wrote.
-fn judge(status: u8, output: &[u8], errors: &[u8]) -> Ended {
+/// Whether a program with this status, which wrote this, ended as with ample memory. Where memory was refused it is to say
+/// so, or to have no memory for the message, and to write a beginning of the text.
+fn judge(status: u8, output: &[u8], errors: &[u8]) -> Result<bool, NoResources> {
     let text = TEXT.as_bytes();
     match status {
-        1 if output == text && errors == FAULT.as_bytes() => Ended::Whole,
-        1 if output == text && errors.is_empty() => Ended::Refused,
-        3 if text.starts_with(output) && is_message(errors) => Ended::Refused,
-        _ => Ended::Wrong,
+        1 if output == text && errors == FAULT.as_bytes() => Ok(true),
+        1 if output == text && errors.is_empty() => Err(NoResources),
+        3 if text.starts_with(output) && is_message(errors) => Err(NoResources),
+        _ => Ok(false),
     }
 }
 
-/// Runs the program on this memory, on a host with room for what it writes.
+/// Whether the program ends as with ample memory, on this memory and on a host with room for what it writes.
 fn program_on<R: Threads + Sync + AllocGlobal, A: Memory>(
     rt: &R,
     heap: A,
-) -> Result<Ended, NoResources> {
+) -> Result<bool, NoResources> {
     let mut host = SmallHost::with_room(heap, FILES, 64)?;
     let words = ["cvl", "late", "numbers"];
     let status = program(rt, heap, words.as_slice(), &mut host);
-    Ok(judge(status, host.output.taken.as_slice(), host.errors.as_slice()))
+    judge(status, host.output.taken.as_slice(), host.errors.as_slice())
 }
 
 /// What is run while memory is refused.
@@ -189,54 +181,58 @@ enum Work<'a> {
     Script(&'a [u8], &'a [&'a str], &'a [u8]),
     /// The program.
     Program,
+    /// A recipe, which gives this.
+    Recipe(&'a Recipe),
 }
 
-/// How the work ends on this memory.
-fn end_of<R: Threads + Sync + AllocGlobal, A: Memory>(rt: &R, heap: A, work: Work) -> Ended {
-    let ended = match work {
+/// Whether the work comes out so on this memory.
+fn comes_out<R: Threads + Sync + AllocGlobal, A: Memory>(
+    rt: &R,
+    heap: A,
+    work: Work,
+) -> Result<bool, NoResources> {
+    match work {
         Work::Script(script, inputs, text) => run_on(rt, heap, script, inputs, text),
         Work::Program => program_on(rt, heap),
-    };
-    ended.unwrap_or(Ended::Refused)
+        Work::Recipe(recipe) => is_answered(rt, heap, recipe),
+    }
 }
 
 /// How many requests the work makes, each of which is refused in turn.
 fn requests_of<R: Threads + Sync + AllocGlobal>(rt: &R, work: Work) -> Result<u64, Flaw> {
     withstands_refusals(
         rt.alloc(),
-        |heap| end_of(rt, heap, work),
-        Ended::Whole,
-        Ended::Refused,
+        |heap| comes_out(rt, heap, work),
+        Ok(true),
+        Err(NoResources),
     )
 }
 
 #[test]
 fn each_growth_of_a_run(rt: HostRuntime) -> Result<(), Fail> {
     let text = whole_text(rt.alloc())?;
-    let ones = repeated(rt.alloc(), "", "1 ", COUNT, "")?;
-    let sevens = repeated(rt.alloc(), "", "-7 ", COUNT, "")?;
+    let ones = text_of(rt.alloc(), ("", "1 ", COUNT, ""))?;
+    let sevens = text_of(rt.alloc(), ("", "-7 ", COUNT, ""))?;
     let inputs = [ones.as_str(), sevens.as_str()];
-    let requests = requests_of(
-        &rt,
-        Work::Script(SCRIPT, inputs.as_slice(), text.as_bytes()),
-    )?;
-    // two inputs, a value of each of the 37 other bindings that take memory, and 4 texts
-    assert!(rt; requests > 42, "{requests}");
-    Ok(())
-}
-
-#[test]
-fn each_growth_of_long_vectors(rt: HostRuntime) -> Result<(), Fail> {
-    let requests = requests_of(&rt, Work::Script(LONG_SCRIPT, &[], LONG_TEXT))?;
+    let script = Work::Script(SCRIPT, inputs.as_slice(), text.as_bytes());
+    // two inputs, a value of each of the 37 other bindings that take memory, and 5 texts
+    assert!(rt; requests_of(&rt, script)? > 43);
     // a value of each binding but the reduce
-    assert!(rt; requests > 8, "{requests}");
+    assert!(rt; requests_of(&rt, Work::Script(LONG_SCRIPT, &[], LONG_TEXT))? > 8);
     Ok(())
 }
 
 #[test]
 fn each_growth_of_the_program(rt: HostRuntime) -> Result<(), Fail> {
-    let requests = requests_of(&rt, Work::Program)?;
     // the host's room, two files, two values, a text and the message
-    assert!(rt; requests > 6, "{requests}");
+    assert!(rt; requests_of(&rt, Work::Program)? > 6);
+    Ok(())
+}
+
+#[test]
+fn each_growth_of_the_recipes(rt: HostRuntime) -> Result<(), Fail> {
+    for recipe in RECIPES {
+        requests_of(&rt, Work::Recipe(recipe))?;
+    }
     Ok(())
 }

@@ -1,33 +1,40 @@
-//! What faults, refused configurations, names and calls look like as text.
+//! What numbers, stops, faults, refused configurations, names and calls look like as text.
 
-use cvl_base::{BadConfig, Config, Cut, Fault, FaultNo, IntMonoid, Name, Op};
+use call_reader::{put_value, read_vector};
+use cvl_base::{BadConfig, Config, Cut, Fault, FaultNo, IntMonoid, Ints, Name, Op, Value};
+use segdes::SegDes;
+use shell::{Stop, put_stop};
+use std::alloc::Global;
 use std::test::Fail;
 
-#[test]
-fn faults_show_their_number_name_and_place(rt: HostRuntime) -> Result<(), Fail> {
-    let shown = format!(in rt.alloc(); "{}", Fault::at(FaultNo::DivideByZero, 3))?;
-    assert_eq!(rt; shown.as_str(), "fault 8 DivideByZero at 3");
-    let shown = format!(in rt.alloc(); "{}", Fault::new(FaultNo::BadLine))?;
-    assert_eq!(rt; shown.as_str(), "fault 1 BadLine");
-    Ok(())
-}
+const WANTED: &str = "[3 -7]
+line 7: no resources
+fault 8 DivideByZero at 3, fault 1 BadLine
+a tile has 1 to 65536 elements, there are 1 to 64 workers
+Some(\"ab_9\"), max_sez pck_fov";
 
 #[test]
-fn refused_configurations_show_their_range(rt: HostRuntime) -> Result<(), Fail> {
-    assert_eq!(rt; Config::new(0, 65).err(), Some(BadConfig::Tile));
-    assert_eq!(rt; Config::new(1, 65).err(), Some(BadConfig::Workers));
-    let shown = format!(in rt.alloc(); "{}, {}", BadConfig::Tile, BadConfig::Workers)?;
-    let wanted = "a tile has 1 to 65536 elements, there are 1 to 64 workers";
-    assert_eq!(rt; shown.as_str(), wanted);
-    Ok(())
-}
-
-#[test]
-fn names_and_calls_show_their_bytes(rt: HostRuntime) -> Result<(), Fail> {
-    let shown = format!(in rt.alloc(); "{:?}", Name::new(b"ab_9"))?;
-    assert_eq!(rt; shown.as_str(), "Some(\"ab_9\")");
-    let call = Op::Scan(IntMonoid::Max, Cut::Segmented);
-    let shown = format!(in rt.alloc(); "{} {}", call.spelling(), Op::PackedLengths.spelling())?;
-    assert_eq!(rt; shown.as_str(), "max_sez pck_fov");
+fn what_is_shown(rt: HostRuntime) -> Result<(), Fail> {
+    let mut text = Vec::new(rt.alloc());
+    let numbers = Value::Integers(Ints::from_vec(read_vector(rt.alloc(), b"3 -7")?));
+    let no_descriptor: Option<&SegDes<Global>> = None;
+    put_value(&numbers, no_descriptor, &mut text)?;
+    text.push(b'\n')?;
+    put_stop(&Stop::NoResources { line: 7 }, &mut text)?;
+    let (place, none) = (
+        Fault::at(FaultNo::DivideByZero, 3),
+        Fault::new(FaultNo::BadLine),
+    );
+    let (tile, workers) = (Config::new(0, 65).err(), Config::new(1, 65).err());
+    assert!(rt; tile == Some(BadConfig::Tile) && workers == Some(BadConfig::Workers));
+    let (tile, workers) = (BadConfig::Tile, BadConfig::Workers);
+    let name = Name::new(b"ab_9");
+    let scan = Op::Scan(IntMonoid::Max, Cut::Segmented).spelling();
+    let lengths = Op::PackedLengths.spelling();
+    let shown = format!(in rt.alloc();
+        "{place}, {none}\n{tile}, {workers}\n{name:?}, {scan} {lengths}"
+    )?;
+    text.extend_from_slice(shown.as_bytes())?;
+    assert!(rt; text.as_slice() == WANTED.as_bytes());
     Ok(())
 }
