@@ -8,7 +8,7 @@ use cvl_base::monoids::Add;
 use cvl_base::{Memory, NoResources};
 use std::sync::atomic::AtomicU64;
 use std::test::Fail;
-use std::thread::{Threads, join};
+use std::thread::{Threads, join_mut};
 
 /// How many tiles there are.
 const TILES: usize = 1000;
@@ -26,31 +26,56 @@ fn numbers() -> ([i32; 1000], [i32; 1000]) {
     (numbers, before)
 }
 
-/// One worker's part: it claims tiles until none is left, and tells the sum and the prefix of each. The answer is how many
-/// tiles it was given, and whether each look-back answered what the tiles before join to.
+/// One worker's part: it claims tiles until none is left, and tells the sum and the prefix of each. The answer is whether
+/// each look-back answered what the tiles before join to.
 fn work<A: Memory>(
     board: &ScanBoard<CountedTiles<'_>, A>,
     before: &[i32],
-    mut seat: ScanSeat<Add>,
-) -> (u32, bool)
-    requires { IsSeatOf board.now seat }
+    seat: &mut ScanSeat<Add>,
+) -> bool
+    requires { IsSeatOf board.now seat.old }
+    ensures { IsSeatOf board.now seat.new }
 {
-    let mut given: u32 = 0;
     let mut right = true;
     for _ in 0..=TILES {
-        let Claim::Tile(t) = board.claim(&mut seat) else {
+        let Claim::Tile(t) = board.claim(seat) else {
             break;
         };
-        given = given.wrapping_add(1);
-        board.tell_sum(&mut seat, t);
-        let back = board.look_back(&mut seat, t);
+        board.tell_sum(seat, t);
+        let back = board.look_back(seat, t);
         right &= before.get(t as usize) == Some(&back.before.1);
-        board.tell_prefix(&mut seat, t, back.before);
+        board.tell_prefix(seat, t, back.before);
     }
-    (given, right)
+    right
 }
 
-/// How many tiles two threads were given in all, and whether all look-backs were right.
+/// Two workers' parts, each in a thread of its own, and whether all look-backs were right.
+fn in_two_threads<R: Threads + Sync, A: Memory>(
+    rt: &R,
+    board: &ScanBoard<CountedTiles<'_>, A>,
+    before: &[i32],
+    first: &mut ScanSeat<Add>,
+    second: &mut ScanSeat<Add>,
+) -> bool
+    requires first { IsSeatOf board.now first.old }
+    requires second { IsSeatOf board.now second.old }
+    ensures first { IsSeatOf board.now first.new }
+    ensures second { IsSeatOf board.now second.new }
+{
+    let mut first_half = || -> bool
+        requires { IsSeatOf board.now first.now }
+        ensures { IsSeatOf board.entry.now first.exit.now }
+    { work(board, before, first) };
+    let mut second_half = || -> bool
+        requires { IsSeatOf board.now second.now }
+        ensures { IsSeatOf board.entry.now second.exit.now }
+    { work(board, before, second) };
+    let (first_right, second_right) = join_mut(rt, &mut first_half, &mut second_half);
+    first_right && second_right
+}
+
+/// How many tiles two threads were given in all, as the board tells when it is closed, and whether all look-backs were
+/// right.
 fn by_two_threads<R: Threads + Sync, A: Memory>(
     rt: &R,
     alloc: A,
@@ -59,20 +84,14 @@ fn by_two_threads<R: Threads + Sync, A: Memory>(
     let added_up = AtomicU64::new(0);
     let tiles = CountedTiles::new(numbers.as_slice(), &added_up);
     let (board, mut seats) = ScanBoard::new(alloc, tiles, 2)?;
-    let (Some(second), Some(first)) = (seats.pop(), seats.pop()) else {
+    let (Some(mut second), Some(mut first)) = (seats.pop(), seats.pop()) else {
         return Ok((0, false));
     };
-    let (shared, expected) = (&board, before.as_slice());
-    let (first, second) = join(
-        rt,
-        move || -> (u32, bool)
-            requires { IsSeatOf shared.now first }
-        { work(shared, expected, first) },
-        move || -> (u32, bool)
-            requires { IsSeatOf shared.now second }
-        { work(shared, expected, second) },
-    );
-    Ok((first.0.wrapping_add(second.0), first.1 && second.1))
+    let right = in_two_threads(rt, &board, before.as_slice(), &mut first, &mut second);
+    let mut seats = Vec::with_capacity(alloc, 2)?;
+    seats.push_reserved(first);
+    seats.push_reserved(second);
+    Ok((board.close(seats).given, right))
 }
 
 #[test]
