@@ -1,3 +1,4 @@
 mod Cuts
-mod Taken
+pub mod FaultNames
 mod Underway
+pub mod Shown

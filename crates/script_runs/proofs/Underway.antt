@@ -7,27 +7,30 @@ use Rattle.std.proofs.lemmas.Bool.{ne_eqb}
 use Rattle.std.proofs.lemmas.Option.{unwrap_or-slice_get}
 use Rattle.std.proofs.Math.Seq.{take-append_seam, get_or-append_seam}
 use Rattle.cvl_base.specs.declared.fault.Fault.{Fault}
+use Rattle.cvl_base.specs.declared.refused.Refused.{Refused}
+use Rattle.cvl_base.specs.declared.refused.Refused.TheVariants as refused
 use Rattle.vector_handles.specs.declared.input.Input.{Input}
 use Rattle.vector_handles.specs.Names.{Entries}
 use Rattle.vector_handles.specs.Steps.{Stepped}
 use Rattle.script_runs.specs.declared.stop.Stop.{Stop}
 use Rattle.script_runs.specs.declared.stop.Stop.TheVariants as stop
 use Rattle.script_runs.specs.Ends.{Runs, EndsAs, Reaches, line_text}
-use Rattle.script_runs.specs.LineRuns.{LineRuns, LineEndsAs, text_of_step}
+use Rattle.script_runs.specs.Hosts.{Seen, Shows, with_output}
+use Rattle.script_runs.specs.LineRuns.{LineRuns, LineEndsAs, refused_at, text_of_step}
 use Rattle.script_runs.specs.Meaning.{Meaning, after_line, from_line, line_step}
-use Rattle.script_runs.proofs.Taken.{nothing_taken, both_taken}
+use Rattle.script_runs.proofs.Shown.{answer_both, answer_ok, nothing_answered, output_ok, shows_nothing_put}
 
 -- the texts of the lines before this number are in the sink, and what is left means the rest
-pub record IsUnderway (m rest : Meaning) (number : ℕ) (before after : Option (List ℕ)) : Type 0 where
+pub record IsUnderway (m rest : Meaning) (number : ℕ) (before after : Seen) : Type 0 where
   pub done : List (List ℕ)
   pub counted : number ≡ length done + 1
   pub texts : m.texts ≡ done ++ rest.texts
   pub stop : m.stop ≡ rest.stop
-  pub taken : after ≡ option_map (λ bytes. bytes ++ concat done) before
+  pub shown : Shows (with_output (concat done) before) after
 
-pub begins : (m : Meaning) (before : Option (List ℕ)) → IsUnderway m m 1 before before
+pub begins : (m : Meaning) (before : Seen) → IsUnderway m m 1 before before
 begins m before =
-    record { done = []; counted = refl; texts = refl; stop = refl; taken = nothing_taken before }
+    record { done = []; counted = refl; texts = refl; stop = refl; shown = shows_nothing_put before }
 
 -- a stop, where there is one, at this line or after it
 abbrev pub IsFrom : ℕ → Option (ℕ × Fault) → Type 0
@@ -68,27 +71,28 @@ module _ {A : Type 0} where
       reached_with number (rest stepped.names).stop (count + length (text_of_step stepped ∷ (rest stepped.names).texts))
       (from_before number (rest stepped.names).stop (later stepped.names)) (omega arith)
 
-  reaches : (m : Meaning) (number : ℕ) (step : Result (Stepped A) Fault) (rest : Entries A → Meaning) (before middle : Option (List ℕ)) → ((names : Entries A) → IsFrom (number + 1) (rest names).stop) → IsUnderway m (after_line number step rest) number before middle → Reaches m number
+  reaches : (m : Meaning) (number : ℕ) (step : Result (Stepped A) Fault) (rest : Entries A → Meaning) (before middle : Seen) → ((names : Entries A) → IsFrom (number + 1) (rest names).stop) → IsUnderway m (after_line number step rest) number before middle → Reaches m number
   reaches m number step rest before middle later u =
       rw (u.stop, u.texts, length-append) (reaches_step number step rest (length u.done) later u.counted)
 
   -- the line has run, and its text is in the sink
-  pub went_on : (m : Meaning) (number : ℕ) (names : Entries A) (step : Result (Stepped A) Fault) (rest : Entries A → Meaning) (before middle after : Option (List ℕ)) (failed failed_after : ℕ) → IsUnderway m (after_line number step rest) number before middle → LineRuns number step names middle after failed failed_after (Ok tt) → IsUnderway m (rest names) (number + 1) before after
-  went_on m number names step rest before middle after failed failed_after u ran =
-      let ends = ran.writes.2 in
+  pub went_on : (m : Meaning) (number : ℕ) (names : Entries A) (step : Result (Stepped A) Fault) (rest : Entries A → Meaning) (before middle after : Seen) → IsUnderway m (after_line number step rest) number before middle → LineRuns number step names middle after (Ok tt) → IsUnderway m (rest names) (number + 1) before after
+  went_on m number names step rest before middle after u ran =
+      let ends = ran.ends in
       let text = text_of_step ends.0 in
-      let e : concat u.done ++ ran.writes.0 ≡ concat (u.done ++ text ∷ []) =
+      let e : concat u.done ++ ran.written ≡ concat (u.done ++ text ∷ []) =
       rw (concat-append, append-nil) (ap (λ written. concat u.done ++ written) ends.3) in
       let texts : m.texts ≡ u.done ++ text ∷ (rest names).texts = rw ends.2 (rw ends.1 at u.texts) in
+      let shown = answer_both (concat u.done) ran.written (Ok tt) before middle after u.shown ran.shown in
       record {
         done = u.done ++ text ∷ [];
         counted = rw length-append (omega (arith, u.counted));
         texts = texts ∙ sym (append_assoc u.done (text ∷ []) (rest names).texts);
         stop = rw ends.2 (rw ends.1 at u.stop);
-        taken = (rw u.taken at ran.writes.1) ∙ both_taken before (concat u.done) ran.writes.0 (concat (u.done ++ text ∷ [])) e;
+        shown = output_ok _ _ _ (rw e at shown);
       }
 
-  ends_as : (m : Meaning) (number : ℕ) (names : Entries A) (step : Result (Stepped A) Fault) (rest : Entries A → Meaning) (before middle : Option (List ℕ)) (written : List ℕ) (why : Stop) → ((after : Entries A) → IsFrom (number + 1) (rest after).stop) → (u : IsUnderway m (after_line number step rest) number before middle) → LineEndsAs number step names written (Err why) → EndsAs m (concat u.done ++ written) (Err why)
+  ends_as : (m : Meaning) (number : ℕ) (names : Entries A) (step : Result (Stepped A) Fault) (rest : Entries A → Meaning) (before middle : Seen) (written : List ℕ) (why : Stop) → ((after : Entries A) → IsFrom (number + 1) (rest after).stop) → (u : IsUnderway m (after_line number step rest) number before middle) → LineEndsAs number step names written (Err why) → EndsAs m (concat u.done ++ written) (Err why)
   ends_as m number names step rest before middle written (stop.Script line f) later u ends =
       let texts : m.texts ≡ u.done = (rw ends.1 at u.texts) ∙ append-nil u.done in
       (rw ends.0 (rw ends.1 at u.stop), rw (ends.2, append-nil, texts) refl)
@@ -109,22 +113,33 @@ module _ {A : Type 0} where
       }
 
   -- the run ended at the line
-  pub stopped : (m : Meaning) (number : ℕ) (names : Entries A) (step : Result (Stepped A) Fault) (rest : Entries A → Meaning) (before middle after : Option (List ℕ)) (failed failed_after : ℕ) (why : Stop) → ((names : Entries A) → IsFrom (number + 1) (rest names).stop) → IsUnderway m (after_line number step rest) number before middle → LineRuns number step names middle after failed failed_after (Err why) → Runs m before after failed failed_after (Err why)
-  stopped m number names step rest before middle after failed failed_after why later u ran =
-      let written = concat u.done ++ ran.writes.0 in
+  pub stopped : (m : Meaning) (number : ℕ) (names : Entries A) (step : Result (Stepped A) Fault) (rest : Entries A → Meaning) (before middle after : Seen) (why : Stop) → ((names : Entries A) → IsFrom (number + 1) (rest names).stop) → IsUnderway m (after_line number step rest) number before middle → LineRuns number step names middle after (Err why) → Runs m before after (Err why)
+  stopped m number names step rest before middle after why later u ran =
       record {
-        writes = (
-          written,
-          (rw u.taken at ran.writes.1) ∙ both_taken before (concat u.done) ran.writes.0 written refl,
-          ends_as m number names step rest before middle ran.writes.0 why later u ran.writes.2,
-        );
-        failures = ran.failures;
+        written = concat u.done ++ ran.written;
+        ends = ends_as m number names step rest before middle ran.written why later u ran.ends;
+        shown = answer_both (concat u.done) ran.written (Err why) before middle after u.shown ran.shown;
       }
 
+  -- the line's read or call is refused
+  pub refused_line : (number : ℕ) (why : Refused) (meaning : Result (Stepped A) Fault) (names : Entries A) (s : Seen) → ((f : Fault) → why ≡ refused.Fault f → meaning ≡ Err f) → LineRuns number meaning names s s (Err (refused_at number why))
+  refused_line number (refused.Fault f) meaning names s is =
+      record { written = []; ends = (refl, is f refl, refl); shown = nothing_answered (Err (stop.Script number f)) s refl }
+  refused_line number refused.NoResources meaning names s is =
+      record { written = []; ends = (refl, refl); shown = nothing_answered (Err (stop.NoResources number)) s refl }
+
+-- memory is refused before the first line
+pub refused_first : (m : Meaning) (s : Seen) → Runs m s s (Err (stop.NoResources 0))
+refused_first m s = record {
+  written = [];
+  ends = record { reached = omega arith; beginning = (0, refl) };
+  shown = nothing_answered (Err (stop.NoResources 0)) s refl;
+}
+
 -- all lines have run
-pub finished : (m : Meaning) (number : ℕ) (before after : Option (List ℕ)) (failed failed_after : ℕ) → IsUnderway m (record { texts = []; stop = None }) number before after → failed_after ≡ failed → Runs m before after failed failed_after (Ok tt)
-finished m number before after failed failed_after u e =
-    record {
-      writes = (concat u.done, u.taken, (u.stop, sym (ap concat (u.texts ∙ append-nil u.done))));
-      failures = omega arith;
-    }
+pub finished : (m : Meaning) (number : ℕ) (before after : Seen) → IsUnderway m (record { texts = []; stop = None }) number before after → Runs m before after (Ok tt)
+finished m number before after u = record {
+  written = concat u.done;
+  ends = (u.stop, sym (ap concat (u.texts ∙ append-nil u.done)));
+  shown = answer_ok _ _ _ u.shown;
+}

@@ -1,9 +1,10 @@
 -- How a run may end: with the meaning of its script, or cut off within it where memory is refused or the sink fails.
 -- Source: this library.
-use Rattle.std.specs.Prelude.{◌≡◌, ℕ, ◌+◌, ◌-◌, ◌≤◌, ◌<◌, ◌==◌, List, [], ◌++◌, length, take, slice_get, Option, Some, None, unwrap_or, option_map, Result, Ok, Err, if◌then◌else◌}
+use Rattle.std.specs.Prelude.{◌≡◌, ℕ, ◌-◌, ◌≤◌, ◌<◌, ◌==◌, List, [], ◌++◌, length, take, slice_get, Some, None, unwrap_or, option_map, Result, Ok, Err, if◌then◌else◌}
 use Rattle.std.specs.List.{concat}
 use Rattle.script_runs.specs.declared.stop.Stop.{Stop}
 use Rattle.script_runs.specs.declared.stop.Stop.TheVariants as stop
+use Rattle.script_runs.specs.Hosts.{Seen, Shows, with_failures, with_output}
 use Rattle.script_runs.specs.Meaning.{Meaning, text_of_script}
 
 -- the text of the line with this number, counted from 1
@@ -40,9 +41,12 @@ failures_in (Err (stop.Script line f)) = 0
 failures_in (Err (stop.NoResources line)) = 0
 failures_in (Err (stop.WriteFailed line)) = 1
 
--- a run took the sink's bytes from `before` to `after`, and its failures likewise, and gave this answer
-pub record Runs
-    (m : Meaning) (before after : Option (List ℕ)) (failed failed_after : ℕ) (answer : Result (Unit {0}) Stop) : Type 0 where
-  pub writes : (written : List ℕ) × (after ≡ option_map (λ bytes. bytes ++ written) before)
-      × EndsAs m written answer
-  pub failures : failed_after ≡ failed + failures_in answer
+-- standard output has taken the text, and failed where that is the answer
+abbrev pub with_answer : List ℕ → Result (Unit {0}) Stop → Seen → Seen
+with_answer written answer s = with_failures (failures_in answer) (with_output written s)
+
+-- a run changed what the sink shows, and gave this answer
+pub record Runs (m : Meaning) (before after : Seen) (answer : Result (Unit {0}) Stop) : Type 0 where
+  pub written : List ℕ
+  pub ends : EndsAs m written answer
+  pub shown : Shows (with_answer written answer before) after

@@ -1,79 +1,96 @@
--- What a host shows, and what its calls do with it.
+-- What a host shows, and what its calls do with it. A sink is a host that has standard output alone.
 -- Source: this library's program.
-use Rattle.std.specs.Prelude.{◌≡◌, ◌⊎◌, ℕ, ◌+◌, Bool, true, false, List, [], ◌∷◌, ◌++◌, length, Option, Some, None, option_map, Result, Ok, Err}
-use Rattle.script_runs.specs.declared.sink.SinkFault.{SinkFault}
+use Rattle.std.specs.Prelude.{◌≡◌, ◌⊎◌, ℕ, ◌+◌, ◌<◌, Bool, true, false, ◌&&◌, ◌||◌, List, [], ◌∷◌, ◌++◌, length, take, Option, Some, None, option_map}
 
--- the bytes of each file that can be read, by its name
-abbrev pub Files : Type 0
-Files = List ℕ → Option (List ℕ)
+-- a file was asked for by its name, and gave these bytes; none where it could not be read
+pub record Read : Type 0 where
+  pub name : List ℕ
+  pub bytes : Option (List ℕ)
 
--- a text that standard error took, and how many bytes of standard output had been sent on by then
-pub record Message : Type 0 where
-  pub text : List ℕ
-  pub sent : Option ℕ
+abbrev pub read_of : List ℕ → Option (List ℕ) → Read
+read_of name bytes = record { name = name; bytes = bytes }
 
--- what a host has beside its standard output: its files, what standard error took, and how many bytes of standard
--- output were sent on, where the host tells these; and how often a flush failed
-pub record Aside : Type 0 where
-  pub files : Option Files
-  pub errors : Option (List Message)
-  pub sent : Option ℕ
-  pub failed_flushes : ℕ
-
--- a sink that is no host
-abbrev pub nothing_aside : Aside
-nothing_aside = record { files = None; errors = None; sent = None; failed_flushes = 0 }
-
--- the file of this name has these bytes, where the host tells
-abbrev pub Holds : Option Files → List ℕ → List ℕ → Type 0
-Holds None name bytes = Unit {0}
-Holds (Some files) name bytes = files name ≡ Some bytes
-
-abbrev pub with_message : List ℕ → Aside → Aside
-with_message text aside = record aside {
-  errors = option_map (λ taken. taken ++ record { text = text; sent = aside.sent } ∷ []) aside.errors;
-}
-
--- standard error takes the text, or drops it
-abbrev pub Tells : Aside → List ℕ → Aside → Type 0
-Tells before text after = (after ≡ with_message text before) ⊎ (after ≡ before)
-
-abbrev pub sent_whole : Option (List ℕ) → Option ℕ → Option ℕ
-sent_whole (Some output) (Some sent) = Some (length output)
-sent_whole output sent = None
-
--- all of standard output is sent on, or the flush fails and is counted
-abbrev pub with_flush : Bool → Option (List ℕ) → Aside → Aside
-with_flush true output aside = record aside { sent = sent_whole output aside.sent }
-with_flush false output aside = record aside { failed_flushes = aside.failed_flushes + 1 }
-
-abbrev pub Flushes : Option (List ℕ) → Aside → Result (Unit {0}) SinkFault → Aside → Type 0
-Flushes output before (Ok done) after = after ≡ with_flush true output before
-Flushes output before (Err f) after = after ≡ with_flush false output before
-
--- ---- all that a host shows, and how the program changes it
-
+-- what a host shows: the bytes that standard output and standard error took and the files that were read, where it
+-- tells these; how often a put and a flush failed; whether standard output is sent on, and whether it was when standard
+-- error was last told something; and whether standard error ever lost a part of what it was told
 pub record Seen : Type 0 where
   pub output : Option (List ℕ)
   pub failed_puts : ℕ
-  pub aside : Aside
+  pub sent : Bool
+  pub failed_flushes : ℕ
+  pub errors : Option (List ℕ)
+  pub told_sent : Bool
+  pub lost : Bool
+  pub reads : Option (List Read)
 
-abbrev pub seen : Option (List ℕ) → ℕ → Aside → Seen
-seen output failed_puts aside =
-    record { output = output; failed_puts = failed_puts; aside = aside }
-
--- more bytes are on standard output, and so many puts have failed
-abbrev pub after_puts : List ℕ → ℕ → Seen → Seen
-after_puts written puts s = record s {
-  output = option_map (λ taken. taken ++ written) s.output;
-  failed_puts = s.failed_puts + puts;
+-- a sink that is no host
+abbrev pub sink_seen : Option (List ℕ) → ℕ → Seen
+sink_seen output failed_puts = record {
+  output = output;
+  failed_puts = failed_puts;
+  sent = false;
+  failed_flushes = 0;
+  errors = None;
+  told_sent = false;
+  lost = false;
+  reads = None;
 }
 
--- a flush, which fails or does not
-abbrev pub after_flush : Bool → Seen → Seen
-after_flush flushed s = record s { aside = with_flush flushed s.output s.aside }
+-- ---- what is claimed of a host
 
--- a text on standard error, or none
-abbrev pub after_message : Option (List ℕ) → Seen → Seen
-after_message None s = s
-after_message (Some text) s = record s { aside = with_message text s.aside }
+-- what would be told is what is told; where nothing would be told nothing is claimed
+abbrev pub IsTold : {X : Type 0} → Option X → Option X → Type 0
+IsTold None told = Unit {0}
+IsTold (Some wanted) told = told ≡ Some wanted
+
+-- the host shows what it is to show
+pub record Shows (wanted shown : Seen) : Type 0 where
+  pub output : IsTold wanted.output shown.output
+  pub failed_puts : shown.failed_puts ≡ wanted.failed_puts
+  pub sent : shown.sent ≡ wanted.sent
+  pub failed_flushes : shown.failed_flushes ≡ wanted.failed_flushes
+  pub errors : IsTold wanted.errors shown.errors
+  pub told_sent : shown.told_sent ≡ wanted.told_sent
+  pub lost : shown.lost ≡ wanted.lost
+  pub reads : IsTold wanted.reads shown.reads
+
+-- ---- what is done with a host
+
+abbrev pub with_more : {X : Type 0} → List X → Option (List X) → Option (List X)
+with_more more told = option_map (λ xs. xs ++ more) told
+
+abbrev pub is_empty : List ℕ → Bool
+is_empty [] = true
+is_empty (byte ∷ bytes) = false
+
+-- standard output has taken the bytes, and has not sent them on
+abbrev pub with_output : List ℕ → Seen → Seen
+with_output bytes s =
+    record s { output = with_more bytes s.output; sent = s.sent && is_empty bytes }
+
+-- so many puts have failed
+abbrev pub with_failures : ℕ → Seen → Seen
+with_failures puts s = record s { failed_puts = s.failed_puts + puts }
+
+-- all of standard output is sent on, or the flush fails
+abbrev pub with_flush : Bool → Seen → Seen
+with_flush true s = record s { sent = true }
+with_flush false s = record s { failed_flushes = s.failed_flushes + 1 }
+
+abbrev pub with_reads : List Read → Seen → Seen
+with_reads reads s = record s { reads = with_more reads s.reads }
+
+-- standard error has taken the bytes of a text, which are not the whole where it lost a part
+abbrev pub with_message : List ℕ → Bool → Seen → Seen
+with_message bytes lost s = record s {
+  errors = with_more bytes s.errors;
+  told_sent = s.sent;
+  lost = s.lost || lost;
+}
+
+-- standard error is told the text, if there is one: it takes the whole, or loses all but a beginning of it
+abbrev pub Tells : Option (List ℕ) → Seen → Seen → Type 0
+Tells None before after = Shows before after
+Tells (Some text) before after =
+    Shows (with_message text false before) after
+    ⊎ ((n : ℕ) × (n < length text) × Shows (with_message (take n text) true before) after)

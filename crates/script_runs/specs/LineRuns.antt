@@ -1,7 +1,7 @@
 -- How the run of one line may end: with its text whole in the sink and the names that it leaves, or as a run of the
 -- script ends at this line.
 -- Source: this library.
-use Rattle.std.specs.Prelude.{◌≡◌, ℕ, ◌+◌, ◌<◌, List, [], ◌++◌, length, take, Option, unwrap_or, option_map, Result, Ok, Err}
+use Rattle.std.specs.Prelude.{◌≡◌, ℕ, ◌<◌, List, [], length, take, unwrap_or, Result, Ok, Err}
 use Rattle.cvl_base.specs.declared.fault.Fault.{Fault}
 use Rattle.cvl_base.specs.declared.refused.Refused.{Refused}
 use Rattle.cvl_base.specs.declared.refused.Refused.TheVariants as refused
@@ -9,7 +9,8 @@ use Rattle.vector_handles.specs.Names.{Entries}
 use Rattle.vector_handles.specs.Steps.{Stepped}
 use Rattle.script_runs.specs.declared.stop.Stop.{Stop}
 use Rattle.script_runs.specs.declared.stop.Stop.TheVariants as stop
-use Rattle.script_runs.specs.Ends.{failures_in}
+use Rattle.script_runs.specs.Ends.{with_answer}
+use Rattle.script_runs.specs.Hosts.{Seen, Shows}
 
 -- the stop at a line of which the read or the call was refused
 abbrev pub refused_at : ℕ → Refused → Stop
@@ -32,10 +33,10 @@ module _ {A : Type 0} where
       × ((stepped : Stepped A) × (n : ℕ) × (meaning ≡ Ok stepped) × (n < length (text_of_step stepped))
       × (written ≡ take n (text_of_step stepped)))
 
-  -- as of the run of a script: the sink's bytes and failures before and after, and the answer
+  -- as of the run of a script
   pub record LineRuns
-      (number : ℕ) (meaning : Result (Stepped A) Fault) (names : Entries A) (before after : Option (List ℕ))
-      (failed failed_after : ℕ) (answer : Result (Unit {0}) Stop) : Type 0 where
-    pub writes : (written : List ℕ) × (after ≡ option_map (λ bytes. bytes ++ written) before)
-        × LineEndsAs number meaning names written answer
-    pub failures : failed_after ≡ failed + failures_in answer
+      (number : ℕ) (meaning : Result (Stepped A) Fault) (names : Entries A) (before after : Seen)
+      (answer : Result (Unit {0}) Stop) : Type 0 where
+    pub written : List ℕ
+    pub ends : LineEndsAs number meaning names written answer
+    pub shown : Shows (with_answer written answer before) after

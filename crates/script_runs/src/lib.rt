@@ -7,9 +7,11 @@ pub mod puts;
 pub mod runs;
 pub mod sink;
 pub mod stop;
+pub mod stop_lines;
 
 pub use mem_sink::MemSink;
 pub use puts::put_all;
 pub use runs::run;
 pub use sink::{Sink, SinkFault};
 pub use stop::{Stop, put_stop};
+pub use stop_lines::stop_line;

@@ -67,20 +67,15 @@ impl<A: Allocator> MemSink<A> {
 /// It takes all the bytes or fails, and takes them where there is room for them.
 impl<A: Allocator> Sink for MemSink<A> {
     ghost use Rattle.std.specs.Prelude.{◌≡◌, ◌+◌, ◌-◌, ◌^◌, ◌<◌, ◌≤◌, length, Some, IfOk, IsOk};
-    ghost use Rattle.script_runs.specs.Hosts.{nothing_aside};
+    ghost use Rattle.script_runs.specs.Hosts.{sink_seen};
     ghost use Rattle.script_runs.specs.Sinks.{Puts};
 
-    ghost taken = { λ s. Some s.bytes };
-
-    ghost failures = { λ s. s.failures };
-
-    ghost aside = { λ _. nothing_aside };
+    ghost seen = { λ s. sink_seen (Some s.bytes) s.failures };
 
     fn put(&mut self, bytes: &[u8]) -> Result<usize, SinkFault>
         requires { self.old.failures < 2 ^ 64 - 1 }
-        ensures puts { Puts (Some self.old.bytes, self.old.failures) bytes.now result
-            (Some self.new.bytes, self.new.failures) }
-        ensures aside { nothing_aside ≡ nothing_aside }
+        ensures puts { Puts (sink_seen (Some self.old.bytes) self.old.failures) bytes.now result
+            (sink_seen (Some self.new.bytes) self.new.failures) }
         ensures whole { IfOk result (λ n. n ≡ length bytes.now) }
         ensures in_room { length self.old.bytes + length bytes.now ≤ self.old.room → IsOk result }
         ensures room { self.old.room ≤ self.new.room }

@@ -67,11 +67,10 @@ fn run_line<R: Threads + Sync, A: Memory, S: Sink>(
     number: u32,
     sink: &mut S,
 ) -> Result<(), Stop>
-    requires { S.failures sink.old < 2 ^ 64 - 1 }
+    requires { (S.seen sink.old).failed_puts < 2 ^ 64 - 1 }
     ensures runs { LineRuns number (line_step session.old.names session.old.inputs line.now) session.new.names
-        (S.taken sink.old) (S.taken sink.new) (S.failures sink.old) (S.failures sink.new) result }
+        (S.seen sink.old) (S.seen sink.new) result }
     ensures inputs { session.new.inputs ≡ session.old.inputs }
-    ensures aside { S.aside sink.new ≡ S.aside sink.old }
 {
     match step_line(rt, alloc, session, line) {
         Err(refused) => Err(stop_of(refused, number)),
@@ -90,11 +89,10 @@ fn run_lines<R: Threads + Sync, A: Memory, S: Sink>(
     script: &[u8],
     sink: &mut S,
 ) -> Result<(), Stop>
-    requires failures { S.failures sink.old < 2 ^ 64 - 1 }
+    requires failures { (S.seen sink.old).failed_puts < 2 ^ 64 - 1 }
     requires short { length script.now ≤ most_script_bytes }
-    ensures runs { Runs (from_line 1 session.old.names session.old.inputs (lines_of script.now))
-        (S.taken sink.old) (S.taken sink.new) (S.failures sink.old) (S.failures sink.new) result }
-    ensures aside { S.aside sink.new ≡ S.aside sink.old }
+    ensures { Runs (from_line 1 session.old.names session.old.inputs (lines_of script.now))
+        (S.seen sink.old) (S.seen sink.new) result }
 {
     let mut number = 1;
     let mut rest = Some(script);
@@ -121,10 +119,8 @@ pub fn run<R: Threads + Sync, A: Memory, S: Sink>(
     inputs: Vec<Input<A>, A>,
     sink: &mut S,
 ) -> Result<(), Stop>
-    requires { S.failures sink.old < 2 ^ 64 - 1 }
-    ensures runs { Runs (meaning script.now inputs.items)
-        (S.taken sink.old) (S.taken sink.new) (S.failures sink.old) (S.failures sink.new) result }
-    ensures aside { S.aside sink.new ≡ S.aside sink.old }
+    requires { (S.seen sink.old).failed_puts < 2 ^ 64 - 1 }
+    ensures { Runs (meaning script.now inputs.items) (S.seen sink.old) (S.seen sink.new) result }
 {
     if script.len() > MOST_SCRIPT_BYTES {
         return Err(Stop::Script {

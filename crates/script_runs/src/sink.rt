@@ -1,11 +1,8 @@
 //! Where the text of a script goes.
 
-ghost use Rattle.std.specs.Prelude.{ℕ, ◌^◌, ◌<◌, ◌-◌, ◌≡◌, [], Some, IfOk, List, Option};
-ghost use Rattle.script_runs.specs.Hosts.{Aside};
+ghost use Rattle.std.specs.Prelude.{◌^◌, ◌<◌, ◌-◌};
+ghost use Rattle.script_runs.specs.Hosts.{Seen};
 ghost use Rattle.script_runs.specs.Sinks.{Puts};
-
-use cvl_base::{Memory, NoResources};
-use std::alloc::Allocator;
 
 /// A sink has failed.
 #[derive(Clone, Copy, Debug, PartialEq, Eq)]
@@ -13,20 +10,13 @@ pub struct SinkFault;
 
 /// What takes the text of a script, a front at a time.
 pub trait Sink {
-    /// The bytes taken so far; none where the sink claims nothing of them.
-    ghost taken: { Self → Option (List ℕ) };
-
-    /// How often the sink has failed.
-    ghost failures: { Self → ℕ };
-
-    /// What the sink has beside its text, as a host has files and a standard error. No put changes it.
-    ghost aside: { Self → Aside };
+    /// What the sink shows: the bytes taken so far, where it tells them, how often it has failed, and whatever it has
+    /// beside these, as a host has files and a standard error.
+    ghost seen: { Self → Seen };
 
     /// Takes a front of the bytes, of one or more where there are any, and answers how many; or fails and takes none.
-    /// No bytes are taken of none, without failing.
+    /// No bytes are taken of none, without failing. Nothing beside the bytes and the failures changes.
     fn put(&mut self, bytes: &[u8]) -> Result<usize, SinkFault>
-        requires { failures self.old < 2 ^ 64 - 1 }
-        ensures puts { Puts (taken self.old, failures self.old) bytes.now result
-            (taken self.new, failures self.new) }
-        ensures aside { aside self.new ≡ aside self.old };
+        requires { (seen self.old).failed_puts < 2 ^ 64 - 1 }
+        ensures { Puts (seen self.old) bytes.now result (seen self.new) };
 }

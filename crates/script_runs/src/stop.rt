@@ -1,8 +1,9 @@
 //! Why a run stopped.
 
-ghost use Rattle.std.specs.Prelude.{◌≡◌, ◌++◌, codes, OnOk, OnErr};
-ghost use Rattle.script_runs.specs.StopTexts.{stop_text};
+ghost use Rattle.std.specs.Prelude.{◌≡◌, ◌+◌, ◌≤◌, ◌++◌, length, IsOk, OnOk, OnErr, vec_capacity};
+ghost use Rattle.script_runs.specs.StopTexts.{stop_line, stop_text};
 
+use crate::stop_lines::stop_line;
 use cvl_base::{Fault, Memory, NoResources};
 use std::fmt;
 use thiserror::Error;
@@ -45,12 +46,12 @@ impl fmt::Display for Stop {
 }
 
 /// Appends the line of text that tells of a stop: the stop as it is shown, and a line feed. After a refusal the text is
-/// as before.
+/// as before, and none comes where the text has room for the line.
 pub fn put_stop<A: Memory>(stop: &Stop, text: &mut Vec<u8, A>) -> Result<(), NoResources>
-    ensures ok { OnOk result (text.new.items ≡ text.old.items ++ stop_text stop.now ++ codes "\n") }
+    ensures ok { OnOk result (text.new.items ≡ text.old.items ++ stop_line stop.now) }
     ensures err { OnErr result (text.new.items ≡ text.old.items) }
+    ensures in_room { length text.old.items + length (stop_line stop.now) ≤ vec_capacity text.old → IsOk result }
 {
-    let line = format!(in *text.allocator(); "{stop}\n")?;
-    text.extend_from_slice(line.as_bytes())?;
+    text.extend_from_slice(stop_line(stop).as_bytes())?;
     Ok(())
 }

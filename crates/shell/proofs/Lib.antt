@@ -1,3 +1,2 @@
 mod NamedFiles
 mod Performed
-mod Shown

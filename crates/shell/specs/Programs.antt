@@ -1,6 +1,7 @@
--- How the program ends: by what is written, which status it answers and what it tells on standard error.
+-- How the program ends: by what is written, which files are read, which status it answers and what it tells on standard
+-- error.
 -- Source: this library's program.
-use Rattle.std.specs.Prelude.{◌≡◌, ◌⊎◌, ℕ, Bool, true, false, List, [], ◌∷◌, ◌++◌, codes, Option, Some, None, Result, Ok, Err}
+use Rattle.std.specs.Prelude.{◌≡◌, ◌⊎◌, ℕ, Bool, true, false, List, [], ◌∷◌, ◌++◌, map, codes, Option, Some, None, IsSome, Result, Ok, Err}
 use Rattle.std.specs.List.{All, AllZip}
 use Rattle.clap.specs.Words.{IsAmong, Text, fault_of}
 use Rattle.clap.specs.declared.error.kind.ErrorKind.{ErrorKind}
@@ -9,8 +10,8 @@ use Rattle.command_line.specs.Command.{cvl}
 use Rattle.command_line.specs.Reads.{inputs_given, script_given}
 use Rattle.vector_handles.specs.declared.input.Input.{Input}
 use Rattle.vector_handles.specs.declared.input.Input.TheVariants.{Bytes, Vector}
-use Rattle.script_runs.specs.Ends.{EndsAs, failures_in}
-use Rattle.script_runs.specs.Hosts.{Files, Holds, Seen, after_flush, after_message, after_puts}
+use Rattle.script_runs.specs.Ends.{EndsAs, with_answer}
+use Rattle.script_runs.specs.Hosts.{Read, Seen, Tells, read_of, with_flush, with_reads}
 use Rattle.script_runs.specs.Meaning.{meaning}
 use Rattle.script_runs.specs.StopTexts.{stop_line}
 use Rattle.script_runs.specs.declared.stop.Stop.{Stop}
@@ -36,16 +37,12 @@ status_of (unreadable name) = 3
 abbrev pub unreadable_line : Text → List ℕ
 unreadable_line name = codes "cannot read " ++ name ++ codes "\n"
 
--- the line, or nothing where there is no memory for it
-abbrev pub IsMessage : List ℕ → Option (List ℕ) → Type 0
-IsMessage line told = (told ≡ Some line) ⊎ (told ≡ None)
-
--- what standard error takes at this end; of a refused command line, whatever clap says of it
+-- what standard error is told at this end; of a refused command line some text, which is clap's where there is memory
 abbrev pub Says : End → Option (List ℕ) → Type 0
 Says (ended None) told = told ≡ None
-Says (ended (Some why)) told = IsMessage (stop_line why) told
-Says refused told = Unit {0}
-Says (unreadable name) told = IsMessage (unreadable_line name) told
+Says (ended (Some why)) told = told ≡ Some (stop_line why)
+Says refused told = IsSome told
+Says (unreadable name) told = told ≡ Some (unreadable_line name)
 
 -- the work's own stop; else a flush that failed is a write that failed
 abbrev pub end_of : Result (Unit {0}) Stop → Bool → Option Stop
@@ -53,9 +50,30 @@ end_of (Err why) flushed = Some why
 end_of (Ok done) true = None
 end_of (Ok done) false = Some (stop.WriteFailed 0)
 
--- ---- the work: what it writes on standard output, and its answer
+-- ---- the files that are read
 
--- there is no memory for the words of the command line, or for the text of the help
+module _ {A : Type 0} where
+  -- the input is the very bytes that the read gave
+  abbrev pub Gave : Read → Input A → Type 0
+  Gave read (Bytes bytes) = read.bytes ≡ Some bytes.items
+  Gave read (Vector numbers) = ⊥
+
+  -- the files of these names are read, each once and in this order, and gave the inputs
+  pub record GaveInputs (names : List Text) (reads : List Read) (inputs : List (Input A)) : Type 0 where
+    pub in_order : map (λ read. read.name) reads ≡ names
+    pub given : AllZip Gave reads inputs
+
+-- the files of the names are read, each once and in this order, up to this one, the first that could not be read
+pub record StopsAt (names : List Text) (reads : List Read) (name : Text) : Type 0 where
+  pub before : List Read
+  pub after : List Text
+  pub in_order : names ≡ map (λ read. read.name) before ++ name ∷ after
+  pub last : reads ≡ before ++ read_of name None ∷ []
+  pub given : All (λ read. IsSome read.bytes) before
+
+-- ---- the work: what it reads, what it writes on standard output, and its answer
+
+-- there is no memory for the words, for the text of the help, or for what has to be ready before the first read
 abbrev pub Starves : List ℕ → Result (Unit {0}) Stop → Type 0
 Starves written answer = (written ≡ []) × (answer ≡ Err (stop.NoResources 0))
 
@@ -63,60 +81,46 @@ Starves written answer = (written ≡ []) × (answer ≡ Err (stop.NoResources 0
 abbrev pub IsHelp : Result (Unit {0}) Stop → Type 0
 IsHelp answer = (answer ≡ Ok tt) ⊎ (answer ≡ Err (stop.WriteFailed 0))
 
-module _ {A : Type 0} where
-  -- the input is the file of this name
-  abbrev pub IsFile : Option Files → Text → Input A → Type 0
-  IsFile files name (Bytes bytes) = Holds files name bytes.items
-  IsFile files name (Vector numbers) = ⊥
-
--- the files of the script and of the inputs are read, and the script is run
+-- the script is read, then each input, and it is run over the bytes that were read
 pub record RunsFiles
-    (A : Type 0) (files : Option Files) (script_name : Text) (input_names : List Text)
-    (written : List ℕ) (answer : Result (Unit {0}) Stop) : Type 0 where
+    (A : Type 0) (script_name : Text) (input_names : List Text) (reads : List Read) (written : List ℕ)
+    (answer : Result (Unit {0}) Stop) : Type 0 where
   pub script : List ℕ
+  pub input_reads : List Read
   pub inputs : List (Input A)
-  pub script_file : Holds files script_name script
-  pub input_files : AllZip (IsFile files) input_names inputs
+  pub script_first : reads ≡ read_of script_name (Some script) ∷ input_reads
+  pub then_inputs : GaveInputs input_names input_reads inputs
   pub ends : EndsAs (meaning script inputs) written answer
 
 -- the work that the words ask for
-abbrev pub Works : Type 0 → List Text → Option Files → List ℕ → Result (Unit {0}) Stop → Type 0
-Works A words files written answer =
-    Starves written answer
-    ⊎ ((IsAmong DisplayHelp (fault_of cvl words) × IsHelp answer)
+abbrev pub Works : Type 0 → List Text → List Read → List ℕ → Result (Unit {0}) Stop → Type 0
+Works A words reads written answer =
+    ((reads ≡ []) × Starves written answer)
+    ⊎ (((reads ≡ []) × IsAmong DisplayHelp (fault_of cvl words) × IsHelp answer)
     ⊎ ((fault_of cvl words ≡ []) × (script : Text) × (script_given words ≡ Some script)
-    × RunsFiles A files script (inputs_given words) written answer))
+    × RunsFiles A script (inputs_given words) reads written answer))
 
 -- ---- how the program comes to its end
 
-abbrev pub IsReadable : Option Files → Text → Type 0
-IsReadable files name = (bytes : List ℕ) × Holds files name bytes
-
--- the files before this one can be read
-abbrev pub IsFirstUnread : Option Files → List Text → Text → Type 0
-IsFirstUnread files names name =
-    (before : List Text) × (after : List Text) × (names ≡ before ++ name ∷ after)
-    × All (IsReadable files) before
-
--- the words, and the files as they were before, lead to this end: the work is written, then standard output is flushed,
--- and then standard error told; at the other ends standard error is told and nothing else is done
-abbrev pub Comes : Type 0 → List Text → Seen → Seen → Option (List ℕ) → End → Type 0
-Comes A words before after told (ended end) =
-    (written : List ℕ) × (answer : Result (Unit {0}) Stop) × (flushed : Bool)
-    × Works A words before.aside.files written answer × (end ≡ end_of answer flushed)
-    × (after ≡ after_message told (after_flush flushed (after_puts written (failures_in answer) before)))
-Comes A words before after told refused =
+-- the words lead to this end: files are read, the work is written, then standard output is flushed, and then standard
+-- error told; at the other ends nothing is written
+abbrev pub Comes : Type 0 → List Text → Seen → Option (List ℕ) → Seen → End → Type 0
+Comes A words before told after (ended end) =
+    (reads : List Read) × (written : List ℕ) × (answer : Result (Unit {0}) Stop) × (flushed : Bool)
+    × Works A words reads written answer × (end ≡ end_of answer flushed)
+    × Tells told (with_flush flushed (with_answer written answer (with_reads reads before))) after
+Comes A words before told after refused =
     (kind : ErrorKind) × IsAmong kind (fault_of cvl words) × (kind ≡ DisplayHelp → ⊥)
-    × (after ≡ after_message told before)
-Comes A words before after told (unreadable name) =
+    × Tells told before after
+Comes A words before told after (unreadable name) =
     (fault_of cvl words ≡ []) × (script : Text) × (script_given words ≡ Some script)
-    × IsFirstUnread before.aside.files (script ∷ inputs_given words) name
-    × (after ≡ after_message told before)
+    × (reads : List Read) × StopsAt (script ∷ inputs_given words) reads name
+    × Tells told (with_reads reads before) after
 
 -- the program ran on these words: what its host shows before and after, and the status
 pub record Performs (A : Type 0) (words : List Text) (before after : Seen) (status : ℕ) : Type 0 where
   pub end : End
   pub told : Option (List ℕ)
-  pub comes : Comes A words before after told end
+  pub comes : Comes A words before told after end
   pub says : Says end told
   pub status_is : status ≡ status_of end

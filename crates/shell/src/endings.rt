@@ -1,14 +1,14 @@
 //! How the program ends: what it tells on standard error, and its status.
 
-ghost use Rattle.std.specs.Prelude.{◌≡◌, ◌^◌, ◌<◌, ◌-◌, is_ok};
-ghost use Rattle.script_runs.specs.Hosts.{seen};
-ghost use Rattle.shell.specs.ProgramParts.{Finishes, Spoke};
-ghost use Rattle.shell.specs.Programs.{end_of, stop_status, unreadable_line};
+ghost use Rattle.std.specs.Prelude.{◌≡◌, ◌+◌, ◌-◌, ◌^◌, ◌<◌, ◌≤◌, ◌++◌, [], length, Some, is_ok, vec_len, vec_capacity};
+ghost use Rattle.script_runs.specs.Hosts.{Tells};
 ghost use Rattle.script_runs.specs.StopTexts.{stop_line};
+ghost use Rattle.shell.specs.ProgramParts.{Finishes};
+ghost use Rattle.shell.specs.Programs.{end_of, stop_status, unreadable_line};
 
 use crate::host::Host;
 use cvl_base::Memory;
-use script_runs::{SinkFault, Stop, put_stop};
+use script_runs::{SinkFault, Stop, stop_line};
 
 /// The status of work without a fault, and of help.
 pub const FINE: u8 = 0;
@@ -46,41 +46,49 @@ fn end_of(answer: Result<(), Stop>, flushed: Result<(), SinkFault>) -> Option<St
     }
 }
 
-/// Writes the text of the stop to standard error, where there is memory for it.
-fn tell_stop<A: Memory, H: Host<A>>(alloc: A, stop: &Stop, host: &mut H)
-    ensures { Spoke (stop_line stop.now) (seen (H.taken host.old) (H.failures host.old) (H.aside host.old))
-        (seen (H.taken host.new) (H.failures host.new) (H.aside host.new)) }
+/// Tells standard error of the stop, which takes no memory.
+pub(crate) fn tell_stop<A: Memory, H: Host<A>>(stop: &Stop, host: &mut H)
+    ensures { Tells (Some (stop_line stop.now)) (H.seen host.old) (H.seen host.new) }
 {
-    let mut text = Vec::new(alloc);
-    match put_stop(stop, &mut text) {
-        Ok(()) => host.put_error(text.as_slice()),
-        Err(_) => {}
-    }
+    let line = stop_line(stop);
+    host.put_error(line.as_bytes());
 }
 
-/// Writes the line that tells of a file that cannot be read, where there is memory for it.
-pub(crate) fn tell_unreadable<A: Memory, H: Host<A>>(alloc: A, name: &str, host: &mut H)
-    ensures { Spoke (unreadable_line name.now)
-        (seen (H.taken host.old) (H.failures host.old) (H.aside host.old))
-        (seen (H.taken host.new) (H.failures host.new) (H.aside host.new)) }
+/// How many bytes the line that tells of a file has beside the file's name.
+pub(crate) const UNREADABLE_BYTES: usize = 13;
+
+/// Appends a piece for which there is room.
+fn put_piece<A: Memory>(piece: &[u8], line: &mut Vec<u8, A>)
+    requires { vec_len line.old + length piece.now ≤ vec_capacity line.old }
+    ensures bytes { line.new.items ≡ line.old.items ++ piece.now }
+    ensures room { vec_capacity line.old ≤ vec_capacity line.new }
 {
-    match format!(in alloc; "cannot read {name}\n") {
-        Ok(text) => host.put_error(text.as_bytes()),
-        Err(_) => {}
-    }
+    let _ = line.extend_from_slice(piece);
+}
+
+/// Tells standard error of a file that cannot be read, by a line for which there is room.
+pub(crate) fn tell_unreadable<A: Memory, H: Host<A>>(name: &str, room: Vec<u8, A>, host: &mut H)
+    requires empty { room.items ≡ [] }
+    requires fits { length (unreadable_line name.now) ≤ vec_capacity room }
+    ensures { Tells (Some (unreadable_line name.now)) (H.seen host.old) (H.seen host.new) }
+{
+    let mut line = room;
+    put_piece(b"cannot read ", &mut line);
+    put_piece(name.as_bytes(), &mut line);
+    put_piece(b"\n", &mut line);
+    host.put_error(line.as_slice());
 }
 
 /// Sends on what standard output has taken, tells on standard error why the work ended, and answers the status.
-pub(crate) fn finish<A: Memory, H: Host<A>>(alloc: A, answer: Result<(), Stop>, host: &mut H) -> u8
-    requires { (H.aside host.old).failed_flushes < 2 ^ 64 - 1 }
-    ensures { Finishes answer (seen (H.taken host.old) (H.failures host.old) (H.aside host.old))
-        (seen (H.taken host.new) (H.failures host.new) (H.aside host.new)) result }
+pub(crate) fn finish<A: Memory, H: Host<A>>(answer: Result<(), Stop>, host: &mut H) -> u8
+    requires { (H.seen host.old).failed_flushes < 2 ^ 64 - 1 }
+    ensures { Finishes answer (H.seen host.old) (H.seen host.new) result }
 {
     let flushed = host.flush();
     match end_of(answer, flushed) {
         None => FINE,
         Some(stop) => {
-            tell_stop(alloc, &stop, host);
+            tell_stop(&stop, host);
             status_of(&stop)
         }
     }

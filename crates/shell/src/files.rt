@@ -1,37 +1,69 @@
 //! The files that the command line names.
 
-ghost use Rattle.std.specs.Prelude.{◌≡◌, IfOk, IfErr};
-ghost use Rattle.std.specs.List.{AllZip};
+ghost use Rattle.std.specs.Prelude.{◌≡◌, ◌≤◌, [], ◌∷◌, length, IfOk, IfErr, vec_capacity};
+ghost use Rattle.std.specs.List.{All};
 ghost use Rattle.clap.specs.Walk.{texts};
-ghost use Rattle.shell.specs.Programs.{IsFile, IsFirstUnread};
+ghost use Rattle.shell.specs.ProgramParts.{HasRoomFor, Misses, ReadsInputs};
 
+use crate::endings::UNREADABLE_BYTES;
 use crate::host::Host;
-use cvl_base::Memory;
+use command_line::Words;
+use cvl_base::{Memory, NoResources};
 use vector_handles::Input;
 
-/// Reads the inputs in their order, or names the first that cannot be read, also where there is no memory for it.
+/// What has to be ready before the first file is read: room for the inputs, and for the line that tells of a file.
+#[derive(Drop)]
+pub(crate) struct Room<A: Memory> {
+    pub(crate) inputs: Vec<Input<A>, A>,
+    pub(crate) line: Vec<u8, A>,
+}
+
+/// The bytes of the longest of the names.
+fn longest_name(script: &str, inputs: &[&str]) -> usize
+    ensures script { length script.now ≤ result }
+    ensures inputs { All (λ name. length name ≤ result) (texts inputs.now) }
+{
+    let mut longest = script.len();
+    for name in inputs {
+        longest = longest.max(name.len());
+    }
+    longest
+}
+
+/// Makes the room for the files of these words.
+pub(crate) fn room_for<A: Memory>(alloc: A, words: &Words<'_>) -> Result<Room<A>, NoResources>
+    ensures inputs { IfOk result (λ room. room.inputs.items ≡ []) }
+    ensures inputs_fit { IfOk result (λ room. length words.now.inputs.items ≤ vec_capacity room.inputs) }
+    ensures line { IfOk result (λ room. room.line.items ≡ []) }
+    ensures line_fits { IfOk result (λ room.
+        HasRoomFor (vec_capacity room.line) (words.now.script.now ∷ texts words.now.inputs.items)) }
+{
+    let names = words.inputs.as_slice();
+    let bytes = longest_name(words.script, names).saturating_add(UNREADABLE_BYTES);
+    Ok(Room {
+        inputs: Vec::with_capacity(alloc, names.len())?,
+        line: Vec::with_capacity(alloc, bytes)?,
+    })
+}
+
+/// Reads the inputs in their order, or names the first that cannot be read.
 pub(crate) fn read_inputs<'a, A: Memory, H: Host<A>>(
-    alloc: A,
     names: &[&'a str],
+    room: Vec<Input<A>, A>,
     host: &mut H,
 ) -> Result<Vec<Input<A>, A>, &'a str>
+    requires empty { room.items ≡ [] }
+    requires fits { length names.now ≤ vec_capacity room }
     ensures read { IfOk result (λ inputs.
-        AllZip (IsFile (H.aside host.old).files) (texts names.now) inputs.items) }
-    ensures unread { IfErr result (λ name.
-        IsFirstUnread (H.aside host.old).files (texts names.now) name.now) }
-    ensures taken { H.taken host.new ≡ H.taken host.old }
-    ensures failures { H.failures host.new ≡ H.failures host.old }
-    ensures aside { H.aside host.new ≡ H.aside host.old }
+        ReadsInputs (texts names.now) (H.seen host.old) inputs.items (H.seen host.new)) }
+    ensures missed { IfErr result (λ name.
+        Misses (texts names.now) (H.seen host.old) name.now (H.seen host.new)) }
 {
-    let mut inputs = Vec::new(alloc);
+    let mut inputs = room;
     for name in names {
         match host.read_file(name) {
             None => return Err(name),
-            Some(bytes) => {
-                if inputs.push(Input::Bytes(bytes)).is_err() {
-                    return Err(name);
-                }
-            }
+            Some(bytes) => inputs.push_reserved(Input::Bytes(bytes)),
         }
     }
     Ok(inputs)

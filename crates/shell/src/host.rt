@@ -1,32 +1,25 @@
 //! What a program is run on.
 
-ghost use Rattle.std.specs.Prelude.{◌≡◌, ◌^◌, ◌<◌, ◌-◌, IfSome};
-ghost use Rattle.script_runs.specs.Hosts.{Flushes, Holds, Tells};
+ghost use Rattle.std.specs.Prelude.{◌^◌, ◌<◌, ◌-◌, ◌∷◌, [], Some, is_ok, option_map};
+ghost use Rattle.script_runs.specs.Hosts.{Shows, Tells, read_of, with_flush, with_reads};
 
 use cvl_base::Memory;
 use script_runs::{Sink, SinkFault};
 
 /// What a program is run on: its files, and where its text goes. `put` is standard output.
 pub trait Host<A: Memory>: Sink {
-    /// The whole of a file; none where it cannot be read, or there is no memory for it.
+    /// The whole of a file; none where it cannot be read, or there is no memory for it. Either is a read.
     fn read_file(&mut self, name: &str) -> Option<Vec<u8, A>>
-        ensures taken { Self.taken self.new ≡ Self.taken self.old }
-        ensures failures { Self.failures self.new ≡ Self.failures self.old }
-        ensures aside { Self.aside self.new ≡ Self.aside self.old }
-        ensures bytes { IfSome result (λ bytes.
-            Holds (Self.aside self.old).files name.now bytes.items) };
+        ensures { Shows
+            (with_reads (read_of name.now (option_map (λ file. file.items) result) ∷ []) (Self.seen self.old))
+            (Self.seen self.new) };
 
     /// Sends on what standard output has taken and may still hold.
     fn flush(&mut self) -> Result<(), SinkFault>
-        requires { (Self.aside self.old).failed_flushes < 2 ^ 64 - 1 }
-        ensures taken { Self.taken self.new ≡ Self.taken self.old }
-        ensures failures { Self.failures self.new ≡ Self.failures self.old }
-        ensures flushes { Flushes (Self.taken self.old) (Self.aside self.old) result
-            (Self.aside self.new) };
+        requires { (Self.seen self.old).failed_flushes < 2 ^ 64 - 1 }
+        ensures { Shows (with_flush (is_ok result) (Self.seen self.old)) (Self.seen self.new) };
 
-    /// Writes one message to standard error, which takes it or drops it.
+    /// Tells standard error one message, which takes it, or loses all but a beginning of it.
     fn put_error(&mut self, bytes: &[u8])
-        ensures taken { Self.taken self.new ≡ Self.taken self.old }
-        ensures failures { Self.failures self.new ≡ Self.failures self.old }
-        ensures tells { Tells (Self.aside self.old) bytes.now (Self.aside self.new) };
+        ensures { Tells (Some bytes.now) (Self.seen self.old) (Self.seen self.new) };
 }

@@ -1,4 +1,4 @@
-use Rattle.std.proofs.Common.{◌≡◌, ◌+◌, ◌≤◌, length}
+use Rattle.std.proofs.Common.{◌+◌, ◌≤◌, length}
 use Rattle.std.specs.Option.{option_copied}
 use Rattle.script_runs.specs.LinesLeft.{lines_left, bytes_left}
 use Rattle.script_runs.specs.Meaning.{from_line, lines_of}
@@ -12,9 +12,7 @@ invariant-loop-rest g l =
       underway : IsUnderway
           (from_line 1 l.initial.session.names l.initial.session.inputs (lines_of l.script))
           (from_line l.number l.session.names l.session.inputs (lines_left (option_copied l.rest)))
-          l.number (g.S.Sink.taken l.initial.sink) (g.S.Sink.taken l.sink);
-      failures : g.S.Sink.failures l.sink ≡ g.S.Sink.failures l.initial.sink;
-      aside : g.S.Sink.aside l.sink ≡ g.S.Sink.aside l.initial.sink;
+          l.number (g.S.Sink.seen l.initial.sink) (g.S.Sink.seen l.sink);
       numbers : l.number + bytes_left (option_copied l.rest) ≤ length l.script + 2;
     }
 

@@ -1,37 +1,49 @@
-use Rattle.std.proofs.Common.{◌≡◌, ◌∙◌, ◌<◌, ◌+◌, suc, take, drop, length, true, is_ok, rules, arith, []}
-use Rattle.std.proofs.lemmas.List.Elements.{All-push}
+use Rattle.std.proofs.Common.{◌≡◌, ◌<◌, ◌+◌, suc, ◌++◌, ◌∷◌, [], Some, None, take, drop, length, ap, refl, arith}
+use Rattle.std.specs.List.{slice_index_or}
+use Rattle.std.proofs.lemmas.List.{length-append}
 use Rattle.clap.specs.Walk.{texts}
 use Rattle.vector_handles.specs.declared.input.Input.TheVariants.{Bytes}
-use Rattle.shell.specs.Programs.{IsFile, IsReadable}
-use Rattle.shell.proofs.NamedFiles.{names_at, names_more, zip_push}
+use Rattle.script_runs.specs.Hosts.{read_of}
+use Rattle.script_runs.proofs.Shown.{reads_both, shows_nothing_read}
+use Rattle.shell.proofs.NamedFiles.{gave_more, gave_none, names_all, names_at, names_more, stops_after}
 use Rattle.shell.proofs.files.read_inputs.Goals as goal
 
-pub returns-in-None-clause-unread : goal.returns-in-None-clause-unread
-returns-in-None-clause-unread g c =
-    let i = c.loop-name.name-index in
-    let names = texts c.args.names.now in
-    (take i names, drop (suc i) names, names_at c.args.names.now i _ (omega arith), c.loop-name.invariant.readable)
+pub loop-name-init : goal.loop-name-init
+loop-name-init g c = record {
+  reads = [];
+  gave = rw c.requires.empty gave_none;
+  shown = shows_nothing_read _;
+  count = ap length c.requires.empty;
+  room = c.requires.fits;
+}
 
-pub returns-then-is_err-clause-unread : goal.returns-then-is_err-clause-unread
-returns-then-is_err-clause-unread g c =
+pub returns-in-None-clause-missed : goal.returns-in-None-clause-missed
+returns-in-None-clause-missed g c =
     let i = c.loop-name.name-index in
     let names = texts c.args.names.now in
-    (take i names, drop (suc i) names, names_at c.args.names.now i _ (omega arith), c.loop-name.invariant.readable)
+    let reads = c.loop-name.invariant.reads in (
+      reads ++ read_of _ None ∷ [],
+      stops_after names (take i names) (drop (suc i) names) reads _ _ (names_at c.args.names.now i _ (omega arith)) c.loop-name.invariant.gave,
+      reads_both _ _ _ _ _ c.loop-name.invariant.shown c.in-None.ensures,
+    )
 
 pub loop-name-preserved : goal.loop-name-preserved
 loop-name-preserved g c =
     let i = c.loop-name.name-index in
-    let files = (g.H.Sink.aside c.args.host.now).files in
+    let name = (slice_index_or c.args.names.now i (record { ref_ptr = (0, 0); now = [] })).now in
     let next : i + 1 ≡ suc i = omega arith in
     let lt : i < length c.args.names.now = omega arith in
     let names = names_more c.args.names.now i (i + 1) (record { ref_ptr = (0, 0); now = [] }) lt next in
-    let good : is_ok c.push.result ≡ true = search rules in
-    let pushed = rw good at c.push.ensures.items in
-    let held = rw c.loop-name.invariant.aside at c.in-Some.ensures.bytes in
+    let pushed = c.push_reserved.ensures.items in
     record {
-      read = rw (names, pushed) (zip_push (IsFile files) _ _ _ (Bytes c.in-Some.bytes) c.loop-name.invariant.read held);
-      readable = rw names (All-push (IsReadable files) _ _ c.loop-name.invariant.readable (c.in-Some.bytes.items, held));
-      taken = c.in-Some.ensures.taken ∙ c.loop-name.invariant.taken;
-      failures = c.in-Some.ensures.failures ∙ c.loop-name.invariant.failures;
-      aside = c.in-Some.ensures.aside ∙ c.loop-name.invariant.aside;
+      reads = c.loop-name.invariant.reads ++ read_of name (Some c.in-Some.bytes.items) ∷ [];
+      gave = rw (names, pushed) (gave_more _ _ _ _ _ (Bytes c.in-Some.bytes) c.loop-name.invariant.gave refl);
+      shown = reads_both _ _ _ _ _ c.loop-name.invariant.shown c.in-Some.ensures;
+      count = rw (pushed, length-append) (omega (arith, c.loop-name.invariant.count));
+      room = omega (arith, c.loop-name.invariant.room, c.push_reserved.ensures.capacity);
     }
+
+pub returns-clause-read : goal.returns-clause-read
+returns-clause-read g c =
+    let whole = names_all c.args.names.now c.loop-name.name-index (omega arith) in
+    (c.loop-name.invariant.reads, rw whole at c.loop-name.invariant.gave, c.loop-name.invariant.shown)

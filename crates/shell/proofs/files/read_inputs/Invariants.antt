@@ -1,15 +1,16 @@
-use Rattle.std.proofs.Common.{◌≡◌, take}
-use Rattle.std.specs.List.{All, AllZip}
+use Rattle.std.proofs.Common.{◌≡◌, ◌≤◌, List, take, length, vec_capacity}
 use Rattle.clap.specs.Walk.{texts}
-use Rattle.shell.specs.Programs.{IsFile, IsReadable}
+use Rattle.script_runs.specs.Hosts.{Read, Shows, with_reads}
+use Rattle.shell.specs.Programs.{GaveInputs}
 use Rattle.shell.proofs.files.read_inputs.Given as goal
 
+-- the names so far were read, and gave the inputs
 abbrev pub invariant-loop-name : goal.invariant-loop-name
 invariant-loop-name g l =
     record {
-      read : AllZip (IsFile (g.H.Sink.aside l.initial.host).files) (take l.name-index (texts l.names)) l.inputs.items;
-      readable : All (IsReadable (g.H.Sink.aside l.initial.host).files) (take l.name-index (texts l.names));
-      taken : g.H.Sink.taken l.host ≡ g.H.Sink.taken l.initial.host;
-      failures : g.H.Sink.failures l.host ≡ g.H.Sink.failures l.initial.host;
-      aside : g.H.Sink.aside l.host ≡ g.H.Sink.aside l.initial.host;
+      reads : List Read;
+      gave : GaveInputs (take l.name-index (texts l.names)) reads l.inputs.items;
+      shown : Shows (with_reads reads (g.H.Sink.seen l.initial.host)) (g.H.Sink.seen l.host);
+      count : length l.inputs.items ≡ l.name-index;
+      room : length l.names ≤ vec_capacity l.inputs;
     }

@@ -2,7 +2,7 @@ use Rattle.std.proofs.Common.{◌≡◌, ◌∙◌, sym}
 use Rattle.clap.specs.Walk.{texts}
 use Rattle.clap.specs.Values.{kind_of}
 use Rattle.clap.specs.declared.error.kind.ErrorKind.TheVariants.{DisplayHelp}
-use Rattle.shell.proofs.Performed.{performs_files, performs_help, performs_starved}
+use Rattle.shell.proofs.Performed.{performs_files, performs_help, performs_refused, performs_starved}
 use Rattle.shell.proofs.programs.program.Goals as goal
 
 pub returns-in-Ok : goal.returns-in-Ok
@@ -20,3 +20,9 @@ returns-in-DisplayHelp g c =
     let among = rw c.in-Err-Refused.field-0-is at c.in-Err-Refused.ensures.faults in
     performs_help g.row.A.Denot (texts c.args.words.now) _ _ _ c.finish-in-DisplayHelp.result c.put_help-answer.result
     (rw kind at among) c.put_help-answer.ensures c.finish-in-DisplayHelp.ensures
+
+pub returns : goal.returns
+returns g c =
+    let among = rw c.in-Err-Refused.field-0-is at c.in-Err-Refused.ensures.faults in
+    performs_refused g.row.A.Denot (texts c.args.words.now) (kind_of c.in-Err-Refused.error) _ _
+    among (λ is. c.in_default.not-DisplayHelp (c.kind.ensures ∙ is)) c.tell_refused.ensures

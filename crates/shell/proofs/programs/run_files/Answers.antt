@@ -1,16 +1,30 @@
-use Rattle.std.proofs.Common.{refl, inr}
+use Rattle.std.proofs.Common.{[], ◌∷◌, map, arith, vec_capacity}
 use Rattle.clap.specs.Walk.{texts}
-use Rattle.shell.proofs.NamedFiles.{unread_after, unread_first}
+use Rattle.shell.proofs.NamedFiles.{missed_fits}
+use Rattle.shell.proofs.Performed.{misses_first, misses_later, runs_files}
 use Rattle.shell.proofs.programs.run_files.Goals as goal
+
+pub tell_unreadable-requires-clause-fits : goal.tell_unreadable-requires-clause-fits
+tell_unreadable-requires-clause-fits g c κs within = c.in-Ok.ensures.line_fits 0 [] (omega arith)
+
+pub tell_unreadable-requires-in-Err-clause-fits : goal.tell_unreadable-requires-in-Err-clause-fits
+tell_unreadable-requires-in-Err-clause-fits g c κs within =
+    let missed = rw c.as_slice.ensures.value at c.in-Err.ensures.missed in
+    missed_fits (vec_capacity c.in-Ok.room.line) c.args.words.now.script.now (texts c.args.words.now.inputs.items) missed.0 c.in-Err.name.now missed.1 c.in-Ok.ensures.line_fits
 
 pub returns-in-None : goal.returns-in-None
 returns-in-None g c =
-    let told = rw (c.in-None.ensures.taken, c.in-None.ensures.failures, c.in-None.ensures.aside) at c.tell_unreadable.ensures in
-    inr (refl, c.args.words.now.script.now, unread_first _ c.args.words.now.script.now (texts c.args.words.now.inputs.items), told)
+    misses_first g.row.A.Denot c.args.words.now.script.now (texts c.args.words.now.inputs.items) _ _ _ c.in-None.ensures c.tell_unreadable.ensures
 
 pub returns-in-Err : goal.returns-in-Err
 returns-in-Err g c =
-    let later = rw (c.in-Err.ensures.taken, c.in-Err.ensures.failures, c.in-Err.ensures.aside) at c.tell_unreadable-in-Err.ensures in
-    let told = rw (c.in-Some.ensures.taken, c.in-Some.ensures.failures, c.in-Some.ensures.aside) at later in
-    let unread = rw (c.in-Some.ensures.aside, c.as_slice.ensures.value) at c.in-Err.ensures.unread in
-    inr (refl, c.in-Err.name.now, unread_after _ c.args.words.now.script.now _ _ (c.in-Some.text.items, c.in-Some.ensures.bytes) unread, told)
+    let missed = rw c.as_slice.ensures.value at c.in-Err.ensures.missed in
+    misses_later g.row.A.Denot c.args.words.now.script.now (texts c.args.words.now.inputs.items) c.in-Some.text.items c.in-Err.name.now _ _ _ _
+    c.in-Some.ensures missed c.tell_unreadable-in-Err.ensures
+
+pub returns-in-Ok-read_inputs : goal.returns-in-Ok-read_inputs
+returns-in-Ok-read_inputs g c =
+    let read = rw c.as_slice.ensures.value at c.in-Ok-read_inputs.ensures.read in
+    let closed = rw c.as_slice-in-Ok-read_inputs.ensures.value at c.run_script.ensures in
+    runs_files g.row.A.Denot c.args.words.now.script.now (texts c.args.words.now.inputs.items) c.in-Some.text.items c.in-Ok-read_inputs.inputs.items _ _ _ _ c.run_script.result
+    c.in-Some.ensures read closed
