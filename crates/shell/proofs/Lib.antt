@@ -1,2 +1,3 @@
 mod NamedFiles
 mod Performed
+mod Streams

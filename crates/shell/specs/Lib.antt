@@ -8,3 +8,4 @@ pub mod ProgramParts
 pub mod Programs
 pub use Rattle.script_runs.specs.Sinks
 pub use Rattle.script_runs.specs.StopTexts
+pub mod Streams

@@ -124,3 +124,14 @@ pub record Performs (A : Type 0) (words : List Text) (before after : Seen) (stat
   pub comes : Comes A words before told after end
   pub says : Says end told
   pub status_is : status ≡ status_of end
+
+-- the words of the command line are not text, or there is no memory for them: that is told, and nothing else is done
+abbrev pub IsWordless : Seen → Seen → ℕ → Type 0
+IsWordless before after status =
+    (Tells (Some (codes "the command line is not UTF-8\n")) before after × (status ≡ 2))
+    ⊎ (Tells (Some (stop_line (stop.NoResources 0))) before after × (status ≡ 3))
+
+-- the program ran on the words of its process, whichever these are
+abbrev pub PerformsOnSome : Type 0 → Seen → Seen → ℕ → Type 0
+PerformsOnSome A before after status =
+    IsWordless before after status ⊎ ((words : List Text) × Performs A words before after status)

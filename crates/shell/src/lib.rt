@@ -4,9 +4,13 @@
 pub mod endings;
 mod files;
 pub mod host;
+pub mod process;
 pub mod programs;
+pub mod stream_host;
 
 pub use command_line::{Words, WordsFault, read_words};
 pub use host::Host;
+pub use process::{SystemFiles, run_process};
 pub use programs::program;
 pub use script_runs::{MemSink, Sink, SinkFault, Stop, mem_sink, put_stop, run, runs, sink, stop};
+pub use stream_host::{ReadFiles, StreamHost};

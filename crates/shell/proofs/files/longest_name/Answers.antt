@@ -1,6 +1,5 @@
 use Rattle.std.proofs.Common.{◌≡◌, ◌<◌, ◌≤◌, ◌+◌, suc, take, length, arith, []}
 use Rattle.std.proofs.lemmas.List.Elements.{All-push}
-use Rattle.std.specs.List.{slice_index_or}
 use Rattle.clap.specs.Walk.{Text, texts}
 use Rattle.shell.proofs.NamedFiles.{all_longer, names_all, names_more}
 use Rattle.shell.proofs.files.longest_name.Goals as goal

@@ -1,4 +1,4 @@
-use Rattle.std.proofs.Common.{[], ◌∷◌, map, arith, vec_capacity}
+use Rattle.std.proofs.Common.{[], arith, vec_capacity}
 use Rattle.clap.specs.Walk.{texts}
 use Rattle.shell.proofs.NamedFiles.{missed_fits}
 use Rattle.shell.proofs.Performed.{misses_first, misses_later, runs_files}

@@ -1,0 +1,92 @@
+//! The program on the command line of its process.
+
+ghost use Rattle.std.specs.Prelude.{◌^◌, ◌<◌, ◌-◌};
+ghost use Rattle.shell.specs.Programs.{IsWordless, PerformsOnSome};
+
+use crate::endings::{COMMAND_LINE, FAILED, tell_stop};
+use crate::host::Host;
+use crate::programs::program;
+use crate::stream_host::ReadFiles;
+use cvl_base::Memory;
+use script_runs::Stop;
+use std::alloc::{AllocError, Global};
+use std::fs::File;
+use std::io::{ErrorKind, Read};
+use std::rt::{Env, Files};
+use std::thread::Threads;
+use std::{env, io};
+
+/// The system's files, of which nothing is told.
+#[derive(Drop)]
+pub struct SystemFiles<'a, R> {
+    rt: &'a R,
+}
+
+impl<'a, R> SystemFiles<'a, R> {
+    /// The files that this runtime reaches.
+    pub fn new(rt: &'a R) -> SystemFiles<'a, R> {
+        SystemFiles { rt }
+    }
+}
+
+impl<R: Files> ReadFiles for SystemFiles<'_, R> {
+    ghost use Rattle.std.specs.Prelude.{None};
+
+    ghost reads = { λ _. None };
+
+    fn read_file<A: Memory>(&mut self, alloc: A, name: &str) -> Option<Vec<u8, A>> {
+        let mut file = File::open(self.rt, name).ok()?;
+        let mut bytes = Vec::new(alloc);
+        file.read_to_end(&mut bytes).ok()?;
+        Some(bytes)
+    }
+}
+
+/// The words of the command line, the program's own name first.
+fn command_line<R: Env + AllocGlobal>(rt: &R) -> io::Result<Vec<String>> {
+    Ok(env::args(rt)?.collect(rt.alloc())?)
+}
+
+/// The words as the program takes them.
+fn borrowed(alloc: Global, arguments: &[String]) -> Result<Vec<&str>, AllocError> {
+    let mut words = Vec::with_capacity(alloc, arguments.len())?;
+    for argument in arguments {
+        words.push(argument.as_str())?;
+    }
+    Ok(words)
+}
+
+/// Tells why the words of the command line could not be had, and answers the status.
+fn tell_wordless<A: Memory, H: Host<A>>(is_text: bool, host: &mut H) -> u8
+    ensures { IsWordless (H.seen host.old) (H.seen host.new) result }
+{
+    if is_text {
+        tell_stop(&Stop::NoResources { line: 0 }, host);
+        FAILED
+    } else {
+        host.put_error(b"the command line is not UTF-8\n");
+        COMMAND_LINE
+    }
+}
+
+/// Runs the program on the words of its process's command line, and answers the status.
+///
+/// Where the command line is not UTF-8 standard error is told so, and the status is 2; where there is no memory for its
+/// words, `line 0: no resources` and 3. Else it is `program` on these words.
+pub fn run_process<R: Env + Threads + Sync + AllocGlobal, A: Memory, H: Host<A>>(
+    rt: &R,
+    alloc: A,
+    host: &mut H,
+) -> u8
+    requires failures { (H.seen host.old).failed_puts < 2 ^ 64 - 1 }
+    requires flushes { (H.seen host.old).failed_flushes < 2 ^ 64 - 1 }
+    ensures { PerformsOnSome A (H.seen host.old) (H.seen host.new) result }
+{
+    match command_line(rt) {
+        Err(error) => tell_wordless(error.kind() != ErrorKind::InvalidData, host),
+        Ok(arguments) => match borrowed(rt.alloc(), arguments.as_slice()) {
+            Err(_) => tell_wordless(true, host),
+            Ok(words) => program(rt, alloc, words.as_slice(), host),
+        },
+    }
+}

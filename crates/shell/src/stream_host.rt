@@ -1,0 +1,142 @@
+//! A host over a reader of files and two writers.
+
+ghost use Rattle.std.specs.Prelude.{◌≡◌, ◌∷◌, [], option_map};
+ghost use Rattle.script_runs.specs.Hosts.{IsTold, read_of, with_more};
+ghost use Rattle.shell.specs.Streams.{WritesWhole};
+
+use crate::host::Host;
+use cvl_base::Memory;
+use script_runs::{Sink, SinkFault};
+use std::io::Write;
+
+/// What reads files whole.
+pub trait ReadFiles {
+    ghost use Rattle.std.specs.Prelude.{List, Option};
+    ghost use Rattle.script_runs.specs.Hosts.{Read};
+
+    /// The reads so far; none where the reader does not tell them.
+    ghost reads: { Self → Option (List Read) };
+
+    /// The whole of a file; none where it cannot be read, or there is no memory for it. Either is a read.
+    fn read_file<A: Memory>(&mut self, alloc: A, name: &str) -> Option<Vec<u8, A>>
+        ensures { IsTold
+            (with_more (read_of name.now (option_map (λ file. file.items) result) ∷ []) (reads self.old))
+            (reads self.new) };
+}
+
+/// A host over a reader of files, a writer for standard output and one for standard error. It tells what these tell: all
+/// of it where they keep what they take in memory, and nothing where they are the system's.
+#[derive(Drop)]
+pub struct StreamHost<A, F, O, E> {
+    /// The memory that files are read to.
+    pub alloc: A,
+    /// The reader of files.
+    pub files: F,
+    /// Standard output.
+    pub output: O,
+    /// Standard error.
+    pub errors: E,
+    /// How often a write to standard output failed.
+    pub failed_puts: u64,
+    /// How often a flush of standard output failed.
+    pub failed_flushes: u64,
+    /// Whether standard output was flushed after its last byte.
+    pub sent: bool,
+    /// Whether it was when standard error was last told something.
+    pub told_sent: bool,
+    /// Whether a part of a message was lost.
+    pub lost: bool,
+}
+
+impl<A, F, O, E> StreamHost<A, F, O, E> {
+    /// A host on which nothing was done.
+    pub fn new(alloc: A, files: F, output: O, errors: E) -> StreamHost<A, F, O, E>
+        ensures puts { result.failed_puts ≡ 0 }
+        ensures flushes { result.failed_flushes ≡ 0 }
+    {
+        StreamHost {
+            alloc,
+            files,
+            output,
+            errors,
+            failed_puts: 0,
+            failed_flushes: 0,
+            sent: true,
+            told_sent: true,
+            lost: false,
+        }
+    }
+}
+
+/// Writes on until the writer has taken all the bytes, and says whether it has. A write that fails, or takes none of some
+/// bytes, is the last.
+fn write_whole<W: Write>(bytes: &[u8], writer: &mut W) -> bool
+    ensures { WritesWhole (W.contents writer.old) bytes.now result (W.contents writer.new) }
+{
+    let mut written = 0;
+    while written < bytes.len() {
+        let (_, left) = bytes.split_at(written);
+        match writer.write(left) {
+            Ok(0) => return false,
+            Ok(taken) => written += taken,
+            Err(_) => return false,
+        }
+    }
+    true
+}
+
+/// A write that takes none of some bytes is a failure.
+impl<A: Memory, F: ReadFiles, O: Write, E: Write> Sink for StreamHost<A, F, O, E> {
+    ghost seen = { λ h. record {
+      output = O.contents h.output;
+      failed_puts = h.failed_puts;
+      sent = h.sent;
+      failed_flushes = h.failed_flushes;
+      errors = E.contents h.errors;
+      told_sent = h.told_sent;
+      lost = h.lost;
+      reads = F.reads h.files;
+    } };
+
+    fn put(&mut self, bytes: &[u8]) -> Result<usize, SinkFault> {
+        if bytes.is_empty() {
+            return Ok(0);
+        }
+        match self.output.write(bytes) {
+            Ok(taken) if taken > 0 => {
+                self.sent = false;
+                Ok(taken)
+            }
+            _ => {
+                self.failed_puts += 1;
+                Err(SinkFault)
+            }
+        }
+    }
+}
+
+impl<A: Memory, F: ReadFiles, O: Write, E: Write> Host<A> for StreamHost<A, F, O, E> {
+    fn read_file(&mut self, name: &str) -> Option<Vec<u8, A>> {
+        self.files.read_file(self.alloc, name)
+    }
+
+    fn flush(&mut self) -> Result<(), SinkFault> {
+        match self.output.flush() {
+            Ok(()) => {
+                self.sent = true;
+                Ok(())
+            }
+            Err(_) => {
+                self.failed_flushes += 1;
+                Err(SinkFault)
+            }
+        }
+    }
+
+    fn put_error(&mut self, bytes: &[u8]) {
+        self.told_sent = self.sent;
+        if !write_whole(bytes, &mut self.errors) {
+            self.lost = true;
+        }
+    }
+}
