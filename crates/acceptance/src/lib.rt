@@ -12,7 +12,7 @@ mod inputs;
 #[cfg(test)]
 mod limits;
 #[cfg(test)]
-mod narrow_sink;
+mod narrow_writer;
 #[cfg(test)]
 mod pieces;
 #[cfg(test)]
@@ -26,9 +26,9 @@ mod sessions;
 #[cfg(test)]
 mod sinks;
 #[cfg(test)]
-mod small_host;
-#[cfg(test)]
 mod small_types;
+#[cfg(test)]
+mod table_files;
 #[cfg(test)]
 mod texts;
 #[cfg(test)]

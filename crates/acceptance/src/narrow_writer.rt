@@ -1,58 +1,79 @@
-//! A sink that takes few bytes a put, and fails once it has taken so many puts.
+//! A writer in memory that takes few bytes a write, fails once it has taken so many writes, or is full.
 
-ghost use Rattle.std.specs.Prelude.{◌≡◌, []};
-
-use shell::{Sink, SinkFault};
 use std::alloc::Allocator;
+use std::io::{Error, ErrorKind, Result, Write};
 
-/// A sink that takes few bytes a put.
-#[derive(Drop)]
-pub struct NarrowSink<A: Allocator> {
-    /// The bytes taken so far.
-    pub taken: Vec<u8, A>,
-    /// How many bytes it takes a put, beside the first.
-    pub more_a_put: usize,
-    /// How many puts it takes before it fails for good.
-    pub puts_left: u64,
-    /// How often it failed.
-    pub failures: u64,
+/// What a writer does once it has taken its writes.
+#[derive(Clone, Copy)]
+pub enum Then {
+    /// It fails.
+    Fail,
+    /// It takes no byte.
+    TakeNone,
 }
 
-impl<A: Allocator> NarrowSink<A> {
-    /// A sink that keeps its bytes in this vector.
-    pub fn new(taken: Vec<u8, A>, more_a_put: usize, puts_left: u64) -> NarrowSink<A>
-        ensures { result.failures ≡ 0 }
-    {
-        NarrowSink {
+/// A writer that takes few bytes a write.
+#[derive(Drop)]
+pub struct NarrowWriter<A: Allocator> {
+    /// The bytes taken so far.
+    pub taken: Vec<u8, A>,
+    /// How many bytes it takes a write, beside the first.
+    pub more_a_write: usize,
+    /// How many writes it takes.
+    pub writes_left: u64,
+    /// What it does then.
+    pub then: Then,
+    /// Whether a flush succeeds.
+    pub flushes: bool,
+    /// How many writes it took.
+    pub writes: u64,
+    /// How many bytes a flush has sent on.
+    pub sent: usize,
+}
+
+impl<A: Allocator> NarrowWriter<A> {
+    /// A writer that keeps its bytes in this vector, and then fails.
+    pub fn new(taken: Vec<u8, A>, more_a_write: usize, writes_left: u64) -> NarrowWriter<A> {
+        NarrowWriter {
             taken,
-            more_a_put,
-            puts_left,
-            failures: 0,
+            more_a_write,
+            writes_left,
+            then: Then::Fail,
+            flushes: true,
+            writes: 0,
+            sent: 0,
         }
     }
 }
 
-impl<A: Allocator> Sink for NarrowSink<A> {
+impl<A: Allocator> Write for NarrowWriter<A> {
     ghost use Rattle.std.specs.Prelude.{Some};
-    ghost use Rattle.shell.specs.Hosts.{nothing_aside};
 
-    ghost taken = { λ s. Some s.taken.items };
+    ghost contents = { λ w. Some w.taken.items };
 
-    ghost failures = { λ s. s.failures };
-
-    ghost aside = { λ _. nothing_aside };
-
-    fn put(&mut self, bytes: &[u8]) -> Result<usize, SinkFault> {
-        if bytes.is_empty() {
+    fn write(&mut self, buf: &[u8]) -> Result<usize> {
+        if buf.is_empty() {
             return Ok(0);
         }
-        let count = self.more_a_put.min(bytes.len() - 1) + 1;
-        let (front, _) = bytes.split_at(count);
-        if self.puts_left > 0 && self.taken.extend_from_slice(front).is_ok() {
-            self.puts_left -= 1;
+        let count = self.more_a_write.min(buf.len() - 1) + 1;
+        let (front, _) = buf.split_at(count);
+        if self.writes_left > 0 && self.taken.extend_from_slice(front).is_ok() {
+            self.writes_left -= 1;
+            self.writes = self.writes.saturating_add(1);
             return Ok(count);
         }
-        self.failures += 1;
-        Err(SinkFault)
+        match self.then {
+            Then::Fail => Err(Error::from(ErrorKind::BrokenPipe)),
+            Then::TakeNone => Ok(0),
+        }
+    }
+
+    fn flush(&mut self) -> Result<()> {
+        if self.flushes {
+            self.sent = self.taken.len();
+            Ok(())
+        } else {
+            Err(Error::from(ErrorKind::BrokenPipe))
+        }
     }
 }

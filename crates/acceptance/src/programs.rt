@@ -1,8 +1,11 @@
 //! The program's texts, messages and statuses, on a host in memory.
-use crate::small_host::SmallHost;
-use cvl_base::NoResources;
+
+ghost use Rattle.std.specs.Prelude.{◌≡◌};
+
+use crate::narrow_writer::{NarrowWriter, Then};
+use crate::table_files::TableFiles;
 use recipes::{LINE_OF_SIGHT, SPARSE_MATVEC};
-use shell::program;
+use shell::{StreamHost, program};
 use std::alloc::Global;
 use std::test::Fail;
 use std::thread::Threads;
@@ -10,6 +13,7 @@ use std::thread::Threads;
 const FILES: &[(&str, &str)] = &[
     ("empty", ""),
     ("scan", "a = input 1\nb = add_suz a\nwrite b\n"),
+    ("last", "a = input 198\nb = add_suz a\nwrite b\n"),
     ("late", "a = input 1\nwrite a\nb = xyz_wuz a\n"),
     ("divide", "a = input 1\nb = input 2\nc = div_wuz a b\n"),
     ("numbers", "3 1 7 0 4\n"),
@@ -32,8 +36,12 @@ enum Failing {
     Nothing,
     /// The flush.
     Flush,
-    /// Each put after so many, of a byte each.
-    Puts(u64),
+    /// Each write of standard output after so many, of a byte each.
+    Writes(u64),
+    /// Standard output, which is full after so many bytes.
+    Room(u64),
+    /// Each write of standard error after so many, of a byte each.
+    Errors(u64),
 }
 
 /// What fails, the words of the command line, and what comes of them: standard output, standard error and the status.
@@ -193,14 +201,29 @@ const ROWS: &[Row] = &[
         1,
     ),
     (
-        Failing::Puts(4),
+        Failing::Writes(4),
         &["cvl", "scan", "numbers"],
         "b = ",
         "line 3: write failed\n",
         3,
     ),
     (
-        Failing::Puts(0),
+        Failing::Room(4),
+        &["cvl", "scan", "numbers"],
+        "b = ",
+        "line 3: write failed\n",
+        3,
+    ),
+    (
+        Failing::Errors(7),
+        &["cvl", "late", "numbers"],
+        "a = [3 1 7 0 4]\n",
+        "line 3:",
+        1,
+    ),
+    (Failing::Errors(6), &["cvl", "nofile"], "", "cannot", 3),
+    (
+        Failing::Writes(0),
         &["cvl", "late", "numbers"],
         "",
         "line 2: write failed\n",
@@ -221,24 +244,50 @@ enum Outcome<'a> {
     LostHelp,
 }
 
+/// A host in memory, of which standard output takes a byte a write.
+type Host<'a> = StreamHost<Global, TableFiles<'a>, NarrowWriter<Global>, NarrowWriter<Global>>;
+
 /// Whether a program with this status on this host comes out so.
-fn is_outcome(host: &SmallHost<Global>, status: u8, outcome: Outcome) -> bool {
+fn is_outcome(host: &Host<'_>, status: u8, outcome: Outcome) -> bool {
     let output = host.output.taken.as_slice();
-    let errors = host.errors.as_slice();
+    let errors = host.errors.taken.as_slice();
     match outcome {
         Outcome::Texts(text, message, wanted) => {
-            let told = output == text.as_bytes() && errors == message.as_bytes();
-            // so that the messages of two programs don't mix
-            told && status == wanted && host.messages == u64::from(!message.is_empty())
+            output == text.as_bytes() && errors == message.as_bytes() && status == wanted
         }
-        Outcome::Refused => {
-            status == 2 && output.is_empty() && !errors.is_empty() && host.messages == 1
-        }
+        Outcome::Refused => status == 2 && output.is_empty() && host.errors.writes == 1,
         Outcome::Help => {
-            status == 0 && !output.is_empty() && host.sent == output.len() && host.messages == 0
+            status == 0
+                && output == HELP_TEXT.as_bytes()
+                && host.output.sent == output.len()
+                && errors.is_empty()
         }
         Outcome::LostHelp => status == 3 && errors == "line 0: write failed\n".as_bytes(),
     }
+}
+
+/// A host on which this fails.
+fn host_with(alloc: Global, failing: Failing) -> Host<'static>
+    ensures puts { result.failed_puts ≡ 0 }
+    ensures flushes { result.failed_flushes ≡ 0 }
+{
+    let mut output = NarrowWriter::new(Vec::new(alloc), 0, u64::MAX);
+    // a message is one write, so that the messages of two programs don't mix
+    let mut errors = NarrowWriter::new(Vec::new(alloc), usize::MAX, 1);
+    match failing {
+        Failing::Nothing => {}
+        Failing::Flush => output.flushes = false,
+        Failing::Writes(writes) => output.writes_left = writes,
+        Failing::Room(bytes) => {
+            output.writes_left = bytes;
+            output.then = Then::TakeNone;
+        }
+        Failing::Errors(writes) => {
+            errors.more_a_write = 0;
+            errors.writes_left = writes;
+        }
+    }
+    StreamHost::new(alloc, TableFiles::new(alloc, FILES), output, errors)
 }
 
 /// Whether the program comes out so on a host on which this fails.
@@ -247,23 +296,64 @@ fn comes_out<R: Threads + Sync + AllocGlobal>(
     failing: Failing,
     words: &[&str],
     outcome: Outcome,
-) -> Result<bool, NoResources> {
-    let mut host = SmallHost::with_room(rt.alloc(), FILES, 0)?;
-    match failing {
-        Failing::Nothing => {}
-        Failing::Flush => host.flushes = false,
-        Failing::Puts(puts) => host.output.puts_left = puts,
-    }
+) -> bool {
+    let mut host = host_with(rt.alloc(), failing);
     let status = program(rt, rt.alloc(), words, &mut host);
-    Ok(is_outcome(&host, status, outcome))
+    is_outcome(&host, status, outcome)
 }
 
 #[test]
 fn texts_messages_and_statuses(rt: HostRuntime) -> Result<(), Fail> {
     for (failing, words, output, errors, status) in ROWS {
         let outcome = Outcome::Texts(output, errors, *status);
-        assert!(rt; comes_out(&rt, *failing, words, outcome)?, "{words:?}");
+        assert!(rt; comes_out(&rt, *failing, words, outcome), "{words:?}");
     }
+    Ok(())
+}
+
+/// The words of a command line, and the names that are read, in their order.
+const READS: &[(&[&str], &str)] = &[
+    (&["cvl", "scan", "numbers"], "scan\nnumbers\n"),
+    (
+        &[
+            "cvl", "divide", "--tile", "2", "numbers", "divisors", "numbers",
+        ],
+        "divide\nnumbers\ndivisors\nnumbers\n",
+    ),
+    (&["cvl", "nofile", "numbers"], "nofile\n"),
+    (&["cvl", "scan", "none", "numbers"], "scan\nnone\n"),
+    (&["cvl", "--help", "scan", "numbers"], ""),
+    (&["cvl", "--tile", "0", "scan", "numbers"], ""),
+];
+
+#[test]
+fn files_are_read_once_and_in_order(rt: HostRuntime) -> Result<(), Fail> {
+    for (words, asked) in READS {
+        let mut host = host_with(rt.alloc(), Failing::Nothing);
+        program(&rt, rt.alloc(), words, &mut host);
+        assert!(rt;
+            host.files.asked.as_slice() == asked.as_bytes(),
+            "{words:?}"
+        );
+    }
+    Ok(())
+}
+
+/// How many words a long command line has.
+const WORDS: usize = 200;
+
+#[test]
+fn long_command_line(rt: HostRuntime) -> Result<(), Fail> {
+    let mut words = Vec::with_capacity(rt.alloc(), WORDS)?;
+    words.push("cvl")?;
+    words.push("last")?;
+    for _ in 2..WORDS - 1 {
+        words.push("empty")?;
+    }
+    words.push("numbers")?;
+    // the script reads input 198, which is the last
+    let outcome = Outcome::Texts("b = [0 3 4 11 11]\n", "", 0);
+    assert!(rt; comes_out(&rt, Failing::Nothing, words.as_slice(), outcome));
     Ok(())
 }
 
@@ -292,22 +382,50 @@ const HELP: &[&[&str]] = &[
     &["cvl", "scan", "numbers", "--help"],
 ];
 
+/// The text of the help.
+const HELP_TEXT: &str = "Usage: cvl [OPTIONS] <SCRIPT> [INPUT]...
+
+Arguments:
+  <SCRIPT>    The file of the script
+  [INPUT]...  The file of each input, in the order of their numbers
+
+Options:
+      --tile <N>     The length of a tile, in elements [default: 4096]
+      --workers <N>  The number of workers [default: 4]
+  -h, --help         Print help
+";
+
+/// What a tile without elements is answered.
+const NO_TILE: &str = "error: invalid value '0' for '--tile <N>': 0 is not in 1..=65536
+
+For more information, try '--help'.
+";
+
 #[test]
 fn help_and_refused_command_lines(rt: HostRuntime) -> Result<(), Fail> {
     for words in REFUSED {
         assert!(rt;
-            comes_out(&rt, Failing::Nothing, words, Outcome::Refused)?,
+            comes_out(&rt, Failing::Nothing, words, Outcome::Refused),
             "{words:?}"
         );
     }
     for words in HELP {
         assert!(rt;
-            comes_out(&rt, Failing::Nothing, words, Outcome::Help)?,
+            comes_out(&rt, Failing::Nothing, words, Outcome::Help),
             "{words:?}"
         );
     }
-    for failing in [Failing::Flush, Failing::Puts(4)] {
-        assert!(rt; comes_out(&rt, failing, &["cvl", "-h"], Outcome::LostHelp)?);
+    for failing in [Failing::Flush, Failing::Writes(4), Failing::Room(4)] {
+        assert!(rt; comes_out(&rt, failing, &["cvl", "-h"], Outcome::LostHelp));
     }
+    let no_tile = Outcome::Texts("", NO_TILE, 2);
+    assert!(rt;
+        comes_out(
+            &rt,
+            Failing::Nothing,
+            &["cvl", "--tile", "0", "scan"],
+            no_tile
+        )
+    );
     Ok(())
 }

@@ -1,12 +1,13 @@
 //! Each request for memory refused in turn: over a script with every family of calls, over one whose vectors are so long
 //! that threads share them, over the whole program, and over the recipes.
 use crate::inputs::inputs_of;
+use crate::narrow_writer::NarrowWriter;
 use crate::pieces::{Pieces, text_of};
 use crate::recipe_calls::{RECIPES, Recipe, is_answered};
-use crate::small_host::SmallHost;
+use crate::table_files::TableFiles;
 use cvl_base::{Config, Memory, NoResources};
 use refusing_memory::{Flaw, withstands_refusals};
-use shell::{MemSink, Stop, program, run};
+use shell::{MemSink, Stop, StreamHost, program, run};
 use std::alloc::{AllocError, Global};
 use std::test::Fail;
 use std::thread::Threads;
@@ -118,6 +119,7 @@ fn run_on<R: Threads + Sync, A: Memory>(
 }
 
 const FILES: &[(&str, &str)] = &[
+    ("fine", "a = input 1\nb = add_suz a\nwrite b\n"),
     (
         "late",
         "a = input 1\nb = add_suz a\nwrite b\nc = xyz_wuz a\n",
@@ -125,13 +127,39 @@ const FILES: &[(&str, &str)] = &[
     ("numbers", "3 1 7 0 4\n"),
 ];
 
-const TEXT: &str = "b = [0 3 4 11 11]\n";
+/// A command line, and what comes of it with ample memory: standard output, standard error and the status.
+#[derive(Clone, Copy)]
+struct Program<'a> {
+    words: &'a [&'a str],
+    output: &'a str,
+    errors: &'a str,
+    status: u8,
+}
 
-const FAULT: &str = "line 4: fault 2 UnknownCall\n";
+const PROGRAMS: &[Program] = &[
+    Program {
+        words: &["cvl", "fine", "numbers"],
+        output: "b = [0 3 4 11 11]\n",
+        errors: "",
+        status: 0,
+    },
+    Program {
+        words: &["cvl", "late", "numbers"],
+        output: "b = [0 3 4 11 11]\n",
+        errors: "line 4: fault 2 UnknownCall\n",
+        status: 1,
+    },
+    Program {
+        words: &["cvl", "late", "numbers", "nofile"],
+        output: "",
+        errors: "cannot read nofile\n",
+        status: 3,
+    },
+];
 
-/// What standard error may say where memory is refused; nothing where there is none for the message.
+/// What standard error says where memory is refused.
 const MESSAGES: &[&str] = &[
-    "",
+    "cannot read fine\n",
     "cannot read late\n",
     "cannot read numbers\n",
     "line 0: no resources\n",
@@ -151,27 +179,27 @@ fn is_message(errors: &[u8]) -> bool {
     false
 }
 
-/// Whether a program with this status, which wrote this, ended as with ample memory. Where memory was refused it is to say
-/// so, or to have no memory for the message, and to write a beginning of the text.
-fn judge(status: u8, output: &[u8], errors: &[u8]) -> Result<bool, NoResources> {
-    let text = TEXT.as_bytes();
-    match status {
-        1 if output == text && errors == FAULT.as_bytes() => Ok(true),
-        1 if output == text && errors.is_empty() => Err(NoResources),
-        3 if text.starts_with(output) && is_message(errors) => Err(NoResources),
-        _ => Ok(false),
-    }
-}
-
-/// Whether the program ends as with ample memory, on this memory and on a host with room for what it writes.
+/// Whether the program ends as with ample memory, on this memory and on a host that has its own for what it writes. Where
+/// memory was refused it is to say so, and to write a beginning of the text.
 fn program_on<R: Threads + Sync + AllocGlobal, A: Memory>(
     rt: &R,
     heap: A,
+    row: &Program<'_>,
 ) -> Result<bool, NoResources> {
-    let mut host = SmallHost::with_room(heap, FILES, 64)?;
-    let words = ["cvl", "late", "numbers"];
-    let status = program(rt, heap, words.as_slice(), &mut host);
-    judge(status, host.output.taken.as_slice(), host.errors.as_slice())
+    let files = TableFiles::new(rt.alloc(), FILES);
+    let output = NarrowWriter::new(Vec::new(rt.alloc()), 0, u64::MAX);
+    let errors = NarrowWriter::new(Vec::new(rt.alloc()), usize::MAX, 1);
+    let mut host = StreamHost::new(heap, files, output, errors);
+    let status = program(rt, heap, row.words, &mut host);
+    let output = host.output.taken.as_slice();
+    let errors = host.errors.taken.as_slice();
+    if status == row.status && output == row.output.as_bytes() && errors == row.errors.as_bytes() {
+        Ok(true)
+    } else if status == 3 && row.output.as_bytes().starts_with(output) && is_message(errors) {
+        Err(NoResources)
+    } else {
+        Ok(false)
+    }
 }
 
 /// What is run while memory is refused.
@@ -180,7 +208,7 @@ enum Work<'a> {
     /// A script, on these inputs, which writes this text.
     Script(&'a [u8], &'a [&'a str], &'a [u8]),
     /// The program.
-    Program,
+    Program(&'a Program<'a>),
     /// A recipe, which gives this.
     Recipe(&'a Recipe),
 }
@@ -193,7 +221,7 @@ fn comes_out<R: Threads + Sync + AllocGlobal, A: Memory>(
 ) -> Result<bool, NoResources> {
     match work {
         Work::Script(script, inputs, text) => run_on(rt, heap, script, inputs, text),
-        Work::Program => program_on(rt, heap),
+        Work::Program(row) => program_on(rt, heap, row),
         Work::Recipe(recipe) => is_answered(rt, heap, recipe),
     }
 }
@@ -224,8 +252,11 @@ fn each_growth_of_a_run(rt: HostRuntime) -> Result<(), Fail> {
 
 #[test]
 fn each_growth_of_the_program(rt: HostRuntime) -> Result<(), Fail> {
-    // the host's room, two files, two values, a text and the message
-    assert!(rt; requests_of(&rt, Work::Program)? > 6);
+    for row in PROGRAMS {
+        let requests = requests_of(&rt, Work::Program(row))?;
+        // the room for the inputs and for a line, and the file of the script
+        assert!(rt; requests > 2, "{requests}");
+    }
     Ok(())
 }
 

@@ -1,9 +1,10 @@
 //! Sinks that take little at a time, or fail.
 use crate::inputs::inputs_of;
-use crate::narrow_sink::NarrowSink;
+use crate::narrow_writer::NarrowWriter;
+use crate::table_files::TableFiles;
 use cvl_base::Config;
 use refusing_memory::Refusing;
-use shell::{MemSink, Sink, SinkFault, Stop, run};
+use shell::{MemSink, Sink, SinkFault, Stop, StreamHost, run};
 use std::test::Fail;
 
 const SCRIPT: &[u8] =
@@ -37,9 +38,12 @@ fn narrow_and_failing_sinks(rt: HostRuntime) -> Result<(), Fail> {
     for (more_a_put, puts, taken, answer) in ROWS {
         let inputs = inputs_of(rt.alloc(), INPUTS)?;
         let config = Config::new(2, 3).unwrap();
-        let mut sink = NarrowSink::new(Vec::new(rt.alloc()), *more_a_put, *puts);
+        let files = TableFiles::new(rt.alloc(), &[]);
+        let output = NarrowWriter::new(Vec::new(rt.alloc()), *more_a_put, *puts);
+        let errors = NarrowWriter::new(Vec::new(rt.alloc()), 0, 0);
+        let mut sink = StreamHost::new(rt.alloc(), files, output, errors);
         let ran = run(&rt, rt.alloc(), config, SCRIPT, inputs, &mut sink);
-        let text = sink.taken.as_slice();
+        let text = sink.output.taken.as_slice();
         let right = ran == *answer && text.len() == *taken && TEXT.as_bytes().starts_with(text);
         assert!(rt; right, "{more_a_put} {puts}");
     }
