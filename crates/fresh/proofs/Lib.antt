@@ -1,3 +1,4 @@
 pub mod Blocks
 pub mod Crosses
 pub mod Memory
+pub mod Places

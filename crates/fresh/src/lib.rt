@@ -1,11 +1,13 @@
 //! Fresh memory that several threads write, and that ends as an ordinary vector.
 #![tactic(auto)]
 
-mod cells;
 mod block;
+mod cells;
+mod run;
 
 // A crate can name a run in a contract only if the types of its fields are exported.
 #[doc(hidden)]
 pub use block::Deed;
 #[doc(hidden)]
 pub use cells::{Base, Cells};
+pub use run::Run;
