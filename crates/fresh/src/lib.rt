@@ -3,6 +3,7 @@
 
 mod block;
 mod cells;
+mod room;
 mod run;
 
 // A crate can name a run in a contract only if the types of its fields are exported.
@@ -10,4 +11,5 @@ mod run;
 pub use block::Deed;
 #[doc(hidden)]
 pub use cells::{Base, Cells};
+pub use room::Room;
 pub use run::Run;

@@ -1,7 +1,7 @@
 //! A run of places of a block, which one thread writes from front to back.
 ghost use Rattle.std.specs.Prelude.{◌≡◌, ℕ, ◌+◌, ◌-◌, ◌<◌, ◌≤◌, ◌⊎◌, List, [], ◌∷◌, ◌++◌, length, map, take, slice_index_or, None, replicate, ◌^◌};
 ghost use Rattle.std.specs.List.{AllZip};
-ghost use Rattle.fresh.specs.Places.{stretch, end, Follows};
+ghost use Rattle.fresh.specs.Places.{stretch, filled, Follows};
 
 use crate::cells::{Base, Cells};
 use std::marker::Model;
@@ -45,6 +45,21 @@ impl<T> Run<T> {
             written: 0,
             cells,
         }
+    }
+
+    /// How many items are written, and the places.
+    pub(crate) fn into_cells(self) -> (usize, Cells<T>)
+        ensures len { result.0 ≡ length self.items }
+        ensures cells { (result.1.at ≡ self.block) × (result.1.from ≡ self.first) × (result.1.slots ≡ filled self.items self.room) }
+    {
+        let Run {
+            base: _,
+            first: _,
+            len: _,
+            written,
+            cells,
+        } = self;
+        (written, cells)
     }
 
     /// The number of the first place in the block.

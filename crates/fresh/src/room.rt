@@ -1,0 +1,73 @@
+//! The room of a vector to be, while runs of it are written elsewhere.
+ghost use Rattle.std.specs.Prelude.{◌≡◌, ℕ, ◌+◌, IfOk, IsOk, [], length};
+ghost use Rattle.std.specs.Vec.{vec_len, vec_capacity};
+ghost use Rattle.fresh.specs.Places.{stretch, IsAllOf};
+
+use crate::block::{Deed, give_block, take_block};
+use crate::cells::Base;
+use crate::run::Run;
+use std::alloc::{AllocError, Allocator};
+use std::marker::Model;
+
+/// The room of a vector to be: unwritten memory of an allocator, whose places are handed out as a [`Run`].
+///
+/// It can't be let go, so that its memory can't be lost: [`into_vec`](Room::into_vec) alone ends it, by the run of all its
+/// places. Where a thread stops early, join what there is, written or not, or write the rest, and drop the vector.
+pub struct Room<T, A: Allocator> {
+    base: Base<T>,
+    places: usize,
+    deed: Deed<T, A>,
+    vec: Vec<T, A>,
+}
+
+impl<T, A: Allocator> Model for Room<T, A> {
+    ghost use Rattle.fresh.specs.Places.{Site, site_code};
+    ghost use Rattle.fresh.specs.Rooms.{IsRoom};
+
+    ghost Value = { Site };
+
+    ghost coded = { site_code };
+
+    ghost view = { λ r. record { block = r.base.ptr; places = r.places } };
+
+    ghost invariant = { λ r. IsRoom r.base.ptr r.places r.deed r.vec };
+}
+
+impl<T, A: Allocator> Room<T, A> {
+    /// The room for so many items, and the run of all its places.
+    pub fn new(alloc: A, places: usize) -> Result<(Room<T, A>, Run<T>), AllocError>
+        ensures room { IfOk result (λ r. r.0.places ≡ places) }
+        ensures run { IfOk result (λ r. r.1 ≡ stretch r.0.block 0 [] places) }
+        ensures succeeds { places ≡ 0 → IsOk result }
+    {
+        let mut vec = Vec::with_capacity(alloc, places)?;
+        let (base, cells, deed) = take_block(&mut vec);
+        Ok((
+            Room {
+                base,
+                places,
+                deed,
+                vec,
+            },
+            Run::whole(base, places, cells),
+        ))
+    }
+
+    /// The vector of the items that are written in the run of all places.
+    pub fn into_vec(self, run: Run<T>) -> Vec<T, A>
+        requires { IsAllOf self run }
+        ensures items { result.items ≡ run.items }
+        ensures len { vec_len result ≡ length run.items }
+        ensures capacity { vec_capacity result ≡ self.places }
+    {
+        let Room {
+            base,
+            places,
+            deed,
+            mut vec,
+        } = self;
+        let (len, cells) = run.into_cells();
+        give_block(&mut vec, base, len, places, cells, deed);
+        vec
+    }
+}
