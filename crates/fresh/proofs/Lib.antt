@@ -1,4 +1,5 @@
 pub mod Blocks
 pub mod Crosses
+pub mod Maps
 pub mod Memory
 pub mod Places

@@ -1,5 +1,5 @@
 -- What contracts see of a run of places and of the room of a vector to be.
-use Rattle.std.specs.Prelude.{◌≡◌, ℕ, ◌+◌, ◌-◌, ◌^◌, ◌<◌, ◌≤◌, List, [], ◌∷◌, ◌++◌, map, length, replicate, Option, Some, None, refl}
+use Rattle.std.specs.Prelude.{◌≡◌, ℕ, ◌+◌, ◌-◌, ◌^◌, ◌<◌, ◌≤◌, List, [], ◌∷◌, ◌++◌, map, length, replicate, slice_index_or, Option, Some, None, refl}
 use Rattle.std.specs.Coded.{Coded, code_by, coded×, coded_list, coded_ℕ}
 use denote.RawPtr.{Ptr, coded_ptr}
 use Rattle.fresh.specs.declared.cells.Cells.{Cells}
@@ -55,3 +55,9 @@ module _ {X : Type 0} where
 
 abbrev pub site_code : Coded Site
 site_code = code_by (Ptr × ℕ) (coded× coded_ptr coded_ℕ) (λ s. (s.block, s.places)) (λ p. record { block = p.0; places = p.1 }) (λ _. refl)
+
+module _ {X : Type 0} where
+  -- the n items ys belong, by P, to the numbers from `start` on
+  pub record GoWith (P : ℕ → X → Type 0) (start n : ℕ) (ys : List X) : Type 0 where
+    pub count : length ys ≡ n
+    pub each : (k : ℕ) (d : X) → k < n → P (start + k) (slice_index_or ys k d)

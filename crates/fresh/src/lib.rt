@@ -3,6 +3,7 @@
 
 mod block;
 mod cells;
+mod fills;
 mod room;
 mod run;
 

@@ -78,7 +78,8 @@ impl<T> Run<T> {
 
     /// The number of the next place to be written.
     pub fn next_place(&self) -> usize
-        ensures { result ≡ self.now.first + length self.now.items }
+        ensures place { result ≡ self.now.first + length self.now.items }
+        ensures within { result + self.now.room < 2 ^ 63 }
     {
         self.first + self.written
     }

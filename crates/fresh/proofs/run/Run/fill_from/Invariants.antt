@@ -1,0 +1,8 @@
+use Rattle.std.proofs.Common.{◌≡◌, ◌-◌, List, ◌++◌, take}
+use Rattle.std.specs.List.{AllZip}
+use Rattle.fresh.specs.Places.{stretch}
+use Rattle.fresh.proofs.run.Run.fill_from.Given as goal
+
+abbrev pub invariant-loop-x : goal.invariant-loop-x
+invariant-loop-x g l =
+    (ys : List _) × AllZip (goal.F-post g l.f) (take l.x-index l.xs) ys × (l.self ≡ stretch l.fn.self.block l.fn.self.first (l.fn.self.items ++ ys) (l.fn.self.room - l.x-index))
