@@ -1,7 +1,7 @@
 -- The block of a vector is a row of places and the right to free it, and back. Assumes `Logic`.
-use mathlib.Core.Path.{◌≡◌, refl, sym, ap, ◌∙◌}
+use mathlib.Core.Path.{◌≡◌, refl, sym, ap}
 use mathlib.Core.Bool.{Bool, true, false, not}
-use Prim.Native.Nat.{ℕ, ◌+◌, ◌-◌, ◌*◌, ◌≤◌}
+use Prim.Native.Nat.{ℕ, ◌+◌, ◌-◌, ◌*◌}
 use native.Mathlib.Omega.{arith}
 use native.Mathlib.Nat.{zero-mul}
 use mathlib.Core.List.{List, [], ◌∷◌, ◌++◌, map}
@@ -23,7 +23,7 @@ use Rattle.core.specs.Allocator.{block_with_items}
 use Rattle.core.proofs.mem.Param as one
 use Rattle.core.proofs.alloc.Calls.{token}
 use Rattle.std.specs.Prelude.{Some, None}
-use Rattle.std_alloc.specs.Vec.Ownership.{owns_if, has_block}
+use Rattle.std_alloc.specs.Vec.Ownership.{owns_if}
 use Rattle.std_alloc.proofs.RawLayout.{as_raw, as_written}
 use Rattle.std_alloc.proofs.VecSteps.El.{El, el_x, elτ, R, sz, Hd}
 use Rattle.std_alloc.proofs.VecSteps.Rows.{whole}

@@ -25,8 +25,7 @@ module _ {A B : Type 0} (P : A → B → Type 0) where
       let ys = before.0 in
       let at : i + 1 ≡ suc i = omega arith in
       let longer : take i xs ++ x ∷ [] ≡ take (i + 1) xs = ap (λ z. take i xs ++ z ∷ []) is ∙ sym (take-suc xs i x lt) ∙ ap (λ k. take k xs) (sym at) in
-      let less : old.room - i - 1 ≡ old.room - (i + 1) = omega arith in
-      (
+      let less : old.room - i - 1 ≡ old.room - (i + 1) = omega arith in (
         ys ++ y ∷ [],
         subst (λ zs. AllZip P zs (ys ++ y ∷ [])) longer (zipped_more (take i xs) ys x y before.1 p),
         after ∙ ap (λ s. stretch s.block s.first (s.items ++ y ∷ []) (s.room - 1)) before.2 ∙ λ j. stretch old.block old.first (append_assoc old.items ys (y ∷ []) j) (less j),

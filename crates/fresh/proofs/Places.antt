@@ -1,11 +1,11 @@
 -- Lists of places that begin with items and end empty.
 --     made      what a run is made of
 --     take_filled, drop_filled, joined_filled, pushed      its places parted, joined, and one more written
-use Rattle.std.proofs.Common.{◌≡◌, ℕ, zero, suc, ◌+◌, ◌-◌, ◌<◌, ◌≤◌, ◌^◌, ◌⊎◌, inl, inr, List, [], ◌∷◌, ◌++◌, length, map, take, drop, replicate, slice_set, Option, Some, None, refl, sym, ap, ◌∙◌, subst, arith, length-append}
+use Rattle.std.proofs.Common.{◌≡◌, ℕ, zero, suc, ◌+◌, ◌-◌, ◌<◌, ◌≤◌, ◌^◌, ◌⊎◌, inl, inr, List, [], ◌∷◌, ◌++◌, length, map, take, drop, replicate, slice_set, Option, Some, None, refl, sym, ap, ◌∙◌, arith, length-append}
 use Rattle.std.proofs.lemmas.List.{length-replicate}
 use lib.ListN.{length-map}
 use denote.RawPtr.{Ptr}
-use Rattle.fresh.specs.Places.{Stretch, stretch, filled, somes, IsRun}
+use Rattle.fresh.specs.Places.{stretch, filled, somes, IsRun}
 use Rattle.fresh.specs.declared.cells.Cells.{Cells}
 
 module _ {X : Type 0} where
@@ -64,8 +64,7 @@ module _ {X : Type 0} where
       → IsRun c base first len written × ((p : Ptr) (f : ℕ) → p ≡ base → f ≡ first → stretch base first (somes c.slots) (len - written) ≡ stretch p f xs room)
   made c base first len written xs room at from is long all low =
       let there : somes c.slots ≡ xs = ap somes is ∙ somes_filled xs room in
-      let left : len - written ≡ room = omega arith in
-      (
+      let left : len - written ≡ room = omega arith in (
         record { place = (at, from); count = (ap length there ∙ long, omega arith, low); laid = is ∙ λ i. filled (sym there i) (sym left i) },
         λ p f ep ef. λ i. stretch (sym ep i) (sym ef i) (there i) (left i),
       )

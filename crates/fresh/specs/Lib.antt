@@ -1,3 +1,4 @@
 pub mod Ownership
+pub mod Parts
 pub mod Places
 pub mod Rooms

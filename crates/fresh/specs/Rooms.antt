@@ -1,5 +1,5 @@
 -- What holds of the fields of the room of a vector to be.
-use Rattle.std.specs.Prelude.{◌≡◌, ℕ, ◌^◌, ◌<◌}
+use Rattle.std.specs.Prelude.{◌≡◌, ℕ}
 use Rattle.std.specs.Vec.{vec_capacity, vec_allocator}
 use Rattle.std.specs.declared.vec.Vec.{Vec}
 use denote.RawPtr.{Ptr}

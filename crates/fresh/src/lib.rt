@@ -4,6 +4,7 @@
 mod block;
 mod cells;
 mod fills;
+mod forks;
 mod room;
 mod run;
 
@@ -12,5 +13,6 @@ mod run;
 pub use block::Deed;
 #[doc(hidden)]
 pub use cells::{Base, Cells};
+pub use forks::{Writer, write_in_runs};
 pub use room::Room;
 pub use run::Run;

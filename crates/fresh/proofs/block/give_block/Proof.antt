@@ -1,10 +1,9 @@
 -- `give_block` makes the block of a vector of its places and the right to free it. Assumes `Logic`.
 use mathlib.Core.Path.{◌≡◌, refl, sym, ap, subst, ◌∙◌}
-use Prim.Native.Nat.{ℕ, zero, suc, ◌+◌, ◌-◌, ◌*◌, ◌<◌, ◌≤◌, ◌^◌}
+use Prim.Native.Nat.{ℕ, ◌+◌, ◌-◌, ◌*◌, ◌<◌, ◌≤◌, ◌^◌}
 use native.Mathlib.Omega.{arith}
 use native.Mathlib.Nat.{zero-mul}
 use mathlib.Core.List.{List, [], ◌∷◌, ◌++◌, map}
-use lib.Dec.{lit<}
 use lib.ListN.{length, replicate, length-append, length-map, length-replicate}
 use seplogic.Ra.Ura.{Ura}
 use mir.Syntax.{Fn, w64}
@@ -20,14 +19,14 @@ use contract.BorrowLft.{◌⊑◌}
 use contract.Monad.{Fun, fact}
 use contract.Running.{tables, tables_of}
 use sound.WpLaws.{WpFn-mono}
-use types.Kit.{‵, raw, ◌⊛◌, at_ret, ◌$◌, ◌∵◌, !, qed, move, keep, drop, use0, use1, use2, use3, split, split3, join, rewrite, fsplit, fsplit3, fjoin, fjoin3, feq_i, feq_l, flt_i, flt_l, suffices, done}
-use types.Part.{whole, sub, agg, look_in, store_in}
-use types.Run.{stop, fld, load, addr, lit, unit_lit, of_opd, no_more, and_then, assigns, assigns_last, first, blocks, exec, returns, enter}
-use types.ByLocal.{alloc_all, pass_all, free_all, look_at, get, get_in, through, is, sets, sets_last, env}
+use types.Kit.{‵, raw, ◌⊛◌, at_ret, ◌$◌, ◌∵◌, !, qed, move, keep, drop, use2, split, split3, join, rewrite, fsplit, fsplit3, fjoin, fjoin3, feq_i, feq_l, flt_l, suffices, done}
+use types.Part.{whole, sub, store_in}
+use types.Run.{stop, fld, addr, unit_lit, of_opd, assigns, assigns_last, first, blocks, exec, returns, enter}
+use types.ByLocal.{alloc_all, pass_all, free_all, look_at, get, get_in, through, is, sets, env}
 use denote.Exit.{yes, no}
 use denote.RattleType.{RattleType, owns}
-use denote.Builtin.{usize, unit}
-use denote.RawPtr.{Ptr, block_ptr, ptr_val, in_a_block}
+use denote.Builtin.{usize}
+use denote.RawPtr.{Ptr, ptr_val, in_a_block}
 use denote.Signature.{plain, types_at}
 use denote.Steps.{heard, nothing}
 use denote.Triple.Clauses.{Clauses, Ended, closing}
@@ -36,17 +35,15 @@ use denote.Triple.Table.{entered}
 use denote.Triple.Walked.{Stays, stay_dropped, stay_ref, walk_of, ends_at, Goes-dropped, Goes-ref, walk_Meets}
 use Rattle.std.specs.Prelude.{Some, None}
 use Rattle.core.proofs.alloc.Calls.{token, Goes-blank}
-use Rattle.core.proofs.mem.Facts.{says_two, says_three}
-use Rattle.std_alloc.specs.Vec.Ownership.{owns_if, has_block}
-use Rattle.std_alloc.proofs.RcSteps.{Good, word, word-Good}
-use Rattle.std_alloc.proofs.VecSteps.El.{El, args, el_x, el_d, Vr, R, P, sz, Hd, vec_val}
-use Rattle.std_alloc.proofs.VecSteps.Opens.{Blk, not_live, vec_opens⁰, vec_closes⁰}
+use Rattle.core.proofs.mem.Facts.{says_two}
+use Rattle.std_alloc.specs.Vec.Ownership.{has_block}
+use Rattle.std_alloc.proofs.RcSteps.{word, word-Good}
+use Rattle.std_alloc.proofs.VecSteps.El.{El, args, el_x, el_d, Vr, R, P, sz, Hd}
+use Rattle.std_alloc.proofs.VecSteps.Opens.{Blk, vec_opens⁰, vec_closes⁰}
 use Rattle.std_alloc.proofs.VecSteps.Shapes.{after}
-use denote.Param.{layout}
-use denote.Struct.Tuple.{Tuple}
 use Rattle.fresh.specs.Ownership.{slots, cells_own, deed_owns}
-use Rattle.fresh.proofs.Blocks.{el, Frees, Holds, room_out, items_in}
-use Rattle.fresh.proofs.Memory.{Bs, Cr, Mark, Place, mark, mark_had, mark_made, word_had, word_made, three_val, three_of}
+use Rattle.fresh.proofs.Blocks.{el, items_in}
+use Rattle.fresh.proofs.Memory.{Bs, Cr, Place, mark, mark_had, word_had}
 use Rattle.fresh.specs.contracts.block.Deed as D-type
 use Rattle.fresh.specs.contracts.block.give_block as F
 use Rattle.fresh.specs.contracts.block.give_block.Key.{name as #self}

@@ -1,16 +1,16 @@
 -- `take_block` parts an empty vector from its block. Assumes `Logic`.
-use mathlib.Core.Path.{◌≡◌, refl, sym, ap, subst, ◌∙◌}
-use Prim.Native.Nat.{ℕ, zero, suc, ◌+◌, ◌-◌, ◌*◌, ◌<◌, ◌≤◌, ◌^◌}
+use mathlib.Core.Path.{◌≡◌, refl, sym, subst, ◌∙◌}
+use Prim.Native.Nat.{ℕ, ◌+◌, ◌*◌, ◌<◌, ◌^◌}
 use native.Mathlib.Omega.{arith}
 use native.Mathlib.Nat.{zero-mul}
-use mathlib.Core.List.{List, [], ◌∷◌, ◌++◌, map}
+use mathlib.Core.List.{List, [], ◌∷◌, ◌++◌}
 use lib.Dec.{lit<}
-use lib.ListN.{length, replicate, length-append, length-map, length-replicate}
+use lib.ListN.{length, replicate, length-replicate}
 use seplogic.Ra.Ura.{Ura}
-use mir.Syntax.{Fn, w64}
+use mir.Syntax.{Fn}
 use mir.MapTy.{inst_fn}
-use mir.Val.{Val, vunit, vint, vptr}
-use base.Logic.{SProp, ent, never, id⊢}
+use mir.Val.{Val, vptr}
+use base.Logic.{SProp, ent, id⊢}
 use base.Fml.{ftrue, flft}
 use prog.Memory.{Memory}
 use prog.Routine.{Routine}
@@ -20,33 +20,30 @@ use contract.BorrowLft.{◌⊑◌}
 use contract.Monad.{Fun, fact}
 use contract.Running.{tables, tables_of}
 use sound.WpLaws.{WpFn-mono}
-use types.Kit.{‵, raw, ◌⊛◌, at_ret, ◌$◌, ◌∵◌, !, qed, move, keep, drop, use0, use1, use2, use3, split, split3, join, rewrite, fsplit, fsplit3, fjoin, fjoin3, feq_i, feq_l, flt_i, flt_l, suffices, done}
+use types.Kit.{‵, raw, ◌⊛◌, at_ret, ◌$◌, ◌∵◌, !, qed, move, keep, drop, use0, use1, use3, split, split3, join, rewrite, fsplit, fsplit3, fjoin, fjoin3, feq_i, feq_l, flt_i, suffices, done}
 use types.Part.{whole, sub, agg, look_in, store_in}
-use types.Run.{stop, fld, load, addr, lit, unit_lit, of_opd, no_more, and_then, assigns, assigns_last, first, blocks, exec, returns, enter}
-use types.ByLocal.{alloc_all, pass_all, free_all, look_at, get, get_in, through, is, sets, sets_last, env}
-use denote.Exit.{yes, no}
+use types.Run.{stop, fld, load, addr, lit, of_opd, no_more, and_then, assigns_last, first, blocks, exec, returns, enter}
+use types.ByLocal.{alloc_all, pass_all, free_all, look_at, get, through, sets, sets_last, env}
 use denote.RattleType.{RattleType, owns}
-use denote.Builtin.{usize, unit}
-use denote.RawPtr.{Ptr, block_ptr, ptr_val, in_a_block}
+use denote.RawPtr.{Ptr, block_ptr}
 use denote.Signature.{plain, types_at}
 use denote.Steps.{heard, nothing}
 use denote.Triple.Clauses.{Clauses, Ended, closing}
 use denote.Triple.Spec.{Meets, triple_of}
 use denote.Triple.Table.{entered}
-use denote.Triple.Walked.{Stays, stay_dropped, stay_ref, walk_of, ends_at, Goes-dropped, Goes-ref, walk_Meets}
-use Rattle.std.specs.Prelude.{Some, None}
-use Rattle.core.proofs.alloc.Calls.{token, Goes-blank}
-use Rattle.core.proofs.mem.Facts.{says_two, says_three}
+use denote.Triple.Walked.{Stays, stay_ref, walk_of, ends_at, Goes-ref, walk_Meets}
+use Rattle.std.specs.Prelude.{None}
+use Rattle.core.proofs.mem.Facts.{says_three}
 use Rattle.std_alloc.specs.Vec.Ownership.{owns_if, has_block}
 use Rattle.std_alloc.proofs.RcSteps.{Good, word, word-Good}
-use Rattle.std_alloc.proofs.VecSteps.El.{El, args, el_x, el_d, Vr, R, P, sz, Hd, vec_val}
+use Rattle.std_alloc.proofs.VecSteps.El.{El, args, el_x, el_d, Vr, R, P, sz}
 use Rattle.std_alloc.proofs.VecSteps.Opens.{Blk, not_live, vec_opens⁰, vec_closes⁰}
 use Rattle.std_alloc.proofs.VecSteps.Shapes.{after}
 use denote.Param.{layout}
 use denote.Struct.Tuple.{Tuple}
-use Rattle.fresh.specs.Ownership.{slots, cells_own, deed_owns}
-use Rattle.fresh.proofs.Blocks.{el, Frees, Holds, room_out, items_in}
-use Rattle.fresh.proofs.Memory.{Bs, Cr, Mark, Place, mark, mark_had, mark_made, word_had, word_made, three_val, three_of}
+use Rattle.fresh.specs.Ownership.{slots}
+use Rattle.fresh.proofs.Blocks.{el, Frees, room_out}
+use Rattle.fresh.proofs.Memory.{Bs, Cr, Mark, mark, mark_made, word_made, three_val, three_of}
 use Rattle.fresh.specs.contracts.block.Deed as D-type
 use Rattle.fresh.specs.contracts.block.take_block as F
 use Rattle.fresh.specs.contracts.block.take_block.Key.{name as #self}

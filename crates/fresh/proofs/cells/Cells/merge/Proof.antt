@@ -15,13 +15,13 @@ use types.Logic.{Logic}
 use contract.Monad.{fact}
 use contract.Running.{tables, tables_of}
 use sound.WpLaws.{WpFn-mono}
-use types.Kit.{Item, ⋆, ‵, ◌⊛◌, ◌$◌, ◌∵◌, !, qed, by, move, keep, drop, use0, use1, use2, split, join, rewrite, fsplit, fjoin, suffices, frame, done, flt_l, flt_i}
+use types.Kit.{Item, ⋆, ‵, ◌⊛◌, ◌$◌, ◌∵◌, !, qed, by, move, keep, drop, use0, use2, split, join, rewrite, fsplit, fjoin, suffices, done, flt_l, flt_i}
 use types.Part.{agg}
 use types.Run.{and_then, no_more, returns, enter}
 use types.ByLocal.{alloc_all, pass_all, free_all, look_at, get, sets}
 use denote.Exit.{no}
 use denote.RattleType.{owns}
-use denote.RawPtr.{Ptr, block_ptr, in_a_block}
+use denote.RawPtr.{Ptr, in_a_block}
 use denote.Signature.{plain}
 use denote.Steps.{nothing}
 use denote.Triple.Carry.{spared}
@@ -34,7 +34,7 @@ use Rattle.core.proofs.alloc.Calls.{Goes-blank}
 use Rattle.core.proofs.mem.Param.{El, R, args}
 use Rattle.core.proofs.ptr.Rows.{add_times}
 use Rattle.fresh.specs.Ownership.{slots, cells_own}
-use Rattle.fresh.proofs.Memory.{Cr, Mark, sz, Place, mark, mark_had, mark_made, glue}
+use Rattle.fresh.proofs.Memory.{Cr, Mark, sz, mark, mark_had, mark_made, glue}
 use Rattle.fresh.specs.contracts.cells.Cells.merge.Key.{name as #self}
 use Rattle.fresh.proofs.cells.Cells.merge.Statement as stated
 use Rattle.fresh.proofs.cells.Cells.merge.Code as code

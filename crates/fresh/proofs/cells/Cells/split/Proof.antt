@@ -1,5 +1,5 @@
 -- `split` parts a row of places in two. Assumes `Logic`.
-use mathlib.Core.Path.{◌≡◌, refl, sym, ap, subst, ◌∙◌}
+use mathlib.Core.Path.{◌≡◌, refl, sym, subst}
 use Prim.Native.Nat.{ℕ, ◌+◌, ◌*◌, ◌<◌, ◌≤◌, ◌^◌}
 use native.Mathlib.Omega.{arith}
 use mathlib.Core.List.{List, [], ◌∷◌, ◌++◌}
@@ -15,7 +15,7 @@ use types.Logic.{Logic}
 use contract.Monad.{fact}
 use contract.Running.{tables, tables_of}
 use sound.WpLaws.{WpFn-mono}
-use types.Kit.{Item, ⋆, ‵, ◌⊛◌, ◌$◌, ◌∵◌, !, qed, by, move, keep, drop, use0, use1, use2, split, join, rewrite, fsplit, fjoin, feq_l, suffices, frame, done, flt_l, flt_i}
+use types.Kit.{Item, ⋆, ‵, ◌⊛◌, ◌$◌, ◌∵◌, !, qed, by, move, keep, drop, use0, use1, use2, split, join, rewrite, fsplit, fjoin, feq_l, suffices, done, flt_l, flt_i}
 use types.Part.{agg}
 use types.Run.{and_then, no_more, returns, enter}
 use types.ByLocal.{alloc_all, pass_all, free_all, look_at, get, sets}
@@ -23,7 +23,7 @@ use denote.Builtin.{usize}
 use denote.Exit.{yes, no}
 use denote.Struct.Tuple.{Tuple}
 use denote.RattleType.{RattleType, owns}
-use denote.RawPtr.{Ptr, block_ptr, in_a_block}
+use denote.RawPtr.{Ptr, in_a_block}
 use denote.Signature.{plain}
 use denote.Steps.{nothing}
 use denote.Triple.Carry.{spared}
@@ -31,13 +31,13 @@ use denote.Triple.Clauses.{Clauses, Ended, closing}
 use denote.Triple.Entry.{on_entry}
 use denote.Triple.Spec.{Meets, triple_of}
 use denote.Triple.Table.{entered, run_framed}
-use denote.Triple.Walked.{says, needs, Stays, stay_dropped, walk_of, ends_at, Goes-dropped, walk_Meets}
+use denote.Triple.Walked.{needs, Stays, stay_dropped, walk_of, ends_at, Goes-dropped, walk_Meets}
 use Rattle.core.proofs.alloc.Calls.{Goes-blank}
 use Rattle.core.proofs.mem.Param.{El, R, args}
 use Rattle.core.proofs.ptr.Rows.{add_times, times_below}
 use Rattle.fresh.specs.Ownership.{slots, cells_own}
 use Rattle.core.proofs.mem.Facts.{says_two}
-use Rattle.fresh.proofs.Memory.{Cr, Mark, sz, Place, mark, mark_had, mark_made, parted, two_val, two_of}
+use Rattle.fresh.proofs.Memory.{Cr, Mark, sz, mark, mark_had, mark_made, parted, two_val, two_of}
 use Rattle.fresh.specs.contracts.cells.Cells.split.Key.{name as #self}
 use Rattle.fresh.proofs.cells.Cells.split.Statement as stated
 use Rattle.fresh.proofs.cells.Cells.split.Code as code

@@ -1,4 +1,4 @@
-use Rattle.std.proofs.Common.{◌≡◌, ℕ, ◌+◌, ◌-◌, ◌<◌, ◌≤◌, List, [], ◌∷◌, ◌++◌, length, map, take, refl, sym, ap, ◌∙◌, subst, arith, take_all}
+use Rattle.std.proofs.Common.{◌≡◌, ◌-◌, ◌++◌, map, take, ◌∙◌, subst, arith, take_all}
 use Rattle.std.specs.List.{AllZip}
 use Rattle.fresh.specs.Places.{stretch}
 use Rattle.fresh.proofs.Maps.{one_more, zipped_map}

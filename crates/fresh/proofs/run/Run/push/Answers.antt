@@ -1,6 +1,6 @@
-use Rattle.std.proofs.Common.{◌≡◌, ℕ, ◌+◌, ◌-◌, ◌<◌, ◌≤◌, ◌⊎◌, inl, inr, List, [], ◌∷◌, ◌++◌, length, take, drop, slice_set, Some, ◌^◌, refl, sym, ap, ◌∙◌, arith, length-append}
-use Rattle.fresh.specs.Places.{Stretch, stretch, filled, somes}
-use Rattle.fresh.proofs.Places.{made, take_filled, drop_filled, joined_filled, pushed}
+use Rattle.std.proofs.Common.{◌≡◌, ◌+◌, ◌-◌, ◌<◌, [], ◌∷◌, ◌++◌, length, slice_set, Some, refl, ap, ◌∙◌, arith, length-append}
+use Rattle.fresh.specs.Places.{stretch, somes}
+use Rattle.fresh.proofs.Places.{made, pushed}
 use Rattle.fresh.proofs.run.Run.push.Goals as goal
 
 pub invariant_of-self : goal.invariant_of-self

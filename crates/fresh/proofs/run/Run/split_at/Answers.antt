@@ -1,6 +1,6 @@
-use Rattle.std.proofs.Common.{◌≡◌, ℕ, ◌+◌, ◌-◌, ◌<◌, ◌≤◌, ◌⊎◌, inl, inr, List, [], ◌∷◌, ◌++◌, length, take, drop, slice_set, Some, ◌^◌, refl, sym, ap, ◌∙◌, arith, length-append}
-use Rattle.fresh.specs.Places.{Stretch, stretch, filled, somes}
-use Rattle.fresh.proofs.Places.{made, take_filled, drop_filled, joined_filled, pushed}
+use Rattle.std.proofs.Common.{◌≡◌, ◌+◌, ◌-◌, ◌≤◌, [], length, take, drop, refl, ap, ◌∙◌, arith}
+use Rattle.fresh.specs.Places.{stretch, somes}
+use Rattle.fresh.proofs.Places.{made, take_filled, drop_filled}
 use Rattle.fresh.proofs.run.Run.split_at.Goals as goal
 
 pub invariant_of-result : goal.invariant_of-result

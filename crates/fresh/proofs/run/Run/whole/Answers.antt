@@ -1,6 +1,5 @@
-use Rattle.std.proofs.Common.{rules, ◌≡◌, ℕ, ◌+◌, ◌-◌, ◌<◌, ◌≤◌, List, [], ◌∷◌, ◌++◌, length, replicate, None, ◌^◌, refl, sym, ap, ◌∙◌, arith, length-append}
-use Rattle.fresh.specs.Places.{Stretch, stretch, filled, somes, IsRun}
-use Rattle.fresh.proofs.Places.{made, take_filled, drop_filled, joined_filled, pushed}
+use Rattle.std.proofs.Common.{[], refl, arith}
+use Rattle.fresh.proofs.Places.{made}
 use Rattle.fresh.proofs.run.Run.whole.Goals as goal
 
 pub invariant_of-result : goal.invariant_of-result
