@@ -1,5 +1,5 @@
 -- Two runs of a list, one after another, are one.
-use Rattle.std.proofs.Common.{◌≡◌, ℕ, ◌+◌, ◌-◌, ◌≤◌, List, [], ◌++◌, length, take, drop, sym, ap, ◌∙◌, arith, take-add, drop-drop}
+use Rattle.std.proofs.Common.{◌≡◌, ℕ, zero, suc, ◌+◌, ◌-◌, ◌≤◌, List, [], ◌∷◌, ◌++◌, length, map, take, drop, refl, sym, ap, ◌∙◌, arith, take-add, drop-drop}
 use Rattle.fresh.specs.Places.{Stretch, stretch}
 use Rattle.fresh.specs.Parts.{part}
 
@@ -20,3 +20,17 @@ module _ {X : Type 0} (whole : List X) where
       let empty : front.room + back.room ≡ 0 = λ i. (is_front i).room + (is_back i).room in
       is ∙ (λ i. stretch ((ap (λ s. s.block) is_front ∙ ap (λ s. s.block) is_f) i) ((ap (λ s. s.first) is_front ∙ ap (λ s. s.first) is_f) i)
       (((λ j. items_f j ++ items_b j) ∙ part_both run.first k (run.room - k) ∙ ap (part whole run.first) all) i) (empty i))
+
+-- a run of mapped elements
+pub part_map : {A B : Type 0} (h : A → B) (xs : List A) (first n : ℕ) → map h (part xs first n) ≡ part (map h xs) first n
+part_map h xs first n = taken (drop first xs) n ∙ ap (take n) (dropped xs first)
+  where
+    taken : (ys : List _) (k : ℕ) → map h (take k ys) ≡ take k (map h ys)
+    taken ys zero = refl
+    taken [] (suc k) = refl
+    taken (y ∷ ys) (suc k) = ap (λ l. h y ∷ l) (taken ys k)
+
+    dropped : (ys : List _) (k : ℕ) → map h (drop k ys) ≡ drop k (map h ys)
+    dropped ys zero = refl
+    dropped [] (suc k) = refl
+    dropped (y ∷ ys) (suc k) = dropped ys k

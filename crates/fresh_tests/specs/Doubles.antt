@@ -1,0 +1,5 @@
+-- What the tests write.
+use Rattle.std.specs.Prelude.{ℕ, ◌*◌}
+
+abbrev pub double : ℕ → ℕ
+double n = 2 * n

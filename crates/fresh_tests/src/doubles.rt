@@ -1,0 +1,92 @@
+//! The doubles of numbers, written by several threads, and what may be done with such a vector afterwards.
+
+ghost use Rattle.std.specs.Prelude.{◌≡◌, ◌+◌, ◌≤◌, [], length, map};
+ghost use Rattle.fresh.specs.Parts.{part};
+ghost use Rattle.fresh.specs.Places.{stretch};
+ghost use Rattle.fresh_tests.specs.Doubles.{double};
+
+use cvl_base::{Memory, NoResources};
+use fresh::{Run, Writer, write_in_runs};
+use refusing_memory::withstands_refusals;
+use std::test::Fail;
+use std::thread::Threads;
+
+/// Writes the doubles of numbers.
+#[derive(Drop)]
+struct Doubles<'a> {
+    numbers: &'a [u32],
+}
+
+impl<'a> Writer<u64> for Doubles<'a> {
+    ghost whole = { λ d. map double d.numbers.now };
+
+    fn write(&self, run: Run<u64>) -> Run<u64>
+        requires empty { run.items ≡ [] }
+        requires within { run.first + run.room ≤ length (map double self.now.numbers.now) }
+        ensures { result ≡ stretch run.block run.first (part (map double self.now.numbers.now) run.first run.room) 0 }
+    {
+        let (_, numbers) = self.numbers.split_at(run.first());
+        let (numbers, _) = numbers.split_at(run.len());
+        run.fill_from(
+            numbers,
+            |x: u32| -> u64
+                ensures { result ≡ double x }
+            { 2 * u64::from(x) },
+        )
+    }
+}
+
+/// Whether the first values are the doubles of the numbers.
+fn are_doubles(values: &[u64], numbers: &[u32]) -> bool {
+    values.len() >= numbers.len()
+        && values.iter().zip(numbers).all(|(value, number)| value / 2 == u64::from(*number)
+            && value % 2 == 0)
+}
+
+/// Whether the vector is right, also once it was pushed to, shrunk and cloned.
+fn holds_doubles<R: Threads + Sync, A: Memory>(
+    rt: &R,
+    alloc: A,
+    threads: u32,
+    numbers: &[u32],
+) -> Result<bool, NoResources> {
+    let mut doubles = write_in_runs(rt, alloc, threads, &Doubles { numbers }, numbers.len())?;
+    let as_long = doubles.len() == numbers.len() && doubles.capacity() == numbers.len();
+    doubles.push(1)?;
+    doubles.shrink_to_fit();
+    let copy = doubles.clone()?;
+    Ok(
+        as_long
+            && copy == doubles
+            && copy.len() == numbers.len() + 1
+            && copy.last() == Some(&1)
+            && are_doubles(copy.as_slice(), numbers),
+    )
+}
+
+#[test]
+fn every_length_by_every_number_of_threads(rt: HostRuntime) -> Result<(), Fail> {
+    let numbers: Vec<u32> = (0..40u32).map(|k| k * k + 5).collect(rt.alloc())?;
+    assert_eq!(rt; numbers.len(), 40);
+    for length in 0..=40 {
+        for threads in 1..=8 {
+            let (some, _) = numbers.as_slice().split_at(numbers.len().min(length));
+            assert!(rt; holds_doubles(&rt, rt.alloc(), threads, some) == Ok(true));
+        }
+    }
+    Ok(())
+}
+
+#[test]
+fn each_growth_refused(rt: HostRuntime) -> Result<(), Fail> {
+    let numbers = [3, 1, 4, 1, 5, 9, 2];
+    let requests = withstands_refusals(
+        rt.alloc(),
+        |heap| holds_doubles(&rt, heap, 3, &numbers),
+        Ok(true),
+        Err(NoResources),
+    )?;
+    // the room, the growth for the push, the smaller block and the clone
+    assert_eq!(rt; requests, 4);
+    Ok(())
+}
