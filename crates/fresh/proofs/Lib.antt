@@ -4,3 +4,4 @@ pub mod Halves
 pub mod Maps
 pub mod Memory
 pub mod Places
+pub mod Zips

@@ -1,6 +1,7 @@
 //! Runs written whole: by the numbers of their places, or by the elements of slices.
 ghost use Rattle.std.specs.Prelude.{◌≡◌, ℕ, ◌+◌, ◌-◌, ◌<◌, ◌≤◌, List, ◌++◌, length, map};
 ghost use Rattle.std.specs.List.{AllZip, zip};
+ghost use Rattle.fresh.specs.Parts.{part};
 ghost use Rattle.fresh.specs.Places.{stretch, GoWith};
 
 use crate::run::Run;
@@ -27,6 +28,54 @@ impl<T> Run<T> {
     {
         for x in xs {
             self.push(f(*x));
+        }
+        self
+    }
+
+    /// Writes each empty place by the element of a slice that has its number: `f(xs[place])`.
+    pub fn fill_by<X: Copy, F: Fn(X) -> T + Drop>(self, xs: &[X], f: F) -> Run<T>
+        requires callable { F.IsAlwaysCallable f }
+        requires within { self.first + length self.items + self.room ≤ length xs.now }
+        ensures each { (ys : List T) × AllZip (F.post f) (part xs.now (self.first + length self.items) self.room) ys × (result ≡ stretch self.block self.first (self.items ++ ys) 0) }
+        ensures values { (h : X → T) → ((x : X) (y : T) → F.post f x y → y ≡ h x) → result ≡ stretch self.block self.first (self.items ++ part (map h xs.now) (self.first + length self.items) self.room) 0 }
+    {
+        let (_, xs) = xs.split_at(self.next_place());
+        let (xs, _) = xs.split_at(self.room());
+        self.fill_from(xs, f)
+    }
+
+    /// Writes each empty place by the elements of two slices that have its number: `f(xs[place], ys[place])`.
+    pub fn fill_by_both<X: Copy, Y: Copy, F: Fn(X, Y) -> T + Drop>(
+        self,
+        xs: &[X],
+        ys: &[Y],
+        f: F,
+    ) -> Run<T>
+        requires callable { F.IsAlwaysCallable f }
+        requires in_first { self.first + length self.items + self.room ≤ length xs.now }
+        requires in_second { self.first + length self.items + self.room ≤ length ys.now }
+        ensures { (h : X → Y → T) → ((x : X) (y : Y) (z : T) → F.post f x y z → z ≡ h x y) → result ≡ stretch self.block self.first (self.items ++ part (map (λ p. h p.0 p.1) (zip xs.now ys.now)) (self.first + length self.items) self.room) 0 }
+    {
+        let (_, xs) = xs.split_at(self.next_place());
+        let (xs, _) = xs.split_at(self.room());
+        let (_, ys) = ys.split_at(self.next_place());
+        let (ys, _) = ys.split_at(self.room());
+        self.fill_from_both(xs, ys, f)
+    }
+
+    /// Writes the empty places by the elements of two slices, as many as there are.
+    fn fill_from_both<X: Copy, Y: Copy, F: Fn(X, Y) -> T + Drop>(
+        mut self,
+        xs: &[X],
+        ys: &[Y],
+        f: F,
+    ) -> Run<T>
+        requires callable { F.IsAlwaysCallable f }
+        requires as_long { (length xs.now ≡ self.room) × (length ys.now ≡ self.room) }
+        ensures { (zs : List T) × AllZip (λ p. F.post f p.0 p.1) (zip xs.now ys.now) zs × (result ≡ stretch self.block self.first (self.items ++ zs) 0) }
+    {
+        for k in 0..xs.len() {
+            self.push(f(xs[k], ys[k]));
         }
         self
     }

@@ -25,10 +25,8 @@ impl<'a> Writer<u64> for Doubles<'a> {
         requires within { run.first + run.room ≤ length (map double self.now.numbers.now) }
         ensures { result ≡ stretch run.block run.first (part (map double self.now.numbers.now) run.first run.room) 0 }
     {
-        let (_, numbers) = self.numbers.split_at(run.first());
-        let (numbers, _) = numbers.split_at(run.len());
-        run.fill_from(
-            numbers,
+        run.fill_by(
+            self.numbers,
             |x: u32| -> u64
                 ensures { result ≡ double x }
             { 2 * u64::from(x) },
