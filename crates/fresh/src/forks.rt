@@ -40,6 +40,19 @@ pub fn write_in_runs<T: Send + Drop, R: Threads + Sync, A: Allocator, W: Writer<
     Ok(room.into_vec(write_run(rt, writer, threads, run)))
 }
 
+/// The writer's items as a vector, written by the thread that calls.
+pub fn write_alone<T: Drop, A: Allocator, W: Writer<T>>(
+    alloc: A,
+    writer: &W,
+    items: usize,
+) -> Result<Vec<T, A>, AllocError>
+    requires { items ≡ length (W.whole writer.now) }
+    ensures { IfOk result (λ v. v.items ≡ W.whole writer.now) }
+{
+    let (room, run) = Room::new(alloc, items)?;
+    Ok(room.into_vec(writer.write(run)))
+}
+
 /// Writes a run by at most so many threads.
 #[cycle(halves)]
 fn write_run<T: Send + Drop, R: Threads + Sync, W: Writer<T> + Sync>(

@@ -13,6 +13,6 @@ mod run;
 pub use block::Deed;
 #[doc(hidden)]
 pub use cells::{Base, Cells};
-pub use forks::{Writer, write_in_runs};
+pub use forks::{Writer, write_alone, write_in_runs};
 pub use room::Room;
 pub use run::Run;
