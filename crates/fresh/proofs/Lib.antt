@@ -5,3 +5,4 @@ pub mod Maps
 pub mod Memory
 pub mod Places
 pub mod Zips
+pub mod Written

@@ -25,6 +25,10 @@ module _ {X : Type 0} where
   abbrev pub stretch : Ptr → ℕ → List X → ℕ → Stretch X
   stretch block first items room = record { block = block; first = first; items = items; room = room }
 
+  -- the run after these items were written behind those that it has
+  abbrev pub with_items : Stretch X → List X → Stretch X
+  with_items s xs = stretch s.block s.first (s.items ++ xs) (s.room - length xs)
+
   -- the number of the place after the last
   abbrev pub end : Stretch X → ℕ
   end s = s.first + length s.items + s.room

@@ -2,7 +2,7 @@
 ghost use Rattle.std.specs.Prelude.{◌≡◌, ℕ, ◌+◌, ◌-◌, ◌<◌, ◌≤◌, List, ◌++◌, length, map};
 ghost use Rattle.std.specs.List.{AllZip, zip};
 ghost use Rattle.fresh.specs.Parts.{part};
-ghost use Rattle.fresh.specs.Places.{stretch, GoWith};
+ghost use Rattle.fresh.specs.Places.{stretch, with_items, GoWith};
 
 use crate::run::Run;
 
@@ -76,6 +76,19 @@ impl<T> Run<T> {
     {
         for k in 0..xs.len() {
             self.push(f(xs[k], ys[k]));
+        }
+        self
+    }
+}
+
+impl<T: Copy> Run<T> {
+    /// Writes the next places by the elements of a slice, which has at most as many as there is room for.
+    pub fn extend_from_slice(mut self, items: &[T]) -> Run<T>
+        requires { length items.now ≤ self.room }
+        ensures { result ≡ with_items self items.now }
+    {
+        for item in items {
+            self.push(*item);
         }
         self
     }

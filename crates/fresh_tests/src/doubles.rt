@@ -75,6 +75,19 @@ fn every_length_by_every_number_of_threads(rt: HostRuntime) -> Result<(), Fail> 
     Ok(())
 }
 
+/// The lengths about that from which on threads share a vector.
+#[test]
+fn about_shared_lengths(rt: HostRuntime) -> Result<(), Fail> {
+    let numbers: Vec<u32> = (0..262_145u32).map(|k| k % 1_000).collect(rt.alloc())?;
+    for length in [262_143, 262_144, 262_145] {
+        for threads in 1..=8 {
+            let (some, _) = numbers.as_slice().split_at(numbers.len().min(length));
+            assert!(rt; holds_doubles(&rt, rt.alloc(), threads, some) == Ok(true));
+        }
+    }
+    Ok(())
+}
+
 #[test]
 fn each_growth_refused(rt: HostRuntime) -> Result<(), Fail> {
     let numbers = [3, 1, 4, 1, 5, 9, 2];

@@ -1,0 +1,6 @@
+use Rattle.std.proofs.Common.{◌≡◌, take}
+use Rattle.fresh.specs.Places.{with_items}
+use Rattle.fresh.proofs.run.Run.extend_from_slice.Given as goal
+
+abbrev pub invariant-loop-item : goal.invariant-loop-item
+invariant-loop-item g l = l.self ≡ with_items l.fn.self (take l.item-index l.items)
