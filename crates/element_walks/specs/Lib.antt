@@ -1,4 +1,3 @@
 pub use Rattle.cvl_base.specs.Elementwise
 pub use Rattle.cvl_base.specs.Gives
 pub use Rattle.cvl_base.specs.Limits
-pub mod Standing

@@ -1,28 +1,45 @@
-//! The choice between two elements by a flag, and the walk over parts of vectors by it.
+//! The choice between two elements by a flag, and the vector of the chosen ones.
 
-ghost use Rattle.std.specs.Prelude.{◌≡◌, ◌+◌, ◌≤◌, length, map};
+ghost use Rattle.std.specs.Prelude.{◌≡◌, ◌+◌, ◌≤◌, ◌<◌, [], length, map, slice_index_or};
 ghost use Rattle.std.specs.List.{zip};
 ghost use Rattle.cvl_base.specs.Elementwise.{chosen};
-ghost use Rattle.element_walks.specs.Standing.{StandFrom};
+ghost use Rattle.fresh.specs.Parts.{part};
+ghost use Rattle.fresh.specs.Places.{stretch};
 
-/// Writes the chosen elements from place `start` on, as many as `values` is long.
-pub fn write_chosen<T: Copy>(flags: &[bool], a: &[T], b: &[T], start: usize, values: &mut [T])
-    requires in_flags { start + length values.old ≤ length flags.now }
-    requires in_a { start + length values.old ≤ length a.now }
-    requires in_b { start + length values.old ≤ length b.now }
-    ensures { StandFrom (map (λ p. chosen p.0 p.1) (zip flags.now (zip a.now b.now))) start (length values.old) values.new }
-{
-    let (_, tests) = flags.split_at(start);
-    let (_, xs) = a.split_at(start);
-    let (_, ys) = b.split_at(start);
-    for k in 0..values.len() {
-        values[k] = choose(tests[k], xs[k], ys[k]);
+use fresh::{Run, Writer};
+
+/// Writes at each place the element of the first vector where the flag is true, else that of the second.
+#[derive(Drop)]
+pub struct Chosen<'a, T> {
+    /// Whether the element at a place is that of the first vector.
+    pub flags: &'a [bool],
+    /// The elements where the flag is true.
+    pub first: &'a [T],
+    /// The elements where it is false.
+    pub second: &'a [T],
+}
+
+impl<'a, T: Copy> Writer<T> for Chosen<'a, T> {
+    ghost whole = { λ w. map (λ p. chosen p.0 p.1) (zip w.flags.now (zip w.first.now w.second.now)) };
+
+    fn write(&self, run: Run<T>) -> Run<T>
+        requires empty { run.items ≡ [] }
+        requires within { run.first + run.room ≤ length (map (λ p. chosen p.0 p.1) (zip self.now.flags.now (zip self.now.first.now self.now.second.now))) }
+        ensures { result ≡ stretch run.block run.first (part (map (λ p. chosen p.0 p.1) (zip self.now.flags.now (zip self.now.first.now self.now.second.now))) run.first run.room) 0 }
+    {
+        let (flags, xs, ys) = (self.flags, self.first, self.second);
+        run.fill(
+            move |place: usize| -> T
+                requires { (place < length flags.now) × (place < length xs.now) × (place < length ys.now) }
+                ensures { (z : T) → result ≡ slice_index_or (map (λ p. chosen p.0 p.1) (zip flags.entry.now (zip xs.entry.now ys.entry.now))) place z }
+            { choose(flags[place], xs[place], ys[place]) },
+        )
     }
 }
 
 /// `a` where the flag is true, else `b`.
 #[inline]
-pub fn choose<T: Copy>(flag: bool, a: T, b: T) -> T
+fn choose<T: Copy>(flag: bool, a: T, b: T) -> T
     ensures { result ≡ chosen flag (a, b) }
 {
     if flag { a } else { b }

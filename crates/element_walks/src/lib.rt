@@ -1,13 +1,15 @@
-//! Walks over vectors place by place, on one thread: by an operator on one element, on two, or on two where some pairs
-//! have no value, and by a choice.
+//! Writers of vectors place by place: by an operator on one element or on two, by a choice, and of plain copies. And the
+//! walk of one thread by an operator on two elements that has no value on some pairs.
 #![tactic(auto)]
 
 pub mod choice;
+pub mod copies;
 pub mod on_each;
 pub mod on_pairs;
 pub mod on_pairs_or;
 
-pub use choice::{choose, write_chosen};
-pub use on_each::{Single, write_each};
-pub use on_pairs::{Binary, write_values};
+pub use choice::Chosen;
+pub use copies::Copied;
+pub use on_each::{OnEach, Single};
+pub use on_pairs::{Binary, OnPairs};
 pub use on_pairs_or::{PartialBinary, values_on_pairs_or};

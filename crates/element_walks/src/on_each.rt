@@ -1,7 +1,11 @@
-//! An operator on one element, and the walk over a part of a vector by it.
+//! An operator on one element, and the vector of its values.
 
-ghost use Rattle.std.specs.Prelude.{◌≡◌, ◌+◌, ◌≤◌, length, map};
-ghost use Rattle.element_walks.specs.Standing.{StandFrom};
+ghost use Rattle.std.specs.Prelude.{◌≡◌, ◌+◌, ◌≤◌, [], length, map};
+ghost use Rattle.fresh.specs.Parts.{part};
+ghost use Rattle.fresh.specs.Places.{stretch};
+
+use fresh::{Run, Writer};
+use std::marker::PhantomData;
 
 /// An operator on one element.
 pub trait Single<X, Z> {
@@ -11,13 +15,39 @@ pub trait Single<X, Z> {
         ensures { result ≡ value a };
 }
 
-/// Writes the values on the elements from place `start` on, as many as `values` is long.
-pub fn write_each<O: Single<X, Z>, X: Copy, Z: Copy>(a: &[X], start: usize, values: &mut [Z])
-    requires in_a { start + length values.old ≤ length a.now }
-    ensures { StandFrom (map O.value a.now) start (length values.old) values.new }
-{
-    let (_, xs) = a.split_at(start);
-    for k in 0..values.len() {
-        values[k] = O::apply(xs[k]);
+/// Writes an operator's values on the elements of a vector.
+#[derive(Drop)]
+pub struct OnEach<'a, O, X> {
+    /// The elements.
+    pub elements: &'a [X],
+    operator: PhantomData<O>,
+}
+
+impl<'a, O, X> OnEach<'a, O, X> {
+    /// The writer of the values on these elements.
+    pub fn new(elements: &'a [X]) -> OnEach<'a, O, X>
+        ensures { result.elements.now ≡ elements.now }
+    {
+        OnEach {
+            elements,
+            operator: PhantomData,
+        }
+    }
+}
+
+impl<'a, O: Single<X, Z>, X: Copy, Z> Writer<Z> for OnEach<'a, O, X> {
+    ghost whole = { λ w. map O.value w.elements.now };
+
+    fn write(&self, run: Run<Z>) -> Run<Z>
+        requires empty { run.items ≡ [] }
+        requires within { run.first + run.room ≤ length (map O.value self.now.elements.now) }
+        ensures { result ≡ stretch run.block run.first (part (map O.value self.now.elements.now) run.first run.room) 0 }
+    {
+        run.fill_by(
+            self.elements,
+            |x: X| -> Z
+                ensures { result ≡ O.value x }
+            { O::apply(x) },
+        )
     }
 }

@@ -1,8 +1,12 @@
-//! An operator with a value on each two elements, and the walk over parts of two vectors by it.
+//! An operator with a value on each two elements, and the vector of its values.
 
-ghost use Rattle.std.specs.Prelude.{◌≡◌, ◌+◌, ◌≤◌, length, map};
+ghost use Rattle.std.specs.Prelude.{◌≡◌, ◌+◌, ◌≤◌, [], length, map};
 ghost use Rattle.std.specs.List.{zip};
-ghost use Rattle.element_walks.specs.Standing.{StandFrom};
+ghost use Rattle.fresh.specs.Parts.{part};
+ghost use Rattle.fresh.specs.Places.{stretch};
+
+use fresh::{Run, Writer};
+use std::marker::PhantomData;
 
 /// An operator with a value on each two elements.
 pub trait Binary<X, Z> {
@@ -12,20 +16,44 @@ pub trait Binary<X, Z> {
         ensures { result ≡ value a b };
 }
 
-/// Writes the values on the pairs from place `start` on, as many as `values` is long.
-pub fn write_values<O: Binary<X, Z>, X: Copy, Z: Copy>(
-    a: &[X],
-    b: &[X],
-    start: usize,
-    values: &mut [Z],
-)
-    requires in_a { start + length values.old ≤ length a.now }
-    requires in_b { start + length values.old ≤ length b.now }
-    ensures { StandFrom (map (λ p. O.value p.0 p.1) (zip a.now b.now)) start (length values.old) values.new }
-{
-    let (_, xs) = a.split_at(start);
-    let (_, ys) = b.split_at(start);
-    for k in 0..values.len() {
-        values[k] = O::apply(xs[k], ys[k]);
+/// Writes an operator's values on the pairs of elements of two vectors.
+#[derive(Drop)]
+pub struct OnPairs<'a, O, X> {
+    /// The elements that the operator takes first.
+    pub first: &'a [X],
+    /// Those that it takes second.
+    pub second: &'a [X],
+    operator: PhantomData<O>,
+}
+
+impl<'a, O, X> OnPairs<'a, O, X> {
+    /// The writer of the values on the elements at the same places.
+    pub fn new(first: &'a [X], second: &'a [X]) -> OnPairs<'a, O, X>
+        ensures first { result.first.now ≡ first.now }
+        ensures second { result.second.now ≡ second.now }
+    {
+        OnPairs {
+            first,
+            second,
+            operator: PhantomData,
+        }
+    }
+}
+
+impl<'a, O: Binary<X, Z>, X: Copy, Z> Writer<Z> for OnPairs<'a, O, X> {
+    ghost whole = { λ w. map (λ p. O.value p.0 p.1) (zip w.first.now w.second.now) };
+
+    fn write(&self, run: Run<Z>) -> Run<Z>
+        requires empty { run.items ≡ [] }
+        requires within { run.first + run.room ≤ length (map (λ p. O.value p.0 p.1) (zip self.now.first.now self.now.second.now)) }
+        ensures { result ≡ stretch run.block run.first (part (map (λ p. O.value p.0 p.1) (zip self.now.first.now self.now.second.now)) run.first run.room) 0 }
+    {
+        run.fill_by_both(
+            self.first,
+            self.second,
+            |x: X, y: X| -> Z
+                ensures { result ≡ O.value x y }
+            { O::apply(x, y) },
+        )
     }
 }

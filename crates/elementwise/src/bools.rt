@@ -4,13 +4,12 @@ ghost use Rattle.std.specs.Prelude.{◌≡◌, IfOk, length, vec_len};
 ghost use Rattle.cvl_base.specs.Elementwise.{bools_from_ints, bools1_of, bools2_of, compare_of};
 ghost use Rattle.cvl_base.specs.Gives.{Gives};
 
-use crate::chunks::{FORKED, FORKED_BOOLEANS};
 use crate::comparisons::{AtLeast, AtMost, Equal, Greater, Less, Unequal};
+use crate::copies::copied;
 use crate::on_each::values_on_each;
 use crate::on_pairs::values_on_pairs;
 use crate::singles::{BoolOfInt, NotBool};
 use crate::truths::{Both, Differ, Either};
-use crate::two_parts::values_in_two_parts;
 use cvl_base::{BoolBinary, Comparison, Config, Memory, NoResources, Refused, Unary};
 use std::thread::Threads;
 
@@ -30,12 +29,12 @@ pub fn compare<R: Threads + Sync, A: Memory>(
     ensures as_long { IfOk result (λ v. vec_len v ≡ length a.now) }
 {
     match op {
-        Comparison::Greater => values_on_pairs::<Greater, i32, bool, R, A>(rt, alloc, FORKED, a, b),
-        Comparison::Less => values_on_pairs::<Less, i32, bool, R, A>(rt, alloc, FORKED, a, b),
-        Comparison::AtLeast => values_on_pairs::<AtLeast, i32, bool, R, A>(rt, alloc, FORKED, a, b),
-        Comparison::AtMost => values_on_pairs::<AtMost, i32, bool, R, A>(rt, alloc, FORKED, a, b),
-        Comparison::Equal => values_on_pairs::<Equal, i32, bool, R, A>(rt, alloc, FORKED, a, b),
-        Comparison::Unequal => values_on_pairs::<Unequal, i32, bool, R, A>(rt, alloc, FORKED, a, b),
+        Comparison::Greater => values_on_pairs::<Greater, i32, bool, R, A>(rt, alloc, a, b),
+        Comparison::Less => values_on_pairs::<Less, i32, bool, R, A>(rt, alloc, a, b),
+        Comparison::AtLeast => values_on_pairs::<AtLeast, i32, bool, R, A>(rt, alloc, a, b),
+        Comparison::AtMost => values_on_pairs::<AtMost, i32, bool, R, A>(rt, alloc, a, b),
+        Comparison::Equal => values_on_pairs::<Equal, i32, bool, R, A>(rt, alloc, a, b),
+        Comparison::Unequal => values_on_pairs::<Unequal, i32, bool, R, A>(rt, alloc, a, b),
     }
 }
 
@@ -55,34 +54,16 @@ pub fn bool2<R: Threads + Sync, A: Memory>(
     ensures as_long { IfOk result (λ v. vec_len v ≡ length a.now) }
 {
     match op {
-        BoolBinary::And => values_on_pairs::<Both, bool, bool, R, A>(
-            rt,
-            alloc,
-            FORKED_BOOLEANS,
-            a,
-            b,
-        ),
-        BoolBinary::Ior => values_on_pairs::<Either, bool, bool, R, A>(
-            rt,
-            alloc,
-            FORKED_BOOLEANS,
-            a,
-            b,
-        ),
-        BoolBinary::Xor => values_on_pairs::<Differ, bool, bool, R, A>(
-            rt,
-            alloc,
-            FORKED_BOOLEANS,
-            a,
-            b,
-        ),
+        BoolBinary::And => values_on_pairs::<Both, bool, bool, R, A>(rt, alloc, a, b),
+        BoolBinary::Ior => values_on_pairs::<Either, bool, bool, R, A>(rt, alloc, a, b),
+        BoolBinary::Xor => values_on_pairs::<Differ, bool, bool, R, A>(rt, alloc, a, b),
     }
 }
 
 /// The operator on each boolean: `not_wub` and `cpy_wub`.
 ///
-/// The result is as long as `a`. There is no fault. Long vectors, but for a copy, are shared among threads by `rayon`,
-/// whatever the number of workers. Source: CVL's elementwise calls.
+/// The result is as long as `a`. There is no fault. Long vectors are shared among threads by `rayon`, whatever the number
+/// of workers. Source: CVL's elementwise calls.
 pub fn bool1<R: Threads + Sync, A: Memory>(
     rt: &R,
     alloc: A,
@@ -94,8 +75,8 @@ pub fn bool1<R: Threads + Sync, A: Memory>(
     ensures as_long { IfOk result (λ v. vec_len v ≡ length a.now) }
 {
     match op {
-        Unary::Not => values_in_two_parts::<NotBool, bool, bool, R, A>(rt, alloc, a),
-        Unary::Copy => Ok(Vec::from_slice(alloc, a)?),
+        Unary::Not => values_on_each::<NotBool, bool, bool, R, A>(rt, alloc, a),
+        Unary::Copy => copied(rt, alloc, a),
     }
 }
 

@@ -5,12 +5,12 @@ ghost use Rattle.cvl_base.specs.Elementwise.{ints_from_bools, ints1_of, ints2_of
 ghost use Rattle.cvl_base.specs.Gives.{Gives};
 ghost use Rattle.cvl_base.specs.Limits.{most_elements};
 
-use crate::chunks::FORKED;
+use crate::copies::copied;
+use crate::on_each::values_on_each;
 use crate::on_pairs::values_on_pairs;
 use crate::partials::{Div, Lsh, Mod, Rsh};
 use crate::singles::{IntOfBool, NotInt};
 use crate::totals::{Add, And, Ior, Max, Min, Mul, Sub, Xor};
-use crate::two_parts::values_in_two_parts;
 use cvl_base::{Config, IntBinary, Memory, NoResources, Refused, Unary, check_agree};
 use element_walks::{PartialBinary, values_on_pairs_or};
 use std::thread::Threads;
@@ -34,18 +34,18 @@ pub fn int2<R: Threads + Sync, A: Memory>(
     ensures as_long { IfOk result (λ v. vec_len v ≡ length a.now) }
 {
     match op {
-        IntBinary::Add => values_on_pairs::<Add, i32, i32, R, A>(rt, alloc, FORKED, a, b),
-        IntBinary::Sub => values_on_pairs::<Sub, i32, i32, R, A>(rt, alloc, FORKED, a, b),
-        IntBinary::Mul => values_on_pairs::<Mul, i32, i32, R, A>(rt, alloc, FORKED, a, b),
+        IntBinary::Add => values_on_pairs::<Add, i32, i32, R, A>(rt, alloc, a, b),
+        IntBinary::Sub => values_on_pairs::<Sub, i32, i32, R, A>(rt, alloc, a, b),
+        IntBinary::Mul => values_on_pairs::<Mul, i32, i32, R, A>(rt, alloc, a, b),
         IntBinary::Div => values_or_fault::<Div, A>(alloc, a, b),
         IntBinary::Mod => values_or_fault::<Mod, A>(alloc, a, b),
-        IntBinary::Min => values_on_pairs::<Min, i32, i32, R, A>(rt, alloc, FORKED, a, b),
-        IntBinary::Max => values_on_pairs::<Max, i32, i32, R, A>(rt, alloc, FORKED, a, b),
+        IntBinary::Min => values_on_pairs::<Min, i32, i32, R, A>(rt, alloc, a, b),
+        IntBinary::Max => values_on_pairs::<Max, i32, i32, R, A>(rt, alloc, a, b),
         IntBinary::Lsh => values_or_fault::<Lsh, A>(alloc, a, b),
         IntBinary::Rsh => values_or_fault::<Rsh, A>(alloc, a, b),
-        IntBinary::And => values_on_pairs::<And, i32, i32, R, A>(rt, alloc, FORKED, a, b),
-        IntBinary::Ior => values_on_pairs::<Ior, i32, i32, R, A>(rt, alloc, FORKED, a, b),
-        IntBinary::Xor => values_on_pairs::<Xor, i32, i32, R, A>(rt, alloc, FORKED, a, b),
+        IntBinary::And => values_on_pairs::<And, i32, i32, R, A>(rt, alloc, a, b),
+        IntBinary::Ior => values_on_pairs::<Ior, i32, i32, R, A>(rt, alloc, a, b),
+        IntBinary::Xor => values_on_pairs::<Xor, i32, i32, R, A>(rt, alloc, a, b),
     }
 }
 
@@ -66,8 +66,8 @@ fn values_or_fault<O: PartialBinary, A: Memory>(
 
 /// The operator on each element: `not_wuz` and `cpy_wuz`.
 ///
-/// The result is as long as `a`. There is no fault. Long vectors, but for a copy, are shared among threads by `rayon`,
-/// whatever the number of workers. Source: CVL's elementwise calls.
+/// The result is as long as `a`. There is no fault. Long vectors are shared among threads by `rayon`, whatever the number
+/// of workers. Source: CVL's elementwise calls.
 pub fn int1<R: Threads + Sync, A: Memory>(
     rt: &R,
     alloc: A,
@@ -79,8 +79,8 @@ pub fn int1<R: Threads + Sync, A: Memory>(
     ensures as_long { IfOk result (λ v. vec_len v ≡ length a.now) }
 {
     match op {
-        Unary::Not => values_in_two_parts::<NotInt, i32, i32, R, A>(rt, alloc, a),
-        Unary::Copy => Ok(Vec::from_slice(alloc, a)?),
+        Unary::Not => values_on_each::<NotInt, i32, i32, R, A>(rt, alloc, a),
+        Unary::Copy => copied(rt, alloc, a),
     }
 }
 
@@ -97,5 +97,5 @@ pub fn int_from_bool<R: Threads + Sync, A: Memory>(
     ensures values { IfOk result (λ v. v.items ≡ ints_from_bools a.now) }
     ensures as_long { IfOk result (λ v. vec_len v ≡ length a.now) }
 {
-    values_in_two_parts::<IntOfBool, bool, i32, R, A>(rt, alloc, a)
+    values_on_each::<IntOfBool, bool, i32, R, A>(rt, alloc, a)
 }

@@ -1,22 +1,23 @@
 //! Elementwise calls: each element of the result is an operator on the elements at its place.
 //!
 //! Long vectors are shared among threads by `rayon`, which takes as many threads as the machine has processors. The number
-//! of workers of a configuration governs crews alone, so that these calls fork with one worker too. Quotients, remainders,
-//! shifts and plain copies are one thread's.
+//! of workers of a configuration governs crews alone, so that these calls fork with one worker too. Quotients, remainders
+//! and shifts are one thread's.
 #![tactic(auto)]
 
 mod bools;
 mod choice;
-mod chunks;
 mod comparisons;
+mod copies;
 mod ints;
 mod on_each;
 mod on_pairs;
 mod partials;
+mod runs;
+mod shared;
 mod singles;
 mod totals;
 mod truths;
-mod two_parts;
 
 pub use bools::{bool_from_int, bool1, bool2, compare};
 pub use choice::select;
