@@ -27,22 +27,22 @@ module _ {Seat : Type 0} (IsSeat : Seat → Type 0) (given : Seat → List ℕ) 
   }
 
 module _ {Seat Item P : Type 0} (count : ℕ) (items : ℕ → List Item) (IsSeat : Seat → Type 0) (HasFact : Seat → ℕ → Type 0)
-    (given : Seat → List ℕ) (is_done : Seat → Bool) (view : P → ℕ × List Item) where
+    (given : Seat → List ℕ) (is_done : Seat → Bool) (with_pieces : Bool) (view : P → ℕ × List Item) where
   -- the seats and the pieces of both, one list after the other
   abbrev pub Ends : ℕ → List Seat → List P → Type 0
-  Ends workers seats pieces = IsCrewed count items IsSeat HasFact given is_done workers seats (map view pieces)
+  Ends workers seats pieces = IsCrewed count items IsSeat HasFact given is_done workers with_pieces seats (map view pieces)
 
   -- the one worker of a crew, whose seat is as it was left
   pub one_ends : (workers : ℕ) (seats : List Seat) (seat : Seat) (pieces : List P) → length seats ≡ workers → workers ≡ 1
       → IsSeat seat → IsTrue (is_done seat) → HasFacts HasFact given seat
-      → ArePiecesOf count items (λ t. times t (given seat)) (map view pieces) → Ends workers (set seats 0 seat) pieces
+      → (IsTrue with_pieces → ArePiecesOf count items (λ t. times t (given seat)) (map view pieces)) → Ends workers (set seats 0 seat) pieces
   one_ends workers [] seat pieces long one here done facts made = absurd (omega arith)
   one_ends workers (old ∷ []) seat pieces long one here done facts made = record {
     as_many = long;
     of_board = All-cons IsSeat seat [] here (All-nil IsSeat);
     done = All-cons (λ s. IsTrue (is_done s)) seat [] done (All-nil (λ s. IsTrue (is_done s)));
     facts = All-cons (HasFacts HasFact given) seat [] facts (All-nil (HasFacts HasFact given));
-    of_tiles = given_as count items _ _ (map view pieces) (λ t. omega arith) made;
+    of_tiles = λ kept. given_as count items _ _ (map view pieces) (λ t. omega arith) (made kept);
   }
   one_ends workers (old ∷ other ∷ seats) seat pieces long one here done facts made = absurd (omega arith)
 
@@ -52,7 +52,7 @@ module _ {Seat Item P : Type 0} (count : ℕ) (items : ℕ → List Item) (IsSea
     of_board = All-append IsSeat front back first.of_board second.of_board;
     done = All-append (λ seat. IsTrue (is_done seat)) front back first.done second.done;
     facts = All-append (HasFacts HasFact given) front back first.facts second.facts;
-    of_tiles = of_both count items view given xs ys front back first.of_tiles second.of_tiles;
+    of_tiles = λ kept. of_both count items view given xs ys front back (first.of_tiles kept) (second.of_tiles kept);
   }
 
   pub crewed_both : {C E : Type 0} (result : Result C E) (seats_of : C → List Seat) (pieces_of : C → List P)

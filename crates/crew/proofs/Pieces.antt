@@ -1,6 +1,6 @@
 -- How the pieces of tiles come together: one by one, and those of two crews.
 -- Source: what the definitions of Pieces imply.
-use Rattle.std.proofs.Common.{◌≡◌, refl, sym, ◌∙◌, subst, ℕ, ◌+◌, ◌<◌, cond, eqb, List, [], ◌∷◌, ◌++◌, map, arith}
+use Rattle.std.proofs.Common.{◌≡◌, refl, sym, ap, ◌∙◌, subst, ℕ, ◌+◌, ◌<◌, cond, eqb, List, [], ◌∷◌, ◌++◌, map, arith}
 use Rattle.std.proofs.lemmas.List.{map-append}
 use Rattle.std.proofs.lemmas.List.Elements.{All-nil, All-cons, All-append}
 use Rattle.std.proofs.lemmas.List.Sums.{sum_by-append}
@@ -30,16 +30,15 @@ module _ {Item : Type 0} (count : ℕ) (items : ℕ → List Item) where
   pub no_pieces : ArePiecesOf count items (λ t. times t []) []
   no_pieces = record { one_each = λ t. refl; of_work = All-nil (λ p. p.0 < count); as_meant = All-nil (λ p. p.1 ≡ items p.0) }
 
-  module _ {P : Type 0} (view : P → ℕ × List Item) where
-    -- one tile more, and its piece
-    pub one_more : (given : List ℕ) (piece : P) (ps : List P) → (view piece).0 < count → (view piece).1 ≡ items (view piece).0
-        → ArePiecesOf count items (λ t. times t given) (map view ps) → ArePiecesOf count items (λ t. times t ((view piece).0 ∷ given)) (map view (ps ++ piece ∷ []))
-    one_more given piece ps below same pieces =
-        let t = (view piece).0 in
-        let all = both_pieces (λ k. times k given) (λ k. cond (eqb t k) 1 0) (map view ps) (view piece ∷ []) pieces (one_piece t (view piece).1 below same) in
-        subst (ArePiecesOf count items (λ k. times k (t ∷ given))) (sym (map-append view ps (piece ∷ [])))
-        (given_as (λ k. times k given + cond (eqb t k) 1 0) (λ k. times k (t ∷ given)) (map view ps ++ view piece ∷ []) (λ k. omega arith) all)
+  -- one tile more, and its piece
+  pub one_more : (given after : List ℕ) (t : ℕ) (made : List Item) (ps all : List (ℕ × List Item)) → after ≡ t ∷ given → t < count → made ≡ items t → all ≡ ps ++ (t, made) ∷ []
+      → ArePiecesOf count items (λ k. times k given) ps → ArePiecesOf count items (λ k. times k after) all
+  one_more given after t made ps all more below same is_all pieces =
+      let both = both_pieces (λ k. times k given) (λ k. cond (eqb t k) 1 0) ps ((t, made) ∷ []) pieces (one_piece t made below same) in
+      subst (ArePiecesOf count items (λ k. times k after)) (sym is_all)
+      (given_as (λ k. times k given + cond (eqb t k) 1 0) (λ k. times k after) (ps ++ (t, made) ∷ []) (λ k. let is : times k after ≡ times k (t ∷ given) = ap (times k) more in omega arith) both)
 
+  module _ {P : Type 0} (view : P → ℕ × List Item) where
     -- the pieces of two crews are those of the seats of both
     pub of_both : {Seat : Type 0} (given : Seat → List ℕ) (xs ys : List P) (front back : List Seat)
         → ArePiecesOf count items (given_to given front) (map view xs) → ArePiecesOf count items (given_to given back) (map view ys)

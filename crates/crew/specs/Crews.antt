@@ -12,12 +12,12 @@ pub record AreNewSeats {Seat : Type 0} (IsSeat : Seat → Type 0) (given : Seat 
   pub fresh : All (λ seat. given seat ≡ []) seats
 
 -- as many seats of that board as there were workers, each of which was told that no tile is left and has the facts of the tiles given to
--- it, and the pieces of these tiles
+-- it, and the pieces of these tiles where they are kept
 pub record IsCrewed {Seat Item : Type 0} (count : ℕ) (items : ℕ → List Item)
     (IsSeat : Seat → Type 0) (HasFact : Seat → ℕ → Type 0) (given : Seat → List ℕ) (is_done : Seat → Bool)
-    (workers : ℕ) (seats : List Seat) (pieces : List (ℕ × List Item)) : Type 0 where
+    (workers : ℕ) (with_pieces : Bool) (seats : List Seat) (pieces : List (ℕ × List Item)) : Type 0 where
   pub as_many : length seats ≡ workers
   pub of_board : All IsSeat seats
   pub done : All (λ seat. IsTrue (is_done seat)) seats
   pub facts : All (HasFacts HasFact given) seats
-  pub of_tiles : ArePiecesOf count items (given_to given seats) pieces
+  pub of_tiles : IsTrue with_pieces → ArePiecesOf count items (given_to given seats) pieces

@@ -9,5 +9,5 @@ mod worker;
 
 pub use gate::{Gate, OpenGate, Point};
 pub use laws::pieces_law;
-pub use together::{Crewed, run_crew};
+pub use together::{Crewed, run_crew, run_crew_for_facts};
 pub use work::Work;

@@ -52,10 +52,32 @@ pub fn run_crew<R: Threads + Sync, A: Memory, W: Work, G: Gate>(
         (given_to W.given crewed.seats.items)
         (map (λ p. (p.tile, p.items.items)) crewed.pieces.items)) }
 {
-    run_from(rt, alloc, work, 0, seats, gate)
+    run_from(rt, alloc, work, 0, seats, true, gate)
 }
 
-/// `run_crew` for the workers from number `first` on.
+/// The same as [`run_crew`] for a work that is done for the facts of its tiles: what a tile is made into is let go, so that
+/// no tile keeps memory. It answers the seats.
+pub fn run_crew_for_facts<R: Threads + Sync, A: Memory, W: Work, G: Gate>(
+    rt: &R,
+    alloc: A,
+    work: &W,
+    seats: Vec<W::Seat, A>,
+    gate: &G,
+) -> Result<Vec<W::Seat, A>, NoResources>
+    requires some { 1 ≤ vec_len seats }
+    requires at_most { vec_len seats ≤ most_workers }
+    requires of_board { All (λ seat. W.IsSeat work.now seat) seats.items }
+    requires fresh { All (λ seat. W.given seat ≡ []) seats.items }
+    ensures as_many { IfOk result (λ left. vec_len left ≡ vec_len seats) }
+    ensures of_board { IfOk result (λ left. All (λ seat. W.IsSeat work.now seat) left.items) }
+    ensures done { IfOk result (λ left. All (λ seat. IsTrue (W.is_done seat)) left.items) }
+    ensures facts { IfOk result (λ left. All (HasFacts (W.HasFact work.now) W.given) left.items) }
+{
+    let crewed = run_from(rt, alloc, work, 0, seats, false, gate)?;
+    Ok(crewed.seats)
+}
+
+/// `run_crew` for the workers from number `first` on, with the pieces of their tiles or without.
 #[cycle(crew)]
 fn run_from<R: Threads + Sync, A: Memory, W: Work, G: Gate>(
     rt: &R,
@@ -63,20 +85,21 @@ fn run_from<R: Threads + Sync, A: Memory, W: Work, G: Gate>(
     work: &W,
     first: u32,
     mut seats: Vec<W::Seat, A>,
+    with_pieces: bool,
     gate: &G,
 ) -> Result<Crewed<W, A>, NoResources>
     requires at_most { first + vec_len seats ≤ most_workers }
     requires seats { AreNewSeats (W.IsSeat work.now) W.given seats.items }
     ensures { IfOk result (λ c. IsCrewed (W.count work.now) (W.items work.now)
         (W.IsSeat work.now) (W.HasFact work.now) W.given W.is_done
-        (vec_len seats) c.seats.items (map (λ p. (p.tile, p.items.items)) c.pieces.items)) }
+        (vec_len seats) with_pieces c.seats.items (map (λ p. (p.tile, p.items.items)) c.pieces.items)) }
 {
     if seats.len() == 1 {
-        let pieces = take_tiles(alloc, work, first, &mut seats[0], gate)?;
+        let pieces = take_tiles(alloc, work, first, &mut seats[0], with_pieces, gate)?;
         return Ok(Crewed { pieces, seats });
     }
     let others = seats.split_off(seats.len() / 2)?;
-    run_both(rt, alloc, work, first, seats, others, gate)
+    run_both(rt, alloc, work, first, seats, others, with_pieces, gate)
 }
 
 /// `run_crew` for two lists of seats, each in a thread of its own, the workers numbered from `first` on.
@@ -88,6 +111,7 @@ fn run_both<R: Threads + Sync, A: Memory, W: Work, G: Gate>(
     first: u32,
     seats: Vec<W::Seat, A>,
     others: Vec<W::Seat, A>,
+    with_pieces: bool,
     gate: &G,
 ) -> Result<Crewed<W, A>, NoResources>
     requires at_most { first + vec_len seats + vec_len others ≤ most_workers }
@@ -95,7 +119,7 @@ fn run_both<R: Threads + Sync, A: Memory, W: Work, G: Gate>(
     requires others { AreNewSeats (W.IsSeat work.now) W.given others.items }
     ensures { IfOk result (λ c. IsCrewed (W.count work.now) (W.items work.now)
         (W.IsSeat work.now) (W.HasFact work.now) W.given W.is_done
-        (vec_len seats + vec_len others) c.seats.items (map (λ p. (p.tile, p.items.items)) c.pieces.items)) }
+        (vec_len seats + vec_len others) with_pieces c.seats.items (map (λ p. (p.tile, p.items.items)) c.pieces.items)) }
 {
     let next = first + seats.len() as u32;
     // a thread's closure must capture each type that its result names
@@ -106,10 +130,10 @@ fn run_both<R: Threads + Sync, A: Memory, W: Work, G: Gate>(
             × (first + vec_len seats ≤ most_workers) × AreNewSeats (W.IsSeat work.now) W.given seats.items }
         ensures { IfOk result (λ c. IsCrewed (W.count work.entry.now) (W.items work.entry.now)
             (W.IsSeat work.entry.now) (W.HasFact work.entry.now) W.given W.is_done
-            (vec_len seats) c.seats.items (map (λ p. (p.tile, p.items.items)) c.pieces.items)) }
+            (vec_len seats) with_pieces c.seats.items (map (λ p. (p.tile, p.items.items)) c.pieces.items)) }
     {
         let _named = item;
-        run_from(rt, alloc, work, first, seats, gate)
+        run_from(rt, alloc, work, first, seats, with_pieces, gate)
     };
     let back = move || -> Result<Crewed<W, A>, NoResources>
         requires { IsSync R.row × IsSync W.row × IsSync G.row × IsSend W.Seat.row × IsSend W.Item.row × IsSend A.row
@@ -117,10 +141,10 @@ fn run_both<R: Threads + Sync, A: Memory, W: Work, G: Gate>(
             × (next + vec_len others ≤ most_workers) × AreNewSeats (W.IsSeat work.now) W.given others.items }
         ensures { IfOk result (λ c. IsCrewed (W.count work.entry.now) (W.items work.entry.now)
             (W.IsSeat work.entry.now) (W.HasFact work.entry.now) W.given W.is_done
-            (vec_len others) c.seats.items (map (λ p. (p.tile, p.items.items)) c.pieces.items)) }
+            (vec_len others) with_pieces c.seats.items (map (λ p. (p.tile, p.items.items)) c.pieces.items)) }
     {
         let _named = item;
-        run_from(rt, alloc, work, next, others, gate)
+        run_from(rt, alloc, work, next, others, with_pieces, gate)
     };
     let (front, back) = join(rt, front, back);
     both(front?, back?)

@@ -1,6 +1,6 @@
 //! What one worker does.
 
-ghost use Rattle.std.specs.Prelude.{◌≡◌, [], IfOk, IsTrue, OnOk, map};
+ghost use Rattle.std.specs.Prelude.{◌≡◌, ℕ, List, [], ◌∷◌, ◌++◌, IfOk, IsTrue, OnOk, map};
 ghost use Rattle.boards.specs.Passes.{times};
 ghost use Rattle.crew.specs.Facts.{HasFacts};
 ghost use Rattle.crew.specs.Pieces.{ArePiecesOf};
@@ -11,13 +11,15 @@ use boards::Claim;
 use cvl_base::{Memory, NoResources};
 use tile_plan::Piece;
 
-/// The pieces of the tiles that are given to the seat, until it is told that none is left. Each claim gives a tile that
-/// the seat didn't have, so there are at most as many as the work has tiles. The seat then has the fact of each.
+/// The pieces of the tiles that are given to the seat, until it is told that none is left; no piece where none is to be
+/// kept. Each claim gives a tile that the seat didn't have, so there are at most as many as the work has tiles. The seat then
+/// has the fact of each.
 pub(crate) fn take_tiles<A: Memory, W: Work, G: Gate>(
     alloc: A,
     work: &W,
     worker: u32,
     seat: &mut W::Seat,
+    with_pieces: bool,
     gate: &G,
 ) -> Result<Vec<Piece<W::Item, A>, A>, NoResources>
     requires of_board { W.IsSeat work.now seat.old }
@@ -25,7 +27,7 @@ pub(crate) fn take_tiles<A: Memory, W: Work, G: Gate>(
     ensures of_board { W.IsSeat work.now seat.new }
     ensures done { OnOk result (IsTrue (W.is_done seat.new)) }
     ensures facts { OnOk result (HasFacts (W.HasFact work.now) W.given seat.new) }
-    ensures pieces { IfOk result (λ pieces. ArePiecesOf (W.count work.now) (W.items work.now)
+    ensures pieces { IfOk result (λ pieces. IsTrue with_pieces → ArePiecesOf (W.count work.now) (W.items work.now)
         (λ t. times t (W.given seat.new))
         (map (λ p. (p.tile, p.items.items)) pieces.items)) }
 {
@@ -34,7 +36,23 @@ pub(crate) fn take_tiles<A: Memory, W: Work, G: Gate>(
         gate.pass(worker, Point::Claimed(t));
         let items = work.tile(alloc, seat, worker, t, gate)?;
         gate.pass(worker, Point::Finished(t));
-        pieces.push(Piece { tile: t, items })?;
+        keep(&mut pieces, with_pieces, t, items)?;
     }
     Ok(pieces)
+}
+
+/// Adds the piece of a tile, where pieces are kept.
+fn keep<T: Drop, A: Memory>(
+    pieces: &mut Vec<Piece<T, A>, A>,
+    with_pieces: bool,
+    tile: u32,
+    items: Vec<T, A>,
+) -> Result<(), NoResources>
+    ensures { OnOk result (IsTrue with_pieces → map {B = ℕ × List T} (λ p. (p.tile, p.items.items)) pieces.new.items
+        ≡ map {B = ℕ × List T} (λ p. (p.tile, p.items.items)) pieces.old.items ++ (tile, items.items) ∷ []) }
+{
+    if with_pieces {
+        pieces.push(Piece { tile, items })?;
+    }
+    Ok(())
 }

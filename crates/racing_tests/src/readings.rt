@@ -1,12 +1,15 @@
 //! How often the elements of a scan have been read when a worker passes each point.
 
 ghost use Rattle.std.specs.Prelude.{◌≡◌};
+ghost use Rattle.std.specs.List.{AllPass};
+ghost use Rattle.cvl_base.specs.ItemWords.{is_number};
 
 use crate::watch::{Holds, Watch, place_of};
 use crew::{Gate, Point};
 use cvl_base::Config;
 use cvl_base::monoids::Add;
-use scan_ops::{Reading, scan_readings_gated};
+use scan_ops::{Reading, scan_readings_gated, seg_reduce_readings_gated};
+use segdes::SegDes;
 use std::sync::atomic::{AtomicU64, Ordering};
 use std::test::Fail;
 
@@ -82,6 +85,18 @@ impl Gate for Noting<'_> {
     }
 }
 
+/// Four numbers, whose reads are counted here.
+fn elements(reads: &[AtomicU64; 5]) -> [Counted<'_>; 4]
+    ensures { AllPass (λ x. is_number x.number) result }
+{
+    [
+        Counted::new(3, &reads[0]),
+        Counted::new(1, &reads[1]),
+        Counted::new(7, &reads[2]),
+        Counted::new(0, &reads[3]),
+    ]
+}
+
 /// Words that start with this number.
 fn words(start: u64) -> [AtomicU64; 5] {
     [
@@ -96,34 +111,36 @@ fn words(start: u64) -> [AtomicU64; 5] {
 #[test]
 fn read_before_each_point(rt: HostRuntime) -> Result<(), Fail> {
     let rows = [
-        // each element is read for its tile's sum, and once more for the tile's item
-        (1, Holds::Nobody, [90112, 90112, 90112, 90112, 92222]),
+        // each element is read for its tile's sum, and once more when the scan is written
+        (
+            1,
+            Holds::Nobody,
+            [90111, 90111, 90111, 90111, 91111],
+            [2, 2, 2, 2],
+        ),
         // the look-back from tile 1 adds up tile 0, of which nothing is told
         (
             2,
             Holds::TileZero(Point::Claimed(0)),
-            [91223, 90112, 90112, 90112, 90011],
+            [91222, 90111, 90111, 90111, 90011],
+            [3, 2, 2, 2],
         ),
         // and does not where its sum is told
         (
             2,
             Holds::TileZero(Point::Summed(0)),
-            [90112, 90112, 90112, 90112, 91111],
+            [90111, 90111, 90111, 90111, 91111],
+            [2, 2, 2, 2],
         ),
     ];
-    for (workers, holds, notes) in rows {
+    for (workers, holds, notes, in_all) in rows {
         let reads = words(0);
         let gate = Noting {
             watch: Watch::new(rt.alloc(), 4, workers, holds)?,
             reads: &reads,
             notes: words(9),
         };
-        let elements = [
-            Counted::new(3, &reads[0]),
-            Counted::new(1, &reads[1]),
-            Counted::new(7, &reads[2]),
-            Counted::new(0, &reads[3]),
-        ];
+        let elements = elements(&reads);
         let config = Config::new(1, workers)?;
         let sums = scan_readings_gated::<_, _, Add, Counted<'_>, Counting, _>(
             &rt,
@@ -134,6 +151,34 @@ fn read_before_each_point(rt: HostRuntime) -> Result<(), Fail> {
         )?;
         assert!(rt; sums.as_slice() == [0, 3, 4, 11].as_slice());
         assert_eq!(rt; gate.notes(), notes);
+        for k in 0..4 {
+            assert_eq!(rt; reads[k].load(Ordering::SeqCst), in_all[k]);
+        }
     }
+    Ok(())
+}
+
+/// The last tile gives the reduce of the last segment, whose one element it reads once more before it is finished. The other
+/// tiles give reduces whose elements stand before them, and read nothing for it.
+#[test]
+fn items_before_finished(rt: HostRuntime) -> Result<(), Fail> {
+    let reads = words(0);
+    let gate = Noting {
+        watch: Watch::new(rt.alloc(), 4, 1, Holds::Nobody)?,
+        reads: &reads,
+        notes: words(9),
+    };
+    let elements = elements(&reads);
+    let d = SegDes::from_lengths(rt.alloc(), &[1, 1, 1, 1])?;
+    let sums = seg_reduce_readings_gated::<_, _, Add, Counted<'_>, Counting, _>(
+        &rt,
+        rt.alloc(),
+        Config::new(1, 1)?,
+        &elements,
+        &d,
+        &gate,
+    )?;
+    assert!(rt; sums.as_slice() == [3, 1, 7, 0].as_slice());
+    assert_eq!(rt; gate.notes(), [90111, 90111, 90111, 90112, 91111]);
     Ok(())
 }

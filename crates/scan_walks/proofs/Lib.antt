@@ -4,3 +4,4 @@ pub mod RunPushed
 pub mod Scanned
 pub mod SegmentReduces
 pub mod Segments
+pub mod Written

@@ -1,14 +1,28 @@
 -- What a walk over a run pushes, and where the segments that start in the run end.
-use Rattle.std.proofs.Common.{◌≡◌, ℕ, ◌-◌, ◌<◌, ◌≤◌, min, Bool, List, ◌++◌, length, take, drop, sym, ap, ◌∙◌, arith, append_assoc}
-use Rattle.std.specs.Prelude.{sum}
+use Rattle.std.proofs.Common.{◌≡◌, ℕ, suc, ◌-◌, ◌<◌, ◌≤◌, min, Bool, List, [], ◌∷◌, ◌++◌, refl, length, take, drop, sym, ap, ◌∙◌, arith, append_assoc}
+use Rattle.std.specs.Prelude.{sum, if◌then◌else◌}
 use Rattle.std.specs.List.{AllPass}
 use Rattle.std.proofs.lemmas.List.{length-drop, length-take}
 use Rattle.cvl_base.specs.Folds.{scan_of}
 use Rattle.cvl_base.specs.Monoid.{MonoidLaws}
 use Rattle.segdes.specs.Starts.{start_of}
-use Rattle.scan_walks.specs.Runs.{run_between, run_scan_of, scans_of}
+use Rattle.scan_walks.specs.Runs.{run_between, run_scan_of, scans_of, with_starts}
 use Rattle.scan_walks.proofs.Cut.{begins_by, run_walked, starts_in_order}
+use Rattle.scan_walks.proofs.LastStart.{length-with_starts}
 use Rattle.scan_walks.proofs.Segments.{range_sum, scans_cut}
+
+module _ {Item : Type 0} (join : Item → Item → Item) (unit : Item) where
+  pub length-run_scan_of : (before : Item) (run : List (Bool × Item)) → length (run_scan_of join unit before run) ≡ length run
+  length-run_scan_of before [] = refl
+  length-run_scan_of before ((starts, x) ∷ run) = ap suc (length-run_scan_of (if starts then x else join before x) run)
+
+  -- the scan of a range is as long as the range
+  pub length-range_scan : (d : List ℕ) (xs : List Item) (from to : ℕ) (before : Item) → sum d ≡ length xs → from ≤ to → to ≤ length xs
+      → length (run_scan_of join unit before (run_between d xs from to)) ≡ to - from
+  length-range_scan d xs from to before total in_order within =
+      length-run_scan_of before (run_between d xs from to)
+      ∙ length-drop from (with_starts d (take to xs))
+      ∙ ap (λ n. n - from) (length-with_starts d (take to xs) (omega (arith, length-take to xs, total)) ∙ omega (arith, length-take to xs, within))
 
 -- the segments that start in the run have its elements from the first start on
 pub segments_cover : (d : List ℕ) (from to first next start j others : ℕ) → from ≤ to → to ≤ sum d → first ≤ length d

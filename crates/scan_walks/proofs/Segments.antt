@@ -102,20 +102,6 @@ range_sum lengths first next le =
     ∙ ap (start_of lengths) end
 
 module _ {Item : Type 0} (join : Item → Item → Item) (unit : Item) (lengths : List ℕ) where
-  pub scans_pushed : (sums pushed whole rest front others : List Item) (start : Item) (s n m : ℕ) → s < length lengths → n ≡ get_or lengths s 0 → m ≡ min n (length rest)
-      → front ≡ take m rest → others ≡ drop m rest → start ≡ unit → pushed ≡ sums ++ scan_of join start front
-      → sums ++ scans_of join unit (drop s lengths) rest ≡ whole → pushed ++ scans_of join unit (drop (s + 1) lengths) others ≡ whole
-  scans_pushed sums pushed whole rest front others start s n m lt is_n is_m is_front is_others is_start is_pushed is_whole =
-      let later : List Item → List Item = λ ys. scans_of join unit (drop (s + 1) lengths) ys in
-      ap (λ p. p ++ later others) is_pushed
-      ∙ append_assoc sums (scan_of join start front) (later others)
-      ∙ ap (λ u. sums ++ (scan_of join u front ++ later others)) is_start
-      ∙ ap (λ f. sums ++ (scan_of join unit f ++ later others)) is_front
-      ∙ ap (λ o. sums ++ (scan_of join unit (take m rest) ++ later o)) is_others
-      ∙ ap (λ j. sums ++ (scan_of join unit (take j rest) ++ later (drop j rest))) is_m
-      ∙ ap (λ tail. sums ++ tail) (sym (scans_more_min join unit lengths s n rest lt is_n))
-      ∙ is_whole
-
   pub reduces_pushed : (sums pushed whole rest front others : List Item) (start sum : Item) (s n : ℕ) → s < length lengths → n ≡ get_or lengths s 0
       → front ≡ take n rest → others ≡ drop n rest → start ≡ unit → sum ≡ fold_of join start front → pushed ≡ sums ++ sum ∷ []
       → sums ++ reduces_of join unit (drop s lengths) rest ≡ whole → pushed ++ reduces_of join unit (drop (s + 1) lengths) others ≡ whole

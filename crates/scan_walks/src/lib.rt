@@ -6,6 +6,6 @@ pub mod plain;
 pub mod readings;
 pub mod runs;
 
-pub use plain::{scan_readings_from, sum_readings_from};
+pub use plain::{scan_into, scan_readings_from, sum_readings_from};
 pub use readings::{Itself, Reading};
-pub use runs::{reduces_of_readings, scan_of_readings, scan_of_run, sum_of_readings, sum_of_run};
+pub use runs::{reduces_of_readings, scan_of_run, scan_run_into, sum_of_readings, sum_of_run};

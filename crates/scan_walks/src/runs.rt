@@ -10,11 +10,13 @@ ghost use Rattle.cvl_base.specs.Folds.{fold_of};
 ghost use Rattle.cvl_base.specs.SegmentMonoid.{seg_join};
 ghost use Rattle.segdes.specs.Starts.{start_of};
 ghost use Rattle.scan_walks.specs.Runs.{IsOpenAt, reduces_of, run_between, run_scan_of, scans_of};
+ghost use Rattle.fresh.specs.Places.{with_items};
 
-use crate::plain::{push_scan_readings_from, sum_readings_from};
+use crate::plain::{scan_into, sum_readings_from};
 use crate::readings::{Itself, Reading};
 use cvl_base::monoid::know_laws;
 use cvl_base::{Monoid, NoResources};
+use fresh::{Room, Run};
 use segdes::SegDes;
 use std::alloc::Allocator;
 
@@ -26,31 +28,31 @@ fn start_or_total<A: Allocator>(d: &SegDes<A>, s: usize) -> usize
     if s < d.count() { d.start(s) } else { d.total() }
 }
 
-/// Pushes the scans of the segments with these lengths, one after another, of what the elements are read as. The
-/// segments have all of the elements, and the last may be cut short by the end of the elements. There must be room for
-/// the scans.
+/// Writes the scans of the segments with these lengths, one after another, of what the elements are read as. The
+/// segments have all of the elements, and the last may be cut short by the end of the elements. The run must have room
+/// for the scans.
 // inlined for the loop that it calls
 #[inline(always)]
-fn push_scans<M: Monoid, X: Copy, E: Reading<X, M::Item>, A: Allocator>(
-    sums: &mut Vec<M::Item, A>,
+fn scans_into<M: Monoid, X: Copy, E: Reading<X, M::Item>>(
+    run: Run<M::Item>,
     lengths: &[i32],
     xs: &[X],
-)
+) -> Run<M::Item>
     requires lengths { AreLengths lengths.now }
     requires covered { length xs.now ≤ sum (map unsigned_abs lengths.now) }
-    requires room { vec_len sums.old + length xs.now ≤ vec_capacity sums.old }
+    requires room { length xs.now ≤ run.room }
     requires items { AllPass (λ x. M.is_item (E.item x)) xs.now }
-    ensures values { sums.new.items
-        ≡ sums.old.items ++ scans_of M.join M.unit (map unsigned_abs lengths.now) (map E.item xs.now) }
-    ensures as_long { vec_len sums.new ≡ vec_len sums.old + length xs.now }
+    ensures { result ≡ with_items run (scans_of M.join M.unit (map unsigned_abs lengths.now) (map E.item xs.now)) }
 {
     know_laws::<M>();
+    let mut run = run;
     let mut rest = xs;
     for length in lengths {
         let (segment, others) = rest.split_at((*length as usize).min(rest.len()));
-        push_scan_readings_from::<M, X, E, A>(sums, M::unit(), segment);
+        run = scan_into::<M, X, E>(run, M::unit(), segment);
         rest = others;
     }
+    run
 }
 
 /// Pushes the reduces of the segments with these lengths, of what the elements are read as. The elements begin with
@@ -164,44 +166,41 @@ pub fn sum_of_run<M: Monoid, A: Allocator>(
     sum_of_readings::<M, M::Item, Itself, A>(a, d, from, to, before)
 }
 
-/// The scan of the run from place `from` to the one before place `to`, of what the elements are read as: what
-/// [`scan_of_run`] is of elements that are items.
+/// Writes the scan of the range from place `from` to the one before place `to`, of what the elements are read as: for each
+/// of the elements there, what the elements before it in its segment join to. The run must have room for as many.
 ///
-/// `before` must be an item of the monoid, as all that is read must. The result is as long as the run. Source:
-/// Blelloch's segmented scans.
-pub fn scan_of_readings<M: Monoid, X: Copy, E: Reading<X, M::Item>, A: Allocator, B: Allocator>(
-    alloc: B,
+/// `before` is what the elements of the first segment that stand before the range join to. It must be an item of the
+/// monoid, as all that is read must. Source: Blelloch's segmented scans.
+pub fn scan_run_into<M: Monoid, X: Copy, E: Reading<X, M::Item>, A: Allocator>(
+    run: Run<M::Item>,
     a: &[X],
     d: &SegDes<A>,
     from: usize,
     to: usize,
     before: M::Item,
-) -> Result<Vec<M::Item, B>, NoResources>
+) -> Run<M::Item>
     requires total { sum d.now ≡ length a.now }
     requires in_order { from ≤ to }
     requires within { to ≤ length a.now }
+    requires room { to - from ≤ run.room }
     requires before { IsTrue (M.is_item before) }
     requires items { AllPass (λ x. M.is_item (E.item x)) a.now }
-    ensures values { IfOk result (λ sums. sums.items
-        ≡ run_scan_of M.join M.unit before (run_between d.now (map E.item a.now) from to)) }
-    ensures as_long { IfOk result (λ sums. vec_len sums ≡ to - from) }
+    ensures { result ≡ with_items run (run_scan_of M.join M.unit before (run_between d.now (map E.item a.now) from to)) }
 {
     know_laws::<M>();
     let first = d.starts_before(from);
     let next = d.starts_before(to);
     let start = start_or_total(d, first);
     let (front, rest) = a[from..to].split_at(start.min(to) - from);
-    let mut sums = Vec::with_capacity(alloc, to - from)?;
-    push_scan_readings_from::<M, X, E, B>(&mut sums, before, front);
-    push_scans::<M, X, E, B>(&mut sums, &d.lengths()[first..next], rest);
-    Ok(sums)
+    let run = scan_into::<M, X, E>(run, before, front);
+    scans_into::<M, X, E>(run, &d.lengths()[first..next], rest)
 }
 
-/// The scan of the run from place `from` to the one before place `to`: for each of its elements, what the elements
+/// The scan of the range from place `from` to the one before place `to`: for each of its elements, what the elements
 /// before it in its segment join to.
 ///
-/// `before` is what the elements of the first segment that stand before the run join to. It must be an item of the
-/// monoid, as all elements must. The result is as long as the run. Source: Blelloch's segmented scans.
+/// `before` is what the elements of the first segment that stand before the range join to. It must be an item of the
+/// monoid, as all elements must. The result is as long as the range. Source: Blelloch's segmented scans.
 pub fn scan_of_run<M: Monoid, A: Allocator>(
     alloc: A,
     a: &[M::Item],
@@ -219,6 +218,6 @@ pub fn scan_of_run<M: Monoid, A: Allocator>(
         ≡ run_scan_of M.join M.unit before (run_between d.now a.now from to)) }
     ensures as_long { IfOk result (λ sums. vec_len sums ≡ to - from) }
 {
-    let sums = scan_of_readings::<M, M::Item, Itself, A, A>(alloc, a, d, from, to, before)?;
-    Ok(sums)
+    let (room, run) = Room::new(alloc, to - from)?;
+    Ok(room.into_vec(scan_run_into::<M, M::Item, Itself, A>(run, a, d, from, to, before)))
 }

@@ -1,6 +1,5 @@
 pub mod Cut
 pub mod Fronts
-pub mod Halves
 pub mod Numbers
 pub mod Sorted
 pub mod Written

@@ -1,53 +1,54 @@
--- A run that is written over by the elements of pieces.
--- Source: what a part of a slice that is written over holds.
-use Rattle.std.proofs.Common.{◌≡◌, refl, sym, ap, ap₂, ◌∙◌, ℕ, ◌+◌, ◌-◌, ◌<◌, ◌≤◌, List, [], ◌∷◌, ◌++◌, length, take, drop, get_or, min, arith, length-append}
-use Rattle.std.proofs.lemmas.List.{ext_get_or, get_or-take, get_or-drop, length-take, length-drop, take_min, drop_min}
-use Rattle.std.proofs.Math.Seq.{take-append_seam}
-use Rattle.std.proofs.lemmas.Slice.{take-put_mid}
-use borrow.Rule.Slice.PartMut.{put_mid, post_of}
+-- A run that is written by the elements of pieces.
+-- Source: what the definitions of runs imply.
+use Rattle.std.proofs.Common.{◌≡◌, sym, ap, ap₂, ◌∙◌, ℕ, ◌+◌, ◌-◌, ◌≤◌, List, [], ◌++◌, length, take, drop, min, arith, length-append}
+use Rattle.std.proofs.lemmas.List.{length-take, length-drop, take_min, drop_all, take_all, drop_min}
+use Rattle.fresh.specs.Parts.{part}
+use Rattle.fresh.specs.Places.{Stretch, stretch, with_items}
+use Rattle.fresh.proofs.Written.{nothing_written, written_twice}
 use Rattle.tile_plan.proofs.Fronts.{take_of_both, drop_of_both}
 
 min_swapped : (a b : ℕ) → min a b ≡ min b a
 min_swapped a b = omega arith
 
 module _ {X : Type 0} where
-  length_put_mid : (a k : ℕ) (xs ys : List X) → a + k ≤ length xs → length ys ≡ k → length (put_mid a k xs ys) ≡ length xs
-  length_put_mid a k xs ys within long =
-      let all = length-append (take a xs) (ys ++ post_of a k xs) in
-      let end = length-append ys (post_of a k xs) in
-      let front = length-take a xs in
-      let back : length (post_of a k xs) ≡ length xs - a - k = length-drop k (drop a xs) ∙ ap (λ n. n - k) (length-drop a xs) in
-      omega (arith, all, end, front, back, long)
+  -- the run with what the pieces passed have at its places, and `left` elements are still to be passed before the first
+  pub record IsWritten (old : Stretch X) (passed : List X) (left : ℕ) (now : Stretch X) : Type 0 where
+    pub before : left ≡ old.first - length passed
+    pub is : now ≡ with_items old (part passed old.first old.room)
 
-  -- a run of n places, written over by the elements that the pieces passed have from place `start` on: `written` of them, and `left`
-  -- are still to be passed before the first
-  pub record IsWritten (start n : ℕ) (passed : List X) (left written : ℕ) (run : List X) : Type 0 where
-    pub before : left ≡ start - length passed
-    pub so_many : written ≡ min n (length passed - start)
-    pub as_long : length run ≡ n
-    pub items : take written run ≡ take n (drop start passed)
+  pub none_written : (old : Stretch X) (left : ℕ) → left ≡ old.first → IsWritten old [] left old
+  none_written old left first = record {
+    before = omega (arith, first);
+    is = sym (ap (λ xs. with_items old (take old.room xs)) (drop_all old.first [] (omega arith)) ∙ ap (with_items old) (take_all old.room [] (omega arith)) ∙ nothing_written old);
+  }
 
   -- the same after a piece more, of which `wanted` comes from that place on, and `fitting` has room in the run
-  pub written_more : (start n left written : ℕ) (passed piece wanted fitting run new : List X) (k : ℕ) → IsWritten start n passed left written run
-      → wanted ≡ drop (min left (length piece)) piece → fitting ≡ take (min (length wanted) (n - written)) wanted → new ≡ fitting → k ≡ length fitting
-      → IsWritten start n (passed ++ piece) (left - min left (length piece)) (written + length fitting) (put_mid written k run new)
-  written_more start n left written passed piece wanted fitting run new k w wanted_is fitting_is new_is long =
+  pub written_more : (old now next : Stretch X) (left : ℕ) (passed piece wanted fitting : List X) → IsWritten old passed left now
+      → wanted ≡ drop (min left (length piece)) piece → fitting ≡ take (min (length wanted) now.room) wanted → next ≡ with_items now fitting
+      → IsWritten old (passed ++ piece) (left - min left (length piece)) next
+  written_more old now next left passed piece wanted fitting w wanted_is fitting_is next_is =
       let both = length-append passed piece in
-      let before = w.before in
-      let so_many = w.so_many in
-      let many_wanted : length wanted ≡ length piece - left = ap length wanted_is ∙ length-drop (min left (length piece)) piece ∙ omega arith in
-      let many_fitting : length fitting ≡ min (length wanted) (n - written) = ap length fitting_is ∙ length-take (min (length wanted) (n - written)) wanted ∙ omega arith in
-      let from : drop (min left (length piece)) piece ≡ drop (start - length passed) piece = drop_min left piece ∙ ap (λ k. drop k piece) before in
-      let room : n - written ≡ n - length (drop start passed) = let passed_on = length-drop start passed in omega (arith, so_many, passed_on) in
+      let n : ℕ = old.room in
+      let start : ℕ = old.first in
+      let here : now.room ≡ n - length (take n (drop start passed)) = ap (λ s. s.room) w.is in
+      let from : drop (min left (length piece)) piece ≡ drop (start - length passed) piece = drop_min left piece ∙ ap (λ k. drop k piece) w.before in
+      let room : now.room ≡ n - length (drop start passed) = omega (arith, here, length-take n (drop start passed)) in
       let cut : fitting ≡ take (n - length (drop start passed)) (drop (start - length passed) piece) =
-      fitting_is ∙ ap (λ k. take k wanted) (min_swapped (length wanted) (n - written)) ∙ take_min (n - written) wanted ∙ ap₂ take room (wanted_is ∙ from) in
-      let as_long = w.as_long in
-      let within : written + k ≤ length run = omega (arith, so_many, as_long, long, many_fitting) in
-      let new_long : length new ≡ k = ap length new_is ∙ sym long in
+      fitting_is ∙ ap (λ k. take k wanted) (min_swapped (length wanted) now.room) ∙ take_min now.room wanted ∙ ap₂ take room (wanted_is ∙ from) in
       record {
-        before = omega (arith, both, before);
-        so_many = omega (arith, both, before, so_many, many_wanted, many_fitting);
-        as_long = length_put_mid written k run new within new_long ∙ w.as_long;
-        items = take-put_mid written k run new (written + length fitting) (omega (arith, long, new_long)) (omega (arith, within)) ∙ ap₂ ◌++◌ w.items (new_is ∙ cut)
-            ∙ sym (ap (take n) (drop_of_both start passed piece) ∙ take_of_both n (drop start passed) (drop (start - length passed) piece));
+        before = omega (arith, both, w.before);
+        is = next_is
+            ∙ ap (λ (s : Stretch X). with_items s fitting) w.is
+            ∙ written_twice old (part passed start n) fitting
+            ∙ ap (with_items old) (ap (λ xs. part passed start n ++ xs) cut
+            ∙ sym (ap (take n) (drop_of_both start passed piece) ∙ take_of_both n (drop start passed) (drop (start - length passed) piece)));
       }
+
+  -- what all pieces write of a run
+  pub all_written : (old now : Stretch X) (passed whole : List X) (left : ℕ) → old.items ≡ [] → old.first + old.room ≤ length whole → passed ≡ whole → IsWritten old passed left now
+      → now ≡ stretch old.block old.first (part whole old.first old.room) 0
+  all_written old now passed whole left empty within all w =
+      let items : part passed old.first old.room ≡ part whole old.first old.room = ap (λ xs. part xs old.first old.room) all in
+      let long : length (part passed old.first old.room) ≡ old.room = ap length items ∙ omega (arith, length-take old.room (drop old.first whole), length-drop old.first whole, within) in
+      let none : old.room - length (part passed old.first old.room) ≡ 0 = omega (arith, long) in
+      w.is ∙ (λ i. stretch old.block old.first ((ap (λ xs. xs ++ part passed old.first old.room) empty ∙ items) i) (none i))

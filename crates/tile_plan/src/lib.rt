@@ -2,13 +2,9 @@
 #![tactic(auto)]
 
 mod laws;
-mod overwrite;
 mod pieces;
 mod plan;
-mod runs;
 
 pub use laws::{plan_law, range_law, range_values};
-pub use overwrite::gather_over;
 pub use pieces::{Piece, gather, gather_tiles};
 pub use plan::Plan;
-pub use runs::{Writer, write_in_runs};

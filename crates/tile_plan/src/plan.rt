@@ -69,4 +69,14 @@ impl Plan {
         let start = t * self.tile;
         (start, start + self.tile.min(self.len - start))
     }
+
+    /// The tile in whose range a place of the list lies.
+    pub fn tile_at(self, place: u32) -> u32
+        requires { place < self.0 }
+        ensures within { result < tile_count self.0 self.1 }
+        ensures begun { (range_of self.0 self.1 result).0 ≤ place }
+        ensures not_past { place < (range_of self.0 self.1 result).1 }
+    {
+        place / self.tile
+    }
 }

@@ -1,9 +1,8 @@
 -- A flat vector in tiles: the sums of its tiles, and the parts of its scan.
 use Rattle.std.proofs.Common.{◌≡◌, ℕ, zero, suc, cond, inl, inr, ◌+◌, ◌-◌, ◌*◌, ◌<◌, ◌≤◌, min, Bool, false, true, IsTrue, List, [], ◌∷◌, ◌++◌, length, take, drop, map, get_or, slice_range, refl, sym}
 use Rattle.std.proofs.Common.{ap, subst, ◌∙◌, arith}
-use Rattle.std.specs.List.{AllPass, flat_map, range_with_len, list_all}
+use Rattle.std.specs.List.{AllPass, list_all}
 use Rattle.std.proofs.lemmas.List.{drop-map, length-map, take-map, take_all}
-use Rattle.std.proofs.lemmas.Bool.Decides.{eqb_tells}
 use Rattle.std.proofs.lemmas.List.Elements.{All-map}
 use Rattle.std.proofs.lemmas.List.FromFn.{get_or-map-range_with_len, length-map-range_with_len}
 use Rattle.std.proofs.lemmas.List.Sums.{AllPass-from_list_all}
@@ -13,11 +12,12 @@ use Rattle.cvl_base.specs.SegmentMonoid.{is_seg_item, seg_unit, seg_join}
 use Rattle.tile_plan.specs.Ranges.{tile_count, range_of}
 use Rattle.tile_plan.proofs.Numbers.{starts_past, starts_within}
 use Rattle.cvl_base.specs.TileSums.{before_tile}
-use Rattle.tile_scans.specs.Kernels.{tile_of, flat_sums, reduce_at}
+use Rattle.fresh.specs.Parts.{part}
+use Rattle.tile_scans.specs.Kernels.{tile_of, flat_sums}
 use Rattle.scan_walks.specs.Runs.{continued, run_scan_of}
 use Rattle.scan_walks.proofs.LastStart.{continued_summed}
-use Rattle.tile_scans.proofs.RunScans.{continued_passes, continued_run_scan, continued_slice, length-run_scan_of, run_scan_slice}
-use Rattle.tile_scans.proofs.Tiled.{before_is_item, pieces_more, sums_before, sums_pass, tile_joined, tiles_joined}
+use Rattle.tile_scans.proofs.RunScans.{continued_passes, continued_run_scan, continued_slice}
+use Rattle.tile_scans.proofs.Tiled.{before_is_item, since_is_item, sums_before, sums_pass, tile_joined, written_after}
 
 -- the elements of a tile, read as items
 pub tile_read : {X Item : Type 0} (item : X → Item) (len tile : ℕ) (xs : List X) (t : ℕ) → map item (tile_of len tile xs t) ≡ tile_of len tile (map item xs) t
@@ -47,12 +47,6 @@ module _ {Item : Type 0} {is_item : Item → Bool} {unit : Item} {join : Item �
   pub flat_sums_pass : AllPass (is_seg_item is_item) (flat_sums join unit plan xs)
   flat_sums_pass = sums_pass laws plan.0 plan.1 (continued xs) some (continued_passes is_item xs items)
 
-  pub flat_before_is_item : (t : ℕ) (before : Bool × Item) → t < length (flat_sums join unit plan xs)
-      → before ≡ fold_of (seg_join join) (seg_unit unit) (take t (flat_sums join unit plan xs)) → IsTrue (is_item before.1)
-  flat_before_is_item t before below is =
-      let within : t ≤ tile_count plan.0 plan.1 = omega (arith, below, length-flat_sums join unit plan xs) in
-      subst (λ w. IsTrue (is_item w.1)) (sym is) (before_is_item laws plan.0 plan.1 (continued xs) some (continued_passes is_item xs items) t within)
-
   -- what stands before a tile is what all elements before it join to
   pub flat_before : (t : ℕ) → t ≤ tile_count plan.0 plan.1
       → fold_of (seg_join join) (seg_unit unit) (take t (flat_sums join unit plan xs)) ≡ (false, fold_of join unit (take (min plan.0 (t * plan.1)) xs))
@@ -62,30 +56,32 @@ module _ {Item : Type 0} {is_item : Item → Bool} {unit : Item} {join : Item �
       ∙ ap (fold_of (seg_join join) (seg_unit unit)) (take-map (λ x. (false, x)) from xs)
       ∙ continued_summed join false unit (take from xs)
 
-  -- a tile's part of the scan is the scan of the tile after what stands before it
-  pub flat_scanned : (t : ℕ) (before : Bool × Item) → t < length (flat_sums join unit plan xs)
-      → before ≡ fold_of (seg_join join) (seg_unit unit) (take t (flat_sums join unit plan xs))
-      → tile_of plan.0 plan.1 (scan_of join unit xs) t ≡ scan_of join before.1 (tile_of plan.0 plan.1 xs t)
-  flat_scanned t before within is =
-      let below : t < tile_count plan.0 plan.1 = omega (arith, within, length-flat_sums join unit plan xs) in
-      let from : ℕ = (range_of plan.0 plan.1 t).0 in
-      let to : ℕ = (range_of plan.0 plan.1 t).1 in
-      let starts : min plan.0 (t * plan.1) ≡ from = omega (arith, starts_within plan.0 plan.1 t some below) in
-      let sum : before ≡ fold_of (seg_join join) (false, unit) (take from (continued xs)) =
-      is ∙ sums_before laws plan.0 plan.1 (continued xs) some (continued_passes is_item xs items) t (omega arith)
-      ∙ ap (λ k. fold_of (seg_join join) (seg_unit unit) (take k (continued xs))) starts in
-      ap (λ sums. slice_range sums from to) (sym (continued_run_scan join unit unit xs))
-      ∙ run_scan_slice join unit false unit from to (continued xs)
-      ∙ ap (λ w. run_scan_of join unit w.1 (slice_range (continued xs) from to)) (sym sum)
-      ∙ ap (run_scan_of join unit before.1) (continued_slice xs from to)
-      ∙ continued_run_scan join unit before.1 (slice_range xs from to)
+  -- what stands before a place of a tile
+  flat_since : (start p : ℕ) (before : Item) → (fold_of (seg_join join) (false, before) (slice_range (continued xs) start p)).1 ≡ fold_of join before (slice_range xs start p)
+  flat_since start p before =
+      ap (λ ws. (fold_of (seg_join join) (false, before) ws).1) (continued_slice xs start p)
+      ∙ ap (λ w. w.1) (continued_summed join false before (slice_range xs start p))
 
-  pub length-scan : length (scan_of join unit xs) ≡ length xs
-  length-scan = ap length (sym (continued_run_scan join unit unit xs)) ∙ length-run_scan_of join unit unit (continued xs) ∙ length-map xs (λ x. (false, x))
+  pub flat_since_is_item : (t p : ℕ) (before : Item) → t < tile_count plan.0 plan.1 → (range_of plan.0 plan.1 t).0 ≤ p → before ≡ (before_tile join unit (flat_sums join unit plan xs) t).1
+      → IsTrue (is_item (fold_of join before (slice_range xs (range_of plan.0 plan.1 t).0 p)))
+  flat_since_is_item t p before below begun is =
+      subst (λ x. IsTrue (is_item x)) (flat_since (range_of plan.0 plan.1 t).0 p before)
+      (since_is_item laws plan.0 plan.1 (continued xs) some (continued_passes is_item xs items) t p before below begun is)
 
-  -- the parts of all tiles, one after another, are the scan
-  pub flat_scans_joined : plan.0 ≡ length xs → flat_map (tile_of plan.0 plan.1 (scan_of join unit xs)) (range_with_len 0 (tile_count plan.0 plan.1)) ≡ scan_of join unit xs
-  flat_scans_joined whole = tiles_joined plan.0 plan.1 (scan_of join unit xs) some (length-scan ∙ sym whole)
+  pub flat_before_is_item : (t : ℕ) (before : Item) → t < tile_count plan.0 plan.1 → before ≡ (before_tile join unit (flat_sums join unit plan xs) t).1 → IsTrue (is_item before)
+  flat_before_is_item t before below is =
+      subst (λ x. IsTrue (is_item x)) (sym is) (before_is_item laws plan.0 plan.1 (continued xs) some (continued_passes is_item xs items) t (omega (arith, below)))
+
+  -- a part of the scan, from a place of tile t on, is the scan of that part after what stands before the tile and in the tile before the place
+  pub flat_written : (t p n : ℕ) (before : Item) → t < tile_count plan.0 plan.1 → (range_of plan.0 plan.1 t).0 ≤ p → before ≡ (before_tile join unit (flat_sums join unit plan xs) t).1
+      → part (scan_of join unit xs) p n ≡ scan_of join (fold_of join before (slice_range xs (range_of plan.0 plan.1 t).0 p)) (part xs p n)
+  flat_written t p n before below begun is =
+      let start : ℕ = (range_of plan.0 plan.1 t).0 in
+      ap (λ sums. part sums p n) (sym (continued_run_scan join unit unit xs))
+      ∙ written_after laws plan.0 plan.1 (continued xs) some (continued_passes is_item xs items) t p n before below begun is
+      ∙ ap (λ b. run_scan_of join unit b (part (continued xs) p n)) (flat_since start p before)
+      ∙ ap (run_scan_of join unit (fold_of join before (slice_range xs start p))) (ap (take n) (drop-map (λ x. (false, x)) p xs) ∙ take-map (λ x. (false, x)) n (drop p xs))
+      ∙ continued_run_scan join unit (fold_of join before (slice_range xs start p)) (part xs p n)
 
   -- what all tiles join to is the reduce
   pub flat_all_joined : (t : ℕ) (after : Bool × Item) → plan.0 ≡ length xs → t + 1 ≡ tile_count plan.0 plan.1
@@ -95,7 +91,7 @@ module _ {Item : Type 0} {is_item : Item → Bool} {unit : Item} {join : Item �
       ∙ ap (fold_of join unit) (take_all (min plan.0 ((t + 1) * plan.1)) xs
       (let past = starts_past plan.0 plan.1 some in let end : (t + 1) * plan.1 ≡ tile_count plan.0 plan.1 * plan.1 = ap (λ n. n * plan.1) last in omega (arith, past, end, whole)))
 
-  -- what the last tile gives is the reduce
+  -- what stands before the last tile, and then the tile, is the reduce
   pub flat_reduced : (t : ℕ) (before sum : Bool × Item) → plan.0 ≡ length xs → t + 1 ≡ tile_count plan.0 plan.1
       → before ≡ before_tile join unit (flat_sums join unit plan xs) t
       → sum ≡ get_or (flat_sums join unit plan xs) t (seg_unit unit) → join before.1 sum.1 ≡ fold_of join unit xs
@@ -109,36 +105,3 @@ module _ {Item : Type 0} {is_item : Item → Bool} {unit : Item} {join : Item �
   pub flat_sum_is_item : (t : ℕ) (sum : Bool × Item) → t < length (flat_sums join unit plan xs)
       → sum ≡ get_or (flat_sums join unit plan xs) t (seg_unit unit) → IsTrue (is_item sum.1)
   flat_sum_is_item t sum within is = subst (λ w. IsTrue (is_item w.1)) (sym is) (flat_sums_pass t (seg_unit unit) within)
-
-pub reduce_at_last : {Item : Type 0} (count : ℕ) (whole : Item) (t : ℕ) → t + 1 ≡ count → reduce_at count whole t ≡ whole ∷ []
-reduce_at_last count whole t last =
-    elim (eqb_tells (t + 1) count) [
-      | inl e ↦ ap (λ b. cond b (whole ∷ []) []) e.0
-      | inr e ↦ absurd (e.1 last)
-    ]
-
-pub reduce_at_other : {Item : Type 0} (count : ℕ) (whole : Item) (t : ℕ) → t + 1 < count → reduce_at count whole t ≡ []
-reduce_at_other count whole t earlier =
-    elim (eqb_tells (t + 1) count) [
-      | inl e ↦ absurd (omega (arith, earlier, e.1))
-      | inr e ↦ ap (λ b. cond b (whole ∷ []) []) e.0
-    ]
-
--- what all tiles give of a reduce, one after another
-reduces_of_last : {Item : Type 0} (whole : Item) (count t : ℕ) → t < count → flat_map (reduce_at count whole) (range_with_len 0 t) ≡ []
-reduces_of_last whole count zero below = refl
-reduces_of_last whole count (suc t) below =
-    let next : suc t ≡ t + 1 = omega arith in
-    ap (λ n. flat_map (reduce_at count whole) (range_with_len 0 n)) next
-    ∙ pieces_more (reduce_at count whole) t
-    ∙ ap (λ items. items ++ reduce_at count whole t) (reduces_of_last whole count t (omega (arith, below)))
-    ∙ reduce_at_other count whole t (omega (arith, below))
-
-pub flat_reduces_joined : {Item : Type 0} (whole : Item) (count : ℕ) → 0 < count → flat_map (reduce_at count whole) (range_with_len 0 count) ≡ whole ∷ []
-flat_reduces_joined whole count some =
-    let t : ℕ = count - 1 in
-    let last : t + 1 ≡ count = omega (arith, some) in
-    ap (λ n. flat_map (reduce_at count whole) (range_with_len 0 n)) (sym last)
-    ∙ pieces_more (reduce_at count whole) t
-    ∙ ap (λ items. items ++ reduce_at count whole t) (reduces_of_last whole count t (omega (arith, last)))
-    ∙ reduce_at_last count whole t last

@@ -3,3 +3,4 @@ pub mod RunScans
 pub mod Segmented
 pub mod SegmentedTiles
 pub mod Tiled
+pub mod Known

@@ -13,28 +13,17 @@ use Rattle.scan_walks.proofs.Cut.{length-started}
 use Rattle.scan_walks.proofs.Scanned.{scan_of-cons}
 
 module _ {Item : Type 0} (join : Item → Item → Item) (unit : Item) where
-  run_scan-take : (before : Item) (n : ℕ) (run : List (Bool × Item)) → take n (run_scan_of join unit before run) ≡ run_scan_of join unit before (take n run)
+  pub run_scan-take : (before : Item) (n : ℕ) (run : List (Bool × Item)) → take n (run_scan_of join unit before run) ≡ run_scan_of join unit before (take n run)
   run_scan-take before zero run = refl
   run_scan-take before (suc n) [] = refl
   run_scan-take before (suc n) ((starts, x) ∷ run) =
       ap (λ tail. (if starts then unit else before) ∷ tail) (run_scan-take (if starts then x else join before x) n run)
 
-  run_scan-drop : (f : Bool) (before : Item) (n : ℕ) (run : List (Bool × Item))
+  pub run_scan-drop : (f : Bool) (before : Item) (n : ℕ) (run : List (Bool × Item))
       → drop n (run_scan_of join unit before run) ≡ run_scan_of join unit (fold_of (seg_join join) (f, before) (take n run)).1 (drop n run)
   run_scan-drop f before zero run = refl
   run_scan-drop f before (suc n) [] = refl
   run_scan-drop f before (suc n) ((starts, x) ∷ run) = run_scan-drop (either f starts) (if starts then x else join before x) n run
-
-  pub run_scan_slice : (f : Bool) (before : Item) (from to : ℕ) (run : List (Bool × Item))
-      → slice_range (run_scan_of join unit before run) from to
-      ≡ run_scan_of join unit (fold_of (seg_join join) (f, before) (take from run)).1 (slice_range run from to)
-  run_scan_slice f before from to run =
-      ap (take (to - from)) (run_scan-drop f before from run)
-      ∙ run_scan-take (fold_of (seg_join join) (f, before) (take from run)).1 (to - from) (drop from run)
-
-  pub length-run_scan_of : (before : Item) (run : List (Bool × Item)) → length (run_scan_of join unit before run) ≡ length run
-  length-run_scan_of before [] = refl
-  length-run_scan_of before ((starts, x) ∷ run) = ap suc (length-run_scan_of (if starts then x else join before x) run)
 
   -- where no segment starts
   pub continued_run_scan : (before : Item) (xs : List Item) → run_scan_of join unit before (continued xs) ≡ scan_of join before xs

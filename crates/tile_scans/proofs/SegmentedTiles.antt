@@ -10,6 +10,8 @@ use Rattle.operators.proofs.FoldLaws.{length-scan_of}
 use Rattle.cvl_base.specs.Folds.{fold_of, scan_of}
 use Rattle.cvl_base.specs.Monoid.{MonoidLaws}
 use Rattle.cvl_base.specs.SegmentMonoid.{is_seg_item, seg_unit, seg_join}
+use Rattle.cvl_base.specs.TileSums.{before_tile}
+use Rattle.fresh.specs.Parts.{part}
 use Rattle.segdes.specs.Starts.{start_of}
 use Rattle.tile_plan.specs.Ranges.{tile_count, range_of}
 use Rattle.tile_plan.proofs.Numbers.{starts_within}
@@ -18,8 +20,8 @@ use Rattle.scan_walks.specs.Runs.{with_starts, run_between, run_scan_of, scans_o
 use Rattle.cvl_base.proofs.Lists.{sum-cons}
 use Rattle.scan_walks.proofs.Cut.{begins_by, segments_scanned}
 use Rattle.scan_walks.proofs.LastStart.{started_run_summed}
-use Rattle.tile_scans.proofs.RunScans.{run_of_is, run_scan_slice, with_starts-take, with_starts_passes}
-use Rattle.tile_scans.proofs.Tiled.{before_is_item, slices_joined, sums_before, sums_pass, tiles_joined}
+use Rattle.tile_scans.proofs.RunScans.{run_of_is, with_starts-take, with_starts_passes}
+use Rattle.tile_scans.proofs.Tiled.{before_is_item, since_is_item, slices_joined, sums_before, sums_pass, written_after}
 
 -- ---- how many segments start before a place
 
@@ -158,33 +160,32 @@ module _ {Item : Type 0} {is_item : Item → Bool} {unit : Item} {join : Item �
       ∙ sums_before laws plan.0 plan.1 (with_starts lengths xs) some (with_starts_passes is_item lengths xs items) t (omega (arith, below))
       ∙ ap (λ k. fold_of (seg_join join) (seg_unit unit) (take k (with_starts lengths xs))) starts
 
-  -- a tile's part of the scans is the scan of its run after what stands before it
-  pub segmented_scanned : (t : ℕ) (before : Bool × Item) → t < length (segmented_sums join unit plan lengths xs)
-      → before ≡ fold_of (seg_join join) (seg_unit unit) (take t (segmented_sums join unit plan lengths xs))
-      → tile_of plan.0 plan.1 (scans_of join unit lengths xs) t ≡ run_scan_of join unit before.1 (run_between lengths xs (range_of plan.0 plan.1 t).0 (range_of plan.0 plan.1 t).1)
-  segmented_scanned t before within is =
-      let below : t < tile_count plan.0 plan.1 = omega (arith, within, length-segmented_sums join unit plan lengths xs) in
-      let from : ℕ = (range_of plan.0 plan.1 t).0 in
-      let to : ℕ = (range_of plan.0 plan.1 t).1 in
-      ap (λ sums. slice_range sums from to) (sym (segments_scanned laws lengths xs unit items))
-      ∙ run_scan_slice join unit false unit from to (with_starts lengths xs)
-      ∙ ap (λ w. run_scan_of join unit w.1 (slice_range (with_starts lengths xs) from to)) (sym (segmented_before t before below is))
-      ∙ ap (run_scan_of join unit before.1) (sym (run_of_is lengths xs from to (range_in_order join unit plan lengths xs t some below)))
+  pub segmented_value_is_item : (t : ℕ) (before : Item) → t < tile_count plan.0 plan.1 → before ≡ (before_tile join unit (segmented_sums join unit plan lengths xs) t).1 → IsTrue (is_item before)
+  segmented_value_is_item t before below is =
+      subst (λ x. IsTrue (is_item x)) (sym is) (before_is_item laws plan.0 plan.1 (with_starts lengths xs) some (with_starts_passes is_item lengths xs items) t (omega (arith, below)))
 
-  -- the parts of all tiles, one after another, are the scans
-  pub segmented_scans_joined : plan.0 ≡ length xs → sum lengths ≡ length xs
-      → flat_map (tile_of plan.0 plan.1 (scans_of join unit lengths xs)) (range_with_len 0 (tile_count plan.0 plan.1)) ≡ scans_of join unit lengths xs
-  segmented_scans_joined whole total =
-      tiles_joined plan.0 plan.1 (scans_of join unit lengths xs) some (length-scans_of join unit lengths xs total ∙ sym whole)
+  -- what stands before a place of tile t is an item
+  pub segmented_since_is_item : (t p : ℕ) (before : Item) → t < tile_count plan.0 plan.1 → (range_of plan.0 plan.1 t).0 ≤ p
+      → before ≡ (before_tile join unit (segmented_sums join unit plan lengths xs) t).1
+      → IsTrue (is_item (fold_of (seg_join join) (false, before) (run_between lengths xs (range_of plan.0 plan.1 t).0 p)).1)
+  segmented_since_is_item t p before below begun is =
+      subst (λ ws. IsTrue (is_item (fold_of (seg_join join) (false, before) ws).1)) (sym (run_of_is lengths xs (range_of plan.0 plan.1 t).0 p begun))
+      (since_is_item laws plan.0 plan.1 (with_starts lengths xs) some (with_starts_passes is_item lengths xs items) t p before below begun is)
 
-  -- what is gathered from as many tiles as there are sums
-  pub scans_gathered : (made : List Item) → plan.0 ≡ length xs → sum lengths ≡ length xs
-      → made ≡ flat_map (tile_of plan.0 plan.1 (scans_of join unit lengths xs)) (range_with_len 0 (length (segmented_sums join unit plan lengths xs)))
-      → made ≡ scans_of join unit lengths xs
-  scans_gathered made whole total are =
-      are
-      ∙ ap (λ n. flat_map (tile_of plan.0 plan.1 (scans_of join unit lengths xs)) (range_with_len 0 n)) (length-segmented_sums join unit plan lengths xs)
-      ∙ segmented_scans_joined whole total
+  -- a part of the scans, from a place of tile t on, is the scan of that range after what stands before the tile and in the tile before the place
+  pub segmented_written : (t p n : ℕ) (before : Item) → t < tile_count plan.0 plan.1 → (range_of plan.0 plan.1 t).0 ≤ p
+      → before ≡ (before_tile join unit (segmented_sums join unit plan lengths xs) t).1
+      → part (scans_of join unit lengths xs) p n
+      ≡ run_scan_of join unit (fold_of (seg_join join) (false, before) (run_between lengths xs (range_of plan.0 plan.1 t).0 p)).1 (run_between lengths xs p (p + n))
+  segmented_written t p n before below begun is =
+      let start : ℕ = (range_of plan.0 plan.1 t).0 in
+      let ws = with_starts lengths xs in
+      let long : p + n - p ≡ n = omega arith in
+      ap (λ sums. part sums p n) (sym (segments_scanned laws lengths xs unit items))
+      ∙ written_after laws plan.0 plan.1 ws some (with_starts_passes is_item lengths xs items) t p n before below begun is
+      ∙ ap (λ run. run_scan_of join unit (fold_of (seg_join join) (false, before) run).1 (part ws p n)) (sym (run_of_is lengths xs start p begun))
+      ∙ ap (run_scan_of join unit (fold_of (seg_join join) (false, before) (run_between lengths xs start p)).1)
+      (ap (part ws p) (sym long) ∙ sym (run_of_is lengths xs p (p + n) (omega arith)))
 
   -- what stands before a place is what its segment's elements before it join to
   since_start : (place o : ℕ) → place ≤ length xs → sum lengths ≡ length xs → o ≡ starts_before lengths place - 1 → o < length lengths

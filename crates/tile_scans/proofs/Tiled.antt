@@ -1,6 +1,6 @@
 -- The tiles of a list, one after another, and what the tiles before a tile sum up to.
-use Rattle.std.specs.Prelude.{◌||◌}
-use Rattle.std.proofs.Common.{◌≡◌, ℕ, zero, suc, ◌+◌, ◌-◌, ◌*◌, ◌<◌, ◌≤◌, min, Bool, true, IsTrue, List, [], ◌∷◌, ◌++◌, length, take, get_or, slice_range, sym, ap, ◌∙◌, arith, append-nil, take-add}
+use Rattle.std.specs.Prelude.{◌||◌, if◌then◌else◌}
+use Rattle.std.proofs.Common.{◌≡◌, ℕ, zero, suc, ◌+◌, ◌-◌, ◌*◌, ◌<◌, ◌≤◌, min, Bool, false, true, IsTrue, List, [], ◌∷◌, ◌++◌, length, take, drop, get_or, slice_range, refl, sym, subst, ap, ◌∙◌, arith, append-nil, take-add}
 use Rattle.std.proofs.Common.{inl, inr}
 use Rattle.std.proofs.lemmas.Bool.Decides.{leb_tells}
 use Rattle.std.specs.List.{AllPass, flat_map, list_any, range_with_len}
@@ -8,16 +8,20 @@ use Rattle.std.proofs.lemmas.List.{map-id, take_all}
 use Rattle.std.proofs.lemmas.List.Concat.{flat_map-append}
 use Rattle.std.proofs.lemmas.List.Elements.{All-from_get_or, All-head, All-map, All-take, All-drop}
 use Rattle.std.proofs.lemmas.List.FromFn.{get_or-map-range_with_len, length-map-range_with_len, map-range_with_len_more}
-use Rattle.std.proofs.lemmas.List.Sums.{fold_more}
+use Rattle.std.proofs.lemmas.List.Sums.{fold-append, fold_more}
 use Rattle.operators.proofs.FoldLaws.{fold_of_is_item, fold_of-append}
 use Rattle.operators.specs.SegmentMonoidLaws.{seg_laws}
+use Rattle.cvl_base.specs.Booleans.{either}
 use Rattle.cvl_base.specs.Folds.{fold_of}
 use Rattle.cvl_base.specs.Monoid.{MonoidLaws}
 use Rattle.cvl_base.specs.SegmentMonoid.{is_seg_item, seg_unit, seg_join}
 use Rattle.tile_plan.specs.Ranges.{tile_count, range_of}
 use Rattle.tile_plan.proofs.Numbers.{starts_within, starts_past, ends_at}
 use Rattle.cvl_base.specs.TileSums.{before_tile}
+use Rattle.fresh.specs.Parts.{part}
+use Rattle.scan_walks.specs.Runs.{run_scan_of}
 use Rattle.tile_scans.specs.Kernels.{tile_of, sums_of}
+use Rattle.tile_scans.proofs.RunScans.{run_scan-drop, run_scan-take}
 
 numbers_more : (n : ℕ) → range_with_len 0 (n + 1) ≡ range_with_len 0 n ++ n ∷ []
 numbers_more n =
@@ -62,6 +66,12 @@ module _ {X : Type 0} where
       (λ t below. let ends = ends_at len tile t some below in let same : suc t * tile ≡ (t + 1) * tile = omega arith in omega arith)
       (λ t below. tile_cut len tile t xs some below)
       ∙ take_all (min len (n * tile)) xs (omega (arith, long, starts_past len tile some))
+
+-- whether a segment started before changes nothing of the value since the last start
+unflagged : {Item : Type 0} (join : Item → Item → Item) (f h : Bool) (v : Item) (ws : List (Bool × Item))
+    → (fold_of (seg_join join) (f, v) ws).1 ≡ (fold_of (seg_join join) (h, v) ws).1
+unflagged join f h v [] = refl
+unflagged join f h v ((starts, x) ∷ ws) = unflagged join (either f starts) (either h starts) (if starts then x else join v x) ws
 
 module _ {Item : Type 0} {is_item : Item → Bool} {unit : Item} {join : Item → Item → Item} (laws : MonoidLaws is_item unit join)
     (len tile : ℕ) (run : List (Bool × Item)) (some : 1 ≤ tile) (items : AllPass (is_seg_item is_item) run) where
@@ -110,6 +120,39 @@ module _ {Item : Type 0} {is_item : Item → Bool} {unit : Item} {join : Item �
   pub before_is_item : (t : ℕ) → t ≤ tile_count len tile → IsTrue (is_seg_item is_item (fold_of (seg_join join) (seg_unit unit) (take t (sums_of join unit len tile run))))
   before_is_item t within =
       fold_of_is_item (seg_laws laws) (take t (sums_of join unit len tile run)) (All-take (λ w. is_seg_item is_item w ≡ true) t (sums_of join unit len tile run) sums_pass)
+
+  -- what stands before a place is what stands before its tile, and then what the tile's elements before it join to
+  pub since_tile : (t p : ℕ) (before : Item) → t < tile_count len tile → (range_of len tile t).0 ≤ p
+      → before ≡ (fold_of (seg_join join) (seg_unit unit) (take t (sums_of join unit len tile run))).1
+      → (fold_of (seg_join join) (false, before) (slice_range run (range_of len tile t).0 p)).1 ≡ (fold_of (seg_join join) (seg_unit unit) (take p run)).1
+  since_tile t p before below begun is =
+      let from : ℕ = (range_of len tile t).0 in
+      let starts : min len (t * tile) ≡ from = omega (arith, starts_within len tile t some below) in
+      let end : from + (p - from) ≡ p = omega (arith, begun) in
+      let sum : Bool × Item = fold_of (seg_join join) (seg_unit unit) (take from run) in
+      let joined = sums_before t (omega (arith, below)) ∙ ap (λ k. fold_of (seg_join join) (seg_unit unit) (take k run)) starts in
+      ap (λ b. (fold_of (seg_join join) (false, b) (slice_range run from p)).1) (is ∙ ap (λ w. w.1) joined)
+      ∙ unflagged join false sum.0 sum.1 (slice_range run from p)
+      ∙ ap (λ w. w.1) (sym (fold-append (seg_join join) (seg_unit unit) (take from run) (slice_range run from p)))
+      ∙ ap (λ ws. (fold_of (seg_join join) (seg_unit unit) ws).1) (sym (take-add from (p - from) run))
+      ∙ ap (λ k. (fold_of (seg_join join) (seg_unit unit) (take k run)).1) end
+
+  -- and it is an item
+  pub since_is_item : (t p : ℕ) (before : Item) → t < tile_count len tile → (range_of len tile t).0 ≤ p
+      → before ≡ (fold_of (seg_join join) (seg_unit unit) (take t (sums_of join unit len tile run))).1
+      → IsTrue (is_item (fold_of (seg_join join) (false, before) (slice_range run (range_of len tile t).0 p)).1)
+  since_is_item t p before below begun is =
+      subst (λ x. IsTrue (is_item x)) (sym (since_tile t p before below begun is))
+      (fold_of_is_item (seg_laws laws) (take p run) (All-take (λ w. is_seg_item is_item w ≡ true) p run items))
+
+  -- a part of the scan is the scan of that part, after what stands before it
+  pub written_after : (t p n : ℕ) (before : Item) → t < tile_count len tile → (range_of len tile t).0 ≤ p
+      → before ≡ (fold_of (seg_join join) (seg_unit unit) (take t (sums_of join unit len tile run))).1
+      → part (run_scan_of join unit unit run) p n ≡ run_scan_of join unit (fold_of (seg_join join) (false, before) (slice_range run (range_of len tile t).0 p)).1 (part run p n)
+  written_after t p n before below begun is =
+      ap (take n) (run_scan-drop join unit false unit p run)
+      ∙ run_scan-take join unit (fold_of (seg_join join) (seg_unit unit) (take p run)).1 n (drop p run)
+      ∙ ap (λ b. run_scan_of join unit b (part run p n)) (sym (since_tile t p before below begun is))
 
 -- a list that isn't empty has a tile
 pub some_tile : (len tile : ℕ) → 1 ≤ tile → 0 < len → 0 < tile_count len tile

@@ -30,10 +30,6 @@ pub record IsAtTile {Item : Type 0} (join : Item → Item → Item) (unit : Item
   pub before_is : before ≡ before_tile join unit sums t
   pub sum_is : sum ≡ own_sum unit sums t
 
--- of a reduce, which the last tile gives
-abbrev pub reduce_at : {Item : Type 0} → ℕ → Item → ℕ → List Item
-reduce_at count whole t = if t + 1 == count then whole ∷ [] else []
-
 -- how many segments start before a place
 abbrev pub starts_before : List ℕ → ℕ → ℕ
 starts_before [] place = 0

@@ -1,2 +1,3 @@
 pub mod Kernels
 pub mod Told
+pub mod Written

@@ -1,15 +1,15 @@
-//! Flat vectors in tiles: their scans and their reduces.
+//! Flat vectors in tiles.
 
-ghost use Rattle.std.specs.Prelude.{◌≡◌, ◌<◌, ◌≤◌, true, length, map, slice_index_or};
+ghost use Rattle.std.specs.Prelude.{◌≡◌, ◌<◌, ◌≤◌, true, length};
 ghost use Rattle.std.specs.List.{AllPass, list_all};
 ghost use Rattle.cvl_base.specs.Limits.{most_elements};
 
-use crate::kernel::Kernel;
+use crate::kernel::Scanned;
 use boards::Tiles;
 use cvl_base::monoid::know_laws;
-use cvl_base::{Monoid, NoResources, Packed};
-use scan_walks::{Reading, scan_readings_from, sum_readings_from};
-use std::alloc::Allocator;
+use cvl_base::{Monoid, Packed};
+use fresh::Run;
+use scan_walks::{Reading, scan_into, sum_readings_from};
 use std::marker::PhantomData;
 use tile_plan::Plan;
 
@@ -27,8 +27,7 @@ pub(crate) struct Flat<'a, M: Packed, X: Copy, E: Reading<X, M::Item>> {
 }
 
 impl<'a, M: Packed, X: Copy, E: Reading<X, M::Item>> Flat<'a, M, X, E> {
-    ghost use Rattle.cvl_base.specs.SegmentMonoid.{is_seg_item, seg_unit};
-    ghost use Rattle.tile_scans.specs.Kernels.{flat_sums, tile_of};
+    ghost use Rattle.tile_scans.specs.Kernels.{tile_of};
     ghost use Rattle.tile_plan.specs.Ranges.{tile_count};
 
     /// A vector of at most 4,194,304 elements in tiles of `tile` elements, of which there is at least one.
@@ -47,19 +46,6 @@ impl<'a, M: Packed, X: Copy, E: Reading<X, M::Item>> Flat<'a, M, X, E> {
         }
     }
 
-    /// The number of tiles.
-    fn count(&self) -> u32
-        ensures count { result ≡ length (flat_sums M.join M.unit self.now.plan
-            (map E.item self.now.elements.now)) }
-        ensures few { length (flat_sums M.join M.unit self.now.plan
-            (map E.item self.now.elements.now)) ≤ most_elements }
-        ensures items { AllPass (is_seg_item M.is_item) (flat_sums M.join M.unit self.now.plan
-            (map E.item self.now.elements.now)) }
-    {
-        know_laws::<M>();
-        self.plan.count()
-    }
-
     /// The elements of tile `t`.
     fn tile(&self, t: u32) -> &'a [X]
         requires { t < tile_count self.now.plan.0 self.now.plan.1 }
@@ -69,125 +55,55 @@ impl<'a, M: Packed, X: Copy, E: Reading<X, M::Item>> Flat<'a, M, X, E> {
         let (from, to) = self.plan.range(t);
         &self.elements[from as usize..to as usize]
     }
+}
 
-    /// The sum of tile `t`, in which no segment starts.
-    fn sum(&self, t: u32) -> (bool, M::Item)
-        requires { t < length (flat_sums M.join M.unit self.now.plan (map E.item self.now.elements.now)) }
-        ensures { result ≡ slice_index_or (flat_sums M.join M.unit self.now.plan
-            (map E.item self.now.elements.now)) t (seg_unit M.unit) }
-    {
+impl<'a, M: Packed, X: Copy, E: Reading<X, M::Item>> Tiles for Flat<'a, M, X, E> {
+    ghost use Rattle.std.specs.Prelude.{map};
+    ghost use Rattle.tile_scans.specs.Kernels.{flat_sums};
+
+    type M = M;
+
+    ghost sums = { λ flat. flat_sums M.join M.unit flat.plan (map E.item flat.elements.now) };
+
+    fn count(&self) -> u32 {
+        know_laws::<M>();
+        self.plan.count()
+    }
+
+    fn sum(&self, t: u32) -> (bool, M::Item) {
         know_laws::<M>();
         (false, sum_readings_from::<M, X, E>(M::unit(), self.tile(t)))
     }
 }
 
-/// The scan of a flat vector: each tile gives the scan of its elements, after what stands before it.
-#[derive(Drop)]
-pub(crate) struct FlatScan<'a, M: Packed, X: Copy, E: Reading<X, M::Item>> {
-    pub(crate) flat: Flat<'a, M, X, E>,
-}
-
-impl<'a, M: Packed, X: Copy, E: Reading<X, M::Item>> Tiles for FlatScan<'a, M, X, E> {
-    ghost use Rattle.tile_scans.specs.Kernels.{flat_sums};
-
-    type M = M;
-
-    ghost sums = { λ k. flat_sums M.join M.unit k.flat.plan (map E.item k.flat.elements.now) };
-
-    fn count(&self) -> u32 {
-        self.flat.count()
-    }
-
-    fn sum(&self, t: u32) -> (bool, M::Item) {
-        self.flat.sum(t)
-    }
-}
-
-impl<'a, M: Packed, X: Copy, E: Reading<X, M::Item>> Kernel for FlatScan<'a, M, X, E> {
-    ghost use Rattle.std.specs.Prelude.{IfOk};
+impl<'a, M: Packed, X: Copy, E: Reading<X, M::Item>> Scanned for Flat<'a, M, X, E> {
+    ghost use Rattle.std.specs.Prelude.{◌≡◌, ◌+◌, ◌≤◌, length, map};
     ghost use Rattle.cvl_base.specs.Folds.{scan_of};
-    ghost use Rattle.tile_scans.specs.Kernels.{IsAtTile, flat_sums, tile_of};
-
-    ghost items = { λ k t. tile_of k.flat.plan.0 k.flat.plan.1 (scan_of M.join M.unit
-        (map E.item k.flat.elements.now)) t };
-
-    fn len(&self) -> usize {
-        self.flat.elements.len()
-    }
-
-    fn items<A: Allocator>(
-        &self,
-        alloc: A,
-        t: u32,
-        before: (bool, M::Item),
-        sum: (bool, M::Item),
-    ) -> Result<Vec<M::Item, A>, NoResources>
-        requires { IsAtTile M.join M.unit (flat_sums M.join M.unit self.now.flat.plan
-            (map E.item self.now.flat.elements.now)) t before sum }
-        ensures { IfOk result (λ made. made.items
-            ≡ tile_of self.now.flat.plan.0 self.now.flat.plan.1 (scan_of M.join M.unit
-            (map E.item self.now.flat.elements.now)) t) }
-    {
-        know_laws::<M>();
-        let sums = scan_readings_from::<M, X, E, A>(alloc, before.1, self.flat.tile(t))?;
-        Ok(sums)
-    }
-}
-
-/// The reduce of a flat vector, which the last tile gives.
-#[derive(Drop)]
-pub(crate) struct FlatReduce<'a, M: Packed, X: Copy, E: Reading<X, M::Item>> {
-    pub(crate) flat: Flat<'a, M, X, E>,
-}
-
-impl<'a, M: Packed, X: Copy, E: Reading<X, M::Item>> Tiles for FlatReduce<'a, M, X, E> {
+    ghost use Rattle.cvl_base.specs.TileSums.{before_tile};
     ghost use Rattle.tile_scans.specs.Kernels.{flat_sums};
+    ghost use Rattle.tile_scans.specs.Written.{IsInTile, left_in, next_of, written_on};
 
-    type M = M;
+    ghost scans = { λ flat. scan_of M.join M.unit (map E.item flat.elements.now) };
 
-    ghost sums = { λ k. flat_sums M.join M.unit k.flat.plan (map E.item k.flat.elements.now) };
+    ghost tiling = { λ flat. flat.plan };
 
-    fn count(&self) -> u32 {
-        self.flat.count()
+    fn plan(&self) -> Plan {
+        self.plan
     }
 
-    fn sum(&self, t: u32) -> (bool, M::Item) {
-        self.flat.sum(t)
-    }
-}
-
-impl<'a, M: Packed, X: Copy, E: Reading<X, M::Item>> Kernel for FlatReduce<'a, M, X, E> {
-    ghost use Rattle.std.specs.Prelude.{IfOk};
-    ghost use Rattle.cvl_base.specs.Folds.{fold_of};
-    ghost use Rattle.tile_scans.specs.Kernels.{IsAtTile, flat_sums, reduce_at};
-    ghost use Rattle.tile_plan.specs.Ranges.{tile_count};
-
-    ghost items = { λ k t. reduce_at (tile_count k.flat.plan.0 k.flat.plan.1) (fold_of M.join M.unit
-        (map E.item k.flat.elements.now)) t };
-
-    fn len(&self) -> usize {
-        1
-    }
-
-    fn items<A: Allocator>(
-        &self,
-        alloc: A,
-        t: u32,
-        before: (bool, M::Item),
-        sum: (bool, M::Item),
-    ) -> Result<Vec<M::Item, A>, NoResources>
-        requires { IsAtTile M.join M.unit (flat_sums M.join M.unit self.now.flat.plan
-            (map E.item self.now.flat.elements.now)) t before sum }
-        ensures { IfOk result (λ made. made.items
-            ≡ reduce_at (tile_count self.now.flat.plan.0 self.now.flat.plan.1) (fold_of M.join M.unit
-            (map E.item self.now.flat.elements.now)) t) }
+    fn write_tile(&self, run: Run<M::Item>, t: u32, before: M::Item) -> Run<M::Item>
+        requires tile { IsInTile self.now.plan t run }
+        requires within { next_of run + run.room ≤ length (scan_of M.join M.unit (map E.item self.now.elements.now)) }
+        requires before { before
+            ≡ (before_tile M.join M.unit (flat_sums M.join M.unit self.now.plan (map E.item self.now.elements.now)) t).1 }
+        ensures { result ≡ written_on (scan_of M.join M.unit (map E.item self.now.elements.now))
+            (left_in self.now.plan t run) run }
     {
         know_laws::<M>();
-        if t < self.flat.count() - 1 {
-            return Ok(Vec::new(alloc));
-        }
-        let mut reduces = Vec::with_capacity(alloc, 1)?;
-        reduces.push_reserved(M::join(before.1, sum.1));
-        Ok(reduces)
+        let (start, end) = self.plan.range(t);
+        let at = run.next_place();
+        let end = (end as usize).min(at + run.room());
+        let before = sum_readings_from::<M, X, E>(before, &self.elements[start as usize..at]);
+        scan_into::<M, X, E>(run, before, &self.elements[at..end])
     }
 }

@@ -16,6 +16,7 @@ mod reduces;
 mod scans;
 mod segmented_tiles;
 mod tile_work;
+mod writes;
 
 pub use reduces::{
     reduce, reduce_gated, reduce_readings, seg_reduce, seg_reduce_gated, seg_reduce_readings,

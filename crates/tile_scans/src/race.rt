@@ -2,31 +2,37 @@
 
 ghost use Rattle.std.specs.Prelude.{◌≡◌, ◌≤◌, IfOk, length, map};
 ghost use Rattle.cvl_base.specs.Limits.{most_workers};
+ghost use Rattle.boards.specs.Boards.{IsSeatOf};
 ghost use Rattle.tile_plan.specs.Pieces.{AreOfTiles, in_order_of_tiles};
-ghost use denote.Param.Send.{IsSync, IsSend, Frees};
+ghost use Rattle.tile_scans.specs.Written.{befores_of};
 
-use crate::kernel::Kernel;
+use crate::kernel::{Kernel, PrefixesAlone};
 use crate::tile_work::{LentTiles, TileWork};
-use boards::ScanBoard;
-use crew::{Gate, run_crew};
-use cvl_base::{Config, Memory, Monoid, NoResources, Packed};
-use std::marker::PhantomData;
-use std::thread::{Threads, join};
-use tile_plan::{Piece, gather_over, gather_tiles};
+use boards::{ScanBoard, ScanSeat, Tiles};
+use crew::{Gate, run_crew, run_crew_for_facts};
+use cvl_base::{Config, Memory, Monoid, NoResources};
+use sharing::threads_for;
+use std::thread::Threads;
+use tile_plan::{Piece, gather_tiles};
 
-/// From how many items on the answer is written by several threads, over memory that one thread fills beside the race.
-/// Fewer items are gathered by one thread, since threads take longer to start than they save.
-const LEAST_SHARED: usize = 1_048_576;
+/// How many workers race for so many tiles: as many as the configuration says, but no more than there are tiles.
+fn workers_for(config: Config, tiles: u32) -> u32
+    ensures some { 1 ≤ result }
+    ensures few { result ≤ config.1 }
+{
+    config.workers().min(tiles).max(1)
+}
 
-/// The items of all tiles, one tile after another. As many workers as the configuration says race for the tiles, but no more
-/// than there are tiles, and pass the gate at each point. Where there is one worker no thread is started.
+/// The items of all tiles, one tile after another, about `len` in all. Workers race for the tiles, and pass the gate at each
+/// point; then several threads write the items where they are many. Where there is one worker no thread is started.
 ///
 /// Source: Merrill and Garland's single pass.
-pub(crate) fn race<R: Threads + Sync, A: Memory, K: Kernel + Sync, G: Gate>(
+pub(crate) fn race_for_items<R: Threads + Sync, A: Memory, K: Kernel + Sync, G: Gate>(
     rt: &R,
     alloc: A,
     config: Config,
     kernel: &K,
+    len: usize,
     gate: &G,
 ) -> Result<Vec<<K::M as Monoid>::Item, A>, NoResources>
 where
@@ -35,56 +41,9 @@ where
     ensures { IfOk result (λ whole. whole.items
         ≡ in_order_of_tiles (length (K.sums kernel.now)) (K.items kernel.now)) }
 {
-    let workers = config.workers().min(kernel.count()).max(1);
-    if workers > 1 && kernel.len() >= LEAST_SHARED {
-        return race_beside_fill(rt, alloc, workers, kernel, gate);
-    }
+    let workers = workers_for(config, kernel.count());
     let pieces = race_for_pieces(rt, alloc, workers, kernel, gate)?;
-    gather_tiles(alloc, kernel.len(), pieces)
-}
-
-/// The items of all tiles, one tile after another. A thread of its own fills the memory for them while so many workers
-/// race for the tiles, and then as many threads write the items over it.
-///
-/// The race waits for nothing that the filling does: where no thread can be made the memory is filled after the race.
-fn race_beside_fill<R: Threads + Sync, A: Memory, K: Kernel + Sync, G: Gate>(
-    rt: &R,
-    alloc: A,
-    workers: u32,
-    kernel: &K,
-    gate: &G,
-) -> Result<Vec<<K::M as Monoid>::Item, A>, NoResources>
-where
-    K::M: Send + Sync,
-    <K::M as Monoid>::Item: Send + Sync,
-    requires some { 1 ≤ workers }
-    requires few { workers ≤ most_workers }
-    ensures { IfOk result (λ whole. whole.items
-        ≡ in_order_of_tiles (length (K.sums kernel.now)) (K.items kernel.now)) }
-{
-    let len = kernel.len();
-    // a thread's closure must capture each type that its result names
-    let item: PhantomData<<K::M as Monoid>::Item> = PhantomData;
-    let fill = move || -> Result<Vec<<K::M as Monoid>::Item, A>, NoResources>
-        requires { IsSend K.M.Item.row × IsSend A.row × Frees A.Allocator A.dealloc_token }
-    {
-        let _named = item;
-        Ok(Vec::from_elem(alloc, blank::<K::M>(), len)?)
-    };
-    let crew = move || -> Result<Vec<Piece<<K::M as Monoid>::Item, A>, A>, NoResources>
-        requires { IsSync R.row × IsSync K.row × IsSync G.row × IsSend K.M.Item.row × IsSync K.M.Item.row × IsSend A.row
-            × IsSync A.row × Frees A.Allocator A.dealloc_token × (1 ≤ workers) × (workers ≤ most_workers) }
-        ensures { IfOk result (λ pieces. AreOfTiles (length (K.sums kernel.entry.now)) (K.items kernel.entry.now)
-            (map (λ p. (p.tile, p.items.items)) pieces.items)) }
-    { race_for_pieces(rt, alloc, workers, kernel, gate) };
-    let (whole, pieces) = join(rt, fill, crew);
-    gather_over(rt, whole?, blank::<K::M>(), workers, pieces?)
-}
-
-/// An item to fill memory with. As a constant whose bytes are 0 it lets the compiler clear the memory by one call of the C
-/// library, which takes somewhat less time than a loop.
-fn blank<M: Packed>() -> M::Item {
-    M::from_word(0)
+    gather_tiles(rt, alloc, threads_for(config, len), pieces)
 }
 
 /// The pieces of all tiles, for which so many workers race.
@@ -109,4 +68,50 @@ where
     let TileWork { board, .. } = work;
     board.close(crewed.seats);
     Ok(crewed.pieces)
+}
+
+/// What stands before each tile of a vector. Workers race for the tiles, tell their sums and their prefixes, and pass the
+/// gate at each point. Where there is one worker no thread is started. It keeps no memory but the answer's.
+///
+/// Source: Merrill and Garland's decoupled look-back.
+pub(crate) fn race_for_befores<R: Threads + Sync, A: Memory, T: Tiles + Sync, G: Gate>(
+    rt: &R,
+    alloc: A,
+    config: Config,
+    tiles: &T,
+    gate: &G,
+) -> Result<Vec<<T::M as Monoid>::Item, A>, NoResources>
+where
+    T::M: Send + Sync,
+    <T::M as Monoid>::Item: Send + Sync,
+    ensures { IfOk result (λ before. before.items ≡ befores_of T.M.join T.M.unit (T.sums tiles.now)) }
+{
+    let count = tiles.count();
+    let workers = workers_for(config, count);
+    let kernel = PrefixesAlone { tiles };
+    let (board, seats) = ScanBoard::new(alloc, LentTiles { kernel: &kernel }, workers)?;
+    let work = TileWork {
+        board,
+        kernel: &kernel,
+    };
+    let mut seats = run_crew_for_facts(rt, alloc, &work, seats, gate)?;
+    befores(alloc, &work.board, &mut seats[0], count)
+}
+
+/// What stands before each tile, by a look back from each: one look at a tile whose prefix was told.
+fn befores<A: Memory, T: Tiles>(
+    alloc: A,
+    board: &ScanBoard<T, A>,
+    seat: &mut ScanSeat<T::M>,
+    count: u32,
+) -> Result<Vec<<T::M as Monoid>::Item, A>, NoResources>
+    requires seat { IsSeatOf board.now seat.old }
+    requires count { count ≡ length board.now.sums }
+    ensures { IfOk result (λ before. before.items ≡ befores_of T.M.join T.M.unit board.now.sums) }
+{
+    let mut before = Vec::with_capacity(alloc, count as usize)?;
+    for t in 0..count {
+        before.push_reserved(board.look_back(seat, t).before.1);
+    }
+    Ok(before)
 }

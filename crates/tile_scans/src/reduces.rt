@@ -6,10 +6,11 @@ ghost use Rattle.cvl_base.specs.Folds.{fold_of};
 ghost use Rattle.cvl_base.specs.Gives.{Gives};
 ghost use Rattle.cvl_base.specs.SegmentedCalls.{seg_reduce_of};
 
-use crate::flat_tiles::{Flat, FlatReduce};
+use crate::flat_tiles::Flat;
 use crate::pace::reduce_pace;
-use crate::race::race;
+use crate::race::{race_for_befores, race_for_items};
 use crate::segmented_tiles::{Segmented, SegmentedReduce};
+use boards::Tiles;
 use crew::{Gate, OpenGate};
 use cvl_base::monoid::know_laws;
 use cvl_base::{Config, Memory, Monoid, NoResources, Packed, Refused};
@@ -53,8 +54,9 @@ where
         return Ok(sum_readings_from::<M, M::Item, Itself>(M::unit(), a));
     };
     let flat = Flat::<M, M::Item, Itself>::new(a, pace.tile());
-    let reduces = race(rt, alloc, pace, &FlatReduce { flat }, gate)?;
-    Ok(reduces[0])
+    let before = race_for_befores(rt, alloc, pace, &flat, gate)?;
+    let last = flat.count() - 1;
+    Ok(M::join(before[last as usize], flat.sum(last).1))
 }
 
 /// What the elements are read as, joined from left to right, and the unit where there are none. It takes no memory.
@@ -161,6 +163,7 @@ where
         return Ok(walked);
     };
     let vector = Segmented::<M, X, E, A>::new(a, d, pace.tile());
-    let reduces = race(rt, alloc, pace, &SegmentedReduce { vector }, gate)?;
+    let kernel = SegmentedReduce { vector };
+    let reduces = race_for_items(rt, alloc, pace, &kernel, d.count(), gate)?;
     Ok(reduces)
 }

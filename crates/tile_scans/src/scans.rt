@@ -6,10 +6,10 @@ ghost use Rattle.cvl_base.specs.Folds.{scan_of};
 ghost use Rattle.cvl_base.specs.Gives.{Gives};
 ghost use Rattle.cvl_base.specs.SegmentedCalls.{seg_scan_of};
 
-use crate::flat_tiles::{Flat, FlatScan};
+use crate::flat_tiles::Flat;
 use crate::pace::scan_pace;
-use crate::race::race;
-use crate::segmented_tiles::{Segmented, SegmentedScan};
+use crate::segmented_tiles::Segmented;
+use crate::writes::scan_in_tiles;
 use crew::{Gate, OpenGate};
 use cvl_base::monoid::know_laws;
 use cvl_base::{Config, Memory, NoResources, Packed, Refused};
@@ -102,7 +102,7 @@ where
         return scan_readings_from::<M, X, E, A>(alloc, M::unit(), a);
     };
     let flat = Flat::<M, X, E>::new(a, pace.tile());
-    let sums = race(rt, alloc, pace, &FlatScan { flat }, gate)?;
+    let sums = scan_in_tiles(rt, alloc, pace, &flat, gate)?;
     Ok(sums)
 }
 
@@ -148,6 +148,6 @@ where
         return Ok(scan_of_run::<M, A>(alloc, a, d, 0, a.len(), M::unit())?);
     };
     let vector = Segmented::<M, M::Item, Itself, A>::new(a, d, pace.tile());
-    let sums = race(rt, alloc, pace, &SegmentedScan { vector }, gate)?;
+    let sums = scan_in_tiles(rt, alloc, pace, &vector, gate)?;
     Ok(sums)
 }

@@ -1,14 +1,15 @@
-//! Segmented vectors in tiles: their scans and their reduces.
+//! Segmented vectors in tiles, and their reduces.
 
-ghost use Rattle.std.specs.Prelude.{◌≡◌, ◌<◌, ◌≤◌, true, length, map, slice_index_or, sum};
+ghost use Rattle.std.specs.Prelude.{◌≡◌, ◌≤◌, true, length, sum};
 ghost use Rattle.std.specs.List.{AllPass, list_all};
 ghost use Rattle.cvl_base.specs.Limits.{most_elements};
 
-use crate::kernel::Kernel;
+use crate::kernel::{Kernel, Scanned};
 use boards::Tiles;
 use cvl_base::monoid::know_laws;
 use cvl_base::{Monoid, NoResources, Packed};
-use scan_walks::{Reading, reduces_of_readings, scan_of_readings, sum_of_readings};
+use fresh::Run;
+use scan_walks::{Reading, reduces_of_readings, scan_run_into, sum_of_readings};
 use segdes::SegDes;
 use std::alloc::Allocator;
 use std::marker::PhantomData;
@@ -30,8 +31,7 @@ pub(crate) struct Segmented<'a, M: Packed, X: Copy, E: Reading<X, M::Item>, A: A
 }
 
 impl<'a, M: Packed, X: Copy, E: Reading<X, M::Item>, A: Allocator> Segmented<'a, M, X, E, A> {
-    ghost use Rattle.cvl_base.specs.SegmentMonoid.{is_seg_item, seg_unit};
-    ghost use Rattle.tile_scans.specs.Kernels.{first_left, segmented_sums};
+    ghost use Rattle.tile_scans.specs.Kernels.{first_left};
     ghost use Rattle.tile_plan.specs.Ranges.{tile_count};
 
     /// A vector of at most 4,194,304 elements beside its descriptor, in tiles of `tile` elements, of which there is at least
@@ -58,32 +58,6 @@ impl<'a, M: Packed, X: Copy, E: Reading<X, M::Item>, A: Allocator> Segmented<'a,
         }
     }
 
-    /// The number of tiles.
-    fn count(&self) -> u32
-        ensures count { result ≡ length (segmented_sums M.join M.unit self.now.plan self.now.segments.now
-            (map E.item self.now.elements.now)) }
-        ensures few { length (segmented_sums M.join M.unit self.now.plan self.now.segments.now
-            (map E.item self.now.elements.now)) ≤ most_elements }
-        ensures items { AllPass (is_seg_item M.is_item) (segmented_sums M.join M.unit self.now.plan self.now.segments.now
-            (map E.item self.now.elements.now)) }
-    {
-        know_laws::<M>();
-        self.plan.count()
-    }
-
-    /// The sum of tile `t`.
-    fn sum(&self, t: u32) -> (bool, M::Item)
-        requires { t < length (segmented_sums M.join M.unit self.now.plan self.now.segments.now
-            (map E.item self.now.elements.now)) }
-        ensures { result ≡ slice_index_or (segmented_sums M.join M.unit self.now.plan self.now.segments.now
-            (map E.item self.now.elements.now)) t (seg_unit M.unit) }
-    {
-        know_laws::<M>();
-        let (from, to) = self.plan.range(t);
-        let (from, to) = (from as usize, to as usize);
-        sum_of_readings::<M, X, E, A>(self.elements, self.segments, from, to, M::unit())
-    }
-
     /// The first segment whose reduce the tiles before tile `t` don't give, where `t` may be the number of tiles.
     fn first_segment(&self, t: u32) -> usize
         requires { t ≤ tile_count self.now.plan.0 self.now.plan.1 }
@@ -97,65 +71,60 @@ impl<'a, M: Packed, X: Copy, E: Reading<X, M::Item>, A: Allocator> Segmented<'a,
     }
 }
 
-/// The scan of a segmented vector: each tile gives the scan of its run, after what stands before it.
-#[derive(Drop)]
-pub(crate) struct SegmentedScan<'a, M: Packed, X: Copy, E: Reading<X, M::Item>, A: Allocator> {
-    pub(crate) vector: Segmented<'a, M, X, E, A>,
-}
-
 impl<'a, M: Packed, X: Copy, E: Reading<X, M::Item>, A: Allocator> Tiles
-    for SegmentedScan<'a, M, X, E, A> {
+    for Segmented<'a, M, X, E, A> {
+    ghost use Rattle.std.specs.Prelude.{map};
     ghost use Rattle.tile_scans.specs.Kernels.{segmented_sums};
 
     type M = M;
 
-    ghost sums = { λ k. segmented_sums M.join M.unit k.vector.plan k.vector.segments.now
-        (map E.item k.vector.elements.now) };
+    ghost sums = { λ v. segmented_sums M.join M.unit v.plan v.segments.now (map E.item v.elements.now) };
 
     fn count(&self) -> u32 {
-        self.vector.count()
+        know_laws::<M>();
+        self.plan.count()
     }
 
     fn sum(&self, t: u32) -> (bool, M::Item) {
-        self.vector.sum(t)
+        know_laws::<M>();
+        let (from, to) = self.plan.range(t);
+        let (from, to) = (from as usize, to as usize);
+        sum_of_readings::<M, X, E, A>(self.elements, self.segments, from, to, M::unit())
     }
 }
 
-impl<'a, M: Packed, X: Copy, E: Reading<X, M::Item>, A: Allocator> Kernel
-    for SegmentedScan<'a, M, X, E, A> {
-    ghost use Rattle.std.specs.Prelude.{IfOk};
-    ghost use Rattle.tile_scans.specs.Kernels.{IsAtTile, segmented_sums, tile_of};
+impl<'a, M: Packed, X: Copy, E: Reading<X, M::Item>, A: Allocator> Scanned
+    for Segmented<'a, M, X, E, A> {
+    ghost use Rattle.std.specs.Prelude.{◌≡◌, ◌+◌, ◌≤◌, length, map};
+    ghost use Rattle.cvl_base.specs.TileSums.{before_tile};
     ghost use Rattle.scan_walks.specs.Runs.{scans_of};
+    ghost use Rattle.tile_scans.specs.Kernels.{segmented_sums};
+    ghost use Rattle.tile_scans.specs.Written.{IsInTile, left_in, next_of, written_on};
 
-    ghost items = { λ k t. tile_of k.vector.plan.0 k.vector.plan.1 (scans_of M.join M.unit k.vector.segments.now
-        (map E.item k.vector.elements.now)) t };
+    ghost scans = { λ v. scans_of M.join M.unit v.segments.now (map E.item v.elements.now) };
 
-    fn len(&self) -> usize {
-        self.vector.elements.len()
+    ghost tiling = { λ v. v.plan };
+
+    fn plan(&self) -> Plan {
+        self.plan
     }
 
-    fn items<B: Allocator>(
-        &self,
-        alloc: B,
-        t: u32,
-        before: (bool, M::Item),
-        sum: (bool, M::Item),
-    ) -> Result<Vec<M::Item, B>, NoResources>
-        requires { IsAtTile M.join M.unit
-            (segmented_sums M.join M.unit self.now.vector.plan self.now.vector.segments.now
-            (map E.item self.now.vector.elements.now)) t before sum }
-        ensures { IfOk result (λ made. made.items
-            ≡ tile_of self.now.vector.plan.0 self.now.vector.plan.1 (scans_of M.join M.unit
-            self.now.vector.segments.now (map E.item self.now.vector.elements.now)) t) }
+    fn write_tile(&self, run: Run<M::Item>, t: u32, before: M::Item) -> Run<M::Item>
+        requires tile { IsInTile self.now.plan t run }
+        requires within { next_of run + run.room
+            ≤ length (scans_of M.join M.unit self.now.segments.now (map E.item self.now.elements.now)) }
+        requires before { before ≡ (before_tile M.join M.unit (segmented_sums M.join M.unit self.now.plan
+            self.now.segments.now (map E.item self.now.elements.now)) t).1 }
+        ensures { result ≡ written_on (scans_of M.join M.unit self.now.segments.now (map E.item self.now.elements.now))
+            (left_in self.now.plan t run) run }
     {
         know_laws::<M>();
-        let (from, to) = self.vector.plan.range(t);
-        let (from, to) = (from as usize, to as usize);
-        let (elements, segments) = (self.vector.elements, self.vector.segments);
-        let sums = scan_of_readings::<M, X, E, A, B>(
-            alloc, elements, segments, from, to, before.1,
-        )?;
-        Ok(sums)
+        let (start, end) = self.plan.range(t);
+        let at = run.next_place();
+        let end = (end as usize).min(at + run.room());
+        let (elements, segments) = (self.elements, self.segments);
+        let sum = sum_of_readings::<M, X, E, A>(elements, segments, start as usize, at, before);
+        scan_run_into::<M, X, E, A>(run, elements, segments, at, end, sum.1)
     }
 }
 
@@ -168,6 +137,7 @@ pub(crate) struct SegmentedReduce<'a, M: Packed, X: Copy, E: Reading<X, M::Item>
 
 impl<'a, M: Packed, X: Copy, E: Reading<X, M::Item>, A: Allocator> Tiles
     for SegmentedReduce<'a, M, X, E, A> {
+    ghost use Rattle.std.specs.Prelude.{map};
     ghost use Rattle.tile_scans.specs.Kernels.{segmented_sums};
 
     type M = M;
@@ -186,15 +156,11 @@ impl<'a, M: Packed, X: Copy, E: Reading<X, M::Item>, A: Allocator> Tiles
 
 impl<'a, M: Packed, X: Copy, E: Reading<X, M::Item>, A: Allocator> Kernel
     for SegmentedReduce<'a, M, X, E, A> {
-    ghost use Rattle.std.specs.Prelude.{IfOk};
+    ghost use Rattle.std.specs.Prelude.{IfOk, map};
     ghost use Rattle.tile_scans.specs.Kernels.{IsAtTile, reduces_at, segmented_sums};
 
     ghost items = { λ k t. reduces_at M.join M.unit k.vector.plan k.vector.segments.now
         (map E.item k.vector.elements.now) t };
-
-    fn len(&self) -> usize {
-        self.vector.segments.count()
-    }
 
     fn items<B: Allocator>(
         &self,

@@ -7,11 +7,11 @@ pub run_both-returns : goal.run_both-returns
 run_both-returns g t c =
     let w = g.W.Work in
     let work = c.args.work.now in
-    let front = IfOk-at_ok (λ crewed. Ends (w.count work) (w.items work) (w.IsSeat work) (w.HasFact work) w.given w.is_done
+    let front = IfOk-at_ok (λ crewed. Ends (w.count work) (w.items work) (w.IsSeat work) (w.HasFact work) w.given w.is_done c.args.with_pieces
     (λ p. (p.tile, p.items.items)) _ crewed.seats.items crewed.pieces.items) c.in_ok-front.was c.join-front.ensures.first in
-    let back = IfOk-at_ok (λ crewed. Ends (w.count work) (w.items work) (w.IsSeat work) (w.HasFact work) w.given w.is_done
+    let back = IfOk-at_ok (λ crewed. Ends (w.count work) (w.items work) (w.IsSeat work) (w.HasFact work) w.given w.is_done c.args.with_pieces
     (λ p. (p.tile, p.items.items)) _ crewed.seats.items crewed.pieces.items) c.in_ok-back.was c.join-front.ensures.second in
-    crewed_both (w.count work) (w.items work) (w.IsSeat work) (w.HasFact work) w.given w.is_done (λ p. (p.tile, p.items.items))
+    crewed_both (w.count work) (w.items work) (w.IsSeat work) (w.HasFact work) w.given w.is_done c.args.with_pieces (λ p. (p.tile, p.items.items))
     c.both.result (λ crewed. crewed.seats.items) (λ crewed. crewed.pieces.items) _ _ _ _ _ _ _ c.both.ensures.seats c.both.ensures.pieces refl front back
 
 pub run_from-run_both-requires-clause-seats : goal.run_from-run_both-requires-clause-seats
@@ -26,6 +26,6 @@ pub run_from-returns-then-len-eq1 : goal.run_from-returns-then-len-eq1
 run_from-returns-then-len-eq1 g t c =
     let w = g.W.Work in
     let work = c.args.work.now in
-    one_ends (w.count work) (w.items work) (w.IsSeat work) (w.HasFact work) w.given w.is_done (λ p. (p.tile, p.items.items))
+    one_ends (w.count work) (w.items work) (w.IsSeat work) (w.HasFact work) w.given w.is_done c.args.with_pieces (λ p. (p.tile, p.items.items))
     _ c.args.seats.items c.take_tiles.new.seat c.in_ok-pieces.pieces.items (omega arith) (omega arith)
     c.in_ok-pieces.ensures.of_board c.in_ok-pieces.ensures.done c.in_ok-pieces.ensures.facts c.in_ok-pieces.ensures.pieces

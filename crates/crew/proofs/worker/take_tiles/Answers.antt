@@ -18,6 +18,9 @@ loop-t-preserved g c =
     let claim = c.in-Tile.ensures.claims in
     let same = c.in_ok-items.ensures.given ∙ claim.3 in
     let facts = one_fact_more (w.HasFact work) w.given _ _ _ same c.in_ok-items.ensures.fact
-    (λ k had. c.in_ok-items.ensures.facts k (c.in-Tile.ensures.facts k had)) c.loop-t.invariant.1 in
-    let all = one_more (w.count work) (w.items work) (λ p. (p.tile, p.items.items)) _ _ _ claim.0 c.in_ok-items.ensures.items c.loop-t.invariant.2 in
-    (c.in_ok-items.ensures.stays, facts, rw (same, c.in_ok-push.ensures.items) all)
+    (λ k had. c.in_ok-items.ensures.facts k (c.in-Tile.ensures.facts k had)) c.loop-t.invariant.1 in (
+      c.in_ok-items.ensures.stays,
+      facts,
+      λ kept.
+          one_more (w.count work) (w.items work) _ _ _ _ _ _ same claim.0 c.in_ok-items.ensures.items (c.in_ok-keep.ensures kept) (c.loop-t.invariant.2 kept),
+    )

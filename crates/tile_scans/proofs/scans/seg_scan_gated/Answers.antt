@@ -2,9 +2,8 @@ use Rattle.std.proofs.Common.{◌≡◌, Ok, arith, length, map, sym, ap, ◌∙
 use Rattle.std.proofs.lemmas.List.{length-map, map-id}
 use Rattle.scan_walks.specs.Runs.{scans_of}
 use Rattle.scan_walks.proofs.Cut.{whole_scanned}
-use Rattle.tile_scans.proofs.FlatTiles.{items_read}
 use Rattle.tile_scans.proofs.Segmented.{seg_scan-fits}
-use Rattle.tile_scans.proofs.SegmentedTiles.{length-scans_of, scans_gathered}
+use Rattle.tile_scans.proofs.SegmentedTiles.{length-scans_of}
 use Rattle.tile_scans.proofs.scans.seg_scan_gated.Goals as goal
 
 pub returns-clause-values : goal.returns-clause-values
@@ -13,12 +12,8 @@ returns-clause-values g c =
     let d = c.args.d.now in
     let v = c.new-vector.result in
     let xs = map (λ x. x) v.elements.now in
-    let same : length v.elements.now ≡ length xs = sym (length-map v.elements.now (λ x. x)) in
-    let values : c.in_ok-sums.sums.items ≡ scans_of m.join m.unit v.segments.now xs =
-    scans_gathered c.know_laws.ensures v.plan v.segments.now xs v.some (items_read m.is_item (λ x. x) v.elements.now v.items)
-    c.in_ok-sums.sums.items (v.whole ∙ same) (v.total ∙ same) c.in_ok-sums.ensures in
     seg_scan-fits m.join m.unit c.args.a.now d c.in_ok-check_total.ensures.agrees
-    ∙ ap (λ sums. Ok sums) (sym (values
+    ∙ ap (λ sums. Ok sums) (sym (c.in_ok-sums.ensures
     ∙ ap (λ ls. scans_of m.join m.unit ls xs) c.new-vector.ensures.segments
     ∙ ap (scans_of m.join m.unit d) (map-id v.elements.now ∙ c.new-vector.ensures.elements)))
 
@@ -28,13 +23,10 @@ returns-clause-as_long g c =
     let v = c.new-vector.result in
     let xs = map (λ x. x) v.elements.now in
     let same : length v.elements.now ≡ length xs = sym (length-map v.elements.now (λ x. x)) in
-    let values : c.in_ok-sums.sums.items ≡ scans_of m.join m.unit v.segments.now xs =
-    scans_gathered c.know_laws.ensures v.plan v.segments.now xs v.some (items_read m.is_item (λ x. x) v.elements.now v.items)
-    c.in_ok-sums.sums.items (v.whole ∙ same) (v.total ∙ same) c.in_ok-sums.ensures in
     omega (
       arith,
       c.in_ok-sums.sums.ok,
-      ap length values,
+      ap length c.in_ok-sums.ensures,
       length-scans_of m.join m.unit v.segments.now xs (v.total ∙ same),
       same,
       ap length c.new-vector.ensures.elements,

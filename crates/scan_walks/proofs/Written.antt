@@ -1,0 +1,40 @@
+-- What a run of fresh memory holds while scans are written into it.
+-- Source: what the definitions of folds and of runs imply.
+use Rattle.std.proofs.Common.{◌≡◌, ℕ, ◌+◌, ◌-◌, ◌<◌, ◌≤◌, min, List, [], ◌∷◌, ◌++◌, length, take, drop, get_or, sym, ap, ◌∙◌, arith, length-append}
+use Rattle.std.proofs.lemmas.List.{drop_all}
+use Rattle.cvl_base.specs.Folds.{fold_of, scan_of}
+use Rattle.fresh.specs.Places.{Stretch, stretch, with_items}
+use Rattle.scan_walks.specs.Runs.{scans_of}
+use Rattle.fresh.proofs.Written.{nothing_written, one_written, written_twice}
+use Rattle.scan_walks.proofs.Scanned.{scan_of_more}
+use Rattle.scan_walks.proofs.Segments.{scans_more_min}
+
+-- the step of a scan
+pub scan_written : {Item : Type 0} (join : Item → Item → Item) (run now next : Stretch Item) (before sum : Item) (xs : List Item) (i : ℕ) → i < length xs
+    → now ≡ with_items run (scan_of join before (take i xs)) → sum ≡ fold_of join before (take i xs) → next ≡ stretch now.block now.first (now.items ++ sum ∷ []) (now.room - 1)
+    → next ≡ with_items run (scan_of join before (take (i + 1) xs))
+scan_written join run now next before sum xs i within is is_sum pushed =
+    one_written run now next (scan_of join before (take i xs)) sum is pushed
+    ∙ ap (λ x. with_items run (scan_of join before (take i xs) ++ x ∷ [])) is_sum
+    ∙ ap (with_items run) (sym (scan_of_more join before xs i before within))
+
+module _ {Item : Type 0} (join : Item → Item → Item) (unit : Item) (lengths : List ℕ) where
+  -- the step of a walk over the segments, which has written the scans of those before s and has `rest` left
+  pub scans_written : (run next whole : Stretch Item) (rest front others : List Item) (start : Item) (s n m : ℕ) → s < length lengths → n ≡ get_or lengths s 0 → m ≡ min n (length rest)
+      → front ≡ take m rest → others ≡ drop m rest → start ≡ unit → next ≡ with_items run (scan_of join start front)
+      → with_items run (scans_of join unit (drop s lengths) rest) ≡ whole → with_items next (scans_of join unit (drop (s + 1) lengths) others) ≡ whole
+  scans_written run next whole rest front others start s n m lt is_n is_m is_front is_others is_start is_next is_whole =
+      let later : List Item → List Item = λ ys. scans_of join unit (drop (s + 1) lengths) ys in
+      ap (λ (r : Stretch Item). with_items r (later others)) is_next
+      ∙ written_twice run (scan_of join start front) (later others)
+      ∙ ap (λ u. with_items run (scan_of join u front ++ later others)) is_start
+      ∙ ap (λ f. with_items run (scan_of join unit f ++ later others)) is_front
+      ∙ ap (λ o. with_items run (scan_of join unit (take m rest) ++ later o)) is_others
+      ∙ ap (λ j. with_items run (scan_of join unit (take j rest) ++ later (drop j rest))) is_m
+      ∙ ap (with_items run) (sym (scans_more_min join unit lengths s n rest lt is_n))
+      ∙ is_whole
+
+  -- no segment is left
+  pub scans_ended : (run whole : Stretch Item) (rest : List Item) (s : ℕ) → length lengths ≤ s → with_items run (scans_of join unit (drop s lengths) rest) ≡ whole → run ≡ whole
+  scans_ended run whole rest s past is_whole =
+      sym (nothing_written run) ∙ ap (λ ls. with_items run (scans_of join unit ls rest)) (sym (drop_all s lengths past)) ∙ is_whole
