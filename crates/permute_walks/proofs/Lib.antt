@@ -1,5 +1,5 @@
 pub mod EachSent
-pub mod Over
+pub mod Outside
 pub mod Sent
 pub mod Stored
 pub mod Taken

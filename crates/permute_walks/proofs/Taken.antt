@@ -1,34 +1,14 @@
 -- The walk that takes the elements of senders: what it gives, and that this is what was sent.
-use Rattle.std.proofs.Common.{◌≡◌, ◌∙◌, ℕ, zero, suc, ◌+◌, ◌<◌, ◌≤◌, Bool, true, false, if◌then◌else◌, cond, List, [], ◌∷◌, ◌++◌, length, map, filter_map, take, get_or, refl, sym, ap, append_assoc}
-use Rattle.std.proofs.Common.{append-nil, length-append, arith, ℤ, pos, slice_get, option_map, unwrap_or, Option, Some, None}
-use Rattle.std.specs.List.{zip, find, range_with_len, enumerate_from, cons_option}
-use Rattle.std.specs.Option.{option_to_list}
-use Rattle.std.proofs.lemmas.Option.{slice_get_past, slice_get_read}
-use Rattle.std.proofs.lemmas.List.{get_or-map, length-map, take_more, take_all}
-use Rattle.std.proofs.lemmas.List.Elements.{filter_map-append}
-use Rattle.std.proofs.lemmas.Slice.Zip.{get_or-zip, length-zip}
+use Rattle.std.proofs.Common.{◌≡◌, ◌∙◌, ℕ, zero, suc, ◌+◌, ◌<◌, ◌≤◌, Bool, true, false, if◌then◌else◌, cond, List, [], ◌∷◌, ◌++◌, length, map, filter_map, get_or, refl, sym, ap, append_assoc}
+use Rattle.std.proofs.Common.{append-nil, length-append, arith, ℤ, pos, slice_get, option_map, unwrap_or, Option, Some}
+use Rattle.std.specs.List.{All, zip, find, range_with_len, enumerate_from, cons_option}
+use Rattle.std.proofs.lemmas.Option.{slice_get-get_or, slice_get_past, slice_get_read}
+use Rattle.std.proofs.lemmas.List.{length-map}
+use Rattle.std.proofs.lemmas.List.Elements.{All-head, All-tail}
+use Rattle.std.proofs.lemmas.Slice.Zip.{length-zip}
 use Rattle.std.proofs.Math.Seq.{get_or-append_seam}
 use Rattle.cvl_base.specs.Permutes.{is_target, sent_to}
-use Rattle.permute_walks.specs.Senders.{nobody, sender_from, senders_of}
-
--- ---- the step of the walk
-
-cons_alone : {X : Type 0} (o : Option X) → cons_option o [] ≡ option_to_list o
-cons_alone None = refl
-cons_alone (Some x) = refl
-
-pub taken_more : {X Y : Type 0} (h : X → Option Y) (xs : List X) (i : ℕ) (d : X) → i < length xs → filter_map h (take (i + 1) xs) ≡ filter_map h (take i xs) ++ option_to_list (h (get_or xs i d))
-taken_more h xs i d lt =
-    ap (filter_map h) (take_more xs i d lt)
-    ∙ filter_map-append h (take i xs) (get_or xs i d ∷ [])
-    ∙ ap (λ ys. filter_map h (take i xs) ++ ys) (cons_alone (h (get_or xs i d)))
-
-pub on_pairs_more : {X Y Z : Type 0} (f : X × Y → Z) (xs : List X) (ys : List Y) (i : ℕ) (x : X) (y : Y) → i < length xs → i < length ys → take (i + 1) (map f (zip xs ys))
-    ≡ take i (map f (zip xs ys)) ++ f (get_or xs i x, get_or ys i y) ∷ []
-on_pairs_more f xs ys i x y in_xs in_ys =
-    let in_zip : i < length (zip xs ys) = omega (arith, length-zip xs ys) in
-    take_more (map f (zip xs ys)) i (f (x, y)) (omega (arith, length-map (zip xs ys) f))
-    ∙ ap (λ z. take i (map f (zip xs ys)) ++ z ∷ []) (get_or-map f (zip xs ys) i (x, y) (f (x, y)) in_zip ∙ ap f (get_or-zip xs ys i (x, y) in_xs in_ys))
+use Rattle.permute_walks.specs.Senders.{elements_or, nobody, sender_from, senders_of, written_over}
 
 -- ---- what was sent: the source is ys, which the targets are of, after `before` and in front of `behind`
 
@@ -82,6 +62,16 @@ pub taken_over : {X : Type 0} (before ys behind : List X) (place : ℕ) (ts : Li
 taken_over before ys behind place ts defaults there long small =
     same_over (slice_get (before ++ (ys ++ behind))) (sender_from place ts) (sent_to ys ts) (λ d. sent_at before ys behind place ts d there long small) 0 defaults
 
+-- as many as there are defaults
+pub length-over : {X : Type 0} (source : List X) (senders : List ℕ) (defaults : List X) → length senders ≡ length defaults → length (written_over source senders defaults) ≡ length defaults
+length-over source senders defaults long =
+    omega (arith, length-map (zip senders defaults) (λ p. unwrap_or (slice_get source p.0) p.1), length-zip senders defaults, long)
+
+pub over_within : {X : Type 0} (source : List X) (senders : List ℕ) (defaults : List X) (n : ℕ) → n ≤ length (written_over source senders defaults) → (n ≤ length senders) × (n ≤ length defaults)
+over_within source senders defaults n within =
+    let one_each = length-map (zip senders defaults) (λ p. unwrap_or (slice_get source p.0) p.1) in
+    (omega (arith, one_each, length-zip senders defaults, within), omega (arith, one_each, length-zip senders defaults, within))
+
 -- ---- flat calls: the targets are of the whole source
 
 pub taken_flat : {X : Type 0} (source : List X) (ts : List (Option ℤ)) (m : ℕ) → length source ≡ length ts → length source ≤ nobody
@@ -96,30 +86,22 @@ taken_over_flat source ts defaults long small =
     ap (λ xs. map (λ p. unwrap_or (slice_get xs p.0) p.1) (zip (senders_of 0 ts (length defaults)) defaults)) (sym (append-nil source))
     ∙ taken_over [] source [] 0 ts defaults refl long (omega (arith, ap length (append-nil source)))
 
--- an element is pushed, or none
-pub pushed_some : {X : Type 0} (h : ℕ → Option X) (senders : List ℕ) (i : ℕ) (items now : List X) (o : Option X) (x : X) → i < length senders → items ≡ filter_map h (take i senders)
-    → o ≡ h (get_or senders i 0) → o ≡ Some x → now ≡ items ++ x ∷ [] → now ≡ filter_map h (take (i + 1) senders)
-pushed_some h senders i items now o x lt so_far read some pushed =
-    pushed ∙ ap (λ xs. xs ++ x ∷ []) so_far ∙ ap (λ v. filter_map h (take i senders) ++ option_to_list v) (sym some ∙ read) ∙ sym (taken_more h senders i 0 lt)
+-- ---- where each sender is a place of the source
 
-pub pushed_none : {X : Type 0} (h : ℕ → Option X) (senders : List ℕ) (i : ℕ) (items : List X) (o : Option X) → i < length senders → items ≡ filter_map h (take i senders)
-    → o ≡ h (get_or senders i 0) → o ≡ None → items ≡ filter_map h (take (i + 1) senders)
-pushed_none h senders i items o lt so_far read none =
-    so_far ∙ sym (append-nil (filter_map h (take i senders))) ∙ ap (λ v. filter_map h (take i senders) ++ option_to_list v) (sym none ∙ read) ∙ sym (taken_more h senders i 0 lt)
+read_at : {X : Type 0} (source : List X) (s : ℕ) → s < length source → (x : X) × (slice_get source s ≡ Some x)
+read_at [] s below = absurd (omega arith)
+read_at (x ∷ source) s below = (get_or (x ∷ source) s x, slice_get-get_or (x ∷ source) s x below)
 
--- an element or a default is pushed
-pub pushed_or : {X : Type 0} (source : List X) (senders : List ℕ) (defaults : List X) (i : ℕ) (items now : List X) (o : Option X) (default pushed : X) → i < length senders → i < length defaults
-    → items ≡ take i (map (λ p. unwrap_or (slice_get source p.0) p.1) (zip senders defaults)) → o ≡ slice_get source (get_or senders i 0) → default ≡ get_or defaults i default
-    → pushed ≡ unwrap_or o default → now ≡ items ++ pushed ∷ []
-    → now ≡ take (i + 1) (map (λ p. unwrap_or (slice_get source p.0) p.1) (zip senders defaults))
-pushed_or source senders defaults i items now o default pushed in_senders in_defaults so_far read at is grown =
-    grown ∙ ap (λ xs. xs ++ pushed ∷ []) so_far
-    ∙ ap (λ x. take i (map (λ p. unwrap_or (slice_get source p.0) p.1) (zip senders defaults)) ++ x ∷ [])
-    (is ∙ ap (λ v. unwrap_or v default) read ∙ ap (unwrap_or (slice_get source (get_or senders i 0))) at)
-    ∙ sym (on_pairs_more (λ p. unwrap_or (slice_get source p.0) p.1) senders defaults i 0 default in_senders in_defaults)
+pub taken_or : {X : Type 0} (source : List X) (other : X) (senders : List ℕ) → All (λ s. s < length source) senders → elements_or source other senders ≡ filter_map (slice_get source) senders
+taken_or source other [] below = refl
+taken_or source other (s ∷ senders) below =
+    let some = (read_at source s (All-head (λ s. s < length source) s senders below)).1 in
+    let rest = taken_or source other senders (All-tail (λ s. s < length source) s senders below) in
+    (λ i. unwrap_or (some i) other ∷ rest i)
+    ∙ ap (λ o. cons_option o (filter_map (slice_get source) senders)) (sym some)
 
-pub pushed_all : {X : Type 0} (source : List X) (senders : List ℕ) (defaults : List X) (i : ℕ) (items : List X) → length senders ≡ length defaults → length defaults ≤ i
-    → items ≡ take i (map (λ p. unwrap_or (slice_get source p.0) p.1) (zip senders defaults)) → items ≡ map (λ p. unwrap_or (slice_get source p.0) p.1) (zip senders defaults)
-pushed_all source senders defaults i items long past so_far =
-    so_far ∙ take_all i (map (λ p. unwrap_or (slice_get source p.0) p.1) (zip senders defaults))
-    (omega (arith, length-map (zip senders defaults) (λ p. unwrap_or (slice_get source p.0) p.1), length-zip senders defaults))
+pub length-taken : {X : Type 0} (source : List X) (senders : List ℕ) → All (λ s. s < length source) senders → length (filter_map (slice_get source) senders) ≡ length senders
+length-taken source [] below = refl
+length-taken source (s ∷ senders) below =
+    ap (λ o. length (cons_option o (filter_map (slice_get source) senders))) (read_at source s (All-head (λ s. s < length source) s senders below)).1
+    ∙ ap suc (length-taken source senders (All-tail (λ s. s < length source) s senders below))

@@ -1,3 +1,4 @@
+pub mod Indices
+pub mod Senders
 pub use Rattle.cvl_base.specs.Limits
 pub use Rattle.cvl_base.specs.Permutes
-pub mod Senders

@@ -1,7 +1,7 @@
 -- Senders: for each place of a permute's result, the place whose element goes there.
 -- Source: CVL's permute, d[i[k]] = s[k], in which k is the sender of its index.
-use Rattle.std.specs.Prelude.{◌≡◌, ℕ, ◌+◌, ◌<◌, ◌≤◌, ◌==◌, ℤ, pos, not, if◌then◌else◌, unsigned_abs, List, [], ◌∷◌, count_by, length, map}
-use Rattle.std.specs.Prelude.{slice_get, slice_index, slice_index_or, Option, Some, None, unwrap_or, Result, Ok, Err}
+use Rattle.std.specs.Prelude.{◌≡◌, ℕ, ◌+◌, ◌≤◌, ◌==◌, ℤ, pos, not, if◌then◌else◌, unsigned_abs, List, [], ◌∷◌, count_by, length, map}
+use Rattle.std.specs.Prelude.{slice_get, slice_index, Option, Some, None, unwrap_or, Result, Ok, Err}
 use Rattle.std.specs.List.{range_with_len, zip}
 use Rattle.cvl_base.specs.declared.fault.Fault.{Fault}
 use Rattle.cvl_base.specs.declared.fault.FaultNo.{FaultNo}
@@ -47,6 +47,6 @@ pub record IsStored (place : ℕ) (targets : List (Option ℤ)) (sent m : ℕ) (
 abbrev pub written_over : {X : Type 0} → List X → List ℕ → List X → List X
 written_over source senders values = map (λ p. unwrap_or (slice_get source p.0) p.1) (zip senders values)
 
--- the same at place k, over the value x
-abbrev pub written_at : {X : Type 0} → List X → List ℕ → ℕ → X → X
-written_at source senders k x = unwrap_or (slice_get source (slice_index senders k)) x
+-- the element of each sender, or another one for nobody, who has none
+abbrev pub elements_or : {X : Type 0} → List X → X → List ℕ → List X
+elements_or source other senders = map (λ s. unwrap_or (slice_get source s) other) senders

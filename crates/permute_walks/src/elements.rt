@@ -1,46 +1,117 @@
-//! The second walk of a permute: the elements of the senders.
+//! The second walk of a permute: the elements of the senders, which several threads may write.
 
-ghost use Rattle.std.specs.Prelude.{◌≡◌, ◌≤◌, IfOk, filter_map, length, map, slice_get, unwrap_or, vec_len};
-ghost use Rattle.std.specs.List.{zip};
+ghost use Rattle.std.specs.Prelude.{◌≡◌, ◌+◌, ◌<◌, ◌≤◌, [], IfOk, filter_map, length, map, slice_get, unwrap_or, vec_len};
+ghost use Rattle.std.specs.List.{All};
+ghost use Rattle.fresh.specs.Parts.{part};
+ghost use Rattle.fresh.specs.Places.{stretch};
+ghost use Rattle.permute_walks.specs.Senders.{elements_or, written_over};
 
 use crate::places::element_of;
 use cvl_base::{Memory, NoResources};
+use fresh::{Run, Writer, write_in_runs};
+use std::thread::Threads;
 
-/// The element of each sender, in the order of the senders. Nobody has no element.
-// Inlined into a large function the loop keeps its pointers on the stack.
-#[inline(never)]
-pub fn elements_of<T: Copy, A: Memory>(
+/// Writes the element of each sender, and another one for nobody, since a writer writes every place.
+#[derive(Drop)]
+struct ElementsOf<'a, T> {
+    source: &'a [T],
+    senders: &'a [u32],
+    other: T,
+}
+
+impl<'a, T: Copy> Writer<T> for ElementsOf<'a, T> {
+    ghost use Rattle.permute_walks.specs.Senders.{elements_or};
+
+    ghost whole = { λ w. elements_or w.source.now w.other w.senders.now };
+
+    fn write(&self, run: Run<T>) -> Run<T>
+        requires empty { run.items ≡ [] }
+        requires within { run.first + run.room ≤ length (elements_or self.now.source.now self.now.other self.now.senders.now) }
+        ensures { result ≡ stretch run.block run.first
+            (part (elements_or self.now.source.now self.now.other self.now.senders.now) run.first run.room) 0 }
+    {
+        let source = self.source;
+        let other = self.other;
+        run.fill_by(
+            self.senders,
+            |sender: u32| -> T
+                ensures { result ≡ unwrap_or (slice_get source.entry.now sender) other }
+            { element_of(source, sender as usize).unwrap_or(other) },
+        )
+    }
+}
+
+/// The element of each sender, in the order of the senders, where each is a place of the source. At most `threads` threads
+/// write them.
+pub fn elements_of<T: Copy + Send + Sync, R: Threads + Sync, A: Memory>(
+    rt: &R,
     alloc: A,
+    threads: u32,
     source: &[T],
     senders: &[u32],
 ) -> Result<Vec<T, A>, NoResources>
-    ensures values { IfOk result (λ v. v.items ≡ filter_map (slice_get source.now) senders.now) }
+    ensures values { All (λ s. s < length source.now) senders.now
+        → IfOk result (λ v. v.items ≡ filter_map (slice_get source.now) senders.now) }
     ensures in_length { IfOk result (λ v. vec_len v ≤ length senders.now) }
 {
-    let mut elements = Vec::with_capacity(alloc, senders.len())?;
-    for sender in senders {
-        if let Some(element) = element_of(source, *sender as usize) {
-            elements.push_reserved(element);
-        }
-    }
-    Ok(elements)
+    let Some(first) = source.first() else {
+        return Ok(Vec::new(alloc));
+    };
+    let elements = ElementsOf {
+        source,
+        senders,
+        other: *first,
+    };
+    Ok(write_in_runs(rt, alloc, threads, &elements, senders.len())?)
 }
 
-/// For each sender its element, or the default at the same place where it is nobody.
-pub fn elements_or_defaults<T: Copy, A: Memory>(
+/// Writes the element of each sender, and for nobody the default at the same place.
+#[derive(Drop)]
+struct ElementsOr<'a, T> {
+    source: &'a [T],
+    senders: &'a [u32],
+    defaults: &'a [T],
+}
+
+impl<'a, T: Copy> Writer<T> for ElementsOr<'a, T> {
+    ghost use Rattle.permute_walks.specs.Senders.{written_over};
+
+    ghost whole = { λ w. written_over w.source.now w.senders.now w.defaults.now };
+
+    fn write(&self, run: Run<T>) -> Run<T>
+        requires empty { run.items ≡ [] }
+        requires within { run.first + run.room ≤ length (written_over self.now.source.now self.now.senders.now self.now.defaults.now) }
+        ensures { result ≡ stretch run.block run.first
+            (part (written_over self.now.source.now self.now.senders.now self.now.defaults.now) run.first run.room) 0 }
+    {
+        let source = self.source;
+        run.fill_by_both(
+            self.senders,
+            self.defaults,
+            |sender: u32, default: T| -> T
+                ensures { result ≡ unwrap_or (slice_get source.entry.now sender) default }
+            { element_of(source, sender as usize).unwrap_or(default) },
+        )
+    }
+}
+
+/// For each sender its element, or the default at the same place where it is nobody, written by at most `threads` threads.
+pub fn elements_or_defaults<T: Copy + Send + Sync, R: Threads + Sync, A: Memory>(
+    rt: &R,
     alloc: A,
+    threads: u32,
     source: &[T],
     senders: &[u32],
     defaults: &[T],
 ) -> Result<Vec<T, A>, NoResources>
     requires as_long { length senders.now ≡ length defaults.now }
-    ensures values { IfOk result (λ v. v.items
-        ≡ map (λ p. unwrap_or (slice_get source.now p.0) p.1) (zip senders.now defaults.now)) }
+    ensures values { IfOk result (λ v. v.items ≡ written_over source.now senders.now defaults.now) }
     ensures as_long { IfOk result (λ v. vec_len v ≡ length defaults.now) }
 {
-    let mut elements = Vec::with_capacity(alloc, defaults.len())?;
-    for (k, default) in defaults.iter().enumerate() {
-        elements.push_reserved(element_of(source, senders[k] as usize).unwrap_or(*default));
-    }
-    Ok(elements)
+    let elements = ElementsOr {
+        source,
+        senders,
+        defaults,
+    };
+    Ok(write_in_runs(rt, alloc, threads, &elements, defaults.len())?)
 }

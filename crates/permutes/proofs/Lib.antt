@@ -3,7 +3,7 @@ pub mod Cuts
 pub mod Flat
 pub mod Joined
 pub mod Ranges
-pub mod Stepped
+pub mod Runs
 pub mod Through
 pub mod Walked
 pub mod Whole

@@ -13,7 +13,7 @@ use Rattle.cvl_base.specs.Gives.{Gives, unless}
 use Rattle.cvl_base.specs.Packs.{count_of}
 use Rattle.cvl_base.specs.Permutes.{all_targets, first_fault, flagged_targets, wrongs}
 use Rattle.permutes.specs.Parts.{fault_from, flagged_parts, parts_of, places_in, senders_from}
-use Rattle.permutes.specs.Walks.{AreAllSent, IsFound, Sends}
+use Rattle.permutes.specs.Walks.{AreAllSent}
 use Rattle.permute_walks.specs.Senders.{nobody, senders_of, fault_told}
 use Rattle.permutes.proofs.Cuts.{sum-cons}
 use Rattle.permute_walks.proofs.EachSent.{takes_part, each_sent, all_take_part, flagged_take_part}
@@ -42,15 +42,6 @@ pub taken_err : {X V W : Type 0} (view : V → List ℕ) (see : W → List X) (f
 taken_err view see (Some f) senders xs (refused.Fault g) given = cc
 taken_err view see None senders xs (refused.Fault g) given = absurd (cc)
 taken_err view see fault senders xs refused.NoResources given = tt
-
--- the same where the first walk's answer is known by an equation
-module _ {V : Type 0} (leaves : Result (Unit {0}) Fault → List ℕ → Type 0) (view : V → List ℕ) (places : ℕ) (r : Result V Refused) (found : IsFound leaves view places r) (fault : Option Fault)
-    (senders : List ℕ) (long : length senders ≡ places) (sends : Sends leaves fault senders) where
-  pub found_at : (v : V) → r ≡ Ok v → unless fault (Ok senders) ≡ Ok (view v)
-  found_at v is = subst (λ a. Gives view a (unless fault (Ok senders))) is (found.1 fault senders long sends)
-
-  pub refused_at : {X W : Type 0} (see : W → List X) (e : Refused) (xs : List X) → r ≡ Err e → Gives see (Err e) (unless fault (Ok xs))
-  refused_at see e xs is = taken_err view see fault senders xs e (subst (λ a. Gives view a (unless fault (Ok senders))) is (found.1 fault senders long sends))
 
 -- the length of a value that both walks gave
 pub length_given : {X V : Type 0} (view : V → List X) (len : V → ℕ) → ((v : V) → len v ≡ length (view v)) → (r : Result V Refused) (fault : Option Fault) (xs : List X) (n : ℕ)

@@ -1,4 +1,5 @@
+pub mod Backs
 pub mod Parts
-pub mod Pushed
 pub mod Walks
+pub use Rattle.permute_walks.specs.Indices
 pub use Rattle.permute_walks.specs.Senders

@@ -1,9 +1,11 @@
 //! Permutes: simple, back, select and default permutes, flat and by segments.
 //!
-//! A simple, select or default permute goes in two walks. The first finds for each place of the result its sender, the
-//! place whose element goes there; the second takes the elements from the senders' places.
+//! Each goes in two walks. The first walk of a simple, select or default permute finds for each place of the result its
+//! sender, the place whose element goes there; that of a back permute looks at all indices. The second writes the elements,
+//! by several threads where the result is long.
 #![tactic(auto)]
 
+mod back_segments;
 mod backs;
 mod defaults;
 mod segments;

@@ -1,15 +1,9 @@
-use Rattle.std.proofs.Common.{arith}
-use Rattle.permute_walks.proofs.Taken.{pushed_or, pushed_all}
+use Rattle.std.proofs.Common.{length, ap, sym, arith}
+use Rattle.permute_walks.proofs.Taken.{length-over}
 use Rattle.permute_walks.proofs.elements.elements_or_defaults.Goals as goal
 
-pub loop-k-preserved : goal.loop-k-preserved
-loop-k-preserved g c = record {
-  values = pushed_or c.args.source.now c.args.senders.now c.args.defaults.now c.loop-k.k c.loop-k.elements.items _ c.element_of.result c.index-defaults-k.result _ (omega arith) (omega arith)
-      c.loop-k.invariant.values c.element_of.ensures c.index-defaults-k.is c.unwrap_or.ensures c.push_reserved.ensures.items;
-  as_long = omega arith;
-  capacity = omega arith;
-}
+pub write_in_runs-requires-after_bounds : goal.write_in_runs-requires-after_bounds
+write_in_runs-requires-after_bounds g c κs within = sym (length-over c.args.source.now c.args.senders.now c.args.defaults.now c.requires.as_long)
 
-pub returns-clause-values : goal.returns-clause-values
-returns-clause-values g c =
-    pushed_all c.args.source.now c.args.senders.now c.args.defaults.now c.loop-k.k c.loop-k.elements.items c.requires.as_long (omega arith) c.loop-k.invariant.values
+pub returns-clause-as_long : goal.returns-clause-as_long
+returns-clause-as_long g c = omega (arith, ap length c.in_ok-write_in_runs.ensures, length-over c.args.source.now c.args.senders.now c.args.defaults.now c.requires.as_long)

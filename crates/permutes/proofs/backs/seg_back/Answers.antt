@@ -1,9 +1,8 @@
-use Rattle.std.proofs.Common.{◌∙◌, Err, ap, arith, sym}
+use Rattle.std.proofs.Common.{◌∙◌, ap, arith, length, sym, Ok, Err}
 use Rattle.std.proofs.lemmas.Result.{err_from_is_err_and}
-use Rattle.cvl_base.specs.Gives.{after}
-use Rattle.permutes.specs.Pushed.{back_from}
-use Rattle.permutes.proofs.Backed.{seg_back-meaning}
-use Rattle.permutes.proofs.Stepped.{after_none}
+use Rattle.cvl_base.specs.Gives.{unless}
+use Rattle.permutes.specs.Backs.{segments_at}
+use Rattle.permutes.proofs.Backed.{length-segments_at, seg_back-meaning}
 use Rattle.permutes.proofs.Whole.{seg_back-differ}
 use Rattle.permutes.proofs.backs.seg_back.Goals as goal
 
@@ -16,18 +15,33 @@ returns-in_err-check_agree-clause-values g c =
     (λ same. differ.1 (c.count.ensures.value ∙ same ∙ sym c.count-2.ensures.value))
     ∙ ap (λ f. Err f) (sym differ.0))
 
-pub returns-in_err-with_segments_at-clause-values : goal.returns-in_err-with_segments_at-clause-values
-returns-in_err-with_segments_at-clause-values g c =
-    let p = err_from_is_err_and c.from_residual-in_err-with_segments_at.result c.from_residual-in_err-with_segments_at.ensures.1 in
+pub returns-in_err-check_segments-clause-values : goal.returns-in_err-check_segments-clause-values
+returns-in_err-check_segments-clause-values g c =
+    let p = err_from_is_err_and c.from_residual-in_err-check_segments.result c.from_residual-in_err-check_segments.ensures.1 in
+    let found = segments_at c.args.source_d.now c.args.source.now c.args.index_d.now c.args.index.now in
     rw (p.1, p.2)
     (seg_back-meaning c.args.source.now c.args.index.now c.args.source_d.now c.args.index_d.now c.in_ok-check_total.ensures.agrees c.in_ok-check_total-2.ensures.agrees
     (omega (arith, c.in_ok-check_agree.ensures))
-    ∙ c.in_err-with_segments_at.ensures.values)
+    ∙ ap (λ o. unless o (Ok found)) (sym c.in_err-check_segments.ensures))
 
 pub returns-clause-values : goal.returns-clause-values
 returns-clause-values g c =
-    let walked = back_from 0 c.args.source_d.now c.args.source.now c.args.index_d.now c.args.index.now in
+    let found = segments_at c.args.source_d.now c.args.source.now c.args.index_d.now c.args.index.now in
+    let none = c.in_ok-check_segments.ensures in
     seg_back-meaning c.args.source.now c.args.index.now c.args.source_d.now c.args.index_d.now c.in_ok-check_total.ensures.agrees c.in_ok-check_total-2.ensures.agrees
     (omega (arith, c.in_ok-check_agree.ensures))
-    ∙ sym (after_none walked) ∙ ap (λ xs. after xs walked) (sym c.in_ok-elements.ensures.items)
-    ∙ c.in_ok-with_segments_at.ensures.values
+    ∙ ap (λ o. unless o (Ok found)) (sym none)
+    ∙ ap (λ xs. Ok xs) (sym c.in_ok-segments_at.ensures)
+
+pub returns-clause-as_long : goal.returns-clause-as_long
+returns-clause-as_long g c =
+    let none = c.in_ok-check_segments.ensures in
+    let total = c.in_ok-check_total-2.ensures.agrees in
+    omega (
+      arith,
+      c.in_ok-segments_at.field-0.ok.0,
+      ap length c.in_ok-segments_at.ensures,
+      total,
+      length-segments_at 0 c.args.source_d.now c.args.source.now c.args.index_d.now c.args.index.now (omega (arith, c.in_ok-check_total.ensures.agrees)) (omega (arith, c.in_ok-check_agree.ensures))
+          (omega (arith, total)) none,
+    )

@@ -1,4 +1,4 @@
-use Rattle.std.proofs.Common.{◌+◌, ◌<◌, ◌≤◌, ◌∙◌, length, arith, refl, sym}
+use Rattle.std.proofs.Common.{◌+◌, ◌∙◌, arith, refl}
 use Rattle.permute_walks.proofs.Sent.{told_again}
 use Rattle.permutes.proofs.Through.{through_none, through_all, through_room, through_left, range_fresh, range_fails, range_more, moved_on}
 use Rattle.permutes.proofs.segments.send_parts.Goals as goal

@@ -3,7 +3,7 @@ use Rattle.std.proofs.lemmas.List.{length-replicate}
 use Rattle.cvl_base.specs.Gives.{Gives, unless}
 use Rattle.cvl_base.specs.Permutes.{all_targets, first_fault, wrongs}
 use Rattle.permute_walks.specs.Senders.{nobody, senders_of, fault_told}
-use Rattle.permute_walks.proofs.Over.{length-taken}
+use Rattle.permute_walks.proofs.Taken.{length-taken}
 use Rattle.permute_walks.proofs.Sent.{length-senders_of}
 use Rattle.permutes.proofs.Flat.{simple-meaning}
 use Rattle.permutes.proofs.Walked.{length_given, sends_at, simple_sent}

@@ -1,0 +1,189 @@
+-- The walks of a back permute: which index is the first outside, and what the definition gives where none is.
+use Rattle.std.proofs.Common.{◌≡◌, ◌∙◌, ℕ, zero, suc, ◌+◌, ◌<◌, ◌≤◌, Bool, true, false, not, if◌then◌else◌, cond, List, [], ◌∷◌, length, map, drop, get_or, refl, sym, ap, arith}
+use Rattle.std.proofs.Common.{◌-◌, ◌++◌, take, length-drop, ℤ, pos, negsuc, is_some, unsigned_abs, nat_abs, to_z, of_z, w32, w64, Fits, FitsSigned, T, inl, inr, Option, Some, None, Result, Ok}
+use Rattle.std.specs.List.{cons_option}
+use Rattle.std.specs.Option.{ok_or}
+use Rattle.std.proofs.lemmas.Bool.{lt-ltb, le-ltb, ltb-true, false≢true}
+use Rattle.std.specs.Int.Signed.{non_neg}
+use Rattle.std.proofs.lemmas.Int.{ints, to_z-of_z}
+use Rattle.std.proofs.lemmas.List.{length-take-le, take_more}
+use Rattle.std.proofs.lemmas.List.Elements.{All-cons, All-drop, All-head, All-nil, All-tail, All-take, filter_map-append}
+use Rattle.std.proofs.lemmas.List.Sums.{sum_by-cons}
+use Rattle.std.proofs.lemmas.Option.{none-some, slice_get_cases, slice_get_read}
+use Rattle.fresh.specs.Parts.{part}
+use Rattle.fresh.specs.Places.{Stretch, stretch}
+use Rattle.cvl_base.specs.declared.fault.Fault.{Fault}
+use Rattle.cvl_base.specs.declared.fault.FaultNo.{FaultNo}
+use Rattle.cvl_base.specs.declared.fault.FaultNo.TheVariants.{IndexOutOfRange}
+use Rattle.cvl_base.specs.Elementwise.{values_from}
+use Rattle.cvl_base.specs.Extracts.{element_at}
+use Rattle.cvl_base.specs.Faults.{fault_at}
+use Rattle.cvl_base.specs.Gives.{◌>>=◌, unless}
+use Rattle.cvl_base.specs.Permutes.{first_fault, is_place, place_among}
+use Rattle.permute_walks.proofs.Sent.{uncons}
+use Rattle.permute_walks.specs.Indices.{AreInside, count_outside, elements_at, first_outside}
+
+-- ---- the first of some indices, and whether it is inside
+
+module _ (place : ℕ) (ws : List (Option FaultNo)) where
+  abbrev first_of : Bool → Option Fault
+  first_of is_inside = first_fault place ((if is_inside then None else Some IndexOutOfRange) ∷ ws)
+
+  inside_first : (is_inside : Bool) → None ≡ first_of is_inside → (is_inside ≡ true) × (None ≡ first_fault (place + 1) ws)
+  inside_first true none = (refl, none)
+  inside_first false none = absurd (none-some (fault_at IndexOutOfRange place) none)
+
+  not_counted : (is_inside : Bool) → cond (not is_inside) 1 0 ≤ 0 → None ≡ first_fault (place + 1) ws → None ≡ first_of is_inside
+  not_counted true none others = others
+  not_counted false none others = absurd (omega arith)
+
+  passed : (is_inside : Bool) → is_inside ≡ true → first_of is_inside ≡ first_fault (place + 1) ws
+  passed true inside = refl
+  passed false inside = absurd (false≢true inside)
+
+-- ---- where none is counted, none is outside
+
+pub none_outside : (place places : ℕ) (index : List ℤ) → count_outside places index ≡ 0 → None ≡ first_outside place places index
+none_outside place places [] none = refl
+none_outside place places (i ∷ index) none =
+    let is_out = λ (j : ℤ). cond (not (is_place places j)) 1 0 in
+    let first = sum_by-cons is_out i index in
+    not_counted place (map _ index) (is_place places i) (omega (arith, first, none)) (none_outside (place + 1) places index (omega (arith, first, none)))
+
+-- ---- the walk from index to index
+
+named : (is_inside : Bool) (p q : ℕ) → (if is_inside then Some p else None) ≡ Some q → is_inside ≡ true
+named true p q is = refl
+named false p q is = absurd (none-some q is)
+
+module _ (first places : ℕ) (index : List ℤ) (k : ℕ) (so_far : first_outside first places index ≡ first_outside (first + k) places (drop k index)) where
+  abbrev pub this : ℤ
+  this = get_or index k (pos 0)
+
+  next : k < length index → first_outside first places index ≡ first_outside (first + k) places (this ∷ drop (k + 1) index)
+  next lt = so_far ∙ ap (first_outside (first + k) places) (uncons index k (pos 0) lt)
+
+  pub checked_more : (p : ℕ) → k < length index → place_among places this ≡ Some p → first_outside first places index ≡ first_outside (first + (k + 1)) places (drop (k + 1) index)
+  checked_more p lt inside =
+      next lt
+      ∙ passed (first + k) (map _ (drop (k + 1) index)) (is_place places this) (named (is_place places this) (unsigned_abs this) p inside)
+      ∙ ap (λ at. first_outside at places (drop (k + 1) index)) (omega arith)
+
+-- ---- the definition
+
+tells : {X : Type 0} (source : List X) (i : ℤ) → is_some (element_at source i) ≡ is_place (length source) i
+tells source (pos k) =
+    elim ((slice_get_cases source k).1) [
+      | inl t ↦ ap is_some t.2 ∙ sym (lt-ltb k (length source) t.1)
+      | inr t ↦ ap is_some t.1 ∙ sym (le-ltb k (length source) t.0)
+    ]
+tells source (negsuc k) = refl
+
+cons_unless : {X : Type 0} (x : X) (o : Option Fault) (xs : List X) → (unless o (Ok xs) >>= λ ys. Ok (x ∷ ys)) ≡ unless o (Ok (x ∷ xs))
+cons_unless x None xs = refl
+cons_unless x (Some f) xs = refl
+
+values_on : {X : Type 0} (place : ℕ) (ws : List (Option FaultNo)) (is_inside : Bool) (v : Option X) (rest : Result (List X) Fault) (xs : List X) → is_some v ≡ is_inside
+    → rest ≡ unless (first_fault (place + 1) ws) (Ok xs)
+    → (ok_or v (fault_at IndexOutOfRange place) >>= λ y. rest >>= λ ys. Ok (y ∷ ys)) ≡ unless (first_of place ws is_inside) (Ok (cons_option v xs))
+values_on place ws true (Some x) rest xs is same = ap (λ r. r >>= λ ys. Ok (x ∷ ys)) same ∙ cons_unless x (first_fault (place + 1) ws) xs
+values_on place ws true None rest xs is same = absurd (false≢true is)
+values_on place ws false (Some x) rest xs is same = absurd (false≢true (sym is))
+values_on place ws false None rest xs is same = refl
+
+pub values_unless : {X : Type 0} (place : ℕ) (source : List X) (index : List ℤ)
+    → values_from IndexOutOfRange place (map (element_at source) index) ≡ unless (first_outside place (length source) index) (Ok (elements_at source index))
+values_unless place source [] = refl
+values_unless place source (i ∷ index) =
+    values_on place (map _ index) (is_place (length source) i) (element_at source i) (values_from IndexOutOfRange (place + 1) (map (element_at source) index))
+    (elements_at source index) (tells source i) (values_unless (place + 1) source index)
+
+-- ---- where none is outside
+
+pub all_inside : (place places : ℕ) (index : List ℤ) → None ≡ first_outside place places index → AreInside places index
+all_inside place places [] none = All-nil (λ i. is_place places i ≡ true)
+all_inside place places (i ∷ index) none =
+    let here = inside_first place (map _ index) (is_place places i) none in
+    All-cons (λ j. is_place places j ≡ true) i index here.0 (all_inside (place + 1) places index here.1)
+
+module _ {X : Type 0} (v : Option X) (some : is_some v ≡ true) where
+  value : (x : X) × (v ≡ Some x)
+  value = is_there v some
+    where
+      is_there : (w : Option X) → is_some w ≡ true → (x : X) × (w ≡ Some x)
+      is_there (Some x) there = (x, refl)
+      is_there None there = absurd (false≢true there)
+
+  length-on : (xs : List X) → length (cons_option v xs) ≡ length xs + 1
+  length-on xs = ap (λ o. length (cons_option o xs)) value.1 ∙ omega arith
+
+  drop-on : (n : ℕ) (xs : List X) → drop (suc n) (cons_option v xs) ≡ drop n xs
+  drop-on n xs = ap (λ o. drop (suc n) (cons_option o xs)) value.1
+
+  take-on : (n : ℕ) (xs : List X) → take (suc n) (cons_option v xs) ≡ cons_option v (take n xs)
+  take-on n xs = ap (λ o. take (suc n) (cons_option o xs)) value.1 ∙ ap (λ o. cons_option o (take n xs)) (sym value.1)
+
+module _ {X : Type 0} (source : List X) where
+  here : (i : ℤ) (index : List ℤ) → AreInside (length source) (i ∷ index) → is_some (element_at source i) ≡ true
+  here i index inside = tells source i ∙ All-head (λ j. is_place (length source) j ≡ true) i index inside
+
+  rest : (i : ℤ) (index : List ℤ) → AreInside (length source) (i ∷ index) → AreInside (length source) index
+  rest i index inside = All-tail (λ j. is_place (length source) j ≡ true) i index inside
+
+  pub length-elements_at : (index : List ℤ) → AreInside (length source) index → length (elements_at source index) ≡ length index
+  length-elements_at [] inside = refl
+  length-elements_at (i ∷ index) inside = omega (arith, length-on (element_at source i) (here i index inside) (elements_at source index), length-elements_at index (rest i index inside))
+
+  drop_at : (n : ℕ) (index : List ℤ) → AreInside (length source) index → drop n (elements_at source index) ≡ elements_at source (drop n index)
+  drop_at zero index inside = refl
+  drop_at (suc n) [] inside = refl
+  drop_at (suc n) (i ∷ index) inside = drop-on (element_at source i) (here i index inside) n (elements_at source index) ∙ drop_at n index (rest i index inside)
+
+  take_at : (n : ℕ) (index : List ℤ) → AreInside (length source) index → take n (elements_at source index) ≡ elements_at source (take n index)
+  take_at zero index inside = refl
+  take_at (suc n) [] inside = refl
+  take_at (suc n) (i ∷ index) inside =
+      take-on (element_at source i) (here i index inside) n (elements_at source index) ∙ ap (cons_option (element_at source i)) (take_at n index (rest i index inside))
+
+  -- the elements at some neighbouring indices
+  pub part_at : (index : List ℤ) (p k : ℕ) → AreInside (length source) index → part (elements_at source index) p k ≡ elements_at source (part index p k)
+  part_at index p k inside = ap (take k) (drop_at p index inside) ∙ take_at k (drop p index) (All-drop (λ j. is_place (length source) j ≡ true) p index inside)
+
+pub part_inside : (places : ℕ) (index : List ℤ) (p k : ℕ) → AreInside places index → AreInside places (part index p k)
+part_inside places index p k inside =
+    All-take (λ i. is_place places i ≡ true) k (drop p index) (All-drop (λ i. is_place places i ≡ true) p index inside)
+
+-- ---- an index as the code reads it
+
+pub read_index : (places : ℕ) (i : ℤ) → FitsSigned w32 i → is_place places i ≡ true
+    → (T (non_neg (to_z w32 (of_z w32 i))) × Fits w64 (nat_abs (to_z w32 (of_z w32 i)))) × ((nat_abs (to_z w32 (of_z w32 i)) < places) × (i ≡ pos (nat_abs (to_z w32 (of_z w32 i)))))
+read_index places (pos d) fits inside = rw (to_z-of_z w32 (pos d) fits) ((tt, omega (arith, ints)), (ltb-true d places inside, refl))
+read_index places (negsuc d) fits inside = absurd (false≢true inside)
+
+-- ---- one more element
+
+cons_alone : {X : Type 0} (o : Option X) (x : X) → o ≡ Some x → cons_option o [] ≡ x ∷ []
+cons_alone o x some = ap (λ v. cons_option v []) some
+
+pub at_more : {X : Type 0} (source : List X) (index : List ℤ) (k d : ℕ) (x : X) → k < length index → get_or index k (pos 0) ≡ pos d → d < length source → x ≡ get_or source d x
+    → elements_at source (take (k + 1) index) ≡ elements_at source (take k index) ++ x ∷ []
+at_more source index k d x lt is within read =
+    let some : element_at source (get_or index k (pos 0)) ≡ Some x = ap (element_at source) is ∙ slice_get_read source (length source) d x refl within read in
+    ap (elements_at source) (take_more index k (pos 0) lt)
+    ∙ filter_map-append (element_at source) (take k index) (get_or index k (pos 0) ∷ [])
+    ∙ ap (λ xs. elements_at source (take k index) ++ xs) (cons_alone (element_at source (get_or index k (pos 0))) x some)
+
+-- ---- a run of them
+
+pub run_found : {X : Type 0} (source : List X) (index js : List ℤ) (run out : Stretch X) (first n : ℕ) → AreInside (length source) index → run.items ≡ []
+    → run.first + run.room ≤ length (elements_at source index) → first ≡ run.first + length run.items → n ≡ run.room → js ≡ part index first n
+    → out ≡ stretch run.block run.first (run.items ++ elements_at source js) (run.room - length js)
+    → out ≡ stretch run.block run.first (part (elements_at source index) run.first run.room) 0
+run_found source index js run out first n inside empty within there wide are is =
+    let start : first ≡ run.first = omega (arith, ap length empty) in
+    let in_index : run.first + run.room ≤ length index = omega (arith, length-elements_at source index inside) in
+    let same : js ≡ part index run.first run.room = are ∙ (λ i. part index (start i) (wide i)) in
+    let long : length (part index run.first run.room) ≡ run.room = length-take-le run.room (drop run.first index) (omega (arith, length-drop run.first index)) in
+    let left : run.room - length js ≡ 0 = omega (arith, ap length same, long) in
+    let items = ap (elements_at source) same ∙ sym (part_at source index run.first run.room inside) in
+    is ∙ (λ i. stretch run.block run.first (empty i ++ items i) (left i))

@@ -1,0 +1,120 @@
+//! The two walks of a back permute. The first looks at all indices, so that the second, which several threads may make, has
+//! an element for each.
+
+ghost use Rattle.std.specs.Prelude.{◌≡◌, ◌+◌, ◌-◌, ◌≤◌, ◌++◌, [], length, IfOk};
+ghost use Rattle.fresh.specs.Parts.{part};
+ghost use Rattle.fresh.specs.Places.{stretch};
+ghost use Rattle.cvl_base.specs.Limits.{most_elements};
+ghost use Rattle.permute_walks.specs.Indices.{AreInside, count_outside, elements_at, first_outside};
+ghost use Rattle.permute_walks.specs.Senders.{fault_told};
+
+use cvl_base::{Fault, FaultNo, Memory, NoResources, place_among};
+use fresh::{Run, Writer, write_in_runs};
+use std::thread::Threads;
+
+/// From how many indices on they are counted before they are looked at in turn.
+const LONG: usize = 32;
+
+/// The greatest number of places that an index of 32 bits can name.
+const MOST_PLACES: usize = 2_147_483_648;
+
+/// How many indices are none of so many places.
+// Without its sign an index below 0 is beyond all places, so that one comparison is enough.
+#[inline(never)]
+fn count_outside(index: &[i32], places: usize) -> u32
+    requires { length index.now ≤ most_elements }
+    ensures { result ≡ count_outside places index.now }
+{
+    let end = places.min(MOST_PLACES) as u32;
+    let mut count = 0;
+    for i in index {
+        if i.cast_unsigned() >= end {
+            count += 1;
+        }
+    }
+    count
+}
+
+/// `IndexOutOfRange` at the first place whose index is none of so many places. The first index stands at place `first`.
+#[inline(never)]
+fn check_each(index: &[i32], places: usize, first: usize) -> Result<(), Fault>
+    requires { first + length index.now ≤ most_elements }
+    ensures { fault_told result ≡ first_outside first places index.now }
+{
+    for (k, i) in index.iter().enumerate() {
+        let Some(_) = place_among(places, i) else {
+            return Err(Fault::at(FaultNo::IndexOutOfRange, (first + k) as u32));
+        };
+    }
+    Ok(())
+}
+
+/// The first walk: `IndexOutOfRange` at the first place whose index is none of so many places of the source. The first
+/// index stands at place `first`.
+pub fn check_places(index: &[i32], places: usize, first: usize) -> Result<(), Fault>
+    requires { first + length index.now ≤ most_elements }
+    ensures { fault_told result ≡ first_outside first places index.now }
+{
+    if index.len() >= LONG && count_outside(index, places) == 0 {
+        return Ok(());
+    }
+    check_each(index, places, first)
+}
+
+/// The second walk over some indices, each of which is a place of the source: writes the elements at them into the next
+/// places of a run.
+// The run is passed by value, so that its numbers stay in registers while it grows.
+#[inline(never)]
+pub fn write_elements_at<T: Copy>(run: Run<T>, source: &[T], index: &[i32]) -> Run<T>
+    requires room { length index.now ≤ run.room }
+    requires inside { AreInside (length source.now) index.now }
+    ensures { result ≡ stretch run.block run.first
+        (run.items ++ elements_at source.now index.now) (run.room - length index.now) }
+{
+    let mut run = run;
+    for i in index {
+        run.push(source[*i as usize]);
+    }
+    run
+}
+
+/// Writes the element at each index.
+#[derive(Drop)]
+struct ElementsAt<'a, T> {
+    source: &'a [T],
+    index: &'a [i32],
+    ghost inside: { AreInside (length source.now) index.now },
+}
+
+impl<'a, T: Copy> Writer<T> for ElementsAt<'a, T> {
+    ghost use Rattle.permute_walks.specs.Indices.{elements_at};
+
+    ghost whole = { λ w. elements_at w.source.now w.index.now };
+
+    fn write(&self, run: Run<T>) -> Run<T>
+        requires empty { run.items ≡ [] }
+        requires within { run.first + run.room ≤ length (elements_at self.now.source.now self.now.index.now) }
+        ensures { result ≡ stretch run.block run.first
+            (part (elements_at self.now.source.now self.now.index.now) run.first run.room) 0 }
+    {
+        let (_, rest) = self.index.split_at(run.next_place());
+        let (index, _) = rest.split_at(run.room());
+        write_elements_at(run, self.source, index)
+    }
+}
+
+/// The second walk of a flat back permute, by at most `threads` threads: the element at each index, each of which is a place
+/// of the source.
+pub fn elements_at<T: Copy + Send + Sync, R: Threads + Sync, A: Memory>(
+    rt: &R,
+    alloc: A,
+    threads: u32,
+    source: &[T],
+    index: &[i32],
+) -> Result<Vec<T, A>, NoResources>
+    requires inside { AreInside (length source.now) index.now }
+    ensures { IfOk result (λ v. v.items ≡ elements_at source.now index.now) }
+{
+    let elements = ElementsAt { source, index };
+    Ok(write_in_runs(rt, alloc, threads, &elements, index.len())?)
+}
