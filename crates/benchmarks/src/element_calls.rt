@@ -13,8 +13,8 @@ use std::io;
 use std::rt::Clock;
 use std::thread::Threads;
 
-/// The vectors' lengths, among them those around which a call begins to run on threads.
-const LENGTHS: [usize; 6] = [4_194_304, 3_145_728, 2_097_152, 1_048_576, 65_536, 1_000];
+/// The vectors' lengths, among them that from which on a call is shared among threads.
+const LENGTHS: [usize; 6] = [4_194_304, 1_048_576, 262_144, 131_072, 65_536, 1_000];
 
 /// What is measured.
 pub enum ElementCase {
@@ -27,6 +27,8 @@ pub enum ElementCase {
     NotOfBooleans,
     IntFromBool,
     BoolFromInt,
+    CopyOfIntegers,
+    CopyOfBooleans,
 }
 
 /// The cases, each with what its line begins with.
@@ -51,6 +53,14 @@ const CASES: &[(Case, &str)] = &[
     (
         Case::Elementwise(ElementCase::BoolFromInt),
         "booleans from integers",
+    ),
+    (
+        Case::Elementwise(ElementCase::CopyOfIntegers),
+        "copy of integers",
+    ),
+    (
+        Case::Elementwise(ElementCase::CopyOfBooleans),
+        "copy of booleans",
     ),
 ];
 
@@ -77,6 +87,8 @@ pub fn call<R: Threads + Sync>(
         ElementCase::NotOfBooleans => last_flag(bool1(rt, alloc, config, Unary::Not, flags)),
         ElementCase::IntFromBool => last_number(int_from_bool(rt, alloc, config, flags)),
         ElementCase::BoolFromInt => last_flag(bool_from_int(rt, alloc, config, a)),
+        ElementCase::CopyOfIntegers => last_number(int1(rt, alloc, config, Unary::Copy, a)),
+        ElementCase::CopyOfBooleans => last_flag(bool1(rt, alloc, config, Unary::Copy, flags)),
     }
 }
 
@@ -94,6 +106,8 @@ pub fn plain_call(alloc: Global, case: &ElementCase, vectors: &Vectors) -> Optio
         ElementCase::NotOfBooleans => last_flag(plain::on_each(alloc, flags, plain::opposite)),
         ElementCase::IntFromBool => last_number(plain::on_each(alloc, flags, plain::int_of)),
         ElementCase::BoolFromInt => last_flag(plain::on_each(alloc, a, plain::bool_of)),
+        ElementCase::CopyOfIntegers => last_number(Vec::from_slice(alloc, a)),
+        ElementCase::CopyOfBooleans => last_flag(Vec::from_slice(alloc, flags)),
     }
 }
 

@@ -71,15 +71,15 @@ pub fn call<R: Threads + Sync>(
     match case {
         PackCase::Pack => last_number(pack(rt, alloc, config, xs, flags)),
         PackCase::Count => i32::try_from(pack_dist::count_true(flags)).ok(),
-        PackCase::Distribute => last_number(distribute(alloc, first, count)),
-        PackCase::Index => last_number(index(alloc, first, first, count)),
+        PackCase::Distribute => last_number(distribute(rt, alloc, config, first, count)),
+        PackCase::Index => last_number(index(rt, alloc, config, first, first, count)),
         PackCase::SegmentPack => match seg_pack(rt, alloc, config, xs, flags, d) {
             Ok((packed, _lengths)) => packed.last().copied(),
             Err(_) => None,
         },
         PackCase::SegmentCounts => last_number(seg_count(rt, alloc, config, flags, d)),
-        PackCase::SegmentDistribute => last_number(seg_distribute(alloc, firsts, d)),
-        PackCase::SegmentIndex => last_number(seg_index(alloc, firsts, firsts, d)),
+        PackCase::SegmentDistribute => last_number(seg_distribute(rt, alloc, config, firsts, d)),
+        PackCase::SegmentIndex => last_number(seg_index(rt, alloc, config, firsts, firsts, d)),
     }
 }
 

@@ -1,10 +1,13 @@
 pub mod Distributed
+pub mod EndToEnd
 pub mod Extracted
 pub mod Named
 pub mod Ones
 pub mod Packing
 pub mod Parts
 pub mod Progressed
+pub mod Pushed
 pub mod Replaced
 pub mod Segments
+pub mod Standing
 pub mod Walk

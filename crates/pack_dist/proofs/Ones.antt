@@ -58,7 +58,7 @@ pub record IsPlace (flags : List Bool) (k : ℕ) (place : ℤ) : Type 0 where
   pub value : unsigned_abs (to_z w32 (of_z w32 place)) ≡ count_of (take k flags)
   pub fits : IsNonNegative (to_z w32 (of_z w32 place)) × Fits w64 (unsigned_abs (to_z w32 (of_z w32 place)))
 
-place_read : (flags : List Bool) (places : List ℤ) (k : ℕ) (place : ℤ) → length flags ≤ most_elements → ArePlaces flags places → k < length flags → k < length places → place ≡ get_or places k place
+pub place_read : (flags : List Bool) (places : List ℤ) (k : ℕ) (place : ℤ) → length flags ≤ most_elements → ArePlaces flags places → k < length flags → k < length places → place ≡ get_or places k place
     → IsPlace flags k place
 place_read flags places k place few are within there is =
     let read : to_z w32 (of_z w32 place) ≡ pos (count_of (take k flags)) =
@@ -69,11 +69,3 @@ place_read flags places k place few are within there is =
       value = ap unsigned_abs read;
       fits = subst (λ (z : ℤ). IsNonNegative z × Fits w64 (unsigned_abs z)) (sym read) (tt, Fits-below tt small);
     }
-
--- the same of an element before the end of the flags that are looked at
-pub front_read : (flags front : List Bool) (places : List ℤ) (end k : ℕ) (place : ℤ) → length flags ≤ most_elements → end ≤ length flags → front ≡ take end flags → ArePlaces front places
-    → length places ≡ length front → k < end → place ≡ get_or places k place → IsPlace (take end flags) k place
-front_read flags front places end k place few le is_front are long within is =
-    let longer : k < length front = omega (arith, ap length is_front, length-take end flags, within, le) in
-    subst (λ fs. IsPlace fs k place) is_front
-    (place_read front places k place (omega (arith, few, ap length is_front, length-take end flags)) are longer (omega (arith, long, longer)) is)

@@ -1,12 +1,20 @@
--- What a pack keeps of the first elements, and of one more.
-use Rattle.std.proofs.Common.{◌≡◌, ℕ, ◌+◌, ◌<◌, ◌≤◌, Bool, true, false, cond, List, [], ◌∷◌, ◌++◌, length, take, drop, get_or, set, refl, sym, ap, ◌∙◌, arith, append-nil}
-use Rattle.std.specs.List.{All}
-use Rattle.std.proofs.lemmas.List.{length-take, take-append-drop, take-take, take_all, take_more, take_more_set, take-set}
-use Rattle.std.proofs.lemmas.List.Elements.{All-head, All-tail}
-use Rattle.std.proofs.lemmas.List.Sums.{sum_by-take-le, count_by_more_yes, count_by_more_no}
+-- What a pack keeps of the first elements, of one more, and of those that a run is made of.
+use Rattle.std.proofs.Common.{◌≡◌, ℕ, ◌+◌, ◌<◌, ◌≤◌, Bool, true, false, cond, List, [], ◌∷◌, ◌++◌, length, take, drop, get_or, set, refl, sym, ap, ◌∙◌, arith, append-nil, append_assoc}
+use Rattle.std.proofs.Math.Seq.{drop-append_seam, take-append_seam}
+use Rattle.std.proofs.lemmas.List.{length-append, length-take, take-append-drop, take-take, take_more, take_more_set, take-set}
+use Rattle.std.proofs.lemmas.List.Sums.{count_by_more_yes, count_by_more_no, sum_by-take-drop, sum_by_more}
 use Rattle.cvl_base.specs.Packs.{count_of}
+use Rattle.fresh.specs.Parts.{part}
 use Rattle.pack_dist.specs.Kept.{kept_of}
 use Rattle.cvl_base.proofs.Packs.{count-cons}
+
+-- the true flags in front, and the others
+pub count-split : (flags : List Bool) (n : ℕ) → count_of (take n flags) + count_of (drop n flags) ≡ count_of flags
+count-split flags n = sum_by-take-drop (λ (f : Bool). cond f 1 0) flags n
+
+-- those from one on and before another
+pub count-section : (flags : List Bool) (from to first n : ℕ) → from ≤ to → count_of (take from flags) ≡ first → count_of (take to flags) ≡ first + n → count_of (drop from (take to flags)) ≡ n
+count-section flags from to first n le before upto = omega (arith, count-split (take to flags) from, ap count_of (take-take from to flags le), before, upto)
 
 module _ {X : Type 0} where
   kept-cons : (x : X) (flag : Bool) (xs : List X) (flags : List Bool) → kept_of (x ∷ xs) (flag ∷ flags) ≡ cond flag (x ∷ []) [] ++ kept_of xs flags
@@ -19,12 +27,6 @@ module _ {X : Type 0} where
   kept-append (x ∷ xs) ys [] others long = absurd (omega arith)
   kept-append (x ∷ xs) ys (true ∷ flags) others long = ap (λ kept. x ∷ kept) (kept-append xs ys flags others (omega arith))
   kept-append (x ∷ xs) ys (false ∷ flags) others long = kept-append xs ys flags others (omega arith)
-
-  kept-none : (xs : List X) (flags : List Bool) → All (λ flag. flag ≡ false) flags → kept_of xs flags ≡ []
-  kept-none [] flags none = refl
-  kept-none (x ∷ xs) [] none = refl
-  kept-none (x ∷ xs) (flag ∷ flags) none =
-      ap (λ f. kept_of (x ∷ xs) (f ∷ flags)) (All-head (λ f. f ≡ false) flag flags none) ∙ kept-none xs flags (All-tail (λ f. f ≡ false) flag flags none)
 
   pub length-kept : (xs : List X) (flags : List Bool) → length xs ≡ length flags → length (kept_of xs flags) ≡ count_of flags
   length-kept [] [] long = refl
@@ -39,13 +41,6 @@ module _ {X : Type 0} where
       ap (λ ys. kept_of ys flags) (sym (take-append-drop n xs))
       ∙ ap (λ fs. kept_of (take n xs ++ drop n xs) fs) (sym (take-append-drop n flags))
       ∙ kept-append (take n xs) (drop n xs) (take n flags) (drop n flags) (omega (arith, long, length-take n xs, length-take n flags))
-
-  -- after the last true flag nothing is kept
-  pub kept_front : (xs : List X) (flags : List Bool) (n : ℕ) → length xs ≡ length flags → All (λ flag. flag ≡ false) (drop n flags) → kept_of xs flags ≡ kept_of (take n xs) (take n flags)
-  kept_front xs flags n long others =
-      kept-split xs flags n long
-      ∙ ap (λ kept. kept_of (take n xs) (take n flags) ++ kept) (kept-none (drop n xs) (drop n flags) others)
-      ∙ append-nil (kept_of (take n xs) (take n flags))
 
   kept_one : (x : X) (flag : Bool) → kept_of (x ∷ []) (flag ∷ []) ≡ cond flag (x ∷ []) []
   kept_one x true = refl
@@ -85,17 +80,42 @@ module _ {X : Type 0} where
   stored xs packed flags k p x long within is_place room is_x so_far =
       stored_by (get_or flags k false) xs packed flags k p x long within refl is_place room is_x (ap (λ n. take n packed) is_place ∙ so_far)
 
--- where the last flag is true, fewer are true before any of the flags than in all
-pub count-below : (flags : List Bool) (k last : ℕ) → length flags ≡ last + 1 → k ≤ last → get_or flags last false ≡ true → count_of (take k flags) < count_of flags
-count-below flags k last long le is_true =
-    omega (
-      arith,
-      sum_by-take-le (λ (f : Bool). cond f 1 0) (take last flags) k,
-      ap count_of (take-take k last flags le),
-      count_by_more_yes (λ f. f) flags last false (omega (arith, long)) is_true,
-      ap count_of (take_all (last + 1) flags (omega (arith, long))),
-    )
+  -- ---- runs of what is kept
 
-pub count-last : (flags : List Bool) (last : ℕ) → length flags ≡ last + 1 → get_or flags last false ≡ true → count_of flags ≡ count_of (take last flags) + 1
-count-last flags last long is_true =
-    sym (ap count_of (take_all (last + 1) flags (omega (arith, long)))) ∙ count_by_more_yes (λ f. f) flags last false (omega (arith, long)) is_true
+  -- what is kept of the elements from one on and before another: the places that they fill
+  pub kept_section : (xs : List X) (flags : List Bool) (from to first n : ℕ) → length xs ≡ length flags → from ≤ to → to ≤ length flags
+      → count_of (take from flags) ≡ first → count_of (take to flags) ≡ first + n → kept_of (drop from (take to xs)) (drop from (take to flags)) ≡ part (kept_of xs flags) first n
+  kept_section xs flags from to first n long le within before upto =
+      let front = kept_of (take from (take to xs)) (take from (take to flags)) in
+      let here = kept_of (drop from (take to xs)) (drop from (take to flags)) in
+      let others = kept_of (drop to xs) (drop to flags) in
+      let some_long : length (take to xs) ≡ length (take to flags) = omega (arith, long, length-take to xs, length-take to flags) in
+      let whole : kept_of xs flags ≡ front ++ (here ++ others) =
+      kept-split xs flags to long ∙ ap (λ kept. kept ++ others) (kept-split (take to xs) (take to flags) from some_long) ∙ append_assoc front here others in
+      let front_long : length front ≡ first =
+      length-kept (take from (take to xs)) (take from (take to flags)) (omega (arith, some_long, length-take from (take to xs), length-take from (take to flags)))
+      ∙ ap count_of (take-take from to flags le)
+      ∙ before in
+      let both_long : length (front ++ here) ≡ first + n =
+      ap length (sym (kept-split (take to xs) (take to flags) from some_long)) ∙ length-kept (take to xs) (take to flags) some_long ∙ upto in
+      let here_long : length here ≡ n = omega (arith, both_long, front_long, length-append front here) in
+      sym
+      (ap (λ kept. part kept first n) whole
+      ∙ ap (λ k. take n (drop k (front ++ (here ++ others)))) (sym front_long)
+      ∙ ap (take n) (drop-append_seam front (here ++ others))
+      ∙ ap (λ k. take k (here ++ others)) (sym here_long)
+      ∙ take-append_seam here others)
+
+-- ---- blocks
+
+-- one more flag is counted
+pub counted : (flags : List Bool) (k count more : ℕ) → k < length flags → count ≡ count_of (take k flags) → more ≡ cond (get_or flags k false) 1 0 → count + more ≡ count_of (take (k + 1) flags)
+counted flags k count more lt is one = omega (arith, is, one, sum_by_more (λ (f : Bool). cond f 1 0) flags k false lt)
+
+-- what a run holds and what is left to be pushed, before a block and after it
+pub block_more : {X : Type 0} (xs : List X) (flags : List Bool) (n : ℕ) (before after : List X) → length xs ≡ length flags → after ≡ before ++ kept_of (take n xs) (take n flags)
+    → after ++ kept_of (drop n xs) (drop n flags) ≡ before ++ kept_of xs flags
+block_more xs flags n before after long is =
+    ap (λ ys. ys ++ kept_of (drop n xs) (drop n flags)) is
+    ∙ append_assoc before (kept_of (take n xs) (take n flags)) (kept_of (drop n xs) (drop n flags))
+    ∙ ap (λ ys. before ++ ys) (sym (kept-split xs flags n long))

@@ -1,27 +1,51 @@
--- The step of an arithmetic progression.
-use Rattle.std.proofs.Common.{◌≡◌, ◌∙◌, ℕ, ◌+◌, ℤ, pos, ◌+ℤ◌, ◌*ℤ◌, w32, List, [], ◌∷◌, ◌++◌, append_assoc, add-one, sym, ap, arith}
-use Rattle.std.proofs.Math.IntN.{+ℤ_assoc, suc_ℤ-*ℤ}
-use Rattle.std.proofs.lemmas.Int.{int_wrap-add_left}
-use Rattle.std.proofs.lemmas.List.FromFn.{map-range_with_len_more}
+-- The step of an arithmetic progression, and its parts.
+use Rattle.std.proofs.Common.{◌≡◌, ◌∙◌, ℕ, zero, suc, ◌+◌, ◌^◌, ◌<◌, ◌≤◌, ℤ, pos, ◌+ℤ◌, ◌*ℤ◌, to_z, w32, [], ◌∷◌, ◌++◌, map, take, drop, add-one, sym, ap, arith}
+use Rattle.std.specs.List.{range_with_len}
+use Rattle.std.proofs.Math.IntN.{+ℤ_assoc, +ℤ_comm, suc_ℤ-*ℤ}
+use Rattle.std.proofs.lemmas.Int.{int_wrap-add_left, to_z_pos}
+use Rattle.std.proofs.lemmas.List.FromFn.{map-range_with_len_more, take-map-range_with_len}
 use Rattle.cvl_base.specs.Integers.{wrap}
-use Rattle.pack_dist.specs.Progressions.{progression}
+use Rattle.fresh.specs.Parts.{part}
+use Rattle.pack_dist.specs.Progressions.{numbers_from, progression}
 
 step_more : (init stride : ℤ) (k : ℕ) → (init +ℤ pos k *ℤ stride) +ℤ stride ≡ init +ℤ pos (k + 1) *ℤ stride
 step_more init stride k =
     +ℤ_assoc init (pos k *ℤ stride) stride ∙ ap (λ z. init +ℤ z) (sym (ap (λ (j : ℕ). pos j *ℤ stride) (add-one k) ∙ suc_ℤ-*ℤ (pos k) stride))
 
--- the number after the one at place k
-pub next_more : (init stride now next : ℤ) (k : ℕ) → now ≡ wrap (init +ℤ pos k *ℤ stride) → next ≡ wrap (now +ℤ stride)
-    → next ≡ wrap (init +ℤ pos (k + 1) *ℤ stride)
-next_more init stride now next k is_now is_next =
-    is_next ∙ ap (λ z. wrap (z +ℤ stride)) is_now ∙ int_wrap-add_left w32 (init +ℤ pos k *ℤ stride) stride ∙ ap wrap (step_more init stride k)
+-- the number at place `from`
+pub next_first : (init stride next : ℤ) (from : ℕ) → from < 2 ^ 31 → next ≡ wrap (wrap (to_z w32 from *ℤ stride) +ℤ init) → next ≡ wrap (init +ℤ pos (from + 0) *ℤ stride)
+next_first init stride next from few is =
+    let same : from ≡ from + 0 = omega arith in
+    is
+    ∙ int_wrap-add_left w32 (to_z w32 from *ℤ stride) init
+    ∙ ap wrap (+ℤ_comm (to_z w32 from *ℤ stride) init)
+    ∙ ap (λ z. wrap (init +ℤ z *ℤ stride)) (to_z_pos w32 from few ∙ ap pos same)
 
--- one more number is pushed
-pub pushed_more : (init stride x : ℤ) (k : ℕ) (start numbers pushed : List ℤ) → numbers ≡ start ++ progression init stride k
-    → x ≡ wrap (init +ℤ pos k *ℤ stride) → pushed ≡ numbers ++ x ∷ [] → pushed ≡ start ++ progression init stride (k + 1)
-pushed_more init stride x k start numbers pushed is is_x grown =
-    grown
-    ∙ ap (λ ns. ns ++ x ∷ []) is
-    ∙ append_assoc start (progression init stride k) (x ∷ [])
-    ∙ ap (λ z. start ++ (progression init stride k ++ z ∷ [])) is_x
-    ∙ ap (λ ns. start ++ ns) (sym (map-range_with_len_more (λ j. wrap (init +ℤ pos j *ℤ stride)) 0 k k (omega arith)))
+-- the number after the one at place k
+pub next_more : (init stride now next : ℤ) (from k : ℕ) → now ≡ wrap (init +ℤ pos (from + k) *ℤ stride) → next ≡ wrap (now +ℤ stride)
+    → next ≡ wrap (init +ℤ pos (from + (k + 1)) *ℤ stride)
+next_more init stride now next from k is_now is_next =
+    let same : from + k + 1 ≡ from + (k + 1) = omega arith in
+    is_next
+    ∙ ap (λ z. wrap (z +ℤ stride)) is_now
+    ∙ int_wrap-add_left w32 (init +ℤ pos (from + k) *ℤ stride) stride
+    ∙ ap wrap (step_more init stride (from + k))
+    ∙ ap (λ j. wrap (init +ℤ pos j *ℤ stride)) same
+
+-- one more number
+pub numbers-more : (init stride x : ℤ) (from k : ℕ) → x ≡ wrap (init +ℤ pos (from + k) *ℤ stride) → numbers_from init stride from (k + 1) ≡ numbers_from init stride from k ++ x ∷ []
+numbers-more init stride x from k is =
+    map-range_with_len_more (λ j. wrap (init +ℤ pos j *ℤ stride)) from k (from + k) (omega arith) ∙ ap (λ z. numbers_from init stride from k ++ z ∷ []) (sym is)
+
+range-part : {X : Type 0} (f : ℕ → X) (a n from count : ℕ) → from + count ≤ n → take count (drop from (map f (range_with_len a n))) ≡ map f (range_with_len (a + from) count)
+range-part f a n zero count within =
+    let same : a ≡ a + 0 = omega arith in take-map-range_with_len f a n count (omega arith) ∙ ap (λ k. map f (range_with_len k count)) same
+range-part f a zero (suc from) count within = absurd (omega arith)
+range-part f a (suc n) (suc from) count within =
+    let same : a + 1 + from ≡ a + suc from = omega arith in range-part f (a + 1) n from count (omega arith) ∙ ap (λ k. map f (range_with_len k count)) same
+
+-- a part of a progression
+pub progression-part : (init stride : ℤ) (n from count : ℕ) → from + count ≤ n → part (progression init stride n) from count ≡ numbers_from init stride from count
+progression-part init stride n from count within =
+    let same : 0 + from ≡ from = omega arith in
+    range-part (λ j. wrap (init +ℤ pos j *ℤ stride)) 0 n from count within ∙ ap (λ k. numbers_from init stride k count) same

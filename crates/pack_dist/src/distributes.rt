@@ -1,28 +1,39 @@
 //! Distribute: copies of one value, or of one for each segment.
 
-ghost use Rattle.std.specs.Prelude.{◌≡◌, ◌+◌, ◌≤◌, ◌++◌, IfOk, replicate, sum, vec_len, vec_capacity};
+ghost use Rattle.std.specs.Prelude.{◌≡◌, ℕ, ◌+◌, ◌-◌, ◌≤◌, ◌++◌, IfOk, length, replicate, sum, vec_len};
 ghost use Rattle.cvl_base.specs.Distributes.{distribute_of};
 ghost use Rattle.cvl_base.specs.Gives.{Gives};
 ghost use Rattle.cvl_base.specs.Limits.{most_elements};
 ghost use Rattle.cvl_base.specs.SegmentedCalls.{seg_distribute_of};
+ghost use Rattle.fresh.specs.Places.{stretch};
 
 use crate::checks::length_for;
-use cvl_base::{Memory, Refused, check_agree};
+use crate::segment_runs::{EndToEnd, Segments};
+use cvl_base::{Config, Memory, Refused, check_agree};
+use fresh::{Run, Writer, write_in_runs};
 use segdes::SegDes;
-use std::alloc::Allocator;
+use sharing::threads_for;
+use std::alloc::{AllocError, Allocator};
+use std::thread::Threads;
 
 /// `count` copies of one value: `dis_vuz` and its like.
 ///
 /// The faults have no place: NegativeLength where the count is negative, and TooLong where it is above 4,194,304. Both
 /// come before any memory is asked for. Source: CVL's distribute.
-pub fn distribute<T: Copy, A: Memory>(alloc: A, value: T, count: i32) -> Result<Vec<T, A>, Refused>
+pub fn distribute<T: Copy + Send + Sync, R: Threads + Sync, A: Memory>(
+    rt: &R,
+    alloc: A,
+    config: Config,
+    value: T,
+    count: i32,
+) -> Result<Vec<T, A>, Refused>
     ensures values { Gives (λ v. v.items) result (distribute_of value count) }
     ensures in_limit { IfOk result (λ v. vec_len v ≤ most_elements) }
 {
     let length = length_for(&count)?;
-    let mut copies = Vec::with_capacity(alloc, length)?;
-    push_copies(&mut copies, value, length);
-    Ok(copies)
+    let copies = Copies { value, length };
+    let threads = threads_for(config, length);
+    Ok(write_in_runs(rt, alloc, threads, &copies, length)?)
 }
 
 /// For each segment as many copies of its value as the segment is long, one segment after another: `dis_vez` and
@@ -30,8 +41,10 @@ pub fn distribute<T: Copy, A: Memory>(alloc: A, value: T, count: i32) -> Result<
 ///
 /// There is one value for each segment, else LengthMismatch, without a place. The result is as long as the segments are
 /// in all. Source: CVL's segmented distribute.
-pub fn seg_distribute<T: Copy, A: Memory>(
+pub fn seg_distribute<T: Copy + Send + Sync, R: Threads + Sync, A: Memory>(
+    rt: &R,
     alloc: A,
+    config: Config,
     values: &[T],
     d: &SegDes<A>,
 ) -> Result<Vec<T, A>, Refused>
@@ -39,21 +52,92 @@ pub fn seg_distribute<T: Copy, A: Memory>(
     ensures as_long { IfOk result (λ v. vec_len v ≡ sum d.now) }
 {
     check_agree(values.len(), d.count())?;
-    let mut copies = Vec::with_capacity(alloc, d.total())?;
-    for s in 0..d.count() {
-        push_copies(&mut copies, values[s], d.length(s));
+    let total = d.total();
+    let copies = EndToEnd {
+        segments: SegmentCopies { values, d },
+    };
+    let threads = threads_for(config, total);
+    Ok(write_in_runs(rt, alloc, threads, &copies, total)?)
+}
+
+/// So many copies of one value.
+#[derive(Drop)]
+struct Copies<T: Copy> {
+    value: T,
+    length: usize,
+}
+
+impl<T: Copy> Writer<T> for Copies<T> {
+    ghost use Rattle.std.specs.Prelude.{[]};
+    ghost use Rattle.fresh.specs.Parts.{part};
+
+    ghost whole = { λ c. replicate c.length c.value };
+
+    fn write(&self, run: Run<T>) -> Run<T>
+        requires empty { run.items ≡ [] }
+        requires within { run.first + run.room ≤ length (replicate self.now.length self.now.value) }
+        ensures { result ≡ stretch run.block run.first (part (replicate self.now.length self.now.value) run.first run.room) 0 }
+    {
+        let count = run.room();
+        push_copies(run, self.value, count)
     }
-    Ok(copies)
+}
+
+/// Copies of a value for each segment.
+struct SegmentCopies<'a, T: Copy, A: Allocator> {
+    values: &'a [T],
+    d: &'a SegDes<A>,
+    ghost one_each: { length values.now ≡ length d.now },
+}
+
+impl<'a, T: Copy, A: Allocator> Clone for SegmentCopies<'a, T, A> {
+    ghost use Rattle.std.specs.Prelude.{⊤};
+
+    ghost is_clone = { λ x y. y ≡ x };
+
+    ghost is_infallible = { λ _. ⊤ };
+
+    fn clone(&self) -> Result<SegmentCopies<'a, T, A>, AllocError> {
+        Ok(*self)
+    }
+}
+
+impl<'a, T: Copy, A: Allocator> Copy for SegmentCopies<'a, T, A> {}
+
+impl<'a, T: Copy, A: Allocator> Segments for SegmentCopies<'a, T, A> {
+    ghost use Rattle.std.specs.Prelude.{◌<◌, [], map, slice_index_or};
+    ghost use Rattle.fresh.specs.Parts.{part};
+    ghost use Rattle.pack_dist.specs.Lists.{copies_of};
+
+    type Item = T;
+
+    type A = A;
+
+    ghost lists = { λ c. copies_of c.values.now c.d.now };
+
+    fn descriptor(&self) -> &SegDes<A>
+        ensures { result.now ≡ map length (copies_of self.now.values.now self.now.d.now) }
+    {
+        self.d
+    }
+
+    fn push_part(&self, run: Run<T>, s: usize, from: usize, count: usize) -> Run<T>
+        requires segment { s < length (copies_of self.now.values.now self.now.d.now) }
+        requires within { from + count ≤ length (slice_index_or (copies_of self.now.values.now self.now.d.now) s []) }
+        requires room { count ≤ run.room }
+        ensures { result ≡ stretch run.block run.first (run.items ++ part (slice_index_or (copies_of self.now.values.now self.now.d.now) s []) from count) (run.room - count) }
+    {
+        push_copies(run, self.values[s], count)
+    }
 }
 
 /// Pushes `count` copies of a value. There must be room for them.
-fn push_copies<T: Copy, A: Allocator>(copies: &mut Vec<T, A>, value: T, count: usize)
-    requires { vec_len copies.old + count ≤ vec_capacity copies.old }
-    ensures values { copies.new.items ≡ copies.old.items ++ replicate count value }
-    ensures as_long { vec_len copies.new ≡ vec_len copies.old + count }
-    ensures capacity { vec_capacity copies.new ≡ vec_capacity copies.old }
+fn push_copies<T: Copy>(mut run: Run<T>, value: T, count: usize) -> Run<T>
+    requires { count ≤ run.room }
+    ensures { result ≡ stretch run.block run.first (run.items ++ replicate count value) (run.room - count) }
 {
     for _ in 0..count {
-        copies.push_reserved(value);
+        run.push(value);
     }
+    run
 }

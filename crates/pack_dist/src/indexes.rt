@@ -1,23 +1,30 @@
 //! Index: the numbers from a first one on in equal steps, in all or in each segment.
 
-ghost use Rattle.std.specs.Prelude.{◌≡◌, ◌+◌, ◌≤◌, ◌++◌, IfOk, sum, vec_len, vec_capacity};
+ghost use Rattle.std.specs.Prelude.{◌≡◌, ◌+◌, ◌-◌, ◌<◌, ◌≤◌, ◌^◌, ◌++◌, IfOk, length, sum, vec_len};
 ghost use Rattle.cvl_base.specs.Distributes.{index_of};
 ghost use Rattle.cvl_base.specs.Gives.{Gives};
 ghost use Rattle.cvl_base.specs.Limits.{most_elements};
 ghost use Rattle.cvl_base.specs.SegmentedCalls.{seg_index_of};
-ghost use Rattle.pack_dist.specs.Progressions.{progression};
+ghost use Rattle.fresh.specs.Places.{stretch};
+ghost use Rattle.pack_dist.specs.Progressions.{numbers_from};
 
 use crate::checks::length_for;
-use cvl_base::{Memory, Refused, check_agree};
+use crate::segment_runs::{EndToEnd, Segments};
+use cvl_base::{Config, Memory, Refused, check_agree};
+use fresh::{Run, Writer, write_in_runs};
 use segdes::SegDes;
-use std::alloc::Allocator;
+use sharing::threads_for;
+use std::alloc::{AllocError, Allocator};
+use std::thread::Threads;
 
 /// The numbers `init`, `init + stride`, `init + 2 * stride` and so on, `count` of them, each wrapped to 32 bits: `ind_luz`.
 ///
 /// The faults have no place: NegativeLength where the count is negative, and TooLong where it is above 4,194,304. Both
 /// come before any memory is asked for. Source: CVL's index.
-pub fn index<A: Memory>(
+pub fn index<R: Threads + Sync, A: Memory>(
+    rt: &R,
     alloc: A,
+    config: Config,
     init: i32,
     stride: i32,
     count: i32,
@@ -26,9 +33,13 @@ pub fn index<A: Memory>(
     ensures in_limit { IfOk result (λ v. vec_len v ≤ most_elements) }
 {
     let length = length_for(&count)?;
-    let mut numbers = Vec::with_capacity(alloc, length)?;
-    push_progression(&mut numbers, &init, &stride, length);
-    Ok(numbers)
+    let numbers = Progression {
+        init,
+        stride,
+        length,
+    };
+    let threads = threads_for(config, length);
+    Ok(write_in_runs(rt, alloc, threads, &numbers, length)?)
 }
 
 /// For each segment the numbers from its `init` on in steps of its `stride`, each wrapped to 32 bits, one segment after
@@ -36,8 +47,10 @@ pub fn index<A: Memory>(
 ///
 /// There is one init and one stride for each segment, else LengthMismatch, without a place. The result is as long as the
 /// segments are in all. Source: CVL's segmented index.
-pub fn seg_index<A: Memory>(
+pub fn seg_index<R: Threads + Sync, A: Memory>(
+    rt: &R,
     alloc: A,
+    config: Config,
     inits: &[i32],
     strides: &[i32],
     d: &SegDes<A>,
@@ -47,32 +60,112 @@ pub fn seg_index<A: Memory>(
 {
     check_agree(inits.len(), strides.len())?;
     check_agree(inits.len(), d.count())?;
-    let mut numbers = Vec::with_capacity(alloc, d.total())?;
-    for s in 0..d.count() {
-        push_progression(&mut numbers, &inits[s], &strides[s], d.length(s));
-    }
-    Ok(numbers)
+    let total = d.total();
+    let numbers = EndToEnd {
+        segments: SegmentProgressions { inits, strides, d },
+    };
+    let threads = threads_for(config, total);
+    Ok(write_in_runs(rt, alloc, threads, &numbers, total)?)
 }
 
-/// Pushes the numbers from `init` on in steps of `stride`, `length` of them, each wrapped to 32 bits. There must be room
-/// for them.
-fn push_progression<A: Allocator>(
-    numbers: &mut Vec<i32, A>,
+/// So many numbers in equal steps.
+#[derive(Drop)]
+struct Progression {
+    init: i32,
+    stride: i32,
+    length: usize,
+    ghost few: { length ≤ most_elements },
+}
+
+impl Writer<i32> for Progression {
+    ghost use Rattle.std.specs.Prelude.{[]};
+    ghost use Rattle.fresh.specs.Parts.{part};
+    ghost use Rattle.pack_dist.specs.Progressions.{progression};
+
+    ghost whole = { λ p. progression p.init p.stride p.length };
+
+    fn write(&self, run: Run<i32>) -> Run<i32>
+        requires empty { run.items ≡ [] }
+        requires within { run.first + run.room ≤ length (progression self.now.init self.now.stride self.now.length) }
+        ensures { result ≡ stretch run.block run.first (part (progression self.now.init self.now.stride self.now.length) run.first run.room) 0 }
+    {
+        let (first, count) = (run.first(), run.room());
+        push_progression(run, &self.init, &self.stride, first, count)
+    }
+}
+
+/// Numbers in equal steps for each segment.
+struct SegmentProgressions<'a, A: Allocator> {
+    inits: &'a [i32],
+    strides: &'a [i32],
+    d: &'a SegDes<A>,
+    ghost inits_one_each: { length inits.now ≡ length d.now },
+    ghost strides_one_each: { length strides.now ≡ length d.now },
+    ghost few: { sum d.now ≤ most_elements },
+}
+
+impl<'a, A: Allocator> Clone for SegmentProgressions<'a, A> {
+    ghost use Rattle.std.specs.Prelude.{⊤};
+
+    ghost is_clone = { λ x y. y ≡ x };
+
+    ghost is_infallible = { λ _. ⊤ };
+
+    fn clone(&self) -> Result<SegmentProgressions<'a, A>, AllocError> {
+        Ok(*self)
+    }
+}
+
+impl<'a, A: Allocator> Copy for SegmentProgressions<'a, A> {}
+
+impl<'a, A: Allocator> Segments for SegmentProgressions<'a, A> {
+    ghost use Rattle.std.specs.Prelude.{[], map, slice_index_or};
+    ghost use Rattle.fresh.specs.Parts.{part};
+    ghost use Rattle.pack_dist.specs.Lists.{progressions_of};
+
+    type Item = i32;
+
+    type A = A;
+
+    ghost lists = { λ p. progressions_of p.inits.now p.strides.now p.d.now };
+
+    fn descriptor(&self) -> &SegDes<A>
+        ensures { result.now ≡ map length (progressions_of self.now.inits.now self.now.strides.now self.now.d.now) }
+    {
+        self.d
+    }
+
+    fn push_part(&self, run: Run<i32>, s: usize, from: usize, count: usize) -> Run<i32>
+        requires segment { s < length (progressions_of self.now.inits.now self.now.strides.now self.now.d.now) }
+        requires within { from + count
+            ≤ length (slice_index_or (progressions_of self.now.inits.now self.now.strides.now self.now.d.now) s []) }
+        requires room { count ≤ run.room }
+        ensures { result ≡ stretch run.block run.first (run.items
+            ++ part (slice_index_or (progressions_of self.now.inits.now self.now.strides.now self.now.d.now) s []) from count) (run.room - count) }
+    {
+        push_progression(run, &self.inits[s], &self.strides[s], from, count)
+    }
+}
+
+/// Pushes `count` of the numbers from `init` on in steps of `stride`, each wrapped to 32 bits, beginning with the one at
+/// place `from`. There must be room for them.
+fn push_progression(
+    mut run: Run<i32>,
     init: &i32,
     stride: &i32,
-    length: usize,
-)
-    requires { vec_len numbers.old + length ≤ vec_capacity numbers.old }
-    ensures values { numbers.new.items
-        ≡ numbers.old.items ++ progression init.now stride.now length }
-    ensures as_long { vec_len numbers.new ≡ vec_len numbers.old + length }
-    ensures capacity { vec_capacity numbers.new ≡ vec_capacity numbers.old }
+    from: usize,
+    count: usize,
+) -> Run<i32>
+    requires few { from < 2 ^ 31 }
+    requires room { count ≤ run.room }
+    ensures { result ≡ stretch run.block run.first (run.items ++ numbers_from init.now stride.now from count) (run.room - count) }
 {
     // read once, since the loop writes memory
     let step = *stride;
-    let mut next = *init;
-    for _ in 0..length {
-        numbers.push_reserved(next);
+    let mut next = (from as i32).wrapping_mul(step).wrapping_add(*init);
+    for _ in 0..count {
+        run.push(next);
         next = next.wrapping_add(step);
     }
+    run
 }

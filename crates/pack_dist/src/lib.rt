@@ -6,10 +6,13 @@ mod counts;
 mod distributes;
 mod extracts;
 mod indexes;
+mod kept_blocks;
+mod kept_runs;
 mod packs;
 mod places;
 mod replaces;
 mod segment_packs;
+mod segment_runs;
 
 pub use counts::{count_true, seg_count};
 pub use distributes::{distribute, seg_distribute};

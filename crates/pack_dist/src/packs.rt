@@ -1,21 +1,23 @@
 //! Packs: the elements whose flag is true, in order.
 
-ghost use Rattle.std.specs.Prelude.{◌≡◌, ◌-◌, ◌<◌, ◌≤◌, false, true, IfOk, length, drop, slice_index_or, vec_len};
-ghost use Rattle.std.specs.List.{All};
+ghost use Rattle.std.specs.Prelude.{◌≡◌, ◌+◌, ◌<◌, ◌≤◌, IfOk, length, vec_len};
 ghost use Rattle.cvl_base.specs.Gives.{Gives};
 ghost use Rattle.cvl_base.specs.Limits.{most_elements};
-ghost use Rattle.cvl_base.specs.Packs.{pack_of};
-ghost use Rattle.pack_dist.specs.Kept.{kept_of};
+ghost use Rattle.cvl_base.specs.Packs.{count_of, pack_of};
+ghost use Rattle.pack_dist.specs.Kept.{ArePlaces, kept_of};
 
 use crate::counts::counts_before;
+use crate::kept_runs::Kept;
 use cvl_base::{Config, Memory, NoResources, Refused, check_agree};
+use fresh::write_in_runs;
+use sharing::threads_for;
 use std::thread::Threads;
 
 /// The elements whose flag is true, in order: `pck_luz` and `pck_lub`.
 ///
 /// There are at most 4,194,304 flags. LengthMismatch, without a place, where there aren't as many flags as elements.
 /// Source: CVL's pack.
-pub fn pack<T: Copy, R: Threads + Sync, A: Memory>(
+pub fn pack<T: Copy + Send + Sync, R: Threads + Sync, A: Memory>(
     rt: &R,
     alloc: A,
     config: Config,
@@ -30,11 +32,9 @@ pub fn pack<T: Copy, R: Threads + Sync, A: Memory>(
     Ok(kept(rt, alloc, config, values, flags)?)
 }
 
-/// The elements whose flag is true, of as many as there are flags.
-///
-/// Each element up to the last that is kept is stored at the number of true flags before it, in order, so that no branch
-/// hangs on a flag: what isn't kept is stored where the next kept one is stored after it.
-pub(crate) fn kept<T: Copy, R: Threads + Sync, A: Memory>(
+/// The elements whose flag is true, of as many as there are flags. A scan of the flags says where each of them is put, and
+/// so where in the flags a run of the result begins.
+pub(crate) fn kept<T: Copy + Send + Sync, R: Threads + Sync, A: Memory>(
     rt: &R,
     alloc: A,
     config: Config,
@@ -46,28 +46,29 @@ pub(crate) fn kept<T: Copy, R: Threads + Sync, A: Memory>(
     ensures values { IfOk result (λ v. v.items ≡ kept_of values.now flags.now) }
     ensures no_longer { IfOk result (λ v. vec_len v ≤ length values.now) }
 {
-    let end = end_of_true(flags);
-    if end == 0 {
+    if flags.is_empty() {
         return Ok(Vec::new(alloc));
     }
-    let (flags, _) = flags.split_at(end);
     let places = counts_before(rt, alloc, config, flags)?;
-    let mut packed = vec![in alloc; values[0]; places[end - 1] as usize + 1]?;
-    for k in 0..end {
-        packed[places[k] as usize] = values[k];
-    }
-    Ok(packed)
+    let places = places.as_slice();
+    let count = count_by_places(flags, places);
+    let kept = Kept {
+        values,
+        flags,
+        places,
+    };
+    let threads = threads_for(config, flags.len());
+    Ok(write_in_runs(rt, alloc, threads, &kept, count)?)
 }
 
-/// The place after the last true flag, and 0 where none is true.
-fn end_of_true(flags: &[bool]) -> usize
-    ensures within { result ≤ length flags.now }
-    ensures last { 0 < result → slice_index_or flags.now (result - 1) false ≡ true }
-    ensures others { All (λ flag. flag ≡ false) (drop result flags.now) }
+/// How many flags are true, of which there is at least one: the place of the last, and one more where it is true.
+fn count_by_places(flags: &[bool], places: &[i32]) -> usize
+    requires some { 0 < length flags.now }
+    requires few { length flags.now ≤ most_elements }
+    requires places { ArePlaces flags.now places.now }
+    requires one_each { length places.now ≡ length flags.now }
+    ensures { result ≡ count_of flags.now }
 {
-    let mut end = flags.len();
-    while end > 0 && !flags[end - 1] {
-        end -= 1;
-    }
-    end
+    let last = flags.len() - 1;
+    places[last] as usize + usize::from(flags[last])
 }

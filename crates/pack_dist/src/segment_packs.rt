@@ -14,7 +14,7 @@ use std::thread::Threads;
 ///
 /// LengthMismatch, without a place, where the segments' total is not the number of elements, or not that of flags.
 /// Source: CVL's segmented pack.
-pub fn seg_pack_values<T: Copy, R: Threads + Sync, A: Memory>(
+pub fn seg_pack_values<T: Copy + Send + Sync, R: Threads + Sync, A: Memory>(
     rt: &R,
     alloc: A,
     config: Config,
@@ -51,7 +51,7 @@ pub fn packed_descriptor<R: Threads + Sync, A: Memory>(
 /// LengthMismatch, without a place, where the segments' total is not the number of elements, or not that of flags.
 /// Source: CVL's segmented pack.
 #[tactic(auto, using(crate::proofs::Segments::pack_fault))]
-pub fn seg_pack<T: Copy, R: Threads + Sync, A: Memory>(
+pub fn seg_pack<T: Copy + Send + Sync, R: Threads + Sync, A: Memory>(
     rt: &R,
     alloc: A,
     config: Config,

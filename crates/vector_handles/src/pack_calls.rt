@@ -78,7 +78,7 @@ impl<A: Memory> Session<A> {
     }
 
     /// The elements of a vector whose flag is true. The flags and the descriptor are the operands at their places.
-    fn packed<T: Copy, R: Threads + Sync>(
+    fn packed<T: Copy + Send + Sync, R: Threads + Sync>(
         &self,
         rt: &R,
         cut: Cut,

@@ -16,11 +16,13 @@ use cvl_base::{Cut, Element, Memory, Refused};
 use pack_dist::{
     distribute, extract, index, replace, seg_distribute, seg_extract, seg_index, seg_replace,
 };
+use std::thread::Threads;
 
 impl<A: Memory> Session<A> {
     /// Copies of one value, or of one for each segment.
-    pub(crate) fn value_of_distribute(
+    pub(crate) fn value_of_distribute<R: Threads + Sync>(
         &self,
+        rt: &R,
         cut: Cut,
         element: Element,
         operands: &Operands<'_, A>,
@@ -29,13 +31,18 @@ impl<A: Memory> Session<A> {
         ensures { IsTableValue self.now.inputs (op.Distribute cut element) operands.now result }
     {
         match cut {
-            Cut::Flat => self.distributed(element, operands),
-            Cut::Segmented => self.distributed_by_segments(element, operands),
+            Cut::Flat => self.distributed(rt, element, operands),
+            Cut::Segmented => self.distributed_by_segments(rt, element, operands),
         }
     }
 
     /// Copies of one value.
-    fn distributed(&self, element: Element, operands: &Operands<'_, A>) -> Result<Bound<A>, Refused>
+    fn distributed<R: Threads + Sync>(
+        &self,
+        rt: &R,
+        element: Element,
+        operands: &Operands<'_, A>,
+    ) -> Result<Bound<A>, Refused>
         requires kinds { AreTaken (op.Distribute Cut.Flat element) operands.now }
         ensures { IsTableValue self.now.inputs (op.Distribute Cut.Flat element) operands.now result }
     {
@@ -43,18 +50,19 @@ impl<A: Memory> Session<A> {
         match element {
             Element::Integer => {
                 let value = operands.first.integer();
-                bound_integers(distribute(self.alloc, value, count))
+                bound_integers(distribute(rt, self.alloc, self.config, value, count))
             }
             Element::Boolean => {
                 let value = operands.first.boolean();
-                bound_booleans(distribute(self.alloc, value, count))
+                bound_booleans(distribute(rt, self.alloc, self.config, value, count))
             }
         }
     }
 
     /// Copies of one value for each segment.
-    fn distributed_by_segments(
+    fn distributed_by_segments<R: Threads + Sync>(
         &self,
+        rt: &R,
         element: Element,
         operands: &Operands<'_, A>,
     ) -> Result<Bound<A>, Refused>
@@ -65,18 +73,19 @@ impl<A: Memory> Session<A> {
         match element {
             Element::Integer => {
                 let values = operands.first.integers();
-                bound_integers(seg_distribute(self.alloc, values, d))
+                bound_integers(seg_distribute(rt, self.alloc, self.config, values, d))
             }
             Element::Boolean => {
                 let values = operands.first.booleans();
-                bound_booleans(seg_distribute(self.alloc, values, d))
+                bound_booleans(seg_distribute(rt, self.alloc, self.config, values, d))
             }
         }
     }
 
     /// Numbers from a first one on, by a stride, or such numbers in each segment.
-    pub(crate) fn value_of_index(
+    pub(crate) fn value_of_index<R: Threads + Sync>(
         &self,
+        rt: &R,
         cut: Cut,
         operands: &Operands<'_, A>,
     ) -> Result<Bound<A>, Refused>
@@ -88,13 +97,13 @@ impl<A: Memory> Session<A> {
                 let init = operands.first.integer();
                 let stride = operands.second.integer();
                 let count = operands.third.integer();
-                bound_integers(index(self.alloc, init, stride, count))
+                bound_integers(index(rt, self.alloc, self.config, init, stride, count))
             }
             Cut::Segmented => {
                 let inits = operands.first.integers();
                 let strides = operands.second.integers();
                 let d = operands.third.descriptor();
-                bound_integers(seg_index(self.alloc, inits, strides, d))
+                bound_integers(seg_index(rt, self.alloc, self.config, inits, strides, d))
             }
         }
     }

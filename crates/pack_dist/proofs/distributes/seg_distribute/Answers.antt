@@ -1,33 +1,23 @@
-use Rattle.std.proofs.Common.{◌∙◌, arith}
-use Rattle.pack_dist.proofs.Distributed.{copies-end, copies-more, distribute-begins}
-use Rattle.pack_dist.proofs.Parts.{ends_within, stands, starts_all, starts_more}
+use Rattle.std.proofs.Common.{◌∙◌, length, Ok, sym, ap, arith}
+use Rattle.pack_dist.specs.Lists.{copies_of}
+use Rattle.pack_dist.proofs.Distributed.{copies-long, distribute-fits}
+use Rattle.pack_dist.proofs.EndToEnd.{whole-long}
 use Rattle.pack_dist.proofs.distributes.seg_distribute.Goals as goal
 
-pub loop-s-init : goal.loop-s-init
-loop-s-init g c = record {
-  whole = distribute-begins c.args.values.now c.args.d.now _ (omega arith) c.in_ok-copies.ensures.items;
-  starts = c.in_ok-copies.ensures.len;
-  capacity = c.in_ok-copies.ensures.exact ∙ c.total.ensures.value;
-}
-
-pub push_copies-requires : goal.push_copies-requires
-push_copies-requires g c =
-    let e = ends_within c.args.d.now c.loop-s.s _ c.length.result c.loop-s.invariant.starts (omega arith) c.length.ensures in
-    omega (arith, e, c.loop-s.invariant.capacity)
-
-pub loop-s-preserved : goal.loop-s-preserved
-loop-s-preserved g c =
-    let e = ends_within c.args.d.now c.loop-s.s _ c.length.result c.loop-s.invariant.starts (omega arith) c.length.ensures in
-    record {
-      whole = copies-more c.args.values.now c.args.d.now c.loop-s.s c.length.result c.index-values-s.result c.loop-s.copies.items c.push_copies.new.copies.items _
-          (record { within = omega arith; here = c.index-values-s.is }) (stands c.args.d.now c.loop-s.s c.length.result 0 (omega arith) c.length.ensures)
-          (omega (arith, e, c.total.ensures)) c.push_copies.ensures.values c.loop-s.invariant.whole;
-      starts = c.push_copies.ensures.as_long ∙ starts_more c.args.d.now c.loop-s.s _ c.length.result c.loop-s.invariant.starts (omega arith) c.length.ensures;
-      capacity = c.push_copies.ensures.capacity ∙ c.loop-s.invariant.capacity;
-    }
+pub write_in_runs-requires-after_bounds : goal.write_in_runs-requires-after_bounds
+write_in_runs-requires-after_bounds g c κs within =
+    let values = c.args.values.now in
+    let d = c.args.d.now in
+    c.total-total.ensures.value ∙ sym (whole-long (copies_of values d) d (copies-long values d (c.in_ok-check_agree.ensures ∙ c.count.ensures.value)))
 
 pub returns-clause-values : goal.returns-clause-values
-returns-clause-values g c = copies-end c.args.values.now c.args.d.now c.loop-s.s _ _ (omega arith) c.loop-s.invariant.whole
+returns-clause-values g c =
+    distribute-fits c.args.values.now c.args.d.now (c.in_ok-check_agree.ensures ∙ c.count.ensures.value) (omega (arith, c.total-total.ensures))
+    ∙ ap Ok (sym c.in_ok-write_in_runs.ensures)
 
 pub returns-clause-as_long : goal.returns-clause-as_long
-returns-clause-as_long g c = starts_all c.args.d.now c.loop-s.s _ c.loop-s.invariant.starts (omega arith)
+returns-clause-as_long g c =
+    let values = c.args.values.now in
+    let d = c.args.d.now in
+    let long = whole-long (copies_of values d) d (copies-long values d (c.in_ok-check_agree.ensures ∙ c.count.ensures.value)) in
+    omega (arith, c.in_ok-write_in_runs.field-0.ok.0, ap length c.in_ok-write_in_runs.ensures, long)

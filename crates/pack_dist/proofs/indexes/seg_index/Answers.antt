@@ -1,6 +1,7 @@
-use Rattle.std.proofs.Common.{◌∙◌, pos, rules, arith, refl, sym}
-use Rattle.pack_dist.proofs.Distributed.{index-begins, index-misfits, numbers-end, numbers-more}
-use Rattle.pack_dist.proofs.Parts.{ends_within, stands, starts_all, starts_more}
+use Rattle.std.proofs.Common.{◌∙◌, length, Ok, sym, ap, arith, rules}
+use Rattle.pack_dist.specs.Lists.{progressions_of}
+use Rattle.pack_dist.proofs.Distributed.{index-fits, index-misfits, progressions-long}
+use Rattle.pack_dist.proofs.EndToEnd.{whole-long}
 use Rattle.pack_dist.proofs.indexes.seg_index.Goals as goal
 
 pub returns-in_err-check_agree-2-clause-values : goal.returns-in_err-check_agree-2-clause-values
@@ -9,32 +10,23 @@ returns-in_err-check_agree-2-clause-values g c =
     (λ same. c.in_err-check_agree-2.ensures.1 (same ∙ sym c.count.ensures.value)) in
     search rules
 
-pub loop-s-init : goal.loop-s-init
-loop-s-init g c = record {
-  whole = index-begins c.args.inits.now c.args.strides.now c.args.d.now c.in_ok-check_agree.ensures _ (omega arith) c.in_ok-numbers.ensures.items;
-  starts = c.in_ok-numbers.ensures.len;
-  capacity = c.in_ok-numbers.ensures.exact ∙ c.total.ensures.value;
-}
-
-pub push_progression-requires : goal.push_progression-requires
-push_progression-requires g c =
-    let e = ends_within c.args.d.now c.loop-s.s _ c.length.result c.loop-s.invariant.starts (omega arith) c.length.ensures in
-    omega (arith, e, c.loop-s.invariant.capacity)
-
-pub loop-s-preserved : goal.loop-s-preserved
-loop-s-preserved g c =
-    let e = ends_within c.args.d.now c.loop-s.s _ c.length.result c.loop-s.invariant.starts (omega arith) c.length.ensures in
-    record {
-      whole = numbers-more c.args.inits.now c.args.strides.now c.args.d.now c.loop-s.s c.length.result _ _ _ _ _
-          (stands c.args.inits.now c.loop-s.s _ (pos 0) (omega arith) refl) (stands c.args.strides.now c.loop-s.s _ (pos 0) (omega (arith, c.in_ok-check_agree.ensures)) refl)
-          (stands c.args.d.now c.loop-s.s c.length.result 0 (omega arith) c.length.ensures)
-          (omega (arith, e, c.total.ensures)) c.push_progression.ensures.values c.loop-s.invariant.whole;
-      starts = c.push_progression.ensures.as_long ∙ starts_more c.args.d.now c.loop-s.s _ c.length.result c.loop-s.invariant.starts (omega arith) c.length.ensures;
-      capacity = c.push_progression.ensures.capacity ∙ c.loop-s.invariant.capacity;
-    }
+pub write_in_runs-requires-after_bounds : goal.write_in_runs-requires-after_bounds
+write_in_runs-requires-after_bounds g c κs within =
+    let inits = c.args.inits.now in
+    let strides = c.args.strides.now in
+    let d = c.args.d.now in
+    c.total-total.ensures.value
+    ∙ sym (whole-long (progressions_of inits strides d) d (progressions-long inits strides d c.in_ok-check_agree.ensures (c.in_ok-check_agree-2.ensures ∙ c.count.ensures.value)))
 
 pub returns-clause-values : goal.returns-clause-values
-returns-clause-values g c = numbers-end c.args.inits.now c.args.strides.now c.args.d.now c.loop-s.s _ _ (omega arith) c.loop-s.invariant.whole
+returns-clause-values g c =
+    index-fits c.args.inits.now c.args.strides.now c.args.d.now c.in_ok-check_agree.ensures (c.in_ok-check_agree-2.ensures ∙ c.count.ensures.value) (omega (arith, c.total-total.ensures))
+    ∙ ap Ok (sym c.in_ok-write_in_runs.ensures)
 
 pub returns-clause-as_long : goal.returns-clause-as_long
-returns-clause-as_long g c = starts_all c.args.d.now c.loop-s.s _ c.loop-s.invariant.starts (omega arith)
+returns-clause-as_long g c =
+    let inits = c.args.inits.now in
+    let strides = c.args.strides.now in
+    let d = c.args.d.now in
+    let long = whole-long (progressions_of inits strides d) d (progressions-long inits strides d c.in_ok-check_agree.ensures (c.in_ok-check_agree-2.ensures ∙ c.count.ensures.value)) in
+    omega (arith, c.in_ok-write_in_runs.field-0.ok.0, ap length c.in_ok-write_in_runs.ensures, long)
