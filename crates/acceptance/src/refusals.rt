@@ -65,7 +65,7 @@ write d
 ";
 
 /// Calls on vectors that are long enough for threads to share them.
-const LONG_SCRIPT: &[u8] = b"i = ind_luz 0 1 3145728
+const LONG_SCRIPT: &[u8] = b"i = ind_luz 0 1 2200000
 a = add_wuz i i
 c = les_wuz i a
 e = sel_wuz c a i
@@ -76,10 +76,23 @@ j = int_wub h
 k = not_wuz i
 r = add_ruz k
 write r
+u = cpy_wuz i
+w = cpy_wub g
+p = pck_luz u w
+t = add_ruz p
+write t
+q = bck_puz a u
+m = smp_puz q u
+y = def_puz m u a
+s = add_suz y
+x = ext_vuz s 2199999
+write x
+z = dis_vuz 7 2200000
 ";
 
-/// The text of the script of long vectors: the sum of the numbers -1 to -3145728, wrapped.
-const LONG_TEXT: &[u8] = b"r = -1572864\n";
+/// The text of the script of long vectors: the sum of the numbers from -1 down to -2,200,000, that of the numbers below
+/// 2,200,000, and that of twice the numbers below 2,199,999, each wrapped.
+const LONG_TEXT: &[u8] = b"r = -1934512352\nt = 1932312352\nx = -434742590\n";
 
 /// The lines of the script's text.
 const LINES: &[Pieces] = &[
