@@ -13,41 +13,34 @@ const BLOCK: usize = 256;
 /// Pushes the elements whose flag is true.
 ///
 /// A processor can't foretell flags, and loses more time where it guessed wrongly than the copy of some elements takes. So
-/// no branch hangs on a flag: what a block keeps is put into a buffer first, and then pushed.
+/// no branch hangs on a flag: what a block keeps is put into a buffer first, and then pushed. Each element is put after the
+/// kept ones before it, where the next one is put over it if it isn't kept.
 pub(crate) fn push_kept<T: Copy>(mut run: Run<T>, values: &[T], flags: &[bool]) -> Run<T>
     requires as_long { length values.now ≡ length flags.now }
     requires room { count_of flags.now ≤ run.room }
     ensures { result ≡ stretch run.block run.first (run.items ++ kept_of values.now flags.now) (run.room - count_of flags.now) }
 {
+    if flags.is_empty() {
+        return run;
+    }
+    // One buffer for all blocks, since each new one would be filled first. So both loops over a block stand here: no
+    // function can be passed a buffer of any type.
+    let mut buffer = [values[0]; BLOCK];
     let (mut values, mut flags) = (values, flags);
     while !flags.is_empty() {
         let block = flags.len().min(BLOCK);
         let (some_values, other_values) = values.split_at(block);
         let (some_flags, other_flags) = flags.split_at(block);
-        run = push_block(run, some_values, some_flags);
+        let mut count = 0;
+        for k in 0..some_flags.len() {
+            buffer[count] = some_values[k];
+            count += usize::from(some_flags[k]);
+        }
+        for place in 0..count {
+            run.push(buffer[place]);
+        }
         values = other_values;
         flags = other_flags;
-    }
-    run
-}
-
-/// Pushes the elements of a block whose flag is true. Each element is put into the buffer after the kept ones before it, where
-/// the next one is put over it if it isn't kept. Both loops stand here, since no function is passed a buffer of any type.
-fn push_block<T: Copy>(mut run: Run<T>, values: &[T], flags: &[bool]) -> Run<T>
-    requires some { 0 < length flags.now }
-    requires block { length flags.now ≤ 256 }
-    requires as_long { length values.now ≡ length flags.now }
-    requires room { count_of flags.now ≤ run.room }
-    ensures { result ≡ stretch run.block run.first (run.items ++ kept_of values.now flags.now) (run.room - count_of flags.now) }
-{
-    let mut buffer = [values[0]; BLOCK];
-    let mut count = 0;
-    for k in 0..flags.len() {
-        buffer[count] = values[k];
-        count += usize::from(flags[k]);
-    }
-    for place in 0..count {
-        run.push(buffer[place]);
     }
     run
 }

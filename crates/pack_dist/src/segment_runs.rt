@@ -61,12 +61,18 @@ impl<S: Segments + Copy> Writer<S::Item> for EndToEnd<S> {
             return run;
         }
         let last = end - 1;
-        let mut from = first - d.start(begin);
-        for s in begin..last {
-            run = segments.push_part(run, s, from, d.length(s) - from);
-            from = 0;
+        let from = first - d.start(begin);
+        if begin == last {
+            let count = run.room();
+            return segments.push_part(run, last, from, count);
+        }
+        // by itself, so that nothing is left out in the loop over the others
+        let count = d.length(begin) - from;
+        run = segments.push_part(run, begin, from, count);
+        for s in begin + 1..last {
+            run = segments.push_part(run, s, 0, d.length(s));
         }
         let room = run.room();
-        segments.push_part(run, last, from, room)
+        segments.push_part(run, last, 0, room)
     }
 }
