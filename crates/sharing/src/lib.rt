@@ -1,7 +1,6 @@
 //! Rules of thumb: how many threads share a call, by how many elements it writes. No result depends on them.
 //!
-//! All thresholds of the library stand here. Each was measured on an idle machine with four processors, on vectors that
-//! were not in a cache.
+//! All thresholds of the library stand here. Each was measured on a machine with four processors.
 #![tactic(auto)]
 
 ghost use Rattle.std.specs.Prelude.{◌≤◌};
