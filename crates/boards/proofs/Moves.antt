@@ -1,46 +1,42 @@
 -- Each step of a seat keeps the rule of the board's table, in the form that the table asks for.
 -- Source: the laws of the crate `status_word` on the kinds of step.
-use Rattle.std.proofs.Common.{◌≡◌, refl, sym, ap, ◌∙◌, subst, ℕ, suc, ◌+◌, ◌%◌, ◌^◌, ◌<◌, ◌≤◌, max, Bool, true, false, cond, ltb, List, length, get_or, set, arith, length-set, ⊎_elim}
+use Rattle.std.proofs.Common.{◌≡◌, refl, sym, ap, ◌∙◌, subst, ℕ, ◌+◌, ◌<◌, ◌≤◌, max, Bool, List, length, get_or, set, arith, length-set}
 use mathlib.Core.Option.{none}
 use Rattle.std.proofs.lemmas.List.{get_or-set_other, set-get_or}
 use Rattle.std.proofs.lemmas.Grind.{get_or-set_at}
-use Rattle.std.proofs.lemmas.Bool.Decides.{leb_tells}
 use Rattle.atomic_table.specs.Table.{Allows, Splits, Joins, step, keeps}
 use Rattle.status_word.specs.declared.pass.Pass.{Pass}
 use Rattle.status_word.specs.Codings.{Coding, code}
-use Rattle.boards.specs.Rules.{PassOf, IsRuled, ClaimGives, LookGives, TellGives}
-use Rattle.status_word.specs.Passes.{IsRuleKept, given_tile, highest, passes_joined, looked, spent_pass, split_left, split_right, told_at, told_done, told_state}
+use Rattle.boards.specs.Boards.{on_hand}
+use Rattle.boards.specs.Rules.{PassOf, IsRuled, LookGives, TellGives}
+use Rattle.boards.proofs.Claiming.{AllowsClaims}
+use Rattle.status_word.specs.Passes.{IsRuleKept, highest, passes_joined, looked, spent_pass, split_left, split_right, told_at, told_state}
 use Rattle.status_word.specs.RuleSteps.{AreRaised, AreSame, Ascends, ClaimKeeps, DoneKeeps, FewClaimed, JoinKeeps, LookKeeps, SplitKeeps, TellKeeps}
 
-module _ {Item : Type 0} (m : Coding Item) (sums : List (Bool × Item)) (workers slots id : ℕ) where
+module _ {Item : Type 0} (m : Coding Item) (sums : List (Bool × Item)) (workers : ℕ) where
   same_but_last : (words : List ℕ) (v : ℕ) → AreSame (length sums) (λ x. get_or words x 0) (λ x. get_or (set words (length sums) v) x 0)
   same_but_last words v t below = get_or-set_other words (length sums) t v 0 (λ e. omega arith)
 
-  pub claim_allowed : ClaimKeeps Item → DoneKeeps Item → FewClaimed Item → (me : PassOf Item) → length sums + workers < 2 ^ 63 → me.0.sums ≡ sums → me.0.hand.done ≡ 0
-      → me.0.hand.share ≡ 1 → Allows (IsRuled m sums workers) slots id me (length sums) (λ n. (n + 1) % 2 ^ 64) (ClaimGives (step slots (length sums) 1 0 none) me)
-  claim_allowed claim done few me small same_sums unmarked one s ruled homes at fits =
-      let found = get_or s.words (length sums) 0 in
-      let after = (found + 1) % 2 ^ 64 in
-      let bound : found ≤ length sums + workers = few (code m sums) sums workers found (λ x. get_or s.words x 0) s.views ruled.kept in
-      let next : after ≡ found + 1 = omega arith in
-      let here : get_or (set s.words (length sums) after) (length sums) 0 ≡ found + 1 = get_or-set_at s.words (length sums) (length sums) after 0 refl (omega (arith, ruled.long)) ∙ next in
-      let long : length (set s.words (length sums) after) ≡ length sums + 1 = omega (arith, length-set {A = ℕ}, ruled.long) in
-      ⊎_elim
-      (λ (below : (ltb found (length me.0.sums) ≡ true) × (suc found ≤ length me.0.sums)).
-      let kept = claim (code m sums) sums workers found (get_or (set s.words (length sums) after) (length sums) 0) (λ x. get_or s.words x 0)
-      (λ x. get_or (set s.words (length sums) after) x 0) s.views id me.0 ruled.kept at (omega (arith, ap length same_sums)) (omega arith) here
-      (same_but_last s.words after) in
-      (given_tile me.0 found, keeps, tt, record { long = long; kept = kept.0 }, (ap (λ (b : Bool). (cond b (given_tile me.0 found) (told_done me.0), me.1)) (sym below.0), λ h. kept.1)))
-      (λ (past : (ltb found (length me.0.sums) ≡ false) × (length me.0.sums < suc found)).
-      let kept = done (code m sums) sums workers found (get_or (set s.words (length sums) after) (length sums) 0) (λ x. get_or s.words x 0)
-      (λ x. get_or (set s.words (length sums) after) x 0) s.views id me.0 ruled.kept at (omega (arith, ap length same_sums)) (omega arith) here
-      (same_but_last s.words after) in
-      (told_done me.0, keeps, tt, record { long = long; kept = kept }, (ap (λ (b : Bool). (cond b (given_tile me.0 found) (told_done me.0), me.1)) (sym past.0), λ h. absurd (omega arith))))
-      (leb_tells (suc found) (length me.0.sums))
+  pub allows_claims : ClaimKeeps Item → DoneKeeps Item → FewClaimed Item → AllowsClaims (λ (p : Pass Item). p.hand) on_hand (IsRuled m sums workers) (length sums) (length sums) workers
+  allows_claims claim done few = record {
+    few = λ s ruled. few (code m sums) sums workers (get_or s.words (length sums) 0) (λ x. get_or s.words x 0) s.views ruled.kept;
+    gives = λ s id p ruled at below share.
+        let found = get_or s.words (length sums) 0 in
+        let words = set s.words (length sums) (found + 1) in
+        let kept = claim (code m sums) sums workers found (get_or words (length sums) 0) (λ x. get_or s.words x 0) (λ x. get_or words x 0) s.views id p ruled.kept at below share
+        (get_or-set_at s.words (length sums) (length sums) (found + 1) 0 refl (omega (arith, ruled.long))) (same_but_last s.words (found + 1)) in
+        (record { long = omega (arith, length-set {A = ℕ}, ruled.long); kept = kept.0 }, kept.1);
+    ends = λ s id p ruled at past room.
+        let found = get_or s.words (length sums) 0 in
+        let words = set s.words (length sums) (found + 1) in
+        let kept = done (code m sums) sums workers found (get_or words (length sums) 0) (λ x. get_or s.words x 0) (λ x. get_or words x 0) s.views id p ruled.kept at past room
+        (get_or-set_at s.words (length sums) (length sums) (found + 1) 0 refl (omega (arith, ruled.long))) (same_but_last s.words (found + 1)) in
+        record { long = omega (arith, length-set {A = ℕ}, ruled.long); kept = kept };
+  }
 
-  pub look_allowed : LookKeeps Item → (me : PassOf Item) (t : ℕ) → t < length sums → me.0.sums ≡ sums → me.0.hand.share ≡ 1
+  pub look_allowed : (slots id : ℕ) → LookKeeps Item → (me : PassOf Item) (t : ℕ) → t < length sums → me.0.sums ≡ sums → me.0.hand.share ≡ 1
       → Allows (IsRuled m sums workers) slots id me t (λ n. n) (LookGives m (step slots t 0 0 none) me)
-  look_allowed look me t below same_sums one s ruled homes at fits =
+  look_allowed slots id look me t below same_sums one s ruled homes at fits =
       let rank = highest (told_at t) s.views in
       let kept = look (code m sums) sums workers (get_or s.words (length sums) 0) (λ x. get_or s.words x 0)
       (λ x. get_or s.words x 0) s.views id me.0 t ruled.kept at (omega arith) (λ x within. refl) in
@@ -52,9 +48,9 @@ module _ {Item : Type 0} (m : Coding Item) (sums : List (Bool × Item)) (workers
         (rank, kept.3 below ∙ ap (λ ss. code m ss t rank) (sym same_sums), kept.2, kept.1, refl),
       )
 
-  pub tell_allowed : TellKeeps Item → Ascends (code m sums) → (me : PassOf Item) (t rank word : ℕ) → t < length sums → rank ≤ 2 → word ≡ code m sums t rank
+  pub tell_allowed : (slots id : ℕ) → TellKeeps Item → Ascends (code m sums) → (me : PassOf Item) (t rank word : ℕ) → t < length sums → rank ≤ 2 → word ≡ code m sums t rank
       → me.0.hand.share ≡ 1 → Allows (IsRuled m sums workers) slots id me t (λ n. max n word) (TellGives rank (step slots t word 0 none) me)
-  tell_allowed tell ascends me t rank word below few is_code one s ruled homes at fits =
+  tell_allowed slots id tell ascends me t rank word below few is_code one s ruled homes at fits =
       let v = max (get_or s.words t 0) word in
       let claims = get_or s.words (length sums) 0 in
       let raised : AreRaised (length sums) t (code m sums t rank) (λ x. get_or s.words x 0) (λ x. get_or (set s.words t v) x 0) = record {
@@ -74,10 +70,10 @@ module _ {Item : Type 0} (m : Coding Item) (sums : List (Bool × Item)) (workers
         refl,
       )
 
-  pub split_allowed : SplitKeeps Item → (p : Pass Item) → 2 ≤ p.hand.share → p.hand.done < p.hand.share → Splits (IsRuled m sums workers) id p (split_left p) (split_right p)
-  split_allowed split p several unmarked s ruled at =
+  pub split_allowed : (id : ℕ) → SplitKeeps Item → (p : Pass Item) → 2 ≤ p.hand.share → p.hand.done < p.hand.share → Splits (IsRuled m sums workers) id p (split_left p) (split_right p)
+  split_allowed id split p several unmarked s ruled at =
       record { long = ruled.long; kept = split (code m sums) sums workers (get_or s.words (length sums) 0) (λ x. get_or s.words x 0) s.views id p ruled.kept at several unmarked }
 
-  pub join_allowed : JoinKeeps Item → (p q : Pass Item) (other : ℕ) → 1 ≤ p.hand.share → Joins (IsRuled m sums workers) id p other q (passes_joined p q) spent_pass
-  join_allowed join p q other whole s ruled at differ at_other =
+  pub join_allowed : (id : ℕ) → JoinKeeps Item → (p q : Pass Item) (other : ℕ) → 1 ≤ p.hand.share → Joins (IsRuled m sums workers) id p other q (passes_joined p q) spent_pass
+  join_allowed id join p q other whole s ruled at differ at_other =
       record { long = ruled.long; kept = join (code m sums) sums workers (get_or s.words (length sums) 0) (λ x. get_or s.words x 0) s.views id other p q ruled.kept at differ at_other whole }

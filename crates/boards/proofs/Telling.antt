@@ -2,13 +2,20 @@
 -- Source: the laws of the crate `status_word` on words.
 use Rattle.std.proofs.Common.{◌≡◌, sym, ap, ◌∙◌, ℕ, ◌≤◌, Bool, List}
 use Rattle.atomic_table.specs.Seated.{TableId}
-use Rattle.status_word.specs.declared.pass.Pass.{Pass}
 use Rattle.status_word.specs.declared.status.Status.{Status}
 use Rattle.status_word.specs.declared.status.Status.TheVariants.{Silent, Sum, Prefix}
 use Rattle.status_word.specs.Codings.{CodeLaws, Coding, code, told_of}
 use Rattle.status_word.specs.Words.{state_of}
-use Rattle.boards.specs.Answers.{with_pass}
-use Rattle.boards.specs.Boards.{Seated}
+use Rattle.boards.specs.Boards.{Seated, with_pass}
+
+-- a step changes the pass alone
+pub seat_after : {P : Type 0} (change : P → P) (id now_id : TableId) (p now_p : P) (done : Bool) (old : Seated P)
+    → record { id = id; pass = p; is_done = done } ≡ old → now_id ≡ id → now_p ≡ change p
+    → record { id = now_id; pass = now_p; is_done = done } ≡ with_pass old (change old.pass)
+seat_after {P} change id now_id p now_p done old is same_id changed =
+    let stepped : ◌≡◌ {A = Seated P} record { id = now_id; pass = now_p; is_done = done } record { id = id; pass = change p; is_done = done } = λ i.
+    record { id = same_id i; pass = changed i; is_done = done } in
+    stepped ∙ ap (λ (s : Seated P). with_pass s (change s.pass)) is
 
 module _ {Item : Type 0} where
   -- what a status tells of its tile, or this where it tells nothing
@@ -24,12 +31,3 @@ module _ {Item : Type 0} where
       let told : result ≡ told_of m.join m.unit sums t rank = reads ∙ ap m.read is_code ∙ laws.read t rank in
       let state : state_of result ≡ rank = ap state_of told ∙ laws.states t rank few in
       (told ∙ ap (told_of m.join m.unit sums t) (sym state), state)
-
-  -- a step changes the pass alone
-  pub seat_after : (change : Pass Item → Pass Item) (id now_id : TableId) (p now_p : Pass Item) (done : Bool) (old : Seated Item)
-      → record { id = id; pass = p; is_done = done } ≡ old → now_id ≡ id → now_p ≡ change p
-      → record { id = now_id; pass = now_p; is_done = done } ≡ with_pass old (change old.pass)
-  seat_after change id now_id p now_p done old is same_id changed =
-      let stepped : ◌≡◌ {A = Seated Item} record { id = now_id; pass = now_p; is_done = done } record { id = id; pass = change p; is_done = done } = λ i.
-      record { id = same_id i; pass = changed i; is_done = done } in
-      stepped ∙ ap (λ (s : Seated Item). with_pass s (change s.pass)) is

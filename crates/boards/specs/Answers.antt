@@ -1,30 +1,15 @@
 -- What the calls of a scan board promise.
 -- Source: the decoupled look-back of Merrill and Garland, Single-pass Parallel Prefix Scan with Decoupled Look-back, 2016. That a worker
 -- adds up a tile of which nothing is told yet, in place of waiting for it, is this library's profile.
-use Rattle.std.specs.Prelude.{◌≡◌, ℕ, ◌+◌, ◌-◌, ◌<◌, ◌≤◌, ◌⊎◌, max, Bool, true, IsTrue, List, length, replicate, if◌then◌else◌}
+use Rattle.std.specs.Prelude.{◌≡◌, ℕ, ◌+◌, ◌-◌, ◌<◌, ◌≤◌, ◌⊎◌, max, Bool, IsTrue, List, length, replicate}
 use Rattle.std.specs.List.{Any, sum_by}
 use Rattle.status_word.specs.declared.pass.Pass.{Pass}
-use Rattle.status_word.specs.Passes.{given_at, given_tile, highest, known_at, seen_at, told_at, told_done}
-use Rattle.boards.specs.declared.claim.Claim.{Claim}
-use Rattle.boards.specs.declared.claim.Claim.TheVariants.{Tile, Done}
+use Rattle.status_word.specs.Passes.{highest, known_at, seen_at, told_at}
 use Rattle.boards.specs.Boards.{Board, Seated, new_seat}
-use Rattle.boards.specs.Claims.{Claims}
-
--- what a claim answered this seat
-abbrev pub IsClaim : {Item : Type 0} → ℕ → Claim → Seated Item → Seated Item → Type 0
-IsClaim tiles answer old new = Claims tiles answer old.pass.hand.given new.pass.hand.given old.is_done new.is_done
-
--- the seat whose worker took a step
-abbrev pub with_pass : {Item : Type 0} → Seated Item → Pass Item → Seated Item
-with_pass seat pass = record { id = seat.id; pass = pass; is_done = seat.is_done }
-
--- the seat after the answer of a claim; that no tile is left is marked the first time alone
-abbrev pub after_answer : {Item : Type 0} → Seated Item → Claim → Seated Item
-after_answer seat (Tile t) = with_pass seat (given_tile seat.pass t)
-after_answer seat Done = if seat.is_done then seat else record { id = seat.id; pass = told_done seat.pass; is_done = true }
+use Rattle.boards.specs.Claims.{AreGivenOnce}
 
 -- a new board over tiles with these sums, and its seats
-pub record IsNew {Item : Type 0} (sums : List (Bool × Item)) (workers : ℕ) (board : Board Item) (seats : List (Seated Item)) : Type 0 where
+pub record IsNew {Item : Type 0} (sums : List (Bool × Item)) (workers : ℕ) (board : Board Item) (seats : List (Seated (Pass Item))) : Type 0 where
   pub tiles : board.sums ≡ sums
   pub as_many : board.workers ≡ workers
   pub seats_new : seats ≡ replicate workers (new_seat board)
@@ -55,11 +40,9 @@ pub record IsLookBack {Item : Type 0} (t looks : ℕ) (old new : Pass Item) : Ty
   pub sums : new.sums ≡ old.sums
 
 -- What the seats of a board did in all, once it is closed.
-pub record IsEnd {Item : Type 0} (tiles : ℕ) (seats : List (Seated Item)) (given : ℕ) : Type 0 where
-  -- no tile was given twice
-  pub distinct : (t : ℕ) → sum_by (λ s. given_at t s.pass) seats ≤ 1
+pub record IsEnd {Item : Type 0} (tiles : ℕ) (seats : List (Seated (Pass Item))) (given : ℕ) : Type 0 where
+  pub once : AreGivenOnce (λ p. p.hand) tiles seats
   pub counted : given ≡ sum_by (λ s. length s.pass.hand.given) seats
-  -- if one seat was told that none is left, all were given
-  pub every : Any (λ s. IsTrue s.is_done) seats → (given ≡ tiles) × ((t : ℕ) → t < tiles → sum_by (λ s. given_at t s.pass) seats ≡ 1)
+  pub every : Any (λ s. IsTrue s.is_done) seats → given ≡ tiles
   -- no seat saw a higher state of a tile than some seat told
   pub seen : (t : ℕ) → highest (λ s. seen_at t s.pass) seats ≤ highest (λ s. told_at t s.pass) seats

@@ -1,7 +1,8 @@
--- A scan board and a seat at it, as plain data.
+-- A scan board, and a seat at any board, as plain data.
 -- Source: the claim word and the status words of Merrill and Garland, Single-pass Parallel Prefix Scan with Decoupled Look-back, 2016.
 use Rattle.std.specs.Prelude.{◌≡◌, ℕ, Bool, false, List}
 use Rattle.atomic_table.specs.Seated.{TableId}
+use Rattle.status_word.specs.declared.pass.Hand.{Hand}
 use Rattle.status_word.specs.declared.pass.Pass.{Pass}
 use Rattle.status_word.specs.Passes.{new_pass}
 
@@ -12,15 +13,27 @@ pub record Board (Item : Type 0) : Type 0 where
   pub workers : ℕ
 
 -- at which board the seat is, what its worker did, and whether it was told that no tile is left
-pub record Seated (Item : Type 0) : Type 0 where
+pub record Seated (P : Type 0) : Type 0 where
   pub id : TableId
-  pub pass : Pass Item
+  pub pass : P
   pub is_done : Bool
 
+-- the seat whose worker took a step
+abbrev pub with_pass : {P : Type 0} → Seated P → P → Seated P
+with_pass seat pass = record { id = seat.id; pass = pass; is_done = seat.is_done }
+
+-- a pass of a scan board of which the hand alone changes
+abbrev pub on_hand : {Item : Type 0} → (Hand → Hand) → Pass Item → Pass Item
+on_hand change p = record p { hand = change p.hand }
+
+-- a seat at a scan board
+abbrev pub ScanSeated : Type 0 → Type 0
+ScanSeated Item = Seated (Pass Item)
+
 -- the seat is one of the board's
-abbrev pub IsSeatOf : {Item : Type 0} → Board Item → Seated Item → Type 0
+abbrev pub IsSeatOf : {Item : Type 0} → Board Item → Seated (Pass Item) → Type 0
 IsSeatOf board seat = (seat.id ≡ board.id) × (seat.pass.sums ≡ board.sums)
 
 -- a seat whose worker did nothing yet
-abbrev pub new_seat : {Item : Type 0} → Board Item → Seated Item
+abbrev pub new_seat : {Item : Type 0} → Board Item → Seated (Pass Item)
 new_seat board = record { id = board.id; pass = new_pass board.sums; is_done = false }

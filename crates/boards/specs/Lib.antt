@@ -2,7 +2,11 @@ pub mod Answers
 pub mod Boards
 pub mod Claims
 pub mod Joined
+pub mod LeastBoards
+pub mod LeastPasses
+pub mod LeastRules
 pub mod Rules
+pub mod Slots
 pub mod Walks
 pub use Rattle.status_word.specs.Codings
 pub use Rattle.status_word.specs.Passes

@@ -3,9 +3,11 @@
 -- Source: the bookkeeping behind Merrill and Garland's decoupled look-back, 2016.
 use Rattle.std.specs.Prelude.{◌≡◌, ℕ, ◌+◌, ◌<◌, ◌≤◌, Bool, List, length, nat_lt, if◌then◌else◌, slice_index}
 use Rattle.atomic_table.specs.Table.{State, Me, Step}
+use Rattle.status_word.specs.declared.pass.Hand.{Hand}
 use Rattle.status_word.specs.declared.pass.Pass.{Pass}
 use Rattle.status_word.specs.Codings.{Coding, code}
-use Rattle.status_word.specs.Passes.{IsRuleKept, given_tile, known_at, looked, times, told_done, told_state}
+use Rattle.status_word.specs.Hands.{hand_done, hand_given, times}
+use Rattle.status_word.specs.Passes.{IsRuleKept, known_at, looked, told_state}
 
 -- the rule of the passes holds of the tiles' words and the claim word, which stands after them
 pub record IsRuled {Item : Type 0} (m : Coding Item) (sums : List (Bool × Item)) (workers : ℕ)
@@ -17,12 +19,15 @@ pub record IsRuled {Item : Type 0} (m : Coding Item) (sums : List (Bool × Item)
 abbrev pub PassOf : Type 0 → Type 0
 PassOf Item = Me (Unit {0}) (Pass Item)
 
--- a claim that found this number in the claim word: a tile that was not given to this seat before, or none is left
-abbrev pub after_claim : {Item : Type 0} → Pass Item → ℕ → Pass Item
-after_claim p found = if nat_lt found (length p.sums) then given_tile p found else told_done p
+-- on a board with so many tiles, a claim that found this number in the claim word: a tile, or none is left
+abbrev pub after_claim : {P : Type 0} → ((Hand → Hand) → P → P) → ℕ → P → ℕ → P
+after_claim on_hand tiles p found = if nat_lt found tiles then on_hand (λ h. hand_given h found) p else on_hand hand_done p
 
-abbrev pub ClaimGives : {Item : Type 0} → Step (Unit {0}) → PassOf Item → ℕ → PassOf Item → Type 0
-ClaimGives s me found after = (after ≡ (after_claim me.0 found, me.1)) × (found < length me.0.sums → times found me.0.hand.given ≡ 0)
+-- the tile was not given to this seat before
+abbrev pub ClaimGives : {P : Type 0} → (P → Hand) → ((Hand → Hand) → P → P) → (P → ℕ) → Step (Unit {0}) → Me (Unit {0}) P → ℕ
+    → Me (Unit {0}) P → Type 0
+ClaimGives hand on_hand tiles s me found after = (after ≡ (after_claim on_hand (tiles me.0) me.0 found, me.1))
+    × (found < tiles me.0 → times found (hand me.0).given ≡ 0)
 
 -- a look that found a word: that of a state which is not below what this seat knew
 abbrev pub LookGives : {Item : Type 0} → Coding Item → Step (Unit {0}) → PassOf Item → ℕ → PassOf Item → Type 0

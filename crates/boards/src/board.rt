@@ -3,8 +3,9 @@
 ghost use Rattle.std.specs.Prelude.{◌≡◌, ◌≤◌, IfOk, length};
 ghost use Rattle.std.specs.List.{All};
 ghost use Rattle.cvl_base.specs.Limits.{most_workers};
-ghost use Rattle.boards.specs.Answers.{IsClaim, IsEnd, IsNew, after_answer};
-ghost use Rattle.boards.specs.Boards.{IsSeatOf};
+ghost use Rattle.boards.specs.Answers.{IsEnd, IsNew};
+ghost use Rattle.boards.specs.Boards.{IsSeatOf, on_hand};
+ghost use Rattle.boards.specs.Claims.{IsClaim, after_answer};
 
 use crate::claim::Claim;
 use crate::hands::{deal, join_seats};
@@ -86,8 +87,8 @@ impl<T: Tiles, A: Allocator> ScanBoard<T, A> {
     pub fn claim(&self, seat: &mut ScanSeat<T::M>) -> Claim
         requires { IsSeatOf self.now seat.old }
         ensures same { IsSeatOf self.now seat.new }
-        ensures claim { IsClaim (length self.now.sums) result seat.old seat.new }
-        ensures seat { seat.new ≡ after_answer seat.old result }
+        ensures claim { IsClaim (λ p. p.hand) (length self.now.sums) result seat.old seat.new }
+        ensures seat { seat.new ≡ after_answer on_hand seat.old result }
     {
         if seat.done {
             return Claim::Done;

@@ -5,6 +5,7 @@ ghost use Rattle.std.specs.List.{AllPass};
 ghost use Rattle.cvl_base.specs.Limits.{most_elements, most_workers};
 ghost use Rattle.cvl_base.specs.SegmentMonoid.{is_seg_item};
 ghost use Rattle.status_word.specs.Codings.{coding};
+ghost use Rattle.boards.specs.Boards.{on_hand};
 ghost use Rattle.boards.specs.Rules.{ClaimGives, IsRuled, LookGives, TellGives};
 ghost use Rattle.status_word.specs.Passes.{first_pass, passes_joined, spent_pass, split_left, split_right};
 
@@ -43,7 +44,7 @@ impl<T: Tiles> TableRule<(), PassOf<T>, Counted<T>> for ScanRule<T> {
 pub(crate) struct ClaimStep;
 
 impl<I> Play<(), Pass<I>> for ClaimStep {
-    ghost then = { ClaimGives };
+    ghost then = { ClaimGives (λ p. p.hand) on_hand (λ p. length p.sums) };
 }
 
 /// A look at a tile's word.

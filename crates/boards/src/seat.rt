@@ -18,8 +18,9 @@ pub struct ScanSeat<M: Monoid> {
 impl<M: Monoid> Model for ScanSeat<M> {
     ghost use Rattle.std.specs.Prelude.{◌≡◌, [], if◌then◌else◌};
     ghost use Rattle.boards.specs.Boards.{Seated};
+    ghost use Rattle.status_word.specs.declared.pass.Pass.{Pass};
 
-    ghost Value = { Seated M.Item };
+    ghost Value = { Seated (Pass M.Item) };
 
     ghost view = { λ s. record { id = s.seat.table_id; pass = s.seat.me.0; is_done = s.done } };
 

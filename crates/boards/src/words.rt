@@ -1,8 +1,7 @@
 //! What has been told of a tile: a look at its word, and how its sum and its prefix are told.
 
 ghost use Rattle.std.specs.Prelude.{◌≡◌, ◌<◌, ◌≤◌, length};
-ghost use Rattle.boards.specs.Answers.{with_pass};
-ghost use Rattle.boards.specs.Boards.{IsSeatOf};
+ghost use Rattle.boards.specs.Boards.{IsSeatOf, with_pass};
 ghost use Rattle.status_word.specs.Passes.{known_at, looked, told_state};
 ghost use Rattle.cvl_base.specs.TileSums.{before_tile, own_sum};
 ghost use Rattle.status_word.specs.Codings.{told_of};

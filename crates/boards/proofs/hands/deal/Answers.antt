@@ -1,4 +1,5 @@
-use Rattle.std.proofs.Common.{sym, ap, ◌∙◌, arith}
+use Rattle.std.proofs.Common.{◌≡◌, sym, ap, ◌∙◌, arith}
+use Rattle.status_word.specs.Passes.{first_pass, new_pass}
 use Rattle.boards.proofs.Dealing.{last_dealt}
 use Rattle.boards.proofs.Moves.{split_allowed}
 use Rattle.boards.proofs.hands.deal.Goals as goal
@@ -12,11 +13,13 @@ split_seat-seat-requires g c =
     let done = ap (λ v. v.0.hand.done) c.loop-left.invariant.4 in (
       c.loop-left.invariant.3 ∙ sym (ap (λ b. b.id) c.board.view_is),
       omega (arith, c.board.invariant.1),
-      split_allowed _ (g.T.Tiles.sums key.tiles) key.workers here.table.shared.table_id.slots whole.id c.rule_law.ensures.split whole.me.0 (omega arith) (omega arith),
+      split_allowed _ (g.T.Tiles.sums key.tiles) key.workers whole.id c.rule_law.ensures.split whole.me.0 (omega arith) (omega arith),
     )
 
 pub returns : goal.returns
 returns g c =
+    let board = c.args.board.now in
     let inv = c.loop-left.invariant in
-    c.in_ok-push-2.ensures.items ∙ last_dealt c.args.board.now c.loop-left.left c.loop-left.seats.items c.loop-left.whole.table_id c.loop-left.whole.me
-    c.loop-left-test.false inv.0 inv.1 inv.2 inv.3 inv.4
+    let one : c.loop-left.left ≡ 1 = omega (arith, inv.0, c.loop-left-test.false) in
+    c.in_ok-push-2.ensures.items ∙ last_dealt board.workers c.loop-left.left c.loop-left.seats.items c.loop-left.whole.table_id board.id c.loop-left.whole.me.0 (new_pass board.sums)
+    c.loop-left-test.false inv.0 inv.1 inv.2 inv.3 (ap (λ v. v.0) inv.4 ∙ ap (first_pass board.sums) one)

@@ -30,7 +30,7 @@ join_seat-requires g c =
       ap (λ s. s.id) c.next.view_is ∙ rest.1.0 ∙ of_board,
       c.next.invariant.0,
       omega (arith, c.board.invariant.1),
-      join_allowed _ (g.T.Tiles.sums key.tiles) key.workers here.table.shared.table_id.slots whole.id c.rule_law.ensures.join whole.me.0 next.me.0 next.id inv.2,
+      join_allowed _ (g.T.Tiles.sums key.tiles) key.workers whole.id c.rule_law.ensures.join whole.me.0 next.me.0 next.id inv.2,
     )
 
 pub loop-next-preserved : goal.loop-next-preserved

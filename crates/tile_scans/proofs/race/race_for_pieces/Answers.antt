@@ -17,7 +17,7 @@ returns g c =
     let some : 0 < length seats.items =
     omega (arith, seats.ok, crew.as_many, c.in_ok-board.seats.ok, ap length c.in_ok-board.ensures.seats_new, length-replicate c.args.workers (new_seat c.in_ok-board.board), c.requires.some) in
     let done : IsTrue (list_any (λ seat. seat.is_done) seats.items) = any_of_all (λ seat. seat.is_done) seats.items some crew.done in
-    let every = (c.close.ensures.every (Any-from_list_any (λ seat. seat.is_done) seats.items done)).1 in
+    let every = c.close.ensures.once.every (Any-from_list_any (λ seat. seat.is_done) seats.items done) in
     let tiles : length c.in_ok-board.board.sums ≡ length sums = ap length c.in_ok-board.ensures.tiles in
     record {
       of_tiles = crew.pieces.of_work;

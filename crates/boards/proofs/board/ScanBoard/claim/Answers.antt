@@ -1,10 +1,12 @@
-use Rattle.std.proofs.Common.{◌≡◌, ℕ, Bool, cond, sym, ap, ◌∙◌, subst, arith, ◌%◌, ◌+◌, ◌^◌, length}
+use Rattle.std.proofs.Common.{◌≡◌, refl, ℕ, Bool, cond, sym, ap, ◌∙◌, subst, arith, ◌%◌, ◌+◌, ◌^◌, length}
 use mathlib.Core.Option.{none}
 use Rattle.atomic_table.specs.Table.{Allows, step}
 use Rattle.status_word.specs.Codings.{coding_of}
+use Rattle.boards.specs.Boards.{on_hand}
+use Rattle.boards.specs.Claims.{IsClaim}
 use Rattle.boards.specs.Rules.{IsRuled, ClaimGives}
-use Rattle.boards.proofs.Claiming.{claim_answered, claim_marks, claim_seat}
-use Rattle.boards.proofs.Moves.{claim_allowed}
+use Rattle.boards.proofs.Claiming.{claim_allowed, claim_answered, claim_marks, claim_seat}
+use Rattle.boards.proofs.Moves.{allows_claims}
 use Rattle.boards.proofs.board.ScanBoard.claim.Goals as goal
 
 pub fetch_add-found-requires : goal.fetch_add-found-requires
@@ -21,9 +23,9 @@ fetch_add-found-requires g c =
     let unmarked : seat.me.0.hand.done ≡ 0 = c.seat.invariant.1 ∙ ap (λ (b : Bool). cond {A = ℕ} b 1 0) c.if-seat.false in (
       same_board,
       omega (arith, c.self.invariant.1, here.counted.counts),
-      subst (λ i. Allows (IsRuled m sums key.workers) slots seat.id seat.me i (λ n. (n + 1) % 2 ^ 64) (ClaimGives (step slots i 1 0 none) seat.me)) (sym last)
-          (claim_allowed _ sums key.workers slots seat.id c.rule_law.ensures.claim c.rule_law.ensures.done c.rule_law.ensures.few seat.me
-          (omega (arith, key.few, key.few_workers)) same_sums unmarked c.seat.invariant.2),
+      subst (λ i. Allows (IsRuled m sums key.workers) slots seat.id seat.me i (λ n. (n + 1) % 2 ^ 64) (ClaimGives (λ p. p.hand) on_hand (λ p. length p.sums) (step slots i 1 0 none) seat.me)) (sym last)
+          (claim_allowed (λ p. p.hand) on_hand (λ p. length p.sums) (IsRuled m sums key.workers) (length sums) (length sums) key.workers slots seat.id
+          (allows_claims m sums key.workers c.rule_law.ensures.claim c.rule_law.ensures.done c.rule_law.ensures.few) seat.me (omega (arith, key.few, key.few_workers)) (ap length same_sums) unmarked c.seat.invariant.2),
     )
 
 pub invariant_of-seat : goal.invariant_of-seat
@@ -33,7 +35,7 @@ invariant_of-seat g c =
     let tiles : length c.args.self.now.sums ≡ length seat.me.0.sums = sym (ap length (ap (λ s. s.pass.sums) c.seat.view_is ∙ c.requires.1)) in
     let as_many : c.self.inside.counted.count ≡ length seat.me.0.sums = c.self.inside.counted.counts ∙ ap (λ b. length b.sums) c.self.view_is ∙ tiles in
     let unmarked : seat.me.0.hand.done ≡ 0 = c.seat.invariant.1 ∙ ap (λ (b : Bool). cond {A = ℕ} b 1 0) c.if-seat.false in
-    let claimed = claim_marks c.fetch_add-found.result c.self.inside.counted.count seat.me.0 c.fetch_add-found.new.seat.me.0 c.is_done-seat-inside.result c.after-answer.result
+    let claimed = claim_marks (λ p. p.hand) on_hand (λ change p. refl) c.fetch_add-found.result c.self.inside.counted.count (length seat.me.0.sums) seat.me.0 c.fetch_add-found.new.seat.me.0 c.is_done-seat-inside.result c.after-answer.result
     as_many (ap (λ v. v.0) step.0) c.after-answer.ensures c.is_done-seat-inside.ensures unmarked in
     (ap (λ v. v.1) step.0 ∙ c.seat.invariant.0, claimed.0, claimed.1 ∙ c.seat.invariant.2)
 
@@ -43,10 +45,11 @@ returns-clause-claim g c =
     let step = c.fetch_add-found.ensures.2 in
     let tiles : length c.args.self.now.sums ≡ length seat.me.0.sums = sym (ap length (ap (λ s. s.pass.sums) c.seat.view_is ∙ c.requires.1)) in
     let as_many : c.self.inside.counted.count ≡ length seat.me.0.sums = c.self.inside.counted.counts ∙ ap (λ b. length b.sums) c.self.view_is ∙ tiles in
-    claim_answered c.fetch_add-found.result c.self.inside.counted.count seat.me.0 c.fetch_add-found.new.seat.me.0 c.is_done-seat-inside.result c.after-answer.result
+    let claimed = claim_answered (λ p. p.hand) on_hand (λ change p. refl) c.fetch_add-found.result c.self.inside.counted.count (length seat.me.0.sums) seat.me.0 c.fetch_add-found.new.seat.me.0 c.is_done-seat-inside.result c.after-answer.result
     as_many (ap (λ v. v.0) step.0) c.after-answer.ensures c.is_done-seat-inside.ensures
-    seat.table_id c.fetch_add-found.new.seat.table_id c.seat.inside.done c.args.seat.now c.fetch_add-found.ensures.0 c.if-seat.false c.seat.view_is
-    (length c.args.self.now.sums) tiles step.1
+    seat.table_id c.fetch_add-found.new.seat.table_id c.seat.inside.done c.args.seat.now c.fetch_add-found.ensures.0 c.if-seat.false c.seat.view_is step.1 in
+    subst (λ n. IsClaim (λ p. p.hand) n c.after-answer.result c.args.seat.now
+    record { id = c.fetch_add-found.new.seat.table_id; pass = c.fetch_add-found.new.seat.me.0; is_done = c.is_done-seat-inside.result }) (sym tiles) claimed
 
 pub returns-clause-seat : goal.returns-clause-seat
 returns-clause-seat g c =
@@ -54,6 +57,6 @@ returns-clause-seat g c =
     let step = c.fetch_add-found.ensures.2 in
     let tiles : length c.args.self.now.sums ≡ length seat.me.0.sums = sym (ap length (ap (λ s. s.pass.sums) c.seat.view_is ∙ c.requires.1)) in
     let as_many : c.self.inside.counted.count ≡ length seat.me.0.sums = c.self.inside.counted.counts ∙ ap (λ b. length b.sums) c.self.view_is ∙ tiles in
-    claim_seat c.fetch_add-found.result c.self.inside.counted.count seat.me.0 c.fetch_add-found.new.seat.me.0 c.is_done-seat-inside.result c.after-answer.result
+    claim_seat (λ p. p.hand) on_hand (λ change p. refl) c.fetch_add-found.result c.self.inside.counted.count (length seat.me.0.sums) seat.me.0 c.fetch_add-found.new.seat.me.0 c.is_done-seat-inside.result c.after-answer.result
     as_many (ap (λ v. v.0) step.0) c.after-answer.ensures c.is_done-seat-inside.ensures
     seat.table_id c.fetch_add-found.new.seat.table_id c.seat.inside.done c.args.seat.now c.fetch_add-found.ensures.0 c.if-seat.false c.seat.view_is

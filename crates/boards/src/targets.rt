@@ -1,0 +1,27 @@
+//! The slots of places, as a least board sees them.
+
+ghost use Rattle.std.specs.Prelude.{◌≡◌, ◌<◌, ◌≤◌, ℕ, List, Option, None, IfSome, length, slice_index_or};
+ghost use Rattle.cvl_base.specs.Limits.{most_elements};
+
+/// Places, counted from 0, some of which have a slot: of all places with one slot a least board finds the least.
+pub trait Targets: Drop {
+    ghost targets: { Self → List (Option ℕ) };
+
+    ghost slot_count: { Self → ℕ };
+
+    /// How many places there are, at most 4,194,304.
+    fn places(&self) -> u32
+        ensures count { result ≡ length (targets self.now) }
+        ensures few { length (targets self.now) ≤ most_elements };
+
+    /// How many slots there are, at most 4,194,304. They count from 0.
+    fn slots(&self) -> u32
+        ensures count { result ≡ slot_count self.now }
+        ensures few { slot_count self.now ≤ most_elements };
+
+    /// The slot of a place, or none where the place is no target. It takes no memory.
+    fn slot(&self, place: u32) -> Option<u32>
+        requires { place < length (targets self.now) }
+        ensures value { result ≡ slice_index_or (targets self.now) place None }
+        ensures within { IfSome result (λ s. s < slot_count self.now) };
+}
