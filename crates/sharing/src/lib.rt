@@ -1,11 +1,14 @@
-//! Rules of thumb: how many threads share a call, by how many elements it writes. No result depends on them.
+//! Rules of thumb: how many threads share a call, by how many elements it writes, and whether workers race for its tiles.
+//! No result depends on them.
 //!
 //! All thresholds of the library stand here. Each was measured on a machine with four processors.
 #![tactic(auto)]
 
-ghost use Rattle.std.specs.Prelude.{◌≤◌};
+ghost use Rattle.std.specs.Prelude.{◌≤◌, IfSome};
+ghost use Rattle.cvl_base.specs.Limits.{longest_tile, most_elements};
 
 use cvl_base::Config;
+use cvl_base::limits::{LONGEST_TILE, MOST_ELEMENTS};
 
 /// From how many elements on a second thread pays where they are written. One thread is done with fewer before another has
 /// started.
@@ -23,6 +26,9 @@ pub const LEAST_SCANNED: usize = 262_144;
 
 /// From how many bytes of elements on workers race for a reduce, which takes as long as reading them.
 pub const LEAST_REDUCED: usize = 1_048_576;
+
+/// From how many elements on workers race for the least place of a fault, which takes as long as looking at each element.
+pub const LEAST_SEARCHED: usize = 262_144;
 
 /// How many elements each worker of a race has at least.
 pub const LEAST_RACED: u32 = 131_072;
@@ -50,4 +56,31 @@ pub fn threads_among(most: u32, elements: usize) -> u32
         return 1;
     }
     (elements / LEAST_EACH).min(most as usize).max(1) as u32
+}
+
+/// The tiles and the workers of the race for so many elements, or none where one thread walks them at once: what is asked for
+/// where its tiles are short; for long tiles a share of the elements for each worker where the race pays, in tiles that are
+/// made longer. None where there is no board for the race: a vector of no elements has no tile, and one of more than 4,194,304
+/// may have more tiles than a board. It hangs on the configuration and on the length alone.
+pub fn race_pace(pays: bool, config: Config, elements: usize) -> Option<Config>
+    ensures some { IfSome result (λ _. 1 ≤ elements) }
+    ensures few { IfSome result (λ _. elements ≤ most_elements) }
+    ensures tile { IfSome result (λ pace. (1 ≤ pace.0) × (pace.0 ≤ longest_tile)) }
+    ensures workers { IfSome result (λ pace. (1 ≤ pace.1) × (pace.1 ≤ config.1)) }
+{
+    if elements == 0 || elements > MOST_ELEMENTS {
+        return None;
+    }
+    if config.tile() < LONG_TILE {
+        return Some(config);
+    }
+    let elements = elements as u32;
+    let workers = (elements / LEAST_RACED).min(config.workers());
+    if !pays || workers <= 1 {
+        return None;
+    }
+    let tile = (elements / (workers * TILES_EACH))
+        .min(LONGEST_TILE)
+        .max(config.tile());
+    Some(Config::new(tile, workers).unwrap_or(config))
 }
