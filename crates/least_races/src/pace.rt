@@ -1,0 +1,17 @@
+//! Whether workers race for a least place, how many of them, and for tiles of which length. The thresholds and the rule stand
+//! in the crate `sharing`.
+
+ghost use Rattle.std.specs.Prelude.{◌≤◌, IfSome};
+ghost use Rattle.cvl_base.specs.Limits.{most_elements};
+
+use cvl_base::Config;
+use sharing::{LEAST_SEARCHED, race_pace};
+
+/// The tiles and the workers of the race for the least place of so many elements, or none where one thread walks them at once.
+/// It hangs on the configuration and on the length alone, and no result depends on it.
+pub fn least_pace(config: Config, elements: usize) -> Option<Config>
+    ensures some { IfSome result (λ _. 1 ≤ elements) }
+    ensures few { IfSome result (λ _. elements ≤ most_elements) }
+{
+    race_pace(elements >= LEAST_SEARCHED, config, elements)
+}
