@@ -9,7 +9,8 @@ use Rattle.boards.specs.Boards.{Board, Seated, new_seat}
 use Rattle.boards.specs.Claims.{AreGivenOnce}
 
 -- a new board over tiles with these sums, and its seats
-pub record IsNew {Item : Type 0} (sums : List (Bool × Item)) (workers : ℕ) (board : Board Item) (seats : List (Seated (Pass Item))) : Type 0 where
+pub record IsNew {Item : Type 0} (sums : List (Bool × Item)) (workers : ℕ)
+    (board : Board Item) (seats : List (Seated (Pass Item))) : Type 0 where
   pub tiles : board.sums ≡ sums
   pub as_many : board.workers ≡ workers
   pub seats_new : seats ≡ replicate workers (new_seat board)

@@ -25,7 +25,8 @@ abbrev pub new_least_seat : LeastView → Seated LeastPass
 new_least_seat board = record { id = board.id; pass = new_least_pass board.targets board.tiles; is_done = false }
 
 -- a new board over these targets, and its seats
-pub record IsNewLeast (targets : List (Option ℕ)) (slots tiles workers : ℕ) (board : LeastView) (seats : List (Seated LeastPass)) : Type 0 where
+pub record IsNewLeast (targets : List (Option ℕ)) (slots tiles workers : ℕ)
+    (board : LeastView) (seats : List (Seated LeastPass)) : Type 0 where
   pub of_targets : board.targets ≡ targets
   pub of_slots : board.slots ≡ slots
   pub of_tiles : board.tiles ≡ tiles
