@@ -7,9 +7,11 @@ pub mod copies;
 pub mod on_each;
 pub mod on_pairs;
 pub mod on_pairs_or;
+pub mod or_zero;
 
 pub use choice::Chosen;
 pub use copies::Copied;
 pub use on_each::{OnEach, Single};
 pub use on_pairs::{Binary, OnPairs};
 pub use on_pairs_or::{PartialBinary, values_on_pairs_or};
+pub use or_zero::OrZero;

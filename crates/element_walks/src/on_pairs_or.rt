@@ -2,6 +2,7 @@
 
 ghost use Rattle.std.specs.Prelude.{◌≡◌, ℕ, ◌≤◌, ℤ, Option, length, map, vec_len, vec_capacity, IfOk};
 ghost use Rattle.std.specs.List.{zip};
+ghost use Rattle.std.specs.Option.{is_some};
 ghost use Rattle.cvl_base.specs.declared.fault.FaultNo.{FaultNo};
 ghost use Rattle.cvl_base.specs.Elementwise.{values_from};
 ghost use Rattle.cvl_base.specs.Gives.{Gives};
@@ -17,6 +18,10 @@ pub trait PartialBinary {
 
     fn apply(a: &i32, b: &i32) -> Option<i32>
         ensures { result ≡ value a.now b.now };
+
+    /// Whether the operator has a value on the pair.
+    fn has_value(a: &i32, b: &i32) -> bool
+        ensures { result ≡ is_some (value a.now b.now) };
 
     /// The fault of a pair without a value.
     fn fault() -> FaultNo

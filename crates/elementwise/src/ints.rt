@@ -1,7 +1,7 @@
 //! The calls whose result is an integer vector, but `select`.
 
 ghost use Rattle.std.specs.Prelude.{◌≡◌, ◌≤◌, IfOk, length, vec_len};
-ghost use Rattle.cvl_base.specs.Elementwise.{ints_from_bools, ints1_of, ints2_of, on_pairs_or};
+ghost use Rattle.cvl_base.specs.Elementwise.{ints_from_bools, ints1_of, ints2_of};
 ghost use Rattle.cvl_base.specs.Gives.{Gives};
 ghost use Rattle.cvl_base.specs.Limits.{most_elements};
 
@@ -9,25 +9,44 @@ use crate::copies::copied;
 use crate::on_each::values_on_each;
 use crate::on_pairs::values_on_pairs;
 use crate::partials::{Div, Lsh, Mod, Rsh};
+use crate::races::values_or_fault;
 use crate::singles::{IntOfBool, NotInt};
 use crate::totals::{Add, And, Ior, Max, Min, Mul, Sub, Xor};
-use cvl_base::{Config, IntBinary, Memory, NoResources, Refused, Unary, check_agree};
-use element_walks::{PartialBinary, values_on_pairs_or};
+use crew::{Gate, OpenGate};
+use cvl_base::{Config, IntBinary, Memory, NoResources, Refused, Unary};
 use std::thread::Threads;
 
 /// The operator on each two elements at the same place: `add_wuz` and its like.
 ///
 /// The vectors have at most 4,194,304 elements, and the result is as long as they are. The faults are, in this order,
 /// `LengthMismatch`, without a place, where one is longer, and `DivideByZero` or `ShiftOutOfRange` at the least place,
-/// counted from 0, where a quotient, a remainder or a shift has no value. Without these four operators long vectors are
-/// shared among threads by `rayon`, whatever the number of workers. Source: CVL's elementwise calls.
+/// counted from 0, where a quotient, a remainder or a shift has no value. With these four operators the workers of
+/// the configuration race for that place in long vectors, and threads no more than these write the result. With the others
+/// long vectors are shared among threads by `rayon`, whatever the number of workers. Source: CVL's elementwise calls.
 pub fn int2<R: Threads + Sync, A: Memory>(
     rt: &R,
     alloc: A,
-    _config: Config,
+    config: Config,
     op: IntBinary,
     a: &[i32],
     b: &[i32],
+) -> Result<Vec<i32, A>, Refused>
+    requires in_limit { length a.now ≤ most_elements }
+    ensures values { Gives (λ v. v.items) result (ints2_of op a.now b.now) }
+    ensures as_long { IfOk result (λ v. vec_len v ≡ length a.now) }
+{
+    int2_gated(rt, alloc, config, op, a, b, &OpenGate)
+}
+
+/// The same as [`int2`], by workers that pass a gate at `Claimed` and `Finished` of each tile for which they race.
+pub fn int2_gated<R: Threads + Sync, A: Memory, G: Gate>(
+    rt: &R,
+    alloc: A,
+    config: Config,
+    op: IntBinary,
+    a: &[i32],
+    b: &[i32],
+    gate: &G,
 ) -> Result<Vec<i32, A>, Refused>
     requires in_limit { length a.now ≤ most_elements }
     ensures values { Gives (λ v. v.items) result (ints2_of op a.now b.now) }
@@ -37,31 +56,16 @@ pub fn int2<R: Threads + Sync, A: Memory>(
         IntBinary::Add => values_on_pairs::<Add, i32, i32, R, A>(rt, alloc, a, b),
         IntBinary::Sub => values_on_pairs::<Sub, i32, i32, R, A>(rt, alloc, a, b),
         IntBinary::Mul => values_on_pairs::<Mul, i32, i32, R, A>(rt, alloc, a, b),
-        IntBinary::Div => values_or_fault::<Div, A>(alloc, a, b),
-        IntBinary::Mod => values_or_fault::<Mod, A>(alloc, a, b),
+        IntBinary::Div => values_or_fault::<Div, R, A, G>(rt, alloc, config, a, b, gate),
+        IntBinary::Mod => values_or_fault::<Mod, R, A, G>(rt, alloc, config, a, b, gate),
         IntBinary::Min => values_on_pairs::<Min, i32, i32, R, A>(rt, alloc, a, b),
         IntBinary::Max => values_on_pairs::<Max, i32, i32, R, A>(rt, alloc, a, b),
-        IntBinary::Lsh => values_or_fault::<Lsh, A>(alloc, a, b),
-        IntBinary::Rsh => values_or_fault::<Rsh, A>(alloc, a, b),
+        IntBinary::Lsh => values_or_fault::<Lsh, R, A, G>(rt, alloc, config, a, b, gate),
+        IntBinary::Rsh => values_or_fault::<Rsh, R, A, G>(rt, alloc, config, a, b, gate),
         IntBinary::And => values_on_pairs::<And, i32, i32, R, A>(rt, alloc, a, b),
         IntBinary::Ior => values_on_pairs::<Ior, i32, i32, R, A>(rt, alloc, a, b),
         IntBinary::Xor => values_on_pairs::<Xor, i32, i32, R, A>(rt, alloc, a, b),
     }
-}
-
-/// The operator's values on the pairs of elements, or its fault at the least place without a value; `LengthMismatch` where
-/// one vector is longer.
-fn values_or_fault<O: PartialBinary, A: Memory>(
-    alloc: A,
-    a: &[i32],
-    b: &[i32],
-) -> Result<Vec<i32, A>, Refused>
-    requires in_limit { length a.now ≤ most_elements }
-    ensures values { Gives (λ v. v.items) result (on_pairs_or O.fault O.value a.now b.now) }
-    ensures as_long { IfOk result (λ v. vec_len v ≡ length a.now) }
-{
-    check_agree(a.len(), b.len())?;
-    values_on_pairs_or::<O, A>(alloc, a, b)
 }
 
 /// The operator on each element: `not_wuz` and `cpy_wuz`.

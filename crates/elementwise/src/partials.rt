@@ -18,6 +18,10 @@ impl PartialBinary for Div {
         integer::div(*a, *b)
     }
 
+    fn has_value(_a: &i32, b: &i32) -> bool {
+        *b != 0
+    }
+
     fn fault() -> FaultNo {
         FaultNo::DivideByZero
     }
@@ -33,6 +37,10 @@ impl PartialBinary for Mod {
 
     fn apply(a: &i32, b: &i32) -> Option<i32> {
         integer::modulo(*a, *b)
+    }
+
+    fn has_value(_a: &i32, b: &i32) -> bool {
+        *b != 0
     }
 
     fn fault() -> FaultNo {
@@ -52,6 +60,10 @@ impl PartialBinary for Lsh {
         integer::lsh(*a, *b)
     }
 
+    fn has_value(_a: &i32, b: &i32) -> bool {
+        (0..=31).contains(b)
+    }
+
     fn fault() -> FaultNo {
         FaultNo::ShiftOutOfRange
     }
@@ -67,6 +79,10 @@ impl PartialBinary for Rsh {
 
     fn apply(a: &i32, b: &i32) -> Option<i32> {
         integer::rsh(*a, *b)
+    }
+
+    fn has_value(_a: &i32, b: &i32) -> bool {
+        (0..=31).contains(b)
     }
 
     fn fault() -> FaultNo {

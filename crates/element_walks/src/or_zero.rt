@@ -1,0 +1,22 @@
+//! An operator that has no value on some pairs, made one that has a value on all.
+
+ghost use Rattle.std.specs.Prelude.{pos};
+ghost use Rattle.std.specs.Option.{unwrap_or};
+
+use crate::on_pairs::Binary;
+use crate::on_pairs_or::PartialBinary;
+use std::marker::PhantomData;
+
+/// The operator's value where it has one, and else 0.
+#[derive(Drop)]
+pub struct OrZero<O> {
+    operator: PhantomData<O>,
+}
+
+impl<O: PartialBinary> Binary<i32, i32> for OrZero<O> {
+    ghost value = { λ a b. unwrap_or (O.value a b) (pos 0) };
+
+    fn apply(a: i32, b: i32) -> i32 {
+        O::apply(&a, &b).unwrap_or(0)
+    }
+}
