@@ -22,7 +22,7 @@ use Rattle.permute_walks.specs.Senders.{nobody, sender_from, senders_of, fault_t
 
 -- ---- what is wrong with a place
 
-length-fronts : {X : Type 0} (xs : List X) → length (fronts xs) ≡ length xs
+pub length-fronts : {X : Type 0} (xs : List X) → length (fronts xs) ≡ length xs
 length-fronts [] = refl
 length-fronts (x ∷ xs) = let rest = length-fronts xs in omega (arith, length-map (fronts xs) (λ front. x ∷ front))
 
@@ -38,7 +38,7 @@ pub length-wrongs : (m : ℕ) (ts : List (Option ℤ)) → length (wrongs m ts) 
 length-wrongs m ts =
     omega (arith, length-map (zip (fronts ts) ts) (λ (p : List (Option ℤ) × Option ℤ). wrong_at m p.0 p.1), length-zip (fronts ts) ts, length-fronts ts)
 
-wrong_here : (m : ℕ) (ts : List (Option ℤ)) (k : ℕ) → k < length ts → get_or (wrongs m ts) k None ≡ wrong_at m (take k ts) (get_or ts k None)
+pub wrong_here : (m : ℕ) (ts : List (Option ℤ)) (k : ℕ) → k < length ts → get_or (wrongs m ts) k None ≡ wrong_at m (take k ts) (get_or ts k None)
 wrong_here m ts k lt =
     let long : length (fronts ts) ≡ length ts = length-fronts ts in
     get_or-map (λ (p : List (Option ℤ) × Option ℤ). wrong_at m p.0 p.1) (zip (fronts ts) ts) k ([], None) None (omega (arith, length-zip (fronts ts) ts))

@@ -3,14 +3,14 @@
 #![tactic(auto)]
 
 pub mod backs;
+pub mod destinations;
 pub mod elements;
 pub mod places;
 pub mod sends;
 mod stores;
-pub mod targets;
 
 pub use backs::{check_places, elements_at, write_elements_at};
+pub use destinations::{AllTargets, Destinations, FlaggedTargets};
 pub use elements::{elements_of, elements_or_defaults};
 pub use places::element_of;
 pub use sends::{NOBODY, send_places};
-pub use targets::{AllTargets, FlaggedTargets, Targets};

@@ -7,8 +7,8 @@ ghost use Rattle.cvl_base.specs.Limits.{most_elements};
 ghost use Rattle.cvl_base.specs.Permutes.{first_fault, wrongs};
 ghost use Rattle.permute_walks.specs.Senders.{nobody, senders_of, fault_told, wrong_with};
 
+use crate::destinations::Destinations;
 use crate::stores::{are_apart, store_each};
-use crate::targets::Targets;
 use cvl_base::{Fault, FaultNo, place_among};
 
 /// Stands among the senders where no element goes.
@@ -39,7 +39,7 @@ fn send_one(senders: &mut [u32], index: &i32, place: u32) -> Result<(), Fault>
 
 /// Sends each place of a segment in turn, and stops at the first bad one. The clauses are those of `send_places`.
 #[inline(never)]
-fn send_each<T: Targets>(senders: &mut [u32], first: usize, targets: &T) -> Result<(), Fault>
+fn send_each<T: Destinations>(senders: &mut [u32], first: usize, targets: &T) -> Result<(), Fault>
     requires fresh { senders.old ≡ replicate (length senders.old) nobody }
     requires in_limit { first + length (T.targets targets.now) ≤ most_elements }
     ensures fault { fault_told result
@@ -59,7 +59,11 @@ fn send_each<T: Targets>(senders: &mut [u32], first: usize, targets: &T) -> Resu
 /// Sends the places of a segment that take part, the first of which stands at place `first`. The senders are those of the
 /// segment's part of the result, nobody to begin with. The fault is that of the first bad place; an index of a place that
 /// does not take part is never bad.
-pub fn send_places<T: Targets>(senders: &mut [u32], first: usize, targets: &T) -> Result<(), Fault>
+pub fn send_places<T: Destinations>(
+    senders: &mut [u32],
+    first: usize,
+    targets: &T,
+) -> Result<(), Fault>
     requires fresh { senders.old ≡ replicate (length senders.old) nobody }
     requires in_limit { first + length (T.targets targets.now) ≤ most_elements }
     ensures fault { fault_told result

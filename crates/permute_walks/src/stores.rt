@@ -6,8 +6,8 @@ ghost use Rattle.std.specs.Prelude.{◌≡◌, ◌+◌, ◌≤◌, ◌↔◌, le
 ghost use Rattle.cvl_base.specs.Limits.{most_elements};
 ghost use Rattle.permute_walks.specs.Senders.{IsStored, count_sent, nobody};
 
+use crate::destinations::Destinations;
 use crate::sends::NOBODY;
-use crate::targets::Targets;
 use cvl_base::limits::MOST_ELEMENTS;
 
 /// Stores each place of a segment that takes part at its index, and tells how many they are; none where an index is no place
@@ -17,7 +17,7 @@ use cvl_base::limits::MOST_ELEMENTS;
 // wrongly every other time where flags are in no order.
 // Inlined into a large function the loop keeps its pointers on the stack.
 #[inline(never)]
-pub(crate) fn store_each<T: Targets>(
+pub(crate) fn store_each<T: Destinations>(
     senders: &mut [u32],
     first: usize,
     targets: &T,

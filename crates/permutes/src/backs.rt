@@ -7,6 +7,7 @@ ghost use Rattle.cvl_base.specs.Permutes.{back_of};
 ghost use Rattle.cvl_base.specs.SegmentedCalls.{seg_back_of};
 
 use crate::back_segments::{check_segments, segments_at};
+use crew::{Gate, OpenGate};
 use cvl_base::{Config, Memory, Refused, check_agree};
 use permute_walks::{check_places, elements_at};
 use segdes::{SegDes, check_total};
@@ -23,6 +24,22 @@ pub fn back<T: Copy + Send + Sync, R: Threads + Sync, A: Memory>(
     config: Config,
     source: &[T],
     index: &[i32],
+) -> Result<Vec<T, A>, Refused>
+    requires in_limit { length index.now ≤ most_elements }
+    ensures values { Gives (λ v. v.items) result (back_of source.now index.now) }
+    ensures as_long { IfOk result (λ v. vec_len v ≡ length index.now) }
+{
+    back_gated(rt, alloc, config, source, index, &OpenGate)
+}
+
+/// `back` with a gate for workers who race. One thread makes the first walk today, so that no point of the gate is passed.
+pub fn back_gated<T: Copy + Send + Sync, R: Threads + Sync, A: Memory, G: Gate>(
+    rt: &R,
+    alloc: A,
+    config: Config,
+    source: &[T],
+    index: &[i32],
+    gate: &G,
 ) -> Result<Vec<T, A>, Refused>
     requires in_limit { length index.now ≤ most_elements }
     ensures values { Gives (λ v. v.items) result (back_of source.now index.now) }
@@ -47,6 +64,27 @@ pub fn seg_back<T: Copy + Send + Sync, R: Threads + Sync, A: Memory>(
     index: &[i32],
     source_d: &SegDes<A>,
     index_d: &SegDes<A>,
+) -> Result<Vec<T, A>, Refused>
+    requires in_limit { length index.now ≤ most_elements }
+    ensures values { Gives (λ v. v.items) result
+        (seg_back_of source.now index.now source_d.now index_d.now) }
+    ensures as_long { IfOk result (λ v. vec_len v ≡ length index.now) }
+{
+    seg_back_gated(
+        rt, alloc, config, source, index, source_d, index_d, &OpenGate,
+    )
+}
+
+/// `seg_back` with a gate for workers who race. One thread makes the first walk today, so that no point of the gate is passed.
+pub fn seg_back_gated<T: Copy + Send + Sync, R: Threads + Sync, A: Memory, G: Gate>(
+    rt: &R,
+    alloc: A,
+    config: Config,
+    source: &[T],
+    index: &[i32],
+    source_d: &SegDes<A>,
+    index_d: &SegDes<A>,
+    gate: &G,
 ) -> Result<Vec<T, A>, Refused>
     requires in_limit { length index.now ≤ most_elements }
     ensures values { Gives (λ v. v.items) result

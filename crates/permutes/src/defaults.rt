@@ -8,6 +8,7 @@ ghost use Rattle.cvl_base.specs.SegmentedCalls.{seg_default_of};
 
 use crate::segments::send_segments;
 use crate::sent::elements_sent_over;
+use crew::{Gate, OpenGate};
 use cvl_base::{Config, Memory, Refused, check_agree};
 use permute_walks::{AllTargets, send_places};
 use segdes::{SegDes, check_total};
@@ -24,6 +25,23 @@ pub fn default_into<T: Copy + Send + Sync, R: Threads + Sync, A: Memory>(
     source: &[T],
     index: &[i32],
     defaults: &[T],
+) -> Result<Vec<T, A>, Refused>
+    requires in_limit { length index.now ≤ most_elements }
+    ensures values { Gives (λ v. v.items) result (default_of source.now index.now defaults.now) }
+    ensures as_long { IfOk result (λ v. vec_len v ≡ length defaults.now) }
+{
+    default_into_gated(rt, alloc, config, source, index, defaults, &OpenGate)
+}
+
+/// `default_into` with a gate for workers who race. One thread makes the first walk today, so that no point of the gate is passed.
+pub fn default_into_gated<T: Copy + Send + Sync, R: Threads + Sync, A: Memory, G: Gate>(
+    rt: &R,
+    alloc: A,
+    config: Config,
+    source: &[T],
+    index: &[i32],
+    defaults: &[T],
+    gate: &G,
 ) -> Result<Vec<T, A>, Refused>
     requires in_limit { length index.now ≤ most_elements }
     ensures values { Gives (λ v. v.items) result (default_of source.now index.now defaults.now) }
@@ -50,6 +68,28 @@ pub fn seg_default_into<T: Copy + Send + Sync, R: Threads + Sync, A: Memory>(
     defaults: &[T],
     source_d: &SegDes<A>,
     default_d: &SegDes<A>,
+) -> Result<Vec<T, A>, Refused>
+    requires in_limit { length index.now ≤ most_elements }
+    ensures values { Gives (λ v. v.items) result
+        (seg_default_of source.now index.now defaults.now source_d.now default_d.now) }
+    ensures as_long { IfOk result (λ v. vec_len v ≡ length defaults.now) }
+{
+    seg_default_into_gated(
+        rt, alloc, config, source, index, defaults, source_d, default_d, &OpenGate,
+    )
+}
+
+/// `seg_default_into` with a gate for workers who race. One thread makes the first walk today, so that no point of the gate is passed.
+pub fn seg_default_into_gated<T: Copy + Send + Sync, R: Threads + Sync, A: Memory, G: Gate>(
+    rt: &R,
+    alloc: A,
+    config: Config,
+    source: &[T],
+    index: &[i32],
+    defaults: &[T],
+    source_d: &SegDes<A>,
+    default_d: &SegDes<A>,
+    gate: &G,
 ) -> Result<Vec<T, A>, Refused>
     requires in_limit { length index.now ≤ most_elements }
     ensures values { Gives (λ v. v.items) result

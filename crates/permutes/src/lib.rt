@@ -3,6 +3,9 @@
 //! Each goes in two walks. The first walk of a simple, select or default permute finds for each place of the result its
 //! sender, the place whose element goes there; that of a back permute looks at all indices. The second writes the elements,
 //! by several threads where the result is long.
+//!
+//! Each call has a gated form with the same contract for every gate. Workers don't race for permutes yet, so that no gate sees
+//! a point.
 #![tactic(auto)]
 
 mod back_segments;
@@ -13,7 +16,7 @@ mod selects;
 mod sent;
 mod simples;
 
-pub use backs::{back, seg_back};
-pub use defaults::{default_into, seg_default_into};
-pub use selects::{seg_select, select};
-pub use simples::{seg_simple, simple};
+pub use backs::{back, back_gated, seg_back, seg_back_gated};
+pub use defaults::{default_into, default_into_gated, seg_default_into, seg_default_into_gated};
+pub use selects::{seg_select, seg_select_gated, select, select_gated};
+pub use simples::{seg_simple, seg_simple_gated, simple, simple_gated};

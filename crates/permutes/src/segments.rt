@@ -7,7 +7,7 @@ ghost use Rattle.permutes.specs.Parts.{fault_from, flagged_parts, parts_of, plac
 ghost use Rattle.permute_walks.specs.Senders.{nobody, fault_told};
 
 use cvl_base::{Fault, true_count};
-use permute_walks::{AllTargets, FlaggedTargets, Targets, send_places};
+use permute_walks::{AllTargets, Destinations, FlaggedTargets, send_places};
 use segdes::SegDes;
 use std::alloc::Allocator;
 
@@ -17,7 +17,7 @@ use std::alloc::Allocator;
 /// are as long as the segments in all.
 trait Parts {
     /// The targets of a segment.
-    type Part: Targets + Drop;
+    type Part: Destinations + Drop;
 
     ghost parts: { Self → List (ℕ × List (Option ℤ)) };
 

@@ -9,6 +9,7 @@ ghost use Rattle.permute_walks.specs.Senders.{nobody, senders_of, fault_told};
 
 use crate::segments::send_flagged_segments;
 use crate::sent::elements_sent;
+use crew::{Gate, OpenGate};
 use cvl_base::{Config, Fault, Memory, Refused, check_agree, true_count};
 use permute_walks::{FlaggedTargets, send_places};
 use segdes::{SegDes, check_total};
@@ -43,6 +44,23 @@ pub fn select<T: Copy + Send + Sync, R: Threads + Sync, A: Memory>(
     ensures values { Gives (λ v. v.items) result (select_of source.now index.now flags.now) }
     ensures in_length { IfOk result (λ v. vec_len v ≤ length index.now) }
 {
+    select_gated(rt, alloc, config, source, index, flags, &OpenGate)
+}
+
+/// `select` with a gate for workers who race. One thread makes the first walk today, so that no point of the gate is passed.
+pub fn select_gated<T: Copy + Send + Sync, R: Threads + Sync, A: Memory, G: Gate>(
+    rt: &R,
+    alloc: A,
+    config: Config,
+    source: &[T],
+    index: &[i32],
+    flags: &[bool],
+    gate: &G,
+) -> Result<Vec<T, A>, Refused>
+    requires in_limit { length index.now ≤ most_elements }
+    ensures values { Gives (λ v. v.items) result (select_of source.now index.now flags.now) }
+    ensures in_length { IfOk result (λ v. vec_len v ≤ length index.now) }
+{
     check_agree(source.len(), index.len())?;
     check_agree(index.len(), flags.len())?;
     let places = true_count(flags);
@@ -64,6 +82,25 @@ pub fn seg_select<T: Copy + Send + Sync, R: Threads + Sync, A: Memory>(
     index: &[i32],
     flags: &[bool],
     d: &SegDes<A>,
+) -> Result<Vec<T, A>, Refused>
+    requires in_limit { length index.now ≤ most_elements }
+    ensures values { Gives (λ v. v.items) result
+        (seg_select_of source.now index.now flags.now d.now) }
+    ensures in_length { IfOk result (λ v. vec_len v ≤ length index.now) }
+{
+    seg_select_gated(rt, alloc, config, source, index, flags, d, &OpenGate)
+}
+
+/// `seg_select` with a gate for workers who race. One thread makes the first walk today, so that no point of the gate is passed.
+pub fn seg_select_gated<T: Copy + Send + Sync, R: Threads + Sync, A: Memory, G: Gate>(
+    rt: &R,
+    alloc: A,
+    config: Config,
+    source: &[T],
+    index: &[i32],
+    flags: &[bool],
+    d: &SegDes<A>,
+    gate: &G,
 ) -> Result<Vec<T, A>, Refused>
     requires in_limit { length index.now ≤ most_elements }
     ensures values { Gives (λ v. v.items) result

@@ -8,6 +8,7 @@ ghost use Rattle.cvl_base.specs.SegmentedCalls.{seg_simple_of};
 
 use crate::segments::send_segments;
 use crate::sent::elements_sent;
+use crew::{Gate, OpenGate};
 use cvl_base::{Config, Memory, Refused, check_agree};
 use permute_walks::{AllTargets, send_places};
 use segdes::{SegDes, check_total};
@@ -24,6 +25,22 @@ pub fn simple<T: Copy + Send + Sync, R: Threads + Sync, A: Memory>(
     config: Config,
     source: &[T],
     index: &[i32],
+) -> Result<Vec<T, A>, Refused>
+    requires in_limit { length index.now ≤ most_elements }
+    ensures values { Gives (λ v. v.items) result (simple_of source.now index.now) }
+    ensures as_long { IfOk result (λ v. vec_len v ≡ length index.now) }
+{
+    simple_gated(rt, alloc, config, source, index, &OpenGate)
+}
+
+/// `simple` with a gate for workers who race. One thread makes the first walk today, so that no point of the gate is passed.
+pub fn simple_gated<T: Copy + Send + Sync, R: Threads + Sync, A: Memory, G: Gate>(
+    rt: &R,
+    alloc: A,
+    config: Config,
+    source: &[T],
+    index: &[i32],
+    gate: &G,
 ) -> Result<Vec<T, A>, Refused>
     requires in_limit { length index.now ≤ most_elements }
     ensures values { Gives (λ v. v.items) result (simple_of source.now index.now) }
@@ -48,6 +65,23 @@ pub fn seg_simple<T: Copy + Send + Sync, R: Threads + Sync, A: Memory>(
     source: &[T],
     index: &[i32],
     d: &SegDes<A>,
+) -> Result<Vec<T, A>, Refused>
+    requires in_limit { length index.now ≤ most_elements }
+    ensures values { Gives (λ v. v.items) result (seg_simple_of source.now index.now d.now) }
+    ensures in_length { IfOk result (λ v. vec_len v ≤ length index.now) }
+{
+    seg_simple_gated(rt, alloc, config, source, index, d, &OpenGate)
+}
+
+/// `seg_simple` with a gate for workers who race. One thread makes the first walk today, so that no point of the gate is passed.
+pub fn seg_simple_gated<T: Copy + Send + Sync, R: Threads + Sync, A: Memory, G: Gate>(
+    rt: &R,
+    alloc: A,
+    config: Config,
+    source: &[T],
+    index: &[i32],
+    d: &SegDes<A>,
+    gate: &G,
 ) -> Result<Vec<T, A>, Refused>
     requires in_limit { length index.now ≤ most_elements }
     ensures values { Gives (λ v. v.items) result (seg_simple_of source.now index.now d.now) }

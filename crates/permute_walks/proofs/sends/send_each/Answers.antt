@@ -6,11 +6,11 @@ use Rattle.permute_walks.proofs.sends.send_each.Goals as goal
 use Rattle.permute_walks.proofs.sends.send_each.Goals.{then-takes_part+in_ok-send_one, else-takes_part}
 
 pub loop-k-init : goal.loop-k-init
-loop-k-init g c = sent_none c.args.first (g.T.Targets.targets c.args.targets.now) _ c.args.senders.now c.requires.fresh
+loop-k-init g c = sent_none c.args.first (g.T.Destinations.targets c.args.targets.now) _ c.args.senders.now c.requires.fresh
 
 pub returns-in_err-send_one-clause-fault : goal.returns-in_err-send_one-clause-fault
 returns-in_err-send_one-clause-fault g c =
-    let ts = g.T.Targets.targets c.args.targets.now in
+    let ts = g.T.Destinations.targets c.args.targets.now in
     let small : c.args.first + length ts ≤ nobody = omega (arith, c.requires.in_limit) in
     let is = c.at-takes_part.ensures ∙ ap (target_if c.at-takes_part.result.0.now) c.if-takes_part.true in
     told_again c.from_residual.result c.in_err-send_one.field-0.0 c.from_residual.ensures.1
@@ -20,7 +20,7 @@ returns-in_err-send_one-clause-fault g c =
 
 pub loop-k-preserved : goal.loop-k-preserved
 loop-k-preserved g c =
-    let ts = g.T.Targets.targets c.args.targets.now in
+    let ts = g.T.Destinations.targets c.args.targets.now in
     let m = length c.args.senders.now in
     let k = c.loop-k.k in
     let small : c.args.first + length ts ≤ nobody = omega (arith, c.requires.in_limit) in
@@ -38,10 +38,10 @@ loop-k-preserved g c =
 
 pub returns-clause-fault : goal.returns-clause-fault
 returns-clause-fault g c =
-    (sent_all c.args.first (g.T.Targets.targets c.args.targets.now) _ c.loop-k.k _ c.loop-k.invariant
+    (sent_all c.args.first (g.T.Destinations.targets c.args.targets.now) _ c.loop-k.k _ c.loop-k.invariant
     (omega (arith, c.count-k-end.ensures, c.loop-k-test.false))).0
 
 pub returns-clause-sent : goal.returns-clause-sent
 returns-clause-sent g c =
-    (sent_all c.args.first (g.T.Targets.targets c.args.targets.now) _ c.loop-k.k _ c.loop-k.invariant
+    (sent_all c.args.first (g.T.Destinations.targets c.args.targets.now) _ c.loop-k.k _ c.loop-k.invariant
     (omega (arith, c.count-k-end.ensures, c.loop-k-test.false))).1

@@ -8,14 +8,14 @@ use Rattle.permute_walks.proofs.stores.store_each.Goals.{then-takes_part, else-t
 
 pub loop-k-init : goal.loop-k-init
 loop-k-init g c = record {
-  so_far = stored_none c.args.first (g.T.Targets.targets c.args.targets.now) _ c.args.senders.now c.requires.fresh;
+  so_far = stored_none c.args.first (g.T.Destinations.targets c.args.targets.now) _ c.args.senders.now c.requires.fresh;
   stands = λ some. ap (λ (ss : List ℕ). get_or ss 0 0) c.requires.fresh ∙ get_or-replicate (length c.args.senders.now) 0 nobody 0 some;
   in_length = omega arith;
 }
 
 pub loop-k-preserved : goal.loop-k-preserved
 loop-k-preserved g c =
-    let ts = g.T.Targets.targets c.args.targets.now in
+    let ts = g.T.Destinations.targets c.args.targets.now in
     let m = length c.args.senders.now in
     let k = c.loop-k.k in
     let small : c.args.first + length ts ≤ nobody = omega (arith, c.requires.in_limit) in
@@ -44,5 +44,5 @@ loop-k-preserved g c =
 
 pub returns-clause-stored : goal.returns-clause-stored
 returns-clause-stored g c =
-    stored_all c.args.first (g.T.Targets.targets c.args.targets.now) _ c.loop-k.k c.loop-k.sent c.loop-k.senders c.loop-k.invariant.so_far
+    stored_all c.args.first (g.T.Destinations.targets c.args.targets.now) _ c.loop-k.k c.loop-k.sent c.loop-k.senders c.loop-k.invariant.so_far
     (omega (arith, c.count-k-end.ensures, c.loop-k-test.false))

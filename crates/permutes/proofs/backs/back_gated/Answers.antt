@@ -3,7 +3,7 @@ use Rattle.std.proofs.lemmas.Result.{err_from_is_err_and}
 use Rattle.cvl_base.specs.Gives.{unless}
 use Rattle.permute_walks.specs.Indices.{elements_at}
 use Rattle.permute_walks.proofs.Outside.{all_inside, length-elements_at, values_unless}
-use Rattle.permutes.proofs.backs.back.Goals as goal
+use Rattle.permutes.proofs.backs.back_gated.Goals as goal
 
 pub returns-in_err-check_places-clause-values : goal.returns-in_err-check_places-clause-values
 returns-in_err-check_places-clause-values g c =

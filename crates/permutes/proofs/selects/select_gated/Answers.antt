@@ -7,7 +7,7 @@ use Rattle.permute_walks.specs.Senders.{nobody, senders_of, fault_told}
 use Rattle.permute_walks.proofs.Sent.{length-senders_of}
 use Rattle.permutes.proofs.Flat.{select-meaning}
 use Rattle.permutes.proofs.Walked.{sends_at, select_sent}
-use Rattle.permutes.proofs.selects.select.Goals as goal
+use Rattle.permutes.proofs.selects.select_gated.Goals as goal
 
 pub returns-clause-values : goal.returns-clause-values
 returns-clause-values g c =

@@ -6,7 +6,7 @@ use Rattle.permute_walks.specs.Senders.{fault_told}
 use Rattle.permutes.proofs.Through.{places-parts}
 use Rattle.permutes.proofs.Walked.{sends_at, length-senders_from}
 use Rattle.permutes.proofs.Whole.{seg_default-meaning, seg_default-differ}
-use Rattle.permutes.proofs.defaults.seg_default_into.Goals as goal
+use Rattle.permutes.proofs.defaults.seg_default_into_gated.Goals as goal
 
 pub returns-clause-values : goal.returns-clause-values
 returns-clause-values g c =

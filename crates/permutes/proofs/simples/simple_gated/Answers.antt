@@ -7,8 +7,8 @@ use Rattle.permute_walks.proofs.Taken.{length-taken}
 use Rattle.permute_walks.proofs.Sent.{length-senders_of}
 use Rattle.permutes.proofs.Flat.{simple-meaning}
 use Rattle.permutes.proofs.Walked.{length_given, sends_at, simple_sent}
-use Rattle.permutes.proofs.simples.simple.Goals as goal
-use Rattle.permutes.proofs.simples.simple.Goals.{After-elements_sent}
+use Rattle.permutes.proofs.simples.simple_gated.Goals as goal
+use Rattle.permutes.proofs.simples.simple_gated.Goals.{After-elements_sent}
 
 -- the call by the senders
 given_by : (g : _) (c : After-elements_sent g) → Gives (λ v. v.items) c.elements_sent.result

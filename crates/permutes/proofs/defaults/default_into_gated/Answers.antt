@@ -6,7 +6,7 @@ use Rattle.permute_walks.specs.Senders.{nobody, senders_of, fault_told}
 use Rattle.permute_walks.proofs.Sent.{length-senders_of}
 use Rattle.permutes.proofs.Flat.{default-meaning}
 use Rattle.permutes.proofs.Walked.{sends_at}
-use Rattle.permutes.proofs.defaults.default_into.Goals as goal
+use Rattle.permutes.proofs.defaults.default_into_gated.Goals as goal
 
 pub returns-clause-values : goal.returns-clause-values
 returns-clause-values g c =

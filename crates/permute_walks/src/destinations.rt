@@ -4,7 +4,7 @@ ghost use Rattle.std.specs.Prelude.{◌≡◌, ◌<◌, ℤ, List, length, Optio
 ghost use Rattle.cvl_base.specs.Permutes.{all_targets, flagged_targets, target_if};
 
 /// The targets of places, one after another: the index of each place that takes part.
-pub trait Targets {
+pub trait Destinations {
     ghost targets: { Self → List (Option ℤ) };
 
     /// How many places there are.
@@ -25,7 +25,7 @@ pub struct AllTargets<'a> {
     pub index: &'a [i32],
 }
 
-impl<'a> Targets for AllTargets<'a> {
+impl<'a> Destinations for AllTargets<'a> {
     ghost use Rattle.cvl_base.specs.Permutes.{all_targets};
 
     ghost targets = { λ t. all_targets t.index.now };
@@ -50,7 +50,7 @@ pub struct FlaggedTargets<'a> {
     pub flags: &'a [bool],
 }
 
-impl<'a> Targets for FlaggedTargets<'a> {
+impl<'a> Destinations for FlaggedTargets<'a> {
     ghost use Rattle.cvl_base.specs.Permutes.{flagged_targets};
 
     ghost targets = { λ t. flagged_targets t.index.now t.flags.now };

@@ -5,7 +5,7 @@ use Rattle.permute_walks.specs.Senders.{fault_told}
 use Rattle.permutes.proofs.Through.{places-parts}
 use Rattle.permutes.proofs.Walked.{sends_at, segments_sent, length-senders_from}
 use Rattle.permutes.proofs.Whole.{seg_simple-meaning}
-use Rattle.permutes.proofs.simples.seg_simple.Goals as goal
+use Rattle.permutes.proofs.simples.seg_simple_gated.Goals as goal
 
 pub returns-clause-values : goal.returns-clause-values
 returns-clause-values g c =

@@ -1,6 +1,6 @@
 use Rattle.std.proofs.Common.{◌<◌, length, arith, rules}
 use Rattle.permute_walks.proofs.Sent.{count-flagged_targets, flagged-target}
-use Rattle.permute_walks.proofs.targets.FlaggedTargetsTargets.at.Goals as goal
+use Rattle.permute_walks.proofs.destinations.FlaggedTargetsDestinations.at.Goals as goal
 
 pub offset_bounds-self-k : goal.offset_bounds-self-k
 offset_bounds-self-k c =

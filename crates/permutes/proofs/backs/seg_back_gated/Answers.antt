@@ -4,7 +4,7 @@ use Rattle.cvl_base.specs.Gives.{unless}
 use Rattle.permutes.specs.Backs.{segments_at}
 use Rattle.permutes.proofs.Backed.{length-segments_at, seg_back-meaning}
 use Rattle.permutes.proofs.Whole.{seg_back-differ}
-use Rattle.permutes.proofs.backs.seg_back.Goals as goal
+use Rattle.permutes.proofs.backs.seg_back_gated.Goals as goal
 
 pub returns-in_err-check_agree-clause-values : goal.returns-in_err-check_agree-clause-values
 returns-in_err-check_agree-clause-values g c =

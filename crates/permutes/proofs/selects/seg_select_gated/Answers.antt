@@ -5,7 +5,7 @@ use Rattle.permute_walks.specs.Senders.{fault_told}
 use Rattle.permutes.proofs.Through.{places-flagged_parts}
 use Rattle.permutes.proofs.Walked.{sends_at, flagged_segments_sent, length-senders_from}
 use Rattle.permutes.proofs.Whole.{seg_select-meaning}
-use Rattle.permutes.proofs.selects.seg_select.Goals as goal
+use Rattle.permutes.proofs.selects.seg_select_gated.Goals as goal
 
 pub returns-clause-values : goal.returns-clause-values
 returns-clause-values g c =
