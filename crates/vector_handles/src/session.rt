@@ -67,8 +67,8 @@ impl<A: Memory> Session<A> {
         self.apply_gated(rt, call, &OpenGate)
     }
 
-    /// The same as [`Session::apply`], by workers that pass a gate at the points of their way through a tile, in each scan,
-    /// reduce, quotient, remainder, shift, permute, pack and count by segments. The gate changes no value and no fault.
+    /// The same as [`Session::apply`], by workers that pass a gate at the points of their way through a tile, in each
+    /// call that races for tiles. The gate changes no value and no fault.
     pub fn apply_gated<R: Threads + Sync, G: Gate>(
         &mut self,
         rt: &R,
