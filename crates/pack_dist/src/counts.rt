@@ -9,9 +9,10 @@ ghost use Rattle.cvl_base.specs.Packs.{count_of};
 ghost use Rattle.cvl_base.specs.SegmentedCalls.{seg_count_of};
 ghost use Rattle.pack_dist.specs.Kept.{ArePlaces};
 
+use crew::{Gate, OpenGate};
 use cvl_base::monoids::Add;
 use cvl_base::{Config, Memory, NoResources, Refused, true_count};
-use scan_ops::{Reading, scan_readings, seg_reduce_readings};
+use scan_ops::{Reading, scan_readings_gated, seg_reduce_readings_gated};
 use segdes::SegDes;
 use std::thread::Threads;
 
@@ -36,18 +37,20 @@ pub fn count_true(flags: &[bool]) -> i32
     true_count(flags) as i32
 }
 
-/// For each flag the number of true flags before it, which is where a pack puts what it keeps.
-pub(crate) fn counts_before<R: Threads + Sync, A: Memory>(
+/// For each flag the number of true flags before it, which is where a pack puts what it keeps. The workers of its scan pass
+/// the gate.
+pub(crate) fn counts_before<R: Threads + Sync, A: Memory, G: Gate>(
     rt: &R,
     alloc: A,
     config: Config,
     flags: &[bool],
+    gate: &G,
 ) -> Result<Vec<i32, A>, NoResources>
     requires few { length flags.now ≤ most_elements }
     ensures values { IfOk result (λ places. ArePlaces flags.now places.items) }
     ensures as_long { IfOk result (λ places. vec_len places ≡ length flags.now) }
 {
-    let places = scan_readings::<R, A, Add, bool, Ones>(rt, alloc, config, flags)?;
+    let places = scan_readings_gated::<R, A, Add, bool, Ones, G>(rt, alloc, config, flags, gate)?;
     Ok(places)
 }
 
@@ -67,7 +70,24 @@ pub fn seg_count<R: Threads + Sync, A: Memory>(
     ensures lengths { IfOk result (λ counts. AreLengths counts.items) }
     ensures one_each { IfOk result (λ counts. vec_len counts ≡ length d.now) }
 {
+    seg_count_gated(rt, alloc, config, flags, d, &OpenGate)
+}
+
+/// The same as [`seg_count`], by workers that pass a gate at each point of their way through a tile.
+pub fn seg_count_gated<R: Threads + Sync, A: Memory, G: Gate>(
+    rt: &R,
+    alloc: A,
+    config: Config,
+    flags: &[bool],
+    d: &SegDes<A>,
+    gate: &G,
+) -> Result<Vec<i32, A>, Refused>
+    ensures values { Gives (λ counts. map unsigned_abs counts.items) result
+        (seg_count_of flags.now d.now) }
+    ensures lengths { IfOk result (λ counts. AreLengths counts.items) }
+    ensures one_each { IfOk result (λ counts. vec_len counts ≡ length d.now) }
+{
     // its contract names the limits of a descriptor's lengths
     let _lengths = d.lengths();
-    seg_reduce_readings::<R, A, Add, bool, Ones>(rt, alloc, config, flags, d)
+    seg_reduce_readings_gated::<R, A, Add, bool, Ones, G>(rt, alloc, config, flags, d, gate)
 }

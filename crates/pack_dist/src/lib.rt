@@ -1,4 +1,7 @@
 //! Packs and counts, and the calls that make a vector of a given length or read or change one of its elements.
+//!
+//! Each call that scans or counts flags in a race has a gated form, whose workers pass a gate at each point of their way through
+//! a tile. The call itself is its gated form at the gate that holds nobody.
 #![tactic(auto)]
 
 mod checks;
@@ -14,10 +17,13 @@ mod replaces;
 mod segment_packs;
 mod segment_runs;
 
-pub use counts::{count_true, seg_count};
+pub use counts::{count_true, seg_count, seg_count_gated};
 pub use distributes::{distribute, seg_distribute};
 pub use extracts::{extract, seg_extract};
 pub use indexes::{index, seg_index};
-pub use packs::pack;
+pub use packs::{pack, pack_gated};
 pub use replaces::{replace, seg_replace};
-pub use segment_packs::{packed_descriptor, seg_pack, seg_pack_values};
+pub use segment_packs::{
+    packed_descriptor, packed_descriptor_gated, seg_pack, seg_pack_gated, seg_pack_values,
+    seg_pack_values_gated,
+};

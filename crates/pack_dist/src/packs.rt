@@ -8,6 +8,7 @@ ghost use Rattle.pack_dist.specs.Kept.{ArePlaces, kept_of};
 
 use crate::counts::counts_before;
 use crate::kept_runs::Kept;
+use crew::{Gate, OpenGate};
 use cvl_base::{Config, Memory, NoResources, Refused, check_agree};
 use fresh::write_in_runs;
 use sharing::threads_for;
@@ -28,18 +29,35 @@ pub fn pack<T: Copy + Send + Sync, R: Threads + Sync, A: Memory>(
     ensures values { Gives (λ v. v.items) result (pack_of values.now flags.now) }
     ensures no_longer { IfOk result (λ v. vec_len v ≤ length values.now) }
 {
-    check_agree(values.len(), flags.len())?;
-    Ok(kept(rt, alloc, config, values, flags)?)
+    pack_gated(rt, alloc, config, values, flags, &OpenGate)
 }
 
-/// The elements whose flag is true, of as many as there are flags. A scan of the flags says where each of them is put, and
-/// so where in the flags a run of the result begins.
-pub(crate) fn kept<T: Copy + Send + Sync, R: Threads + Sync, A: Memory>(
+/// The same as [`pack`], by workers that pass a gate at each point of their way through a tile of the flags.
+pub fn pack_gated<T: Copy + Send + Sync, R: Threads + Sync, A: Memory, G: Gate>(
     rt: &R,
     alloc: A,
     config: Config,
     values: &[T],
     flags: &[bool],
+    gate: &G,
+) -> Result<Vec<T, A>, Refused>
+    requires few { length flags.now ≤ most_elements }
+    ensures values { Gives (λ v. v.items) result (pack_of values.now flags.now) }
+    ensures no_longer { IfOk result (λ v. vec_len v ≤ length values.now) }
+{
+    check_agree(values.len(), flags.len())?;
+    Ok(kept(rt, alloc, config, values, flags, gate)?)
+}
+
+/// The elements whose flag is true, of as many as there are flags. A scan of the flags says where each of them is put, and
+/// so where in the flags a run of the result begins. The workers of that scan pass the gate.
+pub(crate) fn kept<T: Copy + Send + Sync, R: Threads + Sync, A: Memory, G: Gate>(
+    rt: &R,
+    alloc: A,
+    config: Config,
+    values: &[T],
+    flags: &[bool],
+    gate: &G,
 ) -> Result<Vec<T, A>, NoResources>
     requires few { length flags.now ≤ most_elements }
     requires as_long { length values.now ≡ length flags.now }
@@ -49,7 +67,7 @@ pub(crate) fn kept<T: Copy + Send + Sync, R: Threads + Sync, A: Memory>(
     if flags.is_empty() {
         return Ok(Vec::new(alloc));
     }
-    let places = counts_before(rt, alloc, config, flags)?;
+    let places = counts_before(rt, alloc, config, flags, gate)?;
     let places = places.as_slice();
     let count = count_by_places(flags, places);
     let kept = Kept {

@@ -4,8 +4,9 @@ ghost use Rattle.std.specs.Prelude.{◌≡◌, ◌≤◌, IfOk, Ok, length, vec_
 ghost use Rattle.cvl_base.specs.Gives.{Gives};
 ghost use Rattle.cvl_base.specs.SegmentedCalls.{seg_count_of, seg_pack_of};
 
-use crate::counts::seg_count;
+use crate::counts::seg_count_gated;
 use crate::packs::kept;
+use crew::{Gate, OpenGate};
 use cvl_base::{Config, Lengths, Memory, Refused};
 use segdes::{SegDes, check_total};
 use std::thread::Threads;
@@ -25,9 +26,25 @@ pub fn seg_pack_values<T: Copy + Send + Sync, R: Threads + Sync, A: Memory>(
     ensures values { Gives (λ v. v.items) result (seg_pack_of values.now flags.now d.now) }
     ensures no_longer { IfOk result (λ v. vec_len v ≤ length values.now) }
 {
+    seg_pack_values_gated(rt, alloc, config, values, flags, d, &OpenGate)
+}
+
+/// The same as [`seg_pack_values`], by workers that pass a gate at each point of their way through a tile of the flags.
+pub fn seg_pack_values_gated<T: Copy + Send + Sync, R: Threads + Sync, A: Memory, G: Gate>(
+    rt: &R,
+    alloc: A,
+    config: Config,
+    values: &[T],
+    flags: &[bool],
+    d: &SegDes<A>,
+    gate: &G,
+) -> Result<Vec<T, A>, Refused>
+    ensures values { Gives (λ v. v.items) result (seg_pack_of values.now flags.now d.now) }
+    ensures no_longer { IfOk result (λ v. vec_len v ≤ length values.now) }
+{
     check_total(values, d)?;
     check_total(flags, d)?;
-    Ok(kept(rt, alloc, config, values, flags)?)
+    Ok(kept(rt, alloc, config, values, flags, gate)?)
 }
 
 /// The descriptor of what a segmented pack keeps: `pck_fov`. An empty segment stays, with length 0.
@@ -42,7 +59,21 @@ pub fn packed_descriptor<R: Threads + Sync, A: Memory>(
 ) -> Result<SegDes<A>, Refused>
     ensures { Gives (λ packed. packed) result (seg_count_of flags.now d.now) }
 {
-    let counts = seg_count(rt, alloc, config, flags, d)?;
+    packed_descriptor_gated(rt, alloc, config, flags, d, &OpenGate)
+}
+
+/// The same as [`packed_descriptor`], by workers that pass a gate at each point of their way through a tile of the flags.
+pub fn packed_descriptor_gated<R: Threads + Sync, A: Memory, G: Gate>(
+    rt: &R,
+    alloc: A,
+    config: Config,
+    flags: &[bool],
+    d: &SegDes<A>,
+    gate: &G,
+) -> Result<SegDes<A>, Refused>
+    ensures { Gives (λ packed. packed) result (seg_count_of flags.now d.now) }
+{
+    let counts = seg_count_gated(rt, alloc, config, flags, d, gate)?;
     Ok(SegDes::new(alloc, Lengths::from_vec(counts))?)
 }
 
@@ -50,7 +81,6 @@ pub fn packed_descriptor<R: Threads + Sync, A: Memory>(
 ///
 /// LengthMismatch, without a place, where the segments' total is not the number of elements, or not that of flags.
 /// Source: CVL's segmented pack.
-#[tactic(auto, using(crate::proofs::Segments::pack_fault))]
 pub fn seg_pack<T: Copy + Send + Sync, R: Threads + Sync, A: Memory>(
     rt: &R,
     alloc: A,
@@ -64,7 +94,27 @@ pub fn seg_pack<T: Copy + Send + Sync, R: Threads + Sync, A: Memory>(
     ensures lengths { IfOk result (λ packed. seg_count_of flags.now d.now ≡ Ok packed.1) }
     ensures no_longer { IfOk result (λ packed. vec_len packed.0 ≤ length values.now) }
 {
-    let packed = seg_pack_values(rt, alloc, config, values, flags, d)?;
-    let lengths = packed_descriptor(rt, alloc, config, flags, d)?;
+    seg_pack_gated(rt, alloc, config, values, flags, d, &OpenGate)
+}
+
+/// The same as [`seg_pack`], by workers that pass a gate at each point of their way through a tile of the flags, first for the
+/// elements that are kept, then for their descriptor.
+#[tactic(auto, using(crate::proofs::Segments::pack_fault))]
+pub fn seg_pack_gated<T: Copy + Send + Sync, R: Threads + Sync, A: Memory, G: Gate>(
+    rt: &R,
+    alloc: A,
+    config: Config,
+    values: &[T],
+    flags: &[bool],
+    d: &SegDes<A>,
+    gate: &G,
+) -> Result<(Vec<T, A>, SegDes<A>), Refused>
+    ensures values { Gives (λ packed. packed.0.items) result
+        (seg_pack_of values.now flags.now d.now) }
+    ensures lengths { IfOk result (λ packed. seg_count_of flags.now d.now ≡ Ok packed.1) }
+    ensures no_longer { IfOk result (λ packed. vec_len packed.0 ≤ length values.now) }
+{
+    let packed = seg_pack_values_gated(rt, alloc, config, values, flags, d, gate)?;
+    let lengths = packed_descriptor_gated(rt, alloc, config, flags, d, gate)?;
     Ok((packed, lengths))
 }

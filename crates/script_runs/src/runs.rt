@@ -13,17 +13,19 @@ use crate::puts::put_all;
 use crate::sink::Sink;
 use crate::stop::Stop;
 use call_reader::read_line;
+use crew::{Gate, OpenGate};
 use cvl_base::limits::MOST_SCRIPT_BYTES;
 use cvl_base::{Config, Fault, FaultNo, Memory, Refused};
 use std::thread::Threads;
 use vector_handles::{Input, Session, Shown};
 
 /// Reads one line and makes its call, if it has one.
-fn step_line<R: Threads + Sync, A: Memory>(
+fn step_line<R: Threads + Sync, A: Memory, G: Gate>(
     rt: &R,
     alloc: A,
     session: &mut Session<A>,
     line: &[u8],
+    gate: &G,
 ) -> Result<Shown<A>, Refused>
     ensures meaning { Gives (λ shown. record { names = session.new.names; shown = text_shown shown }) result
         (line_step session.old.names session.old.inputs line.now) }
@@ -32,7 +34,7 @@ fn step_line<R: Threads + Sync, A: Memory>(
     match read_line(alloc, line) {
         Err(refused) => Err(refused),
         Ok(None) => Ok(Shown::Nothing),
-        Ok(Some(call)) => session.apply(rt, &call),
+        Ok(Some(call)) => session.apply_gated(rt, &call, gate),
     }
 }
 
@@ -59,20 +61,21 @@ fn stop_of(refused: Refused, number: u32) -> Stop
 }
 
 /// Runs one line, with its number from 1 on, and puts its text whole into the sink.
-fn run_line<R: Threads + Sync, A: Memory, S: Sink>(
+fn run_line<R: Threads + Sync, A: Memory, S: Sink, G: Gate>(
     rt: &R,
     alloc: A,
     session: &mut Session<A>,
     line: &[u8],
     number: u32,
     sink: &mut S,
+    gate: &G,
 ) -> Result<(), Stop>
     requires { (S.seen sink.old).failed_puts < 2 ^ 64 - 1 }
     ensures runs { LineRuns number (line_step session.old.names session.old.inputs line.now) session.new.names
         (S.seen sink.old) (S.seen sink.new) result }
     ensures inputs { session.new.inputs ≡ session.old.inputs }
 {
-    match step_line(rt, alloc, session, line) {
+    match step_line(rt, alloc, session, line, gate) {
         Err(refused) => Err(stop_of(refused, number)),
         Ok(shown) => match put_all(sink, shown_bytes(&shown)) {
             Ok(()) => Ok(()),
@@ -82,12 +85,13 @@ fn run_line<R: Threads + Sync, A: Memory, S: Sink>(
 }
 
 /// Runs the lines one after the other, up to the first that stops the script.
-fn run_lines<R: Threads + Sync, A: Memory, S: Sink>(
+fn run_lines<R: Threads + Sync, A: Memory, S: Sink, G: Gate>(
     rt: &R,
     alloc: A,
     session: &mut Session<A>,
     script: &[u8],
     sink: &mut S,
+    gate: &G,
 ) -> Result<(), Stop>
     requires failures { (S.seen sink.old).failed_puts < 2 ^ 64 - 1 }
     requires short { length script.now ≤ most_script_bytes }
@@ -98,7 +102,7 @@ fn run_lines<R: Threads + Sync, A: Memory, S: Sink>(
     let mut rest = Some(script);
     while let Some(bytes) = rest {
         let (line, others) = next_line(bytes);
-        run_line(rt, alloc, session, line, number, sink)?;
+        run_line(rt, alloc, session, line, number, sink, gate)?;
         number += 1;
         rest = others;
     }
@@ -122,6 +126,23 @@ pub fn run<R: Threads + Sync, A: Memory, S: Sink>(
     requires { (S.seen sink.old).failed_puts < 2 ^ 64 - 1 }
     ensures { Runs (meaning script.now inputs.items) (S.seen sink.old) (S.seen sink.new) result }
 {
+    run_gated(rt, alloc, config, script, inputs, sink, &OpenGate)
+}
+
+/// The same as [`run`], by workers that pass a gate at the points of their way through a tile, in each call that races for
+/// tiles. The gate changes neither the text nor the answer, so that a test may hold workers at it.
+pub fn run_gated<R: Threads + Sync, A: Memory, S: Sink, G: Gate>(
+    rt: &R,
+    alloc: A,
+    config: Config,
+    script: &[u8],
+    inputs: Vec<Input<A>, A>,
+    sink: &mut S,
+    gate: &G,
+) -> Result<(), Stop>
+    requires { (S.seen sink.old).failed_puts < 2 ^ 64 - 1 }
+    ensures { Runs (meaning script.now inputs.items) (S.seen sink.old) (S.seen sink.new) result }
+{
     if script.len() > MOST_SCRIPT_BYTES {
         return Err(Stop::Script {
             line: 0,
@@ -130,6 +151,6 @@ pub fn run<R: Threads + Sync, A: Memory, S: Sink>(
     }
     match Session::new(alloc, config, inputs) {
         Err(_) => Err(Stop::NoResources { line: 0 }),
-        Ok(mut session) => run_lines(rt, alloc, &mut session, script, sink),
+        Ok(mut session) => run_lines(rt, alloc, &mut session, script, sink, gate),
     }
 }

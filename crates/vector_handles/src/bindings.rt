@@ -8,17 +8,19 @@ ghost use Rattle.vector_handles.specs.Steps.{bound_to, performed};
 
 use crate::session::Session;
 use bound_names::{Bound, bind_answer, is_room, resolve};
+use crew::Gate;
 use cvl_base::{Arg, Fault, FaultNo, Memory, Name, Op, Refused};
 use std::thread::Threads;
 
 impl<A: Memory> Session<A> {
     /// Binds the name to the value that a call gives, once all memory is there.
-    pub(crate) fn bind<R: Threads + Sync>(
+    pub(crate) fn bind<R: Threads + Sync, G: Gate>(
         &mut self,
         rt: &R,
         target: &Name,
         op: Op,
         args: &[Arg],
+        gate: &G,
     ) -> Result<(), Refused>
         ensures meaning { Gives (λ _. left_by self.new None) result
             (unless (args_fault self.old.names op args.now)
@@ -26,18 +28,19 @@ impl<A: Memory> Session<A> {
         ensures inputs { self.new.inputs ≡ self.old.inputs }
         ensures refused { OnErr result (self.new.names ≡ self.old.names) }
     {
-        let answer = self.value_for(rt, target, op, args);
+        let answer = self.value_for(rt, target, op, args, gate);
         bind_answer(&mut self.names, target, answer)
     }
 
     /// The value that a call gives, to be bound to a name: the first fault of the arguments, `TooManyNames` where it is a
     /// new name and no more may be bound, and then the call's faults.
-    fn value_for<R: Threads + Sync>(
+    fn value_for<R: Threads + Sync, G: Gate>(
         &self,
         rt: &R,
         target: &Name,
         op: Op,
         args: &[Arg],
+        gate: &G,
     ) -> Result<Bound<A>, Refused>
         ensures { Gives (bound_to self.now.names target.now) result
             (unless (args_fault self.now.names op args.now)
@@ -47,6 +50,6 @@ impl<A: Memory> Session<A> {
         if !is_room(&self.names, target) {
             return Err(Refused::Fault(Fault::new(FaultNo::TooManyNames)));
         }
-        self.value_of_call(rt, op, &operands)
+        self.value_of_call(rt, op, &operands, gate)
     }
 }

@@ -8,24 +8,26 @@ use crate::answers::bound_integers;
 use crate::numbered::{input_numbered, integers_of_input};
 use crate::session::Session;
 use bound_names::{Bound, Operands};
+use crew::Gate;
 use cvl_base::{Fault, FaultNo, Memory, Op, Refused};
 use segdes::SegDes;
 use std::thread::Threads;
 
 impl<A: Memory> Session<A> {
-    /// The value that a call gives; `UnknownCall` for `write`, which gives none.
-    pub(crate) fn value_of_call<R: Threads + Sync>(
+    /// The value that a call gives; `UnknownCall` for `write`, which gives none. The workers that race for it pass the gate.
+    pub(crate) fn value_of_call<R: Threads + Sync, G: Gate>(
         &self,
         rt: &R,
         op: Op,
         operands: &Operands<'_, A>,
+        gate: &G,
     ) -> Result<Bound<A>, Refused>
         requires kinds { AreTaken op operands.now }
         ensures { IsTableValue self.now.inputs op operands.now result }
     {
         match op {
             Op::Input => self.value_of_input(operands),
-            Op::Ints2(operator) => self.value_of_ints2(rt, operator, operands),
+            Op::Ints2(operator) => self.value_of_ints2(rt, operator, operands, gate),
             Op::Ints1(operator) => self.value_of_ints1(rt, operator, operands),
             Op::Compare(operator) => self.value_of_compare(rt, operator, operands),
             Op::Bools2(operator) => self.value_of_bools2(rt, operator, operands),
@@ -33,17 +35,21 @@ impl<A: Memory> Session<A> {
             Op::Choose(element) => self.value_of_choose(rt, element, operands),
             Op::IntFromBool => self.value_of_int_from_bool(rt, operands),
             Op::BoolFromInt => self.value_of_bool_from_int(rt, operands),
-            Op::Scan(operator, cut) => self.value_of_scan(rt, operator, cut, operands),
-            Op::Reduce(operator, cut) => self.value_of_reduce(rt, operator, cut, operands),
-            Op::BoolScan(operator, cut) => self.value_of_bool_scan(rt, operator, cut, operands),
-            Op::BoolReduce(operator, cut) => self.value_of_bool_reduce(rt, operator, cut, operands),
+            Op::Scan(operator, cut) => self.value_of_scan(rt, operator, cut, operands, gate),
+            Op::Reduce(operator, cut) => self.value_of_reduce(rt, operator, cut, operands, gate),
+            Op::BoolScan(operator, cut) => self.value_of_bool_scan(
+                rt, operator, cut, operands, gate,
+            ),
+            Op::BoolReduce(operator, cut) => self.value_of_bool_reduce(
+                rt, operator, cut, operands, gate,
+            ),
             Op::Permute(form, cut, element) => self.value_of_permute(
-                rt, form, cut, element, operands,
+                rt, form, cut, element, operands, gate,
             ),
             Op::Length(element) => self.value_of_length(element, operands),
-            Op::Count(cut) => self.value_of_count(rt, cut, operands),
-            Op::Pack(cut, element) => self.value_of_pack(rt, cut, element, operands),
-            Op::PackedLengths => self.value_of_packed_lengths(rt, operands),
+            Op::Count(cut) => self.value_of_count(rt, cut, operands, gate),
+            Op::Pack(cut, element) => self.value_of_pack(rt, cut, element, operands, gate),
+            Op::PackedLengths => self.value_of_packed_lengths(rt, operands, gate),
             Op::Distribute(cut, element) => self.value_of_distribute(rt, cut, element, operands),
             Op::Index(cut) => self.value_of_index(rt, cut, operands),
             Op::Extract(cut, element) => self.value_of_extract(cut, element, operands),

@@ -7,24 +7,26 @@ ghost use Rattle.vector_handles.specs.Answers.{IsTableValue};
 use crate::answers::{bound_booleans, bound_integers};
 use crate::session::Session;
 use bound_names::{Bound, Operands};
+use crew::Gate;
 use cvl_base::{BoolBinary, Comparison, Element, IntBinary, Memory, Refused, Unary};
-use elementwise::{bool_from_int, bool1, bool2, compare, int_from_bool, int1, int2, select};
+use elementwise::{bool_from_int, bool1, bool2, compare, int_from_bool, int1, int2_gated, select};
 use std::thread::Threads;
 
 impl<A: Memory> Session<A> {
     /// An operator on two integer vectors.
-    pub(crate) fn value_of_ints2<R: Threads + Sync>(
+    pub(crate) fn value_of_ints2<R: Threads + Sync, G: Gate>(
         &self,
         rt: &R,
         operator: IntBinary,
         operands: &Operands<'_, A>,
+        gate: &G,
     ) -> Result<Bound<A>, Refused>
         requires kinds { AreTaken (op.Ints2 operator) operands.now }
         ensures { IsTableValue self.now.inputs (op.Ints2 operator) operands.now result }
     {
         let a = operands.first.integers();
         let b = operands.second.integers();
-        bound_integers(int2(rt, self.alloc, self.config, operator, a, b))
+        bound_integers(int2_gated(rt, self.alloc, self.config, operator, a, b, gate))
     }
 
     /// An operator on an integer vector.

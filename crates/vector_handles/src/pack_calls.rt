@@ -12,8 +12,11 @@ ghost use Rattle.vector_handles.specs.Families.{packed};
 use crate::answers::{bound_booleans, bound_integers};
 use crate::session::Session;
 use bound_names::{Bound, Operands};
+use crew::Gate;
 use cvl_base::{Cut, Element, Memory, Refused, Value};
-use pack_dist::{count_true, pack, packed_descriptor, seg_count, seg_pack_values};
+use pack_dist::{
+    count_true, pack_gated, packed_descriptor_gated, seg_count_gated, seg_pack_values_gated,
+};
 use std::thread::Threads;
 
 impl<A: Memory> Session<A> {
@@ -34,11 +37,12 @@ impl<A: Memory> Session<A> {
     }
 
     /// The number of true flags, or that of each segment.
-    pub(crate) fn value_of_count<R: Threads + Sync>(
+    pub(crate) fn value_of_count<R: Threads + Sync, G: Gate>(
         &self,
         rt: &R,
         cut: Cut,
         operands: &Operands<'_, A>,
+        gate: &G,
     ) -> Result<Bound<A>, Refused>
         requires kinds { AreTaken (op.Count cut) operands.now }
         ensures { IsTableValue self.now.inputs (op.Count cut) operands.now result }
@@ -48,19 +52,20 @@ impl<A: Memory> Session<A> {
             Cut::Flat => { Ok(Bound::alone(Value::Integer(count_true(flags)))) }
             Cut::Segmented => {
                 let d = operands.second.descriptor();
-                let counts = seg_count(rt, self.alloc, self.config, flags, d)?;
+                let counts = seg_count_gated(rt, self.alloc, self.config, flags, d, gate)?;
                 Ok(Bound::from_integers(counts))
             }
         }
     }
 
     /// The elements whose flag is true.
-    pub(crate) fn value_of_pack<R: Threads + Sync>(
+    pub(crate) fn value_of_pack<R: Threads + Sync, G: Gate>(
         &self,
         rt: &R,
         cut: Cut,
         element: Element,
         operands: &Operands<'_, A>,
+        gate: &G,
     ) -> Result<Bound<A>, Refused>
         requires kinds { AreTaken (op.Pack cut element) operands.now }
         ensures { IsTableValue self.now.inputs (op.Pack cut element) operands.now result }
@@ -68,22 +73,23 @@ impl<A: Memory> Session<A> {
         match element {
             Element::Integer => {
                 let values = operands.first.integers();
-                bound_integers(self.packed(rt, cut, values, operands))
+                bound_integers(self.packed(rt, cut, values, operands, gate))
             }
             Element::Boolean => {
                 let values = operands.first.booleans();
-                bound_booleans(self.packed(rt, cut, values, operands))
+                bound_booleans(self.packed(rt, cut, values, operands, gate))
             }
         }
     }
 
     /// The elements of a vector whose flag is true. The flags and the descriptor are the operands at their places.
-    fn packed<T: Copy + Send + Sync, R: Threads + Sync>(
+    fn packed<T: Copy + Send + Sync, R: Threads + Sync, G: Gate>(
         &self,
         rt: &R,
         cut: Cut,
         values: &[T],
         operands: &Operands<'_, A>,
+        gate: &G,
     ) -> Result<Vec<T, A>, Refused>
         requires flags { kind_held operands.now.second ≡ Some kind.Booleans }
         requires cut { kind_held operands.now.third ≡ slice_get (cut_by cut) 0 }
@@ -92,26 +98,27 @@ impl<A: Memory> Session<A> {
     {
         let flags = operands.second.booleans();
         match cut {
-            Cut::Flat => pack(rt, self.alloc, self.config, values, flags),
+            Cut::Flat => pack_gated(rt, self.alloc, self.config, values, flags, gate),
             Cut::Segmented => {
                 let d = operands.third.descriptor();
-                seg_pack_values(rt, self.alloc, self.config, values, flags, d)
+                seg_pack_values_gated(rt, self.alloc, self.config, values, flags, d, gate)
             }
         }
     }
 
     /// The descriptor of what a segmented pack keeps.
-    pub(crate) fn value_of_packed_lengths<R: Threads + Sync>(
+    pub(crate) fn value_of_packed_lengths<R: Threads + Sync, G: Gate>(
         &self,
         rt: &R,
         operands: &Operands<'_, A>,
+        gate: &G,
     ) -> Result<Bound<A>, Refused>
         requires kinds { AreTaken op.PackedLengths operands.now }
         ensures { IsTableValue self.now.inputs op.PackedLengths operands.now result }
     {
         let flags = operands.first.booleans();
         let d = operands.second.descriptor();
-        let packed = packed_descriptor(rt, self.alloc, self.config, flags, d)?;
+        let packed = packed_descriptor_gated(rt, self.alloc, self.config, flags, d, gate)?;
         Ok(Bound::from_descriptor(self.alloc, packed)?)
     }
 }

@@ -12,21 +12,24 @@ ghost use Rattle.vector_handles.specs.Families.{permuted};
 use crate::answers::{bound_booleans, bound_integers};
 use crate::session::Session;
 use bound_names::{Bound, Operands};
+use crew::Gate;
 use cvl_base::{Cut, Element, Form, Memory, Refused};
 use permutes::{
-    back, default_into, seg_back, seg_default_into, seg_select, seg_simple, select, simple,
+    back_gated, default_into_gated, seg_back_gated, seg_default_into_gated, seg_select_gated,
+    seg_simple_gated, select_gated, simple_gated,
 };
 use std::thread::Threads;
 
 impl<A: Memory> Session<A> {
     /// A permute of an integer or a boolean vector.
-    pub(crate) fn value_of_permute<R: Threads + Sync>(
+    pub(crate) fn value_of_permute<R: Threads + Sync, G: Gate>(
         &self,
         rt: &R,
         form: Form,
         cut: Cut,
         element: Element,
         operands: &Operands<'_, A>,
+        gate: &G,
     ) -> Result<Bound<A>, Refused>
         requires kinds { AreTaken (op.Permute form cut element) operands.now }
         ensures { IsTableValue self.now.inputs (op.Permute form cut element) operands.now result }
@@ -35,18 +38,18 @@ impl<A: Memory> Session<A> {
             Element::Integer => {
                 let source = operands.first.integers();
                 let defaults = operands.third.integers_if_any();
-                bound_integers(self.permuted(rt, form, cut, source, defaults, operands))
+                bound_integers(self.permuted(rt, form, cut, source, defaults, operands, gate))
             }
             Element::Boolean => {
                 let source = operands.first.booleans();
                 let defaults = operands.third.booleans_if_any();
-                bound_booleans(self.permuted(rt, form, cut, source, defaults, operands))
+                bound_booleans(self.permuted(rt, form, cut, source, defaults, operands, gate))
             }
         }
     }
 
     /// The elements of a source, permuted. The index, the flags and the descriptors are the operands at their places.
-    fn permuted<T: Copy + Send + Sync, R: Threads + Sync>(
+    fn permuted<T: Copy + Send + Sync, R: Threads + Sync, G: Gate>(
         &self,
         rt: &R,
         form: Form,
@@ -54,6 +57,7 @@ impl<A: Memory> Session<A> {
         source: &[T],
         defaults: &[T],
         operands: &Operands<'_, A>,
+        gate: &G,
     ) -> Result<Vec<T, A>, Refused>
         requires kinds { (element : Element) × AreTaken (op.Permute form cut element) operands.now }
         requires source { length source.now ≤ most_elements }
@@ -64,19 +68,20 @@ impl<A: Memory> Session<A> {
         ensures in_limit { IfOk result (λ v. vec_len v ≤ most_elements) }
     {
         match cut {
-            Cut::Flat => self.permuted_whole(rt, form, source, defaults, operands),
-            Cut::Segmented => self.permuted_by_segments(rt, form, source, defaults, operands),
+            Cut::Flat => self.permuted_whole(rt, form, source, defaults, operands, gate),
+            Cut::Segmented => self.permuted_by_segments(rt, form, source, defaults, operands, gate),
         }
     }
 
     /// The elements of a source, permuted whole.
-    fn permuted_whole<T: Copy + Send + Sync, R: Threads + Sync>(
+    fn permuted_whole<T: Copy + Send + Sync, R: Threads + Sync, G: Gate>(
         &self,
         rt: &R,
         form: Form,
         source: &[T],
         defaults: &[T],
         operands: &Operands<'_, A>,
+        gate: &G,
     ) -> Result<Vec<T, A>, Refused>
         requires kinds { (element : Element) × AreTaken (op.Permute form Cut.Flat element) operands.now }
         requires source { length source.now ≤ most_elements }
@@ -89,24 +94,25 @@ impl<A: Memory> Session<A> {
         let (alloc, config) = (self.alloc, self.config);
         let index = operands.second.integers();
         match form {
-            Form::Simple => simple(rt, alloc, config, source, index),
-            Form::Back => back(rt, alloc, config, source, index),
+            Form::Simple => simple_gated(rt, alloc, config, source, index, gate),
+            Form::Back => back_gated(rt, alloc, config, source, index, gate),
             Form::Select => {
                 let flags = operands.third.booleans();
-                select(rt, alloc, config, source, index, flags)
+                select_gated(rt, alloc, config, source, index, flags, gate)
             }
-            Form::Default => default_into(rt, alloc, config, source, index, defaults),
+            Form::Default => default_into_gated(rt, alloc, config, source, index, defaults, gate),
         }
     }
 
     /// The elements of each segment of a source, permuted.
-    fn permuted_by_segments<T: Copy + Send + Sync, R: Threads + Sync>(
+    fn permuted_by_segments<T: Copy + Send + Sync, R: Threads + Sync, G: Gate>(
         &self,
         rt: &R,
         form: Form,
         source: &[T],
         defaults: &[T],
         operands: &Operands<'_, A>,
+        gate: &G,
     ) -> Result<Vec<T, A>, Refused>
         requires kinds { (element : Element) × AreTaken (op.Permute form Cut.Segmented element) operands.now }
         requires source { length source.now ≤ most_elements }
@@ -121,23 +127,23 @@ impl<A: Memory> Session<A> {
         match form {
             Form::Simple => {
                 let d = operands.third.descriptor();
-                seg_simple(rt, alloc, config, source, index, d)
+                seg_simple_gated(rt, alloc, config, source, index, d, gate)
             }
             Form::Back => {
                 let source_d = operands.third.descriptor();
                 let index_d = operands.fourth.descriptor();
-                seg_back(rt, alloc, config, source, index, source_d, index_d)
+                seg_back_gated(rt, alloc, config, source, index, source_d, index_d, gate)
             }
             Form::Select => {
                 let flags = operands.third.booleans();
                 let d = operands.fourth.descriptor();
-                seg_select(rt, alloc, config, source, index, flags, d)
+                seg_select_gated(rt, alloc, config, source, index, flags, d, gate)
             }
             Form::Default => {
                 let source_d = operands.fourth.descriptor();
                 let default_d = operands.fifth.descriptor();
-                seg_default_into(
-                    rt, alloc, config, source, index, defaults, source_d, default_d,
+                seg_default_into_gated(
+                    rt, alloc, config, source, index, defaults, source_d, default_d, gate,
                 )
             }
         }

@@ -7,21 +7,23 @@ ghost use Rattle.vector_handles.specs.Answers.{IsTableValue};
 use crate::answers::{bound_booleans, bound_integers};
 use crate::session::Session;
 use bound_names::{Bound, Operands};
+use crew::Gate;
 use cvl_base::{BoolBinary, Cut, IntMonoid, Memory, Refused, Value};
 use scan_ops::{
-    bool_reduce, bool_scan, int_reduce, int_scan, seg_bool_reduce, seg_bool_scan, seg_int_reduce,
-    seg_int_scan,
+    bool_reduce_gated, bool_scan_gated, int_reduce_gated, int_scan_gated, seg_bool_reduce_gated,
+    seg_bool_scan_gated, seg_int_reduce_gated, seg_int_scan_gated,
 };
 use std::thread::Threads;
 
 impl<A: Memory> Session<A> {
     /// A scan of an integer vector.
-    pub(crate) fn value_of_scan<R: Threads + Sync>(
+    pub(crate) fn value_of_scan<R: Threads + Sync, G: Gate>(
         &self,
         rt: &R,
         operator: IntMonoid,
         cut: Cut,
         operands: &Operands<'_, A>,
+        gate: &G,
     ) -> Result<Bound<A>, Refused>
         requires kinds { AreTaken (op.Scan operator cut) operands.now }
         ensures { IsTableValue self.now.inputs (op.Scan operator cut) operands.now result }
@@ -29,23 +31,32 @@ impl<A: Memory> Session<A> {
         let a = operands.first.integers();
         match cut {
             Cut::Flat => {
-                let sums = int_scan(rt, self.alloc, self.config, operator, a)?;
+                let sums = int_scan_gated(rt, self.alloc, self.config, operator, a, gate)?;
                 Ok(Bound::from_integers(sums))
             }
             Cut::Segmented => {
                 let d = operands.second.descriptor();
-                bound_integers(seg_int_scan(rt, self.alloc, self.config, operator, a, d))
+                bound_integers(seg_int_scan_gated(
+                    rt,
+                    self.alloc,
+                    self.config,
+                    operator,
+                    a,
+                    d,
+                    gate,
+                ))
             }
         }
     }
 
     /// A reduce of an integer vector: one integer, or one for each segment.
-    pub(crate) fn value_of_reduce<R: Threads + Sync>(
+    pub(crate) fn value_of_reduce<R: Threads + Sync, G: Gate>(
         &self,
         rt: &R,
         operator: IntMonoid,
         cut: Cut,
         operands: &Operands<'_, A>,
+        gate: &G,
     ) -> Result<Bound<A>, Refused>
         requires kinds { AreTaken (op.Reduce operator cut) operands.now }
         ensures { IsTableValue self.now.inputs (op.Reduce operator cut) operands.now result }
@@ -53,23 +64,32 @@ impl<A: Memory> Session<A> {
         let a = operands.first.integers();
         match cut {
             Cut::Flat => {
-                let sum = int_reduce(rt, self.alloc, self.config, operator, a)?;
+                let sum = int_reduce_gated(rt, self.alloc, self.config, operator, a, gate)?;
                 Ok(Bound::alone(Value::Integer(sum)))
             }
             Cut::Segmented => {
                 let d = operands.second.descriptor();
-                bound_integers(seg_int_reduce(rt, self.alloc, self.config, operator, a, d))
+                bound_integers(seg_int_reduce_gated(
+                    rt,
+                    self.alloc,
+                    self.config,
+                    operator,
+                    a,
+                    d,
+                    gate,
+                ))
             }
         }
     }
 
     /// A scan of a boolean vector.
-    pub(crate) fn value_of_bool_scan<R: Threads + Sync>(
+    pub(crate) fn value_of_bool_scan<R: Threads + Sync, G: Gate>(
         &self,
         rt: &R,
         operator: BoolBinary,
         cut: Cut,
         operands: &Operands<'_, A>,
+        gate: &G,
     ) -> Result<Bound<A>, Refused>
         requires kinds { AreTaken (op.BoolScan operator cut) operands.now }
         ensures { IsTableValue self.now.inputs (op.BoolScan operator cut) operands.now result }
@@ -77,23 +97,32 @@ impl<A: Memory> Session<A> {
         let a = operands.first.booleans();
         match cut {
             Cut::Flat => {
-                let sums = bool_scan(rt, self.alloc, self.config, operator, a)?;
+                let sums = bool_scan_gated(rt, self.alloc, self.config, operator, a, gate)?;
                 Ok(Bound::from_booleans(sums))
             }
             Cut::Segmented => {
                 let d = operands.second.descriptor();
-                bound_booleans(seg_bool_scan(rt, self.alloc, self.config, operator, a, d))
+                bound_booleans(seg_bool_scan_gated(
+                    rt,
+                    self.alloc,
+                    self.config,
+                    operator,
+                    a,
+                    d,
+                    gate,
+                ))
             }
         }
     }
 
     /// A reduce of a boolean vector: one boolean, or one for each segment.
-    pub(crate) fn value_of_bool_reduce<R: Threads + Sync>(
+    pub(crate) fn value_of_bool_reduce<R: Threads + Sync, G: Gate>(
         &self,
         rt: &R,
         operator: BoolBinary,
         cut: Cut,
         operands: &Operands<'_, A>,
+        gate: &G,
     ) -> Result<Bound<A>, Refused>
         requires kinds { AreTaken (op.BoolReduce operator cut) operands.now }
         ensures { IsTableValue self.now.inputs (op.BoolReduce operator cut) operands.now result }
@@ -101,12 +130,20 @@ impl<A: Memory> Session<A> {
         let a = operands.first.booleans();
         match cut {
             Cut::Flat => {
-                let sum = bool_reduce(rt, self.alloc, self.config, operator, a)?;
+                let sum = bool_reduce_gated(rt, self.alloc, self.config, operator, a, gate)?;
                 Ok(Bound::alone(Value::Boolean(sum)))
             }
             Cut::Segmented => {
                 let d = operands.second.descriptor();
-                bound_booleans(seg_bool_reduce(rt, self.alloc, self.config, operator, a, d))
+                bound_booleans(seg_bool_reduce_gated(
+                    rt,
+                    self.alloc,
+                    self.config,
+                    operator,
+                    a,
+                    d,
+                    gate,
+                ))
             }
         }
     }

@@ -5,6 +5,7 @@ ghost use Rattle.std.specs.Prelude.{◌≡◌, [], IfOk, OnErr, option_copied};
 use crate::input::Input;
 use crate::shown::Shown;
 use bound_names::{Names, value_of};
+use crew::{Gate, OpenGate};
 use cvl_base::{Call, Config, Memory, Name, NoResources, Refused, Value};
 use std::collections::BTreeMap;
 use std::marker::Model;
@@ -63,11 +64,26 @@ impl<A: Memory> Session<A> {
         ensures inputs { self.new.inputs ≡ self.old.inputs }
         ensures refused { OnErr result (self.new.names ≡ self.old.names) }
     {
+        self.apply_gated(rt, call, &OpenGate)
+    }
+
+    /// The same as [`Session::apply`], by workers that pass a gate at the points of their way through a tile, in each
+    /// call that races for tiles. The gate changes no value and no fault.
+    pub fn apply_gated<R: Threads + Sync, G: Gate>(
+        &mut self,
+        rt: &R,
+        call: &Call<A>,
+        gate: &G,
+    ) -> Result<Shown<A>, Refused>
+        ensures meaning { IsStep self.old call.now self.new result }
+        ensures inputs { self.new.inputs ≡ self.old.inputs }
+        ensures refused { OnErr result (self.new.names ≡ self.old.names) }
+    {
         let args = call.args.as_slice();
         match call.target {
             None => Ok(Shown::Text(self.text_of_call(call.op, args)?)),
             Some(target) => {
-                self.bind(rt, &target, call.op, args)?;
+                self.bind(rt, &target, call.op, args, gate)?;
                 Ok(Shown::Nothing)
             }
         }

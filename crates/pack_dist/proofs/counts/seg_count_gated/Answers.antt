@@ -1,16 +1,16 @@
 use Rattle.pack_dist.proofs.Segments.{reduced, descriptor-few, descriptor-small}
-use Rattle.pack_dist.proofs.counts.seg_count.Goals as goal
+use Rattle.pack_dist.proofs.counts.seg_count_gated.Goals as goal
 
 pub returns-clause-values : goal.returns-clause-values
 returns-clause-values g c =
     let d = c.args.d.now in
     let row = c.lengths-lengths.ensures in
     (reduced c.args.flags.now d (descriptor-few d _ row.value row.lengths) (descriptor-small d _ row.value row.lengths)
-    (λ v. v.items) c.seg_reduce_readings.result c.seg_reduce_readings.ensures.values).0
+    (λ v. v.items) c.seg_reduce_readings_gated.result c.seg_reduce_readings_gated.ensures.values).0
 
 pub returns-clause-lengths : goal.returns-clause-lengths
 returns-clause-lengths g c =
     let d = c.args.d.now in
     let row = c.lengths-lengths.ensures in
     (reduced c.args.flags.now d (descriptor-few d _ row.value row.lengths) (descriptor-small d _ row.value row.lengths)
-    (λ v. v.items) c.seg_reduce_readings.result c.seg_reduce_readings.ensures.values).1
+    (λ v. v.items) c.seg_reduce_readings_gated.result c.seg_reduce_readings_gated.ensures.values).1

@@ -1,6 +1,6 @@
 use Rattle.std.proofs.Common.{◌∙◌, Ok, sym, ap}
 use Rattle.pack_dist.proofs.Segments.{seg_pack-fits}
-use Rattle.pack_dist.proofs.segment_packs.seg_pack_values.Goals as goal
+use Rattle.pack_dist.proofs.segment_packs.seg_pack_values_gated.Goals as goal
 
 pub returns-clause-values : goal.returns-clause-values
 returns-clause-values g c =

@@ -4,7 +4,7 @@ use Rattle.cvl_base.specs.Limits.{most_script_bytes}
 use Rattle.vector_handles.specs.declared.input.Input.{Input}
 use Rattle.script_runs.specs.Meaning.{from_line, lines_of, meaning}
 use Rattle.script_runs.proofs.Underway.{refused_first}
-use Rattle.script_runs.proofs.runs.run.Goals as goal
+use Rattle.script_runs.proofs.runs.run_gated.Goals as goal
 
 -- the meaning of a script that is not too long
 meaning_in_limit : {A : Type 0} (script : List ℕ) (inputs : List (Input A)) → length script ≤ most_script_bytes
