@@ -20,6 +20,7 @@ pub use Rattle.call_table.specs.Letters
 pub use Rattle.call_table.specs.Spellings
 pub use Rattle.operators.specs.Booleans
 pub use Rattle.operators.specs.Conversions
+pub use Rattle.operators.specs.Exact
 pub use Rattle.operators.specs.Folds
 pub use Rattle.operators.specs.Integers
 pub use Rattle.operators.specs.ItemWords

@@ -1,4 +1,5 @@
 pub mod Dividing
+pub mod ExactFolds
 pub mod Flooring
 pub mod FoldLaws
 pub mod ListedSums

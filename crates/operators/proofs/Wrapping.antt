@@ -1,5 +1,5 @@
 -- What `wrapping_div` and `checked_shl` give is the exact result, wrapped; and the law of `wrap`.
-use Rattle.std.proofs.Common.{◌≡◌, ℕ, zero, suc, ◌+◌, ◌-◌, ◌/◌, ◌%◌, ◌^◌, ◌<◌, ◌≤◌, ◌∙◌, sym, ap, refl, arith, lit<, ℤ, pos, negsuc, ◌+ℤ◌, ◌-ℤ◌, ◌*ℤ◌, w32, to_z, of_z, FitsSigned}
+use Rattle.std.proofs.Common.{◌≡◌, ℕ, zero, suc, ◌+◌, ◌-◌, ◌/◌, ◌%◌, ◌^◌, ◌<◌, ◌≤◌, ◌∙◌, sym, ap, refl, arith, lit<, ℤ, pos, negsuc, ◌+ℤ◌, ◌-ℤ◌, ◌*ℤ◌, w32, w64, to_z, of_z, FitsSigned}
 use Rattle.std.specs.Prelude.{unsigned_abs, int_div, neg_ℤ}
 use Rattle.std.specs.Int.{int_wrap, int_shl, int_wrapping_div}
 use Rattle.std.proofs.Math.Nat.{mod-eq_of_lt, mod-lt, div-le_self}
@@ -20,6 +20,12 @@ wrap-bits : (z : ℤ) → unsigned_abs z < 2 ^ 32 → to_z w32 (of_z w32 z) ≡ 
 unfolding int_wrap
 wrap-bits (pos n) h = wrap-pos n h
 wrap-bits (negsuc n) h = let e : n % 2 ^ 32 ≡ n = mod-eq_of_lt (omega arith) in ap (to_z w32) (omega arith)
+
+-- the low 32 of the bits of a number of 64 bits, read again, are the number wrapped
+pub wrap_64 : (z : ℤ) → FitsSigned w64 z → to_z w32 (of_z w64 z % 2 ^ 32) ≡ wrap z
+unfolding int_wrap
+wrap_64 (pos n) f = refl
+wrap_64 (negsuc n) f = ap (to_z w32) (omega (arith, f))
 
 -- ---- the quotient and the shift
 

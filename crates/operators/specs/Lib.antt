@@ -1,5 +1,7 @@
 pub mod Booleans
 pub mod Conversions
+pub mod Exact
+pub mod ExactLaws
 pub mod Folds
 pub mod Integers
 pub mod ItemWords

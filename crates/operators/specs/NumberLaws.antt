@@ -12,9 +12,9 @@ use Rattle.std.proofs.lemmas.Bool.{ltb-true, lt-ltb}
 use borrow.Author.Differences.{product_is, read_fits}
 use mir.ValLaws.{of_z_fits}
 use Rattle.std.proofs.lemmas.Nat.Bits.{bit_at_or, same_from_bits}
-use Rattle.operators.specs.Integers.{sum_of, product_of, lesser_of, greater_of, and_of, ior_of, xor_of}
+use Rattle.operators.specs.Integers.{sum_of, product_of, lesser_of, greater_of, and_of, ior_of, xor_of, wrap}
 use Rattle.operators.specs.Monoid.{MonoidLaws}
-use Rattle.operators.specs.ItemWords.{is_number, same_word, WordLaws}
+use Rattle.operators.specs.ItemWords.{is_number, is_word, same_word, WordLaws}
 
 pub is_number-fits : (z : ℤ) → FitsSigned w32 z → IsTrue (is_number z)
 is_number-fits (pos n) f = lt-ltb n (2 ^ 31) f.sfits
@@ -143,9 +143,13 @@ xor_laws = bitwise_laws 0 bit_xor (omega arith) (record {
   right_unit = λ a _. xor_zero_r a;
 })
 
+pub number-is_word : (z : ℤ) → IsTrue (is_number z) → IsTrue (is_word z)
+number-is_word (pos n) h = let below = ltb-true n (2 ^ 31) h in lt-ltb n (2 ^ 53) (omega arith)
+number-is_word (negsuc n) h = let below = ltb-true n (2 ^ 31) h in lt-ltb n (2 ^ 53) (omega arith)
+
 -- a number is its own word
-pub number_words : WordLaws is_number same_word same_word
+pub number_words : WordLaws is_number same_word wrap
 number_words = record {
-  fits = fits-is_number;
-  inverse = λ z _. refl;
+  fits = number-is_word;
+  inverse = λ z h. int_wrap_fits w32 z (fits-is_number z h);
 }

@@ -1,12 +1,10 @@
 -- The laws of the three operators on truth values.
 -- Source: what the definitions of Booleans and Monoid imply.
-use Rattle.std.proofs.Common.{◌≡◌, refl, Bool, true, false, FitsSigned, arith}
-use Rattle.std.specs.Int.{w32}
-use Rattle.std.proofs.lemmas.Int.{ints}
+use Rattle.std.proofs.Common.{◌≡◌, refl, Bool, true, false, IsTrue}
 use Rattle.operators.specs.Booleans.{both, either, differ}
 use Rattle.operators.specs.Monoid.{MonoidLaws}
 use Rattle.operators.specs.Conversions.{integer_of, boolean_of}
-use Rattle.operators.specs.ItemWords.{is_truth_value, WordLaws}
+use Rattle.operators.specs.ItemWords.{is_truth_value, is_word, WordLaws}
 
 both_true : (a : Bool) → both a true ≡ a
 both_true true = refl
@@ -68,9 +66,9 @@ truth_words = record {
   inverse = λ b _. word_inverse b;
 }
   where
-    word_fits : (b : Bool) → FitsSigned w32 (integer_of b)
-    word_fits true = omega (arith, ints)
-    word_fits false = omega (arith, ints)
+    word_fits : (b : Bool) → IsTrue (is_word (integer_of b))
+    word_fits true = refl
+    word_fits false = refl
 
     word_inverse : (b : Bool) → boolean_of (integer_of b) ≡ b
     word_inverse true = refl

@@ -1,7 +1,11 @@
 //! Laws of the operators, each a function that takes and gives nothing and whose contract is the law.
 
-ghost use Rattle.std.specs.Prelude.{◌≡◌, ◌≢◌, ◌≤◌, ◌<◌, ◌^◌, ◌*ℤ◌, ℕ, negsuc, pos, ℤ};
+ghost use Rattle.std.specs.Prelude.{◌≡◌, ◌≢◌, ◌+◌, ◌≤◌, ◌<◌, ◌^◌, ◌*ℤ◌, ◌++◌, fold, length, IsTrue, List, ℕ, negsuc, pos, ℤ};
+ghost use Rattle.std.specs.List.{AllPass};
+ghost use Rattle.operators.specs.Exact.{IsWordWrapped, exact_sum_of, total_of, wrap_word};
+ghost use Rattle.operators.specs.Folds.{fold_of};
 ghost use Rattle.operators.specs.Integers.{IsDivided, IsFloor, IsWrapped, floor_of, left_shift_of, quotient_of, remainder_of, right_shift_of, wrap};
+ghost use Rattle.operators.specs.ItemWords.{is_number, is_word};
 
 /// `wrap` gives, of each whole number, the one number that fits 32 bits and is congruent to it modulo 2^32.
 pub fn wrap_law()
@@ -34,4 +38,20 @@ pub fn shift_law()
     ensures no_right { (a : ℤ) (s : ℕ) → 32 ≤ s → right_shift_of a (pos s) ≡ None }
     ensures no_left_by_less { (a : ℤ) (n : ℕ) → left_shift_of a (negsuc n) ≡ None }
     ensures no_right_by_less { (a : ℤ) (n : ℕ) → right_shift_of a (negsuc n) ≡ None }
+{}
+
+/// `wrap_word` gives, of each whole number, the one number from -2^53 to 2^53 - 1 that is congruent to it modulo 2^54.
+pub fn word_wrap_law()
+    ensures wrapped { (x : ℤ) → IsWordWrapped x (wrap_word x) }
+    ensures only { (x wrapped : ℤ) → IsWordWrapped x wrapped → wrapped ≡ wrap_word x }
+{}
+
+/// The exact sum of at most 4,194,304 numbers of 32 bits is their sum over whole numbers, also where the fold goes on
+/// from the sum of those before; and that sum is an item of `Exact`.
+pub fn exact_fold_law()
+    ensures total { (xs : List ℤ) → length xs ≤ 4194304 → AllPass is_number xs →
+        fold_of exact_sum_of (pos 0) xs ≡ total_of xs }
+    ensures onward { (before xs : List ℤ) → length before + length xs ≤ 4194304 → AllPass is_number before → AllPass is_number xs →
+        fold exact_sum_of (total_of before) xs ≡ total_of (before ++ xs) }
+    ensures item { (xs : List ℤ) → length xs ≤ 4194304 → AllPass is_number xs → IsTrue (is_word (total_of xs)) }
 {}

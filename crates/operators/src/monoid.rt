@@ -39,19 +39,19 @@ pub trait Monoid {
     ghost laws: { MonoidLaws is_item unit join };
 }
 
-/// A monoid each of whose items can be kept as a 32-bit word.
+/// A monoid each of whose items can be kept as a word: a number from -2^53 to 2^53 - 1.
 pub trait Packed: Monoid {
     ghost to_word: { Self.Item → ℤ };
 
     ghost from_word: { ℤ → Self.Item };
 
-    /// The word of an item.
-    fn to_word(x: Self::Item) -> i32
+    /// The word of an item, a number from -2^53 to 2^53 - 1.
+    fn to_word(x: Self::Item) -> i64
         requires { IsTrue (Self.is_item x) }
         ensures { result ≡ to_word x };
 
     /// The item of a word. Of a word that is no item's nothing is claimed.
-    fn from_word(word: i32) -> Self::Item
+    fn from_word(word: i64) -> Self::Item
         ensures { result ≡ from_word word };
 
     ghost words: { WordLaws Self.is_item to_word from_word };

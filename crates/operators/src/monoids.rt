@@ -1,7 +1,9 @@
-//! The ten operators that scans and reduces are taken over: seven on integers, three on booleans.
+//! What scans and reduces are taken over: ten operators, seven on integers and three on booleans, and the exact sum.
 
 mod booleans;
+mod exact;
 mod integers;
 
 pub use booleans::{BoolAnd, BoolIor, BoolXor};
+pub use exact::Exact;
 pub use integers::{Add, And, Ior, Max, Min, Mul, Xor};

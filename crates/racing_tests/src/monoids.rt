@@ -3,7 +3,7 @@
 ghost use Rattle.std.specs.Prelude.{IsTrue};
 
 use cvl_base::monoid::{know_laws, know_words};
-use cvl_base::monoids::{Add, BoolAnd, Max, Min};
+use cvl_base::monoids::{Add, BoolAnd, Exact, Max, Min};
 use cvl_base::{Monoid, Packed, Seg};
 
 fn unit_of<M: Monoid>() -> M::Item {
@@ -38,6 +38,8 @@ fn segments_start_again(rt: HostRuntime) {
 #[test]
 fn items_come_back_from_their_words(rt: HostRuntime) {
     assert_eq!(rt; through_word::<Max>(-7, -9), -7);
+    assert_eq!(rt; through_word::<Exact>(9007199254740991, 1), -9007199254740992);
+    assert_eq!(rt; through_word::<Exact>(-9007199254740992, -1), 9007199254740991);
     assert_eq!(rt; through_word::<BoolAnd>(true, true), true);
     assert_eq!(rt; through_word::<BoolAnd>(true, false), false);
 }

@@ -43,7 +43,7 @@ fn sum_of(tile: usize) -> (bool, i32) {
 
 /// The word of a sum (`state` 1) or a prefix (`state` 2).
 fn word_of(state: u64, sum: (bool, i32)) -> u64 {
-    let value = u64::from(sum.1.cast_unsigned());
+    let value = i64::from(sum.1).cast_unsigned() & 0x3F_FFFF_FFFF_FFFF;
     (state << 62) | (u64::from(sum.0) << 61) | value
 }
 

@@ -1,4 +1,4 @@
--- The words of a monoid whose items have words of 32 bits.
+-- The words of a monoid whose items have words.
 -- Source: what the definitions of Codings and Words imply.
 use Rattle.std.proofs.Common.{◌≡◌, refl, ap, ◌∙◌, ◌<◌, ◌^◌, ℤ, Bool, IsTrue, Some, arith}
 use Rattle.cvl_base.specs.ItemWords.{WordLaws}

@@ -1,12 +1,12 @@
 -- What a step needs in a world that its workers reached, and that a step reaches another.
 -- Source: what the definitions of Reached imply.
-use Rattle.std.proofs.Common.{◌≡◌, refl, sym, ap, ◌∙◌, subst, ℕ, zero, suc, ◌+◌, ◌-◌, ◌<◌, ◌≤◌, ◌^◌, Bool, true, false, cond, ltb, Option, Some, None, List, [], ◌∷◌, ◌++◌, length, get_or, set}
+use Rattle.std.proofs.Common.{◌≡◌, refl, sym, ap, ◌∙◌, subst, ℕ, zero, suc, ◌+◌, ◌<◌, ◌≤◌, ◌^◌, Bool, true, false, cond, ltb, Option, Some, None, List, [], ◌∷◌, ◌++◌, length, get_or, set}
 use Rattle.std.proofs.Common.{replicate, IsTrue, arith, take}
 use Rattle.std.specs.List.{All, AllPass}
 use Rattle.std.proofs.lemmas.List.{length-replicate, take_more}
 use Rattle.std.proofs.lemmas.List.Elements.{All-nil, All-cons, All-append, All-weaker}
 use Rattle.cvl_base.specs.Limits.{most_elements}
-use Rattle.cvl_base.specs.SegmentMonoid.{is_seg_item, seg_unit, seg_join}
+use Rattle.cvl_base.specs.SegmentMonoid.{is_seg_item}
 use Rattle.status_word.specs.declared.status.Status.{Status}
 use Rattle.status_word.specs.declared.action.Action.{Action}
 use Rattle.status_word.specs.declared.action.Answer.{Answer}

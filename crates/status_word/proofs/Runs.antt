@@ -10,7 +10,7 @@ use Rattle.std.proofs.lemmas.List.Sums.{sum_by-cons}
 use Rattle.std.proofs.lemmas.List.Elements.{All-head, All-tail}
 use Rattle.std.proofs.lemmas.Bool.{cases_lt}
 use Rattle.cvl_base.specs.TileSums.{SumsLaws}
-use Rattle.cvl_base.specs.SegmentMonoid.{is_seg_item, seg_unit, seg_join}
+use Rattle.cvl_base.specs.SegmentMonoid.{is_seg_item}
 use Rattle.status_word.specs.declared.action.Action.{Action}
 use Rattle.status_word.specs.declared.local.Local.{Local}
 use Rattle.status_word.specs.declared.local.Local.TheVariants.{Ready, Stopped}

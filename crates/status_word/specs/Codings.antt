@@ -1,8 +1,7 @@
 -- How a monoid's statuses are kept as words, and the words that are lawful at a tile.
 -- Source: the status words of Merrill and Garland, Single-pass Parallel Prefix Scan with Decoupled Look-back, 2016.
-use Rattle.std.specs.Prelude.{◌≡◌, ℕ, zero, suc, ◌+◌, ◌-◌, ◌<◌, ◌≤◌, ◌^◌, max, ℤ, Bool, IsTrue, List, length, take, drop, slice_index_or}
+use Rattle.std.specs.Prelude.{◌≡◌, ℕ, zero, suc, ◌<◌, ◌≤◌, ◌^◌, max, ℤ, Bool, IsTrue, List}
 use Rattle.std.specs.Prelude.{Option, Some, None}
-use Rattle.cvl_base.specs.SegmentMonoid.{is_seg_item, seg_unit, seg_join}
 use Rattle.cvl_base.specs.TileSums.{own_sum, upto_tile}
 use Rattle.status_word.specs.declared.status.Status.{Status}
 use Rattle.status_word.specs.declared.status.Status.TheVariants.{Silent, Sum, Prefix}
@@ -33,7 +32,7 @@ abbrev pub status_or_silent : {X : Type 0} → Option (Status X) → Status X
 status_or_silent None = Silent
 status_or_silent (Some status) = status
 
--- the words of a monoid whose items have words of 32 bits
+-- the words of a monoid whose items have words
 abbrev pub coding_of : {Item : Type 0} → (Item → Item → Item) → Item → (Item → ℤ) → (ℤ → Item) → Coding Item
 coding_of join unit to_word from_word = record {
   join = join;

@@ -1,9 +1,10 @@
--- Statuses as words of 64 bits: bits 63 and 62 hold the state (0 silent, 1 sum, 2 prefix), bit 61 the flag, bits 31 to 0 the value in
--- two's complement, and all others are 0.
+-- Statuses as words of 64 bits: bits 63 and 62 hold the state (0 silent, 1 sum, 2 prefix), bit 61 the flag, bits 60 to 54 are 0, and
+-- bits 53 to 0 hold the value in two's complement.
 -- Source: the status words of Merrill and Garland, Single-pass Parallel Prefix Scan with Decoupled Look-back, 2016; the layout is this
 -- library's profile.
-use Rattle.std.specs.Prelude.{ℕ, ◌+◌, ◌*◌, ◌/◌, ◌%◌, ◌^◌, Bool, if◌then◌else◌, nat_lt, ◌==◌, ℤ, FitsSigned, Option, Some, None}
-use Rattle.std.specs.Int.{w32, cast_signed, cast_unsigned}
+use Rattle.std.specs.Prelude.{ℕ, suc, ◌+◌, ◌-◌, ◌*◌, ◌/◌, ◌%◌, ◌^◌, Bool}
+use Rattle.std.specs.Prelude.{IsTrue, if◌then◌else◌, nat_lt, ◌==◌, ℤ, pos, negsuc, Option, Some, None}
+use Rattle.cvl_base.specs.ItemWords.{is_word}
 use Rattle.status_word.specs.declared.status.Status.{Status}
 use Rattle.status_word.specs.declared.status.Status.TheVariants.{Silent, Sum, Prefix}
 
@@ -14,6 +15,14 @@ state_place = 2 ^ 62
 abbrev pub flag_place : ℕ
 flag_place = 2 ^ 61
 
+-- the 54 bits of a value in two's complement, and the value of 54 bits
+abbrev pub bits_of : ℤ → ℕ
+bits_of (pos n) = n
+bits_of (negsuc n) = 2 ^ 54 - suc n
+
+abbrev pub value_of : ℕ → ℤ
+value_of bits = if nat_lt bits (2 ^ 53) then pos bits else negsuc (2 ^ 54 - 1 - bits)
+
 -- the states in their order
 abbrev pub state_of : {X : Type 0} → Status X → ℕ
 state_of Silent = 0
@@ -22,22 +31,22 @@ state_of (Prefix flag value) = 2
 
 -- the bits below the state
 abbrev pub rest_of : Bool → ℤ → ℕ
-rest_of flag value = (if flag then flag_place else 0) + cast_unsigned w32 value
+rest_of flag value = (if flag then flag_place else 0) + bits_of value
 
 abbrev pub word_of : Status ℤ → ℕ
 word_of Silent = 0
 word_of (Sum flag value) = state_place + rest_of flag value
 word_of (Prefix flag value) = 2 * state_place + rest_of flag value
 
--- the value of a status fits its 32 bits
+-- the value of a status lies from -2^53 to 2^53 - 1
 abbrev pub FitsWord : Status ℤ → Type 0
 FitsWord Silent = Unit {0}
-FitsWord (Sum flag value) = FitsSigned w32 value
-FitsWord (Prefix flag value) = FitsSigned w32 value
+FitsWord (Sum flag value) = IsTrue (is_word value)
+FitsWord (Prefix flag value) = IsTrue (is_word value)
 
 -- the flag and the value of the bits below the state; none where a bit between them is 1
 abbrev pub read_rest : ℕ → Option (Bool × ℤ)
-read_rest rest = if nat_lt (rest % flag_place) (2 ^ 32) then Some (rest / flag_place == 1, cast_signed w32 (rest % flag_place)) else None
+read_rest rest = if nat_lt (rest % flag_place) (2 ^ 54) then Some (rest / flag_place == 1, value_of (rest % flag_place)) else None
 
 abbrev pub with_state : ℕ → Option (Bool × ℤ) → Option (Status ℤ)
 with_state state None = None

@@ -8,12 +8,14 @@ ghost use Rattle.status_word.specs.Words.{read_word, word_of};
 use crate::status::Status;
 use crate::word::{pack, unpack};
 use cvl_base::Packed;
+use cvl_base::monoid::know_words;
 
 /// The word of a status of items. It takes no memory.
 pub fn pack_status<M: Packed>(status: Status<M::Item>) -> u64
     requires { IsTrue (is_item_status M.is_item status) }
     ensures { result ≡ word_of (status_by M.to_word status) }
 {
+    know_words::<M>();
     match status {
         Status::Silent => pack(Status::Silent),
         Status::Sum(starts, value) => pack(Status::Sum(starts, M::to_word(value))),

@@ -1,10 +1,9 @@
 //! Laws of status words, each a function that takes and gives nothing and whose contract is the law.
 
-ghost use Rattle.std.specs.Prelude.{◌≡◌, ℕ, ◌+◌, ◌-◌, ◌*◌, ◌<◌, ◌^◌, ℤ, pos, negsuc, Bool, true, false, FitsSigned, Some, None, List, [], ◌∷◌, ◌++◌, length, replicate};
+ghost use Rattle.std.specs.Prelude.{◌≡◌, ℕ, ◌+◌, ◌-◌, ◌*◌, ◌<◌, ◌^◌, ℤ, pos, negsuc, Bool, true, false, Some, None, List, [], ◌∷◌, ◌++◌, length, replicate};
 ghost use Rattle.std.specs.List.{All, AllPass};
 ghost use Rattle.cvl_base.specs.SegmentMonoid.{is_seg_item};
 ghost use Rattle.cvl_base.specs.TileSums.{SumsLaws};
-ghost use Rattle.std.specs.Int.{w32};
 ghost use Rattle.status_word.specs.declared.status.Status.{Status};
 ghost use Rattle.status_word.specs.declared.status.Status.TheVariants as status;
 ghost use Rattle.status_word.specs.Codings.{CodingLaws, coding};
@@ -30,9 +29,12 @@ pub fn word_law()
 pub fn word_values()
     ensures silent { word_of status.Silent ≡ 0 }
     ensures sum { word_of (status.Sum false (pos 5)) ≡ 4611686018427387909 }
-    ensures prefix { word_of (status.Prefix true (negsuc 0)) ≡ 11529215050363437055 }
+    ensures prefix { word_of (status.Prefix true (negsuc 0)) ≡ 11547229444577951743 }
+    ensures least_number { word_of (status.Sum false (negsuc 2147483647)) ≡ 4629700414789386240 }
     ensures of_zero { read_word 0 ≡ Some status.Silent }
     ensures of_one { read_word 1 ≡ None }
+    ensures of_wide { read_word 9223372041149743104 ≡ Some (status.Prefix false (pos 4294967296)) }
+    ensures of_bit_54 { read_word 4629700416936869888 ≡ None }
     ensures of_state_three { read_word 13835058055282163712 ≡ None }
 {}
 

@@ -43,11 +43,11 @@ impl Packed for BoolAnd {
 
     ghost words = { truth_words };
 
-    fn to_word(x: bool) -> i32 {
+    fn to_word(x: bool) -> i64 {
         word_of(x)
     }
 
-    fn from_word(word: i32) -> bool {
+    fn from_word(word: i64) -> bool {
         word != 0
     }
 }
@@ -86,11 +86,11 @@ impl Packed for BoolIor {
 
     ghost words = { truth_words };
 
-    fn to_word(x: bool) -> i32 {
+    fn to_word(x: bool) -> i64 {
         word_of(x)
     }
 
-    fn from_word(word: i32) -> bool {
+    fn from_word(word: i64) -> bool {
         word != 0
     }
 }
@@ -129,17 +129,17 @@ impl Packed for BoolXor {
 
     ghost words = { truth_words };
 
-    fn to_word(x: bool) -> i32 {
+    fn to_word(x: bool) -> i64 {
         word_of(x)
     }
 
-    fn from_word(word: i32) -> bool {
+    fn from_word(word: i64) -> bool {
         word != 0
     }
 }
 
 /// 1 for true and 0 for false.
-fn word_of(x: bool) -> i32
+fn word_of(x: bool) -> i64
     ensures { result ≡ integer_of x }
 {
     if x { 1 } else { 0 }

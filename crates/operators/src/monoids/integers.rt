@@ -1,12 +1,15 @@
 //! The seven operators on integers. Each number of 32 bits is an item, and is its own word.
 
-ghost use Rattle.std.specs.Prelude.{pos, negsuc};
-ghost use Rattle.operators.specs.Integers.{sum_of, product_of, lesser_of, greater_of, and_of, ior_of, xor_of};
+ghost use Rattle.std.specs.Prelude.{◌≡◌, pos, negsuc};
+ghost use Rattle.operators.specs.Integers.{sum_of, product_of, lesser_of, greater_of, and_of, ior_of, xor_of, wrap};
 ghost use Rattle.operators.specs.ItemWords.{is_number, same_word};
 ghost use Rattle.operators.specs.NumberLaws.{sum_laws, product_laws, lesser_laws, greater_laws, and_laws, ior_laws, xor_laws, number_words};
 
 use crate::integer;
 use crate::monoid::{Monoid, Packed};
+
+/// How many numbers 32 bits hold.
+const NUMBERS: u64 = 0x1_0000_0000;
 
 /// The wrapped sum of two integers; its unit is 0.
 pub struct Add;
@@ -38,16 +41,16 @@ impl Monoid for Add {
 impl Packed for Add {
     ghost to_word = { same_word };
 
-    ghost from_word = { same_word };
+    ghost from_word = { wrap };
 
     ghost words = { number_words };
 
-    fn to_word(x: i32) -> i32 {
-        x
+    fn to_word(x: i32) -> i64 {
+        i64::from(x)
     }
 
-    fn from_word(word: i32) -> i32 {
-        word
+    fn from_word(word: i64) -> i32 {
+        number_of(word)
     }
 }
 
@@ -81,16 +84,16 @@ impl Monoid for Mul {
 impl Packed for Mul {
     ghost to_word = { same_word };
 
-    ghost from_word = { same_word };
+    ghost from_word = { wrap };
 
     ghost words = { number_words };
 
-    fn to_word(x: i32) -> i32 {
-        x
+    fn to_word(x: i32) -> i64 {
+        i64::from(x)
     }
 
-    fn from_word(word: i32) -> i32 {
-        word
+    fn from_word(word: i64) -> i32 {
+        number_of(word)
     }
 }
 
@@ -124,16 +127,16 @@ impl Monoid for Min {
 impl Packed for Min {
     ghost to_word = { same_word };
 
-    ghost from_word = { same_word };
+    ghost from_word = { wrap };
 
     ghost words = { number_words };
 
-    fn to_word(x: i32) -> i32 {
-        x
+    fn to_word(x: i32) -> i64 {
+        i64::from(x)
     }
 
-    fn from_word(word: i32) -> i32 {
-        word
+    fn from_word(word: i64) -> i32 {
+        number_of(word)
     }
 }
 
@@ -167,16 +170,16 @@ impl Monoid for Max {
 impl Packed for Max {
     ghost to_word = { same_word };
 
-    ghost from_word = { same_word };
+    ghost from_word = { wrap };
 
     ghost words = { number_words };
 
-    fn to_word(x: i32) -> i32 {
-        x
+    fn to_word(x: i32) -> i64 {
+        i64::from(x)
     }
 
-    fn from_word(word: i32) -> i32 {
-        word
+    fn from_word(word: i64) -> i32 {
+        number_of(word)
     }
 }
 
@@ -210,16 +213,16 @@ impl Monoid for And {
 impl Packed for And {
     ghost to_word = { same_word };
 
-    ghost from_word = { same_word };
+    ghost from_word = { wrap };
 
     ghost words = { number_words };
 
-    fn to_word(x: i32) -> i32 {
-        x
+    fn to_word(x: i32) -> i64 {
+        i64::from(x)
     }
 
-    fn from_word(word: i32) -> i32 {
-        word
+    fn from_word(word: i64) -> i32 {
+        number_of(word)
     }
 }
 
@@ -253,16 +256,16 @@ impl Monoid for Ior {
 impl Packed for Ior {
     ghost to_word = { same_word };
 
-    ghost from_word = { same_word };
+    ghost from_word = { wrap };
 
     ghost words = { number_words };
 
-    fn to_word(x: i32) -> i32 {
-        x
+    fn to_word(x: i32) -> i64 {
+        i64::from(x)
     }
 
-    fn from_word(word: i32) -> i32 {
-        word
+    fn from_word(word: i64) -> i32 {
+        number_of(word)
     }
 }
 
@@ -296,15 +299,23 @@ impl Monoid for Xor {
 impl Packed for Xor {
     ghost to_word = { same_word };
 
-    ghost from_word = { same_word };
+    ghost from_word = { wrap };
 
     ghost words = { number_words };
 
-    fn to_word(x: i32) -> i32 {
-        x
+    fn to_word(x: i32) -> i64 {
+        i64::from(x)
     }
 
-    fn from_word(word: i32) -> i32 {
-        word
+    fn from_word(word: i64) -> i32 {
+        number_of(word)
     }
+}
+
+/// The number of 32 bits that is congruent to `word` modulo 2^32: of a number's word the number itself.
+#[tactic(auto, using(crate::proofs::Wrapping::wrap_64))]
+fn number_of(word: i64) -> i32
+    ensures { result ≡ wrap word }
+{
+    ((word.cast_unsigned() % NUMBERS) as u32).cast_signed()
 }
