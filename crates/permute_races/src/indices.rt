@@ -1,0 +1,52 @@
+//! The race of a back permute for its least index outside.
+
+ghost use Rattle.std.specs.Prelude.{◌≡◌, ◌≤◌, length, Ok};
+ghost use Rattle.cvl_base.specs.Gives.{Gives, unless};
+ghost use Rattle.cvl_base.specs.Limits.{most_elements};
+ghost use Rattle.permute_walks.specs.Indices.{first_outside};
+
+use crate::checks::{Faulty, check_raced};
+use crew::Gate;
+use cvl_base::{Config, FaultNo, Memory, Refused, place_among};
+use std::thread::Threads;
+
+/// Indices, which are bad where they are none of so many places.
+#[derive(Drop)]
+struct Indices<'a> {
+    index: &'a [i32],
+    places: usize,
+}
+
+impl<'a> Faulty for Indices<'a> {
+    ghost use Rattle.std.specs.Prelude.{map};
+    ghost use Rattle.permute_walks.specs.Indices.{outside};
+
+    ghost wrongs = { λ i. map (outside i.places) i.index.now };
+
+    fn count(&self) -> usize {
+        self.index.len()
+    }
+
+    fn wrong(&self, place: usize) -> Option<FaultNo> {
+        match place_among(self.places, &self.index[place]) {
+            Some(_) => None,
+            None => Some(FaultNo::IndexOutOfRange),
+        }
+    }
+}
+
+/// `IndexOutOfRange` at the first place whose index is none of so many places, for which workers race. Each passes the gate
+/// at `Claimed` and `Finished` of each of its tiles.
+pub fn check_indices_raced<R: Threads + Sync, A: Memory, G: Gate>(
+    rt: &R,
+    alloc: A,
+    config: Config,
+    index: &[i32],
+    places: usize,
+    gate: &G,
+) -> Result<(), Refused>
+    requires { length index.now ≤ most_elements }
+    ensures { Gives (λ u. u) result (unless (first_outside 0 places index.now) (Ok tt)) }
+{
+    check_raced(rt, alloc, config, &Indices { index, places }, gate)
+}

@@ -1,0 +1,13 @@
+//! Races of permutes: workers find for each place of the result the least place that is sent there, and then the least bad
+//! place.
+#![tactic(auto)]
+
+mod checks;
+mod indices;
+mod pace;
+mod slots;
+
+pub use checks::{Faulty, check_raced};
+pub use indices::check_indices_raced;
+pub use pace::permute_pace;
+pub use slots::senders_raced;
