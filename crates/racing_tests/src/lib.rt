@@ -1,9 +1,11 @@
-//! Tests of what workers share and of the scans and reduces for whose tiles they race.
+//! Tests of what workers share and of the scans, reduces and quotients for whose tiles they race.
 //!
 //! Of what they share: monoids and the words of their items, the world of workers beside a plain reading of the table of
 //! their states, the scan board by hand and by two threads of the test's own, and a list gathered from pieces. Of the
 //! scans and reduces: every cut into tiles beside plain lists, at a gate that sees each point of each tile; workers held
-//! at it; how often elements were read at each point; and each request for memory refused in turn.
+//! at it; how often elements were read at each point; and each request for memory refused in turn. Of
+//! quotients: the least divisor of 0 among several, again and again, at a gate that sees each tile; long ones; and memory
+//! refused.
 #![tactic(auto)]
 
 #[cfg(test)]
@@ -12,6 +14,8 @@ mod by_hand;
 mod calls;
 #[cfg(test)]
 mod cuts;
+#[cfg(test)]
+mod divisions;
 #[cfg(test)]
 mod held;
 #[cfg(test)]

@@ -1,5 +1,7 @@
 //! A gate that sees which worker passes which point, and that holds workers.
 
+ghost use Rattle.std.specs.Prelude.{◌≤◌};
+
 use crew::{Gate, Point};
 use std::alloc::{AllocError, Global};
 use std::sync::atomic::{AtomicBool, AtomicU64, Ordering};
@@ -7,8 +9,36 @@ use std::sync::atomic::{AtomicBool, AtomicU64, Ordering};
 /// How often a worker that is held looks whether it may go on, at most. One turn reads one word.
 const TURNS: u64 = 100_000_000;
 
-/// How many points each tile has.
-const POINTS: u64 = 4;
+/// Which points workers pass at each tile.
+#[derive(Clone, Copy)]
+enum Points {
+    /// The four of a scan.
+    Scan,
+    /// Those of a race for least places: `Claimed` and `Finished`.
+    Least,
+}
+
+impl Points {
+    /// How many they are.
+    fn count(self) -> u64
+        ensures { 1 ≤ result }
+    {
+        match self {
+            Points::Scan => 4,
+            Points::Least => 2,
+        }
+    }
+
+    /// Which of them this is, counted from 0, or none where it isn't one of them.
+    fn number(self, point: Point) -> Option<u64> {
+        match (self, point) {
+            (Points::Scan, _) => Some(place_of(point).1),
+            (Points::Least, Point::Claimed(_)) => Some(0),
+            (Points::Least, Point::Finished(_)) => Some(1),
+            (Points::Least, _) => None,
+        }
+    }
+}
 
 /// Which workers are held.
 #[derive(Clone, Copy)]
@@ -28,6 +58,7 @@ pub enum Holds {
 #[derive(Drop)]
 pub struct Watch {
     holds: Holds,
+    points: Points,
     /// How many points of each tile were passed.
     passed: Vec<AtomicU64>,
     /// The last point that each worker passed, of all points, counted from 1 on tile by tile; 0 where it passed none.
@@ -62,6 +93,7 @@ impl Watch {
     pub fn new(alloc: Global, tiles: u32, workers: u32, holds: Holds) -> Result<Watch, AllocError> {
         Ok(Watch {
             holds,
+            points: Points::Scan,
             passed: zeros(alloc, tiles)?,
             last: zeros(alloc, workers)?,
             claimed: AtomicU64::new(0),
@@ -71,18 +103,28 @@ impl Watch {
         })
     }
 
-    /// Whether this worker may pass this point of this tile now, which it is then seen to have passed.
-    fn is_in_order(&self, worker: u32, tile: u32, number: u64) -> bool {
-        let (Some(passed), Some(last)) = (
+    /// The same for a race for least places, whose workers pass two points at each tile. It holds nobody.
+    pub fn of_leasts(alloc: Global, tiles: u32, workers: u32) -> Result<Watch, AllocError> {
+        let mut watch = Watch::new(alloc, tiles, workers, Holds::Nobody)?;
+        watch.points = Points::Least;
+        Ok(watch)
+    }
+
+    /// Whether this worker may pass this point now, which it is then seen to have passed.
+    fn is_in_order(&self, worker: u32, point: Point) -> bool {
+        let (tile, _) = place_of(point);
+        let (Some(passed), Some(last), Some(number)) = (
             self.passed.get(tile as usize),
             self.last.get(worker as usize),
+            self.points.number(point),
         ) else {
             return false;
         };
-        let here = u64::from(tile).wrapping_mul(POINTS).wrapping_add(number);
+        let points = self.points.count();
+        let here = u64::from(tile).wrapping_mul(points).wrapping_add(number);
         let before = last.swap(here.wrapping_add(1), Ordering::SeqCst);
         let follows = if number == 0 {
-            before % POINTS == 0 && before <= here
+            before % points == 0 && before <= here
         } else {
             before == here
         };
@@ -135,8 +177,7 @@ impl Watch {
 
 impl Gate for Watch {
     fn pass(&self, worker: u32, point: Point) {
-        let (tile, number) = place_of(point);
-        if !self.is_in_order(worker, tile, number) {
+        if !self.is_in_order(worker, point) {
             self.out_of_order.store(true, Ordering::SeqCst);
         }
         self.count(point);
