@@ -1,3 +1,4 @@
+pub mod CheckedSums
 pub mod Configs
 pub mod Descriptors
 pub mod Distributes

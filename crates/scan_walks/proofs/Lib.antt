@@ -1,3 +1,4 @@
+pub mod Continued
 pub mod Cut
 pub mod LastStart
 pub mod RunPushed
