@@ -35,6 +35,8 @@ impl<A: Memory> Session<A> {
             Op::BoolFromInt => self.value_of_bool_from_int(rt, operands),
             Op::Scan(operator, cut) => self.value_of_scan(rt, operator, cut, operands),
             Op::Reduce(operator, cut) => self.value_of_reduce(rt, operator, cut, operands),
+            Op::CheckedScan(cut) => self.value_of_checked_scan(rt, cut, operands),
+            Op::CheckedReduce(cut) => self.value_of_checked_reduce(rt, cut, operands),
             Op::BoolScan(operator, cut) => self.value_of_bool_scan(rt, operator, cut, operands),
             Op::BoolReduce(operator, cut) => self.value_of_bool_reduce(rt, operator, cut, operands),
             Op::Permute(form, cut, element) => self.value_of_permute(
