@@ -18,7 +18,7 @@ use Rattle.cvl_base.specs.declared.fault.Fault.{Fault}
 use Rattle.cvl_base.specs.declared.fault.FaultNo.TheVariants.{WrongArgumentCount, WrongKind}
 use Rattle.cvl_base.specs.declared.operation.Op.{Op}
 use Rattle.cvl_base.specs.declared.operation.Op.TheVariants.{Input, Ints2, Ints1, Compare, Bools2, Bools1, Choose, IntFromBool, BoolFromInt, Scan, Reduce}
-use Rattle.cvl_base.specs.declared.operation.Op.TheVariants.{BoolScan, BoolReduce, Permute, Length, Count, Pack, PackedLengths, Distribute, Index, Extract}
+use Rattle.cvl_base.specs.declared.operation.Op.TheVariants.{CheckedScan, CheckedReduce, BoolScan, BoolReduce, Permute, Length, Count, Pack, PackedLengths, Distribute, Index, Extract}
 use Rattle.cvl_base.specs.declared.operation.Op.TheVariants.{Replace, MakeDescriptor, DescriptorLengths, Write}
 use Rattle.bound_names.specs.Arguments.{arg_fault, arg_value, args_fault, argument_at, each_fault, earlier, kind_fault, place_fault}
 use Rattle.bound_names.specs.Names.{Entries}
@@ -43,6 +43,10 @@ few_operands (Reduce o Flat) = omega arith
 few_operands (Reduce o Segmented) = omega arith
 few_operands (BoolScan o Flat) = omega arith
 few_operands (BoolScan o Segmented) = omega arith
+few_operands (CheckedScan Flat) = omega arith
+few_operands (CheckedScan Segmented) = omega arith
+few_operands (CheckedReduce Flat) = omega arith
+few_operands (CheckedReduce Segmented) = omega arith
 few_operands (BoolReduce o Flat) = omega arith
 few_operands (BoolReduce o Segmented) = omega arith
 few_operands (Permute Simple Flat e) = omega arith

@@ -12,7 +12,7 @@ use Rattle.call_table.specs.declared.operation.Op.{Op}
 use Rattle.call_table.specs.declared.operation.Op.TheVariants.{Input, Ints2, Ints1, Compare, Bools2, Bools1, Choose, IntFromBool}
 use Rattle.call_table.specs.declared.operation.Op.TheVariants.{BoolFromInt, Scan, Reduce, BoolScan, BoolReduce, Permute, Length, Count}
 use Rattle.call_table.specs.declared.operation.Op.TheVariants.{Pack, PackedLengths, Distribute, Index, Extract, Replace}
-use Rattle.call_table.specs.declared.operation.Op.TheVariants.{MakeDescriptor, DescriptorLengths, Write}
+use Rattle.call_table.specs.declared.operation.Op.TheVariants.{MakeDescriptor, DescriptorLengths, CheckedScan, CheckedReduce, Write}
 use Rattle.call_table.specs.Calls.{spelling_of, is_write}
 use Rattle.call_table.specs.Spellings.{op_of, int_binaries, unaries, comparisons, bool_binaries, int_monoids, forms, elements}
 
@@ -76,6 +76,10 @@ read_back (Reduce monoid.Ior Flat) h = refl
 read_back (Reduce monoid.Ior Segmented) h = refl
 read_back (Reduce monoid.Xor Flat) h = refl
 read_back (Reduce monoid.Xor Segmented) h = refl
+read_back (CheckedScan Flat) h = refl
+read_back (CheckedScan Segmented) h = refl
+read_back (CheckedReduce Flat) h = refl
+read_back (CheckedReduce Segmented) h = refl
 read_back (BoolScan bool.And Flat) h = refl
 read_back (BoolScan bool.And Segmented) h = refl
 read_back (BoolScan bool.Ior Flat) h = refl

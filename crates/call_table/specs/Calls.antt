@@ -14,7 +14,7 @@ use Rattle.call_table.specs.declared.operation.Op.{Op}
 use Rattle.call_table.specs.declared.operation.Op.TheVariants.{Input, Ints2, Ints1, Compare, Bools2, Bools1, Choose, IntFromBool}
 use Rattle.call_table.specs.declared.operation.Op.TheVariants.{BoolFromInt, Scan, Reduce, BoolScan, BoolReduce, Permute, Length, Count}
 use Rattle.call_table.specs.declared.operation.Op.TheVariants.{Pack, PackedLengths, Distribute, Index, Extract, Replace}
-use Rattle.call_table.specs.declared.operation.Op.TheVariants.{MakeDescriptor, DescriptorLengths, Write}
+use Rattle.call_table.specs.declared.operation.Op.TheVariants.{MakeDescriptor, DescriptorLengths, CheckedScan, CheckedReduce, Write}
 use Rattle.call_table.specs.Letters.{int_binary_letters, unary_letters, comparison_letters, bool_binary_letters, int_monoid_letters}
 use Rattle.call_table.specs.Letters.{form_letters, call_name_of}
 
@@ -93,6 +93,8 @@ row_of IntFromBool = call (codes "int") (codes "_w") Flat of.Boolean (Booleans �
 row_of BoolFromInt = call (codes "boo") (codes "_w") Flat of.Integer (Integers ∷ []) Booleans
 row_of (Scan op cut) = call (int_monoid_letters op) (codes "_s") cut of.Integer (Integers ∷ cut_by cut) Integers
 row_of (Reduce op cut) = call (int_monoid_letters op) (codes "_r") cut of.Integer (Integers ∷ cut_by cut) (each_of cut of.Integer)
+row_of (CheckedScan cut) = call (codes "tot") (codes "_s") cut of.Integer (Integers ∷ cut_by cut) Integers
+row_of (CheckedReduce cut) = call (codes "tot") (codes "_r") cut of.Integer (Integers ∷ cut_by cut) (each_of cut of.Integer)
 row_of (BoolScan op cut) = call (bool_binary_letters op) (codes "_s") cut of.Boolean (Booleans ∷ cut_by cut) Booleans
 row_of (BoolReduce op cut) = call (bool_binary_letters op) (codes "_r") cut of.Boolean (Booleans ∷ cut_by cut) (each_of cut of.Boolean)
 row_of (Permute form cut element) = call (form_letters form) (codes "_p") cut element (permuted_by form cut element) (vector_of element)

@@ -21,7 +21,7 @@ use Rattle.call_table.specs.declared.operation.Op.{Op}
 use Rattle.call_table.specs.declared.operation.Op.TheVariants.{Input, Ints2, Ints1, Compare, Bools2, Bools1, Choose, IntFromBool}
 use Rattle.call_table.specs.declared.operation.Op.TheVariants.{BoolFromInt, Scan, Reduce, BoolScan, BoolReduce, Permute, Length, Count}
 use Rattle.call_table.specs.declared.operation.Op.TheVariants.{Pack, PackedLengths, Distribute, Index, Extract, Replace}
-use Rattle.call_table.specs.declared.operation.Op.TheVariants.{MakeDescriptor, DescriptorLengths}
+use Rattle.call_table.specs.declared.operation.Op.TheVariants.{MakeDescriptor, DescriptorLengths, CheckedScan, CheckedReduce}
 use Rattle.call_table.specs.declared.spelling.Spelling.{Spelling}
 use Rattle.call_table.specs.Calls.{spelling_of}
 
@@ -70,7 +70,7 @@ cut_calls cut =
     map (λ o. Scan o cut) int_monoids ++ map (λ o. Reduce o cut) int_monoids
     ++ map (λ o. BoolScan o cut) bool_binaries ++ map (λ o. BoolReduce o cut) bool_binaries
     ++ element_calls cut Integer ++ element_calls cut Boolean
-    ++ Count cut ∷ Index cut ∷ []
+    ++ CheckedScan cut ∷ CheckedReduce cut ∷ Count cut ∷ Index cut ∷ []
 
 -- those that read an input or a length, or that make and read descriptors
 abbrev pub other_calls : List Op

@@ -34,6 +34,10 @@ pub enum Op {
     Scan(IntMonoid, Cut),
     /// `add_ruz` and its like: all elements of an integer vector, or of each segment, in one.
     Reduce(IntMonoid, Cut),
+    /// `tot_suz`, `tot_sez`: the exclusive scan of an integer vector by sums that don't wrap.
+    CheckedScan(Cut),
+    /// `tot_ruz`, `tot_rez`: the sum of an integer vector, or of each segment, that doesn't wrap.
+    CheckedReduce(Cut),
     /// `and_sub` and its like: the exclusive scan of a boolean vector.
     BoolScan(BoolBinary, Cut),
     /// `and_rub` and its like: all elements of a boolean vector, or of each segment, in one.

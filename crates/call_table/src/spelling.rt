@@ -310,14 +310,19 @@ fn element_call_named(cut: Cut, element: Element, word: &[u8]) -> Option<Op>
 fn cut_call_named(cut: Cut, word: &[u8]) -> Option<Op>
     ensures { result ≡ find (is_spelled word.now) (cut_calls cut) }
 {
-    let others = first_spelled(&[Op::Count(cut), Op::Index(cut)], word);
+    let others = [
+        Op::CheckedScan(cut),
+        Op::CheckedReduce(cut),
+        Op::Count(cut),
+        Op::Index(cut),
+    ];
     scan_named(cut, word)
         .or(reduce_named(cut, word))
         .or(bool_scan_named(cut, word))
         .or(bool_reduce_named(cut, word))
         .or(element_call_named(cut, Element::Integer, word))
         .or(element_call_named(cut, Element::Boolean, word))
-        .or(others)
+        .or(first_spelled(&others, word))
 }
 
 /// The length with this name.

@@ -89,6 +89,12 @@ pub(crate) fn row_of(op: Op) -> Row
             of_ints(cut),
             each_kind(cut, integer),
         ),
+        Op::CheckedScan(cut) => call(named("tot", "_s", cut, integer), of_ints(cut), Integers),
+        Op::CheckedReduce(cut) => call(
+            named("tot", "_r", cut, integer),
+            of_ints(cut),
+            each_kind(cut, integer),
+        ),
         Op::BoolScan(operator, cut) => call(
             named(operator.letters(), "_s", cut, boolean),
             of_bools(cut),

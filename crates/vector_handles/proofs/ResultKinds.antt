@@ -64,6 +64,10 @@ module _ (A : Type 0) where
   named_kind inputs (op.Scan o Segmented) arg = integers _
   named_kind inputs (op.Reduce o Flat) arg = refl
   named_kind inputs (op.Reduce o Segmented) arg = integers _
+  named_kind inputs (op.CheckedScan Flat) arg = integers _
+  named_kind inputs (op.CheckedScan Segmented) arg = integers _
+  named_kind inputs (op.CheckedReduce Flat) arg = made _ kind.Integer (λ _. refl) _
+  named_kind inputs (op.CheckedReduce Segmented) arg = integers _
   named_kind inputs (op.BoolScan o Flat) arg = refl
   named_kind inputs (op.BoolScan o Segmented) arg = booleans _
   named_kind inputs (op.BoolReduce o Flat) arg = refl

@@ -12,6 +12,7 @@ use Rattle.cvl_base.specs.declared.operation.Op.TheVariants as op
 use Rattle.cvl_base.specs.declared.fault.Fault.{Fault}
 use Rattle.cvl_base.specs.declared.fault.FaultNo.TheVariants.{UnknownCall, NoSuchInput}
 use Rattle.cvl_base.specs.Calls.{result_of}
+use Rattle.cvl_base.specs.CheckedSums.{checked_reduce_of, checked_scan_of, checked_seg_reduce_of, checked_seg_scan_of}
 use Rattle.cvl_base.specs.Descriptors.{descriptor_of}
 use Rattle.cvl_base.specs.Distributes.{index_of}
 use Rattle.cvl_base.specs.Elementwise.{ints2_of, ints1_of, compare_of, bools2_of, bools1_of, ints_from_bools, bools_from_ints}
@@ -26,7 +27,7 @@ use Rattle.vector_handles.specs.declared.input.Input.{Input}
 use Rattle.vector_handles.specs.declared.input.Input.TheVariants as input
 use Rattle.bound_names.specs.Arguments.{integers_in, booleans_in, lengths_in, integer_in}
 use Rattle.vector_handles.specs.ElementTypes.{integer, boolean}
-use Rattle.vector_handles.specs.Families.{ArgumentAt, vector, choose_value, scan_value, reduce_value, permute_value, length_value, pack_value, distribute_value, extract_value, replace_value}
+use Rattle.vector_handles.specs.Families.{ArgumentAt, single, vector, choose_value, scan_value, reduce_value, permute_value, length_value, pack_value, distribute_value, extract_value, replace_value}
 
 module _ {A : Type 0} where
   -- the input with this number, counted from 1
@@ -53,6 +54,14 @@ module _ {A : Type 0} where
   index_value Segmented arg =
       vector integer (seg_index_of (integers_in (arg 0)) (integers_in (arg 1)) (lengths_in (arg 2)))
 
+  abbrev pub checked_scan_value : Cut → ArgumentAt A → Result (Value A) Fault
+  checked_scan_value Flat arg = vector integer (checked_scan_of (integers_in (arg 0)))
+  checked_scan_value Segmented arg = vector integer (checked_seg_scan_of (integers_in (arg 0)) (lengths_in (arg 1)))
+
+  abbrev pub checked_reduce_value : Cut → ArgumentAt A → Result (Value A) Fault
+  checked_reduce_value Flat arg = single integer (checked_reduce_of (integers_in (arg 0)))
+  checked_reduce_value Segmented arg = vector integer (checked_seg_reduce_of (integers_in (arg 0)) (lengths_in (arg 1)))
+
   abbrev pub descriptor : Result (List ℕ) Fault → Result (Value A) Fault
   descriptor answer = answer >>= λ lengths. Ok (value.Descriptor lengths)
 
@@ -70,6 +79,8 @@ module _ {A : Type 0} where
   table_value inputs op.BoolFromInt arg = Ok (value.Booleans (bools_from_ints (integers_in (arg 0))))
   table_value inputs (op.Scan o cut) arg = scan_value integer (int_join_of o) (int_unit_of o) cut arg
   table_value inputs (op.Reduce o cut) arg = reduce_value integer (int_join_of o) (int_unit_of o) cut arg
+  table_value inputs (op.CheckedScan cut) arg = checked_scan_value cut arg
+  table_value inputs (op.CheckedReduce cut) arg = checked_reduce_value cut arg
   table_value inputs (op.BoolScan o cut) arg = scan_value boolean (bool_join_of o) (bool_unit_of o) cut arg
   table_value inputs (op.BoolReduce o cut) arg = reduce_value boolean (bool_join_of o) (bool_unit_of o) cut arg
   table_value inputs (op.Permute form cut Integer) arg = permute_value integer form cut arg

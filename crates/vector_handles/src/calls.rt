@@ -37,6 +37,8 @@ impl<A: Memory> Session<A> {
             Op::BoolFromInt => self.value_of_bool_from_int(rt, operands),
             Op::Scan(operator, cut) => self.value_of_scan(rt, operator, cut, operands, gate),
             Op::Reduce(operator, cut) => self.value_of_reduce(rt, operator, cut, operands, gate),
+            Op::CheckedScan(cut) => self.value_of_checked_scan(rt, cut, operands),
+            Op::CheckedReduce(cut) => self.value_of_checked_reduce(rt, cut, operands),
             Op::BoolScan(operator, cut) => self.value_of_bool_scan(
                 rt, operator, cut, operands, gate,
             ),

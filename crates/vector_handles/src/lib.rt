@@ -4,6 +4,7 @@
 mod answers;
 mod bindings;
 mod calls;
+mod checked_calls;
 mod elementwise_calls;
 pub mod input;
 pub mod laws;

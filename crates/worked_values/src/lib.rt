@@ -6,6 +6,7 @@
 //! so a definition that is read wrongly is refused here, before any code stands on it.
 #![tactic(auto)]
 
+pub mod checked_sums;
 pub mod descriptors;
 pub mod distributes;
 pub mod elementwise;
