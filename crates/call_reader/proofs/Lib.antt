@@ -1,5 +1,4 @@
 pub mod Arguments
-pub mod Bindings
 pub mod Comments
 pub mod DigitLanes
 pub mod InputWalk

@@ -4,7 +4,7 @@ ghost use Rattle.std.specs.Prelude.{◌≡◌, ◌∷◌, length};
 ghost use Rattle.cvl_base.specs.Gives.{Gives};
 ghost use Rattle.cvl_base.specs.Faults.{fault};
 ghost use Rattle.cvl_base.specs.declared.refused.Refused.TheVariants as refused;
-ghost use Rattle.call_reader.specs.Lines.{line_tokens, call_of, form_of, binding, write_line, with_op};
+ghost use Rattle.call_reader.specs.Lines.{line_tokens, call_of, form_of, binding, bound_call, one_target, two_targets, write_line, with_op};
 
 use crate::args::read_args;
 use crate::line_tokens::{
@@ -13,7 +13,7 @@ use crate::line_tokens::{
 use crate::token::first_token;
 use cvl_base::name::is_word_text;
 use cvl_base::spelling::op_of;
-use cvl_base::{Call, Fault, FaultNo, Memory, Name, Op, Refused};
+use cvl_base::{Call, Fault, FaultNo, Memory, Name, Op, Refused, Targets};
 
 /// Reads one line of a script, without its line feed: nothing on an empty line, else the call that it asks for.
 ///
@@ -47,46 +47,85 @@ fn read_write<A: Memory>(alloc: A, names: &[u8]) -> Result<Option<Call<A>>, Refu
     ensures { Gives (λ call. call) result (write_line (line_tokens names.now)) }
 {
     let count = count_passing::<Names>(names).ok_or(fault(FaultNo::BadLine))?;
-    with_op(alloc, None, Some(Op::Write), names, count)
+    with_op(alloc, Targets::None, Some(Op::Write), names, count)
 }
 
-/// Reads `NAME = CALL ARG ..`, where the name and what stands after it are given.
-#[tactic(auto, using(crate::proofs::Bindings::unnamed))]
+/// Reads `NAME = CALL ARG ..` or `NAME NAME = CALL ARG ..`, where the first name and what stands after it are given.
 fn read_binding<A: Memory>(
     alloc: A,
-    target: &[u8],
+    first: &[u8],
     others: &[u8],
 ) -> Result<Option<Call<A>>, Refused>
-    ensures { Gives (λ call. call) result (binding (target.now ∷ line_tokens others.now)) }
+    ensures { Gives (λ call. call) result (binding (first.now ∷ line_tokens others.now)) }
 {
     let bad_line = fault(FaultNo::BadLine);
-    let name = Name::new(target).ok_or(bad_line)?;
-    let (equals, others) = first_token::<LineClasses>(others).ok_or(bad_line)?;
+    let (second, rest) = first_token::<LineClasses>(others).ok_or(bad_line)?;
+    if second == b"=".as_slice() {
+        let targets = one_target(first).ok_or(bad_line)?;
+        read_bound_call(alloc, targets, others)
+    } else {
+        let targets = two_targets(first, second).ok_or(bad_line)?;
+        read_bound_call(alloc, targets, rest)
+    }
+}
+
+/// The one name of a binding.
+fn one_target(name: &[u8]) -> Option<Targets>
+    ensures { result ≡ one_target name.now }
+{
+    match Name::new(name) {
+        Some(name) => Some(Targets::One(name)),
+        None => None,
+    }
+}
+
+/// The two names of a binding; none where they are the same.
+fn two_targets(first: &[u8], second: &[u8]) -> Option<Targets>
+    ensures { result ≡ two_targets first.now second.now }
+{
+    let first_name = Name::new(first)?;
+    let second_name = Name::new(second)?;
+    if first == second {
+        return None;
+    }
+    Some(Targets::Two(first_name, second_name))
+}
+
+/// Reads `= CALL ARG ..`, after the names that it binds.
+fn read_bound_call<A: Memory>(
+    alloc: A,
+    targets: Targets,
+    bytes: &[u8],
+) -> Result<Option<Call<A>>, Refused>
+    ensures { Gives (λ call. call) result (bound_call targets (line_tokens bytes.now)) }
+{
+    let bad_line = fault(FaultNo::BadLine);
+    let (equals, others) = first_token::<LineClasses>(bytes).ok_or(bad_line)?;
     let (word, args) = first_token::<LineClasses>(others).ok_or(bad_line)?;
     let count = count_passing::<Arguments>(args).ok_or(bad_line)?;
     if equals != b"=".as_slice() || !is_word_text(word) {
         return Err(bad_line);
     }
-    with_op(alloc, Some(name), op_of(word), args, count)
+    with_op(alloc, targets, op_of(word), args, count)
 }
 
 /// The call with its arguments, of a line whose form is known to be good, by its arguments' tokens and their number.
 fn with_op<A: Memory>(
     alloc: A,
-    target: Option<Name>,
+    targets: Targets,
     op: Option<Op>,
     args: &[u8],
     count: usize,
 ) -> Result<Option<Call<A>>, Refused>
     requires { count ≡ length (line_tokens args.now) }
-    ensures { Gives (λ call. call) result (with_op target op (line_tokens args.now)) }
+    ensures { Gives (λ call. call) result (with_op targets op (line_tokens args.now)) }
 {
     let op = op.ok_or(fault(FaultNo::UnknownCall))?;
-    if !op.takes(count) {
+    if !op.takes(count) || targets.count() != op.binds() {
         return Err(fault(FaultNo::WrongArgumentCount));
     }
     let args = read_args(alloc, args, count)?;
-    Ok(Some(Call { target, op, args }))
+    Ok(Some(Call { targets, op, args }))
 }
 
 /// A fault of the whole line.

@@ -124,6 +124,10 @@ abbrev pub is_write : Op → Bool
 is_write Write = true
 is_write _ = false
 
+-- how many names it binds: `write` none, and a call one for the value that it gives
+abbrev pub binds_of : Op → ℕ
+binds_of op = if is_write op then 0 else 1
+
 -- how many arguments it takes: `write` a value, and with it maybe a descriptor; a call one for each operand
 abbrev pub takes_of : Op → ℕ → Bool
 takes_of op count = if is_write op then (count == 1) || (count == 2) else (count == length (operands_of op))

@@ -1,7 +1,7 @@
 //! The calls of a script by families, with the operands that each takes and what it gives.
 
 ghost use Rattle.std.specs.Prelude.{◌≡◌};
-ghost use Rattle.call_table.specs.Calls.{operands_of, result_of, is_write, takes_of, accepts_of, write_accepts, same_kind, is_vector};
+ghost use Rattle.call_table.specs.Calls.{operands_of, result_of, is_write, binds_of, takes_of, accepts_of, write_accepts, same_kind, is_vector};
 
 use crate::families::{BoolBinary, Comparison, Cut, Element, Form, IntBinary, IntMonoid, Unary};
 use crate::kind::Kind;
@@ -83,6 +83,13 @@ impl Op {
         ensures { result ≡ result_of self }
     {
         row_of(self).gives
+    }
+
+    /// How many names stand before `=` in its line, which it binds: one for a call, none for `write`.
+    pub fn binds(self) -> usize
+        ensures { result ≡ binds_of self }
+    {
+        if self.is_write() { 0 } else { 1 }
     }
 
     /// Whether `count` arguments are as many as it takes: a call one for each operand, `write` one or two.

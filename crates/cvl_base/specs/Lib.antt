@@ -14,6 +14,7 @@ pub mod Permutes
 pub mod Scans
 pub mod Segmented
 pub mod SegmentedCalls
+pub mod Targets
 pub mod Values
 pub mod Words
 pub use Rattle.call_table.specs.Calls

@@ -1,6 +1,7 @@
 //! Calls, as a line of a script asks for them.
 
 ghost use Rattle.std.specs.Prelude.{◌≡◌, ◌==◌, length};
+ghost use Rattle.cvl_base.specs.Targets.{count_of_targets};
 
 use crate::name::Name;
 use call_table::Op;
@@ -71,12 +72,36 @@ impl<A: Allocator> Args<A> {
     }
 }
 
+/// The names that a line binds.
+#[derive(Clone, Copy, Debug)]
+pub enum Targets {
+    /// None, as in a line that writes.
+    None,
+    /// One, bound to the value of a call.
+    One(Name),
+    /// Two, bound to the two values of a call.
+    Two(Name, Name),
+}
+
+impl Targets {
+    /// How many names there are.
+    pub fn count(&self) -> usize
+        ensures { result ≡ count_of_targets self.now }
+    {
+        match self {
+            Targets::None => 0,
+            Targets::One(_) => 1,
+            Targets::Two(_, _) => 2,
+        }
+    }
+}
+
 /// What a line of a script asks for.
 #[derive(Drop)]
 #[derive_where(Debug; A)]
 pub struct Call<A: Allocator> {
-    /// The name that the result is bound to; none for `write`.
-    pub target: Option<Name>,
+    /// The names that are bound; none for `write`.
+    pub targets: Targets,
     /// The call of the table, or `write`.
     pub op: Op,
     /// The arguments.

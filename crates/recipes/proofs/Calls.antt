@@ -3,6 +3,7 @@ use Rattle.std.proofs.Common.{◌≡◌, ℕ, List, [], ◌∷◌, map, refl, ap
 use Rattle.cvl_base.specs.declared.fault.Fault.{Fault}
 use Rattle.cvl_base.specs.declared.call.Arg.{Arg}
 use Rattle.cvl_base.specs.declared.call.Call.{Call}
+use Rattle.cvl_base.specs.declared.call.Targets.TheVariants as targets
 use Rattle.cvl_base.specs.declared.operation.Op.{Op}
 use Rattle.cvl_base.specs.declared.value.Value.{Value}
 use Rattle.cvl_base.specs.Gives.{◌>>=◌}
@@ -20,7 +21,7 @@ value_of (Err f) next y is = cc
 module _ {A : Type 0} where
   -- a line that binds a name to what a call gives
   abbrev pub binds : List ℕ → Op → List Arg → Call A
-  binds target op args = record { target = Some target; op = op; args = args }
+  binds target op args = record { targets = targets.One target; op = op; args = args }
 
   -- a line that is this call
   abbrev pub reads_as : Call A → Result (Option (Call A)) Fault

@@ -1,14 +1,16 @@
 -- The meaning of a line: from the bound names and the inputs, either the new names with the text of the line, or the
 -- first fault in the order of checks. A binding changes its one name, and a write changes none.
 -- Source: this library's script format.
-use Rattle.std.specs.Prelude.{ℕ, not, List, [], ◌∷◌, ◌++◌, codes, slice_get, Option, Some, None, Result, Ok}
+use Rattle.std.specs.Prelude.{ℕ, not, List, [], ◌∷◌, ◌++◌, codes, slice_get, Option, Some, None, Result, Ok, Err}
 use Rattle.cvl_base.specs.declared.value.Value.{Value}
 use Rattle.cvl_base.specs.declared.call.Arg.{Arg}
 use Rattle.cvl_base.specs.declared.call.Arg.TheVariants as arg
 use Rattle.cvl_base.specs.declared.call.Call.{Call}
+use Rattle.cvl_base.specs.declared.call.Targets.{Targets}
+use Rattle.cvl_base.specs.declared.call.Targets.TheVariants as targets
 use Rattle.cvl_base.specs.declared.operation.Op.{Op}
 use Rattle.cvl_base.specs.declared.fault.Fault.{Fault}
-use Rattle.cvl_base.specs.declared.fault.FaultNo.TheVariants.{TooManyNames}
+use Rattle.cvl_base.specs.declared.fault.FaultNo.TheVariants.{TooManyNames, WrongArgumentCount}
 use Rattle.cvl_base.specs.Faults.{fault}
 use Rattle.cvl_base.specs.Gives.{◌>>=◌, unless, fault_if}
 use Rattle.call_reader.specs.Texts.{value_text}
@@ -47,14 +49,15 @@ module _ {A : Type 0} where
   abbrev pub bound_to : Entries A → List ℕ → Value A → Stepped A
   bound_to names target v = record { names = bind names target v; shown = None }
 
-  -- what is done once the arguments are right
-  abbrev pub performed : Entries A → List (Input A) → Option (List ℕ) → Op → List Arg → Result (Stepped A) Fault
-  performed names inputs None op args =
+  -- what is done once the arguments are right; no call binds two names
+  abbrev pub performed : Entries A → List (Input A) → Targets → Op → List Arg → Result (Stepped A) Fault
+  performed names inputs targets.None op args =
       written args (argument_at names args) >>= λ text. Ok (record { names = names; shown = Some text })
-  performed names inputs (Some target) op args =
+  performed names inputs (targets.One target) op args =
       fault_if (not (has_room names target)) (fault TooManyNames)
       (table_value inputs op (argument_at names args) >>= λ v. Ok (bound_to names target v))
+  performed names inputs (targets.Two first second) op args = Err (fault WrongArgumentCount)
 
   abbrev pub step : Entries A → List (Input A) → Call A → Result (Stepped A) Fault
   step names inputs call =
-      unless (args_fault names call.op call.args) (performed names inputs call.target call.op call.args)
+      unless (args_fault names call.op call.args) (performed names inputs call.targets call.op call.args)

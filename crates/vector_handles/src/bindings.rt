@@ -1,6 +1,7 @@
 //! The binding of a name to what a call gives.
 
 ghost use Rattle.std.specs.Prelude.{◌≡◌, None, OnErr};
+ghost use Rattle.cvl_base.specs.declared.call.Targets.TheVariants as targets;
 ghost use Rattle.vector_handles.specs.Answers.{left_by};
 ghost use Rattle.cvl_base.specs.Gives.{Gives, unless};
 ghost use Rattle.bound_names.specs.Arguments.{args_fault};
@@ -24,7 +25,7 @@ impl<A: Memory> Session<A> {
     ) -> Result<(), Refused>
         ensures meaning { Gives (λ _. left_by self.new None) result
             (unless (args_fault self.old.names op args.now)
-            (performed self.old.names self.old.inputs (Some target.now) op args.now)) }
+            (performed self.old.names self.old.inputs (targets.One target.now) op args.now)) }
         ensures inputs { self.new.inputs ≡ self.old.inputs }
         ensures refused { OnErr result (self.new.names ≡ self.old.names) }
     {
@@ -44,7 +45,7 @@ impl<A: Memory> Session<A> {
     ) -> Result<Bound<A>, Refused>
         ensures { Gives (bound_to self.now.names target.now) result
             (unless (args_fault self.now.names op args.now)
-            (performed self.now.names self.now.inputs (Some target.now) op args.now)) }
+            (performed self.now.names self.now.inputs (targets.One target.now) op args.now)) }
     {
         let operands = resolve(&self.names, op, args)?;
         if !is_room(&self.names, target) {

@@ -1,12 +1,18 @@
 //! Sessions: bound names and inputs, on which calls are made.
 
-ghost use Rattle.std.specs.Prelude.{◌≡◌, [], IfOk, OnErr, option_copied};
+ghost use Rattle.std.specs.Prelude.{◌≡◌, [], Err, IfOk, OnErr, option_copied};
+ghost use Rattle.bound_names.specs.Arguments.{args_fault};
+ghost use Rattle.cvl_base.specs.declared.fault.FaultNo.TheVariants.{WrongArgumentCount};
+ghost use Rattle.cvl_base.specs.Faults.{fault};
+ghost use Rattle.cvl_base.specs.Gives.{Gives, unless};
 
 use crate::input::Input;
 use crate::shown::Shown;
-use bound_names::{Names, value_of};
+use bound_names::{Names, resolve, value_of};
 use crew::{Gate, OpenGate};
-use cvl_base::{Call, Config, Memory, Name, NoResources, Refused, Value};
+use cvl_base::{
+    Arg, Call, Config, Fault, FaultNo, Memory, Name, NoResources, Op, Refused, Targets, Value,
+};
 use std::collections::BTreeMap;
 use std::marker::Model;
 use std::thread::Threads;
@@ -32,7 +38,8 @@ impl<A: Memory> Model for Session<A> {
 
 impl<A: Memory> Session<A> {
     ghost use Rattle.bound_names.specs.Names.{value_at};
-    ghost use Rattle.vector_handles.specs.Answers.{IsStep};
+    ghost use Rattle.vector_handles.specs.Answers.{IsStep, left_by};
+    ghost use Rattle.vector_handles.specs.Sessions.{text_shown};
 
     /// A session with no name bound, over these inputs, which a script counts from 1.
     pub fn new(
@@ -57,7 +64,8 @@ impl<A: Memory> Session<A> {
     /// The first fault is told, in this order: `WrongArgumentCount` where the call takes more arguments or fewer; for
     /// each argument from left to right `UnknownName` and then `WrongKind`; `TooManyNames` where the target is a new
     /// name and 4,096 are bound; then those of the call, or `LengthMismatch` where the lengths of a written descriptor
-    /// don't add up to the vector's. After a refusal no name has changed, so that the same call can be made again.
+    /// don't add up to the vector's. No call binds two names yet: two are `WrongArgumentCount`, after the faults of the
+    /// arguments. After a refusal no name has changed, so that the same call can be made again.
     /// Source: this library's script format.
     pub fn apply<R: Threads + Sync>(&mut self, rt: &R, call: &Call<A>) -> Result<Shown<A>, Refused>
         ensures meaning { IsStep self.old call.now self.new result }
@@ -80,13 +88,24 @@ impl<A: Memory> Session<A> {
         ensures refused { OnErr result (self.new.names ≡ self.old.names) }
     {
         let args = call.args.as_slice();
-        match call.target {
-            None => Ok(Shown::Text(self.text_of_call(call.op, args)?)),
-            Some(target) => {
+        match call.targets {
+            Targets::None => Ok(Shown::Text(self.text_of_call(call.op, args)?)),
+            Targets::One(target) => {
                 self.bind(rt, &target, call.op, args, gate)?;
                 Ok(Shown::Nothing)
             }
+            Targets::Two(_, _) => self.refuse_two(call.op, args),
         }
+    }
+
+    /// Refuses a call with two names: by the first fault of its arguments, else by `WrongArgumentCount`, since no call
+    /// binds two.
+    fn refuse_two(&self, op: Op, args: &[Arg]) -> Result<Shown<A>, Refused>
+        ensures { Gives (λ shown. left_by self.now (text_shown shown)) result
+            (unless (args_fault self.now.names op args.now) (Err (fault WrongArgumentCount))) }
+    {
+        resolve(&self.names, op, args)?;
+        Err(Refused::Fault(Fault::new(FaultNo::WrongArgumentCount)))
     }
 
     /// The value that is bound to a name.

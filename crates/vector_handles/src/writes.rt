@@ -1,6 +1,7 @@
 //! The text of a write.
 
-ghost use Rattle.std.specs.Prelude.{◌≡◌, None, Some, is_ok, slice_get};
+ghost use Rattle.cvl_base.specs.declared.call.Targets.TheVariants as targets;
+ghost use Rattle.std.specs.Prelude.{◌≡◌, Some, is_ok, slice_get};
 ghost use Rattle.std.specs.Option.{option_copied};
 ghost use Rattle.call_reader.specs.Texts.{cut_text, value_text};
 ghost use Rattle.cvl_base.specs.Gives.{Gives, unless};
@@ -20,7 +21,7 @@ impl<A: Memory> Session<A> {
     pub(crate) fn text_of_call(&self, op: Op, args: &[Arg]) -> Result<Vec<u8, A>, Refused>
         ensures { Gives (λ text. record { names = self.now.names; shown = Some text.items }) result
             (unless (args_fault self.now.names op args.now)
-            (performed self.now.names self.now.inputs None op args.now)) }
+            (performed self.now.names self.now.inputs targets.None op args.now)) }
     {
         let operands = resolve(&self.names, op, args)?;
         self.text_of_write(args, &operands)

@@ -26,5 +26,9 @@ returns c = record {
   too_few = refl;
   nothing_written = refl;
   three_written = refl;
+  two_names = refl;
+  equal_names = refl;
+  three_names = refl;
+  two_names_unknown = refl;
   large_number = refl;
 }
