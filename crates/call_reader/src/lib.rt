@@ -8,6 +8,8 @@ pub mod line_laws;
 mod line_tokens;
 mod lines;
 mod number;
+mod piece_reads;
+mod pieces;
 pub mod text_laws;
 pub mod token;
 
