@@ -1,16 +1,18 @@
 -- An input in pieces: its tokens are those of the pieces, and the first wrong one of all is the first of the pieces' first ones.
 use Rattle.std.proofs.Common.{◌≡◌, ℕ, ◌+◌, ◌-◌, ◌<◌, ◌≤◌, Bool, false, List, [], ◌∷◌, ◌++◌, length, map, take, drop, refl, ap, sym, ◌∙◌, arith, Option, Some, None, Ok, Err, ℤ, pos, sum, append_assoc, length-append}
-use Rattle.std.specs.Prelude.{Result}
+use Rattle.std.specs.Prelude.{Result, nat_lt}
+use Rattle.std.proofs.lemmas.Bool.Decides.{nat_tests}
+use Rattle.cvl_base.specs.Limits.{most_elements}
 use Rattle.std.specs.Option.{option_or}
 use Rattle.std.specs.List.{flat_map}
 use Rattle.std.proofs.lemmas.List.{append-nil, map-append, take-append-drop, take-map, drop-map}
 use Rattle.std.proofs.lemmas.Grind.{flat_map-append}
 use Rattle.cvl_base.specs.declared.fault.Fault.{Fault}
-use Rattle.cvl_base.specs.declared.fault.FaultNo.TheVariants.{BadInput}
+use Rattle.cvl_base.specs.declared.fault.FaultNo.TheVariants.{BadInput, TooLong}
 use Rattle.cvl_base.specs.Elementwise.{values_from}
-use Rattle.cvl_base.specs.Faults.{fault_at}
+use Rattle.cvl_base.specs.Faults.{fault, fault_at}
 use Rattle.cvl_base.proofs.Lists.{sum-cons}
-use Rattle.cvl_base.specs.Gives.{◌>>=◌}
+use Rattle.cvl_base.specs.Gives.{◌>>=◌, fault_if}
 use Rattle.call_reader.specs.Tokens.{tokens_by, begins_with_part}
 use Rattle.call_reader.specs.Numbers.{written_number}
 use Rattle.call_reader.specs.Inputs.{input_class}
@@ -110,3 +112,9 @@ module _ {A : Type 0} (bytes_of : A → List ℕ) (pieces : List A) (half : ℕ)
       halved (map bytes_of pieces) half
       ∙ ap (λ ps. numbers_in ps ++ numbers_in (drop half (map bytes_of pieces))) (take-map bytes_of half pieces ∙ ap (map bytes_of) (sym low_is))
       ∙ ap (λ ps. numbers_in (map bytes_of low) ++ numbers_in ps) (drop-map bytes_of half pieces ∙ ap (map bytes_of) (sym high_is))
+
+pub too_many : (n : ℕ) (rest : Result (List ℤ) Fault) → most_elements < n → fault_if (nat_lt most_elements n) (fault TooLong) rest ≡ Err (fault TooLong)
+too_many n rest more = grind (arith, nat_tests)
+
+pub few_enough : (n : ℕ) (rest : Result (List ℤ) Fault) → n ≤ most_elements → fault_if (nat_lt most_elements n) (fault TooLong) rest ≡ rest
+few_enough n rest few = grind (arith, nat_tests)

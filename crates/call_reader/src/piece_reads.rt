@@ -1,13 +1,19 @@
 //! The pieces of an input read by several threads, each into a run of one fresh vector.
 
-ghost use Rattle.std.specs.Prelude.{◌≡◌, ◌<◌, ◌≤◌, ◌^◌, [], ◌∷◌, length, map, sum};
+ghost use Rattle.std.specs.Prelude.{◌≡◌, ◌<◌, ◌≤◌, ◌^◌, [], ◌∷◌, length, map, sum, IfOk, vec_len};
+ghost use Rattle.cvl_base.specs.Gives.{Gives};
+ghost use Rattle.cvl_base.specs.Limits.{most_elements};
+ghost use Rattle.call_reader.specs.Inputs.{input_of};
 ghost use Rattle.std.specs.Option.{option_or};
 ghost use Rattle.call_reader.specs.Pieces.{numbers_of, numbers_in, counts_of, or_zero, first_wrong};
 ghost use Rattle.fresh.specs.Places.{stretch};
 ghost use denote.Param.Send.{IsSync};
 
 use crate::inputs::first_number;
-use fresh::Run;
+use crate::pieces::{count_pieces, pieces_of};
+use cvl_base::limits::MOST_ELEMENTS;
+use cvl_base::{Fault, FaultNo, Memory, Refused};
+use fresh::{Room, Run};
 use std::thread::{Threads, join};
 
 /// The place of the first token that is no number, where one was found before, or else that of the token that writes the number
@@ -118,4 +124,29 @@ fn read_both<R: Threads + Sync>(
         ensures wrong { result.1 ≡ first_wrong back.first (numbers_in (map (λ p. p.now) high.entry.now)) }
     { read_pieces(rt, high, high_counts, back) };
     join(rt, read_front, read_back)
+}
+
+/// Reads an input by several threads, each of which reads a piece of it. Its answers are those of `read_vector`.
+pub(crate) fn read_by_several<R: Threads + Sync, A: Memory>(
+    rt: &R,
+    alloc: A,
+    threads: u32,
+    bytes: &[u8],
+) -> Result<Vec<i32, A>, Refused>
+    ensures values { Gives (λ v. v.items) result (input_of bytes.now) }
+    ensures in_limit { IfOk result (λ v. vec_len v ≤ most_elements) }
+{
+    let pieces = pieces_of(alloc, bytes, threads as usize)?;
+    let counts = count_pieces(rt, alloc, threads, pieces.as_slice())?;
+    let tokens = total(counts.as_slice());
+    if tokens > MOST_ELEMENTS {
+        return Err(Refused::Fault(Fault::new(FaultNo::TooLong)));
+    }
+    let (room, run) = Room::new(alloc, tokens)?;
+    let (run, wrong) = read_pieces(rt, pieces.as_slice(), counts.as_slice(), run);
+    let numbers = room.into_vec(run);
+    match wrong {
+        Some(place) => Err(Refused::Fault(Fault::at(FaultNo::BadInput, place as u32))),
+        None => Ok(numbers),
+    }
 }
