@@ -5,7 +5,7 @@ use Rattle.std.proofs.lemmas.Bool.Decides.{nat_tests}
 use Rattle.cvl_base.specs.Limits.{most_elements}
 use Rattle.std.specs.Option.{option_or}
 use Rattle.std.specs.List.{flat_map}
-use Rattle.std.proofs.lemmas.List.{append-nil, map-append, take-append-drop, take-map, drop-map}
+use Rattle.std.proofs.lemmas.List.{append-nil, length-map, map-append, take-append-drop, take-map, drop-map}
 use Rattle.std.proofs.lemmas.Grind.{flat_map-append}
 use Rattle.cvl_base.specs.declared.fault.Fault.{Fault}
 use Rattle.cvl_base.specs.declared.fault.FaultNo.TheVariants.{BadInput, TooLong}
@@ -17,6 +17,7 @@ use Rattle.call_reader.specs.Tokens.{tokens_by, begins_with_part}
 use Rattle.call_reader.specs.Numbers.{written_number}
 use Rattle.call_reader.specs.Inputs.{input_class}
 use Rattle.call_reader.specs.Pieces.{numbers_of, numbers_in, counts_of, or_zero, first_wrong}
+use Rattle.call_reader.proofs.InputWalk.{count_of}
 use Rattle.call_reader.proofs.TokenWalk.{cut_before}
 use Rattle.fresh.specs.Parts.{part}
 use Rattle.fresh.specs.Places.{Stretch, stretch}
@@ -118,3 +119,9 @@ too_many n rest more = grind (arith, nat_tests)
 
 pub few_enough : (n : ℕ) (rest : Result (List ℤ) Fault) → n ≤ most_elements → fault_if (nat_lt most_elements n) (fault TooLong) rest ≡ rest
 few_enough n rest few = grind (arith, nat_tests)
+
+-- the counts of the pieces add up to the tokens of the whole input
+pub all_counted : {A : Type 0} (bytes_of : A → List ℕ) (bytes : List ℕ) (pieces : List A) (counts shown : List ℕ) → numbers_in (map bytes_of pieces) ≡ numbers_of bytes
+    → counts ≡ counts_of (map bytes_of pieces) → shown ≡ counts → sum shown ≡ count_of bytes
+all_counted bytes_of bytes pieces counts shown whole counts_are shown_is =
+    ap sum (shown_is ∙ counts_are) ∙ counted (map bytes_of pieces) ∙ ap length whole ∙ length-map (tokens_by input_class bytes) written_number
