@@ -98,12 +98,8 @@ pub(crate) fn first_number(bytes: &[u8]) -> Option<(&[u8], Option<i32>, &[u8])>
     Some((token, number(token), others))
 }
 
-/// Reads an input: signed decimals between white space.
-///
-/// Its faults are `TooLong`, without a place, where there are more tokens than 4,194,304, whatever they are, and else
-/// `BadInput` at the first token that is no integer of 32 bits, counted from 0. Where the room for the numbers is
-/// refused, it answers `NoResources`.
-pub fn read_vector<A: Memory>(alloc: A, bytes: &[u8]) -> Result<Vec<i32, A>, Refused>
+/// Reads an input on the thread that calls. Its answers are those of `read_vector`.
+pub(crate) fn read_alone<A: Memory>(alloc: A, bytes: &[u8]) -> Result<Vec<i32, A>, Refused>
     ensures values { Gives (λ v. v.items) result (input_of bytes.now) }
     ensures in_limit { IfOk result (λ v. vec_len v ≤ most_elements) }
 {
