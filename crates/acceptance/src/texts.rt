@@ -16,7 +16,9 @@ Some(\"ab_9\"), max_sez pck_fov";
 #[test]
 fn what_is_shown(rt: HostRuntime) -> Result<(), Fail> {
     let mut text = Vec::new(rt.alloc());
-    let numbers = Value::Integers(Ints::from_vec(read_vector(rt.alloc(), b"3 -7")?));
+    let config = Config::new(4096, 4).unwrap();
+    let numbers = read_vector(&rt, rt.alloc(), config, b"3 -7")?;
+    let numbers = Value::Integers(Ints::from_vec(numbers));
     let no_descriptor: Option<&SegDes<Global>> = None;
     put_value(&numbers, no_descriptor, &mut text)?;
     text.push(b'\n')?;

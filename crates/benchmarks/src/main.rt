@@ -54,7 +54,7 @@ fn measure<R: Print + Clock + Threads + Sync>(
     subject: &Subject,
 ) -> io::Result<()> {
     match subject {
-        Subject::Text => texts::measure(rt, alloc),
+        Subject::Text => texts::measure(rt, alloc, config),
         Subject::Elementwise => element_calls::measure(rt, alloc, config),
         Subject::Scans => scan_calls::measure(rt, alloc, config),
         Subject::Permutes => permute_calls::measure(rt, alloc, config),

@@ -3,10 +3,11 @@
 use crate::numbers::{next, random};
 use call_reader::{put_value, read_vector};
 use cvl_base::limits::MOST_ELEMENTS;
-use cvl_base::{Ints, Refused, Value};
+use cvl_base::{Config, Ints, Refused, Value};
 use std::alloc::Global;
 use std::io;
 use std::rt::Clock;
+use std::thread::Threads;
 use std::time::{Duration, Instant};
 
 /// How many numbers a case has: as many as a vector may have.
@@ -50,11 +51,16 @@ fn best_writing<R: Clock>(
 }
 
 /// Reads the numbers several times, and gives the best time.
-fn best_reading<R: Clock>(rt: &R, alloc: Global, input: &[u8]) -> io::Result<Duration> {
+fn best_reading<R: Clock + Threads + Sync>(
+    rt: &R,
+    alloc: Global,
+    config: Config,
+    input: &[u8],
+) -> io::Result<Duration> {
     let mut best = Duration::MAX;
     for _ in 0..ROUNDS {
         let start = Instant::now(rt)?;
-        let answer = read_vector(alloc, input);
+        let answer = read_vector(rt, alloc, config, input);
         let time = start.elapsed(rt)?;
         if answer.is_ok() {
             best = best.min(time);
@@ -84,7 +90,11 @@ const CASES: &[(bool, &str, &str)] = &[
 ];
 
 /// Measures writing numbers and reading what was written, without its brackets.
-pub fn measure<R: Print + Clock>(rt: &R, alloc: Global) -> io::Result<()> {
+pub fn measure<R: Print + Clock + Threads + Sync>(
+    rt: &R,
+    alloc: Global,
+    config: Config,
+) -> io::Result<()> {
     for (are_all_long, writing, reading) in CASES {
         let Ok(value) = random_value(alloc, *are_all_long) else {
             println!(rt; "{writing}: no memory for the numbers")?;
@@ -93,7 +103,7 @@ pub fn measure<R: Print + Clock>(rt: &R, alloc: Global) -> io::Result<()> {
         let (text, time) = best_writing(rt, alloc, &value)?;
         print_rate(rt, writing, text.len(), time)?;
         if let [_, input @ .., _] = text.as_slice() {
-            let time = best_reading(rt, alloc, input)?;
+            let time = best_reading(rt, alloc, config, input)?;
             print_rate(rt, reading, input.len(), time)?;
         }
     }

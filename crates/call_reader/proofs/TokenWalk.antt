@@ -105,7 +105,7 @@ with_byte_before Part true b (token ∷ tokens) more some = refl
 with_byte_before Part false b tokens more some = refl
 
 -- where what stands after begins with no part of a run, it changes nothing before it
-cut_before : (class_of : ℕ → ByteClass) (before behind : List ℕ) → begins_with_part class_of behind ≡ false
+pub cut_before : (class_of : ℕ → ByteClass) (before behind : List ℕ) → begins_with_part class_of behind ≡ false
     → tokens_by class_of (before ++ behind) ≡ tokens_by class_of before ++ tokens_by class_of behind
 cut_before class_of [] behind e = refl
 cut_before class_of (b ∷ bs) behind e =

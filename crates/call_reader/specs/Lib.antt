@@ -1,5 +1,6 @@
 pub mod Inputs
 pub mod Lines
 pub mod Numbers
+pub mod Pieces
 pub use Rattle.value_texts.specs.Texts
 pub mod Tokens

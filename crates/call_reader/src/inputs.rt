@@ -24,7 +24,7 @@ fn is_white_space(byte: u8) -> bool
 }
 
 /// The classes of an input's bytes: white space is blank.
-enum InputBytes {}
+pub(crate) enum InputBytes {}
 
 impl Classes for InputBytes {
     ghost class_of = { input_class };
@@ -40,7 +40,7 @@ impl Classes for InputBytes {
 }
 
 /// How many tokens an input has.
-fn token_count(bytes: &[u8]) -> usize
+pub(crate) fn token_count(bytes: &[u8]) -> usize
     ensures { result ≡ length (tokens_by input_class bytes.now) }
 {
     let mut count = 0;
@@ -80,7 +80,7 @@ fn begins_with_token(bytes: &[u8]) -> bool
 
 /// The first token of the bytes, the integer that it writes, and what stands after it; none where there is no token.
 #[inline(always)]
-fn first_number(bytes: &[u8]) -> Option<(&[u8], Option<i32>, &[u8])>
+pub(crate) fn first_number(bytes: &[u8]) -> Option<(&[u8], Option<i32>, &[u8])>
     ensures tokens { MatchOption result (tokens_by input_class bytes.now ≡ [])
         (λ t. IsFirstToken input_class bytes.now t.0.now t.2.now) }
     ensures number { IfSome result (λ t. t.1 ≡ written_number t.0.now) }
@@ -98,12 +98,8 @@ fn first_number(bytes: &[u8]) -> Option<(&[u8], Option<i32>, &[u8])>
     Some((token, number(token), others))
 }
 
-/// Reads an input: signed decimals between white space.
-///
-/// Its faults are `TooLong`, without a place, where there are more tokens than 4,194,304, whatever they are, and else
-/// `BadInput` at the first token that is no integer of 32 bits, counted from 0. Where the room for the numbers is
-/// refused, it answers `NoResources`.
-pub fn read_vector<A: Memory>(alloc: A, bytes: &[u8]) -> Result<Vec<i32, A>, Refused>
+/// Reads an input on the thread that calls. Its answers are those of `read_vector`.
+pub(crate) fn read_alone<A: Memory>(alloc: A, bytes: &[u8]) -> Result<Vec<i32, A>, Refused>
     ensures values { Gives (λ v. v.items) result (input_of bytes.now) }
     ensures in_limit { IfOk result (λ v. vec_len v ≤ most_elements) }
 {

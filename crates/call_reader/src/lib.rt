@@ -8,9 +8,13 @@ pub mod line_laws;
 mod line_tokens;
 mod lines;
 mod number;
+mod piece_reads;
+mod pieces;
 pub mod text_laws;
 pub mod token;
+mod vector_reads;
 
-pub use inputs::{read_vector, worked_inputs};
+pub use inputs::worked_inputs;
 pub use lines::read_line;
 pub use value_texts::put_value;
+pub use vector_reads::read_vector;

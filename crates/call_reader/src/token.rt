@@ -45,7 +45,7 @@ pub(crate) fn blanks<C: Classes>(bytes: &[u8]) -> usize
 
 /// How many bytes the run has that the bytes begin with.
 #[inline]
-fn run_length<C: Classes>(bytes: &[u8]) -> usize
+pub(crate) fn run_length<C: Classes>(bytes: &[u8]) -> usize
     ensures within { result ≤ length bytes.now }
     ensures run { IsTrue (list_all (λ b. is_part (C.class_of b)) (take result bytes.now)) }
     ensures longest { begins_with_part C.class_of (drop result bytes.now) ≡ false }

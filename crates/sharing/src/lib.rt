@@ -37,6 +37,13 @@ pub const LEAST_RACED: u32 = 131_072;
 /// late, or is held up, then leaves some of its tiles to the others.
 pub const TILES_EACH: u32 = 16;
 
+/// From how many bytes on a second thread pays where an input is read. Several threads walk the bytes twice: they count the
+/// tokens before they read them.
+pub const LEAST_READ: usize = 1_048_576;
+
+/// How many bytes of an input each thread reads at least.
+pub const LEAST_READ_EACH: usize = 524_288;
+
 /// How many threads share a call that writes so many elements: at most as many as the configuration has workers, and one
 /// where a second doesn't pay.
 pub fn threads_for(config: Config, elements: usize) -> u32
@@ -56,6 +63,20 @@ pub fn threads_among(most: u32, elements: usize) -> u32
         return 1;
     }
     (elements / LEAST_EACH).min(most as usize).max(1) as u32
+}
+
+/// How many threads share the reading of an input of so many bytes: at most as many as the configuration has workers, and one
+/// where a second doesn't pay.
+pub fn threads_reading(config: Config, bytes: usize) -> u32
+    ensures least { 1 ≤ result }
+    ensures greatest { result ≤ config.1 }
+{
+    if bytes < LEAST_READ {
+        return 1;
+    }
+    (bytes / LEAST_READ_EACH)
+        .min(config.workers() as usize)
+        .max(1) as u32
 }
 
 /// The tiles and the workers of the race for so many elements, or none where one thread walks them at once: what is asked for

@@ -26,7 +26,7 @@ impl<A: Memory> Session<A> {
         ensures { IsTableValue self.now.inputs op operands.now result }
     {
         match op {
-            Op::Input => self.value_of_input(operands),
+            Op::Input => self.value_of_input(rt, operands),
             Op::Ints2(operator) => self.value_of_ints2(rt, operator, operands, gate),
             Op::Ints1(operator) => self.value_of_ints1(rt, operator, operands),
             Op::Compare(operator) => self.value_of_compare(rt, operator, operands),
@@ -63,13 +63,17 @@ impl<A: Memory> Session<A> {
     }
 
     /// `input`: `NoSuchInput` where no input has that number, and the faults of reading it.
-    fn value_of_input(&self, operands: &Operands<'_, A>) -> Result<Bound<A>, Refused>
+    fn value_of_input<R: Threads + Sync>(
+        &self,
+        rt: &R,
+        operands: &Operands<'_, A>,
+    ) -> Result<Bound<A>, Refused>
         requires kinds { AreTaken op.Input operands.now }
         ensures { IsTableValue self.now.inputs op.Input operands.now result }
     {
         let number = operands.first.integer();
         match input_numbered(self.inputs.as_slice(), &number) {
-            Some(input) => bound_integers(integers_of_input(self.alloc, input)),
+            Some(input) => bound_integers(integers_of_input(rt, self.alloc, self.config, input)),
             None => Err(Refused::Fault(Fault::new(FaultNo::NoSuchInput))),
         }
     }

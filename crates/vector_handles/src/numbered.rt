@@ -7,7 +7,8 @@ ghost use Rattle.vector_handles.specs.CallValues.{integers_of, numbered};
 
 use crate::input::Input;
 use call_reader::read_vector;
-use cvl_base::{Memory, Refused};
+use cvl_base::{Config, Memory, Refused};
+use std::thread::Threads;
 
 /// The input with this number, counted from 1.
 pub(crate) fn input_numbered<'a, A: Memory>(
@@ -22,15 +23,17 @@ pub(crate) fn input_numbered<'a, A: Memory>(
 }
 
 /// The integers of an input, which is read where it is bytes and copied where it is a vector.
-pub(crate) fn integers_of_input<A: Memory>(
+pub(crate) fn integers_of_input<R: Threads + Sync, A: Memory>(
+    rt: &R,
     alloc: A,
+    config: Config,
     input: &Input<A>,
 ) -> Result<Vec<i32, A>, Refused>
     ensures meaning { Gives (λ xs. xs.items) result (integers_of input.now) }
     ensures in_limit { IfOk result (λ xs. vec_len xs ≤ most_elements) }
 {
     match input {
-        Input::Bytes(bytes) => read_vector(alloc, bytes.as_slice()),
+        Input::Bytes(bytes) => read_vector(rt, alloc, config, bytes.as_slice()),
         Input::Vector(xs) => Ok(Vec::from_slice(alloc, xs.as_slice())?),
     }
 }
