@@ -1,5 +1,5 @@
 -- A line cut at the first byte that passes a test.
-use Rattle.std.proofs.Common.{◌≡◌, ℕ, ◌≤◌, Bool, true, false, cond, List, length, take, Some, None, refl, ap, sym, nat_lt, arith}
+use Rattle.std.proofs.Common.{◌≡◌, ℕ, ◌≤◌, Bool, true, false, cond, List, length, take, Some, None, ap, sym, nat_lt, arith}
 use Rattle.std.specs.List.{position, position_or_len, before_first}
 use Rattle.std.proofs.Math.Seq.{take_all}
 use Rattle.cvl_base.proofs.Lists.{not_found}

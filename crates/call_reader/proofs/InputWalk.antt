@@ -1,16 +1,15 @@
 -- An input, read from the front: how many tokens there are, and the numbers so far.
 use Rattle.std.proofs.Common.{◌≡◌, ℕ, ◌+◌, ◌*◌, ◌<◌, ◌≤◌, Bool, true, false, ◌&&◌, List, [], ◌∷◌, ◌++◌, length, map, get_or, take}
-use Rattle.std.proofs.Common.{drop, refl, ap, sym, ◌∙◌, arith, Ok, Err, Some, None, append_assoc, ℤ}
+use Rattle.std.proofs.Common.{drop, refl, ap, sym, ◌∙◌, arith, Ok, Some, ℤ}
 use Rattle.std.specs.Int.{from_bool}
 use Rattle.std.specs.Prelude.{Result, if◌then◌else◌, not, ◌==◌}
 use Rattle.std.specs.List.{list_all}
 use Rattle.std.specs.Char.{is_ascii_digit}
 use Rattle.std.proofs.lemmas.Bool.Decides.{nat_tests}
-use Rattle.std.proofs.lemmas.List.{at_drop_more, append-nil, take-append-drop}
+use Rattle.std.proofs.lemmas.List.{at_drop_more, take-append-drop}
 use Rattle.cvl_base.specs.declared.fault.Fault.{Fault}
 use Rattle.cvl_base.specs.declared.fault.FaultNo.TheVariants.{BadInput}
 use Rattle.cvl_base.specs.Elementwise.{values_from}
-use Rattle.cvl_base.specs.Faults.{fault_at}
 use Rattle.cvl_base.specs.Gives.{◌>>=◌}
 use Rattle.call_reader.specs.declared.token.ByteClass.TheVariants.{Blank, Part}
 use Rattle.call_reader.specs.Tokens.{tokens_by, with_byte, is_part, begins_with_part}

@@ -1,10 +1,9 @@
 -- An input in pieces: its tokens are those of the pieces, and the first wrong one of all is the first of the pieces' first ones.
-use Rattle.std.proofs.Common.{◌≡◌, ℕ, ◌+◌, ◌-◌, ◌<◌, ◌≤◌, Bool, false, List, [], ◌∷◌, ◌++◌, length, map, take, drop, refl, ap, sym, ◌∙◌, arith, Option, Some, None, Ok, Err, ℤ, pos, sum, append_assoc, length-append}
+use Rattle.std.proofs.Common.{◌≡◌, ℕ, ◌+◌, ◌<◌, ◌≤◌, false, List, [], ◌∷◌, ◌++◌, length, map, take, drop, refl, ap, sym, ◌∙◌, arith, Option, Some, None, Ok, Err, ℤ, sum, append_assoc, length-append}
 use Rattle.std.specs.Prelude.{Result, nat_lt}
 use Rattle.std.proofs.lemmas.Bool.Decides.{nat_tests}
 use Rattle.cvl_base.specs.Limits.{most_elements}
 use Rattle.std.specs.Option.{option_or}
-use Rattle.std.specs.List.{flat_map}
 use Rattle.std.proofs.lemmas.List.{append-nil, length-map, map-append, take-append-drop, take-map, drop-map}
 use Rattle.std.proofs.lemmas.Grind.{flat_map-append}
 use Rattle.cvl_base.specs.declared.fault.Fault.{Fault}

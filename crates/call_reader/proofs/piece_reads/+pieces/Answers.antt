@@ -1,4 +1,4 @@
-use Rattle.std.proofs.Common.{◌≡◌, ℕ, ℤ, ◌+◌, ◌/◌, ◌++◌, List, Bor, length, map, sum, length-append, sym, ap, ◌∙◌, arith, inl, Option}
+use Rattle.std.proofs.Common.{◌≡◌, ℕ, ℤ, ◌+◌, ◌/◌, List, Bor, length, map, length-append, sym, ap, ◌∙◌, arith, inl, Option}
 use Rattle.std.specs.Option.{option_or}
 use Rattle.std.proofs.lemmas.List.{length-map}
 use Rattle.fresh.specs.Places.{Stretch}

@@ -1,4 +1,4 @@
-use Rattle.std.proofs.Common.{◌≡◌, ◌≤◌, ℕ, ℤ, List, Bor, length, map, sum, ap, sym, ◌∙◌, arith, Option, Some, None, Ok, Err}
+use Rattle.std.proofs.Common.{◌≡◌, ◌≤◌, ℕ, ℤ, List, Bor, length, map, ap, sym, ◌∙◌, arith, Option, Ok, Err}
 use Rattle.std.proofs.lemmas.List.{length-map}
 use Rattle.std.proofs.Math.Facts.{Fits-below}
 use Rattle.cvl_base.specs.Limits.{most_elements}
@@ -50,9 +50,11 @@ into_vec-numbers-requires g c =
     let empty = c.in_ok-room.ensures.run in
     let first = ap (λ (s : Stretch ℤ). s.first) read ∙ ap (λ (s : Stretch ℤ). s.first) empty in
     let items = ap (λ (s : Stretch ℤ). length s.items) read ∙ length-map (read_of c.as_slice-3.result.now) or_zero ∙ ap length again in
-    let full = ap (λ (s : Stretch ℤ). s.room) read in
-    (ap (λ (s : Stretch ℤ). s.block) read ∙ ap (λ (s : Stretch ℤ). s.block) empty, first,
-    omega (arith, first, items, full, long, tokens, c.total-tokens.ensures, c.in_ok-room.ensures.room))
+    let full = ap (λ (s : Stretch ℤ). s.room) read in (
+      ap (λ (s : Stretch ℤ). s.block) read ∙ ap (λ (s : Stretch ℤ). s.block) empty,
+      first,
+      omega (arith, first, items, full, long, tokens, c.total-tokens.ensures, c.in_ok-room.ensures.room),
+    )
 
 pub overflow_cast-place : goal.overflow_cast-place
 overflow_cast-place g c =

@@ -1,4 +1,4 @@
-use Rattle.std.proofs.Common.{◌≡◌, ap, ◌∙◌, map, ◌++◌, List, [], ◌∷◌, ℕ, Bor}
+use Rattle.std.proofs.Common.{ap, ◌∙◌, map, ◌++◌, List, [], ◌∷◌, ℕ, Bor}
 use Rattle.std.proofs.lemmas.List.{map-append}
 use Rattle.call_reader.specs.Pieces.{numbers_of, numbers_in}
 use Rattle.call_reader.proofs.PieceWalk.{last_piece, one_piece_more}

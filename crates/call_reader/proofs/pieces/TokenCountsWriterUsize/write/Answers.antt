@@ -1,4 +1,4 @@
-use Rattle.std.proofs.Common.{◌≡◌, ◌∙◌, ap, length}
+use Rattle.std.proofs.Common.{◌∙◌, ap, length}
 use Rattle.call_reader.specs.Pieces.{numbers_of}
 use Rattle.fresh.specs.Parts.{part}
 use Rattle.fresh.specs.Places.{stretch}
