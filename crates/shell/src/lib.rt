@@ -11,6 +11,9 @@ pub mod stream_host;
 pub use command_line::{Words, WordsFault, read_words};
 pub use host::Host;
 pub use process::{SystemFiles, run_process};
-pub use programs::program;
-pub use script_runs::{MemSink, Sink, SinkFault, Stop, mem_sink, put_stop, run, runs, sink, stop};
+pub use programs::{program, program_gated};
+pub use script_runs::{
+    Gate, MemSink, OpenGate, Point, Sink, SinkFault, Stop, mem_sink, put_stop, run, run_gated,
+    runs, sink, stop,
+};
 pub use stream_host::{ReadFiles, StreamHost};

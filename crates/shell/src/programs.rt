@@ -12,8 +12,9 @@ use crate::files::{read_inputs, room_for};
 use crate::host::Host;
 use clap::error::ErrorKind;
 use command_line::{Words, WordsFault, read_words};
+use crew::{Gate, OpenGate};
 use cvl_base::{Config, Memory};
-use script_runs::{Stop, put_all, run};
+use script_runs::{Stop, put_all, run_gated};
 use std::thread::Threads;
 use vector_handles::Input;
 
@@ -45,28 +46,30 @@ fn tell_refused<A: Memory, H: Host<A>>(alloc: A, error: &clap::Error, host: &mut
 }
 
 /// Runs the script and sends on its text, tells why the run stopped, and answers the status.
-fn run_script<R: Threads + Sync, A: Memory, H: Host<A>>(
+fn run_script<R: Threads + Sync, A: Memory, H: Host<A>, G: Gate>(
     rt: &R,
     alloc: A,
     config: Config,
     script: &[u8],
     inputs: Vec<Input<A>, A>,
     host: &mut H,
+    gate: &G,
 ) -> u8
     requires failures { (H.seen host.old).failed_puts < 2 ^ 64 - 1 }
     requires flushes { (H.seen host.old).failed_flushes < 2 ^ 64 - 1 }
     ensures { Closes (EndsAs (meaning script.now inputs.items)) (H.seen host.old) (H.seen host.new) result }
 {
-    let answer = run(rt, alloc, config, script, inputs, host);
+    let answer = run_gated(rt, alloc, config, script, inputs, host, gate);
     finish(answer, host)
 }
 
 /// Reads the files of the script and of its inputs, and runs the script.
-fn run_files<R: Threads + Sync, A: Memory, H: Host<A>>(
+fn run_files<R: Threads + Sync, A: Memory, H: Host<A>, G: Gate>(
     rt: &R,
     alloc: A,
     words: &Words<'_>,
     host: &mut H,
+    gate: &G,
 ) -> u8
     requires failures { (H.seen host.old).failed_puts < 2 ^ 64 - 1 }
     requires flushes { (H.seen host.old).failed_flushes < 2 ^ 64 - 1 }
@@ -86,7 +89,7 @@ fn run_files<R: Threads + Sync, A: Memory, H: Host<A>>(
                 tell_unreadable(name, room.line, host);
                 FAILED
             }
-            Ok(inputs) => run_script(rt, alloc, words.config, text.as_slice(), inputs, host),
+            Ok(inputs) => run_script(rt, alloc, words.config, text.as_slice(), inputs, host, gate),
         },
     }
 }
@@ -118,8 +121,25 @@ pub fn program<'a, R: Threads + Sync + AllocGlobal, A: Memory, H: Host<A>>(
     ensures { Performs A (texts words.entry.now)
         (H.seen host.old) (H.seen host.new) result }
 {
+    program_gated(rt, alloc, words, host, &OpenGate)
+}
+
+/// The same as [`program`], by workers that pass a gate at the points of their way through a tile, in each call that races for
+/// tiles.
+pub fn program_gated<'a, R: Threads + Sync + AllocGlobal, A: Memory, H: Host<A>, G: Gate>(
+    rt: &R,
+    alloc: A,
+    words: &'a [&'a str],
+    host: &mut H,
+    gate: &G,
+) -> u8
+    requires failures { (H.seen host.old).failed_puts < 2 ^ 64 - 1 }
+    requires flushes { (H.seen host.old).failed_flushes < 2 ^ 64 - 1 }
+    ensures { Performs A (texts words.entry.now)
+        (H.seen host.old) (H.seen host.new) result }
+{
     match read_words(rt.alloc(), words) {
-        Ok(words) => run_files(rt, alloc, &words, host),
+        Ok(words) => run_files(rt, alloc, &words, host, gate),
         Err(WordsFault::NoResources) => finish(Err(STARVED), host),
         Err(WordsFault::Refused(error)) => match error.kind() {
             ErrorKind::DisplayHelp => {

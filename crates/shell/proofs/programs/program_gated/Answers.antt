@@ -3,7 +3,7 @@ use Rattle.clap.specs.Walk.{texts}
 use Rattle.clap.specs.Values.{kind_of}
 use Rattle.clap.specs.declared.error.kind.ErrorKind.TheVariants.{DisplayHelp}
 use Rattle.shell.proofs.Performed.{performs_files, performs_help, performs_refused, performs_starved}
-use Rattle.shell.proofs.programs.program.Goals as goal
+use Rattle.shell.proofs.programs.program_gated.Goals as goal
 
 pub returns-in-Ok : goal.returns-in-Ok
 returns-in-Ok g c =
