@@ -39,6 +39,8 @@ mod repeats;
 #[cfg(test)]
 mod schedules;
 #[cfg(test)]
+mod stopped;
+#[cfg(test)]
 mod tiles;
 #[cfg(test)]
 mod watch;

@@ -14,7 +14,7 @@ use std::thread::{Threads, join_mut};
 const TILES: usize = 1000;
 
 /// The numbers of the tiles, and what stands before each.
-fn numbers() -> ([i32; 1000], [i32; 1000]) {
+pub fn numbers() -> ([i32; 1000], [i32; 1000]) {
     let mut numbers = [0; TILES];
     let mut before = [0; TILES];
     let mut sum: i32 = 0;
@@ -28,7 +28,7 @@ fn numbers() -> ([i32; 1000], [i32; 1000]) {
 
 /// One worker's part: it claims tiles until none is left, and tells the sum and the prefix of each. The answer is whether
 /// each look-back answered what the tiles before join to.
-fn work<A: Memory>(
+pub fn work<A: Memory>(
     board: &ScanBoard<CountedTiles<'_>, A>,
     before: &[i32],
     seat: &mut ScanSeat<Add>,
