@@ -1,18 +1,38 @@
 //! The back permute.
 
-ghost use Rattle.std.specs.Prelude.{◌≡◌, ◌≤◌, IfOk, length, vec_len};
-ghost use Rattle.cvl_base.specs.Gives.{Gives};
+ghost use Rattle.std.specs.Prelude.{◌≡◌, ◌≤◌, IfOk, length, Ok, vec_len};
+ghost use Rattle.cvl_base.specs.Gives.{Gives, unless};
 ghost use Rattle.cvl_base.specs.Limits.{most_elements};
 ghost use Rattle.cvl_base.specs.Permutes.{back_of};
 ghost use Rattle.cvl_base.specs.SegmentedCalls.{seg_back_of};
+ghost use Rattle.permute_walks.specs.Indices.{first_outside};
 
 use crate::back_segments::{check_segments, segments_at};
 use crew::{Gate, OpenGate};
 use cvl_base::{Config, Memory, Refused, check_agree};
+use permute_races::{check_indices_raced, permute_pace};
 use permute_walks::{check_places, elements_at};
 use segdes::{SegDes, check_total};
 use sharing::threads_for;
 use std::thread::Threads;
+
+/// `IndexOutOfRange` at the first place whose index is none of so many places, for which workers race or one thread looks.
+fn check_indices<R: Threads + Sync, A: Memory, G: Gate>(
+    rt: &R,
+    alloc: A,
+    config: Config,
+    index: &[i32],
+    places: usize,
+    gate: &G,
+) -> Result<(), Refused>
+    requires { length index.now ≤ most_elements }
+    ensures { Gives (λ u. u) result (unless (first_outside 0 places index.now) (Ok tt)) }
+{
+    match permute_pace(config, index.len(), places) {
+        Some(pace) => check_indices_raced(rt, alloc, pace, index, places, gate),
+        None => Ok(check_places(index, places, 0)?),
+    }
+}
 
 /// At each place the source's element at the place's index, `d[k] = s[i[k]]`: `bck_puz` and `bck_pub`.
 ///
@@ -32,7 +52,8 @@ pub fn back<T: Copy + Send + Sync, R: Threads + Sync, A: Memory>(
     back_gated(rt, alloc, config, source, index, &OpenGate)
 }
 
-/// `back` with a gate for workers who race. One thread makes the first walk today, so that no point of the gate is passed.
+/// `back` with a gate for workers who race for the least index outside. Each passes it at `Claimed` and `Finished` of each
+/// of its tiles.
 pub fn back_gated<T: Copy + Send + Sync, R: Threads + Sync, A: Memory, G: Gate>(
     rt: &R,
     alloc: A,
@@ -45,7 +66,7 @@ pub fn back_gated<T: Copy + Send + Sync, R: Threads + Sync, A: Memory, G: Gate>(
     ensures values { Gives (λ v. v.items) result (back_of source.now index.now) }
     ensures as_long { IfOk result (λ v. vec_len v ≡ length index.now) }
 {
-    check_places(index, source.len(), 0)?;
+    check_indices(rt, alloc, config, index, source.len(), gate)?;
     let threads = threads_for(config, index.len());
     Ok(elements_at(rt, alloc, threads, source, index)?)
 }

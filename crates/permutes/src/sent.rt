@@ -5,11 +5,15 @@ ghost use Rattle.std.specs.Prelude.{IfOk, IfSome, Option, Ok, vec_len};
 ghost use Rattle.std.specs.Fn.{FnOnceReturnsAtMut, FnOnceTakesAtMut};
 ghost use Rattle.cvl_base.specs.declared.fault.Fault.{Fault};
 ghost use Rattle.cvl_base.specs.Gives.{Gives, unless};
+ghost use Rattle.cvl_base.specs.Limits.{most_elements};
+ghost use Rattle.cvl_base.specs.Permutes.{first_fault, wrongs};
 ghost use Rattle.permutes.specs.Walks.{AreAllSent, IsFound, Sends};
-ghost use Rattle.permute_walks.specs.Senders.{nobody, written_over};
+ghost use Rattle.permute_walks.specs.Senders.{nobody, senders_of, written_over};
 
+use crew::Gate;
 use cvl_base::{Config, Fault, Memory, Refused};
-use permute_walks::{NOBODY, elements_of, elements_or_defaults};
+use permute_races::{permute_pace, senders_raced};
+use permute_walks::{Destinations, NOBODY, elements_of, elements_or_defaults, send_places};
 use sharing::threads_for;
 use std::thread::Threads;
 
@@ -76,4 +80,53 @@ pub(crate) fn elements_sent_over<
     let senders = senders_found(alloc, defaults.len(), send)?;
     let threads = threads_for(config, defaults.len());
     Ok(elements_or_defaults(rt, alloc, threads, source, &senders, defaults)?)
+}
+
+/// For each place of a flat result its sender, for which workers race or one thread walks.
+fn senders_to<R: Threads + Sync, A: Memory, D: Destinations + Sync, G: Gate>(
+    rt: &R,
+    alloc: A,
+    config: Config,
+    places: usize,
+    destinations: &D,
+    gate: &G,
+) -> Result<Vec<u32, A>, Refused>
+    requires few { length (D.targets destinations.now) ≤ most_elements }
+    ensures { Gives (λ v. v.items) result (unless (first_fault 0 (wrongs places (D.targets destinations.now)))
+        (Ok (senders_of 0 (D.targets destinations.now) places))) }
+{
+    match permute_pace(config, destinations.count(), places) {
+        Some(pace) => senders_raced(rt, alloc, pace, places, destinations, gate),
+        None => senders_found(alloc, places, |senders| {
+            send_places(senders, 0, destinations)
+        }),
+    }
+}
+
+/// The elements of a flat result, each place of which has a sender.
+pub(crate) fn elements_to<
+    T: Copy + Send + Sync,
+    R: Threads + Sync,
+    A: Memory,
+    D: Destinations + Sync,
+    G: Gate,
+>(
+    rt: &R,
+    alloc: A,
+    config: Config,
+    source: &[T],
+    places: usize,
+    destinations: &D,
+    gate: &G,
+) -> Result<Vec<T, A>, Refused>
+    requires few { length (D.targets destinations.now) ≤ most_elements }
+    ensures values { AreAllSent (first_fault 0 (wrongs places (D.targets destinations.now))) (length source.now)
+        (senders_of 0 (D.targets destinations.now) places)
+        → Gives (λ v. v.items) result (unless (first_fault 0 (wrongs places (D.targets destinations.now)))
+        (Ok (filter_map (slice_get source.now) (senders_of 0 (D.targets destinations.now) places)))) }
+    ensures in_length { IfOk result (λ v. vec_len v ≤ places) }
+{
+    let senders = senders_to(rt, alloc, config, places, destinations, gate)?;
+    let threads = threads_for(config, places);
+    Ok(elements_of(rt, alloc, threads, source, &senders)?)
 }

@@ -7,10 +7,10 @@ ghost use Rattle.cvl_base.specs.Permutes.{simple_of};
 ghost use Rattle.cvl_base.specs.SegmentedCalls.{seg_simple_of};
 
 use crate::segments::send_segments;
-use crate::sent::elements_sent;
+use crate::sent::{elements_sent, elements_to};
 use crew::{Gate, OpenGate};
 use cvl_base::{Config, Memory, Refused, check_agree};
-use permute_walks::{AllTargets, send_places};
+use permute_walks::AllTargets;
 use segdes::{SegDes, check_total};
 use std::thread::Threads;
 
@@ -33,7 +33,8 @@ pub fn simple<T: Copy + Send + Sync, R: Threads + Sync, A: Memory>(
     simple_gated(rt, alloc, config, source, index, &OpenGate)
 }
 
-/// `simple` with a gate for workers who race. One thread makes the first walk today, so that no point of the gate is passed.
+/// `simple` with a gate for workers who race, for the senders and then for the least bad place. Each passes it at `Claimed`
+/// and `Finished` of each of its tiles.
 pub fn simple_gated<T: Copy + Send + Sync, R: Threads + Sync, A: Memory, G: Gate>(
     rt: &R,
     alloc: A,
@@ -47,9 +48,15 @@ pub fn simple_gated<T: Copy + Send + Sync, R: Threads + Sync, A: Memory, G: Gate
     ensures as_long { IfOk result (λ v. vec_len v ≡ length index.now) }
 {
     check_agree(source.len(), index.len())?;
-    elements_sent(rt, alloc, config, source, index.len(), |senders| {
-        send_places(senders, 0, &AllTargets { index })
-    })
+    elements_to(
+        rt,
+        alloc,
+        config,
+        source,
+        index.len(),
+        &AllTargets { index },
+        gate,
+    )
 }
 
 /// The simple permute of each segment: `smp_pez` and `smp_peb`.
