@@ -20,6 +20,7 @@ const LENGTHS: [usize; 6] = [4_194_304, 1_048_576, 262_144, 131_072, 65_536, 1_0
 pub enum ElementCase {
     Add,
     Div,
+    LeftShift,
     Greater,
     And,
     Select,
@@ -35,6 +36,7 @@ pub enum ElementCase {
 const CASES: &[(Case, &str)] = &[
     (Case::Elementwise(ElementCase::Add), "sum"),
     (Case::Elementwise(ElementCase::Div), "quotient"),
+    (Case::Elementwise(ElementCase::LeftShift), "left shift"),
     (Case::Elementwise(ElementCase::Greater), "greater"),
     (Case::Elementwise(ElementCase::And), "and"),
     (Case::Elementwise(ElementCase::Select), "select"),
@@ -74,12 +76,14 @@ pub fn call<R: Threads + Sync>(
 ) -> Option<i32> {
     let (a, b) = (vectors.numbers.as_slice(), vectors.divisors.as_slice());
     let (flags, others) = (vectors.flags.as_slice(), vectors.others.as_slice());
+    let shifts = vectors.shifts.as_slice();
     if a.len() > MOST_ELEMENTS {
         return None;
     }
     match case {
         ElementCase::Add => last_number(int2(rt, alloc, config, IntBinary::Add, a, b)),
         ElementCase::Div => last_number(int2(rt, alloc, config, IntBinary::Div, a, b)),
+        ElementCase::LeftShift => last_number(int2(rt, alloc, config, IntBinary::Lsh, a, shifts)),
         ElementCase::Greater => last_flag(compare(rt, alloc, config, Comparison::Greater, a, b)),
         ElementCase::And => last_flag(bool2(rt, alloc, config, BoolBinary::And, flags, others)),
         ElementCase::Select => last_number(select(rt, alloc, config, flags, a, b)),
@@ -96,9 +100,11 @@ pub fn call<R: Threads + Sync>(
 pub fn plain_call(alloc: Global, case: &ElementCase, vectors: &Vectors) -> Option<i32> {
     let (a, b) = (vectors.numbers.as_slice(), vectors.divisors.as_slice());
     let (flags, others) = (vectors.flags.as_slice(), vectors.others.as_slice());
+    let shifts = vectors.shifts.as_slice();
     match case {
         ElementCase::Add => last_number(plain::on_pairs(alloc, a, b, plain::sum)),
         ElementCase::Div => last_number(plain::on_pairs(alloc, a, b, plain::quotient)),
+        ElementCase::LeftShift => last_number(plain::on_pairs(alloc, a, shifts, plain::left_shift)),
         ElementCase::Greater => last_flag(plain::on_pairs(alloc, a, b, plain::is_greater)),
         ElementCase::And => last_flag(plain::on_pairs(alloc, flags, others, plain::are_both)),
         ElementCase::Select => last_number(plain::chosen(alloc, flags, a, b)),

@@ -44,6 +44,8 @@ pub struct Vectors {
     pub numbers: Vec<i32>,
     /// Random integers that are odd, so that each divides.
     pub divisors: Vec<i32>,
+    /// Random integers from 0 to 31.
+    pub shifts: Vec<i32>,
     /// Random flags.
     pub flags: Vec<bool>,
     /// Other random flags.
@@ -122,6 +124,12 @@ fn below(alloc: Global, numbers: &[i32], limit: i32) -> Result<Vec<bool>, AllocE
     Ok(flags)
 }
 
+/// So many random integers from 0 to 31.
+fn shifts_of(alloc: Global, n: usize) -> Result<Vec<i32>, AllocError> {
+    let numbers = random(alloc, 3, n, 0)?;
+    numbers.iter().map(|number| *number & 31).collect(alloc)
+}
+
 /// The vectors of a shape.
 pub fn vectors_of(alloc: Global, shape: &Shape) -> Result<Vectors, Refused> {
     let lengths = lengths_of(alloc, shape.most, shape.segment, shape.with_empty)?;
@@ -135,6 +143,7 @@ pub fn vectors_of(alloc: Global, shape: &Shape) -> Result<Vectors, Refused> {
     Ok(Vectors {
         numbers: random(alloc, 1, length, 0)?,
         divisors: random(alloc, 2, length, 1)?,
+        shifts: shifts_of(alloc, length)?,
         flags: random_flags(alloc, 1, length, shape.percent)?,
         others: random_flags(alloc, 2, length, 33)?,
         chosen: below(alloc, &index, half)?,

@@ -39,6 +39,15 @@ pub fn quotient((x, y): (i32, i32)) -> i32 {
     if y == 0 { 0 } else { x.wrapping_div(y) }
 }
 
+/// The bits moved up, and 0 where the places aren't in 0 to 31.
+pub fn left_shift((x, places): (i32, i32)) -> i32 {
+    if (0..=31).contains(&places) {
+        x.wrapping_shl(places.cast_unsigned())
+    } else {
+        0
+    }
+}
+
 /// Whether the first is greater.
 pub fn is_greater((x, y): (i32, i32)) -> bool {
     x > y
