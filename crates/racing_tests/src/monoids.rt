@@ -38,8 +38,14 @@ fn segments_start_again(rt: HostRuntime) {
 #[test]
 fn items_come_back_from_their_words(rt: HostRuntime) {
     assert_eq!(rt; through_word::<Max>(-7, -9), -7);
-    assert_eq!(rt; through_word::<Exact>(9007199254740991, 1), -9007199254740992);
-    assert_eq!(rt; through_word::<Exact>(-9007199254740992, -1), 9007199254740991);
+    assert_eq!(rt;
+        through_word::<Exact>(9007199254740991, 1),
+        -9007199254740992
+    );
+    assert_eq!(rt;
+        through_word::<Exact>(-9007199254740992, -1),
+        9007199254740991
+    );
     assert_eq!(rt; through_word::<BoolAnd>(true, true), true);
     assert_eq!(rt; through_word::<BoolAnd>(true, false), false);
 }
