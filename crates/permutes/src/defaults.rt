@@ -7,10 +7,10 @@ ghost use Rattle.cvl_base.specs.Permutes.{default_of};
 ghost use Rattle.cvl_base.specs.SegmentedCalls.{seg_default_of};
 
 use crate::segments::send_segments;
-use crate::sent::elements_sent_over;
+use crate::sent::{elements_sent_over, elements_to_over};
 use crew::{Gate, OpenGate};
 use cvl_base::{Config, Memory, Refused, check_agree};
-use permute_walks::{AllTargets, send_places};
+use permute_walks::AllTargets;
 use segdes::{SegDes, check_total};
 use std::thread::Threads;
 
@@ -33,7 +33,8 @@ pub fn default_into<T: Copy + Send + Sync, R: Threads + Sync, A: Memory>(
     default_into_gated(rt, alloc, config, source, index, defaults, &OpenGate)
 }
 
-/// `default_into` with a gate for workers who race. One thread makes the first walk today, so that no point of the gate is passed.
+/// `default_into` with a gate for workers who race, for the senders and then for the least bad place. Each passes it at
+/// `Claimed` and `Finished` of each of its tiles.
 pub fn default_into_gated<T: Copy + Send + Sync, R: Threads + Sync, A: Memory, G: Gate>(
     rt: &R,
     alloc: A,
@@ -48,9 +49,15 @@ pub fn default_into_gated<T: Copy + Send + Sync, R: Threads + Sync, A: Memory, G
     ensures as_long { IfOk result (λ v. vec_len v ≡ length defaults.now) }
 {
     check_agree(source.len(), index.len())?;
-    elements_sent_over(rt, alloc, config, source, defaults, |senders| {
-        send_places(senders, 0, &AllTargets { index })
-    })
+    elements_to_over(
+        rt,
+        alloc,
+        config,
+        source,
+        defaults,
+        &AllTargets { index },
+        gate,
+    )
 }
 
 /// The default permute of each segment: `def_pez` and `def_peb`.

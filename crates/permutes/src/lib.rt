@@ -4,8 +4,8 @@
 //! sender, the place whose element goes there; that of a back permute looks at all indices. The second writes the elements,
 //! by several threads where the result is long.
 //!
-//! Each call has a gated form with the same contract for every gate. Workers race for the first walk of the flat simple and
-//! back permutes where short tiles are asked for. They don't race for the others yet, so that their gates see no point.
+//! Each call has a gated form with the same contract for every gate. Workers race for the first walk of a flat permute
+//! where short tiles are asked for. They don't race for those of segments yet, so that their gates see no point.
 #![tactic(auto)]
 
 mod back_segments;

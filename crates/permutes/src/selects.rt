@@ -1,31 +1,18 @@
 //! The select permute.
 
-ghost use Rattle.std.specs.Prelude.{◌≡◌, ◌≤◌, IfOk, length, OnOk, replicate, vec_len};
+ghost use Rattle.std.specs.Prelude.{◌≡◌, ◌≤◌, IfOk, length, vec_len};
 ghost use Rattle.cvl_base.specs.Gives.{Gives};
 ghost use Rattle.cvl_base.specs.Limits.{most_elements};
-ghost use Rattle.cvl_base.specs.Permutes.{first_fault, flagged_targets, select_of, wrongs};
+ghost use Rattle.cvl_base.specs.Permutes.{select_of};
 ghost use Rattle.cvl_base.specs.SegmentedCalls.{seg_select_of};
-ghost use Rattle.permute_walks.specs.Senders.{nobody, senders_of, fault_told};
 
 use crate::segments::send_flagged_segments;
-use crate::sent::elements_sent;
+use crate::sent::{elements_sent, elements_to};
 use crew::{Gate, OpenGate};
-use cvl_base::{Config, Fault, Memory, Refused, check_agree, true_count};
-use permute_walks::{FlaggedTargets, send_places};
+use cvl_base::{Config, Memory, Refused, check_agree, true_count};
+use permute_walks::FlaggedTargets;
 use segdes::{SegDes, check_total};
 use std::thread::Threads;
-
-/// Sends the places whose flag is true. The senders are nobody to begin with. The fault is that of the first bad place.
-fn send_flagged(senders: &mut [u32], index: &[i32], flags: &[bool]) -> Result<(), Fault>
-    requires fresh { senders.old ≡ replicate (length senders.old) nobody }
-    requires in_limit { length index.now ≤ most_elements }
-    ensures fault { fault_told result
-        ≡ first_fault 0 (wrongs (length senders.old) (flagged_targets index.now flags.now)) }
-    ensures sent { OnOk result
-        (senders.new ≡ senders_of 0 (flagged_targets index.now flags.now) (length senders.old)) }
-{
-    send_places(senders, 0, &FlaggedTargets { index, flags })
-}
 
 /// Each element whose flag is true goes to its index: `sel_puz` and `sel_pub`.
 ///
@@ -47,7 +34,8 @@ pub fn select<T: Copy + Send + Sync, R: Threads + Sync, A: Memory>(
     select_gated(rt, alloc, config, source, index, flags, &OpenGate)
 }
 
-/// `select` with a gate for workers who race. One thread makes the first walk today, so that no point of the gate is passed.
+/// `select` with a gate for workers who race, for the senders and then for the least bad place. Each passes it at `Claimed`
+/// and `Finished` of each of its tiles.
 pub fn select_gated<T: Copy + Send + Sync, R: Threads + Sync, A: Memory, G: Gate>(
     rt: &R,
     alloc: A,
@@ -64,9 +52,15 @@ pub fn select_gated<T: Copy + Send + Sync, R: Threads + Sync, A: Memory, G: Gate
     check_agree(source.len(), index.len())?;
     check_agree(index.len(), flags.len())?;
     let places = true_count(flags);
-    elements_sent(rt, alloc, config, source, places, |senders| {
-        send_flagged(senders, index, flags)
-    })
+    elements_to(
+        rt,
+        alloc,
+        config,
+        source,
+        places,
+        &FlaggedTargets { index, flags },
+        gate,
+    )
 }
 
 /// The select permute of each segment: `sel_pez` and `sel_peb`.

@@ -130,3 +130,30 @@ pub(crate) fn elements_to<
     let threads = threads_for(config, places);
     Ok(elements_of(rt, alloc, threads, source, &senders)?)
 }
+
+/// The elements of a flat result, or the default of a place that has no sender.
+pub(crate) fn elements_to_over<
+    T: Copy + Send + Sync,
+    R: Threads + Sync,
+    A: Memory,
+    D: Destinations + Sync,
+    G: Gate,
+>(
+    rt: &R,
+    alloc: A,
+    config: Config,
+    source: &[T],
+    defaults: &[T],
+    destinations: &D,
+    gate: &G,
+) -> Result<Vec<T, A>, Refused>
+    requires few { length (D.targets destinations.now) ≤ most_elements }
+    ensures values { Gives (λ v. v.items) result
+        (unless (first_fault 0 (wrongs (length defaults.now) (D.targets destinations.now)))
+        (Ok (written_over source.now (senders_of 0 (D.targets destinations.now) (length defaults.now)) defaults.now))) }
+    ensures as_long { IfOk result (λ v. vec_len v ≡ length defaults.now) }
+{
+    let senders = senders_to(rt, alloc, config, defaults.len(), destinations, gate)?;
+    let threads = threads_for(config, defaults.len());
+    Ok(elements_or_defaults(rt, alloc, threads, source, &senders, defaults)?)
+}
