@@ -1,5 +1,5 @@
 -- What follows of a check, which gives nothing or a fault.
-use Rattle.std.proofs.Common.{◌≡◌, ◌∙◌, ℕ, List, ap, length, refl, sym, Option, Some, None, Ok, Err}
+use Rattle.std.proofs.Common.{◌≡◌, ℕ, List, ap, length, refl, sym, Option, Some, None, Ok, Err}
 use Rattle.cvl_base.specs.declared.fault.Fault.{Fault}
 use Rattle.cvl_base.specs.declared.refused.Refused.{Refused}
 use Rattle.cvl_base.specs.declared.refused.Refused.TheVariants as refused

@@ -1,4 +1,4 @@
-use Rattle.std.proofs.Common.{◌≡◌, ◌∙◌, filter_map, subst, sym, arith, length, slice_get, Ok}
+use Rattle.std.proofs.Common.{filter_map, subst, sym, arith, length, slice_get, Ok}
 use Rattle.cvl_base.specs.Gives.{Gives, unless}
 use Rattle.cvl_base.specs.Permutes.{first_fault, flagged_targets, wrongs}
 use Rattle.permute_walks.specs.Senders.{senders_of}

@@ -1,4 +1,4 @@
-use Rattle.std.proofs.Common.{ℕ, Vec, ◌∙◌, ◌<◌, ap, arith, filter_map, length, refl, slice_get, subst, sym, Ok}
+use Rattle.std.proofs.Common.{ℕ, Vec, ◌∙◌, ◌<◌, ap, arith, filter_map, length, slice_get, subst, sym}
 use Rattle.std.specs.List.{All}
 use Rattle.std.proofs.lemmas.Result.{err_from_is_err_and}
 use Rattle.cvl_base.specs.Permutes.{first_fault, wrongs}

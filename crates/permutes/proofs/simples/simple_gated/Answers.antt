@@ -1,4 +1,4 @@
-use Rattle.std.proofs.Common.{◌≡◌, ◌∙◌, ap, filter_map, subst, sym, arith, length, slice_get, vec_len, Ok}
+use Rattle.std.proofs.Common.{◌∙◌, filter_map, subst, sym, arith, length, slice_get, vec_len, Ok}
 use Rattle.cvl_base.specs.Gives.{Gives, unless}
 use Rattle.cvl_base.specs.Permutes.{all_targets, first_fault, wrongs}
 use Rattle.permute_walks.specs.Senders.{senders_of}
