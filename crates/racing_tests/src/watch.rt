@@ -50,6 +50,8 @@ pub enum Holds {
     /// The worker of tile 0 at this point of it, until all other tiles are finished, and the worker of tile 1 at its claim
     /// until the former is held.
     TileZero(Point),
+    /// The worker that passes this point, until all other tiles are finished.
+    UntilOthers(Point),
 }
 
 /// A gate that sees whether each tile's points are passed in order, each once, by a worker that works at no other tile
@@ -159,12 +161,16 @@ impl Watch {
                     self.wait_for(passed, place_of(at).1.wrapping_add(1));
                 }
             }
-            (Holds::TileZero(at), _) if at == point => {
-                let others = (self.passed.len() as u64).saturating_sub(1);
-                self.wait_for(&self.finished, others);
-            }
+            (Holds::TileZero(at), _) if at == point => self.wait_for_others(),
+            (Holds::UntilOthers(at), _) if at == point => self.wait_for_others(),
             _ => {}
         }
+    }
+
+    /// Waits until all tiles but one are finished.
+    fn wait_for_others(&self) {
+        let others = (self.passed.len() as u64).saturating_sub(1);
+        self.wait_for(&self.finished, others);
     }
 
     /// Whether every point of every tile was passed, in order, and no worker waited in vain.

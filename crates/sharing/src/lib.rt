@@ -1,7 +1,8 @@
 //! Rules of thumb: how many threads share a call, by how many elements it writes, and whether workers race for its tiles.
 //! No result depends on them.
 //!
-//! All thresholds of the library stand here. Each was measured on a machine with four processors.
+//! All thresholds of the library stand here. They were measured on a machine with four processors, but for those of reading,
+//! which are reckoned from how fast one thread reads and what it costs to start another.
 #![tactic(auto)]
 
 ghost use Rattle.std.specs.Prelude.{◌≤◌, IfSome};
