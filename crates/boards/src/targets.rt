@@ -1,6 +1,6 @@
 //! The slots of places, as a least board sees them.
 
-ghost use Rattle.std.specs.Prelude.{◌≡◌, ◌<◌, ◌≤◌, ℕ, List, Option, None, IfSome, length, slice_index_or};
+ghost use Rattle.std.specs.Prelude.{◌≡◌, ◌<◌, ◌≤◌, ℕ, List, Option, None, IfSome, IsTrue, length, slice_index_or};
 ghost use Rattle.cvl_base.specs.Limits.{most_elements};
 
 /// Places, counted from 0, some of which have a slot: of all places with one slot a least board finds the least.
@@ -24,4 +24,13 @@ pub trait Targets: Drop {
         requires { place < length (targets self.now) }
         ensures value { result ≡ slice_index_or (targets self.now) place None }
         ensures within { IfSome result (λ s. s < slot_count self.now) };
+
+    /// Whether it is known at once that no place from one up to another, which is not counted in, is a target. To answer false
+    /// is always right: the worker then asks for the slot of each. It takes no memory.
+    fn is_clear(&self, from: u32, to: u32) -> bool
+        requires { to ≤ length (targets self.now) }
+        ensures { IsTrue result → (place : ℕ) → from ≤ place → place < to → slice_index_or (targets self.now) place None ≡ None }
+    {
+        false
+    }
 }

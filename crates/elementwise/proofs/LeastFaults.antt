@@ -2,8 +2,9 @@
 use Rattle.std.specs.Prelude.{Option, Some, None, Ok, Err}
 use Rattle.std.specs.List.{zip}
 use Rattle.std.specs.Option.{is_some, unwrap_or}
-use Rattle.std.proofs.Common.{◌≡◌, ◌∙◌, refl, sym, ap, ℕ, ◌+◌, ◌<◌, true, false, List, [], ◌∷◌, length, map, get_or, arith}
+use Rattle.std.proofs.Common.{◌≡◌, ◌∙◌, refl, sym, ap, ℕ, ◌+◌, ◌<◌, ◌≤◌, Bool, ◌&&◌, true, false, inl, inr, List, [], ◌∷◌, length, map, get_or, arith}
 use Rattle.std.proofs.lemmas.Bool.{true≢false}
+use Rattle.std.proofs.lemmas.Bool.Decides.{leb_tells}
 use Rattle.std.proofs.lemmas.List.{get_or-map}
 use Rattle.std.proofs.lemmas.Option.{none-some, same_Some}
 use Rattle.std.proofs.lemmas.Slice.Zip.{get_or-zip, length-zip}
@@ -28,6 +29,23 @@ pub slot_at : {X Y Z : Type 0} (f : X → Y → Option Z) (xs : List X) (ys : Li
 slot_at f xs ys k x y in_xs in_ys =
     sym (get_or-map (λ p. slot_without (f p.0 p.1)) (zip xs ys) k (x, y) None (omega (arith, length-zip xs ys))
     ∙ ap (λ p. slot_without (f p.0 p.1)) (get_or-zip xs ys k (x, y) in_xs in_ys))
+
+-- where the places are clear up to one, and there is a value at that one, they are clear past it
+pub clear_past : {X Y Z : Type 0} (f : X → Y → Option Z) (xs : List X) (ys : List Y) (from place : ℕ) (x : X) (y : Y) (so_far has : Bool)
+    → place < length xs → place < length ys → has ≡ is_some (f (get_or xs place x) (get_or ys place y))
+    → (so_far ≡ true → (k : ℕ) → from ≤ k → k < place → get_or (map (λ (p : X × Y). slot_without (f p.0 p.1)) (zip xs ys)) k None ≡ None)
+    → (so_far && has) ≡ true
+    → (k : ℕ) → from ≤ k → k < place + 1 → get_or (map (λ (p : X × Y). slot_without (f p.0 p.1)) (zip xs ys)) k None ≡ None
+clear_past f xs ys from place x y false has in_xs in_ys is clear both = absurd (true≢false (sym both))
+clear_past f xs ys from place x y true false in_xs in_ys is clear both = absurd (true≢false (sym both))
+clear_past f xs ys from place x y true true in_xs in_ys is clear both = λ k begun before.
+    elim (leb_tells (k + 1) place) [
+      | inl e ↦ clear refl k begun (omega (arith, e.1))
+      | inr e ↦
+          let same : k ≡ place = omega (arith, e.1, before) in
+          ap (λ n. get_or (map (λ p. slot_without (f p.0 p.1)) (zip xs ys)) n None) same
+          ∙ sym (no_slot _ (sym is) ∙ slot_at f xs ys place x y in_xs in_ys)
+    ]
 
 module _ {Z Y : Type 0} (number : FaultNo) (f : Z → Option Y) (d : Y) where
   abbrev targets : List Z → List (Option ℕ)

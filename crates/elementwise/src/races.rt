@@ -48,6 +48,16 @@ impl<'a, O: PartialBinary> Targets for Valueless<'a, O> {
             Some(0)
         }
     }
+
+    // No way out of the loop before its end, so that several places are looked at in one step.
+    fn is_clear(&self, from: u32, to: u32) -> bool {
+        let (first, second) = (self.first, self.second);
+        let mut clear = true;
+        for place in from as usize..to as usize {
+            clear &= O::has_value(&first[place], &second[place]);
+        }
+        clear
+    }
 }
 
 /// The operator's values on the pairs of elements, or its fault at the least place without a value; `LengthMismatch` where

@@ -34,6 +34,10 @@ impl<'a, T: Targets> Targets for LentTargets<'a, T> {
     fn slot(&self, place: u32) -> Option<u32> {
         self.targets.slot(place)
     }
+
+    fn is_clear(&self, from: u32, to: u32) -> bool {
+        self.targets.is_clear(from, to)
+    }
 }
 
 /// The work of all who race for the least places of targets: a board that gives the tiles of a plan, and in whose words places
@@ -146,7 +150,7 @@ impl<'a, T: Targets + Sync, A: Memory> Work for LeastWork<'a, T, A> {
         _gate: &G,
     ) -> Result<Vec<(), B>, NoResources> {
         let (from, to) = self.plan.range(t);
-        if !self.sees_lesser(seat, from) {
+        if !self.sees_lesser(seat, from) && !self.targets.is_clear(from, to) {
             self.lower_each(seat, from, to);
         }
         Ok(Vec::new(alloc))

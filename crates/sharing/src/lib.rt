@@ -1,12 +1,11 @@
 //! Rules of thumb: how many threads share a call, by how many elements it writes, and whether workers race for its tiles.
 //! No result depends on them.
 //!
-//! All thresholds of the library stand here. They were measured on a machine with four processors, but for those of reading,
-//! which are reckoned from how fast one thread reads and what it costs to start another.
+//! All thresholds of the library stand here. They were measured on a machine with four processors.
 #![tactic(auto)]
 
-ghost use Rattle.std.specs.Prelude.{◌≤◌, IfSome};
-ghost use Rattle.cvl_base.specs.Limits.{longest_tile, most_elements};
+ghost use Rattle.std.specs.Prelude.{◌<◌, ◌≤◌, IfSome};
+ghost use Rattle.cvl_base.specs.Limits.{longest_tile, most_elements, most_workers};
 
 use cvl_base::Config;
 use cvl_base::limits::{LONGEST_TILE, MOST_ELEMENTS};
@@ -38,12 +37,26 @@ pub const LEAST_RACED: u32 = 131_072;
 /// late, or is held up, then leaves some of its tiles to the others.
 pub const TILES_EACH: u32 = 16;
 
-/// From how many bytes on a second thread pays where an input is read. Several threads walk the bytes twice: they count the
-/// tokens before they read them.
-pub const LEAST_READ: usize = 1_048_576;
+/// From how many places of a result on several threads share the first walk of a permute. Each of them reads all indices, so
+/// that shorter results are walked sooner by one.
+pub const LEAST_SENT: usize = 524_288;
+
+/// From how many bytes on several threads pay where an input is read. They walk the bytes twice: they count the tokens before
+/// they read them.
+pub const LEAST_READ: usize = 524_288;
 
 /// How many bytes of an input each thread reads at least.
-pub const LEAST_READ_EACH: usize = 524_288;
+pub const LEAST_READ_EACH: usize = 131_072;
+
+/// How many threads read an input at least where several do. Two take as long for two walks as one takes for one.
+pub const LEAST_READERS: u32 = 3;
+
+/// From how many elements on a second thread pays where their texts are written. Several threads walk the elements twice: they
+/// count the bytes of their texts before they write them.
+pub const LEAST_WRITTEN: usize = 32_768;
+
+/// How many elements' texts each thread writes at least.
+pub const LEAST_WRITTEN_EACH: usize = 16_384;
 
 /// How many threads share a call that writes so many elements: at most as many as the configuration has workers, and one
 /// where a second doesn't pay.
@@ -66,16 +79,44 @@ pub fn threads_among(most: u32, elements: usize) -> u32
     (elements / LEAST_EACH).min(most as usize).max(1) as u32
 }
 
+/// How many threads share the first walk of a permute, each of which owns a range of a result of so many places: at most as
+/// many as the configuration has workers, and one where a second doesn't pay, or the result is longer than the longest vector.
+pub fn threads_sending(config: Config, places: usize) -> u32
+    ensures least { 1 ≤ result }
+    ensures greatest { result ≤ config.1 }
+    ensures in_limit { 2 ≤ result → places ≤ most_elements }
+{
+    if places < LEAST_SENT || places > MOST_ELEMENTS {
+        return 1;
+    }
+    threads_for(config, places)
+}
+
 /// How many threads share the reading of an input of so many bytes: at most as many as the configuration has workers, and one
 /// where a second doesn't pay.
 pub fn threads_reading(config: Config, bytes: usize) -> u32
     ensures least { 1 ≤ result }
     ensures greatest { result ≤ config.1 }
 {
-    if bytes < LEAST_READ {
+    let threads = (bytes / LEAST_READ_EACH).min(config.workers() as usize) as u32;
+    if bytes < LEAST_READ || threads < LEAST_READERS {
         return 1;
     }
-    (bytes / LEAST_READ_EACH)
+    threads
+}
+
+/// How many threads share the writing of so many elements' texts: at most as many as the configuration has workers, and one
+/// where a second doesn't pay, or where there are more than 4,194,304.
+pub fn threads_writing(config: Config, elements: usize) -> u32
+    ensures least { 1 ≤ result }
+    ensures greatest { result ≤ config.1 }
+    ensures most { result ≤ most_workers }
+    ensures few { 1 < result → elements ≤ most_elements }
+{
+    if elements < LEAST_WRITTEN || elements > MOST_ELEMENTS {
+        return 1;
+    }
+    (elements / LEAST_WRITTEN_EACH)
         .min(config.workers() as usize)
         .max(1) as u32
 }
