@@ -1,4 +1,5 @@
 pub mod EachSent
+pub mod LastSent
 pub mod Outside
 pub mod Sent
 pub mod Stored

@@ -97,7 +97,7 @@ same_senders place ts us m each =
     let below : d < m = omega (arith, length-senders_of place ts m) in
     sender_at place ts m d below ∙ each d below ∙ sym (sender_at place us m d below))
 
-nobody_sent : (a m : ℕ) → map (λ _. nobody) (range_with_len a m) ≡ replicate m nobody
+pub nobody_sent : (a m : ℕ) → map (λ _. nobody) (range_with_len a m) ≡ replicate m nobody
 nobody_sent a zero = refl
 nobody_sent a (suc m) = ap (λ rest. nobody ∷ rest) (nobody_sent (a + 1) m)
 

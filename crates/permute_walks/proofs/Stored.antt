@@ -1,27 +1,53 @@
 -- The walk that stores places at their targets: how many places then have a sender tells whether a target was bad.
-use Rattle.std.proofs.Common.{◌≡◌, ◌∙◌, ℕ, ◌+◌, ◌<◌, ◌≤◌, Bool, true, false, not, if◌then◌else◌, cond, List, length, get_or, set, replicate, refl, sym, ap, subst, arith, eqb, ltb, ℤ, pos, negsuc, w32}
+use Rattle.std.proofs.Common.{◌≡◌, ◌∙◌, ℕ, zero, suc, ◌+◌, ◌<◌, ◌≤◌, Bool, true, false, not, if◌then◌else◌, cond, List, ◌∷◌, drop, length, get_or, set, replicate}
+use Rattle.std.proofs.Common.{refl, sym, ap, subst, arith, eqb, ltb, ℤ, pos, negsuc, w32}
 use Rattle.std.proofs.Common.{to_z, of_z, FitsSigned, Option, Some, None}
+use Rattle.std.specs.List.{sum_by}
 use Rattle.std.proofs.lemmas.Bool.{lt-ltb, ne_eqb, false≢true}
 use Rattle.std.proofs.lemmas.Int.{ints, to_z-of_z}
 use Rattle.std.proofs.lemmas.List.{length-set, length-replicate}
-use Rattle.std.proofs.lemmas.List.Sums.{sum_by-set}
+use Rattle.std.proofs.lemmas.List.Sums.{sum_by-cons, sum_by-set}
+use Rattle.std.proofs.lemmas.Option.{none-some}
+use Rattle.cvl_base.specs.declared.fault.FaultNo.{FaultNo}
 use Rattle.cvl_base.specs.declared.fault.FaultNo.TheVariants.{IndexOutOfRange, IndexRepeated}
+use Rattle.cvl_base.specs.Faults.{fault_at}
 use Rattle.cvl_base.specs.Limits.{most_elements}
-use Rattle.permute_walks.specs.Senders.{IsStored, count_sent, nobody}
-use Rattle.permute_walks.proofs.EachSent.{is_sent, none_sent}
-use Rattle.permute_walks.proofs.Sent.{IsSentTo, sent_none, sent_more, skip_more, sent_all}
+use Rattle.cvl_base.specs.Permutes.{first_fault, is_place, wrongs}
+use Rattle.permute_walks.specs.Senders.{IsStored, count_sent, nobody, wrong_with}
+use Rattle.permute_walks.proofs.Sent.{IsSentTo, sent_none, sent_more, skip_more, sent_all, found_here, length-wrongs, right_tests, uncons}
+
+-- 1 where somebody is the sender
+abbrev pub is_sent : ℕ → ℕ
+is_sent s = cond (not (eqb s nobody)) 1 0
+
+pub none_sent : (m : ℕ) → sum_by is_sent (replicate m nobody) ≡ 0
+none_sent zero = refl
+none_sent (suc m) = omega (arith, sum_by-cons is_sent nobody (replicate m nobody), none_sent m)
+
+first_right : (place : ℕ) (w : Option FaultNo) (ws : List (Option FaultNo)) → None ≡ first_fault place (w ∷ ws) → w ≡ None
+first_right place None ws right = refl
+first_right place (Some number) ws right = absurd (none-some (fault_at number place) right)
+
+-- where no place is bad, and none before place k was found bad, the one at place k is not
+right_here : (place : ℕ) (ts : List (Option ℤ)) (m k : ℕ) (senders : List ℕ) → None ≡ first_fault place (wrongs m ts)
+    → IsSentTo place ts m k senders → k < length ts → get_or (wrongs m ts) k None ≡ None
+right_here place ts m k senders right to lt =
+    first_right (place + k) (get_or (wrongs m ts) k None) (drop (k + 1) (wrongs m ts))
+    (right ∙ to.fault_is ∙ ap (first_fault (place + k)) (uncons (wrongs m ts) k None (omega (arith, length-wrongs m ts))))
 
 -- what the walk leaves after the first k places, where so many were sent
 pub record IsStoredTo (place : ℕ) (ts : List (Option ℤ)) (m k sent : ℕ) (senders : List ℕ) : Type 0 where
   pub as_long : length senders ≡ m
   pub at_most : count_sent senders ≤ sent
   pub exact : count_sent senders ≡ sent → IsSentTo place ts m k senders
+  pub apart : None ≡ first_fault place (wrongs m ts) → count_sent senders ≡ sent
 
 pub stored_none : (place : ℕ) (ts : List (Option ℤ)) (m : ℕ) (senders : List ℕ) → senders ≡ replicate m nobody → IsStoredTo place ts m 0 0 senders
 stored_none place ts m senders fresh = record {
   as_long = ap length fresh ∙ length-replicate m nobody;
   at_most = omega (arith, ap count_sent fresh, none_sent m);
   exact = λ same. sent_none place ts m senders fresh;
+  apart = λ right. omega (arith, ap count_sent fresh, none_sent m);
 }
 
 -- an index inside, at which nobody stands, is right
@@ -30,11 +56,22 @@ right_from true true inside is_free = refl
 right_from true false inside is_free = absurd (false≢true is_free)
 right_from false free inside is_free = absurd (false≢true inside)
 
+-- an index that is right is a place
+inside_where_right : (senders : List ℕ) (i : ℤ) → wrong_with senders i ≡ None → is_place (length senders) i ≡ true
+inside_where_right senders (pos d) right = (right_tests (ltb d (length senders)) (eqb (get_or senders d 0) nobody) right).0
+inside_where_right senders (negsuc d) right = absurd (none-some IndexOutOfRange (sym right))
+
 free_from : (b : Bool) → cond (not b) 1 0 ≤ 0 → b ≡ true
 free_from true none = refl
 free_from false none = absurd (omega arith)
 
 module _ (place : ℕ) (ts : List (Option ℤ)) (m k sent : ℕ) (senders : List ℕ) (small : place + length ts ≤ nobody) (to : IsStoredTo place ts m k sent senders) (lt : k < length ts) where
+  -- where no place is bad, this one is not
+  right_now : (i : ℤ) → get_or ts k None ≡ Some i → None ≡ first_fault place (wrongs m ts) → wrong_with senders i ≡ None
+  right_now i is right =
+      let sent_to = to.exact (to.apart right) in
+      sym (found_here place ts m k senders small sent_to lt i is) ∙ right_here place ts m k senders right sent_to lt
+
   -- one more target
   pub stored_more : (new : List ℕ) (now d : ℕ) → get_or ts k None ≡ Some (pos d) → d < m → now ≡ sent + 1 → new ≡ set senders d (place + k) → IsStoredTo place ts m (k + 1) now new
   stored_more new now d is within more stored =
@@ -51,7 +88,20 @@ module _ (place : ℕ) (ts : List (Option ℤ)) (m k sent : ℕ) (senders : List
             sent_more place ts m k senders small (to.exact before) lt new (pos d) is
             (right_from (ltb d (length senders)) (eqb (get_or senders d 0) nobody) (lt-ltb d (length senders) in_senders) (free_from (eqb (get_or senders d 0) nobody) (omega (arith, was))))
             stored;
+        apart = λ right.
+            let tests = right_tests (ltb d (length senders)) (eqb (get_or senders d 0) nobody) (right_now (pos d) is right) in
+            let was : is_sent (get_or senders d 0) ≡ 0 = ap (λ b. cond (not b) 1 0) tests.1 in
+            omega (arith, count, set_one, was, becomes, to.apart right, more);
       }
+
+  -- a target that is no place of the result
+  pub stored_outside : (new : List ℕ) (now : ℕ) (i : ℤ) → get_or ts k None ≡ Some i → is_place m i ≡ false → now ≡ sent + 1 → new ≡ senders → IsStoredTo place ts m (k + 1) now new
+  stored_outside new now i is outside more same = record {
+    as_long = ap length same ∙ to.as_long;
+    at_most = omega (arith, ap count_sent same, to.at_most, more);
+    exact = λ all. absurd (omega (arith, ap count_sent same, to.at_most, more, all));
+    apart = λ right. absurd (false≢true (sym outside ∙ ap (λ n. is_place n i) (sym to.as_long) ∙ inside_where_right senders i (right_now i is right)));
+  }
 
   -- a place that does not take part
   pub stored_skip : (new : List ℕ) (now : ℕ) → get_or ts k None ≡ None → now ≡ sent → new ≡ senders → IsStoredTo place ts m (k + 1) now new
@@ -60,6 +110,7 @@ module _ (place : ℕ) (ts : List (Option ℤ)) (m k sent : ℕ) (senders : List
     at_most = omega (arith, ap count_sent same, to.at_most, same_count);
     exact = λ all. subst (IsSentTo place ts m (k + 1)) (sym same)
         (skip_more place ts m k senders small (to.exact (omega (arith, ap count_sent same, all, same_count))) lt is);
+    apart = λ right. omega (arith, ap count_sent same, to.apart right, same_count);
   }
 
 -- an index that is below the most elements when its sign is not looked at is not negative
@@ -73,4 +124,5 @@ stored_all place ts m k sent senders to ge = record {
   at_most = to.at_most;
   no_fault = λ same. (sent_all place ts m k senders (to.exact same) ge).0;
   are_first = λ same. (sent_all place ts m k senders (to.exact same) ge).1;
+  apart = to.apart;
 }

@@ -1,7 +1,7 @@
 -- Senders: for each place of a permute's result, the place whose element goes there.
 -- Source: CVL's permute, d[i[k]] = s[k], in which k is the sender of its index.
 use Rattle.std.specs.Prelude.{◌≡◌, ℕ, ◌+◌, ◌≤◌, ◌==◌, ℤ, pos, not, if◌then◌else◌, unsigned_abs, List, [], ◌∷◌, count_by, length, map}
-use Rattle.std.specs.Prelude.{slice_get, slice_index, Option, Some, None, unwrap_or, Result, Ok, Err}
+use Rattle.std.specs.Prelude.{is_some, slice_get, slice_index, Option, Some, None, unwrap_or, Result, Ok, Err}
 use Rattle.std.specs.List.{range_with_len, zip}
 use Rattle.cvl_base.specs.declared.fault.Fault.{Fault}
 use Rattle.cvl_base.specs.declared.fault.FaultNo.{FaultNo}
@@ -37,11 +37,25 @@ abbrev pub count_sent : List ℕ → ℕ
 count_sent senders = count_by (λ s. not (s == nobody)) senders
 
 -- The senders of the places 0 to m - 1, where so many targets were stored, a later one over an earlier: at most as many
--- places have a sender, and where they are as many, no target was bad and each sender is the first.
+-- places have a sender. They are as many exactly where no target was bad, and then each sender is the first.
 pub record IsStored (place : ℕ) (targets : List (Option ℤ)) (sent m : ℕ) (senders : List ℕ) : Type 0 where
   pub at_most : count_sent senders ≤ sent
   pub no_fault : count_sent senders ≡ sent → None ≡ first_fault place (wrongs m targets)
   pub are_first : count_sent senders ≡ sent → senders ≡ senders_of place targets m
+  pub apart : None ≡ first_fault place (wrongs m targets) → count_sent senders ≡ sent
+
+-- the place of the last target that is d, or the other number where none is; the first of all stands at the place given
+abbrev pub last_sender_from : ℕ → ℕ → List (Option ℤ) → ℕ → ℕ
+last_sender_from other place [] d = other
+last_sender_from other place (t ∷ ts) d = last_sender_from (if is_target (pos d) t then place else other) (place + 1) ts d
+
+-- the last senders of the n places from `lowest` on
+abbrev pub last_senders : ℕ → List (Option ℤ) → ℕ → ℕ → List ℕ
+last_senders place targets lowest n = map (last_sender_from nobody place targets) (range_with_len lowest n)
+
+-- how many places take part
+abbrev pub count_targets : List (Option ℤ) → ℕ
+count_targets targets = count_by is_some targets
 
 -- what stands where the elements of senders were written over values: nobody has no element, and the value stays
 abbrev pub written_over : {X : Type 0} → List X → List ℕ → List X → List X

@@ -5,6 +5,7 @@
 pub mod backs;
 pub mod destinations;
 pub mod elements;
+mod owners;
 pub mod places;
 pub mod sends;
 mod stores;
@@ -12,5 +13,6 @@ mod stores;
 pub use backs::{check_places, elements_at, write_elements_at};
 pub use destinations::{AllTargets, Destinations, FlaggedTargets};
 pub use elements::{elements_of, elements_or_defaults};
+pub use owners::senders_shared;
 pub use places::element_of;
 pub use sends::{NOBODY, send_places};

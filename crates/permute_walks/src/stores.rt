@@ -63,7 +63,7 @@ pub(crate) fn are_apart(senders: &[u32], sent: Option<usize>) -> bool
 /// How many places have a sender.
 // In 32 bits twice as many are counted at once.
 #[inline(never)]
-fn count_senders(senders: &[u32]) -> u32
+pub(crate) fn count_senders(senders: &[u32]) -> u32
     requires few { count_sent senders.now ≤ most_elements }
     ensures value { result ≡ count_sent senders.now }
 {

@@ -2,6 +2,8 @@ pub mod Backed
 pub mod Checked
 pub mod Cuts
 pub mod Flat
+pub mod FlatIndices
+pub mod Flattened
 pub mod Joined
 pub mod Ranges
 pub mod Runs

@@ -36,13 +36,6 @@ pub taken_ok : {X : Type 0} (take_from : List ℕ → List X) (fault : Option Fa
 taken_ok take_from None senders found items same taken = let are : senders ≡ found = cc in ap Ok (sym (taken refl (sym are)))
 taken_ok take_from (Some f) senders found items same taken = absurd (cc)
 
--- a refusal of the first walk is that of both
-pub taken_err : {X V W : Type 0} (view : V → List ℕ) (see : W → List X) (fault : Option Fault) (senders : List ℕ) (xs : List X) (e : Refused) → Gives view (Err e) (unless fault (Ok senders))
-    → Gives see (Err e) (unless fault (Ok xs))
-taken_err view see (Some f) senders xs (refused.Fault g) given = cc
-taken_err view see None senders xs (refused.Fault g) given = absurd (cc)
-taken_err view see fault senders xs refused.NoResources given = tt
-
 -- the length of a value that both walks gave
 pub length_given : {X V : Type 0} (view : V → List X) (len : V → ℕ) → ((v : V) → len v ≡ length (view v)) → (r : Result V Refused) (fault : Option Fault) (xs : List X) (n : ℕ)
     → (fault ≡ None → length xs ≡ n)

@@ -1,4 +1,5 @@
 pub mod Backs
+pub mod FlatIndices
 pub mod Parts
 pub mod Walks
 pub use Rattle.permute_walks.specs.Indices

@@ -1,13 +1,15 @@
 //! The back permute.
 
-ghost use Rattle.std.specs.Prelude.{◌≡◌, ◌≤◌, IfOk, length, Ok, vec_len};
+ghost use Rattle.std.specs.Prelude.{◌≡◌, ◌≤◌, IfOk, length, sum, Ok, vec_len};
 ghost use Rattle.cvl_base.specs.Gives.{Gives, unless};
 ghost use Rattle.cvl_base.specs.Limits.{most_elements};
 ghost use Rattle.cvl_base.specs.Permutes.{back_of};
 ghost use Rattle.cvl_base.specs.SegmentedCalls.{seg_back_of};
 ghost use Rattle.permute_walks.specs.Indices.{first_outside};
+ghost use Rattle.permutes.specs.Backs.{outside_from};
 
 use crate::back_segments::{check_segments, segments_at};
+use crate::segment_races::check_segments_raced;
 use crew::{Gate, OpenGate};
 use cvl_base::{Config, Memory, Refused, check_agree};
 use permute_races::{check_indices_raced, permute_pace};
@@ -31,6 +33,28 @@ fn check_indices<R: Threads + Sync, A: Memory, G: Gate>(
     match permute_pace(config, index.len(), places) {
         Some(pace) => check_indices_raced(rt, alloc, pace, index, places, gate),
         None => Ok(check_places(index, places, 0)?),
+    }
+}
+
+/// `IndexOutOfRange` at the first place whose index is no place of its segment of the source, for which workers race or one
+/// thread looks.
+fn check_segment_indices<R: Threads + Sync, A: Memory, G: Gate>(
+    rt: &R,
+    alloc: A,
+    config: Config,
+    index: &[i32],
+    source_d: &SegDes<A>,
+    index_d: &SegDes<A>,
+    gate: &G,
+) -> Result<(), Refused>
+    requires total { sum index_d.now ≡ length index.now }
+    requires count { length source_d.now ≡ length index_d.now }
+    requires in_limit { length index.now ≤ most_elements }
+    ensures { Gives (λ u. u) result (unless (outside_from 0 source_d.now index_d.now index.now) (Ok tt)) }
+{
+    match permute_pace(config, index.len(), source_d.total()) {
+        Some(pace) => check_segments_raced(rt, alloc, pace, index, source_d, index_d, gate),
+        None => Ok(check_segments(index, source_d, index_d)?),
     }
 }
 
@@ -96,7 +120,8 @@ pub fn seg_back<T: Copy + Send + Sync, R: Threads + Sync, A: Memory>(
     )
 }
 
-/// `seg_back` with a gate for workers who race. One thread makes the first walk today, so that no point of the gate is passed.
+/// `seg_back` with a gate for workers who race for the least index outside. Each passes it at `Claimed` and `Finished` of each
+/// of its tiles.
 pub fn seg_back_gated<T: Copy + Send + Sync, R: Threads + Sync, A: Memory, G: Gate>(
     rt: &R,
     alloc: A,
@@ -115,7 +140,7 @@ pub fn seg_back_gated<T: Copy + Send + Sync, R: Threads + Sync, A: Memory, G: Ga
     check_total(source, source_d)?;
     check_total(index, index_d)?;
     check_agree(source_d.count(), index_d.count())?;
-    check_segments(index, source_d, index_d)?;
+    check_segment_indices(rt, alloc, config, index, source_d, index_d, gate)?;
     let threads = threads_for(config, index.len());
     Ok(segments_at(rt, alloc, threads, source, index, source_d, index_d)?)
 }

@@ -6,12 +6,12 @@ ghost use Rattle.cvl_base.specs.Limits.{most_elements};
 ghost use Rattle.cvl_base.specs.Permutes.{default_of};
 ghost use Rattle.cvl_base.specs.SegmentedCalls.{seg_default_of};
 
-use crate::segments::send_segments;
-use crate::sent::{elements_sent_over, elements_to_over};
+use crate::sent::{elements_to_over, segment_senders};
 use crew::{Gate, OpenGate};
 use cvl_base::{Config, Memory, Refused, check_agree};
-use permute_walks::AllTargets;
+use permute_walks::{AllTargets, elements_or_defaults};
 use segdes::{SegDes, check_total};
+use sharing::threads_for;
 use std::thread::Threads;
 
 /// Each element goes to its index, and a place to which none goes keeps its default: `def_puz` and `def_pub`.
@@ -86,7 +86,8 @@ pub fn seg_default_into<T: Copy + Send + Sync, R: Threads + Sync, A: Memory>(
     )
 }
 
-/// `seg_default_into` with a gate for workers who race. One thread makes the first walk today, so that no point of the gate is passed.
+/// `seg_default_into` with a gate for workers who race, for the senders and then for the least bad place. Each passes it at
+/// `Claimed` and `Finished` of each of its tiles.
 pub fn seg_default_into_gated<T: Copy + Send + Sync, R: Threads + Sync, A: Memory, G: Gate>(
     rt: &R,
     alloc: A,
@@ -107,7 +108,7 @@ pub fn seg_default_into_gated<T: Copy + Send + Sync, R: Threads + Sync, A: Memor
     check_total(index, source_d)?;
     check_total(defaults, default_d)?;
     check_agree(source_d.count(), default_d.count())?;
-    elements_sent_over(rt, alloc, config, source, defaults, |senders| {
-        send_segments(senders, index, source_d, default_d)
-    })
+    let senders = segment_senders(rt, alloc, config, index, source_d, default_d, gate)?;
+    let threads = threads_for(config, defaults.len());
+    Ok(elements_or_defaults(rt, alloc, threads, source, &senders, defaults)?)
 }

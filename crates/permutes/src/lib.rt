@@ -4,13 +4,14 @@
 //! sender, the place whose element goes there; that of a back permute looks at all indices. The second writes the elements,
 //! by several threads where the result is long.
 //!
-//! Each call has a gated form with the same contract for every gate. Workers race for the first walk of a flat permute
-//! where short tiles are asked for. They don't race for those of segments yet, so that their gates see no point.
+//! Each call has a gated form with the same contract for every gate. Workers race for the first walk where short tiles are
+//! asked for, also for that of segments, whose indices are then counted from the start of the whole result first.
 #![tactic(auto)]
 
 mod back_segments;
 mod backs;
 mod defaults;
+mod segment_races;
 mod segments;
 mod selects;
 mod sent;

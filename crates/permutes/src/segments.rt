@@ -15,7 +15,7 @@ use std::alloc::Allocator;
 ///
 /// Its meaning is how many places each part of the result has, with the targets of the segment, and whether the vectors
 /// are as long as the segments in all.
-trait Parts {
+pub(crate) trait Parts {
     /// The targets of a segment.
     type Part: Destinations + Drop;
 
@@ -37,10 +37,10 @@ trait Parts {
 
 /// Each place takes part, and the result has segments of its own lengths.
 #[derive(Drop)]
-struct AllParts<'a, A: Allocator> {
-    index: &'a [i32],
-    d: &'a SegDes<A>,
-    result_d: &'a SegDes<A>,
+pub(crate) struct AllParts<'a, A: Allocator> {
+    pub(crate) index: &'a [i32],
+    pub(crate) d: &'a SegDes<A>,
+    pub(crate) result_d: &'a SegDes<A>,
 }
 
 impl<'a, A: Allocator> Parts for AllParts<'a, A> {
@@ -66,10 +66,10 @@ impl<'a, A: Allocator> Parts for AllParts<'a, A> {
 
 /// The places whose flag is true take part, and a segment of the result has as many places.
 #[derive(Drop)]
-struct FlaggedParts<'a, A: Allocator> {
-    index: &'a [i32],
-    flags: &'a [bool],
-    d: &'a SegDes<A>,
+pub(crate) struct FlaggedParts<'a, A: Allocator> {
+    pub(crate) index: &'a [i32],
+    pub(crate) flags: &'a [bool],
+    pub(crate) d: &'a SegDes<A>,
 }
 
 impl<'a, A: Allocator> Parts for FlaggedParts<'a, A> {

@@ -6,12 +6,12 @@ ghost use Rattle.cvl_base.specs.Limits.{most_elements};
 ghost use Rattle.cvl_base.specs.Permutes.{select_of};
 ghost use Rattle.cvl_base.specs.SegmentedCalls.{seg_select_of};
 
-use crate::segments::send_flagged_segments;
-use crate::sent::{elements_sent, elements_to};
+use crate::sent::{elements_to, flagged_segment_senders};
 use crew::{Gate, OpenGate};
 use cvl_base::{Config, Memory, Refused, check_agree, true_count};
-use permute_walks::FlaggedTargets;
+use permute_walks::{FlaggedTargets, elements_of};
 use segdes::{SegDes, check_total};
+use sharing::threads_for;
 use std::thread::Threads;
 
 /// Each element whose flag is true goes to its index: `sel_puz` and `sel_pub`.
@@ -85,7 +85,8 @@ pub fn seg_select<T: Copy + Send + Sync, R: Threads + Sync, A: Memory>(
     seg_select_gated(rt, alloc, config, source, index, flags, d, &OpenGate)
 }
 
-/// `seg_select` with a gate for workers who race. One thread makes the first walk today, so that no point of the gate is passed.
+/// `seg_select` with a gate for workers who race, for the senders and then for the least bad place. Each passes it at `Claimed`
+/// and `Finished` of each of its tiles.
 pub fn seg_select_gated<T: Copy + Send + Sync, R: Threads + Sync, A: Memory, G: Gate>(
     rt: &R,
     alloc: A,
@@ -104,8 +105,7 @@ pub fn seg_select_gated<T: Copy + Send + Sync, R: Threads + Sync, A: Memory, G: 
     check_total(source, d)?;
     check_total(index, d)?;
     check_total(flags, d)?;
-    let places = true_count(flags);
-    elements_sent(rt, alloc, config, source, places, |senders| {
-        send_flagged_segments(senders, index, flags, d)
-    })
+    let senders = flagged_segment_senders(rt, alloc, config, index, flags, d, gate)?;
+    let threads = threads_for(config, senders.len());
+    Ok(elements_of(rt, alloc, threads, source, &senders)?)
 }

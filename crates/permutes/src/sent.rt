@@ -1,20 +1,25 @@
 //! Both walks of a permute, of which several threads share the second where the result is long.
 
-ghost use Rattle.std.specs.Prelude.{◌≡◌, ◌<◌, ◌≤◌, ℕ, List, filter_map, length, replicate, slice_get};
-ghost use Rattle.std.specs.Prelude.{IfOk, IfSome, Option, Ok, vec_len};
+ghost use Rattle.std.specs.Prelude.{◌≡◌, ◌≤◌, filter_map, length, replicate, slice_get, sum};
+ghost use Rattle.std.specs.Prelude.{IfOk, Ok, vec_len};
 ghost use Rattle.std.specs.Fn.{FnOnceReturnsAtMut, FnOnceTakesAtMut};
-ghost use Rattle.cvl_base.specs.declared.fault.Fault.{Fault};
 ghost use Rattle.cvl_base.specs.Gives.{Gives, unless};
 ghost use Rattle.cvl_base.specs.Limits.{most_elements};
 ghost use Rattle.cvl_base.specs.Permutes.{first_fault, wrongs};
-ghost use Rattle.permutes.specs.Walks.{AreAllSent, IsFound, Sends};
+ghost use Rattle.permutes.specs.Parts.{fault_from, flagged_parts, parts_of, senders_from};
+ghost use Rattle.permutes.specs.Walks.{AreAllSent, IsFound};
 ghost use Rattle.permute_walks.specs.Senders.{nobody, senders_of, written_over};
 
+use crate::segment_races::{flagged_segments_raced, segments_raced};
+use crate::segments::{send_flagged_segments, send_segments};
 use crew::Gate;
-use cvl_base::{Config, Fault, Memory, Refused};
+use cvl_base::{Config, Fault, Memory, Refused, true_count};
 use permute_races::{permute_pace, senders_raced};
-use permute_walks::{Destinations, NOBODY, elements_of, elements_or_defaults, send_places};
-use sharing::threads_for;
+use permute_walks::{
+    Destinations, NOBODY, elements_of, elements_or_defaults, send_places, senders_shared,
+};
+use segdes::SegDes;
+use sharing::{LEAST_SEARCHED, race_pace, threads_for, threads_sending};
 use std::thread::Threads;
 
 /// The senders of so many places, which `send` finds from nobody on.
@@ -29,57 +34,6 @@ fn senders_found<A: Memory, F: FnOnce(&mut [u32]) -> Result<(), Fault>>(
     let mut senders = vec![in alloc; NOBODY; places]?;
     send(&mut senders)?;
     Ok(senders)
-}
-
-/// The elements of the senders that `send` finds, each of which has an element.
-pub(crate) fn elements_sent<
-    T: Copy + Send + Sync,
-    R: Threads + Sync,
-    A: Memory,
-    F: FnOnce(&mut [u32]) -> Result<(), Fault>,
->(
-    rt: &R,
-    alloc: A,
-    config: Config,
-    source: &[T],
-    places: usize,
-    send: F,
-) -> Result<Vec<T, A>, Refused>
-    requires callable { FnOnceTakesAtMut F.FnOnce send (replicate places nobody) }
-    ensures values { (fault : Option Fault) (senders : List ℕ) → length senders ≡ places
-        → AreAllSent fault (length source.now) senders
-        → Sends (FnOnceReturnsAtMut F.FnOnce send (replicate places nobody)) fault senders
-        → Gives (λ v. v.items) result (unless fault (Ok (filter_map (slice_get source.now) senders))) }
-    ensures in_length { IfOk result (λ v. vec_len v ≤ places) }
-{
-    let senders = senders_found(alloc, places, send)?;
-    let threads = threads_for(config, places);
-    Ok(elements_of(rt, alloc, threads, source, &senders)?)
-}
-
-/// For each sender that `send` finds its element, or the default at the same place where it is nobody.
-pub(crate) fn elements_sent_over<
-    T: Copy + Send + Sync,
-    R: Threads + Sync,
-    A: Memory,
-    F: FnOnce(&mut [u32]) -> Result<(), Fault>,
->(
-    rt: &R,
-    alloc: A,
-    config: Config,
-    source: &[T],
-    defaults: &[T],
-    send: F,
-) -> Result<Vec<T, A>, Refused>
-    requires callable { FnOnceTakesAtMut F.FnOnce send (replicate (length defaults.now) nobody) }
-    ensures values { (fault : Option Fault) (senders : List ℕ) → length senders ≡ length defaults.now
-        → Sends (FnOnceReturnsAtMut F.FnOnce send (replicate (length defaults.now) nobody)) fault senders
-        → Gives (λ v. v.items) result (unless fault (Ok (written_over source.now senders defaults.now))) }
-    ensures as_long { IfOk result (λ v. vec_len v ≡ length defaults.now) }
-{
-    let senders = senders_found(alloc, defaults.len(), send)?;
-    let threads = threads_for(config, defaults.len());
-    Ok(elements_or_defaults(rt, alloc, threads, source, &senders, defaults)?)
 }
 
 /// For each place of a flat result its sender, for which workers race or one thread walks.
@@ -97,8 +51,87 @@ fn senders_to<R: Threads + Sync, A: Memory, D: Destinations + Sync, G: Gate>(
 {
     match permute_pace(config, destinations.count(), places) {
         Some(pace) => senders_raced(rt, alloc, pace, places, destinations, gate),
+        None => senders_unasked(rt, alloc, config, places, destinations, gate),
+    }
+}
+
+/// The same where no race is asked for. Several threads share the walk over a long result, and where a place is bad workers
+/// race for the first one.
+fn senders_unasked<R: Threads + Sync, A: Memory, D: Destinations + Sync, G: Gate>(
+    rt: &R,
+    alloc: A,
+    config: Config,
+    places: usize,
+    destinations: &D,
+    gate: &G,
+) -> Result<Vec<u32, A>, Refused>
+    requires few { length (D.targets destinations.now) ≤ most_elements }
+    ensures { Gives (λ v. v.items) result (unless (first_fault 0 (wrongs places (D.targets destinations.now)))
+        (Ok (senders_of 0 (D.targets destinations.now) places))) }
+{
+    let threads = threads_sending(config, places);
+    if threads >= 2 {
+        if let Some(senders) = senders_shared(rt, alloc, threads, places, destinations)? {
+            return Ok(senders);
+        }
+        let indices = destinations.count();
+        if let Some(pace) = race_pace(indices >= LEAST_SEARCHED, config, indices) {
+            return senders_raced(rt, alloc, pace, places, destinations, gate);
+        }
+    }
+    senders_found(alloc, places, |senders| {
+        send_places(senders, 0, destinations)
+    })
+}
+
+/// For each place of a result with segments of its own lengths its sender, for which workers race or one thread walks the
+/// segments. Each place takes part.
+pub(crate) fn segment_senders<R: Threads + Sync, A: Memory, G: Gate>(
+    rt: &R,
+    alloc: A,
+    config: Config,
+    index: &[i32],
+    d: &SegDes<A>,
+    result_d: &SegDes<A>,
+    gate: &G,
+) -> Result<Vec<u32, A>, Refused>
+    requires total { sum d.now ≡ length index.now }
+    requires count { length d.now ≡ length result_d.now }
+    requires in_limit { length index.now ≤ most_elements }
+    ensures { Gives (λ v. v.items) result (unless (fault_from 0 (parts_of d.now result_d.now index.now))
+        (Ok (senders_from 0 (parts_of d.now result_d.now index.now)))) }
+{
+    let places = result_d.total();
+    match permute_pace(config, index.len(), places) {
+        Some(pace) => segments_raced(rt, alloc, pace, index, d, result_d, gate),
         None => senders_found(alloc, places, |senders| {
-            send_places(senders, 0, destinations)
+            send_segments(senders, index, d, result_d)
+        }),
+    }
+}
+
+/// The same where the places whose flag is true take part, and each segment of the result has as many places as the segment
+/// has true flags.
+pub(crate) fn flagged_segment_senders<R: Threads + Sync, A: Memory, G: Gate>(
+    rt: &R,
+    alloc: A,
+    config: Config,
+    index: &[i32],
+    flags: &[bool],
+    d: &SegDes<A>,
+    gate: &G,
+) -> Result<Vec<u32, A>, Refused>
+    requires total { sum d.now ≡ length index.now }
+    requires as_long { length index.now ≡ length flags.now }
+    requires in_limit { length index.now ≤ most_elements }
+    ensures { Gives (λ v. v.items) result (unless (fault_from 0 (flagged_parts d.now index.now flags.now))
+        (Ok (senders_from 0 (flagged_parts d.now index.now flags.now)))) }
+{
+    let places = true_count(flags);
+    match permute_pace(config, index.len(), places) {
+        Some(pace) => flagged_segments_raced(rt, alloc, pace, index, flags, d, places, gate),
+        None => senders_found(alloc, places, |senders| {
+            send_flagged_segments(senders, index, flags, d)
         }),
     }
 }

@@ -6,12 +6,12 @@ ghost use Rattle.cvl_base.specs.Limits.{most_elements};
 ghost use Rattle.cvl_base.specs.Permutes.{simple_of};
 ghost use Rattle.cvl_base.specs.SegmentedCalls.{seg_simple_of};
 
-use crate::segments::send_segments;
-use crate::sent::{elements_sent, elements_to};
+use crate::sent::{elements_to, segment_senders};
 use crew::{Gate, OpenGate};
 use cvl_base::{Config, Memory, Refused, check_agree};
-use permute_walks::AllTargets;
+use permute_walks::{AllTargets, elements_of};
 use segdes::{SegDes, check_total};
+use sharing::threads_for;
 use std::thread::Threads;
 
 /// Each element goes to its index, `d[i[k]] = s[k]`: `smp_puz` and `smp_pub`.
@@ -80,7 +80,8 @@ pub fn seg_simple<T: Copy + Send + Sync, R: Threads + Sync, A: Memory>(
     seg_simple_gated(rt, alloc, config, source, index, d, &OpenGate)
 }
 
-/// `seg_simple` with a gate for workers who race. One thread makes the first walk today, so that no point of the gate is passed.
+/// `seg_simple` with a gate for workers who race, for the senders and then for the least bad place. Each passes it at `Claimed`
+/// and `Finished` of each of its tiles.
 pub fn seg_simple_gated<T: Copy + Send + Sync, R: Threads + Sync, A: Memory, G: Gate>(
     rt: &R,
     alloc: A,
@@ -96,7 +97,7 @@ pub fn seg_simple_gated<T: Copy + Send + Sync, R: Threads + Sync, A: Memory, G: 
 {
     check_total(source, d)?;
     check_total(index, d)?;
-    elements_sent(rt, alloc, config, source, index.len(), |senders| {
-        send_segments(senders, index, d, d)
-    })
+    let senders = segment_senders(rt, alloc, config, index, d, d, gate)?;
+    let threads = threads_for(config, senders.len());
+    Ok(elements_of(rt, alloc, threads, source, &senders)?)
 }

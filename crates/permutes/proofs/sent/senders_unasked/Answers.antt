@@ -4,10 +4,10 @@ use Rattle.cvl_base.specs.Permutes.{first_fault, wrongs}
 use Rattle.permute_walks.specs.Senders.{nobody, senders_of, fault_told}
 use Rattle.permute_walks.proofs.Sent.{length-senders_of}
 use Rattle.permutes.proofs.Walked.{sends_at}
-use Rattle.permutes.proofs.sent.senders_to.Goals as goal
+use Rattle.permutes.proofs.sent.senders_unasked.Goals as goal
 
-pub returns-in-None : goal.returns-in-None
-returns-in-None g c =
+pub returns : goal.returns
+returns g c =
     let ts = g.D.Destinations.targets c.args.destinations.now in
     let places = c.args.places in
     c.senders_found.ensures.1 (first_fault 0 (wrongs places ts)) (senders_of 0 ts places) (length-senders_of 0 ts places)

@@ -1,0 +1,219 @@
+-- The last senders of a range of the result, of which each thread finds those of its own range; and that all of them are what
+-- one walk of stores leaves.
+use Rattle.std.proofs.Common.{◌≡◌, ◌∙◌, ℕ, zero, suc, ◌+◌, ◌-◌, ◌<◌, ◌≤◌, Bool, true, false, ◌&&◌, if◌then◌else◌, List, [], ◌∷◌, ◌++◌, length, take, get_or, set, replicate, refl, sym, ap, subst}
+use Rattle.std.proofs.Common.{arith, inl, inr, leb, ltb, w32, to_z, of_z, FitsSigned, ℤ, pos, negsuc, unsigned_abs, is_some, Option, Some, None}
+use Rattle.std.specs.Ordering.{int_eq}
+use Rattle.std.specs.Cmp.Derive.{both_true}
+use Rattle.std.proofs.lemmas.Bool.{and_parts, le-leb, leb-true, lt-ltb, ltb-true, false_from_ne_true, false≢true}
+use Rattle.std.proofs.lemmas.Bool.Decides.{eqb_tells, Decides-int_eq}
+use Rattle.std.proofs.lemmas.List.{ext_get_or, get_or-set_same, get_or-replicate, get_or-set_other, length-set, set-get_or, length-take, take_more, take_all}
+use Rattle.std.proofs.lemmas.List.FromFn.{length-map-range_with_len, get_or-map-range_with_len}
+use Rattle.std.proofs.lemmas.List.Sums.{count_by_more_no, count_by_more_yes}
+use Rattle.std.proofs.lemmas.Int.{to_z-of_z}
+use Rattle.cvl_base.specs.Limits.{most_elements}
+use Rattle.cvl_base.specs.declared.fault.Fault.{Fault}
+use Rattle.cvl_base.specs.Permutes.{first_fault, is_target, target_if, wrongs}
+use Rattle.permute_walks.specs.Senders.{IsStored, count_sent, count_targets, last_sender_from, last_senders, nobody, senders_of}
+use Rattle.permute_walks.proofs.Sent.{nobody_sent}
+use Rattle.permute_walks.proofs.Stored.{IsStoredTo, index_is, stored_none, stored_more, stored_outside, stored_skip, stored_all}
+
+pub length-last_senders : (place : ℕ) (ts : List (Option ℤ)) (lowest n : ℕ) → length (last_senders place ts lowest n) ≡ n
+length-last_senders place ts lowest n = length-map-range_with_len (last_sender_from nobody place ts) lowest n
+
+last_at : (place : ℕ) (ts : List (Option ℤ)) (lowest n j : ℕ) → j < n → get_or (last_senders place ts lowest n) j 0 ≡ last_sender_from nobody place ts (lowest + j)
+last_at place ts lowest n j lt = get_or-map-range_with_len (last_sender_from nobody place ts) lowest n j (lowest + j) 0 lt refl
+
+-- ---- one more target
+
+last_push : (other place : ℕ) (us : List (Option ℤ)) (t : Option ℤ) (d : ℕ) → last_sender_from other place (us ++ t ∷ []) d
+    ≡ (if is_target (pos d) t then place + length us else last_sender_from other place us d)
+last_push other place [] t d = ap (λ p. if is_target (pos d) t then p else other) (omega arith)
+last_push other place (u ∷ us) t d =
+    let this = if is_target (pos d) u then place else other in
+    last_push this (place + 1) us t d ∙ ap (λ p. if is_target (pos d) t then p else last_sender_from this (place + 1) us d) (omega arith)
+
+module _ (place : ℕ) (ts : List (Option ℤ)) (lowest n k : ℕ) (lt : k < length ts) where
+  abbrev pub this : Option ℤ
+  this = get_or ts k None
+
+  more_at : (d : ℕ) → last_sender_from nobody place (take (k + 1) ts) d ≡ (if is_target (pos d) this then place + k else last_sender_from nobody place (take k ts) d)
+  more_at d =
+      ap (λ us. last_sender_from nobody place us d) (take_more ts k None lt)
+      ∙ last_push nobody place (take k ts) this d
+      ∙ ap (λ p. if is_target (pos d) this then place + p else last_sender_from nobody place (take k ts) d) (omega (arith, length-take k ts))
+
+  -- that is none of the range
+  pub lasts_other : ((d : ℕ) → lowest ≤ d → d < lowest + n → is_target (pos d) this ≡ false) → last_senders place (take (k + 1) ts) lowest n ≡ last_senders place (take k ts) lowest n
+  lasts_other other =
+      let new = last_senders place (take (k + 1) ts) lowest n in
+      ext_get_or 0 new (last_senders place (take k ts) lowest n) (length-last_senders place (take (k + 1) ts) lowest n ∙ sym (length-last_senders place (take k ts) lowest n)) (λ j within.
+      let below : j < n = omega (arith, length-last_senders place (take (k + 1) ts) lowest n) in
+      last_at place (take (k + 1) ts) lowest n j below ∙ more_at (lowest + j)
+      ∙ ap (λ b. if b then place + k else last_sender_from nobody place (take k ts) (lowest + j)) (other (lowest + j) (omega arith) (omega arith))
+      ∙ sym (last_at place (take k ts) lowest n j below))
+
+  -- that is place j of the range
+  pub lasts_set : (j d : ℕ) → j < n → lowest + j ≡ d → this ≡ Some (pos d) → last_senders place (take (k + 1) ts) lowest n ≡ set (last_senders place (take k ts) lowest n) j (place + k)
+  lasts_set j d lt_n there names =
+      let is : this ≡ Some (pos (lowest + j)) = names ∙ ap (λ p. Some (pos p)) (sym there) in
+      let new = last_senders place (take (k + 1) ts) lowest n in
+      let old = last_senders place (take k ts) lowest n in
+      let long : length old ≡ n = length-last_senders place (take k ts) lowest n in
+      ext_get_or 0 new (set old j (place + k)) (length-last_senders place (take (k + 1) ts) lowest n ∙ sym (length-set old j (place + k) ∙ long)) (λ e within.
+      let below : e < n = omega (arith, length-last_senders place (take (k + 1) ts) lowest n) in
+      let pick = λ (b : Bool). if b then place + k else last_sender_from nobody place (take k ts) (lowest + e) in
+      last_at place (take (k + 1) ts) lowest n e below ∙ more_at (lowest + e)
+      ∙ ap (λ t. pick (is_target (pos (lowest + e)) t)) is
+      ∙ elim (eqb_tells e j) [
+        | inl same ↦
+            ap pick ((Decides-int_eq (pos (lowest + j)) (pos (lowest + e))).1 (ap (λ m. pos (lowest + m)) (sym same.1)))
+            ∙ sym (ap (λ m. get_or (set old j (place + k)) m 0) same.1 ∙ get_or-set_same old j (place + k) 0 (omega (arith, long)))
+        | inr other ↦
+            ap pick (false_from_ne_true (int_eq (pos (lowest + j)) (pos (lowest + e)))
+            (λ yes. let same : pos (lowest + j) ≡ pos (lowest + e) = (Decides-int_eq (pos (lowest + j)) (pos (lowest + e))).0 yes in other.1 (apart_in same)))
+            ∙ sym (get_or-set_other old j e (place + k) 0 other.1 ∙ last_at place (take k ts) lowest n e below)
+      ])
+    where
+      apart_in : {e : ℕ} → pos (lowest + j) ≡ pos (lowest + e) → e ≡ j
+      apart_in {e} same = let sums : lowest + j ≡ lowest + e = ap unsigned_abs same in omega (arith, sums)
+
+-- ---- two ranges side by side are one
+
+pub lasts_both : (place : ℕ) (ts : List (Option ℤ)) (lowest n m : ℕ) → last_senders place ts lowest n ++ last_senders place ts (lowest + n) m ≡ last_senders place ts lowest (n + m)
+lasts_both place ts lowest zero m =
+    let start : lowest + 0 ≡ lowest = omega arith in
+    let all : m ≡ 0 + m = omega arith in
+    ap (λ l. last_senders place ts l m) start ∙ ap (last_senders place ts lowest) all
+lasts_both place ts lowest (suc n) m =
+    let next : lowest + suc n ≡ lowest + 1 + n = omega arith in
+    let all : suc (n + m) ≡ suc n + m = omega arith in
+    ap (λ rest. last_sender_from nobody place ts lowest ∷ rest)
+    (ap (λ l. last_senders place ts (lowest + 1) n ++ last_senders place ts l m) next ∙ lasts_both place ts (lowest + 1) n m)
+    ∙ ap (last_senders place ts lowest) all
+
+-- ---- the whole result
+
+module _ (place : ℕ) (ts : List (Option ℤ)) (m : ℕ) (small : place + length ts ≤ nobody) where
+  abbrev pub IsReached : ℕ → Type 0
+  IsReached k = IsStoredTo place ts m k (count_targets (take k ts)) (last_senders place (take k ts) 0 m)
+
+  stored_place : (k d : ℕ) (inside : Bool) → ltb d m ≡ inside → get_or ts k None ≡ Some (pos d) → k < length ts → IsReached k → IsReached (k + 1)
+  stored_place k d true inside is lt to =
+      let lt_m : d < m = ltb-true d m inside in
+      stored_more place ts m k (count_targets (take k ts)) (last_senders place (take k ts) 0 m) small to lt
+      (last_senders place (take (k + 1) ts) 0 m) (count_targets (take (k + 1) ts)) d is lt_m
+      (count_by_more_yes is_some ts k None lt (ap is_some is)) (lasts_set place ts 0 m k lt d d lt_m (omega arith) is)
+  stored_place k d false inside is lt to =
+      stored_outside place ts m k (count_targets (take k ts)) (last_senders place (take k ts) 0 m) small to lt
+      (last_senders place (take (k + 1) ts) 0 m) (count_targets (take (k + 1) ts)) (pos d) is inside
+      (count_by_more_yes is_some ts k None lt (ap is_some is))
+      (lasts_other place ts 0 m k lt (λ j from below. ap (is_target (pos j)) is ∙ other_int j (omega arith)))
+    where
+      other_int : (j : ℕ) → j < m → int_eq (pos d) (pos j) ≡ false
+      other_int j below = false_from_ne_true (int_eq (pos d) (pos j)) (λ yes. let same : pos d ≡ pos j = (Decides-int_eq (pos d) (pos j)).0 yes in past same below)
+        where
+          past : pos d ≡ pos j → j < m → ⊥
+          past same below = let same_number : d ≡ j = ap unsigned_abs same in false≢true (sym inside ∙ lt-ltb d m (omega (arith, same_number, below)))
+
+  stored_target : (k : ℕ) (t : Option ℤ) → get_or ts k None ≡ t → k < length ts → IsReached k → IsReached (k + 1)
+  stored_target k None is lt to =
+      stored_skip place ts m k (count_targets (take k ts)) (last_senders place (take k ts) 0 m) small to lt
+      (last_senders place (take (k + 1) ts) 0 m) (count_targets (take (k + 1) ts)) is
+      (count_by_more_no is_some ts k None lt (ap is_some is)) (lasts_other place ts 0 m k lt (λ j from below. ap (is_target (pos j)) is))
+  stored_target k (Some (pos d)) is lt to = stored_place k d (ltb d m) refl is lt to
+  stored_target k (Some (negsuc d)) is lt to =
+      stored_outside place ts m k (count_targets (take k ts)) (last_senders place (take k ts) 0 m) small to lt
+      (last_senders place (take (k + 1) ts) 0 m) (count_targets (take (k + 1) ts)) (negsuc d) is refl
+      (count_by_more_yes is_some ts k None lt (ap is_some is)) (lasts_other place ts 0 m k lt (λ j from below. ap (is_target (pos j)) is))
+
+  reached : (k : ℕ) → k ≤ length ts → IsReached k
+  reached zero le = stored_none place ts m (last_senders place [] 0 m) (nobody_sent 0 m)
+  reached (suc k) le = subst IsReached (omega arith) (stored_target k (get_or ts k None) refl (omega arith) (reached k (omega arith)))
+
+  pub lasts_stored : IsStored place ts (count_targets ts) m (last_senders place ts 0 m)
+  lasts_stored =
+      subst (λ us. IsStored place ts (count_targets us) m (last_senders place us 0 m)) (take_all (length ts) ts (omega arith))
+      (stored_all place ts m (length ts) (count_targets (take (length ts) ts)) (last_senders place (take (length ts) ts) 0 m) (reached (length ts) (omega arith)) (omega arith))
+
+-- ---- the walk over one range: what it leaves after the first k places, where it stored a sender last at a destination
+
+pub record IsStoredIn (ts : List (Option ℤ)) (lowest n k destination sender : ℕ) (senders : List ℕ) : Type 0 where
+  pub lasts : senders ≡ last_senders 0 (take k ts) lowest n
+  pub inside : destination < n
+  pub stands : get_or senders destination 0 ≡ sender
+
+pub range_none : (ts : List (Option ℤ)) (lowest n : ℕ) (senders : List ℕ) → senders ≡ replicate n nobody → 0 < n → IsStoredIn ts lowest n 0 0 nobody senders
+range_none ts lowest n senders fresh some = record {
+  lasts = fresh ∙ sym (nobody_sent lowest n);
+  inside = some;
+  stands = ap (λ (ss : List ℕ). get_or ss 0 0) fresh ∙ get_or-replicate n 0 nobody 0 some;
+}
+
+module _ (ts : List (Option ℤ)) (lowest n k destination sender : ℕ) (senders : List ℕ) (to : IsStoredIn ts lowest n k destination sender senders) (lt : k < length ts) where
+  range_long : length senders ≡ n
+  range_long = ap length to.lasts ∙ length-last_senders 0 (take k ts) lowest n
+
+  pub range_more : (new : List ℕ) (d : ℕ) → get_or ts k None ≡ Some (pos d) → lowest ≤ d → d < lowest + n → new ≡ set senders (d - lowest) k
+      → IsStoredIn ts lowest n (k + 1) (d - lowest) k new
+  range_more new d is from below stored = record {
+    lasts = stored ∙ ap (λ ss. set ss (d - lowest) k) to.lasts ∙ ap (set (last_senders 0 (take k ts) lowest n) (d - lowest)) (omega arith)
+        ∙ sym (lasts_set 0 ts lowest n k lt (d - lowest) d (omega arith) (omega arith) is);
+    inside = omega arith;
+    stands = ap (λ (ss : List ℕ). get_or ss (d - lowest) 0) stored ∙ get_or-set_same senders (d - lowest) k 0 (omega (arith, range_long));
+  }
+
+  pub range_other : (new : List ℕ) → ((d : ℕ) → lowest ≤ d → d < lowest + n → is_target (pos d) (get_or ts k None) ≡ false) → new ≡ set senders destination sender
+      → IsStoredIn ts lowest n (k + 1) destination sender new
+  range_other new other stored =
+      let same : new ≡ senders = stored ∙ ap (set senders destination) (sym to.stands) ∙ set-get_or senders destination 0 in
+      record {
+        lasts = same ∙ to.lasts ∙ sym (lasts_other 0 ts lowest n k lt other);
+        inside = to.inside;
+        stands = ap (λ (ss : List ℕ). get_or ss destination 0) same ∙ to.stands;
+      }
+
+pub range_all : (ts : List (Option ℤ)) (lowest n k destination sender : ℕ) (senders : List ℕ) → IsStoredIn ts lowest n k destination sender senders
+    → length ts ≤ k → senders ≡ last_senders 0 ts lowest n
+range_all ts lowest n k destination sender senders to ge = to.lasts ∙ ap (λ us. last_senders 0 us lowest n) (take_all k ts ge)
+
+-- ---- whether an index lies in the range, as the code asks it
+
+abbrev pub is_in_range : Bool → ℕ → ℕ → ℕ → Bool
+is_in_range takes_part lowest n named = (takes_part && leb lowest named) && ltb named (lowest + n)
+
+module _ (i : ℤ) (takes_part : Bool) (lowest n named : ℕ) (fits : FitsSigned w32 i) (cast : named ≡ of_z w32 (to_z w32 (of_z w32 i))) (within : lowest + n ≤ most_elements) where
+  pub index_in : is_in_range takes_part lowest n named ≡ true → (target_if i takes_part ≡ Some (pos named)) × ((lowest ≤ named) × (named < lowest + n))
+  index_in inside =
+      let ends = and_parts (takes_part && leb lowest named) (ltb named (lowest + n)) inside in
+      let starts = and_parts takes_part (leb lowest named) ends.0 in
+      let below : named < lowest + n = ltb-true named (lowest + n) ends.1 in
+      (ap (target_if i) starts.0 ∙ ap (λ j. Some j) (index_is i named fits cast (omega arith)), (leb-true lowest named starts.1, below))
+
+  pub index_out : is_in_range takes_part lowest n named ≡ false → (d : ℕ) → lowest ≤ d → d < lowest + n → is_target (pos d) (target_if i takes_part) ≡ false
+  index_out outside d from below = other takes_part outside i cast fits
+    where
+      other : (b : Bool) → is_in_range b lowest n named ≡ false → (j : ℤ) → named ≡ of_z w32 (to_z w32 (of_z w32 j)) → FitsSigned w32 j → is_target (pos d) (target_if j b) ≡ false
+      other false out j cast fits = refl
+      other true out (negsuc a) cast fits = refl
+      other true out (pos a) cast fits = false_from_ne_true (int_eq (pos a) (pos d)) (λ yes.
+          let same_int : pos a ≡ pos d = (Decides-int_eq (pos a) (pos d)).0 yes in
+          let same : a ≡ d = ap unsigned_abs same_int in
+          let is : named ≡ a = cast ∙ ap (of_z w32) (to_z-of_z w32 (pos a) fits) in
+          let inside : is_in_range true lowest n named ≡ true = both_true (le-leb lowest named (omega arith)) (lt-ltb named (lowest + n) (omega arith)) in
+          false≢true (sym out ∙ inside))
+
+-- ---- what the number of senders tells
+
+bad_told : (fault : Option Fault) → ¬ (None ≡ fault) → true ≡ is_some fault
+bad_told None not_none = absurd (not_none refl)
+bad_told (Some f) not_none = refl
+
+module _ (ts : List (Option ℤ)) (m : ℕ) (small : length ts ≤ most_elements) (senders : List ℕ) (are : senders ≡ last_senders 0 ts 0 m) where
+  stored_here : IsStored 0 ts (count_targets ts) m senders
+  stored_here = subst (IsStored 0 ts (count_targets ts) m) (sym are) (lasts_stored 0 ts m (omega (arith, small)))
+
+  pub as_many_told : count_sent senders ≡ count_targets ts → (senders ≡ senders_of 0 ts m) × (false ≡ is_some (first_fault 0 (wrongs m ts)))
+  as_many_told same = (stored_here.are_first same, ap is_some (stored_here.no_fault same))
+
+  pub fewer_told : ¬ (count_sent senders ≡ count_targets ts) → true ≡ is_some (first_fault 0 (wrongs m ts))
+  fewer_told fewer = bad_told (first_fault 0 (wrongs m ts)) (λ right. fewer (stored_here.apart right))

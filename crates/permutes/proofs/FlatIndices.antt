@@ -1,0 +1,216 @@
+-- The flat indices of the segmented permutes: the walk that makes them, and what targets they are.
+use Rattle.std.proofs.Common.{◌≡◌, ◌∙◌, ℕ, suc, ◌+◌, ◌<◌, ◌≤◌, Bool, true, false, if◌then◌else◌, List, [], ◌∷◌, ◌++◌, length, map, sum, take, drop, get_or, refl, sym, ap, arith, inl, inr}
+use Rattle.std.proofs.Common.{append_assoc, append-nil, length-append, length-drop, ℤ, pos, negsuc, Option, Some, None, Ok}
+use Rattle.std.specs.Option.{option_or}
+use Rattle.std.proofs.lemmas.Bool.{lt-ltb, le-ltb}
+use Rattle.std.proofs.lemmas.Bool.Decides.{leb_tells}
+use Rattle.std.proofs.lemmas.List.{drop_all, drop_more, length-map, length-take-le, map-append}
+use Rattle.cvl_base.specs.declared.fault.FaultNo.TheVariants.{IndexOutOfRange}
+use Rattle.cvl_base.specs.Gives.{unless}
+use Rattle.cvl_base.specs.Packs.{count_of}
+use Rattle.cvl_base.specs.Permutes.{all_targets, flagged_targets, first_fault, target_if, wrongs}
+use Rattle.permute_walks.specs.Indices.{first_outside, outside}
+use Rattle.permute_walks.specs.Senders.{senders_of}
+use Rattle.permute_walks.proofs.Sent.{length-all_targets, length-flagged_targets}
+use Rattle.permutes.specs.Backs.{outside_from}
+use Rattle.permutes.specs.FlatIndices.{flat_index, flat_indices}
+use Rattle.permutes.specs.Parts.{fault_from, flagged_parts, parts_of, places_in, senders_from, targets_in}
+use Rattle.permutes.proofs.Cuts.{sum-cons}
+use Rattle.permutes.proofs.Flattened.{fault_flat, first_fault-append, flat_target, flat_targets, senders_flat}
+
+-- ---- the walk
+
+-- the first s parts are done: their indices are pushed, and the places of the next part begin at `start`
+pub record IsFlatThrough (parts : List (ℕ × List (Option ℤ))) (index : List ℤ) (start s : ℕ) (flat rest : List ℤ) : Type 0 where
+  pub indices_are : flat ++ flat_indices start (drop s parts) rest ≡ flat_indices 0 parts index
+  pub places_left : start + places_in (drop s parts) ≡ places_in parts
+  pub targets_left : targets_in (drop s parts) ≡ length rest
+
+pub flat_none : (parts : List (ℕ × List (Option ℤ))) (index : List ℤ) → targets_in parts ≡ length index → IsFlatThrough parts index 0 0 [] index
+flat_none parts index long = record { indices_are = refl; places_left = omega arith; targets_left = long }
+
+module _ (parts : List (ℕ × List (Option ℤ))) (index : List ℤ) (start s : ℕ) (flat rest : List ℤ) (m : ℕ) (ts : List (Option ℤ)) (to : IsFlatThrough parts index start s flat rest)
+    (lt : s < length parts) (is : get_or parts s (0, []) ≡ (m, ts)) where
+  split : drop s parts ≡ (m, ts) ∷ drop (s + 1) parts
+  split = drop_more parts s (0, []) lt ∙ ap (λ p. p ∷ drop (s + 1) parts) is
+
+  places_more : start + m + places_in (drop (s + 1) parts) ≡ places_in parts
+  places_more = omega (arith, to.places_left, ap places_in split, sum-cons m (map (λ (p : ℕ × List (Option ℤ)). p.0) (drop (s + 1) parts)))
+
+  targets_more : length ts + targets_in (drop (s + 1) parts) ≡ length rest
+  targets_more = omega (arith, to.targets_left, ap targets_in split, sum-cons (length ts) (map (λ (p : ℕ × List (Option ℤ)). length p.1) (drop (s + 1) parts)))
+
+  pub flat_within : start + m ≤ places_in parts
+  flat_within = omega (arith, places_more)
+
+  pub flat_room : length ts ≤ length rest
+  flat_room = omega (arith, targets_more)
+
+  pub flat_more : (new : List ℤ) → new ≡ flat ++ map (flat_index start m) (take (length ts) rest) → IsFlatThrough parts index (start + m) (s + 1) new (drop (length ts) rest)
+  flat_more new pushed = record {
+    indices_are = ap (λ xs. xs ++ flat_indices (start + m) (drop (s + 1) parts) (drop (length ts) rest)) pushed
+        ∙ append_assoc flat (map (flat_index start m) (take (length ts) rest)) (flat_indices (start + m) (drop (s + 1) parts) (drop (length ts) rest))
+        ∙ ap (λ ps. flat ++ flat_indices start ps rest) (sym split)
+        ∙ to.indices_are;
+    places_left = places_more;
+    targets_left = omega (arith, targets_more, length-drop (length ts) rest);
+  }
+
+pub flat_all : (parts : List (ℕ × List (Option ℤ))) (index : List ℤ) (start s : ℕ) (flat rest : List ℤ) → IsFlatThrough parts index start s flat rest → length parts ≤ s
+    → flat ≡ flat_indices 0 parts index
+flat_all parts index start s flat rest to past =
+    sym (append-nil flat) ∙ ap (λ ps. flat ++ flat_indices start ps rest) (sym (drop_all s parts past)) ∙ to.indices_are
+
+-- ---- where each place takes part
+
+flat_all_targets : (start m : ℕ) (index : List ℤ) → map (flat_target start m) (all_targets index) ≡ all_targets (map (flat_index start m) index)
+flat_all_targets start m [] = refl
+flat_all_targets start m (i ∷ index) = ap (λ rest. Some (flat_index start m i) ∷ rest) (flat_all_targets start m index)
+
+pub targets_all : (start : ℕ) (lengths widths : List ℕ) (index : List ℤ) → sum lengths ≤ length index
+    → flat_targets start (parts_of lengths widths index) ≡ all_targets (flat_indices start (parts_of lengths widths index) index)
+targets_all start [] [] index within = refl
+targets_all start [] (m ∷ ms) index within = refl
+targets_all start (n ∷ ns) [] index within = refl
+targets_all start (n ∷ ns) (m ∷ ms) index within =
+    let all = sum-cons n ns in
+    let others = parts_of ns ms (drop n index) in
+    let long : length (all_targets (take n index)) ≡ n = length-all_targets (take n index) ∙ length-take-le n index (omega (arith, all, within)) in
+    (λ i. flat_all_targets start m (take n index) i ++ targets_all (start + m) ns ms (drop n index) (omega (arith, all, within, length-drop n index)) i)
+    ∙ sym (map-append (λ i. Some i) (map (flat_index start m) (take n index)) (flat_indices (start + m) others (drop n index)))
+    ∙ ap (λ k. all_targets (map (flat_index start m) (take k index) ++ flat_indices (start + m) others (drop k index))) (sym long)
+
+-- ---- where the flagged places do
+
+flat_flagged_targets : (start m : ℕ) (index : List ℤ) (flags : List Bool) → map (flat_target start m) (flagged_targets index flags) ≡ flagged_targets (map (flat_index start m) index) flags
+flat_flagged_targets start m [] flags = refl
+flat_flagged_targets start m (i ∷ index) [] = refl
+flat_flagged_targets start m (i ∷ index) (true ∷ flags) = ap (λ rest. Some (flat_index start m i) ∷ rest) (flat_flagged_targets start m index flags)
+flat_flagged_targets start m (i ∷ index) (false ∷ flags) = ap (λ rest. None ∷ rest) (flat_flagged_targets start m index flags)
+
+flagged-append : (index others : List ℤ) (flags : List Bool) → length index ≤ length flags
+    → flagged_targets (index ++ others) flags ≡ flagged_targets index (take (length index) flags) ++ flagged_targets others (drop (length index) flags)
+flagged-append [] others flags within = refl
+flagged-append (i ∷ index) others [] within = absurd (omega arith)
+flagged-append (i ∷ index) others (f ∷ flags) within = ap (λ rest. target_if i f ∷ rest) (flagged-append index others flags (omega (arith, within)))
+
+pub targets_flagged : (start : ℕ) (lengths : List ℕ) (index : List ℤ) (flags : List Bool) → sum lengths ≤ length index → sum lengths ≤ length flags
+    → flat_targets start (flagged_parts lengths index flags) ≡ flagged_targets (flat_indices start (flagged_parts lengths index flags) index) flags
+targets_flagged start [] index flags within flag_within = refl
+targets_flagged start (n ∷ ns) index flags within flag_within =
+    let all = sum-cons n ns in
+    let js = take n index in
+    let fs = take n flags in
+    let m = count_of fs in
+    let others = flagged_parts ns (drop n index) (drop n flags) in
+    let flat = map (flat_index start m) js in
+    let index_long : length js ≡ n = length-take-le n index (omega (arith, all, within)) in
+    let flag_long : length fs ≡ n = length-take-le n flags (omega (arith, all, flag_within)) in
+    let flat_long : length flat ≡ n = length-map js (flat_index start m) ∙ index_long in
+    let long : length (flagged_targets js fs) ≡ n = length-flagged_targets js fs (index_long ∙ sym flag_long) ∙ index_long in
+    (λ i. flat_flagged_targets start m js fs i
+    ++ targets_flagged (start + m) ns (drop n index) (drop n flags) (omega (arith, all, within, length-drop n index)) (omega (arith, all, flag_within, length-drop n flags)) i)
+    ∙ ap (λ k. flagged_targets flat (take k flags) ++ flagged_targets (flat_indices (start + m) others (drop n index)) (drop k flags)) (sym flat_long)
+    ∙ sym (flagged-append flat (flat_indices (start + m) others (drop n index)) flags (omega (arith, flat_long, all, flag_within)))
+    ∙ ap (λ k. flagged_targets (map (flat_index start m) (take k index) ++ flat_indices (start + m) others (drop k index)) flags) (sym long)
+
+-- ---- of a back permute
+
+outside_one : (start m whole : ℕ) (i : ℤ) → start + m ≤ whole → outside whole (flat_index start m i) ≡ outside m i
+outside_one start m whole (negsuc a) within = refl
+outside_one start m whole (pos a) within =
+    elim (leb_tells (suc a) m) [
+      | inl inside ↦
+          let lt : a < m = omega (arith, inside.1) in
+          ap (λ b. outside whole (if b then pos (start + a) else negsuc 0)) (lt-ltb a m lt)
+          ∙ ap (λ b. if b then None else Some IndexOutOfRange) (lt-ltb (start + a) whole (omega (arith, lt, within)) ∙ sym (lt-ltb a m lt))
+      | inr out ↦
+          let ge : m ≤ a = omega (arith, out.1) in
+          ap (λ b. outside whole (if b then pos (start + a) else negsuc 0)) (le-ltb a m ge) ∙ ap (λ b. if b then None else Some IndexOutOfRange) (sym (le-ltb a m ge))
+    ]
+
+outside_each : (start m whole : ℕ) (index : List ℤ) → start + m ≤ whole → map (outside whole) (map (flat_index start m) index) ≡ map (outside m) index
+outside_each start m whole [] within = refl
+outside_each start m whole (i ∷ index) within = (λ k. outside_one start m whole i within k ∷ outside_each start m whole index within k)
+
+pub outside_flat : (place start whole : ℕ) (widths lengths : List ℕ) (index : List ℤ) → length widths ≡ length lengths → sum lengths ≤ length index → start + sum widths ≤ whole
+    → outside_from place widths lengths index ≡ first_outside place whole (flat_indices start (parts_of lengths widths index) index)
+outside_flat place start whole [] [] index count total within = refl
+outside_flat place start whole [] (n ∷ ns) index count total within = absurd (omega (arith, count))
+outside_flat place start whole (m ∷ ms) [] index count total within = absurd (omega (arith, count))
+outside_flat place start whole (m ∷ ms) (n ∷ ns) index count total within =
+    let all = sum-cons n ns in
+    let wide = sum-cons m ms in
+    let js = take n index in
+    let others = flat_indices (start + m) (parts_of ns ms (drop n index)) (drop n index) in
+    let index_long : length js ≡ n = length-take-le n index (omega (arith, all, total)) in
+    let long : length (all_targets js) ≡ n = length-all_targets js ∙ index_long in
+    ap (option_or (first_outside place m js)) (outside_flat (place + n) (start + m) whole ms ns (drop n index) (omega (arith, count)) (omega (arith, all, total, length-drop n index))
+    (omega (arith, wide, within)))
+    ∙ ap (λ k. option_or (first_outside place m js) (first_outside (place + k) whole others)) (sym (length-map js (outside m) ∙ index_long))
+    ∙ sym (first_fault-append place (map (outside m) js) (map (outside whole) others))
+    ∙ ap (λ ws. first_fault place (ws ++ map (outside whole) others)) (sym (outside_each start m whole js (omega (arith, wide, within))))
+    ∙ ap (first_fault place) (sym (map-append (outside whole) (map (flat_index start m) js) others))
+    ∙ ap (λ k. first_outside place whole (map (flat_index start m) (take k index) ++ flat_indices (start + m) (parts_of ns ms (drop n index)) (drop k index))) (sym long)
+
+-- ---- as many as there are indices
+
+pub length-flat_indices : (start : ℕ) (parts : List (ℕ × List (Option ℤ))) (index : List ℤ) → targets_in parts ≤ length index → length (flat_indices start parts index) ≡ targets_in parts
+length-flat_indices start [] index within = refl
+length-flat_indices start ((m, ts) ∷ parts) index within =
+    let all = sum-cons (length ts) (map (λ (p : ℕ × List (Option ℤ)). length p.1) parts) in
+    let js = take (length ts) index in
+    omega (
+      arith,
+      all,
+      length-append (map (flat_index start m) js) (flat_indices (start + m) parts (drop (length ts) index)),
+      length-map js (flat_index start m),
+      length-take-le (length ts) index (omega (arith, all, within)),
+      length-flat_indices (start + m) parts (drop (length ts) index) (omega (arith, all, within, length-drop (length ts) index)),
+    )
+
+pub targets_in-all : (lengths widths : List ℕ) (index : List ℤ) → sum lengths ≡ length index → length lengths ≡ length widths → targets_in (parts_of lengths widths index) ≡ length index
+targets_in-all [] [] index total count = total
+targets_in-all [] (m ∷ ms) index total count = absurd (omega (arith, count))
+targets_in-all (n ∷ ns) [] index total count = absurd (omega (arith, count))
+targets_in-all (n ∷ ns) (m ∷ ms) index total count =
+    let all = sum-cons n ns in
+    let ts = all_targets (take n index) in
+    omega (
+      arith,
+      all,
+      total,
+      sum-cons (length ts) (map (λ (p : ℕ × List (Option ℤ)). length p.1) (parts_of ns ms (drop n index))),
+      length-all_targets (take n index),
+      length-take-le n index (omega (arith, all, total)),
+      targets_in-all ns ms (drop n index) (omega (arith, all, total, length-drop n index)) (omega (arith, count)),
+      length-drop n index,
+    )
+
+pub targets_in-flagged : (lengths : List ℕ) (index : List ℤ) (flags : List Bool) → sum lengths ≡ length index → length index ≡ length flags
+    → targets_in (flagged_parts lengths index flags) ≡ length index
+targets_in-flagged [] index flags total same = total
+targets_in-flagged (n ∷ ns) index flags total same =
+    let all = sum-cons n ns in
+    let js = take n index in
+    let fs = take n flags in
+    let index_long = length-take-le n index (omega (arith, all, total)) in
+    let flag_long = length-take-le n flags (omega (arith, all, total, same)) in
+    omega (
+      arith,
+      all,
+      total,
+      sum-cons (length (flagged_targets js fs)) (map (λ (p : ℕ × List (Option ℤ)). length p.1) (flagged_parts ns (drop n index) (drop n flags))),
+      length-flagged_targets js fs (index_long ∙ sym flag_long),
+      index_long,
+      targets_in-flagged ns (drop n index) (drop n flags) (omega (arith, all, total, length-drop n index)) (omega (arith, same, length-drop n index, length-drop n flags)),
+      length-drop n index,
+    )
+
+-- ---- what a race at flat targets finds
+
+pub raced_flat : (parts : List (ℕ × List (Option ℤ))) (whole : ℕ) (ts : List (Option ℤ)) → places_in parts ≡ whole → ts ≡ flat_targets 0 parts
+    → unless (first_fault 0 (wrongs whole ts)) (Ok (senders_of 0 ts whole)) ≡ unless (fault_from 0 parts) (Ok (senders_from 0 parts))
+raced_flat parts whole ts wide are =
+    ap (λ us. unless (first_fault 0 (wrongs whole us)) (Ok (senders_of 0 us whole))) are
+    ∙ (λ i. unless (sym (fault_flat parts whole wide) i) (Ok (sym (senders_flat parts whole wide) i)))

@@ -1,0 +1,15 @@
+-- Flat indices: those of a segmented permute, counted from the start of the whole result and not from that of their segment.
+-- Source: CVL's segmented vectors, whose segments lie one after another.
+use Rattle.std.specs.Prelude.{ℕ, ◌+◌, ℤ, pos, negsuc, if◌then◌else◌, unsigned_abs, List, [], ◌∷◌, ◌++◌, length, map, take, drop, Option}
+use Rattle.cvl_base.specs.Permutes.{is_place}
+
+-- the flat index of an index into a segment of m places, the first of which is place `start` of the whole: -1, which is no place,
+-- where the index is none of the segment
+abbrev pub flat_index : ℕ → ℕ → ℤ → ℤ
+flat_index start m i = if is_place m i then pos (start + unsigned_abs i) else negsuc 0
+
+-- those of all parts, which have an index for each of their targets; the places of the first part begin at `start`
+abbrev pub flat_indices : ℕ → List (ℕ × List (Option ℤ)) → List ℤ → List ℤ
+flat_indices start [] index = []
+flat_indices start (part ∷ parts) index =
+    map (flat_index start part.0) (take (length part.1) index) ++ flat_indices (start + part.0) parts (drop (length part.1) index)
