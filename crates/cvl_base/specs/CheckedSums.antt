@@ -3,7 +3,8 @@
 -- Source: Blelloch's prescan, over whole numbers; the fault and its places are this library's profile.
 use Rattle.std.specs.Prelude.{ℕ, ℤ, pos, ◌+ℤ◌, List, map, Option, Some, None, Result, if◌then◌else◌}
 use Rattle.std.specs.Option.{ok_or}
-use Rattle.operators.specs.Folds.{fold_of, scan_of}
+use Rattle.operators.specs.Exact.{total_of}
+use Rattle.operators.specs.Folds.{scan_of}
 use Rattle.operators.specs.ItemWords.{is_number}
 use Rattle.cvl_base.specs.declared.fault.Fault.{Fault}
 use Rattle.cvl_base.specs.declared.fault.FaultNo.TheVariants.{Overflow}
@@ -11,10 +12,6 @@ use Rattle.cvl_base.specs.Elementwise.{values_from}
 use Rattle.cvl_base.specs.Faults.{fault_at}
 use Rattle.cvl_base.specs.Nests.{nest}
 use Rattle.cvl_base.specs.Segmented.{in_vector, at_segment, one_each, end_to_end}
-
--- the sum of whole numbers, of any size
-abbrev pub total_of : List ℤ → ℤ
-total_of xs = fold_of ◌+ℤ◌ (pos 0) xs
 
 -- the sums of the numbers before each one
 abbrev pub totals_of : List ℤ → List ℤ

@@ -6,7 +6,7 @@ ghost use Rattle.cvl_base.specs.declared.refused.Refused.TheVariants as refused;
 use crate::fault::Fault;
 use std::alloc::{AllocError, AllocFailed};
 
-/// A growth was refused: there is no memory for what the call would make.
+/// Memory ran out: there is none for what the call would make.
 #[derive(Clone, Copy, Debug, PartialEq, Eq)]
 pub struct NoResources;
 
@@ -22,12 +22,12 @@ impl<T: Drop> From<AllocFailed<T>> for NoResources {
     }
 }
 
-/// A call has no value: its arguments have a fault, or a growth was refused.
+/// A call has no value: its arguments have a fault, or memory ran out.
 #[derive(Clone, Copy, Debug, PartialEq, Eq)]
 pub enum Refused {
     /// The first fault of the call, in the order of checks.
     Fault(Fault),
-    /// A growth was refused.
+    /// Memory ran out.
     NoResources,
 }
 

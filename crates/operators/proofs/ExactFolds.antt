@@ -5,7 +5,7 @@ use Rattle.std.specs.List.{fold, AllPass}
 use Rattle.std.proofs.lemmas.Int.{ints}
 use Rattle.std.proofs.lemmas.List.Elements.{All-head, All-tail}
 use Rattle.std.proofs.lemmas.List.Sums.{fold-append}
-use Rattle.operators.specs.Exact.{exact_sum_of, plus, total_of}
+use Rattle.operators.specs.Exact.{exact_sum_of, total_of}
 use Rattle.operators.specs.ExactLaws.{in-word, word_wraps}
 use Rattle.operators.specs.Folds.{fold_of}
 use Rattle.operators.specs.ItemWords.{is_number, is_word}
@@ -33,7 +33,7 @@ none : IsSumOf 0 (pos 0)
 none = record { low = omega (arith, ints); high = omega (arith, ints) }
 
 -- what a fold of numbers reaches from z, where z may be the sum of n numbers
-bound_from : (n : ℕ) (z : ℤ) (xs : List ℤ) → IsSumOf n z → AllPass is_number xs → IsSumOf (n + length xs) (fold plus z xs)
+bound_from : (n : ℕ) (z : ℤ) (xs : List ℤ) → IsSumOf n z → AllPass is_number xs → IsSumOf (n + length xs) (fold ◌+ℤ◌ z xs)
 bound_from n z [] bound numbers = let low = bound.low in let high = bound.high in record { low = omega (arith, ints); high = omega (arith, ints) }
 bound_from n z (x ∷ xs) bound numbers =
     let more = one_more n z x bound (All-head (λ y. is_number y ≡ true) x xs numbers) in
@@ -42,7 +42,7 @@ bound_from n z (x ∷ xs) bound numbers =
     let high = rest.high in
     record { low = omega (arith, ints); high = omega (arith, ints) }
 
-exact_from : (n : ℕ) (z : ℤ) (xs : List ℤ) → IsSumOf n z → n + length xs ≤ 4194304 → AllPass is_number xs → fold exact_sum_of z xs ≡ fold plus z xs
+exact_from : (n : ℕ) (z : ℤ) (xs : List ℤ) → IsSumOf n z → n + length xs ≤ 4194304 → AllPass is_number xs → fold exact_sum_of z xs ≡ fold ◌+ℤ◌ z xs
 exact_from n z [] bound few numbers = refl
 exact_from n z (x ∷ xs) bound few numbers =
     let more = one_more n z x bound (All-head (λ y. is_number y ≡ true) x xs numbers) in
@@ -63,7 +63,7 @@ pub exact_fold_on : (before xs : List ℤ) → length before + length xs ≤ 419
     → fold exact_sum_of (total_of before) xs ≡ total_of (before ++ xs)
 exact_fold_on before xs few first numbers =
     exact_from (length before) (total_of before) xs (total_bound before first) few numbers
-    ∙ sym (fold-append plus (pos 0) before xs)
+    ∙ sym (fold-append ◌+ℤ◌ (pos 0) before xs)
 
 pub total-is_word : (xs : List ℤ) → length xs ≤ 4194304 → AllPass is_number xs → IsTrue (is_word (total_of xs))
 total-is_word xs few numbers = sum-is_word (length xs) (total_of xs) few (total_bound xs numbers)

@@ -17,9 +17,6 @@ pub record IsWordWrapped (x wrapped : ℤ) : Type 0 where
 abbrev pub exact_sum_of : ℤ → ℤ → ℤ
 exact_sum_of a b = wrap_word (a +ℤ b)
 
--- the sum over whole numbers, without wrapping
-abbrev pub plus : ℤ → ℤ → ℤ
-plus a b = a +ℤ b
-
+-- the sum of whole numbers, of any size, without wrapping
 abbrev pub total_of : List ℤ → ℤ
-total_of xs = fold_of plus (pos 0) xs
+total_of xs = fold_of ◌+ℤ◌ (pos 0) xs

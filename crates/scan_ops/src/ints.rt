@@ -1,15 +1,14 @@
 //! The scans and reduces of integer vectors, by the operators of the table.
 
-ghost use Rattle.std.specs.Prelude.{◌≡◌, IfOk, length, true, vec_len};
-ghost use Rattle.std.specs.List.{AllPass};
+ghost use Rattle.std.specs.Prelude.{◌≡◌, IfOk, length, vec_len};
 ghost use Rattle.cvl_base.specs.Gives.{Gives};
-ghost use Rattle.cvl_base.specs.ItemWords.{is_number};
 ghost use Rattle.cvl_base.specs.Scans.{int_join_of, int_reduce_of, int_scan_of, int_unit_of};
 ghost use Rattle.cvl_base.specs.SegmentedCalls.{seg_reduce_of, seg_scan_of};
 
 use crew::{Gate, OpenGate};
 use cvl_base::monoids::{Add, And, Ior, Max, Min, Mul, Xor};
 use cvl_base::{Config, IntMonoid, Memory, NoResources, Refused};
+use scan_walks::know_numbers;
 use segdes::SegDes;
 use std::thread::Threads;
 use tile_scans::{reduce_gated, scan_gated, seg_reduce_gated, seg_scan_gated};
@@ -180,20 +179,4 @@ pub fn seg_int_reduce_gated<R: Threads + Sync, A: Memory, G: Gate>(
         IntMonoid::Ior => seg_reduce_gated::<R, A, Ior, G>(rt, alloc, config, a, d, gate),
         IntMonoid::Xor => seg_reduce_gated::<R, A, Xor, G>(rt, alloc, config, a, d, gate),
     }
-}
-
-/// Each integer of a vector fits 32 bits, so that it is an item of all operators. The contract names the fact, which a proof
-/// has only of an integer that is read. The loop does nothing with what it reads, so that the compiler leaves it out.
-fn know_numbers(a: &[i32])
-    ensures { AllPass is_number a.now }
-{
-    for x in a {
-        know_number(x);
-    }
-}
-
-fn know_number(x: &i32)
-    ensures { is_number x.now ≡ true }
-{
-    let _value = *x;
 }

@@ -5,18 +5,19 @@ use Rattle.std.specs.Option.{ok_or}
 use Rattle.std.proofs.lemmas.List.{drop_more, drop_all, length-drop}
 use Rattle.std.proofs.lemmas.List.Sums.{sum_by_more}
 use Rattle.operators.specs.ItemWords.{is_number}
-use Rattle.cvl_base.specs.CheckedSums.{checked_reduce_of, checked_scan_of, checked_seg_reduce_of, checked_seg_scan_of, fitting, total_of, totals_of}
+use Rattle.cvl_base.specs.CheckedSums.{checked_reduce_of, checked_scan_of, checked_seg_reduce_of, checked_seg_scan_of, fitting, totals_of}
+use Rattle.cvl_base.specs.Exact.{total_of}
 use Rattle.cvl_base.specs.declared.fault.Fault.{Fault}
 use Rattle.cvl_base.specs.declared.fault.FaultNo.{FaultNo}
 use Rattle.cvl_base.specs.declared.fault.FaultNo.TheVariants.{Overflow}
 use Rattle.cvl_base.specs.Elementwise.{values_from}
 use Rattle.cvl_base.specs.Faults.{fault_at}
-use Rattle.cvl_base.specs.Folds.{fold_of, scan_of}
+use Rattle.cvl_base.specs.Folds.{scan_of}
 use Rattle.cvl_base.specs.Gives.{◌>>=◌, after}
 use Rattle.cvl_base.specs.Lists.{joined}
 use Rattle.cvl_base.specs.Nests.{cut_of}
 use Rattle.cvl_base.specs.Segmented.{at_segment, end_to_end, in_vector, moved, one_each, results_from}
-use Rattle.cvl_base.proofs.Gives.{after-after, after-end, after-none, after-one}
+use Rattle.cvl_base.proofs.Gives.{after-after, after-end, after-one}
 use Rattle.cvl_base.proofs.Nests.{nest-fits}
 use Rattle.scan_walks.proofs.Scanned.{scan_of-cons}
 use Rattle.scan_walks.specs.Continued.{scanned_after}

@@ -1,8 +1,10 @@
 pub mod Continued
 pub mod Cut
+pub mod FrontLaws
 pub mod LastStart
 pub mod RunPushed
 pub mod Scanned
 pub mod SegmentReduces
 pub mod Segments
+pub mod WholeSums
 pub mod Written

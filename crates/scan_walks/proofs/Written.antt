@@ -1,6 +1,6 @@
 -- What a run of fresh memory holds while scans are written into it.
 -- Source: what the definitions of folds and of runs imply.
-use Rattle.std.proofs.Common.{◌≡◌, ℕ, ◌+◌, ◌-◌, ◌<◌, ◌≤◌, min, List, [], ◌∷◌, ◌++◌, length, take, drop, get_or, sym, ap, ◌∙◌, arith, length-append}
+use Rattle.std.proofs.Common.{◌≡◌, ℕ, ◌+◌, ◌-◌, ◌<◌, ◌≤◌, min, List, [], ◌∷◌, ◌++◌, length, take, drop, get_or, sym, ap, ◌∙◌}
 use Rattle.std.proofs.lemmas.List.{drop_all}
 use Rattle.cvl_base.specs.Folds.{fold_of, scan_of}
 use Rattle.fresh.specs.Places.{Stretch, stretch, with_items}

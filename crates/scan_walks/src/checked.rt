@@ -1,40 +1,16 @@
 //! The walks of checked sums, on one thread: they add in 64 bits, and stop at the first result that does not fit 32.
 
-ghost use Rattle.std.specs.Prelude.{◌≡◌, ◌+◌, ◌+ℤ◌, ◌≤◌, IfOk, length, vec_len, vec_capacity};
-ghost use Rattle.cvl_base.specs.CheckedSums.{checked_reduce_of, checked_scan_of, checked_seg_reduce_of, checked_seg_scan_of, fitting, total_of};
+ghost use Rattle.std.specs.Prelude.{◌≡◌, ◌+◌, ◌≤◌, IfOk, length, vec_len, vec_capacity};
+ghost use Rattle.cvl_base.specs.CheckedSums.{checked_reduce_of, checked_scan_of, checked_seg_reduce_of, checked_seg_scan_of, fitting};
+ghost use Rattle.cvl_base.specs.Exact.{total_of};
 ghost use Rattle.cvl_base.specs.Gives.{Gives};
 ghost use Rattle.cvl_base.specs.Limits.{most_elements};
 ghost use Rattle.scan_walks.specs.Continued.{IsScanned};
 
+use crate::totals::{fitting, plus, total};
 use cvl_base::{Fault, FaultNo, Refused};
 use segdes::{SegDes, check_total};
 use std::alloc::Allocator;
-
-/// The number, if it fits 32 bits.
-fn fitting(sum: &i64) -> Option<i32>
-    ensures { result ≡ fitting sum.now }
-{
-    i32::try_from(*sum).ok()
-}
-
-/// The sum of two integers, which never wraps.
-fn plus(a: &i32, b: &i32) -> i64
-    ensures { result ≡ a.now +ℤ b.now }
-{
-    i64::from(*a) + i64::from(*b)
-}
-
-/// The sum of at most 4,194,304 integers. It fits 54 bits, so that it is exact.
-fn total(xs: &[i32]) -> i64
-    requires in_limit { length xs.now ≤ most_elements }
-    ensures { result ≡ total_of xs.now }
-{
-    let mut sum: i64 = 0;
-    for x in xs {
-        sum += i64::from(*x);
-    }
-    sum
-}
 
 /// The sum of at most 4,194,304 integers, if it fits 32 bits.
 fn fitting_total(xs: &[i32]) -> Option<i32>

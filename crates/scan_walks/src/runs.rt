@@ -21,7 +21,7 @@ use segdes::SegDes;
 use std::alloc::Allocator;
 
 /// Where a segment starts, and the total where the segments end.
-fn start_or_total<A: Allocator>(d: &SegDes<A>, s: usize) -> usize
+pub(crate) fn start_or_total<A: Allocator>(d: &SegDes<A>, s: usize) -> usize
     requires { s ≤ length d.now }
     ensures { result ≡ start_of d.now s }
 {

@@ -1,8 +1,8 @@
 -- A flat vector in tiles: the sums of its tiles, and the parts of its scan.
-use Rattle.std.proofs.Common.{◌≡◌, ℕ, zero, suc, cond, inl, inr, ◌+◌, ◌-◌, ◌*◌, ◌<◌, ◌≤◌, min, Bool, false, true, IsTrue, List, [], ◌∷◌, ◌++◌, length, take, drop, map, get_or, slice_range, refl, sym}
+use Rattle.std.proofs.Common.{◌≡◌, ℕ, ◌+◌, ◌-◌, ◌*◌, ◌<◌, ◌≤◌, min, Bool, false, true, IsTrue, List, length, take, drop, map, get_or, slice_range, refl, sym}
 use Rattle.std.proofs.Common.{ap, subst, ◌∙◌, arith}
 use Rattle.std.specs.List.{AllPass, list_all}
-use Rattle.std.proofs.lemmas.List.{drop-map, length-map, take-map, take_all}
+use Rattle.std.proofs.lemmas.List.{drop-map, take-map, take_all}
 use Rattle.std.proofs.lemmas.List.Elements.{All-map}
 use Rattle.std.proofs.lemmas.List.FromFn.{get_or-map-range_with_len, length-map-range_with_len}
 use Rattle.std.proofs.lemmas.List.Sums.{AllPass-from_list_all}
@@ -10,7 +10,7 @@ use Rattle.cvl_base.specs.Folds.{fold_of, scan_of}
 use Rattle.cvl_base.specs.Monoid.{MonoidLaws}
 use Rattle.cvl_base.specs.SegmentMonoid.{is_seg_item, seg_unit, seg_join}
 use Rattle.tile_plan.specs.Ranges.{tile_count, range_of}
-use Rattle.tile_plan.proofs.Numbers.{starts_past, starts_within}
+use Rattle.tile_plan.proofs.Numbers.{starts_past}
 use Rattle.cvl_base.specs.TileSums.{before_tile}
 use Rattle.fresh.specs.Parts.{part}
 use Rattle.tile_scans.specs.Kernels.{tile_of, flat_sums}

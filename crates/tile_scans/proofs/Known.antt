@@ -1,12 +1,11 @@
 -- A scan of which it is known what stands before each tile, while it is written.
 -- Source: what the definitions of Written imply.
 use Rattle.std.proofs.Common.{◌≡◌, ℕ, ◌+◌, ◌-◌, ◌<◌, ◌≤◌, Bool, List, [], ◌++◌, length, take, drop, get_or, sym, ap, ◌∙◌, arith, take-add}
-use Rattle.std.specs.List.{range_with_len}
 use Rattle.std.proofs.lemmas.List.{drop-drop, length-drop, length-take}
 use Rattle.std.proofs.lemmas.List.FromFn.{get_or-map-range_with_len, length-map-range_with_len}
 use Rattle.cvl_base.specs.TileSums.{before_tile}
 use Rattle.fresh.specs.Parts.{part}
-use Rattle.fresh.specs.Places.{Stretch, stretch, with_items}
+use Rattle.fresh.specs.Places.{Stretch, stretch}
 use Rattle.tile_scans.specs.Written.{befores_of, next_of, written_on}
 
 -- what was written of the run is that part of the whole

@@ -1,6 +1,10 @@
+pub mod FlatReduces
 pub mod FlatTiles
+pub mod Known
+pub mod Outsides
 pub mod RunScans
 pub mod Segmented
 pub mod SegmentedTiles
+pub mod TileFronts
 pub mod Tiled
-pub mod Known
+pub mod WholeSums

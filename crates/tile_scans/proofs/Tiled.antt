@@ -53,7 +53,7 @@ module _ {X : Type 0} where
       ∙ ap (λ m. take m whole) end
       ∙ ap (λ m. take (cut m) whole) (sym next)
 
-  tile_cut : (len tile t : ℕ) (xs : List X) → 1 ≤ tile → t < tile_count len tile → tile_of len tile xs t ≡ slice_range xs (min len (t * tile)) (min len ((t + 1) * tile))
+  pub tile_cut : (len tile t : ℕ) (xs : List X) → 1 ≤ tile → t < tile_count len tile → tile_of len tile xs t ≡ slice_range xs (min len (t * tile)) (min len ((t + 1) * tile))
   tile_cut len tile t xs some below =
       let starts : t * tile ≡ min len (t * tile) = omega (arith, starts_within len tile t some below) in
       ap (λ k. slice_range xs k (min len ((t + 1) * tile))) starts

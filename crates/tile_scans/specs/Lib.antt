@@ -1,3 +1,4 @@
+pub mod Checked
 pub mod Kernels
 pub mod Told
 pub mod Written

@@ -8,16 +8,21 @@
 //! gated form at the gate that holds nobody, so that a gate sees whatever the call does.
 #![tactic(auto)]
 
+mod checked;
 mod flat_tiles;
+mod flat_totals;
 mod kernel;
+mod overflows;
 mod pace;
 mod race;
 mod reduces;
 mod scans;
 mod segmented_tiles;
 mod tile_work;
+mod totals;
 mod writes;
 
+pub use checked::{checked_reduce, checked_scan};
 pub use reduces::{
     reduce, reduce_gated, reduce_readings, seg_reduce, seg_reduce_gated, seg_reduce_readings,
     seg_reduce_readings_gated,

@@ -43,11 +43,29 @@ where
     ensures { IfOk result (λ sums. sums.items ≡ V.scans vector.now) }
 {
     let before = race_for_befores(rt, alloc, config, vector, gate)?;
+    scan_after(rt, alloc, config, vector, &before)
+}
+
+/// The scan of a vector, of which it is known what stands before each tile. It is written in runs, by several threads where
+/// it is long.
+pub(crate) fn scan_after<R: Threads + Sync, A: Memory, V: Scanned + Sync>(
+    rt: &R,
+    alloc: A,
+    config: Config,
+    vector: &V,
+    before: &[<V::M as Monoid>::Item],
+) -> Result<Vec<<V::M as Monoid>::Item, A>, NoResources>
+where
+    V::M: Send + Sync,
+    <V::M as Monoid>::Item: Send + Sync,
+    requires before { before.now ≡ befores_of V.M.join V.M.unit (V.sums vector.now) }
+    ensures { IfOk result (λ sums. sums.items ≡ V.scans vector.now) }
+{
     let plan = vector.plan();
     let scan = KnownScan {
         vector,
         plan,
-        before: &before,
+        before,
     };
     let len = plan.len() as usize;
     let sums = write_in_runs(rt, alloc, threads_for(config, len), &scan, len)?;

@@ -1,5 +1,4 @@
 use Rattle.std.proofs.Common.{◌≡◌, ◌+◌, ◌-◌, ◌≤◌, min, IsTrue, false, arith, length, map, sym, ap, subst, ◌∙◌}
-use Rattle.std.proofs.lemmas.List.{length-map}
 use Rattle.cvl_base.specs.Folds.{fold_of}
 use Rattle.cvl_base.specs.SegmentMonoid.{seg_join}
 use Rattle.fresh.specs.Parts.{part}
@@ -7,7 +6,7 @@ use Rattle.scan_walks.specs.Runs.{run_between, run_scan_of, scans_of}
 use Rattle.fresh.specs.Places.{with_items}
 use Rattle.tile_plan.specs.Ranges.{range_of}
 use Rattle.tile_scans.proofs.FlatTiles.{all_read_pass, items_read}
-use Rattle.tile_scans.proofs.SegmentedTiles.{length-scans_of, segmented_since_is_item, segmented_value_is_item, segmented_written}
+use Rattle.tile_scans.proofs.SegmentedTiles.{segmented_since_is_item, segmented_value_is_item, segmented_written}
 use Rattle.tile_scans.proofs.segmented_tiles.SegmentedScanned.write_tile.Goals as goal
 
 pub sum_of_readings-sum-requires-clause-before : goal.sum_of_readings-sum-requires-clause-before

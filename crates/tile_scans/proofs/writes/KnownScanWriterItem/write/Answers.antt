@@ -1,7 +1,7 @@
-use Rattle.std.proofs.Common.{◌≡◌, ◌+◌, ◌-◌, ◌<◌, ◌≤◌, length, min, arith, rules, sym, ap, subst, ◌∙◌}
+use Rattle.std.proofs.Common.{◌≡◌, ◌<◌, ◌≤◌, length, arith, rules, sym, ap, ◌∙◌}
 use Rattle.tile_plan.specs.Ranges.{range_of}
 use Rattle.tile_scans.specs.Written.{left_in}
-use Rattle.tile_scans.proofs.Known.{as_many_known, before_known, more_written, next_is, nothing_yet}
+use Rattle.tile_scans.proofs.Known.{as_many_known, before_known, more_written, nothing_yet}
 use Rattle.tile_scans.proofs.writes.KnownScanWriterItem.write.Goals as goal
 
 pub loop-run-init : goal.loop-run-init

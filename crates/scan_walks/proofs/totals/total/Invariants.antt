@@ -1,6 +1,6 @@
 use Rattle.std.proofs.Common.{◌≡◌, ◌*◌, ◌≤◌, take, unsigned_abs}
-use Rattle.cvl_base.specs.CheckedSums.{total_of}
-use Rattle.scan_walks.proofs.checked.total.Given as goal
+use Rattle.cvl_base.specs.Exact.{total_of}
+use Rattle.scan_walks.proofs.totals.total.Given as goal
 
 -- each integer adds at most 2^31
 abbrev pub invariant-loop-x : goal.invariant-loop-x

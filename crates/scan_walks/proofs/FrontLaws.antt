@@ -1,0 +1,139 @@
+-- How many numbers of a list fit 32 bits, from the first one on: of scans, and of lists one after another.
+use Rattle.std.proofs.Common.{◌≡◌, ◌∙◌, refl, sym, ap, ℕ, ◌+◌, ◌-◌, ◌<◌, ◌≤◌, min, Bool, true, false, cond, ℤ, pos, ◌+ℤ◌, List, [], ◌∷◌, ◌++◌, length, take, drop, get_or, arith, Some, None}
+use Rattle.std.specs.Prelude.{if◌then◌else◌, sum}
+use Rattle.std.proofs.lemmas.List.{drop_more, drop_all}
+use Rattle.operators.proofs.FoldLaws.{length-scan_of}
+use Rattle.cvl_base.specs.CheckedSums.{fitting}
+use Rattle.cvl_base.specs.Folds.{scan_of}
+use Rattle.cvl_base.specs.ItemWords.{is_number}
+use Rattle.scan_walks.specs.Fronts.{fitting_front}
+use Rattle.segdes.specs.Starts.{start_of}
+use Rattle.scan_walks.specs.Runs.{run_between, run_scan_of, scans_of}
+use Rattle.scan_walks.proofs.RunPushed.{run_pushed}
+use Rattle.scan_walks.proofs.Scanned.{scan_of-cons}
+use Rattle.scan_walks.proofs.Segments.{scans_more_min}
+use Rattle.scan_walks.proofs.WholeSums.{all_whole, whole_laws}
+
+passed : (z y : ℤ) (b : Bool) → (if b then Some z else None) ≡ Some y → b ≡ true
+passed z y true is = refl
+passed z y false is = cc
+
+failed : (z : ℤ) (b : Bool) → (if b then Some z else None) ≡ None → b ≡ false
+failed z true is = cc
+failed z false is = refl
+
+pub fitting-passes : (z y : ℤ) → fitting z ≡ Some y → is_number z ≡ true
+fitting-passes z y is = passed z y (is_number z) is
+
+pub fitting-fails : (z : ℤ) → fitting z ≡ None → is_number z ≡ false
+fitting-fails z is = failed z (is_number z) is
+
+-- ---- a walk over the sums before each of some numbers, of which i were seen to fit
+
+module _ (n i : ℕ) (so_far : ℤ) (xs : List ℤ) (is : n ≡ i + fitting_front (scan_of ◌+ℤ◌ so_far (drop i xs))) where
+  begun : (b : Bool) → i < length xs → is_number so_far ≡ b
+      → n ≡ i + cond b (1 + fitting_front (scan_of ◌+ℤ◌ (so_far +ℤ get_or xs i (pos 0)) (drop (i + 1) xs))) 0
+  begun b lt fits =
+      is
+      ∙ ap (λ ys. i + fitting_front (scan_of ◌+ℤ◌ so_far ys)) (drop_more xs i (pos 0) lt)
+      ∙ ap (λ ys. i + fitting_front ys) (scan_of-cons ◌+ℤ◌ so_far (get_or xs i (pos 0)) (drop (i + 1) xs))
+      ∙ ap (λ c. i + cond c (1 + fitting_front (scan_of ◌+ℤ◌ (so_far +ℤ get_or xs i (pos 0)) (drop (i + 1) xs))) 0) fits
+
+  pub front_goes_on : (y next : ℤ) → i < length xs → fitting so_far ≡ Some y → next ≡ so_far +ℤ get_or xs i (pos 0)
+      → n ≡ (i + 1) + fitting_front (scan_of ◌+ℤ◌ next (drop (i + 1) xs))
+  front_goes_on y next lt fits sum =
+      let more = begun true lt (fitting-passes so_far y fits) in
+      let same = ap (λ z. fitting_front (scan_of ◌+ℤ◌ z (drop (i + 1) xs))) (sym sum) in
+      omega (arith, more, same)
+
+  pub front_stops : i < length xs → fitting so_far ≡ None → i ≡ n
+  front_stops lt fits = let more = begun false lt (fitting-fails so_far fits) in omega (arith, more)
+
+  pub front_ends : length xs ≤ i → i ≡ n
+  front_ends past =
+      let none = is ∙ ap (λ ys. i + fitting_front (scan_of ◌+ℤ◌ so_far ys)) (drop_all i xs past) in omega (arith, none)
+
+-- ---- lists one after another
+
+within_front : (b : Bool) (zs ys : List ℤ) (n : ℕ) → cond b (1 + fitting_front zs) 0 < 1 + n → (fitting_front zs < n → fitting_front (zs ++ ys) ≡ fitting_front zs)
+    → cond b (1 + fitting_front (zs ++ ys)) 0 ≡ cond b (1 + fitting_front zs) 0
+within_front true zs ys n lt others = ap (λ k. 1 + k) (others (omega (arith, lt)))
+within_front false zs ys n lt others = refl
+
+-- where one of the first doesn't fit
+pub front_within : (zs ys : List ℤ) → fitting_front zs < length zs → fitting_front (zs ++ ys) ≡ fitting_front zs
+front_within [] ys lt = absurd (omega (arith, lt))
+front_within (z ∷ zs) ys lt = within_front (is_number z) zs ys (length zs) (omega (arith, lt)) (front_within zs ys)
+
+past_front : (b : Bool) (zs ys : List ℤ) (n : ℕ) → 1 + n ≤ cond b (1 + fitting_front zs) 0 → (n ≤ fitting_front zs → fitting_front (zs ++ ys) ≡ n + fitting_front ys)
+    → cond b (1 + fitting_front (zs ++ ys)) 0 ≡ 1 + n + fitting_front ys
+past_front true zs ys n ge others = let rest = others (omega (arith, ge)) in omega (arith, rest)
+past_front false zs ys n ge others = absurd (omega (arith, ge))
+
+-- where all of the first fit
+pub front_past : (zs ys : List ℤ) → length zs ≤ fitting_front zs → fitting_front (zs ++ ys) ≡ length zs + fitting_front ys
+front_past [] ys ge = omega arith
+front_past (z ∷ zs) ys ge = omega (arith, past_front (is_number z) zs ys (length zs) (omega (arith, ge)) (front_past zs ys))
+
+-- of a scan and what follows it
+scan_within : (before : ℤ) (xs ys : List ℤ) (n : ℕ) → n ≡ fitting_front (scan_of ◌+ℤ◌ before xs) → n < length xs → n ≡ fitting_front (scan_of ◌+ℤ◌ before xs ++ ys)
+scan_within before xs ys n is lt =
+    let zs = scan_of ◌+ℤ◌ before xs in
+    is ∙ sym (front_within zs ys (omega (arith, is, lt, length-scan_of ◌+ℤ◌ before xs)))
+
+scan_past : (before : ℤ) (xs ys : List ℤ) (n : ℕ) → n ≡ fitting_front (scan_of ◌+ℤ◌ before xs) → length xs ≤ n → fitting_front (scan_of ◌+ℤ◌ before xs ++ ys) ≡ length xs + fitting_front ys
+scan_past before xs ys n is ge =
+    let zs = scan_of ◌+ℤ◌ before xs in
+    let long = length-scan_of ◌+ℤ◌ before xs in
+    omega (arith, front_past zs ys (omega (arith, is, ge, long)), long)
+
+-- ---- a walk over segments, of whose scans the first ones, `done` in all, were seen to fit
+
+pub segments_end : (whole done s : ℕ) (lengths : List ℕ) (rest : List ℤ) → whole ≡ done + fitting_front (scans_of ◌+ℤ◌ (pos 0) (drop s lengths) rest) → length lengths ≤ s → done ≡ whole
+segments_end whole done s lengths rest is past =
+    let none = is ∙ ap (λ ls. done + fitting_front (scans_of ◌+ℤ◌ (pos 0) ls rest)) (drop_all s lengths past) in omega (arith, none)
+
+module _ (whole done s n cut : ℕ) (lengths : List ℕ) (rest segment others : List ℤ) (lt : s < length lengths) (is_n : n ≡ get_or lengths s 0)
+    (is_cut : cut ≡ min n (length rest)) (is_segment : segment ≡ take cut rest) (is_others : others ≡ drop cut rest)
+    (is : whole ≡ done + fitting_front (scans_of ◌+ℤ◌ (pos 0) (drop s lengths) rest)) where
+  cut_off : whole ≡ done + fitting_front (scan_of ◌+ℤ◌ (pos 0) segment ++ scans_of ◌+ℤ◌ (pos 0) (drop (s + 1) lengths) others)
+  cut_off =
+      is
+      ∙ ap (λ zs. done + fitting_front zs) (scans_more_min ◌+ℤ◌ (pos 0) lengths s n rest lt is_n)
+      ∙ ap (λ k. done + fitting_front (scan_of ◌+ℤ◌ (pos 0) (take k rest) ++ scans_of ◌+ℤ◌ (pos 0) (drop (s + 1) lengths) (drop k rest))) (sym is_cut)
+      ∙ ap (λ ys. done + fitting_front (scan_of ◌+ℤ◌ (pos 0) ys ++ scans_of ◌+ℤ◌ (pos 0) (drop (s + 1) lengths) (drop cut rest))) (sym is_segment)
+      ∙ ap (λ ys. done + fitting_front (scan_of ◌+ℤ◌ (pos 0) segment ++ scans_of ◌+ℤ◌ (pos 0) (drop (s + 1) lengths) ys)) (sym is_others)
+
+  pub segments_stop : (fitting : ℕ) → fitting ≡ fitting_front (scan_of ◌+ℤ◌ (pos 0) segment) → fitting < length segment → done + fitting ≡ whole
+  segments_stop fitting met lt =
+      ap (λ k. done + k) (scan_within (pos 0) segment (scans_of ◌+ℤ◌ (pos 0) (drop (s + 1) lengths) others) fitting met lt) ∙ sym cut_off
+
+  pub segments_go_on : (fitting next : ℕ) → fitting ≡ fitting_front (scan_of ◌+ℤ◌ (pos 0) segment) → length segment ≤ fitting → next ≡ done + length segment
+      → whole ≡ next + fitting_front (scans_of ◌+ℤ◌ (pos 0) (drop (s + 1) lengths) others)
+  segments_go_on fitting next met ge is_next =
+      let ys = scans_of ◌+ℤ◌ (pos 0) (drop (s + 1) lengths) others in
+      omega (arith, cut_off, scan_past (pos 0) segment ys fitting met ge, is_next)
+
+-- ---- a walk over a run: what continues its first segment, and then the segments that start in it
+
+module _ (d : List ℕ) (xs rest front others : List ℤ) (before : ℤ) (from to first next start j : ℕ)
+    (total : sum d ≡ length xs) (in_order : from ≤ to) (within : to ≤ length xs) (few : first ≤ length d)
+    (earlier : (s : ℕ) → s < first → start_of d s < from) (at_or_after : (s : ℕ) → first ≤ s → s < length d → from ≤ start_of d s)
+    (past : (s : ℕ) → next ≤ s → s < length d → to ≤ start_of d s)
+    (is_rest : rest ≡ take (to - from) (drop from xs)) (is_start : start ≡ start_of d first) (is_j : j ≡ min start to - from)
+    (is_front : front ≡ take j rest) (is_others : others ≡ drop j rest) where
+  walked : scan_of ◌+ℤ◌ before front ++ scans_of ◌+ℤ◌ (pos 0) (take (next - first) (drop first d)) others ≡ run_scan_of ◌+ℤ◌ (pos 0) before (run_between d xs from to)
+  walked =
+      run_pushed whole_laws d xs rest front others [] (scan_of ◌+ℤ◌ before front)
+      (scan_of ◌+ℤ◌ before front ++ scans_of ◌+ℤ◌ (pos 0) (take (next - first) (drop first d)) others)
+      before from to first next start j total in_order within few earlier at_or_after past (all_whole xs) is_rest is_start is_j is_front is_others refl refl
+
+  pub run_stops : (n : ℕ) → n ≡ fitting_front (scan_of ◌+ℤ◌ before front) → n < length front → n ≡ fitting_front (run_scan_of ◌+ℤ◌ (pos 0) before (run_between d xs from to))
+  run_stops n is lt = scan_within before front (scans_of ◌+ℤ◌ (pos 0) (take (next - first) (drop first d)) others) n is lt ∙ ap fitting_front walked
+
+  pub run_goes_on : (n m : ℕ) → n ≡ fitting_front (scan_of ◌+ℤ◌ before front) → n ≡ length front → m ≡ fitting_front (scans_of ◌+ℤ◌ (pos 0) (take (next - first) (drop first d)) others)
+      → n + m ≡ fitting_front (run_scan_of ◌+ℤ◌ (pos 0) before (run_between d xs from to))
+  run_goes_on n m is all later =
+      let ys = scans_of ◌+ℤ◌ (pos 0) (take (next - first) (drop first d)) others in
+      let same = ap fitting_front walked in
+      omega (arith, scan_past before front ys n is (omega (arith, all)), all, later, same)

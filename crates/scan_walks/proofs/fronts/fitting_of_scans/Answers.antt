@@ -1,0 +1,44 @@
+use Rattle.std.proofs.Common.{◌≡◌, ◌<◌, min, get_or, length, map, unsigned_abs, arith}
+use Rattle.std.proofs.lemmas.List.{length-map}
+use Rattle.std.proofs.lemmas.List.Sums.{sum_by-drop_more}
+use Rattle.scan_walks.proofs.FrontLaws.{segments_end, segments_go_on, segments_stop}
+use Rattle.scan_walks.proofs.Segments.{length_fits, length_read, read_at}
+use Rattle.scan_walks.proofs.fronts.fitting_of_scans.Goals as goal
+
+pub overflow_cast-length : goal.overflow_cast-length
+overflow_cast-length c =
+    let row = c.args.lengths.now in
+    length_fits row (map unsigned_abs row) c.requires.lengths.none_negative c.requires.lengths c.loop-length.length-index c.loop-length-test.true
+
+pub returns-then-fitting-segment-clause-front : goal.returns-then-fitting-segment-clause-front
+returns-then-fitting-segment-clause-front c =
+    let row = c.args.lengths.now in
+    let lengths = map unsigned_abs row in
+    let s = c.loop-length.length-index in
+    let rest = c.loop-length.rest.now in
+    let lt : s < length lengths = omega (arith, c.loop-length-test.true, length-map row unsigned_abs) in
+    let is_length : read_at row s ≡ get_or lengths s 0 = length_read row lengths c.requires.lengths.none_negative c.requires.lengths s c.loop-length-test.true in
+    segments_stop _ c.loop-length.done s (read_at row s) c.min.result lengths rest c.split_at.result.0.now c.split_at.result.1.now lt is_length c.min.ensures
+    c.split_at.ensures.front c.split_at.ensures.back c.loop-length.invariant.front c.fitting_of_scan-fitting.result c.fitting_of_scan-fitting.ensures.front c.if-fitting-segment.true
+
+pub loop-length-preserved : goal.loop-length-preserved
+loop-length-preserved c =
+    let row = c.args.lengths.now in
+    let lengths = map unsigned_abs row in
+    let s = c.loop-length.length-index in
+    let rest = c.loop-length.rest.now in
+    let lt : s < length lengths = omega (arith, c.loop-length-test.true, length-map row unsigned_abs) in
+    let is_length : read_at row s ≡ get_or lengths s 0 = length_read row lengths c.requires.lengths.none_negative c.requires.lengths s c.loop-length-test.true in
+    let cut : c.min.result ≡ min (read_at row s) (length rest) = c.min.ensures in
+    record {
+      front = segments_go_on _ c.loop-length.done s (read_at row s) c.min.result lengths rest c.split_at.result.0.now c.split_at.result.1.now lt is_length cut
+          c.split_at.ensures.front c.split_at.ensures.back c.loop-length.invariant.front c.fitting_of_scan-fitting.result _ c.fitting_of_scan-fitting.ensures.front
+          (omega (arith, c.if-fitting-segment.false)) (omega arith);
+      parts = omega (arith, cut, c.split_at.ensures.back_len, c.split_at.ensures.front_len, c.loop-length.invariant.parts);
+      covered = omega (arith, is_length, cut, c.split_at.ensures.back_len, c.loop-length.invariant.covered, sum_by-drop_more (λ x. x) lengths s 0 lt);
+    }
+
+pub returns-clause-front : goal.returns-clause-front
+returns-clause-front c =
+    let row = c.args.lengths.now in
+    segments_end _ c.loop-length.done c.loop-length.length-index (map unsigned_abs row) c.loop-length.rest.now c.loop-length.invariant.front (omega (arith, c.loop-length-test.false, length-map row unsigned_abs))

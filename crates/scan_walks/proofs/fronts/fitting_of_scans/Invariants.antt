@@ -1,0 +1,14 @@
+use Rattle.std.proofs.Common.{◌≡◌, ◌+◌, ◌≤◌, ◌+ℤ◌, pos, length, drop, map, unsigned_abs}
+use Rattle.std.specs.Prelude.{sum}
+use Rattle.scan_walks.specs.Fronts.{fitting_front}
+use Rattle.scan_walks.specs.Runs.{scans_of}
+use Rattle.scan_walks.proofs.fronts.fitting_of_scans.Given as goal
+
+abbrev pub invariant-loop-length : goal.invariant-loop-length
+invariant-loop-length l =
+    let lengths = map unsigned_abs l.lengths in
+    record {
+      front : fitting_front (scans_of ◌+ℤ◌ (pos 0) lengths l.xs) ≡ l.done + fitting_front (scans_of ◌+ℤ◌ (pos 0) (drop l.length-index lengths) l.rest);
+      parts : l.done + length l.rest ≡ length l.xs;
+      covered : length l.rest ≤ sum (drop l.length-index lengths);
+    }

@@ -1,0 +1,78 @@
+//! How many results of a checked scan fit 32 bits, from the first one on.
+
+ghost use Rattle.std.specs.Prelude.{◌≡◌, ◌+ℤ◌, ◌≤◌, length, map, pos, sum, unsigned_abs};
+ghost use Rattle.cvl_base.specs.Descriptors.{AreLengths};
+ghost use Rattle.cvl_base.specs.Folds.{scan_of};
+ghost use Rattle.scan_walks.specs.Fronts.{fitting_front};
+ghost use Rattle.scan_walks.specs.Runs.{run_between, run_scan_of, scans_of};
+
+use crate::runs::start_or_total;
+use crate::totals::{fitting, plus};
+use segdes::SegDes;
+use std::alloc::Allocator;
+
+/// How many of the sums before each of the integers fit 32 bits, from the first one on. `before` stands before the integers.
+///
+/// It takes no memory. Source: Blelloch's prescan, over whole numbers.
+pub fn fitting_of_scan(before: i64, xs: &[i32]) -> usize
+    ensures front { result ≡ fitting_front (scan_of ◌+ℤ◌ before xs.now) }
+    ensures within { result ≤ length xs.now }
+{
+    let mut so_far = before;
+    for (place, x) in xs.iter().enumerate() {
+        match fitting(&so_far) {
+            Some(sum) => so_far = plus(&sum, x),
+            None => return place,
+        }
+    }
+    xs.len()
+}
+
+/// The same of the scans of the segments with these lengths, one after another. The segments have all of the integers, and
+/// the last may be cut short by the end of the integers.
+fn fitting_of_scans(lengths: &[i32], xs: &[i32]) -> usize
+    requires lengths { AreLengths lengths.now }
+    requires covered { length xs.now ≤ sum (map unsigned_abs lengths.now) }
+    ensures front { result ≡ fitting_front (scans_of ◌+ℤ◌ (pos 0) (map unsigned_abs lengths.now) xs.now) }
+    ensures within { result ≤ length xs.now }
+{
+    let mut done = 0;
+    let mut rest = xs;
+    for length in lengths {
+        let (segment, others) = rest.split_at((*length as usize).min(rest.len()));
+        let fitting = fitting_of_scan(0, segment);
+        if fitting < segment.len() {
+            return done + fitting;
+        }
+        done += segment.len();
+        rest = others;
+    }
+    done
+}
+
+/// How many results of the checked scan of the range from place `from` to the one before place `to` fit 32 bits, from the
+/// first one on. `before` is what the elements of the first segment that stand before the range add up to.
+///
+/// It takes no memory. Source: Blelloch's segmented scans, over whole numbers.
+pub fn fitting_of_run<A: Allocator>(
+    a: &[i32],
+    d: &SegDes<A>,
+    from: usize,
+    to: usize,
+    before: i64,
+) -> usize
+    requires total { sum d.now ≡ length a.now }
+    requires in_order { from ≤ to }
+    requires within { to ≤ length a.now }
+    ensures { result ≡ fitting_front (run_scan_of ◌+ℤ◌ (pos 0) before (run_between d.now a.now from to)) }
+{
+    let first = d.starts_before(from);
+    let next = d.starts_before(to);
+    let start = start_or_total(d, first);
+    let (front, rest) = a[from..to].split_at(start.min(to) - from);
+    let fitting = fitting_of_scan(before, front);
+    if fitting < front.len() {
+        return fitting;
+    }
+    fitting + fitting_of_scans(&d.lengths()[first..next], rest)
+}

@@ -1,0 +1,76 @@
+//! Sums over whole numbers, which never wrap: those of few integers fit 54 bits.
+
+ghost use Rattle.std.specs.Prelude.{◌≡◌, ◌+ℤ◌, ◌≤◌, length, pos, sum, true};
+ghost use Rattle.std.specs.List.{AllPass};
+ghost use Rattle.cvl_base.specs.CheckedSums.{fitting};
+ghost use Rattle.cvl_base.specs.Exact.{total_of};
+ghost use Rattle.cvl_base.specs.Folds.{fold_of};
+ghost use Rattle.cvl_base.specs.ItemWords.{is_number};
+ghost use Rattle.cvl_base.specs.Limits.{most_elements};
+ghost use Rattle.cvl_base.specs.SegmentMonoid.{seg_join, seg_unit};
+ghost use Rattle.scan_walks.specs.Runs.{run_between};
+
+use segdes::SegDes;
+use std::alloc::Allocator;
+
+/// The number, if it fits 32 bits.
+pub fn fitting(sum: &i64) -> Option<i32>
+    ensures { result ≡ fitting sum.now }
+{
+    i32::try_from(*sum).ok()
+}
+
+/// The sum of two integers, which never wraps.
+pub(crate) fn plus(a: &i32, b: &i32) -> i64
+    ensures { result ≡ a.now +ℤ b.now }
+{
+    i64::from(*a) + i64::from(*b)
+}
+
+/// The sum of at most 4,194,304 integers. It fits 54 bits, so that it is exact.
+pub fn total(xs: &[i32]) -> i64
+    requires in_limit { length xs.now ≤ most_elements }
+    ensures { result ≡ total_of xs.now }
+{
+    let mut sum: i64 = 0;
+    for x in xs {
+        sum += i64::from(*x);
+    }
+    sum
+}
+
+/// The sum of the run from place `from` to the one before place `to`: whether a segment starts in it, and what its elements
+/// since the last start add up to.
+///
+/// It reads no element before the last start, and takes no memory. Source: Blelloch's segmented scans.
+pub fn total_of_run<A: Allocator>(a: &[i32], d: &SegDes<A>, from: usize, to: usize) -> (bool, i64)
+    requires total { sum d.now ≡ length a.now }
+    requires in_order { from ≤ to }
+    requires within { to ≤ length a.now }
+    requires in_limit { length a.now ≤ most_elements }
+    ensures { result ≡ fold_of (seg_join ◌+ℤ◌) (seg_unit (pos 0)) (run_between d.now a.now from to) }
+{
+    let first = d.starts_before(from);
+    let next = d.starts_before(to);
+    if first < next {
+        let start = d.start(next - 1);
+        return (true, total(&a[start..to]));
+    }
+    (false, total(&a[from..to]))
+}
+
+/// Each integer of a vector fits 32 bits. The contract names the fact, which a proof has only of an integer that is read.
+/// The loop does nothing with what it reads, so that the compiler leaves it out.
+pub fn know_numbers(a: &[i32])
+    ensures { AllPass is_number a.now }
+{
+    for x in a {
+        know_number(x);
+    }
+}
+
+fn know_number(x: &i32)
+    ensures { is_number x.now ≡ true }
+{
+    let _value = *x;
+}

@@ -1,0 +1,35 @@
+-- Checked scans in tiles: what stands before each tile over whole numbers, and which results don't fit 32 bits.
+-- Source: Blelloch's segmented scans and the tiles of Merrill and Garland; that the first result that doesn't fit is the fault is this
+-- library's profile.
+use Rattle.std.specs.Prelude.{ℕ, Bool, ℤ, pos, ◌+ℤ◌, List, length, map, take, nat_lt, Option, Some, None, if◌then◌else◌}
+use Rattle.std.specs.List.{range_with_len}
+use Rattle.cvl_base.specs.Folds.{fold_of}
+use Rattle.cvl_base.specs.SegmentMonoid.{seg_join, seg_unit}
+use Rattle.tile_plan.specs.Ranges.{tile_count, range_of}
+use Rattle.scan_walks.specs.Fronts.{fitting_front}
+use Rattle.scan_walks.specs.Runs.{run_scan_of}
+use Rattle.tile_scans.specs.Kernels.{tile_of}
+
+-- what the elements of a run add up to since the last start of a segment
+abbrev pub total_since : List (Bool × ℤ) → Bool × ℤ
+total_since run = fold_of (seg_join ◌+ℤ◌) (seg_unit (pos 0)) run
+
+-- what stands before each tile
+abbrev pub totals_before : ℕ × ℕ → List (Bool × ℤ) → List ℤ
+totals_before plan run = map (λ t. (total_since (take (range_of plan.0 plan.1 t).0 run)).1) (range_with_len 0 (tile_count plan.0 plan.1))
+
+-- the results of the scan, whether they fit or not
+abbrev pub total_scan : List (Bool × ℤ) → List ℤ
+total_scan run = run_scan_of ◌+ℤ◌ (pos 0) (pos 0) run
+
+-- whether a number of a list doesn't fit
+abbrev pub has_outside : List ℤ → Bool
+has_outside zs = nat_lt (fitting_front zs) (length zs)
+
+-- the place of the first one that doesn't
+abbrev pub first_outside : List ℤ → Option ℕ
+first_outside zs = if has_outside zs then Some (fitting_front zs) else None
+
+-- the one slot of tiles with a result that doesn't fit; the other tiles have none
+abbrev pub slot_of_tile : ℕ × ℕ → List (Bool × ℤ) → ℕ → Option ℕ
+slot_of_tile plan run t = if has_outside (tile_of plan.0 plan.1 (total_scan run) t) then Some 0 else None
