@@ -1,2 +1,4 @@
 pub mod DecimalTexts
+pub mod PartWalk
+pub mod SegmentWalk
 pub mod Spaces

@@ -5,7 +5,7 @@ use Rattle.std.proofs.lemmas.List.{take_all, length-take, take-take, take-append
 use Rattle.value_texts.specs.Texts.{spaced}
 
 -- texts joined by spaces are the first text, and then the others with a space before each
-join_spaced : {X : Type 0} (f : X → List ℕ) (x : X) (xs : List X) → join_with_byte 32 (map f (x ∷ xs)) ≡ f x ++ spaced f xs
+pub join_spaced : {X : Type 0} (f : X → List ℕ) (x : X) (xs : List X) → join_with_byte 32 (map f (x ∷ xs)) ≡ f x ++ spaced f xs
 join_spaced f x [] = sym (append-nil (f x))
 join_spaced f x (y ∷ ys) = ap (λ t. f x ++ (32 ∷ t)) (join_spaced f y ys)
 

@@ -1,6 +1,10 @@
 //! The text of values.
 #![tactic(auto)]
 
+mod elements;
+mod part_writes;
+mod parts;
+mod segments;
 mod texts;
 mod vector_text;
 mod written;

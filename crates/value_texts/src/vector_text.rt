@@ -5,12 +5,17 @@ ghost use Rattle.std.specs.List.{join_with_byte};
 ghost use Rattle.cvl_base.specs.Nests.{cut_of};
 ghost use Rattle.value_texts.specs.Texts.{spaced, vector_text, nest_text};
 
+use crate::elements::elements_in;
+use crate::part_writes::put_parts;
+use crate::segments::segments_in;
 use crate::written::{MOST_TEXT_BYTES, Written};
-use cvl_base::NoResources;
+use cvl_base::{Config, Memory, NoResources};
+use sharing::threads_writing;
 use std::alloc::Allocator;
+use std::thread::Threads;
 
 /// How many elements' texts are put together in a page before they are appended.
-const PAGE_ELEMENTS: usize = 1024;
+pub(crate) const PAGE_ELEMENTS: usize = 1024;
 
 /// The bytes of a page: room for the texts of its elements with a space before each.
 pub(crate) const PAGE_BYTES: usize = PAGE_ELEMENTS * (MOST_TEXT_BYTES + 1);
@@ -21,7 +26,7 @@ pub(crate) type Page = [u8; PAGE_BYTES];
 
 /// Writes the texts of at most 1,024 elements, with a space before each, at the end of the page, and returns where
 /// they start.
-fn write_spaced<T: Written>(xs: &[T], page: &mut Page) -> usize
+pub(crate) fn write_spaced<T: Written>(xs: &[T], page: &mut Page) -> usize
     requires { length xs.now ≤ PAGE_ELEMENTS }
     ensures written { drop result page.new ≡ spaced T.text_of xs.now }
     ensures within { result ≤ PAGE_BYTES }
@@ -37,7 +42,7 @@ fn write_spaced<T: Written>(xs: &[T], page: &mut Page) -> usize
 }
 
 /// Appends the texts of the elements with a space before each. After a refusal the text begins as before.
-fn put_spaced<T: Written, A: Allocator>(
+fn put_spaced_alone<T: Written, A: Allocator>(
     xs: &[T],
     page: &mut Page,
     text: &mut Vec<u8, A>,
@@ -57,6 +62,27 @@ fn put_spaced<T: Written, A: Allocator>(
     Ok(())
 }
 
+/// `put_spaced_alone` by as many threads as pay. It moves the text to where there is room, so a text that is longer than what
+/// is appended stays on one thread.
+fn put_spaced<R: Threads + Sync, T: Written + Sync, A: Memory>(
+    rt: &R,
+    alloc: A,
+    config: Config,
+    xs: &[T],
+    page: &mut Page,
+    text: &mut Vec<u8, A>,
+) -> Result<(), NoResources>
+    ensures ok { OnOk result (text.new.items ≡ text.old.items ++ spaced T.text_of xs.now) }
+    ensures begins { take (length text.old.items) text.new.items ≡ text.old.items }
+{
+    let threads = threads_writing(config, xs.len());
+    if threads < 2 || text.len() / MOST_TEXT_BYTES > xs.len() {
+        return put_spaced_alone(xs, page, text);
+    }
+    let parts = elements_in(alloc, xs, threads as usize)?;
+    put_parts(rt, alloc, threads, parts.as_slice(), text)
+}
+
 /// Appends the text of one element. After a refusal the text begins as before.
 pub(crate) fn put_element<T: Written, A: Allocator>(
     x: &T,
@@ -72,7 +98,10 @@ pub(crate) fn put_element<T: Written, A: Allocator>(
 }
 
 /// Appends the texts of the elements with a space between each two. After a refusal the text begins as before.
-fn put_joined<T: Written, A: Allocator>(
+fn put_joined<R: Threads + Sync, T: Written + Sync, A: Memory>(
+    rt: &R,
+    alloc: A,
+    config: Config,
     xs: &[T],
     page: &mut Page,
     text: &mut Vec<u8, A>,
@@ -85,12 +114,15 @@ fn put_joined<T: Written, A: Allocator>(
         return Ok(());
     };
     put_element(first, page, text)?;
-    put_spaced(others, page, text)?;
+    put_spaced(rt, alloc, config, others, page, text)?;
     Ok(())
 }
 
 /// Appends the text of a vector. After a refusal the text begins as before.
-pub(crate) fn put_vector<T: Written, A: Allocator>(
+pub(crate) fn put_vector<R: Threads + Sync, T: Written + Sync, A: Memory>(
+    rt: &R,
+    alloc: A,
+    config: Config,
     xs: &[T],
     page: &mut Page,
     text: &mut Vec<u8, A>,
@@ -99,13 +131,16 @@ pub(crate) fn put_vector<T: Written, A: Allocator>(
     ensures begins { take (length text.old.items) text.new.items ≡ text.old.items }
 {
     text.push(b'[')?;
-    put_joined(xs, page, text)?;
+    put_joined(rt, alloc, config, xs, page, text)?;
     text.push(b']')?;
     Ok(())
 }
 
 /// Appends the texts of the segments with a space before each. After a refusal the text begins as before.
-fn put_spaced_segments<T: Written, A: Allocator>(
+fn put_spaced_segments_alone<R: Threads + Sync, T: Written + Sync, A: Memory>(
+    rt: &R,
+    alloc: A,
+    config: Config,
     lengths: &[i32],
     xs: &[T],
     page: &mut Page,
@@ -120,14 +155,50 @@ fn put_spaced_segments<T: Written, A: Allocator>(
     for length in lengths {
         let (segment, others) = rest.split_at(length.unsigned_abs() as usize);
         text.push(b' ')?;
-        put_vector(segment, page, text)?;
+        put_vector(rt, alloc, config, segment, page, text)?;
         rest = others;
     }
     Ok(())
 }
 
+/// Whether no segment has more than so many elements.
+fn are_short(lengths: &[i32], most: usize) -> bool {
+    lengths
+        .iter()
+        .all(|length| length.unsigned_abs() as usize <= most)
+}
+
+/// `put_spaced_segments_alone` by as many threads as pay, each of which writes some whole segments. Where a segment is longer
+/// than a thread's share, the segments are written in turn, and long ones by several threads.
+fn put_spaced_segments<R: Threads + Sync, T: Written + Sync, A: Memory>(
+    rt: &R,
+    alloc: A,
+    config: Config,
+    lengths: &[i32],
+    xs: &[T],
+    page: &mut Page,
+    text: &mut Vec<u8, A>,
+) -> Result<(), NoResources>
+    requires { sum (map unsigned_abs lengths.now) ≡ length xs.now }
+    ensures ok { OnOk result (text.new.items
+        ≡ text.old.items ++ spaced (vector_text T.text_of) (cut_of (map unsigned_abs lengths.now) xs.now)) }
+    ensures begins { take (length text.old.items) text.new.items ≡ text.old.items }
+{
+    let most = xs.len().max(lengths.len());
+    let threads = threads_writing(config, most);
+    let moves_much = text.len() / MOST_TEXT_BYTES > most;
+    if threads < 2 || moves_much || !are_short(lengths, xs.len() / threads as usize) {
+        return put_spaced_segments_alone(rt, alloc, config, lengths, xs, page, text);
+    }
+    let parts = segments_in(alloc, lengths, xs, threads as usize)?;
+    put_parts(rt, alloc, threads, parts.as_slice(), text)
+}
+
 /// Appends the texts of the segments with a space between each two. After a refusal the text begins as before.
-fn put_joined_segments<T: Written, A: Allocator>(
+fn put_joined_segments<R: Threads + Sync, T: Written + Sync, A: Memory>(
+    rt: &R,
+    alloc: A,
+    config: Config,
     lengths: &[i32],
     xs: &[T],
     page: &mut Page,
@@ -142,13 +213,16 @@ fn put_joined_segments<T: Written, A: Allocator>(
         return Ok(());
     };
     let (front, rest) = xs.split_at(first.unsigned_abs() as usize);
-    put_vector(front, page, text)?;
-    put_spaced_segments(others, rest, page, text)?;
+    put_vector(rt, alloc, config, front, page, text)?;
+    put_spaced_segments(rt, alloc, config, others, rest, page, text)?;
     Ok(())
 }
 
 /// Appends the text of the vectors into which the lengths cut the elements. After a refusal the text begins as before.
-pub(crate) fn put_nest<T: Written, A: Allocator>(
+pub(crate) fn put_nest<R: Threads + Sync, T: Written + Sync, A: Memory>(
+    rt: &R,
+    alloc: A,
+    config: Config,
     lengths: &[i32],
     xs: &[T],
     page: &mut Page,
@@ -160,7 +234,7 @@ pub(crate) fn put_nest<T: Written, A: Allocator>(
     ensures begins { take (length text.old.items) text.new.items ≡ text.old.items }
 {
     text.push(b'[')?;
-    put_joined_segments(lengths, xs, page, text)?;
+    put_joined_segments(rt, alloc, config, lengths, xs, page, text)?;
     text.push(b']')?;
     Ok(())
 }

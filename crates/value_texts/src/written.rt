@@ -18,6 +18,11 @@ pub(crate) trait Written {
         ensures written { drop result page.new ≡ text_of self.now ++ drop end page.old }
         ensures short { end ≤ result + MOST_TEXT_BYTES }
         ensures within { result ≤ end };
+
+    /// How many bytes the element's text has.
+    fn text_len(&self) -> u32
+        ensures count { result ≡ length (text_of self.now) }
+        ensures few { result ≤ MOST_TEXT_BYTES };
 }
 
 /// The least number of eleven digits, which are one digit more than the magnitude of an element has at most.
@@ -25,19 +30,19 @@ const LEAST_OF_ELEVEN_DIGITS: u64 = 10_000_000_000;
 
 /// How many digits a number has in decimal.
 #[inline(always)]
-fn digit_count(number: u32) -> usize
+fn digit_count(number: u32) -> u32
     ensures { result ≡ length (decimal number) }
 {
     // a sum, since a processor can't foresee which of several branches a number takes
-    1 + usize::from(number >= 10)
-        + usize::from(number >= 100)
-        + usize::from(number >= 1_000)
-        + usize::from(number >= 10_000)
-        + usize::from(number >= 100_000)
-        + usize::from(number >= 1_000_000)
-        + usize::from(number >= 10_000_000)
-        + usize::from(number >= 100_000_000)
-        + usize::from(number >= 1_000_000_000)
+    1 + u32::from(number >= 10)
+        + u32::from(number >= 100)
+        + u32::from(number >= 1_000)
+        + u32::from(number >= 10_000)
+        + u32::from(number >= 100_000)
+        + u32::from(number >= 1_000_000)
+        + u32::from(number >= 10_000_000)
+        + u32::from(number >= 100_000_000)
+        + u32::from(number >= 1_000_000_000)
 }
 
 /// An integer's text is its decimal.
@@ -51,9 +56,15 @@ impl Written for i32 {
         let magnitude = number.unsigned_abs();
         // eleven digits and a sign for every number, of which its text is the end: with no branch on its length or sign
         itoa::write_digits(LEAST_OF_ELEVEN_DIGITS + u64::from(magnitude), page, end);
-        let start = end - digit_count(magnitude);
+        let start = end - digit_count(magnitude) as usize;
         page[start - 1] = b'-';
         start - usize::from(number < 0)
+    }
+
+    #[inline(always)]
+    fn text_len(&self) -> u32 {
+        let number = *self;
+        digit_count(number.unsigned_abs()) + u32::from(number < 0)
     }
 }
 
@@ -66,5 +77,10 @@ impl Written for bool {
     fn write_before(&self, page: &mut [u8], end: usize) -> usize {
         page[end - 1] = if *self { b'T' } else { b'F' };
         end - 1
+    }
+
+    #[inline(always)]
+    fn text_len(&self) -> u32 {
+        1
     }
 }

@@ -1,6 +1,6 @@
 use Rattle.std.proofs.Common.{◌≡◌, ◌++◌, length, take}
 use Rattle.value_texts.specs.Texts.{spaced}
-use Rattle.value_texts.proofs.vector_text.put_spaced.Given as goal
+use Rattle.value_texts.proofs.vector_text.put_spaced_alone.Given as goal
 
 -- what is written with what is left to write is the whole, and the text begins as before
 abbrev pub invariant-loop-rest : goal.invariant-loop-rest

@@ -1,7 +1,7 @@
 use Rattle.std.proofs.Common.{◌≡◌, ◌++◌, length, map, sum, take, drop, unsigned_abs}
 use Rattle.cvl_base.specs.Nests.{cut_of}
 use Rattle.value_texts.specs.Texts.{spaced, vector_text}
-use Rattle.value_texts.proofs.vector_text.put_spaced_segments.Given as goal
+use Rattle.value_texts.proofs.vector_text.put_spaced_segments_alone.Given as goal
 
 -- what is written with what is left to write is the whole, and the text begins as before
 abbrev pub invariant-loop-length : goal.invariant-loop-length

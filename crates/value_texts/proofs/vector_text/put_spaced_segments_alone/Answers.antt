@@ -1,6 +1,6 @@
 use Rattle.std.proofs.Common.{[], ◌∷◌}
 use Rattle.value_texts.proofs.Spaces.{begins_after}
-use Rattle.value_texts.proofs.vector_text.put_spaced_segments.Goals as goal
+use Rattle.value_texts.proofs.vector_text.put_spaced_segments_alone.Goals as goal
 
 pub returns-in_err-put_vector-clause-begins : goal.returns-in_err-put_vector-clause-begins
 returns-in_err-put_vector-clause-begins g c =

@@ -1,0 +1,103 @@
+//! The elements of a vector, whose texts are counted and written in parts.
+
+ghost use Rattle.std.specs.Prelude.{◌≡◌, ◌*◌, ◌≤◌, length, vec_len, IfOk};
+ghost use Rattle.cvl_base.specs.Limits.{most_elements};
+ghost use Rattle.fresh.specs.Places.{with_items};
+ghost use Rattle.value_texts.specs.Parts.{texts_of};
+ghost use Rattle.value_texts.specs.Texts.{spaced};
+
+use crate::parts::Part;
+use crate::vector_text::{PAGE_BYTES, PAGE_ELEMENTS, Page, write_spaced};
+use crate::written::Written;
+use cvl_base::{Memory, NoResources};
+use fresh::Run;
+use std::alloc::AllocError;
+
+/// How many bytes the texts of the elements have with a space before each.
+pub(crate) fn count_spaced<T: Written>(xs: &[T]) -> u32
+    requires { length xs.now ≤ most_elements }
+    ensures count { result ≡ length (spaced T.text_of xs.now) }
+    ensures few { result ≤ 12 * length xs.now }
+{
+    let mut bytes = 0;
+    for x in xs {
+        bytes += 1 + x.text_len();
+    }
+    bytes
+}
+
+/// Writes the texts of the elements with a space before each behind what is written in the run.
+pub(crate) fn write_into_run<T: Written>(xs: &[T], page: &mut Page, run: Run<u8>) -> Run<u8>
+    requires { length (spaced T.text_of xs.now) ≤ run.room }
+    ensures { result ≡ with_items run (spaced T.text_of xs.now) }
+{
+    let mut run = run;
+    let mut rest = xs;
+    while rest.len() > PAGE_ELEMENTS {
+        let (front, others) = rest.split_at(PAGE_ELEMENTS);
+        let start = write_spaced(front, page);
+        run = run.extend_from_slice(&page[start..]);
+        rest = others;
+    }
+    let start = write_spaced(rest, page);
+    run.extend_from_slice(&page[start..])
+}
+
+/// Neighbouring elements of a vector, each with a space before it.
+pub(crate) struct ElementTexts<'a, T> {
+    xs: &'a [T],
+    ghost few: { length xs.now ≤ most_elements },
+}
+
+impl<'a, T> Clone for ElementTexts<'a, T> {
+    ghost use Rattle.std.specs.Prelude.{◌≡◌, ⊤};
+
+    ghost is_clone = { λ x y. y ≡ x };
+
+    ghost is_infallible = { λ _. ⊤ };
+
+    fn clone(&self) -> Result<ElementTexts<'a, T>, AllocError> {
+        Ok(*self)
+    }
+}
+
+impl<'a, T> Copy for ElementTexts<'a, T> {}
+
+impl<'a, T: Written> Part for ElementTexts<'a, T> {
+    ghost use Rattle.value_texts.specs.Texts.{spaced};
+
+    ghost text = { λ part. spaced T.text_of part.xs.now };
+
+    fn count(&self) -> u32 {
+        count_spaced(self.xs)
+    }
+
+    fn write(&self, run: Run<u8>) -> Run<u8> {
+        let mut page = [0; PAGE_BYTES];
+        write_into_run(self.xs, &mut page, run)
+    }
+}
+
+/// So many parts of the elements, about equally many in each.
+pub(crate) fn elements_in<T: Written, A: Memory>(
+    alloc: A,
+    xs: &[T],
+    count: usize,
+) -> Result<Vec<ElementTexts<'_, T>, A>, NoResources>
+    requires few { length xs.now ≤ most_elements }
+    requires some { 1 ≤ count }
+    ensures whole { IfOk result (λ parts. texts_of (λ p. spaced T.text_of p.xs.now) parts.items ≡ spaced T.text_of xs.now) }
+    ensures count { IfOk result (λ parts. vec_len parts ≤ count) }
+{
+    let mut parts = Vec::with_capacity(alloc, count)?;
+    let mut rest = xs;
+    let mut left = count;
+    while left > 1 {
+        let (front, others) = rest.split_at(rest.len() / left);
+        parts.push(ElementTexts { xs: front })?;
+        rest = others;
+        left -= 1;
+    }
+    parts.push(ElementTexts { xs: rest })?;
+    Ok(parts)
+}

@@ -1,0 +1,179 @@
+//! The segments of a vector, whose texts are counted and written in parts.
+
+ghost use Rattle.std.specs.Prelude.{◌≡◌, ◌+◌, ◌*◌, ◌≤◌, length, map, sum, take, unsigned_abs, vec_len, IfOk, [], ◌∷◌};
+ghost use Rattle.std.specs.List.{join_with_byte};
+ghost use Rattle.cvl_base.specs.Limits.{most_elements};
+ghost use Rattle.cvl_base.specs.Nests.{cut_of};
+ghost use Rattle.fresh.specs.Places.{with_items};
+ghost use Rattle.value_texts.specs.Parts.{texts_of};
+ghost use Rattle.value_texts.specs.Texts.{spaced, vector_text};
+
+use crate::elements::{count_spaced, write_into_run};
+use crate::parts::Part;
+use crate::vector_text::{PAGE_BYTES, Page};
+use crate::written::Written;
+use cvl_base::{Memory, NoResources};
+use fresh::Run;
+use std::alloc::AllocError;
+
+/// How many bytes the text of a vector has.
+fn count_vector<T: Written>(xs: &[T]) -> u32
+    requires { length xs.now ≤ most_elements }
+    ensures count { result ≡ length (vector_text T.text_of xs.now) }
+    ensures few { result ≤ 2 + 12 * length xs.now }
+{
+    let Some((_first, _others)) = xs.split_first() else {
+        return 2;
+    };
+    // two brackets, and no space before the first element
+    1 + count_spaced(xs)
+}
+
+/// How many bytes the texts of the segments have with a space before each.
+fn count_segments<T: Written>(lengths: &[i32], xs: &[T]) -> u32
+    requires few_segments { length lengths.now ≤ most_elements }
+    requires few { length xs.now ≤ most_elements }
+    requires cut { sum (map unsigned_abs lengths.now) ≡ length xs.now }
+    ensures { result ≡ length (spaced (vector_text T.text_of) (cut_of (map unsigned_abs lengths.now) xs.now)) }
+{
+    let mut bytes = 0;
+    let mut rest = xs;
+    for length in lengths {
+        let (segment, others) = rest.split_at(length.unsigned_abs() as usize);
+        bytes += 1 + count_vector(segment);
+        rest = others;
+    }
+    bytes
+}
+
+/// Writes the texts of the elements with a space between each two behind what is written in the run.
+fn write_joined<T: Written>(xs: &[T], page: &mut Page, run: Run<u8>) -> Run<u8>
+    requires { length (join_with_byte 32 (map T.text_of xs.now)) ≤ run.room }
+    ensures { result ≡ with_items run (join_with_byte 32 (map T.text_of xs.now)) }
+{
+    let Some((first, others)) = xs.split_first() else {
+        return run;
+    };
+    let start = first.write_before(page, PAGE_BYTES);
+    let run = run.extend_from_slice(&page[start..]);
+    write_into_run(others, page, run)
+}
+
+/// Writes a space and the text of a vector behind what is written in the run.
+fn write_vector<T: Written>(xs: &[T], page: &mut Page, run: Run<u8>) -> Run<u8>
+    requires { 1 + length (vector_text T.text_of xs.now) ≤ run.room }
+    ensures { result ≡ with_items run (spaced (vector_text T.text_of) (xs.now ∷ [])) }
+{
+    let run = run.extend_from_slice(b" [");
+    let run = write_joined(xs, page, run);
+    run.extend_from_slice(b"]")
+}
+
+/// Writes the texts of the segments with a space before each behind what is written in the run.
+fn write_segments<T: Written>(lengths: &[i32], xs: &[T], page: &mut Page, run: Run<u8>) -> Run<u8>
+    requires cut { sum (map unsigned_abs lengths.now) ≡ length xs.now }
+    requires room { length (spaced (vector_text T.text_of) (cut_of (map unsigned_abs lengths.now) xs.now)) ≤ run.room }
+    ensures { result ≡ with_items run (spaced (vector_text T.text_of) (cut_of (map unsigned_abs lengths.now) xs.now)) }
+{
+    let mut run = run;
+    let mut rest = xs;
+    for length in lengths {
+        let (segment, others) = rest.split_at(length.unsigned_abs() as usize);
+        run = write_vector(segment, page, run);
+        rest = others;
+    }
+    run
+}
+
+/// Neighbouring segments of a vector, each with a space before it.
+pub(crate) struct SegmentTexts<'a, T> {
+    lengths: &'a [i32],
+    xs: &'a [T],
+    ghost few_segments: { length lengths.now ≤ most_elements },
+    ghost few: { length xs.now ≤ most_elements },
+    ghost cut: { sum (map unsigned_abs lengths.now) ≡ length xs.now },
+}
+
+impl<'a, T> Clone for SegmentTexts<'a, T> {
+    ghost use Rattle.std.specs.Prelude.{◌≡◌, ⊤};
+
+    ghost is_clone = { λ x y. y ≡ x };
+
+    ghost is_infallible = { λ _. ⊤ };
+
+    fn clone(&self) -> Result<SegmentTexts<'a, T>, AllocError> {
+        Ok(*self)
+    }
+}
+
+impl<'a, T> Copy for SegmentTexts<'a, T> {}
+
+impl<'a, T: Written> Part for SegmentTexts<'a, T> {
+    ghost use Rattle.std.specs.Prelude.{map, unsigned_abs};
+    ghost use Rattle.cvl_base.specs.Nests.{cut_of};
+    ghost use Rattle.value_texts.specs.Texts.{spaced, vector_text};
+
+    ghost text = { λ part. spaced (vector_text T.text_of) (cut_of (map unsigned_abs part.lengths.now) part.xs.now) };
+
+    fn count(&self) -> u32 {
+        count_segments(self.lengths, self.xs)
+    }
+
+    fn write(&self, run: Run<u8>) -> Run<u8> {
+        let mut page = [0; PAGE_BYTES];
+        write_segments(self.lengths, self.xs, &mut page, run)
+    }
+}
+
+/// How many of the first segments take at least so much to write, or all segments, and how many elements they have. A segment
+/// takes about as much as its elements and one more.
+fn leading(lengths: &[i32], least: usize) -> (usize, usize)
+    requires few_segments { length lengths.now ≤ most_elements }
+    requires few { sum (map unsigned_abs lengths.now) ≤ most_elements }
+    ensures segments { result.0 ≤ length lengths.now }
+    ensures elements { result.1 ≡ sum (map unsigned_abs (take result.0 lengths.now)) }
+{
+    let mut elements = 0;
+    for (segments, length) in lengths.iter().enumerate() {
+        if elements + segments >= least {
+            return (segments, elements);
+        }
+        elements += length.unsigned_abs() as usize;
+    }
+    (lengths.len(), elements)
+}
+
+/// So many parts of the segments, about equally much to write in each.
+pub(crate) fn segments_in<'a, T: Written, A: Memory>(
+    alloc: A,
+    lengths: &'a [i32],
+    xs: &'a [T],
+    count: usize,
+) -> Result<Vec<SegmentTexts<'a, T>, A>, NoResources>
+    requires few_segments { length lengths.now ≤ most_elements }
+    requires few { length xs.now ≤ most_elements }
+    requires cut { sum (map unsigned_abs lengths.now) ≡ length xs.now }
+    requires some { 1 ≤ count }
+    ensures whole { IfOk result (λ parts. texts_of (λ p. spaced (vector_text T.text_of) (cut_of (map unsigned_abs p.lengths.now) p.xs.now)) parts.items
+        ≡ spaced (vector_text T.text_of) (cut_of (map unsigned_abs lengths.now) xs.now)) }
+    ensures count { IfOk result (λ parts. vec_len parts ≤ count) }
+{
+    let mut parts = Vec::with_capacity(alloc, count)?;
+    let mut lengths = lengths;
+    let mut rest = xs;
+    let mut left = count;
+    while left > 1 {
+        let (segments, elements) = leading(lengths, (rest.len() + lengths.len()) / left);
+        let (front_lengths, other_lengths) = lengths.split_at(segments);
+        let (front, others) = rest.split_at(elements);
+        parts.push(SegmentTexts {
+            lengths: front_lengths,
+            xs: front,
+        })?;
+        lengths = other_lengths;
+        rest = others;
+        left -= 1;
+    }
+    parts.push(SegmentTexts { lengths, xs: rest })?;
+    Ok(parts)
+}
