@@ -1,1 +1,2 @@
 pub mod Resolved
+mod TakenBack

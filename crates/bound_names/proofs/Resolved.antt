@@ -17,7 +17,7 @@ use Rattle.cvl_base.specs.declared.value.Value.{Value}
 use Rattle.cvl_base.specs.declared.fault.Fault.{Fault}
 use Rattle.cvl_base.specs.declared.fault.FaultNo.TheVariants.{WrongArgumentCount, WrongKind}
 use Rattle.cvl_base.specs.declared.operation.Op.{Op}
-use Rattle.cvl_base.specs.declared.operation.Op.TheVariants.{Input, Ints2, Ints1, Compare, Bools2, Bools1, Choose, IntFromBool, BoolFromInt, Scan, Reduce}
+use Rattle.cvl_base.specs.declared.operation.Op.TheVariants.{Input, Nested, Ints2, Ints1, Compare, Bools2, Bools1, Choose, IntFromBool, BoolFromInt, Scan, Reduce}
 use Rattle.cvl_base.specs.declared.operation.Op.TheVariants.{CheckedScan, CheckedReduce, BoolScan, BoolReduce, Permute, Length, Count, Pack, PackedLengths, Distribute, Index, Extract}
 use Rattle.cvl_base.specs.declared.operation.Op.TheVariants.{Replace, MakeDescriptor, DescriptorLengths, Write}
 use Rattle.bound_names.specs.Arguments.{arg_fault, arg_value, args_fault, argument_at, each_fault, earlier, kind_fault, place_fault}
@@ -29,6 +29,7 @@ use Rattle.bound_names.specs.declared.operands.Operands.{Operands}
 
 few_operands : (op : Op) → length (operands_of op) ≤ 5
 few_operands Input = omega arith
+few_operands Nested = omega arith
 few_operands (Ints2 o) = omega arith
 few_operands (Ints1 o) = omega arith
 few_operands (Compare o) = omega arith

@@ -1,9 +1,9 @@
 -- The bound names: a finite map from names to values, as the list of its entries in the order of the names.
 -- Source: this library's script format.
-use Rattle.std.specs.Prelude.{◌≡◌, ◌≢◌, ℕ, Bool, List, length, nat_lt, Option, Some, ◌||◌, is_some}
+use Rattle.std.specs.Prelude.{◌≡◌, ◌≢◌, ℕ, ◌+◌, Bool, List, length, nat_le, nat_lt, Option, Some, None, ◌||◌, is_some, if◌then◌else◌}
 use Rattle.std.specs.Ordering.{nat_cmp}
 use Rattle.std.specs.Cmp.Lexicographic.{slice_cmp}
-use Rattle.std.specs.Map.{lookup}
+use Rattle.std.specs.Map.{lookup, remove_entry}
 use Rattle.std.specs.BTreeMap.{insert_entry, is_at}
 use Rattle.cvl_base.specs.declared.value.Value.{Value}
 use Rattle.cvl_base.specs.Limits.{most_names}
@@ -24,9 +24,27 @@ module _ {A : Type 0} where
   abbrev pub bind : Entries A → List ℕ → Value A → Entries A
   bind names name bound = insert_entry (slice_cmp nat_cmp) names name bound
 
+  -- the same of two names and two values; of equal names the second value counts
+  abbrev pub bind_both : Entries A → List ℕ → List ℕ → Value A × Value A → Entries A
+  bind_both names first second both = bind (bind names first both.0) second both.1
+
+  -- a name with what it had before: that value again, or nothing
+  abbrev pub bind_again : Entries A → List ℕ → Option (Value A) → Entries A
+  bind_again names name (Some before) = bind names name before
+  bind_again names name None = remove_entry (is_at (slice_cmp nat_cmp name)) names
+
   -- a name that is bound may be bound again, and a new one where fewer than 4,096 are
   abbrev pub has_room : Entries A → List ℕ → Bool
   has_room names name = is_some (value_at names name) || nat_lt (length names) most_names
+
+  -- how many names a name adds to those that are bound: one where it is new
+  abbrev pub added_by : Entries A → List ℕ → ℕ
+  added_by names name = if is_some (value_at names name) then 0 else 1
+
+  -- two names may be bound where the names that are bound and the new ones are together at most 4,096
+  abbrev pub has_room_for_both : Entries A → List ℕ → List ℕ → Bool
+  has_room_for_both names first second =
+      nat_le (length names + added_by names first + added_by names second) most_names
 
   -- a binding gives the name its value, and every other name keeps what it had
   abbrev pub BindsName : Entries A → List ℕ → Value A → Type 0

@@ -1,7 +1,8 @@
 //! The bound names.
 
-ghost use Rattle.std.specs.Prelude.{◌≡◌, Err, IfErr, IfOk, MatchResult, OnErr, OnOk, option_copied};
-ghost use Rattle.bound_names.specs.Names.{bind, has_room, value_at};
+ghost use Rattle.std.specs.Prelude.{◌≡◌, true, Some, is_some, Err, IfErr, IfOk, IfSome, MatchResult, OnErr, OnOk, option_copied};
+ghost use Rattle.std.specs.Map.{keys_of};
+ghost use Rattle.bound_names.specs.Names.{added_by, bind, bind_again, bind_both, has_room, has_room_for_both, value_at};
 
 use crate::bound::Bound;
 use cvl_base::limits::MOST_NAMES;
@@ -37,7 +38,7 @@ pub fn bind_name<A: Memory>(
     ensures binds { OnOk result (names.new.entries ≡ bind names.old.entries name.now bound) }
     ensures refused { OnErr result (names.new.entries ≡ names.old.entries) }
 {
-    names.insert(*name, bound)?;
+    put(names, name, bound)?;
     Ok(())
 }
 
@@ -59,9 +60,95 @@ pub fn bind_answer<A: Memory>(
     }
 }
 
+/// Binds two names to two values, both or neither: after a refusal the names are as before.
+#[tactic(auto, using(crate::proofs::TakenBack::taken_back))]
+pub fn bind_names<A: Memory>(
+    names: &mut Names<A>,
+    first: &Name,
+    second: &Name,
+    both: (Bound<A>, Bound<A>),
+) -> Result<(), NoResources>
+    ensures binds { OnOk result (names.new.entries ≡ bind_both names.old.entries first.now second.now both) }
+    ensures refused { OnErr result (names.new.entries ≡ names.old.entries) }
+{
+    let before = put(names, first, both.0)?;
+    match put(names, second, both.1) {
+        Ok(_) => Ok(()),
+        Err(refusal) => {
+            take_back(names, first, before);
+            Err(refusal)
+        }
+    }
+}
+
+/// Binds a name to a value, and gives what was bound to it. Only a new name may be refused, and then the names are as
+/// before.
+fn put<A: Memory>(
+    names: &mut Names<A>,
+    name: &Name,
+    bound: Bound<A>,
+) -> Result<Option<Bound<A>>, NoResources>
+    ensures binds { OnOk result (names.new.entries ≡ bind names.old.entries name.now bound) }
+    ensures is_bound { OnOk result (value_at names.new.entries name.now ≡ Some bound) }
+    ensures before { IfOk result (λ before. before ≡ value_at names.old.entries name.now) }
+    ensures names_stay { IfOk result (λ before. IfSome before (λ _. keys_of names.new.entries ≡ keys_of names.old.entries)) }
+    ensures refused { OnErr result (names.new.entries ≡ names.old.entries) }
+{
+    Ok(names.insert(*name, bound)?)
+}
+
+/// Binds a name that is bound to what it had before, or takes it away where it had nothing. It takes no memory.
+fn take_back<A: Memory>(names: &mut Names<A>, name: &Name, before: Option<Bound<A>>)
+    requires is_bound { is_some (value_at names.old.entries name.now) ≡ true }
+    ensures { names.new.entries ≡ bind_again names.old.entries name.now before }
+{
+    match before {
+        Some(bound) => {
+            names.insert(*name, bound).ok();
+        }
+        None => {
+            names.remove(name);
+        }
+    }
+}
+
+/// Binds two names to the two values that a call gave, both or neither. Where the call was refused, that is the answer,
+/// and no name is bound.
+pub fn bind_answers<A: Memory>(
+    names: &mut Names<A>,
+    first: &Name,
+    second: &Name,
+    answer: Result<(Bound<A>, Bound<A>), Refused>,
+) -> Result<(), Refused>
+    ensures binds { MatchResult answer
+        (λ both. OnOk result (names.new.entries ≡ bind_both names.old.entries first.now second.now both))
+        (λ refusal. result ≡ Err refusal) }
+    ensures memory { IfOk answer (λ _. IfErr result (λ e. e ≡ Refused.NoResources)) }
+    ensures refused { OnErr result (names.new.entries ≡ names.old.entries) }
+{
+    match answer {
+        Ok(both) => Ok(bind_names(names, first, second, both)?),
+        Err(refused) => Err(refused),
+    }
+}
+
 /// Whether a name is bound or fewer than 4,096 names are.
 pub fn is_room<A: Memory>(names: &Names<A>, name: &Name) -> bool
     ensures { result ≡ has_room names.now.entries name.now }
 {
     names.contains_key(name) || names.len() < MOST_NAMES
+}
+
+/// Whether the names that are bound and those of two names that are new are together at most 4,096.
+pub fn is_room_for_both<A: Memory>(names: &Names<A>, first: &Name, second: &Name) -> bool
+    ensures { result ≡ has_room_for_both names.now.entries first.now second.now }
+{
+    names.len() + added_by(names, first) + added_by(names, second) <= MOST_NAMES
+}
+
+/// How many names a name adds to those that are bound: one where it is new.
+fn added_by<A: Memory>(names: &Names<A>, name: &Name) -> usize
+    ensures { result ≡ added_by names.now.entries name.now }
+{
+    if names.contains_key(name) { 0 } else { 1 }
 }

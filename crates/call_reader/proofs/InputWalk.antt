@@ -11,6 +11,7 @@ use Rattle.cvl_base.specs.declared.fault.Fault.{Fault}
 use Rattle.cvl_base.specs.declared.fault.FaultNo.TheVariants.{BadInput}
 use Rattle.cvl_base.specs.Elementwise.{values_from}
 use Rattle.cvl_base.specs.Gives.{◌>>=◌}
+use Rattle.call_reader.specs.declared.token.ByteClass.{ByteClass}
 use Rattle.call_reader.specs.declared.token.ByteClass.TheVariants.{Blank, Part}
 use Rattle.call_reader.specs.Tokens.{tokens_by, with_byte, is_part, begins_with_part}
 use Rattle.call_reader.specs.Numbers.{positive_of, negative_of, with_sign, written_number}
@@ -82,28 +83,34 @@ numbers_from place tokens = values_from BadInput place (map written_number token
 abbrev pub behind : List ℤ → Result (List ℤ) Fault → Result (List ℤ) Fault
 behind numbers others = others >>= λ ns. Ok (numbers ++ ns)
 
-digit_is_part : (b : ℕ) → is_ascii_digit b ≡ true → is_part (input_class b) ≡ true
-digit_is_part b e = grind (arith, nat_tests)
+-- a class at which the bytes of a number are part of a run
+module _ (class_of : ℕ → ByteClass) (digit_is_part : (b : ℕ) → is_ascii_digit b ≡ true → is_part (class_of b) ≡ true) (sign_is_part : is_part (class_of 45) ≡ true) where
+  digits_are_part : (digits : List ℕ) → list_all is_ascii_digit digits ≡ true → list_all (λ b. is_part (class_of b)) digits ≡ true
+  digits_are_part [] all = refl
+  digits_are_part (d ∷ ds) all =
+      let parts = and_parts (is_ascii_digit d) (list_all is_ascii_digit ds) all in
+      rw (digit_is_part d parts.0) (digits_are_part ds parts.1)
 
-digits_are_part : (digits : List ℕ) → list_all is_ascii_digit digits ≡ true → list_all (λ b. is_part (input_class b)) digits ≡ true
-digits_are_part [] all = refl
-digits_are_part (d ∷ ds) all =
-    let parts = and_parts (is_ascii_digit d) (list_all is_ascii_digit ds) all in
-    rw (digit_is_part d parts.0) (digits_are_part ds parts.1)
+  signed_run : (sign : Bool) (b : ℕ) (bs : List ℕ) (n : ℤ) → (sign ≡ true → b ≡ 45) → with_sign sign (b ∷ bs) bs ≡ Some n
+      → list_all (λ b. is_part (class_of b)) (b ∷ bs) ≡ true
+  signed_run true b bs n minus e = rw (minus refl, sign_is_part) (digits_are_part bs (magnitude_digits bs negative_of n e))
+  signed_run false b bs n minus e = digits_are_part (b ∷ bs) (magnitude_digits (b ∷ bs) positive_of n e)
 
-signed_run : (sign : Bool) (b : ℕ) (bs : List ℕ) (n : ℤ) → (sign ≡ true → b ≡ 45) → with_sign sign (b ∷ bs) bs ≡ Some n
-    → list_all (λ b. is_part (input_class b)) (b ∷ bs) ≡ true
-signed_run true b bs n minus e = rw (minus refl) (digits_are_part bs (magnitude_digits bs negative_of n e))
-signed_run false b bs n minus e = digits_are_part (b ∷ bs) (magnitude_digits (b ∷ bs) positive_of n e)
+  -- a number is a run, and it has a byte
+  number_is_run : (token : List ℕ) (n : ℤ) → written_number token ≡ Some n → (list_all (λ b. is_part (class_of b)) token ≡ true) × (0 < length token)
+  number_is_run [] n e = cc
+  number_is_run (b ∷ bs) n e = (signed_run (b == 45) b bs n (λ h. grind (arith, nat_tests)) e, omega arith)
 
--- a number has no white space in it, and it has a byte
-number_is_run : (token : List ℕ) (n : ℤ) → written_number token ≡ Some n → (list_all (λ b. is_part (input_class b)) token ≡ true) × (0 < length token)
-number_is_run [] n e = cc
-number_is_run (b ∷ bs) n e = (signed_run (b == 45) b bs n (λ h. grind (arith, nat_tests)) e, omega arith)
+  -- a number with no part of a run after it is the first token
+  pub number_leads : (bytes : List ℕ) (k : ℕ) (n : ℤ) → written_number (take k bytes) ≡ Some n → begins_with_part class_of (drop k bytes) ≡ false
+      → tokens_by class_of bytes ≡ take k bytes ∷ tokens_by class_of (drop k bytes)
+  number_leads bytes k n e ends =
+      let run = number_is_run (take k bytes) n e in
+      ap (tokens_by class_of) (sym (take-append-drop k bytes)) ∙ run_first class_of (take k bytes) (drop k bytes) run.0 run.1 ends
 
--- a number with no part of a run after it is the first token
+digit_in_input : (b : ℕ) → is_ascii_digit b ≡ true → is_part (input_class b) ≡ true
+digit_in_input b e = grind (arith, nat_tests)
+
 pub number_first : (bytes : List ℕ) (k : ℕ) (n : ℤ) → written_number (take k bytes) ≡ Some n → begins_with_part input_class (drop k bytes) ≡ false
     → tokens_by input_class bytes ≡ take k bytes ∷ tokens_by input_class (drop k bytes)
-number_first bytes k n e ends =
-    let run = number_is_run (take k bytes) n e in
-    ap (tokens_by input_class) (sym (take-append-drop k bytes)) ∙ run_first input_class (take k bytes) (drop k bytes) run.0 run.1 ends
+number_first = number_leads input_class digit_in_input refl

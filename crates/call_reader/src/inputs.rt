@@ -16,7 +16,7 @@ use cvl_base::{Fault, FaultNo, Memory, Refused};
 
 /// Whether a byte is white space: a space, a tab, a line feed or a carriage return.
 #[inline(always)]
-fn is_white_space(byte: u8) -> bool
+pub(crate) fn is_white_space(byte: u8) -> bool
     ensures { result ≡ is_white_space byte }
 {
     // most bytes need one test alone

@@ -7,6 +7,9 @@ mod inputs;
 pub mod line_laws;
 mod line_tokens;
 mod lines;
+pub mod nested_laws;
+mod nested_texts;
+mod nested_tokens;
 mod number;
 mod piece_reads;
 mod pieces;
@@ -16,5 +19,6 @@ mod vector_reads;
 
 pub use inputs::worked_inputs;
 pub use lines::read_line;
+pub use nested_texts::read_nested;
 pub use value_texts::put_value;
 pub use vector_reads::read_vector;

@@ -15,7 +15,8 @@ use std::thread::Threads;
 ///
 /// Its faults are `TooLong`, without a place, where there are more tokens than 4,194,304, whatever they are, and else
 /// `BadInput` at the first token that is no integer of 32 bits, counted from 0. Where the room for the numbers is
-/// refused, it answers `NoResources`. A long input is read by several threads, no more than the configuration has workers.
+/// refused, or for the pieces of a long input and their counts, it answers `NoResources`. A long input is read by several
+/// threads, no more than the configuration has workers.
 pub fn read_vector<R: Threads + Sync, A: Memory>(
     rt: &R,
     alloc: A,

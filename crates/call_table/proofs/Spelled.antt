@@ -9,7 +9,7 @@ use Rattle.call_table.specs.declared.families.Form.TheVariants.{Simple, Back, Se
 use Rattle.call_table.specs.declared.families.Cut.TheVariants.{Flat, Segmented}
 use Rattle.call_table.specs.declared.families.Element.TheVariants.{Integer, Boolean}
 use Rattle.call_table.specs.declared.operation.Op.{Op}
-use Rattle.call_table.specs.declared.operation.Op.TheVariants.{Input, Ints2, Ints1, Compare, Bools2, Bools1, Choose, IntFromBool}
+use Rattle.call_table.specs.declared.operation.Op.TheVariants.{Input, Nested, Ints2, Ints1, Compare, Bools2, Bools1, Choose, IntFromBool}
 use Rattle.call_table.specs.declared.operation.Op.TheVariants.{BoolFromInt, Scan, Reduce, BoolScan, BoolReduce, Permute, Length, Count}
 use Rattle.call_table.specs.declared.operation.Op.TheVariants.{Pack, PackedLengths, Distribute, Index, Extract, Replace}
 use Rattle.call_table.specs.declared.operation.Op.TheVariants.{MakeDescriptor, DescriptorLengths, CheckedScan, CheckedReduce, Write}
@@ -19,6 +19,7 @@ use Rattle.call_table.specs.Spellings.{op_of, int_binaries, unaries, comparisons
 pub read_back : (op : Op) → is_write op ≡ false → op_of (spelling_of op) ≡ Some op
 unfolding op_of int_binaries unaries comparisons bool_binaries int_monoids forms elements
 read_back Input h = refl
+read_back Nested h = refl
 read_back (Ints2 int.Add) h = refl
 read_back (Ints2 int.Sub) h = refl
 read_back (Ints2 int.Mul) h = refl

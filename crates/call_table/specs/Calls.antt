@@ -1,4 +1,5 @@
--- The table of calls: the name of each, the kinds of the arguments that it takes, in their order, and the kind that it gives.
+-- The table of calls: the name of each, the kinds of the arguments that it takes, in their order, and of the values that
+-- it gives.
 -- Source: the calls of CVL, the C Vector Library (Blelloch and others, 1993); names, orders and exceptions are this library's profile.
 use Rattle.std.specs.Prelude.{ℕ, Bool, true, false, if◌then◌else◌, ◌&&◌, ◌||◌, ◌==◌}
 use Rattle.std.specs.Prelude.{List, [], ◌∷◌, ◌++◌, length, slice_get, codes, Option, Some, None}
@@ -11,7 +12,7 @@ use Rattle.call_table.specs.declared.families.Cut.TheVariants.{Flat, Segmented}
 use Rattle.call_table.specs.declared.families.Element.{Element}
 use Rattle.call_table.specs.declared.families.Element.TheVariants as of
 use Rattle.call_table.specs.declared.operation.Op.{Op}
-use Rattle.call_table.specs.declared.operation.Op.TheVariants.{Input, Ints2, Ints1, Compare, Bools2, Bools1, Choose, IntFromBool}
+use Rattle.call_table.specs.declared.operation.Op.TheVariants.{Input, Nested, Ints2, Ints1, Compare, Bools2, Bools1, Choose, IntFromBool}
 use Rattle.call_table.specs.declared.operation.Op.TheVariants.{BoolFromInt, Scan, Reduce, BoolScan, BoolReduce, Permute, Length, Count}
 use Rattle.call_table.specs.declared.operation.Op.TheVariants.{Pack, PackedLengths, Distribute, Index, Extract, Replace}
 use Rattle.call_table.specs.declared.operation.Op.TheVariants.{MakeDescriptor, DescriptorLengths, CheckedScan, CheckedReduce, Write}
@@ -67,22 +68,24 @@ replaced_by cut element = vector_of element ∷ each_of cut of.Integer ∷ each_
 abbrev indexed_by : Cut → List Kind
 indexed_by cut = each_of cut of.Integer ∷ each_of cut of.Integer ∷ extent_of cut ∷ []
 
--- a row of the table: a call's name, its arguments in the order of the script, and what it gives
+-- a row of the table: a call's name, its arguments in the order of the script, and what it gives, one value for each name
+-- that it binds
 pub record Row : Type 0 where
   pub name : List ℕ
   pub operands : List Kind
-  pub result : Option Kind
+  pub results : List Kind
 
-abbrev row : List ℕ → List Kind → Option Kind → Row
-row name operands result = record { name = name; operands = operands; result = result }
+abbrev row : List ℕ → List Kind → List Kind → Row
+row name operands results = record { name = name; operands = operands; results = results }
 
 -- the row of a call whose name is made of letters
 abbrev call : List ℕ → List ℕ → Cut → Element → List Kind → Kind → Row
-call operator class cut element operands result = row (call_name_of operator class cut element) operands (Some result)
+call operator class cut element operands result = row (call_name_of operator class cut element) operands (result ∷ [])
 
 -- the table; `write` is no call, gives no value, and takes what `accepts_of` says
 abbrev pub row_of : Op → Row
-row_of Input = row (codes "input") (Integer ∷ []) (Some Integers)
+row_of Input = row (codes "input") (Integer ∷ []) (Integers ∷ [])
+row_of Nested = row (codes "nested") (Integer ∷ []) (Integers ∷ Descriptor ∷ [])
 row_of (Ints2 op) = call (int_binary_letters op) (codes "_w") Flat of.Integer (Integers ∷ Integers ∷ []) Integers
 row_of (Ints1 op) = call (unary_letters op) (codes "_w") Flat of.Integer (Integers ∷ []) Integers
 row_of (Compare op) = call (comparison_letters op) (codes "_w") Flat of.Integer (Integers ∷ Integers ∷ []) Booleans
@@ -101,14 +104,14 @@ row_of (Permute form cut element) = call (form_letters form) (codes "_p") cut el
 row_of (Length element) = call (codes "len") (codes "_l") Flat element (vector_of element ∷ []) Integer
 row_of (Count cut) = call (codes "cnt") (codes "_l") cut of.Boolean (Booleans ∷ cut_by cut) (each_of cut of.Integer)
 row_of (Pack cut element) = call (codes "pck") (codes "_l") cut element (vector_of element ∷ Booleans ∷ cut_by cut) (vector_of element)
-row_of PackedLengths = row (codes "pck_fov") (Booleans ∷ Descriptor ∷ []) (Some Descriptor)
+row_of PackedLengths = row (codes "pck_fov") (Booleans ∷ Descriptor ∷ []) (Descriptor ∷ [])
 row_of (Distribute cut element) = call (codes "dis") (codes "_v") cut element (each_of cut element ∷ extent_of cut ∷ []) (vector_of element)
 row_of (Index cut) = call (codes "ind") (codes "_l") cut of.Integer (indexed_by cut) Integers
 row_of (Extract cut element) = call (codes "ext") (codes "_v") cut element (extracted_by cut element) (each_of cut element)
 row_of (Replace cut element) = call (codes "rep") (codes "_v") cut element (replaced_by cut element) (vector_of element)
-row_of MakeDescriptor = row (codes "mke_fov") (Integers ∷ []) (Some Descriptor)
-row_of DescriptorLengths = row (codes "len_fos") (Descriptor ∷ []) (Some Integers)
-row_of Write = row (codes "write") [] None
+row_of MakeDescriptor = row (codes "mke_fov") (Integers ∷ []) (Descriptor ∷ [])
+row_of DescriptorLengths = row (codes "len_fos") (Descriptor ∷ []) (Integers ∷ [])
+row_of Write = row (codes "write") [] []
 
 abbrev pub spelling_of : Op → List ℕ
 spelling_of op = (row_of op).name
@@ -116,17 +119,17 @@ spelling_of op = (row_of op).name
 abbrev pub operands_of : Op → List Kind
 operands_of op = (row_of op).operands
 
-abbrev pub result_of : Op → Option Kind
-result_of op = (row_of op).result
+abbrev pub results_of : Op → List Kind
+results_of op = (row_of op).results
 
 -- whether it is `write`, which is no call
 abbrev pub is_write : Op → Bool
 is_write Write = true
 is_write _ = false
 
--- how many names it binds: `write` none, and a call one for the value that it gives
+-- how many names it binds: one for each value that it gives
 abbrev pub binds_of : Op → ℕ
-binds_of op = if is_write op then 0 else 1
+binds_of op = length (results_of op)
 
 -- how many arguments it takes: `write` a value, and with it maybe a descriptor; a call one for each operand
 abbrev pub takes_of : Op → ℕ → Bool

@@ -18,7 +18,7 @@ use Rattle.call_table.specs.declared.families.Cut.TheVariants.{Flat, Segmented}
 use Rattle.call_table.specs.declared.families.Element.{Element}
 use Rattle.call_table.specs.declared.families.Element.TheVariants.{Integer, Boolean}
 use Rattle.call_table.specs.declared.operation.Op.{Op}
-use Rattle.call_table.specs.declared.operation.Op.TheVariants.{Input, Ints2, Ints1, Compare, Bools2, Bools1, Choose, IntFromBool}
+use Rattle.call_table.specs.declared.operation.Op.TheVariants.{Input, Nested, Ints2, Ints1, Compare, Bools2, Bools1, Choose, IntFromBool}
 use Rattle.call_table.specs.declared.operation.Op.TheVariants.{BoolFromInt, Scan, Reduce, BoolScan, BoolReduce, Permute, Length, Count}
 use Rattle.call_table.specs.declared.operation.Op.TheVariants.{Pack, PackedLengths, Distribute, Index, Extract, Replace}
 use Rattle.call_table.specs.declared.operation.Op.TheVariants.{MakeDescriptor, DescriptorLengths, CheckedScan, CheckedReduce}
@@ -74,7 +74,7 @@ cut_calls cut =
 
 -- those that read an input or a length, or that make and read descriptors
 abbrev pub other_calls : List Op
-other_calls = map Length elements ++ Input ∷ PackedLengths ∷ MakeDescriptor ∷ DescriptorLengths ∷ []
+other_calls = map Length elements ++ Input ∷ Nested ∷ PackedLengths ∷ MakeDescriptor ∷ DescriptorLengths ∷ []
 
 abbrev pub calls : List Op
 calls = elementwise_calls ++ cut_calls Flat ++ cut_calls Segmented ++ other_calls

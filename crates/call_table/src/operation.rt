@@ -1,7 +1,7 @@
 //! The calls of a script by families, with the operands that each takes and what it gives.
 
 ghost use Rattle.std.specs.Prelude.{◌≡◌};
-ghost use Rattle.call_table.specs.Calls.{operands_of, result_of, is_write, binds_of, takes_of, accepts_of, write_accepts, same_kind, is_vector};
+ghost use Rattle.call_table.specs.Calls.{operands_of, results_of, is_write, binds_of, takes_of, accepts_of, write_accepts, same_kind, is_vector};
 
 use crate::families::{BoolBinary, Comparison, Cut, Element, Form, IntBinary, IntMonoid, Unary};
 use crate::kind::Kind;
@@ -14,6 +14,8 @@ use crate::table::row_of;
 pub enum Op {
     /// `input`: the vector of an input, by its number from 1.
     Input,
+    /// `nested`: the vector of a nested input and its descriptor, by the input's number from 1.
+    Nested,
     /// `add_wuz` and its like: an operator on two integer vectors, element by element.
     Ints2(IntBinary),
     /// `not_wuz`, `cpy_wuz`: an operator on one integer vector, element by element.
@@ -78,18 +80,19 @@ impl Op {
         row_of(self).operands
     }
 
-    /// The kind of the value that the call gives; `write` gives none.
-    pub fn gives(self) -> Option<Kind>
-        ensures { result ≡ result_of self }
+    /// The kinds of the values that the call gives, one for each name that its line binds; `write` gives none.
+    pub fn gives(self) -> &'static [Kind]
+        ensures { result.now ≡ results_of self }
     {
         row_of(self).gives
     }
 
-    /// How many names stand before `=` in its line, which it binds: one for a call, none for `write`.
+    /// How many names stand before `=` in its line, which it binds: two for `nested`, one for every other call, and none
+    /// for `write`.
     pub fn binds(self) -> usize
         ensures { result ≡ binds_of self }
     {
-        if self.is_write() { 0 } else { 1 }
+        self.gives().len()
     }
 
     /// Whether `count` arguments are as many as it takes: a call one for each operand, `write` one or two.

@@ -339,6 +339,7 @@ fn other_call_named(word: &[u8]) -> Option<Op>
 {
     let others = [
         Op::Input,
+        Op::Nested,
         Op::PackedLengths,
         Op::MakeDescriptor,
         Op::DescriptorLengths,

@@ -1,12 +1,12 @@
-//! The table of calls: the name of each, the kinds of its arguments, and the kind of what it gives.
+//! The table of calls: the name of each, the kinds of its arguments, and the kinds of what it gives.
 
-ghost use Rattle.std.specs.Prelude.{◌≡◌, Some};
-ghost use Rattle.call_table.specs.Calls.{spelling_of, operands_of, result_of, each_of, vector_of};
+ghost use Rattle.std.specs.Prelude.{◌≡◌, ◌∷◌, []};
+ghost use Rattle.call_table.specs.Calls.{spelling_of, operands_of, results_of, each_of, vector_of};
 ghost use Rattle.call_table.specs.Spellings.{bytes_of};
 
 use crate::families::{Cut, Element};
 use crate::kind::Kind;
-use crate::kind::Kind::{Booleans, Descriptor, Integer, Integers};
+use crate::kind::Kind::{Boolean, Booleans, Descriptor, Integer, Integers};
 use crate::operands::{
     of_bools, of_choose, of_distribute, of_extract, of_index, of_ints, of_length, of_pack,
     of_permute, of_replace,
@@ -21,20 +21,20 @@ pub(crate) struct Row {
     pub name: Spelling,
     /// The kinds of the arguments that it takes, in the order of the script; none for `write`.
     pub operands: &'static [Kind],
-    /// The kind of the value that it gives; `write` gives none.
-    pub gives: Option<Kind>,
+    /// The kinds of the values that it gives, one for each name that it binds; none for `write`.
+    pub gives: &'static [Kind],
 }
 
-/// The row of a call that gives a value of this kind.
+/// The row of a call that gives one value, of this kind.
 fn call(name: Spelling, operands: &'static [Kind], gives: Kind) -> Row
     ensures name { result.name ≡ name }
     ensures operands { result.operands.now ≡ operands.now }
-    ensures gives { result.gives ≡ Some gives }
+    ensures gives { result.gives.now ≡ gives ∷ [] }
 {
     Row {
         name,
         operands,
-        gives: Some(gives),
+        gives: alone(gives),
     }
 }
 
@@ -42,11 +42,16 @@ fn call(name: Spelling, operands: &'static [Kind], gives: Kind) -> Row
 pub(crate) fn row_of(op: Op) -> Row
     ensures name { bytes_of result.name ≡ spelling_of op }
     ensures operands { result.operands.now ≡ operands_of op }
-    ensures gives { result.gives ≡ result_of op }
+    ensures gives { result.gives.now ≡ results_of op }
 {
     let (flat, integer, boolean) = (Cut::Flat, Element::Integer, Element::Boolean);
     match op {
         Op::Input => call(whole("input"), &[Integer], Integers),
+        Op::Nested => Row {
+            name: whole("nested"),
+            operands: &[Integer],
+            gives: &[Integers, Descriptor],
+        },
         Op::Ints2(operator) => call(
             named(operator.letters(), "_w", flat, integer),
             &[Integers, Integers],
@@ -147,8 +152,21 @@ pub(crate) fn row_of(op: Op) -> Row
         Op::Write => Row {
             name: whole("write"),
             operands: &[],
-            gives: None,
+            gives: &[],
         },
+    }
+}
+
+/// One kind, as a list of kinds.
+fn alone(kind: Kind) -> &'static [Kind]
+    ensures { result.now ≡ kind ∷ [] }
+{
+    match kind {
+        Kind::Integers => &[Integers],
+        Kind::Booleans => &[Booleans],
+        Kind::Descriptor => &[Descriptor],
+        Kind::Integer => &[Integer],
+        Kind::Boolean => &[Boolean],
     }
 }
 

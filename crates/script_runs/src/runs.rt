@@ -111,7 +111,7 @@ fn run_lines<R: Threads + Sync, A: Memory, S: Sink, G: Gate>(
 
 /// Runs a script over its inputs and writes its text to the sink.
 ///
-/// Where no growth is refused and the sink does not fail, the sink takes exactly the text of the script's meaning, and
+/// Where memory does not run out and the sink does not fail, the sink takes exactly the text of the script's meaning, and
 /// the answer is exactly its first fault, whatever the tile length and the number of workers. Where a growth is
 /// refused, or the sink fails, all text of the lines before was taken, and a beginning of the text of the line that the
 /// answer names: one that is not the whole where the sink failed. No call is retried.

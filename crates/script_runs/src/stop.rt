@@ -18,7 +18,7 @@ pub enum Stop {
         /// The fault, with its place.
         fault: Fault,
     },
-    /// A growth was refused.
+    /// Memory ran out.
     NoResources {
         /// The line that was run.
         line: u32,

@@ -1,3 +1,4 @@
 pub mod BoundNames
+pub mod NestedInputs
 pub mod ResultKinds
 pub mod Texts

@@ -1,5 +1,5 @@
 -- The kind of the value that each call gives.
-use Rattle.std.proofs.Common.{◌≡◌, refl, ap, List, Some, Result, Ok, Err}
+use Rattle.std.proofs.Common.{◌≡◌, refl, ap, List, [], ◌∷◌, Option, Some, None, Result, Ok, Err}
 use Rattle.std.specs.Prelude.{ℕ, ℤ, Bool, IfOk}
 use Rattle.std.specs.Option.{ok_or}
 use Rattle.cvl_base.specs.declared.fault.Fault.{Fault}
@@ -17,19 +17,19 @@ use Rattle.cvl_base.specs.Gives.{◌>>=◌}
 use Rattle.cvl_base.specs.Values.{kind_of}
 use Rattle.vector_handles.specs.declared.input.Input.{Input}
 use Rattle.bound_names.specs.Arguments.{integer_in}
-use Rattle.vector_handles.specs.CallValues.{HasNamedKind, integers_of, numbered}
+use Rattle.vector_handles.specs.CallValues.{HasNamedKind, HaveNamedKinds, integers_of, nest_of, nested_values, numbered, vector_and_descriptor}
 use Rattle.vector_handles.specs.ElementTypes.{integer}
 use Rattle.vector_handles.specs.Families.{ArgumentAt, vector}
 
 module _ (A : Type 0) where
   -- the value, where there is one, is of this kind
   abbrev IsOf : Kind → Result (Value A) Fault → Type 0
-  IsOf kind answer = IfOk answer (λ v. Some kind ≡ Some (kind_of v))
+  IsOf kind answer = IfOk answer (λ v. kind ∷ [] ≡ kind_of v ∷ [])
 
   -- a value that is made of an answer is of the kind that is made
   made : {X : Type 0} (make : X → Value A) (kind : Kind) → ((x : X) → kind ≡ kind_of (make x)) →
       (answer : Result X Fault) → IsOf kind (answer >>= λ x. Ok (make x))
-  made make kind is (Ok x) = ap Some (is x)
+  made make kind is (Ok x) = ap (λ k. k ∷ []) (is x)
   made make kind is (Err f) = tt
 
   integers : (answer : Result (List ℤ) Fault) → IsOf kind.Integers (answer >>= λ xs. Ok (value.Integers xs))
@@ -51,6 +51,7 @@ module _ (A : Type 0) where
   named_kind inputs op.Input arg =
       after kind.Integers (λ found. vector integer (integers_of found)) (λ found. integers (integers_of found))
       (ok_or (numbered inputs (integer_in (arg 0))) (fault NoSuchInput))
+  named_kind inputs op.Nested arg = tt
   named_kind inputs (op.Ints2 o) arg = integers _
   named_kind inputs (op.Ints1 o) arg = refl
   named_kind inputs (op.Compare o) arg = booleans _
@@ -102,3 +103,19 @@ module _ (A : Type 0) where
   named_kind inputs op.MakeDescriptor arg = descriptors _
   named_kind inputs op.DescriptorLengths arg = refl
   named_kind inputs op.Write arg = tt
+
+  -- a vector and a descriptor, in this order
+  abbrev AreOf : Result (Value A × Value A) Fault → Type 0
+  AreOf answer = IfOk answer (λ both. kind.Integers ∷ kind.Descriptor ∷ [] ≡ kind_of both.0 ∷ kind_of both.1 ∷ [])
+
+  nest : (answer : Result (List ℤ × List ℕ) Fault) → AreOf (vector_and_descriptor answer)
+  nest (Ok read) = refl
+  nest (Err f) = tt
+
+  found : (input : Option (Input A)) → AreOf (ok_or input (fault NoSuchInput) >>= λ found. vector_and_descriptor (nest_of found))
+  found None = tt
+  found (Some input) = nest (nest_of input)
+
+  pub named_kinds : (inputs : List (Input A)) (call : Op) (arg : ArgumentAt A) → HaveNamedKinds inputs call arg
+  named_kinds inputs op.Nested arg = found (numbered inputs (integer_in (arg 0)))
+  named_kinds inputs _ arg = tt

@@ -1,6 +1,6 @@
 -- How the answers of a session's calls stand to their definitions.
 -- Source: this library.
-use Rattle.std.specs.Prelude.{ℕ, List, Option, Some, None, Result}
+use Rattle.std.specs.Prelude.{ℕ, ℤ, List, Option, Some, None, Result}
 use Rattle.cvl_base.specs.declared.call.Call.{Call}
 use Rattle.cvl_base.specs.declared.fault.Fault.{Fault}
 use Rattle.cvl_base.specs.declared.operation.Op.{Op}
@@ -12,7 +12,7 @@ use Rattle.vector_handles.specs.declared.input.Input.{Input}
 use Rattle.vector_handles.specs.declared.shown.Shown.{Shown}
 use Rattle.bound_names.specs.declared.operands.Operands.{Operands}
 use Rattle.bound_names.specs.Operands.{held_at}
-use Rattle.vector_handles.specs.CallValues.{table_value}
+use Rattle.vector_handles.specs.CallValues.{table_pair, table_value, vector_and_descriptor}
 use Rattle.vector_handles.specs.ElementTypes.{ElementType}
 use Rattle.vector_handles.specs.Families.{vector}
 use Rattle.vector_handles.specs.Sessions.{State, text_shown}
@@ -32,6 +32,15 @@ module _ {A : Type 0} where
   abbrev pub IsVectorOf : {V X : Type 0} → ElementType A X → (V → List X) → Result V Refused → Result (Value A) Refused → Type 0
   IsVectorOf {V} {X} e view given answer =
       (meaning : Result (List X) Fault) → Gives view given meaning → Gives (λ v. v) answer (vector e meaning)
+
+  -- the answer is the two values that the table gives the call
+  abbrev pub IsTablePair : List (Input A) → Op → Operands A → Result (Value A × Value A) Refused → Type 0
+  IsTablePair inputs op operands answer = Gives (λ both. both) answer (table_pair inputs op (held_at operands))
+
+  -- the answer is the vector and the descriptor that a reader's answer gives, seen by `view`, whatever the reader's definition
+  abbrev pub IsNestOf : {V : Type 0} → (V → List ℤ × List ℕ) → Result V Refused → Result (Value A × Value A) Refused → Type 0
+  IsNestOf view given answer =
+      (meaning : Result (List ℤ × List ℕ) Fault) → Gives view given meaning → Gives (λ both. both) answer (vector_and_descriptor meaning)
 
   -- what a call leaves: the names after it, and the text that it shows
   abbrev pub left_by : State A → Option (List ℕ) → Stepped A

@@ -1,6 +1,7 @@
--- The value that each call of the table gives, from its arguments: one line for each family and type of elements.
+-- The value that each call of the table gives, from its arguments: one line for each family and type of elements; and the
+-- two values of a call that gives two.
 -- Source: CVL's calls, in this library's profile.
-use Rattle.std.specs.Prelude.{◌≡◌, ℕ, ◌-◌, ◌==◌, List, map, slice_get, Option, Some, None, Result, Ok, Err, IfOk, ℤ, pos, negsuc, if◌then◌else◌}
+use Rattle.std.specs.Prelude.{◌≡◌, ℕ, ◌-◌, ◌==◌, List, [], ◌∷◌, map, slice_get, Option, Some, None, Result, Ok, Err, IfOk, ℤ, pos, negsuc, if◌then◌else◌}
 use Rattle.std.specs.Option.{ok_or}
 use Rattle.cvl_base.specs.declared.value.Value.{Value}
 use Rattle.cvl_base.specs.declared.value.Value.TheVariants as value
@@ -10,19 +11,20 @@ use Rattle.cvl_base.specs.declared.families.Element.TheVariants.{Integer, Boolea
 use Rattle.cvl_base.specs.declared.operation.Op.{Op}
 use Rattle.cvl_base.specs.declared.operation.Op.TheVariants as op
 use Rattle.cvl_base.specs.declared.fault.Fault.{Fault}
-use Rattle.cvl_base.specs.declared.fault.FaultNo.TheVariants.{UnknownCall, NoSuchInput}
-use Rattle.cvl_base.specs.Calls.{result_of}
+use Rattle.cvl_base.specs.declared.fault.FaultNo.TheVariants.{BadInput, NoSuchInput, UnknownCall, WrongArgumentCount}
+use Rattle.cvl_base.specs.Calls.{results_of}
 use Rattle.cvl_base.specs.CheckedSums.{checked_reduce_of, checked_scan_of, checked_seg_reduce_of, checked_seg_scan_of}
 use Rattle.cvl_base.specs.Descriptors.{descriptor_of}
 use Rattle.cvl_base.specs.Distributes.{index_of}
 use Rattle.cvl_base.specs.Elementwise.{ints2_of, ints1_of, compare_of, bools2_of, bools1_of, ints_from_bools, bools_from_ints}
-use Rattle.cvl_base.specs.Faults.{fault}
+use Rattle.cvl_base.specs.Faults.{fault, fault_at}
 use Rattle.cvl_base.specs.Gives.{◌>>=◌}
 use Rattle.cvl_base.specs.Packs.{count_of}
 use Rattle.cvl_base.specs.Scans.{int_join_of, int_unit_of, bool_join_of, bool_unit_of}
 use Rattle.cvl_base.specs.SegmentedCalls.{seg_count_of, seg_index_of}
 use Rattle.cvl_base.specs.Values.{kind_of}
 use Rattle.call_reader.specs.Inputs.{input_of}
+use Rattle.call_reader.specs.NestedTexts.{nested_of}
 use Rattle.vector_handles.specs.declared.input.Input.{Input}
 use Rattle.vector_handles.specs.declared.input.Input.TheVariants as input
 use Rattle.bound_names.specs.Arguments.{integers_in, booleans_in, lengths_in, integer_in}
@@ -43,6 +45,19 @@ module _ {A : Type 0} where
   abbrev pub input_value : List (Input A) → ArgumentAt A → Result (Value A) Fault
   input_value inputs arg =
       ok_or (numbered inputs (integer_in (arg 0))) (fault NoSuchInput) >>= λ found. vector integer (integers_of found)
+
+  -- the integers of a nested input and the lengths of its inner lists; a vector is no nested text
+  abbrev pub nest_of : Input A → Result (List ℤ × List ℕ) Fault
+  nest_of (input.Bytes bytes) = nested_of bytes.items
+  nest_of (input.Vector xs) = Err (fault_at BadInput 0)
+
+  -- a vector and its descriptor
+  abbrev pub vector_and_descriptor : Result (List ℤ × List ℕ) Fault → Result (Value A × Value A) Fault
+  vector_and_descriptor answer = answer >>= λ nest. Ok (value.Integers nest.0, value.Descriptor nest.1)
+
+  abbrev pub nested_values : List (Input A) → ArgumentAt A → Result (Value A × Value A) Fault
+  nested_values inputs arg =
+      ok_or (numbered inputs (integer_in (arg 0))) (fault NoSuchInput) >>= λ found. vector_and_descriptor (nest_of found)
 
   abbrev pub count_value : Cut → ArgumentAt A → Result (Value A) Fault
   count_value Flat arg = Ok (value.Integer (pos (count_of (booleans_in (arg 0)))))
@@ -65,9 +80,11 @@ module _ {A : Type 0} where
   abbrev pub descriptor : Result (List ℕ) Fault → Result (Value A) Fault
   descriptor answer = answer >>= λ lengths. Ok (value.Descriptor lengths)
 
-  -- what each call gives, where the argument at each place stands for that value; `write` is no call and gives none
+  -- what each call gives, where the argument at each place stands for that value; `write` is no call and gives none, and
+  -- `nested` gives two
   abbrev pub table_value : List (Input A) → Op → ArgumentAt A → Result (Value A) Fault
   table_value inputs op.Input arg = input_value inputs arg
+  table_value inputs op.Nested arg = Err (fault WrongArgumentCount)
   table_value inputs (op.Ints2 o) arg = vector integer (ints2_of o (integers_in (arg 0)) (integers_in (arg 1)))
   table_value inputs (op.Ints1 o) arg = Ok (value.Integers (ints1_of o (integers_in (arg 0))))
   table_value inputs (op.Compare o) arg = vector boolean (compare_of o (integers_in (arg 0)) (integers_in (arg 1)))
@@ -102,6 +119,15 @@ module _ {A : Type 0} where
   table_value inputs op.DescriptorLengths arg = Ok (value.Integers (map pos (lengths_in (arg 0))))
   table_value inputs op.Write arg = Err (fault UnknownCall)
 
-  -- the value of a call, where it has one, is of the kind that the table names for it
+  -- what a call that binds two names gives to each; every other call gives one value or none
+  abbrev pub table_pair : List (Input A) → Op → ArgumentAt A → Result (Value A × Value A) Fault
+  table_pair inputs op.Nested arg = nested_values inputs arg
+  table_pair inputs _ arg = Err (fault WrongArgumentCount)
+
+  -- the value of a call, where it gives one, is of the kind that the table names for it, and so are two, in their order
   abbrev pub HasNamedKind : List (Input A) → Op → ArgumentAt A → Type 0
-  HasNamedKind inputs call arg = IfOk (table_value inputs call arg) (λ v. result_of call ≡ Some (kind_of v))
+  HasNamedKind inputs call arg = IfOk (table_value inputs call arg) (λ v. results_of call ≡ kind_of v ∷ [])
+
+  abbrev pub HaveNamedKinds : List (Input A) → Op → ArgumentAt A → Type 0
+  HaveNamedKinds inputs call arg =
+      IfOk (table_pair inputs call arg) (λ both. results_of call ≡ kind_of both.0 ∷ kind_of both.1 ∷ [])

@@ -1,7 +1,7 @@
 -- The meaning of a line: from the bound names and the inputs, either the new names with the text of the line, or the
--- first fault in the order of checks. A binding changes its one name, and a write changes none.
+-- first fault in the order of checks. A binding changes its one name or its two names, and a write changes none.
 -- Source: this library's script format.
-use Rattle.std.specs.Prelude.{ℕ, not, List, [], ◌∷◌, ◌++◌, codes, slice_get, Option, Some, None, Result, Ok, Err}
+use Rattle.std.specs.Prelude.{ℕ, not, ◌==◌, List, [], ◌∷◌, ◌++◌, codes, slice_get, Option, Some, None, Result, Ok, Err}
 use Rattle.cvl_base.specs.declared.value.Value.{Value}
 use Rattle.cvl_base.specs.declared.call.Arg.{Arg}
 use Rattle.cvl_base.specs.declared.call.Arg.TheVariants as arg
@@ -11,13 +11,14 @@ use Rattle.cvl_base.specs.declared.call.Targets.TheVariants as targets
 use Rattle.cvl_base.specs.declared.operation.Op.{Op}
 use Rattle.cvl_base.specs.declared.fault.Fault.{Fault}
 use Rattle.cvl_base.specs.declared.fault.FaultNo.TheVariants.{TooManyNames, WrongArgumentCount}
+use Rattle.cvl_base.specs.Calls.{binds_of}
 use Rattle.cvl_base.specs.Faults.{fault}
 use Rattle.cvl_base.specs.Gives.{◌>>=◌, unless, fault_if}
 use Rattle.call_reader.specs.Texts.{value_text}
 use Rattle.vector_handles.specs.declared.input.Input.{Input}
-use Rattle.vector_handles.specs.CallValues.{table_value}
+use Rattle.vector_handles.specs.CallValues.{table_pair, table_value}
 use Rattle.vector_handles.specs.Families.{ArgumentAt}
-use Rattle.bound_names.specs.Names.{Entries, bind, has_room}
+use Rattle.bound_names.specs.Names.{Entries, bind, bind_both, has_room, has_room_for_both}
 use Rattle.bound_names.specs.Arguments.{args_fault, argument_at, descriptor_in}
 
 -- what a line leaves: the bound names, and the text where it is a write
@@ -49,14 +50,21 @@ module _ {A : Type 0} where
   abbrev pub bound_to : Entries A → List ℕ → Value A → Stepped A
   bound_to names target v = record { names = bind names target v; shown = None }
 
-  -- what is done once the arguments are right; no call binds two names
+  -- the names with two of them bound to these values, and no text
+  abbrev pub both_bound_to : Entries A → List ℕ → List ℕ → Value A × Value A → Stepped A
+  both_bound_to names first second both = record { names = bind_both names first second both; shown = None }
+
+  -- what is done once the arguments are right
   abbrev pub performed : Entries A → List (Input A) → Targets → Op → List Arg → Result (Stepped A) Fault
   performed names inputs targets.None op args =
       written args (argument_at names args) >>= λ text. Ok (record { names = names; shown = Some text })
   performed names inputs (targets.One target) op args =
       fault_if (not (has_room names target)) (fault TooManyNames)
       (table_value inputs op (argument_at names args) >>= λ v. Ok (bound_to names target v))
-  performed names inputs (targets.Two first second) op args = Err (fault WrongArgumentCount)
+  performed names inputs (targets.Two first second) op args =
+      fault_if (not (binds_of op == 2)) (fault WrongArgumentCount)
+      (fault_if (not (has_room_for_both names first second)) (fault TooManyNames)
+      (table_pair inputs op (argument_at names args) >>= λ both. Ok (both_bound_to names first second both)))
 
   abbrev pub step : Entries A → List (Input A) → Call A → Result (Stepped A) Fault
   step names inputs call =

@@ -1,14 +1,14 @@
-//! The binding of a name to what a call gives.
+//! The binding of a name, or of two, to what a call gives.
 
 ghost use Rattle.std.specs.Prelude.{◌≡◌, None, OnErr};
 ghost use Rattle.cvl_base.specs.declared.call.Targets.TheVariants as targets;
 ghost use Rattle.vector_handles.specs.Answers.{left_by};
 ghost use Rattle.cvl_base.specs.Gives.{Gives, unless};
 ghost use Rattle.bound_names.specs.Arguments.{args_fault};
-ghost use Rattle.vector_handles.specs.Steps.{bound_to, performed};
+ghost use Rattle.vector_handles.specs.Steps.{both_bound_to, bound_to, performed};
 
 use crate::session::Session;
-use bound_names::{Bound, bind_answer, is_room, resolve};
+use bound_names::{Bound, bind_answer, bind_answers, is_room, is_room_for_both, resolve};
 use crew::Gate;
 use cvl_base::{Arg, Fault, FaultNo, Memory, Name, Op, Refused};
 use std::thread::Threads;
@@ -52,5 +52,46 @@ impl<A: Memory> Session<A> {
             return Err(Refused::Fault(Fault::new(FaultNo::TooManyNames)));
         }
         self.value_of_call(rt, op, &operands, gate)
+    }
+    /// Binds both names to the two values that a call gives, or neither.
+    pub(crate) fn bind_both(
+        &mut self,
+        first: &Name,
+        second: &Name,
+        op: Op,
+        args: &[Arg],
+    ) -> Result<(), Refused>
+        ensures meaning { Gives (λ _. left_by self.new None) result
+            (unless (args_fault self.old.names op args.now)
+            (performed self.old.names self.old.inputs (targets.Two first.now second.now) op args.now)) }
+        ensures inputs { self.new.inputs ≡ self.old.inputs }
+        ensures refused { OnErr result (self.new.names ≡ self.old.names) }
+    {
+        let answer = self.values_for(first, second, op, args);
+        bind_answers(&mut self.names, first, second, answer)
+    }
+
+    /// The two values that a call gives, to be bound to two names: the first fault of the arguments, `WrongArgumentCount`
+    /// where the call binds one name or none, `TooManyNames` where the names bound and the new ones are together too many,
+    /// and then the call's faults.
+    fn values_for(
+        &self,
+        first: &Name,
+        second: &Name,
+        op: Op,
+        args: &[Arg],
+    ) -> Result<(Bound<A>, Bound<A>), Refused>
+        ensures { Gives (both_bound_to self.now.names first.now second.now) result
+            (unless (args_fault self.now.names op args.now)
+            (performed self.now.names self.now.inputs (targets.Two first.now second.now) op args.now)) }
+    {
+        let operands = resolve(&self.names, op, args)?;
+        if op.binds() != 2 {
+            return Err(Refused::Fault(Fault::new(FaultNo::WrongArgumentCount)));
+        }
+        if !is_room_for_both(&self.names, first, second) {
+            return Err(Refused::Fault(Fault::new(FaultNo::TooManyNames)));
+        }
+        self.pair_of_call(op, &operands)
     }
 }

@@ -1,10 +1,15 @@
 //! The value that a call gives, family by family.
 
+ghost use Rattle.std.specs.Prelude.{◌≡◌, Some, option_copied};
+ghost use Rattle.cvl_base.specs.declared.kind.Kind.TheVariants as kind;
 ghost use Rattle.cvl_base.specs.declared.operation.Op.TheVariants as op;
-ghost use Rattle.bound_names.specs.Operands.{AreTaken};
+ghost use Rattle.bound_names.specs.Arguments.{integer_in};
+ghost use Rattle.bound_names.specs.Operands.{AreTaken, held, kind_held};
 ghost use Rattle.vector_handles.specs.Answers.{IsTableValue};
+ghost use Rattle.vector_handles.specs.CallValues.{numbered};
 
 use crate::answers::bound_integers;
+use crate::input::Input;
 use crate::numbered::{input_numbered, integers_of_input};
 use crate::session::Session;
 use bound_names::{Bound, Operands};
@@ -14,7 +19,8 @@ use segdes::SegDes;
 use std::thread::Threads;
 
 impl<A: Memory> Session<A> {
-    /// The value that a call gives; `UnknownCall` for `write`, which gives none. The workers that race for it pass the gate.
+    /// The value that a call gives; `UnknownCall` for `write`, which gives none, and `WrongArgumentCount` for `nested`,
+    /// which gives two. The workers that race for it pass the gate.
     pub(crate) fn value_of_call<R: Threads + Sync, G: Gate>(
         &self,
         rt: &R,
@@ -27,6 +33,7 @@ impl<A: Memory> Session<A> {
     {
         match op {
             Op::Input => self.value_of_input(rt, operands),
+            Op::Nested => Err(Refused::Fault(Fault::new(FaultNo::WrongArgumentCount))),
             Op::Ints2(operator) => self.value_of_ints2(rt, operator, operands, gate),
             Op::Ints1(operator) => self.value_of_ints1(rt, operator, operands),
             Op::Compare(operator) => self.value_of_compare(rt, operator, operands),
@@ -71,11 +78,19 @@ impl<A: Memory> Session<A> {
         requires kinds { AreTaken op.Input operands.now }
         ensures { IsTableValue self.now.inputs op.Input operands.now result }
     {
-        let number = operands.first.integer();
-        match input_numbered(self.inputs.as_slice(), &number) {
+        match self.input_asked_for(operands) {
             Some(input) => bound_integers(integers_of_input(rt, self.alloc, self.config, input)),
             None => Err(Refused::Fault(Fault::new(FaultNo::NoSuchInput))),
         }
+    }
+
+    /// The input whose number the first argument is.
+    pub(crate) fn input_asked_for(&self, operands: &Operands<'_, A>) -> Option<&Input<A>>
+        requires { kind_held operands.now.first ≡ Some kind.Integer }
+        ensures { option_copied result ≡ numbered self.now.inputs (integer_in (held operands.now.first)) }
+    {
+        let number = operands.first.integer();
+        input_numbered(self.inputs.as_slice(), &number)
     }
 
     /// `mke_fov`: the descriptor with these lengths.

@@ -10,6 +10,7 @@ pub mod input;
 pub mod laws;
 mod numbered;
 mod pack_calls;
+mod pair_calls;
 mod permute_calls;
 mod place_calls;
 mod scan_calls;

@@ -1,18 +1,12 @@
 //! Sessions: bound names and inputs, on which calls are made.
 
-ghost use Rattle.std.specs.Prelude.{◌≡◌, [], Err, IfOk, OnErr, option_copied};
-ghost use Rattle.bound_names.specs.Arguments.{args_fault};
-ghost use Rattle.cvl_base.specs.declared.fault.FaultNo.TheVariants.{WrongArgumentCount};
-ghost use Rattle.cvl_base.specs.Faults.{fault};
-ghost use Rattle.cvl_base.specs.Gives.{Gives, unless};
+ghost use Rattle.std.specs.Prelude.{◌≡◌, [], IfOk, OnErr, option_copied};
 
 use crate::input::Input;
 use crate::shown::Shown;
-use bound_names::{Names, resolve, value_of};
+use bound_names::{Names, value_of};
 use crew::{Gate, OpenGate};
-use cvl_base::{
-    Arg, Call, Config, Fault, FaultNo, Memory, Name, NoResources, Op, Refused, Targets, Value,
-};
+use cvl_base::{Call, Config, Memory, Name, NoResources, Refused, Targets, Value};
 use std::collections::BTreeMap;
 use std::marker::Model;
 use std::thread::Threads;
@@ -38,8 +32,7 @@ impl<A: Memory> Model for Session<A> {
 
 impl<A: Memory> Session<A> {
     ghost use Rattle.bound_names.specs.Names.{value_at};
-    ghost use Rattle.vector_handles.specs.Answers.{IsStep, left_by};
-    ghost use Rattle.vector_handles.specs.Sessions.{text_shown};
+    ghost use Rattle.vector_handles.specs.Answers.{IsStep};
 
     /// A session with no name bound, over these inputs, which a script counts from 1.
     pub fn new(
@@ -58,14 +51,15 @@ impl<A: Memory> Session<A> {
         })
     }
 
-    /// Makes one call, as a line of a script asks for it: a binding binds its one name to what the call gives and shows
-    /// nothing, and a write shows its text and binds nothing.
+    /// Makes one call, as a line of a script asks for it: a binding binds its name to what the call gives, or its two names
+    /// to the two values that the call gives, and shows nothing; a write shows its text and binds nothing.
     ///
     /// The first fault is told, in this order: `WrongArgumentCount` where the call takes more arguments or fewer; for
-    /// each argument from left to right `UnknownName` and then `WrongKind`; `TooManyNames` where the target is a new
-    /// name and 4,096 are bound; then those of the call, or `LengthMismatch` where the lengths of a written descriptor
-    /// don't add up to the vector's. No call binds two names yet: two are `WrongArgumentCount`, after the faults of the
-    /// arguments. After a refusal no name has changed, so that the same call can be made again.
+    /// each argument from left to right `UnknownName` and then `WrongKind`; `WrongArgumentCount` where two names are to be
+    /// bound and the call gives no two values; `TooManyNames` where the names that are bound and the new ones would be
+    /// more than 4,096; then those of the call, `WrongArgumentCount` where one name is to be bound and the call gives two
+    /// values, or `LengthMismatch` where the lengths of a written descriptor don't add up to the vector's. After a refusal
+    /// no name has changed, so that the same call can be made again.
     /// Source: this library's script format.
     pub fn apply<R: Threads + Sync>(&mut self, rt: &R, call: &Call<A>) -> Result<Shown<A>, Refused>
         ensures meaning { IsStep self.old call.now self.new result }
@@ -89,23 +83,16 @@ impl<A: Memory> Session<A> {
     {
         let args = call.args.as_slice();
         match call.targets {
-            Targets::None => Ok(Shown::Text(self.text_of_call(call.op, args)?)),
+            Targets::None => Ok(Shown::Text(self.text_of_call(rt, call.op, args)?)),
             Targets::One(target) => {
                 self.bind(rt, &target, call.op, args, gate)?;
                 Ok(Shown::Nothing)
             }
-            Targets::Two(_, _) => self.refuse_two(call.op, args),
+            Targets::Two(first, second) => {
+                self.bind_both(&first, &second, call.op, args)?;
+                Ok(Shown::Nothing)
+            }
         }
-    }
-
-    /// Refuses a call with two names: by the first fault of its arguments, else by `WrongArgumentCount`, since no call
-    /// binds two.
-    fn refuse_two(&self, op: Op, args: &[Arg]) -> Result<Shown<A>, Refused>
-        ensures { Gives (λ shown. left_by self.now (text_shown shown)) result
-            (unless (args_fault self.now.names op args.now) (Err (fault WrongArgumentCount))) }
-    {
-        resolve(&self.names, op, args)?;
-        Err(Refused::Fault(Fault::new(FaultNo::WrongArgumentCount)))
     }
 
     /// The value that is bound to a name.

@@ -13,29 +13,40 @@ ghost use Rattle.vector_handles.specs.Steps.{name_in, performed, shown_text_of, 
 use crate::session::Session;
 use bound_names::{Operand, Operands, resolve};
 use call_reader::put_value;
-use cvl_base::{Arg, Fault, FaultNo, Memory, Op, Refused, Value};
+use cvl_base::{Arg, Config, Fault, FaultNo, Memory, Op, Refused, Value};
 use segdes::SegDes;
+use std::thread::Threads;
 
 impl<A: Memory> Session<A> {
     /// The text of a call without a target: the first fault of its arguments, and then those of a write.
-    pub(crate) fn text_of_call(&self, op: Op, args: &[Arg]) -> Result<Vec<u8, A>, Refused>
+    pub(crate) fn text_of_call<R: Threads + Sync>(
+        &self,
+        rt: &R,
+        op: Op,
+        args: &[Arg],
+    ) -> Result<Vec<u8, A>, Refused>
         ensures { Gives (λ text. record { names = self.now.names; shown = Some text.items }) result
             (unless (args_fault self.now.names op args.now)
             (performed self.now.names self.now.inputs targets.None op args.now)) }
     {
         let operands = resolve(&self.names, op, args)?;
-        self.text_of_write(args, &operands)
+        self.text_of_write(rt, args, &operands)
     }
 
     /// The name, ` = `, the value and a line feed: `LengthMismatch` where a descriptor beside the value doesn't add up
     /// to the value's length.
-    fn text_of_write(&self, args: &[Arg], operands: &Operands<'_, A>) -> Result<Vec<u8, A>, Refused>
+    fn text_of_write<R: Threads + Sync>(
+        &self,
+        rt: &R,
+        args: &[Arg],
+        operands: &Operands<'_, A>,
+    ) -> Result<Vec<u8, A>, Refused>
         ensures { Gives (λ text. text.items) result (written args.now (held_at operands.now)) }
     {
         let mut text = Vec::new(self.alloc);
         text.extend_from_slice(name_of_first(args))?;
         text.extend_from_slice(b" = ")?;
-        put_first(operands, &mut text)?;
+        put_first(rt, self.alloc, self.config, operands, &mut text)?;
         text.push(b'\n')?;
         Ok(text)
     }
@@ -52,21 +63,30 @@ fn name_of_first(args: &[Arg]) -> &[u8]
 }
 
 /// Appends the text of the first operand, beside the second where that is a descriptor.
-fn put_first<A: Memory>(operands: &Operands<'_, A>, text: &mut Vec<u8, A>) -> Result<(), Refused>
+fn put_first<R: Threads + Sync, A: Memory>(
+    rt: &R,
+    alloc: A,
+    config: Config,
+    operands: &Operands<'_, A>,
+    text: &mut Vec<u8, A>,
+) -> Result<(), Refused>
     ensures { Appends text.old.items text.new.items result (shown_text_of (held_at operands.now)) }
 {
     let beside = operands.second.descriptor_if_any();
     match operands.first {
         Operand::Absent => Ok(()),
-        Operand::Bound(bound) => put_beside(bound.value(), beside, text),
-        Operand::Integer(n) => put_beside(&Value::Integer(n), beside, text),
-        Operand::Boolean(b) => put_beside(&Value::Boolean(b), beside, text),
+        Operand::Bound(bound) => put_beside(rt, alloc, config, bound.value(), beside, text),
+        Operand::Integer(n) => put_beside(rt, alloc, config, &Value::Integer(n), beside, text),
+        Operand::Boolean(b) => put_beside(rt, alloc, config, &Value::Boolean(b), beside, text),
     }
 }
 
 /// Appends the text of a value, beside a descriptor if there is one: `LengthMismatch` where the value is no vector of
 /// as many elements as the descriptor's segments.
-fn put_beside<A: Memory>(
+fn put_beside<R: Threads + Sync, A: Memory>(
+    rt: &R,
+    alloc: A,
+    config: Config,
     value: &Value<A>,
     beside: Option<&SegDes<A>>,
     text: &mut Vec<u8, A>,
@@ -78,7 +98,7 @@ fn put_beside<A: Memory>(
             return Err(Refused::Fault(Fault::new(FaultNo::LengthMismatch)));
         }
     }
-    Ok(put_value(value, beside, text)?)
+    Ok(put_value(rt, alloc, config, value, beside, text)?)
 }
 
 /// Whether the value is a vector of as many elements as the descriptor's segments.

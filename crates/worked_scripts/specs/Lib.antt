@@ -1,3 +1,4 @@
 pub mod BoundNames
 pub mod Faults
+pub mod NestedScripts
 pub mod Outcomes

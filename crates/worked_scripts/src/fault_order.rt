@@ -2,7 +2,7 @@
 
 ghost use Rattle.std.specs.Prelude.{◌≡◌, pos, codes, take, [], ◌∷◌};
 ghost use Rattle.cvl_base.specs.declared.fault.FaultNo.TheVariants as no;
-ghost use Rattle.cvl_base.specs.Faults.{fault};
+ghost use Rattle.cvl_base.specs.Faults.{fault, fault_at};
 ghost use Rattle.worked_scripts.specs.BoundNames.{full, step_over};
 ghost use Rattle.worked_scripts.specs.Outcomes.{outcome_on};
 
@@ -38,6 +38,34 @@ pub fn too_many_names()
         ≡ Err (fault no.LengthMismatch) }
     ensures missing_input_of_a_bound_name { step_over full (codes "n7777 = input 1") ≡ Err (fault no.NoSuchInput) }
     ensures lengths_of_a_bound_name { step_over full (codes "n7777 = add_wuz n0000 n0001") ≡ Err (fault no.LengthMismatch) }
+{}
+
+/// Two names are read before the call is known, and the number of names before the line's numbers.
+pub fn names_to_bind()
+    ensures same_name_twice { outcome_on (codes "v v = nested 1") [] ≡ ([], Some (1, fault no.BadLine)) }
+    ensures unknown_call { outcome_on (codes "v d = xyz 1") [] ≡ ([], Some (1, fault no.UnknownCall)) }
+    ensures one_name_for_two_values { outcome_on (codes "v = nested 99999999999") []
+        ≡ ([], Some (1, fault no.WrongArgumentCount)) }
+    ensures two_names_for_one_value { outcome_on (codes "v d = input 99999999999") []
+        ≡ ([], Some (1, fault no.WrongArgumentCount)) }
+    ensures numbers_before_missing_input { outcome_on (codes "v d = nested 99999999999") []
+        ≡ ([], Some (1, fault no.BadNumber)) }
+    ensures missing_input { outcome_on (codes "v d = nested 2") ([] ∷ []) ≡ ([], Some (1, fault no.NoSuchInput)) }
+    ensures vector { outcome_on (codes "v d = nested 1") ([] ∷ []) ≡ ([], Some (1, fault_at no.BadInput 0)) }
+{}
+
+/// Two names are refused where with the new ones of them more than 4,096 are bound, after the arguments are checked and
+/// before the call is made.
+pub fn too_many_names_for_two()
+    ensures unknown_name_first { step_over full (codes "v d = nested q") ≡ Err (fault no.UnknownName) }
+    ensures wrong_kind_first { step_over full (codes "v d = nested T") ≡ Err (fault no.WrongKind) }
+    ensures two_new_where_one_is_free { step_over (take 4095 full) (codes "v d = nested 1") ≡ Err (fault no.TooManyNames) }
+    ensures two_new_where_two_are_free { step_over (take 4094 full) (codes "v d = nested 1") ≡ Err (fault no.NoSuchInput) }
+    ensures first_new_where_none_is_free { step_over full (codes "v n0000 = nested 1") ≡ Err (fault no.TooManyNames) }
+    ensures first_new_where_one_is_free { step_over (take 4095 full) (codes "v n0000 = nested 1") ≡ Err (fault no.NoSuchInput) }
+    ensures second_new_where_none_is_free { step_over full (codes "n0000 d = nested 1") ≡ Err (fault no.TooManyNames) }
+    ensures second_new_where_one_is_free { step_over (take 4095 full) (codes "n0000 d = nested 1") ≡ Err (fault no.NoSuchInput) }
+    ensures none_new { step_over full (codes "n0000 n7777 = nested 1") ≡ Err (fault no.NoSuchInput) }
 {}
 
 /// Inputs are counted from 1.

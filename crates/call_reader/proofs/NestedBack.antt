@@ -1,0 +1,101 @@
+-- The text of a nest, read again.
+use Rattle.std.proofs.Common.{◌≡◌, ℕ, zero, suc, ◌<◌, ◌≤◌, List, [], ◌∷◌, ◌++◌, length, map, take, drop, refl, ap, sym, ◌∙◌, arith, Ok, ℤ, FitsSigned, w32}
+use Rattle.std.specs.Prelude.{flat_map, sum, Result, slice_index_or}
+use Rattle.cvl_base.specs.declared.fault.Fault.{Fault}
+use Rattle.std.specs.List.{join_with_byte}
+use Rattle.std.specs.Fmt.{signed_decimal}
+use Rattle.std.proofs.lemmas.List.{append-nil, take_all, drop_all}
+use Rattle.cvl_base.specs.Gives.{◌>>=◌}
+use Rattle.cvl_base.specs.Limits.{most_elements}
+use Rattle.cvl_base.specs.Nests.{cut_of}
+use Rattle.cvl_base.proofs.Nests.{nest-fits}
+use Rattle.value_texts.specs.Texts.{vector_text, nest_text}
+use Rattle.call_reader.specs.Tokens.{begins_with_part}
+use Rattle.call_reader.specs.Numbers.{written_number}
+use Rattle.call_reader.specs.NestedTexts.{nested_class, Mark, opening, closing, number, mark_of, marks_of, list_marks, nest_marks, nested_of, IsWithin32, IsNestedText, read_again}
+use Rattle.call_reader.proofs.TokenWalk.{cut_at_blank, cut_at_lone}
+use Rattle.call_reader.proofs.ReadBack.{read_back}
+use Rattle.call_reader.proofs.NestedTokens.{number_first}
+use Rattle.call_reader.proofs.NestedMarks.{text-read}
+use Rattle.std.proofs.lemmas.List.{map-append}
+
+marks-blank : (before after : List ℕ) → marks_of (before ++ 32 ∷ after) ≡ marks_of before ++ marks_of after
+marks-blank before after = ap (map mark_of) (cut_at_blank nested_class before after 32 refl) ∙ map-append mark_of _ _
+
+marks-end : (before : List ℕ) → marks_of (before ++ (93 ∷ [])) ≡ marks_of before ++ (closing ∷ [])
+marks-end before = ap (map mark_of) (cut_at_lone nested_class before [] 93 refl) ∙ map-append mark_of _ _
+
+-- spaces stand between tokens
+marks-joined : (texts : List (List ℕ)) → marks_of (join_with_byte 32 texts) ≡ flat_map marks_of texts
+marks-joined [] = refl
+marks-joined (text ∷ []) = sym (append-nil (marks_of text))
+marks-joined (text ∷ other ∷ texts) =
+    marks-blank text (join_with_byte 32 (other ∷ texts)) ∙ ap (λ (ms : List Mark). marks_of text ++ ms) (marks-joined (other ∷ texts))
+
+marks-bracketed : (text : List ℕ) (ms : List Mark) → marks_of text ≡ ms → marks_of (91 ∷ (text ++ (93 ∷ []))) ≡ opening ∷ (ms ++ (closing ∷ []))
+marks-bracketed text ms e = ap (λ (ns : List Mark). opening ∷ ns) (marks-end text ∙ ap (λ (ns : List Mark). ns ++ (closing ∷ [])) e)
+
+number-marks : (z : ℤ) → FitsSigned w32 z → marks_of (signed_decimal z) ≡ number z ∷ []
+number-marks z fits =
+    let text = signed_decimal z in
+    let k = length text in
+    let whole : take k text ≡ text = take_all k text (omega arith) in
+    let none : drop k text ≡ [] = drop_all k text (omega arith) in
+    number_first text k z (ap written_number whole ∙ read_back z fits) (ap (begins_with_part nested_class) none) ∙ ap (λ (bs : List ℕ). number z ∷ marks_of bs) none
+
+numbers-marks : (xs : List ℤ) → IsWithin32 xs → flat_map marks_of (map signed_decimal xs) ≡ map number xs
+numbers-marks [] fit = refl
+numbers-marks (x ∷ xs) fit =
+    ap (λ (ms : List Mark). ms ++ flat_map marks_of (map signed_decimal xs)) (number-marks x (fit 0 x (omega arith)))
+    ∙ ap (λ (ms : List Mark). number x ∷ ms) (numbers-marks xs (λ k d h. fit (suc k) d (omega arith)))
+
+-- each number of each list fits 32 bits
+abbrev AllWithin32 : List (List ℤ) → Type 0
+AllWithin32 [] = Unit {0}
+AllWithin32 (xs ∷ lists) = IsWithin32 xs × AllWithin32 lists
+
+lists-marks : (lists : List (List ℤ)) → AllWithin32 lists → flat_map marks_of (map (vector_text signed_decimal) lists) ≡ flat_map list_marks lists
+lists-marks [] fit = refl
+lists-marks (xs ∷ lists) (first, others) =
+    let texts = map signed_decimal xs in
+    let list = marks-bracketed (join_with_byte 32 texts) (map number xs) (marks-joined texts ∙ numbers-marks xs first) in
+    ap (λ (ms : List Mark). ms ++ flat_map marks_of (map (vector_text signed_decimal) lists)) list ∙ ap (λ (ms : List Mark). list_marks xs ++ ms) (lists-marks lists others)
+
+nest-text-marks : (lists : List (List ℤ)) → AllWithin32 lists → marks_of (nest_text signed_decimal lists) ≡ nest_marks lists
+nest-text-marks lists fit =
+    let texts = map (vector_text signed_decimal) lists in
+    marks-bracketed (join_with_byte 32 texts) (flat_map list_marks lists) (marks-joined texts ∙ lists-marks lists fit)
+
+front-fits : (n : ℕ) (xs : List ℤ) → IsWithin32 xs → IsWithin32 (take n xs)
+front-fits zero xs fit = λ k d h. absurd (omega arith)
+front-fits (suc n) [] fit = λ k d h. absurd (omega arith)
+front-fits (suc n) (x ∷ xs) fit = at (front-fits n xs (λ j e less. fit (suc j) e (omega arith)))
+  where
+    at : IsWithin32 (take n xs) → (k : ℕ) (d : ℤ) → k < length (x ∷ take n xs) → FitsSigned w32 (slice_index_or (x ∷ take n xs) k d)
+    at others zero d h = fit 0 d (omega arith)
+    at others (suc k) d h = others k d (omega arith)
+
+rest-fits : (n : ℕ) (xs : List ℤ) → IsWithin32 xs → IsWithin32 (drop n xs)
+rest-fits zero xs fit = fit
+rest-fits (suc n) [] fit = λ k d h. absurd (omega arith)
+rest-fits (suc n) (x ∷ xs) fit = rest-fits n xs (λ k d h. fit (suc k) d (omega arith))
+
+cut-fits : (lengths : List ℕ) (xs : List ℤ) → IsWithin32 xs → AllWithin32 (cut_of lengths xs)
+cut-fits [] xs fit = tt
+cut-fits (n ∷ lengths) xs fit = (front-fits n xs fit, cut-fits lengths (drop n xs) (rest-fits n xs fit))
+
+-- the text of a vector's nest is a nested text of that vector and of the lengths
+pub nest-back : (lengths : List ℕ) (xs : List ℤ) → IsWithin32 xs → sum lengths ≡ length xs → length xs ≤ most_elements → length lengths ≤ most_elements
+    → IsNestedText (nest_text signed_decimal (cut_of lengths xs)) xs lengths
+nest-back lengths xs fit total few_numbers few_lists = record {
+  total = total;
+  tokens = nest-text-marks (cut_of lengths xs) (cut-fits lengths xs fit);
+  few_numbers = few_numbers;
+  few_lists = few_lists;
+}
+
+pub nest-read-back : (lengths : List ℕ) (xs : List ℤ) → IsWithin32 xs → sum lengths ≡ length xs → length xs ≤ most_elements → length lengths ≤ most_elements
+    → read_again lengths xs ≡ Ok (xs, lengths)
+nest-read-back lengths xs fit total few_numbers few_lists =
+    ap (λ (r : Result (List (List ℤ)) Fault). r >>= λ lists. nested_of (nest_text signed_decimal lists)) (nest-fits lengths xs total)
+    ∙ text-read (nest_text signed_decimal (cut_of lengths xs)) xs lengths (nest-back lengths xs fit total few_numbers few_lists)

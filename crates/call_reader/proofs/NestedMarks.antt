@@ -1,0 +1,482 @@
+-- The marks of a nest: how many there are of each kind, what the grammar gives of them, and that it gives lists of no others.
+use Rattle.std.proofs.Common.{◌≡◌, ℕ, ◌+◌, ◌-◌, ◌*◌, ◌≤◌, Bool, true, false, cond, List, [], ◌∷◌, ◌++◌, length, map, take, drop, refl, ap, sym, ◌∙◌, arith, Ok, Err, ℤ, pos, append_assoc, length-append}
+use Rattle.std.specs.Prelude.{Result, unsigned_abs, sum, count_by, flat_map, nat_lt, ◌||◌}
+use Rattle.std.proofs.Math.Seq.{take-append_seam, drop-append_seam}
+use Rattle.std.proofs.lemmas.Bool.Decides.{nat_tests}
+use Rattle.std.proofs.lemmas.List.{append-nil, map-append}
+use Rattle.std.proofs.lemmas.Grind.{flat_map-append}
+use Rattle.std.proofs.lemmas.List.Sums.{sum_by-cons, sum_by-append}
+use Rattle.cvl_base.specs.declared.fault.Fault.{Fault}
+use Rattle.cvl_base.specs.declared.fault.FaultNo.TheVariants.{TooLong, BadInput}
+use Rattle.cvl_base.specs.Faults.{fault, fault_at}
+use Rattle.cvl_base.specs.Gives.{◌>>=◌, fault_if}
+use Rattle.cvl_base.specs.Descriptors.{AreLengths}
+use Rattle.cvl_base.proofs.Descriptors.{abs_pos}
+use Rattle.cvl_base.specs.Limits.{most_elements}
+use Rattle.cvl_base.specs.Lists.{joined}
+use Rattle.cvl_base.specs.Nests.{cut_of}
+use Rattle.cvl_base.proofs.Lists.{sum-cons}
+use Rattle.cvl_base.proofs.Nests.{length-cut, lengths-cut, joined-cut}
+use Rattle.call_reader.specs.NestedTexts.{Mark, opening, closing, number, stray, Where, before, between, inside, behind, is_opening, is_no_bracket, are_too_many}
+use Rattle.call_reader.specs.NestedReads.{is_closing, is_number, begin_with}
+use Rattle.call_reader.specs.NestedTexts.{with_number, lists_from, flat_nest, nested_of, marks_of, list_marks, nest_marks, IsNestedText}
+use Rattle.call_reader.specs.NestedReads.{is_no_mark, ArePushed, AreListsRead, IsNestRead, IsFaultAt, HasRoom}
+
+count-cons : (p : Mark → Bool) (m : Mark) (ms : List Mark) → count_by p (m ∷ ms) ≡ cond (p m) 1 0 + count_by p ms
+count-cons p m ms = sum_by-cons (λ x. cond (p x) 1 0) m ms
+
+pub count-append : (p : Mark → Bool) (ms ns : List Mark) → count_by p (ms ++ ns) ≡ count_by p ms + count_by p ns
+count-append p ms ns = sum_by-append (λ x. cond (p x) 1 0) ms ns
+
+count-closing : (p : Mark → Bool) → p closing ≡ false → count_by p (closing ∷ []) ≡ 0
+count-closing p e = count-cons p closing [] ∙ rw e refl
+
+pub numbers-counted : (xs : List ℤ) → count_by is_no_bracket (map number xs) ≡ length xs
+numbers-counted [] = refl
+numbers-counted (x ∷ xs) = omega (arith, count-cons is_no_bracket (number x) (map number xs), numbers-counted xs)
+
+numbers-open-none : (xs : List ℤ) → count_by is_opening (map number xs) ≡ 0
+numbers-open-none [] = refl
+numbers-open-none (x ∷ xs) = omega (arith, count-cons is_opening (number x) (map number xs), numbers-open-none xs)
+
+numbers-length : (xs : List ℤ) → length (map number xs) ≡ length xs
+numbers-length [] = refl
+numbers-length (x ∷ xs) = omega (arith, numbers-length xs)
+
+list-counted : (xs : List ℤ) → count_by is_no_bracket (list_marks xs) ≡ length xs
+list-counted xs =
+    omega (arith, count-cons is_no_bracket opening (map number xs ++ (closing ∷ [])), count-append is_no_bracket (map number xs) (closing ∷ []), count-closing is_no_bracket refl, numbers-counted xs)
+
+list-opened : (xs : List ℤ) → count_by is_opening (list_marks xs) ≡ 1
+list-opened xs =
+    omega (arith, count-cons is_opening opening (map number xs ++ (closing ∷ [])), count-append is_opening (map number xs) (closing ∷ []), count-closing is_opening refl, numbers-open-none xs)
+
+list-length : (xs : List ℤ) → length (list_marks xs) ≡ length xs + 2
+list-length xs = omega (arith, length-append (map number xs) (closing ∷ []), numbers-length xs)
+
+-- the numbers, the `[` and all marks of inner lists
+pub lists-counted : (lists : List (List ℤ)) → count_by is_no_bracket (flat_map list_marks lists) ≡ length (joined lists)
+lists-counted [] = refl
+lists-counted (xs ∷ lists) =
+    omega (arith, count-append is_no_bracket (list_marks xs) (flat_map list_marks lists), list-counted xs, lists-counted lists, length-append xs (joined lists))
+
+pub lists-opened : (lists : List (List ℤ)) → count_by is_opening (flat_map list_marks lists) ≡ length lists
+lists-opened [] = refl
+lists-opened (xs ∷ lists) = omega (arith, count-append is_opening (list_marks xs) (flat_map list_marks lists), list-opened xs, lists-opened lists)
+
+pub lists-length : (lists : List (List ℤ)) → length (flat_map list_marks lists) ≡ 2 * length lists + length (joined lists)
+lists-length [] = refl
+lists-length (xs ∷ lists) = omega (arith, length-append (list_marks xs) (flat_map list_marks lists), list-length xs, lists-length lists, length-append xs (joined lists))
+
+-- what stands behind the inner lists, in counts
+pub counted-on : (lists : List (List ℤ)) (ms : List Mark) → count_by is_no_bracket (opening ∷ (flat_map list_marks lists ++ ms)) ≡ length (joined lists) + count_by is_no_bracket ms
+counted-on lists ms =
+    omega (arith, count-cons is_no_bracket opening (flat_map list_marks lists ++ ms), count-append is_no_bracket (flat_map list_marks lists) ms, lists-counted lists)
+
+pub opened-on : (lists : List (List ℤ)) (ms : List Mark) → count_by is_opening (opening ∷ (flat_map list_marks lists ++ ms)) ≡ 1 + length lists + count_by is_opening ms
+opened-on lists ms = omega (arith, count-cons is_opening opening (flat_map list_marks lists ++ ms), count-append is_opening (flat_map list_marks lists) ms, lists-opened lists)
+
+neither : (a b : Bool) → (a || b) ≡ false → (a ≡ false) × (b ≡ false)
+neither true b e = absurd (cc)
+neither false b e = (refl, e)
+
+at_most : (n m : ℕ) → nat_lt m n ≡ false → n ≤ m
+at_most n m e = grind (arith, nat_tests)
+
+not_more : (n m : ℕ) → n ≤ m → nat_lt m n ≡ false
+not_more n m h = grind (arith, nat_tests)
+
+pub few : (ms : List Mark) → are_too_many ms ≡ false → (count_by is_no_bracket ms ≤ most_elements) × (count_by is_opening ms ≤ most_elements + 1)
+few ms e =
+    let both = neither (nat_lt most_elements (count_by is_no_bracket ms)) (nat_lt (most_elements + 1) (count_by is_opening ms)) e in
+    (at_most _ _ both.0, at_most _ _ both.1)
+
+pub not_too_many : (ms : List Mark) → count_by is_no_bracket ms ≤ most_elements → count_by is_opening ms ≤ most_elements + 1 → are_too_many ms ≡ false
+not_too_many ms h k =
+    ap (λ (b : Bool). b || nat_lt (most_elements + 1) (count_by is_opening ms)) (not_more (count_by is_no_bracket ms) most_elements h) ∙ not_more (count_by is_opening ms) (most_elements + 1) k
+
+-- a list's numbers and its end, read
+onto : (x : ℤ) (xs : List ℤ) (r : Result (List (List ℤ)) Fault) → ((r >>= λ lists. Ok (xs ∷ lists)) >>= λ lists. Ok (with_number x lists)) ≡ (r >>= λ lists. Ok ((x ∷ xs) ∷ lists))
+onto x xs (Ok lists) = refl
+onto x xs (Err f) = refl
+
+read-list : (place after : ℕ) (xs : List ℤ) (ms : List Mark) → after ≡ place + length xs + 1
+    → lists_from inside place (map number xs ++ closing ∷ ms) ≡ (lists_from between after ms >>= λ lists. Ok (xs ∷ lists))
+read-list place after [] ms e =
+    let same : place + 1 ≡ after = omega arith in
+    ap (λ (k : ℕ). lists_from between k ms >>= λ lists. Ok ([] ∷ lists)) same
+read-list place after (x ∷ xs) ms e =
+    ap (λ (r : Result (List (List ℤ)) Fault). r >>= λ lists. Ok (with_number x lists)) (read-list (place + 1) after xs ms (omega arith))
+    ∙ onto x xs (lists_from between after ms)
+
+seam : (xs : List ℤ) (rest ms : List Mark) → (list_marks xs ++ rest) ++ ms ≡ opening ∷ (map number xs ++ closing ∷ (rest ++ ms))
+seam xs rest ms = simp append_assoc
+
+no_more : (r : Result (List (List ℤ)) Fault) → r ≡ (r >>= λ more. Ok ([] ++ more))
+no_more (Ok lists) = refl
+no_more (Err f) = refl
+
+list_more : (xs : List ℤ) (lists : List (List ℤ)) (r : Result (List (List ℤ)) Fault) → ((r >>= λ more. Ok (lists ++ more)) >>= λ ls. Ok (xs ∷ ls)) ≡ (r >>= λ more. Ok ((xs ∷ lists) ++ more))
+list_more xs lists (Ok more) = refl
+list_more xs lists (Err f) = refl
+
+-- whole inner lists read, and then what stands behind them
+pub read-lists : (place after : ℕ) (lists : List (List ℤ)) (ms : List Mark) → after ≡ place + length (flat_map list_marks lists)
+    → lists_from between place (flat_map list_marks lists ++ ms) ≡ (lists_from between after ms >>= λ more. Ok (lists ++ more))
+read-lists place after [] ms e =
+    let same : place ≡ after = omega arith in
+    ap (λ (k : ℕ). lists_from between k ms) same ∙ no_more (lists_from between after ms)
+read-lists place after (xs ∷ lists) ms e =
+    let rest = flat_map list_marks lists in
+    ap (lists_from between place) (seam xs rest ms)
+    ∙ read-list (place + 1) (place + length xs + 2) xs (rest ++ ms) (omega arith)
+    ∙ ap (λ (r : Result (List (List ℤ)) Fault). r >>= λ ls. Ok (xs ∷ ls)) (read-lists (place + length xs + 2) after lists ms
+    (omega (arith, e, length-append (list_marks xs) rest, list-length xs)))
+    ∙ list_more xs lists (lists_from between after ms)
+
+-- what can't stand in an inner list
+pub list-ends : (place after : ℕ) (xs : List ℤ) (ms : List Mark) → begin_with is_number ms ≡ false → begin_with is_closing ms ≡ false → after ≡ place + length xs
+    → lists_from inside place (map number xs ++ ms) ≡ Err (fault_at BadInput after)
+list-ends place after [] [] e f at = ap (λ (k : ℕ). Err (fault_at BadInput k)) (omega arith)
+list-ends place after [] (opening ∷ ms) e f at = ap (λ (k : ℕ). Err (fault_at BadInput k)) (omega arith)
+list-ends place after [] (closing ∷ ms) e f at = absurd (cc)
+list-ends place after [] (number n ∷ ms) e f at = absurd (cc)
+list-ends place after [] (stray ∷ ms) e f at = ap (λ (k : ℕ). Err (fault_at BadInput k)) (omega arith)
+list-ends place after (x ∷ xs) ms e f at =
+    ap (λ (r : Result (List (List ℤ)) Fault). r >>= λ lists. Ok (with_number x lists)) (list-ends (place + 1) after xs ms e f (omega arith))
+
+-- what can't stand between inner lists
+pub between-ends : (place : ℕ) (ms : List Mark) → begin_with is_opening ms ≡ false → begin_with is_closing ms ≡ false → lists_from between place ms ≡ Err (fault_at BadInput place)
+between-ends place [] e f = refl
+between-ends place (opening ∷ ms) e f = absurd (cc)
+between-ends place (closing ∷ ms) e f = absurd (cc)
+between-ends place (number n ∷ ms) e f = refl
+between-ends place (stray ∷ ms) e f = refl
+
+pub before-ends : (ms : List Mark) → begin_with is_opening ms ≡ false → lists_from before 0 ms ≡ Err (fault_at BadInput 0)
+before-ends [] e = refl
+before-ends (opening ∷ ms) e = absurd (cc)
+before-ends (closing ∷ ms) e = refl
+before-ends (number n ∷ ms) e = refl
+before-ends (stray ∷ ms) e = refl
+
+-- the marks of a nest are read as its lists
+pub nest-read : (lists : List (List ℤ)) → lists_from before 0 (nest_marks lists) ≡ Ok lists
+nest-read lists = read-lists 1 (1 + length (flat_map list_marks lists)) lists (closing ∷ []) refl ∙ ap Ok (append-nil lists)
+
+-- marks that the grammar reads from there on as these lists
+abbrev shape : Where → List (List ℤ) → List Mark
+shape before lists = nest_marks lists
+shape between lists = flat_map list_marks lists ++ (closing ∷ [])
+shape inside [] = closing ∷ closing ∷ []
+shape inside (xs ∷ lists) = map number xs ++ closing ∷ (flat_map list_marks lists ++ (closing ∷ []))
+shape behind lists = []
+
+through : {X Y : Type 0} (r : Result X Fault) (f : X → Y) (y : Y) → (r >>= λ x. Ok (f x)) ≡ Ok y → (x : X) × (r ≡ Ok x) × (f x ≡ y)
+through (Ok x) f y e = (x, refl, (cc))
+through (Err g) f y e = absurd (cc)
+
+inside-some : (place : ℕ) (ms : List Mark) → lists_from inside place ms ≡ Ok [] → ⊥
+inside-some place [] e = cc
+inside-some place (opening ∷ ms) e = cc
+inside-some place (stray ∷ ms) e = cc
+inside-some place (closing ∷ ms) e =
+    let back = through (lists_from between (place + 1) ms) (λ (lists : List (List ℤ)). [] ∷ lists) [] e in
+    let never : [] ∷ back.0 ≡ [] = back.2 in cc
+inside-some place (number n ∷ ms) e =
+    let back = through (lists_from inside (place + 1) ms) (with_number n) [] e in
+    never back.0 back.2
+  where
+    never : (lists : List (List ℤ)) → with_number n lists ≡ [] → ⊥
+    never [] e = cc
+    never (xs ∷ lists) e = cc
+
+open-shape : (lists : List (List ℤ)) → (lists ≡ [] → ⊥) → opening ∷ shape inside lists ≡ shape between lists
+open-shape [] some = absurd (some refl)
+open-shape (xs ∷ lists) some = sym (seam xs (flat_map list_marks lists) (closing ∷ []))
+
+number-shape : (n : ℤ) (lists : List (List ℤ)) → number n ∷ shape inside lists ≡ shape inside (with_number n lists)
+number-shape n [] = refl
+number-shape n (xs ∷ lists) = refl
+
+-- marks that the grammar reads as lists are the lists' marks
+sound : (w : Where) (place : ℕ) (ms : List Mark) (lists : List (List ℤ)) → lists_from w place ms ≡ Ok lists → ms ≡ shape w lists
+sound before place (opening ∷ ms) lists e = ap (λ (others : List Mark). opening ∷ others) (sound between (place + 1) ms lists e)
+sound before place [] lists e = absurd (cc)
+sound before place (closing ∷ ms) lists e = absurd (cc)
+sound before place (number n ∷ ms) lists e = absurd (cc)
+sound before place (stray ∷ ms) lists e = absurd (cc)
+sound between place (opening ∷ ms) lists e =
+    ap (λ (others : List Mark). opening ∷ others) (sound inside (place + 1) ms lists e)
+    ∙ open-shape lists (λ none. inside-some (place + 1) ms (e ∙ ap Ok none))
+sound between place (closing ∷ []) lists e =
+    let none : [] ≡ lists = cc in
+    ap (shape between) none
+sound between place (closing ∷ m ∷ ms) lists e = absurd (cc)
+sound between place [] lists e = absurd (cc)
+sound between place (number n ∷ ms) lists e = absurd (cc)
+sound between place (stray ∷ ms) lists e = absurd (cc)
+sound inside place (number n ∷ ms) lists e =
+    let back = through (lists_from inside (place + 1) ms) (with_number n) lists e in
+    ap (λ (others : List Mark). number n ∷ others) (sound inside (place + 1) ms back.0 back.1) ∙ number-shape n back.0 ∙ ap (shape inside) back.2
+sound inside place (closing ∷ ms) lists e =
+    let back = through (lists_from between (place + 1) ms) (λ (lists : List (List ℤ)). [] ∷ lists) lists e in
+    ap (λ (others : List Mark). closing ∷ others) (sound between (place + 1) ms back.0 back.1) ∙ ap (shape inside) back.2
+sound inside place [] lists e = absurd (cc)
+sound inside place (opening ∷ ms) lists e = absurd (cc)
+sound inside place (stray ∷ ms) lists e = absurd (cc)
+sound behind place [] lists e = refl
+sound behind place (m ∷ ms) lists e = absurd (cc)
+
+pub total-joined : (lists : List (List ℤ)) → sum (map length lists) ≡ length (joined lists)
+total-joined [] = refl
+total-joined (xs ∷ lists) = omega (arith, sum-cons (length xs) (map length lists), total-joined lists, length-append xs (joined lists))
+
+cut-joined : (lists : List (List ℤ)) → cut_of (map length lists) (joined lists) ≡ lists
+cut-joined [] = refl
+cut-joined (xs ∷ lists) =
+    let front : take (length xs) (xs ++ joined lists) ≡ xs = take-append_seam xs (joined lists) in
+    let back : cut_of (map length lists) (drop (length xs) (xs ++ joined lists)) ≡ lists = ap (cut_of (map length lists)) (drop-append_seam xs (joined lists)) ∙ cut-joined lists in
+    cc
+
+answered : (ms : List Mark) (lists : List (List ℤ)) → are_too_many ms ≡ false → lists_from before 0 ms ≡ Ok lists
+    → fault_if (are_too_many ms) (fault TooLong) (lists_from before 0 ms >>= λ ls. Ok (flat_nest ls)) ≡ Ok (flat_nest lists)
+answered ms lists e f = rw (e, f) refl
+
+-- a nested text of a vector and lengths is read as these
+pub text-read : (bytes : List ℕ) (xs : List ℤ) (lengths : List ℕ) → IsNestedText bytes xs lengths → nested_of bytes ≡ Ok (xs, lengths)
+text-read bytes xs lengths is =
+    let lists = cut_of lengths xs in
+    let ends : count_by is_no_bracket (closing ∷ []) ≡ 0 = count-closing is_no_bracket refl in
+    let ends_too : count_by is_opening (closing ∷ []) ≡ 0 = count-closing is_opening refl in
+    let same = joined-cut lengths xs is.total in
+    let lens = lengths-cut lengths xs (omega (arith, is.total)) in
+    let count : count_by is_no_bracket (nest_marks lists) ≤ most_elements = omega (arith, counted-on lists (closing ∷ []), ap length same, is.few_numbers) in
+    let opens : count_by is_opening (nest_marks lists) ≤ most_elements + 1 = omega (arith, opened-on lists (closing ∷ []), length-cut lengths xs, is.few_lists) in
+    let reads = answered (nest_marks lists) lists (not_too_many (nest_marks lists) count opens) (nest-read lists) in
+    ap (λ (ms : List Mark). fault_if (are_too_many ms) (fault TooLong) (lists_from before 0 ms >>= λ ls. Ok (flat_nest ls))) is.tokens ∙ reads
+    ∙ ap (λ (ys : List ℤ). Ok (ys, map length lists)) same ∙ ap (λ (ns : List ℕ). Ok (xs, ns)) lens
+
+limited : (ms : List Mark) (y : List ℤ × List ℕ) → fault_if (are_too_many ms) (fault TooLong) (lists_from before 0 ms >>= λ ls. Ok (flat_nest ls)) ≡ Ok y → are_too_many ms ≡ false
+limited ms y = by_case (are_too_many ms)
+  where
+    by_case : (b : Bool) → fault_if b (fault TooLong) (lists_from before 0 ms >>= λ ls. Ok (flat_nest ls)) ≡ Ok y → b ≡ false
+    by_case true e = absurd (cc)
+    by_case false e = refl
+
+-- and what is read is that of a nested text
+pub read-text : (bytes : List ℕ) (xs : List ℤ) (lengths : List ℕ) → nested_of bytes ≡ Ok (xs, lengths) → IsNestedText bytes xs lengths
+read-text bytes xs lengths e =
+    let ms = marks_of bytes in
+    let in_limit = limited ms (xs, lengths) e in
+    let reads : (lists_from before 0 ms >>= λ ls. Ok (flat_nest ls)) ≡ Ok (xs, lengths) =
+    ap (λ (b : Bool). fault_if b (fault TooLong) (lists_from before 0 ms >>= λ ls. Ok (flat_nest ls))) (sym in_limit) ∙ e in
+    let back = through (lists_from before 0 ms) flat_nest (xs, lengths) reads in
+    let lists = back.0 in
+    let shaped = sound before 0 ms lists back.1 in
+    let numbers : joined lists ≡ xs = ap (λ (p : List ℤ × List ℕ). p.0) back.2 in
+    let lens : map length lists ≡ lengths = ap (λ (p : List ℤ × List ℕ). p.1) back.2 in
+    let cut : cut_of lengths xs ≡ lists = ap (λ (ns : List ℕ). cut_of ns xs) (sym lens) ∙ ap (cut_of (map length lists)) (sym numbers) ∙ cut-joined lists in
+    let both = few ms in_limit in
+    let count = counted-on lists (closing ∷ []) in
+    let opens = opened-on lists (closing ∷ []) in
+    let ends : count_by is_no_bracket (closing ∷ []) ≡ 0 = count-closing is_no_bracket refl in
+    let ends_too : count_by is_opening (closing ∷ []) ≡ 0 = count-closing is_opening refl in
+    record {
+      total = ap sum (sym lens) ∙ total-joined lists ∙ ap length numbers;
+      tokens = shaped ∙ ap nest_marks (sym cut);
+      few_numbers = omega (arith, both.0, ap (count_by is_no_bracket) shaped, count, ap length numbers);
+      few_lists = omega (arith, both.1, ap (count_by is_opening) shaped, opens, ap length lens, length-map' lists);
+    }
+  where
+    length-map' : (lists : List (List ℤ)) → length (map length lists) ≡ length lists
+    length-map' [] = refl
+    length-map' (list ∷ lists) = omega (arith, length-map' lists)
+
+pub none_pushed : (bytes : List ℕ) (old : List ℤ) → ArePushed bytes bytes old old
+none_pushed bytes old = record { pushed = []; numbers = sym (append-nil old); marks = refl }
+
+-- one number more
+pub pushed_more : (bytes rest others : List ℕ) (old now new : List ℤ) (n : ℤ) → ArePushed bytes rest old now → marks_of rest ≡ number n ∷ marks_of others → new ≡ now ++ (n ∷ [])
+    → ArePushed bytes others old new
+pushed_more bytes rest others old now new n is first more = record {
+  pushed = is.pushed ++ (n ∷ []);
+  numbers = more ∙ ap (λ (xs : List ℤ). xs ++ (n ∷ [])) is.numbers ∙ append_assoc old is.pushed (n ∷ []);
+  marks = is.marks ∙ ap (λ (ms : List Mark). map number is.pushed ++ ms) first ∙ sym (append_assoc (map number is.pushed) (number n ∷ []) (marks_of others))
+      ∙ ap (λ (ms : List Mark). ms ++ marks_of others) (sym (map-append number is.pushed (n ∷ [])));
+}
+
+joined-more : (lists : List (List ℤ)) (xs : List ℤ) → joined (lists ++ (xs ∷ [])) ≡ joined lists ++ xs
+joined-more lists xs = flat_map-append (λ (ys : List ℤ). ys) lists (xs ∷ []) ∙ ap (λ (ys : List ℤ). joined lists ++ ys) (append-nil xs)
+
+marks-more : (lists : List (List ℤ)) (xs : List ℤ) (ms : List Mark) → flat_map list_marks (lists ++ (xs ∷ [])) ++ ms ≡ flat_map list_marks lists ++ (opening ∷ (map number xs ++ closing ∷ ms))
+marks-more [] xs ms = simp append_assoc
+marks-more (list ∷ lists) xs ms =
+    append_assoc (list_marks list) (flat_map list_marks (lists ++ (xs ∷ []))) ms ∙ ap (λ (ns : List Mark). list_marks list ++ ns) (marks-more lists xs ms)
+    ∙ sym (append_assoc (list_marks list) (flat_map list_marks lists) (opening ∷ (map number xs ++ closing ∷ ms)))
+
+lengths-more : (lists : List (List ℤ)) (xs : List ℤ) → map pos (map length (lists ++ (xs ∷ []))) ≡ map pos (map length lists) ++ (pos (length xs) ∷ [])
+lengths-more [] xs = refl
+lengths-more (list ∷ lists) xs = ap (λ (zs : List ℤ). pos (length list) ∷ zs) (lengths-more lists xs)
+
+-- the list inside the others, before its end
+open_marks : (bytes rest inner others : List ℕ) (old new lengths : List ℤ) (is : AreListsRead bytes rest old lengths) (in_list : ArePushed inner others old new)
+    → marks_of rest ≡ opening ∷ marks_of inner
+    → marks_of bytes ≡ flat_map list_marks is.lists ++ (opening ∷ (map number in_list.pushed ++ marks_of others))
+open_marks bytes rest inner others old new lengths is in_list starts =
+    is.marks ∙ ap (λ (ms : List Mark). flat_map list_marks is.lists ++ ms) starts ∙ ap (λ (ms : List Mark). flat_map list_marks is.lists ++ (opening ∷ ms)) in_list.marks
+
+-- one list more
+pub lists_more : (bytes rest inner others tail : List ℕ) (old new lengths more : List ℤ) (n : ℕ) → AreListsRead bytes rest old lengths → marks_of rest ≡ opening ∷ marks_of inner
+    → ArePushed inner others old new → marks_of others ≡ closing ∷ marks_of tail → n ≡ length new - length old → more ≡ lengths ++ (pos n ∷ []) → AreListsRead bytes tail new more
+lists_more bytes rest inner others tail old new lengths more n is starts in_list ends count pushed =
+    let size : n ≡ length in_list.pushed = omega (arith, count, ap length in_list.numbers, length-append old in_list.pushed) in
+    record {
+      lists = is.lists ++ (in_list.pushed ∷ []);
+      numbers_are = in_list.numbers ∙ ap (λ (xs : List ℤ). xs ++ in_list.pushed) is.numbers_are ∙ sym (joined-more is.lists in_list.pushed);
+      lengths_are = pushed ∙ ap (λ (zs : List ℤ). zs ++ (pos n ∷ [])) is.lengths_are ∙ ap (λ (m : ℕ). map pos (map length is.lists) ++ (pos m ∷ [])) size
+          ∙ sym (lengths-more is.lists in_list.pushed);
+      marks = open_marks bytes rest inner others old new lengths is in_list starts ∙ ap (λ (ms : List Mark). flat_map list_marks is.lists ++ (opening ∷ (map number in_list.pushed ++ ms))) ends
+          ∙ sym (marks-more is.lists in_list.pushed (marks_of tail));
+    }
+
+length-lengths : (lists : List (List ℤ)) → length (map pos (map length lists)) ≡ length lists
+length-lengths [] = refl
+length-lengths (xs ∷ lists) = omega (arith, length-lengths lists)
+
+pub nothing_read : (bytes : List ℕ) (numbers lengths : List ℤ) → numbers ≡ [] → lengths ≡ [] → AreListsRead bytes bytes numbers lengths
+nothing_read bytes numbers lengths e f = record { lists = []; numbers_are = e; lengths_are = f; marks = refl }
+
+-- no room for one list more: there are too many
+pub lists_full : (bytes rest inner : List ℕ) (numbers lengths : List ℤ) (room_numbers room_lengths place : ℕ) → AreListsRead bytes rest numbers lengths → marks_of rest ≡ opening ∷ marks_of inner
+    → room_lengths ≤ length lengths → HasRoom room_numbers room_lengths (opening ∷ marks_of bytes) → IsFaultAt place between 1 (marks_of bytes) (opening ∷ marks_of bytes)
+lists_full bytes rest inner numbers lengths room_numbers room_lengths place is starts full room fine =
+    let opens = ap (λ (ms : List Mark). count_by is_opening (opening ∷ ms)) (is.marks ∙ ap (λ (ms : List Mark). flat_map list_marks is.lists ++ ms) starts) in
+    let all = opened-on is.lists (opening ∷ marks_of inner) in
+    let one = count-cons is_opening opening (marks_of inner) in
+    let within = (room fine).1 in
+    absurd (omega (arith, opens, all, one, within, full, ap length is.lengths_are, length-lengths is.lists))
+
+some_number : (ms : List Mark) → begin_with is_number ms ≡ true → 1 ≤ count_by is_no_bracket ms
+some_number [] e = absurd (cc)
+some_number (opening ∷ ms) e = absurd (cc)
+some_number (closing ∷ ms) e = absurd (cc)
+some_number (stray ∷ ms) e = absurd (cc)
+some_number (number n ∷ ms) e = omega (arith, count-cons is_no_bracket (number n) ms)
+
+-- what follows the numbers of a list is no end of it
+pub list_fault : (bytes rest inner others : List ℕ) (old new lengths : List ℤ) (room_numbers room_lengths place : ℕ) → AreListsRead bytes rest old lengths
+    → marks_of rest ≡ opening ∷ marks_of inner
+    → ArePushed inner others old new → begin_with is_closing (marks_of others) ≡ false → (begin_with is_number (marks_of others) ≡ true → room_numbers ≤ length new)
+    → HasRoom room_numbers room_lengths (opening ∷ marks_of bytes) → place ≡ 2 + length new + 2 * length lengths → IsFaultAt place between 1 (marks_of bytes) (opening ∷ marks_of bytes)
+list_fault bytes rest inner others old new lengths room_numbers room_lengths place is starts in_list no_end full room at fine = by_case (begin_with is_number (marks_of others)) refl
+  where
+    by_case : (b : Bool) → begin_with is_number (marks_of others) ≡ b → lists_from between 1 (marks_of bytes) ≡ Err (fault_at BadInput place)
+    by_case true e =
+        let marks = open_marks bytes rest inner others old new lengths is in_list starts in
+        let counted = ap (λ (ms : List Mark). count_by is_no_bracket (opening ∷ ms)) marks in
+        let all = counted-on is.lists (opening ∷ (map number in_list.pushed ++ marks_of others)) in
+        let here = count-cons is_no_bracket opening (map number in_list.pushed ++ marks_of others) in
+        let more = count-append is_no_bracket (map number in_list.pushed) (marks_of others) in
+        let within = (room fine).0 in
+        absurd (omega (
+          arith,
+          counted,
+          all,
+          here,
+          more,
+          within,
+          full e,
+          some_number (marks_of others) e,
+          numbers-counted in_list.pushed,
+          ap length is.numbers_are,
+          ap length in_list.numbers,
+          length-append old in_list.pushed,
+        ))
+    by_case false e =
+        let marks = open_marks bytes rest inner others old new lengths is in_list starts in
+        let after = 1 + length (flat_map list_marks is.lists) in
+        ap (lists_from between 1) marks ∙ read-lists 1 after is.lists (opening ∷ (map number in_list.pushed ++ marks_of others)) refl
+        ∙ ap (λ (r : Result (List (List ℤ)) Fault). r >>= λ more. Ok (is.lists ++ more)) (list-ends (after + 1) place in_list.pushed (marks_of others) e no_end
+        (omega (arith, at, lists-length is.lists, ap length is.lengths_are, length-lengths is.lists, ap length is.numbers_are, ap length in_list.numbers, length-append old in_list.pushed)))
+
+place_behind : (bytes rest : List ℕ) (numbers lengths : List ℤ) (is : AreListsRead bytes rest numbers lengths) → length (flat_map list_marks is.lists) ≡ length numbers + 2 * length lengths
+place_behind bytes rest numbers lengths is =
+    omega (arith, lists-length is.lists, ap length is.lengths_are, length-lengths is.lists, ap length is.numbers_are)
+
+behind_lists : (bytes inner rest : List ℕ) (numbers lengths : List ℤ) (is : AreListsRead inner rest numbers lengths) → marks_of bytes ≡ opening ∷ marks_of inner
+    → marks_of bytes ≡ opening ∷ (flat_map list_marks is.lists ++ marks_of rest)
+behind_lists bytes inner rest numbers lengths is starts = starts ∙ ap (λ (ms : List Mark). opening ∷ ms) is.marks
+
+-- what follows the inner lists is no end of the outer one
+pub nest_fault : (bytes inner rest : List ℕ) (numbers lengths : List ℤ) (place : ℕ) → AreListsRead inner rest numbers lengths → marks_of bytes ≡ opening ∷ marks_of inner
+    → begin_with is_opening (marks_of rest) ≡ false → begin_with is_closing (marks_of rest) ≡ false → place ≡ 1 + length numbers + 2 * length lengths
+    → IsFaultAt place before 0 (marks_of bytes) (marks_of bytes)
+nest_fault bytes inner rest numbers lengths place is starts no_list no_end at fine =
+    ap (lists_from before 0) (behind_lists bytes inner rest numbers lengths is starts)
+    ∙ read-lists 1 place is.lists (marks_of rest) (omega (arith, at, place_behind inner rest numbers lengths is))
+    ∙ ap (λ (r : Result (List (List ℤ)) Fault). r >>= λ more. Ok (is.lists ++ more)) (between-ends place (marks_of rest) no_list no_end)
+
+-- a token behind the outer list
+pub behind_fault : (bytes inner rest tail : List ℕ) (numbers lengths : List ℤ) (place : ℕ) → AreListsRead inner rest numbers lengths → marks_of bytes ≡ opening ∷ marks_of inner
+    → marks_of rest ≡ closing ∷ marks_of tail → is_no_mark (marks_of tail) ≡ false → place ≡ 2 + length numbers + 2 * length lengths → IsFaultAt place before 0 (marks_of bytes) (marks_of bytes)
+behind_fault bytes inner rest after numbers lengths place is starts ends some at fine =
+    let last = 1 + length numbers + 2 * length lengths in
+    ap (lists_from before 0) (behind_lists bytes inner rest numbers lengths is starts)
+    ∙ read-lists 1 last is.lists (marks_of rest) (omega (arith, place_behind inner rest numbers lengths is))
+    ∙ ap (λ (ms : List Mark). lists_from between last ms >>= λ more. Ok (is.lists ++ more)) ends
+    ∙ ap (λ (r : Result (List (List ℤ)) Fault). r >>= λ more. Ok (is.lists ++ more)) (more-stands (marks_of after) last place some (omega (arith, at)))
+  where
+    more-stands : (ms : List Mark) (last place : ℕ) → is_no_mark ms ≡ false → place ≡ last + 1 → lists_from behind (last + 1) ms ≡ Err (fault_at BadInput place)
+    more-stands [] last place some at = absurd (cc)
+    more-stands (m ∷ ms) last place some at = ap (λ (k : ℕ). Err (fault_at BadInput k)) (sym at)
+
+no_marks : (ms : List Mark) → is_no_mark ms ≡ true → ms ≡ []
+no_marks [] e = refl
+no_marks (m ∷ ms) e = absurd (cc)
+
+pub nest_ends : (bytes inner rest tail : List ℕ) (numbers lengths : List ℤ) → AreListsRead inner rest numbers lengths → marks_of bytes ≡ opening ∷ marks_of inner
+    → marks_of rest ≡ closing ∷ marks_of tail → is_no_mark (marks_of tail) ≡ true → IsNestRead bytes numbers lengths
+nest_ends bytes inner rest after numbers lengths is starts ends none = record {
+  lists = is.lists;
+  numbers_are = is.numbers_are;
+  lengths_are = is.lengths_are;
+  marks = behind_lists bytes inner rest numbers lengths is starts ∙ ap (λ (ms : List Mark). opening ∷ (flat_map list_marks is.lists ++ ms)) (ends
+      ∙ ap (λ (ms : List Mark). closing ∷ ms) (no_marks (marks_of after) none));
+}
+
+-- what was read is what the bytes write
+pub nest_given : (bytes : List ℕ) (numbers lengths : List ℤ) → IsNestRead bytes numbers lengths → length numbers ≤ most_elements → length lengths ≤ most_elements
+    → nested_of bytes ≡ Ok (numbers, map unsigned_abs lengths)
+nest_given bytes numbers lengths is few_numbers few_lists =
+    let lists = is.lists in
+    let ends : count_by is_no_bracket (closing ∷ []) ≡ 0 = count-closing is_no_bracket refl in
+    let ends_too : count_by is_opening (closing ∷ []) ≡ 0 = count-closing is_opening refl in
+    let count : count_by is_no_bracket (nest_marks lists) ≤ most_elements = omega (arith, counted-on lists (closing ∷ []), ap length is.numbers_are, few_numbers) in
+    let opens : count_by is_opening (nest_marks lists) ≤ most_elements + 1 = omega (arith, opened-on lists (closing ∷ []), ap length is.lengths_are, length-lengths lists, few_lists) in
+    ap (λ (ms : List Mark). fault_if (are_too_many ms) (fault TooLong) (lists_from before 0 ms >>= λ ls. Ok (flat_nest ls))) is.marks
+    ∙ answered (nest_marks lists) lists (not_too_many (nest_marks lists) count opens) (nest-read lists)
+    ∙ ap (λ (xs : List ℤ). Ok (xs, map length lists)) (sym is.numbers_are)
+    ∙ ap (λ (ns : List ℕ). Ok (numbers, ns)) (sym (abs_pos (map length lists)) ∙ ap (map unsigned_abs) (sym is.lengths_are))
+
+pub lengths_given : (bytes : List ℕ) (numbers lengths : List ℤ) → IsNestRead bytes numbers lengths → length numbers ≤ most_elements → length lengths ≤ most_elements → AreLengths lengths
+lengths_given bytes numbers lengths is few_numbers few_lists =
+    let lens = map length is.lists in
+    let same : map unsigned_abs lengths ≡ lens = ap (map unsigned_abs) is.lengths_are ∙ abs_pos lens in
+    record {
+      none_negative = is.lengths_are ∙ ap (map pos) (sym same);
+      few = few_lists;
+      in_limit = omega (arith, ap sum same, total-joined is.lists, ap length is.numbers_are, few_numbers);
+    }
+
+pub total_given : (bytes : List ℕ) (numbers lengths : List ℤ) → IsNestRead bytes numbers lengths → sum (map unsigned_abs lengths) ≡ length numbers
+total_given bytes numbers lengths is =
+    ap (λ (zs : List ℤ). sum (map unsigned_abs zs)) is.lengths_are ∙ ap sum (abs_pos (map length is.lists)) ∙ total-joined is.lists ∙ ap length (sym is.numbers_are)
+
+given : (r : Result (List ℤ × List ℕ) Fault) (x y : List ℤ × List ℕ) → r ≡ Ok x → r ≡ Ok y → x ≡ y
+given r x y e f = cc
+
+pub one-pair : (bytes : List ℕ) (xs ys : List ℤ) (lengths others : List ℕ) → IsNestedText bytes xs lengths → IsNestedText bytes ys others → (xs ≡ ys) × (lengths ≡ others)
+one-pair bytes xs ys lengths others is too =
+    let pair = given (nested_of bytes) (xs, lengths) (ys, others) (text-read bytes xs lengths is) (text-read bytes ys others too) in
+    (ap (λ (p : List ℤ × List ℕ). p.0) pair, ap (λ (p : List ℤ × List ℕ). p.1) pair)

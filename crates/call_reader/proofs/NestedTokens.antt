@@ -1,0 +1,134 @@
+-- What the tokens of a nested text are to its grammar.
+use Rattle.std.proofs.Common.{◌≡◌, ℕ, ◌+◌, ◌≤◌, Bool, true, false, cond, List, [], ◌∷◌, length, map, take, drop, refl, ap, sym, ◌∙◌, arith, Option, Some, None, ℤ}
+use Rattle.std.specs.Prelude.{codes, nat_eq, if◌then◌else◌, count_by, not, ◌||◌}
+use Rattle.std.specs.Cmp.Lexicographic.{pointwise}
+use Rattle.std.specs.Char.{is_ascii_digit}
+use Rattle.std.proofs.lemmas.Bool.{and_parts}
+use Rattle.std.proofs.lemmas.Bool.Decides.{nat_tests}
+use Rattle.std.proofs.lemmas.List.Sums.{count_by-le-length, sum_by-cons}
+use Rattle.std.specs.Int.{from_bool}
+use Rattle.call_reader.specs.declared.token.ByteClass.{ByteClass}
+use Rattle.call_reader.specs.declared.token.ByteClass.TheVariants.{Blank, Alone, Part}
+use Rattle.call_reader.specs.Tokens.{tokens_by, with_byte, is_part, begins_with_part, IsFirstToken}
+use Rattle.call_reader.specs.Numbers.{written_number}
+use Rattle.call_reader.specs.NestedTexts.{nested_class, Mark, opening, closing, number, stray, number_or, mark_of, marks_of, is_opening, is_no_bracket}
+use Rattle.call_reader.specs.NestedReads.{is_closing, is_number, begin_with}
+use Rattle.call_reader.proofs.InputWalk.{number_leads}
+
+same_byte : (b : ℕ) (token : List ℕ) → pointwise nat_eq token (b ∷ []) ≡ true → token ≡ b ∷ []
+same_byte b [] e = absurd (cc)
+same_byte b (c ∷ []) e =
+    let first : nat_eq c b ≡ true = (and_parts (nat_eq c b) true e).0 in
+    let same : c ≡ b = grind (arith, nat_tests) in
+    ap (λ (x : ℕ). x ∷ []) same
+same_byte b (c ∷ d ∷ ds) e =
+    let never : false ≡ true = (and_parts (nat_eq c b) false e).1 in absurd (cc)
+
+pub opening_mark : (token : List ℕ) → pointwise nat_eq token (codes "[") ≡ true → mark_of token ≡ opening
+opening_mark token e = ap mark_of (same_byte 91 token e)
+
+pub closing_mark : (token : List ℕ) → pointwise nat_eq token (codes "]") ≡ true → mark_of token ≡ closing
+closing_mark token e = ap mark_of (same_byte 93 token e)
+
+not_opening : (o : Option ℤ) (b c : Bool) → b ≡ false → is_opening (number_or o (if b then opening else (if c then closing else stray))) ≡ false
+not_opening (Some n) b c e = refl
+not_opening None true c e = absurd (cc)
+not_opening None false true e = refl
+not_opening None false false e = refl
+
+not_closing : (o : Option ℤ) (b c : Bool) → c ≡ false → is_closing (number_or o (if b then opening else (if c then closing else stray))) ≡ false
+not_closing (Some n) b c e = refl
+not_closing None true c e = refl
+not_closing None false true e = absurd (cc)
+not_closing None false false e = refl
+
+neither_one : (o : Option ℤ) (b c : Bool) → b ≡ false → c ≡ false → is_no_bracket (number_or o (if b then opening else (if c then closing else stray))) ≡ true
+neither_one (Some n) b c e f = refl
+neither_one None true c e f = absurd (cc)
+neither_one None false true e f = absurd (cc)
+neither_one None false false e f = refl
+
+not_number : (b c : Bool) → is_number (if b then opening else (if c then closing else stray)) ≡ false
+not_number true c = refl
+not_number false true = refl
+not_number false false = refl
+
+pub opens : (token : List ℕ) → pointwise nat_eq token (codes "[") ≡ is_opening (mark_of token)
+opens token = by_case (pointwise nat_eq token (codes "[")) refl
+  where
+    by_case : (b : Bool) → pointwise nat_eq token (codes "[") ≡ b → b ≡ is_opening (mark_of token)
+    by_case true e = sym (ap is_opening (opening_mark token e))
+    by_case false e = sym (not_opening (written_number token) (pointwise nat_eq token (codes "[")) (pointwise nat_eq token (codes "]")) e)
+
+pub closes : (token : List ℕ) → pointwise nat_eq token (codes "]") ≡ is_closing (mark_of token)
+closes token = by_case (pointwise nat_eq token (codes "]")) refl
+  where
+    by_case : (b : Bool) → pointwise nat_eq token (codes "]") ≡ b → b ≡ is_closing (mark_of token)
+    by_case true e = sym (ap is_closing (closing_mark token e))
+    by_case false e = sym (not_closing (written_number token) (pointwise nat_eq token (codes "[")) (pointwise nat_eq token (codes "]")) e)
+
+pub no_bracket : (token : List ℕ) (one other : Bool) → one ≡ pointwise nat_eq token (codes "[") → other ≡ pointwise nat_eq token (codes "]")
+    → not (one || other) ≡ is_no_bracket (mark_of token)
+no_bracket token true other e f = sym (ap is_no_bracket (opening_mark token (sym e)))
+no_bracket token false true e f = sym (ap is_no_bracket (closing_mark token (sym f)))
+no_bracket token false false e f = sym (neither_one (written_number token) (pointwise nat_eq token (codes "[")) (pointwise nat_eq token (codes "]")) (sym e) (sym f))
+
+-- the mark of the first token, and the others
+pub first_mark : (bytes token others : List ℕ) → IsFirstToken nested_class bytes token others → marks_of bytes ≡ mark_of token ∷ marks_of others
+first_mark bytes token others is = ap (map mark_of) is
+
+pub begins_such : (p : Mark → Bool) (bytes token others : List ℕ) → IsFirstToken nested_class bytes token others → begin_with p (marks_of bytes) ≡ p (mark_of token)
+begins_such p bytes token others is = ap (begin_with p) (first_mark bytes token others is)
+
+pub begins_no_more : (p : Mark → Bool) (bytes : List ℕ) → tokens_by nested_class bytes ≡ [] → begin_with p (marks_of bytes) ≡ false
+begins_no_more p bytes none = ap (λ (tokens : List (List ℕ)). begin_with p (map mark_of tokens)) none
+
+pub number_mark : (token : List ℕ) (n : ℤ) → written_number token ≡ Some n → mark_of token ≡ number n
+number_mark token n e =
+    ap (λ (o : Option ℤ). number_or o (if pointwise nat_eq token (codes "[") then opening else (if pointwise nat_eq token (codes "]") then closing else stray))) e
+
+pub no_number_mark : (token : List ℕ) → written_number token ≡ None → is_number (mark_of token) ≡ false
+no_number_mark token e =
+    ap (λ (o : Option ℤ). is_number (number_or o (if pointwise nat_eq token (codes "[") then opening else (if pointwise nat_eq token (codes "]") then closing else stray)))) e
+    ∙ not_number (pointwise nat_eq token (codes "[")) (pointwise nat_eq token (codes "]"))
+
+digit_in_nested : (b : ℕ) → is_ascii_digit b ≡ true → is_part (nested_class b) ≡ true
+digit_in_nested b e = grind (arith, nat_tests)
+
+-- a number with no part of a run after it is the first token
+pub number_first : (bytes : List ℕ) (k : ℕ) (n : ℤ) → written_number (take k bytes) ≡ Some n → begins_with_part nested_class (drop k bytes) ≡ false
+    → marks_of bytes ≡ number n ∷ marks_of (drop k bytes)
+number_first bytes k n e ends =
+    first_mark bytes (take k bytes) (drop k bytes) (number_leads nested_class digit_in_nested refl bytes k n e ends)
+    ∙ ap (λ (m : Mark). m ∷ marks_of (drop k bytes)) (number_mark (take k bytes) n e)
+
+one_more : (c : ByteClass) (runs_on : Bool) (b : ℕ) (tokens : List (List ℕ)) → length (with_byte c runs_on b tokens) ≤ 1 + length tokens
+one_more Blank runs_on b tokens = omega arith
+one_more Alone runs_on b tokens = omega arith
+one_more Part true b [] = omega arith
+one_more Part true b (token ∷ tokens) = omega arith
+one_more Part false b tokens = omega arith
+
+tokens_short : (bytes : List ℕ) → length (tokens_by nested_class bytes) ≤ length bytes
+tokens_short [] = omega arith
+tokens_short (b ∷ bs) = omega (arith, one_more (nested_class b) (begins_with_part nested_class bs) b (tokens_by nested_class bs), tokens_short bs)
+
+length_marks : (tokens : List (List ℕ)) → length (map mark_of tokens) ≡ length tokens
+length_marks [] = refl
+length_marks (token ∷ tokens) = omega (arith, length_marks tokens)
+
+-- each token has a byte
+pub marks_short : (p : Mark → Bool) (bytes : List ℕ) → count_by p (marks_of bytes) ≤ length bytes
+marks_short p bytes = omega (arith, count_by-le-length p (marks_of bytes), length_marks (tokens_by nested_class bytes), tokens_short bytes)
+
+as_one : (b : Bool) → cond b 1 0 ≡ from_bool b
+as_one true = refl
+as_one false = refl
+
+-- the count with the first token
+pub counted_more : (p : Mark → Bool) (bytes token others : List ℕ) (one so_far total : ℕ) → IsFirstToken nested_class bytes token others → one ≡ from_bool (p (mark_of token))
+    → so_far + count_by p (marks_of bytes) ≡ total → (so_far + one) + count_by p (marks_of others) ≡ total
+counted_more p bytes token others one so_far total is one_is e =
+    let first = ap (count_by p) (first_mark bytes token others is) in
+    let more = sum_by-cons (λ x. cond (p x) 1 0) (mark_of token) (marks_of others) in
+    omega (arith, first, more, as_one (p (mark_of token)), one_is, e)

@@ -1,0 +1,15 @@
+use Rattle.std.proofs.Common.{◌≡◌, ◌≤◌, length, vec_len, vec_capacity}
+use Rattle.call_reader.specs.NestedReads.{AreListsRead}
+use Rattle.call_reader.proofs.nested_texts.read_lists.Given as goal
+
+abbrev pub invariant-loop-inner : goal.invariant-loop-inner
+invariant-loop-inner g l = record {
+  read : AreListsRead l.bytes l.rest l.numbers.items l.lengths.items;
+  capacity_numbers : vec_capacity l.numbers ≡ vec_capacity l.fn.numbers;
+  capacity_lengths : vec_capacity l.lengths ≡ vec_capacity l.fn.lengths;
+  few_numbers : vec_len l.numbers ≤ vec_capacity l.fn.numbers;
+  few_lists : vec_len l.lengths ≤ vec_capacity l.fn.lengths;
+}
+
+abbrev pub decreases-loop-inner : goal.decreases-loop-inner
+decreases-loop-inner g l = length l.rest

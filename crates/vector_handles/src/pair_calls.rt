@@ -1,0 +1,58 @@
+//! The two values of a call that gives two: `nested`.
+
+ghost use Rattle.std.specs.Prelude.{◌≤◌, IfOk, vec_len};
+ghost use Rattle.cvl_base.specs.declared.operation.Op.TheVariants as op;
+ghost use Rattle.cvl_base.specs.Limits.{most_elements};
+ghost use Rattle.bound_names.specs.Operands.{AreTaken};
+ghost use Rattle.vector_handles.specs.Answers.{IsNestOf, IsTablePair};
+
+use crate::numbered::nest_of_input;
+use crate::session::Session;
+use bound_names::{Bound, Operands};
+use cvl_base::{Fault, FaultNo, Memory, Op, Refused};
+use segdes::SegDes;
+
+impl<A: Memory> Session<A> {
+    /// The two values that a call gives; `WrongArgumentCount` for every call that gives one or none.
+    pub(crate) fn pair_of_call(
+        &self,
+        op: Op,
+        operands: &Operands<'_, A>,
+    ) -> Result<(Bound<A>, Bound<A>), Refused>
+        requires kinds { AreTaken op operands.now }
+        ensures { IsTablePair self.now.inputs op operands.now result }
+    {
+        match op {
+            Op::Nested => self.pair_of_nested(operands),
+            _ => Err(Refused::Fault(Fault::new(FaultNo::WrongArgumentCount))),
+        }
+    }
+
+    /// `nested`: `NoSuchInput` where no input has that number, and the faults of reading it.
+    fn pair_of_nested(&self, operands: &Operands<'_, A>) -> Result<(Bound<A>, Bound<A>), Refused>
+        requires kinds { AreTaken op.Nested operands.now }
+        ensures { IsTablePair self.now.inputs op.Nested operands.now result }
+    {
+        match self.input_asked_for(operands) {
+            Some(input) => bound_nest(self.alloc, nest_of_input(self.alloc, input)),
+            None => Err(Refused::Fault(Fault::new(FaultNo::NoSuchInput))),
+        }
+    }
+}
+
+/// The vector and the descriptor that a reader gave, at most 4,194,304 integers, or the reader's refusal.
+fn bound_nest<A: Memory>(
+    alloc: A,
+    answer: Result<(Vec<i32, A>, SegDes<A>), Refused>,
+) -> Result<(Bound<A>, Bound<A>), Refused>
+    requires { IfOk answer (λ nest. vec_len nest.0 ≤ most_elements) }
+    ensures { IsNestOf (λ nest. (nest.0.items, nest.1)) answer result }
+{
+    match answer {
+        Ok((values, descriptor)) => {
+            let descriptor = Bound::from_descriptor(alloc, descriptor)?;
+            Ok((Bound::from_integers(values), descriptor))
+        }
+        Err(refusal) => Err(refusal),
+    }
+}
