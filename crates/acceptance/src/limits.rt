@@ -1,31 +1,11 @@
 //! Scripts, inputs, texts and names at the limits, and inputs of many bytes.
 
-use crate::inputs::inputs_of;
+use crate::outcomes::outcome_of;
 use crate::pieces::{Pieces, text_of};
+use cvl_base::Config;
 use cvl_base::limits::{MOST_ELEMENTS, MOST_NAMES, MOST_SCRIPT_BYTES};
-use cvl_base::{Config, NoResources};
-use shell::{MemSink, put_stop, run};
 use std::alloc::{AllocError, Global};
 use std::test::Fail;
-use std::thread::Threads;
-
-/// What a script writes on these inputs, and after it the line that tells why it stops.
-fn outcome_of<R: Threads + Sync>(
-    rt: &R,
-    alloc: Global,
-    script: &str,
-    inputs: &[&str],
-) -> Result<Vec<u8>, NoResources> {
-    let mut sink = MemSink::new(alloc);
-    let inputs = inputs_of(alloc, inputs)?;
-    let config = Config::new(4096, 4).unwrap();
-    let ran = run(rt, alloc, config, script.as_bytes(), inputs, &mut sink);
-    let mut text = sink.into_vec();
-    if let Err(stop) = ran {
-        put_stop(&stop, &mut text)?;
-    }
-    Ok(text)
-}
 
 /// A script, its one input, and what comes of it.
 type Row = (Pieces, Pieces, Pieces);
@@ -143,12 +123,14 @@ const ROWS: &[Row] = &[
 
 #[test]
 fn scripts_inputs_and_texts(rt: HostRuntime) -> Result<(), Fail> {
+    let config = Config::new(4096, 4)?;
     for (script, input, wanted) in ROWS {
         let shown = wanted.0;
         let script = text_of(rt.alloc(), *script)?;
         let input = text_of(rt.alloc(), *input)?;
         let wanted = text_of(rt.alloc(), *wanted)?;
-        let outcome = outcome_of(&rt, rt.alloc(), &script, &[input.as_str()])?;
+        let script = script.as_bytes();
+        let outcome = outcome_of(&rt, rt.alloc(), config, script, &[input.as_str()])?;
         assert!(rt; outcome.as_slice() == wanted.as_bytes(), "{shown}");
     }
     Ok(())
@@ -182,9 +164,11 @@ const LAST_LINES: &[(&str, &str)] = &[
 
 #[test]
 fn as_many_names_as_there_may_be(rt: HostRuntime) -> Result<(), Fail> {
+    let config = Config::new(4096, 4)?;
     for (line, wanted) in LAST_LINES {
         let script = bindings_and(rt.alloc(), line)?;
-        let outcome = outcome_of(&rt, rt.alloc(), &script, &["", "1"])?;
+        let script = script.as_bytes();
+        let outcome = outcome_of(&rt, rt.alloc(), config, script, &["", "1"])?;
         assert!(rt; outcome.as_slice() == wanted.as_bytes(), "{line}");
     }
     Ok(())

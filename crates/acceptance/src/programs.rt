@@ -5,6 +5,7 @@ ghost use Rattle.std.specs.Prelude.{◌≡◌};
 use crate::narrow_writer::{NarrowWriter, Then};
 use crate::table_files::TableFiles;
 use recipes::{LINE_OF_SIGHT, SPARSE_MATVEC};
+use refusing_memory::Refusing;
 use shell::{StreamHost, program};
 use std::alloc::Global;
 use std::test::Fail;
@@ -245,7 +246,12 @@ enum Outcome<'a> {
 }
 
 /// A host in memory, of which standard output takes a byte a write.
-type Host<'a> = StreamHost<Global, TableFiles<'a>, NarrowWriter<Global>, NarrowWriter<Global>>;
+type Host<'a> = StreamHost<
+    &'a Refusing<Global>,
+    TableFiles<'a>,
+    NarrowWriter<Global>,
+    NarrowWriter<Global>,
+>;
 
 /// Whether a program with this status on this host comes out so.
 fn is_outcome(host: &Host<'_>, status: u8, outcome: Outcome) -> bool {
@@ -267,7 +273,7 @@ fn is_outcome(host: &Host<'_>, status: u8, outcome: Outcome) -> bool {
 }
 
 /// A host on which this fails.
-fn host_with(alloc: Global, failing: Failing) -> Host<'static>
+fn host_with<'a>(heap: &'a Refusing<Global>, alloc: Global, failing: Failing) -> Host<'a>
     ensures puts { result.failed_puts ≡ 0 }
     ensures flushes { result.failed_flushes ≡ 0 }
 {
@@ -287,7 +293,7 @@ fn host_with(alloc: Global, failing: Failing) -> Host<'static>
             errors.writes_left = writes;
         }
     }
-    StreamHost::new(alloc, TableFiles::new(alloc, FILES), output, errors)
+    StreamHost::new(heap, TableFiles::new(alloc, FILES), output, errors)
 }
 
 /// Whether the program comes out so on a host on which this fails.
@@ -297,8 +303,9 @@ fn comes_out<R: Threads + Sync + AllocGlobal>(
     words: &[&str],
     outcome: Outcome,
 ) -> bool {
-    let mut host = host_with(rt.alloc(), failing);
-    let status = program(rt, rt.alloc(), words, &mut host);
+    let heap = Refusing::none(rt.alloc());
+    let mut host = host_with(&heap, rt.alloc(), failing);
+    let status = program(rt, &heap, words, &mut host);
     is_outcome(&host, status, outcome)
 }
 
@@ -326,15 +333,18 @@ const READS: &[(&[&str], &str)] = &[
     (&["cvl", "--tile", "0", "scan", "numbers"], ""),
 ];
 
+/// Whether the program asks for files of these names.
+fn asks_for<R: Threads + Sync + AllocGlobal>(rt: &R, words: &[&str], asked: &str) -> bool {
+    let heap = Refusing::none(rt.alloc());
+    let mut host = host_with(&heap, rt.alloc(), Failing::Nothing);
+    program(rt, &heap, words, &mut host);
+    host.files.asked.as_slice() == asked.as_bytes()
+}
+
 #[test]
 fn files_are_read_once_and_in_order(rt: HostRuntime) -> Result<(), Fail> {
     for (words, asked) in READS {
-        let mut host = host_with(rt.alloc(), Failing::Nothing);
-        program(&rt, rt.alloc(), words, &mut host);
-        assert!(rt;
-            host.files.asked.as_slice() == asked.as_bytes(),
-            "{words:?}"
-        );
+        assert!(rt; asks_for(&rt, words, asked), "{words:?}");
     }
     Ok(())
 }
@@ -383,16 +393,26 @@ const HELP: &[&[&str]] = &[
 ];
 
 /// The text of the help.
-const HELP_TEXT: &str = "Usage: cvl [OPTIONS] <SCRIPT> [INPUT]...
+const HELP_TEXT: &str = "Runs a script of vector calls over files of integers
+
+Usage: cvl [OPTIONS] <SCRIPT> [INPUT]...
 
 Arguments:
-  <SCRIPT>    The file of the script
-  [INPUT]...  The file of each input, in the order of their numbers
+  <SCRIPT>    The file of the script, with a call or a write on each line
+  [INPUT]...  The file of each input, integers between white space; the first is input 1
 
 Options:
-      --tile <N>     The length of a tile, in elements [default: 4096]
-      --workers <N>  The number of workers [default: 4]
+      --tile <N>     The length of a tile, in elements, from 1 to 65536 [default: 4096]
+      --workers <N>  The number of workers, from 1 to 64 [default: 4]
   -h, --help         Print help
+
+Exit status:
+  0  the script ran to its end
+  1  the script has a fault
+  2  the command line was refused
+  3  a file, memory or a write failed
+
+Each call is described in docs/calls.md, and scripts, inputs and faults in docs/script.md.
 ";
 
 /// What a tile without elements is answered.

@@ -6,7 +6,8 @@ ghost use Rattle.cvl_base.specs.Limits.{most_elements};
 use cvl_base::limits::MOST_ELEMENTS;
 use cvl_base::{Config, Fault, FaultNo, Memory, NoResources, Refused};
 use recipes::{line_of_sight, sparse_matvec};
-use std::alloc::{AllocError, Global};
+use refusing_memory::Refusing;
+use std::alloc::AllocError;
 use std::test::Fail;
 use std::thread::Threads;
 
@@ -98,25 +99,32 @@ pub fn is_answered<R: Threads + Sync, A: Memory>(
 const MANY: usize = 1_500_000;
 
 /// So many copies of an element.
-fn copies(alloc: Global, element: i32, count: usize) -> Result<Vec<i32>, AllocError>
+fn copies<A: Memory>(heap: A, element: i32, count: usize) -> Result<Vec<i32, A>, AllocError>
     requires { count ≤ most_elements }
     ensures { IfOk result (λ v. vec_len v ≤ most_elements) }
 {
-    vec![in alloc; element; count]
+    vec![in heap; element; count]
+}
+
+/// Whether a long product and a long line give what they should.
+fn long_ones_are_right<R: Threads + Sync, A: Memory>(rt: &R, heap: A) -> Result<bool, Refused> {
+    let config = Config::new(4096, 4).unwrap();
+    // rows of one entry, 3, each in the column of 7
+    let lens = copies(heap, 1, MANY)?;
+    let cols = copies(heap, 0, MANY)?;
+    let vals = copies(heap, 3, MANY)?;
+    let x = copies(heap, 7, 1)?;
+    let product = sparse_matvec(rt, heap, config, lens, cols, vals, x)?;
+    let wanted = copies(heap, 21, MANY)?;
+    // a plain: the observer sees its own place and the next
+    let visible = line_of_sight(rt, heap, config, copies(heap, 5, MANY)?)?;
+    let right = visible.len() == MANY && visible.starts_with(&[true, true, false]);
+    Ok(right && product.as_slice() == wanted.as_slice())
 }
 
 #[test]
 fn long_products_and_lines(rt: HostRuntime) -> Result<(), Fail> {
-    let (alloc, config) = (rt.alloc(), Config::new(4096, 4).unwrap());
-    // rows of one entry, 3, each in the column of 7
-    let lens = copies(alloc, 1, MANY)?;
-    let cols = copies(alloc, 0, MANY)?;
-    let vals = copies(alloc, 3, MANY)?;
-    let x = copies(alloc, 7, 1)?;
-    let product = sparse_matvec(&rt, alloc, config, lens, cols, vals, x)?;
-    assert!(rt; product.as_slice() == copies(alloc, 21, MANY)?.as_slice());
-    // a plain: the observer sees its own place and the next
-    let visible = line_of_sight(&rt, alloc, config, copies(alloc, 5, MANY)?)?;
-    assert!(rt; visible.len() == MANY && visible.starts_with(&[true, true, false]));
+    let heap = Refusing::none(rt.alloc());
+    assert_eq!(rt; long_ones_are_right(&rt, &heap), Ok(true));
     Ok(())
 }

@@ -1,14 +1,15 @@
-//! Each request for memory refused in turn: over a script with every family of calls, over one whose vectors are so long
-//! that threads share them, over the whole program, and over the recipes.
+//! Each request for memory refused in turn: over short scripts, one of which has a fault, over a script with every family of
+//! calls, over one whose vectors are so long that threads share them, over the whole program, and over the recipes.
 use crate::inputs::inputs_of;
+use crate::line_texts::{are_whole, reach_into, total_of};
 use crate::narrow_writer::NarrowWriter;
 use crate::pieces::{Pieces, text_of};
 use crate::recipe_calls::{RECIPES, Recipe, is_answered};
+use crate::segments;
 use crate::table_files::TableFiles;
-use cvl_base::{Config, Memory, NoResources};
+use cvl_base::{Config, Fault, FaultNo, Memory, NoResources};
 use refusing_memory::{Flaw, withstands_refusals};
 use shell::{MemSink, Stop, StreamHost, program, run};
-use std::alloc::{AllocError, Global};
 use std::test::Fail;
 use std::thread::Threads;
 
@@ -19,7 +20,7 @@ const COUNT: usize = 3_000;
 const TILE: u32 = 1_000;
 
 /// A long comment, and a call of every family, with every kind of value that a line makes or shows.
-const SCRIPT: &[u8] = b"# sixteen bytes and more of a comment, which no call reads
+const SCRIPT: &str = "# sixteen bytes and more of a comment, which no call reads
 l = input 1
 v = input 2
 d = mke_fov l
@@ -65,7 +66,7 @@ write d
 ";
 
 /// Calls on vectors that are long enough for threads to share them.
-const LONG_SCRIPT: &[u8] = b"i = ind_luz 0 1 2200000
+const LONG_SCRIPT: &str = "i = ind_luz 0 1 2200000
 a = add_wuz i i
 c = les_wuz i a
 e = sel_wuz c a i
@@ -90,11 +91,15 @@ write x
 z = dis_vuz 7 2200000
 ";
 
-/// The text of the script of long vectors: the sum of the numbers from -1 down to -2,200,000, that of the numbers below
+/// The texts of the script of long vectors: the sum of the numbers from -1 down to -2,200,000, that of the numbers below
 /// 2,200,000, and that of twice the numbers below 2,199,999, each wrapped.
-const LONG_TEXT: &[u8] = b"r = -1934512352\nt = 1932312352\nx = -434742590\n";
+const LONG_TEXTS: &[(u32, &str)] = &[
+    (11, "r = -1934512352\n"),
+    (16, "t = 1932312352\n"),
+    (22, "x = -434742590\n"),
+];
 
-/// The lines of the script's text.
+/// The lines of the script's text, whose numbers are these.
 const LINES: &[Pieces] = &[
     ("v = [", "[-7] ", COUNT - 1, "[-7]]\n"),
     ("e = [", "[T] ", COUNT - 1, "[T]]\n"),
@@ -103,31 +108,89 @@ const LINES: &[Pieces] = &[
     ("d = [", "1 ", COUNT - 1, "1]\n"),
 ];
 
-/// The text of the script.
-fn whole_text(alloc: Global) -> Result<String, AllocError> {
-    let mut text = String::new(alloc);
-    for line in LINES {
-        text.push_str(&text_of(alloc, *line)?)?;
-    }
-    Ok(text)
+const NUMBERS: &[u32] = &[5, 8, 9, 41, 43];
+
+/// A script with its inputs, the length of a tile and the number of workers, the texts of its lines, and how it ends.
+#[derive(Clone, Copy)]
+struct Script<'a> {
+    lines: &'a str,
+    inputs: &'a [&'a str],
+    config: (u32, u32),
+    texts: &'a [(u32, &'a str)],
+    ends: Result<(), Stop>,
 }
 
-/// Whether a script that is run on this memory writes this text, for which room is made first. Where memory is refused it
-/// is to write a beginning of the text.
+const SCRIPTS: &[Script] = &[
+    Script {
+        lines: segments::SCRIPT,
+        inputs: segments::INPUTS,
+        config: (2, 3),
+        texts: segments::TEXTS,
+        ends: Ok(()),
+    },
+    // a pack of each segment
+    Script {
+        lines: "l = input 1
+v = input 2
+w = input 3
+d = mke_fov l
+f = boo_wuz w
+p = pck_lez v f d
+e = pck_fov f d
+write p e
+write e
+",
+        inputs: &["2 0 3", "1 2 3 4 5", "0 0 1 0 1"],
+        config: (2, 3),
+        texts: &[(8, "p = [[] [] [3 5]]\n"), (9, "e = [0 0 2]\n")],
+        ends: Ok(()),
+    },
+    // vectors that are long enough for threads to share them
+    Script {
+        lines: LONG_SCRIPT,
+        inputs: &[],
+        config: (TILE, 3),
+        texts: LONG_TEXTS,
+        ends: Ok(()),
+    },
+    // a permute with an index that was there before, and later one out of range
+    Script {
+        lines: "v = ind_luz 0 1 1000
+i = rep_vuz v 5 2
+i = rep_vuz i 999 1000
+p = smp_puz v i
+",
+        inputs: &[],
+        config: (16, 8),
+        texts: &[],
+        ends: Err(Stop::Script {
+            line: 4,
+            fault: Fault {
+                number: FaultNo::IndexRepeated,
+                place: Some(5),
+            },
+        }),
+    },
+];
+
+/// Whether a script that is run on this memory writes its texts, for which room is made first, and ends as it should. Where
+/// memory is refused it is to write the texts of the lines before, and a beginning of that of the line that it names.
 fn run_on<R: Threads + Sync, A: Memory>(
     rt: &R,
     heap: A,
-    script: &[u8],
-    inputs: &[&str],
-    text: &[u8],
+    script: &Script<'_>,
 ) -> Result<bool, NoResources> {
-    let config = Config::new(TILE, 3).unwrap();
-    let mut sink = MemSink::with_room(heap, text.len())?;
-    let inputs = inputs_of(heap, inputs)?;
-    match run(rt, heap, config, script, inputs, &mut sink) {
-        Ok(()) => Ok(sink.bytes() == text),
-        Err(Stop::NoResources { .. }) if text.starts_with(sink.bytes()) => Err(NoResources),
-        Err(_) => Ok(false),
+    let Ok(config) = Config::new(script.config.0, script.config.1) else {
+        return Ok(false);
+    };
+    let mut sink = MemSink::with_room(heap, total_of(script.texts))?;
+    let inputs = inputs_of(heap, script.inputs)?;
+    let ran = run(rt, heap, config, script.lines.as_bytes(), inputs, &mut sink);
+    match ran {
+        Err(Stop::NoResources { line }) if reach_into(sink.bytes(), script.texts, line) => {
+            Err(NoResources)
+        }
+        _ => Ok(ran == script.ends && are_whole(sink.bytes(), script.texts)),
     }
 }
 
@@ -218,8 +281,8 @@ fn program_on<R: Threads + Sync + AllocGlobal, A: Memory>(
 /// What is run while memory is refused.
 #[derive(Clone, Copy)]
 enum Work<'a> {
-    /// A script, on these inputs, which writes this text.
-    Script(&'a [u8], &'a [&'a str], &'a [u8]),
+    /// A script.
+    Script(&'a Script<'a>),
     /// The program.
     Program(&'a Program<'a>),
     /// A recipe, which gives this.
@@ -233,7 +296,7 @@ fn comes_out<R: Threads + Sync + AllocGlobal, A: Memory>(
     work: Work,
 ) -> Result<bool, NoResources> {
     match work {
-        Work::Script(script, inputs, text) => run_on(rt, heap, script, inputs, text),
+        Work::Script(script) => run_on(rt, heap, script),
         Work::Program(row) => program_on(rt, heap, row),
         Work::Recipe(recipe) => is_answered(rt, heap, recipe),
     }
@@ -249,17 +312,45 @@ fn requests_of<R: Threads + Sync + AllocGlobal>(rt: &R, work: Work) -> Result<u6
     )
 }
 
-#[test]
-fn each_growth_of_a_run(rt: HostRuntime) -> Result<(), Fail> {
-    let text = whole_text(rt.alloc())?;
+/// How many requests a script of long texts makes, which has a call of every family.
+fn requests_of_families<R: Threads + Sync + AllocGlobal>(
+    rt: &R,
+    texts: &[String],
+) -> Result<u64, Fail> {
+    let mut numbered = Vec::new(rt.alloc());
+    for (number, text) in NUMBERS.iter().zip(texts) {
+        numbered.push((*number, text.as_str()))?;
+    }
     let ones = text_of(rt.alloc(), ("", "1 ", COUNT, ""))?;
     let sevens = text_of(rt.alloc(), ("", "-7 ", COUNT, ""))?;
-    let inputs = [ones.as_str(), sevens.as_str()];
-    let script = Work::Script(SCRIPT, inputs.as_slice(), text.as_bytes());
+    let script = Script {
+        lines: SCRIPT,
+        inputs: &[ones.as_str(), sevens.as_str()],
+        config: (TILE, 3),
+        texts: numbered.as_slice(),
+        ends: Ok(()),
+    };
+    Ok(requests_of(rt, Work::Script(&script))?)
+}
+
+#[test]
+fn each_growth_of_a_run(rt: HostRuntime) -> Result<(), Fail> {
+    for script in SCRIPTS {
+        let requests = requests_of(&rt, Work::Script(script))?;
+        // a value of each binding, at least
+        assert!(rt; requests > 4, "{requests}");
+    }
+    Ok(())
+}
+
+#[test]
+fn each_growth_of_a_run_of_all_families(rt: HostRuntime) -> Result<(), Fail> {
+    let mut texts = Vec::new(rt.alloc());
+    for pieces in LINES {
+        texts.push(text_of(rt.alloc(), *pieces)?)?;
+    }
     // two inputs, a value of each of the 37 other bindings that take memory, and 5 texts
-    assert!(rt; requests_of(&rt, script)? > 43);
-    // a value of each binding but the reduce
-    assert!(rt; requests_of(&rt, Work::Script(LONG_SCRIPT, &[], LONG_TEXT))? > 8);
+    assert!(rt; requests_of_families(&rt, texts.as_slice())? > 43);
     Ok(())
 }
 

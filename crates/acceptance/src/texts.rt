@@ -20,7 +20,7 @@ fn what_is_shown(rt: HostRuntime) -> Result<(), Fail> {
     let numbers = read_vector(&rt, rt.alloc(), config, b"3 -7")?;
     let numbers = Value::Integers(Ints::from_vec(numbers));
     let no_descriptor: Option<&SegDes<Global>> = None;
-    put_value(&numbers, no_descriptor, &mut text)?;
+    put_value(&rt, rt.alloc(), config, &numbers, no_descriptor, &mut text)?;
     text.push(b'\n')?;
     put_stop(&Stop::NoResources { line: 7 }, &mut text)?;
     let (place, none) = (

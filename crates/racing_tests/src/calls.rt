@@ -1,7 +1,6 @@
 //! The four calls whose workers race, beside plain loops: a scan and a reduce, flat and by segments.
 
 use crate::plain;
-use crate::watch::{Holds, Watch};
 use crew::Gate;
 use cvl_base::{Config, IntMonoid, Memory, Refused};
 use scan_ops::{
@@ -11,6 +10,7 @@ use scan_ops::{
 use segdes::SegDes;
 use std::alloc::{AllocError, Global};
 use std::thread::Threads;
+use watching_gate::{Holds, Race, Watch};
 
 /// One of the four calls.
 #[derive(Clone, Copy, Debug)]
@@ -127,7 +127,7 @@ pub fn agree_at_gates<R: Threads + Sync>(
     let workers = config.workers().min(tiles);
     let mut all = true;
     for call in CALLS {
-        let gate = Watch::new(alloc, tiles, workers, Holds::Nobody)?;
+        let gate = Watch::new(alloc, Race::Scan, tiles, workers, Holds::Nobody)?;
         all &= agrees_at_gate(rt, alloc, config, call, case, &gate)? && gate.saw_all();
     }
     Ok(all)

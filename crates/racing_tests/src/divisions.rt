@@ -1,6 +1,5 @@
 //! Quotients, whose workers race for the least place at which the divisor is 0.
 
-use crate::watch::Watch;
 use crew::Gate;
 use cvl_base::limits::MOST_ELEMENTS;
 use cvl_base::{Config, Fault, FaultNo, IntBinary, Memory, Refused};
@@ -9,6 +8,7 @@ use refusing_memory::withstands_refusals;
 use std::alloc::{AllocError, Global};
 use std::test::Fail;
 use std::thread::Threads;
+use watching_gate::{Holds, Race, Watch};
 
 /// Divisors of 1, but for 0 at two places, and as many dividends of 7.
 #[derive(Drop)]
@@ -68,7 +68,7 @@ fn least_zero_every_time(rt: HostRuntime) -> Result<(), Fail> {
     let config = Config::new(16, 8)?;
     for _ in 0..100 {
         assert_eq!(rt; are_sevens(&rt, rt.alloc(), config, &division), zero_at(3));
-        let gate = Watch::of_leasts(rt.alloc(), 63, 8)?;
+        let gate = Watch::new(rt.alloc(), Race::Leasts(1), 63, 8, Holds::Nobody)?;
         let answer = are_sevens_at_gate(&rt, rt.alloc(), config, &division, &gate);
         assert_eq!(rt; answer, zero_at(3));
         assert!(rt; gate.saw_all());

@@ -3,9 +3,8 @@
 //! Of what they share: monoids and the words of their items, the world of workers beside a plain reading of the table of
 //! their states, the scan board by hand and by two threads of the test's own, and a list gathered from pieces. Of the
 //! scans and reduces: every cut into tiles beside plain lists, at a gate that sees each point of each tile; workers held
-//! at it, also through a script and through the program; how often elements were read at each point; and each request for
-//! memory refused in turn. Of quotients: the least divisor of 0 among several, again and again, at a gate that sees each
-//! tile; long ones; and memory refused.
+//! at it; how often elements were read at each point; and each request for memory refused in turn. Of quotients: the least
+//! divisor of 0 among several, again and again, at a gate that sees each tile; long ones; and memory refused.
 #![tactic(auto)]
 
 #[cfg(test)]
@@ -39,10 +38,6 @@ mod repeats;
 #[cfg(test)]
 mod schedules;
 #[cfg(test)]
-mod scripts;
-#[cfg(test)]
 mod stopped;
 #[cfg(test)]
 mod tiles;
-#[cfg(test)]
-mod watch;

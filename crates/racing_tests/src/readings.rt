@@ -4,7 +4,6 @@ ghost use Rattle.std.specs.Prelude.{◌≡◌};
 ghost use Rattle.std.specs.List.{AllPass};
 ghost use Rattle.cvl_base.specs.ItemWords.{is_number};
 
-use crate::watch::{Holds, Watch, place_of};
 use crew::{Gate, Point};
 use cvl_base::Config;
 use cvl_base::monoids::Add;
@@ -12,6 +11,7 @@ use scan_ops::{Reading, scan_readings_gated, seg_reduce_readings_gated};
 use segdes::SegDes;
 use std::sync::atomic::{AtomicU64, Ordering};
 use std::test::Fail;
+use watching_gate::{Holds, Race, Watch, place_of};
 
 /// A number, and how often it was read.
 #[derive(Clone, Copy)]
@@ -136,7 +136,7 @@ fn read_before_each_point(rt: HostRuntime) -> Result<(), Fail> {
     for (workers, holds, notes, in_all) in rows {
         let reads = words(0);
         let gate = Noting {
-            watch: Watch::new(rt.alloc(), 4, workers, holds)?,
+            watch: Watch::new(rt.alloc(), Race::Scan, 4, workers, holds)?,
             reads: &reads,
             notes: words(9),
         };
@@ -164,7 +164,7 @@ fn read_before_each_point(rt: HostRuntime) -> Result<(), Fail> {
 fn items_before_finished(rt: HostRuntime) -> Result<(), Fail> {
     let reads = words(0);
     let gate = Noting {
-        watch: Watch::new(rt.alloc(), 4, 1, Holds::Nobody)?,
+        watch: Watch::new(rt.alloc(), Race::Scan, 4, 1, Holds::Nobody)?,
         reads: &reads,
         notes: words(9),
     };

@@ -1,0 +1,19 @@
+//! A gate for tests: it sees which worker passes which point of which tile, and holds workers until others have gone on.
+//!
+//! A test hands it to the gated form of a call, and asks it afterwards whether it saw all:
+//!
+//! ```text
+//! let gate = Watch::new(rt.alloc(), Race::Scan, 4, 2, Holds::UntilOthers(Point::Claimed(0)))?;
+//! let sums = scan_gated::<_, _, Add, _>(&rt, rt.alloc(), Config::new(1, 2)?, &[3, 1, 7, 0], &gate)?;
+//! assert!(rt; gate.saw_all());
+//! ```
+//!
+//! A worker is held for so many turns at most, so that a test ends also where nobody goes on. Nothing is proved of what the
+//! gate sees but that it is safe and returns: no clause speaks of a number that other threads change.
+#![tactic(auto)]
+
+mod points;
+mod watch;
+
+pub use points::{Holds, Race, place_of};
+pub use watch::Watch;
