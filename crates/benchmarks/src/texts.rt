@@ -31,9 +31,10 @@ fn random_value(alloc: Global, are_all_long: bool) -> Result<Value<Global>, Refu
 }
 
 /// Writes a value several times, and gives the text and the best time.
-fn best_writing<R: Clock>(
+fn best_writing<R: Clock + Threads + Sync>(
     rt: &R,
     alloc: Global,
+    config: Config,
     value: &Value<Global>,
 ) -> io::Result<(Vec<u8>, Duration)> {
     let mut best = Duration::MAX;
@@ -41,7 +42,7 @@ fn best_writing<R: Clock>(
     for _ in 0..ROUNDS {
         text = Vec::new(alloc);
         let start = Instant::now(rt)?;
-        let answer = put_value(value, None, &mut text);
+        let answer = put_value(rt, alloc, config, value, None, &mut text);
         let time = start.elapsed(rt)?;
         if answer.is_ok() {
             best = best.min(time);
@@ -100,7 +101,7 @@ pub fn measure<R: Print + Clock + Threads + Sync>(
             println!(rt; "{writing}: no memory for the numbers")?;
             continue;
         };
-        let (text, time) = best_writing(rt, alloc, &value)?;
+        let (text, time) = best_writing(rt, alloc, config, &value)?;
         print_rate(rt, writing, text.len(), time)?;
         if let [_, input @ .., _] = text.as_slice() {
             let time = best_reading(rt, alloc, config, input)?;

@@ -15,6 +15,18 @@ const TILE: &str = "4096";
 /// The number of workers where none is given.
 const WORKERS: &str = "4";
 
+/// What the program does, in a line.
+const ABOUT: &str = "Runs a script of vector calls over files of integers";
+
+/// What stands after the arguments in the text of help.
+const AFTER_HELP: &str = "Exit status:
+  0  the script ran to its end
+  1  the script has a fault
+  2  the command line was refused
+  3  a file, memory or a write failed
+
+Each call is described in docs/calls.md, and scripts, inputs and faults in docs/script.md.";
+
 /// An option `--NAME N` with a default.
 fn number_option<'a>(
     alloc: Global,
@@ -42,7 +54,7 @@ fn script<'a>(alloc: Global) -> Arg<'a>
         .value_name("SCRIPT")
         .action(ArgAction::Set)
         .required(true)
-        .help("The file of the script")
+        .help("The file of the script, with a call or a write on each line")
 }
 
 /// The names of the files of the inputs.
@@ -53,7 +65,7 @@ fn inputs<'a>(alloc: Global) -> Arg<'a>
     Arg::new(alloc, "inputs")
         .value_name("INPUT")
         .action(ArgAction::Append)
-        .help("The file of each input, in the order of their numbers")
+        .help("The file of each input, integers between white space; the first is input 1")
 }
 
 /// The command `cvl [--tile N] [--workers N] SCRIPT [INPUT ..]`.
@@ -66,17 +78,18 @@ pub(crate) fn cvl_command<'a>(alloc: Global) -> Result<Command<'a>, AllocError>
         clap::value_parser!(u32).range(1..=i64::from(LONGEST_TILE)),
         TILE,
     )
-    .help("The length of a tile, in elements");
+    .help("The length of a tile, in elements, from 1 to 65536");
     let workers = number_option(
         alloc,
         "workers",
         clap::value_parser!(u32).range(1..=i64::from(MOST_WORKERS)),
         WORKERS,
     )
-    .help("The number of workers");
-    Command::new(alloc, "cvl")
+    .help("The number of workers, from 1 to 64");
+    let command = Command::new(alloc, "cvl")
         .arg(tile)?
         .arg(workers)?
         .arg(script(alloc))?
-        .arg(inputs(alloc))
+        .arg(inputs(alloc))?;
+    Ok(command.about(ABOUT).after_help(AFTER_HELP))
 }

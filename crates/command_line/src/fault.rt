@@ -13,7 +13,7 @@ pub enum WordsFault {
     /// The command refuses the words, or they ask for its help: the error's text says it.
     #[error("{0}")]
     Refused(clap::Error),
-    /// A growth was refused.
+    /// Memory ran out.
     #[error("no resources")]
     NoResources,
 }

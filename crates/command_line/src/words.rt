@@ -63,7 +63,7 @@ fn words_of<'a>(alloc: Global, matches: &ArgMatches<'a>) -> Result<Words<'a>, Al
 /// decimal digits, which may have a plus sign and leading zeros. Options may stand before and after the names of
 /// files, which are handed out as they are typed; after `--` a word that begins with `-` is a name too. Words that the
 /// command doesn't take are `WordsFault::Refused`, and so is a call for help. Where it takes them, the words are read,
-/// or a growth was refused.
+/// or memory ran out.
 pub fn read_words<'a>(alloc: Global, words: &'a [&'a str]) -> Result<Words<'a>, WordsFault>
     ensures tile { IfOk result (λ w.
         number_given (codes "tile") (texts words.entry.now) ≡ Some w.config.0) }

@@ -1,5 +1,5 @@
 use Rattle.std.proofs.Common.{◌≡◌, ◌∙◌, ap, ap₂, rules}
-use Rattle.std.proofs.lemmas.Result.{IfOk-weaker}
+use Rattle.clap.specs.Simple.{app_of_fields}
 use Rattle.clap.specs.Words.{rule_of, with_rule}
 use Rattle.cvl_base.specs.Limits.{longest_tile, most_workers}
 use Rattle.command_line.specs.Command.{cvl, tile_rule, workers_rule, up_to}
@@ -17,4 +17,5 @@ returns c =
     let one = c.in_ok-arg.ensures.shape (search rules) ∙ ap₂ with_rule c.new-3.ensures.app tile in
     let two = c.in_ok-arg-2.ensures.shape (search rules) ∙ ap₂ with_rule one workers in
     let three = c.in_ok-arg-3.ensures.shape (search rules) ∙ ap₂ with_rule two c.script.ensures.rule in
-    IfOk-weaker c.arg-4.result _ _ (λ r h. h.shape (search rules) ∙ ap₂ with_rule three c.inputs.ensures.rule) c.arg-4.ensures
+    let four = c.in_ok-command.ensures.shape (search rules) ∙ ap₂ with_rule three c.inputs.ensures.rule in
+    ap app_of_fields c.after_help.ensures ∙ ap app_of_fields c.about.ensures ∙ four

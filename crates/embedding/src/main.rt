@@ -1,0 +1,34 @@
+//! The examples of `docs/embedding.md`: calls of the library from code of one's own.
+#![tactic(auto)]
+
+mod gates;
+mod kernels;
+mod memory;
+mod own_threads;
+mod sessions;
+
+use cvl_base::Config;
+use std::io;
+use std::str::from_utf8;
+
+fn main(rt: HostRuntime) -> io::Result<()> {
+    let alloc = rt.alloc();
+    let config = Config::new(1, 2).unwrap();
+    println!(rt; "sums: {:?}", kernels::sums(&rt, alloc, config))?;
+    println!(rt;
+        "sums of segments: {:?}",
+        kernels::sums_of_segments(&rt, alloc, config)
+    )?;
+    if let Ok(text) = sessions::text_of_scan(&rt, alloc, config, [3, 1, 7, 0, 4]) {
+        println!(rt; "text: {:?}", from_utf8(&text))?;
+    }
+    println!(rt;
+        "scan and tiles: {:?}",
+        gates::scan_and_tiles(&rt, alloc, config)
+    )?;
+    println!(rt;
+        "first negative: {:?}",
+        own_threads::first_negative(&rt, alloc, &[5, 0, 2, -7, 1, -3])
+    )?;
+    println!(rt; "refused: {}", memory::is_refused(&rt, alloc, config))
+}
