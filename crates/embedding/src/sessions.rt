@@ -16,7 +16,9 @@ pub fn text_of_scan<R: Threads + Sync, A: Memory>(
     numbers: [i32; 5],
 ) -> Result<Vec<u8, A>, Refused> {
     let input = Ints::from_vec(Vec::from_slice(alloc, &numbers)?);
-    let mut session = Session::new(alloc, config, vec![in alloc; Input::Vector(input)]?)?;
+    let mut inputs = Vec::new(alloc);
+    inputs.push(Input::Vector(input))?;
+    let mut session = Session::new(alloc, config, inputs)?;
     let mut shown = Vec::new(alloc);
     for line in LINES {
         let Some(call) = read_line(alloc, line.as_bytes())? else {
