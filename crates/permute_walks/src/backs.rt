@@ -1,39 +1,20 @@
-//! The two walks of a back permute. The first looks at all indices, so that the second, which several threads may make, has
-//! an element for each.
+//! The two walks of a back permute, each of which several threads may make. The first looks at all indices, so that the second
+//! has an element for each.
 
 ghost use Rattle.std.specs.Prelude.{◌≡◌, ◌+◌, ◌-◌, ◌≤◌, ◌++◌, [], length, IfOk};
 ghost use Rattle.fresh.specs.Parts.{part};
 ghost use Rattle.fresh.specs.Places.{stretch};
 ghost use Rattle.cvl_base.specs.Limits.{most_elements};
-ghost use Rattle.permute_walks.specs.Indices.{AreInside, count_outside, elements_at, first_outside};
+ghost use Rattle.permute_walks.specs.Indices.{AreInside, elements_at, first_outside};
 ghost use Rattle.permute_walks.specs.Senders.{fault_told};
 
+use crate::index_counts::count_outside;
 use cvl_base::{Fault, FaultNo, Memory, NoResources, place_among};
 use fresh::{Run, Writer, write_in_runs};
 use std::thread::Threads;
 
 /// From how many indices on they are counted before they are looked at in turn.
 const LONG: usize = 32;
-
-/// The greatest number of places that an index of 32 bits can name.
-const MOST_PLACES: usize = 2_147_483_648;
-
-/// How many indices are none of so many places.
-// Without its sign an index below 0 is beyond all places, so that one comparison is enough.
-#[inline(never)]
-fn count_outside(index: &[i32], places: usize) -> u32
-    requires { length index.now ≤ most_elements }
-    ensures { result ≡ count_outside places index.now }
-{
-    let end = places.min(MOST_PLACES) as u32;
-    let mut count = 0;
-    for i in index {
-        if i.cast_unsigned() >= end {
-            count += 1;
-        }
-    }
-    count
-}
 
 /// `IndexOutOfRange` at the first place whose index is none of so many places. The first index stands at place `first`.
 #[inline(never)]
@@ -49,13 +30,19 @@ fn check_each(index: &[i32], places: usize, first: usize) -> Result<(), Fault>
     Ok(())
 }
 
-/// The first walk: `IndexOutOfRange` at the first place whose index is none of so many places of the source. The first
-/// index stands at place `first`.
-pub fn check_places(index: &[i32], places: usize, first: usize) -> Result<(), Fault>
+/// The first walk, by at most `threads` threads: `IndexOutOfRange` at the first place whose index is none of so many places of
+/// the source. The first index stands at place `first`.
+pub fn check_places<R: Threads + Sync>(
+    rt: &R,
+    threads: u32,
+    index: &[i32],
+    places: usize,
+    first: usize,
+) -> Result<(), Fault>
     requires { first + length index.now ≤ most_elements }
     ensures { fault_told result ≡ first_outside first places index.now }
 {
-    if index.len() >= LONG && count_outside(index, places) == 0 {
+    if index.len() >= LONG && count_outside(rt, threads as usize, index, places) == 0 {
         return Ok(());
     }
     check_each(index, places, first)

@@ -5,6 +5,7 @@
 pub mod backs;
 pub mod destinations;
 pub mod elements;
+mod index_counts;
 mod owners;
 pub mod places;
 pub mod sends;

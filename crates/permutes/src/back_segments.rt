@@ -1,5 +1,5 @@
-//! The two walks of a segmented back permute. The first looks at all indices, so that the second, which several threads may
-//! make, has an element for each.
+//! The two walks of a segmented back permute. The first looks at all indices, those of a long segment by several threads, so
+//! that the second, which several threads may make, has an element for each.
 
 ghost use Rattle.std.specs.Prelude.{◌≡◌, ◌+◌, ◌-◌, ◌<◌, ◌≤◌, ◌++◌, [], length, sum, min, IfOk};
 ghost use Rattle.fresh.specs.Parts.{part};
@@ -9,15 +9,19 @@ ghost use Rattle.permute_walks.specs.Senders.{fault_told};
 ghost use Rattle.permutes.specs.Backs.{IsSegmentedBack, outside_from, places_left, segments_at};
 ghost use Rattle.segdes.specs.Starts.{start_of};
 
-use cvl_base::{Fault, Memory, NoResources};
+use crate::looks::threads_looking;
+use cvl_base::{Config, Fault, Memory, NoResources};
 use fresh::{Run, Writer, write_in_runs};
 use permute_walks::{check_places, write_elements_at};
 use segdes::SegDes;
 use std::alloc::Allocator;
 use std::thread::Threads;
 
-/// The first walk: `IndexOutOfRange` at the first place whose index is no place of its segment of the source.
-pub(crate) fn check_segments<A: Allocator>(
+/// The first walk, in which several threads share a long segment: `IndexOutOfRange` at the first place whose index is no place of
+/// its segment of the source.
+pub(crate) fn check_segments<R: Threads + Sync, A: Allocator>(
+    rt: &R,
+    config: Config,
     index: &[i32],
     source_d: &SegDes<A>,
     index_d: &SegDes<A>,
@@ -30,7 +34,8 @@ pub(crate) fn check_segments<A: Allocator>(
     for s in 0..index_d.count() {
         let first = index_d.start(s);
         let segment = &index[first..first + index_d.length(s)];
-        check_places(segment, source_d.length(s), first)?;
+        let threads = threads_looking(config, segment.len());
+        check_places(rt, threads, segment, source_d.length(s), first)?;
     }
     Ok(())
 }

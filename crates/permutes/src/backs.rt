@@ -9,6 +9,7 @@ ghost use Rattle.permute_walks.specs.Indices.{first_outside};
 ghost use Rattle.permutes.specs.Backs.{outside_from};
 
 use crate::back_segments::{check_segments, segments_at};
+use crate::looks::threads_looking;
 use crate::segment_races::check_segments_raced;
 use crew::{Gate, OpenGate};
 use cvl_base::{Config, Memory, Refused, check_agree};
@@ -18,7 +19,8 @@ use segdes::{SegDes, check_total};
 use sharing::threads_for;
 use std::thread::Threads;
 
-/// `IndexOutOfRange` at the first place whose index is none of so many places, for which workers race or one thread looks.
+/// `IndexOutOfRange` at the first place whose index is none of so many places, for which workers race, or one or several threads
+/// look.
 fn check_indices<R: Threads + Sync, A: Memory, G: Gate>(
     rt: &R,
     alloc: A,
@@ -32,12 +34,15 @@ fn check_indices<R: Threads + Sync, A: Memory, G: Gate>(
 {
     match permute_pace(config, index.len(), places) {
         Some(pace) => check_indices_raced(rt, alloc, pace, index, places, gate),
-        None => Ok(check_places(index, places, 0)?),
+        None => {
+            let threads = threads_looking(config, index.len());
+            Ok(check_places(rt, threads, index, places, 0)?)
+        }
     }
 }
 
-/// `IndexOutOfRange` at the first place whose index is no place of its segment of the source, for which workers race or one
-/// thread looks.
+/// `IndexOutOfRange` at the first place whose index is no place of its segment of the source, for which workers race, or one
+/// or several threads look.
 fn check_segment_indices<R: Threads + Sync, A: Memory, G: Gate>(
     rt: &R,
     alloc: A,
@@ -54,7 +59,7 @@ fn check_segment_indices<R: Threads + Sync, A: Memory, G: Gate>(
 {
     match permute_pace(config, index.len(), source_d.total()) {
         Some(pace) => check_segments_raced(rt, alloc, pace, index, source_d, index_d, gate),
-        None => Ok(check_segments(index, source_d, index_d)?),
+        None => Ok(check_segments(rt, config, index, source_d, index_d)?),
     }
 }
 

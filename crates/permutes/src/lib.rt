@@ -2,7 +2,8 @@
 //!
 //! Each goes in two walks. The first walk of a simple, select or default permute finds for each place of the result its
 //! sender, the place whose element goes there; that of a back permute looks at all indices. The second writes the elements,
-//! by several threads where the result is long.
+//! by several threads where the result is long. They share the first walk of a long flat permute too, and the look at a long
+//! segment of a back permute.
 //!
 //! Each call has a gated form with the same contract for every gate. Workers race for the first walk where short tiles are
 //! asked for, also for that of segments, whose indices are then counted from the start of the whole result first.
@@ -11,6 +12,7 @@
 mod back_segments;
 mod backs;
 mod defaults;
+mod looks;
 mod segment_races;
 mod segments;
 mod selects;

@@ -1,0 +1,78 @@
+//! How many indices of a back permute lie outside its source, which several threads may count, each a part of the indices.
+
+ghost use Rattle.std.specs.Prelude.{◌≡◌, ◌≤◌, length};
+ghost use Rattle.std.specs.Thread.{IsSync};
+ghost use Rattle.cvl_base.specs.Limits.{most_elements};
+ghost use Rattle.permute_walks.specs.Indices.{count_outside};
+
+use std::thread::{Threads, join};
+
+/// The greatest number of places that an index of 32 bits can name.
+const MOST_PLACES: usize = 2_147_483_648;
+
+/// How many indices are none of so many places, counted by the thread that calls.
+// Without its sign an index below 0 is beyond all places, so that one comparison is enough.
+#[inline(never)]
+fn count_alone(index: &[i32], places: usize) -> u32
+    requires { length index.now ≤ most_elements }
+    ensures { result ≡ count_outside places index.now }
+{
+    let end = places.min(MOST_PLACES) as u32;
+    let mut count = 0;
+    for i in index {
+        if i.cast_unsigned() >= end {
+            count += 1;
+        }
+    }
+    count
+}
+
+/// How many indices are none of so many places, counted by at most so many threads.
+///
+/// The indices are halved, and a half is given to a thread of its own, until there is a part for each thread; where no thread
+/// can be made both halves are counted in turn. For one thread, or none, no thread is started.
+#[cycle(parts)]
+pub(crate) fn count_outside<R: Threads + Sync>(
+    rt: &R,
+    threads: usize,
+    index: &[i32],
+    places: usize,
+) -> u32
+    requires { length index.now ≤ most_elements }
+    ensures { result ≡ count_outside places index.now }
+{
+    if threads < 2 {
+        return count_alone(index, places);
+    }
+    let fewer = threads / 2;
+    let middle = index.len() / threads * fewer;
+    let (low, high) = index.split_at(middle);
+    let (in_low, in_high) = count_both(rt, fewer, low, threads - fewer, high, places);
+    in_low + in_high
+}
+
+/// `count_outside` of two parts, each in a thread of its own.
+#[cycle(parts)]
+fn count_both<R: Threads + Sync>(
+    rt: &R,
+    fewer: usize,
+    low: &[i32],
+    others: usize,
+    high: &[i32],
+    places: usize,
+) -> (u32, u32)
+    requires some { (1 ≤ fewer) × (1 ≤ others) }
+    requires in_limit { (length low.now ≤ most_elements) × (length high.now ≤ most_elements) }
+    ensures low { result.0 ≡ count_outside places low.now }
+    ensures high { result.1 ≡ count_outside places high.now }
+{
+    let count_low = move || -> u32
+        requires { IsSync R.row × (length low.now ≤ most_elements) }
+        ensures { result ≡ count_outside places low.entry.now }
+    { count_outside(rt, fewer, low, places) };
+    let count_high = move || -> u32
+        requires { IsSync R.row × (length high.now ≤ most_elements) }
+        ensures { result ≡ count_outside places high.entry.now }
+    { count_outside(rt, others, high, places) };
+    join(rt, count_low, count_high)
+}
