@@ -6,5 +6,6 @@ pub mod RunPushed
 pub mod Scanned
 pub mod SegmentReduces
 pub mod Segments
+pub mod Valued
 pub mod WholeSums
 pub mod Written
