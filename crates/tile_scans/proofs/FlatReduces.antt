@@ -1,9 +1,8 @@
 -- The sum of a flat vector over whole numbers, from what stands before its last tile and that tile's own sum.
 -- Source: what the definitions of Checked and Exact imply.
-use Rattle.std.proofs.Common.{◌≡◌, ◌∙◌, sym, ap, subst, ℕ, ◌+◌, ◌-◌, ◌*◌, ◌<◌, ◌≤◌, min, Bool, true, false, ℤ, pos, negsuc, ◌+ℤ◌, ◌≤ℤ◌, ◌^◌, to_z, of_z, w64, FitsSigned, Some, None, Ok, Err, List, ◌++◌, length, take, drop, get_or, arith}
+use Rattle.std.proofs.Common.{◌≡◌, ◌∙◌, sym, ap, subst, ℕ, ◌+◌, ◌-◌, ◌*◌, ◌<◌, ◌≤◌, min, Bool, true, false, ℤ, pos, ◌+ℤ◌, to_z, of_z, w64, Some, None, Ok, Err, List, ◌++◌, length, take, drop, get_or, arith}
 use Rattle.std.specs.List.{AllPass}
 use Rattle.std.specs.Option.{ok_or}
-use Rattle.std.proofs.lemmas.Int.{ints, to_z-of_z}
 use Rattle.std.proofs.lemmas.List.{length-drop, length-take, take-map, take_all}
 use Rattle.std.proofs.lemmas.List.Elements.{All-drop, All-take}
 use Rattle.std.proofs.lemmas.List.FromFn.{get_or-map-range_with_len}
@@ -25,22 +24,7 @@ use Rattle.tile_scans.specs.Checked.{total_since, totals_before}
 use Rattle.tile_scans.specs.Kernels.{tile_of}
 use Rattle.tile_scans.proofs.Outsides.{one_more}
 use Rattle.tile_scans.proofs.RunScans.{continued_slice}
-
-fits_between : (z : ℤ) → negsuc (2 ^ 54) ≤ℤ z → z ≤ℤ pos (2 ^ 54) → FitsSigned w64 z
-fits_between (pos n) low high = record { sfits = omega (arith, ints, high) }
-fits_between (negsuc n) low high = record { sfits = omega (arith, ints, low) }
-
--- numbers of 54 bits, and their sum, fit 64 bits
-pub fits_wide : (z : ℤ) → InWords z → FitsSigned w64 z
-fits_wide z r = let low = r.low in let high = r.high in fits_between z (omega (arith, ints)) (omega (arith, ints))
-
-pub sum_fits : (a b : ℤ) → InWords a → InWords b → FitsSigned w64 (a +ℤ b)
-sum_fits a b p q =
-    let low_a = p.low in
-    let high_a = p.high in
-    let low_b = q.low in
-    let high_b = q.high in
-    fits_between (a +ℤ b) (omega (arith, ints)) (omega (arith, ints))
+use Rattle.tile_scans.proofs.WideSums.{wide_sum}
 
 pub reduce_gives : (xs : List ℤ) (z y : ℤ) → z ≡ total_of xs → fitting z ≡ Some y → checked_reduce_of xs ≡ Ok y
 reduce_gives xs z y is fits = ap (λ v. ok_or v (fault_at Overflow 0)) (ap fitting (sym is) ∙ fits)
@@ -106,7 +90,4 @@ module _ (plan : ℕ × ℕ) (xs : List ℤ) (some : 1 ≤ plan.1) (few : plan.0
       let below : t < tile_count plan.0 plan.1 = omega (arith, last) in
       let p = before_fits t before below is_before in
       let q = own_fits t sum is_sum in
-      ap (λ z. to_z w64 (of_z w64 (z +ℤ to_z w64 (of_z w64 sum.1)))) (to_z-of_z w64 before (fits_wide before p))
-      ∙ ap (λ z. to_z w64 (of_z w64 (before +ℤ z))) (to_z-of_z w64 sum.1 (fits_wide sum.1 q))
-      ∙ to_z-of_z w64 (before +ℤ sum.1) (sum_fits before sum.1 p q)
-      ∙ flat_total t before sum last is_before is_sum
+      wide_sum before sum.1 p q ∙ flat_total t before sum last is_before is_sum

@@ -3,8 +3,11 @@ pub mod FlatTiles
 pub mod Known
 pub mod Outsides
 pub mod RunScans
+pub mod SegmentSlots
+pub mod SegmentTotals
 pub mod Segmented
 pub mod SegmentedTiles
 pub mod TileFronts
 pub mod Tiled
 pub mod WholeSums
+pub mod WideSums

@@ -27,7 +27,7 @@ use Rattle.tile_scans.specs.Kernels.{tile_of}
 use Rattle.tile_scans.proofs.RunScans.{run_scan-drop, run_scan-take}
 use Rattle.tile_scans.proofs.Tiled.{tile_cut}
 
-ltb_tells : (a b : ℕ) → ((nat_lt a b ≡ true) × (a < b)) ⊎ ((nat_lt a b ≡ false) × (b ≤ a))
+pub ltb_tells : (a b : ℕ) → ((nat_lt a b ≡ true) × (a < b)) ⊎ ((nat_lt a b ≡ false) × (b ≤ a))
 ltb_tells a b =
     elim (leb_tells (suc a) b) [
       | inl e ↦ inl (e.0, omega (arith, e.1))

@@ -188,7 +188,7 @@ module _ {Item : Type 0} {is_item : Item → Bool} {unit : Item} {join : Item �
       (ap (part ws p) (sym long) ∙ sym (run_of_is lengths xs p (p + n) (omega arith)))
 
   -- what stands before a place is what its segment's elements before it join to
-  since_start : (place o : ℕ) → place ≤ length xs → sum lengths ≡ length xs → o ≡ starts_before lengths place - 1 → o < length lengths
+  pub since_start : (place o : ℕ) → place ≤ length xs → sum lengths ≡ length xs → o ≡ starts_before lengths place - 1 → o < length lengths
       → (fold_of (seg_join join) (false, unit) (take place (with_starts lengths xs))).1 ≡ fold_of join unit (slice_range xs (start_of lengths o) place)
   since_start place o within total is lt =
       elim (leb_tells 1 (starts_before lengths place)) [

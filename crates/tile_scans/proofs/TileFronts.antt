@@ -1,7 +1,7 @@
 -- The first tile with a result that doesn't fit 32 bits, as the walks over tiles find it.
 -- Source: what the definitions of Checked imply.
 use Rattle.std.proofs.Common.{◌≡◌, ◌∙◌, refl, sym, ap, subst, ℕ, ◌-◌, ◌<◌, ◌≤◌, Bool, true, IsTrue, ℤ, pos, ◌+ℤ◌, to_z, of_z, w64, FitsSigned, List, length, map, take, drop, get_or, arith, Some, None, Result, Ok, Err}
-use Rattle.std.specs.Prelude.{if◌then◌else◌}
+use Rattle.std.specs.Prelude.{if◌then◌else◌, sum}
 use Rattle.std.specs.List.{AllPass, range_with_len}
 use Rattle.std.proofs.lemmas.Int.{to_z-of_z}
 use Rattle.std.proofs.lemmas.List.{length-drop, length-take}
@@ -9,8 +9,9 @@ use Rattle.std.proofs.lemmas.List.Elements.{All-take}
 use Rattle.std.proofs.lemmas.List.FromFn.{get_or-map-range_with_len}
 use Rattle.operators.proofs.FoldLaws.{fold_of_is_item}
 use Rattle.operators.specs.ExactLaws.{exact_laws, word-in}
+use Rattle.operators.specs.NumberLaws.{sum_laws}
 use Rattle.operators.specs.SegmentMonoidLaws.{seg_laws}
-use Rattle.cvl_base.specs.CheckedSums.{checked_scan_of, fitting}
+use Rattle.cvl_base.specs.CheckedSums.{checked_scan_of, checked_seg_scan_of, fitting}
 use Rattle.cvl_base.specs.declared.fault.Fault.{Fault}
 use Rattle.cvl_base.specs.declared.fault.FaultNo.TheVariants.{Overflow}
 use Rattle.cvl_base.specs.declared.refused.Refused.{Refused}
@@ -23,14 +24,17 @@ use Rattle.cvl_base.specs.ItemWords.{is_number, is_word}
 use Rattle.cvl_base.specs.Limits.{most_elements}
 use Rattle.cvl_base.specs.SegmentMonoid.{is_seg_item}
 use Rattle.scan_walks.specs.Fronts.{fitting_front}
-use Rattle.scan_walks.specs.Runs.{continued, run_scan_of}
+use Rattle.scan_walks.specs.Runs.{continued, run_scan_of, scans_of, with_starts}
+use Rattle.scan_walks.proofs.Cut.{segments_scanned}
+use Rattle.scan_walks.proofs.Valued.{scans_valued}
+use Rattle.scan_walks.proofs.WholeSums.{all_whole, whole_laws}
 use Rattle.tile_plan.specs.Ranges.{range_of, tile_count}
 use Rattle.tile_scans.specs.Checked.{first_outside, slot_of_tile, total_scan, total_since, totals_before}
 use Rattle.tile_scans.specs.Kernels.{tile_of}
-use Rattle.tile_scans.proofs.FlatReduces.{fits_wide}
 use Rattle.tile_scans.proofs.Outsides.{all_fit, length-total_scan, none_outside, outside_is, tile_scanned, within_is, wrapped_same}
-use Rattle.tile_scans.proofs.RunScans.{continued_passes, continued_run_scan}
+use Rattle.tile_scans.proofs.RunScans.{continued_passes, continued_run_scan, with_starts_passes}
 use Rattle.tile_scans.proofs.WholeSums.{all_words, exact_total, wrapped_scan}
+use Rattle.tile_scans.proofs.WideSums.{fits_wide}
 
 module _ (plan : ℕ × ℕ) (ws : List (Bool × ℤ)) (some : 1 ≤ plan.1) (few : plan.0 ≤ most_elements) (whole : length ws ≡ plan.0) (numbers : AllPass (is_seg_item is_number) ws) where
   total_fits : (k : ℕ) → FitsSigned w64 (total_since (take k ws)).1
@@ -76,16 +80,29 @@ module _ (plan : ℕ × ℕ) (ws : List (Bool × ℤ)) (some : 1 ≤ plan.1) (fe
       let zs = tile_of plan.0 plan.1 (total_scan ws) t in
       ap (λ b. if b then Some 0 else None) (sym (within_is zs (omega (arith, is, ge, tile_long t)))) ∙ slot_at t below
 
--- ---- the scan of a flat vector
+-- ---- the scan of a run, written where all results fit
 
+run_scan_meant : (ws : List (Bool × ℤ)) (zs ys : List ℤ) → AllPass (is_seg_item is_number) ws → first_outside (total_scan ws) ≡ None → zs ≡ total_scan ws
+    → ys ≡ run_scan_of sum_of (pos 0) (pos 0) ws → values_from Overflow 0 (map fitting zs) ≡ Ok ys
+run_scan_meant ws zs ys numbers fit is_total is =
+    let ge : length (total_scan ws) ≤ fitting_front (total_scan ws) = none_outside (total_scan ws) None (sym fit) refl in
+    ap (λ rs. values_from Overflow 0 (map fitting rs)) is_total
+    ∙ all_fit 0 (total_scan ws) ge
+    ∙ ap Ok (sym (is ∙ wrapped_scan ws numbers ∙ wrapped_same (total_scan ws) ge))
+
+-- of a flat vector
 pub flat_scan_meant : (xs ys : List ℤ) → AllPass is_number xs → first_outside (total_scan (continued xs)) ≡ None → ys ≡ scan_of sum_of (pos 0) xs → checked_scan_of xs ≡ Ok ys
 flat_scan_meant xs ys numbers fit is =
-    let zs = total_scan (continued xs) in
-    let ge : length zs ≤ fitting_front zs = none_outside zs None (sym fit) refl in
-    let same : zs ≡ scan_of ◌+ℤ◌ (pos 0) xs = continued_run_scan ◌+ℤ◌ (pos 0) (pos 0) xs in
-    ap (λ rs. values_from Overflow 0 (map fitting rs)) (sym same)
-    ∙ all_fit 0 zs ge
-    ∙ ap Ok (sym (is ∙ sym (continued_run_scan sum_of (pos 0) (pos 0) xs) ∙ wrapped_scan (continued xs) (continued_passes is_number xs numbers) ∙ wrapped_same zs ge))
+    run_scan_meant (continued xs) (scan_of ◌+ℤ◌ (pos 0) xs) ys (continued_passes is_number xs numbers) fit (sym (continued_run_scan ◌+ℤ◌ (pos 0) (pos 0) xs))
+    (is ∙ sym (continued_run_scan sum_of (pos 0) (pos 0) xs))
+
+-- and of a segmented one
+pub segmented_scan_meant : (lengths : List ℕ) (xs ys : List ℤ) → sum lengths ≡ length xs → AllPass is_number xs → first_outside (total_scan (with_starts lengths xs)) ≡ None
+    → ys ≡ scans_of sum_of (pos 0) lengths xs → checked_seg_scan_of xs lengths ≡ Ok ys
+segmented_scan_meant lengths xs ys total numbers fit is =
+    scans_valued lengths xs total
+    ∙ run_scan_meant (with_starts lengths xs) (scans_of ◌+ℤ◌ (pos 0) lengths xs) ys (with_starts_passes is_number lengths xs numbers) fit
+    (sym (segments_scanned whole_laws lengths xs (pos 0) (all_whole xs))) (is ∙ sym (segments_scanned sum_laws lengths xs (pos 0) numbers))
 
 -- a refusal is handed on
 pub refused_on : {X Y Z : Type 0} (view : X → Y) (other : Z → Y) (e : Refused) (m n : Result Y Fault) → m ≡ n → Gives other (Err e) m → Gives view (Err e) n

@@ -4,10 +4,11 @@
 use Rattle.std.specs.Prelude.{ℕ, Bool, ℤ, pos, ◌+ℤ◌, List, length, map, take, nat_lt, Option, Some, None, if◌then◌else◌}
 use Rattle.std.specs.List.{range_with_len}
 use Rattle.cvl_base.specs.Folds.{fold_of}
+use Rattle.cvl_base.specs.ItemWords.{is_number}
 use Rattle.cvl_base.specs.SegmentMonoid.{seg_join, seg_unit}
 use Rattle.tile_plan.specs.Ranges.{tile_count, range_of}
 use Rattle.scan_walks.specs.Fronts.{fitting_front}
-use Rattle.scan_walks.specs.Runs.{run_scan_of}
+use Rattle.scan_walks.specs.Runs.{reduces_of, run_scan_of}
 use Rattle.tile_scans.specs.Kernels.{tile_of}
 
 -- what the elements of a run add up to since the last start of a segment
@@ -33,3 +34,11 @@ first_outside zs = if has_outside zs then Some (fitting_front zs) else None
 -- the one slot of tiles with a result that doesn't fit; the other tiles have none
 abbrev pub slot_of_tile : ℕ × ℕ → List (Bool × ℤ) → ℕ → Option ℕ
 slot_of_tile plan run t = if has_outside (tile_of plan.0 plan.1 (total_scan run) t) then Some 0 else None
+
+-- the sum of each segment, whether it fits or not
+abbrev pub segment_totals : List ℕ → List ℤ → List ℤ
+segment_totals lengths xs = reduces_of ◌+ℤ◌ (pos 0) lengths xs
+
+-- the one slot of numbers that don't fit; the others have none
+abbrev pub slot_of_number : ℤ → Option ℕ
+slot_of_number z = if is_number z then None else Some 0

@@ -9,6 +9,7 @@
 #![tactic(auto)]
 
 mod checked;
+mod checked_segments;
 mod flat_tiles;
 mod flat_totals;
 mod kernel;
@@ -17,12 +18,15 @@ mod pace;
 mod race;
 mod reduces;
 mod scans;
+mod segment_sums;
 mod segmented_tiles;
+mod segmented_totals;
 mod tile_work;
 mod totals;
 mod writes;
 
 pub use checked::{checked_reduce, checked_scan};
+pub use checked_segments::{checked_seg_reduce, checked_seg_scan};
 pub use reduces::{
     reduce, reduce_gated, reduce_readings, seg_reduce, seg_reduce_gated, seg_reduce_readings,
     seg_reduce_readings_gated,

@@ -1,4 +1,4 @@
-use Rattle.std.proofs.Common.{◌≡◌, ◌+◌, ◌-◌, ◌<◌, ◌+ℤ◌, to_z, of_z, w32, w64, Ok, Err, FitsSigned, arith, get_or, length, take, sym, ap, subst, ◌∙◌}
+use Rattle.std.proofs.Common.{◌≡◌, ◌+◌, ◌-◌, ◌<◌, to_z, of_z, w32, Ok, Err, arith, get_or, length, take, sym, ap, ◌∙◌}
 use Rattle.std.proofs.lemmas.Int.{to_z-of_z}
 use Rattle.std.proofs.lemmas.List.FromFn.{length-map-range_with_len}
 use Rattle.std.proofs.lemmas.List.Sums.{AllPass-from_list_all}
@@ -7,8 +7,9 @@ use Rattle.cvl_base.specs.ItemWords.{is_number}
 use Rattle.scan_walks.specs.Runs.{continued}
 use Rattle.tile_plan.specs.Ranges.{range_of, tile_count}
 use Rattle.tile_scans.specs.Checked.{total_since, totals_before}
-use Rattle.tile_scans.proofs.FlatReduces.{before_fits, fits_wide, flat_summed, own_fits, reduce_fails, reduce_gives, sum_fits}
+use Rattle.tile_scans.proofs.FlatReduces.{before_fits, flat_summed, own_fits, reduce_fails, reduce_gives}
 use Rattle.tile_scans.proofs.Tiled.{some_tile}
+use Rattle.tile_scans.proofs.WideSums.{wide_fits}
 use Rattle.tile_scans.proofs.checked.checked_reduce.Goals as goal
 
 pub overflow_sub-last : goal.overflow_sub-last
@@ -47,10 +48,7 @@ overflow_add-sum g c =
     c.index.ensures ∙ ap (λ known. get_or known last c.index.result.now) c.in_ok-before.ensures in
     let before = before_fits flat.plan xs flat.some flat.few (sym flat.whole) numbers last c.index.result.now below here in
     let own = own_fits flat.plan xs flat.some flat.few (sym flat.whole) numbers last c.total.result c.total.ensures in
-    let back_before : to_z w64 (of_z w64 c.index.result.now) ≡ c.index.result.now = to_z-of_z w64 c.index.result.now (fits_wide c.index.result.now before) in
-    let back_own : to_z w64 (of_z w64 c.total.result.1) ≡ c.total.result.1 = to_z-of_z w64 c.total.result.1 (fits_wide c.total.result.1 own) in
-    subst (λ z. FitsSigned w64 (z +ℤ to_z w64 (of_z w64 c.total.result.1))) (sym back_before)
-    (subst (λ z. FitsSigned w64 (c.index.result.now +ℤ z)) (sym back_own) (sum_fits c.index.result.now c.total.result.1 before own))
+    wide_fits c.index.result.now c.total.result.1 before own
 
 pub returns-in-Some-fitting : goal.returns-in-Some-fitting
 returns-in-Some-fitting g c =

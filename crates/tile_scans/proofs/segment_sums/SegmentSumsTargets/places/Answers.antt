@@ -1,0 +1,13 @@
+use Rattle.std.proofs.Common.{arith}
+use Rattle.std.proofs.lemmas.List.{length-map}
+use Rattle.tile_scans.specs.Checked.{segment_totals, slot_of_number}
+use Rattle.tile_scans.proofs.SegmentTotals.{length-segment_totals}
+use Rattle.tile_scans.proofs.segment_sums.SegmentSumsTargets.places.Goals as goal
+
+pub returns : goal.returns
+returns g c =
+    let v = c.args.self.now.vector.now in
+    record {
+      count = omega (arith, c.count.ensures.value, length-segment_totals v.segments.now v.elements.now, length-map (segment_totals v.segments.now v.elements.now) slot_of_number);
+      few = omega (arith, c.count.ensures.value, c.count.ensures.in_limit, length-segment_totals v.segments.now v.elements.now, length-map (segment_totals v.segments.now v.elements.now) slot_of_number);
+    }

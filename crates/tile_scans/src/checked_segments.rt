@@ -1,0 +1,88 @@
+//! The checked scans and reduces of segments: `Overflow` at the first result that does not fit 32 bits.
+//!
+//! Workers race for the tiles of a long vector, as for those of a flat one. The sum of a segment is found from the tile that
+//! holds its last element: from what stands before the tile, and the segment's elements in the tile.
+
+ghost use Rattle.std.specs.Prelude.{◌≡◌, IfOk, length, vec_len};
+ghost use Rattle.cvl_base.specs.CheckedSums.{checked_seg_reduce_of, checked_seg_scan_of};
+ghost use Rattle.cvl_base.specs.Gives.{Gives};
+
+use crate::overflows::befores_or_overflow;
+use crate::pace::{reduce_pace, scan_pace};
+use crate::segment_sums::SegmentSums;
+use crate::segmented_tiles::Segmented;
+use crate::segmented_totals::SegmentedTotals;
+use crate::totals::race_for_totals;
+use crate::writes::scan_after;
+use cvl_base::monoids::Add;
+use cvl_base::{Config, Fault, FaultNo, Memory, Refused};
+use fresh::write_in_runs;
+use scan_walks::{Itself, checked_scan_of_segments, checked_sums_of_segments, know_numbers};
+use segdes::{SegDes, check_total};
+use sharing::threads_for;
+use std::mem::size_of_val;
+use std::thread::Threads;
+
+/// The exclusive scan of each segment by addition that never wraps: `tot_sez`.
+///
+/// The result is as long as the vector. LengthMismatch, without a place, where the segments' total is not the number of
+/// elements; else `Overflow` at the first result that does not fit 32 bits, at its place in the vector. Source: CVL's
+/// segmented scans, over whole numbers.
+pub fn checked_seg_scan<R: Threads + Sync, A: Memory>(
+    rt: &R,
+    alloc: A,
+    config: Config,
+    a: &[i32],
+    d: &SegDes<A>,
+) -> Result<Vec<i32, A>, Refused>
+    ensures values { Gives (λ sums. sums.items) result (checked_seg_scan_of a.now d.now) }
+    ensures as_long { IfOk result (λ sums. vec_len sums ≡ length a.now) }
+{
+    check_total(a, d)?;
+    let Some(pace) = scan_pace(config, a.len()) else {
+        return checked_scan_of_segments(alloc, a, d);
+    };
+    let tile = pace.tile();
+    let totals = SegmentedTotals::new(a, d, tile);
+    let before = match befores_or_overflow(rt, alloc, pace, &totals) {
+        Ok(before) => before,
+        Err(refused) => return Err(refused),
+    };
+    know_numbers(a);
+    let vector = Segmented::<Add, i32, Itself, A>::new(a, d, tile);
+    let sums = scan_after(rt, alloc, pace, &vector, &before)?;
+    Ok(sums)
+}
+
+/// The sum of each segment, which never wraps: `tot_rez`.
+///
+/// The result has one element for each segment. LengthMismatch, without a place, where the segments' total is not the
+/// number of elements; else `Overflow` at the first segment whose sum does not fit 32 bits. Source: CVL's segmented
+/// reduces, over whole numbers.
+pub fn checked_seg_reduce<R: Threads + Sync, A: Memory>(
+    rt: &R,
+    alloc: A,
+    config: Config,
+    a: &[i32],
+    d: &SegDes<A>,
+) -> Result<Vec<i32, A>, Refused>
+    ensures values { Gives (λ sums. sums.items) result (checked_seg_reduce_of a.now d.now) }
+    ensures one_each { IfOk result (λ sums. vec_len sums ≡ length d.now) }
+{
+    check_total(a, d)?;
+    let Some(pace) = reduce_pace(config, a.len(), size_of_val(a)) else {
+        return checked_sums_of_segments(alloc, a, d);
+    };
+    let totals = SegmentedTotals::new(a, d, pace.tile());
+    let before = race_for_totals(rt, alloc, pace, &totals)?;
+    let vector = SegmentSums {
+        vector: &totals,
+        before: &before,
+    };
+    if let Some(segment) = vector.first_overflow(rt, alloc, pace)? {
+        return Err(Refused::Fault(Fault::at(FaultNo::Overflow, segment)));
+    }
+    let threads = threads_for(pace, a.len().max(d.count()));
+    let sums = write_in_runs(rt, alloc, threads, &vector, d.count())?;
+    Ok(sums)
+}
