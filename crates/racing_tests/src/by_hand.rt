@@ -39,6 +39,7 @@ fn answers_by_hand<A: Memory>(alloc: A) -> Result<bool, NoResources> {
     right &= board.look(&mut second, 0) == Status::Sum(false, 3);
     let before = added_up.load(Ordering::SeqCst);
     right &= is_back(board.look_back(&mut second, 3), 11, 1);
+    right &= is_back(board.look_back(&mut second, 2), 4, 2);
     right &= added_up.load(Ordering::SeqCst) == before;
     Ok(right)
 }
