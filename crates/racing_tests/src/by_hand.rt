@@ -26,7 +26,7 @@ fn is_back(back: Back<i32>, sum: i32, looks: u32) -> bool {
 /// taken back, and a tile of which something is told is not added up.
 fn answers_by_hand<A: Memory>(alloc: A) -> Result<bool, NoResources> {
     let added_up = AtomicU64::new(0);
-    let tiles = CountedTiles::new(NUMBERS.as_slice(), &added_up);
+    let tiles = CountedTiles::new(NUMBERS.as_slice(), &added_up, None);
     let (board, mut seats) = ScanBoard::new(alloc, tiles, 2)?;
     let (Some(mut second), Some(mut first)) = (seats.pop(), seats.pop()) else {
         return Ok(false);
@@ -83,7 +83,7 @@ fn claims_of<A: Memory>(alloc: A, numbers: &[i32], workers: u32) -> Result<(u64,
     requires few { workers ≤ most_workers }
 {
     let added_up = AtomicU64::new(0);
-    let tiles = CountedTiles::new(numbers, &added_up);
+    let tiles = CountedTiles::new(numbers, &added_up, None);
     let (board, mut seats) = ScanBoard::new(alloc, tiles, workers)?;
     let mut digits = 9;
     for _ in 0..1000 {

@@ -2,7 +2,7 @@
 
 ghost use Rattle.boards.specs.Boards.{IsSeatOf};
 
-use crate::tiles::CountedTiles;
+use crate::tiles::{CountedTiles, Hold};
 use boards::{Claim, ScanBoard, ScanSeat};
 use cvl_base::monoids::Add;
 use cvl_base::{Memory, NoResources};
@@ -75,14 +75,15 @@ fn in_two_threads<R: Threads + Sync, A: Memory>(
 }
 
 /// How many tiles two threads were given in all, as the board tells when it is closed, and whether all look-backs were
-/// right.
+/// right. The first worker that adds up a tile may be held there.
 fn by_two_threads<R: Threads + Sync, A: Memory>(
     rt: &R,
     alloc: A,
+    hold: Option<&Hold>,
 ) -> Result<(u32, bool), NoResources> {
     let (numbers, before) = numbers();
     let added_up = AtomicU64::new(0);
-    let tiles = CountedTiles::new(numbers.as_slice(), &added_up);
+    let tiles = CountedTiles::new(numbers.as_slice(), &added_up, hold);
     let (board, mut seats) = ScanBoard::new(alloc, tiles, 2)?;
     let (Some(mut second), Some(mut first)) = (seats.pop(), seats.pop()) else {
         return Ok((0, false));
@@ -97,7 +98,20 @@ fn by_two_threads<R: Threads + Sync, A: Memory>(
 #[test]
 fn each_tile_by_one_of_two_threads(rt: HostRuntime) -> Result<(), Fail> {
     for _ in 0..20 {
-        assert_eq!(rt; by_two_threads(&rt, rt.alloc()), Ok((1000, true)));
+        assert_eq!(rt; by_two_threads(&rt, rt.alloc(), None), Ok((1000, true)));
     }
+    Ok(())
+}
+
+/// A worker that stands still inside a call of the board holds up no other: the other one is given all other tiles, each of
+/// which is added up once for its sum and once for its prefix.
+#[test]
+fn none_waits_for_one_inside_a_call(rt: HostRuntime) -> Result<(), Fail> {
+    let hold = Hold::until(1 + 2 * 999);
+    assert_eq!(rt;
+        by_two_threads(&rt, rt.alloc(), Some(&hold)),
+        Ok((1000, true))
+    );
+    assert!(rt; !hold.is_overdue());
     Ok(())
 }

@@ -11,7 +11,7 @@ use std::test::Fail;
 fn beside_a_stopped_worker<A: Memory>(alloc: A) -> Result<(u32, bool), NoResources> {
     let (numbers, before) = numbers();
     let added_up = AtomicU64::new(0);
-    let tiles = CountedTiles::new(numbers.as_slice(), &added_up);
+    let tiles = CountedTiles::new(numbers.as_slice(), &added_up, None);
     let (board, mut seats) = ScanBoard::new(alloc, tiles, 2)?;
     let (Some(mut second), Some(mut first)) = (seats.pop(), seats.pop()) else {
         return Ok((0, false));
