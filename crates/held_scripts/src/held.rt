@@ -9,10 +9,10 @@ use watching_gate::{Holds, Race, Watch};
 
 /// A script, its inputs, the text that it writes, and for how many tiles its workers race, and how.
 #[derive(Clone, Copy)]
-pub struct Script {
-    pub lines: &'static str,
-    pub inputs: &'static [&'static str],
-    pub text: &'static str,
+pub struct Script<'a> {
+    pub lines: &'a str,
+    pub inputs: &'a [&'a str],
+    pub text: &'a str,
     pub race: Race,
     pub tiles: u32,
 }
@@ -32,7 +32,7 @@ pub fn comes_out<R: Threads + Sync>(
     rt: &R,
     alloc: Global,
     config: Config,
-    script: &Script,
+    script: &Script<'_>,
     holds: Holds,
 ) -> Result<bool, NoResources> {
     let gate = Watch::new(alloc, script.race, script.tiles, config.workers(), holds)?;
