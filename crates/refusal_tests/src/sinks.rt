@@ -1,11 +1,9 @@
 //! Sinks that take little at a time, or fail.
-use crate::inputs::inputs_of;
 use crate::line_texts::{are_whole, reach_into};
-use crate::narrow_writer::NarrowWriter;
 use crate::segments::{INPUTS, SCRIPT, TEXTS};
-use crate::table_files::TableFiles;
 use cvl_base::{Config, NoResources};
 use refusing_memory::Refusing;
+use script_hosts::{NarrowWriter, TableFiles, inputs_of};
 use shell::{MemSink, Sink, SinkFault, Stop, StreamHost, run};
 use std::alloc::Global;
 use std::test::Fail;

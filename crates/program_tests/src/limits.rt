@@ -1,9 +1,8 @@
 //! Scripts, inputs, texts and names at the limits, and inputs of many bytes.
 
-use crate::outcomes::outcome_of;
-use crate::pieces::{Pieces, text_of};
 use cvl_base::Config;
 use cvl_base::limits::{MOST_ELEMENTS, MOST_NAMES, MOST_SCRIPT_BYTES};
+use script_hosts::{Pieces, outcome_of, text_of};
 use std::alloc::{AllocError, Global};
 use std::test::Fail;
 

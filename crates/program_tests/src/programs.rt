@@ -2,10 +2,9 @@
 
 ghost use Rattle.std.specs.Prelude.{◌≡◌};
 
-use crate::narrow_writer::{NarrowWriter, Then};
-use crate::table_files::TableFiles;
 use recipes::{LINE_OF_SIGHT, SPARSE_MATVEC};
 use refusing_memory::Refusing;
+use script_hosts::{NarrowWriter, TableFiles, Then};
 use shell::{StreamHost, program};
 use std::alloc::Global;
 use std::test::Fail;

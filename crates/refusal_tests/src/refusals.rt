@@ -1,14 +1,11 @@
 //! Each request for memory refused in turn: over short scripts, one of which has a fault, over a script with every family of
 //! calls, over one whose vectors are so long that threads share them, over the whole program, and over the recipes.
-use crate::inputs::inputs_of;
 use crate::line_texts::{are_whole, reach_into, total_of};
-use crate::narrow_writer::NarrowWriter;
-use crate::pieces::{Pieces, text_of};
 use crate::recipe_calls::{RECIPES, Recipe, is_answered};
 use crate::segments;
-use crate::table_files::TableFiles;
 use cvl_base::{Config, Fault, FaultNo, Memory, NoResources};
 use refusing_memory::{Flaw, withstands_refusals};
+use script_hosts::{NarrowWriter, Pieces, TableFiles, inputs_of, text_of};
 use shell::{MemSink, Stop, StreamHost, program, run};
 use std::test::Fail;
 use std::thread::Threads;

@@ -1,8 +1,9 @@
 //! A script that is cut after every byte, beside a plain reading.
 
+use crate::plain_script;
 use crate::segments::{INPUTS, SCRIPT};
-use crate::{outcomes, plain_script};
 use cvl_base::Config;
+use script_hosts::outcome_of;
 use std::test::Fail;
 
 /// The lists of the inputs.
@@ -16,7 +17,7 @@ fn cut_after_every_byte(rt: HostRuntime) -> Result<(), Fail> {
         let (front, _) = bytes.split_at(cut.min(bytes.len()));
         let script = str::from_utf8(front).unwrap_or("");
         let plain = plain_script::outcome_of(rt.alloc(), script, LISTS)?;
-        let outcome = outcomes::outcome_of(&rt, rt.alloc(), config, front, INPUTS)?;
+        let outcome = outcome_of(&rt, rt.alloc(), config, front, INPUTS)?;
         assert!(rt;
             outcome.as_slice() == plain.as_bytes(),
             "cut after {cut} bytes"
