@@ -1,21 +1,31 @@
 //! The calls that race, without a gate, each once.
 
-use cvl_base::{Config, IntBinary, IntMonoid, Memory, Refused};
+use cvl_base::{BoolBinary, Config, IntBinary, IntMonoid, Memory, Refused};
 use elementwise::int2;
+use pack_dist::{pack, packed_descriptor, seg_count, seg_pack, seg_pack_values};
 use refusing_memory::Refusing;
-use scan_ops::{int_reduce, int_scan, seg_int_reduce, seg_int_scan};
+use scan_ops::{
+    bool_reduce, bool_scan, int_reduce, int_scan, seg_bool_reduce, seg_bool_scan, seg_int_reduce,
+    seg_int_scan,
+};
 use segdes::SegDes;
 use std::test::Fail;
 use std::thread::Threads;
 
-/// The numbers that are added up and divided.
+/// The numbers that are added up, divided and packed.
 const NUMBERS: [i32; 5] = [3, 1, 7, 0, 4];
 
+/// The flags of the elements that are packed.
+const FLAGS: [bool; 5] = [true, false, true, true, false];
+
+/// The lengths of the segments.
+const LENGTHS: [i32; 3] = [2, 0, 3];
+
 /// Whether scans, reduces and quotients in tiles of one element are right.
-fn are_right<R: Threads + Sync, A: Memory>(rt: &R, heap: A) -> Result<bool, Refused> {
+fn integers_are_right<R: Threads + Sync, A: Memory>(rt: &R, heap: A) -> Result<bool, Refused> {
     let config = Config::new(1, 3).unwrap();
     let (add, numbers) = (IntMonoid::Add, NUMBERS.as_slice());
-    let d = SegDes::from_lengths(heap, &[2, 0, 3])?;
+    let d = SegDes::from_lengths(heap, &LENGTHS)?;
     let scan = int_scan(rt, heap, config, add, numbers)?;
     let scans = seg_int_scan(rt, heap, config, add, numbers, &d)?;
     let reduces = seg_int_reduce(rt, heap, config, add, numbers, &d)?;
@@ -29,9 +39,48 @@ fn are_right<R: Threads + Sync, A: Memory>(rt: &R, heap: A) -> Result<bool, Refu
     )
 }
 
+/// Whether scans and reduces of booleans are right: whether an odd number of flags is true.
+fn booleans_are_right<R: Threads + Sync, A: Memory>(rt: &R, heap: A) -> Result<bool, Refused> {
+    let config = Config::new(1, 3).unwrap();
+    let (xor, flags) = (BoolBinary::Xor, FLAGS.as_slice());
+    let d = SegDes::from_lengths(heap, &LENGTHS)?;
+    let scan = bool_scan(rt, heap, config, xor, flags)?;
+    let scans = seg_bool_scan(rt, heap, config, xor, flags, &d)?;
+    let reduces = seg_bool_reduce(rt, heap, config, xor, flags, &d)?;
+    Ok(
+        scan.as_slice() == [false, true, true, false, true].as_slice()
+            && bool_reduce(rt, heap, config, xor, flags)?
+            && scans.as_slice() == [false, true, false, true, false].as_slice()
+            && reduces.as_slice() == [true, false, false].as_slice(),
+    )
+}
+
+/// Whether packs and counts by segments are right.
+fn packs_are_right<R: Threads + Sync, A: Memory>(rt: &R, heap: A) -> Result<bool, Refused> {
+    let config = Config::new(1, 3).unwrap();
+    let (numbers, flags) = (NUMBERS.as_slice(), FLAGS.as_slice());
+    let d = SegDes::from_lengths(heap, &LENGTHS)?;
+    let kept = pack(rt, heap, config, numbers, flags)?;
+    let values = seg_pack_values(rt, heap, config, numbers, flags, &d)?;
+    let (both_values, both_lengths) = seg_pack(rt, heap, config, numbers, flags, &d)?;
+    let counts = seg_count(rt, heap, config, flags, &d)?;
+    let lengths = packed_descriptor(rt, heap, config, flags, &d)?;
+    let (right, counted) = ([3, 7, 0], [1, 0, 2]);
+    Ok(
+        kept.as_slice() == right.as_slice()
+            && values.as_slice() == right.as_slice()
+            && both_values.as_slice() == right.as_slice()
+            && both_lengths.lengths() == counted.as_slice()
+            && counts.as_slice() == counted.as_slice()
+            && lengths.lengths() == counted.as_slice(),
+    )
+}
+
 #[test]
 fn each_once(rt: HostRuntime) -> Result<(), Fail> {
     let heap = Refusing::none(rt.alloc());
-    assert_eq!(rt; are_right(&rt, &heap), Ok(true));
+    assert_eq!(rt; integers_are_right(&rt, &heap), Ok(true));
+    assert_eq!(rt; booleans_are_right(&rt, &heap), Ok(true));
+    assert_eq!(rt; packs_are_right(&rt, &heap), Ok(true));
     Ok(())
 }
