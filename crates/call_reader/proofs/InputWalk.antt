@@ -16,6 +16,7 @@ use Rattle.call_reader.specs.declared.token.ByteClass.TheVariants.{Blank, Part}
 use Rattle.call_reader.specs.Tokens.{tokens_by, with_byte, is_part, begins_with_part}
 use Rattle.call_reader.specs.Numbers.{positive_of, negative_of, with_sign, written_number}
 use Rattle.call_reader.specs.Inputs.{is_white_space, input_class}
+use Rattle.call_reader.specs.Pieces.{goes_on}
 use Rattle.call_reader.proofs.TokenWalk.{run_first, some_tokens}
 use Rattle.std.proofs.lemmas.Bool.{and_parts}
 use Rattle.call_reader.proofs.NumberWalk.{magnitude_digits}
@@ -26,10 +27,6 @@ at_most_one one false e = omega arith
 
 abbrev pub count_of : List ℕ → ℕ
 count_of bytes = length (tokens_by input_class bytes)
-
--- whether bytes that stand after white space, or not, go on with a run that began before them
-abbrev pub goes_on : Bool → List ℕ → Bool
-goes_on behind_white_space bytes = not behind_white_space && begins_with_part input_class bytes
 
 -- a run counts at its first byte
 count_at : (count total b : ℕ) (behind_white_space white runs_on : Bool) (tokens : List (List ℕ)) → (runs_on ≡ true → 1 ≤ length tokens)

@@ -1,8 +1,8 @@
 -- An input that is read in pieces, each by a thread of its own.
 -- Source: the grammar of an input.
-use Rattle.std.specs.Prelude.{ℕ, ◌+◌, List, [], ◌∷◌, length, map, Option, Some, None, unwrap_or, ℤ, pos}
+use Rattle.std.specs.Prelude.{ℕ, ◌+◌, Bool, not, ◌&&◌, List, [], ◌∷◌, length, map, Option, Some, None, unwrap_or, ℤ, pos}
 use Rattle.std.specs.List.{flat_map}
-use Rattle.call_reader.specs.Tokens.{tokens_by}
+use Rattle.call_reader.specs.Tokens.{tokens_by, begins_with_part}
 use Rattle.call_reader.specs.Numbers.{written_number}
 use Rattle.call_reader.specs.Inputs.{input_class}
 
@@ -27,3 +27,7 @@ abbrev pub first_wrong : ℕ → List (Option ℤ) → Option ℕ
 first_wrong place [] = None
 first_wrong place (None ∷ vs) = Some place
 first_wrong place (Some n ∷ vs) = first_wrong (place + 1) vs
+
+-- whether bytes that stand behind white space, or not, go on with a token that began before them
+abbrev pub goes_on : Bool → List ℕ → Bool
+goes_on behind_white_space bytes = not behind_white_space && begins_with_part input_class bytes

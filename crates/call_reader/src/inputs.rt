@@ -1,6 +1,6 @@
 //! Inputs.
 
-ghost use Rattle.std.specs.Prelude.{◌≡◌, ◌<◌, ◌≤◌, ◌+◌, [], ◌∷◌, length, codes, Ok, Err, pos, neg_ℤ, nat_lt, if◌then◌else◌, MatchOption, IfSome, IfOk, vec_len};
+ghost use Rattle.std.specs.Prelude.{◌≡◌, ◌<◌, ◌≤◌, ◌+◌, [], ◌∷◌, length, drop, codes, Ok, Err, pos, neg_ℤ, nat_lt, if◌then◌else◌, MatchOption, IfSome, IfOk, vec_len};
 ghost use Rattle.cvl_base.specs.declared.fault.FaultNo.TheVariants.{TooLong, BadInput};
 ghost use Rattle.cvl_base.specs.Faults.{fault, fault_at};
 ghost use Rattle.cvl_base.specs.Gives.{Gives};
@@ -8,6 +8,8 @@ ghost use Rattle.cvl_base.specs.Limits.{most_elements};
 ghost use Rattle.call_reader.specs.Tokens.{tokens_by, IsFirstToken, begins_with_part};
 ghost use Rattle.call_reader.specs.Numbers.{written_number};
 ghost use Rattle.call_reader.specs.Inputs.{is_white_space, input_class, input_of};
+ghost use Rattle.call_reader.specs.Pieces.{goes_on};
+ghost use Rattle.std.specs.Int.{from_bool};
 
 use crate::number::{leading_number, number};
 use crate::token::{ByteClass, Classes, blanks, first_token};
@@ -19,8 +21,8 @@ use cvl_base::{Fault, FaultNo, Memory, Refused};
 pub(crate) fn is_white_space(byte: u8) -> bool
     ensures { result ≡ is_white_space byte }
 {
-    // most bytes need one test alone
-    byte <= b' ' && matches!(byte, b' ' | b'\t' | b'\n' | b'\r')
+    // no branch, so that many bytes can be looked at together
+    (byte == b' ') | (byte == b'\t') | (byte == b'\n') | (byte == b'\r')
 }
 
 /// The classes of an input's bytes: white space is blank.
@@ -39,18 +41,47 @@ impl Classes for InputBytes {
     }
 }
 
+/// How many bytes are looked at before the tokens that begin in them are added to the others: so few that a byte can count
+/// them, and sixteen such counts are added up at once.
+const PAGE_BYTES: usize = 192;
+
+/// How many tokens begin in the first bytes, so many of them, and whether the last of these is white space. It is told whether
+/// white space stands before them.
+#[inline(always)]
+fn tokens_begun(bytes: &[u8], first: usize, after_white_space: bool) -> (u8, bool)
+    requires within { first ≤ length bytes.now }
+    requires few { first ≤ PAGE_BYTES }
+    ensures few { result.0 ≤ first }
+    ensures tokens { result.0 + length (tokens_by input_class (drop first bytes.now)) + from_bool (goes_on after_white_space bytes.now)
+        ≡ length (tokens_by input_class bytes.now) + from_bool (goes_on result.1 (drop first bytes.now)) }
+{
+    let mut count: u8 = 0;
+    let mut is_after = after_white_space;
+    let (page, _others) = bytes.split_at(first);
+    for byte in page {
+        let is_white_space = is_white_space(*byte);
+        count += u8::from(is_after & !is_white_space);
+        is_after = is_white_space;
+    }
+    (count, is_after)
+}
+
 /// How many tokens an input has.
 pub(crate) fn token_count(bytes: &[u8]) -> usize
     ensures { result ≡ length (tokens_by input_class bytes.now) }
 {
     let mut count = 0;
     let mut after_white_space = true;
-    for byte in bytes {
-        let is_white_space = is_white_space(*byte);
-        count += usize::from(after_white_space & !is_white_space);
-        after_white_space = is_white_space;
+    let mut rest = bytes;
+    while rest.len() > PAGE_BYTES {
+        let (tokens, is_after) = tokens_begun(rest, PAGE_BYTES, after_white_space);
+        count += usize::from(tokens);
+        after_white_space = is_after;
+        let (_page, others) = rest.split_at(PAGE_BYTES);
+        rest = others;
     }
-    count
+    let (tokens, _is_after) = tokens_begun(rest, rest.len(), after_white_space);
+    count + usize::from(tokens)
 }
 
 /// The fault of an input whose token at this place, counted from 0, is no number, where the bytes from that token on

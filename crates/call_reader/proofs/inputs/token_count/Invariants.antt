@@ -1,8 +1,11 @@
-use Rattle.std.proofs.Common.{◌≡◌, ◌+◌, ◌≤◌, drop}
+use Rattle.std.proofs.Common.{◌≡◌, ◌+◌, ◌≤◌, length}
 use Rattle.std.specs.Int.{from_bool}
-use Rattle.call_reader.proofs.InputWalk.{count_of, goes_on}
+use Rattle.call_reader.specs.Pieces.{goes_on}
+use Rattle.call_reader.proofs.InputWalk.{count_of}
 use Rattle.call_reader.proofs.inputs.token_count.Given as goal
 
-abbrev pub invariant-loop-byte : goal.invariant-loop-byte
-invariant-loop-byte l =
-    (l.count ≤ l.byte-index) × (l.count + count_of (drop l.byte-index l.bytes) ≡ count_of l.bytes + from_bool (goes_on l.after_white_space (drop l.byte-index l.bytes)))
+abbrev pub invariant-loop-rest : goal.invariant-loop-rest
+invariant-loop-rest l = (l.count + length l.rest ≤ length l.bytes) × (l.count + count_of l.rest ≡ count_of l.bytes + from_bool (goes_on l.after_white_space l.rest))
+
+abbrev pub decreases-loop-rest : goal.decreases-loop-rest
+decreases-loop-rest l = length l.rest

@@ -1,0 +1,11 @@
+use Rattle.std.proofs.Common.{◌≡◌, ◌+◌, ◌≤◌, drop}
+use Rattle.std.specs.Int.{from_bool}
+use Rattle.call_reader.specs.Pieces.{goes_on}
+use Rattle.call_reader.proofs.InputWalk.{count_of}
+use Rattle.call_reader.proofs.inputs.tokens_begun.Given as goal
+
+abbrev pub invariant-loop-byte : goal.invariant-loop-byte
+invariant-loop-byte l =
+    (l.count ≤ l.byte-index)
+    × (l.count + count_of (drop l.byte-index l.bytes) + from_bool (goes_on l.after_white_space l.bytes)
+    ≡ count_of l.bytes + from_bool (goes_on l.is_after (drop l.byte-index l.bytes)))
