@@ -1,0 +1,43 @@
+-- What an export answers, and what it leaves in its caller's room.
+-- Source: this library's faults and their places, told as two numbers.
+use Rattle.std.specs.Prelude.{◌≡◌, ℕ, ◌==◌, not, ◌⊎◌, ℤ, pos, negsuc, List, length, Result, Ok, Err, Option, Some, None}
+use Rattle.cvl_base.specs.declared.fault.Fault.{Fault}
+use Rattle.cvl_base.specs.declared.fault.FaultNo.TheVariants as no
+use Rattle.cvl_base.specs.declared.refused.Refused.{Refused}
+use Rattle.cvl_base.specs.declared.refused.Refused.TheVariants as refused
+use Rattle.cvl_base.specs.Faults.{fault, number_of}
+use Rattle.cvl_base.specs.Gives.{◌>>=◌, fault_if}
+use Rattle.cvl_c.specs.declared.status.CvlStatus.{CvlStatus}
+
+-- all is done
+abbrev pub done : CvlStatus
+done = record { number = 0; place = negsuc 0 }
+
+-- memory ran out
+abbrev pub no_resources : CvlStatus
+no_resources = record { number = 100; place = negsuc 0 }
+
+-- a place, or -1
+abbrev pub place_or_none : Option ℕ → ℤ
+place_or_none (Some place) = pos place
+place_or_none None = negsuc 0
+
+abbrev pub status_of_fault : Fault → CvlStatus
+status_of_fault f = record { number = number_of f.number; place = place_or_none f.place }
+
+abbrev pub status_of : Refused → CvlStatus
+status_of (refused.Fault f) = status_of_fault f
+status_of refused.NoResources = no_resources
+
+-- The room holds the value and the answer is that all is done, or the answer is the fault and the room is as before.
+abbrev pub Told : {X : Type 0} → Result X Fault → CvlStatus → X → X → Type 0
+Told (Ok value) status before now = (status ≡ done) × (now ≡ value)
+Told (Err f) status before now = (status ≡ status_of_fault f) × (now ≡ before)
+
+-- The same, or memory ran out and the room is as before.
+abbrev pub ToldOr : {X : Type 0} → Result X Fault → CvlStatus → X → X → Type 0
+ToldOr meaning status before now = Told meaning status before now ⊎ ((status ≡ no_resources) × (now ≡ before))
+
+-- a list that fills a room of this length, else the fault of lengths that differ
+abbrev pub in_room : {X : Type 0} → ℕ → Result (List X) Fault → Result (List X) Fault
+in_room room meaning = meaning >>= λ xs. fault_if (not (length xs == room)) (fault no.LengthMismatch) (Ok xs)

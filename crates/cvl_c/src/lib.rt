@@ -1,0 +1,13 @@
+//! The calls for C, Rust, Python and others, as a static library: on the caller's own memory, by the thread that calls.
+//!
+//! Each function checks whatever its caller may get wrong, so that no call with valid pointers and lengths is undefined. The
+//! header `include/cvl.h` declares them, and has each call of the table under its own name.
+#![tactic(auto)]
+
+mod checks;
+mod descriptors;
+mod numbers;
+mod place_by_place;
+pub mod status;
+
+pub use status::CvlStatus;
