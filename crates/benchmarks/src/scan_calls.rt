@@ -7,7 +7,10 @@ use crate::cases::{Case, last_number};
 use crate::timing::measure_cases;
 use crate::vectors::{Shape, Vectors};
 use cvl_base::{Config, IntMonoid};
-use scan_ops::{int_reduce, int_scan, seg_int_reduce, seg_int_scan};
+use scan_ops::{
+    checked_reduce, checked_scan, checked_seg_reduce, checked_seg_scan, int_reduce, int_scan,
+    seg_int_reduce, seg_int_scan,
+};
 use std::alloc::Global;
 use std::io;
 use std::rt::Clock;
@@ -19,12 +22,18 @@ pub enum ScanCase {
     Reduce,
     SegmentedScan,
     SegmentedReduce,
+    CheckedScan,
+    CheckedReduce,
+    CheckedSegmentedScan,
+    CheckedSegmentedReduce,
 }
 
 /// The flat cases, each with what its line begins with.
 const FLAT_CASES: &[(Case, &str)] = &[
     (Case::Scan(ScanCase::Scan), "scan of sums"),
     (Case::Scan(ScanCase::Reduce), "sum"),
+    (Case::Scan(ScanCase::CheckedScan), "checked scan of sums"),
+    (Case::Scan(ScanCase::CheckedReduce), "checked sum"),
 ];
 
 /// The segmented cases.
@@ -34,9 +43,18 @@ const SEGMENTED_CASES: &[(Case, &str)] = &[
         "scan of sums by segments",
     ),
     (Case::Scan(ScanCase::SegmentedReduce), "sums by segments"),
+    (
+        Case::Scan(ScanCase::CheckedSegmentedScan),
+        "checked scan of sums by segments",
+    ),
+    (
+        Case::Scan(ScanCase::CheckedSegmentedReduce),
+        "checked sums by segments",
+    ),
 ];
 
-/// Makes the call of a case. One operator stands for all, since they share their walks.
+/// Makes the call of a case. One operator stands for all, since they share their walks. The checked ones add small numbers, so
+/// that none of their sums is outside 32 bits.
 pub fn call<R: Threads + Sync>(
     rt: &R,
     alloc: Global,
@@ -45,23 +63,39 @@ pub fn call<R: Threads + Sync>(
     vectors: &Vectors,
 ) -> Option<i32> {
     let (a, d) = (vectors.numbers.as_slice(), &vectors.segments);
+    let small = vectors.shifts.as_slice();
     let add = IntMonoid::Add;
     match case {
         ScanCase::Scan => last_number(int_scan(rt, alloc, config, add, a)),
         ScanCase::Reduce => int_reduce(rt, alloc, config, add, a).ok(),
         ScanCase::SegmentedScan => last_number(seg_int_scan(rt, alloc, config, add, a, d)),
         ScanCase::SegmentedReduce => last_number(seg_int_reduce(rt, alloc, config, add, a, d)),
+        ScanCase::CheckedScan => last_number(checked_scan(rt, alloc, config, small)),
+        ScanCase::CheckedReduce => checked_reduce(rt, alloc, config, small).ok(),
+        ScanCase::CheckedSegmentedScan => {
+            last_number(checked_seg_scan(rt, alloc, config, small, d))
+        }
+        ScanCase::CheckedSegmentedReduce => {
+            last_number(checked_seg_reduce(rt, alloc, config, small, d))
+        }
     }
 }
 
 /// The same by a plain loop. A flat vector is one segment.
 pub fn plain_call(alloc: Global, case: &ScanCase, vectors: &Vectors) -> Option<i32> {
     let (a, lengths) = (vectors.numbers.as_slice(), vectors.segments.lengths());
+    let small = vectors.shifts.as_slice();
     match case {
         ScanCase::Scan | ScanCase::SegmentedScan => {
             last_number(plain::sums_before(alloc, lengths, a))
         }
         ScanCase::Reduce | ScanCase::SegmentedReduce => last_number(plain::sums(alloc, lengths, a)),
+        ScanCase::CheckedScan | ScanCase::CheckedSegmentedScan => {
+            last_number(plain::checked_sums_before(alloc, lengths, small))
+        }
+        ScanCase::CheckedReduce | ScanCase::CheckedSegmentedReduce => {
+            last_number(plain::checked_sums(alloc, lengths, small))
+        }
     }
 }
 

@@ -1,10 +1,10 @@
 //! Texts that are written and read, in bytes a second.
 
 use crate::numbers::{next, random};
-use call_reader::{put_value, read_vector};
+use call_reader::{put_value, read_nested, read_vector};
 use cvl_base::limits::MOST_ELEMENTS;
 use cvl_base::{Config, Ints, Refused, Value};
-use std::alloc::Global;
+use std::alloc::{AllocError, Global};
 use std::io;
 use std::rt::Clock;
 use std::thread::Threads;
@@ -70,6 +70,39 @@ fn best_reading<R: Clock + Threads + Sync>(
     Ok(best)
 }
 
+/// The text of a list of lists of eight numbers, out of the text of a list.
+fn nest_of(alloc: Global, list: &[u8]) -> Result<Vec<u8>, AllocError> {
+    let mut nest = Vec::new(alloc);
+    let mut spaces: u32 = 0;
+    nest.push(b'[')?;
+    for byte in list {
+        if *byte == b' ' {
+            spaces = spaces.wrapping_add(1);
+        }
+        if *byte == b' ' && spaces % 8 == 0 {
+            nest.extend_from_slice(b"] [")?;
+        } else {
+            nest.push(*byte)?;
+        }
+    }
+    nest.push(b']')?;
+    Ok(nest)
+}
+
+/// Reads a list of lists several times, and gives the best time.
+fn best_nested_reading<R: Clock>(rt: &R, alloc: Global, input: &[u8]) -> io::Result<Duration> {
+    let mut best = Duration::MAX;
+    for _ in 0..ROUNDS {
+        let start = Instant::now(rt)?;
+        let answer = read_nested(alloc, input);
+        let time = start.elapsed(rt)?;
+        if answer.is_ok() {
+            best = best.min(time);
+        }
+    }
+    Ok(best)
+}
+
 /// Prints a case's line.
 fn print_rate<R: Print>(rt: &R, case: &str, bytes: usize, time: Duration) -> io::Result<()> {
     if time == Duration::MAX {
@@ -80,32 +113,50 @@ fn print_rate<R: Print>(rt: &R, case: &str, bytes: usize, time: Duration) -> io:
     println!(rt; "{case}: {rate} bytes a second ({bytes} bytes in {micros} microseconds)")
 }
 
-/// The cases: whether all numbers are long, and what the lines of writing and reading begin with.
-const CASES: &[(bool, &str, &str)] = &[
-    (true, "writing long numbers", "reading long numbers"),
-    (
-        false,
-        "writing numbers of any length",
-        "reading numbers of any length",
-    ),
+/// What the numbers of a case are, and what its lines begin with.
+struct TextCase {
+    are_all_long: bool,
+    writing: &'static str,
+    reading: &'static str,
+    reading_nested: &'static str,
+}
+
+/// The cases.
+const CASES: &[TextCase] = &[
+    TextCase {
+        are_all_long: true,
+        writing: "writing long numbers",
+        reading: "reading long numbers",
+        reading_nested: "reading lists of eight long numbers",
+    },
+    TextCase {
+        are_all_long: false,
+        writing: "writing numbers of any length",
+        reading: "reading numbers of any length",
+        reading_nested: "reading lists of eight numbers of any length",
+    },
 ];
 
-/// Measures writing numbers and reading what was written, without its brackets.
+/// Measures writing numbers, reading what was written without its brackets, and reading it in lists of eight.
 pub fn measure<R: Print + Clock + Threads + Sync>(
     rt: &R,
     alloc: Global,
     config: Config,
 ) -> io::Result<()> {
-    for (are_all_long, writing, reading) in CASES {
-        let Ok(value) = random_value(alloc, *are_all_long) else {
-            println!(rt; "{writing}: no memory for the numbers")?;
+    for case in CASES {
+        let Ok(value) = random_value(alloc, case.are_all_long) else {
+            println!(rt; "{}: no memory for the numbers", case.writing)?;
             continue;
         };
         let (text, time) = best_writing(rt, alloc, config, &value)?;
-        print_rate(rt, writing, text.len(), time)?;
+        print_rate(rt, case.writing, text.len(), time)?;
         if let [_, input @ .., _] = text.as_slice() {
             let time = best_reading(rt, alloc, config, input)?;
-            print_rate(rt, reading, input.len(), time)?;
+            print_rate(rt, case.reading, input.len(), time)?;
+        }
+        if let Ok(nest) = nest_of(alloc, &text) {
+            let time = best_nested_reading(rt, alloc, &nest)?;
+            print_rate(rt, case.reading_nested, nest.len(), time)?;
         }
     }
     Ok(())
