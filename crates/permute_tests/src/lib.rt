@@ -2,13 +2,15 @@
 //!
 //! The worked values, by the plain and the gated forms, with each request for memory refused in turn; the least of several bad
 //! places, again and again, at a gate that sees each tile of each board; and every list of up to four indices, in short tiles
-//! and in segments, beside plain lists.
+//! and in segments, beside plain lists; and permutes so long that several threads share the first walk.
 #![tactic(auto)]
 
 #[cfg(test)]
 mod calls;
 #[cfg(test)]
 mod lists;
+#[cfg(test)]
+mod long;
 #[cfg(test)]
 mod plain;
 #[cfg(test)]
