@@ -35,7 +35,8 @@ start_rises lengths k s le = omega (arith, range_sum lengths k s le)
 pub last_before : (lengths : List ℕ) (s place : ℕ) → s < length lengths → start_of lengths s < place → place ≤ start_of lengths (s + 1) → s ≡ starts_before lengths place - 1
 last_before lengths s place lt begun ends =
     let count : s + 1 ≡ starts_before lengths place =
-    starts_are lengths place (s + 1) (omega (arith, lt)) (λ k le. omega (arith, begun, start_rises lengths k s (omega (arith, le)))) (λ k ge _. omega (arith, ends, start_rises lengths (s + 1) k ge)) in
+    starts_are lengths place (s + 1) (omega (arith, lt)) (λ k le. omega (arith, begun, start_rises lengths k s (omega (arith, le))))
+    (λ k ge _. omega (arith, ends, start_rises lengths (s + 1) k ge)) in
     omega (arith, count)
 
 pub length-segment_totals : (lengths : List ℕ) (xs : List ℤ) → length (segment_totals lengths xs) ≡ length lengths
@@ -118,7 +119,8 @@ module _ (plan : ℕ × ℕ) (lengths : List ℕ) (xs : List ℤ) (some : 1 ≤ 
   parts_summed = wide_sum before own before_in_words own_in_words ∙ parts_joined
 
 -- a sum that is read back from 64 bits
-pub range_read_back : (xs : List ℤ) (from to : ℕ) (z : ℤ) → length xs ≤ most_elements → AllPass is_number xs → z ≡ total_of (slice_range xs from to) → to_z w64 (of_z w64 z) ≡ total_of (slice_range xs from to)
+pub range_read_back : (xs : List ℤ) (from to : ℕ) (z : ℤ) → length xs ≤ most_elements → AllPass is_number xs → z ≡ total_of (slice_range xs from to)
+    → to_z w64 (of_z w64 z) ≡ total_of (slice_range xs from to)
 range_read_back xs from to z few numbers is =
     let fits : FitsSigned w64 z = fits_wide z (subst InWords (sym is) (range_in_words xs from to few numbers)) in
     to_z-of_z w64 z fits ∙ is

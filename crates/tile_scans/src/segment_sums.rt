@@ -25,8 +25,8 @@ pub(crate) struct SegmentSums<'a, A: Allocator> {
 }
 
 impl<'a, A: Memory> SegmentSums<'a, A> {
-    /// The first segment whose sum does not fit 32 bits. Workers race for it, in as many tiles of segments as there are tiles of
-    /// elements at most, so that each has about as much to add up.
+    /// The first segment whose sum does not fit 32 bits. Workers race for it, in no more tiles of segments than there are tiles
+    /// of elements.
     pub(crate) fn first_overflow<R: Threads + Sync>(
         &self,
         rt: &R,

@@ -7,7 +7,9 @@ use Rattle.tile_scans.proofs.segment_sums.SegmentSumsTargets.places.Goals as goa
 pub returns : goal.returns
 returns g c =
     let v = c.args.self.now.vector.now in
+    let sums = segment_totals v.segments.now v.elements.now in
+    let long = length-map sums slot_of_number in
     record {
-      count = omega (arith, c.count.ensures.value, length-segment_totals v.segments.now v.elements.now, length-map (segment_totals v.segments.now v.elements.now) slot_of_number);
-      few = omega (arith, c.count.ensures.value, c.count.ensures.in_limit, length-segment_totals v.segments.now v.elements.now, length-map (segment_totals v.segments.now v.elements.now) slot_of_number);
+      count = omega (arith, c.count.ensures.value, length-segment_totals v.segments.now v.elements.now, long);
+      few = omega (arith, c.count.ensures.value, c.count.ensures.in_limit, length-segment_totals v.segments.now v.elements.now, long);
     }
