@@ -1,6 +1,6 @@
 -- The first of some numbers that doesn't fit 32 bits, as a least place, and the numbers while they are written.
 -- Source: what the definitions of Checked and Slots imply.
-use Rattle.std.proofs.Common.{◌≡◌, ◌∙◌, refl, sym, ap, ℕ, ◌+◌, ◌-◌, ◌<◌, ◌≤◌, Bool, true, false, cond, ℤ, pos, List, [], ◌∷◌, ◌++◌, length, map, take, drop, get_or, arith, Option, Some, None, Ok, Err, inl, inr}
+use Rattle.std.proofs.Common.{◌≡◌, ◌∙◌, refl, sym, ap, ℕ, ◌+◌, ◌-◌, ◌<◌, ◌≤◌, Bool, true, false, cond, ℤ, pos, List, [], ◌∷◌, ◌++◌, length, map, take, get_or, arith, Option, Some, None, Ok, Err, inl, inr}
 use Rattle.std.specs.Prelude.{if◌then◌else◌, sum}
 use Rattle.std.proofs.lemmas.List.{drop_more, get_or-map, length-map}
 use Rattle.boards.specs.Slots.{least_from}

@@ -1,4 +1,4 @@
-use Rattle.std.proofs.Common.{◌≡◌, Err, length, map, sym, ap, ◌∙◌, arith}
+use Rattle.std.proofs.Common.{Err, length, map, sym, ap, ◌∙◌, arith}
 use Rattle.std.proofs.lemmas.List.{length-map}
 use Rattle.cvl_base.specs.Integers.{wrap}
 use Rattle.tile_scans.specs.Checked.{first_outside, segment_totals}

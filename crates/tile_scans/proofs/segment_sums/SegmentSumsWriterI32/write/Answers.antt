@@ -1,4 +1,4 @@
-use Rattle.std.proofs.Common.{◌≡◌, to_z, of_z, w32, w64, arith, length, map, get_or, pos, ap, ◌∙◌}
+use Rattle.std.proofs.Common.{◌≡◌, to_z, of_z, w32, w64, arith, map, get_or, pos, ap, ◌∙◌}
 use Rattle.std.proofs.lemmas.Int.{to_z-of_z}
 use Rattle.std.proofs.lemmas.List.{length-map}
 use Rattle.cvl_base.specs.Integers.{wrap}
