@@ -33,7 +33,7 @@ fn each_growth_refused_while_writing(rt: HostRuntime) -> Result<(), Fail> {
     let config = Config::new(4_096, 3)?;
     let numbers = numbers_of(rt.alloc(), LEAST_WRITTEN + 2)?;
     let ones = vec![in rt.alloc(); 1; LEAST_WRITTEN + 2]?;
-    for (lengths, least) in [(None, 3), (Some(ones.as_slice()), 3)] {
+    for lengths in [None, Some(ones.as_slice())] {
         let written = Written {
             kind: Kind::Integers,
             numbers: numbers.as_slice(),
@@ -46,7 +46,8 @@ fn each_growth_refused_while_writing(rt: HostRuntime) -> Result<(), Fail> {
             Ok(true),
             Err(Refused::NoResources),
         )?;
-        assert!(rt; requests >= least, "{requests} requests");
+        // the vector, the text before, its growth, the parts, how many bytes each has, and the room for all
+        assert!(rt; requests >= 6, "{requests} requests");
     }
     Ok(())
 }
