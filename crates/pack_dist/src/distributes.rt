@@ -10,7 +10,7 @@ ghost use Rattle.fresh.specs.Places.{stretch};
 use crate::checks::length_for;
 use crate::segment_runs::{EndToEnd, Segments};
 use cvl_base::{Config, Memory, Refused, check_agree};
-use fresh::{Run, Writer, write_in_runs};
+use fresh::{Run, Writer, write_alone, write_in_runs};
 use segdes::SegDes;
 use sharing::threads_for;
 use std::alloc::{AllocError, Allocator};
@@ -36,6 +36,19 @@ pub fn distribute<T: Copy + Send + Sync, R: Threads + Sync, A: Memory>(
     Ok(write_in_runs(rt, alloc, threads, &copies, length)?)
 }
 
+/// The same as [`distribute`], by the thread that calls.
+pub fn distribute_alone<T: Copy, A: Memory>(
+    alloc: A,
+    value: T,
+    count: i32,
+) -> Result<Vec<T, A>, Refused>
+    ensures { Gives (λ v. v.items) result (distribute_of value count) }
+{
+    let length = length_for(&count)?;
+    let copies = Copies { value, length };
+    Ok(write_alone(alloc, &copies, length)?)
+}
+
 /// For each segment as many copies of its value as the segment is long, one segment after another: `dis_vez` and
 /// its like.
 ///
@@ -58,6 +71,22 @@ pub fn seg_distribute<T: Copy + Send + Sync, R: Threads + Sync, A: Memory>(
     };
     let threads = threads_for(config, total);
     Ok(write_in_runs(rt, alloc, threads, &copies, total)?)
+}
+
+/// The same as [`seg_distribute`], by the thread that calls.
+pub fn seg_distribute_alone<T: Copy, A: Memory>(
+    alloc: A,
+    values: &[T],
+    d: &SegDes<A>,
+) -> Result<Vec<T, A>, Refused>
+    ensures { Gives (λ v. v.items) result (seg_distribute_of values.now d.now) }
+{
+    check_agree(values.len(), d.count())?;
+    let total = d.total();
+    let copies = EndToEnd {
+        segments: SegmentCopies { values, d },
+    };
+    Ok(write_alone(alloc, &copies, total)?)
 }
 
 /// So many copies of one value.

@@ -11,7 +11,7 @@ ghost use Rattle.pack_dist.specs.Progressions.{numbers_from};
 use crate::checks::length_for;
 use crate::segment_runs::{EndToEnd, Segments};
 use cvl_base::{Config, Memory, Refused, check_agree};
-use fresh::{Run, Writer, write_in_runs};
+use fresh::{Run, Writer, write_alone, write_in_runs};
 use segdes::SegDes;
 use sharing::threads_for;
 use std::alloc::{AllocError, Allocator};
@@ -42,6 +42,24 @@ pub fn index<R: Threads + Sync, A: Memory>(
     Ok(write_in_runs(rt, alloc, threads, &numbers, length)?)
 }
 
+/// The same as [`index`], by the thread that calls.
+pub fn index_alone<A: Memory>(
+    alloc: A,
+    init: i32,
+    stride: i32,
+    count: i32,
+) -> Result<Vec<i32, A>, Refused>
+    ensures { Gives (λ v. v.items) result (index_of init stride count) }
+{
+    let length = length_for(&count)?;
+    let numbers = Progression {
+        init,
+        stride,
+        length,
+    };
+    Ok(write_alone(alloc, &numbers, length)?)
+}
+
 /// For each segment the numbers from its `init` on in steps of its `stride`, each wrapped to 32 bits, one segment after
 /// another: `ind_lez`.
 ///
@@ -66,6 +84,24 @@ pub fn seg_index<R: Threads + Sync, A: Memory>(
     };
     let threads = threads_for(config, total);
     Ok(write_in_runs(rt, alloc, threads, &numbers, total)?)
+}
+
+/// The same as [`seg_index`], by the thread that calls.
+pub fn seg_index_alone<A: Memory>(
+    alloc: A,
+    inits: &[i32],
+    strides: &[i32],
+    d: &SegDes<A>,
+) -> Result<Vec<i32, A>, Refused>
+    ensures { Gives (λ v. v.items) result (seg_index_of inits.now strides.now d.now) }
+{
+    check_agree(inits.len(), strides.len())?;
+    check_agree(inits.len(), d.count())?;
+    let total = d.total();
+    let numbers = EndToEnd {
+        segments: SegmentProgressions { inits, strides, d },
+    };
+    Ok(write_alone(alloc, &numbers, total)?)
 }
 
 /// So many numbers in equal steps.
