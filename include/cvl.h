@@ -45,6 +45,7 @@ enum {
     CVL_INDEX_OUT_OF_RANGE = 10,
     CVL_NEGATIVE_LENGTH = 12,
     CVL_TOO_LONG = 13,
+    CVL_OVERFLOW = 18,
     CVL_NO_RESOURCES = 100
 };
 
@@ -107,10 +108,99 @@ CvlStatus cvl_select_int(
 CvlStatus cvl_select_bool(
     const bool *flags, size_t flags_len, const bool *a, size_t a_len, const bool *b, size_t b_len, bool *out, size_t out_len);
 
+/* ---- scans and reduces: exports ---- */
+
+/* For each integer those before it, joined by the operator, of CVL_ADD to CVL_XOR. */
+CvlStatus cvl_int_scan(uint32_t op, const int32_t *a, size_t a_len, int32_t *out, size_t out_len);
+
+/* The integers joined by the operator, of CVL_ADD to CVL_XOR. */
+CvlStatus cvl_int_reduce(uint32_t op, const int32_t *a, size_t a_len, int32_t *out);
+
+/* For each boolean those before it, joined by the operator, of CVL_AND to CVL_XOR. */
+CvlStatus cvl_bool_scan(uint32_t op, const bool *a, size_t a_len, bool *out, size_t out_len);
+
+/* The booleans joined by the operator, of CVL_AND to CVL_XOR. */
+CvlStatus cvl_bool_reduce(uint32_t op, const bool *a, size_t a_len, bool *out);
+
+/* ---- sums that never wrap: exports ---- */
+
+/* For each integer the sum of those before it. */
+CvlStatus cvl_checked_scan(const int32_t *a, size_t a_len, int32_t *out, size_t out_len);
+
+/* The sum of the integers. */
+CvlStatus cvl_checked_reduce(const int32_t *a, size_t a_len, int32_t *out);
+
+/* For each integer the sum of those before it in its segment. */
+CvlStatus cvl_seg_checked_scan(
+    const int32_t *a, size_t a_len, const int32_t *lengths, size_t segments, int32_t *out, size_t out_len);
+
+/* The sum of each segment. */
+CvlStatus cvl_seg_checked_reduce(
+    const int32_t *a, size_t a_len, const int32_t *lengths, size_t segments, int32_t *out, size_t out_len);
+
+/* ---- counts, single elements, and vectors of a given length: exports ---- */
+
+/* The number of true flags. */
+CvlStatus cvl_count(const bool *flags, size_t flags_len, int32_t *out);
+
+/* The element at an index. Vectors of any length. */
+CvlStatus cvl_extract_int(const int32_t *vector, size_t vector_len, int32_t index, int32_t *out);
+
+/* The element at an index. Vectors of any length. */
+CvlStatus cvl_extract_bool(const bool *vector, size_t vector_len, int32_t index, bool *out);
+
+/* The vector with another element at an index. Vectors of any length. */
+CvlStatus cvl_replace_int(
+    const int32_t *vector, size_t vector_len, int32_t index, int32_t value, int32_t *out, size_t out_len);
+
+/* The vector with another element at an index. Vectors of any length. */
+CvlStatus cvl_replace_bool(
+    const bool *vector, size_t vector_len, int32_t index, bool value, bool *out, size_t out_len);
+
+/* Copies of a value, count of them. */
+CvlStatus cvl_distribute_int(int32_t value, int32_t count, int32_t *out, size_t out_len);
+
+/* Copies of a value, count of them. */
+CvlStatus cvl_distribute_bool(bool value, int32_t count, bool *out, size_t out_len);
+
+/* The numbers init + k * stride, each wrapped to 32 bits, count of them. */
+CvlStatus cvl_index(int32_t init, int32_t stride, int32_t count, int32_t *out, size_t out_len);
+
 /* ---- segments, which come as their lengths: exports ---- */
 
 /* Whether the numbers are lengths of segments, and their total. */
 CvlStatus cvl_make_descriptor(const int32_t *lengths, size_t segments, size_t *total);
+
+/* The element of each segment at its index. */
+CvlStatus cvl_seg_extract_int(
+    const int32_t *vector, size_t vector_len, const int32_t *index, size_t index_len, const int32_t *lengths, size_t segments, int32_t *out, size_t out_len);
+
+/* The element of each segment at its index. */
+CvlStatus cvl_seg_extract_bool(
+    const bool *vector, size_t vector_len, const int32_t *index, size_t index_len, const int32_t *lengths, size_t segments, bool *out, size_t out_len);
+
+/* The vector with another element in each segment, at its index. */
+CvlStatus cvl_seg_replace_int(
+    const int32_t *vector, size_t vector_len, const int32_t *index, size_t index_len, const int32_t *values, size_t values_len,
+    const int32_t *lengths, size_t segments, int32_t *out, size_t out_len);
+
+/* The vector with another element in each segment, at its index. */
+CvlStatus cvl_seg_replace_bool(
+    const bool *vector, size_t vector_len, const int32_t *index, size_t index_len, const bool *values, size_t values_len,
+    const int32_t *lengths, size_t segments, bool *out, size_t out_len);
+
+/* Copies of the value of each segment, as many as it has places. */
+CvlStatus cvl_seg_distribute_int(
+    const int32_t *values, size_t values_len, const int32_t *lengths, size_t segments, int32_t *out, size_t out_len);
+
+/* Copies of the value of each segment, as many as it has places. */
+CvlStatus cvl_seg_distribute_bool(
+    const bool *values, size_t values_len, const int32_t *lengths, size_t segments, bool *out, size_t out_len);
+
+/* The numbers of each segment from its init on, in steps of its stride. */
+CvlStatus cvl_seg_index(
+    const int32_t *inits, size_t inits_len, const int32_t *strides, size_t strides_len, const int32_t *lengths, size_t segments,
+    int32_t *out, size_t out_len);
 
 /* ---- place by place: the calls of the table ---- */
 
@@ -375,6 +465,282 @@ static inline CvlStatus boo_wuz(const int32_t *a, bool *out, size_t n) {
     return cvl_bool_from_int(a, n, out, n);
 }
 
+/* ---- scans and reduces: the calls of the table ---- */
+
+/*
+ * add_suz: For each integer those before it, summed, wrapped; 0 at place 0. a and out have n elements.
+ * Faults: 13 TooLong.
+ * a = 3 1 4: out = 0 3 4
+ */
+static inline CvlStatus add_suz(const int32_t *a, int32_t *out, size_t n) {
+    return cvl_int_scan(CVL_ADD, a, n, out, n);
+}
+
+/*
+ * add_ruz: The n integers, summed, wrapped; 0 where there are none.
+ * Faults: 13 TooLong.
+ * a = 3 1 4: *out = 8
+ */
+static inline CvlStatus add_ruz(const int32_t *a, size_t n, int32_t *out) {
+    return cvl_int_reduce(CVL_ADD, a, n, out);
+}
+
+/*
+ * mul_suz: For each integer those before it, multiplied, wrapped; 1 at place 0. a and out have n elements.
+ * Faults: 13 TooLong.
+ * a = 3 1 4: out = 1 3 3
+ */
+static inline CvlStatus mul_suz(const int32_t *a, int32_t *out, size_t n) {
+    return cvl_int_scan(CVL_MUL, a, n, out, n);
+}
+
+/*
+ * mul_ruz: The n integers, multiplied, wrapped; 1 where there are none.
+ * Faults: 13 TooLong.
+ * a = 3 1 4: *out = 12
+ */
+static inline CvlStatus mul_ruz(const int32_t *a, size_t n, int32_t *out) {
+    return cvl_int_reduce(CVL_MUL, a, n, out);
+}
+
+/*
+ * min_suz: For each integer those before it, the least of them; 2147483647 at place 0. a and out have n elements.
+ * Faults: 13 TooLong.
+ * a = 3 1 4: out = 2147483647 3 1
+ */
+static inline CvlStatus min_suz(const int32_t *a, int32_t *out, size_t n) {
+    return cvl_int_scan(CVL_MIN, a, n, out, n);
+}
+
+/*
+ * min_ruz: The n integers, the least of them; 2147483647 where there are none.
+ * Faults: 13 TooLong.
+ * a = 3 1 4: *out = 1
+ */
+static inline CvlStatus min_ruz(const int32_t *a, size_t n, int32_t *out) {
+    return cvl_int_reduce(CVL_MIN, a, n, out);
+}
+
+/*
+ * max_suz: For each integer those before it, the greatest of them; -2147483648 at place 0. a and out have n elements.
+ * Faults: 13 TooLong.
+ * a = 3 1 4: out = -2147483648 3 3
+ */
+static inline CvlStatus max_suz(const int32_t *a, int32_t *out, size_t n) {
+    return cvl_int_scan(CVL_MAX, a, n, out, n);
+}
+
+/*
+ * max_ruz: The n integers, the greatest of them; -2147483648 where there are none.
+ * Faults: 13 TooLong.
+ * a = 3 1 4: *out = 4
+ */
+static inline CvlStatus max_ruz(const int32_t *a, size_t n, int32_t *out) {
+    return cvl_int_reduce(CVL_MAX, a, n, out);
+}
+
+/*
+ * and_suz: For each integer those before it, and, bit by bit; -1 at place 0. a and out have n elements.
+ * Faults: 13 TooLong.
+ * a = 3 1 4: out = -1 3 1
+ */
+static inline CvlStatus and_suz(const int32_t *a, int32_t *out, size_t n) {
+    return cvl_int_scan(CVL_AND, a, n, out, n);
+}
+
+/*
+ * and_ruz: The n integers, and, bit by bit; -1 where there are none.
+ * Faults: 13 TooLong.
+ * a = 3 1 4: *out = 0
+ */
+static inline CvlStatus and_ruz(const int32_t *a, size_t n, int32_t *out) {
+    return cvl_int_reduce(CVL_AND, a, n, out);
+}
+
+/*
+ * ior_suz: For each integer those before it, or, bit by bit; 0 at place 0. a and out have n elements.
+ * Faults: 13 TooLong.
+ * a = 3 1 4: out = 0 3 3
+ */
+static inline CvlStatus ior_suz(const int32_t *a, int32_t *out, size_t n) {
+    return cvl_int_scan(CVL_IOR, a, n, out, n);
+}
+
+/*
+ * ior_ruz: The n integers, or, bit by bit; 0 where there are none.
+ * Faults: 13 TooLong.
+ * a = 3 1 4: *out = 7
+ */
+static inline CvlStatus ior_ruz(const int32_t *a, size_t n, int32_t *out) {
+    return cvl_int_reduce(CVL_IOR, a, n, out);
+}
+
+/*
+ * xor_suz: For each integer those before it, exclusive or, bit by bit; 0 at place 0. a and out have n elements.
+ * Faults: 13 TooLong.
+ * a = 3 1 4: out = 0 3 2
+ */
+static inline CvlStatus xor_suz(const int32_t *a, int32_t *out, size_t n) {
+    return cvl_int_scan(CVL_XOR, a, n, out, n);
+}
+
+/*
+ * xor_ruz: The n integers, exclusive or, bit by bit; 0 where there are none.
+ * Faults: 13 TooLong.
+ * a = 3 1 4: *out = 6
+ */
+static inline CvlStatus xor_ruz(const int32_t *a, size_t n, int32_t *out) {
+    return cvl_int_reduce(CVL_XOR, a, n, out);
+}
+
+/*
+ * and_sub: For each boolean, of those before it, whether all are true; true at place 0. a and out have n elements.
+ * Faults: 13 TooLong.
+ * a = true false true: out = true true false
+ */
+static inline CvlStatus and_sub(const bool *a, bool *out, size_t n) {
+    return cvl_bool_scan(CVL_AND, a, n, out, n);
+}
+
+/*
+ * and_rub: Of the n booleans, whether all are true; true where there are none.
+ * Faults: 13 TooLong.
+ * a = true false true: *out = false
+ */
+static inline CvlStatus and_rub(const bool *a, size_t n, bool *out) {
+    return cvl_bool_reduce(CVL_AND, a, n, out);
+}
+
+/*
+ * ior_sub: For each boolean, of those before it, whether any is true; false at place 0. a and out have n elements.
+ * Faults: 13 TooLong.
+ * a = true false true: out = false true true
+ */
+static inline CvlStatus ior_sub(const bool *a, bool *out, size_t n) {
+    return cvl_bool_scan(CVL_IOR, a, n, out, n);
+}
+
+/*
+ * ior_rub: Of the n booleans, whether any is true; false where there are none.
+ * Faults: 13 TooLong.
+ * a = true false true: *out = true
+ */
+static inline CvlStatus ior_rub(const bool *a, size_t n, bool *out) {
+    return cvl_bool_reduce(CVL_IOR, a, n, out);
+}
+
+/*
+ * xor_sub: For each boolean, of those before it, whether an odd number is true; false at place 0. a and out have n elements.
+ * Faults: 13 TooLong.
+ * a = true false true: out = false true true
+ */
+static inline CvlStatus xor_sub(const bool *a, bool *out, size_t n) {
+    return cvl_bool_scan(CVL_XOR, a, n, out, n);
+}
+
+/*
+ * xor_rub: Of the n booleans, whether an odd number is true; false where there are none.
+ * Faults: 13 TooLong.
+ * a = true false true: *out = false
+ */
+static inline CvlStatus xor_rub(const bool *a, size_t n, bool *out) {
+    return cvl_bool_reduce(CVL_XOR, a, n, out);
+}
+
+/* ---- sums that never wrap: the calls of the table ---- */
+
+/*
+ * tot_suz: For each integer the sum of those before it. a and out have n elements.
+ * Faults: 13 TooLong; 18 Overflow at the first place whose sum does not fit 32 bits.
+ * a = 3 1 4: out = 0 3 4
+ */
+static inline CvlStatus tot_suz(const int32_t *a, int32_t *out, size_t n) {
+    return cvl_checked_scan(a, n, out, n);
+}
+
+/*
+ * tot_ruz: The sum of the n integers.
+ * Faults: 13 TooLong; 18 Overflow at 0 where it does not fit 32 bits.
+ * a = 3 1 4: *out = 8
+ */
+static inline CvlStatus tot_ruz(const int32_t *a, size_t n, int32_t *out) {
+    return cvl_checked_reduce(a, n, out);
+}
+
+/* ---- counts, single elements, and vectors of a given length: the calls of the table ---- */
+
+/*
+ * cnt_lub: The number of true flags, of n.
+ * Faults: 13 TooLong.
+ * flags = false true true false true: *out = 3
+ */
+static inline CvlStatus cnt_lub(const bool *flags, size_t n, int32_t *out) {
+    return cvl_count(flags, n, out);
+}
+
+/*
+ * ext_vuz: The element of n at the index.
+ * Faults: 10 IndexOutOfRange at 0 where the index is below 0, or n or more.
+ * vector = 4 5 6, index = 2: *out = 6
+ */
+static inline CvlStatus ext_vuz(const int32_t *vector, size_t n, int32_t index, int32_t *out) {
+    return cvl_extract_int(vector, n, index, out);
+}
+
+/*
+ * ext_vub: The element of n at the index.
+ * Faults: 10 IndexOutOfRange at 0 where the index is below 0, or n or more.
+ * vector = true true false, index = 0: *out = true
+ */
+static inline CvlStatus ext_vub(const bool *vector, size_t n, int32_t index, bool *out) {
+    return cvl_extract_bool(vector, n, index, out);
+}
+
+/*
+ * rep_vuz: The vector with the value at the index. vector and out have n elements.
+ * Faults: 10 IndexOutOfRange at 0 where the index is below 0, or n or more.
+ * vector = 1 2 3, index = 1, value = 9: out = 1 9 3
+ */
+static inline CvlStatus rep_vuz(const int32_t *vector, int32_t index, int32_t value, int32_t *out, size_t n) {
+    return cvl_replace_int(vector, n, index, value, out, n);
+}
+
+/*
+ * rep_vub: The vector with the value at the index. vector and out have n elements.
+ * Faults: 10 IndexOutOfRange at 0 where the index is below 0, or n or more.
+ * vector = true true true, index = 2, value = false: out = true true false
+ */
+static inline CvlStatus rep_vub(const bool *vector, int32_t index, bool value, bool *out, size_t n) {
+    return cvl_replace_bool(vector, n, index, value, out, n);
+}
+
+/*
+ * dis_vuz: count copies of the value; out has count elements.
+ * Faults: 12 NegativeLength, without a place, where count is below 0; 13 TooLong where it is above 4194304.
+ * value = 7, count = 3: out = 7 7 7
+ */
+static inline CvlStatus dis_vuz(int32_t value, int32_t count, int32_t *out) {
+    return cvl_distribute_int(value, count, out, count < 0 ? 0 : (size_t)count);
+}
+
+/*
+ * dis_vub: count copies of the value; out has count elements.
+ * Faults: 12 NegativeLength, without a place, where count is below 0; 13 TooLong where it is above 4194304.
+ * value = true, count = 2: out = true true
+ */
+static inline CvlStatus dis_vub(bool value, int32_t count, bool *out) {
+    return cvl_distribute_bool(value, count, out, count < 0 ? 0 : (size_t)count);
+}
+
+/*
+ * ind_luz: The numbers init + k * stride, wrapped, for k from 0 to count - 1; out has count elements.
+ * Faults: 12 NegativeLength, without a place, where count is below 0; 13 TooLong where it is above 4194304.
+ * init = 10, stride = -2, count = 3: out = 10 8 6
+ */
+static inline CvlStatus ind_luz(int32_t init, int32_t stride, int32_t count, int32_t *out) {
+    return cvl_index(init, stride, count, out, count < 0 ? 0 : (size_t)count);
+}
+
 /* ---- segments: the calls of the table ---- */
 
 /*
@@ -388,6 +754,97 @@ static inline CvlStatus boo_wuz(const int32_t *a, bool *out, size_t n) {
  */
 static inline CvlStatus mke_fov(const int32_t *lengths, size_t segments, size_t *total) {
     return cvl_make_descriptor(lengths, segments, total);
+}
+
+/*
+ * tot_sez: For each integer the sum of those before it in its segment. a and out have n elements.
+ * Faults: 7 LengthMismatch where the lengths do not add up to n; 18 Overflow at the first place whose sum does not fit 32 bits.
+ * a = 3 1 4 1 5, lengths = 2 0 3: out = 0 3 0 4 5
+ */
+static inline CvlStatus tot_sez(const int32_t *a, const int32_t *lengths, size_t segments, int32_t *out, size_t n) {
+    return cvl_seg_checked_scan(a, n, lengths, segments, out, n);
+}
+
+/*
+ * tot_rez: The sum of each segment. a has n elements, out one for each segment.
+ * Faults: 7 LengthMismatch where the lengths do not add up to n; 18 Overflow at the first segment whose sum does not fit 32 bits.
+ * a = 3 1 4 1 5, lengths = 2 0 3: out = 4 0 10
+ */
+static inline CvlStatus tot_rez(const int32_t *a, size_t n, const int32_t *lengths, size_t segments, int32_t *out) {
+    return cvl_seg_checked_reduce(a, n, lengths, segments, out, segments);
+}
+
+/*
+ * ext_vez: The element of each segment at its index, which counts from the segment's start. The vector has n elements, index
+ * and out one for each segment.
+ * Faults: 7 LengthMismatch where the lengths do not add up to n; 10 IndexOutOfRange at the segment.
+ * vector = 1 2 3 4 5, index = 1 2, lengths = 2 3: out = 2 5
+ */
+static inline CvlStatus ext_vez(
+    const int32_t *vector, size_t n, const int32_t *index, const int32_t *lengths, size_t segments, int32_t *out) {
+    return cvl_seg_extract_int(vector, n, index, segments, lengths, segments, out, segments);
+}
+
+/*
+ * ext_veb: The element of each segment at its index, which counts from the segment's start. The vector has n elements, index
+ * and out one for each segment.
+ * Faults: 7 LengthMismatch where the lengths do not add up to n; 10 IndexOutOfRange at the segment.
+ * vector = true true false, index = 0 1, lengths = 1 2: out = true false
+ */
+static inline CvlStatus ext_veb(
+    const bool *vector, size_t n, const int32_t *index, const int32_t *lengths, size_t segments, bool *out) {
+    return cvl_seg_extract_bool(vector, n, index, segments, lengths, segments, out, segments);
+}
+
+/*
+ * rep_vez: The vector with the value of each segment at its index, which counts from the segment's start. vector and out have
+ * n elements, index and values one for each segment.
+ * Faults: 7 LengthMismatch where the lengths do not add up to n; 10 IndexOutOfRange at the segment.
+ * vector = 1 2 3 4 5, index = 0 1, values = 8 9, lengths = 2 3: out = 8 2 3 9 5
+ */
+static inline CvlStatus rep_vez(
+    const int32_t *vector, size_t n, const int32_t *index, const int32_t *values, const int32_t *lengths, size_t segments, int32_t *out) {
+    return cvl_seg_replace_int(vector, n, index, segments, values, segments, lengths, segments, out, n);
+}
+
+/*
+ * rep_veb: The vector with the value of each segment at its index, which counts from the segment's start. vector and out have
+ * n elements, index and values one for each segment.
+ * Faults: 7 LengthMismatch where the lengths do not add up to n; 10 IndexOutOfRange at the segment.
+ * vector = true true false, index = 0 1, values = false true, lengths = 1 2: out = false true true
+ */
+static inline CvlStatus rep_veb(
+    const bool *vector, size_t n, const int32_t *index, const bool *values, const int32_t *lengths, size_t segments, bool *out) {
+    return cvl_seg_replace_bool(vector, n, index, segments, values, segments, lengths, segments, out, n);
+}
+
+/*
+ * dis_vez: Copies of each value, as many as its segment has places. There is one value for each segment; out has n elements,
+ * the total of the lengths, else 7 LengthMismatch.
+ * values = 7 8 9, lengths = 2 0 3: out = 7 7 9 9 9
+ */
+static inline CvlStatus dis_vez(
+    const int32_t *values, const int32_t *lengths, size_t segments, int32_t *out, size_t n) {
+    return cvl_seg_distribute_int(values, segments, lengths, segments, out, n);
+}
+
+/*
+ * dis_veb: Copies of each value, as many as its segment has places. There is one value for each segment; out has n elements,
+ * the total of the lengths, else 7 LengthMismatch.
+ * values = true false, lengths = 1 2: out = true false false
+ */
+static inline CvlStatus dis_veb(const bool *values, const int32_t *lengths, size_t segments, bool *out, size_t n) {
+    return cvl_seg_distribute_bool(values, segments, lengths, segments, out, n);
+}
+
+/*
+ * ind_lez: The numbers of each segment from its init on, in steps of its stride, wrapped. There are one init and one stride for
+ * each segment; out has n elements, the total of the lengths, else 7 LengthMismatch.
+ * inits = 0 5 10, strides = 1 1 -2, lengths = 2 0 3: out = 0 1 10 8 6
+ */
+static inline CvlStatus ind_lez(
+    const int32_t *inits, const int32_t *strides, const int32_t *lengths, size_t segments, int32_t *out, size_t n) {
+    return cvl_seg_index(inits, segments, strides, segments, lengths, segments, out, n);
 }
 
 #ifdef __cplusplus

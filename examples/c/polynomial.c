@@ -1,5 +1,5 @@
 /*
- * The values of x * x - x at five places, where they are positive, and a quotient that has no value at one place.
+ * The values of x * x - 2 at five places, how many of them are negative, and a quotient that has no value at one place.
  * `examples/c/run` builds it over the library and runs it.
  */
 #include "cvl.h"
@@ -24,20 +24,23 @@ static void print(const char *name, const int32_t *numbers) {
 }
 
 int main(void) {
-    const int32_t x[PLACES] = {-2, -1, 0, 1, 2}, zeros[PLACES] = {0};
-    int32_t squares[PLACES], y[PLACES], ones[PLACES];
-    bool positive[PLACES];
+    int32_t x[PLACES], squares[PLACES], twos[PLACES], y[PLACES], zeros[PLACES], negative;
+    bool below[PLACES];
 
+    must(ind_luz(-2, 1, PLACES, x));
     must(mul_wuz(x, x, squares, PLACES));
-    must(sub_wuz(squares, x, y, PLACES));
+    must(dis_vuz(2, PLACES, twos));
+    must(sub_wuz(squares, twos, y, PLACES));
+    print("x", x);
     print("y", y);
 
-    must(grt_wuz(y, zeros, positive, PLACES));
-    must(int_wub(positive, ones, PLACES));
-    print("positive", ones);
+    must(dis_vuz(0, PLACES, zeros));
+    must(les_wuz(y, zeros, below, PLACES));
+    must(cnt_lub(below, PLACES, &negative));
+    printf("negative: %d\n", (int)negative);
 
-    CvlStatus status = div_wuz(y, x, ones, PLACES);
+    CvlStatus status = div_wuz(y, x, zeros, PLACES);
     printf("y / x: fault %u at %lld\n", (unsigned)status.number, (long long)status.place);
-    print("positive, as before,", ones);
+    print("its room, as before,", zeros);
     return EXIT_SUCCESS;
 }

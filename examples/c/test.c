@@ -186,6 +186,93 @@ static void place_by_place_faults(void) {
     FAULT(cvl_select_bool(too_many_bools, many, f, 3, f, 3, bools, 2), CVL_TOO_LONG, -1);
 }
 
+static void scans(void) {
+    const int32_t *a = I(3, 1, 4);
+    const bool *f = B(true, false, true);
+    const size_t many = CVL_MOST_ELEMENTS + 1;
+    INTS(add_suz(a, ints, 3), 0, 3, 4);
+    INTS(mul_suz(a, ints, 3), 1, 3, 3);
+    INTS(min_suz(a, ints, 3), 2147483647, 3, 1);
+    INTS(max_suz(a, ints, 3), INT32_MIN, 3, 3);
+    INTS(and_suz(a, ints, 3), -1, 3, 1);
+    INTS(ior_suz(a, ints, 3), 0, 3, 3);
+    INTS(xor_suz(a, ints, 3), 0, 3, 2);
+    INTS(add_ruz(a, 3, ints), 8);
+    INTS(mul_ruz(a, 3, ints), 12);
+    INTS(min_ruz(a, 3, ints), 1);
+    INTS(max_ruz(a, 3, ints), 4);
+    INTS(and_ruz(a, 3, ints), 0);
+    INTS(ior_ruz(a, 3, ints), 7);
+    INTS(xor_ruz(a, 3, ints), 6);
+    INTS(min_ruz(a, 0, ints), 2147483647);
+    BOOLS(and_sub(f, bools, 3), true, true, false);
+    BOOLS(ior_sub(f, bools, 3), false, true, true);
+    BOOLS(xor_sub(f, bools, 3), false, true, true);
+    BOOLS(and_rub(f, 3, bools), false);
+    BOOLS(ior_rub(f, 3, bools), true);
+    BOOLS(xor_rub(f, 3, bools), false);
+    BOOLS(ior_rub(f, 0, bools), false);
+    FAULT(cvl_int_scan(CVL_SUB, a, 3, ints, 3), CVL_UNKNOWN_CALL, -1);
+    FAULT(cvl_int_scan(CVL_ADD, a, 3, ints, 2), CVL_LENGTH_MISMATCH, -1);
+    FAULT(cvl_int_scan(CVL_ADD, too_many_ints, many, ints, 2), CVL_TOO_LONG, -1);
+    FAULT(cvl_int_reduce(CVL_DIV, a, 3, ints), CVL_UNKNOWN_CALL, -1);
+    FAULT(cvl_int_reduce(CVL_ADD, too_many_ints, many, ints), CVL_TOO_LONG, -1);
+    FAULT(cvl_bool_scan(CVL_ADD, f, 3, bools, 3), CVL_UNKNOWN_CALL, -1);
+    FAULT(cvl_bool_scan(CVL_AND, f, 3, bools, 4), CVL_LENGTH_MISMATCH, -1);
+    FAULT(cvl_bool_scan(CVL_AND, too_many_bools, many, bools, 4), CVL_TOO_LONG, -1);
+    FAULT(cvl_bool_reduce(CVL_SUB, f, 3, bools), CVL_UNKNOWN_CALL, -1);
+    FAULT(cvl_bool_reduce(CVL_AND, too_many_bools, many, bools), CVL_TOO_LONG, -1);
+}
+
+static void checked_sums(void) {
+    const int32_t *a = I(3, 1, 4, 1, 5), *lengths = I(2, 0, 3), *high = I(2147483647, 1, -1);
+    const size_t many = CVL_MOST_ELEMENTS + 1;
+    INTS(tot_suz(I(3, 1, 4), ints, 3), 0, 3, 4);
+    INTS(tot_ruz(high, 3, ints), 2147483647);
+    INTS(tot_ruz(a, 0, ints), 0);
+    INTS(tot_sez(a, lengths, 3, ints, 5), 0, 3, 0, 4, 5);
+    INTS(tot_rez(a, 5, lengths, 3, ints), 4, 0, 10);
+    FAULT(tot_suz(high, ints, 3), CVL_OVERFLOW, 2);
+    FAULT(tot_ruz(high, 2, ints), CVL_OVERFLOW, 0);
+    FAULT(tot_sez(I(1, 2147483647, 1, 1), I(1, 3), 2, ints, 4), CVL_OVERFLOW, 3);
+    FAULT(tot_rez(I(1, 2147483647, 1, 1), 4, I(1, 3), 2, ints), CVL_OVERFLOW, 1);
+    FAULT(tot_sez(a, lengths, 2, ints, 5), CVL_LENGTH_MISMATCH, -1);
+    FAULT(tot_rez(a, 5, I(5, -1), 2, ints), CVL_NEGATIVE_LENGTH, 1);
+    FAULT(cvl_checked_scan(a, 5, ints, 4), CVL_LENGTH_MISMATCH, -1);
+    FAULT(cvl_checked_scan(too_many_ints, many, ints, 4), CVL_TOO_LONG, -1);
+    FAULT(cvl_checked_reduce(too_many_ints, many, ints), CVL_TOO_LONG, -1);
+    FAULT(cvl_seg_checked_reduce(a, 5, lengths, 3, ints, 2), CVL_LENGTH_MISMATCH, -1);
+}
+
+static void elements(void) {
+    const bool *f = B(true, true, true);
+    INTS(cnt_lub(B(false, true, true, false, true), 5, ints), 3);
+    INTS(ext_vuz(I(4, 5, 6), 3, 2, ints), 6);
+    BOOLS(ext_vub(B(false, true, true), 3, 0, bools), false);
+    INTS(rep_vuz(I(1, 2, 3), 1, 9, ints, 3), 1, 9, 3);
+    BOOLS(rep_vub(f, 2, false, bools, 3), true, true, false);
+    INTS(dis_vuz(7, 3, ints), 7, 7, 7);
+    INTS(dis_vuz(INT32_MIN, 1, ints), INT32_MIN);
+    BOOLS(dis_vub(false, 2, bools), false, false);
+    INTS(ind_luz(10, -2, 3, ints), 10, 8, 6);
+    INTS(ind_luz(2147483647, 1, 2, ints), 2147483647, INT32_MIN);
+    FAULT(cnt_lub(too_many_bools, CVL_MOST_ELEMENTS + 1, ints), CVL_TOO_LONG, -1);
+    FAULT(ext_vuz(I(4, 5, 6), 3, 3, ints), CVL_INDEX_OUT_OF_RANGE, 0);
+    FAULT(ext_vuz(I(4, 5, 6), 3, -1, ints), CVL_INDEX_OUT_OF_RANGE, 0);
+    FAULT(ext_vub(f, 0, 0, bools), CVL_INDEX_OUT_OF_RANGE, 0);
+    FAULT(rep_vuz(I(1, 2, 3), 3, 9, ints, 3), CVL_INDEX_OUT_OF_RANGE, 0);
+    FAULT(rep_vub(f, -1, false, bools, 3), CVL_INDEX_OUT_OF_RANGE, 0);
+    FAULT(dis_vuz(7, -1, ints), CVL_NEGATIVE_LENGTH, -1);
+    FAULT(dis_vub(false, CVL_MOST_ELEMENTS + 1, bools), CVL_TOO_LONG, -1);
+    FAULT(ind_luz(0, 1, INT32_MIN, ints), CVL_NEGATIVE_LENGTH, -1);
+    FAULT(ind_luz(0, 1, CVL_MOST_ELEMENTS + 1, ints), CVL_TOO_LONG, -1);
+    FAULT(cvl_replace_int(I(1, 2, 3), 3, 1, 9, ints, 4), CVL_LENGTH_MISMATCH, -1);
+    FAULT(cvl_replace_bool(f, 3, 1, false, bools, 2), CVL_LENGTH_MISMATCH, -1);
+    FAULT(cvl_distribute_int(7, 3, ints, 2), CVL_LENGTH_MISMATCH, -1);
+    FAULT(cvl_distribute_bool(false, 3, bools, 2), CVL_LENGTH_MISMATCH, -1);
+    FAULT(cvl_index(0, 1, 3, ints, 4), CVL_LENGTH_MISMATCH, -1);
+}
+
 static void descriptors(void) {
     const int32_t *lengths = I(2, 0, 3);
     reset();
@@ -197,10 +284,42 @@ static void descriptors(void) {
     FAULT(mke_fov(too_many_ints, CVL_MOST_ELEMENTS + 1, &total), CVL_TOO_LONG, -1);
 }
 
+static void segments(void) {
+    const int32_t *five = I(1, 2, 3, 4, 5), *lengths = I(2, 0, 3), *full = I(2, 3);
+    const bool *flags = B(false, true, true);
+    INTS(ext_vez(five, 5, I(1, 2), full, 2, ints), 2, 5);
+    BOOLS(ext_veb(flags, 3, I(0, 1), I(1, 2), 2, bools), false, true);
+    INTS(rep_vez(five, 5, I(0, 1), I(8, 9), full, 2, ints), 8, 2, 3, 9, 5);
+    BOOLS(rep_veb(flags, 3, I(0, 1), B(true, false), I(1, 2), 2, bools), true, true, false);
+    INTS(dis_vez(I(7, 8, 9), lengths, 3, ints, 5), 7, 7, 9, 9, 9);
+    BOOLS(dis_veb(B(false, true), I(1, 2), 2, bools, 3), false, true, true);
+    INTS(ind_lez(I(0, 5, 10), I(1, 1, -2), lengths, 3, ints, 5), 0, 1, 10, 8, 6);
+    FAULT(ext_vez(five, 4, I(1, 2), full, 2, ints), CVL_LENGTH_MISMATCH, -1);
+    FAULT(ext_vez(five, 5, I(1, 0, 2), lengths, 3, ints), CVL_INDEX_OUT_OF_RANGE, 1);
+    FAULT(ext_veb(flags, 3, I(0, -1), I(1, 2), 2, bools), CVL_INDEX_OUT_OF_RANGE, 1);
+    FAULT(cvl_seg_extract_int(five, 5, I(1, 2), 1, full, 2, ints, 2), CVL_LENGTH_MISMATCH, -1);
+    FAULT(cvl_seg_extract_bool(flags, 3, I(0, 1), 2, I(1, 2), 2, bools, 3), CVL_LENGTH_MISMATCH, -1);
+    FAULT(rep_vez(five, 5, I(2, 0), I(8, 9), full, 2, ints), CVL_INDEX_OUT_OF_RANGE, 0);
+    FAULT(rep_veb(flags, 3, I(0, 1), B(true, false), I(1, -2), 2, bools), CVL_NEGATIVE_LENGTH, 1);
+    FAULT(cvl_seg_replace_int(five, 5, I(0, 1), 2, I(8, 9), 1, full, 2, ints, 5), CVL_LENGTH_MISMATCH, -1);
+    FAULT(cvl_seg_replace_bool(flags, 3, I(0, 1), 2, flags, 2, I(1, 2), 2, bools, 4), CVL_LENGTH_MISMATCH, -1);
+    FAULT(dis_vez(I(7, 8, 9), lengths, 3, ints, 4), CVL_LENGTH_MISMATCH, -1);
+    FAULT(dis_veb(flags, I(1, -1, 0), 3, bools, 2), CVL_NEGATIVE_LENGTH, 1);
+    FAULT(cvl_seg_distribute_int(I(7, 8, 9), 2, lengths, 3, ints, 5), CVL_LENGTH_MISMATCH, -1);
+    FAULT(cvl_seg_distribute_bool(flags, 3, full, 2, bools, 5), CVL_LENGTH_MISMATCH, -1);
+    FAULT(ind_lez(I(0, 5, 10), I(1, 1, -2), I(2, 0, -3), 3, ints, 5), CVL_NEGATIVE_LENGTH, 2);
+    FAULT(cvl_seg_index(I(0, 5), 2, I(1), 1, full, 2, ints, 5), CVL_LENGTH_MISMATCH, -1);
+    FAULT(cvl_seg_index(I(0, 5), 2, I(1, 1), 2, full, 2, ints, 6), CVL_LENGTH_MISMATCH, -1);
+}
+
 int main(void) {
     place_by_place();
     place_by_place_faults();
+    scans();
+    checked_sums();
+    elements();
     descriptors();
+    segments();
     if (failed) return EXIT_FAILURE;
     printf("%d calls as they should be\n", calls);
     return EXIT_SUCCESS;

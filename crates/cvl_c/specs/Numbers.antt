@@ -7,6 +7,8 @@ use Rattle.cvl_base.specs.declared.fault.FaultNo.TheVariants as no
 use Rattle.cvl_base.specs.Faults.{fault}
 use Rattle.call_table.specs.declared.families.IntBinary.{IntBinary}
 use Rattle.call_table.specs.declared.families.IntBinary.TheVariants as binary
+use Rattle.call_table.specs.declared.families.IntMonoid.{IntMonoid}
+use Rattle.call_table.specs.declared.families.IntMonoid.TheVariants as monoid
 use Rattle.call_table.specs.declared.families.BoolBinary.{BoolBinary}
 use Rattle.call_table.specs.declared.families.BoolBinary.TheVariants as truth
 use Rattle.call_table.specs.declared.families.Comparison.{Comparison}
@@ -22,6 +24,9 @@ numbered first operators number =
 abbrev pub int_binary : ℕ → Result IntBinary Fault
 int_binary = numbered 0 (binary.Add ∷ binary.Mul ∷ binary.Min ∷ binary.Max ∷ binary.And ∷ binary.Ior ∷ binary.Xor
     ∷ binary.Sub ∷ binary.Div ∷ binary.Mod ∷ binary.Lsh ∷ binary.Rsh ∷ [])
+
+abbrev pub int_monoid : ℕ → Result IntMonoid Fault
+int_monoid = numbered 0 (monoid.Add ∷ monoid.Mul ∷ monoid.Min ∷ monoid.Max ∷ monoid.And ∷ monoid.Ior ∷ monoid.Xor ∷ [])
 
 abbrev pub bool_binary : ℕ → Result BoolBinary Fault
 bool_binary = numbered 4 (truth.And ∷ truth.Ior ∷ truth.Xor ∷ [])

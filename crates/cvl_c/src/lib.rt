@@ -4,10 +4,14 @@
 //! header `include/cvl.h` declares them, and has each call of the table under its own name.
 #![tactic(auto)]
 
+mod checked_sums;
 mod checks;
 mod descriptors;
+mod elements;
 mod numbers;
 mod place_by_place;
+mod scans;
+mod segments;
 pub mod status;
 
 pub use status::CvlStatus;

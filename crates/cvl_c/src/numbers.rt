@@ -1,9 +1,9 @@
 //! The numbers by which a caller names an operator. The header has a name for each.
 
 ghost use Rattle.std.specs.Prelude.{◌≡◌};
-ghost use Rattle.cvl_c.specs.Numbers.{bool_binary, comparison, int_binary, numbered, unary};
+ghost use Rattle.cvl_c.specs.Numbers.{bool_binary, comparison, int_binary, int_monoid, numbered, unary};
 
-use cvl_base::{BoolBinary, Comparison, Fault, FaultNo, IntBinary, Unary};
+use cvl_base::{BoolBinary, Comparison, Fault, FaultNo, IntBinary, IntMonoid, Unary};
 
 /// The operator of a number, where a family has the numbers from `first` on; UnknownCall, without a place, where it has none.
 fn numbered<T: Copy>(first: u32, operators: &[T], number: u32) -> Result<T, Fault>
@@ -35,6 +35,22 @@ pub(crate) fn int_binary(number: u32) -> Result<IntBinary, Fault>
         IntBinary::Mod,
         IntBinary::Lsh,
         IntBinary::Rsh,
+    ];
+    numbered(0, &operators, number)
+}
+
+/// The associative operator on integers of a number, from 0 to 6.
+pub(crate) fn int_monoid(number: u32) -> Result<IntMonoid, Fault>
+    ensures { result ≡ int_monoid number }
+{
+    let operators = [
+        IntMonoid::Add,
+        IntMonoid::Mul,
+        IntMonoid::Min,
+        IntMonoid::Max,
+        IntMonoid::And,
+        IntMonoid::Ior,
+        IntMonoid::Xor,
     ];
     numbered(0, &operators, number)
 }

@@ -1,0 +1,89 @@
+//! Sums that never wrap, of whole vectors and of segments.
+
+ghost use Rattle.std.specs.Prelude.{◌≡◌, length};
+ghost use Rattle.cvl_base.specs.CheckedSums.{checked_reduce_of, checked_scan_of, checked_seg_reduce_of, checked_seg_scan_of};
+ghost use Rattle.cvl_base.specs.Gives.{Gives};
+ghost use Rattle.cvl_c.specs.Calls.{by_segments, in_limit};
+ghost use Rattle.cvl_c.specs.Told.{Told, ToldOr, in_room};
+
+use crate::checks::{check_limit, descriptor};
+use crate::status::{CvlStatus, told, told_one};
+use cvl_base::{Fault, Refused};
+use scan_walks::{
+    checked_scan_of, checked_scan_of_segments, checked_sum_of, checked_sums_of_segments,
+};
+use std::alloc::Global;
+
+/// For each integer the sum of those before it.
+fn scan(alloc: Global, a: &[i32]) -> Result<Vec<i32, Global>, Refused>
+    ensures { Gives (λ v. v.items) result (in_limit a.now (checked_scan_of a.now)) }
+{
+    check_limit(a)?;
+    checked_scan_of(alloc, a)
+}
+
+/// The sum of the integers.
+fn reduce(a: &[i32]) -> Result<i32, Fault>
+    ensures { result ≡ in_limit a.now (checked_reduce_of a.now) }
+{
+    check_limit(a)?;
+    checked_sum_of(a)
+}
+
+/// The scan of each segment.
+fn scan_each(alloc: Global, a: &[i32], lengths: &[i32]) -> Result<Vec<i32, Global>, Refused>
+    ensures { Gives (λ v. v.items) result (by_segments lengths.now (checked_seg_scan_of a.now)) }
+{
+    let d = descriptor(alloc, lengths)?;
+    checked_scan_of_segments(alloc, a, &d)
+}
+
+/// The sum of each segment.
+fn reduce_each(alloc: Global, a: &[i32], lengths: &[i32]) -> Result<Vec<i32, Global>, Refused>
+    ensures { Gives (λ v. v.items) result (by_segments lengths.now (checked_seg_reduce_of a.now)) }
+{
+    let d = descriptor(alloc, lengths)?;
+    checked_sums_of_segments(alloc, a, &d)
+}
+
+/// For each integer the sum of those before it, which never wraps: `tot_suz`.
+#[unsafe(no_mangle)]
+pub extern "C" fn cvl_checked_scan(alloc: Global, a: &[i32], out: &mut [i32]) -> CvlStatus
+    ensures { ToldOr (in_room (length out.old) (in_limit a.now (checked_scan_of a.now))) result out.old out.new }
+{
+    told(scan(alloc, a), out)
+}
+
+/// The sum of the integers, which never wraps: `tot_ruz`.
+#[unsafe(no_mangle)]
+pub extern "C" fn cvl_checked_reduce(a: &[i32], out: &mut i32) -> CvlStatus
+    ensures { Told (in_limit a.now (checked_reduce_of a.now)) result out.old out.new }
+{
+    told_one(reduce(a), out)
+}
+
+/// For each integer the sum of those before it in its segment, which never wraps: `tot_sez`.
+#[unsafe(no_mangle)]
+pub extern "C" fn cvl_seg_checked_scan(
+    alloc: Global,
+    a: &[i32],
+    lengths: &[i32],
+    out: &mut [i32],
+) -> CvlStatus
+    ensures { ToldOr (in_room (length out.old) (by_segments lengths.now (checked_seg_scan_of a.now))) result out.old out.new }
+{
+    told(scan_each(alloc, a, lengths), out)
+}
+
+/// The sum of each segment, which never wraps: `tot_rez`.
+#[unsafe(no_mangle)]
+pub extern "C" fn cvl_seg_checked_reduce(
+    alloc: Global,
+    a: &[i32],
+    lengths: &[i32],
+    out: &mut [i32],
+) -> CvlStatus
+    ensures { ToldOr (in_room (length out.old) (by_segments lengths.now (checked_seg_reduce_of a.now))) result out.old out.new }
+{
+    told(reduce_each(alloc, a, lengths), out)
+}

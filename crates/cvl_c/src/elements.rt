@@ -1,0 +1,114 @@
+//! Counts, single elements, and vectors of a given length: of whole vectors.
+
+ghost use Rattle.std.specs.Prelude.{◌≡◌, Ok, length, pos};
+ghost use Rattle.cvl_base.specs.Distributes.{distribute_of, index_of};
+ghost use Rattle.cvl_base.specs.Extracts.{extract_of, replace_of};
+ghost use Rattle.cvl_base.specs.Packs.{count_of};
+ghost use Rattle.cvl_c.specs.Calls.{in_limit};
+ghost use Rattle.cvl_c.specs.Told.{Told, ToldOr, in_room};
+
+use crate::checks::check_limit;
+use crate::status::{CvlStatus, told, told_one};
+use cvl_base::Fault;
+use pack_dist::{count_true, distribute_alone, extract, index_alone, replace};
+use std::alloc::Global;
+
+/// The number of true flags, of which there are at most 4,194,304, else TooLong, without a place.
+fn count(flags: &[bool]) -> Result<i32, Fault>
+    ensures { result ≡ in_limit flags.now (Ok (pos (count_of flags.now))) }
+{
+    check_limit(flags)?;
+    Ok(count_true(flags))
+}
+
+/// The number of true flags: `cnt_lub`.
+#[unsafe(no_mangle)]
+pub extern "C" fn cvl_count(flags: &[bool], out: &mut i32) -> CvlStatus
+    ensures { Told (in_limit flags.now (Ok (pos (count_of flags.now)))) result out.old out.new }
+{
+    told_one(count(flags), out)
+}
+
+/// The integer at the place that an index names: `ext_vuz`.
+#[unsafe(no_mangle)]
+pub extern "C" fn cvl_extract_int(vector: &[i32], index: i32, out: &mut i32) -> CvlStatus
+    ensures { Told (extract_of vector.now index) result out.old out.new }
+{
+    told_one(extract(vector, index), out)
+}
+
+/// The boolean at the place that an index names: `ext_vub`.
+#[unsafe(no_mangle)]
+pub extern "C" fn cvl_extract_bool(vector: &[bool], index: i32, out: &mut bool) -> CvlStatus
+    ensures { Told (extract_of vector.now index) result out.old out.new }
+{
+    told_one(extract(vector, index), out)
+}
+
+/// The integers with another one at the place that an index names: `rep_vuz`.
+#[unsafe(no_mangle)]
+pub extern "C" fn cvl_replace_int(
+    alloc: Global,
+    vector: &[i32],
+    index: i32,
+    value: i32,
+    out: &mut [i32],
+) -> CvlStatus
+    ensures { ToldOr (in_room (length out.old) (replace_of vector.now index value)) result out.old out.new }
+{
+    told(replace(alloc, vector, index, value), out)
+}
+
+/// The booleans with another one at the place that an index names: `rep_vub`.
+#[unsafe(no_mangle)]
+pub extern "C" fn cvl_replace_bool(
+    alloc: Global,
+    vector: &[bool],
+    index: i32,
+    value: bool,
+    out: &mut [bool],
+) -> CvlStatus
+    ensures { ToldOr (in_room (length out.old) (replace_of vector.now index value)) result out.old out.new }
+{
+    told(replace(alloc, vector, index, value), out)
+}
+
+/// So many copies of an integer: `dis_vuz`.
+#[unsafe(no_mangle)]
+pub extern "C" fn cvl_distribute_int(
+    alloc: Global,
+    value: i32,
+    count: i32,
+    out: &mut [i32],
+) -> CvlStatus
+    ensures { ToldOr (in_room (length out.old) (distribute_of value count)) result out.old out.new }
+{
+    told(distribute_alone(alloc, value, count), out)
+}
+
+/// So many copies of a boolean: `dis_vub`.
+#[unsafe(no_mangle)]
+pub extern "C" fn cvl_distribute_bool(
+    alloc: Global,
+    value: bool,
+    count: i32,
+    out: &mut [bool],
+) -> CvlStatus
+    ensures { ToldOr (in_room (length out.old) (distribute_of value count)) result out.old out.new }
+{
+    told(distribute_alone(alloc, value, count), out)
+}
+
+/// So many numbers from a first one on in equal steps: `ind_luz`.
+#[unsafe(no_mangle)]
+pub extern "C" fn cvl_index(
+    alloc: Global,
+    init: i32,
+    stride: i32,
+    count: i32,
+    out: &mut [i32],
+) -> CvlStatus
+    ensures { ToldOr (in_room (length out.old) (index_of init stride count)) result out.old out.new }
+{
+    told(index_alone(alloc, init, stride, count), out)
+}

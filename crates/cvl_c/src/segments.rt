@@ -1,0 +1,163 @@
+//! Single elements of segments, and vectors of given segments. Segments come as their lengths.
+
+ghost use Rattle.std.specs.Prelude.{length};
+ghost use Rattle.cvl_base.specs.Gives.{Gives};
+ghost use Rattle.cvl_base.specs.SegmentedCalls.{seg_distribute_of, seg_extract_of, seg_index_of, seg_replace_of};
+ghost use Rattle.cvl_c.specs.Calls.{by_segments};
+ghost use Rattle.cvl_c.specs.Told.{ToldOr, in_room};
+
+use crate::checks::descriptor;
+use crate::status::{CvlStatus, told};
+use cvl_base::Refused;
+use pack_dist::{seg_distribute_alone, seg_extract, seg_index_alone, seg_replace};
+use std::alloc::Global;
+
+/// For each segment the element at the place that its index names.
+fn extract_each<T: Copy>(
+    alloc: Global,
+    vector: &[T],
+    index: &[i32],
+    lengths: &[i32],
+) -> Result<Vec<T, Global>, Refused>
+    ensures { Gives (λ v. v.items) result (by_segments lengths.now (seg_extract_of vector.now index.now)) }
+{
+    let d = descriptor(alloc, lengths)?;
+    seg_extract(alloc, vector, index, &d)
+}
+
+/// The vector with, in each segment, the segment's value at the place that its index names.
+fn replace_each<T: Copy>(
+    alloc: Global,
+    vector: &[T],
+    index: &[i32],
+    values: &[T],
+    lengths: &[i32],
+) -> Result<Vec<T, Global>, Refused>
+    ensures { Gives (λ v. v.items) result (by_segments lengths.now (seg_replace_of vector.now index.now values.now)) }
+{
+    let d = descriptor(alloc, lengths)?;
+    seg_replace(alloc, vector, index, values, &d)
+}
+
+/// For each segment as many copies of its value as the segment is long.
+fn distribute_each<T: Copy>(
+    alloc: Global,
+    values: &[T],
+    lengths: &[i32],
+) -> Result<Vec<T, Global>, Refused>
+    ensures { Gives (λ v. v.items) result (by_segments lengths.now (seg_distribute_of values.now)) }
+{
+    let d = descriptor(alloc, lengths)?;
+    seg_distribute_alone(alloc, values, &d)
+}
+
+/// For each segment the numbers from its init on in steps of its stride.
+fn index_each(
+    alloc: Global,
+    inits: &[i32],
+    strides: &[i32],
+    lengths: &[i32],
+) -> Result<Vec<i32, Global>, Refused>
+    ensures { Gives (λ v. v.items) result (by_segments lengths.now (seg_index_of inits.now strides.now)) }
+{
+    let d = descriptor(alloc, lengths)?;
+    seg_index_alone(alloc, inits, strides, &d)
+}
+
+/// For each segment the integer at the place that its index names: `ext_vez`.
+#[unsafe(no_mangle)]
+pub extern "C" fn cvl_seg_extract_int(
+    alloc: Global,
+    vector: &[i32],
+    index: &[i32],
+    lengths: &[i32],
+    out: &mut [i32],
+) -> CvlStatus
+    ensures { ToldOr (in_room (length out.old) (by_segments lengths.now (seg_extract_of vector.now index.now))) result out.old out.new }
+{
+    told(extract_each(alloc, vector, index, lengths), out)
+}
+
+/// For each segment the boolean at the place that its index names: `ext_veb`.
+#[unsafe(no_mangle)]
+pub extern "C" fn cvl_seg_extract_bool(
+    alloc: Global,
+    vector: &[bool],
+    index: &[i32],
+    lengths: &[i32],
+    out: &mut [bool],
+) -> CvlStatus
+    ensures { ToldOr (in_room (length out.old) (by_segments lengths.now (seg_extract_of vector.now index.now))) result out.old out.new }
+{
+    told(extract_each(alloc, vector, index, lengths), out)
+}
+
+/// The integers with, in each segment, the segment's value at the place that its index names: `rep_vez`.
+#[unsafe(no_mangle)]
+pub extern "C" fn cvl_seg_replace_int(
+    alloc: Global,
+    vector: &[i32],
+    index: &[i32],
+    values: &[i32],
+    lengths: &[i32],
+    out: &mut [i32],
+) -> CvlStatus
+    ensures { ToldOr (in_room (length out.old) (by_segments lengths.now (seg_replace_of vector.now index.now values.now))) result out.old out.new }
+{
+    told(replace_each(alloc, vector, index, values, lengths), out)
+}
+
+/// The booleans with, in each segment, the segment's value at the place that its index names: `rep_veb`.
+#[unsafe(no_mangle)]
+pub extern "C" fn cvl_seg_replace_bool(
+    alloc: Global,
+    vector: &[bool],
+    index: &[i32],
+    values: &[bool],
+    lengths: &[i32],
+    out: &mut [bool],
+) -> CvlStatus
+    ensures { ToldOr (in_room (length out.old) (by_segments lengths.now (seg_replace_of vector.now index.now values.now))) result out.old out.new }
+{
+    told(replace_each(alloc, vector, index, values, lengths), out)
+}
+
+/// For each segment as many copies of its integer as the segment is long: `dis_vez`.
+#[unsafe(no_mangle)]
+pub extern "C" fn cvl_seg_distribute_int(
+    alloc: Global,
+    values: &[i32],
+    lengths: &[i32],
+    out: &mut [i32],
+) -> CvlStatus
+    ensures { ToldOr (in_room (length out.old) (by_segments lengths.now (seg_distribute_of values.now))) result out.old out.new }
+{
+    told(distribute_each(alloc, values, lengths), out)
+}
+
+/// For each segment as many copies of its boolean as the segment is long: `dis_veb`.
+#[unsafe(no_mangle)]
+pub extern "C" fn cvl_seg_distribute_bool(
+    alloc: Global,
+    values: &[bool],
+    lengths: &[i32],
+    out: &mut [bool],
+) -> CvlStatus
+    ensures { ToldOr (in_room (length out.old) (by_segments lengths.now (seg_distribute_of values.now))) result out.old out.new }
+{
+    told(distribute_each(alloc, values, lengths), out)
+}
+
+/// For each segment the numbers from its init on in steps of its stride: `ind_lez`.
+#[unsafe(no_mangle)]
+pub extern "C" fn cvl_seg_index(
+    alloc: Global,
+    inits: &[i32],
+    strides: &[i32],
+    lengths: &[i32],
+    out: &mut [i32],
+) -> CvlStatus
+    ensures { ToldOr (in_room (length out.old) (by_segments lengths.now (seg_index_of inits.now strides.now))) result out.old out.new }
+{
+    told(index_each(alloc, inits, strides, lengths), out)
+}
