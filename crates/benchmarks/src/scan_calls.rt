@@ -6,6 +6,7 @@ use crate::LENGTHS;
 use crate::cases::{Case, last_number};
 use crate::timing::measure_cases;
 use crate::vectors::{Shape, Vectors};
+use cvl_base::limits::MOST_ELEMENTS;
 use cvl_base::{Config, IntMonoid};
 use scan_ops::{
     checked_reduce, checked_scan, checked_seg_reduce, checked_seg_scan, int_reduce, int_scan,
@@ -65,6 +66,9 @@ pub fn call<R: Threads + Sync>(
     let (a, d) = (vectors.numbers.as_slice(), &vectors.segments);
     let small = vectors.shifts.as_slice();
     let add = IntMonoid::Add;
+    if small.len() > MOST_ELEMENTS {
+        return None;
+    }
     match case {
         ScanCase::Scan => last_number(int_scan(rt, alloc, config, add, a)),
         ScanCase::Reduce => int_reduce(rt, alloc, config, add, a).ok(),
