@@ -5,13 +5,12 @@ ghost use Rattle.std.specs.List.{All};
 ghost use Rattle.boards.specs.Boards.{IsSeatOf};
 ghost use Rattle.cvl_base.specs.Limits.{most_elements, most_workers};
 
-use crate::tiles::CountedTiles;
+use crate::tiles::{CountedTiles, Counter};
 use boards::{Back, Claim, ScanBoard, ScanSeat};
 use cvl_base::monoids::Add;
 use cvl_base::{Memory, NoResources};
 use refusing_memory::withstands_refusals;
 use status_word::Status;
-use std::sync::atomic::{AtomicU64, Ordering};
 use std::test::Fail;
 
 /// The numbers of the tiles.
@@ -25,8 +24,8 @@ fn is_back(back: Back<i32>, sum: i32, looks: u32) -> bool {
 /// Whether each answer is the one that is worked out by hand: what one worker tells, the other one sees, no prefix is
 /// taken back, and a tile of which something is told is not added up.
 fn answers_by_hand<A: Memory>(alloc: A) -> Result<bool, NoResources> {
-    let added_up = AtomicU64::new(0);
-    let tiles = CountedTiles::new(NUMBERS.as_slice(), &added_up, None);
+    let counter = Counter::new();
+    let tiles = CountedTiles::new(NUMBERS.as_slice(), &counter);
     let (board, mut seats) = ScanBoard::new(alloc, tiles, 2)?;
     let (Some(mut second), Some(mut first)) = (seats.pop(), seats.pop()) else {
         return Ok(false);
@@ -37,10 +36,10 @@ fn answers_by_hand<A: Memory>(alloc: A) -> Result<bool, NoResources> {
     board.tell_sum(&mut second, 2);
     right &= board.look(&mut first, 2) == Status::Prefix(false, 11);
     right &= board.look(&mut second, 0) == Status::Sum(false, 3);
-    let before = added_up.load(Ordering::SeqCst);
+    let before = counter.count();
     right &= is_back(board.look_back(&mut second, 3), 11, 1);
     right &= is_back(board.look_back(&mut second, 2), 4, 2);
-    right &= added_up.load(Ordering::SeqCst) == before;
+    right &= counter.count() == before;
     Ok(right)
 }
 
@@ -82,8 +81,8 @@ fn claims_of<A: Memory>(alloc: A, numbers: &[i32], workers: u32) -> Result<(u64,
     requires some { 1 ≤ workers }
     requires few { workers ≤ most_workers }
 {
-    let added_up = AtomicU64::new(0);
-    let tiles = CountedTiles::new(numbers, &added_up, None);
+    let counter = Counter::new();
+    let tiles = CountedTiles::new(numbers, &counter);
     let (board, mut seats) = ScanBoard::new(alloc, tiles, workers)?;
     let mut digits = 9;
     for _ in 0..1000 {

@@ -2,11 +2,10 @@
 
 ghost use Rattle.boards.specs.Boards.{IsSeatOf};
 
-use crate::tiles::{CountedTiles, Hold};
+use crate::tiles::{CountedTiles, Counter};
 use boards::{Claim, ScanBoard, ScanSeat};
 use cvl_base::monoids::Add;
 use cvl_base::{Memory, NoResources};
-use std::sync::atomic::AtomicU64;
 use std::test::Fail;
 use std::thread::{Threads, join_mut};
 
@@ -75,15 +74,14 @@ fn in_two_threads<R: Threads + Sync, A: Memory>(
 }
 
 /// How many tiles two threads were given in all, as the board tells when it is closed, and whether all look-backs were
-/// right. The first worker that adds up a tile may be held there.
+/// right.
 fn by_two_threads<R: Threads + Sync, A: Memory>(
     rt: &R,
     alloc: A,
-    hold: Option<&Hold>,
+    counter: &Counter,
 ) -> Result<(u32, bool), NoResources> {
     let (numbers, before) = numbers();
-    let added_up = AtomicU64::new(0);
-    let tiles = CountedTiles::new(numbers.as_slice(), &added_up, hold);
+    let tiles = CountedTiles::new(numbers.as_slice(), counter);
     let (board, mut seats) = ScanBoard::new(alloc, tiles, 2)?;
     let (Some(mut second), Some(mut first)) = (seats.pop(), seats.pop()) else {
         return Ok((0, false));
@@ -98,7 +96,10 @@ fn by_two_threads<R: Threads + Sync, A: Memory>(
 #[test]
 fn each_tile_by_one_of_two_threads(rt: HostRuntime) -> Result<(), Fail> {
     for _ in 0..20 {
-        assert_eq!(rt; by_two_threads(&rt, rt.alloc(), None), Ok((1000, true)));
+        assert_eq!(rt;
+            by_two_threads(&rt, rt.alloc(), &Counter::new()),
+            Ok((1000, true))
+        );
     }
     Ok(())
 }
@@ -107,11 +108,8 @@ fn each_tile_by_one_of_two_threads(rt: HostRuntime) -> Result<(), Fail> {
 /// which is added up once for its sum and once for its prefix.
 #[test]
 fn none_waits_for_one_inside_a_call(rt: HostRuntime) -> Result<(), Fail> {
-    let hold = Hold::until(1 + 2 * 999);
-    assert_eq!(rt;
-        by_two_threads(&rt, rt.alloc(), Some(&hold)),
-        Ok((1000, true))
-    );
-    assert!(rt; !hold.is_overdue());
+    let counter = Counter::holding(1 + 2 * 999);
+    assert_eq!(rt; by_two_threads(&rt, rt.alloc(), &counter), Ok((1000, true)));
+    assert!(rt; !counter.is_overdue());
     Ok(())
 }

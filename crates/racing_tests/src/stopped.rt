@@ -1,17 +1,16 @@
 //! A worker that stops for ever once it has claimed a tile, and tells nothing of it.
 
 use crate::own_threads::{numbers, work};
-use crate::tiles::CountedTiles;
+use crate::tiles::{CountedTiles, Counter};
 use boards::{Claim, ScanBoard};
 use cvl_base::{Memory, NoResources};
-use std::sync::atomic::AtomicU64;
 use std::test::Fail;
 
 /// How many tiles were given in all, and whether all look-backs of the worker that goes on were right.
 fn beside_a_stopped_worker<A: Memory>(alloc: A) -> Result<(u32, bool), NoResources> {
     let (numbers, before) = numbers();
-    let added_up = AtomicU64::new(0);
-    let tiles = CountedTiles::new(numbers.as_slice(), &added_up, None);
+    let counter = Counter::new();
+    let tiles = CountedTiles::new(numbers.as_slice(), &counter);
     let (board, mut seats) = ScanBoard::new(alloc, tiles, 2)?;
     let (Some(mut second), Some(mut first)) = (seats.pop(), seats.pop()) else {
         return Ok((0, false));

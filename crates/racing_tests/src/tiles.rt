@@ -12,26 +12,46 @@ use std::sync::atomic::{AtomicBool, AtomicU64, Ordering};
 /// How often a worker that is held looks whether it may go on, at most. One turn reads one word.
 const TURNS: u64 = 100_000_000;
 
-/// Holds the worker that adds up a tile first of all, inside the board's call that asks for the sum.
+/// Counts how often tiles are added up, and may hold the worker that adds up a tile first of all, inside the board's call that
+/// asks for the sum.
 #[derive(Drop)]
-pub struct Hold {
-    until: u64,
+pub struct Counter {
+    added_up: AtomicU64,
+    held_until: u64,
     overdue: AtomicBool,
 }
 
-impl Hold {
-    /// Holds it until tiles were added up so often.
-    pub fn until(until: u64) -> Hold {
-        Hold {
-            until,
+impl Counter {
+    /// A counter that holds nobody.
+    pub fn new() -> Counter {
+        Counter::holding(0)
+    }
+
+    /// One that holds that worker until tiles were added up so often.
+    pub fn holding(until: u64) -> Counter {
+        Counter {
+            added_up: AtomicU64::new(0),
+            held_until: until,
             overdue: AtomicBool::new(false),
         }
     }
 
-    /// Waits for that, or in vain.
-    fn wait_for(&self, added_up: &AtomicU64) {
+    /// How often tiles were added up.
+    pub fn count(&self) -> u64 {
+        self.added_up.load(Ordering::SeqCst)
+    }
+
+    /// Counts one time more, and holds the first worker.
+    fn add(&self) {
+        if self.added_up.fetch_add(1, Ordering::SeqCst) == 0 {
+            self.wait();
+        }
+    }
+
+    /// Waits until tiles were added up so often, or in vain.
+    fn wait(&self) {
         for _ in 0..TURNS {
-            if added_up.load(Ordering::SeqCst) >= self.until {
+            if self.count() >= self.held_until {
                 return;
             }
         }
@@ -44,33 +64,23 @@ impl Hold {
     }
 }
 
-/// Tiles of one number each, among which no segment starts. They count how often one of them is added up, and may hold the
-/// first worker that does so.
+/// Tiles of one number each, among which no segment starts. A counter counts how often one of them is added up.
 #[derive(Drop)]
 pub struct CountedTiles<'a> {
     numbers: &'a [i32],
-    added_up: &'a AtomicU64,
-    hold: Option<&'a Hold>,
+    counter: &'a Counter,
     ghost few: { length numbers.now ≤ most_elements },
     ghost items: { list_all is_number numbers.now ≡ true },
 }
 
 impl<'a> CountedTiles<'a> {
     /// Tiles of these numbers, at most 4,194,304.
-    pub fn new(
-        numbers: &'a [i32],
-        added_up: &'a AtomicU64,
-        hold: Option<&'a Hold>,
-    ) -> CountedTiles<'a>
+    pub fn new(numbers: &'a [i32], counter: &'a Counter) -> CountedTiles<'a>
         requires { length numbers.now ≤ most_elements }
         ensures { result.numbers.now ≡ numbers.now }
     {
         know_numbers(numbers);
-        CountedTiles {
-            numbers,
-            added_up,
-            hold,
-        }
+        CountedTiles { numbers, counter }
     }
 }
 
@@ -84,10 +94,7 @@ impl Tiles for CountedTiles<'_> {
     }
 
     fn sum(&self, t: u32) -> (bool, i32) {
-        let before = self.added_up.fetch_add(1, Ordering::SeqCst);
-        if let (0, Some(hold)) = (before, self.hold) {
-            hold.wait_for(self.added_up);
-        }
+        self.counter.add();
         (false, self.numbers[t as usize])
     }
 }
