@@ -71,18 +71,17 @@ fn all_agree<R: Threads + Sync>(
     Ok(all)
 }
 
-/// Whether they do on each list of so many indices, which takes flags, a cut and one of the configurations in turn.
+/// Whether they do on each list of so many indices, which takes flags and a cut in turn.
 fn lists_agree<R: Threads + Sync>(
     rt: &R,
     alloc: Global,
-    configs: &[Config],
+    config: Config,
     count: u32,
 ) -> Result<bool, Refused> {
     let mut all = true;
     let (source, _) = SOURCE
         .as_slice()
         .split_at((count as usize).min(SOURCE.len()));
-    let mut turns = configs.iter().cycle();
     for number in 0..VALUES.wrapping_pow(count) {
         let index = list_of(alloc, number, count)?;
         let flags = flags_of(alloc, number / 5, count)?;
@@ -94,29 +93,23 @@ fn lists_agree<R: Threads + Sync>(
             lengths: &cut_of(number, count),
             others: &OTHERS,
         };
-        if let Some(config) = turns.next() {
-            all &= all_agree(rt, alloc, *config, &case)?;
-        }
+        all &= all_agree(rt, alloc, config, &case)?;
     }
     Ok(all)
 }
 
 #[test]
 fn every_short_list(rt: HostRuntime) -> Result<(), Fail> {
-    let mut configs = Vec::new(rt.alloc());
     for tile in 1..5 {
         for workers in [1, 2, 3, 7] {
             let config = Config::new(tile, workers)?;
-            for count in 0..3 {
+            for count in 0..5 {
                 assert!(rt;
-                    lists_agree(&rt, rt.alloc(), &[config], count)?,
+                    lists_agree(&rt, rt.alloc(), config, count)?,
                     "{count} indices in tiles of {tile}, by {workers}"
                 );
             }
-            configs.push(config)?;
         }
     }
-    assert!(rt; lists_agree(&rt, rt.alloc(), &configs, 3)?);
-    assert!(rt; lists_agree(&rt, rt.alloc(), &configs, 4)?);
     Ok(())
 }
