@@ -202,6 +202,24 @@ CvlStatus cvl_seg_index(
     const int32_t *inits, size_t inits_len, const int32_t *strides, size_t strides_len, const int32_t *lengths, size_t segments,
     int32_t *out, size_t out_len);
 
+/* ---- scans and reduces of segments: exports ---- */
+
+/* For each integer those before it in its segment, joined by the operator, of CVL_ADD to CVL_XOR. */
+CvlStatus cvl_seg_int_scan(
+    uint32_t op, const int32_t *a, size_t a_len, const int32_t *lengths, size_t segments, int32_t *out, size_t out_len);
+
+/* The integers of each segment joined by the operator, of CVL_ADD to CVL_XOR. */
+CvlStatus cvl_seg_int_reduce(
+    uint32_t op, const int32_t *a, size_t a_len, const int32_t *lengths, size_t segments, int32_t *out, size_t out_len);
+
+/* For each boolean those before it in its segment, joined by the operator, of CVL_AND to CVL_XOR. */
+CvlStatus cvl_seg_bool_scan(
+    uint32_t op, const bool *a, size_t a_len, const int32_t *lengths, size_t segments, bool *out, size_t out_len);
+
+/* The booleans of each segment joined by the operator, of CVL_AND to CVL_XOR. */
+CvlStatus cvl_seg_bool_reduce(
+    uint32_t op, const bool *a, size_t a_len, const int32_t *lengths, size_t segments, bool *out, size_t out_len);
+
 /* ---- place by place: the calls of the table ---- */
 
 /*
@@ -845,6 +863,208 @@ static inline CvlStatus dis_veb(const bool *values, const int32_t *lengths, size
 static inline CvlStatus ind_lez(
     const int32_t *inits, const int32_t *strides, const int32_t *lengths, size_t segments, int32_t *out, size_t n) {
     return cvl_seg_index(inits, segments, strides, segments, lengths, segments, out, n);
+}
+
+/* ---- scans and reduces of segments: the calls of the table ---- */
+
+/*
+ * add_sez: For each integer those before it in its segment, summed, wrapped; 0 where a segment starts. a and out have n
+ * elements.
+ * Faults: 7 LengthMismatch where the lengths do not add up to n.
+ * a = 3 1 4 1 5, lengths = 2 0 3: out = 0 3 0 4 5
+ */
+static inline CvlStatus add_sez(const int32_t *a, const int32_t *lengths, size_t segments, int32_t *out, size_t n) {
+    return cvl_seg_int_scan(CVL_ADD, a, n, lengths, segments, out, n);
+}
+
+/*
+ * add_rez: The integers of each segment, summed, wrapped; 0 where it is empty. a has n elements, out one for each
+ * segment.
+ * Faults: 7 LengthMismatch where the lengths do not add up to n.
+ * a = 3 1 4 1 5, lengths = 2 0 3: out = 4 0 10
+ */
+static inline CvlStatus add_rez(const int32_t *a, size_t n, const int32_t *lengths, size_t segments, int32_t *out) {
+    return cvl_seg_int_reduce(CVL_ADD, a, n, lengths, segments, out, segments);
+}
+
+/*
+ * mul_sez: For each integer those before it in its segment, multiplied, wrapped; 1 where a segment starts. a and out have n
+ * elements.
+ * Faults: 7 LengthMismatch where the lengths do not add up to n.
+ * a = 3 1 4 1 5, lengths = 2 0 3: out = 1 3 1 4 4
+ */
+static inline CvlStatus mul_sez(const int32_t *a, const int32_t *lengths, size_t segments, int32_t *out, size_t n) {
+    return cvl_seg_int_scan(CVL_MUL, a, n, lengths, segments, out, n);
+}
+
+/*
+ * mul_rez: The integers of each segment, multiplied, wrapped; 1 where it is empty. a has n elements, out one for each
+ * segment.
+ * Faults: 7 LengthMismatch where the lengths do not add up to n.
+ * a = 3 1 4 1 5, lengths = 2 0 3: out = 3 1 20
+ */
+static inline CvlStatus mul_rez(const int32_t *a, size_t n, const int32_t *lengths, size_t segments, int32_t *out) {
+    return cvl_seg_int_reduce(CVL_MUL, a, n, lengths, segments, out, segments);
+}
+
+/*
+ * min_sez: For each integer those before it in its segment, the least of them; 2147483647 where a segment starts. a and out have n
+ * elements.
+ * Faults: 7 LengthMismatch where the lengths do not add up to n.
+ * a = 3 1 4 1 5, lengths = 2 0 3: out = 2147483647 3 2147483647 4 1
+ */
+static inline CvlStatus min_sez(const int32_t *a, const int32_t *lengths, size_t segments, int32_t *out, size_t n) {
+    return cvl_seg_int_scan(CVL_MIN, a, n, lengths, segments, out, n);
+}
+
+/*
+ * min_rez: The integers of each segment, the least of them; 2147483647 where it is empty. a has n elements, out one for each
+ * segment.
+ * Faults: 7 LengthMismatch where the lengths do not add up to n.
+ * a = 3 1 4 1 5, lengths = 2 0 3: out = 1 2147483647 1
+ */
+static inline CvlStatus min_rez(const int32_t *a, size_t n, const int32_t *lengths, size_t segments, int32_t *out) {
+    return cvl_seg_int_reduce(CVL_MIN, a, n, lengths, segments, out, segments);
+}
+
+/*
+ * max_sez: For each integer those before it in its segment, the greatest of them; -2147483648 where a segment starts. a and out have n
+ * elements.
+ * Faults: 7 LengthMismatch where the lengths do not add up to n.
+ * a = 3 1 4 1 5, lengths = 2 0 3: out = -2147483648 3 -2147483648 4 4
+ */
+static inline CvlStatus max_sez(const int32_t *a, const int32_t *lengths, size_t segments, int32_t *out, size_t n) {
+    return cvl_seg_int_scan(CVL_MAX, a, n, lengths, segments, out, n);
+}
+
+/*
+ * max_rez: The integers of each segment, the greatest of them; -2147483648 where it is empty. a has n elements, out one for each
+ * segment.
+ * Faults: 7 LengthMismatch where the lengths do not add up to n.
+ * a = 3 1 4 1 5, lengths = 2 0 3: out = 3 -2147483648 5
+ */
+static inline CvlStatus max_rez(const int32_t *a, size_t n, const int32_t *lengths, size_t segments, int32_t *out) {
+    return cvl_seg_int_reduce(CVL_MAX, a, n, lengths, segments, out, segments);
+}
+
+/*
+ * and_sez: For each integer those before it in its segment, and, bit by bit; -1 where a segment starts. a and out have n
+ * elements.
+ * Faults: 7 LengthMismatch where the lengths do not add up to n.
+ * a = 3 1 4 1 5, lengths = 2 0 3: out = -1 3 -1 4 0
+ */
+static inline CvlStatus and_sez(const int32_t *a, const int32_t *lengths, size_t segments, int32_t *out, size_t n) {
+    return cvl_seg_int_scan(CVL_AND, a, n, lengths, segments, out, n);
+}
+
+/*
+ * and_rez: The integers of each segment, and, bit by bit; -1 where it is empty. a has n elements, out one for each
+ * segment.
+ * Faults: 7 LengthMismatch where the lengths do not add up to n.
+ * a = 3 1 4 1 5, lengths = 2 0 3: out = 1 -1 0
+ */
+static inline CvlStatus and_rez(const int32_t *a, size_t n, const int32_t *lengths, size_t segments, int32_t *out) {
+    return cvl_seg_int_reduce(CVL_AND, a, n, lengths, segments, out, segments);
+}
+
+/*
+ * ior_sez: For each integer those before it in its segment, or, bit by bit; 0 where a segment starts. a and out have n
+ * elements.
+ * Faults: 7 LengthMismatch where the lengths do not add up to n.
+ * a = 3 1 4 1 5, lengths = 2 0 3: out = 0 3 0 4 5
+ */
+static inline CvlStatus ior_sez(const int32_t *a, const int32_t *lengths, size_t segments, int32_t *out, size_t n) {
+    return cvl_seg_int_scan(CVL_IOR, a, n, lengths, segments, out, n);
+}
+
+/*
+ * ior_rez: The integers of each segment, or, bit by bit; 0 where it is empty. a has n elements, out one for each
+ * segment.
+ * Faults: 7 LengthMismatch where the lengths do not add up to n.
+ * a = 3 1 4 1 5, lengths = 2 0 3: out = 3 0 5
+ */
+static inline CvlStatus ior_rez(const int32_t *a, size_t n, const int32_t *lengths, size_t segments, int32_t *out) {
+    return cvl_seg_int_reduce(CVL_IOR, a, n, lengths, segments, out, segments);
+}
+
+/*
+ * xor_sez: For each integer those before it in its segment, exclusive or, bit by bit; 0 where a segment starts. a and out have n
+ * elements.
+ * Faults: 7 LengthMismatch where the lengths do not add up to n.
+ * a = 3 1 4 1 5, lengths = 2 0 3: out = 0 3 0 4 5
+ */
+static inline CvlStatus xor_sez(const int32_t *a, const int32_t *lengths, size_t segments, int32_t *out, size_t n) {
+    return cvl_seg_int_scan(CVL_XOR, a, n, lengths, segments, out, n);
+}
+
+/*
+ * xor_rez: The integers of each segment, exclusive or, bit by bit; 0 where it is empty. a has n elements, out one for each
+ * segment.
+ * Faults: 7 LengthMismatch where the lengths do not add up to n.
+ * a = 3 1 4 1 5, lengths = 2 0 3: out = 2 0 0
+ */
+static inline CvlStatus xor_rez(const int32_t *a, size_t n, const int32_t *lengths, size_t segments, int32_t *out) {
+    return cvl_seg_int_reduce(CVL_XOR, a, n, lengths, segments, out, segments);
+}
+
+/*
+ * and_seb: For each boolean, of those before it in its segment, whether all are true; true where a segment starts. a and out
+ * have n elements.
+ * Faults: 7 LengthMismatch where the lengths do not add up to n.
+ * a = true false true false true, lengths = 2 0 3: out = true true true true false
+ */
+static inline CvlStatus and_seb(const bool *a, const int32_t *lengths, size_t segments, bool *out, size_t n) {
+    return cvl_seg_bool_scan(CVL_AND, a, n, lengths, segments, out, n);
+}
+
+/*
+ * and_reb: Of the booleans of each segment, whether all are true; true where it is empty. a has n elements, out one for each
+ * segment.
+ * Faults: 7 LengthMismatch where the lengths do not add up to n.
+ * a = true false true false true, lengths = 2 0 3: out = false true false
+ */
+static inline CvlStatus and_reb(const bool *a, size_t n, const int32_t *lengths, size_t segments, bool *out) {
+    return cvl_seg_bool_reduce(CVL_AND, a, n, lengths, segments, out, segments);
+}
+
+/*
+ * ior_seb: For each boolean, of those before it in its segment, whether any is true; false where a segment starts. a and out
+ * have n elements.
+ * Faults: 7 LengthMismatch where the lengths do not add up to n.
+ * a = true false true false true, lengths = 2 0 3: out = false true false true true
+ */
+static inline CvlStatus ior_seb(const bool *a, const int32_t *lengths, size_t segments, bool *out, size_t n) {
+    return cvl_seg_bool_scan(CVL_IOR, a, n, lengths, segments, out, n);
+}
+
+/*
+ * ior_reb: Of the booleans of each segment, whether any is true; false where it is empty. a has n elements, out one for each
+ * segment.
+ * Faults: 7 LengthMismatch where the lengths do not add up to n.
+ * a = true false true false true, lengths = 2 0 3: out = true false true
+ */
+static inline CvlStatus ior_reb(const bool *a, size_t n, const int32_t *lengths, size_t segments, bool *out) {
+    return cvl_seg_bool_reduce(CVL_IOR, a, n, lengths, segments, out, segments);
+}
+
+/*
+ * xor_seb: For each boolean, of those before it in its segment, whether an odd number is true; false where a segment starts. a and out
+ * have n elements.
+ * Faults: 7 LengthMismatch where the lengths do not add up to n.
+ * a = true false true false true, lengths = 2 0 3: out = false true false true true
+ */
+static inline CvlStatus xor_seb(const bool *a, const int32_t *lengths, size_t segments, bool *out, size_t n) {
+    return cvl_seg_bool_scan(CVL_XOR, a, n, lengths, segments, out, n);
+}
+
+/*
+ * xor_reb: Of the booleans of each segment, whether an odd number is true; false where it is empty. a has n elements, out one for each
+ * segment.
+ * Faults: 7 LengthMismatch where the lengths do not add up to n.
+ * a = true false true false true, lengths = 2 0 3: out = true false false
+ */
+static inline CvlStatus xor_reb(const bool *a, size_t n, const int32_t *lengths, size_t segments, bool *out) {
+    return cvl_seg_bool_reduce(CVL_XOR, a, n, lengths, segments, out, segments);
 }
 
 #ifdef __cplusplus

@@ -312,6 +312,67 @@ static void segments(void) {
     FAULT(cvl_seg_index(I(0, 5), 2, I(1, 1), 2, full, 2, ints, 6), CVL_LENGTH_MISMATCH, -1);
 }
 
+static void segmented_scans(void) {
+    const int32_t *a = I(3, 1, 4, 1, 5), *b = I(3, 1, 4, 4, 5), *lengths = I(2, 0, 3);
+    const bool *f = B(true, false, true, false, true), *g = B(true, true, true, true, true);
+    INTS(add_sez(a, lengths, 3, ints, 5), 0, 3, 0, 4, 5);
+    INTS(mul_sez(a, lengths, 3, ints, 5), 1, 3, 1, 4, 4);
+    INTS(min_sez(a, lengths, 3, ints, 5), 2147483647, 3, 2147483647, 4, 1);
+    INTS(max_sez(a, lengths, 3, ints, 5), INT32_MIN, 3, INT32_MIN, 4, 4);
+    INTS(and_sez(a, lengths, 3, ints, 5), -1, 3, -1, 4, 0);
+    INTS(ior_sez(b, lengths, 3, ints, 5), 0, 3, 0, 4, 4);
+    INTS(xor_sez(b, lengths, 3, ints, 5), 0, 3, 0, 4, 0);
+    INTS(add_sez(I(2147483647, 1, 1), I(3), 1, ints, 3), 0, 2147483647, INT32_MIN);
+    INTS(add_rez(a, 5, lengths, 3, ints), 4, 0, 10);
+    INTS(mul_rez(a, 5, lengths, 3, ints), 3, 1, 20);
+    INTS(min_rez(a, 5, lengths, 3, ints), 1, 2147483647, 1);
+    INTS(max_rez(a, 5, lengths, 3, ints), 3, INT32_MIN, 5);
+    INTS(and_rez(a, 5, lengths, 3, ints), 1, -1, 0);
+    INTS(ior_rez(a, 5, lengths, 3, ints), 3, 0, 5);
+    INTS(xor_rez(a, 5, lengths, 3, ints), 2, 0, 0);
+    BOOLS(and_seb(f, lengths, 3, bools, 5), true, true, true, true, false);
+    BOOLS(ior_seb(g, lengths, 3, bools, 5), false, true, false, true, true);
+    BOOLS(xor_seb(g, lengths, 3, bools, 5), false, true, false, true, false);
+    BOOLS(and_reb(f, 5, lengths, 3, bools), false, true, false);
+    BOOLS(ior_reb(f, 5, lengths, 3, bools), true, false, true);
+    BOOLS(xor_reb(f, 5, lengths, 3, bools), true, false, false);
+    FAULT(add_sez(a, lengths, 2, ints, 5), CVL_LENGTH_MISMATCH, -1);
+    FAULT(add_rez(a, 4, lengths, 3, ints), CVL_LENGTH_MISMATCH, -1);
+    FAULT(and_seb(f, lengths, 3, bools, 4), CVL_LENGTH_MISMATCH, -1);
+    FAULT(and_reb(f, 0, lengths, 3, bools), CVL_LENGTH_MISMATCH, -1);
+}
+
+static void segmented_scan_faults(void) {
+    const int32_t *a = I(3, 1, 4, 1, 5), *lengths = I(2, 0, 3), *below = I(5, -1, -2), *above = I(CVL_MOST_ELEMENTS, 1);
+    const bool *f = B(true, false, true, false, true);
+    const size_t many = CVL_MOST_ELEMENTS + 1;
+    FAULT(cvl_seg_int_scan(CVL_SUB, a, 5, below, 3, ints, 5), CVL_UNKNOWN_CALL, -1);
+    FAULT(cvl_seg_int_scan(CVL_ADD, a, 5, too_many_ints, many, ints, 5), CVL_TOO_LONG, -1);
+    FAULT(cvl_seg_int_scan(CVL_ADD, a, 5, below, 3, ints, 4), CVL_NEGATIVE_LENGTH, 1);
+    FAULT(cvl_seg_int_scan(CVL_ADD, a, 5, above, 2, ints, 5), CVL_TOO_LONG, -1);
+    FAULT(cvl_seg_int_scan(CVL_ADD, too_many_ints, many, lengths, 3, ints, 5), CVL_LENGTH_MISMATCH, -1);
+    FAULT(cvl_seg_int_scan(CVL_ADD, a, 5, lengths, 3, ints, 4), CVL_LENGTH_MISMATCH, -1);
+    FAULT(cvl_seg_int_scan(CVL_ADD, a, 5, lengths, 3, ints, 6), CVL_LENGTH_MISMATCH, -1);
+    FAULT(cvl_seg_int_reduce(CVL_RSH, a, 5, below, 3, ints, 3), CVL_UNKNOWN_CALL, -1);
+    FAULT(cvl_seg_int_reduce(CVL_ADD, a, 5, too_many_ints, many, ints, 3), CVL_TOO_LONG, -1);
+    FAULT(cvl_seg_int_reduce(CVL_ADD, a, 5, below, 3, ints, 3), CVL_NEGATIVE_LENGTH, 1);
+    FAULT(cvl_seg_int_reduce(CVL_ADD, a, 5, above, 2, ints, 2), CVL_TOO_LONG, -1);
+    FAULT(cvl_seg_int_reduce(CVL_ADD, a, 5, lengths, 3, ints, 2), CVL_LENGTH_MISMATCH, -1);
+    FAULT(cvl_seg_int_reduce(CVL_ADD, a, 5, lengths, 3, ints, 5), CVL_LENGTH_MISMATCH, -1);
+    FAULT(cvl_seg_bool_scan(CVL_MAX, f, 5, below, 3, bools, 5), CVL_UNKNOWN_CALL, -1);
+    FAULT(cvl_seg_bool_scan(CVL_AND, f, 5, too_many_ints, many, bools, 5), CVL_TOO_LONG, -1);
+    FAULT(cvl_seg_bool_scan(CVL_AND, f, 5, below, 3, bools, 5), CVL_NEGATIVE_LENGTH, 1);
+    FAULT(cvl_seg_bool_scan(CVL_AND, f, 5, above, 2, bools, 5), CVL_TOO_LONG, -1);
+    FAULT(cvl_seg_bool_scan(CVL_AND, f, 5, lengths, 3, bools, 4), CVL_LENGTH_MISMATCH, -1);
+    FAULT(cvl_seg_bool_scan(CVL_AND, f, 5, lengths, 3, bools, 6), CVL_LENGTH_MISMATCH, -1);
+    FAULT(cvl_seg_bool_reduce(CVL_SUB, f, 5, below, 3, bools, 3), CVL_UNKNOWN_CALL, -1);
+    FAULT(cvl_seg_bool_reduce(CVL_AND, f, 5, too_many_ints, many, bools, 3), CVL_TOO_LONG, -1);
+    FAULT(cvl_seg_bool_reduce(CVL_AND, f, 5, below, 3, bools, 3), CVL_NEGATIVE_LENGTH, 1);
+    FAULT(cvl_seg_bool_reduce(CVL_AND, f, 5, above, 2, bools, 2), CVL_TOO_LONG, -1);
+    FAULT(cvl_seg_bool_reduce(CVL_AND, f, 5, lengths, 3, bools, 2), CVL_LENGTH_MISMATCH, -1);
+    FAULT(cvl_seg_bool_reduce(CVL_AND, f, 5, lengths, 3, bools, 4), CVL_LENGTH_MISMATCH, -1);
+}
+
 int main(void) {
     place_by_place();
     place_by_place_faults();
@@ -320,6 +381,8 @@ int main(void) {
     elements();
     descriptors();
     segments();
+    segmented_scans();
+    segmented_scan_faults();
     if (failed) return EXIT_FAILURE;
     printf("%d calls as they should be\n", calls);
     return EXIT_SUCCESS;

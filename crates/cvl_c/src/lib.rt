@@ -11,6 +11,7 @@ mod elements;
 mod numbers;
 mod place_by_place;
 mod scans;
+mod seg_scans;
 mod segments;
 pub mod status;
 

@@ -1,1 +1,1 @@
-pub use Rattle.tile_scans.proofs.Segmented
+pub use Rattle.scan_walks.proofs.Segmented

@@ -5,6 +5,7 @@ pub mod LastStart
 pub mod RunPushed
 pub mod Scanned
 pub mod SegmentReduces
+pub mod Segmented
 pub mod Segments
 pub mod Valued
 pub mod WholeSums

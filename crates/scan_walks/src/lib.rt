@@ -2,6 +2,7 @@
 //! the elements of each. The elements are read as items of a monoid.
 #![tactic(auto)]
 
+pub mod alone;
 pub mod checked;
 pub mod fronts;
 pub mod plain;
@@ -9,6 +10,7 @@ pub mod readings;
 pub mod runs;
 pub mod totals;
 
+pub use alone::{seg_reduce_alone, seg_reduce_readings_alone, seg_scan_alone};
 pub use checked::{
     checked_scan_of, checked_scan_of_segments, checked_sum_of, checked_sums_of_segments,
 };

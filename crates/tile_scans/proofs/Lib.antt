@@ -5,7 +5,6 @@ pub mod Outsides
 pub mod RunScans
 pub mod SegmentSlots
 pub mod SegmentTotals
-pub mod Segmented
 pub mod SegmentedTiles
 pub mod TileFronts
 pub mod Tiled

@@ -14,7 +14,7 @@ use boards::Tiles;
 use crew::{Gate, OpenGate};
 use cvl_base::monoid::know_laws;
 use cvl_base::{Config, Memory, Monoid, NoResources, Packed, Refused};
-use scan_walks::{Itself, Reading, reduces_of_readings, sum_readings_from};
+use scan_walks::{Itself, Reading, seg_reduce_readings_alone, sum_readings_from};
 use segdes::{SegDes, check_total};
 use std::mem::size_of_val;
 use std::thread::Threads;
@@ -156,12 +156,10 @@ where
         (seg_reduce_of M.join M.unit (map E.item a.now) d.now) }
     ensures one_each { IfOk result (λ sums. vec_len sums ≡ length d.now) }
 {
-    know_laws::<M>();
-    check_total(a, d)?;
     let Some(pace) = reduce_pace(config, a.len(), size_of_val(a)) else {
-        let walked = reduces_of_readings::<M, X, E, A, A>(alloc, a, d, 0, d.count(), 0, M::unit())?;
-        return Ok(walked);
+        return seg_reduce_readings_alone::<M, X, E, A>(alloc, a, d);
     };
+    check_total(a, d)?;
     let vector = Segmented::<M, X, E, A>::new(a, d, pace.tile());
     let kernel = SegmentedReduce { vector };
     let reduces = race_for_items(rt, alloc, pace, &kernel, d.count(), gate)?;

@@ -13,7 +13,7 @@ use crate::writes::scan_in_tiles;
 use crew::{Gate, OpenGate};
 use cvl_base::monoid::know_laws;
 use cvl_base::{Config, Memory, NoResources, Packed, Refused};
-use scan_walks::{Itself, Reading, scan_of_run, scan_readings_from};
+use scan_walks::{Itself, Reading, scan_readings_from, seg_scan_alone};
 use segdes::{SegDes, check_total};
 use std::thread::Threads;
 
@@ -142,11 +142,10 @@ where
     ensures values { Gives (λ sums. sums.items) result (seg_scan_of M.join M.unit a.now d.now) }
     ensures as_long { IfOk result (λ sums. vec_len sums ≡ length a.now) }
 {
-    know_laws::<M>();
-    check_total(a, d)?;
     let Some(pace) = scan_pace(config, a.len()) else {
-        return Ok(scan_of_run::<M, A>(alloc, a, d, 0, a.len(), M::unit())?);
+        return seg_scan_alone::<M, A>(alloc, a, d);
     };
+    check_total(a, d)?;
     let vector = Segmented::<M, M::Item, Itself, A>::new(a, d, pace.tile());
     let sums = scan_in_tiles(rt, alloc, pace, &vector, gate)?;
     Ok(sums)

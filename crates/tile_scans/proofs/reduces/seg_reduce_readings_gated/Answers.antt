@@ -1,33 +1,12 @@
-use Rattle.std.proofs.Common.{◌≡◌, ◌-◌, ◌<◌, Ok, arith, length, map, sym, ap, ◌∙◌}
+use Rattle.std.proofs.Common.{◌≡◌, ◌<◌, Ok, arith, length, map, sym, ap, ◌∙◌}
 use Rattle.std.specs.List.{flat_map, range_with_len}
-use Rattle.std.proofs.lemmas.List.{length-map, take_all}
+use Rattle.std.proofs.lemmas.List.{length-map}
 use Rattle.tile_scans.specs.Kernels.{reduces_at}
 use Rattle.scan_walks.specs.Runs.{reduces_of}
-use Rattle.tile_scans.proofs.Segmented.{seg_reduce-fits}
+use Rattle.scan_walks.proofs.Segmented.{seg_reduce-fits}
 use Rattle.tile_scans.proofs.SegmentedTiles.{length-reduces_of, length-segmented_sums, reduces_joined}
 use Rattle.tile_scans.proofs.Tiled.{some_tile}
 use Rattle.tile_scans.proofs.reduces.seg_reduce_readings_gated.Goals as goal
-
-pub returns-in_default-clause-values : goal.returns-in_default-clause-values
-returns-in_default-clause-values g c =
-    let m = g.M.Monoid in
-    let d = c.args.d.now in
-    let xs = map g.E.Reading.item c.args.a.now in
-    let whole = reduces_of m.join m.unit d xs in
-    seg_reduce-fits m.join m.unit xs d (c.in_ok-check_total.ensures.agrees ∙ sym (length-map c.args.a.now g.E.Reading.item))
-    ∙ ap (λ sums. Ok sums) (sym (c.in_ok-walked.ensures
-    ∙ take_all (c.count.result - 0) whole (omega (arith, length-reduces_of m.join m.unit d xs, c.count.ensures.value))))
-
-pub returns-in_default-clause-one_each : goal.returns-in_default-clause-one_each
-returns-in_default-clause-one_each g c =
-    let m = g.M.Monoid in
-    let d = c.args.d.now in
-    let xs = map g.E.Reading.item c.args.a.now in
-    let whole = reduces_of m.join m.unit d xs in
-    let values : c.in_ok-walked.walked.items ≡ whole =
-    c.in_ok-walked.ensures
-    ∙ take_all (c.count.result - 0) whole (omega (arith, length-reduces_of m.join m.unit d xs, c.count.ensures.value)) in
-    omega (arith, c.in_ok-walked.walked.ok, ap length values, length-reduces_of m.join m.unit d xs)
 
 pub returns-clause-values : goal.returns-clause-values
 returns-clause-values g c =

@@ -1,8 +1,7 @@
 use Rattle.std.proofs.Common.{◌≡◌, Ok, arith, length, map, sym, ap, ◌∙◌}
 use Rattle.std.proofs.lemmas.List.{length-map, map-id}
 use Rattle.scan_walks.specs.Runs.{scans_of}
-use Rattle.scan_walks.proofs.Cut.{whole_scanned}
-use Rattle.tile_scans.proofs.Segmented.{seg_scan-fits}
+use Rattle.scan_walks.proofs.Segmented.{seg_scan-fits}
 use Rattle.tile_scans.proofs.SegmentedTiles.{length-scans_of}
 use Rattle.tile_scans.proofs.scans.seg_scan_gated.Goals as goal
 
@@ -31,11 +30,3 @@ returns-clause-as_long g c =
       same,
       ap length c.new-vector.ensures.elements,
     )
-
-pub returns-in_default-clause-values : goal.returns-in_default-clause-values
-returns-in_default-clause-values g c =
-    let m = g.M.Monoid in
-    let d = c.args.d.now in
-    seg_scan-fits m.join m.unit c.args.a.now d c.in_ok-check_total.ensures.agrees
-    ∙ ap (λ sums. Ok sums) (sym (c.in_ok-scan_of_run.ensures.values
-    ∙ whole_scanned c.know_laws.ensures d c.args.a.now c.unit.result c.requires.items))
