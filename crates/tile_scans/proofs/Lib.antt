@@ -1,9 +1,9 @@
+pub mod FirstWithout
 pub mod FlatReduces
 pub mod FlatTiles
 pub mod Known
 pub mod Outsides
 pub mod RunScans
-pub mod SegmentSlots
 pub mod SegmentTotals
 pub mod SegmentedTiles
 pub mod TileFronts

@@ -1,8 +1,8 @@
 -- The sum of a segment over whole numbers, from what stands before the tile that holds its last element, and its elements in the tile.
 -- Source: what the definitions of Checked and Runs imply.
-use Rattle.std.proofs.Common.{◌≡◌, ◌∙◌, sym, ap, subst, ℕ, ◌+◌, ◌-◌, ◌<◌, ◌≤◌, Bool, true, ℤ, pos, ◌+ℤ◌, w64, FitsSigned, to_z, of_z, List, [], ◌++◌, length, take, drop, get_or, slice_range, arith, take-add}
+use Rattle.std.proofs.Common.{◌≡◌, ◌∙◌, sym, ap, subst, ℕ, ◌+◌, ◌-◌, ◌*◌, ◌<◌, ◌≤◌, Bool, true, ℤ, pos, ◌+ℤ◌, w64, FitsSigned, to_z, of_z, List, [], ◌∷◌, ◌++◌, map, length, take, drop, get_or, slice_range, arith, take-add}
 use Rattle.std.specs.Prelude.{sum}
-use Rattle.std.specs.List.{AllPass}
+use Rattle.std.specs.List.{AllPass, range_with_len}
 use Rattle.std.proofs.lemmas.Int.{to_z-of_z}
 use Rattle.std.proofs.lemmas.List.{drop-drop, get_or-map, length-drop, length-take}
 use Rattle.std.proofs.lemmas.List.Elements.{All-drop, All-take}
@@ -44,6 +44,13 @@ length-segment_totals lengths xs = length-reduces_of ◌+ℤ◌ (pos 0) lengths 
 
 pub length-totals_before : (plan : ℕ × ℕ) (run : List (Bool × ℤ)) → length (totals_before plan run) ≡ tile_count plan.0 plan.1
 length-totals_before plan run = length-map-range_with_len (λ t. (total_since (take (range_of plan.0 plan.1 t).0 run)).1) 0 (tile_count plan.0 plan.1)
+
+-- nothing stands before the one tile
+pub before_one : (plan : ℕ × ℕ) (run : List (Bool × ℤ)) → tile_count plan.0 plan.1 ≡ 1 → totals_before plan run ≡ pos 0 ∷ []
+before_one plan run one =
+    let start : 0 * plan.1 ≡ 0 = omega arith in
+    ap (λ n. map (λ t. (total_since (take (range_of plan.0 plan.1 t).0 run)).1) (range_with_len 0 n)) one
+    ∙ ap (λ k. (total_since (take k run)).1 ∷ []) start
 
 module _ (lengths : List ℕ) (xs : List ℤ) (s : ℕ) (lt : s < length lengths) where
   pub segment_at : get_or (segment_totals lengths xs) s (pos 0) ≡ total_of (take (get_or lengths s 0) (drop (start_of lengths s) xs))

@@ -1,10 +1,9 @@
 -- Checked scans in tiles: what stands before each tile over whole numbers, and which results don't fit 32 bits.
 -- Source: Blelloch's segmented scans and the tiles of Merrill and Garland; that the first result that doesn't fit is the fault is this
 -- library's profile.
-use Rattle.std.specs.Prelude.{ℕ, Bool, ℤ, pos, ◌+ℤ◌, List, length, map, take, nat_lt, Option, Some, None, if◌then◌else◌}
+use Rattle.std.specs.Prelude.{ℕ, ◌+◌, Bool, ℤ, pos, ◌+ℤ◌, List, [], ◌∷◌, length, map, take, nat_lt, Option, Some, None, if◌then◌else◌}
 use Rattle.std.specs.List.{range_with_len}
 use Rattle.cvl_base.specs.Folds.{fold_of}
-use Rattle.cvl_base.specs.ItemWords.{is_number}
 use Rattle.cvl_base.specs.SegmentMonoid.{seg_join, seg_unit}
 use Rattle.tile_plan.specs.Ranges.{tile_count, range_of}
 use Rattle.scan_walks.specs.Fronts.{fitting_front}
@@ -39,6 +38,8 @@ slot_of_tile plan run t = if has_outside (tile_of plan.0 plan.1 (total_scan run)
 abbrev pub segment_totals : List ℕ → List ℤ → List ℤ
 segment_totals lengths xs = reduces_of ◌+ℤ◌ (pos 0) lengths xs
 
--- the one slot of numbers that don't fit; the others have none
-abbrev pub slot_of_number : ℤ → Option ℕ
-slot_of_number z = if is_number z then None else Some 0
+-- the place of the first that has no value, where the first of all has the place given
+abbrev pub first_without : {X : Type 0} → ℕ → List (Option X) → Option ℕ
+first_without place [] = None
+first_without place (None ∷ vs) = Some place
+first_without place (Some x ∷ vs) = first_without (place + 1) vs

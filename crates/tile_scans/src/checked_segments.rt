@@ -1,7 +1,8 @@
 //! The checked scans and reduces of segments: `Overflow` at the first result that does not fit 32 bits.
 //!
 //! Workers race for the tiles of a long vector, as for those of a flat one. The sum of a segment is found from the tile that
-//! holds its last element: from what stands before the tile, and the segment's elements in the tile.
+//! holds its last element: from what stands before the tile, and the segment's elements in the tile. Where segments start about
+//! as often as threads need it there is one tile, and no race: each thread adds up segments of its own, once.
 
 ghost use Rattle.std.specs.Prelude.{◌≡◌, IfOk, length, vec_len};
 ghost use Rattle.cvl_base.specs.CheckedSums.{checked_seg_reduce_of, checked_seg_scan_of};
@@ -9,14 +10,14 @@ ghost use Rattle.cvl_base.specs.Gives.{Gives};
 
 use crate::overflows::befores_or_overflow;
 use crate::pace::{reduce_pace, scan_pace};
-use crate::segment_sums::SegmentSums;
+use crate::segment_sums::{SegmentSums, before_tiles};
 use crate::segmented_tiles::Segmented;
 use crate::segmented_totals::SegmentedTotals;
-use crate::totals::race_for_totals;
+use crate::sum_runs::fitting_sums;
+use crate::summed_tile::summed_tile;
 use crate::writes::scan_after;
 use cvl_base::monoids::Add;
-use cvl_base::{Config, Fault, FaultNo, Memory, Refused};
-use fresh::write_in_runs;
+use cvl_base::{Config, Memory, Refused};
 use scan_walks::{Itself, checked_scan_of_segments, checked_sums_of_segments, know_numbers};
 use segdes::{SegDes, check_total};
 use sharing::threads_for;
@@ -73,16 +74,12 @@ pub fn checked_seg_reduce<R: Threads + Sync, A: Memory>(
     let Some(pace) = reduce_pace(config, a.len(), size_of_val(a)) else {
         return checked_sums_of_segments(alloc, a, d);
     };
-    let totals = SegmentedTotals::new(a, d, pace.tile());
-    let before = race_for_totals(rt, alloc, pace, &totals)?;
-    let vector = SegmentSums {
+    let totals = SegmentedTotals::new(a, d, summed_tile(pace, d));
+    let before = before_tiles(rt, alloc, pace, &totals)?;
+    let sums = SegmentSums {
         vector: &totals,
         before: &before,
     };
-    if let Some(segment) = vector.first_overflow(rt, alloc, pace)? {
-        return Err(Refused::Fault(Fault::at(FaultNo::Overflow, segment)));
-    }
     let threads = threads_for(pace, a.len().max(d.count()));
-    let sums = write_in_runs(rt, alloc, threads, &vector, d.count())?;
-    Ok(sums)
+    fitting_sums(rt, alloc, threads, &sums, d.count())
 }

@@ -21,6 +21,8 @@ mod scans;
 mod segment_sums;
 mod segmented_tiles;
 mod segmented_totals;
+mod sum_runs;
+mod summed_tile;
 mod tile_work;
 mod totals;
 mod writes;

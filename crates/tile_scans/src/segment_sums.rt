@@ -1,16 +1,16 @@
 //! The sums of segments, each found from the tile that holds the segment's last element.
 
-ghost use Rattle.std.specs.Prelude.{◌≡◌, IfOk};
+ghost use Rattle.std.specs.Prelude.{◌≡◌, ◌∷◌, [], pos, IfOk};
+ghost use Rattle.std.specs.Option.{option_or};
 ghost use Rattle.scan_walks.specs.Runs.{with_starts};
-ghost use Rattle.tile_scans.specs.Checked.{first_outside, segment_totals, totals_before};
+ghost use Rattle.tile_scans.specs.Checked.{first_without, totals_before};
 
 use crate::segmented_totals::SegmentedTotals;
-use boards::Targets;
-use crew::OpenGate;
+use crate::sum_runs::Sums;
+use crate::totals::race_for_totals;
 use cvl_base::monoids::Add;
 use cvl_base::{Config, Memory, NoResources, Packed};
-use fresh::{Run, Writer};
-use least_races::race_for_least;
+use fresh::Run;
 use scan_walks::fitting;
 use std::alloc::Allocator;
 use std::thread::Threads;
@@ -24,74 +24,83 @@ pub(crate) struct SegmentSums<'a, A: Allocator> {
         ≡ totals_before vector.now.plan (with_starts vector.now.segments.now vector.now.elements.now) },
 }
 
-impl<'a, A: Memory> SegmentSums<'a, A> {
-    /// The first segment whose sum does not fit 32 bits. Workers race for it, in no more tiles of segments than there are tiles
-    /// of elements.
-    pub(crate) fn first_overflow<R: Threads + Sync>(
-        &self,
-        rt: &R,
-        alloc: A,
-        config: Config,
-    ) -> Result<Option<u32>, NoResources>
-        ensures { IfOk result (λ s. s
-            ≡ first_outside (segment_totals self.now.vector.now.segments.now self.now.vector.now.elements.now)) }
-    {
-        let tiles = self.vector.plan.count().max(1);
-        let each = self.places().div_ceil(tiles).max(1);
-        let pace = Config::new(each, config.workers()).unwrap_or(config);
-        let first = race_for_least(rt, alloc, pace, self, &OpenGate)?;
-        Ok(first)
+/// What stands before the one tile of a vector.
+fn nothing_before<A: Memory>(alloc: A) -> Result<Vec<i64, A>, NoResources>
+    ensures { IfOk result (λ before. before.items ≡ pos 0 ∷ []) }
+{
+    let mut before = Vec::with_capacity(alloc, 1)?;
+    before.push_reserved(0);
+    Ok(before)
+}
+
+/// What stands before each tile. Workers race for it; for one tile no thread is started, and no element is read.
+pub(crate) fn before_tiles<R: Threads + Sync, A: Memory>(
+    rt: &R,
+    alloc: A,
+    config: Config,
+    vector: &SegmentedTotals<A>,
+) -> Result<Vec<i64, A>, NoResources>
+    ensures { IfOk result (λ before. before.items
+        ≡ totals_before vector.now.plan (with_starts vector.now.segments.now vector.now.elements.now)) }
+{
+    if vector.plan.count() == 1 {
+        return nothing_before(alloc);
+    }
+    race_for_totals(rt, alloc, config, vector)
+}
+
+/// The place of the first number that does not fit, where one was found before, or else that of this one if it does not.
+#[inline(always)]
+fn first_of(outside: Option<usize>, number: Option<i32>, place: usize) -> Option<usize>
+    ensures { result ≡ option_or outside (first_without place (number ∷ [])) }
+{
+    match (outside, number) {
+        (None, None) => Some(place),
+        _ => outside,
     }
 }
 
-/// The segments whose sum does not fit 32 bits, all in one slot.
-impl<'a, A: Allocator> Targets for SegmentSums<'a, A> {
-    ghost use Rattle.std.specs.Prelude.{map};
-    ghost use Rattle.tile_scans.specs.Checked.{segment_totals, slot_of_number};
-
-    ghost targets = { λ sums. map slot_of_number (segment_totals sums.vector.now.segments.now sums.vector.now.elements.now) };
-
-    ghost slot_count = { λ sums. 1 };
-
-    fn places(&self) -> u32 {
-        self.vector.segments.count() as u32
-    }
-
-    fn slots(&self) -> u32 {
-        1
-    }
-
-    fn slot(&self, place: u32) -> Option<u32> {
-        match fitting(&self.vector.segment_total(place as usize, self.before)) {
-            Some(_) => None,
-            None => Some(0),
-        }
-    }
-}
-
-/// The sums, wrapped to 32 bits.
-impl<'a, A: Allocator> Writer<i32> for SegmentSums<'a, A> {
+impl<'a, A: Allocator> Sums for SegmentSums<'a, A> {
     ghost use Rattle.std.specs.Prelude.{◌≡◌, ◌+◌, ◌≤◌, [], length, map};
+    ghost use Rattle.cvl_base.specs.CheckedSums.{fitting};
     ghost use Rattle.cvl_base.specs.Integers.{wrap};
     ghost use Rattle.fresh.specs.Parts.{part};
     ghost use Rattle.fresh.specs.Places.{stretch};
-    ghost use Rattle.tile_scans.specs.Checked.{segment_totals};
+    ghost use Rattle.tile_scans.specs.Checked.{first_without, segment_totals};
 
-    ghost whole = { λ sums. map wrap (segment_totals sums.vector.now.segments.now sums.vector.now.elements.now) };
+    ghost sums = { λ sums. segment_totals sums.vector.now.segments.now sums.vector.now.elements.now };
 
-    fn write(&self, run: Run<i32>) -> Run<i32>
+    fn write(&self, run: Run<i32>) -> (Run<i32>, Option<usize>)
         requires empty { run.items ≡ [] }
         requires within { run.first + run.room
-            ≤ length (map wrap (segment_totals self.now.vector.now.segments.now self.now.vector.now.elements.now)) }
-        ensures { result ≡ stretch run.block run.first (part
+            ≤ length (segment_totals self.now.vector.now.segments.now self.now.vector.now.elements.now) }
+        ensures run { result.0 ≡ stretch run.block run.first (part
             (map wrap (segment_totals self.now.vector.now.segments.now self.now.vector.now.elements.now))
             run.first run.room) 0 }
+        ensures outside { result.1 ≡ first_without run.first (part
+            (map fitting (segment_totals self.now.vector.now.segments.now self.now.vector.now.elements.now))
+            run.first run.room) }
     {
         let mut run = run;
+        let mut outside = None;
         while run.room() > 0 {
-            let sum = self.vector.segment_total(run.next_place(), self.before);
+            let place = run.next_place();
+            let sum = self.vector.segment_total(place, self.before);
+            outside = first_of(outside, fitting(&sum), place);
             run.push(Add::from_word(sum));
         }
-        run
+        (run, outside)
+    }
+
+    fn share(&self, first: usize, count: usize, fewer: usize, threads: usize) -> usize {
+        let from = self.vector.start_or_total(first);
+        let to = self.vector.start_or_total(first.saturating_add(count));
+        let elements = to.saturating_sub(from) / threads;
+        let place = from.saturating_add(elements.saturating_mul(fewer));
+        self.vector
+            .segments
+            .starts_before(place)
+            .saturating_sub(first)
+            .min(count)
     }
 }

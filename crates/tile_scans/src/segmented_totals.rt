@@ -51,6 +51,15 @@ impl<'a, A: Allocator> SegmentedTotals<'a, A> {
         }
     }
 
+    /// Where segment `s` starts, and the number of elements where the segments end.
+    pub(crate) fn start_or_total(&self, s: usize) -> usize {
+        if s < self.segments.count() {
+            self.segments.start(s)
+        } else {
+            self.segments.total()
+        }
+    }
+
     /// The sum of segment `s`, where it is known what stands before each tile. No element before the tile that holds the
     /// segment's last one is read.
     pub(crate) fn segment_total(&self, s: usize, before: &[i64]) -> i64

@@ -1,46 +1,32 @@
-use Rattle.std.proofs.Common.{Err, length, map, sym, ap, ◌∙◌, arith}
-use Rattle.std.proofs.lemmas.List.{length-map}
-use Rattle.cvl_base.specs.Integers.{wrap}
-use Rattle.tile_scans.specs.Checked.{first_outside, segment_totals}
-use Rattle.tile_scans.proofs.SegmentSlots.{reduce_overflows, reduce_written}
+use Rattle.std.proofs.Common.{◌≡◌, ℤ, List, length, map, vec_len, sym, ap, subst, ◌∙◌, arith}
+use Rattle.std.specs.Prelude.{IfOk}
+use Rattle.cvl_base.specs.CheckedSums.{fitting}
+use Rattle.cvl_base.specs.declared.fault.FaultNo.TheVariants.{Overflow}
+use Rattle.cvl_base.specs.Elementwise.{values_from}
+use Rattle.cvl_base.specs.Gives.{Gives}
+use Rattle.scan_walks.proofs.Valued.{sums_valued}
+use Rattle.tile_scans.specs.Checked.{segment_totals}
 use Rattle.tile_scans.proofs.SegmentTotals.{length-segment_totals}
 use Rattle.tile_scans.proofs.checked_segments.checked_seg_reduce.Goals as goal
-
-pub returns-in-Some-2-clause-values : goal.returns-in-Some-2-clause-values
-returns-in-Some-2-clause-values g c =
-    let a = c.args.a.now in
-    let d = c.args.d.now in
-    let totals = c.new-totals.result in
-    let outside = c.in_ok-segment.ensures ∙ ap (λ ls. first_outside (segment_totals ls totals.elements.now)) c.new-totals.ensures.segments
-    ∙ ap (λ xs. first_outside (segment_totals d xs)) c.new-totals.ensures.elements in
-    reduce_overflows d a c.in_ok-check_total.ensures.agrees c.in_ok-segment.field-0 outside c.in-Some-2.segment c.in-Some-2.is ∙ ap Err (sym c.at.ensures)
 
 pub returns-clause-values : goal.returns-clause-values
 returns-clause-values g c =
     let a = c.args.a.now in
     let d = c.args.d.now in
     let totals = c.new-totals.result in
-    let outside = c.in_ok-segment.ensures ∙ ap (λ ls. first_outside (segment_totals ls totals.elements.now)) c.new-totals.ensures.segments
-    ∙ ap (λ xs. first_outside (segment_totals d xs)) c.new-totals.ensures.elements in
-    let written = c.in_ok-sums.ensures ∙ ap (λ ls. map wrap (segment_totals ls totals.elements.now)) c.new-totals.ensures.segments
-    ∙ ap (λ xs. map wrap (segment_totals d xs)) c.new-totals.ensures.elements in
-    reduce_written d a c.in_ok-check_total.ensures.agrees c.in_ok-segment.field-0 outside c.in_ok-sums.sums.items c.in_default-2.is written
+    let meaning = λ (zs : List ℤ). values_from Overflow 0 (map fitting zs) in
+    let same = ap (λ ls. meaning (segment_totals ls totals.elements.now)) c.new-totals.ensures.segments
+    ∙ ap (λ xs. meaning (segment_totals d xs)) c.new-totals.ensures.elements
+    ∙ sym (sums_valued d a c.in_ok-check_total.ensures.agrees) in
+    subst (Gives (λ sums. sums.items) c.fitting_sums.result) same c.fitting_sums.ensures.values
 
 pub returns-clause-one_each : goal.returns-clause-one_each
 returns-clause-one_each g c =
     let totals = c.new-totals.result in
-    let sums = segment_totals totals.segments.now totals.elements.now in
-    omega (
-      arith,
-      c.in_ok-sums.sums.ok,
-      ap length c.in_ok-sums.ensures,
-      length-map sums wrap,
-      length-segment_totals totals.segments.now totals.elements.now,
-      ap length c.new-totals.ensures.segments,
-    )
+    let long = length-segment_totals totals.segments.now totals.elements.now ∙ ap length c.new-totals.ensures.segments in
+    subst (λ n. IfOk c.fitting_sums.result (λ sums. vec_len sums ≡ n)) long c.fitting_sums.ensures.as_many
 
-pub write_in_runs-requires-after_bounds : goal.write_in_runs-requires-after_bounds
-write_in_runs-requires-after_bounds g c κs within =
+pub fitting_sums-requires-clause-count : goal.fitting_sums-requires-clause-count
+fitting_sums-requires-clause-count g c κs within =
     let totals = c.new-totals.result in
-    let sums = segment_totals totals.segments.now totals.elements.now in
-    omega (arith, c.count-2.ensures.value, length-map sums wrap, length-segment_totals totals.segments.now totals.elements.now, ap length c.new-totals.ensures.segments)
+    omega (arith, c.count-2.ensures.value, length-segment_totals totals.segments.now totals.elements.now, ap length c.new-totals.ensures.segments)

@@ -1,0 +1,43 @@
+//! How long the tiles are by which segments are summed. No result depends on it.
+
+ghost use Rattle.std.specs.Prelude.{◌≤◌};
+
+use cvl_base::Config;
+use segdes::SegDes;
+use sharing::LONG_TILE;
+use std::alloc::Allocator;
+
+/// Where the first segment starts that starts at a place or after it, and the number of elements where none does.
+fn start_from<A: Allocator>(d: &SegDes<A>, place: usize) -> usize {
+    let s = d.starts_before(place);
+    if s < d.count() { d.start(s) } else { d.total() }
+}
+
+/// Whether the elements can be cut between segments into so many parts, of which there is at least one, that are nearly equal:
+/// after each place that cuts them into equal parts a segment starts within half a part.
+fn is_cut_evenly<A: Allocator>(d: &SegDes<A>, parts: usize) -> bool
+    requires { 1 ≤ parts }
+{
+    let each = d.total() / parts;
+    for part in 1..parts {
+        let place = each.saturating_mul(part);
+        if start_from(d, place).saturating_sub(place) > each / 2 {
+            return false;
+        }
+    }
+    true
+}
+
+/// How long the tiles are by which segments are summed: one tile for all where each worker can have whole segments, and else
+/// those of the race. Who asks for short tiles gets those.
+///
+/// With one tile each worker adds up its segments once. The race adds up all elements twice, so that it is no faster than the
+/// worker who has half a part more than an equal one.
+pub(crate) fn summed_tile<A: Allocator>(pace: Config, d: &SegDes<A>) -> u32
+    ensures { 1 ≤ result }
+{
+    if pace.tile() < LONG_TILE || !is_cut_evenly(d, pace.workers() as usize) {
+        return pace.tile();
+    }
+    (d.total() as u32).max(1)
+}
