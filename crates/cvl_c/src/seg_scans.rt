@@ -122,12 +122,7 @@ fn bool_reduce_by(
 }
 
 /// The scan of each segment of integers by the operator of a number.
-fn int_scan(
-    alloc: Global,
-    op: u32,
-    a: &[i32],
-    lengths: &[i32],
-) -> Result<Vec<i32, Global>, Refused>
+fn int_scan(alloc: Global, op: u32, a: &[i32], lengths: &[i32]) -> Result<Vec<i32, Global>, Refused>
     ensures { Gives (λ v. v.items) result (by_operator (int_monoid op)
         (λ o. by_segments lengths.now (seg_scan_of (int_join_of o) (int_unit_of o) a.now))) }
 {
