@@ -1,6 +1,6 @@
 -- What an export answers, and what it leaves in its caller's room.
 -- Source: this library's faults and their places, told as two numbers.
-use Rattle.std.specs.Prelude.{◌≡◌, ℕ, ◌==◌, not, ◌⊎◌, ℤ, pos, negsuc, List, length, Result, Ok, Err, Option, Some, None}
+use Rattle.std.specs.Prelude.{◌≡◌, ℕ, ◌==◌, nat_lt, not, ◌⊎◌, ℤ, pos, negsuc, List, ◌++◌, drop, length, Result, Ok, Err, Option, Some, None}
 use Rattle.cvl_base.specs.declared.fault.Fault.{Fault}
 use Rattle.cvl_base.specs.declared.fault.FaultNo.TheVariants as no
 use Rattle.cvl_base.specs.declared.refused.Refused.{Refused}
@@ -41,3 +41,23 @@ ToldOr meaning status before now = Told meaning status before now ⊎ ((status �
 -- a list that fills a room of this length, else the fault of lengths that differ
 abbrev pub in_room : {X : Type 0} → ℕ → Result (List X) Fault → Result (List X) Fault
 in_room room meaning = meaning >>= λ xs. fault_if (not (length xs == room)) (fault no.LengthMismatch) (Ok xs)
+
+-- these items at the front of a room, whose rest is as before, else the fault of lengths that differ
+abbrev pub at_front : {X : Type 0} → List X → List X → Result (List X) Fault
+at_front room xs = fault_if (nat_lt (length room) (length xs)) (fault no.LengthMismatch) (Ok (xs ++ drop (length xs) room))
+
+-- how many items there are, else what the count was before
+abbrev pub count_or : {X : Type 0} → ℕ → Result (List X) Fault → ℕ
+count_or before (Ok xs) = length xs
+count_or before (Err f) = before
+
+-- Items whose number the caller may not know: they stand at the front of the room, or the room is too short and as before; in
+-- both cases the count is their number. Or the answer is the fault, and room and count are as before.
+abbrev pub FrontTold : {X : Type 0} → Result (List X) Fault → CvlStatus → List X → List X → ℕ → ℕ → Type 0
+FrontTold meaning status before now count counted =
+    Told (meaning >>= at_front before) status before now × (counted ≡ count_or count meaning)
+
+-- The same, or memory ran out and room and count are as before.
+abbrev pub FrontToldOr : {X : Type 0} → Result (List X) Fault → CvlStatus → List X → List X → ℕ → ℕ → Type 0
+FrontToldOr meaning status before now count counted =
+    FrontTold meaning status before now count counted ⊎ ((status ≡ no_resources) × (now ≡ before) × (counted ≡ count))

@@ -1,13 +1,13 @@
 //! What an export answers, and what it leaves in its caller's room.
 
-ghost use Rattle.std.specs.Prelude.{◌≡◌, ◌≢◌, List, Result, length, MatchResult};
+ghost use Rattle.std.specs.Prelude.{◌≡◌, ◌≢◌, Err, List, Ok, Result, length, MatchResult};
 ghost use Rattle.cvl_base.specs.declared.fault.Fault.{Fault};
 ghost use Rattle.cvl_base.specs.declared.fault.FaultNo.TheVariants as no;
 ghost use Rattle.cvl_base.specs.Faults.{fault};
 ghost use Rattle.cvl_base.specs.Gives.{Gives};
-ghost use Rattle.cvl_c.specs.Told.{Told, ToldOr, done, in_room, status_of};
+ghost use Rattle.cvl_c.specs.Told.{FrontToldOr, Told, ToldOr, at_front, done, in_room, status_of};
 
-use cvl_base::{Fault, Refused, check_agree};
+use cvl_base::{Fault, FaultNo, Refused, check_agree};
 use std::alloc::Global;
 
 /// What an export answers: a number, and a place where the number is that of a fault that has one.
@@ -66,6 +66,43 @@ pub(crate) fn told<T: Copy>(answer: Result<Vec<T, Global>, Refused>, room: &mut 
             Ok(()) => done(),
             Err(fault) => status_of(fault.into()),
         },
+        Err(refused) => status_of(refused),
+    }
+}
+
+/// Puts items at the front of a room, whose rest stays as it is, or tells LengthMismatch, without a place, where the room is too
+/// short, and leaves it as it is.
+fn put_in_front<T: Copy>(items: &[T], room: &mut [T]) -> Result<(), Fault>
+    ensures { MatchResult result (λ _. at_front room.old items.now ≡ Ok room.new)
+        (λ f. (at_front room.old items.now ≡ Err f) × (room.new ≡ room.old)) }
+{
+    if items.len() > room.len() {
+        return Err(Fault::new(FaultNo::LengthMismatch));
+    }
+    let (front, _) = room.split_at_mut(items.len());
+    front.copy_from_slice(items);
+    Ok(())
+}
+
+/// Tells a caller the items of a call, who may not know how many they are: at the front of a room, and their number as the
+/// count. Where the room is too short it is as before, and the count is how long it has to be. Where the call has no items the
+/// room and the count are as before.
+pub(crate) fn told_in_front<T: Copy>(
+    answer: Result<Vec<T, Global>, Refused>,
+    room: &mut [T],
+    count: &mut usize,
+) -> CvlStatus
+    ensures { (meaning : Result (List T) Fault) → Gives (λ v. v.items) answer meaning
+        → FrontToldOr meaning result room.old room.new count.old count.new }
+{
+    match answer {
+        Ok(items) => {
+            *count = items.len();
+            match put_in_front(&items, room) {
+                Ok(()) => done(),
+                Err(fault) => status_of(fault.into()),
+            }
+        }
         Err(refused) => status_of(refused),
     }
 }
