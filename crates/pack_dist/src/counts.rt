@@ -13,6 +13,7 @@ use crew::{Gate, OpenGate};
 use cvl_base::monoids::Add;
 use cvl_base::{Config, Memory, NoResources, Refused, true_count};
 use scan_ops::{Reading, scan_readings_gated, seg_reduce_readings_gated};
+use scan_walks::seg_reduce_readings_alone;
 use segdes::SegDes;
 use std::thread::Threads;
 
@@ -90,4 +91,20 @@ pub fn seg_count_gated<R: Threads + Sync, A: Memory, G: Gate>(
     // its contract names the limits of a descriptor's lengths
     let _lengths = d.lengths();
     seg_reduce_readings_gated::<R, A, Add, bool, Ones, G>(rt, alloc, config, flags, d, gate)
+}
+
+/// The same as [`seg_count`], by the thread that calls.
+pub fn seg_count_alone<A: Memory>(
+    alloc: A,
+    flags: &[bool],
+    d: &SegDes<A>,
+) -> Result<Vec<i32, A>, Refused>
+    ensures values { Gives (λ counts. map unsigned_abs counts.items) result
+        (seg_count_of flags.now d.now) }
+    ensures lengths { IfOk result (λ counts. AreLengths counts.items) }
+    ensures one_each { IfOk result (λ counts. vec_len counts ≡ length d.now) }
+{
+    // its contract names the limits of a descriptor's lengths
+    let _lengths = d.lengths();
+    seg_reduce_readings_alone::<Add, bool, Ones, A>(alloc, flags, d)
 }

@@ -7,10 +7,11 @@ ghost use Rattle.cvl_base.specs.Packs.{count_of, pack_of};
 ghost use Rattle.pack_dist.specs.Kept.{ArePlaces, kept_of};
 
 use crate::counts::counts_before;
+use crate::kept_blocks::push_kept;
 use crate::kept_runs::Kept;
 use crew::{Gate, OpenGate};
-use cvl_base::{Config, Memory, NoResources, Refused, check_agree};
-use fresh::write_in_runs;
+use cvl_base::{Config, Memory, NoResources, Refused, check_agree, true_count};
+use fresh::{Room, write_in_runs};
 use sharing::threads_for;
 use std::thread::Threads;
 
@@ -49,6 +50,19 @@ pub fn pack_gated<T: Copy + Send + Sync, R: Threads + Sync, A: Memory, G: Gate>(
     Ok(kept(rt, alloc, config, values, flags, gate)?)
 }
 
+/// The same as [`pack`], by the thread that calls.
+pub fn pack_alone<T: Copy, A: Memory>(
+    alloc: A,
+    values: &[T],
+    flags: &[bool],
+) -> Result<Vec<T, A>, Refused>
+    requires few { length flags.now ≤ most_elements }
+    ensures { Gives (λ v. v.items) result (pack_of values.now flags.now) }
+{
+    check_agree(values.len(), flags.len())?;
+    Ok(kept_alone(alloc, values, flags)?)
+}
+
 /// The elements whose flag is true, of as many as there are flags. A scan of the flags says where each of them is put, and
 /// so where in the flags a run of the result begins. The workers of that scan pass the gate.
 pub(crate) fn kept<T: Copy + Send + Sync, R: Threads + Sync, A: Memory, G: Gate>(
@@ -77,6 +91,21 @@ pub(crate) fn kept<T: Copy + Send + Sync, R: Threads + Sync, A: Memory, G: Gate>
     };
     let threads = threads_for(config, flags.len());
     Ok(write_in_runs(rt, alloc, threads, &kept, count)?)
+}
+
+/// The elements whose flag is true, of as many as there are flags, by the thread that calls. It needs no places: the flags are
+/// counted, and what is kept is pushed in order.
+pub(crate) fn kept_alone<T: Copy, A: Memory>(
+    alloc: A,
+    values: &[T],
+    flags: &[bool],
+) -> Result<Vec<T, A>, NoResources>
+    requires few { length flags.now ≤ most_elements }
+    requires as_long { length values.now ≡ length flags.now }
+    ensures { IfOk result (λ v. v.items ≡ kept_of values.now flags.now) }
+{
+    let (room, run) = Room::new(alloc, true_count(flags))?;
+    Ok(room.into_vec(push_kept(run, values, flags)))
 }
 
 /// How many flags are true, of which there is at least one: the place of the last, and one more where it is true.

@@ -5,7 +5,7 @@ ghost use Rattle.cvl_base.specs.Gives.{Gives};
 ghost use Rattle.cvl_base.specs.SegmentedCalls.{seg_count_of, seg_pack_of};
 
 use crate::counts::seg_count_gated;
-use crate::packs::kept;
+use crate::packs::{kept, kept_alone};
 use crew::{Gate, OpenGate};
 use cvl_base::{Config, Lengths, Memory, Refused};
 use segdes::{SegDes, check_total};
@@ -45,6 +45,20 @@ pub fn seg_pack_values_gated<T: Copy + Send + Sync, R: Threads + Sync, A: Memory
     check_total(values, d)?;
     check_total(flags, d)?;
     Ok(kept(rt, alloc, config, values, flags, gate)?)
+}
+
+/// The same as [`seg_pack_values`], by the thread that calls.
+pub fn seg_pack_values_alone<T: Copy, A: Memory>(
+    alloc: A,
+    values: &[T],
+    flags: &[bool],
+    d: &SegDes<A>,
+) -> Result<Vec<T, A>, Refused>
+    ensures { Gives (λ v. v.items) result (seg_pack_of values.now flags.now d.now) }
+{
+    check_total(values, d)?;
+    check_total(flags, d)?;
+    Ok(kept_alone(alloc, values, flags)?)
 }
 
 /// The descriptor of what a segmented pack keeps: `pck_fov`. An empty segment stays, with length 0.
