@@ -7,6 +7,11 @@
  * where memory ran out. Where all is done the result is in the caller's room, the last array, value or values given. Else the
  * room is as it was. Each array comes as a pointer and a number of elements.
  *
+ * A function whose last argument is a count tells how many elements there are. They are at the front of the room, and the rest
+ * of the room is as it was. Where the room is too short, it is as it was, the status is 7 LengthMismatch, and the count is how
+ * many elements there have to be room for; a first call with room for none asks for that. At any other fault the count is as it
+ * was too.
+ *
  * What a caller owes: pointers that are not null, also where the number of elements is 0, to as many elements as is said; no
  * room that overlaps an argument or is used by another thread meanwhile; a bool that is 0 or 1; one malloc, realloc and
  * free in the program. All else is checked: whatever lengths, indices, operators and rooms are given, a call ends with a
@@ -14,7 +19,7 @@
  *
  * Faults, beside those named at each function:
  *   2 UnknownCall, without a place, where a number is that of no operator of the family;
- *   7 LengthMismatch, without a place, where a room is not as long as the result, checked last;
+ *   7 LengthMismatch, without a place, where a room is not as long as the result, or shorter where a count is told, checked last;
  *  13 TooLong, without a place, where a vector has more than 4194304 elements, checked after the operator.
  * Places count from 0. Where two faults are there, the first in the order of the comment is told.
  */
@@ -219,6 +224,34 @@ CvlStatus cvl_seg_bool_scan(
 /* The booleans of each segment joined by the operator, of CVL_AND to CVL_XOR. */
 CvlStatus cvl_seg_bool_reduce(
     uint32_t op, const bool *a, size_t a_len, const int32_t *lengths, size_t segments, bool *out, size_t out_len);
+
+/* ---- packs and counts of segments: exports ---- */
+
+/* The integers whose flag is true, in order, and how many they are. */
+CvlStatus cvl_pack_int(
+    const int32_t *values, size_t values_len, const bool *flags, size_t flags_len, int32_t *out, size_t out_len, size_t *count);
+
+/* The booleans whose flag is true, in order, and how many they are. */
+CvlStatus cvl_pack_bool(
+    const bool *values, size_t values_len, const bool *flags, size_t flags_len, bool *out, size_t out_len, size_t *count);
+
+/* The integers of each segment whose flag is true, in order, one segment after another, and how many they are. */
+CvlStatus cvl_seg_pack_int(
+    const int32_t *values, size_t values_len, const bool *flags, size_t flags_len, const int32_t *lengths, size_t segments,
+    int32_t *out, size_t out_len, size_t *count);
+
+/* The booleans of each segment whose flag is true, in order, one segment after another, and how many they are. */
+CvlStatus cvl_seg_pack_bool(
+    const bool *values, size_t values_len, const bool *flags, size_t flags_len, const int32_t *lengths, size_t segments,
+    bool *out, size_t out_len, size_t *count);
+
+/* The lengths of the segments of what a pack of segments keeps. */
+CvlStatus cvl_packed_lengths(
+    const bool *flags, size_t flags_len, const int32_t *lengths, size_t segments, int32_t *out, size_t out_len);
+
+/* The number of true flags of each segment. */
+CvlStatus cvl_seg_count(
+    const bool *flags, size_t flags_len, const int32_t *lengths, size_t segments, int32_t *out, size_t out_len);
 
 /* ---- place by place: the calls of the table ---- */
 
@@ -1065,6 +1098,74 @@ static inline CvlStatus xor_seb(const bool *a, const int32_t *lengths, size_t se
  */
 static inline CvlStatus xor_reb(const bool *a, size_t n, const int32_t *lengths, size_t segments, bool *out) {
     return cvl_seg_bool_reduce(CVL_XOR, a, n, lengths, segments, out, segments);
+}
+
+/* ---- packs and counts of segments: the calls of the table ---- */
+
+/*
+ * pck_luz: The values whose flag is true, in their order. values and flags have n elements, out has room for so many; room for n
+ * is always enough. *count is how many they are, also where there is not room for them.
+ * Faults: 13 TooLong; 7 LengthMismatch where there is not room.
+ * values = 1 2 3 4 5, flags = false true true false true: out = 2 3 5, *count = 3
+ */
+static inline CvlStatus pck_luz(
+    const int32_t *values, const bool *flags, size_t n, int32_t *out, size_t room, size_t *count) {
+    return cvl_pack_int(values, n, flags, n, out, room, count);
+}
+
+/*
+ * pck_lub: The values whose flag is true, in their order. values and flags have n elements, out has room for so many; room for n
+ * is always enough. *count is how many they are, also where there is not room for them.
+ * Faults: 13 TooLong; 7 LengthMismatch where there is not room.
+ * values = true false true, flags = false true true: out = false true, *count = 2
+ */
+static inline CvlStatus pck_lub(const bool *values, const bool *flags, size_t n, bool *out, size_t room, size_t *count) {
+    return cvl_pack_bool(values, n, flags, n, out, room, count);
+}
+
+/*
+ * pck_lez: The values of each segment whose flag is true, in their order, one segment after another; pck_fov tells the lengths
+ * of these segments. values and flags have n elements, out has room for so many; room for n is always enough. *count is how many
+ * they are, also where there is not room for them.
+ * Faults: 7 LengthMismatch where the lengths do not add up to n, with *count as it was, and where there is not room.
+ * values = 1 2 3 4 5, flags = false true true false true, lengths = 2 0 3: out = 2 3 5, *count = 3
+ */
+static inline CvlStatus pck_lez(
+    const int32_t *values, const bool *flags, size_t n, const int32_t *lengths, size_t segments, int32_t *out, size_t room,
+    size_t *count) {
+    return cvl_seg_pack_int(values, n, flags, n, lengths, segments, out, room, count);
+}
+
+/*
+ * pck_leb: The values of each segment whose flag is true, in their order, one segment after another; pck_fov tells the lengths
+ * of these segments. values and flags have n elements, out has room for so many; room for n is always enough. *count is how many
+ * they are, also where there is not room for them.
+ * Faults: 7 LengthMismatch where the lengths do not add up to n, with *count as it was, and where there is not room.
+ * values = true false true, flags = false true true, lengths = 1 2: out = false true, *count = 2
+ */
+static inline CvlStatus pck_leb(
+    const bool *values, const bool *flags, size_t n, const int32_t *lengths, size_t segments, bool *out, size_t room,
+    size_t *count) {
+    return cvl_seg_pack_bool(values, n, flags, n, lengths, segments, out, room, count);
+}
+
+/*
+ * pck_fov: The lengths of the segments of what a pack keeps, or a select permute, 0 for a segment of which nothing is kept. flags
+ * has n elements, out one for each segment.
+ * Faults: 7 LengthMismatch where the lengths do not add up to n.
+ * flags = false true true false true, lengths = 2 0 3: out = 1 0 2
+ */
+static inline CvlStatus pck_fov(const bool *flags, size_t n, const int32_t *lengths, size_t segments, int32_t *out) {
+    return cvl_packed_lengths(flags, n, lengths, segments, out, segments);
+}
+
+/*
+ * cnt_leb: The number of true flags of each segment. flags has n elements, out one for each segment.
+ * Faults: 7 LengthMismatch where the lengths do not add up to n.
+ * flags = false false true false true, lengths = 2 0 3: out = 0 0 2
+ */
+static inline CvlStatus cnt_leb(const bool *flags, size_t n, const int32_t *lengths, size_t segments, int32_t *out) {
+    return cvl_seg_count(flags, n, lengths, segments, out, segments);
 }
 
 #ifdef __cplusplus

@@ -58,6 +58,12 @@ static void leaves(const char *call, int first_int, int first_bool) {
     }
 }
 
+/* The status is that of a call which told so many elements as the total. */
+static void counts(const char *call, CvlStatus status, uint32_t number, size_t count) {
+    tells(call, status, number, -1);
+    if (total != count) fail(call, "another count");
+}
+
 static void holds_ints(const char *call, const int32_t *wanted, size_t count) {
     if (memcmp(ints, wanted, count * sizeof *wanted) != 0) fail(call, "other integers");
     leaves(call, (int)count, 0);
@@ -97,6 +103,7 @@ static void holds_bools(const char *call, const bool *wanted, size_t count) {
         if (status.number != CVL_DONE) {                                                                                        \
             tells(#call, status, CVL_NO_RESOURCES, -1);                                                                         \
             leaves(#call, 0, 0);                                                                                                \
+            if (total != UNTOUCHED) fail(#call, "the total was written");                                                       \
         }                                                                                                                       \
     } while (0)
 
@@ -107,6 +114,26 @@ static void holds_bools(const char *call, const bool *wanted, size_t count) {
         tells(#call, call, number, place);                                                                                      \
         leaves(#call, 0, 0);                                                                                                    \
         if (total != UNTOUCHED) fail(#call, "the total was written");                                                           \
+    } while (0)
+
+/* The call is done, and the front of the room holds these integers or booleans, whose number is told as the total. */
+#define COUNTED_INTS(call, ...)                                                                                                 \
+    do {                                                                                                                        \
+        INTS(call, __VA_ARGS__);                                                                                                \
+        counts(#call, call, CVL_DONE, sizeof((const int32_t[]){__VA_ARGS__}) / sizeof(int32_t));                                \
+    } while (0)
+#define COUNTED_BOOLS(call, ...)                                                                                                \
+    do {                                                                                                                        \
+        BOOLS(call, __VA_ARGS__);                                                                                               \
+        counts(#call, call, CVL_DONE, sizeof((const bool[]){__VA_ARGS__}) / sizeof(bool));                                      \
+    } while (0)
+
+/* The room is too short for so many elements, which are told as the total, and is as before. */
+#define TOO_SHORT(call, needed)                                                                                                 \
+    do {                                                                                                                        \
+        reset();                                                                                                                \
+        counts(#call, call, CVL_LENGTH_MISMATCH, needed);                                                                       \
+        leaves(#call, 0, 0);                                                                                                    \
     } while (0)
 
 #define I(...) ((const int32_t[]){__VA_ARGS__})
@@ -373,6 +400,61 @@ static void segmented_scan_faults(void) {
     FAULT(cvl_seg_bool_reduce(CVL_AND, f, 5, lengths, 3, bools, 4), CVL_LENGTH_MISMATCH, -1);
 }
 
+static void packs(void) {
+    const int32_t *values = I(1, 2, 3, 4, 5), *lengths = I(2, 0, 3);
+    const bool *flags = B(false, true, true, false, true), *none = B(false, false, false);
+    COUNTED_INTS(pck_luz(values, flags, 5, ints, ROOM, &total), 2, 3, 5);
+    COUNTED_INTS(pck_luz(values, flags, 5, ints, 3, &total), 2, 3, 5);
+    COUNTED_INTS(pck_luz(I(INT32_MIN), B(true), 1, ints, 1, &total), INT32_MIN);
+    COUNTED_BOOLS(pck_lub(flags, flags, 5, bools, 3, &total), true, true, true);
+    COUNTED_BOOLS(pck_lub(B(true, false, true), B(false, true, true), 3, bools, ROOM, &total), false, true);
+    COUNTED_INTS(pck_lez(values, flags, 5, lengths, 3, ints, 3, &total), 2, 3, 5);
+    COUNTED_INTS(pck_lez(values, flags, 5, lengths, 3, ints, 4, &total), 2, 3, 5);
+    COUNTED_BOOLS(pck_leb(B(true, false, true), B(false, true, true), 3, I(1, 2), 2, bools, 2, &total), false, true);
+    COUNTED_BOOLS(pck_leb(flags, flags, 5, lengths, 3, bools, ROOM, &total), true, true, true);
+    reset();
+    counts("pck_luz of no true flag", pck_luz(values, none, 3, ints, 0, &total), CVL_DONE, 0);
+    leaves("pck_luz of no true flag", 0, 0);
+    reset();
+    counts("pck_leb of no segment", pck_leb(none, none, 0, lengths, 0, bools, 1, &total), CVL_DONE, 0);
+    leaves("pck_leb of no segment", 0, 0);
+    INTS(pck_fov(flags, 5, lengths, 3, ints), 1, 0, 2);
+    INTS(cnt_leb(B(false, false, true, false, true), 5, lengths, 3, ints), 0, 0, 2);
+}
+
+static void pack_faults(void) {
+    const int32_t *values = I(1, 2, 3, 4, 5), *lengths = I(2, 0, 3), *below = I(5, -1, -2), *above = I(CVL_MOST_ELEMENTS, 1);
+    const bool *flags = B(false, true, true, false, true);
+    const size_t many = CVL_MOST_ELEMENTS + 1;
+    TOO_SHORT(pck_luz(values, flags, 5, ints, 2, &total), 3);
+    TOO_SHORT(pck_luz(values, flags, 5, ints, 0, &total), 3);
+    TOO_SHORT(pck_lub(flags, flags, 5, bools, 2, &total), 3);
+    TOO_SHORT(pck_lez(values, flags, 5, lengths, 3, ints, 0, &total), 3);
+    TOO_SHORT(pck_leb(flags, flags, 5, lengths, 3, bools, 2, &total), 3);
+    FAULT(cvl_pack_int(values, 5, flags, 4, ints, 0, &total), CVL_LENGTH_MISMATCH, -1);
+    FAULT(cvl_pack_int(values, 4, flags, 5, ints, ROOM, &total), CVL_LENGTH_MISMATCH, -1);
+    FAULT(cvl_pack_int(values, 5, too_many_bools, many, ints, ROOM, &total), CVL_TOO_LONG, -1);
+    FAULT(cvl_pack_int(too_many_ints, many, flags, 5, ints, ROOM, &total), CVL_LENGTH_MISMATCH, -1);
+    FAULT(cvl_pack_bool(flags, 5, flags, 4, bools, ROOM, &total), CVL_LENGTH_MISMATCH, -1);
+    FAULT(cvl_pack_bool(too_many_bools, many, too_many_bools, many, bools, ROOM, &total), CVL_TOO_LONG, -1);
+    FAULT(cvl_seg_pack_int(values, 4, flags, 5, lengths, 3, ints, ROOM, &total), CVL_LENGTH_MISMATCH, -1);
+    FAULT(cvl_seg_pack_int(values, 5, flags, 4, lengths, 3, ints, ROOM, &total), CVL_LENGTH_MISMATCH, -1);
+    FAULT(cvl_seg_pack_int(values, 4, flags, 4, below, 3, ints, ROOM, &total), CVL_NEGATIVE_LENGTH, 1);
+    FAULT(cvl_seg_pack_int(values, 5, flags, 5, above, 2, ints, ROOM, &total), CVL_TOO_LONG, -1);
+    FAULT(cvl_seg_pack_int(values, 5, flags, 5, too_many_ints, many, ints, ROOM, &total), CVL_TOO_LONG, -1);
+    FAULT(cvl_seg_pack_bool(flags, 5, flags, 5, lengths, 2, bools, ROOM, &total), CVL_LENGTH_MISMATCH, -1);
+    FAULT(cvl_seg_pack_bool(flags, 5, flags, 5, below, 3, bools, ROOM, &total), CVL_NEGATIVE_LENGTH, 1);
+    FAULT(cvl_packed_lengths(flags, 5, lengths, 3, ints, 2), CVL_LENGTH_MISMATCH, -1);
+    FAULT(cvl_packed_lengths(flags, 5, lengths, 3, ints, 4), CVL_LENGTH_MISMATCH, -1);
+    FAULT(cvl_packed_lengths(flags, 4, lengths, 3, ints, 3), CVL_LENGTH_MISMATCH, -1);
+    FAULT(cvl_packed_lengths(flags, 5, below, 3, ints, 3), CVL_NEGATIVE_LENGTH, 1);
+    FAULT(cvl_packed_lengths(flags, 5, above, 2, ints, 2), CVL_TOO_LONG, -1);
+    FAULT(cvl_seg_count(flags, 5, lengths, 3, ints, 5), CVL_LENGTH_MISMATCH, -1);
+    FAULT(cvl_seg_count(flags, 5, lengths, 2, ints, 2), CVL_LENGTH_MISMATCH, -1);
+    FAULT(cvl_seg_count(flags, 5, below, 3, ints, 3), CVL_NEGATIVE_LENGTH, 1);
+    FAULT(cvl_seg_count(flags, 5, too_many_ints, many, ints, 3), CVL_TOO_LONG, -1);
+}
+
 int main(void) {
     place_by_place();
     place_by_place_faults();
@@ -383,6 +465,8 @@ int main(void) {
     segments();
     segmented_scans();
     segmented_scan_faults();
+    packs();
+    pack_faults();
     if (failed) return EXIT_FAILURE;
     printf("%d calls as they should be\n", calls);
     return EXIT_SUCCESS;

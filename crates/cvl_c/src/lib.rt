@@ -9,6 +9,7 @@ mod checks;
 mod descriptors;
 mod elements;
 mod numbers;
+mod packs;
 mod place_by_place;
 mod scans;
 mod seg_scans;

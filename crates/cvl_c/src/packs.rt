@@ -1,0 +1,127 @@
+//! Packs, of whole vectors and of segments, and how many elements they keep. Segments come as their lengths.
+
+ghost use Rattle.std.specs.Prelude.{length};
+ghost use Rattle.cvl_base.specs.Gives.{Gives};
+ghost use Rattle.cvl_base.specs.Packs.{pack_of};
+ghost use Rattle.cvl_base.specs.SegmentedCalls.{seg_pack_of};
+ghost use Rattle.cvl_c.specs.Calls.{by_segments, counts_of, in_limit};
+ghost use Rattle.cvl_c.specs.Told.{FrontToldOr, ToldOr, in_room};
+
+use crate::checks::{check_limit, descriptor};
+use crate::status::{CvlStatus, told, told_in_front};
+use cvl_base::Refused;
+use pack_dist::{pack_alone, seg_count_alone, seg_pack_values_alone};
+use std::alloc::Global;
+
+/// The elements whose flag is true, in order.
+fn pack<T: Copy>(alloc: Global, values: &[T], flags: &[bool]) -> Result<Vec<T, Global>, Refused>
+    ensures { Gives (λ v. v.items) result (in_limit flags.now (pack_of values.now flags.now)) }
+{
+    check_limit(flags)?;
+    pack_alone(alloc, values, flags)
+}
+
+/// The elements of each segment whose flag is true, in order, one segment after another.
+fn pack_each<T: Copy>(
+    alloc: Global,
+    values: &[T],
+    flags: &[bool],
+    lengths: &[i32],
+) -> Result<Vec<T, Global>, Refused>
+    ensures { Gives (λ v. v.items) result (by_segments lengths.now (seg_pack_of values.now flags.now)) }
+{
+    let d = descriptor(alloc, lengths)?;
+    seg_pack_values_alone(alloc, values, flags, &d)
+}
+
+/// The number of true flags of each segment.
+fn count_each(alloc: Global, flags: &[bool], lengths: &[i32]) -> Result<Vec<i32, Global>, Refused>
+    ensures { Gives (λ v. v.items) result (by_segments lengths.now (counts_of flags.now)) }
+{
+    let d = descriptor(alloc, lengths)?;
+    seg_count_alone(alloc, flags, &d)
+}
+
+/// The integers whose flag is true, in order: `pck_luz`.
+#[unsafe(no_mangle)]
+pub extern "C" fn cvl_pack_int(
+    alloc: Global,
+    values: &[i32],
+    flags: &[bool],
+    out: &mut [i32],
+    count: &mut usize,
+) -> CvlStatus
+    ensures { FrontToldOr (in_limit flags.now (pack_of values.now flags.now)) result out.old out.new count.old count.new }
+{
+    told_in_front(pack(alloc, values, flags), out, count)
+}
+
+/// The booleans whose flag is true, in order: `pck_lub`.
+#[unsafe(no_mangle)]
+pub extern "C" fn cvl_pack_bool(
+    alloc: Global,
+    values: &[bool],
+    flags: &[bool],
+    out: &mut [bool],
+    count: &mut usize,
+) -> CvlStatus
+    ensures { FrontToldOr (in_limit flags.now (pack_of values.now flags.now)) result out.old out.new count.old count.new }
+{
+    told_in_front(pack(alloc, values, flags), out, count)
+}
+
+/// The integers of each segment whose flag is true, in order, one segment after another: `pck_lez`.
+#[unsafe(no_mangle)]
+pub extern "C" fn cvl_seg_pack_int(
+    alloc: Global,
+    values: &[i32],
+    flags: &[bool],
+    lengths: &[i32],
+    out: &mut [i32],
+    count: &mut usize,
+) -> CvlStatus
+    ensures { FrontToldOr (by_segments lengths.now (seg_pack_of values.now flags.now)) result out.old out.new count.old count.new }
+{
+    told_in_front(pack_each(alloc, values, flags, lengths), out, count)
+}
+
+/// The booleans of each segment whose flag is true, in order, one segment after another: `pck_leb`.
+#[unsafe(no_mangle)]
+pub extern "C" fn cvl_seg_pack_bool(
+    alloc: Global,
+    values: &[bool],
+    flags: &[bool],
+    lengths: &[i32],
+    out: &mut [bool],
+    count: &mut usize,
+) -> CvlStatus
+    ensures { FrontToldOr (by_segments lengths.now (seg_pack_of values.now flags.now)) result out.old out.new count.old count.new }
+{
+    told_in_front(pack_each(alloc, values, flags, lengths), out, count)
+}
+
+/// The lengths of the segments of what a pack of segments keeps, empty ones included: `pck_fov`.
+#[unsafe(no_mangle)]
+pub extern "C" fn cvl_packed_lengths(
+    alloc: Global,
+    flags: &[bool],
+    lengths: &[i32],
+    out: &mut [i32],
+) -> CvlStatus
+    ensures { ToldOr (in_room (length out.old) (by_segments lengths.now (counts_of flags.now))) result out.old out.new }
+{
+    told(count_each(alloc, flags, lengths), out)
+}
+
+/// The number of true flags of each segment: `cnt_leb`.
+#[unsafe(no_mangle)]
+pub extern "C" fn cvl_seg_count(
+    alloc: Global,
+    flags: &[bool],
+    lengths: &[i32],
+    out: &mut [i32],
+) -> CvlStatus
+    ensures { ToldOr (in_room (length out.old) (by_segments lengths.now (counts_of flags.now))) result out.old out.new }
+{
+    told(count_each(alloc, flags, lengths), out)
+}
