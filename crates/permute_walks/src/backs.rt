@@ -8,9 +8,9 @@ ghost use Rattle.cvl_base.specs.Limits.{most_elements};
 ghost use Rattle.permute_walks.specs.Indices.{AreInside, elements_at, first_outside};
 ghost use Rattle.permute_walks.specs.Senders.{fault_told};
 
-use crate::index_counts::count_outside;
+use crate::index_counts::{count_alone, count_outside};
 use cvl_base::{Fault, FaultNo, Memory, NoResources, place_among};
-use fresh::{Run, Writer, write_in_runs};
+use fresh::{Run, Writer, write_alone, write_in_runs};
 use std::thread::Threads;
 
 /// From how many indices on they are counted before they are looked at in turn.
@@ -42,7 +42,21 @@ pub fn check_places<R: Threads + Sync>(
     requires { first + length index.now ≤ most_elements }
     ensures { fault_told result ≡ first_outside first places index.now }
 {
-    if index.len() >= LONG && count_outside(rt, threads as usize, index, places) == 0 {
+    if threads < 2 || index.len() < LONG {
+        return check_places_alone(index, places, first);
+    }
+    if count_outside(rt, threads as usize, index, places) == 0 {
+        return Ok(());
+    }
+    check_each(index, places, first)
+}
+
+/// The same as [`check_places`], by the thread that calls.
+pub fn check_places_alone(index: &[i32], places: usize, first: usize) -> Result<(), Fault>
+    requires { first + length index.now ≤ most_elements }
+    ensures { fault_told result ≡ first_outside first places index.now }
+{
+    if index.len() >= LONG && count_alone(index, places) == 0 {
         return Ok(());
     }
     check_each(index, places, first)
@@ -104,4 +118,17 @@ pub fn elements_at<T: Copy + Send + Sync, R: Threads + Sync, A: Memory>(
 {
     let elements = ElementsAt { source, index };
     Ok(write_in_runs(rt, alloc, threads, &elements, index.len())?)
+}
+
+/// The same as [`elements_at`], by the thread that calls.
+pub fn elements_at_alone<T: Copy, A: Memory>(
+    alloc: A,
+    source: &[T],
+    index: &[i32],
+) -> Result<Vec<T, A>, NoResources>
+    requires inside { AreInside (length source.now) index.now }
+    ensures { IfOk result (λ v. v.items ≡ elements_at source.now index.now) }
+{
+    let elements = ElementsAt { source, index };
+    Ok(write_alone(alloc, &elements, index.len())?)
 }

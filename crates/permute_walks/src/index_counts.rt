@@ -13,7 +13,7 @@ const MOST_PLACES: usize = 2_147_483_648;
 /// How many indices are none of so many places, counted by the thread that calls.
 // Without its sign an index below 0 is beyond all places, so that one comparison is enough.
 #[inline(never)]
-fn count_alone(index: &[i32], places: usize) -> u32
+pub(crate) fn count_alone(index: &[i32], places: usize) -> u32
     requires { length index.now ≤ most_elements }
     ensures { result ≡ count_outside places index.now }
 {

@@ -11,9 +11,13 @@ pub mod places;
 pub mod sends;
 mod stores;
 
-pub use backs::{check_places, elements_at, write_elements_at};
+pub use backs::{
+    check_places, check_places_alone, elements_at, elements_at_alone, write_elements_at,
+};
 pub use destinations::{AllTargets, Destinations, FlaggedTargets};
-pub use elements::{elements_of, elements_or_defaults};
+pub use elements::{
+    elements_of, elements_of_alone, elements_or_defaults, elements_or_defaults_alone,
+};
 pub use owners::senders_shared;
 pub use places::element_of;
 pub use sends::{NOBODY, send_places};
