@@ -1,4 +1,5 @@
 pub mod Backed
+pub mod Called
 pub mod Checked
 pub mod Cuts
 pub mod Flat

@@ -9,23 +9,23 @@ ghost use Rattle.permute_walks.specs.Senders.{fault_told};
 ghost use Rattle.permutes.specs.Backs.{IsSegmentedBack, outside_from, places_left, segments_at};
 ghost use Rattle.segdes.specs.Starts.{start_of};
 
-use crate::looks::threads_looking;
-use cvl_base::{Config, Fault, Memory, NoResources};
-use fresh::{Run, Writer, write_in_runs};
-use permute_walks::{check_places, write_elements_at};
+use crate::looks::Look;
+use cvl_base::{Fault, Memory, NoResources};
+use fresh::{Run, Writer, write_alone, write_in_runs};
+use permute_walks::write_elements_at;
 use segdes::SegDes;
 use std::alloc::Allocator;
 use std::thread::Threads;
 
-/// The first walk, in which several threads share a long segment: `IndexOutOfRange` at the first place whose index is no place of
-/// its segment of the source.
-pub(crate) fn check_segments<R: Threads + Sync, A: Allocator>(
-    rt: &R,
-    config: Config,
+/// The first walk, which looks at one segment after another: `IndexOutOfRange` at the first place whose index is no place of its
+/// segment of the source.
+pub(crate) fn check_segments<L: Look, A: Allocator>(
+    looker: &L,
     index: &[i32],
     source_d: &SegDes<A>,
     index_d: &SegDes<A>,
 ) -> Result<(), Fault>
+    requires allowed { L.MayLook looker.now }
     requires total { sum index_d.now ≡ length index.now }
     requires count { length source_d.now ≡ length index_d.now }
     requires in_limit { length index.now ≤ most_elements }
@@ -34,8 +34,7 @@ pub(crate) fn check_segments<R: Threads + Sync, A: Allocator>(
     for s in 0..index_d.count() {
         let first = index_d.start(s);
         let segment = &index[first..first + index_d.length(s)];
-        let threads = threads_looking(config, segment.len());
-        check_places(rt, threads, segment, source_d.length(s), first)?;
+        looker.look(segment, source_d.length(s), first)?;
     }
     Ok(())
 }
@@ -123,4 +122,24 @@ pub(crate) fn segments_at<T: Copy + Send + Sync, R: Threads + Sync, A: Memory>(
         index_d,
     };
     Ok(write_in_runs(rt, alloc, threads, &elements, index.len())?)
+}
+
+/// The same as [`segments_at`], by the thread that calls.
+pub(crate) fn segments_at_alone<T: Copy, A: Memory>(
+    alloc: A,
+    source: &[T],
+    index: &[i32],
+    source_d: &SegDes<A>,
+    index_d: &SegDes<A>,
+) -> Result<Vec<T, A>, NoResources>
+    requires fits { IsSegmentedBack source_d.now source.now index_d.now index.now }
+    ensures { IfOk result (λ v. v.items ≡ segments_at source_d.now source.now index_d.now index.now) }
+{
+    let elements = SegmentsAt {
+        source,
+        index,
+        source_d,
+        index_d,
+    };
+    Ok(write_alone(alloc, &elements, index.len())?)
 }

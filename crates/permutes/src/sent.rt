@@ -1,40 +1,22 @@
 //! Both walks of a permute, of which several threads share the second where the result is long.
 
-ghost use Rattle.std.specs.Prelude.{◌≡◌, ◌≤◌, filter_map, length, replicate, slice_get, sum};
-ghost use Rattle.std.specs.Prelude.{IfOk, Ok, vec_len};
-ghost use Rattle.std.specs.Fn.{FnOnceReturnsAtMut, FnOnceTakesAtMut};
+ghost use Rattle.std.specs.Prelude.{◌≡◌, ◌≤◌, IfOk, Ok, filter_map, length, slice_get, sum, vec_len};
 ghost use Rattle.cvl_base.specs.Gives.{Gives, unless};
 ghost use Rattle.cvl_base.specs.Limits.{most_elements};
 ghost use Rattle.cvl_base.specs.Permutes.{first_fault, wrongs};
 ghost use Rattle.permutes.specs.Parts.{fault_from, flagged_parts, parts_of, senders_from};
-ghost use Rattle.permutes.specs.Walks.{AreAllSent, IsFound};
-ghost use Rattle.permute_walks.specs.Senders.{nobody, senders_of, written_over};
+ghost use Rattle.permutes.specs.Walks.{AreAllSent};
+ghost use Rattle.permute_walks.specs.Senders.{senders_of, written_over};
 
 use crate::segment_races::{flagged_segments_raced, segments_raced};
-use crate::segments::{send_flagged_segments, send_segments};
+use crate::sent_alone::{flagged_segment_senders_alone, segment_senders_alone, senders_alone};
 use crew::Gate;
-use cvl_base::{Config, Fault, Memory, Refused, true_count};
+use cvl_base::{Config, Memory, Refused, true_count};
 use permute_races::{permute_pace, senders_raced};
-use permute_walks::{
-    Destinations, NOBODY, elements_of, elements_or_defaults, send_places, senders_shared,
-};
+use permute_walks::{Destinations, elements_of, elements_or_defaults, senders_shared};
 use segdes::SegDes;
 use sharing::{LEAST_SEARCHED, race_pace, threads_for, threads_sending};
 use std::thread::Threads;
-
-/// The senders of so many places, which `send` finds from nobody on.
-fn senders_found<A: Memory, F: FnOnce(&mut [u32]) -> Result<(), Fault>>(
-    alloc: A,
-    places: usize,
-    send: F,
-) -> Result<Vec<u32, A>, Refused>
-    requires callable { FnOnceTakesAtMut F.FnOnce send (replicate places nobody) }
-    ensures { IsFound (FnOnceReturnsAtMut F.FnOnce send (replicate places nobody)) (λ v. v.items) places result }
-{
-    let mut senders = vec![in alloc; NOBODY; places]?;
-    send(&mut senders)?;
-    Ok(senders)
-}
 
 /// For each place of a flat result its sender, for which workers race or one thread walks.
 fn senders_to<R: Threads + Sync, A: Memory, D: Destinations + Sync, G: Gate>(
@@ -79,9 +61,7 @@ fn senders_unasked<R: Threads + Sync, A: Memory, D: Destinations + Sync, G: Gate
             return senders_raced(rt, alloc, pace, places, destinations, gate);
         }
     }
-    senders_found(alloc, places, |senders| {
-        send_places(senders, 0, destinations)
-    })
+    senders_alone(alloc, places, destinations)
 }
 
 /// For each place of a result with segments of its own lengths its sender, for which workers race or one thread walks the
@@ -104,9 +84,7 @@ pub(crate) fn segment_senders<R: Threads + Sync, A: Memory, G: Gate>(
     let places = result_d.total();
     match permute_pace(config, index.len(), places) {
         Some(pace) => segments_raced(rt, alloc, pace, index, d, result_d, gate),
-        None => senders_found(alloc, places, |senders| {
-            send_segments(senders, index, d, result_d)
-        }),
+        None => segment_senders_alone(alloc, index, d, result_d),
     }
 }
 
@@ -130,9 +108,7 @@ pub(crate) fn flagged_segment_senders<R: Threads + Sync, A: Memory, G: Gate>(
     let places = true_count(flags);
     match permute_pace(config, index.len(), places) {
         Some(pace) => flagged_segments_raced(rt, alloc, pace, index, flags, d, places, gate),
-        None => senders_found(alloc, places, |senders| {
-            send_flagged_segments(senders, index, flags, d)
-        }),
+        None => flagged_segment_senders_alone(alloc, index, flags, d, places),
     }
 }
 

@@ -1,8 +1,9 @@
-use Rattle.std.proofs.Common.{Vec, ◌∙◌, ap, arith, length, subst, sym, Ok, Err}
+use Rattle.std.proofs.Common.{Vec, ap, arith, length, subst, sym, Err}
 use Rattle.std.proofs.lemmas.Result.{err_from_is_err_and}
-use Rattle.cvl_base.specs.Gives.{Gives, unless}
+use Rattle.cvl_base.specs.Gives.{Gives}
 use Rattle.permute_walks.specs.Indices.{elements_at, first_outside}
 use Rattle.permute_walks.proofs.Outside.{all_inside, length-elements_at, values_unless}
+use Rattle.permutes.proofs.Called.{back_taken}
 use Rattle.permutes.proofs.Checked.{none_told, refusal_stays}
 use Rattle.permutes.proofs.backs.back_gated.Goals as goal
 
@@ -27,8 +28,7 @@ pub returns-clause-values : goal.returns-clause-values
 returns-clause-values g c =
     let source = c.args.source.now in
     let index = c.args.index.now in
-    let none = none_told (first_outside 0 (length source) index) c.in_ok-check_indices.ensures in
-    values_unless 0 source index ∙ ap (λ o. unless o (Ok (elements_at source index))) (sym none) ∙ ap (λ xs. Ok xs) (sym c.in_ok-elements_at.ensures)
+    back_taken source index _ (none_told (first_outside 0 (length source) index) c.in_ok-check_indices.ensures) c.in_ok-elements_at.ensures
 
 pub returns-clause-as_long : goal.returns-clause-as_long
 returns-clause-as_long g c =

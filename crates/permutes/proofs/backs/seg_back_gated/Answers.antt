@@ -1,8 +1,9 @@
-use Rattle.std.proofs.Common.{Vec, ◌∙◌, ap, arith, length, subst, sym, Ok, Err}
+use Rattle.std.proofs.Common.{Vec, ◌∙◌, ap, arith, length, subst, sym, Err}
 use Rattle.std.proofs.lemmas.Result.{err_from_is_err_and}
-use Rattle.cvl_base.specs.Gives.{Gives, unless}
+use Rattle.cvl_base.specs.Gives.{Gives}
 use Rattle.permutes.specs.Backs.{outside_from, segments_at}
 use Rattle.permutes.proofs.Backed.{length-segments_at, seg_back-meaning}
+use Rattle.permutes.proofs.Called.{seg_back_taken}
 use Rattle.permutes.proofs.Checked.{none_told, refusal_stays}
 use Rattle.permutes.proofs.Whole.{seg_back-differ}
 use Rattle.permutes.proofs.backs.seg_back_gated.Goals as goal
@@ -40,12 +41,9 @@ returns-in_err-check_segment_indices-clause-values g c =
 
 pub returns-clause-values : goal.returns-clause-values
 returns-clause-values g c =
-    let found = segments_at c.args.source_d.now c.args.source.now c.args.index_d.now c.args.index.now in
-    let none = none_told (outside_from 0 c.args.source_d.now c.args.index_d.now c.args.index.now) c.in_ok-check_segment_indices.ensures in
-    seg_back-meaning c.args.source.now c.args.index.now c.args.source_d.now c.args.index_d.now c.in_ok-check_total.ensures.agrees c.in_ok-check_total-2.ensures.agrees
-    (omega (arith, c.in_ok-check_agree.ensures))
-    ∙ ap (λ o. unless o (Ok found)) (sym none)
-    ∙ ap (λ xs. Ok xs) (sym c.in_ok-segments_at.ensures)
+    seg_back_taken c.args.source.now c.args.index.now c.args.source_d.now c.args.index_d.now _ c.in_ok-check_total.ensures.agrees c.in_ok-check_total-2.ensures.agrees
+    (omega (arith, c.in_ok-check_agree.ensures)) (none_told (outside_from 0 c.args.source_d.now c.args.index_d.now c.args.index.now) c.in_ok-check_segment_indices.ensures)
+    c.in_ok-segments_at.ensures
 
 pub returns-clause-as_long : goal.returns-clause-as_long
 returns-clause-as_long g c =

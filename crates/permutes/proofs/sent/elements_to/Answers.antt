@@ -1,11 +1,10 @@
-use Rattle.std.proofs.Common.{ℕ, Vec, ◌∙◌, ◌<◌, ap, arith, filter_map, length, slice_get, subst, sym}
-use Rattle.std.specs.List.{All}
+use Rattle.std.proofs.Common.{ℕ, Vec, arith, filter_map, slice_get}
 use Rattle.std.proofs.lemmas.Result.{err_from_is_err_and}
 use Rattle.cvl_base.specs.Permutes.{first_fault, wrongs}
 use Rattle.permute_walks.specs.Senders.{senders_of}
 use Rattle.permute_walks.proofs.Sent.{length-senders_of}
-use Rattle.permutes.proofs.Checked.{found_long, refusal_stays}
-use Rattle.permutes.proofs.Walked.{taken_ok}
+use Rattle.permutes.proofs.Called.{elements_taken, taken_within}
+use Rattle.permutes.proofs.Checked.{refusal_stays}
 use Rattle.permutes.proofs.sent.elements_to.Goals as goal
 
 pub returns-in_err-senders-clause-values : goal.returns-in_err-senders-clause-values
@@ -19,16 +18,17 @@ returns-in_err-senders-clause-values g c sent =
 
 pub returns-clause-values : goal.returns-clause-values
 returns-clause-values g c sent =
-    let source = c.args.source.now in
     let ts = g.D.Destinations.targets c.args.destinations.now in
     let places = c.args.places in
-    taken_ok (filter_map (slice_get source)) (first_fault 0 (wrongs places ts)) (senders_of 0 ts places) c.in_ok-senders.senders.items _ c.in_ok-senders.ensures (λ none are.
-    let same = c.deref.ensures.value ∙ are in
-    c.in_ok-elements_of.ensures.values (subst (All (λ s. s < length source)) (sym same) (sent none)) ∙ ap (filter_map (slice_get source)) same)
+    elements_taken c.args.source.now (first_fault 0 (wrongs places ts)) (senders_of 0 ts places) c.in_ok-senders.senders.items _ _ c.in_ok-senders.ensures c.deref.ensures.value
+    c.in_ok-elements_of.ensures.values sent
 
 pub returns-clause-in_length : goal.returns-clause-in_length
 returns-clause-in_length g c =
     let ts = g.D.Destinations.targets c.args.destinations.now in
     let places = c.args.places in
-    let long = found_long (first_fault 0 (wrongs places ts)) (senders_of 0 ts places) c.in_ok-senders.senders.items c.in_ok-senders.ensures in
-    omega (arith, c.in_ok-elements_of.ensures.in_length, ap length c.deref.ensures.value, long, length-senders_of 0 ts places)
+    omega (
+      arith,
+      taken_within (first_fault 0 (wrongs places ts)) (senders_of 0 ts places) c.in_ok-senders.senders.items _ _ c.in_ok-senders.ensures c.deref.ensures.value c.in_ok-elements_of.ensures.in_length,
+      length-senders_of 0 ts places,
+    )

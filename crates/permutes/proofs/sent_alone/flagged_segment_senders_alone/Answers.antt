@@ -3,13 +3,13 @@ use Rattle.permutes.specs.Parts.{fault_from, flagged_parts, senders_from}
 use Rattle.permute_walks.specs.Senders.{fault_told}
 use Rattle.permutes.proofs.Through.{places-flagged_parts}
 use Rattle.permutes.proofs.Walked.{sends_at, length-senders_from}
-use Rattle.permutes.proofs.sent.flagged_segment_senders.Goals as goal
+use Rattle.permutes.proofs.sent_alone.flagged_segment_senders_alone.Goals as goal
 
-pub returns-in-None : goal.returns-in-None
-returns-in-None g c =
+pub returns : goal.returns
+returns g c =
     let parts = flagged_parts c.args.d.now c.args.index.now c.args.flags.now in
     c.senders_found.ensures.1 (fault_from 0 parts) (senders_from 0 parts)
-    (length-senders_from 0 parts ∙ places-flagged_parts c.args.d.now c.args.index.now c.args.flags.now (c.requires.total ∙ c.requires.as_long) ∙ sym c.true_count-places.ensures.value)
+    (length-senders_from 0 parts ∙ places-flagged_parts c.args.d.now c.args.index.now c.args.flags.now (c.requires.total ∙ c.requires.as_long) ∙ sym c.requires.places)
     (λ given left p.
     let met : (fault_told given ≡ fault_from 0 parts) × OnOk given (p.left.now ≡ senders_from 0 parts) = search rules in
     sends_at (λ n. fault_from 0 parts) (λ n. senders_from 0 parts) given p.left.now left 0 0 refl p.leaves met)

@@ -4,7 +4,7 @@ use Rattle.cvl_base.specs.Permutes.{first_fault, wrongs}
 use Rattle.permute_walks.specs.Senders.{nobody, senders_of, fault_told}
 use Rattle.permute_walks.proofs.Sent.{length-senders_of}
 use Rattle.permutes.proofs.Walked.{sends_at}
-use Rattle.permutes.proofs.sent.senders_unasked.Goals as goal
+use Rattle.permutes.proofs.sent_alone.senders_alone.Goals as goal
 
 pub returns : goal.returns
 returns g c =

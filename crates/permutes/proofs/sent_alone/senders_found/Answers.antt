@@ -4,7 +4,7 @@ use Rattle.std.proofs.lemmas.Result.{err_from_is_err_and}
 use Rattle.permute_walks.specs.Senders.{nobody}
 use Rattle.permutes.proofs.Flat.{written}
 use Rattle.permutes.proofs.Walked.{found_ok, found_fault}
-use Rattle.permutes.proofs.sent.senders_found.Goals as goal
+use Rattle.permutes.proofs.sent_alone.senders_found.Goals as goal
 
 pub returns-in_err-send : goal.returns-in_err-send
 returns-in_err-send g c =

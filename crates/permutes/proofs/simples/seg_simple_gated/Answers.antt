@@ -1,11 +1,8 @@
-use Rattle.std.proofs.Common.{Vec, ◌∙◌, ◌<◌, ap, filter_map, subst, sym, arith, length, refl, slice_get, Err}
-use Rattle.std.specs.List.{All}
+use Rattle.std.proofs.Common.{Vec, filter_map, slice_get}
 use Rattle.std.proofs.lemmas.Result.{err_from_is_err_and}
-use Rattle.cvl_base.specs.Gives.{Gives}
+use Rattle.cvl_base.specs.SegmentedCalls.{seg_simple_of}
 use Rattle.permutes.specs.Parts.{fault_from, parts_of, senders_from}
-use Rattle.permutes.proofs.Checked.{found_long, refusal_stays}
-use Rattle.permutes.proofs.Through.{places-parts}
-use Rattle.permutes.proofs.Walked.{segments_sent, length-senders_from, taken_ok}
+use Rattle.permutes.proofs.Called.{refusal_told, seg_simple_taken, seg_simple_within}
 use Rattle.permutes.proofs.Whole.{seg_simple-meaning}
 use Rattle.permutes.proofs.simples.seg_simple_gated.Goals as goal
 
@@ -16,38 +13,17 @@ returns-in_err-senders-clause-values g c =
     let index = c.args.index.now in
     let d = c.args.d.now in
     let parts = parts_of d d index in
-    let e = c.in_err-senders.field-0.0 in
     rw (p.1, p.2)
-    (subst (Gives (λ (v : Vec g.row.T.Denot g.row.A.Denot). v.items) (Err e))
-    (sym (seg_simple-meaning source index d c.in_ok-check_total.ensures.agrees c.in_ok-check_total-2.ensures.agrees c.requires.in_limit))
-    (refusal_stays (λ (v : Vec _ g.row.A.Denot). v.items) (λ (v : Vec g.row.T.Denot g.row.A.Denot). v.items) (fault_from 0 parts) (senders_from 0 parts)
-    (filter_map (slice_get source) (senders_from 0 parts)) e c.in_err-senders.ensures))
+    (refusal_told (λ (v : Vec _ g.row.A.Denot). v.items) (λ (v : Vec g.row.T.Denot g.row.A.Denot). v.items) (seg_simple_of source index d) (fault_from 0 parts) (senders_from 0 parts)
+    (filter_map (slice_get source) (senders_from 0 parts)) c.in_err-senders.field-0.0
+    (seg_simple-meaning source index d c.in_ok-check_total.ensures.agrees c.in_ok-check_total-2.ensures.agrees c.requires.in_limit) c.in_err-senders.ensures)
 
 pub returns-clause-values : goal.returns-clause-values
 returns-clause-values g c =
-    let source = c.args.source.now in
-    let index = c.args.index.now in
-    let d = c.args.d.now in
-    let parts = parts_of d d index in
-    let source_total = c.in_ok-check_total.ensures.agrees in
-    let total = c.in_ok-check_total-2.ensures.agrees in
-    seg_simple-meaning source index d source_total total c.requires.in_limit
-    ∙ taken_ok (filter_map (slice_get source)) (fault_from 0 parts) (senders_from 0 parts) c.in_ok-senders.senders.items _ c.in_ok-senders.ensures (λ none are.
-    let same = c.deref.ensures.value ∙ are in
-    let sent = segments_sent (length source) (omega (arith, source_total, total, c.requires.in_limit)) 0 d index total (omega (arith, source_total, total)) none in
-    c.in_ok-elements_of.ensures.values (subst (All (λ s. s < length source)) (sym same) sent) ∙ ap (filter_map (slice_get source)) same)
+    seg_simple_taken c.args.source.now c.args.index.now c.args.d.now c.in_ok-check_total.ensures.agrees c.in_ok-check_total-2.ensures.agrees c.requires.in_limit c.in_ok-senders.senders.items _ _
+    c.deref.ensures.value c.in_ok-elements_of.ensures.values c.in_ok-senders.ensures
 
 pub returns-clause-in_length : goal.returns-clause-in_length
 returns-clause-in_length g c =
-    let index = c.args.index.now in
-    let d = c.args.d.now in
-    let parts = parts_of d d index in
-    omega (
-      arith,
-      c.in_ok-elements_of.ensures.in_length,
-      ap length c.deref.ensures.value,
-      found_long (fault_from 0 parts) (senders_from 0 parts) c.in_ok-senders.senders.items c.in_ok-senders.ensures,
-      length-senders_from 0 parts,
-      places-parts d d index refl,
-      c.in_ok-check_total-2.ensures.agrees,
-    )
+    seg_simple_within c.args.index.now c.args.d.now c.in_ok-check_total-2.ensures.agrees c.in_ok-senders.senders.items _ _ c.deref.ensures.value c.in_ok-elements_of.ensures.in_length
+    c.in_ok-senders.ensures

@@ -1,0 +1,12 @@
+use Rattle.std.proofs.Common.{arith}
+use Rattle.permute_walks.proofs.Sent.{count-flagged_targets}
+use Rattle.permutes.proofs.Called.{select_gives}
+use Rattle.permutes.proofs.selects.select_alone.Goals as goal
+
+pub elements_to_alone-requires-clause-few : goal.elements_to_alone-requires-clause-few
+elements_to_alone-requires-clause-few g c κs within = omega (arith, count-flagged_targets c.args.index.now c.args.flags.now, c.requires.in_limit)
+
+pub returns-clause-values : goal.returns-clause-values
+returns-clause-values g c =
+    select_gives (λ v. v.items) c.elements_to_alone.result c.args.source.now c.args.index.now c.in_ok-check_agree.ensures c.requires.in_limit c.args.flags.now c.true_count-places.result
+    c.true_count-places.ensures.value c.in_ok-check_agree-2.ensures c.elements_to_alone.ensures.values

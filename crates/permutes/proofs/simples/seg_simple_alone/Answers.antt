@@ -1,0 +1,29 @@
+use Rattle.std.proofs.Common.{Vec, filter_map, slice_get}
+use Rattle.std.proofs.lemmas.Result.{err_from_is_err_and}
+use Rattle.cvl_base.specs.SegmentedCalls.{seg_simple_of}
+use Rattle.permutes.specs.Parts.{fault_from, parts_of, senders_from}
+use Rattle.permutes.proofs.Called.{refusal_told, seg_simple_taken, seg_simple_within}
+use Rattle.permutes.proofs.Whole.{seg_simple-meaning}
+use Rattle.permutes.proofs.simples.seg_simple_alone.Goals as goal
+
+pub returns-in_err-senders-clause-values : goal.returns-in_err-senders-clause-values
+returns-in_err-senders-clause-values g c =
+    let p = err_from_is_err_and c.from_residual-in_err-senders.result c.from_residual-in_err-senders.ensures.1 in
+    let source = c.args.source.now in
+    let index = c.args.index.now in
+    let d = c.args.d.now in
+    let parts = parts_of d d index in
+    rw (p.1, p.2)
+    (refusal_told (λ (v : Vec _ g.row.A.Denot). v.items) (λ (v : Vec g.row.T.Denot g.row.A.Denot). v.items) (seg_simple_of source index d) (fault_from 0 parts) (senders_from 0 parts)
+    (filter_map (slice_get source) (senders_from 0 parts)) c.in_err-senders.field-0.0
+    (seg_simple-meaning source index d c.in_ok-check_total.ensures.agrees c.in_ok-check_total-2.ensures.agrees c.requires.in_limit) c.in_err-senders.ensures)
+
+pub returns-clause-values : goal.returns-clause-values
+returns-clause-values g c =
+    seg_simple_taken c.args.source.now c.args.index.now c.args.d.now c.in_ok-check_total.ensures.agrees c.in_ok-check_total-2.ensures.agrees c.requires.in_limit c.in_ok-senders.senders.items _ _
+    c.deref.ensures.value c.in_ok-elements_of_alone.ensures.values c.in_ok-senders.ensures
+
+pub returns-clause-in_length : goal.returns-clause-in_length
+returns-clause-in_length g c =
+    seg_simple_within c.args.index.now c.args.d.now c.in_ok-check_total-2.ensures.agrees c.in_ok-senders.senders.items _ _ c.deref.ensures.value c.in_ok-elements_of_alone.ensures.in_length
+    c.in_ok-senders.ensures

@@ -1,0 +1,16 @@
+use Rattle.std.proofs.Common.{arith, vec_len}
+use Rattle.permute_walks.proofs.Sent.{length-all_targets}
+use Rattle.permutes.proofs.Called.{simple_gives, simple_long}
+use Rattle.permutes.proofs.simples.simple_alone.Goals as goal
+
+pub elements_to_alone-requires-clause-few : goal.elements_to_alone-requires-clause-few
+elements_to_alone-requires-clause-few g c κs within = omega (arith, length-all_targets c.args.index.now, c.requires.in_limit)
+
+pub returns-clause-values : goal.returns-clause-values
+returns-clause-values g c =
+    simple_gives (λ v. v.items) c.elements_to_alone.result c.args.source.now c.args.index.now c.in_ok-check_agree.ensures c.requires.in_limit c.elements_to_alone.ensures.values
+
+pub returns-clause-as_long : goal.returns-clause-as_long
+returns-clause-as_long g c =
+    simple_long (λ v. v.items) c.elements_to_alone.result c.args.source.now c.args.index.now c.in_ok-check_agree.ensures c.requires.in_limit (λ v. vec_len v) (λ v. omega (arith, v.ok.0))
+    c.elements_to_alone.ensures.values
