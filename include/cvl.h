@@ -48,6 +48,7 @@ enum {
     CVL_DIVIDE_BY_ZERO = 8,
     CVL_SHIFT_OUT_OF_RANGE = 9,
     CVL_INDEX_OUT_OF_RANGE = 10,
+    CVL_INDEX_REPEATED = 11,
     CVL_NEGATIVE_LENGTH = 12,
     CVL_TOO_LONG = 13,
     CVL_OVERFLOW = 18,
@@ -252,6 +253,88 @@ CvlStatus cvl_packed_lengths(
 /* The number of true flags of each segment. */
 CvlStatus cvl_seg_count(
     const bool *flags, size_t flags_len, const int32_t *lengths, size_t segments, int32_t *out, size_t out_len);
+/* ---- permutes: exports ---- */
+
+/* Each element of the source at its index. */
+CvlStatus cvl_permute_int(
+    const int32_t *source, size_t source_len, const int32_t *index, size_t index_len, int32_t *out, size_t out_len);
+
+/* Each element of the source at its index. */
+CvlStatus cvl_permute_bool(
+    const bool *source, size_t source_len, const int32_t *index, size_t index_len, bool *out, size_t out_len);
+
+/* Each element of the source whose flag is true at its index. */
+CvlStatus cvl_select_permute_int(
+    const int32_t *source, size_t source_len, const int32_t *index, size_t index_len, const bool *flags, size_t flags_len,
+    int32_t *out, size_t out_len);
+
+/* Each element of the source whose flag is true at its index. */
+CvlStatus cvl_select_permute_bool(
+    const bool *source, size_t source_len, const int32_t *index, size_t index_len, const bool *flags, size_t flags_len,
+    bool *out, size_t out_len);
+
+/* Each element of the source at its index, and at a place to which none goes its default. */
+CvlStatus cvl_default_permute_int(
+    const int32_t *source, size_t source_len, const int32_t *index, size_t index_len,
+    const int32_t *defaults, size_t defaults_len, int32_t *out, size_t out_len);
+
+/* Each element of the source at its index, and at a place to which none goes its default. */
+CvlStatus cvl_default_permute_bool(
+    const bool *source, size_t source_len, const int32_t *index, size_t index_len,
+    const bool *defaults, size_t defaults_len, bool *out, size_t out_len);
+
+/* At each place the element of the source at the place's index. */
+CvlStatus cvl_back_permute_int(
+    const int32_t *source, size_t source_len, const int32_t *index, size_t index_len, int32_t *out, size_t out_len);
+
+/* At each place the element of the source at the place's index. */
+CvlStatus cvl_back_permute_bool(
+    const bool *source, size_t source_len, const int32_t *index, size_t index_len, bool *out, size_t out_len);
+
+/* ---- permutes of segments: exports ---- */
+
+/* Each element of the source at its index in its segment. */
+CvlStatus cvl_seg_permute_int(
+    const int32_t *source, size_t source_len, const int32_t *index, size_t index_len,
+    const int32_t *lengths, size_t segments, int32_t *out, size_t out_len);
+
+/* Each element of the source at its index in its segment. */
+CvlStatus cvl_seg_permute_bool(
+    const bool *source, size_t source_len, const int32_t *index, size_t index_len, const int32_t *lengths, size_t segments,
+    bool *out, size_t out_len);
+
+/* Each element of the source whose flag is true at its index in its segment of the result. */
+CvlStatus cvl_seg_select_permute_int(
+    const int32_t *source, size_t source_len, const int32_t *index, size_t index_len, const bool *flags, size_t flags_len,
+    const int32_t *lengths, size_t segments, int32_t *out, size_t out_len);
+
+/* Each element of the source whose flag is true at its index in its segment of the result. */
+CvlStatus cvl_seg_select_permute_bool(
+    const bool *source, size_t source_len, const int32_t *index, size_t index_len, const bool *flags, size_t flags_len,
+    const int32_t *lengths, size_t segments, bool *out, size_t out_len);
+
+/* Each element of the source at its index in its segment of the defaults, and at a place to which none goes its default. */
+CvlStatus cvl_seg_default_permute_int(
+    const int32_t *source, size_t source_len, const int32_t *index, size_t index_len,
+    const int32_t *defaults, size_t defaults_len, const int32_t *lengths, size_t segments,
+    const int32_t *default_lengths, size_t default_segments, int32_t *out, size_t out_len);
+
+/* Each element of the source at its index in its segment of the defaults, and at a place to which none goes its default. */
+CvlStatus cvl_seg_default_permute_bool(
+    const bool *source, size_t source_len, const int32_t *index, size_t index_len,
+    const bool *defaults, size_t defaults_len, const int32_t *lengths, size_t segments,
+    const int32_t *default_lengths, size_t default_segments, bool *out, size_t out_len);
+
+/* At each place the element at the place's index in the same segment of the source. */
+CvlStatus cvl_seg_back_permute_int(
+    const int32_t *source, size_t source_len, const int32_t *index, size_t index_len,
+    const int32_t *lengths, size_t segments, const int32_t *index_lengths, size_t index_segments,
+    int32_t *out, size_t out_len);
+
+/* At each place the element at the place's index in the same segment of the source. */
+CvlStatus cvl_seg_back_permute_bool(
+    const bool *source, size_t source_len, const int32_t *index, size_t index_len, const int32_t *lengths, size_t segments,
+    const int32_t *index_lengths, size_t index_segments, bool *out, size_t out_len);
 
 /* ---- place by place: the calls of the table ---- */
 
@@ -1166,6 +1249,216 @@ static inline CvlStatus pck_fov(const bool *flags, size_t n, const int32_t *leng
  */
 static inline CvlStatus cnt_leb(const bool *flags, size_t n, const int32_t *lengths, size_t segments, int32_t *out) {
     return cvl_seg_count(flags, n, lengths, segments, out, segments);
+/* ---- permutes: the calls of the table ---- */
+
+/*
+ * In a simple, a select and a default permute the index of a place tells where its element goes, and no two may go to one
+ * place. 13 TooLong stands where the index has more than 4194304 elements, and comes first.
+ */
+/*
+ * smp_puz: Each element of the source at its index. source, index and out have n elements.
+ * Faults: 13 TooLong; at the first bad index 10 IndexOutOfRange where it is below 0, or n or more, else 11 IndexRepeated
+ * where an earlier one is the same.
+ * source = 10 20 30, index = 2 0 1: out = 20 30 10
+ */
+static inline CvlStatus smp_puz(const int32_t *source, const int32_t *index, int32_t *out, size_t n) {
+    return cvl_permute_int(source, n, index, n, out, n);
+}
+
+/*
+ * smp_pub: Each element of the source at its index. source, index and out have n elements.
+ * Faults: 13 TooLong; at the first bad index 10 IndexOutOfRange where it is below 0, or n or more, else 11 IndexRepeated
+ * where an earlier one is the same.
+ * source = true false false, index = 2 0 1: out = false false true
+ */
+static inline CvlStatus smp_pub(const bool *source, const int32_t *index, bool *out, size_t n) {
+    return cvl_permute_bool(source, n, index, n, out, n);
+}
+
+/*
+ * sel_puz: Each element of the source whose flag is true at its index. source, index and flags have n elements; out has m,
+ * the number of true flags, else 7 LengthMismatch. An index whose flag is false is not looked at.
+ * Faults: 13 TooLong; at the first bad index 10 IndexOutOfRange where it is below 0, or the number of true flags or more,
+ * else 11 IndexRepeated where an earlier one is the same.
+ * source = 1 2 3 4, index = 1 9 0 9, flags = true false true false: out = 3 1
+ */
+static inline CvlStatus sel_puz(
+    const int32_t *source, const int32_t *index, const bool *flags, size_t n, int32_t *out, size_t m) {
+    return cvl_select_permute_int(source, n, index, n, flags, n, out, m);
+}
+
+/*
+ * sel_pub: Each element of the source whose flag is true at its index. source, index and flags have n elements; out has m,
+ * the number of true flags, else 7 LengthMismatch. An index whose flag is false is not looked at.
+ * Faults: 13 TooLong; at the first bad index 10 IndexOutOfRange where it is below 0, or the number of true flags or more,
+ * else 11 IndexRepeated where an earlier one is the same.
+ * source = true true false true, index = 1 9 0 9, flags = true false true false: out = false true
+ */
+static inline CvlStatus sel_pub(
+    const bool *source, const int32_t *index, const bool *flags, size_t n, bool *out, size_t m) {
+    return cvl_select_permute_bool(source, n, index, n, flags, n, out, m);
+}
+
+/*
+ * def_puz: Each element of the source at its index, and at a place to which none goes its default. source and index have n
+ * elements, defaults and out m, which may be any number.
+ * Faults: 13 TooLong; at the first bad index 10 IndexOutOfRange where it is below 0, or m or more, else 11 IndexRepeated
+ * where an earlier one is the same.
+ * source = 7 8, index = 3 1, defaults = 0 0 0 0 0: out = 0 8 0 7 0
+ */
+static inline CvlStatus def_puz(
+    const int32_t *source, const int32_t *index, size_t n, const int32_t *defaults, int32_t *out, size_t m) {
+    return cvl_default_permute_int(source, n, index, n, defaults, m, out, m);
+}
+
+/*
+ * def_pub: Each element of the source at its index, and at a place to which none goes its default. source and index have n
+ * elements, defaults and out m, which may be any number.
+ * Faults: 13 TooLong; at the first bad index 10 IndexOutOfRange where it is below 0, or m or more, else 11 IndexRepeated
+ * where an earlier one is the same.
+ * source = true false, index = 3 1, defaults = false true true false: out = false false true true
+ */
+static inline CvlStatus def_pub(
+    const bool *source, const int32_t *index, size_t n, const bool *defaults, bool *out, size_t m) {
+    return cvl_default_permute_bool(source, n, index, n, defaults, m, out, m);
+}
+
+/*
+ * bck_puz: At each place the element of the source at the place's index, which may repeat. The source has n elements, which
+ * may be any number; index and out have m.
+ * Faults: 13 TooLong; 10 IndexOutOfRange at the first index below 0, or n or more.
+ * source = 10 20 30, index = 2 2 0 0: out = 30 30 10 10
+ */
+static inline CvlStatus bck_puz(const int32_t *source, size_t n, const int32_t *index, int32_t *out, size_t m) {
+    return cvl_back_permute_int(source, n, index, m, out, m);
+}
+
+/*
+ * bck_pub: At each place the element of the source at the place's index, which may repeat. The source has n elements, which
+ * may be any number; index and out have m.
+ * Faults: 13 TooLong; 10 IndexOutOfRange at the first index below 0, or n or more.
+ * source = true false false, index = 2 2 0 0: out = false false true true
+ */
+static inline CvlStatus bck_pub(const bool *source, size_t n, const int32_t *index, bool *out, size_t m) {
+    return cvl_back_permute_bool(source, n, index, m, out, m);
+}
+
+/* ---- permutes of segments: the calls of the table ---- */
+
+/*
+ * The faults by the lengths come first, as at the other calls on segments; where there are two arrays of lengths, those of
+ * `lengths` before those of the other. Indices count from the start of their segment.
+ */
+/*
+ * smp_pez: Each element of the source at its index, which counts from the start of its segment. source, index and out have n
+ * elements.
+ * Faults: 13 TooLong; 7 LengthMismatch where the lengths do not add up to n; at the first bad index 10 IndexOutOfRange where
+ * it is no place of its segment, else 11 IndexRepeated where an earlier one of its segment is the same.
+ * source = 1 2 3 4 5, index = 1 0 2 0 1, lengths = 2 0 3: out = 2 1 4 5 3
+ */
+static inline CvlStatus smp_pez(
+    const int32_t *source, const int32_t *index, const int32_t *lengths, size_t segments, int32_t *out, size_t n) {
+    return cvl_seg_permute_int(source, n, index, n, lengths, segments, out, n);
+}
+
+/*
+ * smp_peb: Each element of the source at its index, which counts from the start of its segment. source, index and out have n
+ * elements.
+ * Faults: 13 TooLong; 7 LengthMismatch where the lengths do not add up to n; at the first bad index 10 IndexOutOfRange where
+ * it is no place of its segment, else 11 IndexRepeated where an earlier one of its segment is the same.
+ * source = true false false false true, index = 1 0 2 0 1, lengths = 2 0 3: out = false true false true false
+ */
+static inline CvlStatus smp_peb(
+    const bool *source, const int32_t *index, const int32_t *lengths, size_t segments, bool *out, size_t n) {
+    return cvl_seg_permute_bool(source, n, index, n, lengths, segments, out, n);
+}
+
+/*
+ * sel_pez: Each element of the source whose flag is true at its index in its segment of the result, which is as long as the
+ * segment has true flags. source, index and flags have n elements; out has m, the number of true flags, else 7
+ * LengthMismatch. An index whose flag is false is not looked at.
+ * Faults: 13 TooLong; 7 LengthMismatch where the lengths do not add up to n; at the first bad index 10 IndexOutOfRange where
+ * it is no place of its segment of the result, else 11 IndexRepeated where an earlier one of its segment is the same.
+ * source = 1 2 3 4 5, index = 9 0 1 9 0, flags = false true true false true, lengths = 2 0 3: out = 2 5 3
+ */
+static inline CvlStatus sel_pez(
+    const int32_t *source, const int32_t *index, const bool *flags, size_t n, const int32_t *lengths,
+    size_t segments, int32_t *out, size_t m) {
+    return cvl_seg_select_permute_int(source, n, index, n, flags, n, lengths, segments, out, m);
+}
+
+/*
+ * sel_peb: Each element of the source whose flag is true at its index in its segment of the result, which is as long as the
+ * segment has true flags. source, index and flags have n elements; out has m, the number of true flags, else 7
+ * LengthMismatch. An index whose flag is false is not looked at.
+ * Faults: 13 TooLong; 7 LengthMismatch where the lengths do not add up to n; at the first bad index 10 IndexOutOfRange where
+ * it is no place of its segment of the result, else 11 IndexRepeated where an earlier one of its segment is the same.
+ * source = true false true true false, index = 9 0 1 9 0, flags = false true true false true, lengths = 2 0 3:
+ * out = false false true
+ */
+static inline CvlStatus sel_peb(
+    const bool *source, const int32_t *index, const bool *flags, size_t n, const int32_t *lengths,
+    size_t segments, bool *out, size_t m) {
+    return cvl_seg_select_permute_bool(source, n, index, n, flags, n, lengths, segments, out, m);
+}
+
+/*
+ * def_pez: Each element of the source at its index in the same segment of the defaults, and at a place to which none goes
+ * its default. source and index have n elements in segments with the lengths; defaults and out have m, in as many segments
+ * with the default lengths.
+ * Faults: 13 TooLong; 7 LengthMismatch where the lengths do not add up to n or the default lengths to m; at the first bad
+ * index 10 IndexOutOfRange where it is no place of its segment of the defaults, else 11 IndexRepeated where an earlier one
+ * of its segment is the same.
+ * source = 1 2 3 4 5, index = 2 0 0 1 2, defaults = 0 0 0 9 0 0 0, lengths = 2 0 3, default_lengths = 3 1 3:
+ * out = 2 0 1 9 3 4 5
+ */
+static inline CvlStatus def_pez(
+    const int32_t *source, const int32_t *index, size_t n, const int32_t *defaults, const int32_t *lengths,
+    const int32_t *default_lengths, size_t segments, int32_t *out, size_t m) {
+    return cvl_seg_default_permute_int(source, n, index, n, defaults, m, lengths, segments, default_lengths, segments, out, m);
+}
+
+/*
+ * def_peb: Each element of the source at its index in the same segment of the defaults, and at a place to which none goes
+ * its default. source and index have n elements in segments with the lengths; defaults and out have m, in as many segments
+ * with the default lengths.
+ * Faults: 13 TooLong; 7 LengthMismatch where the lengths do not add up to n or the default lengths to m; at the first bad
+ * index 10 IndexOutOfRange where it is no place of its segment of the defaults, else 11 IndexRepeated where an earlier one
+ * of its segment is the same.
+ * source = true false, index = 1 0, defaults = false false true true, lengths = 1 1, default_lengths = 2 2:
+ * out = false true false true
+ */
+static inline CvlStatus def_peb(
+    const bool *source, const int32_t *index, size_t n, const bool *defaults, const int32_t *lengths,
+    const int32_t *default_lengths, size_t segments, bool *out, size_t m) {
+    return cvl_seg_default_permute_bool(source, n, index, n, defaults, m, lengths, segments, default_lengths, segments, out, m);
+}
+
+/*
+ * bck_pez: At each place the element at the place's index in the same segment of the source; an index may repeat. The source
+ * has n elements in segments with the lengths; index and out have m, in as many segments with the index lengths.
+ * Faults: 13 TooLong; 7 LengthMismatch where the lengths do not add up to n or the index lengths to m; 10 IndexOutOfRange at
+ * the first index that is no place of its segment of the source.
+ * source = 1 2 3 4 5, index = 1 1 1 2, lengths = 2 0 3, index_lengths = 3 0 1: out = 2 2 2 5
+ */
+static inline CvlStatus bck_pez(
+    const int32_t *source, size_t n, const int32_t *index, const int32_t *lengths, const int32_t *index_lengths,
+    size_t segments, int32_t *out, size_t m) {
+    return cvl_seg_back_permute_int(source, n, index, m, lengths, segments, index_lengths, segments, out, m);
+}
+
+/*
+ * bck_peb: At each place the element at the place's index in the same segment of the source; an index may repeat. The source
+ * has n elements in segments with the lengths; index and out have m, in as many segments with the index lengths.
+ * Faults: 13 TooLong; 7 LengthMismatch where the lengths do not add up to n or the index lengths to m; 10 IndexOutOfRange at
+ * the first index that is no place of its segment of the source.
+ * source = true false false false true, index = 1 1 1 2, lengths = 2 0 3, index_lengths = 3 0 1:
+ * out = false false false true
+ */
+static inline CvlStatus bck_peb(
+    const bool *source, size_t n, const int32_t *index, const int32_t *lengths, const int32_t *index_lengths,
+    size_t segments, bool *out, size_t m) {
+    return cvl_seg_back_permute_bool(source, n, index, m, lengths, segments, index_lengths, segments, out, m);
 }
 
 #ifdef __cplusplus

@@ -453,6 +453,128 @@ static void pack_faults(void) {
     FAULT(cvl_seg_count(flags, 5, lengths, 2, ints, 2), CVL_LENGTH_MISMATCH, -1);
     FAULT(cvl_seg_count(flags, 5, below, 3, ints, 3), CVL_NEGATIVE_LENGTH, 1);
     FAULT(cvl_seg_count(flags, 5, too_many_ints, many, ints, 3), CVL_TOO_LONG, -1);
+static void permutes(void) {
+    const int32_t *three = I(10, 20, 30), *turn = I(2, 0, 1), *ends = I(-1, 3, 0);
+    const bool *f = B(true, false, false), *flags = B(true, false, true, false);
+    INTS(smp_puz(three, turn, ints, 3), 20, 30, 10);
+    BOOLS(smp_pub(f, turn, bools, 3), false, false, true);
+    INTS(sel_puz(I(1, 2, 3, 4), I(1, 9, 0, 9), flags, 4, ints, 2), 3, 1);
+    BOOLS(sel_pub(B(true, true, false, true), I(1, 9, 0, 9), flags, 4, bools, 2), false, true);
+    INTS(def_puz(I(7, 8), I(3, 1), 2, I(0, 0, 0, 0, 0), ints, 5), 0, 8, 0, 7, 0);
+    BOOLS(def_pub(B(true, false), I(3, 1), 2, B(false, true, true, false), bools, 4), false, false, true, true);
+    INTS(bck_puz(three, 3, I(2, 2, 0, 0), ints, 4), 30, 30, 10, 10);
+    BOOLS(bck_pub(f, 3, I(2, 2, 0, 0), bools, 4), false, false, true, true);
+    INTS(smp_puz(I(INT32_MIN), I(0), ints, 1), INT32_MIN);
+    FAULT(smp_puz(three, ends, ints, 3), CVL_INDEX_OUT_OF_RANGE, 0);
+    FAULT(smp_puz(three, I(2, 3, 2), ints, 3), CVL_INDEX_OUT_OF_RANGE, 1);
+    FAULT(smp_puz(three, I(1, 1, 3), ints, 3), CVL_INDEX_REPEATED, 1);
+    FAULT(smp_pub(f, I(0, 2, 0), bools, 3), CVL_INDEX_REPEATED, 2);
+    FAULT(smp_pub(f, I(0, 1, INT32_MIN), bools, 3), CVL_INDEX_OUT_OF_RANGE, 2);
+    FAULT(sel_puz(three, I(0, 9, 2), B(true, false, true), 3, ints, 2), CVL_INDEX_OUT_OF_RANGE, 2);
+    FAULT(sel_puz(three, I(1, 1, 1), B(true, false, true), 3, ints, 2), CVL_INDEX_REPEATED, 2);
+    FAULT(sel_pub(f, I(-1, 9, 0), B(true, false, false), 3, bools, 1), CVL_INDEX_OUT_OF_RANGE, 0);
+    FAULT(sel_pub(f, I(0, 0, 0), B(true, true, false), 3, bools, 2), CVL_INDEX_REPEATED, 1);
+    FAULT(def_puz(three, I(4, 3, 5), 3, I(0, 0, 0, 0, 0), ints, 5), CVL_INDEX_OUT_OF_RANGE, 2);
+    FAULT(def_puz(three, I(4, 4, 5), 3, I(0, 0, 0, 0, 0), ints, 5), CVL_INDEX_REPEATED, 1);
+    FAULT(def_pub(f, I(0, 1, 2), 3, flags, bools, 0), CVL_INDEX_OUT_OF_RANGE, 0);
+    FAULT(def_pub(f, I(0, 3, 3), 3, flags, bools, 4), CVL_INDEX_REPEATED, 2);
+    FAULT(bck_puz(three, 3, I(2, 3, -1), ints, 3), CVL_INDEX_OUT_OF_RANGE, 1);
+    FAULT(bck_pub(f, 0, I(0), bools, 1), CVL_INDEX_OUT_OF_RANGE, 0);
+}
+
+static void permutes_of_wrong_lengths(void) {
+    const int32_t *three = I(10, 20, 30), *turn = I(2, 0, 1);
+    const bool *f = B(true, true, false);
+    const size_t many = CVL_MOST_ELEMENTS + 1;
+    FAULT(cvl_permute_int(three, 3, turn, 2, ints, 2), CVL_LENGTH_MISMATCH, -1);
+    FAULT(cvl_permute_int(three, 3, turn, 3, ints, 4), CVL_LENGTH_MISMATCH, -1);
+    FAULT(cvl_permute_bool(f, 2, turn, 3, bools, 3), CVL_LENGTH_MISMATCH, -1);
+    FAULT(cvl_permute_bool(f, 3, turn, 3, bools, 2), CVL_LENGTH_MISMATCH, -1);
+    FAULT(cvl_select_permute_int(three, 2, turn, 3, f, 3, ints, 2), CVL_LENGTH_MISMATCH, -1);
+    FAULT(cvl_select_permute_int(three, 3, I(1, 0, 9), 3, f, 3, ints, 3), CVL_LENGTH_MISMATCH, -1);
+    FAULT(cvl_select_permute_bool(f, 3, turn, 3, f, 2, bools, 2), CVL_LENGTH_MISMATCH, -1);
+    FAULT(cvl_select_permute_bool(f, 3, I(1, 0, 9), 3, f, 3, bools, 1), CVL_LENGTH_MISMATCH, -1);
+    FAULT(cvl_default_permute_int(three, 3, turn, 2, three, 3, ints, 3), CVL_LENGTH_MISMATCH, -1);
+    FAULT(cvl_default_permute_int(three, 3, turn, 3, three, 3, ints, 4), CVL_LENGTH_MISMATCH, -1);
+    FAULT(cvl_default_permute_bool(f, 2, turn, 3, f, 3, bools, 3), CVL_LENGTH_MISMATCH, -1);
+    FAULT(cvl_default_permute_bool(f, 3, turn, 3, f, 3, bools, 2), CVL_LENGTH_MISMATCH, -1);
+    FAULT(cvl_back_permute_int(three, 3, turn, 3, ints, 2), CVL_LENGTH_MISMATCH, -1);
+    FAULT(cvl_back_permute_bool(f, 3, turn, 3, bools, 4), CVL_LENGTH_MISMATCH, -1);
+    FAULT(cvl_permute_int(three, 3, too_many_ints, many, ints, 3), CVL_TOO_LONG, -1);
+    FAULT(cvl_permute_bool(too_many_bools, many, too_many_ints, many, bools, 3), CVL_TOO_LONG, -1);
+    FAULT(cvl_select_permute_int(three, 3, too_many_ints, many, f, 3, ints, 3), CVL_TOO_LONG, -1);
+    FAULT(cvl_select_permute_bool(f, 3, too_many_ints, many, f, 3, bools, 3), CVL_TOO_LONG, -1);
+    FAULT(cvl_default_permute_int(three, 3, too_many_ints, many, three, 3, ints, 3), CVL_TOO_LONG, -1);
+    FAULT(cvl_default_permute_bool(f, 3, too_many_ints, many, f, 3, bools, 3), CVL_TOO_LONG, -1);
+    FAULT(cvl_back_permute_int(three, 3, too_many_ints, many, ints, 3), CVL_TOO_LONG, -1);
+    FAULT(cvl_back_permute_bool(f, 3, too_many_ints, many, bools, 3), CVL_TOO_LONG, -1);
+    INTS(cvl_back_permute_int(too_many_ints, many, I(CVL_MOST_ELEMENTS), 1, ints, 1), 0);
+}
+
+static void permutes_of_segments(void) {
+    const int32_t *five = I(1, 2, 3, 4, 5), *lengths = I(2, 0, 3), *turn = I(1, 0, 2, 0, 1), *some = I(9, 0, 1, 9, 0);
+    const int32_t *to = I(2, 0, 0, 1, 2), *defaults = I(0, 0, 0, 9, 0, 0, 0), *widths = I(3, 1, 3), *from = I(1, 1, 1, 2);
+    const bool *flags = B(false, true, true, false, true);
+    INTS(smp_pez(five, turn, lengths, 3, ints, 5), 2, 1, 4, 5, 3);
+    BOOLS(smp_peb(B(true, false, false, false, true), turn, lengths, 3, bools, 5), false, true, false, true, false);
+    INTS(sel_pez(five, some, flags, 5, lengths, 3, ints, 3), 2, 5, 3);
+    BOOLS(sel_peb(B(true, false, true, true, false), some, flags, 5, lengths, 3, bools, 3), false, false, true);
+    INTS(def_pez(five, to, 5, defaults, lengths, widths, 3, ints, 7), 2, 0, 1, 9, 3, 4, 5);
+    BOOLS(def_peb(B(true, false), I(1, 0), 2, B(false, false, true, true), I(1, 1), I(2, 2), 2, bools, 4), false, true, false,
+          true);
+    INTS(bck_pez(five, 5, from, lengths, I(3, 0, 1), 3, ints, 4), 2, 2, 2, 5);
+    BOOLS(bck_peb(B(true, false, false, false, true), 5, from, lengths, I(3, 0, 1), 3, bools, 4), false, false, false, true);
+    FAULT(smp_pez(five, I(1, 2, 2, 0, 1), lengths, 3, ints, 5), CVL_INDEX_OUT_OF_RANGE, 1);
+    FAULT(smp_pez(five, I(1, 0, 2, 2, 3), lengths, 3, ints, 5), CVL_INDEX_REPEATED, 3);
+    FAULT(smp_peb(flags, I(0, 0, 2, 2, 3), lengths, 3, bools, 5), CVL_INDEX_REPEATED, 1);
+    FAULT(smp_peb(flags, I(1, 0, -1, 0, 0), lengths, 3, bools, 5), CVL_INDEX_OUT_OF_RANGE, 2);
+    FAULT(sel_pez(five, I(9, 1, 1, 9, 0), flags, 5, lengths, 3, ints, 3), CVL_INDEX_OUT_OF_RANGE, 1);
+    FAULT(sel_pez(five, I(9, 0, 1, 9, 1), flags, 5, lengths, 3, ints, 3), CVL_INDEX_REPEATED, 4);
+    FAULT(sel_peb(flags, I(9, 0, 1, 9, 2), flags, 5, lengths, 3, bools, 3), CVL_INDEX_OUT_OF_RANGE, 4);
+    FAULT(sel_peb(flags, I(9, 0, 0, 9, 0), flags, 5, lengths, 3, bools, 3), CVL_INDEX_REPEATED, 4);
+    FAULT(def_pez(five, I(2, 3, 0, 1, 2), 5, defaults, lengths, widths, 3, ints, 7), CVL_INDEX_OUT_OF_RANGE, 1);
+    FAULT(def_pez(five, I(2, 0, 0, 1, 0), 5, defaults, lengths, widths, 3, ints, 7), CVL_INDEX_REPEATED, 4);
+    FAULT(def_peb(flags, I(0, 0), 2, flags, I(1, 1), I(1, 0), 2, bools, 1), CVL_INDEX_OUT_OF_RANGE, 1);
+    FAULT(def_peb(flags, I(0, 0), 2, flags, I(2, 0), I(1, 0), 2, bools, 1), CVL_INDEX_REPEATED, 1);
+    FAULT(bck_pez(five, 5, I(1, 2, 0, 0), lengths, I(3, 0, 1), 3, ints, 4), CVL_INDEX_OUT_OF_RANGE, 1);
+    FAULT(bck_peb(flags, 5, I(1, 0, 0, 0), lengths, I(3, 1, 0), 3, bools, 4), CVL_INDEX_OUT_OF_RANGE, 3);
+}
+
+static void permutes_of_wrong_segments(void) {
+    const int32_t *five = I(1, 2, 3, 4, 5), *lengths = I(2, 0, 3), *turn = I(1, 0, 2, 0, 1), *negative = I(2, 4, -1);
+    const bool *flags = B(false, true, true, false, true);
+    const size_t many = CVL_MOST_ELEMENTS + 1;
+    FAULT(smp_pez(five, turn, negative, 3, ints, 5), CVL_NEGATIVE_LENGTH, 2);
+    FAULT(smp_pez(five, turn, lengths, 2, ints, 5), CVL_LENGTH_MISMATCH, -1);
+    FAULT(smp_peb(flags, turn, I(2, 1, 3), 3, bools, 5), CVL_LENGTH_MISMATCH, -1);
+    FAULT(cvl_seg_permute_int(five, 5, turn, 4, lengths, 3, ints, 5), CVL_LENGTH_MISMATCH, -1);
+    FAULT(cvl_seg_permute_int(five, 5, turn, 5, lengths, 3, ints, 4), CVL_LENGTH_MISMATCH, -1);
+    FAULT(cvl_seg_permute_bool(flags, 5, turn, 5, lengths, 3, bools, 6), CVL_LENGTH_MISMATCH, -1);
+    FAULT(cvl_seg_permute_int(five, 5, too_many_ints, many, lengths, 3, ints, 5), CVL_TOO_LONG, -1);
+    FAULT(cvl_seg_permute_bool(flags, 5, too_many_ints, many, negative, 3, bools, 5), CVL_NEGATIVE_LENGTH, 2);
+    FAULT(cvl_seg_permute_bool(flags, 5, turn, 5, too_many_ints, many, bools, 5), CVL_TOO_LONG, -1);
+    FAULT(sel_pez(five, turn, flags, 5, negative, 3, ints, 3), CVL_NEGATIVE_LENGTH, 2);
+    FAULT(sel_peb(flags, turn, flags, 5, lengths, 2, bools, 3), CVL_LENGTH_MISMATCH, -1);
+    FAULT(cvl_seg_select_permute_int(five, 5, turn, 5, flags, 4, lengths, 3, ints, 3), CVL_LENGTH_MISMATCH, -1);
+    FAULT(cvl_seg_select_permute_int(five, 5, I(9, 0, 1, 9, 0), 5, flags, 5, lengths, 3, ints, 5), CVL_LENGTH_MISMATCH, -1);
+    FAULT(cvl_seg_select_permute_bool(flags, 5, I(9, 0, 1, 9, 0), 5, flags, 5, lengths, 3, bools, 2), CVL_LENGTH_MISMATCH, -1);
+    FAULT(cvl_seg_select_permute_int(five, 5, too_many_ints, many, flags, 5, lengths, 3, ints, 3), CVL_TOO_LONG, -1);
+    FAULT(cvl_seg_select_permute_bool(flags, 5, too_many_ints, many, flags, 5, lengths, 3, bools, 3), CVL_TOO_LONG, -1);
+    FAULT(def_pez(five, turn, 5, five, lengths, negative, 3, ints, 5), CVL_NEGATIVE_LENGTH, 2);
+    FAULT(def_peb(flags, turn, 5, flags, negative, I(-1, 0, 0), 3, bools, 5), CVL_NEGATIVE_LENGTH, 2);
+    FAULT(cvl_seg_default_permute_int(five, 5, turn, 5, five, 5, lengths, 3, I(2, 3), 2, ints, 5), CVL_LENGTH_MISMATCH, -1);
+    FAULT(cvl_seg_default_permute_int(five, 5, turn, 5, five, 4, lengths, 3, lengths, 3, ints, 4), CVL_LENGTH_MISMATCH, -1);
+    FAULT(cvl_seg_default_permute_bool(flags, 5, turn, 5, flags, 5, lengths, 3, lengths, 3, bools, 4), CVL_LENGTH_MISMATCH, -1);
+    FAULT(cvl_seg_default_permute_int(five, 5, too_many_ints, many, five, 5, lengths, 3, lengths, 3, ints, 5), CVL_TOO_LONG, -1);
+    FAULT(cvl_seg_default_permute_bool(flags, 5, too_many_ints, many, flags, 5, lengths, 3, lengths, 3, bools, 5), CVL_TOO_LONG,
+          -1);
+    FAULT(bck_pez(five, 5, turn, lengths, negative, 3, ints, 5), CVL_NEGATIVE_LENGTH, 2);
+    FAULT(bck_peb(flags, 5, turn, lengths, I(2, 1, 3), 3, bools, 5), CVL_LENGTH_MISMATCH, -1);
+    FAULT(cvl_seg_back_permute_int(five, 5, turn, 5, lengths, 3, I(2, 3), 2, ints, 5), CVL_LENGTH_MISMATCH, -1);
+    FAULT(cvl_seg_back_permute_int(five, 4, turn, 5, lengths, 3, lengths, 3, ints, 5), CVL_LENGTH_MISMATCH, -1);
+    FAULT(cvl_seg_back_permute_bool(flags, 5, turn, 5, lengths, 3, lengths, 3, bools, 6), CVL_LENGTH_MISMATCH, -1);
+    FAULT(cvl_seg_back_permute_int(five, 5, too_many_ints, many, lengths, 3, lengths, 3, ints, 5), CVL_TOO_LONG, -1);
+    FAULT(cvl_seg_back_permute_bool(flags, 5, too_many_ints, many, lengths, 3, lengths, 3, bools, 5), CVL_TOO_LONG, -1);
 }
 
 int main(void) {
@@ -467,6 +589,10 @@ int main(void) {
     segmented_scan_faults();
     packs();
     pack_faults();
+    permutes();
+    permutes_of_wrong_lengths();
+    permutes_of_segments();
+    permutes_of_wrong_segments();
     if (failed) return EXIT_FAILURE;
     printf("%d calls as they should be\n", calls);
     return EXIT_SUCCESS;

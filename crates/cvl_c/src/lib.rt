@@ -8,11 +8,13 @@ mod checked_sums;
 mod checks;
 mod descriptors;
 mod elements;
+mod flat_permutes;
 mod numbers;
 mod packs;
 mod place_by_place;
 mod scans;
 mod seg_scans;
+mod segment_permutes;
 mod segments;
 pub mod status;
 

@@ -1,0 +1,212 @@
+//! Permutes of each segment, by an index of at most 4,194,304 elements. Segments come as their lengths.
+
+ghost use Rattle.std.specs.Prelude.{length};
+ghost use Rattle.cvl_base.specs.Gives.{Gives};
+ghost use Rattle.cvl_base.specs.SegmentedCalls.{seg_back_of, seg_default_of, seg_select_of, seg_simple_of};
+ghost use Rattle.cvl_c.specs.Calls.{by_segments, in_limit};
+ghost use Rattle.cvl_c.specs.Told.{ToldOr, in_room};
+
+use crate::checks::{check_limit, descriptor};
+use crate::status::{CvlStatus, told};
+use cvl_base::Refused;
+use permutes::{seg_back_alone, seg_default_into_alone, seg_select_alone, seg_simple_alone};
+use std::alloc::Global;
+
+/// Each element at its index in its segment.
+fn simple_each<T: Copy>(
+    alloc: Global,
+    source: &[T],
+    index: &[i32],
+    lengths: &[i32],
+) -> Result<Vec<T, Global>, Refused>
+    ensures { Gives (λ v. v.items) result (by_segments lengths.now (λ d. in_limit index.now (seg_simple_of source.now index.now d))) }
+{
+    let d = descriptor(alloc, lengths)?;
+    check_limit(index)?;
+    seg_simple_alone(alloc, source, index, &d)
+}
+
+/// Each element whose flag is true at its index in its segment of the result.
+fn select_each<T: Copy>(
+    alloc: Global,
+    source: &[T],
+    index: &[i32],
+    flags: &[bool],
+    lengths: &[i32],
+) -> Result<Vec<T, Global>, Refused>
+    ensures { Gives (λ v. v.items) result
+        (by_segments lengths.now (λ d. in_limit index.now (seg_select_of source.now index.now flags.now d))) }
+{
+    let d = descriptor(alloc, lengths)?;
+    check_limit(index)?;
+    seg_select_alone(alloc, source, index, flags, &d)
+}
+
+/// Each element at its index in its segment of the defaults, and at a place to which none goes its default.
+fn default_each<T: Copy>(
+    alloc: Global,
+    source: &[T],
+    index: &[i32],
+    defaults: &[T],
+    lengths: &[i32],
+    default_lengths: &[i32],
+) -> Result<Vec<T, Global>, Refused>
+    ensures { Gives (λ v. v.items) result (by_segments lengths.now (λ d. by_segments default_lengths.now
+        (λ e. in_limit index.now (seg_default_of source.now index.now defaults.now d e)))) }
+{
+    let d = descriptor(alloc, lengths)?;
+    let e = descriptor(alloc, default_lengths)?;
+    check_limit(index)?;
+    seg_default_into_alone(alloc, source, index, defaults, &d, &e)
+}
+
+/// At each place the element at the place's index in the same segment of the source.
+fn back_each<T: Copy>(
+    alloc: Global,
+    source: &[T],
+    index: &[i32],
+    lengths: &[i32],
+    index_lengths: &[i32],
+) -> Result<Vec<T, Global>, Refused>
+    ensures { Gives (λ v. v.items) result (by_segments lengths.now (λ d. by_segments index_lengths.now
+        (λ e. in_limit index.now (seg_back_of source.now index.now d e)))) }
+{
+    let d = descriptor(alloc, lengths)?;
+    let e = descriptor(alloc, index_lengths)?;
+    check_limit(index)?;
+    seg_back_alone(alloc, source, index, &d, &e)
+}
+
+/// Each integer at its index in its segment: `smp_pez`.
+#[unsafe(no_mangle)]
+pub extern "C" fn cvl_seg_permute_int(
+    alloc: Global,
+    source: &[i32],
+    index: &[i32],
+    lengths: &[i32],
+    out: &mut [i32],
+) -> CvlStatus
+    ensures { ToldOr (in_room (length out.old) (by_segments lengths.now
+        (λ d. in_limit index.now (seg_simple_of source.now index.now d)))) result out.old out.new }
+{
+    told(simple_each(alloc, source, index, lengths), out)
+}
+
+/// Each boolean at its index in its segment: `smp_peb`.
+#[unsafe(no_mangle)]
+pub extern "C" fn cvl_seg_permute_bool(
+    alloc: Global,
+    source: &[bool],
+    index: &[i32],
+    lengths: &[i32],
+    out: &mut [bool],
+) -> CvlStatus
+    ensures { ToldOr (in_room (length out.old) (by_segments lengths.now
+        (λ d. in_limit index.now (seg_simple_of source.now index.now d)))) result out.old out.new }
+{
+    told(simple_each(alloc, source, index, lengths), out)
+}
+
+/// Each integer whose flag is true at its index in its segment of the result: `sel_pez`.
+#[unsafe(no_mangle)]
+pub extern "C" fn cvl_seg_select_permute_int(
+    alloc: Global,
+    source: &[i32],
+    index: &[i32],
+    flags: &[bool],
+    lengths: &[i32],
+    out: &mut [i32],
+) -> CvlStatus
+    ensures { ToldOr (in_room (length out.old) (by_segments lengths.now
+        (λ d. in_limit index.now (seg_select_of source.now index.now flags.now d)))) result out.old out.new }
+{
+    told(select_each(alloc, source, index, flags, lengths), out)
+}
+
+/// Each boolean whose flag is true at its index in its segment of the result: `sel_peb`.
+#[unsafe(no_mangle)]
+pub extern "C" fn cvl_seg_select_permute_bool(
+    alloc: Global,
+    source: &[bool],
+    index: &[i32],
+    flags: &[bool],
+    lengths: &[i32],
+    out: &mut [bool],
+) -> CvlStatus
+    ensures { ToldOr (in_room (length out.old) (by_segments lengths.now
+        (λ d. in_limit index.now (seg_select_of source.now index.now flags.now d)))) result out.old out.new }
+{
+    told(select_each(alloc, source, index, flags, lengths), out)
+}
+
+/// Each integer at its index in its segment of the defaults, and at a place to which none goes its default: `def_pez`.
+#[unsafe(no_mangle)]
+pub extern "C" fn cvl_seg_default_permute_int(
+    alloc: Global,
+    source: &[i32],
+    index: &[i32],
+    defaults: &[i32],
+    lengths: &[i32],
+    default_lengths: &[i32],
+    out: &mut [i32],
+) -> CvlStatus
+    ensures { ToldOr (in_room (length out.old) (by_segments lengths.now (λ d. by_segments default_lengths.now
+        (λ e. in_limit index.now (seg_default_of source.now index.now defaults.now d e))))) result out.old out.new }
+{
+    told(
+        default_each(alloc, source, index, defaults, lengths, default_lengths),
+        out,
+    )
+}
+
+/// Each boolean at its index in its segment of the defaults, and at a place to which none goes its default: `def_peb`.
+#[unsafe(no_mangle)]
+pub extern "C" fn cvl_seg_default_permute_bool(
+    alloc: Global,
+    source: &[bool],
+    index: &[i32],
+    defaults: &[bool],
+    lengths: &[i32],
+    default_lengths: &[i32],
+    out: &mut [bool],
+) -> CvlStatus
+    ensures { ToldOr (in_room (length out.old) (by_segments lengths.now (λ d. by_segments default_lengths.now
+        (λ e. in_limit index.now (seg_default_of source.now index.now defaults.now d e))))) result out.old out.new }
+{
+    told(
+        default_each(alloc, source, index, defaults, lengths, default_lengths),
+        out,
+    )
+}
+
+/// At each place the integer at the place's index in the same segment of the source: `bck_pez`.
+#[unsafe(no_mangle)]
+pub extern "C" fn cvl_seg_back_permute_int(
+    alloc: Global,
+    source: &[i32],
+    index: &[i32],
+    lengths: &[i32],
+    index_lengths: &[i32],
+    out: &mut [i32],
+) -> CvlStatus
+    ensures { ToldOr (in_room (length out.old) (by_segments lengths.now (λ d. by_segments index_lengths.now
+        (λ e. in_limit index.now (seg_back_of source.now index.now d e))))) result out.old out.new }
+{
+    told(back_each(alloc, source, index, lengths, index_lengths), out)
+}
+
+/// At each place the boolean at the place's index in the same segment of the source: `bck_peb`.
+#[unsafe(no_mangle)]
+pub extern "C" fn cvl_seg_back_permute_bool(
+    alloc: Global,
+    source: &[bool],
+    index: &[i32],
+    lengths: &[i32],
+    index_lengths: &[i32],
+    out: &mut [bool],
+) -> CvlStatus
+    ensures { ToldOr (in_room (length out.old) (by_segments lengths.now (λ d. by_segments index_lengths.now
+        (λ e. in_limit index.now (seg_back_of source.now index.now d e))))) result out.old out.new }
+{
+    told(back_each(alloc, source, index, lengths, index_lengths), out)
+}
