@@ -38,3 +38,12 @@ begins_before old more mid new grown later = begins_after old old more new (take
 -- a grown text begins with what grew
 pub begins_with : (old more new : List ℕ) → new ≡ old ++ more → take (length old) new ≡ old
 begins_with old more new grown = begins_before old more new new grown (take_all (length new) new (omega arith))
+
+-- an opening bracket appended and then the first text: with the others, a space before each, and a closing bracket, the texts in brackets
+pub opened_onto : {X : Type 0} (f : X → List ℕ) (old opened new : List ℕ) (x : X) (xs whole : List X) → whole ≡ x ∷ xs → opened ≡ old ++ (91 ∷ []) → new ≡ opened ++ f x
+    → new ++ spaced f xs ++ (93 ∷ []) ≡ old ++ (91 ∷ (join_with_byte 32 (map f whole) ++ (93 ∷ [])))
+opened_onto f old opened new x xs whole parts first element =
+    let rest = spaced f xs ++ (93 ∷ []) in
+    let joined : join_with_byte 32 (map f whole) ++ (93 ∷ []) ≡ f x ++ rest =
+    ap (λ t. join_with_byte 32 (map f t) ++ (93 ∷ [])) parts ∙ ap (λ t. t ++ (93 ∷ [])) (join_spaced f x xs) ∙ append_assoc (f x) (spaced f xs) (93 ∷ []) in
+    append_assoc new (spaced f xs) (93 ∷ []) ∙ ap (λ t. t ++ rest) (element ∙ ap (λ t. t ++ f x) first) ∙ append_assoc (old ++ (91 ∷ [])) (f x) rest ∙ append_assoc old (91 ∷ []) (f x ++ rest) ∙ ap (λ t. old ++ (91 ∷ t)) (sym joined)

@@ -1,6 +1,7 @@
 //! The text of values.
 #![tactic(auto)]
 
+mod alone;
 mod elements;
 mod part_writes;
 mod parts;
@@ -9,4 +10,6 @@ mod texts;
 mod vector_text;
 mod written;
 
+pub use alone::vector_text_alone;
 pub use texts::put_value;
+pub use written::Written;

@@ -1,7 +1,8 @@
 //! The text of vectors and of nests.
 
-ghost use Rattle.std.specs.Prelude.{◌≡◌, ◌≤◌, ◌++◌, length, map, sum, take, drop, unsigned_abs, OnOk};
+ghost use Rattle.std.specs.Prelude.{◌≡◌, ◌≤◌, ◌++◌, codes, length, map, sum, take, drop, unsigned_abs, IfOk, OnOk};
 ghost use Rattle.std.specs.List.{join_with_byte};
+ghost use Rattle.cvl_base.specs.Limits.{most_elements, most_workers};
 ghost use Rattle.cvl_base.specs.Nests.{cut_of};
 ghost use Rattle.value_texts.specs.Texts.{spaced, vector_text, nest_text};
 
@@ -62,27 +63,6 @@ fn put_spaced_alone<T: Written, A: Allocator>(
     Ok(())
 }
 
-/// `put_spaced_alone` by as many threads as pay. It moves the text to where there is room, so a text that is longer than what
-/// is appended stays on one thread.
-fn put_spaced<R: Threads + Sync, T: Written + Sync, A: Memory>(
-    rt: &R,
-    alloc: A,
-    config: Config,
-    xs: &[T],
-    page: &mut Page,
-    text: &mut Vec<u8, A>,
-) -> Result<(), NoResources>
-    ensures ok { OnOk result (text.new.items ≡ text.old.items ++ spaced T.text_of xs.now) }
-    ensures begins { take (length text.old.items) text.new.items ≡ text.old.items }
-{
-    let threads = threads_writing(config, xs.len());
-    if threads < 2 || text.len() / MOST_TEXT_BYTES > xs.len() {
-        return put_spaced_alone(xs, page, text);
-    }
-    let parts = elements_in(alloc, xs, threads as usize)?;
-    put_parts(rt, alloc, threads, parts.as_slice(), text)
-}
-
 /// Appends the text of one element. After a refusal the text begins as before.
 pub(crate) fn put_element<T: Written, A: Allocator>(
     x: &T,
@@ -97,28 +77,64 @@ pub(crate) fn put_element<T: Written, A: Allocator>(
     Ok(())
 }
 
-/// Appends the texts of the elements with a space between each two. After a refusal the text begins as before.
-fn put_joined<R: Threads + Sync, T: Written + Sync, A: Memory>(
-    rt: &R,
-    alloc: A,
-    config: Config,
+/// Appends `[` and the text of the first element, if there is one, and returns the others. After a refusal the text begins as
+/// before.
+fn put_first<'a, T: Written, A: Allocator>(
+    xs: &'a [T],
+    page: &mut Page,
+    text: &mut Vec<u8, A>,
+) -> Result<&'a [T], NoResources>
+    ensures ok { IfOk result (λ others. text.new.items ++ spaced T.text_of others.now ++ codes "]"
+        ≡ text.old.items ++ vector_text T.text_of xs.now) }
+    ensures few { IfOk result (λ others. length others.now ≤ length xs.now) }
+    ensures begins { take (length text.old.items) text.new.items ≡ text.old.items }
+{
+    text.push(b'[')?;
+    let Some((first, others)) = xs.split_first() else {
+        return Ok(xs);
+    };
+    put_element(first, page, text)?;
+    Ok(others)
+}
+
+/// Appends the text of a vector by the thread that calls. After a refusal the text begins as before.
+pub(crate) fn put_vector_alone<T: Written, A: Allocator>(
     xs: &[T],
     page: &mut Page,
     text: &mut Vec<u8, A>,
 ) -> Result<(), NoResources>
-    ensures ok { OnOk result
-        (text.new.items ≡ text.old.items ++ join_with_byte 32 (map T.text_of xs.now)) }
+    ensures ok { OnOk result (text.new.items ≡ text.old.items ++ vector_text T.text_of xs.now) }
     ensures begins { take (length text.old.items) text.new.items ≡ text.old.items }
 {
-    let Some((first, others)) = xs.split_first() else {
-        return Ok(());
-    };
-    put_element(first, page, text)?;
-    put_spaced(rt, alloc, config, others, page, text)?;
+    let others = put_first(xs, page, text)?;
+    put_spaced_alone(others, page, text)?;
+    text.push(b']')?;
     Ok(())
 }
 
-/// Appends the text of a vector. After a refusal the text begins as before.
+/// `put_vector_alone` by so many threads. It moves the text to where there is room.
+fn put_vector_in_parts<R: Threads + Sync, T: Written + Sync, A: Memory>(
+    rt: &R,
+    alloc: A,
+    threads: u32,
+    xs: &[T],
+    page: &mut Page,
+    text: &mut Vec<u8, A>,
+) -> Result<(), NoResources>
+    requires few { length xs.now ≤ most_elements }
+    requires threads { (1 ≤ threads) × (threads ≤ most_workers) }
+    ensures ok { OnOk result (text.new.items ≡ text.old.items ++ vector_text T.text_of xs.now) }
+    ensures begins { take (length text.old.items) text.new.items ≡ text.old.items }
+{
+    let others = put_first(xs, page, text)?;
+    let parts = elements_in(alloc, others, threads as usize)?;
+    put_parts(rt, alloc, threads, parts.as_slice(), text)?;
+    text.push(b']')?;
+    Ok(())
+}
+
+/// Appends the text of a vector by as many threads as pay. A text that is longer than what is appended stays on one thread.
+/// After a refusal the text begins as before.
 pub(crate) fn put_vector<R: Threads + Sync, T: Written + Sync, A: Memory>(
     rt: &R,
     alloc: A,
@@ -130,10 +146,11 @@ pub(crate) fn put_vector<R: Threads + Sync, T: Written + Sync, A: Memory>(
     ensures ok { OnOk result (text.new.items ≡ text.old.items ++ vector_text T.text_of xs.now) }
     ensures begins { take (length text.old.items) text.new.items ≡ text.old.items }
 {
-    text.push(b'[')?;
-    put_joined(rt, alloc, config, xs, page, text)?;
-    text.push(b']')?;
-    Ok(())
+    let threads = threads_writing(config, xs.len());
+    if threads < 2 || text.len() / MOST_TEXT_BYTES > xs.len() {
+        return put_vector_alone(xs, page, text);
+    }
+    put_vector_in_parts(rt, alloc, threads, xs, page, text)
 }
 
 /// Appends the texts of the segments with a space before each. After a refusal the text begins as before.

@@ -4,10 +4,10 @@ ghost use Rattle.std.specs.Prelude.{◌≡◌, ◌+◌, ◌≤◌, ◌++◌, len
 ghost use Rattle.std.specs.Fmt.{decimal};
 
 /// The most bytes of an element's text, which `-2147483648` has.
-pub(crate) const MOST_TEXT_BYTES: usize = 11;
+pub const MOST_TEXT_BYTES: usize = 11;
 
 /// An element of a vector, which has a text of at most 11 bytes.
-pub(crate) trait Written {
+pub trait Written {
     ghost use Rattle.std.specs.Prelude.{ℕ, List};
 
     ghost text_of: { Self → List ℕ };
