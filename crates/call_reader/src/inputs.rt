@@ -129,8 +129,9 @@ pub(crate) fn first_number(bytes: &[u8]) -> Option<(&[u8], Option<i32>, &[u8])>
     Some((token, number(token), others))
 }
 
-/// Reads an input on the thread that calls. Its answers are those of `read_vector`.
-pub(crate) fn read_alone<A: Memory>(alloc: A, bytes: &[u8]) -> Result<Vec<i32, A>, Refused>
+/// Reads an input by the thread that calls, for code that has no runtime. Its answers are those of
+/// [`read_vector`](crate::read_vector).
+pub fn read_vector_alone<A: Memory>(alloc: A, bytes: &[u8]) -> Result<Vec<i32, A>, Refused>
     ensures values { Gives (λ v. v.items) result (input_of bytes.now) }
     ensures in_limit { IfOk result (λ v. vec_len v ≤ most_elements) }
 {

@@ -17,7 +17,7 @@ pub mod text_laws;
 pub mod token;
 mod vector_reads;
 
-pub use inputs::worked_inputs;
+pub use inputs::{read_vector_alone, worked_inputs};
 pub use lines::read_line;
 pub use nested_texts::read_nested;
 pub use value_texts::put_value;

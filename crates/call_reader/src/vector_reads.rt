@@ -5,7 +5,7 @@ ghost use Rattle.cvl_base.specs.Gives.{Gives};
 ghost use Rattle.cvl_base.specs.Limits.{most_elements};
 ghost use Rattle.call_reader.specs.Inputs.{input_of};
 
-use crate::inputs::read_alone;
+use crate::inputs::read_vector_alone;
 use crate::piece_reads::read_by_several;
 use cvl_base::{Config, Memory, Refused};
 use sharing::threads_reading;
@@ -28,7 +28,7 @@ pub fn read_vector<R: Threads + Sync, A: Memory>(
 {
     let threads = threads_reading(config, bytes.len());
     if threads == 1 {
-        return read_alone(alloc, bytes);
+        return read_vector_alone(alloc, bytes);
     }
     read_by_several(rt, alloc, threads, bytes)
 }

@@ -3,7 +3,7 @@ use Rattle.cvl_base.specs.Limits.{most_elements}
 use Rattle.call_reader.specs.Tokens.{tokens_by}
 use Rattle.call_reader.specs.Inputs.{input_class}
 use Rattle.call_reader.proofs.InputWalk.{count_of, behind, numbers_from}
-use Rattle.call_reader.proofs.inputs.read_alone.Given as goal
+use Rattle.call_reader.proofs.inputs.read_vector_alone.Given as goal
 
 abbrev pub invariant-loop-token : goal.invariant-loop-token
 invariant-loop-token g l = record {

@@ -1,6 +1,6 @@
 use Rattle.std.proofs.Common.{◌≤◌, ap, length, arith}
 use Rattle.call_reader.proofs.InputWalk.{count_of, room_for_tokens}
-use Rattle.call_reader.proofs.inputs.read_alone.Goals as goal
+use Rattle.call_reader.proofs.inputs.read_vector_alone.Goals as goal
 
 pub push_reserved-requires : goal.push_reserved-requires
 push_reserved-requires g c =
