@@ -51,6 +51,7 @@ enum {
     CVL_INDEX_REPEATED = 11,
     CVL_NEGATIVE_LENGTH = 12,
     CVL_TOO_LONG = 13,
+    CVL_BAD_INPUT = 15,
     CVL_OVERFLOW = 18,
     CVL_NO_RESOURCES = 100
 };
@@ -335,6 +336,37 @@ CvlStatus cvl_seg_back_permute_int(
 CvlStatus cvl_seg_back_permute_bool(
     const bool *source, size_t source_len, const int32_t *index, size_t index_len, const int32_t *lengths, size_t segments,
     const int32_t *index_lengths, size_t index_segments, bool *out, size_t out_len);
+/* ---- texts: exports ---- */
+
+/*
+ * A text is bytes, with no zero at its end. A caller may not know how long a result is: it stands at the front of its room, and
+ * count is its length; the rest of the room is as it was. Where the room is too short it is as it was, the status is
+ * 7 LengthMismatch, without a place, and count is the length that is needed, so that a call with a room of no elements asks for
+ * it. After any other fault, or without memory, the count too is as it was.
+ */
+
+/*
+ * cvl_read_ints: The integers of a text. They stand between white space (space, tab, line feed, carriage return), and each is an
+ * optional minus sign and at least one digit, inside 32 bits. A text of white space alone has none.
+ * Faults: 13 TooLong, without a place, where there are more than 4194304 words between white space, whatever they are; else
+ * 15 BadInput at the first word that is no such integer.
+ * text = "5 -1\n007 -0": out = 5 -1 7 0, count = 4
+ */
+CvlStatus cvl_read_ints(const char *text, size_t text_len, int32_t *out, size_t out_len, size_t *count);
+
+/*
+ * cvl_write_ints: The text of a vector of integers: in decimal, a space between each two, in brackets.
+ * Faults: 13 TooLong.
+ * a = 0 -3 4: out = "[0 -3 4]", count = 8
+ */
+CvlStatus cvl_write_ints(const int32_t *a, size_t a_len, char *out, size_t out_len, size_t *count);
+
+/*
+ * cvl_write_bools: The text of a vector of booleans: each T or F, a space between each two, in brackets.
+ * Faults: 13 TooLong.
+ * a = true false: out = "[T F]", count = 5
+ */
+CvlStatus cvl_write_bools(const bool *a, size_t a_len, char *out, size_t out_len, size_t *count);
 
 /* ---- place by place: the calls of the table ---- */
 
@@ -1249,6 +1281,8 @@ static inline CvlStatus pck_fov(const bool *flags, size_t n, const int32_t *leng
  */
 static inline CvlStatus cnt_leb(const bool *flags, size_t n, const int32_t *lengths, size_t segments, int32_t *out) {
     return cvl_seg_count(flags, n, lengths, segments, out, segments);
+}
+
 /* ---- permutes: the calls of the table ---- */
 
 /*

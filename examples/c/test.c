@@ -8,11 +8,12 @@
 #include <stdlib.h>
 #include <string.h>
 
-enum { ROOM = 8, UNTOUCHED = 77 };
+enum { ROOM = 8, TEXT_ROOM = 32, UNTOUCHED = 77 };
 
 static int32_t ints[ROOM];
 static bool bools[ROOM];
 static size_t total;
+static char bytes[TEXT_ROOM];
 static int32_t too_many_ints[CVL_MOST_ELEMENTS + 1];
 static bool too_many_bools[CVL_MOST_ELEMENTS + 1];
 
@@ -35,6 +36,7 @@ static void reset(void) {
         ints[k] = UNTOUCHED;
         bools[k] = k % 2 == 0;
     }
+    memset(bytes, UNTOUCHED, sizeof bytes);
     total = UNTOUCHED;
     calls++;
 }
@@ -64,6 +66,13 @@ static void counts(const char *call, CvlStatus status, uint32_t number, size_t c
     if (total != count) fail(call, "another count");
 }
 
+/* The room for texts is as before from this place on. */
+static void leaves_bytes(const char *call, size_t first) {
+    for (size_t k = first; k < TEXT_ROOM; k++) {
+        if (bytes[k] != UNTOUCHED) fail(call, "a byte was written");
+    }
+}
+
 static void holds_ints(const char *call, const int32_t *wanted, size_t count) {
     if (memcmp(ints, wanted, count * sizeof *wanted) != 0) fail(call, "other integers");
     leaves(call, (int)count, 0);
@@ -90,6 +99,38 @@ static void holds_bools(const char *call, const bool *wanted, size_t count) {
         tells(#call, call, CVL_DONE, -1);                                                                                       \
         holds_bools(#call, wanted, sizeof wanted / sizeof *wanted);                                                             \
         NO_MEMORY(call);                                                                                                        \
+    } while (0)
+
+/* The call is done, the front of the room holds these integers or this text, and the count is their number. */
+#define FRONT_INTS(call, ...)                                                                                                   \
+    do {                                                                                                                        \
+        const int32_t wanted[] = {__VA_ARGS__};                                                                                 \
+        INTS(call, __VA_ARGS__);                                                                                                \
+        if (total != UNTOUCHED) fail(#call, "the count was written without memory");                                            \
+        reset();                                                                                                                \
+        tells(#call, call, CVL_DONE, -1);                                                                                       \
+        if (total != sizeof wanted / sizeof *wanted) fail(#call, "another count");                                              \
+    } while (0)
+#define TEXT(call, wanted)                                                                                                      \
+    do {                                                                                                                        \
+        reset();                                                                                                                \
+        tells(#call, call, CVL_DONE, -1);                                                                                       \
+        if (total != strlen(wanted)) fail(#call, "another count");                                                              \
+        if (memcmp(bytes, wanted, strlen(wanted)) != 0) fail(#call, "another text");                                            \
+        leaves_bytes(#call, strlen(wanted));                                                                                    \
+        NO_MEMORY(call);                                                                                                        \
+        leaves_bytes(#call, 0);                                                                                                 \
+        if (total != UNTOUCHED) fail(#call, "the count was written");                                                           \
+    } while (0)
+
+/* The room is too short and as before, and the count is the length that is needed. */
+#define TOO_SHORT(call, needed)                                                                                                 \
+    do {                                                                                                                        \
+        reset();                                                                                                                \
+        tells(#call, call, CVL_LENGTH_MISMATCH, -1);                                                                            \
+        leaves(#call, 0, 0);                                                                                                    \
+        leaves_bytes(#call, 0);                                                                                                 \
+        if (total != (needed)) fail(#call, "another length is needed");                                                         \
     } while (0)
 
 /* Without memory the call says so, or it takes none and is done. */
@@ -126,14 +167,6 @@ static void holds_bools(const char *call, const bool *wanted, size_t count) {
     do {                                                                                                                        \
         BOOLS(call, __VA_ARGS__);                                                                                               \
         counts(#call, call, CVL_DONE, sizeof((const bool[]){__VA_ARGS__}) / sizeof(bool));                                      \
-    } while (0)
-
-/* The room is too short for so many elements, which are told as the total, and is as before. */
-#define TOO_SHORT(call, needed)                                                                                                 \
-    do {                                                                                                                        \
-        reset();                                                                                                                \
-        counts(#call, call, CVL_LENGTH_MISMATCH, needed);                                                                       \
-        leaves(#call, 0, 0);                                                                                                    \
     } while (0)
 
 #define I(...) ((const int32_t[]){__VA_ARGS__})
@@ -453,6 +486,8 @@ static void pack_faults(void) {
     FAULT(cvl_seg_count(flags, 5, lengths, 2, ints, 2), CVL_LENGTH_MISMATCH, -1);
     FAULT(cvl_seg_count(flags, 5, below, 3, ints, 3), CVL_NEGATIVE_LENGTH, 1);
     FAULT(cvl_seg_count(flags, 5, too_many_ints, many, ints, 3), CVL_TOO_LONG, -1);
+}
+
 static void permutes(void) {
     const int32_t *three = I(10, 20, 30), *turn = I(2, 0, 1), *ends = I(-1, 3, 0);
     const bool *f = B(true, false, false), *flags = B(true, false, true, false);
@@ -577,6 +612,67 @@ static void permutes_of_wrong_segments(void) {
     FAULT(cvl_seg_back_permute_bool(flags, 5, too_many_ints, many, lengths, 3, lengths, 3, bools, 5), CVL_TOO_LONG, -1);
 }
 
+/* The integers of a text. */
+static CvlStatus read_ints(const char *text, size_t room) { return cvl_read_ints(text, strlen(text), ints, room, &total); }
+
+static char many_words[2 * (CVL_MOST_ELEMENTS + 1)];
+
+static void texts(void) {
+    const int32_t *a = I(0, -3, 4);
+    const bool *f = B(true, false);
+    const size_t most = CVL_MOST_ELEMENTS, many = CVL_MOST_ELEMENTS + 1;
+    FRONT_INTS(read_ints("5 -1\n007 -0", ROOM), 5, -1, 7, 0);
+    FRONT_INTS(read_ints("\t-2147483648\r\n2147483647 ", 2), INT32_MIN, 2147483647);
+    FRONT_INTS(cvl_read_ints("12345", 3, ints, ROOM, &total), 123);
+    TOO_SHORT(read_ints("3 1 4", 2), 3);
+    TOO_SHORT(read_ints("3 1 4", 0), 3);
+    FAULT(read_ints("2147483648", ROOM), CVL_BAD_INPUT, 0);
+    FAULT(read_ints("0 1 -2147483649", ROOM), CVL_BAD_INPUT, 2);
+    FAULT(read_ints("1 +2 3", ROOM), CVL_BAD_INPUT, 1);
+    FAULT(read_ints("4 - 5", 0), CVL_BAD_INPUT, 1);
+    FAULT(read_ints("[1 2]", ROOM), CVL_BAD_INPUT, 0);
+    FAULT(cvl_read_ints("1 2\0003", 4, ints, ROOM, &total), CVL_BAD_INPUT, 1);
+    memset(many_words, ' ', sizeof many_words);
+    for (size_t k = 0; k < most; k++) many_words[2 * k] = '7';
+    TOO_SHORT(cvl_read_ints(many_words, 2 * most, ints, ROOM, &total), most);
+    many_words[2 * most - 1] = 'x';
+    FAULT(cvl_read_ints(many_words, 2 * most, ints, ROOM, &total), CVL_BAD_INPUT, CVL_MOST_ELEMENTS - 1);
+    many_words[2 * most] = '7';
+    many_words[2 * most - 1] = ' ';
+    many_words[0] = 'x';
+    FAULT(cvl_read_ints(many_words, 2 * many, ints, ROOM, &total), CVL_TOO_LONG, -1);
+    TEXT(cvl_write_ints(a, 3, bytes, TEXT_ROOM, &total), "[0 -3 4]");
+    TEXT(cvl_write_ints(a, 3, bytes, 8, &total), "[0 -3 4]");
+    TEXT(cvl_write_ints(I(INT32_MIN, 2147483647), 2, bytes, TEXT_ROOM, &total), "[-2147483648 2147483647]");
+    TEXT(cvl_write_ints(a, 0, bytes, TEXT_ROOM, &total), "[]");
+    TEXT(cvl_write_bools(f, 2, bytes, TEXT_ROOM, &total), "[T F]");
+    TEXT(cvl_write_bools(f, 0, bytes, 2, &total), "[]");
+    TOO_SHORT(cvl_write_ints(a, 3, bytes, 7, &total), 8);
+    TOO_SHORT(cvl_write_ints(a, 0, bytes, 1, &total), 2);
+    TOO_SHORT(cvl_write_bools(f, 2, bytes, 0, &total), 5);
+    TOO_SHORT(cvl_write_bools(too_many_bools, most, bytes, TEXT_ROOM, &total), 2 * most + 1);
+    FAULT(cvl_write_ints(too_many_ints, many, bytes, TEXT_ROOM, &total), CVL_TOO_LONG, -1);
+    FAULT(cvl_write_bools(too_many_bools, many, bytes, TEXT_ROOM, &total), CVL_TOO_LONG, -1);
+}
+
+/* No words, and the text of many integers read again. */
+static void texts_of_any_length(void) {
+    static int32_t numbers[3000], read[3000];
+    static char text[3000 * 12];
+    size_t length = 0;
+    reset();
+    tells("no words", read_ints(" \t\r\n", ROOM), CVL_DONE, -1);
+    if (total != 0) fail("no words", "another count");
+    leaves("no words", 0, 0);
+    reset();
+    tells("an empty text", read_ints("", 0), CVL_DONE, -1);
+    if (total != 0) fail("an empty text", "another count");
+    for (int32_t k = 0; k < 3000; k++) numbers[k] = (k - 1500) * (k * 477 + 1);
+    tells("many integers", cvl_write_ints(numbers, 3000, text, sizeof text, &length), CVL_DONE, -1);
+    tells("their text", cvl_read_ints(text + 1, length - 2, read, 3000, &total), CVL_DONE, -1);
+    if (total != 3000 || memcmp(read, numbers, sizeof numbers) != 0) fail("their text", "other integers");
+}
+
 int main(void) {
     place_by_place();
     place_by_place_faults();
@@ -593,6 +689,8 @@ int main(void) {
     permutes_of_wrong_lengths();
     permutes_of_segments();
     permutes_of_wrong_segments();
+    texts();
+    texts_of_any_length();
     if (failed) return EXIT_FAILURE;
     printf("%d calls as they should be\n", calls);
     return EXIT_SUCCESS;

@@ -17,5 +17,6 @@ mod seg_scans;
 mod segment_permutes;
 mod segments;
 pub mod status;
+mod texts;
 
 pub use status::CvlStatus;
