@@ -1,10 +1,11 @@
+mod Cuts
 pub mod BackPermutes
 pub mod CutResults
-mod Cuts
 pub mod Defaulting
 pub mod ElementPlaces
 pub mod FirstBadPlaces
 pub mod FirstNegatives
+pub mod InParts
 pub mod LeastFaults
 pub mod Packing
 pub mod PermuteFaults

@@ -1,2 +1,3 @@
 pub mod CutAgain
+pub mod InParts
 pub mod Permuted

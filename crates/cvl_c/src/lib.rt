@@ -18,5 +18,6 @@ mod segment_permutes;
 mod segments;
 pub mod status;
 mod texts;
+mod tiles;
 
 pub use status::CvlStatus;
