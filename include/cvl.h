@@ -367,6 +367,24 @@ CvlStatus cvl_write_ints(const int32_t *a, size_t a_len, char *out, size_t out_l
  * a = true false: out = "[T F]", count = 5
  */
 CvlStatus cvl_write_bools(const bool *a, size_t a_len, char *out, size_t out_len, size_t *count);
+/* ---- scans in parts, by threads of the caller's: exports ---- */
+
+/*
+ * Threads of the caller's own scan one vector together in three steps, with a barrier of the caller's between them:
+ *
+ *   1. each thread reduces its tiles: cvl_int_reduce(op, a + from, to - from, &sums[t]), for tile t from place `from` to `to`;
+ *   2. one thread scans the sums: cvl_int_scan(op, sums, tiles, before, tiles);
+ *   3. each thread scans its tiles: cvl_int_scan_after(op, before[t], a + from, to - from, out + from, to - from).
+ *
+ * Then out is what cvl_int_scan gives of the whole. The tiles may have any lengths, 0 too, and any thread may take any tile
+ * of a step. The library starts no thread, and no call waits for another. examples/c/threads.c does this with POSIX threads.
+ */
+
+/* For each integer `before`, joined by the operator, of CVL_ADD to CVL_XOR, with those in front of it. */
+CvlStatus cvl_int_scan_after(uint32_t op, int32_t before, const int32_t *a, size_t a_len, int32_t *out, size_t out_len);
+
+/* For each boolean `before`, joined by the operator, of CVL_AND to CVL_XOR, with those in front of it. */
+CvlStatus cvl_bool_scan_after(uint32_t op, bool before, const bool *a, size_t a_len, bool *out, size_t out_len);
 
 /* ---- place by place: the calls of the table ---- */
 

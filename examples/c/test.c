@@ -284,6 +284,33 @@ static void scans(void) {
     FAULT(cvl_bool_reduce(CVL_AND, too_many_bools, many, bools), CVL_TOO_LONG, -1);
 }
 
+static void scans_in_parts(void) {
+    const int32_t *a = I(3, 1, 4);
+    const bool *f = B(true, false, true);
+    const size_t many = CVL_MOST_ELEMENTS + 1;
+    INTS(cvl_int_scan_after(CVL_ADD, 10, a, 3, ints, 3), 10, 13, 14);
+    INTS(cvl_int_scan_after(CVL_ADD, 2147483647, a, 3, ints, 3), 2147483647, -2147483646, -2147483645);
+    INTS(cvl_int_scan_after(CVL_MUL, 2, a, 3, ints, 3), 2, 6, 6);
+    INTS(cvl_int_scan_after(CVL_MIN, 2, a, 3, ints, 3), 2, 2, 1);
+    INTS(cvl_int_scan_after(CVL_MAX, 2, a, 3, ints, 3), 2, 3, 3);
+    INTS(cvl_int_scan_after(CVL_AND, 5, a, 3, ints, 3), 5, 1, 1);
+    INTS(cvl_int_scan_after(CVL_IOR, 8, a, 3, ints, 3), 8, 11, 11);
+    INTS(cvl_int_scan_after(CVL_XOR, 1, a, 3, ints, 3), 1, 2, 3);
+    BOOLS(cvl_bool_scan_after(CVL_AND, true, f, 3, bools, 3), true, true, false);
+    BOOLS(cvl_bool_scan_after(CVL_AND, false, f, 3, bools, 3), false, false, false);
+    BOOLS(cvl_bool_scan_after(CVL_IOR, false, f, 3, bools, 3), false, true, true);
+    BOOLS(cvl_bool_scan_after(CVL_XOR, true, f, 3, bools, 3), true, false, false);
+    FAULT(cvl_int_scan_after(CVL_SUB, 0, a, 3, ints, 3), CVL_UNKNOWN_CALL, -1);
+    FAULT(cvl_int_scan_after(CVL_ADD, 0, a, 3, ints, 2), CVL_LENGTH_MISMATCH, -1);
+    FAULT(cvl_int_scan_after(CVL_ADD, 0, a, 3, ints, 4), CVL_LENGTH_MISMATCH, -1);
+    FAULT(cvl_int_scan_after(CVL_ADD, 0, too_many_ints, many, ints, 2), CVL_TOO_LONG, -1);
+    FAULT(cvl_int_scan_after(UINT32_MAX, 0, too_many_ints, many, ints, 2), CVL_UNKNOWN_CALL, -1);
+    FAULT(cvl_bool_scan_after(CVL_MAX, false, f, 3, bools, 3), CVL_UNKNOWN_CALL, -1);
+    FAULT(cvl_bool_scan_after(CVL_IOR, false, f, 3, bools, 2), CVL_LENGTH_MISMATCH, -1);
+    FAULT(cvl_bool_scan_after(CVL_IOR, false, f, 3, bools, 4), CVL_LENGTH_MISMATCH, -1);
+    FAULT(cvl_bool_scan_after(CVL_IOR, false, too_many_bools, many, bools, 4), CVL_TOO_LONG, -1);
+}
+
 static void checked_sums(void) {
     const int32_t *a = I(3, 1, 4, 1, 5), *lengths = I(2, 0, 3), *high = I(2147483647, 1, -1);
     const size_t many = CVL_MOST_ELEMENTS + 1;
@@ -677,6 +704,7 @@ int main(void) {
     place_by_place();
     place_by_place_faults();
     scans();
+    scans_in_parts();
     checked_sums();
     elements();
     descriptors();
