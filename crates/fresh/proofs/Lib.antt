@@ -4,5 +4,6 @@ pub mod Halves
 pub mod Maps
 pub mod Memory
 pub mod Places
+pub mod Rows
 pub mod Zips
 pub mod Written

@@ -20,6 +20,10 @@ module _ {X : Type 0} where
   somes_filled [] n = somes_none n
   somes_filled (x ∷ xs) n = ap (λ l. x ∷ l) (somes_filled xs n)
 
+  pub somes_map : (xs : List X) → somes (map Some xs) ≡ xs
+  somes_map [] = refl
+  somes_map (x ∷ xs) = ap (λ l. x ∷ l) (somes_map xs)
+
   pub length_filled : (xs : List X) (n : ℕ) → length (filled xs n) ≡ length xs + n
   length_filled xs n = let ws : List (Option X) = map Some xs in let fore : length ws ≡ length xs = length-map xs Some in let rest : length (none n) ≡ n = length-replicate n None in
       omega (arith, length-append ws (none n))

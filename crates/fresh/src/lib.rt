@@ -5,6 +5,7 @@ mod block;
 mod cells;
 mod fills;
 mod forks;
+mod over;
 mod room;
 mod run;
 
@@ -14,5 +15,6 @@ pub use block::Deed;
 #[doc(hidden)]
 pub use cells::{Base, Cells};
 pub use forks::{Writer, write_alone, write_in_runs};
+pub use over::write_over;
 pub use room::Room;
 pub use run::Run;

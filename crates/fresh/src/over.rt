@@ -1,0 +1,51 @@
+//! A slice that a writer's items are written over.
+ghost use Rattle.std.specs.Prelude.{◌≡◌, ◌<◌, ◌^◌, List, Some, None, length, map, replicate};
+ghost use Rattle.core.specs.Mem.Slots.{slots_items, slots_len, slots_ptr, IsFull, Refills};
+
+use crate::cells::{Base, Cells};
+use crate::forks::Writer;
+use crate::run::Run;
+use core::slots::{Slots, with_slots};
+use std::marker::PhantomData;
+
+/// Writes a writer's items over a slice that has as many, by the thread that calls. It asks for no memory.
+pub fn write_over<T: Copy, W: Writer<T>>(out: &mut [T], writer: &W)
+    requires as_long { length out.old ≡ length (W.whole writer.now) }
+    requires fits { length out.old < 2 ^ 63 }
+    ensures { out.new ≡ W.whole writer.now }
+{
+    unsafe { with_slots(out, &mut (), writer, write_row::<T, W>) }
+}
+
+/// Writes a writer's items into a row that has as many places.
+fn write_row<T: Copy, W: Writer<T>>(row: Slots<T>, state: (), writer: &W) -> (Slots<T>, (), ())
+    requires as_long { slots_len row ≡ length (W.whole writer.now) }
+    requires fits { slots_len row < 2 ^ 63 }
+    ensures same { Refills row result.0 }
+    ensures items { slots_items result.0 ≡ W.whole writer.now }
+{
+    let len = row.len();
+    let (base, cells) = emptied(row);
+    let (_, cells) = writer.write(Run::whole(base, len, cells)).into_cells();
+    (filled_row(base, len, cells), state, ())
+}
+
+/// The places of a row, emptied. What they held is forgotten.
+fn emptied<T>(row: Slots<T>) -> (Base<T>, Cells<T>)
+    ensures base { result.0.ptr ≡ slots_ptr row }
+    ensures cells { (result.1.at ≡ slots_ptr row) × (result.1.from ≡ 0) × (result.1.slots ≡ replicate (slots_len row) None) }
+{
+    let parts = unsafe { row.into_raw_parts() };
+    (Base { ptr: parts.0 }, Cells { mark: PhantomData })
+}
+
+/// The row of places that all hold an item.
+fn filled_row<T>(base: Base<T>, len: usize, cells: Cells<T>) -> Slots<T>
+    requires whole { (cells.at ≡ base.ptr) × (cells.from ≡ 0) }
+    requires full { (xs : List T) × (length xs ≡ len) × (cells.slots ≡ map Some xs) }
+    ensures places { (slots_ptr result ≡ base.ptr) × (slots_len result ≡ len) × IsFull result }
+    ensures items { cells.slots ≡ map Some (slots_items result) }
+{
+    let Cells { mark: _ } = cells;
+    unsafe { Slots::from_raw_parts(base.ptr, len) }
+}
