@@ -11,6 +11,7 @@ pub mod NameBytes
 pub mod Nests
 pub mod Packs
 pub mod Permutes
+pub mod Rooms
 pub mod Scans
 pub mod Segmented
 pub mod SegmentedCalls

@@ -1,12 +1,13 @@
 -- What an export answers, and what it leaves in its caller's room.
 -- Source: this library's faults and their places, told as two numbers.
-use Rattle.std.specs.Prelude.{◌≡◌, ℕ, ◌==◌, nat_lt, not, ◌⊎◌, ℤ, pos, negsuc, List, ◌++◌, drop, length, Result, Ok, Err, Option, Some, None}
+use Rattle.std.specs.Prelude.{◌≡◌, ℕ, nat_lt, ◌⊎◌, ℤ, pos, negsuc, List, ◌++◌, drop, length, Result, Ok, Err, Option, Some, None}
 use Rattle.cvl_base.specs.declared.fault.Fault.{Fault}
 use Rattle.cvl_base.specs.declared.fault.FaultNo.TheVariants as no
 use Rattle.cvl_base.specs.declared.refused.Refused.{Refused}
 use Rattle.cvl_base.specs.declared.refused.Refused.TheVariants as refused
 use Rattle.cvl_base.specs.Faults.{fault, number_of}
 use Rattle.cvl_base.specs.Gives.{◌>>=◌, fault_if}
+pub use Rattle.cvl_base.specs.Rooms.{in_room}
 use Rattle.cvl_c.specs.declared.status.CvlStatus.{CvlStatus}
 
 -- all is done
@@ -37,10 +38,6 @@ Told (Err f) status before now = (status ≡ status_of_fault f) × (now ≡ befo
 -- The same, or memory ran out and the room is as before.
 abbrev pub ToldOr : {X : Type 0} → Result X Fault → CvlStatus → X → X → Type 0
 ToldOr meaning status before now = Told meaning status before now ⊎ ((status ≡ no_resources) × (now ≡ before))
-
--- a list that fills a room of this length, else the fault of lengths that differ
-abbrev pub in_room : {X : Type 0} → ℕ → Result (List X) Fault → Result (List X) Fault
-in_room room meaning = meaning >>= λ xs. fault_if (not (length xs == room)) (fault no.LengthMismatch) (Ok xs)
 
 -- these items at the front of a room, whose rest is as before, else the fault of lengths that differ
 abbrev pub at_front : {X : Type 0} → List X → List X → Result (List X) Fault

@@ -2,193 +2,162 @@
 
 ghost use Rattle.std.specs.Prelude.{Ok, length};
 ghost use Rattle.cvl_base.specs.Elementwise.{bools1_of, bools2_of, bools_from_ints, choose_of, compare_of, ints1_of, ints2_of, ints_from_bools};
-ghost use Rattle.cvl_base.specs.Gives.{Gives};
+ghost use Rattle.cvl_base.specs.Rooms.{Overwrites};
 ghost use Rattle.cvl_c.specs.Calls.{by_operator, in_limit};
 ghost use Rattle.cvl_c.specs.Numbers.{bool_binary, comparison, int_binary, unary};
-ghost use Rattle.cvl_c.specs.Told.{ToldOr, in_room};
+ghost use Rattle.cvl_c.specs.Told.{Told, in_room};
 
 use crate::checks::check_limit;
 use crate::numbers::{bool_binary, comparison, int_binary, unary};
-use crate::status::{CvlStatus, told};
-use cvl_base::Refused;
+use crate::status::{CvlStatus, told_over};
+use cvl_base::Fault;
 use elementwise::{
-    bool_from_int_alone, bool1_alone, bool2_alone, compare_alone, int_from_bool_alone, int1_alone,
-    int2_alone, select_alone,
+    bool_from_int_over, bool1_over, bool2_over, compare_over, int_from_bool_over, int1_over,
+    int2_over, select_over,
 };
-use std::alloc::Global;
 
 /// The operator on each two integers at the same place.
-fn int2(alloc: Global, op: u32, a: &[i32], b: &[i32]) -> Result<Vec<i32, Global>, Refused>
-    ensures { Gives (λ v. v.items) result (by_operator (int_binary op) (λ o. in_limit a.now (ints2_of o a.now b.now))) }
+fn int2(op: u32, a: &[i32], b: &[i32], out: &mut [i32]) -> Result<(), Fault>
+    ensures { Overwrites (in_room (length out.old) (by_operator (int_binary op) (λ o. in_limit a.now (ints2_of o a.now b.now)))) result out.old out.new }
 {
     let op = int_binary(op)?;
     check_limit(a)?;
-    int2_alone(alloc, op, a, b)
+    int2_over(op, a, b, out)
 }
 
 /// The operator on each integer.
-fn int1(alloc: Global, op: u32, a: &[i32]) -> Result<Vec<i32, Global>, Refused>
-    ensures { Gives (λ v. v.items) result (by_operator (unary op) (λ o. in_limit a.now (Ok (ints1_of o a.now)))) }
+fn int1(op: u32, a: &[i32], out: &mut [i32]) -> Result<(), Fault>
+    ensures { Overwrites (in_room (length out.old) (by_operator (unary op) (λ o. in_limit a.now (Ok (ints1_of o a.now))))) result out.old out.new }
 {
     let op = unary(op)?;
     check_limit(a)?;
-    Ok(int1_alone(alloc, op, a)?)
+    int1_over(op, a, out)
 }
 
 /// The comparison of each two integers at the same place.
-fn compare(alloc: Global, op: u32, a: &[i32], b: &[i32]) -> Result<Vec<bool, Global>, Refused>
-    ensures { Gives (λ v. v.items) result (by_operator (comparison op) (λ o. in_limit a.now (compare_of o a.now b.now))) }
+fn compare(op: u32, a: &[i32], b: &[i32], out: &mut [bool]) -> Result<(), Fault>
+    ensures { Overwrites (in_room (length out.old) (by_operator (comparison op) (λ o. in_limit a.now (compare_of o a.now b.now)))) result out.old out.new }
 {
     let op = comparison(op)?;
     check_limit(a)?;
-    compare_alone(alloc, op, a, b)
+    compare_over(op, a, b, out)
 }
 
 /// The operator on each two booleans at the same place.
-fn bool2(alloc: Global, op: u32, a: &[bool], b: &[bool]) -> Result<Vec<bool, Global>, Refused>
-    ensures { Gives (λ v. v.items) result (by_operator (bool_binary op) (λ o. in_limit a.now (bools2_of o a.now b.now))) }
+fn bool2(op: u32, a: &[bool], b: &[bool], out: &mut [bool]) -> Result<(), Fault>
+    ensures { Overwrites (in_room (length out.old) (by_operator (bool_binary op) (λ o. in_limit a.now (bools2_of o a.now b.now)))) result out.old out.new }
 {
     let op = bool_binary(op)?;
     check_limit(a)?;
-    bool2_alone(alloc, op, a, b)
+    bool2_over(op, a, b, out)
 }
 
 /// The operator on each boolean.
-fn bool1(alloc: Global, op: u32, a: &[bool]) -> Result<Vec<bool, Global>, Refused>
-    ensures { Gives (λ v. v.items) result (by_operator (unary op) (λ o. in_limit a.now (Ok (bools1_of o a.now)))) }
+fn bool1(op: u32, a: &[bool], out: &mut [bool]) -> Result<(), Fault>
+    ensures { Overwrites (in_room (length out.old) (by_operator (unary op) (λ o. in_limit a.now (Ok (bools1_of o a.now))))) result out.old out.new }
 {
     let op = unary(op)?;
     check_limit(a)?;
-    Ok(bool1_alone(alloc, op, a)?)
+    bool1_over(op, a, out)
 }
 
 /// 1 for each true boolean, and 0 for each false one.
-fn int_from_bool(alloc: Global, a: &[bool]) -> Result<Vec<i32, Global>, Refused>
-    ensures { Gives (λ v. v.items) result (in_limit a.now (Ok (ints_from_bools a.now))) }
+fn int_from_bool(a: &[bool], out: &mut [i32]) -> Result<(), Fault>
+    ensures { Overwrites (in_room (length out.old) (in_limit a.now (Ok (ints_from_bools a.now)))) result out.old out.new }
 {
     check_limit(a)?;
-    Ok(int_from_bool_alone(alloc, a)?)
+    int_from_bool_over(a, out)
 }
 
 /// True for each integer that isn't 0.
-fn bool_from_int(alloc: Global, a: &[i32]) -> Result<Vec<bool, Global>, Refused>
-    ensures { Gives (λ v. v.items) result (in_limit a.now (Ok (bools_from_ints a.now))) }
+fn bool_from_int(a: &[i32], out: &mut [bool]) -> Result<(), Fault>
+    ensures { Overwrites (in_room (length out.old) (in_limit a.now (Ok (bools_from_ints a.now)))) result out.old out.new }
 {
     check_limit(a)?;
-    Ok(bool_from_int_alone(alloc, a)?)
+    bool_from_int_over(a, out)
 }
 
 /// At each place the element of `a` where the flag is true, else that of `b`.
-fn select<T: Copy>(
-    alloc: Global,
-    flags: &[bool],
-    a: &[T],
-    b: &[T],
-) -> Result<Vec<T, Global>, Refused>
-    ensures { Gives (λ v. v.items) result (in_limit flags.now (choose_of flags.now a.now b.now)) }
+fn select<T: Copy>(flags: &[bool], a: &[T], b: &[T], out: &mut [T]) -> Result<(), Fault>
+    ensures { Overwrites (in_room (length out.old) (in_limit flags.now (choose_of flags.now a.now b.now))) result out.old out.new }
 {
     check_limit(flags)?;
-    select_alone(alloc, flags, a, b)
+    select_over(flags, a, b, out)
 }
 
 /// The operator on each two integers at the same place: `add_wuz` and its like.
 #[unsafe(no_mangle)]
-pub extern "C" fn cvl_int2(
-    alloc: Global,
-    op: u32,
-    a: &[i32],
-    b: &[i32],
-    out: &mut [i32],
-) -> CvlStatus
-    ensures { ToldOr (in_room (length out.old) (by_operator (int_binary op) (λ o. in_limit a.now (ints2_of o a.now b.now)))) result out.old out.new }
+pub extern "C" fn cvl_int2(op: u32, a: &[i32], b: &[i32], out: &mut [i32]) -> CvlStatus
+    ensures { Told (in_room (length out.old) (by_operator (int_binary op) (λ o. in_limit a.now (ints2_of o a.now b.now)))) result out.old out.new }
 {
-    told(int2(alloc, op, a, b), out)
+    told_over::<i32>(int2(op, a, b, out))
 }
 
 /// The operator on each integer: `not_wuz` and `cpy_wuz`.
 #[unsafe(no_mangle)]
-pub extern "C" fn cvl_int1(alloc: Global, op: u32, a: &[i32], out: &mut [i32]) -> CvlStatus
-    ensures { ToldOr (in_room (length out.old) (by_operator (unary op) (λ o. in_limit a.now (Ok (ints1_of o a.now))))) result out.old out.new }
+pub extern "C" fn cvl_int1(op: u32, a: &[i32], out: &mut [i32]) -> CvlStatus
+    ensures { Told (in_room (length out.old) (by_operator (unary op) (λ o. in_limit a.now (Ok (ints1_of o a.now))))) result out.old out.new }
 {
-    told(int1(alloc, op, a), out)
+    told_over::<i32>(int1(op, a, out))
 }
 
 /// The comparison of each two integers at the same place: `grt_wuz` and its like.
 #[unsafe(no_mangle)]
-pub extern "C" fn cvl_compare(
-    alloc: Global,
-    op: u32,
-    a: &[i32],
-    b: &[i32],
-    out: &mut [bool],
-) -> CvlStatus
-    ensures { ToldOr (in_room (length out.old) (by_operator (comparison op) (λ o. in_limit a.now (compare_of o a.now b.now)))) result out.old out.new }
+pub extern "C" fn cvl_compare(op: u32, a: &[i32], b: &[i32], out: &mut [bool]) -> CvlStatus
+    ensures { Told (in_room (length out.old) (by_operator (comparison op) (λ o. in_limit a.now (compare_of o a.now b.now)))) result out.old out.new }
 {
-    told(compare(alloc, op, a, b), out)
+    told_over::<bool>(compare(op, a, b, out))
 }
 
 /// The operator on each two booleans at the same place: `and_wub` and its like.
 #[unsafe(no_mangle)]
-pub extern "C" fn cvl_bool2(
-    alloc: Global,
-    op: u32,
-    a: &[bool],
-    b: &[bool],
-    out: &mut [bool],
-) -> CvlStatus
-    ensures { ToldOr (in_room (length out.old) (by_operator (bool_binary op) (λ o. in_limit a.now (bools2_of o a.now b.now)))) result out.old out.new }
+pub extern "C" fn cvl_bool2(op: u32, a: &[bool], b: &[bool], out: &mut [bool]) -> CvlStatus
+    ensures { Told (in_room (length out.old) (by_operator (bool_binary op) (λ o. in_limit a.now (bools2_of o a.now b.now)))) result out.old out.new }
 {
-    told(bool2(alloc, op, a, b), out)
+    told_over::<bool>(bool2(op, a, b, out))
 }
 
 /// The operator on each boolean: `not_wub` and `cpy_wub`.
 #[unsafe(no_mangle)]
-pub extern "C" fn cvl_bool1(alloc: Global, op: u32, a: &[bool], out: &mut [bool]) -> CvlStatus
-    ensures { ToldOr (in_room (length out.old) (by_operator (unary op) (λ o. in_limit a.now (Ok (bools1_of o a.now))))) result out.old out.new }
+pub extern "C" fn cvl_bool1(op: u32, a: &[bool], out: &mut [bool]) -> CvlStatus
+    ensures { Told (in_room (length out.old) (by_operator (unary op) (λ o. in_limit a.now (Ok (bools1_of o a.now))))) result out.old out.new }
 {
-    told(bool1(alloc, op, a), out)
+    told_over::<bool>(bool1(op, a, out))
 }
 
 /// 1 for each true boolean, and 0 for each false one: `int_wub`.
 #[unsafe(no_mangle)]
-pub extern "C" fn cvl_int_from_bool(alloc: Global, a: &[bool], out: &mut [i32]) -> CvlStatus
-    ensures { ToldOr (in_room (length out.old) (in_limit a.now (Ok (ints_from_bools a.now)))) result out.old out.new }
+pub extern "C" fn cvl_int_from_bool(a: &[bool], out: &mut [i32]) -> CvlStatus
+    ensures { Told (in_room (length out.old) (in_limit a.now (Ok (ints_from_bools a.now)))) result out.old out.new }
 {
-    told(int_from_bool(alloc, a), out)
+    told_over::<i32>(int_from_bool(a, out))
 }
 
 /// True for each integer that isn't 0: `boo_wuz`.
 #[unsafe(no_mangle)]
-pub extern "C" fn cvl_bool_from_int(alloc: Global, a: &[i32], out: &mut [bool]) -> CvlStatus
-    ensures { ToldOr (in_room (length out.old) (in_limit a.now (Ok (bools_from_ints a.now)))) result out.old out.new }
+pub extern "C" fn cvl_bool_from_int(a: &[i32], out: &mut [bool]) -> CvlStatus
+    ensures { Told (in_room (length out.old) (in_limit a.now (Ok (bools_from_ints a.now)))) result out.old out.new }
 {
-    told(bool_from_int(alloc, a), out)
+    told_over::<bool>(bool_from_int(a, out))
 }
 
 /// At each place the integer of `a` where the flag is true, else that of `b`: `sel_wuz`.
 #[unsafe(no_mangle)]
-pub extern "C" fn cvl_select_int(
-    alloc: Global,
-    flags: &[bool],
-    a: &[i32],
-    b: &[i32],
-    out: &mut [i32],
-) -> CvlStatus
-    ensures { ToldOr (in_room (length out.old) (in_limit flags.now (choose_of flags.now a.now b.now))) result out.old out.new }
+pub extern "C" fn cvl_select_int(flags: &[bool], a: &[i32], b: &[i32], out: &mut [i32]) -> CvlStatus
+    ensures { Told (in_room (length out.old) (in_limit flags.now (choose_of flags.now a.now b.now))) result out.old out.new }
 {
-    told(select(alloc, flags, a, b), out)
+    told_over::<i32>(select(flags, a, b, out))
 }
 
 /// At each place the boolean of `a` where the flag is true, else that of `b`: `sel_wub`.
 #[unsafe(no_mangle)]
 pub extern "C" fn cvl_select_bool(
-    alloc: Global,
     flags: &[bool],
     a: &[bool],
     b: &[bool],
     out: &mut [bool],
 ) -> CvlStatus
-    ensures { ToldOr (in_room (length out.old) (in_limit flags.now (choose_of flags.now a.now b.now))) result out.old out.new }
+    ensures { Told (in_room (length out.old) (in_limit flags.now (choose_of flags.now a.now b.now))) result out.old out.new }
 {
-    told(select(alloc, flags, a, b), out)
+    told_over::<bool>(select(flags, a, b, out))
 }

@@ -5,6 +5,7 @@ ghost use Rattle.cvl_base.specs.declared.fault.Fault.{Fault};
 ghost use Rattle.cvl_base.specs.declared.fault.FaultNo.TheVariants as no;
 ghost use Rattle.cvl_base.specs.Faults.{fault};
 ghost use Rattle.cvl_base.specs.Gives.{Gives};
+ghost use Rattle.cvl_base.specs.Rooms.{Overwrites};
 ghost use Rattle.cvl_c.specs.Told.{FrontToldOr, Told, ToldOr, at_front, done, in_room, status_of};
 
 use cvl_base::{Fault, FaultNo, Refused, check_agree};
@@ -104,6 +105,16 @@ pub(crate) fn told_in_front<T: Copy>(
             }
         }
         Err(refused) => status_of(refused),
+    }
+}
+
+/// Tells a caller whether a call wrote over its room.
+pub(crate) fn told_over<T>(answer: Result<(), Fault>) -> CvlStatus
+    ensures { (meaning : Result (List T) Fault) (before now : List T) → Overwrites meaning answer before now → Told meaning result before now }
+{
+    match answer {
+        Ok(()) => done(),
+        Err(fault) => status_of(fault.into()),
     }
 }
 

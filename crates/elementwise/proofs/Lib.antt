@@ -1,2 +1,4 @@
 pub mod Slots
+pub mod FirstWithout
 pub mod LeastFaults
+pub mod Rooms

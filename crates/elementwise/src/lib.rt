@@ -5,7 +5,6 @@
 //! quotients, remainders and shifts the workers of a configuration race for the least place without a value, and then write.
 #![tactic(auto)]
 
-mod alone;
 mod bools;
 mod choice;
 mod comparisons;
@@ -13,6 +12,7 @@ mod copies;
 mod ints;
 mod on_each;
 mod on_pairs;
+mod over;
 mod partials;
 mod races;
 mod runs;
@@ -21,10 +21,10 @@ mod singles;
 mod totals;
 mod truths;
 
-pub use alone::{
-    bool_from_int_alone, bool1_alone, bool2_alone, compare_alone, int_from_bool_alone, int1_alone,
-    int2_alone, select_alone,
-};
 pub use bools::{bool_from_int, bool1, bool2, compare};
 pub use choice::select;
 pub use ints::{int_from_bool, int1, int2, int2_gated};
+pub use over::{
+    bool_from_int_over, bool1_over, bool2_over, compare_over, int_from_bool_over, int1_over,
+    int2_over, select_over,
+};

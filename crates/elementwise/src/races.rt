@@ -2,6 +2,7 @@
 
 ghost use Rattle.std.specs.Prelude.{◌≡◌, ◌≤◌, IfOk, length, map, vec_len};
 ghost use Rattle.std.specs.List.{zip};
+ghost use Rattle.boards.specs.Slots.{least_from};
 ghost use Rattle.cvl_base.specs.Elementwise.{on_pairs_or};
 ghost use Rattle.cvl_base.specs.Gives.{Gives};
 ghost use Rattle.cvl_base.specs.Limits.{most_elements};
@@ -58,6 +59,20 @@ impl<'a, O: PartialBinary> Targets for Valueless<'a, O> {
         }
         clear
     }
+}
+
+/// The least place without a value, of two vectors that are equally long.
+pub(crate) fn first_without<O: PartialBinary>(a: &[i32], b: &[i32]) -> Option<u32>
+    requires as_long { length a.now ≡ length b.now }
+    requires in_limit { length a.now ≤ most_elements }
+    ensures { result ≡ least_from 0 (map (λ p. slot_without (O.value p.0 p.1)) (zip a.now b.now)) 0 }
+{
+    for place in 0..a.len() {
+        if !O::has_value(&a[place], &b[place]) {
+            return Some(place as u32);
+        }
+    }
+    None
 }
 
 /// The operator's values on the pairs of elements, or its fault at the least place without a value; `LengthMismatch` where
