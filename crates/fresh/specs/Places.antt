@@ -41,6 +41,10 @@ module _ {X : Type 0} where
   abbrev pub IsAllOf : Site → Stretch X → Type 0
   IsAllOf site s = (s.block ≡ site.block) × (s.first ≡ 0) × (end s ≡ site.places)
 
+  -- it is a whole block of so many places, and full
+  abbrev pub IsWhole : Stretch X → Ptr → ℕ → Type 0
+  IsWhole s block places = (s.block ≡ block) × (s.first ≡ 0) × (s.room ≡ 0) × (length s.items ≡ places)
+
   -- the values that are there
   abbrev pub somes : List (Option X) → List X
   somes [] = []

@@ -15,6 +15,6 @@ pub use block::Deed;
 #[doc(hidden)]
 pub use cells::{Base, Cells};
 pub use forks::{Writer, write_alone, write_in_runs};
-pub use over::write_over;
+pub use over::{fill_slice, write_over};
 pub use room::Room;
 pub use run::Run;

@@ -1,5 +1,7 @@
-//! A slice that a writer's items are written over.
-ghost use Rattle.std.specs.Prelude.{◌≡◌, ◌<◌, ◌^◌, List, Some, None, length, map, replicate};
+//! A slice that the items of a run are written over.
+ghost use Rattle.std.specs.Prelude.{◌≡◌, ◌<◌, ◌^◌, List, Some, None, [], length, map, replicate};
+ghost use denote.RawPtr.{Ptr};
+ghost use Rattle.fresh.specs.Places.{IsWhole, Stretch, stretch};
 ghost use Rattle.core.specs.Mem.Slots.{slots_items, slots_len, slots_ptr, IsFull, Refills};
 
 use crate::cells::{Base, Cells};
@@ -8,25 +10,48 @@ use crate::run::Run;
 use core::slots::{Slots, with_slots};
 use std::marker::PhantomData;
 
+/// Writes the items of a run over a slice of as many, by the thread that calls. It asks for no memory.
+///
+/// `write` is given an empty run of as many places as the slice has, and gives it back full.
+pub fn fill_slice<T: Copy, F: FnOnce(Run<T>) -> Run<T>>(out: &mut [T], write: F)
+    requires fits { length out.old < 2 ^ 63 }
+    requires callable { (block : Ptr) → F.pre write (stretch block 0 [] (length out.old)) }
+    requires full { (block : Ptr) (run : Stretch T) → F.post write (stretch block 0 [] (length out.old)) run → IsWhole run block (length out.old) }
+    ensures { (block : Ptr) × (run : Stretch T) × F.post write (stretch block 0 [] (length out.old)) run × (out.new ≡ run.items) }
+{
+    unsafe { with_slots(out, &mut (), write, write_row::<T, F>) }
+}
+
 /// Writes a writer's items over a slice that has as many, by the thread that calls. It asks for no memory.
 pub fn write_over<T: Copy, W: Writer<T>>(out: &mut [T], writer: &W)
     requires as_long { length out.old ≡ length (W.whole writer.now) }
     requires fits { length out.old < 2 ^ 63 }
     ensures { out.new ≡ W.whole writer.now }
 {
-    unsafe { with_slots(out, &mut (), writer, write_row::<T, W>) }
+    fill_slice(
+        out,
+        |run: Run<T>| -> Run<T>
+            requires { (run.items ≡ []) × (run.first ≡ 0) × (run.room ≡ length (W.whole writer.now)) }
+            ensures { result ≡ stretch run.block 0 (W.whole writer.entry.now) 0 }
+        { writer.write(run) },
+    )
 }
 
-/// Writes a writer's items into a row that has as many places.
-fn write_row<T: Copy, W: Writer<T>>(row: Slots<T>, state: (), writer: &W) -> (Slots<T>, (), ())
-    requires as_long { slots_len row ≡ length (W.whole writer.now) }
+/// Writes the items of a run into a row that has as many places.
+fn write_row<T: Copy, F: FnOnce(Run<T>) -> Run<T>>(
+    row: Slots<T>,
+    state: (),
+    write: F,
+) -> (Slots<T>, (), ())
     requires fits { slots_len row < 2 ^ 63 }
+    requires callable { F.pre write (stretch (slots_ptr row) 0 [] (slots_len row)) }
+    requires full { (run : Stretch T) → F.post write (stretch (slots_ptr row) 0 [] (slots_len row)) run → IsWhole run (slots_ptr row) (slots_len row) }
     ensures same { Refills row result.0 }
-    ensures items { slots_items result.0 ≡ W.whole writer.now }
+    ensures items { (run : Stretch T) × F.post write (stretch (slots_ptr row) 0 [] (slots_len row)) run × (slots_items result.0 ≡ run.items) }
 {
     let len = row.len();
     let (base, cells) = emptied(row);
-    let (_, cells) = writer.write(Run::whole(base, len, cells)).into_cells();
+    let (_, cells) = write(Run::whole(base, len, cells)).into_cells();
     (filled_row(base, len, cells), state, ())
 }
 
