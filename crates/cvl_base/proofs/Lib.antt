@@ -7,5 +7,6 @@ pub mod Nests
 pub mod Packs
 pub mod Padding
 pub mod Permutes
+pub mod Rooms
 pub mod Segmented
 pub use Rattle.operators.proofs.FoldLaws

@@ -5,6 +5,7 @@
 pub mod alone;
 pub mod checked;
 pub mod fronts;
+pub mod over;
 pub mod plain;
 pub mod readings;
 pub mod runs;
@@ -15,6 +16,7 @@ pub use checked::{
     checked_scan_of, checked_scan_of_segments, checked_sum_of, checked_sums_of_segments,
 };
 pub use fronts::{fitting_of_run, fitting_of_scan};
+pub use over::{scan_over, seg_scan_over};
 pub use plain::{scan_into, scan_readings_from, sum_readings_from};
 pub use readings::{Itself, Reading};
 pub use runs::{reduces_of_readings, scan_of_run, scan_run_into, sum_of_readings, sum_of_run};

@@ -6,7 +6,7 @@ use Rattle.std.proofs.lemmas.Slice.Zip.{length-zip}
 use Rattle.cvl_base.specs.Rooms.{in_room}
 use Rattle.cvl_base.proofs.Elementwise.{if_as_long-fits}
 use Rattle.elementwise.proofs.LeastFaults.{fails, succeeds}
-use Rattle.elementwise.proofs.Rooms.{differs, fits, told}
+use Rattle.cvl_base.proofs.Rooms.{differs, fits, told}
 use Rattle.elementwise.proofs.over.on_pairs_or_over.Goals as goal
 
 pub returns-in-Some : goal.returns-in-Some

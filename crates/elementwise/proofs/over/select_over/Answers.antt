@@ -5,7 +5,7 @@ use Rattle.std.proofs.lemmas.Slice.Zip.{length-zip}
 use Rattle.cvl_base.specs.Elementwise.{chosen}
 use Rattle.cvl_base.specs.Rooms.{in_room}
 use Rattle.cvl_base.proofs.Elementwise.{if_as_long-fits}
-use Rattle.elementwise.proofs.Rooms.{differs, told}
+use Rattle.cvl_base.proofs.Rooms.{differs, told}
 use Rattle.elementwise.proofs.over.select_over.Goals as goal
 
 pub returns-in_err-check_agree-3 : goal.returns-in_err-check_agree-3

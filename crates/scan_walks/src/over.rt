@@ -1,0 +1,67 @@
+//! Scans over a room of the caller's, by the thread that calls. They ask for no memory.
+
+ghost use Rattle.std.specs.Prelude.{◌≡◌, ◌≤◌, IsTrue, Ok, [], length, sum};
+ghost use Rattle.std.specs.List.{AllPass};
+ghost use Rattle.cvl_base.specs.Folds.{scan_of};
+ghost use Rattle.cvl_base.specs.Limits.{most_elements};
+ghost use Rattle.cvl_base.specs.Rooms.{Overwrites, in_room};
+ghost use Rattle.cvl_base.specs.SegmentedCalls.{seg_scan_of};
+ghost use Rattle.fresh.specs.Places.{with_items};
+ghost use Rattle.scan_walks.specs.Runs.{run_between, run_scan_of};
+
+use crate::plain::scan_into;
+use crate::readings::Itself;
+use crate::runs::scan_run_into;
+use cvl_base::monoid::know_laws;
+use cvl_base::{Fault, Monoid, check_agree};
+use fresh::{Run, fill_slice};
+use segdes::{SegDes, check_total};
+use std::alloc::Allocator;
+
+/// Writes the exclusive scan over a room: for each element those before it, joined from left to right, and the unit where
+/// none is. LengthMismatch, without a place, where the room isn't as long.
+///
+/// The elements must be items of the monoid. Source: Blelloch's prescan.
+pub fn scan_over<M: Monoid>(a: &[M::Item], out: &mut [M::Item]) -> Result<(), Fault>
+    requires items { AllPass M.is_item a.now }
+    requires in_limit { length a.now ≤ most_elements }
+    ensures { Overwrites (in_room (length out.old) (Ok (scan_of M.join M.unit a.now))) result out.old out.new }
+{
+    know_laws::<M>();
+    check_agree(a.len(), out.len())?;
+    fill_slice(
+        out,
+        |run: Run<M::Item>| -> Run<M::Item>
+            requires { (run.items ≡ []) × (run.room ≡ length a.now) × AllPass M.is_item a.now × IsTrue (M.is_item M.unit) }
+            ensures { result ≡ with_items run (scan_of M.join M.unit a.entry.now) }
+        { scan_into::<M, M::Item, Itself>(run, M::unit(), a) },
+    );
+    Ok(())
+}
+
+/// Writes the exclusive scan of each segment over a room: for each element those before it in its segment, joined from left
+/// to right, and the unit where the segment starts. LengthMismatch, without a place, where the segments' total is not the
+/// number of elements, or the room isn't as long.
+///
+/// The elements must be items of the monoid. Source: Blelloch's segmented scans.
+pub fn seg_scan_over<M: Monoid, A: Allocator>(
+    a: &[M::Item],
+    d: &SegDes<A>,
+    out: &mut [M::Item],
+) -> Result<(), Fault>
+    requires items { AllPass M.is_item a.now }
+    requires in_limit { length a.now ≤ most_elements }
+    ensures { Overwrites (in_room (length out.old) (seg_scan_of M.join M.unit a.now d.now)) result out.old out.new }
+{
+    know_laws::<M>();
+    check_total(a, d)?;
+    check_agree(a.len(), out.len())?;
+    fill_slice(
+        out,
+        |run: Run<M::Item>| -> Run<M::Item>
+            requires { (run.items ≡ []) × (run.room ≡ length a.now) × (sum d.now ≡ length a.now) × AllPass M.is_item a.now × IsTrue (M.is_item M.unit) }
+            ensures { result ≡ with_items run (run_scan_of M.join M.unit M.unit (run_between d.entry.now a.entry.now 0 (length a.entry.now))) }
+        { scan_run_into::<M, M::Item, Itself, A>(run, a, d, 0, a.len(), M::unit()) },
+    );
+    Ok(())
+}
