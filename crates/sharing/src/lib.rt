@@ -1,7 +1,8 @@
 //! Rules of thumb: how many threads share a call, by how many elements it writes, and whether workers race for its tiles.
 //! No result depends on them.
 //!
-//! All thresholds of the library stand here. They were measured on a machine with four processors.
+//! All thresholds of the library stand here. They come from a machine with four processors, where most of them were measured
+//! and that of the first walk of permutes follows from a model of its loops.
 #![tactic(auto)]
 
 ghost use Rattle.std.specs.Prelude.{◌<◌, ◌≤◌, IfSome};
@@ -42,14 +43,11 @@ pub const TILES_EACH: u32 = 16;
 pub const LEAST_SENT: usize = 524_288;
 
 /// From how many bytes on several threads pay where an input is read. They walk the bytes twice: they count the tokens before
-/// they read them.
-pub const LEAST_READ: usize = 524_288;
+/// they read them, which takes far less time.
+pub const LEAST_READ: usize = 131_072;
 
 /// How many bytes of an input each thread reads at least.
-pub const LEAST_READ_EACH: usize = 131_072;
-
-/// How many threads read an input at least where several do. Two take as long for two walks as one takes for one.
-pub const LEAST_READERS: u32 = 3;
+pub const LEAST_READ_EACH: usize = 32_768;
 
 /// From how many elements on a second thread pays where their texts are written. Several threads walk the elements twice: they
 /// count the bytes of their texts before they write them.
@@ -98,11 +96,12 @@ pub fn threads_reading(config: Config, bytes: usize) -> u32
     ensures least { 1 ≤ result }
     ensures greatest { result ≤ config.1 }
 {
-    let threads = (bytes / LEAST_READ_EACH).min(config.workers() as usize) as u32;
-    if bytes < LEAST_READ || threads < LEAST_READERS {
+    if bytes < LEAST_READ {
         return 1;
     }
-    threads
+    (bytes / LEAST_READ_EACH)
+        .min(config.workers() as usize)
+        .max(1) as u32
 }
 
 /// How many threads share the writing of so many elements' texts: at most as many as the configuration has workers, and one
