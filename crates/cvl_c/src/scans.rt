@@ -1,30 +1,31 @@
 //! Scans and reduces of whole vectors.
 
-ghost use Rattle.std.specs.Prelude.{◌≡◌, IfOk, Ok, length};
+ghost use Rattle.std.specs.Prelude.{◌≡◌, ◌≤◌, Ok, length};
 ghost use Rattle.std.specs.List.{AllPass};
 ghost use Rattle.cvl_base.specs.Folds.{fold_of, scan_of};
-ghost use Rattle.cvl_base.specs.Gives.{Gives};
+ghost use Rattle.cvl_base.specs.Limits.{most_elements};
+ghost use Rattle.cvl_base.specs.Rooms.{Overwrites};
 ghost use Rattle.cvl_base.specs.Scans.{bool_reduce_of, bool_scan_of, int_reduce_of, int_scan_of};
 ghost use Rattle.cvl_c.specs.Calls.{by_operator, in_limit};
 ghost use Rattle.cvl_c.specs.Numbers.{bool_binary, int_monoid};
-ghost use Rattle.cvl_c.specs.Told.{Told, ToldOr, in_room};
+ghost use Rattle.cvl_c.specs.Told.{Told, in_room};
 
 use crate::checks::check_limit;
 use crate::numbers::{bool_binary, int_monoid};
-use crate::status::{CvlStatus, told, told_one};
+use crate::status::{CvlStatus, told_one, told_over};
 use cvl_base::monoid::know_laws;
 use cvl_base::monoids::{Add, And, BoolAnd, BoolIor, BoolXor, Ior, Max, Min, Mul, Xor};
-use cvl_base::{BoolBinary, Fault, IntMonoid, Monoid, NoResources, Refused};
-use scan_walks::{Itself, know_numbers, scan_readings_from, sum_readings_from};
-use std::alloc::Global;
+use cvl_base::{BoolBinary, Fault, IntMonoid, Monoid};
+use scan_walks::{Itself, know_numbers, scan_over, sum_readings_from};
 
 /// For each element those before it, joined from left to right, and the unit where none is.
-fn scan<M: Monoid>(alloc: Global, a: &[M::Item]) -> Result<Vec<M::Item, Global>, NoResources>
-    requires { AllPass M.is_item a.now }
-    ensures { IfOk result (λ sums. sums.items ≡ scan_of M.join M.unit a.now) }
+fn scan<M: Monoid>(a: &[M::Item], out: &mut [M::Item]) -> Result<(), Fault>
+    requires items { AllPass M.is_item a.now }
+    requires in_limit { length a.now ≤ most_elements }
+    ensures { Overwrites (in_room (length out.old) (Ok (scan_of M.join M.unit a.now))) result out.old out.new }
 {
     know_laws::<M>();
-    scan_readings_from::<M, M::Item, Itself, Global>(alloc, M::unit(), a)
+    scan_over::<M>(M::unit(), a, out)
 }
 
 /// The elements, joined from left to right, and the unit where there are none.
@@ -37,18 +38,19 @@ fn reduce<M: Monoid>(a: &[M::Item]) -> M::Item
 }
 
 /// The scan of integers by an operator.
-fn int_scan_by(alloc: Global, op: IntMonoid, a: &[i32]) -> Result<Vec<i32, Global>, NoResources>
-    ensures { IfOk result (λ sums. sums.items ≡ int_scan_of op a.now) }
+fn int_scan_by(op: IntMonoid, a: &[i32], out: &mut [i32]) -> Result<(), Fault>
+    requires { length a.now ≤ most_elements }
+    ensures { Overwrites (in_room (length out.old) (Ok (int_scan_of op a.now))) result out.old out.new }
 {
     know_numbers(a);
     match op {
-        IntMonoid::Add => scan::<Add>(alloc, a),
-        IntMonoid::Mul => scan::<Mul>(alloc, a),
-        IntMonoid::Min => scan::<Min>(alloc, a),
-        IntMonoid::Max => scan::<Max>(alloc, a),
-        IntMonoid::And => scan::<And>(alloc, a),
-        IntMonoid::Ior => scan::<Ior>(alloc, a),
-        IntMonoid::Xor => scan::<Xor>(alloc, a),
+        IntMonoid::Add => scan::<Add>(a, out),
+        IntMonoid::Mul => scan::<Mul>(a, out),
+        IntMonoid::Min => scan::<Min>(a, out),
+        IntMonoid::Max => scan::<Max>(a, out),
+        IntMonoid::And => scan::<And>(a, out),
+        IntMonoid::Ior => scan::<Ior>(a, out),
+        IntMonoid::Xor => scan::<Xor>(a, out),
     }
 }
 
@@ -69,13 +71,14 @@ fn int_reduce_by(op: IntMonoid, a: &[i32]) -> i32
 }
 
 /// The scan of booleans by an operator.
-fn bool_scan_by(alloc: Global, op: BoolBinary, a: &[bool]) -> Result<Vec<bool, Global>, NoResources>
-    ensures { IfOk result (λ sums. sums.items ≡ bool_scan_of op a.now) }
+fn bool_scan_by(op: BoolBinary, a: &[bool], out: &mut [bool]) -> Result<(), Fault>
+    requires { length a.now ≤ most_elements }
+    ensures { Overwrites (in_room (length out.old) (Ok (bool_scan_of op a.now))) result out.old out.new }
 {
     match op {
-        BoolBinary::And => scan::<BoolAnd>(alloc, a),
-        BoolBinary::Ior => scan::<BoolIor>(alloc, a),
-        BoolBinary::Xor => scan::<BoolXor>(alloc, a),
+        BoolBinary::And => scan::<BoolAnd>(a, out),
+        BoolBinary::Ior => scan::<BoolIor>(a, out),
+        BoolBinary::Xor => scan::<BoolXor>(a, out),
     }
 }
 
@@ -91,12 +94,12 @@ fn bool_reduce_by(op: BoolBinary, a: &[bool]) -> bool
 }
 
 /// The scan of integers by the operator of a number.
-fn int_scan(alloc: Global, op: u32, a: &[i32]) -> Result<Vec<i32, Global>, Refused>
-    ensures { Gives (λ v. v.items) result (by_operator (int_monoid op) (λ o. in_limit a.now (Ok (int_scan_of o a.now)))) }
+fn int_scan(op: u32, a: &[i32], out: &mut [i32]) -> Result<(), Fault>
+    ensures { Overwrites (in_room (length out.old) (by_operator (int_monoid op) (λ o. in_limit a.now (Ok (int_scan_of o a.now))))) result out.old out.new }
 {
     let op = int_monoid(op)?;
     check_limit(a)?;
-    Ok(int_scan_by(alloc, op, a)?)
+    int_scan_by(op, a, out)
 }
 
 /// The reduce of integers by the operator of a number.
@@ -109,12 +112,12 @@ fn int_reduce(op: u32, a: &[i32]) -> Result<i32, Fault>
 }
 
 /// The scan of booleans by the operator of a number.
-fn bool_scan(alloc: Global, op: u32, a: &[bool]) -> Result<Vec<bool, Global>, Refused>
-    ensures { Gives (λ v. v.items) result (by_operator (bool_binary op) (λ o. in_limit a.now (Ok (bool_scan_of o a.now)))) }
+fn bool_scan(op: u32, a: &[bool], out: &mut [bool]) -> Result<(), Fault>
+    ensures { Overwrites (in_room (length out.old) (by_operator (bool_binary op) (λ o. in_limit a.now (Ok (bool_scan_of o a.now))))) result out.old out.new }
 {
     let op = bool_binary(op)?;
     check_limit(a)?;
-    Ok(bool_scan_by(alloc, op, a)?)
+    bool_scan_by(op, a, out)
 }
 
 /// The reduce of booleans by the operator of a number.
@@ -128,10 +131,10 @@ fn bool_reduce(op: u32, a: &[bool]) -> Result<bool, Fault>
 
 /// For each integer those before it, joined by the operator: `add_suz` and its like.
 #[unsafe(no_mangle)]
-pub extern "C" fn cvl_int_scan(alloc: Global, op: u32, a: &[i32], out: &mut [i32]) -> CvlStatus
-    ensures { ToldOr (in_room (length out.old) (by_operator (int_monoid op) (λ o. in_limit a.now (Ok (int_scan_of o a.now))))) result out.old out.new }
+pub extern "C" fn cvl_int_scan(op: u32, a: &[i32], out: &mut [i32]) -> CvlStatus
+    ensures { Told (in_room (length out.old) (by_operator (int_monoid op) (λ o. in_limit a.now (Ok (int_scan_of o a.now))))) result out.old out.new }
 {
-    told(int_scan(alloc, op, a), out)
+    told_over::<i32>(int_scan(op, a, out))
 }
 
 /// The integers joined by the operator: `add_ruz` and its like.
@@ -144,10 +147,10 @@ pub extern "C" fn cvl_int_reduce(op: u32, a: &[i32], out: &mut i32) -> CvlStatus
 
 /// For each boolean those before it, joined by the operator: `and_sub` and its like.
 #[unsafe(no_mangle)]
-pub extern "C" fn cvl_bool_scan(alloc: Global, op: u32, a: &[bool], out: &mut [bool]) -> CvlStatus
-    ensures { ToldOr (in_room (length out.old) (by_operator (bool_binary op) (λ o. in_limit a.now (Ok (bool_scan_of o a.now))))) result out.old out.new }
+pub extern "C" fn cvl_bool_scan(op: u32, a: &[bool], out: &mut [bool]) -> CvlStatus
+    ensures { Told (in_room (length out.old) (by_operator (bool_binary op) (λ o. in_limit a.now (Ok (bool_scan_of o a.now))))) result out.old out.new }
 {
-    told(bool_scan(alloc, op, a), out)
+    told_over::<bool>(bool_scan(op, a, out))
 }
 
 /// The booleans joined by the operator: `and_rub` and its like.

@@ -3,6 +3,7 @@
 ghost use Rattle.std.specs.Prelude.{length};
 ghost use Rattle.std.specs.List.{AllPass};
 ghost use Rattle.cvl_base.specs.Gives.{Gives};
+ghost use Rattle.cvl_base.specs.Rooms.{OverwritesOr};
 ghost use Rattle.cvl_base.specs.Scans.{bool_join_of, bool_unit_of, int_join_of, int_unit_of};
 ghost use Rattle.cvl_base.specs.SegmentedCalls.{seg_reduce_of, seg_scan_of};
 ghost use Rattle.cvl_c.specs.Calls.{by_operator, by_segments};
@@ -11,10 +12,10 @@ ghost use Rattle.cvl_c.specs.Told.{ToldOr, in_room};
 
 use crate::checks::descriptor;
 use crate::numbers::{bool_binary, int_monoid};
-use crate::status::{CvlStatus, told};
+use crate::status::{CvlStatus, told, told_over_or};
 use cvl_base::monoids::{Add, And, BoolAnd, BoolIor, BoolXor, Ior, Max, Min, Mul, Xor};
 use cvl_base::{BoolBinary, IntMonoid, Monoid, Refused};
-use scan_walks::{know_numbers, seg_reduce_alone, seg_scan_alone};
+use scan_walks::{know_numbers, seg_reduce_alone, seg_scan_over};
 use std::alloc::Global;
 
 /// For each element those before it in its segment, joined from left to right, and the unit where none is.
@@ -22,12 +23,13 @@ fn scan<M: Monoid>(
     alloc: Global,
     a: &[M::Item],
     lengths: &[i32],
-) -> Result<Vec<M::Item, Global>, Refused>
+    out: &mut [M::Item],
+) -> Result<(), Refused>
     requires { AllPass M.is_item a.now }
-    ensures { Gives (λ v. v.items) result (by_segments lengths.now (seg_scan_of M.join M.unit a.now)) }
+    ensures { OverwritesOr (in_room (length out.old) (by_segments lengths.now (seg_scan_of M.join M.unit a.now))) result out.old out.new }
 {
     let d = descriptor(alloc, lengths)?;
-    seg_scan_alone::<M, Global>(alloc, a, &d)
+    Ok(seg_scan_over::<M, Global>(a, &d, out)?)
 }
 
 /// The elements of each segment, joined from left to right, and the unit where it is empty.
@@ -49,19 +51,20 @@ fn int_scan_by(
     op: IntMonoid,
     a: &[i32],
     lengths: &[i32],
-) -> Result<Vec<i32, Global>, Refused>
-    ensures { Gives (λ v. v.items) result
-        (by_segments lengths.now (seg_scan_of (int_join_of op) (int_unit_of op) a.now)) }
+    out: &mut [i32],
+) -> Result<(), Refused>
+    ensures { OverwritesOr (in_room (length out.old)
+        (by_segments lengths.now (seg_scan_of (int_join_of op) (int_unit_of op) a.now))) result out.old out.new }
 {
     know_numbers(a);
     match op {
-        IntMonoid::Add => scan::<Add>(alloc, a, lengths),
-        IntMonoid::Mul => scan::<Mul>(alloc, a, lengths),
-        IntMonoid::Min => scan::<Min>(alloc, a, lengths),
-        IntMonoid::Max => scan::<Max>(alloc, a, lengths),
-        IntMonoid::And => scan::<And>(alloc, a, lengths),
-        IntMonoid::Ior => scan::<Ior>(alloc, a, lengths),
-        IntMonoid::Xor => scan::<Xor>(alloc, a, lengths),
+        IntMonoid::Add => scan::<Add>(alloc, a, lengths, out),
+        IntMonoid::Mul => scan::<Mul>(alloc, a, lengths, out),
+        IntMonoid::Min => scan::<Min>(alloc, a, lengths, out),
+        IntMonoid::Max => scan::<Max>(alloc, a, lengths, out),
+        IntMonoid::And => scan::<And>(alloc, a, lengths, out),
+        IntMonoid::Ior => scan::<Ior>(alloc, a, lengths, out),
+        IntMonoid::Xor => scan::<Xor>(alloc, a, lengths, out),
     }
 }
 
@@ -93,14 +96,15 @@ fn bool_scan_by(
     op: BoolBinary,
     a: &[bool],
     lengths: &[i32],
-) -> Result<Vec<bool, Global>, Refused>
-    ensures { Gives (λ v. v.items) result
-        (by_segments lengths.now (seg_scan_of (bool_join_of op) (bool_unit_of op) a.now)) }
+    out: &mut [bool],
+) -> Result<(), Refused>
+    ensures { OverwritesOr (in_room (length out.old)
+        (by_segments lengths.now (seg_scan_of (bool_join_of op) (bool_unit_of op) a.now))) result out.old out.new }
 {
     match op {
-        BoolBinary::And => scan::<BoolAnd>(alloc, a, lengths),
-        BoolBinary::Ior => scan::<BoolIor>(alloc, a, lengths),
-        BoolBinary::Xor => scan::<BoolXor>(alloc, a, lengths),
+        BoolBinary::And => scan::<BoolAnd>(alloc, a, lengths, out),
+        BoolBinary::Ior => scan::<BoolIor>(alloc, a, lengths, out),
+        BoolBinary::Xor => scan::<BoolXor>(alloc, a, lengths, out),
     }
 }
 
@@ -122,12 +126,18 @@ fn bool_reduce_by(
 }
 
 /// The scan of each segment of integers by the operator of a number.
-fn int_scan(alloc: Global, op: u32, a: &[i32], lengths: &[i32]) -> Result<Vec<i32, Global>, Refused>
-    ensures { Gives (λ v. v.items) result (by_operator (int_monoid op)
-        (λ o. by_segments lengths.now (seg_scan_of (int_join_of o) (int_unit_of o) a.now))) }
+fn int_scan(
+    alloc: Global,
+    op: u32,
+    a: &[i32],
+    lengths: &[i32],
+    out: &mut [i32],
+) -> Result<(), Refused>
+    ensures { OverwritesOr (in_room (length out.old) (by_operator (int_monoid op)
+        (λ o. by_segments lengths.now (seg_scan_of (int_join_of o) (int_unit_of o) a.now)))) result out.old out.new }
 {
     let op = int_monoid(op)?;
-    int_scan_by(alloc, op, a, lengths)
+    int_scan_by(alloc, op, a, lengths, out)
 }
 
 /// The reduce of each segment of integers by the operator of a number.
@@ -150,12 +160,13 @@ fn bool_scan(
     op: u32,
     a: &[bool],
     lengths: &[i32],
-) -> Result<Vec<bool, Global>, Refused>
-    ensures { Gives (λ v. v.items) result (by_operator (bool_binary op)
-        (λ o. by_segments lengths.now (seg_scan_of (bool_join_of o) (bool_unit_of o) a.now))) }
+    out: &mut [bool],
+) -> Result<(), Refused>
+    ensures { OverwritesOr (in_room (length out.old) (by_operator (bool_binary op)
+        (λ o. by_segments lengths.now (seg_scan_of (bool_join_of o) (bool_unit_of o) a.now)))) result out.old out.new }
 {
     let op = bool_binary(op)?;
-    bool_scan_by(alloc, op, a, lengths)
+    bool_scan_by(alloc, op, a, lengths, out)
 }
 
 /// The reduce of each segment of booleans by the operator of a number.
@@ -184,7 +195,7 @@ pub extern "C" fn cvl_seg_int_scan(
     ensures { ToldOr (in_room (length out.old) (by_operator (int_monoid op)
         (λ o. by_segments lengths.now (seg_scan_of (int_join_of o) (int_unit_of o) a.now)))) result out.old out.new }
 {
-    told(int_scan(alloc, op, a, lengths), out)
+    told_over_or::<i32>(int_scan(alloc, op, a, lengths, out))
 }
 
 /// The integers of each segment joined by the operator: `add_rez` and its like.
@@ -214,7 +225,7 @@ pub extern "C" fn cvl_seg_bool_scan(
     ensures { ToldOr (in_room (length out.old) (by_operator (bool_binary op)
         (λ o. by_segments lengths.now (seg_scan_of (bool_join_of o) (bool_unit_of o) a.now)))) result out.old out.new }
 {
-    told(bool_scan(alloc, op, a, lengths), out)
+    told_over_or::<bool>(bool_scan(alloc, op, a, lengths, out))
 }
 
 /// The booleans of each segment joined by the operator: `and_reb` and its like.

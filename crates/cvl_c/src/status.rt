@@ -5,7 +5,7 @@ ghost use Rattle.cvl_base.specs.declared.fault.Fault.{Fault};
 ghost use Rattle.cvl_base.specs.declared.fault.FaultNo.TheVariants as no;
 ghost use Rattle.cvl_base.specs.Faults.{fault};
 ghost use Rattle.cvl_base.specs.Gives.{Gives};
-ghost use Rattle.cvl_base.specs.Rooms.{Overwrites};
+ghost use Rattle.cvl_base.specs.Rooms.{Overwrites, OverwritesOr};
 ghost use Rattle.cvl_c.specs.Told.{FrontToldOr, Told, ToldOr, at_front, done, in_room, status_of};
 
 use cvl_base::{Fault, FaultNo, Refused, check_agree};
@@ -115,6 +115,16 @@ pub(crate) fn told_over<T>(answer: Result<(), Fault>) -> CvlStatus
     match answer {
         Ok(()) => done(),
         Err(fault) => status_of(fault.into()),
+    }
+}
+
+/// Tells a caller whether a call that takes memory wrote over its room.
+pub(crate) fn told_over_or<T>(answer: Result<(), Refused>) -> CvlStatus
+    ensures { (meaning : Result (List T) Fault) (before now : List T) → OverwritesOr meaning answer before now → ToldOr meaning result before now }
+{
+    match answer {
+        Ok(()) => done(),
+        Err(refused) => status_of(refused),
     }
 }
 

@@ -18,23 +18,28 @@ use fresh::{Run, fill_slice};
 use segdes::{SegDes, check_total};
 use std::alloc::Allocator;
 
-/// Writes the exclusive scan over a room: for each element those before it, joined from left to right, and the unit where
-/// none is. LengthMismatch, without a place, where the room isn't as long.
+/// Writes the exclusive scan over a room: for each element `before`, joined from left to right with those in front of it.
+/// LengthMismatch, without a place, where the room isn't as long.
 ///
-/// The elements must be items of the monoid. Source: Blelloch's prescan.
-pub fn scan_over<M: Monoid>(a: &[M::Item], out: &mut [M::Item]) -> Result<(), Fault>
+/// `before` and the elements must be items of the monoid. Source: Blelloch's prescan.
+pub fn scan_over<M: Monoid>(
+    before: M::Item,
+    a: &[M::Item],
+    out: &mut [M::Item],
+) -> Result<(), Fault>
+    requires before { IsTrue (M.is_item before) }
     requires items { AllPass M.is_item a.now }
     requires in_limit { length a.now ≤ most_elements }
-    ensures { Overwrites (in_room (length out.old) (Ok (scan_of M.join M.unit a.now))) result out.old out.new }
+    ensures { Overwrites (in_room (length out.old) (Ok (scan_of M.join before a.now))) result out.old out.new }
 {
     know_laws::<M>();
     check_agree(a.len(), out.len())?;
     fill_slice(
         out,
         |run: Run<M::Item>| -> Run<M::Item>
-            requires { (run.items ≡ []) × (run.room ≡ length a.now) × AllPass M.is_item a.now × IsTrue (M.is_item M.unit) }
-            ensures { result ≡ with_items run (scan_of M.join M.unit a.entry.now) }
-        { scan_into::<M, M::Item, Itself>(run, M::unit(), a) },
+            requires { (run.items ≡ []) × (run.room ≡ length a.now) × AllPass M.is_item a.now × IsTrue (M.is_item before) }
+            ensures { result ≡ with_items run (scan_of M.join before.entry a.entry.now) }
+        { scan_into::<M, M::Item, Itself>(run, before, a) },
     );
     Ok(())
 }
@@ -50,7 +55,6 @@ pub fn seg_scan_over<M: Monoid, A: Allocator>(
     out: &mut [M::Item],
 ) -> Result<(), Fault>
     requires items { AllPass M.is_item a.now }
-    requires in_limit { length a.now ≤ most_elements }
     ensures { Overwrites (in_room (length out.old) (seg_scan_of M.join M.unit a.now d.now)) result out.old out.new }
 {
     know_laws::<M>();

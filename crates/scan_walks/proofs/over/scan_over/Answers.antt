@@ -7,12 +7,12 @@ use Rattle.scan_walks.proofs.over.scan_over.Goals as goal
 pub returns-in_err-check_agree : goal.returns-in_err-check_agree
 returns-in_err-check_agree g c =
     let m = g.M.Monoid in let a = c.args.a.now in let room = length c.args.out.now in
-    let long = length-scan_of m.join m.unit a in
+    let long = length-scan_of m.join c.args.before a in
     told _ c.from_residual.result c.in_err-check_agree.field-0.0 c.args.out.now c.from_residual.ensures.1
-    (differs room (scan_of m.join m.unit a) (λ same. c.in_err-check_agree.ensures.1 (omega (arith, long, same))) ∙ ap Err (sym c.in_err-check_agree.ensures.0))
+    (differs room (scan_of m.join c.args.before a) (λ same. c.in_err-check_agree.ensures.1 (omega (arith, long, same))) ∙ ap Err (sym c.in_err-check_agree.ensures.0))
 
 pub fill_slice-requires-clause-full : goal.fill_slice-requires-clause-full
 fill_slice-requires-clause-full g c = λ block run done.
     let m = g.M.Monoid in let a = c.args.a.now in let is = done.1 in
-    let long : length (scan_of m.join m.unit a) ≡ length c.args.out.now = omega (arith, length-scan_of m.join m.unit a, c.in_ok-check_agree.ensures) in
+    let long : length (scan_of m.join c.args.before a) ≡ length c.args.out.now = omega (arith, length-scan_of m.join c.args.before a, c.in_ok-check_agree.ensures) in
     (ap (λ s. s.block) is, ap (λ s. s.first) is, ap (λ s. s.room) is ∙ omega (arith, long), ap (λ s. length s.items) is ∙ long)
