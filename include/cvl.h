@@ -386,6 +386,45 @@ CvlStatus cvl_int_scan_after(uint32_t op, int32_t before, const int32_t *a, size
 /* For each boolean `before`, joined by the operator, of CVL_AND to CVL_XOR, with those in front of it. */
 CvlStatus cvl_bool_scan_after(uint32_t op, bool before, const bool *a, size_t a_len, bool *out, size_t out_len);
 
+/* ---- descriptors that are held between calls: exports ---- */
+
+/*
+ * A handle on a descriptor of segments, which is made once by cvl_segments_new and used by several calls, until
+ * cvl_segments_free lets it go. It starts as CVL_NO_SEGMENTS. It may be moved, but only one copy of it may be used; only these
+ * calls write it, and one call at a time uses it, on the thread on which the descriptor was made. A call on a handle that
+ * holds no descriptor answers 101 (CVL_NO_HANDLE), and leaves its room as it was.
+ */
+typedef struct CvlSegments {
+    unsigned char *at; /* the library's memory */
+    bool some;         /* whether a descriptor is held */
+} CvlSegments;
+
+#ifdef __cplusplus
+#define CVL_NO_SEGMENTS CvlSegments()
+#else
+#define CVL_NO_SEGMENTS ((CvlSegments){0})
+#endif
+
+enum { CVL_NO_HANDLE = 101 };
+
+/*
+ * Holds the descriptor of segments with these lengths. What the handle held before is let go first, so that after a fault it
+ * holds none. Faults: 12 NegativeLength at the first length that is negative; 13 TooLong, without a place.
+ */
+CvlStatus cvl_segments_new(const int32_t *lengths, size_t lengths_len, CvlSegments *segments);
+
+/* Lets go of the descriptor that is held, if one is. */
+CvlStatus cvl_segments_free(CvlSegments *segments);
+
+/* How many elements the segments have in all. */
+CvlStatus cvl_segments_total(CvlSegments *segments, size_t *total_out);
+
+/* For each integer the sum of those before it in its segment, which never wraps, as cvl_seg_checked_scan gives it. */
+CvlStatus cvl_segments_checked_scan(const int32_t *a, size_t a_len, CvlSegments *segments, int32_t *out, size_t out_len);
+
+/* The sum of each segment, which never wraps, as cvl_seg_checked_reduce gives it. */
+CvlStatus cvl_segments_checked_reduce(const int32_t *a, size_t a_len, CvlSegments *segments, int32_t *out, size_t out_len);
+
 /* ---- place by place: the calls of the table ---- */
 
 /*

@@ -700,6 +700,40 @@ static void texts_of_any_length(void) {
     if (total != 3000 || memcmp(read, numbers, sizeof numbers) != 0) fail("their text", "other integers");
 }
 
+static void held_descriptors(void) {
+    const int32_t *a = I(3, 1, 4, 1, 5), *lengths = I(2, 0, 3);
+    CvlSegments held = CVL_NO_SEGMENTS;
+    FAULT(cvl_segments_total(&held, &total), CVL_NO_HANDLE, -1);
+    FAULT(cvl_segments_checked_scan(a, 5, &held, ints, 5), CVL_NO_HANDLE, -1);
+    FAULT(cvl_segments_checked_reduce(a, 5, &held, ints, 3), CVL_NO_HANDLE, -1);
+    FAULT(cvl_segments_free(&held), CVL_DONE, -1);
+    FAULT(cvl_segments_new(lengths, 3, &held), CVL_DONE, -1);
+    for (int k = 0; k < 2; k++) {
+        reset();
+        tells("cvl_segments_total", cvl_segments_total(&held, &total), CVL_DONE, -1);
+        if (total != 5) fail("cvl_segments_total", "another total");
+        INTS(cvl_segments_checked_scan(a, 5, &held, ints, 5), 0, 3, 0, 4, 5);
+        INTS(cvl_segments_checked_reduce(a, 5, &held, ints, 3), 4, 0, 10);
+        FAULT(cvl_segments_checked_scan(a, 4, &held, ints, 4), CVL_LENGTH_MISMATCH, -1);
+        FAULT(cvl_segments_checked_scan(a, 5, &held, ints, 4), CVL_LENGTH_MISMATCH, -1);
+        FAULT(cvl_segments_checked_scan(I(1, 2, 2147483647, 1, 1), 5, &held, ints, 5), CVL_OVERFLOW, 4);
+        FAULT(cvl_segments_checked_reduce(a, 5, &held, ints, 2), CVL_LENGTH_MISMATCH, -1);
+        FAULT(cvl_segments_checked_reduce(I(2147483647, 1, 0, 0, 0), 5, &held, ints, 3), CVL_OVERFLOW, 0);
+    }
+    FAULT(cvl_segments_new(I(1, 1), 2, &held), CVL_DONE, -1);
+    INTS(cvl_segments_checked_reduce(a, 2, &held, ints, 2), 3, 1);
+    FAULT(cvl_segments_new(I(1, -1), 2, &held), CVL_NEGATIVE_LENGTH, 1);
+    FAULT(cvl_segments_total(&held, &total), CVL_NO_HANDLE, -1);
+    FAULT(cvl_segments_new(lengths, 3, &held), CVL_DONE, -1);
+    refusing = 1;
+    tells("cvl_segments_new", cvl_segments_new(lengths, 3, &held), CVL_NO_RESOURCES, -1);
+    refusing = 0;
+    FAULT(cvl_segments_new(too_many_ints, CVL_MOST_ELEMENTS + 1, &held), CVL_TOO_LONG, -1);
+    FAULT(cvl_segments_new(I(CVL_MOST_ELEMENTS, 1), 2, &held), CVL_TOO_LONG, -1);
+    FAULT(cvl_segments_free(&held), CVL_DONE, -1);
+    FAULT(cvl_segments_free(&held), CVL_DONE, -1);
+}
+
 int main(void) {
     place_by_place();
     place_by_place_faults();
@@ -719,6 +753,7 @@ int main(void) {
     permutes_of_wrong_segments();
     texts();
     texts_of_any_length();
+    held_descriptors();
     if (failed) return EXIT_FAILURE;
     printf("%d calls as they should be\n", calls);
     return EXIT_SUCCESS;

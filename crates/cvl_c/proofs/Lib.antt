@@ -1,1 +1,3 @@
-mod Counted
+pub mod Counted
+pub mod HeldValues
+pub mod LooseValues

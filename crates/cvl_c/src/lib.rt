@@ -9,6 +9,9 @@ mod checks;
 mod descriptors;
 mod elements;
 mod flat_permutes;
+pub mod held;
+mod held_segments;
+mod loose;
 mod numbers;
 mod packs;
 mod place_by_place;
@@ -20,4 +23,5 @@ pub mod status;
 mod texts;
 mod tiles;
 
+pub use held::CvlSegments;
 pub use status::CvlStatus;

@@ -22,7 +22,7 @@ pub struct CvlStatus {
 }
 
 /// The status of a call that is done.
-fn done() -> CvlStatus
+pub(crate) fn done() -> CvlStatus
     ensures { result ≡ done }
 {
     CvlStatus {
@@ -32,7 +32,7 @@ fn done() -> CvlStatus
 }
 
 /// The status of a call that has no value.
-fn status_of(refused: Refused) -> CvlStatus
+pub(crate) fn status_of(refused: Refused) -> CvlStatus
     ensures { result ≡ status_of refused }
 {
     match refused {

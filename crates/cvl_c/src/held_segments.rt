@@ -1,0 +1,125 @@
+//! Calls on a descriptor that is made once and held between the calls.
+
+ghost use Rattle.std.specs.Prelude.{◌≡◌, IfOk, None, Ok, length, sum};
+ghost use Rattle.cvl_base.specs.CheckedSums.{checked_seg_reduce_of, checked_seg_scan_of};
+ghost use Rattle.cvl_base.specs.Gives.{Gives};
+ghost use Rattle.cvl_c.specs.Calls.{lengths_of};
+ghost use Rattle.cvl_c.specs.HeldSegments.{IsMade, ToldHeld, no_handle};
+ghost use Rattle.cvl_c.specs.Told.{done, in_room};
+
+use crate::checks::descriptor;
+use crate::held::{CvlSegments, Segments};
+use crate::status::{CvlStatus, done, status_of, told, told_or};
+use cvl_base::{NoResources, Refused};
+use scan_walks::{checked_scan_of_segments, checked_sums_of_segments};
+use std::alloc::Global;
+
+/// The status of a call on a handle that holds nothing.
+fn no_handle() -> CvlStatus
+    ensures { result ≡ no_handle }
+{
+    CvlStatus {
+        number: 101,
+        place: -1,
+    }
+}
+
+/// A descriptor in memory of its own.
+fn boxed(alloc: Global, segments: Segments) -> Result<Box<Segments, Global>, NoResources>
+    ensures { IfOk result (λ b. b.value ≡ segments) }
+{
+    Ok(Box::new(alloc, segments)?)
+}
+
+/// The descriptor of segments with these lengths, in memory of its own.
+fn made(alloc: Global, lengths: &[i32]) -> Result<Box<Segments, Global>, Refused>
+    ensures { Gives (λ b. b.value.descriptor) result (lengths_of lengths.now) }
+{
+    let descriptor = descriptor(alloc, lengths)?;
+    Ok(boxed(alloc, Segments { descriptor })?)
+}
+
+/// Makes the descriptor of segments with these lengths, and holds it. What the handle held before is let go.
+#[unsafe(no_mangle)]
+pub extern "C" fn cvl_segments_new(
+    alloc: Global,
+    lengths: &[i32],
+    segments: &mut CvlSegments,
+) -> CvlStatus
+    ensures { IsMade (lengths_of lengths.now) result segments.new.held.value }
+{
+    let _before = segments.take(alloc);
+    match made(alloc, lengths) {
+        Ok(made) => {
+            *segments = CvlSegments::of(made);
+            done()
+        }
+        Err(refused) => status_of(refused),
+    }
+}
+
+/// Lets go of the descriptor that the handle holds, if it holds one.
+#[unsafe(no_mangle)]
+pub extern "C" fn cvl_segments_free(alloc: Global, segments: &mut CvlSegments) -> CvlStatus
+    ensures told { result ≡ done }
+    ensures none { segments.new.held.value ≡ None }
+{
+    let _before = segments.take(alloc);
+    done()
+}
+
+/// How many elements the segments have in all.
+#[unsafe(no_mangle)]
+pub extern "C" fn cvl_segments_total(
+    alloc: Global,
+    segments: &mut CvlSegments,
+    total_out: &mut usize,
+) -> CvlStatus
+    ensures told { ToldHeld segments.old.held.value (λ d. Ok (sum d)) result total_out.old total_out.new }
+    ensures same { segments.new.held.value ≡ segments.old.held.value }
+{
+    let Some(held) = segments.take(alloc) else {
+        return no_handle();
+    };
+    let status = told_or(Ok(held.descriptor.total()), total_out);
+    *segments = CvlSegments::of(held);
+    status
+}
+
+/// For each integer the sum of those before it in its segment, which never wraps.
+#[unsafe(no_mangle)]
+pub extern "C" fn cvl_segments_checked_scan(
+    alloc: Global,
+    a: &[i32],
+    segments: &mut CvlSegments,
+    out: &mut [i32],
+) -> CvlStatus
+    ensures told { ToldHeld segments.old.held.value (λ d. in_room (length out.old) (checked_seg_scan_of a.now d)) result out.old out.new }
+    ensures same { segments.new.held.value ≡ segments.old.held.value }
+{
+    let Some(held) = segments.take(alloc) else {
+        return no_handle();
+    };
+    let status = told(checked_scan_of_segments(alloc, a, &held.descriptor), out);
+    *segments = CvlSegments::of(held);
+    status
+}
+
+/// The sum of each segment, which never wraps.
+#[unsafe(no_mangle)]
+pub extern "C" fn cvl_segments_checked_reduce(
+    alloc: Global,
+    a: &[i32],
+    segments: &mut CvlSegments,
+    out: &mut [i32],
+) -> CvlStatus
+    ensures told { ToldHeld segments.old.held.value (λ d. in_room (length out.old) (checked_seg_reduce_of a.now d)) result out.old out.new }
+    ensures same { segments.new.held.value ≡ segments.old.held.value }
+{
+    let Some(held) = segments.take(alloc) else {
+        return no_handle();
+    };
+    let status = told(checked_sums_of_segments(alloc, a, &held.descriptor), out);
+    *segments = CvlSegments::of(held);
+    status
+}
