@@ -1,5 +1,5 @@
 -- The machine values of a place, and what it owns. Assumes `Logic`.
-use Rattle.std.proofs.Common.{◌≡◌, ℕ, List, [], ◌∷◌, ◌++◌, refl, sym, subst, Bool, true, false}
+use Rattle.std.proofs.Common.{◌≡◌, ℕ, List, [], ◌∷◌, ◌++◌, refl, sym, subst, true}
 use lib.Dec.{T}
 use seplogic.Ra.Ura.{Ura}
 use mir.Syntax.{impl, tnil, dnil}
@@ -7,7 +7,7 @@ use mir.Raw.{raw as bare}
 use mir.Val.{Val, vptr, vstruct, vcons, vnil, of_list}
 use base.Logic.{never, fst∗}
 use types.Logic.{Logic, sem}
-use types.Kit.{Item, Goal, Seq, Step, step, ‵, ◌$◌, move, drop, fsplit, fjoin, fpick, fpack, rewrite, feq_i, feq_l}
+use types.Kit.{Item, Goal, Seq, Step, step, ‵, ◌$◌, drop, fsplit, fjoin, fpick, fpack, rewrite, feq_i, feq_l}
 use denote.RattleType.{RattleType, Valss}
 use denote.Builtin.{RawPtr}
 use denote.Memory.{lone}

@@ -1,4 +1,4 @@
-use Rattle.std.proofs.Common.{◌≡◌, ℕ, Ok, sum, refl, sym, ap, ◌∙◌, subst}
+use Rattle.std.proofs.Common.{ℕ, Ok, sum, sym, ap, ◌∙◌, subst}
 use Rattle.cvl_c.specs.HeldSegments.{ToldHeld}
 use Rattle.cvl_c.proofs.held_segments.cvl_segments_total.Goals as goal
 

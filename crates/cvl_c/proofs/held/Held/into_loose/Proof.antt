@@ -1,10 +1,10 @@
-use Rattle.std.proofs.Common.{◌≡◌, List, [], ◌∷◌, ◌++◌, refl, sym, ap, subst, lit<, true}
+use Rattle.std.proofs.Common.{◌≡◌, List, [], ◌∷◌, ◌++◌, refl, sym, subst, true}
 use mir.Val.{Val, vptr}
 use base.Logic.{SProp, ent, emp, id⊢}
 use base.Fml.{ftrue}
 use prog.Wp.{WpFn}
-use types.Kit.{‵, raw, ◌⊛◌, ◌$◌, ◌∵◌, !, qed, by, move, keep, drop, split, join, fsplit, fjoin, suffices, use0}
-use types.Run.{stop, fld, lit, of_opd, no_more, and_then, returns, enter}
+use types.Kit.{‵, raw, ◌⊛◌, ◌$◌, ◌∵◌, !, qed, by, move, keep, split, fsplit, fjoin, suffices, use0}
+use types.Run.{stop, fld, of_opd, no_more, and_then, returns, enter}
 use types.ByLocal.{alloc_all, pass_all, free_all, look_at, get, get_in, sets}
 use types.Part.{agg, sub, whole}
 use contract.Monad.{fact, fact_i}
@@ -12,16 +12,16 @@ use contract.Running.{tables}
 use denote.Exit.{yes}
 use denote.RattleType.{RattleType, owns}
 use denote.Signature.{types_at, plain}
-use denote.RawPtr.{block_ptr, null_ptr, ptr_val}
+use denote.RawPtr.{block_ptr}
 use denote.Steps.{nothing, heard}
 use denote.Triple.Walked.{Stays, stay_dropped, walk_of, Goes-dropped}
-use Rattle.std.specs.Prelude.{Some, None}
+use Rattle.std.specs.Prelude.{Some}
 use Rattle.std.proofs.raw_atomic.Walks.{proved_at, leaves}
 use Rattle.core.proofs.alloc.Calls.{handle_tells}
 use Rattle.std.specs.contracts.impls.GlobalAllocator.TheImpl.{ghosts}
 use Rattle.cvl_c.specs.Held.{is_held}
-use Rattle.cvl_c.proofs.LooseValues.{both, Loose, loose_good, loose_in, loose_out}
-use Rattle.cvl_c.proofs.HeldValues.{one, al, Z, LZ, R, Place, place_in, place_none, place_out, the_held, held_is}
+use Rattle.cvl_c.proofs.LooseValues.{both, Loose, loose_good, loose_in}
+use Rattle.cvl_c.proofs.HeldValues.{one, al, Z, LZ, R, Place, place_out, the_held, held_is}
 use Rattle.cvl_c.specs.contracts.held.Held.into_loose.{ended, clauses}
 use Rattle.cvl_c.specs.contracts.held.Held.into_loose.Key.{name as #self}
 use Rattle.cvl_c.proofs.held.Held.into_loose.Statement.{statement}

@@ -1,27 +1,18 @@
-use Rattle.std.proofs.Common.{◌≡◌, List, [], ◌∷◌, ◌++◌, refl, sym, ap, subst, lit<, true}
-use mir.Val.{Val, vptr}
-use base.Logic.{SProp, ent, emp, id⊢}
+use Rattle.std.proofs.Common.{◌≡◌, [], ◌∷◌, refl, lit<}
+use mir.Val.{Val}
+use base.Logic.{SProp, emp}
 use base.Fml.{ftrue}
-use prog.Wp.{WpFn}
-use types.Kit.{‵, raw, ◌⊛◌, ◌$◌, ◌∵◌, !, qed, by, move, keep, drop, split, join, fsplit, fjoin, suffices, use0}
-use types.Run.{stop, fld, lit, of_opd, no_more, and_then, returns, enter}
-use types.ByLocal.{alloc_all, pass_all, free_all, look_at, get, get_in, sets}
-use types.Part.{agg, sub, whole}
+use types.Kit.{‵, raw, ◌⊛◌, ◌$◌, ◌∵◌, !, qed, by, keep, split, use0}
+use types.Run.{lit, no_more, and_then, returns, enter}
+use types.ByLocal.{alloc_all, pass_all, free_all, look_at, sets}
+use types.Part.{agg}
 use contract.Monad.{fact, fact_i}
 use contract.Running.{tables}
-use denote.Exit.{yes}
-use denote.RattleType.{RattleType, owns}
-use denote.Signature.{types_at, plain}
-use denote.RawPtr.{block_ptr, null_ptr, ptr_val}
-use denote.Steps.{nothing, heard}
-use denote.Triple.Walked.{Stays, stay_dropped, walk_of, Goes-dropped}
-use Rattle.std.specs.Prelude.{Option, Some, None}
+use denote.RawPtr.{null_ptr, ptr_val}
+use denote.Triple.Walked.{Stays, walk_of}
+use Rattle.std.specs.Prelude.{Option, None}
 use Rattle.std.proofs.raw_atomic.Walks.{proved_at, leaves}
-use Rattle.core.proofs.alloc.Calls.{handle_tells}
-use Rattle.std.specs.contracts.impls.GlobalAllocator.TheImpl.{ghosts}
-use Rattle.cvl_c.specs.Held.{is_held}
-use Rattle.cvl_c.proofs.LooseValues.{both, Loose, loose_good, loose_in, loose_out}
-use Rattle.cvl_c.proofs.HeldValues.{one, R, Place, place_none}
+use Rattle.cvl_c.proofs.HeldValues.{one, R, place_none}
 use Rattle.cvl_c.specs.contracts.held.Held.none.{ended, clauses}
 use Rattle.cvl_c.specs.contracts.held.Held.none.Key.{name as #self}
 use Rattle.cvl_c.proofs.held.Held.none.Statement.{statement}
