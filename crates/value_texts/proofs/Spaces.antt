@@ -46,4 +46,5 @@ opened_onto f old opened new x xs whole parts first element =
     let rest = spaced f xs ++ (93 ∷ []) in
     let joined : join_with_byte 32 (map f whole) ++ (93 ∷ []) ≡ f x ++ rest =
     ap (λ t. join_with_byte 32 (map f t) ++ (93 ∷ [])) parts ∙ ap (λ t. t ++ (93 ∷ [])) (join_spaced f x xs) ∙ append_assoc (f x) (spaced f xs) (93 ∷ []) in
-    append_assoc new (spaced f xs) (93 ∷ []) ∙ ap (λ t. t ++ rest) (element ∙ ap (λ t. t ++ f x) first) ∙ append_assoc (old ++ (91 ∷ [])) (f x) rest ∙ append_assoc old (91 ∷ []) (f x ++ rest) ∙ ap (λ t. old ++ (91 ∷ t)) (sym joined)
+    append_assoc new (spaced f xs) (93 ∷ []) ∙ ap (λ t. t ++ rest) (element ∙ ap (λ t. t ++ f x) first) ∙ append_assoc (old ++ (91 ∷ [])) (f x) rest
+    ∙ append_assoc old (91 ∷ []) (f x ++ rest) ∙ ap (λ t. old ++ (91 ∷ t)) (sym joined)

@@ -3,6 +3,7 @@
 
 mod alone;
 mod elements;
+mod nest_text;
 mod part_writes;
 mod parts;
 mod segments;
@@ -10,6 +11,6 @@ mod texts;
 mod vector_text;
 mod written;
 
-pub use alone::vector_text_alone;
+pub use alone::{nest_text_alone, vector_text_alone};
 pub use texts::put_value;
 pub use written::Written;

@@ -4,7 +4,8 @@ ghost use Rattle.std.specs.Prelude.{◌≡◌, ◌++◌, length, map, take, unsi
 ghost use Rattle.std.specs.Option.{ForSome, option_copied};
 ghost use Rattle.value_texts.specs.Texts.{after_bytes, cut_text, text_of, value_text};
 
-use crate::vector_text::{PAGE_BYTES, Page, put_element, put_nest, put_vector};
+use crate::nest_text::put_nest;
+use crate::vector_text::{PAGE_BYTES, Page, put_element, put_vector};
 use cvl_base::{Config, Memory, NoResources, Value};
 use segdes::SegDes;
 use std::thread::Threads;

@@ -1,14 +1,11 @@
-//! The text of vectors and of nests.
+//! The text of vectors.
 
-ghost use Rattle.std.specs.Prelude.{◌≡◌, ◌≤◌, ◌++◌, codes, length, map, sum, take, drop, unsigned_abs, IfOk, OnOk};
-ghost use Rattle.std.specs.List.{join_with_byte};
+ghost use Rattle.std.specs.Prelude.{◌≡◌, ◌≤◌, ◌++◌, codes, length, take, drop, IfOk, OnOk};
 ghost use Rattle.cvl_base.specs.Limits.{most_elements, most_workers};
-ghost use Rattle.cvl_base.specs.Nests.{cut_of};
-ghost use Rattle.value_texts.specs.Texts.{spaced, vector_text, nest_text};
+ghost use Rattle.value_texts.specs.Texts.{spaced, vector_text};
 
 use crate::elements::elements_in;
 use crate::part_writes::put_parts;
-use crate::segments::segments_in;
 use crate::written::{MOST_TEXT_BYTES, Written};
 use cvl_base::{Config, Memory, NoResources};
 use sharing::threads_writing;
@@ -151,107 +148,4 @@ pub(crate) fn put_vector<R: Threads + Sync, T: Written + Sync, A: Memory>(
         return put_vector_alone(xs, page, text);
     }
     put_vector_in_parts(rt, alloc, threads, xs, page, text)
-}
-
-/// Appends the texts of the segments with a space before each. After a refusal the text begins as before.
-fn put_spaced_segments_alone<R: Threads + Sync, T: Written + Sync, A: Memory>(
-    rt: &R,
-    alloc: A,
-    config: Config,
-    lengths: &[i32],
-    xs: &[T],
-    page: &mut Page,
-    text: &mut Vec<u8, A>,
-) -> Result<(), NoResources>
-    requires { sum (map unsigned_abs lengths.now) ≡ length xs.now }
-    ensures ok { OnOk result (text.new.items
-        ≡ text.old.items ++ spaced (vector_text T.text_of) (cut_of (map unsigned_abs lengths.now) xs.now)) }
-    ensures begins { take (length text.old.items) text.new.items ≡ text.old.items }
-{
-    let mut rest = xs;
-    for length in lengths {
-        let (segment, others) = rest.split_at(length.unsigned_abs() as usize);
-        text.push(b' ')?;
-        put_vector(rt, alloc, config, segment, page, text)?;
-        rest = others;
-    }
-    Ok(())
-}
-
-/// Whether no segment has more than so many elements.
-fn are_short(lengths: &[i32], most: usize) -> bool {
-    lengths
-        .iter()
-        .all(|length| length.unsigned_abs() as usize <= most)
-}
-
-/// `put_spaced_segments_alone` by as many threads as pay, each of which writes some whole segments. Where a segment is longer
-/// than a thread's share, the segments are written in turn, and long ones by several threads.
-fn put_spaced_segments<R: Threads + Sync, T: Written + Sync, A: Memory>(
-    rt: &R,
-    alloc: A,
-    config: Config,
-    lengths: &[i32],
-    xs: &[T],
-    page: &mut Page,
-    text: &mut Vec<u8, A>,
-) -> Result<(), NoResources>
-    requires { sum (map unsigned_abs lengths.now) ≡ length xs.now }
-    ensures ok { OnOk result (text.new.items
-        ≡ text.old.items ++ spaced (vector_text T.text_of) (cut_of (map unsigned_abs lengths.now) xs.now)) }
-    ensures begins { take (length text.old.items) text.new.items ≡ text.old.items }
-{
-    let most = xs.len().max(lengths.len());
-    let threads = threads_writing(config, most);
-    let moves_much = text.len() / MOST_TEXT_BYTES > most;
-    if threads < 2 || moves_much || !are_short(lengths, xs.len() / threads as usize) {
-        return put_spaced_segments_alone(rt, alloc, config, lengths, xs, page, text);
-    }
-    let parts = segments_in(alloc, lengths, xs, threads as usize)?;
-    put_parts(rt, alloc, threads, parts.as_slice(), text)
-}
-
-/// Appends the texts of the segments with a space between each two. After a refusal the text begins as before.
-fn put_joined_segments<R: Threads + Sync, T: Written + Sync, A: Memory>(
-    rt: &R,
-    alloc: A,
-    config: Config,
-    lengths: &[i32],
-    xs: &[T],
-    page: &mut Page,
-    text: &mut Vec<u8, A>,
-) -> Result<(), NoResources>
-    requires { sum (map unsigned_abs lengths.now) ≡ length xs.now }
-    ensures ok { OnOk result (text.new.items ≡ text.old.items
-        ++ join_with_byte 32 (map (vector_text T.text_of) (cut_of (map unsigned_abs lengths.now) xs.now))) }
-    ensures begins { take (length text.old.items) text.new.items ≡ text.old.items }
-{
-    let Some((first, others)) = lengths.split_first() else {
-        return Ok(());
-    };
-    let (front, rest) = xs.split_at(first.unsigned_abs() as usize);
-    put_vector(rt, alloc, config, front, page, text)?;
-    put_spaced_segments(rt, alloc, config, others, rest, page, text)?;
-    Ok(())
-}
-
-/// Appends the text of the vectors into which the lengths cut the elements. After a refusal the text begins as before.
-pub(crate) fn put_nest<R: Threads + Sync, T: Written + Sync, A: Memory>(
-    rt: &R,
-    alloc: A,
-    config: Config,
-    lengths: &[i32],
-    xs: &[T],
-    page: &mut Page,
-    text: &mut Vec<u8, A>,
-) -> Result<(), NoResources>
-    requires { sum (map unsigned_abs lengths.now) ≡ length xs.now }
-    ensures ok { OnOk result (text.new.items
-        ≡ text.old.items ++ nest_text T.text_of (cut_of (map unsigned_abs lengths.now) xs.now)) }
-    ensures begins { take (length text.old.items) text.new.items ≡ text.old.items }
-{
-    text.push(b'[')?;
-    put_joined_segments(rt, alloc, config, lengths, xs, page, text)?;
-    text.push(b']')?;
-    Ok(())
 }
