@@ -425,6 +425,36 @@ CvlStatus cvl_segments_checked_scan(const int32_t *a, size_t a_len, CvlSegments 
 /* The sum of each segment, which never wraps, as cvl_seg_checked_reduce gives it. */
 CvlStatus cvl_segments_checked_reduce(const int32_t *a, size_t a_len, CvlSegments *segments, int32_t *out, size_t out_len);
 
+/*
+ * cvl_seg_read_ints: The integers and the lengths of the lists of a nested text: "[", any number of lists, "]", where a list is
+ * "[", integers as in cvl_read_ints, "]". Each of the two results has a room and a count of its own; where one room is too short
+ * both are as they were, and both counts are the lengths that are needed.
+ * Faults: 13 TooLong, without a place, where there are more than 4194304 words other than brackets or more than 4194305 "[",
+ * whatever they are; else 15 BadInput at the first word or bracket that cannot stand where it does, or, where the text ends too
+ * early, at the number of its words and brackets.
+ * text = "[[1 2] [] [3]]": out = 1 2 3, count = 3, lengths = 2 0 1, segments = 3
+ */
+CvlStatus cvl_seg_read_ints(
+    const char *text, size_t text_len, int32_t *out, size_t out_len, size_t *count, int32_t *lengths, size_t lengths_len,
+    size_t *segments);
+
+/*
+ * cvl_seg_write_ints: The text of a vector of integers that is cut into segments: the texts of the segments, a space between
+ * each two, in brackets.
+ * Faults: by the lengths those of each call on segments, 13 TooLong, 12 NegativeLength, 13 TooLong; 7 LengthMismatch where the
+ * lengths do not add up to the vector's.
+ * a = 5 1 7, lengths = 0 2 1: out = "[[] [5 1] [7]]", count = 14
+ */
+CvlStatus cvl_seg_write_ints(
+    const int32_t *a, size_t a_len, const int32_t *lengths, size_t segments, char *out, size_t out_len, size_t *count);
+
+/*
+ * cvl_seg_write_bools: The same of booleans, each T or F.
+ * a = true false, lengths = 1 1: out = "[[T] [F]]", count = 9
+ */
+CvlStatus cvl_seg_write_bools(
+    const bool *a, size_t a_len, const int32_t *lengths, size_t segments, char *out, size_t out_len, size_t *count);
+
 /* ---- place by place: the calls of the table ---- */
 
 /*

@@ -14,6 +14,8 @@ static int32_t ints[ROOM];
 static bool bools[ROOM];
 static size_t total;
 static char bytes[TEXT_ROOM];
+static int32_t lists[ROOM];
+static size_t list_count;
 static int32_t too_many_ints[CVL_MOST_ELEMENTS + 1];
 static bool too_many_bools[CVL_MOST_ELEMENTS + 1];
 
@@ -34,10 +36,12 @@ static void fail(const char *call, const char *why) {
 static void reset(void) {
     for (int k = 0; k < ROOM; k++) {
         ints[k] = UNTOUCHED;
+        lists[k] = UNTOUCHED;
         bools[k] = k % 2 == 0;
     }
     memset(bytes, UNTOUCHED, sizeof bytes);
     total = UNTOUCHED;
+    list_count = UNTOUCHED;
     calls++;
 }
 
@@ -734,6 +738,81 @@ static void held_descriptors(void) {
     FAULT(cvl_segments_free(&held), CVL_DONE, -1);
 }
 
+/* A nested text, read into rooms of these lengths. */
+static CvlStatus read_nest(const char *text, size_t room, size_t lists_room) {
+    return cvl_seg_read_ints(text, strlen(text), ints, room, &total, lists, lists_room, &list_count);
+}
+
+static void leaves_lists(const char *text, size_t first) {
+    for (size_t k = first; k < ROOM; k++) {
+        if (lists[k] != UNTOUCHED) fail(text, "a length was written");
+    }
+}
+
+/* The text has these integers and lengths, in rooms that are just long enough and in longer ones; and without memory none. */
+static void reads_nest(const char *text, const int32_t *numbers, size_t count, const int32_t *lengths, size_t segments) {
+    for (int spare = 0; spare < 2; spare++) {
+        reset();
+        tells(text, read_nest(text, count + spare, segments + spare), CVL_DONE, -1);
+        if (total != count || list_count != segments) fail(text, "other counts");
+        holds_ints(text, numbers, count);
+        if (memcmp(lists, lengths, segments * sizeof *lengths) != 0) fail(text, "other lengths");
+        leaves_lists(text, segments);
+    }
+    NO_MEMORY(read_nest(text, ROOM, ROOM));
+    leaves_lists(text, 0);
+    if (total != UNTOUCHED || list_count != UNTOUCHED) fail(text, "a count was written");
+}
+
+static void nest_too_short(const char *text, size_t room, size_t lists_room, size_t count, size_t segments) {
+    TOO_SHORT(read_nest(text, room, lists_room), count);
+    leaves_lists(text, 0);
+    if (list_count != segments) fail(text, "another number of lengths is needed");
+}
+
+static void nest_fault(const char *text, int64_t place) {
+    FAULT(read_nest(text, ROOM, ROOM), CVL_BAD_INPUT, place);
+    leaves_lists(text, 0);
+    if (list_count != UNTOUCHED) fail(text, "the number of lengths was written");
+}
+
+static void nested_texts(void) {
+    const int32_t *a = I(5, 1, 7), *lengths = I(0, 2, 1);
+    const bool *f = B(true, false);
+    const size_t many = CVL_MOST_ELEMENTS + 1;
+    reads_nest("[[1 2] [] [3]]", I(1, 2, 3), 3, I(2, 0, 1), 3);
+    reads_nest("[[5][1]]", I(5, 1), 2, I(1, 1), 2);
+    reads_nest(" [[-2147483648\n2147483647]\t] ", I(INT32_MIN, 2147483647), 2, I(2), 1);
+    reads_nest("[]", a, 0, a, 0);
+    reads_nest("[[] []]", a, 0, I(0, 0), 2);
+    nest_too_short("[[1 2] [] [3]]", 2, 3, 3, 3);
+    nest_too_short("[[1 2] [] [3]]", 3, 2, 3, 3);
+    nest_too_short("[[1 2] []]", 0, 0, 2, 2);
+    nest_fault("[[1 2] [] 3]", 7);
+    nest_fault("[[1 2]", 5);
+    nest_fault("[[1]] 2", 5);
+    nest_fault("[[2147483648]]", 2);
+    nest_fault("[[+1]]", 2);
+    nest_fault("1 2", 0);
+    nest_fault("", 0);
+    memset(many_words, '[', sizeof many_words);
+    FAULT(cvl_seg_read_ints(many_words, many + 1, ints, ROOM, &total, lists, ROOM, &list_count), CVL_TOO_LONG, -1);
+    FAULT(cvl_seg_read_ints(many_words, many, ints, ROOM, &total, lists, ROOM, &list_count), CVL_BAD_INPUT, 2);
+    TEXT(cvl_seg_write_ints(a, 3, lengths, 3, bytes, TEXT_ROOM, &total), "[[] [5 1] [7]]");
+    TEXT(cvl_seg_write_ints(a, 3, lengths, 3, bytes, 14, &total), "[[] [5 1] [7]]");
+    TEXT(cvl_seg_write_ints(I(INT32_MIN), 1, I(1), 1, bytes, TEXT_ROOM, &total), "[[-2147483648]]");
+    TEXT(cvl_seg_write_ints(a, 0, lengths, 0, bytes, TEXT_ROOM, &total), "[]");
+    TEXT(cvl_seg_write_ints(a, 0, I(0, 0), 2, bytes, TEXT_ROOM, &total), "[[] []]");
+    TEXT(cvl_seg_write_bools(f, 2, I(1, 1), 2, bytes, TEXT_ROOM, &total), "[[T] [F]]");
+    TOO_SHORT(cvl_seg_write_ints(a, 3, lengths, 3, bytes, 13, &total), 14);
+    TOO_SHORT(cvl_seg_write_bools(f, 2, I(1, 1), 2, bytes, 0, &total), 9);
+    FAULT(cvl_seg_write_ints(a, 3, I(1, 1), 2, bytes, TEXT_ROOM, &total), CVL_LENGTH_MISMATCH, -1);
+    FAULT(cvl_seg_write_ints(a, 3, I(4, -1), 2, bytes, TEXT_ROOM, &total), CVL_NEGATIVE_LENGTH, 1);
+    FAULT(cvl_seg_write_ints(a, 3, too_many_ints, many, bytes, TEXT_ROOM, &total), CVL_TOO_LONG, -1);
+    FAULT(cvl_seg_write_bools(f, 2, I(2, -2), 2, bytes, TEXT_ROOM, &total), CVL_NEGATIVE_LENGTH, 1);
+    FAULT(cvl_seg_write_bools(too_many_bools, many, I(CVL_MOST_ELEMENTS, 1), 2, bytes, TEXT_ROOM, &total), CVL_TOO_LONG, -1);
+}
+
 int main(void) {
     place_by_place();
     place_by_place_faults();
@@ -754,6 +833,7 @@ int main(void) {
     texts();
     texts_of_any_length();
     held_descriptors();
+    nested_texts();
     if (failed) return EXIT_FAILURE;
     printf("%d calls as they should be\n", calls);
     return EXIT_SUCCESS;

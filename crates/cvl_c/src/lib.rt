@@ -12,6 +12,7 @@ mod flat_permutes;
 pub mod held;
 mod held_segments;
 mod loose;
+mod nested_texts;
 mod numbers;
 mod packs;
 mod place_by_place;
@@ -22,6 +23,7 @@ mod segments;
 pub mod status;
 mod texts;
 mod tiles;
+mod told_nest;
 
 pub use held::CvlSegments;
 pub use status::CvlStatus;

@@ -73,7 +73,7 @@ pub(crate) fn told<T: Copy>(answer: Result<Vec<T, Global>, Refused>, room: &mut 
 
 /// Puts items at the front of a room, whose rest stays as it is, or tells LengthMismatch, without a place, where the room is too
 /// short, and leaves it as it is.
-fn put_in_front<T: Copy>(items: &[T], room: &mut [T]) -> Result<(), Fault>
+pub(crate) fn put_in_front<T: Copy>(items: &[T], room: &mut [T]) -> Result<(), Fault>
     ensures { MatchResult result (λ _. at_front room.old items.now ≡ Ok room.new)
         (λ f. (at_front room.old items.now ≡ Err f) × (room.new ≡ room.old)) }
 {

@@ -1,0 +1,71 @@
+//! Vectors with segments that a nested text writes, and the texts of vectors with segments.
+
+ghost use Rattle.std.specs.Fmt.{signed_decimal};
+ghost use Rattle.call_reader.specs.NestedTexts.{nested_of};
+ghost use Rattle.cvl_base.specs.Gives.{Gives};
+ghost use Rattle.cvl_c.specs.Calls.{by_segments};
+ghost use Rattle.cvl_c.specs.Fronts.{FrontsToldOr};
+ghost use Rattle.cvl_c.specs.NestedTexts.{segments_text, with_lengths};
+ghost use Rattle.cvl_c.specs.Told.{FrontToldOr};
+ghost use Rattle.value_texts.specs.Texts.{boolean_text};
+
+use crate::checks::descriptor;
+use crate::status::{CvlStatus, told_in_front};
+use crate::told_nest::told_nest;
+use call_reader::read_nested;
+use cvl_base::{Refused, check_agree};
+use std::alloc::Global;
+use value_texts::{Written, nest_text_alone};
+
+/// The text of a vector, cut into segments of these lengths.
+fn text<T: Written>(alloc: Global, a: &[T], lengths: &[i32]) -> Result<Vec<u8, Global>, Refused>
+    ensures { Gives (λ v. v.items) result (by_segments lengths.now (segments_text T.text_of a.now)) }
+{
+    let d = descriptor(alloc, lengths)?;
+    check_agree(d.total(), a.len())?;
+    Ok(nest_text_alone(alloc, &d, a)?)
+}
+
+/// The integers of a nested text, and the lengths of its lists.
+#[unsafe(no_mangle)]
+pub extern "C" fn cvl_seg_read_ints(
+    alloc: Global,
+    text: &[u8],
+    out: &mut [i32],
+    count: &mut usize,
+    lengths: &mut [i32],
+    segments: &mut usize,
+) -> CvlStatus
+    ensures { FrontsToldOr (with_lengths (nested_of text.now)) result
+        (out.old, lengths.old) (out.new, lengths.new) (count.old, segments.old) (count.new, segments.new) }
+{
+    told_nest(read_nested(alloc, text), out, count, lengths, segments)
+}
+
+/// The text of the integers, cut into segments, in brackets.
+#[unsafe(no_mangle)]
+pub extern "C" fn cvl_seg_write_ints(
+    alloc: Global,
+    a: &[i32],
+    lengths: &[i32],
+    out: &mut [u8],
+    count: &mut usize,
+) -> CvlStatus
+    ensures { FrontToldOr (by_segments lengths.now (segments_text signed_decimal a.now)) result out.old out.new count.old count.new }
+{
+    told_in_front(text(alloc, a, lengths), out, count)
+}
+
+/// The text of the booleans, each `T` or `F`, cut into segments, in brackets.
+#[unsafe(no_mangle)]
+pub extern "C" fn cvl_seg_write_bools(
+    alloc: Global,
+    a: &[bool],
+    lengths: &[i32],
+    out: &mut [u8],
+    count: &mut usize,
+) -> CvlStatus
+    ensures { FrontToldOr (by_segments lengths.now (segments_text boolean_text a.now)) result out.old out.new count.old count.new }
+{
+    told_in_front(text(alloc, a, lengths), out, count)
+}
