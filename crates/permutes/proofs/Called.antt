@@ -8,12 +8,12 @@ use Rattle.cvl_base.specs.Gives.{Gives, unless}
 use Rattle.cvl_base.specs.Limits.{most_elements}
 use Rattle.cvl_base.specs.Packs.{count_of}
 use Rattle.cvl_base.specs.Permutes.{all_targets, back_of, first_fault, flagged_targets, select_of, simple_of, wrongs}
-use Rattle.cvl_base.specs.SegmentedCalls.{seg_back_of, seg_select_of, seg_simple_of}
+use Rattle.cvl_base.specs.SegmentedCalls.{seg_back_of, seg_default_of, seg_select_of, seg_simple_of}
 use Rattle.permutes.specs.Backs.{outside_from, segments_at}
 use Rattle.permutes.specs.Parts.{fault_from, flagged_parts, parts_of, senders_from}
 use Rattle.permutes.specs.Walks.{AreAllSent}
 use Rattle.permute_walks.specs.Indices.{elements_at, first_outside}
-use Rattle.permute_walks.specs.Senders.{senders_of}
+use Rattle.permute_walks.specs.Senders.{senders_of, written_over}
 use Rattle.permute_walks.proofs.Outside.{values_unless}
 use Rattle.permute_walks.proofs.Sent.{length-senders_of}
 use Rattle.permute_walks.proofs.Taken.{length-taken}
@@ -22,7 +22,7 @@ use Rattle.permutes.proofs.Checked.{found_long, refusal_stays}
 use Rattle.permutes.proofs.Flat.{select-meaning, simple-meaning}
 use Rattle.permutes.proofs.Through.{places-flagged_parts, places-parts}
 use Rattle.permutes.proofs.Walked.{flagged_segments_sent, length-senders_from, length_given, segments_sent, select_sent, simple_sent, taken_ok}
-use Rattle.permutes.proofs.Whole.{seg_select-meaning, seg_simple-meaning}
+use Rattle.permutes.proofs.Whole.{seg_default-meaning, seg_select-meaning, seg_simple-meaning}
 
 -- ---- any call
 
@@ -43,6 +43,16 @@ elements_taken source fault senders found shown items is shows taken sent =
 -- it takes at most as many as there are senders
 pub taken_within : (fault : Option Fault) (senders found shown : List ℕ) (n : ℕ) → unless fault (Ok senders) ≡ Ok found → shown ≡ found → n ≤ length shown → n ≤ length senders
 taken_within fault senders found shown n is shows within = omega (arith, within, ap length shows, found_long fault senders found is)
+
+-- the second walk writes the elements over the defaults
+pub written_taken : {X : Type 0} (source defaults : List X) (fault : Option Fault) (senders found shown : List ℕ) (items : List X) → unless fault (Ok senders) ≡ Ok found → shown ≡ found
+    → items ≡ written_over source shown defaults → unless fault (Ok (written_over source senders defaults)) ≡ Ok items
+written_taken source defaults fault senders found shown items is shows are =
+    taken_ok (λ (ss : List ℕ). written_over source ss defaults) fault senders found items is (λ none same. are ∙ ap (λ ss. written_over source ss defaults) (shows ∙ same))
+
+-- as many senders were shown as were meant
+pub shown_long : (fault : Option Fault) (senders found shown : List ℕ) → unless fault (Ok senders) ≡ Ok found → shown ≡ found → length shown ≡ length senders
+shown_long fault senders found shown is shows = ap length shows ∙ found_long fault senders found is
 
 -- ---- flat calls
 
@@ -122,6 +132,21 @@ module _ (index : List ℤ) (lengths : List ℕ) (index_total : sum lengths ≡ 
         flag_total,
         index_total,
       )
+
+module _ {X : Type 0} (source : List X) (index : List ℤ) (defaults : List X) (lengths widths : List ℕ) (found shown : List ℕ)
+    (is : unless (fault_from 0 (parts_of lengths widths index)) (Ok (senders_from 0 (parts_of lengths widths index))) ≡ Ok found) (shows : shown ≡ found)
+    (default_total : sum widths ≡ length defaults) (count : length lengths ≡ length widths) where
+  pub seg_default_long : length shown ≡ length defaults
+  seg_default_long =
+      let parts = parts_of lengths widths index in
+      shown_long (fault_from 0 parts) (senders_from 0 parts) found shown is shows ∙ length-senders_from 0 parts ∙ places-parts lengths widths index count ∙ default_total
+
+  pub seg_default_taken : (items : List X) → sum lengths ≡ length source → sum lengths ≡ length index → length index ≤ most_elements → items ≡ written_over source shown defaults
+      → seg_default_of source index defaults lengths widths ≡ Ok items
+  seg_default_taken items total index_total few are =
+      let parts = parts_of lengths widths index in
+      seg_default-meaning source index defaults lengths widths total index_total default_total count few
+      ∙ written_taken source defaults (fault_from 0 parts) (senders_from 0 parts) found shown items is shows are
 
 pub seg_back_taken : {X : Type 0} (source : List X) (index : List ℤ) (widths lengths : List ℕ) (items : List X) → sum widths ≡ length source → sum lengths ≡ length index
     → length widths ≡ length lengths → None ≡ outside_from 0 widths lengths index → items ≡ segments_at widths source lengths index → seg_back_of source index widths lengths ≡ Ok items

@@ -29,6 +29,7 @@ returns-clause-in_length g c =
     let places = c.args.places in
     omega (
       arith,
-      taken_within (first_fault 0 (wrongs places ts)) (senders_of 0 ts places) c.in_ok-senders.senders.items _ _ c.in_ok-senders.ensures c.deref.ensures.value c.in_ok-elements_of_alone.ensures.in_length,
+      taken_within (first_fault 0 (wrongs places ts)) (senders_of 0 ts places) c.in_ok-senders.senders.items _ _ c.in_ok-senders.ensures c.deref.ensures.value
+          c.in_ok-elements_of_alone.ensures.in_length,
       length-senders_of 0 ts places,
     )
