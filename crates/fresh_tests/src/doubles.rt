@@ -13,8 +13,8 @@ use std::thread::Threads;
 
 /// Writes the doubles of numbers.
 #[derive(Drop)]
-struct Doubles<'a> {
-    numbers: &'a [u32],
+pub(crate) struct Doubles<'a> {
+    pub(crate) numbers: &'a [u32],
 }
 
 impl<'a> Writer<u64> for Doubles<'a> {
@@ -35,7 +35,7 @@ impl<'a> Writer<u64> for Doubles<'a> {
 }
 
 /// Whether the first values are the doubles of the numbers.
-fn are_doubles(values: &[u64], numbers: &[u32]) -> bool {
+pub(crate) fn are_doubles(values: &[u64], numbers: &[u32]) -> bool {
     values.len() >= numbers.len()
         && values.iter().zip(numbers).all(|(value, number)| value / 2 == u64::from(*number)
             && value % 2 == 0)

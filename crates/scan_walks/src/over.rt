@@ -38,7 +38,7 @@ pub fn scan_over<M: Monoid>(
         out,
         |run: Run<M::Item>| -> Run<M::Item>
             requires { (run.items ≡ []) × (run.room ≡ length a.now) × AllPass M.is_item a.now × IsTrue (M.is_item before) }
-            ensures { result ≡ with_items run (scan_of M.join before.entry a.entry.now) }
+            ensures { result ≡ with_items run (scan_of M.join before a.entry.now) }
         { scan_into::<M, M::Item, Itself>(run, before, a) },
     );
     Ok(())
