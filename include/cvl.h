@@ -425,6 +425,22 @@ CvlStatus cvl_segments_checked_scan(const int32_t *a, size_t a_len, CvlSegments 
 /* The sum of each segment, which never wraps, as cvl_seg_checked_reduce gives it. */
 CvlStatus cvl_segments_checked_reduce(const int32_t *a, size_t a_len, CvlSegments *segments, int32_t *out, size_t out_len);
 
+/* For each integer those before it in its segment, joined by the operator, of CVL_ADD to CVL_XOR. */
+CvlStatus cvl_segments_int_scan(
+    uint32_t op, const int32_t *a, size_t a_len, CvlSegments *segments, int32_t *out, size_t out_len);
+
+/* The integers of each segment joined by the operator, of CVL_ADD to CVL_XOR. */
+CvlStatus cvl_segments_int_reduce(
+    uint32_t op, const int32_t *a, size_t a_len, CvlSegments *segments, int32_t *out, size_t out_len);
+
+/* For each boolean those before it in its segment, joined by the operator, of CVL_AND to CVL_XOR. */
+CvlStatus cvl_segments_bool_scan(
+    uint32_t op, const bool *a, size_t a_len, CvlSegments *segments, bool *out, size_t out_len);
+
+/* The booleans of each segment joined by the operator, of CVL_AND to CVL_XOR. */
+CvlStatus cvl_segments_bool_reduce(
+    uint32_t op, const bool *a, size_t a_len, CvlSegments *segments, bool *out, size_t out_len);
+
 /*
  * cvl_seg_read_ints: The integers and the lengths of the lists of a nested text: "[", any number of lists, "]", where a list is
  * "[", integers as in cvl_read_ints, "]". Each of the two results has a room and a count of its own; where one room is too short

@@ -706,10 +706,13 @@ static void texts_of_any_length(void) {
 
 static void held_descriptors(void) {
     const int32_t *a = I(3, 1, 4, 1, 5), *lengths = I(2, 0, 3);
+    const bool *f = B(true, false, true, false, true);
     CvlSegments held = CVL_NO_SEGMENTS;
     FAULT(cvl_segments_total(&held, &total), CVL_NO_HANDLE, -1);
     FAULT(cvl_segments_checked_scan(a, 5, &held, ints, 5), CVL_NO_HANDLE, -1);
     FAULT(cvl_segments_checked_reduce(a, 5, &held, ints, 3), CVL_NO_HANDLE, -1);
+    FAULT(cvl_segments_int_scan(CVL_SUB, a, 5, &held, ints, 5), CVL_NO_HANDLE, -1);
+    FAULT(cvl_segments_bool_reduce(CVL_AND, f, 5, &held, bools, 3), CVL_NO_HANDLE, -1);
     FAULT(cvl_segments_free(&held), CVL_DONE, -1);
     FAULT(cvl_segments_new(lengths, 3, &held), CVL_DONE, -1);
     for (int k = 0; k < 2; k++) {
@@ -718,6 +721,13 @@ static void held_descriptors(void) {
         if (total != 5) fail("cvl_segments_total", "another total");
         INTS(cvl_segments_checked_scan(a, 5, &held, ints, 5), 0, 3, 0, 4, 5);
         INTS(cvl_segments_checked_reduce(a, 5, &held, ints, 3), 4, 0, 10);
+        INTS(cvl_segments_int_scan(CVL_MUL, a, 5, &held, ints, 5), 1, 3, 1, 4, 4);
+        INTS(cvl_segments_int_reduce(CVL_MAX, a, 5, &held, ints, 3), 3, INT32_MIN, 5);
+        BOOLS(cvl_segments_bool_scan(CVL_IOR, f, 5, &held, bools, 5), false, true, false, true, true);
+        BOOLS(cvl_segments_bool_reduce(CVL_AND, f, 5, &held, bools, 3), false, true, false);
+        FAULT(cvl_segments_int_scan(CVL_SUB, a, 4, &held, ints, 4), CVL_UNKNOWN_CALL, -1);
+        FAULT(cvl_segments_int_scan(CVL_ADD, a, 5, &held, ints, 4), CVL_LENGTH_MISMATCH, -1);
+        FAULT(cvl_segments_bool_scan(CVL_AND, f, 4, &held, bools, 5), CVL_LENGTH_MISMATCH, -1);
         FAULT(cvl_segments_checked_scan(a, 4, &held, ints, 4), CVL_LENGTH_MISMATCH, -1);
         FAULT(cvl_segments_checked_scan(a, 5, &held, ints, 4), CVL_LENGTH_MISMATCH, -1);
         FAULT(cvl_segments_checked_scan(I(1, 2, 2147483647, 1, 1), 5, &held, ints, 5), CVL_OVERFLOW, 4);

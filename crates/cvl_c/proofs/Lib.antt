@@ -1,3 +1,4 @@
+pub mod Afters
 pub mod Counted
 pub mod HeldValues
 pub mod LooseValues

@@ -3,13 +3,20 @@
 ghost use Rattle.std.specs.Prelude.{◌≡◌, IfOk, None, Ok, length, sum};
 ghost use Rattle.cvl_base.specs.CheckedSums.{checked_seg_reduce_of, checked_seg_scan_of};
 ghost use Rattle.cvl_base.specs.Gives.{Gives};
-ghost use Rattle.cvl_c.specs.Calls.{lengths_of};
+ghost use Rattle.cvl_base.specs.Scans.{bool_join_of, bool_unit_of, int_join_of, int_unit_of};
+ghost use Rattle.cvl_base.specs.SegmentedCalls.{seg_reduce_of, seg_scan_of};
+ghost use Rattle.cvl_c.specs.Calls.{by_operator, lengths_of};
 ghost use Rattle.cvl_c.specs.HeldSegments.{IsMade, ToldHeld, no_handle};
+ghost use Rattle.cvl_c.specs.Numbers.{bool_binary, int_monoid};
 ghost use Rattle.cvl_c.specs.Told.{done, in_room};
 
 use crate::checks::descriptor;
 use crate::held::{CvlSegments, Segments};
-use crate::status::{CvlStatus, done, status_of, told, told_or};
+use crate::seg_scans::{
+    bool_reduce_of_descriptor, bool_scan_of_descriptor, int_reduce_of_descriptor,
+    int_scan_of_descriptor,
+};
+use crate::status::{CvlStatus, done, status_of, told, told_or, told_over};
 use cvl_base::{NoResources, Refused};
 use scan_walks::{checked_scan_of_segments, checked_sums_of_segments};
 use std::alloc::Global;
@@ -120,6 +127,96 @@ pub extern "C" fn cvl_segments_checked_reduce(
         return no_handle();
     };
     let status = told(checked_sums_of_segments(alloc, a, &held.descriptor), out);
+    *segments = CvlSegments::of(held);
+    status
+}
+
+/// For each integer those before it in its segment, joined by the operator.
+#[unsafe(no_mangle)]
+pub extern "C" fn cvl_segments_int_scan(
+    alloc: Global,
+    op: u32,
+    a: &[i32],
+    segments: &mut CvlSegments,
+    out: &mut [i32],
+) -> CvlStatus
+    ensures told { ToldHeld segments.old.held.value (λ d. in_room (length out.old) (by_operator (int_monoid op)
+        (λ o. seg_scan_of (int_join_of o) (int_unit_of o) a.now d))) result out.old out.new }
+    ensures same { segments.new.held.value ≡ segments.old.held.value }
+{
+    let Some(held) = segments.take(alloc) else {
+        return no_handle();
+    };
+    let status = told_over::<i32>(int_scan_of_descriptor(op, a, &held.descriptor, out));
+    *segments = CvlSegments::of(held);
+    status
+}
+
+/// The integers of each segment joined by the operator.
+#[unsafe(no_mangle)]
+pub extern "C" fn cvl_segments_int_reduce(
+    alloc: Global,
+    op: u32,
+    a: &[i32],
+    segments: &mut CvlSegments,
+    out: &mut [i32],
+) -> CvlStatus
+    ensures told { ToldHeld segments.old.held.value (λ d. in_room (length out.old) (by_operator (int_monoid op)
+        (λ o. seg_reduce_of (int_join_of o) (int_unit_of o) a.now d))) result out.old out.new }
+    ensures same { segments.new.held.value ≡ segments.old.held.value }
+{
+    let Some(held) = segments.take(alloc) else {
+        return no_handle();
+    };
+    let status = told(
+        int_reduce_of_descriptor(alloc, op, a, &held.descriptor),
+        out,
+    );
+    *segments = CvlSegments::of(held);
+    status
+}
+
+/// For each boolean those before it in its segment, joined by the operator.
+#[unsafe(no_mangle)]
+pub extern "C" fn cvl_segments_bool_scan(
+    alloc: Global,
+    op: u32,
+    a: &[bool],
+    segments: &mut CvlSegments,
+    out: &mut [bool],
+) -> CvlStatus
+    ensures told { ToldHeld segments.old.held.value (λ d. in_room (length out.old) (by_operator (bool_binary op)
+        (λ o. seg_scan_of (bool_join_of o) (bool_unit_of o) a.now d))) result out.old out.new }
+    ensures same { segments.new.held.value ≡ segments.old.held.value }
+{
+    let Some(held) = segments.take(alloc) else {
+        return no_handle();
+    };
+    let status = told_over::<bool>(bool_scan_of_descriptor(op, a, &held.descriptor, out));
+    *segments = CvlSegments::of(held);
+    status
+}
+
+/// The booleans of each segment joined by the operator.
+#[unsafe(no_mangle)]
+pub extern "C" fn cvl_segments_bool_reduce(
+    alloc: Global,
+    op: u32,
+    a: &[bool],
+    segments: &mut CvlSegments,
+    out: &mut [bool],
+) -> CvlStatus
+    ensures told { ToldHeld segments.old.held.value (λ d. in_room (length out.old) (by_operator (bool_binary op)
+        (λ o. seg_reduce_of (bool_join_of o) (bool_unit_of o) a.now d))) result out.old out.new }
+    ensures same { segments.new.held.value ≡ segments.old.held.value }
+{
+    let Some(held) = segments.take(alloc) else {
+        return no_handle();
+    };
+    let status = told(
+        bool_reduce_of_descriptor(alloc, op, a, &held.descriptor),
+        out,
+    );
     *segments = CvlSegments::of(held);
     status
 }

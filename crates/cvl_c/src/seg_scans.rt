@@ -1,9 +1,8 @@
 //! Scans and reduces of each segment. Segments come as their lengths.
 
 ghost use Rattle.std.specs.Prelude.{length};
-ghost use Rattle.std.specs.List.{AllPass};
 ghost use Rattle.cvl_base.specs.Gives.{Gives};
-ghost use Rattle.cvl_base.specs.Rooms.{OverwritesOr};
+ghost use Rattle.cvl_base.specs.Rooms.{Overwrites, OverwritesOr};
 ghost use Rattle.cvl_base.specs.Scans.{bool_join_of, bool_unit_of, int_join_of, int_unit_of};
 ghost use Rattle.cvl_base.specs.SegmentedCalls.{seg_reduce_of, seg_scan_of};
 ghost use Rattle.cvl_c.specs.Calls.{by_operator, by_segments};
@@ -14,57 +13,24 @@ use crate::checks::descriptor;
 use crate::numbers::{bool_binary, int_monoid};
 use crate::status::{CvlStatus, told, told_over_or};
 use cvl_base::monoids::{Add, And, BoolAnd, BoolIor, BoolXor, Ior, Max, Min, Mul, Xor};
-use cvl_base::{BoolBinary, IntMonoid, Monoid, Refused};
+use cvl_base::{BoolBinary, Fault, IntMonoid, Refused};
 use scan_walks::{know_numbers, seg_reduce_alone, seg_scan_over};
+use segdes::SegDes;
 use std::alloc::Global;
 
-/// For each element those before it in its segment, joined from left to right, and the unit where none is.
-fn scan<M: Monoid>(
-    alloc: Global,
-    a: &[M::Item],
-    lengths: &[i32],
-    out: &mut [M::Item],
-) -> Result<(), Refused>
-    requires { AllPass M.is_item a.now }
-    ensures { OverwritesOr (in_room (length out.old) (by_segments lengths.now (seg_scan_of M.join M.unit a.now))) result out.old out.new }
-{
-    let d = descriptor(alloc, lengths)?;
-    Ok(seg_scan_over::<M, Global>(a, &d, out)?)
-}
-
-/// The elements of each segment, joined from left to right, and the unit where it is empty.
-fn reduce<M: Monoid>(
-    alloc: Global,
-    a: &[M::Item],
-    lengths: &[i32],
-) -> Result<Vec<M::Item, Global>, Refused>
-    requires { AllPass M.is_item a.now }
-    ensures { Gives (λ v. v.items) result (by_segments lengths.now (seg_reduce_of M.join M.unit a.now)) }
-{
-    let d = descriptor(alloc, lengths)?;
-    seg_reduce_alone::<M, Global>(alloc, a, &d)
-}
-
 /// The scan of each segment of integers by an operator.
-fn int_scan_by(
-    alloc: Global,
-    op: IntMonoid,
-    a: &[i32],
-    lengths: &[i32],
-    out: &mut [i32],
-) -> Result<(), Refused>
-    ensures { OverwritesOr (in_room (length out.old)
-        (by_segments lengths.now (seg_scan_of (int_join_of op) (int_unit_of op) a.now))) result out.old out.new }
+fn int_scan_by(op: IntMonoid, a: &[i32], d: &SegDes<Global>, out: &mut [i32]) -> Result<(), Fault>
+    ensures { Overwrites (in_room (length out.old) (seg_scan_of (int_join_of op) (int_unit_of op) a.now d.now)) result out.old out.new }
 {
     know_numbers(a);
     match op {
-        IntMonoid::Add => scan::<Add>(alloc, a, lengths, out),
-        IntMonoid::Mul => scan::<Mul>(alloc, a, lengths, out),
-        IntMonoid::Min => scan::<Min>(alloc, a, lengths, out),
-        IntMonoid::Max => scan::<Max>(alloc, a, lengths, out),
-        IntMonoid::And => scan::<And>(alloc, a, lengths, out),
-        IntMonoid::Ior => scan::<Ior>(alloc, a, lengths, out),
-        IntMonoid::Xor => scan::<Xor>(alloc, a, lengths, out),
+        IntMonoid::Add => seg_scan_over::<Add, Global>(a, d, out),
+        IntMonoid::Mul => seg_scan_over::<Mul, Global>(a, d, out),
+        IntMonoid::Min => seg_scan_over::<Min, Global>(a, d, out),
+        IntMonoid::Max => seg_scan_over::<Max, Global>(a, d, out),
+        IntMonoid::And => seg_scan_over::<And, Global>(a, d, out),
+        IntMonoid::Ior => seg_scan_over::<Ior, Global>(a, d, out),
+        IntMonoid::Xor => seg_scan_over::<Xor, Global>(a, d, out),
     }
 }
 
@@ -73,38 +39,35 @@ fn int_reduce_by(
     alloc: Global,
     op: IntMonoid,
     a: &[i32],
-    lengths: &[i32],
+    d: &SegDes<Global>,
 ) -> Result<Vec<i32, Global>, Refused>
-    ensures { Gives (λ v. v.items) result
-        (by_segments lengths.now (seg_reduce_of (int_join_of op) (int_unit_of op) a.now)) }
+    ensures { Gives (λ v. v.items) result (seg_reduce_of (int_join_of op) (int_unit_of op) a.now d.now) }
 {
     know_numbers(a);
     match op {
-        IntMonoid::Add => reduce::<Add>(alloc, a, lengths),
-        IntMonoid::Mul => reduce::<Mul>(alloc, a, lengths),
-        IntMonoid::Min => reduce::<Min>(alloc, a, lengths),
-        IntMonoid::Max => reduce::<Max>(alloc, a, lengths),
-        IntMonoid::And => reduce::<And>(alloc, a, lengths),
-        IntMonoid::Ior => reduce::<Ior>(alloc, a, lengths),
-        IntMonoid::Xor => reduce::<Xor>(alloc, a, lengths),
+        IntMonoid::Add => seg_reduce_alone::<Add, Global>(alloc, a, d),
+        IntMonoid::Mul => seg_reduce_alone::<Mul, Global>(alloc, a, d),
+        IntMonoid::Min => seg_reduce_alone::<Min, Global>(alloc, a, d),
+        IntMonoid::Max => seg_reduce_alone::<Max, Global>(alloc, a, d),
+        IntMonoid::And => seg_reduce_alone::<And, Global>(alloc, a, d),
+        IntMonoid::Ior => seg_reduce_alone::<Ior, Global>(alloc, a, d),
+        IntMonoid::Xor => seg_reduce_alone::<Xor, Global>(alloc, a, d),
     }
 }
 
 /// The scan of each segment of booleans by an operator.
 fn bool_scan_by(
-    alloc: Global,
     op: BoolBinary,
     a: &[bool],
-    lengths: &[i32],
+    d: &SegDes<Global>,
     out: &mut [bool],
-) -> Result<(), Refused>
-    ensures { OverwritesOr (in_room (length out.old)
-        (by_segments lengths.now (seg_scan_of (bool_join_of op) (bool_unit_of op) a.now))) result out.old out.new }
+) -> Result<(), Fault>
+    ensures { Overwrites (in_room (length out.old) (seg_scan_of (bool_join_of op) (bool_unit_of op) a.now d.now)) result out.old out.new }
 {
     match op {
-        BoolBinary::And => scan::<BoolAnd>(alloc, a, lengths, out),
-        BoolBinary::Ior => scan::<BoolIor>(alloc, a, lengths, out),
-        BoolBinary::Xor => scan::<BoolXor>(alloc, a, lengths, out),
+        BoolBinary::And => seg_scan_over::<BoolAnd, Global>(a, d, out),
+        BoolBinary::Ior => seg_scan_over::<BoolIor, Global>(a, d, out),
+        BoolBinary::Xor => seg_scan_over::<BoolXor, Global>(a, d, out),
     }
 }
 
@@ -113,16 +76,43 @@ fn bool_reduce_by(
     alloc: Global,
     op: BoolBinary,
     a: &[bool],
-    lengths: &[i32],
+    d: &SegDes<Global>,
 ) -> Result<Vec<bool, Global>, Refused>
-    ensures { Gives (λ v. v.items) result
-        (by_segments lengths.now (seg_reduce_of (bool_join_of op) (bool_unit_of op) a.now)) }
+    ensures { Gives (λ v. v.items) result (seg_reduce_of (bool_join_of op) (bool_unit_of op) a.now d.now) }
 {
     match op {
-        BoolBinary::And => reduce::<BoolAnd>(alloc, a, lengths),
-        BoolBinary::Ior => reduce::<BoolIor>(alloc, a, lengths),
-        BoolBinary::Xor => reduce::<BoolXor>(alloc, a, lengths),
+        BoolBinary::And => seg_reduce_alone::<BoolAnd, Global>(alloc, a, d),
+        BoolBinary::Ior => seg_reduce_alone::<BoolIor, Global>(alloc, a, d),
+        BoolBinary::Xor => seg_reduce_alone::<BoolXor, Global>(alloc, a, d),
     }
+}
+
+/// The scan of each segment of a descriptor by the operator of a number.
+pub(crate) fn int_scan_of_descriptor(
+    op: u32,
+    a: &[i32],
+    d: &SegDes<Global>,
+    out: &mut [i32],
+) -> Result<(), Fault>
+    ensures { Overwrites (in_room (length out.old)
+        (by_operator (int_monoid op) (λ o. seg_scan_of (int_join_of o) (int_unit_of o) a.now d.now))) result out.old out.new }
+{
+    let op = int_monoid(op)?;
+    int_scan_by(op, a, d, out)
+}
+
+/// The reduce of each segment of a descriptor by the operator of a number.
+pub(crate) fn int_reduce_of_descriptor(
+    alloc: Global,
+    op: u32,
+    a: &[i32],
+    d: &SegDes<Global>,
+) -> Result<Vec<i32, Global>, Refused>
+    ensures { Gives (λ v. v.items) result
+        (by_operator (int_monoid op) (λ o. seg_reduce_of (int_join_of o) (int_unit_of o) a.now d.now)) }
+{
+    let op = int_monoid(op)?;
+    int_reduce_by(alloc, op, a, d)
 }
 
 /// The scan of each segment of integers by the operator of a number.
@@ -137,7 +127,8 @@ fn int_scan(
         (λ o. by_segments lengths.now (seg_scan_of (int_join_of o) (int_unit_of o) a.now)))) result out.old out.new }
 {
     let op = int_monoid(op)?;
-    int_scan_by(alloc, op, a, lengths, out)
+    let d = descriptor(alloc, lengths)?;
+    Ok(int_scan_by(op, a, &d, out)?)
 }
 
 /// The reduce of each segment of integers by the operator of a number.
@@ -151,7 +142,36 @@ fn int_reduce(
         (λ o. by_segments lengths.now (seg_reduce_of (int_join_of o) (int_unit_of o) a.now))) }
 {
     let op = int_monoid(op)?;
-    int_reduce_by(alloc, op, a, lengths)
+    let d = descriptor(alloc, lengths)?;
+    int_reduce_by(alloc, op, a, &d)
+}
+
+/// The scan of each segment of a descriptor by the operator of a number.
+pub(crate) fn bool_scan_of_descriptor(
+    op: u32,
+    a: &[bool],
+    d: &SegDes<Global>,
+    out: &mut [bool],
+) -> Result<(), Fault>
+    ensures { Overwrites (in_room (length out.old)
+        (by_operator (bool_binary op) (λ o. seg_scan_of (bool_join_of o) (bool_unit_of o) a.now d.now))) result out.old out.new }
+{
+    let op = bool_binary(op)?;
+    bool_scan_by(op, a, d, out)
+}
+
+/// The reduce of each segment of a descriptor by the operator of a number.
+pub(crate) fn bool_reduce_of_descriptor(
+    alloc: Global,
+    op: u32,
+    a: &[bool],
+    d: &SegDes<Global>,
+) -> Result<Vec<bool, Global>, Refused>
+    ensures { Gives (λ v. v.items) result
+        (by_operator (bool_binary op) (λ o. seg_reduce_of (bool_join_of o) (bool_unit_of o) a.now d.now)) }
+{
+    let op = bool_binary(op)?;
+    bool_reduce_by(alloc, op, a, d)
 }
 
 /// The scan of each segment of booleans by the operator of a number.
@@ -166,7 +186,8 @@ fn bool_scan(
         (λ o. by_segments lengths.now (seg_scan_of (bool_join_of o) (bool_unit_of o) a.now)))) result out.old out.new }
 {
     let op = bool_binary(op)?;
-    bool_scan_by(alloc, op, a, lengths, out)
+    let d = descriptor(alloc, lengths)?;
+    Ok(bool_scan_by(op, a, &d, out)?)
 }
 
 /// The reduce of each segment of booleans by the operator of a number.
@@ -180,7 +201,8 @@ fn bool_reduce(
         (λ o. by_segments lengths.now (seg_reduce_of (bool_join_of o) (bool_unit_of o) a.now))) }
 {
     let op = bool_binary(op)?;
-    bool_reduce_by(alloc, op, a, lengths)
+    let d = descriptor(alloc, lengths)?;
+    bool_reduce_by(alloc, op, a, &d)
 }
 
 /// For each integer those before it in its segment, joined by the operator: `add_sez` and its like.

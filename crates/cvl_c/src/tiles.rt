@@ -16,12 +16,7 @@ use cvl_base::{BoolBinary, Fault, IntMonoid};
 use scan_walks::{know_numbers, scan_over};
 
 /// The scan of integers by an operator, after an integer.
-fn int_scan_after_by(
-    op: IntMonoid,
-    before: i32,
-    a: &[i32],
-    out: &mut [i32],
-) -> Result<(), Fault>
+fn int_scan_after_by(op: IntMonoid, before: i32, a: &[i32], out: &mut [i32]) -> Result<(), Fault>
     requires { length a.now ≤ most_elements }
     ensures { Overwrites (in_room (length out.old) (Ok (int_scan_after op before a.now))) result out.old out.new }
 {
@@ -78,12 +73,7 @@ fn bool_scan_from(op: u32, before: bool, a: &[bool], out: &mut [bool]) -> Result
 /// For each integer `before`, joined by the operator with those in front of it. So threads scan one vector: each reduces
 /// its tiles, one of them scans the reduces, and each scans its tiles after what stands before them.
 #[unsafe(no_mangle)]
-pub extern "C" fn cvl_int_scan_after(
-    op: u32,
-    before: i32,
-    a: &[i32],
-    out: &mut [i32],
-) -> CvlStatus
+pub extern "C" fn cvl_int_scan_after(op: u32, before: i32, a: &[i32], out: &mut [i32]) -> CvlStatus
     ensures { Told (in_room (length out.old)
         (by_operator (int_monoid op) (λ o. in_limit a.now (Ok (int_scan_after o before a.now))))) result out.old out.new }
 {
