@@ -42,6 +42,7 @@ extern "C" {
 }
 
 /// An operator on two integers. Up to `Xor` it is associative, and may scan and reduce.
+#[allow(dead_code)] // the example names two of them
 #[derive(Clone, Copy, Debug)]
 pub enum Op {
     Add,
