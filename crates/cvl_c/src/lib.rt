@@ -21,6 +21,8 @@ mod seg_scans;
 mod segment_permutes;
 mod segments;
 pub mod status;
+#[cfg(test)]
+mod tests;
 mod texts;
 mod tiles;
 mod told_nest;
