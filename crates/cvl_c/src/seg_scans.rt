@@ -87,7 +87,7 @@ fn bool_reduce_by(
     }
 }
 
-/// The scan of each segment of a descriptor by the operator of a number.
+/// The scan of integers in each segment of a descriptor by the operator of a number.
 pub(crate) fn int_scan_of_descriptor(
     op: u32,
     a: &[i32],
@@ -101,7 +101,7 @@ pub(crate) fn int_scan_of_descriptor(
     int_scan_by(op, a, d, out)
 }
 
-/// The reduce of each segment of a descriptor by the operator of a number.
+/// The reduce of integers in each segment of a descriptor by the operator of a number.
 pub(crate) fn int_reduce_of_descriptor(
     alloc: Global,
     op: u32,
@@ -146,7 +146,7 @@ fn int_reduce(
     int_reduce_by(alloc, op, a, &d)
 }
 
-/// The scan of each segment of a descriptor by the operator of a number.
+/// The scan of booleans in each segment of a descriptor by the operator of a number.
 pub(crate) fn bool_scan_of_descriptor(
     op: u32,
     a: &[bool],
@@ -160,7 +160,7 @@ pub(crate) fn bool_scan_of_descriptor(
     bool_scan_by(op, a, d, out)
 }
 
-/// The reduce of each segment of a descriptor by the operator of a number.
+/// The reduce of booleans in each segment of a descriptor by the operator of a number.
 pub(crate) fn bool_reduce_of_descriptor(
     alloc: Global,
     op: u32,
