@@ -3,6 +3,7 @@
 
 mod block;
 mod cells;
+mod copies;
 mod fills;
 mod forks;
 mod over;
@@ -14,6 +15,7 @@ mod run;
 pub use block::Deed;
 #[doc(hidden)]
 pub use cells::{Base, Cells};
+pub use copies::Copies;
 pub use forks::{Writer, write_alone, write_in_runs};
 pub use over::{fill_slice, write_over};
 pub use room::Room;
