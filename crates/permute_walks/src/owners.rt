@@ -2,10 +2,8 @@
 //! the places whose index lies in its range, and counts its senders. So no two threads write one place, no place is waited
 //! for, and each thread's stores lie close together.
 
-ghost use Rattle.std.specs.Prelude.{◌≡◌, ◌+◌, ◌≤◌, [], length, replicate, IfOk, IfSome, is_none, is_some};
+ghost use Rattle.std.specs.Prelude.{◌≡◌, ◌+◌, ◌≤◌, length, replicate, IfOk, IfSome, is_none, is_some};
 ghost use Rattle.std.specs.Thread.{IsSync};
-ghost use Rattle.fresh.specs.Places.{stretch};
-ghost use Rattle.fresh.specs.Parts.{part};
 ghost use Rattle.cvl_base.specs.Limits.{most_elements};
 ghost use Rattle.cvl_base.specs.Permutes.{first_fault, wrongs};
 ghost use Rattle.permute_walks.specs.Senders.{count_sent, count_targets, last_senders, nobody, senders_of};
@@ -14,7 +12,7 @@ use crate::destinations::Destinations;
 use crate::sends::NOBODY;
 use crate::stores::count_senders;
 use cvl_base::{Memory, NoResources};
-use fresh::{Run, Writer, write_in_runs};
+use fresh::{Copies, write_in_runs};
 use std::thread::{Threads, join_mut};
 
 /// How many places take part.
@@ -130,31 +128,6 @@ fn store_both<R: Threads + Sync, D: Destinations + Sync>(
     in_low + in_high
 }
 
-/// Writes nobody as the sender of each place.
-#[derive(Drop)]
-struct Nobodies {
-    places: usize,
-}
-
-impl Writer<u32> for Nobodies {
-    ghost use Rattle.std.specs.Prelude.{replicate};
-    ghost use Rattle.permute_walks.specs.Senders.{nobody};
-
-    ghost whole = { λ w. replicate w.places nobody };
-
-    fn write(&self, run: Run<u32>) -> Run<u32>
-        requires empty { run.items ≡ [] }
-        requires within { run.first + run.room ≤ length (replicate self.now.places nobody) }
-        ensures { result ≡ stretch run.block run.first (part (replicate self.now.places nobody) run.first run.room) 0 }
-    {
-        run.fill(
-            |_place: usize| -> u32
-                ensures { result ≡ nobody }
-            { NOBODY },
-        )
-    }
-}
-
 /// For each place of a flat result its sender, which at most `threads` threads find, each for a range of the result: none
 /// where a place is bad. `NoResources` where there is no memory for the senders.
 pub fn senders_shared<R: Threads + Sync, A: Memory, D: Destinations + Sync>(
@@ -169,7 +142,11 @@ pub fn senders_shared<R: Threads + Sync, A: Memory, D: Destinations + Sync>(
     ensures senders { IfOk result (λ found. IfSome found (λ v. v.items ≡ senders_of 0 (D.targets destinations.now) places)) }
     ensures bad { IfOk result (λ found. is_none found ≡ is_some (first_fault 0 (wrongs places (D.targets destinations.now)))) }
 {
-    let mut senders = write_in_runs(rt, alloc, threads, &Nobodies { places }, places)?;
+    let nobodies = Copies {
+        item: NOBODY,
+        count: places,
+    };
+    let mut senders = write_in_runs(rt, alloc, threads, &nobodies, places)?;
     let sent = store_ranges(rt, destinations, threads as usize, 0, &mut senders);
     if sent == count_targets(destinations) {
         Ok(Some(senders))
