@@ -1,5 +1,6 @@
 pub mod Continued
 pub mod Cut
+pub mod Fitted
 pub mod FrontLaws
 pub mod LastStart
 pub mod RunPushed

@@ -4,6 +4,7 @@
 
 pub mod alone;
 pub mod checked;
+pub mod checked_over;
 pub mod fronts;
 pub mod over;
 pub mod plain;
@@ -15,6 +16,7 @@ pub use alone::{seg_reduce_alone, seg_reduce_readings_alone, seg_scan_alone};
 pub use checked::{
     checked_scan_of, checked_scan_of_segments, checked_sum_of, checked_sums_of_segments,
 };
+pub use checked_over::{checked_scan_over, checked_seg_scan_over};
 pub use fronts::{fitting_of_run, fitting_of_scan};
 pub use over::{scan_over, seg_scan_over};
 pub use plain::{scan_into, scan_readings_from, sum_readings_from};

@@ -1,0 +1,114 @@
+-- Lists of numbers of which the first ones fit 32 bits, and the checked scans of such results: the fault of the first that doesn't
+-- fit, or the scans that wrap.
+-- Source: what the definitions of CheckedSums, Fronts and Integers imply.
+use Rattle.std.proofs.Common.{◌≡◌, ◌∙◌, refl, sym, ap, ℕ, ◌+◌, ◌<◌, ◌≤◌, Bool, true, false, cond, ℤ, pos, ◌+ℤ◌, w32, List, [], ◌∷◌, ◌++◌, length, map, take, drop, arith, Some, None, Ok, Err}
+use Rattle.std.specs.Prelude.{if◌then◌else◌, sum}
+use Rattle.std.proofs.lemmas.Int.{int_wrap-add_left}
+use Rattle.std.proofs.lemmas.List.{length-append, length-drop, length-take, map-append}
+use Rattle.operators.proofs.FoldLaws.{length-scan_of}
+use Rattle.operators.specs.NumberLaws.{number_words}
+use Rattle.cvl_base.specs.CheckedSums.{checked_scan_of, checked_seg_scan_of, fitting}
+use Rattle.cvl_base.specs.declared.fault.FaultNo.TheVariants.{Overflow}
+use Rattle.cvl_base.specs.Elementwise.{values_from}
+use Rattle.cvl_base.specs.Faults.{fault_at}
+use Rattle.cvl_base.specs.Folds.{scan_of}
+use Rattle.cvl_base.specs.Gives.{◌>>=◌}
+use Rattle.cvl_base.specs.Integers.{sum_of, wrap}
+use Rattle.cvl_base.specs.ItemWords.{is_number}
+use Rattle.cvl_base.proofs.Lists.{sum-cons}
+use Rattle.scan_walks.specs.Fronts.{fitting_front}
+use Rattle.scan_walks.specs.Runs.{scans_of}
+use Rattle.scan_walks.proofs.Scanned.{scan_of-cons}
+use Rattle.scan_walks.proofs.Valued.{scans_valued}
+
+fails_at : (b : Bool) (n : ℕ) (z : ℤ) (zs : List ℤ) → cond b (1 + fitting_front zs) 0 < 1 + length zs
+    → (fitting_front zs < length zs → values_from Overflow (n + 1) (map fitting zs) ≡ Err (fault_at Overflow (n + 1 + fitting_front zs)))
+    → values_from Overflow n ((if b then Some z else None) ∷ map fitting zs) ≡ Err (fault_at Overflow (n + cond b (1 + fitting_front zs) 0))
+fails_at true n z zs lt others =
+    ap (λ r. r >>= λ ys. Ok (z ∷ ys)) (others (omega (arith, lt))) ∙ ap (λ p. Err (fault_at Overflow p)) (omega arith)
+fails_at false n z zs lt others = ap (λ p. Err (fault_at Overflow p)) (omega arith)
+
+-- the fault is that of the first number that doesn't fit
+pub overflows : (n : ℕ) (zs : List ℤ) → fitting_front zs < length zs → values_from Overflow n (map fitting zs) ≡ Err (fault_at Overflow (n + fitting_front zs))
+overflows n [] lt = absurd (omega (arith, lt))
+overflows n (z ∷ zs) lt = fails_at (is_number z) n z zs (omega (arith, lt)) (overflows (n + 1) zs)
+
+fits_at : (b : Bool) (n : ℕ) (z : ℤ) (zs : List ℤ) → 1 + length zs ≤ cond b (1 + fitting_front zs) 0
+    → (length zs ≤ fitting_front zs → values_from Overflow (n + 1) (map fitting zs) ≡ Ok zs)
+    → values_from Overflow n ((if b then Some z else None) ∷ map fitting zs) ≡ Ok (z ∷ zs)
+fits_at true n z zs ge others = ap (λ r. r >>= λ ys. Ok (z ∷ ys)) (others (omega (arith, ge)))
+fits_at false n z zs ge others = absurd (omega (arith, ge))
+
+-- where all fit they are the values
+pub all_fit : (n : ℕ) (zs : List ℤ) → length zs ≤ fitting_front zs → values_from Overflow n (map fitting zs) ≡ Ok zs
+all_fit n [] ge = refl
+all_fit n (z ∷ zs) ge = fits_at (is_number z) n z zs (omega (arith, ge)) (all_fit (n + 1) zs)
+
+wrapped_at : (b : Bool) (z : ℤ) (zs : List ℤ) → is_number z ≡ b → 1 + length zs ≤ cond b (1 + fitting_front zs) 0 → (length zs ≤ fitting_front zs → map wrap zs ≡ zs)
+    → map wrap (z ∷ zs) ≡ z ∷ zs
+wrapped_at true z zs number ge others = ap (λ y. y ∷ map wrap zs) (number_words.inverse z number) ∙ ap (λ ys. z ∷ ys) (others (omega (arith, ge)))
+wrapped_at false z zs number ge others = absurd (omega (arith, ge))
+
+-- and to wrap them changes nothing
+wrapped_same : (zs : List ℤ) → length zs ≤ fitting_front zs → map wrap zs ≡ zs
+wrapped_same [] ge = refl
+wrapped_same (z ∷ zs) ge = wrapped_at (is_number z) z zs refl (omega (arith, ge)) (wrapped_same zs)
+
+-- ---- the scan that wraps is the wrapped scan
+
+pub zero_wrapped : wrap (pos 0) ≡ pos 0
+zero_wrapped = number_words.inverse (pos 0) refl
+
+wrapped_after : (before : ℤ) (xs : List ℤ) → scan_of sum_of (wrap before) xs ≡ map wrap (scan_of ◌+ℤ◌ before xs)
+wrapped_after before [] = refl
+wrapped_after before (x ∷ xs) =
+    scan_of-cons sum_of (wrap before) x xs
+    ∙ ap (λ z. wrap before ∷ scan_of sum_of z xs) (int_wrap-add_left w32 before x)
+    ∙ ap (λ zs. wrap before ∷ zs) (wrapped_after (before +ℤ x) xs)
+    ∙ sym (ap (map wrap) (scan_of-cons ◌+ℤ◌ before x xs))
+
+wrapped_scan : (xs : List ℤ) → scan_of sum_of (pos 0) xs ≡ map wrap (scan_of ◌+ℤ◌ (pos 0) xs)
+wrapped_scan xs = ap (λ z. scan_of sum_of z xs) (sym zero_wrapped) ∙ wrapped_after (pos 0) xs
+
+wrapped_scans : (lengths : List ℕ) (xs : List ℤ) → scans_of sum_of (pos 0) lengths xs ≡ map wrap (scans_of ◌+ℤ◌ (pos 0) lengths xs)
+wrapped_scans [] xs = refl
+wrapped_scans (n ∷ ls) xs =
+    let first = scan_of ◌+ℤ◌ (pos 0) (take n xs) in
+    ap (λ zs. zs ++ scans_of sum_of (pos 0) ls (drop n xs)) (wrapped_scan (take n xs))
+    ∙ ap (λ zs. map wrap first ++ zs) (wrapped_scans ls (drop n xs))
+    ∙ sym (map-append wrap first (scans_of ◌+ℤ◌ (pos 0) ls (drop n xs)))
+
+-- ---- scans of segments are as long as the elements
+
+length-scans_of : {Item : Type 0} (join : Item → Item → Item) (unit : Item) (lengths : List ℕ) (xs : List Item) → sum lengths ≡ length xs → length (scans_of join unit lengths xs) ≡ length xs
+length-scans_of join unit [] xs total = omega (arith, total)
+length-scans_of join unit (n ∷ ls) xs total =
+    let front = take n xs in
+    let whole : n + sum ls ≡ length xs = omega (arith, total, sum-cons n ls) in
+    let rest = length-scans_of join unit ls (drop n xs) (omega (arith, whole, length-drop n xs)) in
+    omega (arith, length-append (scan_of join unit front) (scans_of join unit ls (drop n xs)), length-scan_of join unit front, length-take n xs, length-drop n xs, rest, whole)
+
+-- ---- checked scans, where it is known how many results fit from the first one on
+
+module _ (n : ℕ) (zs : List ℤ) (is : n ≡ fitting_front zs) where
+  one_overflows : n < length zs → values_from Overflow 0 (map fitting zs) ≡ Err (fault_at Overflow n)
+  one_overflows lt = let at : 0 + fitting_front zs ≡ n = omega (arith, is) in overflows 0 zs (omega (arith, is, lt)) ∙ ap (λ p. Err (fault_at Overflow p)) at
+
+  none_overflows : (ys : List ℤ) → length zs ≤ n → ys ≡ map wrap zs → values_from Overflow 0 (map fitting zs) ≡ Ok ys
+  none_overflows ys ge wrapped = let all : length zs ≤ fitting_front zs = omega (arith, is, ge) in all_fit 0 zs all ∙ ap Ok (sym (wrapped ∙ wrapped_same zs all))
+
+-- of a flat vector
+module _ (n : ℕ) (xs : List ℤ) (is : n ≡ fitting_front (scan_of ◌+ℤ◌ (pos 0) xs)) where
+  pub scan_overflows : n < length xs → checked_scan_of xs ≡ Err (fault_at Overflow n)
+  scan_overflows lt = one_overflows n (scan_of ◌+ℤ◌ (pos 0) xs) is (omega (arith, lt, length-scan_of ◌+ℤ◌ (pos 0) xs))
+
+  pub scan_fits : length xs ≤ n → checked_scan_of xs ≡ Ok (scan_of sum_of (pos 0) xs)
+  scan_fits ge = none_overflows n (scan_of ◌+ℤ◌ (pos 0) xs) is _ (omega (arith, ge, length-scan_of ◌+ℤ◌ (pos 0) xs)) (wrapped_scan xs)
+
+-- and of a segmented one
+module _ (n : ℕ) (lengths : List ℕ) (xs : List ℤ) (total : sum lengths ≡ length xs) (is : n ≡ fitting_front (scans_of ◌+ℤ◌ (pos 0) lengths xs)) where
+  pub scans_overflow : n < length xs → checked_seg_scan_of xs lengths ≡ Err (fault_at Overflow n)
+  scans_overflow lt = scans_valued lengths xs total ∙ one_overflows n (scans_of ◌+ℤ◌ (pos 0) lengths xs) is (omega (arith, lt, length-scans_of ◌+ℤ◌ (pos 0) lengths xs total))
+
+  pub scans_fit : length xs ≤ n → checked_seg_scan_of xs lengths ≡ Ok (scans_of sum_of (pos 0) lengths xs)
+  scans_fit ge = scans_valued lengths xs total ∙ none_overflows n (scans_of ◌+ℤ◌ (pos 0) lengths xs) is _ (omega (arith, ge, length-scans_of ◌+ℤ◌ (pos 0) lengths xs total)) (wrapped_scans lengths xs)
