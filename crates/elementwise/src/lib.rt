@@ -10,6 +10,7 @@ mod choice;
 mod comparisons;
 mod copies;
 mod ints;
+mod looks;
 mod on_each;
 mod on_pairs;
 mod over;

@@ -6,8 +6,8 @@ ghost use Rattle.cvl_base.specs.Limits.{most_elements};
 ghost use Rattle.cvl_base.specs.Rooms.{Overwrites, in_room};
 
 use crate::comparisons::{AtLeast, AtMost, Equal, Greater, Less, Unequal};
+use crate::looks::first_without;
 use crate::partials::{Div, Lsh, Mod, Rsh};
-use crate::races::first_without;
 use crate::singles::{BoolOfInt, IntOfBool, NotBool, NotInt};
 use crate::totals::{Add, And, Ior, Max, Min, Mul, Sub, Xor};
 use crate::truths::{Both, Differ, Either};

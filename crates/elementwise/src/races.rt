@@ -2,12 +2,12 @@
 
 ghost use Rattle.std.specs.Prelude.{◌≡◌, ◌≤◌, IfOk, length, map, vec_len};
 ghost use Rattle.std.specs.List.{zip};
-ghost use Rattle.boards.specs.Slots.{least_from};
 ghost use Rattle.cvl_base.specs.Elementwise.{on_pairs_or};
 ghost use Rattle.cvl_base.specs.Gives.{Gives};
 ghost use Rattle.cvl_base.specs.Limits.{most_elements};
 ghost use Rattle.elementwise.specs.Valueless.{slot_without};
 
+use crate::looks::all_have_values;
 use boards::Targets;
 use crew::Gate;
 use cvl_base::{Config, Fault, Memory, Refused, check_agree};
@@ -50,29 +50,9 @@ impl<'a, O: PartialBinary> Targets for Valueless<'a, O> {
         }
     }
 
-    // No way out of the loop before its end, so that several places are looked at in one step.
     fn is_clear(&self, from: u32, to: u32) -> bool {
-        let (first, second) = (self.first, self.second);
-        let mut clear = true;
-        for place in from as usize..to as usize {
-            clear &= O::has_value(&first[place], &second[place]);
-        }
-        clear
+        all_have_values::<O>(self.first, self.second, from as usize, to as usize)
     }
-}
-
-/// The least place without a value, of two vectors that are equally long.
-pub(crate) fn first_without<O: PartialBinary>(a: &[i32], b: &[i32]) -> Option<u32>
-    requires as_long { length a.now ≡ length b.now }
-    requires in_limit { length a.now ≤ most_elements }
-    ensures { result ≡ least_from 0 (map (λ p. slot_without (O.value p.0 p.1)) (zip a.now b.now)) 0 }
-{
-    for place in 0..a.len() {
-        if !O::has_value(&a[place], &b[place]) {
-            return Some(place as u32);
-        }
-    }
-    None
 }
 
 /// The operator's values on the pairs of elements, or its fault at the least place without a value; `LengthMismatch` where

@@ -1,9 +1,7 @@
-use Rattle.std.specs.Prelude.{◌≡◌, ◌<◌, ◌≤◌, ℕ, IsTrue, None, map, slice_index_or}
-use Rattle.std.specs.List.{zip}
-use Rattle.elementwise.specs.Valueless.{slot_without}
-use Rattle.elementwise.proofs.races.ValuelessTargets.is_clear.Given as goal
+use Rattle.std.specs.Prelude.{◌≡◌, ◌<◌, ◌≤◌, ℕ, IsTrue, None, slice_index_or}
+use Rattle.elementwise.specs.Valueless.{slots_without}
+use Rattle.elementwise.proofs.looks.all_have_values.Given as goal
 
 abbrev pub invariant-loop-place : goal.invariant-loop-place
 invariant-loop-place g l =
-    IsTrue l.clear → (k : ℕ) → l.from ≤ k → k < l.place →
-    slice_index_or (map (λ p. slot_without (g.O.PartialBinary.value p.0 p.1)) (zip l.self.first.now l.self.second.now)) k None ≡ None
+    IsTrue l.clear → (k : ℕ) → l.from ≤ k → k < l.place → slice_index_or (slots_without g.O.PartialBinary.value l.first l.second) k None ≡ None

@@ -1,8 +1,7 @@
-use Rattle.std.proofs.Common.{map}
-use Rattle.std.specs.List.{zip}
-use Rattle.elementwise.specs.Valueless.{slot_without}
-use Rattle.elementwise.proofs.FirstWithout.{Passed}
-use Rattle.elementwise.proofs.races.first_without.Given as goal
+use Rattle.std.proofs.Common.{◌≡◌}
+use Rattle.elementwise.specs.Valueless.{least_without}
+use Rattle.elementwise.proofs.looks.first_between.Given as goal
 
 abbrev pub invariant-loop-place : goal.invariant-loop-place
-invariant-loop-place g l = Passed (map (λ p. slot_without (g.O.PartialBinary.value p.0 p.1)) (zip l.a l.b)) l.place
+invariant-loop-place g l =
+    least_without g.O.PartialBinary.value l.first l.second l.from ≡ least_without g.O.PartialBinary.value l.first l.second l.place
