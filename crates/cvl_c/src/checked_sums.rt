@@ -3,23 +3,24 @@
 ghost use Rattle.std.specs.Prelude.{◌≡◌, length};
 ghost use Rattle.cvl_base.specs.CheckedSums.{checked_reduce_of, checked_scan_of, checked_seg_reduce_of, checked_seg_scan_of};
 ghost use Rattle.cvl_base.specs.Gives.{Gives};
+ghost use Rattle.cvl_base.specs.Rooms.{Overwrites, OverwritesOr};
 ghost use Rattle.cvl_c.specs.Calls.{by_segments, in_limit};
 ghost use Rattle.cvl_c.specs.Told.{Told, ToldOr, in_room};
 
 use crate::checks::{check_limit, descriptor};
-use crate::status::{CvlStatus, told, told_one};
+use crate::status::{CvlStatus, told, told_one, told_over, told_over_or};
 use cvl_base::{Fault, Refused};
 use scan_walks::{
-    checked_scan_of, checked_scan_of_segments, checked_sum_of, checked_sums_of_segments,
+    checked_scan_over, checked_seg_scan_over, checked_sum_of, checked_sums_of_segments,
 };
 use std::alloc::Global;
 
 /// For each integer the sum of those before it.
-fn scan(alloc: Global, a: &[i32]) -> Result<Vec<i32, Global>, Refused>
-    ensures { Gives (λ v. v.items) result (in_limit a.now (checked_scan_of a.now)) }
+fn scan(a: &[i32], out: &mut [i32]) -> Result<(), Fault>
+    ensures { Overwrites (in_room (length out.old) (in_limit a.now (checked_scan_of a.now))) result out.old out.new }
 {
     check_limit(a)?;
-    checked_scan_of(alloc, a)
+    checked_scan_over(a, out)
 }
 
 /// The sum of the integers.
@@ -31,11 +32,11 @@ fn reduce(a: &[i32]) -> Result<i32, Fault>
 }
 
 /// The scan of each segment.
-fn scan_each(alloc: Global, a: &[i32], lengths: &[i32]) -> Result<Vec<i32, Global>, Refused>
-    ensures { Gives (λ v. v.items) result (by_segments lengths.now (checked_seg_scan_of a.now)) }
+fn scan_each(alloc: Global, a: &[i32], lengths: &[i32], out: &mut [i32]) -> Result<(), Refused>
+    ensures { OverwritesOr (in_room (length out.old) (by_segments lengths.now (checked_seg_scan_of a.now))) result out.old out.new }
 {
     let d = descriptor(alloc, lengths)?;
-    checked_scan_of_segments(alloc, a, &d)
+    Ok(checked_seg_scan_over(a, &d, out)?)
 }
 
 /// The sum of each segment.
@@ -48,10 +49,10 @@ fn reduce_each(alloc: Global, a: &[i32], lengths: &[i32]) -> Result<Vec<i32, Glo
 
 /// For each integer the sum of those before it, which never wraps: `tot_suz`.
 #[unsafe(no_mangle)]
-pub extern "C" fn cvl_checked_scan(alloc: Global, a: &[i32], out: &mut [i32]) -> CvlStatus
-    ensures { ToldOr (in_room (length out.old) (in_limit a.now (checked_scan_of a.now))) result out.old out.new }
+pub extern "C" fn cvl_checked_scan(a: &[i32], out: &mut [i32]) -> CvlStatus
+    ensures { Told (in_room (length out.old) (in_limit a.now (checked_scan_of a.now))) result out.old out.new }
 {
-    told(scan(alloc, a), out)
+    told_over::<i32>(scan(a, out))
 }
 
 /// The sum of the integers, which never wraps: `tot_ruz`.
@@ -72,7 +73,7 @@ pub extern "C" fn cvl_seg_checked_scan(
 ) -> CvlStatus
     ensures { ToldOr (in_room (length out.old) (by_segments lengths.now (checked_seg_scan_of a.now))) result out.old out.new }
 {
-    told(scan_each(alloc, a, lengths), out)
+    told_over_or::<i32>(scan_each(alloc, a, lengths, out))
 }
 
 /// The sum of each segment, which never wraps: `tot_rez`.

@@ -25,7 +25,7 @@ enum IntCall {
 impl Call<i32> for IntCall {
     fn answer(&self, alloc: Global, room: &mut [i32]) -> CvlStatus {
         match self {
-            Scan(a) => cvl_checked_scan(alloc, a, room),
+            Scan(a) => cvl_checked_scan(a, room),
             Reduce(a) => match room.first_mut() {
                 Some(one) => cvl_checked_reduce(a, one),
                 None => NO_ROOM,

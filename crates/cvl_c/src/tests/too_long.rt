@@ -23,7 +23,7 @@ fn too_many_integers(rt: HostRuntime) -> Result<(), Fail> {
     let mut total = COUNT;
     assert!(rt; is_status(cvl_int2(ADD, &many, &many, &mut room), TOO_LONG));
     assert!(rt; is_status(cvl_int_scan(ADD, &many, &mut room), TOO_LONG));
-    assert!(rt; is_status(cvl_checked_scan(alloc, &many, &mut room), TOO_LONG));
+    assert!(rt; is_status(cvl_checked_scan(&many, &mut room), TOO_LONG));
     assert!(rt;
         is_status(
             cvl_permute_int(alloc, &[1, 2, 3], &many, &mut room),
