@@ -1,13 +1,13 @@
--- A list for a room: it fills it, or their lengths differ.
+-- A list for a room: it fills it, or their lengths differ; or it stands at its front, or is too long.
 use Rattle.std.specs.Prelude.{Ok, Err}
 use Rattle.std.specs.Result.{IsErrAnd}
-use Rattle.std.proofs.Common.{◌≡◌, ◌≢◌, ◌∙◌, Result, refl, sym, ap, ℕ, not, List, length, eq-eqb}
-use Rattle.std.proofs.lemmas.Bool.{ne_eqb}
+use Rattle.std.proofs.Common.{◌≡◌, ◌≢◌, ◌∙◌, ◌<◌, ◌≤◌, ◌++◌, Result, refl, sym, ap, ℕ, not, List, drop, length, eq-eqb}
+use Rattle.std.proofs.lemmas.Bool.{le-ltb, lt-ltb, ne_eqb}
 use Rattle.cvl_base.specs.declared.fault.Fault.{Fault}
 use Rattle.cvl_base.specs.declared.fault.FaultNo.TheVariants.{LengthMismatch}
 use Rattle.cvl_base.specs.Faults.{fault}
 use Rattle.cvl_base.specs.Gives.{fault_if}
-use Rattle.cvl_base.specs.Rooms.{Overwrites, in_room}
+use Rattle.cvl_base.specs.Rooms.{Overwrites, at_front, in_room}
 
 module _ {X : Type 0} (room : ℕ) (xs : List X) where
   pub fits : length xs ≡ room → in_room room (Ok xs) ≡ Ok xs
@@ -15,6 +15,13 @@ module _ {X : Type 0} (room : ℕ) (xs : List X) where
 
   pub differs : length xs ≢ room → in_room room (Ok xs) ≡ Err (fault LengthMismatch)
   differs is = ap (λ b. fault_if (not b) (fault LengthMismatch) (Ok xs)) (ne_eqb (length xs) room is)
+
+module _ {X : Type 0} (room xs : List X) where
+  pub at_front-fits : length xs ≤ length room → at_front room xs ≡ Ok (xs ++ drop (length xs) room)
+  at_front-fits is = ap (λ b. fault_if b (fault LengthMismatch) (Ok (xs ++ drop (length xs) room))) (le-ltb (length room) (length xs) is)
+
+  pub at_front-short : length room < length xs → at_front room xs ≡ Err (fault LengthMismatch)
+  at_front-short is = ap (λ b. fault_if b (fault LengthMismatch) (Ok (xs ++ drop (length xs) room))) (lt-ltb (length room) (length xs) is)
 
 -- a fault that is told leaves the room as it was
 pub told : {X : Type 0} (meaning : Result (List X) Fault) (answer : Result (Unit {0}) Fault) (f : Fault) (before : List X)
