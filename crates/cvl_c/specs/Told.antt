@@ -1,13 +1,12 @@
 -- What an export answers, and what it leaves in its caller's room.
 -- Source: this library's faults and their places, told as two numbers.
-use Rattle.std.specs.Prelude.{◌≡◌, ℕ, nat_lt, ◌⊎◌, ℤ, pos, negsuc, List, ◌++◌, drop, length, Result, Ok, Err, Option, Some, None}
+use Rattle.std.specs.Prelude.{◌≡◌, ℕ, ◌⊎◌, ℤ, pos, negsuc, List, Result, Ok, Err, Option, Some, None}
 use Rattle.cvl_base.specs.declared.fault.Fault.{Fault}
-use Rattle.cvl_base.specs.declared.fault.FaultNo.TheVariants as no
 use Rattle.cvl_base.specs.declared.refused.Refused.{Refused}
 use Rattle.cvl_base.specs.declared.refused.Refused.TheVariants as refused
-use Rattle.cvl_base.specs.Faults.{fault, number_of}
-use Rattle.cvl_base.specs.Gives.{◌>>=◌, fault_if}
-pub use Rattle.cvl_base.specs.Rooms.{in_room}
+use Rattle.cvl_base.specs.Faults.{number_of}
+use Rattle.cvl_base.specs.Gives.{◌>>=◌}
+pub use Rattle.cvl_base.specs.Rooms.{at_front, count_or, in_room}
 use Rattle.cvl_c.specs.declared.status.CvlStatus.{CvlStatus}
 
 -- all is done
@@ -38,15 +37,6 @@ Told (Err f) status before now = (status ≡ status_of_fault f) × (now ≡ befo
 -- The same, or memory ran out and the room is as before.
 abbrev pub ToldOr : {X : Type 0} → Result X Fault → CvlStatus → X → X → Type 0
 ToldOr meaning status before now = Told meaning status before now ⊎ ((status ≡ no_resources) × (now ≡ before))
-
--- these items at the front of a room, whose rest is as before, else the fault of lengths that differ
-abbrev pub at_front : {X : Type 0} → List X → List X → Result (List X) Fault
-at_front room xs = fault_if (nat_lt (length room) (length xs)) (fault no.LengthMismatch) (Ok (xs ++ drop (length xs) room))
-
--- how many items there are, else what the count was before
-abbrev pub count_or : {X : Type 0} → ℕ → Result (List X) Fault → ℕ
-count_or before (Ok xs) = length xs
-count_or before (Err f) = before
 
 -- Items whose number the caller may not know: they stand at the front of the room, or the room is too short and as before; in
 -- both cases the count is their number. Or the answer is the fault, and room and count are as before.

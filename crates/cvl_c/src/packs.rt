@@ -3,35 +3,46 @@
 ghost use Rattle.std.specs.Prelude.{length};
 ghost use Rattle.cvl_base.specs.Gives.{Gives};
 ghost use Rattle.cvl_base.specs.Packs.{pack_of};
+ghost use Rattle.cvl_base.specs.Rooms.{OverwritesFront};
 ghost use Rattle.cvl_base.specs.SegmentedCalls.{seg_pack_of};
 ghost use Rattle.cvl_c.specs.Calls.{by_segments, counts_of, in_limit};
-ghost use Rattle.cvl_c.specs.Told.{FrontToldOr, ToldOr, in_room};
+ghost use Rattle.cvl_c.specs.Told.{FrontTold, FrontToldOr, ToldOr, in_room};
 
 use crate::checks::{check_limit, descriptor};
-use crate::status::{CvlStatus, told, told_in_front};
-use cvl_base::Refused;
-use pack_dist::{pack_alone, seg_count_alone, seg_pack_values_alone};
+use crate::status::{CvlStatus, status_of, told, told_over};
+use cvl_base::{Fault, Refused};
+use pack_dist::{pack_over, seg_count_alone, seg_pack_values_over};
 use std::alloc::Global;
 
-/// The elements whose flag is true, in order.
-fn pack<T: Copy>(alloc: Global, values: &[T], flags: &[bool]) -> Result<Vec<T, Global>, Refused>
-    ensures { Gives (λ v. v.items) result (in_limit flags.now (pack_of values.now flags.now)) }
+/// Writes the elements whose flag is true, in order, at the front of a room, and counts them.
+fn pack<T: Copy>(
+    values: &[T],
+    flags: &[bool],
+    out: &mut [T],
+    count: &mut usize,
+) -> Result<(), Fault>
+    ensures { OverwritesFront (in_limit flags.now (pack_of values.now flags.now)) result out.old out.new count.old count.new }
 {
     check_limit(flags)?;
-    pack_alone(alloc, values, flags)
+    pack_over(values, flags, out, count)
 }
 
-/// The elements of each segment whose flag is true, in order, one segment after another.
+/// Writes the elements of each segment whose flag is true, in order, one segment after another, at the front of a room, counts
+/// them, and tells it.
 fn pack_each<T: Copy>(
     alloc: Global,
     values: &[T],
     flags: &[bool],
     lengths: &[i32],
-) -> Result<Vec<T, Global>, Refused>
-    ensures { Gives (λ v. v.items) result (by_segments lengths.now (seg_pack_of values.now flags.now)) }
+    out: &mut [T],
+    count: &mut usize,
+) -> CvlStatus
+    ensures { FrontToldOr (by_segments lengths.now (seg_pack_of values.now flags.now)) result out.old out.new count.old count.new }
 {
-    let d = descriptor(alloc, lengths)?;
-    seg_pack_values_alone(alloc, values, flags, &d)
+    match descriptor(alloc, lengths) {
+        Ok(d) => told_over::<T>(seg_pack_values_over(values, flags, &d, out, count)),
+        Err(refused) => status_of(refused),
+    }
 }
 
 /// The number of true flags of each segment.
@@ -45,29 +56,27 @@ fn count_each(alloc: Global, flags: &[bool], lengths: &[i32]) -> Result<Vec<i32,
 /// The integers whose flag is true, in order: `pck_luz`.
 #[unsafe(no_mangle)]
 pub extern "C" fn cvl_pack_int(
-    alloc: Global,
     values: &[i32],
     flags: &[bool],
     out: &mut [i32],
     count: &mut usize,
 ) -> CvlStatus
-    ensures { FrontToldOr (in_limit flags.now (pack_of values.now flags.now)) result out.old out.new count.old count.new }
+    ensures { FrontTold (in_limit flags.now (pack_of values.now flags.now)) result out.old out.new count.old count.new }
 {
-    told_in_front(pack(alloc, values, flags), out, count)
+    told_over::<i32>(pack(values, flags, out, count))
 }
 
 /// The booleans whose flag is true, in order: `pck_lub`.
 #[unsafe(no_mangle)]
 pub extern "C" fn cvl_pack_bool(
-    alloc: Global,
     values: &[bool],
     flags: &[bool],
     out: &mut [bool],
     count: &mut usize,
 ) -> CvlStatus
-    ensures { FrontToldOr (in_limit flags.now (pack_of values.now flags.now)) result out.old out.new count.old count.new }
+    ensures { FrontTold (in_limit flags.now (pack_of values.now flags.now)) result out.old out.new count.old count.new }
 {
-    told_in_front(pack(alloc, values, flags), out, count)
+    told_over::<bool>(pack(values, flags, out, count))
 }
 
 /// The integers of each segment whose flag is true, in order, one segment after another: `pck_lez`.
@@ -82,7 +91,7 @@ pub extern "C" fn cvl_seg_pack_int(
 ) -> CvlStatus
     ensures { FrontToldOr (by_segments lengths.now (seg_pack_of values.now flags.now)) result out.old out.new count.old count.new }
 {
-    told_in_front(pack_each(alloc, values, flags, lengths), out, count)
+    pack_each(alloc, values, flags, lengths, out, count)
 }
 
 /// The booleans of each segment whose flag is true, in order, one segment after another: `pck_leb`.
@@ -97,7 +106,7 @@ pub extern "C" fn cvl_seg_pack_bool(
 ) -> CvlStatus
     ensures { FrontToldOr (by_segments lengths.now (seg_pack_of values.now flags.now)) result out.old out.new count.old count.new }
 {
-    told_in_front(pack_each(alloc, values, flags, lengths), out, count)
+    pack_each(alloc, values, flags, lengths, out, count)
 }
 
 /// The lengths of the segments of what a pack of segments keeps, empty ones included: `pck_fov`.

@@ -21,9 +21,9 @@ pub use counts::{count_true, seg_count, seg_count_alone, seg_count_gated};
 pub use distributes::{distribute, distribute_alone, seg_distribute, seg_distribute_alone};
 pub use extracts::{extract, seg_extract};
 pub use indexes::{index, index_alone, seg_index, seg_index_alone};
-pub use packs::{pack, pack_alone, pack_gated};
+pub use packs::{pack, pack_gated, pack_over};
 pub use replaces::{replace, seg_replace};
 pub use segment_packs::{
     packed_descriptor, packed_descriptor_gated, seg_pack, seg_pack_gated, seg_pack_values,
-    seg_pack_values_alone, seg_pack_values_gated,
+    seg_pack_values_gated, seg_pack_values_over,
 };

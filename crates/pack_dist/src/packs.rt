@@ -1,17 +1,19 @@
 //! Packs: the elements whose flag is true, in order.
 
-ghost use Rattle.std.specs.Prelude.{◌≡◌, ◌+◌, ◌<◌, ◌≤◌, IfOk, length, vec_len};
+ghost use Rattle.std.specs.Prelude.{◌≡◌, ◌+◌, ◌-◌, ◌<◌, ◌≤◌, ◌++◌, IfOk, Ok, [], length, vec_len};
 ghost use Rattle.cvl_base.specs.Gives.{Gives};
 ghost use Rattle.cvl_base.specs.Limits.{most_elements};
 ghost use Rattle.cvl_base.specs.Packs.{count_of, pack_of};
+ghost use Rattle.cvl_base.specs.Rooms.{OverwritesFront};
+ghost use Rattle.fresh.specs.Places.{stretch};
 ghost use Rattle.pack_dist.specs.Kept.{ArePlaces, kept_of};
 
 use crate::counts::counts_before;
 use crate::kept_blocks::push_kept;
 use crate::kept_runs::Kept;
 use crew::{Gate, OpenGate};
-use cvl_base::{Config, Memory, NoResources, Refused, check_agree, true_count};
-use fresh::{Room, write_in_runs};
+use cvl_base::{Config, Fault, FaultNo, Memory, NoResources, Refused, check_agree, true_count};
+use fresh::{Run, fill_slice, write_in_runs};
 use sharing::threads_for;
 use std::thread::Threads;
 
@@ -50,17 +52,21 @@ pub fn pack_gated<T: Copy + Send + Sync, R: Threads + Sync, A: Memory, G: Gate>(
     Ok(kept(rt, alloc, config, values, flags, gate)?)
 }
 
-/// The same as [`pack`], by the thread that calls.
-pub fn pack_alone<T: Copy, A: Memory>(
-    alloc: A,
+/// The same as [`pack`], at the front of a room of the caller's, by the thread that calls. It asks for no memory.
+///
+/// The count becomes the number of true flags, also where the room is shorter, which is LengthMismatch, without a place, too.
+/// The rest of the room stays as it is, and so does a room that is too short.
+pub fn pack_over<T: Copy>(
     values: &[T],
     flags: &[bool],
-) -> Result<Vec<T, A>, Refused>
+    out: &mut [T],
+    count: &mut usize,
+) -> Result<(), Fault>
     requires few { length flags.now ≤ most_elements }
-    ensures { Gives (λ v. v.items) result (pack_of values.now flags.now) }
+    ensures { OverwritesFront (pack_of values.now flags.now) result out.old out.new count.old count.new }
 {
     check_agree(values.len(), flags.len())?;
-    Ok(kept_alone(alloc, values, flags)?)
+    kept_over(values, flags, out, count)
 }
 
 /// The elements whose flag is true, of as many as there are flags. A scan of the flags says where each of them is put, and
@@ -93,19 +99,43 @@ pub(crate) fn kept<T: Copy + Send + Sync, R: Threads + Sync, A: Memory, G: Gate>
     Ok(write_in_runs(rt, alloc, threads, &kept, count)?)
 }
 
-/// The elements whose flag is true, of as many as there are flags, by the thread that calls. It needs no places: the flags are
-/// counted, and what is kept is pushed in order.
-pub(crate) fn kept_alone<T: Copy, A: Memory>(
-    alloc: A,
+/// The elements whose flag is true, of as many as there are flags, at the front of a room, and their number as the count. It
+/// needs no places: the flags are counted, and what is kept is pushed in order.
+pub(crate) fn kept_over<T: Copy>(
     values: &[T],
     flags: &[bool],
-) -> Result<Vec<T, A>, NoResources>
+    out: &mut [T],
+    count: &mut usize,
+) -> Result<(), Fault>
     requires few { length flags.now ≤ most_elements }
     requires as_long { length values.now ≡ length flags.now }
-    ensures { IfOk result (λ v. v.items ≡ kept_of values.now flags.now) }
+    ensures { OverwritesFront (Ok (kept_of values.now flags.now)) result out.old out.new count.old count.new }
 {
-    let (room, run) = Room::new(alloc, true_count(flags))?;
-    Ok(room.into_vec(push_kept(run, values, flags)))
+    let kept = true_count(flags);
+    *count = kept;
+    if kept > out.len() {
+        return Err(Fault::new(FaultNo::LengthMismatch));
+    }
+    let (front, _) = out.split_at_mut(kept);
+    write_kept(values, flags, front);
+    Ok(())
+}
+
+/// Writes the elements whose flag is true over a room of as many.
+fn write_kept<T: Copy>(values: &[T], flags: &[bool], out: &mut [T])
+    requires few { length flags.now ≤ most_elements }
+    requires as_long { length values.now ≡ length flags.now }
+    requires fits { length out.old ≡ count_of flags.now }
+    ensures { out.new ≡ kept_of values.now flags.now }
+{
+    fill_slice(
+        out,
+        |run: Run<T>| -> Run<T>
+            requires { (run.items ≡ []) × (run.room ≡ count_of flags.now) × (length values.now ≡ length flags.now) }
+            ensures { result ≡ stretch run.block run.first
+                (run.items ++ kept_of values.entry.now flags.entry.now) (run.room - count_of flags.entry.now) }
+        { push_kept(run, values, flags) },
+    )
 }
 
 /// How many flags are true, of which there is at least one: the place of the last, and one more where it is true.

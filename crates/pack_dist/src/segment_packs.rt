@@ -2,13 +2,15 @@
 
 ghost use Rattle.std.specs.Prelude.{◌≡◌, ◌≤◌, IfOk, Ok, length, vec_len};
 ghost use Rattle.cvl_base.specs.Gives.{Gives};
+ghost use Rattle.cvl_base.specs.Rooms.{OverwritesFront};
 ghost use Rattle.cvl_base.specs.SegmentedCalls.{seg_count_of, seg_pack_of};
 
 use crate::counts::seg_count_gated;
-use crate::packs::{kept, kept_alone};
+use crate::packs::{kept, kept_over};
 use crew::{Gate, OpenGate};
-use cvl_base::{Config, Lengths, Memory, Refused};
+use cvl_base::{Config, Fault, Lengths, Memory, Refused};
 use segdes::{SegDes, check_total};
+use std::alloc::Allocator;
 use std::thread::Threads;
 
 /// The elements of each segment whose flag is true, in order, one segment after another: `pck_lez` and `pck_leb`.
@@ -47,18 +49,22 @@ pub fn seg_pack_values_gated<T: Copy + Send + Sync, R: Threads + Sync, A: Memory
     Ok(kept(rt, alloc, config, values, flags, gate)?)
 }
 
-/// The same as [`seg_pack_values`], by the thread that calls.
-pub fn seg_pack_values_alone<T: Copy, A: Memory>(
-    alloc: A,
+/// The same as [`seg_pack_values`], at the front of a room of the caller's, by the thread that calls. It asks for no memory.
+///
+/// The count becomes the number of true flags, also where the room is shorter, which is LengthMismatch, without a place, too.
+/// The rest of the room stays as it is, and so does a room that is too short.
+pub fn seg_pack_values_over<T: Copy, A: Allocator>(
     values: &[T],
     flags: &[bool],
     d: &SegDes<A>,
-) -> Result<Vec<T, A>, Refused>
-    ensures { Gives (λ v. v.items) result (seg_pack_of values.now flags.now d.now) }
+    out: &mut [T],
+    count: &mut usize,
+) -> Result<(), Fault>
+    ensures { OverwritesFront (seg_pack_of values.now flags.now d.now) result out.old out.new count.old count.new }
 {
     check_total(values, d)?;
     check_total(flags, d)?;
-    Ok(kept_alone(alloc, values, flags)?)
+    kept_over(values, flags, out, count)
 }
 
 /// The descriptor of what a segmented pack keeps: `pck_fov`. An empty segment stays, with length 0.

@@ -35,7 +35,7 @@ fn packs_of_integers(rt: HostRuntime) -> Result<(), Fail> {
     for (values, flags, length, answer, counted) in PACK_INT {
         let mut count = COUNT;
         let mut room = vec![in rt.alloc(); INT; *length]?;
-        let status = cvl_pack_int(rt.alloc(), values, flags, &mut room, &mut count);
+        let status = cvl_pack_int(values, flags, &mut room, &mut count);
         let right = is_told_in_front(answer, status, &room, INT);
         assert!(rt; right && count == *counted, "{length}: {status:?}");
     }
@@ -59,7 +59,7 @@ fn packs_of_booleans(rt: HostRuntime) -> Result<(), Fail> {
     for (values, flags, length, answer, counted) in PACK_BOOL {
         let mut count = COUNT;
         let mut room = vec![in rt.alloc(); BOOL; *length]?;
-        let status = cvl_pack_bool(rt.alloc(), values, flags, &mut room, &mut count);
+        let status = cvl_pack_bool(values, flags, &mut room, &mut count);
         let right = is_told_in_front(answer, status, &room, BOOL);
         assert!(rt; right && count == *counted, "{length}: {status:?}");
     }

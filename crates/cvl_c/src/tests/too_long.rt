@@ -45,7 +45,7 @@ fn too_many_booleans(rt: HostRuntime) -> Result<(), Fail> {
     assert!(rt; is_status(cvl_count(&many, &mut room[0]), TOO_LONG));
     assert!(rt;
         is_status(
-            cvl_pack_int(alloc, &[1, 2, 3], &many, &mut room, &mut count),
+            cvl_pack_int(&[1, 2, 3], &many, &mut room, &mut count),
             TOO_LONG
         )
     );
