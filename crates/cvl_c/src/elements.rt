@@ -8,9 +8,9 @@ ghost use Rattle.cvl_c.specs.Calls.{in_limit};
 ghost use Rattle.cvl_c.specs.Told.{Told, ToldOr, in_room};
 
 use crate::checks::check_limit;
-use crate::status::{CvlStatus, told, told_one};
+use crate::status::{CvlStatus, told, told_one, told_over};
 use cvl_base::Fault;
-use pack_dist::{count_true, distribute_alone, extract, index_alone, replace};
+use pack_dist::{count_true, distribute_over, extract, index_over, replace};
 use std::alloc::Global;
 
 /// The number of true flags, of which there are at most 4,194,304, else TooLong, without a place.
@@ -75,40 +75,24 @@ pub extern "C" fn cvl_replace_bool(
 
 /// So many copies of an integer: `dis_vuz`.
 #[unsafe(no_mangle)]
-pub extern "C" fn cvl_distribute_int(
-    alloc: Global,
-    value: i32,
-    count: i32,
-    out: &mut [i32],
-) -> CvlStatus
-    ensures { ToldOr (in_room (length out.old) (distribute_of value count)) result out.old out.new }
+pub extern "C" fn cvl_distribute_int(value: i32, count: i32, out: &mut [i32]) -> CvlStatus
+    ensures { Told (in_room (length out.old) (distribute_of value count)) result out.old out.new }
 {
-    told(distribute_alone(alloc, value, count), out)
+    told_over::<i32>(distribute_over(value, count, out))
 }
 
 /// So many copies of a boolean: `dis_vub`.
 #[unsafe(no_mangle)]
-pub extern "C" fn cvl_distribute_bool(
-    alloc: Global,
-    value: bool,
-    count: i32,
-    out: &mut [bool],
-) -> CvlStatus
-    ensures { ToldOr (in_room (length out.old) (distribute_of value count)) result out.old out.new }
+pub extern "C" fn cvl_distribute_bool(value: bool, count: i32, out: &mut [bool]) -> CvlStatus
+    ensures { Told (in_room (length out.old) (distribute_of value count)) result out.old out.new }
 {
-    told(distribute_alone(alloc, value, count), out)
+    told_over::<bool>(distribute_over(value, count, out))
 }
 
 /// So many numbers from a first one on in equal steps: `ind_luz`.
 #[unsafe(no_mangle)]
-pub extern "C" fn cvl_index(
-    alloc: Global,
-    init: i32,
-    stride: i32,
-    count: i32,
-    out: &mut [i32],
-) -> CvlStatus
-    ensures { ToldOr (in_room (length out.old) (index_of init stride count)) result out.old out.new }
+pub extern "C" fn cvl_index(init: i32, stride: i32, count: i32, out: &mut [i32]) -> CvlStatus
+    ensures { Told (in_room (length out.old) (index_of init stride count)) result out.old out.new }
 {
-    told(index_alone(alloc, init, stride, count), out)
+    told_over::<i32>(index_over(init, stride, count, out))
 }

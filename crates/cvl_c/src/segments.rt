@@ -2,14 +2,15 @@
 
 ghost use Rattle.std.specs.Prelude.{length};
 ghost use Rattle.cvl_base.specs.Gives.{Gives};
+ghost use Rattle.cvl_base.specs.Rooms.{OverwritesOr};
 ghost use Rattle.cvl_base.specs.SegmentedCalls.{seg_distribute_of, seg_extract_of, seg_index_of, seg_replace_of};
 ghost use Rattle.cvl_c.specs.Calls.{by_segments};
 ghost use Rattle.cvl_c.specs.Told.{ToldOr, in_room};
 
 use crate::checks::descriptor;
-use crate::status::{CvlStatus, told};
+use crate::status::{CvlStatus, told, told_over_or};
 use cvl_base::Refused;
-use pack_dist::{seg_distribute_alone, seg_extract, seg_index_alone, seg_replace};
+use pack_dist::{seg_distribute_over, seg_extract, seg_index_over, seg_replace};
 use std::alloc::Global;
 
 /// For each segment the element at the place that its index names.
@@ -39,29 +40,31 @@ fn replace_each<T: Copy>(
     seg_replace(alloc, vector, index, values, &d)
 }
 
-/// For each segment as many copies of its value as the segment is long.
+/// Writes for each segment as many copies of its value as the segment is long.
 fn distribute_each<T: Copy>(
     alloc: Global,
     values: &[T],
     lengths: &[i32],
-) -> Result<Vec<T, Global>, Refused>
-    ensures { Gives (λ v. v.items) result (by_segments lengths.now (seg_distribute_of values.now)) }
+    out: &mut [T],
+) -> Result<(), Refused>
+    ensures { OverwritesOr (in_room (length out.old) (by_segments lengths.now (seg_distribute_of values.now))) result out.old out.new }
 {
     let d = descriptor(alloc, lengths)?;
-    seg_distribute_alone(alloc, values, &d)
+    Ok(seg_distribute_over(values, &d, out)?)
 }
 
-/// For each segment the numbers from its init on in steps of its stride.
+/// Writes for each segment the numbers from its init on in steps of its stride.
 fn index_each(
     alloc: Global,
     inits: &[i32],
     strides: &[i32],
     lengths: &[i32],
-) -> Result<Vec<i32, Global>, Refused>
-    ensures { Gives (λ v. v.items) result (by_segments lengths.now (seg_index_of inits.now strides.now)) }
+    out: &mut [i32],
+) -> Result<(), Refused>
+    ensures { OverwritesOr (in_room (length out.old) (by_segments lengths.now (seg_index_of inits.now strides.now))) result out.old out.new }
 {
     let d = descriptor(alloc, lengths)?;
-    seg_index_alone(alloc, inits, strides, &d)
+    Ok(seg_index_over(inits, strides, &d, out)?)
 }
 
 /// For each segment the integer at the place that its index names: `ext_vez`.
@@ -132,7 +135,7 @@ pub extern "C" fn cvl_seg_distribute_int(
 ) -> CvlStatus
     ensures { ToldOr (in_room (length out.old) (by_segments lengths.now (seg_distribute_of values.now))) result out.old out.new }
 {
-    told(distribute_each(alloc, values, lengths), out)
+    told_over_or::<i32>(distribute_each(alloc, values, lengths, out))
 }
 
 /// For each segment as many copies of its boolean as the segment is long: `dis_veb`.
@@ -145,7 +148,7 @@ pub extern "C" fn cvl_seg_distribute_bool(
 ) -> CvlStatus
     ensures { ToldOr (in_room (length out.old) (by_segments lengths.now (seg_distribute_of values.now))) result out.old out.new }
 {
-    told(distribute_each(alloc, values, lengths), out)
+    told_over_or::<bool>(distribute_each(alloc, values, lengths, out))
 }
 
 /// For each segment the numbers from its init on in steps of its stride: `ind_lez`.
@@ -159,5 +162,5 @@ pub extern "C" fn cvl_seg_index(
 ) -> CvlStatus
     ensures { ToldOr (in_room (length out.old) (by_segments lengths.now (seg_index_of inits.now strides.now))) result out.old out.new }
 {
-    told(index_each(alloc, inits, strides, lengths), out)
+    told_over_or::<i32>(index_each(alloc, inits, strides, lengths, out))
 }

@@ -4,13 +4,14 @@ ghost use Rattle.std.specs.Prelude.{◌≡◌, ℕ, ◌+◌, ◌-◌, ◌≤◌,
 ghost use Rattle.cvl_base.specs.Distributes.{distribute_of};
 ghost use Rattle.cvl_base.specs.Gives.{Gives};
 ghost use Rattle.cvl_base.specs.Limits.{most_elements};
+ghost use Rattle.cvl_base.specs.Rooms.{Overwrites, in_room};
 ghost use Rattle.cvl_base.specs.SegmentedCalls.{seg_distribute_of};
 ghost use Rattle.fresh.specs.Places.{stretch};
 
 use crate::checks::length_for;
 use crate::segment_runs::{EndToEnd, Segments};
-use cvl_base::{Config, Memory, Refused, check_agree};
-use fresh::{Run, Writer, write_alone, write_in_runs};
+use cvl_base::{Config, Fault, Memory, Refused, check_agree};
+use fresh::{Run, Writer, write_in_runs, write_over};
 use segdes::SegDes;
 use sharing::threads_for;
 use std::alloc::{AllocError, Allocator};
@@ -36,17 +37,15 @@ pub fn distribute<T: Copy + Send + Sync, R: Threads + Sync, A: Memory>(
     Ok(write_in_runs(rt, alloc, threads, &copies, length)?)
 }
 
-/// The same as [`distribute`], by the thread that calls.
-pub fn distribute_alone<T: Copy, A: Memory>(
-    alloc: A,
-    value: T,
-    count: i32,
-) -> Result<Vec<T, A>, Refused>
-    ensures { Gives (λ v. v.items) result (distribute_of value count) }
+/// The same as [`distribute`], over a room of the caller's, by the thread that calls: LengthMismatch, without a place, where the
+/// room isn't as long as the count says, which is checked last. It asks for no memory.
+pub fn distribute_over<T: Copy>(value: T, count: i32, out: &mut [T]) -> Result<(), Fault>
+    ensures { Overwrites (in_room (length out.old) (distribute_of value count)) result out.old out.new }
 {
     let length = length_for(&count)?;
-    let copies = Copies { value, length };
-    Ok(write_alone(alloc, &copies, length)?)
+    check_agree(length, out.len())?;
+    write_over(out, &Copies { value, length });
+    Ok(())
 }
 
 /// For each segment as many copies of its value as the segment is long, one segment after another: `dis_vez` and
@@ -73,20 +72,22 @@ pub fn seg_distribute<T: Copy + Send + Sync, R: Threads + Sync, A: Memory>(
     Ok(write_in_runs(rt, alloc, threads, &copies, total)?)
 }
 
-/// The same as [`seg_distribute`], by the thread that calls.
-pub fn seg_distribute_alone<T: Copy, A: Memory>(
-    alloc: A,
+/// The same as [`seg_distribute`], over a room of the caller's, by the thread that calls: LengthMismatch, without a place, where
+/// the room isn't as long as the segments are in all, which is checked last. It asks for no memory.
+pub fn seg_distribute_over<T: Copy, A: Allocator>(
     values: &[T],
     d: &SegDes<A>,
-) -> Result<Vec<T, A>, Refused>
-    ensures { Gives (λ v. v.items) result (seg_distribute_of values.now d.now) }
+    out: &mut [T],
+) -> Result<(), Fault>
+    ensures { Overwrites (in_room (length out.old) (seg_distribute_of values.now d.now)) result out.old out.new }
 {
     check_agree(values.len(), d.count())?;
-    let total = d.total();
+    check_agree(d.total(), out.len())?;
     let copies = EndToEnd {
         segments: SegmentCopies { values, d },
     };
-    Ok(write_alone(alloc, &copies, total)?)
+    write_over(out, &copies);
+    Ok(())
 }
 
 /// So many copies of one value.

@@ -4,14 +4,15 @@ ghost use Rattle.std.specs.Prelude.{◌≡◌, ◌+◌, ◌-◌, ◌<◌, ◌≤
 ghost use Rattle.cvl_base.specs.Distributes.{index_of};
 ghost use Rattle.cvl_base.specs.Gives.{Gives};
 ghost use Rattle.cvl_base.specs.Limits.{most_elements};
+ghost use Rattle.cvl_base.specs.Rooms.{Overwrites, in_room};
 ghost use Rattle.cvl_base.specs.SegmentedCalls.{seg_index_of};
 ghost use Rattle.fresh.specs.Places.{stretch};
 ghost use Rattle.pack_dist.specs.Progressions.{numbers_from};
 
 use crate::checks::length_for;
 use crate::segment_runs::{EndToEnd, Segments};
-use cvl_base::{Config, Memory, Refused, check_agree};
-use fresh::{Run, Writer, write_alone, write_in_runs};
+use cvl_base::{Config, Fault, Memory, Refused, check_agree};
+use fresh::{Run, Writer, write_in_runs, write_over};
 use segdes::SegDes;
 use sharing::threads_for;
 use std::alloc::{AllocError, Allocator};
@@ -42,22 +43,20 @@ pub fn index<R: Threads + Sync, A: Memory>(
     Ok(write_in_runs(rt, alloc, threads, &numbers, length)?)
 }
 
-/// The same as [`index`], by the thread that calls.
-pub fn index_alone<A: Memory>(
-    alloc: A,
-    init: i32,
-    stride: i32,
-    count: i32,
-) -> Result<Vec<i32, A>, Refused>
-    ensures { Gives (λ v. v.items) result (index_of init stride count) }
+/// The same as [`index`], over a room of the caller's, by the thread that calls: LengthMismatch, without a place, where the room
+/// isn't as long as the count says, which is checked last. It asks for no memory.
+pub fn index_over(init: i32, stride: i32, count: i32, out: &mut [i32]) -> Result<(), Fault>
+    ensures { Overwrites (in_room (length out.old) (index_of init stride count)) result out.old out.new }
 {
     let length = length_for(&count)?;
+    check_agree(length, out.len())?;
     let numbers = Progression {
         init,
         stride,
         length,
     };
-    Ok(write_alone(alloc, &numbers, length)?)
+    write_over(out, &numbers);
+    Ok(())
 }
 
 /// For each segment the numbers from its `init` on in steps of its `stride`, each wrapped to 32 bits, one segment after
@@ -86,22 +85,24 @@ pub fn seg_index<R: Threads + Sync, A: Memory>(
     Ok(write_in_runs(rt, alloc, threads, &numbers, total)?)
 }
 
-/// The same as [`seg_index`], by the thread that calls.
-pub fn seg_index_alone<A: Memory>(
-    alloc: A,
+/// The same as [`seg_index`], over a room of the caller's, by the thread that calls: LengthMismatch, without a place, where the
+/// room isn't as long as the segments are in all, which is checked last. It asks for no memory.
+pub fn seg_index_over<A: Allocator>(
     inits: &[i32],
     strides: &[i32],
     d: &SegDes<A>,
-) -> Result<Vec<i32, A>, Refused>
-    ensures { Gives (λ v. v.items) result (seg_index_of inits.now strides.now d.now) }
+    out: &mut [i32],
+) -> Result<(), Fault>
+    ensures { Overwrites (in_room (length out.old) (seg_index_of inits.now strides.now d.now)) result out.old out.new }
 {
     check_agree(inits.len(), strides.len())?;
     check_agree(inits.len(), d.count())?;
-    let total = d.total();
+    check_agree(d.total(), out.len())?;
     let numbers = EndToEnd {
         segments: SegmentProgressions { inits, strides, d },
     };
-    Ok(write_alone(alloc, &numbers, total)?)
+    write_over(out, &numbers);
+    Ok(())
 }
 
 /// So many numbers in equal steps.

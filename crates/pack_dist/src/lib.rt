@@ -18,9 +18,9 @@ mod segment_packs;
 mod segment_runs;
 
 pub use counts::{count_true, seg_count, seg_count_alone, seg_count_gated};
-pub use distributes::{distribute, distribute_alone, seg_distribute, seg_distribute_alone};
+pub use distributes::{distribute, distribute_over, seg_distribute, seg_distribute_over};
 pub use extracts::{extract, seg_extract};
-pub use indexes::{index, index_alone, seg_index, seg_index_alone};
+pub use indexes::{index, index_over, seg_index, seg_index_over};
 pub use packs::{pack, pack_gated, pack_over};
 pub use replaces::{replace, seg_replace};
 pub use segment_packs::{

@@ -41,8 +41,8 @@ impl Call<i32> for IntCall {
             ReplaceInt(vector, index, value) => cvl_replace_int(
                 alloc, vector, *index, *value, room,
             ),
-            DistributeInt(value, count) => cvl_distribute_int(alloc, *value, *count, room),
-            Index(init, stride, count) => cvl_index(alloc, *init, *stride, *count, room),
+            DistributeInt(value, count) => cvl_distribute_int(*value, *count, room),
+            Index(init, stride, count) => cvl_index(*init, *stride, *count, room),
         }
     }
 }
@@ -89,7 +89,7 @@ impl Call<bool> for BoolCall {
             ReplaceBool(vector, index, value) => cvl_replace_bool(
                 alloc, vector, *index, *value, room,
             ),
-            DistributeBool(value, count) => cvl_distribute_bool(alloc, *value, *count, room),
+            DistributeBool(value, count) => cvl_distribute_bool(*value, *count, room),
         }
     }
 }
