@@ -168,10 +168,7 @@ pub extern "C" fn cvl_segments_int_reduce(
     let Some(held) = segments.take(alloc) else {
         return no_handle();
     };
-    let status = told(
-        int_reduce_of_descriptor(alloc, op, a, &held.descriptor),
-        out,
-    );
+    let status = told_over::<i32>(int_reduce_of_descriptor(op, a, &held.descriptor, out));
     *segments = CvlSegments::of(held);
     status
 }
@@ -213,10 +210,7 @@ pub extern "C" fn cvl_segments_bool_reduce(
     let Some(held) = segments.take(alloc) else {
         return no_handle();
     };
-    let status = told(
-        bool_reduce_of_descriptor(alloc, op, a, &held.descriptor),
-        out,
-    );
+    let status = told_over::<bool>(bool_reduce_of_descriptor(op, a, &held.descriptor, out));
     *segments = CvlSegments::of(held);
     status
 }

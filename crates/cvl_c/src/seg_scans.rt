@@ -1,7 +1,6 @@
 //! Scans and reduces of each segment. Segments come as their lengths.
 
 ghost use Rattle.std.specs.Prelude.{length};
-ghost use Rattle.cvl_base.specs.Gives.{Gives};
 ghost use Rattle.cvl_base.specs.Rooms.{Overwrites, OverwritesOr};
 ghost use Rattle.cvl_base.specs.Scans.{bool_join_of, bool_unit_of, int_join_of, int_unit_of};
 ghost use Rattle.cvl_base.specs.SegmentedCalls.{seg_reduce_of, seg_scan_of};
@@ -11,10 +10,10 @@ ghost use Rattle.cvl_c.specs.Told.{ToldOr, in_room};
 
 use crate::checks::descriptor;
 use crate::numbers::{bool_binary, int_monoid};
-use crate::status::{CvlStatus, told, told_over_or};
+use crate::status::{CvlStatus, told_over_or};
 use cvl_base::monoids::{Add, And, BoolAnd, BoolIor, BoolXor, Ior, Max, Min, Mul, Xor};
 use cvl_base::{BoolBinary, Fault, IntMonoid, Refused};
-use scan_walks::{know_numbers, seg_reduce_alone, seg_scan_over};
+use scan_walks::{know_numbers, seg_reduce_over, seg_scan_over};
 use segdes::SegDes;
 use std::alloc::Global;
 
@@ -35,23 +34,18 @@ fn int_scan_by(op: IntMonoid, a: &[i32], d: &SegDes<Global>, out: &mut [i32]) ->
 }
 
 /// The reduce of each segment of integers by an operator.
-fn int_reduce_by(
-    alloc: Global,
-    op: IntMonoid,
-    a: &[i32],
-    d: &SegDes<Global>,
-) -> Result<Vec<i32, Global>, Refused>
-    ensures { Gives (λ v. v.items) result (seg_reduce_of (int_join_of op) (int_unit_of op) a.now d.now) }
+fn int_reduce_by(op: IntMonoid, a: &[i32], d: &SegDes<Global>, out: &mut [i32]) -> Result<(), Fault>
+    ensures { Overwrites (in_room (length out.old) (seg_reduce_of (int_join_of op) (int_unit_of op) a.now d.now)) result out.old out.new }
 {
     know_numbers(a);
     match op {
-        IntMonoid::Add => seg_reduce_alone::<Add, Global>(alloc, a, d),
-        IntMonoid::Mul => seg_reduce_alone::<Mul, Global>(alloc, a, d),
-        IntMonoid::Min => seg_reduce_alone::<Min, Global>(alloc, a, d),
-        IntMonoid::Max => seg_reduce_alone::<Max, Global>(alloc, a, d),
-        IntMonoid::And => seg_reduce_alone::<And, Global>(alloc, a, d),
-        IntMonoid::Ior => seg_reduce_alone::<Ior, Global>(alloc, a, d),
-        IntMonoid::Xor => seg_reduce_alone::<Xor, Global>(alloc, a, d),
+        IntMonoid::Add => seg_reduce_over::<Add, Global>(a, d, out),
+        IntMonoid::Mul => seg_reduce_over::<Mul, Global>(a, d, out),
+        IntMonoid::Min => seg_reduce_over::<Min, Global>(a, d, out),
+        IntMonoid::Max => seg_reduce_over::<Max, Global>(a, d, out),
+        IntMonoid::And => seg_reduce_over::<And, Global>(a, d, out),
+        IntMonoid::Ior => seg_reduce_over::<Ior, Global>(a, d, out),
+        IntMonoid::Xor => seg_reduce_over::<Xor, Global>(a, d, out),
     }
 }
 
@@ -73,17 +67,17 @@ fn bool_scan_by(
 
 /// The reduce of each segment of booleans by an operator.
 fn bool_reduce_by(
-    alloc: Global,
     op: BoolBinary,
     a: &[bool],
     d: &SegDes<Global>,
-) -> Result<Vec<bool, Global>, Refused>
-    ensures { Gives (λ v. v.items) result (seg_reduce_of (bool_join_of op) (bool_unit_of op) a.now d.now) }
+    out: &mut [bool],
+) -> Result<(), Fault>
+    ensures { Overwrites (in_room (length out.old) (seg_reduce_of (bool_join_of op) (bool_unit_of op) a.now d.now)) result out.old out.new }
 {
     match op {
-        BoolBinary::And => seg_reduce_alone::<BoolAnd, Global>(alloc, a, d),
-        BoolBinary::Ior => seg_reduce_alone::<BoolIor, Global>(alloc, a, d),
-        BoolBinary::Xor => seg_reduce_alone::<BoolXor, Global>(alloc, a, d),
+        BoolBinary::And => seg_reduce_over::<BoolAnd, Global>(a, d, out),
+        BoolBinary::Ior => seg_reduce_over::<BoolIor, Global>(a, d, out),
+        BoolBinary::Xor => seg_reduce_over::<BoolXor, Global>(a, d, out),
     }
 }
 
@@ -103,16 +97,16 @@ pub(crate) fn int_scan_of_descriptor(
 
 /// The reduce of integers in each segment of a descriptor by the operator of a number.
 pub(crate) fn int_reduce_of_descriptor(
-    alloc: Global,
     op: u32,
     a: &[i32],
     d: &SegDes<Global>,
-) -> Result<Vec<i32, Global>, Refused>
-    ensures { Gives (λ v. v.items) result
-        (by_operator (int_monoid op) (λ o. seg_reduce_of (int_join_of o) (int_unit_of o) a.now d.now)) }
+    out: &mut [i32],
+) -> Result<(), Fault>
+    ensures { Overwrites (in_room (length out.old)
+        (by_operator (int_monoid op) (λ o. seg_reduce_of (int_join_of o) (int_unit_of o) a.now d.now))) result out.old out.new }
 {
     let op = int_monoid(op)?;
-    int_reduce_by(alloc, op, a, d)
+    int_reduce_by(op, a, d, out)
 }
 
 /// The scan of each segment of integers by the operator of a number.
@@ -137,13 +131,14 @@ fn int_reduce(
     op: u32,
     a: &[i32],
     lengths: &[i32],
-) -> Result<Vec<i32, Global>, Refused>
-    ensures { Gives (λ v. v.items) result (by_operator (int_monoid op)
-        (λ o. by_segments lengths.now (seg_reduce_of (int_join_of o) (int_unit_of o) a.now))) }
+    out: &mut [i32],
+) -> Result<(), Refused>
+    ensures { OverwritesOr (in_room (length out.old) (by_operator (int_monoid op)
+        (λ o. by_segments lengths.now (seg_reduce_of (int_join_of o) (int_unit_of o) a.now)))) result out.old out.new }
 {
     let op = int_monoid(op)?;
     let d = descriptor(alloc, lengths)?;
-    int_reduce_by(alloc, op, a, &d)
+    Ok(int_reduce_by(op, a, &d, out)?)
 }
 
 /// The scan of booleans in each segment of a descriptor by the operator of a number.
@@ -162,16 +157,16 @@ pub(crate) fn bool_scan_of_descriptor(
 
 /// The reduce of booleans in each segment of a descriptor by the operator of a number.
 pub(crate) fn bool_reduce_of_descriptor(
-    alloc: Global,
     op: u32,
     a: &[bool],
     d: &SegDes<Global>,
-) -> Result<Vec<bool, Global>, Refused>
-    ensures { Gives (λ v. v.items) result
-        (by_operator (bool_binary op) (λ o. seg_reduce_of (bool_join_of o) (bool_unit_of o) a.now d.now)) }
+    out: &mut [bool],
+) -> Result<(), Fault>
+    ensures { Overwrites (in_room (length out.old)
+        (by_operator (bool_binary op) (λ o. seg_reduce_of (bool_join_of o) (bool_unit_of o) a.now d.now))) result out.old out.new }
 {
     let op = bool_binary(op)?;
-    bool_reduce_by(alloc, op, a, d)
+    bool_reduce_by(op, a, d, out)
 }
 
 /// The scan of each segment of booleans by the operator of a number.
@@ -196,13 +191,14 @@ fn bool_reduce(
     op: u32,
     a: &[bool],
     lengths: &[i32],
-) -> Result<Vec<bool, Global>, Refused>
-    ensures { Gives (λ v. v.items) result (by_operator (bool_binary op)
-        (λ o. by_segments lengths.now (seg_reduce_of (bool_join_of o) (bool_unit_of o) a.now))) }
+    out: &mut [bool],
+) -> Result<(), Refused>
+    ensures { OverwritesOr (in_room (length out.old) (by_operator (bool_binary op)
+        (λ o. by_segments lengths.now (seg_reduce_of (bool_join_of o) (bool_unit_of o) a.now)))) result out.old out.new }
 {
     let op = bool_binary(op)?;
     let d = descriptor(alloc, lengths)?;
-    bool_reduce_by(alloc, op, a, &d)
+    Ok(bool_reduce_by(op, a, &d, out)?)
 }
 
 /// For each integer those before it in its segment, joined by the operator: `add_sez` and its like.
@@ -232,7 +228,7 @@ pub extern "C" fn cvl_seg_int_reduce(
     ensures { ToldOr (in_room (length out.old) (by_operator (int_monoid op)
         (λ o. by_segments lengths.now (seg_reduce_of (int_join_of o) (int_unit_of o) a.now)))) result out.old out.new }
 {
-    told(int_reduce(alloc, op, a, lengths), out)
+    told_over_or::<i32>(int_reduce(alloc, op, a, lengths, out))
 }
 
 /// For each boolean those before it in its segment, joined by the operator: `and_seb` and its like.
@@ -262,5 +258,5 @@ pub extern "C" fn cvl_seg_bool_reduce(
     ensures { ToldOr (in_room (length out.old) (by_operator (bool_binary op)
         (λ o. by_segments lengths.now (seg_reduce_of (bool_join_of o) (bool_unit_of o) a.now)))) result out.old out.new }
 {
-    told(bool_reduce(alloc, op, a, lengths), out)
+    told_over_or::<bool>(bool_reduce(alloc, op, a, lengths, out))
 }

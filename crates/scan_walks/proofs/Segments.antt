@@ -2,7 +2,7 @@
 use Rattle.std.proofs.Common.{◌≡◌, ℕ, zero, suc, ◌-◌, ℤ, pos, to_z, of_z, w32, w64, Fits, ◌+◌, ◌<◌, ◌≤◌, min, List, [], ◌∷◌, ◌++◌, length, take, drop, map, get_or, refl, sym, ap, ◌∙◌, arith}
 use Rattle.std.specs.Prelude.{sum, unsigned_abs}
 use Rattle.std.proofs.Math.Facts.{Fits-below}
-use Rattle.std.proofs.lemmas.List.{append_assoc, length-take, drop-map, take-map, drop-take, take-take, nil_from_length, length-drop, drop_more, take_all, drop_all, take_min, drop_min}
+use Rattle.std.proofs.lemmas.List.{length-take, drop-map, take-map, drop-take, take-take, nil_from_length, length-drop, drop_more, take_all, drop_all, take_min, drop_min}
 use Rattle.std.proofs.lemmas.List.Sums.{sum_by-take-drop}
 use Rattle.std.specs.Int.{IsNonNegative}
 use Rattle.cvl_base.specs.Descriptors.{AreLengths}
@@ -100,18 +100,3 @@ range_sum lengths first next le =
     ∙ ap (λ ns. sum ns + sum (drop first (take (first + m) lengths))) (sym (take-take first (first + m) lengths (omega arith)))
     ∙ sum_by-take-drop (λ x. x) (take (first + m) lengths) first
     ∙ ap (start_of lengths) end
-
-module _ {Item : Type 0} (join : Item → Item → Item) (unit : Item) (lengths : List ℕ) where
-  pub reduces_pushed : (sums pushed whole rest front others : List Item) (start sum : Item) (s n : ℕ) → s < length lengths → n ≡ get_or lengths s 0
-      → front ≡ take n rest → others ≡ drop n rest → start ≡ unit → sum ≡ fold_of join start front → pushed ≡ sums ++ sum ∷ []
-      → sums ++ reduces_of join unit (drop s lengths) rest ≡ whole → pushed ++ reduces_of join unit (drop (s + 1) lengths) others ≡ whole
-  reduces_pushed sums pushed whole rest front others start sum s n lt is_n is_front is_others is_start is_sum is_pushed is_whole =
-      let later : List Item → List Item = λ ys. reduces_of join unit (drop (s + 1) lengths) ys in
-      ap (λ p. p ++ later others) is_pushed
-      ∙ append_assoc sums (sum ∷ []) (later others)
-      ∙ ap (λ x. sums ++ x ∷ later others) is_sum
-      ∙ ap (λ u. sums ++ fold_of join u front ∷ later others) is_start
-      ∙ ap (λ f. sums ++ fold_of join unit f ∷ later others) is_front
-      ∙ ap (λ o. sums ++ fold_of join unit (take n rest) ∷ later o) is_others
-      ∙ ap (λ tail. sums ++ tail) (sym (reduces_more join unit lengths s n rest lt is_n))
-      ∙ is_whole

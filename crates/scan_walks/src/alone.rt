@@ -5,7 +5,7 @@ ghost use Rattle.std.specs.List.{AllPass};
 ghost use Rattle.cvl_base.specs.Gives.{Gives};
 ghost use Rattle.cvl_base.specs.SegmentedCalls.{seg_reduce_of, seg_scan_of};
 
-use crate::readings::{Itself, Reading};
+use crate::readings::Reading;
 use crate::runs::{reduces_of_readings, scan_of_run};
 use cvl_base::monoid::know_laws;
 use cvl_base::{Monoid, Refused};
@@ -32,23 +32,8 @@ pub fn seg_scan_alone<M: Monoid, A: Allocator>(
     Ok(sums)
 }
 
-/// For each segment its elements joined from left to right, and the unit where it is empty, by the thread that calls.
-///
-/// The elements must be items of the monoid. The result has one element for each segment. LengthMismatch, without a
-/// place, where the segments' total is not the number of elements. Source: CVL's segmented reduces.
-pub fn seg_reduce_alone<M: Monoid, A: Allocator>(
-    alloc: A,
-    a: &[M::Item],
-    d: &SegDes<A>,
-) -> Result<Vec<M::Item, A>, Refused>
-    requires items { AllPass M.is_item a.now }
-    ensures values { Gives (λ sums. sums.items) result (seg_reduce_of M.join M.unit a.now d.now) }
-    ensures one_each { IfOk result (λ sums. vec_len sums ≡ length d.now) }
-{
-    seg_reduce_readings_alone::<M, M::Item, Itself, A>(alloc, a, d)
-}
-
-/// The same as [`seg_reduce_alone`], of what the elements are read as.
+/// For each segment its elements joined from left to right, and the unit where it is empty, by the thread that calls, of
+/// what the elements are read as.
 ///
 /// The elements must be read as items of the monoid. The result has one element for each segment. LengthMismatch, without
 /// a place, where the segments' total is not the number of elements. Source: CVL's segmented reduces.

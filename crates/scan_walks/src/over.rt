@@ -1,17 +1,17 @@
-//! Scans over a room of the caller's, by the thread that calls. They ask for no memory.
+//! Scans and reduces over a room of the caller's, by the thread that calls. They ask for no memory.
 
-ghost use Rattle.std.specs.Prelude.{◌≡◌, ◌≤◌, IsTrue, Ok, [], length, sum};
+ghost use Rattle.std.specs.Prelude.{◌≡◌, ◌≤◌, IsTrue, Ok, [], length, map, slice_range, sum};
 ghost use Rattle.std.specs.List.{AllPass};
 ghost use Rattle.cvl_base.specs.Folds.{scan_of};
 ghost use Rattle.cvl_base.specs.Limits.{most_elements};
 ghost use Rattle.cvl_base.specs.Rooms.{Overwrites, in_room};
-ghost use Rattle.cvl_base.specs.SegmentedCalls.{seg_scan_of};
+ghost use Rattle.cvl_base.specs.SegmentedCalls.{seg_reduce_of, seg_scan_of};
 ghost use Rattle.fresh.specs.Places.{with_items};
-ghost use Rattle.scan_walks.specs.Runs.{run_between, run_scan_of};
+ghost use Rattle.scan_walks.specs.Runs.{reduces_of, run_between, run_scan_of};
 
 use crate::plain::scan_into;
-use crate::readings::Itself;
-use crate::runs::scan_run_into;
+use crate::readings::{Itself, Reading};
+use crate::runs::{reduces_run_into, scan_run_into};
 use cvl_base::monoid::know_laws;
 use cvl_base::{Fault, Monoid, check_agree};
 use fresh::{Run, fill_slice};
@@ -66,6 +66,45 @@ pub fn seg_scan_over<M: Monoid, A: Allocator>(
             requires { (run.items ≡ []) × (run.room ≡ length a.now) × (sum d.now ≡ length a.now) × AllPass M.is_item a.now × IsTrue (M.is_item M.unit) }
             ensures { result ≡ with_items run (run_scan_of M.join M.unit M.unit (run_between d.entry.now a.entry.now 0 (length a.entry.now))) }
         { scan_run_into::<M, M::Item, Itself, A>(run, a, d, 0, a.len(), M::unit()) },
+    );
+    Ok(())
+}
+
+/// Writes for each segment its elements joined from left to right, and the unit where it is empty, over a room.
+/// LengthMismatch, without a place, where the segments' total is not the number of elements, or the room hasn't one place
+/// for each segment.
+///
+/// The elements must be items of the monoid. Source: CVL's segmented reduces.
+pub fn seg_reduce_over<M: Monoid, A: Allocator>(
+    a: &[M::Item],
+    d: &SegDes<A>,
+    out: &mut [M::Item],
+) -> Result<(), Fault>
+    requires items { AllPass M.is_item a.now }
+    ensures { Overwrites (in_room (length out.old) (seg_reduce_of M.join M.unit a.now d.now)) result out.old out.new }
+{
+    seg_reduce_readings_over::<M, M::Item, Itself, A>(a, d, out)
+}
+
+/// The same as [`seg_reduce_over`], of what the elements are read as, which must be items of the monoid.
+pub fn seg_reduce_readings_over<M: Monoid, X: Copy, E: Reading<X, M::Item>, A: Allocator>(
+    a: &[X],
+    d: &SegDes<A>,
+    out: &mut [M::Item],
+) -> Result<(), Fault>
+    requires items { AllPass (λ x. M.is_item (E.item x)) a.now }
+    ensures { Overwrites (in_room (length out.old) (seg_reduce_of M.join M.unit (map E.item a.now) d.now)) result out.old out.new }
+{
+    know_laws::<M>();
+    check_total(a, d)?;
+    let count = d.count();
+    check_agree(count, out.len())?;
+    fill_slice(
+        out,
+        |run: Run<M::Item>| -> Run<M::Item>
+            requires { (run.items ≡ []) × (run.room ≡ count) × (count ≡ length d.now) × (sum d.now ≡ length a.now) × AllPass (λ x. M.is_item (E.item x)) a.now × IsTrue (M.is_item M.unit) }
+            ensures { result ≡ with_items run (slice_range (reduces_of M.join M.unit d.entry.now (map E.item a.entry.now)) 0 count) }
+        { reduces_run_into::<M, X, E, A>(run, a, d, 0, count, 0, M::unit()) },
     );
     Ok(())
 }

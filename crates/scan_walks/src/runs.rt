@@ -3,7 +3,7 @@
 //! A run is a range of the vector's elements. Segments may start in it anywhere, some of them empty, and it may begin
 //! or end inside a segment. Each walk goes from segment to segment, and has a plain loop over the elements of each.
 
-ghost use Rattle.std.specs.Prelude.{◌≡◌, false, ◌+◌, ◌-◌, ◌<◌, ◌≤◌, ◌++◌, IsTrue, IfOk, length, map, slice_range, unsigned_abs, sum, vec_len, vec_capacity};
+ghost use Rattle.std.specs.Prelude.{◌≡◌, false, ◌+◌, ◌-◌, ◌<◌, ◌≤◌, IsTrue, IfOk, length, map, slice_range, unsigned_abs, sum, vec_len};
 ghost use Rattle.std.specs.List.{AllPass};
 ghost use Rattle.cvl_base.specs.Descriptors.{AreLengths};
 ghost use Rattle.cvl_base.specs.Folds.{fold_of};
@@ -55,27 +55,61 @@ fn scans_into<M: Monoid, X: Copy, E: Reading<X, M::Item>>(
     run
 }
 
-/// Pushes the reduces of the segments with these lengths, of what the elements are read as. The elements begin with
-/// those of the segments. There must be room for the reduces.
-fn push_reduces<M: Monoid, X: Copy, E: Reading<X, M::Item>, A: Allocator>(
-    sums: &mut Vec<M::Item, A>,
+/// Writes the reduces of the segments with these lengths, of what the elements are read as. The elements begin with
+/// those of the segments. The run must have room for the reduces.
+fn reduces_into<M: Monoid, X: Copy, E: Reading<X, M::Item>>(
+    run: Run<M::Item>,
     lengths: &[i32],
     xs: &[X],
-)
+) -> Run<M::Item>
     requires lengths { AreLengths lengths.now }
     requires covered { sum (map unsigned_abs lengths.now) ≤ length xs.now }
-    requires room { vec_len sums.old + length lengths.now ≤ vec_capacity sums.old }
+    requires room { length lengths.now ≤ run.room }
     requires items { AllPass (λ x. M.is_item (E.item x)) xs.now }
-    ensures { sums.new.items
-        ≡ sums.old.items ++ reduces_of M.join M.unit (map unsigned_abs lengths.now) (map E.item xs.now) }
+    ensures { result ≡ with_items run (reduces_of M.join M.unit (map unsigned_abs lengths.now) (map E.item xs.now)) }
 {
     know_laws::<M>();
-    let mut rest = xs;
+    let (mut run, mut rest) = (run, xs);
     for length in lengths {
         let (segment, others) = rest.split_at(*length as usize);
-        sums.push_reserved(sum_readings_from::<M, X, E>(M::unit(), segment));
+        run.push(sum_readings_from::<M, X, E>(M::unit(), segment));
         rest = others;
     }
+    run
+}
+
+/// Writes the reduces of the segments from number `first` to the one before number `next`, of what the elements are read
+/// as. The run must have room for one element for each of the segments.
+///
+/// The first of these segments holds place `from`, or ends or starts there, and `before` is what its elements before
+/// that place join to. It must be an item of the monoid, as all that is read must. No element before place `from` is
+/// read. Source: Blelloch's segmented scans.
+pub fn reduces_run_into<M: Monoid, X: Copy, E: Reading<X, M::Item>, A: Allocator>(
+    mut run: Run<M::Item>,
+    a: &[X],
+    d: &SegDes<A>,
+    first: usize,
+    next: usize,
+    from: usize,
+    before: M::Item,
+) -> Run<M::Item>
+    requires total { sum d.now ≡ length a.now }
+    requires in_order { first ≤ next }
+    requires within { next ≤ length d.now }
+    requires room { next - first ≤ run.room }
+    requires begun { first < next → IsOpenAt M.join M.unit d.now (map E.item a.now) first from before }
+    requires before { IsTrue (M.is_item before) }
+    requires items { AllPass (λ x. M.is_item (E.item x)) a.now }
+    ensures { result ≡ with_items run (slice_range (reduces_of M.join M.unit d.now (map E.item a.now)) first next) }
+{
+    if first == next {
+        return run;
+    }
+    let end = d.start(first) + d.length(first);
+    let (_, rest) = a.split_at(from);
+    let (front, others) = rest.split_at(end - from);
+    run.push(sum_readings_from::<M, X, E>(before, front));
+    reduces_into::<M, X, E>(run, &d.lengths()[first + 1..next], others)
 }
 
 /// The reduces of the segments from number `first` to the one before number `next`, of what the elements are read as.
@@ -101,16 +135,8 @@ pub fn reduces_of_readings<M: Monoid, X: Copy, E: Reading<X, M::Item>, A: Alloca
     ensures { IfOk result (λ sums. sums.items
         ≡ slice_range (reduces_of M.join M.unit d.now (map E.item a.now)) first next) }
 {
-    let mut sums = Vec::with_capacity(alloc, next - first)?;
-    if first == next {
-        return Ok(sums);
-    }
-    let end = d.start(first) + d.length(first);
-    let (_, rest) = a.split_at(from);
-    let (front, others) = rest.split_at(end - from);
-    sums.push_reserved(sum_readings_from::<M, X, E>(before, front));
-    push_reduces::<M, X, E, B>(&mut sums, &d.lengths()[first + 1..next], others);
-    Ok(sums)
+    let (room, run) = Room::new(alloc, next - first)?;
+    Ok(room.into_vec(reduces_run_into::<M, X, E, A>(run, a, d, first, next, from, before)))
 }
 
 /// The sum of the run from place `from` to the one before place `to`, of what the elements are read as: what

@@ -1,92 +1,20 @@
-use Rattle.std.proofs.Common.{◌≡◌, ℕ, ◌+◌, ◌-◌, ◌<◌, ◌++◌, ◌∷◌, [], true, get_or, map, slice_range, take, drop, unsigned_abs, sym, subst, ap, ◌∙◌, arith, append_assoc}
-use Rattle.std.specs.Prelude.{sum}
-use Rattle.std.specs.List.{AllPass}
-use Rattle.std.proofs.lemmas.List.{drop-map, length-drop}
-use Rattle.std.proofs.lemmas.List.Elements.{All-drop, All-take}
-use Rattle.std.proofs.lemmas.List.Sums.{sum_by_more, sum_by-take-drop}
-use Rattle.cvl_base.specs.Folds.{fold_of}
-use Rattle.segdes.specs.Starts.{start_of}
+use Rattle.std.proofs.Common.{◌-◌, drop, map, arith, ◌∙◌}
+use Rattle.std.proofs.lemmas.List.{length-take}
 use Rattle.scan_walks.specs.Runs.{reduces_of}
-use Rattle.scan_walks.proofs.Scanned.{part_read}
-use Rattle.scan_walks.proofs.Segments.{range_lengths, range_read, range_sum}
-use Rattle.scan_walks.proofs.SegmentReduces.{reduces_walked}
+use Rattle.fresh.proofs.Written.{all_written}
 use Rattle.scan_walks.proofs.runs.reduces_of_readings.Goals as goal
 
-pub sum_readings_from-requires-clause-items : goal.sum_readings_from-requires-clause-items
-sum_readings_from-requires-clause-items g c =
-    let item = g.E.Reading.item in
-    let is_item : g.row.X.Denot → Type 0 = λ x. g.M.Monoid.is_item (item x) ≡ true in
-    let k : ℕ = c.start.result + c.length.result - c.args.from in
-    subst (λ xs. AllPass (λ x. g.M.Monoid.is_item (item x)) xs) (sym (c.split_at-2.ensures.front ∙ ap (take k) c.split_at.ensures.back))
-    (All-take is_item k (drop c.args.from c.args.a.now) (All-drop is_item c.args.from c.args.a.now c.requires.items))
-
-pub push_reduces-requires-clause-lengths : goal.push_reduces-requires-clause-lengths
-push_reduces-requires-clause-lengths g c =
-    range_lengths c.lengths.result.now c.args.d.now (c.args.first + 1) (c.args.next - (c.args.first + 1)) c.lengths.ensures.value c.lengths.ensures.lengths
-
-pub push_reduces-requires-clause-covered : goal.push_reduces-requires-clause-covered
-push_reduces-requires-clause-covered g c =
-    let d = c.args.d.now in
-    let first = c.args.first in
-    let next = c.args.next in
-    let m : ℕ = next - (first + 1) in
-    let some : first < next = omega (arith, c.if-first-next.false, c.requires.in_order) in
-    let read : sum (map unsigned_abs (take m (drop (first + 1) c.lengths.result.now))) ≡ sum (take m (drop (first + 1) d)) =
-    ap sum (range_read c.lengths.result.now d (first + 1) m c.lengths.ensures.value) in
-    let ends : start_of d first + get_or d first 0 ≡ start_of d (first + 1) = sym (sum_by_more (λ x. x) d first 0 (omega (arith, some, c.requires.within))) in
-    let begun = c.requires.begun some in
-    omega (
-      arith,
-      read,
-      ends,
-      begun.not_past,
-      begun.begun,
-      range_sum d (first + 1) next (omega (arith, some)),
-      sum_by-take-drop (λ x. x) d next,
-      c.requires.total,
-      c.start.ensures.value,
-      c.length.ensures,
-      c.split_at-2.ensures.back_len,
-      c.split_at.ensures.back_len,
-      length-drop c.args.from c.args.a.now,
-    )
-
-pub push_reduces-requires-clause-items : goal.push_reduces-requires-clause-items
-push_reduces-requires-clause-items g c =
+pub into_vec-requires : goal.into_vec-requires
+into_vec-requires g c =
     let m = g.M.Monoid in
-    let item = g.E.Reading.item in
-    subst (λ xs. AllPass (λ x. m.is_item (item x)) xs) (sym (c.split_at-2.ensures.back ∙ ap (drop (c.start.result + c.length.result - c.args.from)) c.split_at.ensures.back))
-    (All-drop (λ x. m.is_item (item x) ≡ true) (c.start.result + c.length.result - c.args.from) (drop c.args.from c.args.a.now)
-    (All-drop (λ x. m.is_item (item x) ≡ true) c.args.from c.args.a.now c.requires.items))
+    let whole = reduces_of m.join m.unit c.args.d.now (map g.E.Reading.item c.args.a.now) in
+    let short = length-take (c.args.next - c.args.first) (drop c.args.first whole) in
+    (all_written c.in_ok-room.room c.in_ok-room.run' c.reduces_run_into.result _ _ c.in_ok-room.ensures.room c.in_ok-room.ensures.run c.reduces_run_into.ensures (omega (arith, short))).0
 
 pub returns : goal.returns
 returns g c =
     let m = g.M.Monoid in
-    let item = g.E.Reading.item in
-    let d = c.args.d.now in
-    let a = c.args.a.now in
-    let first = c.args.first in
-    let next = c.args.next in
-    let from = c.args.from in
-    let old = c.in_ok-sums.sums.items in
-    let end : ℕ = c.start.result + c.length.result in
-    let k : ℕ = next - (first + 1) in
-    let some : first < next = omega (arith, c.if-first-next.false, c.requires.in_order) in
-    let ends : end ≡ start_of d (first + 1) =
-    omega (arith, c.start.ensures.value, c.length.ensures, sum_by_more (λ x. x) d first 0 (omega (arith, some, c.requires.within))) in
-    let front = take (end - from) (drop from (map item a)) in
-    let others = drop (end - from) (drop from (map item a)) in
-    let sum : c.sum_readings_from.result ≡ fold_of m.join c.args.before front =
-    c.sum_readings_from.ensures ∙ ap (λ xs. fold_of m.join c.args.before (map item xs)) (c.split_at-2.ensures.front ∙ ap (take (end - from)) c.split_at.ensures.back)
-    ∙ ap (fold_of m.join c.args.before) (part_read item (end - from) from a) in
-    let rest : map item c.split_at-2.result.1.now ≡ others =
-    ap (map item) (c.split_at-2.ensures.back ∙ ap (drop (end - from)) c.split_at.ensures.back) ∙ sym (drop-map item (end - from) (drop from a)) ∙ ap (drop (end - from)) (sym (drop-map item from a)) in
-    let reduces = reduces_of m.join m.unit (take k (drop (first + 1) d)) others in
-    c.push_reduces.ensures
-    ∙ ap (λ sums. sums ++ reduces_of m.join m.unit (map unsigned_abs (take k (drop (first + 1) c.lengths.result.now))) (map item c.split_at-2.result.1.now)) c.push_reserved.ensures.items
-    ∙ ap (λ ls. (old ++ c.sum_readings_from.result ∷ []) ++ reduces_of m.join m.unit ls (map item c.split_at-2.result.1.now)) (range_read c.lengths.result.now d (first + 1) k c.lengths.ensures.value)
-    ∙ ap (λ xs. (old ++ c.sum_readings_from.result ∷ []) ++ reduces_of m.join m.unit (take k (drop (first + 1) d)) xs) rest
-    ∙ append_assoc old (c.sum_readings_from.result ∷ []) reduces
-    ∙ ap (λ s. old ++ s ∷ reduces) sum
-    ∙ ap (λ sums. old ++ sums) (sym (reduces_walked m.join m.unit d (map item a) first next from end c.args.before some c.requires.within (c.requires.begun some) ends))
-    ∙ ap (λ sums. sums ++ slice_range (reduces_of m.join m.unit d (map item a)) first next) c.in_ok-sums.ensures.items
+    let whole = reduces_of m.join m.unit c.args.d.now (map g.E.Reading.item c.args.a.now) in
+    let short = length-take (c.args.next - c.args.first) (drop c.args.first whole) in
+    c.into_vec.ensures.items
+    ∙ (all_written c.in_ok-room.room c.in_ok-room.run' c.reduces_run_into.result _ _ c.in_ok-room.ensures.room c.in_ok-room.ensures.run c.reduces_run_into.ensures (omega (arith, short))).1
