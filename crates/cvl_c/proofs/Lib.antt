@@ -1,4 +1,3 @@
 pub mod Afters
-pub mod Counted
 pub mod HeldValues
 pub mod LooseValues

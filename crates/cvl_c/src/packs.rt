@@ -1,17 +1,16 @@
 //! Packs, of whole vectors and of segments, and how many elements they keep. Segments come as their lengths.
 
 ghost use Rattle.std.specs.Prelude.{length};
-ghost use Rattle.cvl_base.specs.Gives.{Gives};
 ghost use Rattle.cvl_base.specs.Packs.{pack_of};
-ghost use Rattle.cvl_base.specs.Rooms.{OverwritesFront};
+ghost use Rattle.cvl_base.specs.Rooms.{OverwritesFront, OverwritesOr};
 ghost use Rattle.cvl_base.specs.SegmentedCalls.{seg_pack_of};
 ghost use Rattle.cvl_c.specs.Calls.{by_segments, counts_of, in_limit};
 ghost use Rattle.cvl_c.specs.Told.{FrontTold, FrontToldOr, ToldOr, in_room};
 
 use crate::checks::{check_limit, descriptor};
-use crate::status::{CvlStatus, status_of, told, told_over};
+use crate::status::{CvlStatus, status_of, told_over, told_over_or};
 use cvl_base::{Fault, Refused};
-use pack_dist::{pack_over, seg_count_alone, seg_pack_values_over};
+use pack_dist::{pack_over, seg_count_over, seg_pack_values_over};
 use std::alloc::Global;
 
 /// Writes the elements whose flag is true, in order, at the front of a room, and counts them.
@@ -45,12 +44,17 @@ fn pack_each<T: Copy>(
     }
 }
 
-/// The number of true flags of each segment.
-fn count_each(alloc: Global, flags: &[bool], lengths: &[i32]) -> Result<Vec<i32, Global>, Refused>
-    ensures { Gives (λ v. v.items) result (by_segments lengths.now (counts_of flags.now)) }
+/// Writes the number of true flags of each segment.
+fn count_each(
+    alloc: Global,
+    flags: &[bool],
+    lengths: &[i32],
+    out: &mut [i32],
+) -> Result<(), Refused>
+    ensures { OverwritesOr (in_room (length out.old) (by_segments lengths.now (counts_of flags.now))) result out.old out.new }
 {
     let d = descriptor(alloc, lengths)?;
-    seg_count_alone(alloc, flags, &d)
+    Ok(seg_count_over(flags, &d, out)?)
 }
 
 /// The integers whose flag is true, in order: `pck_luz`.
@@ -119,7 +123,7 @@ pub extern "C" fn cvl_packed_lengths(
 ) -> CvlStatus
     ensures { ToldOr (in_room (length out.old) (by_segments lengths.now (counts_of flags.now))) result out.old out.new }
 {
-    told(count_each(alloc, flags, lengths), out)
+    told_over_or::<i32>(count_each(alloc, flags, lengths, out))
 }
 
 /// The number of true flags of each segment: `cnt_leb`.
@@ -132,5 +136,5 @@ pub extern "C" fn cvl_seg_count(
 ) -> CvlStatus
     ensures { ToldOr (in_room (length out.old) (by_segments lengths.now (counts_of flags.now))) result out.old out.new }
 {
-    told(count_each(alloc, flags, lengths), out)
+    told_over_or::<i32>(count_each(alloc, flags, lengths, out))
 }

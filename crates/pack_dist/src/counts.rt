@@ -6,15 +6,18 @@ ghost use Rattle.cvl_base.specs.Descriptors.{AreLengths};
 ghost use Rattle.cvl_base.specs.Gives.{Gives};
 ghost use Rattle.cvl_base.specs.Limits.{most_elements};
 ghost use Rattle.cvl_base.specs.Packs.{count_of};
+ghost use Rattle.cvl_base.specs.Rooms.{Overwrites, in_room};
 ghost use Rattle.cvl_base.specs.SegmentedCalls.{seg_count_of};
+ghost use Rattle.pack_dist.specs.Counts.{counts_of};
 ghost use Rattle.pack_dist.specs.Kept.{ArePlaces};
 
 use crew::{Gate, OpenGate};
 use cvl_base::monoids::Add;
-use cvl_base::{Config, Memory, NoResources, Refused, true_count};
+use cvl_base::{Config, Fault, Memory, NoResources, Refused, true_count};
 use scan_ops::{Reading, scan_readings_gated, seg_reduce_readings_gated};
-use scan_walks::seg_reduce_readings_alone;
+use scan_walks::seg_reduce_readings_over;
 use segdes::SegDes;
+use std::alloc::Allocator;
 use std::thread::Threads;
 
 /// A flag is read as 1 where it is true, and as 0 where it is false, so that the sum of flags is their count.
@@ -93,18 +96,16 @@ pub fn seg_count_gated<R: Threads + Sync, A: Memory, G: Gate>(
     seg_reduce_readings_gated::<R, A, Add, bool, Ones, G>(rt, alloc, config, flags, d, gate)
 }
 
-/// The same as [`seg_count`], by the thread that calls.
-pub fn seg_count_alone<A: Memory>(
-    alloc: A,
+/// The same as [`seg_count`], over a room of the caller's, by the thread that calls: LengthMismatch, without a place, where the
+/// room hasn't one place for each segment, which is checked last. It asks for no memory.
+pub fn seg_count_over<A: Allocator>(
     flags: &[bool],
     d: &SegDes<A>,
-) -> Result<Vec<i32, A>, Refused>
-    ensures values { Gives (λ counts. map unsigned_abs counts.items) result
-        (seg_count_of flags.now d.now) }
-    ensures lengths { IfOk result (λ counts. AreLengths counts.items) }
-    ensures one_each { IfOk result (λ counts. vec_len counts ≡ length d.now) }
+    out: &mut [i32],
+) -> Result<(), Fault>
+    ensures { Overwrites (in_room (length out.old) (counts_of flags.now d.now)) result out.old out.new }
 {
     // its contract names the limits of a descriptor's lengths
     let _lengths = d.lengths();
-    seg_reduce_readings_alone::<Add, bool, Ones, A>(alloc, flags, d)
+    seg_reduce_readings_over::<Add, bool, Ones, A>(flags, d, out)
 }
