@@ -1,23 +1,23 @@
 //! Permutes of whole vectors, by an index of at most 4,194,304 elements.
 
 ghost use Rattle.std.specs.Prelude.{length};
-ghost use Rattle.cvl_base.specs.Gives.{Gives};
 ghost use Rattle.cvl_base.specs.Permutes.{back_of, default_of, select_of, simple_of};
+ghost use Rattle.cvl_base.specs.Rooms.{Overwrites, OverwritesOr};
 ghost use Rattle.cvl_c.specs.Calls.{in_limit};
-ghost use Rattle.cvl_c.specs.Told.{ToldOr, in_room};
+ghost use Rattle.cvl_c.specs.Told.{Told, ToldOr, in_room};
 
 use crate::checks::check_limit;
-use crate::status::{CvlStatus, told};
-use cvl_base::Refused;
-use permutes::{back_alone, default_into_alone, select_alone, simple_alone};
+use crate::status::{CvlStatus, told_over, told_over_or};
+use cvl_base::{Fault, Refused};
+use permutes::{back_over, default_into_over, select_over, simple_over};
 use std::alloc::Global;
 
 /// Each element at its index.
-fn simple<T: Copy>(alloc: Global, source: &[T], index: &[i32]) -> Result<Vec<T, Global>, Refused>
-    ensures { Gives (λ v. v.items) result (in_limit index.now (simple_of source.now index.now)) }
+fn simple<T: Copy>(alloc: Global, source: &[T], index: &[i32], out: &mut [T]) -> Result<(), Refused>
+    ensures { OverwritesOr (in_room (length out.old) (in_limit index.now (simple_of source.now index.now))) result out.old out.new }
 {
     check_limit(index)?;
-    simple_alone(alloc, source, index)
+    simple_over(alloc, source, index, out)
 }
 
 /// Each element whose flag is true at its index.
@@ -26,11 +26,12 @@ fn select<T: Copy>(
     source: &[T],
     index: &[i32],
     flags: &[bool],
-) -> Result<Vec<T, Global>, Refused>
-    ensures { Gives (λ v. v.items) result (in_limit index.now (select_of source.now index.now flags.now)) }
+    out: &mut [T],
+) -> Result<(), Refused>
+    ensures { OverwritesOr (in_room (length out.old) (in_limit index.now (select_of source.now index.now flags.now))) result out.old out.new }
 {
     check_limit(index)?;
-    select_alone(alloc, source, index, flags)
+    select_over(alloc, source, index, flags, out)
 }
 
 /// Each element at its index, and at a place to which none goes its default.
@@ -39,19 +40,21 @@ fn default_into<T: Copy>(
     source: &[T],
     index: &[i32],
     defaults: &[T],
-) -> Result<Vec<T, Global>, Refused>
-    ensures { Gives (λ v. v.items) result (in_limit index.now (default_of source.now index.now defaults.now)) }
+    out: &mut [T],
+) -> Result<(), Refused>
+    ensures { OverwritesOr (in_room (length out.old) (in_limit index.now (default_of source.now index.now defaults.now)))
+        result out.old out.new }
 {
     check_limit(index)?;
-    default_into_alone(alloc, source, index, defaults)
+    default_into_over(alloc, source, index, defaults, out)
 }
 
 /// At each place the element at the place's index.
-fn back<T: Copy>(alloc: Global, source: &[T], index: &[i32]) -> Result<Vec<T, Global>, Refused>
-    ensures { Gives (λ v. v.items) result (in_limit index.now (back_of source.now index.now)) }
+fn back<T: Copy>(source: &[T], index: &[i32], out: &mut [T]) -> Result<(), Fault>
+    ensures { Overwrites (in_room (length out.old) (in_limit index.now (back_of source.now index.now))) result out.old out.new }
 {
     check_limit(index)?;
-    back_alone(alloc, source, index)
+    back_over(source, index, out)
 }
 
 /// Each integer at its index: `smp_puz`.
@@ -64,7 +67,7 @@ pub extern "C" fn cvl_permute_int(
 ) -> CvlStatus
     ensures { ToldOr (in_room (length out.old) (in_limit index.now (simple_of source.now index.now))) result out.old out.new }
 {
-    told(simple(alloc, source, index), out)
+    told_over_or::<i32>(simple(alloc, source, index, out))
 }
 
 /// Each boolean at its index: `smp_pub`.
@@ -77,7 +80,7 @@ pub extern "C" fn cvl_permute_bool(
 ) -> CvlStatus
     ensures { ToldOr (in_room (length out.old) (in_limit index.now (simple_of source.now index.now))) result out.old out.new }
 {
-    told(simple(alloc, source, index), out)
+    told_over_or::<bool>(simple(alloc, source, index, out))
 }
 
 /// Each integer whose flag is true at its index: `sel_puz`.
@@ -91,7 +94,7 @@ pub extern "C" fn cvl_select_permute_int(
 ) -> CvlStatus
     ensures { ToldOr (in_room (length out.old) (in_limit index.now (select_of source.now index.now flags.now))) result out.old out.new }
 {
-    told(select(alloc, source, index, flags), out)
+    told_over_or::<i32>(select(alloc, source, index, flags, out))
 }
 
 /// Each boolean whose flag is true at its index: `sel_pub`.
@@ -105,7 +108,7 @@ pub extern "C" fn cvl_select_permute_bool(
 ) -> CvlStatus
     ensures { ToldOr (in_room (length out.old) (in_limit index.now (select_of source.now index.now flags.now))) result out.old out.new }
 {
-    told(select(alloc, source, index, flags), out)
+    told_over_or::<bool>(select(alloc, source, index, flags, out))
 }
 
 /// Each integer at its index, and at a place to which none goes its default: `def_puz`.
@@ -120,7 +123,7 @@ pub extern "C" fn cvl_default_permute_int(
     ensures { ToldOr (in_room (length out.old) (in_limit index.now (default_of source.now index.now defaults.now)))
         result out.old out.new }
 {
-    told(default_into(alloc, source, index, defaults), out)
+    told_over_or::<i32>(default_into(alloc, source, index, defaults, out))
 }
 
 /// Each boolean at its index, and at a place to which none goes its default: `def_pub`.
@@ -135,31 +138,25 @@ pub extern "C" fn cvl_default_permute_bool(
     ensures { ToldOr (in_room (length out.old) (in_limit index.now (default_of source.now index.now defaults.now)))
         result out.old out.new }
 {
-    told(default_into(alloc, source, index, defaults), out)
+    told_over_or::<bool>(default_into(alloc, source, index, defaults, out))
 }
 
 /// At each place the integer at the place's index: `bck_puz`.
 #[unsafe(no_mangle)]
-pub extern "C" fn cvl_back_permute_int(
-    alloc: Global,
-    source: &[i32],
-    index: &[i32],
-    out: &mut [i32],
-) -> CvlStatus
-    ensures { ToldOr (in_room (length out.old) (in_limit index.now (back_of source.now index.now))) result out.old out.new }
+pub extern "C" fn cvl_back_permute_int(source: &[i32], index: &[i32], out: &mut [i32]) -> CvlStatus
+    ensures { Told (in_room (length out.old) (in_limit index.now (back_of source.now index.now))) result out.old out.new }
 {
-    told(back(alloc, source, index), out)
+    told_over::<i32>(back(source, index, out))
 }
 
 /// At each place the boolean at the place's index: `bck_pub`.
 #[unsafe(no_mangle)]
 pub extern "C" fn cvl_back_permute_bool(
-    alloc: Global,
     source: &[bool],
     index: &[i32],
     out: &mut [bool],
 ) -> CvlStatus
-    ensures { ToldOr (in_room (length out.old) (in_limit index.now (back_of source.now index.now))) result out.old out.new }
+    ensures { Told (in_room (length out.old) (in_limit index.now (back_of source.now index.now))) result out.old out.new }
 {
-    told(back(alloc, source, index), out)
+    told_over::<bool>(back(source, index, out))
 }

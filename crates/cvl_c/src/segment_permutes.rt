@@ -1,15 +1,15 @@
 //! Permutes of each segment, by an index of at most 4,194,304 elements. Segments come as their lengths.
 
 ghost use Rattle.std.specs.Prelude.{length};
-ghost use Rattle.cvl_base.specs.Gives.{Gives};
+ghost use Rattle.cvl_base.specs.Rooms.{OverwritesOr};
 ghost use Rattle.cvl_base.specs.SegmentedCalls.{seg_back_of, seg_default_of, seg_select_of, seg_simple_of};
 ghost use Rattle.cvl_c.specs.Calls.{by_segments, in_limit};
 ghost use Rattle.cvl_c.specs.Told.{ToldOr, in_room};
 
 use crate::checks::{check_limit, descriptor};
-use crate::status::{CvlStatus, told};
+use crate::status::{CvlStatus, told_over_or};
 use cvl_base::Refused;
-use permutes::{seg_back_alone, seg_default_into_alone, seg_select_alone, seg_simple_alone};
+use permutes::{seg_back_over, seg_default_into_over, seg_select_over, seg_simple_over};
 use std::alloc::Global;
 
 /// Each element at its index in its segment.
@@ -18,12 +18,14 @@ fn simple_each<T: Copy>(
     source: &[T],
     index: &[i32],
     lengths: &[i32],
-) -> Result<Vec<T, Global>, Refused>
-    ensures { Gives (λ v. v.items) result (by_segments lengths.now (λ d. in_limit index.now (seg_simple_of source.now index.now d))) }
+    out: &mut [T],
+) -> Result<(), Refused>
+    ensures { OverwritesOr (in_room (length out.old) (by_segments lengths.now
+        (λ d. in_limit index.now (seg_simple_of source.now index.now d)))) result out.old out.new }
 {
     let d = descriptor(alloc, lengths)?;
     check_limit(index)?;
-    seg_simple_alone(alloc, source, index, &d)
+    seg_simple_over(alloc, source, index, &d, out)
 }
 
 /// Each element whose flag is true at its index in its segment of the result.
@@ -33,13 +35,14 @@ fn select_each<T: Copy>(
     index: &[i32],
     flags: &[bool],
     lengths: &[i32],
-) -> Result<Vec<T, Global>, Refused>
-    ensures { Gives (λ v. v.items) result
-        (by_segments lengths.now (λ d. in_limit index.now (seg_select_of source.now index.now flags.now d))) }
+    out: &mut [T],
+) -> Result<(), Refused>
+    ensures { OverwritesOr (in_room (length out.old) (by_segments lengths.now
+        (λ d. in_limit index.now (seg_select_of source.now index.now flags.now d)))) result out.old out.new }
 {
     let d = descriptor(alloc, lengths)?;
     check_limit(index)?;
-    seg_select_alone(alloc, source, index, flags, &d)
+    seg_select_over(alloc, source, index, flags, &d, out)
 }
 
 /// Each element at its index in its segment of the defaults, and at a place to which none goes its default.
@@ -50,14 +53,15 @@ fn default_each<T: Copy>(
     defaults: &[T],
     lengths: &[i32],
     default_lengths: &[i32],
-) -> Result<Vec<T, Global>, Refused>
-    ensures { Gives (λ v. v.items) result (by_segments lengths.now (λ d. by_segments default_lengths.now
-        (λ e. in_limit index.now (seg_default_of source.now index.now defaults.now d e)))) }
+    out: &mut [T],
+) -> Result<(), Refused>
+    ensures { OverwritesOr (in_room (length out.old) (by_segments lengths.now (λ d. by_segments default_lengths.now
+        (λ e. in_limit index.now (seg_default_of source.now index.now defaults.now d e))))) result out.old out.new }
 {
     let d = descriptor(alloc, lengths)?;
     let e = descriptor(alloc, default_lengths)?;
     check_limit(index)?;
-    seg_default_into_alone(alloc, source, index, defaults, &d, &e)
+    seg_default_into_over(alloc, source, index, defaults, &d, &e, out)
 }
 
 /// At each place the element at the place's index in the same segment of the source.
@@ -67,14 +71,15 @@ fn back_each<T: Copy>(
     index: &[i32],
     lengths: &[i32],
     index_lengths: &[i32],
-) -> Result<Vec<T, Global>, Refused>
-    ensures { Gives (λ v. v.items) result (by_segments lengths.now (λ d. by_segments index_lengths.now
-        (λ e. in_limit index.now (seg_back_of source.now index.now d e)))) }
+    out: &mut [T],
+) -> Result<(), Refused>
+    ensures { OverwritesOr (in_room (length out.old) (by_segments lengths.now (λ d. by_segments index_lengths.now
+        (λ e. in_limit index.now (seg_back_of source.now index.now d e))))) result out.old out.new }
 {
     let d = descriptor(alloc, lengths)?;
     let e = descriptor(alloc, index_lengths)?;
     check_limit(index)?;
-    seg_back_alone(alloc, source, index, &d, &e)
+    Ok(seg_back_over(source, index, &d, &e, out)?)
 }
 
 /// Each integer at its index in its segment: `smp_pez`.
@@ -89,7 +94,7 @@ pub extern "C" fn cvl_seg_permute_int(
     ensures { ToldOr (in_room (length out.old) (by_segments lengths.now
         (λ d. in_limit index.now (seg_simple_of source.now index.now d)))) result out.old out.new }
 {
-    told(simple_each(alloc, source, index, lengths), out)
+    told_over_or::<i32>(simple_each(alloc, source, index, lengths, out))
 }
 
 /// Each boolean at its index in its segment: `smp_peb`.
@@ -104,7 +109,7 @@ pub extern "C" fn cvl_seg_permute_bool(
     ensures { ToldOr (in_room (length out.old) (by_segments lengths.now
         (λ d. in_limit index.now (seg_simple_of source.now index.now d)))) result out.old out.new }
 {
-    told(simple_each(alloc, source, index, lengths), out)
+    told_over_or::<bool>(simple_each(alloc, source, index, lengths, out))
 }
 
 /// Each integer whose flag is true at its index in its segment of the result: `sel_pez`.
@@ -120,7 +125,7 @@ pub extern "C" fn cvl_seg_select_permute_int(
     ensures { ToldOr (in_room (length out.old) (by_segments lengths.now
         (λ d. in_limit index.now (seg_select_of source.now index.now flags.now d)))) result out.old out.new }
 {
-    told(select_each(alloc, source, index, flags, lengths), out)
+    told_over_or::<i32>(select_each(alloc, source, index, flags, lengths, out))
 }
 
 /// Each boolean whose flag is true at its index in its segment of the result: `sel_peb`.
@@ -136,7 +141,7 @@ pub extern "C" fn cvl_seg_select_permute_bool(
     ensures { ToldOr (in_room (length out.old) (by_segments lengths.now
         (λ d. in_limit index.now (seg_select_of source.now index.now flags.now d)))) result out.old out.new }
 {
-    told(select_each(alloc, source, index, flags, lengths), out)
+    told_over_or::<bool>(select_each(alloc, source, index, flags, lengths, out))
 }
 
 /// Each integer at its index in its segment of the defaults, and at a place to which none goes its default: `def_pez`.
@@ -153,10 +158,15 @@ pub extern "C" fn cvl_seg_default_permute_int(
     ensures { ToldOr (in_room (length out.old) (by_segments lengths.now (λ d. by_segments default_lengths.now
         (λ e. in_limit index.now (seg_default_of source.now index.now defaults.now d e))))) result out.old out.new }
 {
-    told(
-        default_each(alloc, source, index, defaults, lengths, default_lengths),
+    told_over_or::<i32>(default_each(
+        alloc,
+        source,
+        index,
+        defaults,
+        lengths,
+        default_lengths,
         out,
-    )
+    ))
 }
 
 /// Each boolean at its index in its segment of the defaults, and at a place to which none goes its default: `def_peb`.
@@ -173,10 +183,15 @@ pub extern "C" fn cvl_seg_default_permute_bool(
     ensures { ToldOr (in_room (length out.old) (by_segments lengths.now (λ d. by_segments default_lengths.now
         (λ e. in_limit index.now (seg_default_of source.now index.now defaults.now d e))))) result out.old out.new }
 {
-    told(
-        default_each(alloc, source, index, defaults, lengths, default_lengths),
+    told_over_or::<bool>(default_each(
+        alloc,
+        source,
+        index,
+        defaults,
+        lengths,
+        default_lengths,
         out,
-    )
+    ))
 }
 
 /// At each place the integer at the place's index in the same segment of the source: `bck_pez`.
@@ -192,7 +207,7 @@ pub extern "C" fn cvl_seg_back_permute_int(
     ensures { ToldOr (in_room (length out.old) (by_segments lengths.now (λ d. by_segments index_lengths.now
         (λ e. in_limit index.now (seg_back_of source.now index.now d e))))) result out.old out.new }
 {
-    told(back_each(alloc, source, index, lengths, index_lengths), out)
+    told_over_or::<i32>(back_each(alloc, source, index, lengths, index_lengths, out))
 }
 
 /// At each place the boolean at the place's index in the same segment of the source: `bck_peb`.
@@ -208,5 +223,5 @@ pub extern "C" fn cvl_seg_back_permute_bool(
     ensures { ToldOr (in_room (length out.old) (by_segments lengths.now (λ d. by_segments index_lengths.now
         (λ e. in_limit index.now (seg_back_of source.now index.now d e))))) result out.old out.new }
 {
-    told(back_each(alloc, source, index, lengths, index_lengths), out)
+    told_over_or::<bool>(back_each(alloc, source, index, lengths, index_lengths, out))
 }

@@ -10,7 +10,7 @@ ghost use Rattle.permute_walks.specs.Senders.{fault_told};
 
 use crate::index_counts::{count_alone, count_outside};
 use cvl_base::{Fault, FaultNo, Memory, NoResources, place_among};
-use fresh::{Run, Writer, write_alone, write_in_runs};
+use fresh::{Run, Writer, write_in_runs, write_over};
 use std::thread::Threads;
 
 /// From how many indices on they are counted before they are looked at in turn.
@@ -120,15 +120,11 @@ pub fn elements_at<T: Copy + Send + Sync, R: Threads + Sync, A: Memory>(
     Ok(write_in_runs(rt, alloc, threads, &elements, index.len())?)
 }
 
-/// The same as [`elements_at`], by the thread that calls.
-pub fn elements_at_alone<T: Copy, A: Memory>(
-    alloc: A,
-    source: &[T],
-    index: &[i32],
-) -> Result<Vec<T, A>, NoResources>
+/// The same as [`elements_at`], over a room of as many places, by the thread that calls.
+pub fn elements_at_over<T: Copy>(source: &[T], index: &[i32], out: &mut [T])
     requires inside { AreInside (length source.now) index.now }
-    ensures { IfOk result (λ v. v.items ≡ elements_at source.now index.now) }
+    requires as_long { length out.old ≡ length index.now }
+    ensures { out.new ≡ elements_at source.now index.now }
 {
-    let elements = ElementsAt { source, index };
-    Ok(write_alone(alloc, &elements, index.len())?)
+    write_over(out, &ElementsAt { source, index });
 }

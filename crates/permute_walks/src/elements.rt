@@ -8,7 +8,7 @@ ghost use Rattle.permute_walks.specs.Senders.{elements_or, written_over};
 
 use crate::places::element_of;
 use cvl_base::{Memory, NoResources};
-use fresh::{Run, Writer, write_alone, write_in_runs};
+use fresh::{Run, Writer, write_in_runs, write_over};
 use std::thread::Threads;
 
 /// Writes the element of each sender, and another one for nobody, since a writer writes every place.
@@ -65,25 +65,19 @@ pub fn elements_of<T: Copy + Send + Sync, R: Threads + Sync, A: Memory>(
     Ok(write_in_runs(rt, alloc, threads, &elements, senders.len())?)
 }
 
-/// The same as [`elements_of`], by the thread that calls.
-pub fn elements_of_alone<T: Copy, A: Memory>(
-    alloc: A,
-    source: &[T],
-    senders: &[u32],
-) -> Result<Vec<T, A>, NoResources>
-    ensures values { All (λ s. s < length source.now) senders.now
-        → IfOk result (λ v. v.items ≡ filter_map (slice_get source.now) senders.now) }
-    ensures in_length { IfOk result (λ v. vec_len v ≤ length senders.now) }
+/// The same as [`elements_of`], over a room of as many places, by the thread that calls.
+pub fn elements_of_over<T: Copy>(source: &[T], senders: &[u32], out: &mut [T])
+    requires as_long { length out.old ≡ length senders.now }
+    ensures { All (λ s. s < length source.now) senders.now → out.new ≡ filter_map (slice_get source.now) senders.now }
 {
-    let Some(first) = source.first() else {
-        return Ok(Vec::new(alloc));
-    };
-    let elements = ElementsOf {
-        source,
-        senders,
-        other: *first,
-    };
-    Ok(write_alone(alloc, &elements, senders.len())?)
+    if let Some(first) = source.first() {
+        let elements = ElementsOf {
+            source,
+            senders,
+            other: *first,
+        };
+        write_over(out, &elements);
+    }
 }
 
 /// Writes the element of each sender, and for nobody the default at the same place.
@@ -137,21 +131,21 @@ pub fn elements_or_defaults<T: Copy + Send + Sync, R: Threads + Sync, A: Memory>
     Ok(write_in_runs(rt, alloc, threads, &elements, defaults.len())?)
 }
 
-/// The same as [`elements_or_defaults`], by the thread that calls.
-pub fn elements_or_defaults_alone<T: Copy, A: Memory>(
-    alloc: A,
+/// The same as [`elements_or_defaults`], over a room of as many places, by the thread that calls.
+pub fn elements_or_defaults_over<T: Copy>(
     source: &[T],
     senders: &[u32],
     defaults: &[T],
-) -> Result<Vec<T, A>, NoResources>
+    out: &mut [T],
+)
     requires as_long { length senders.now ≡ length defaults.now }
-    ensures values { IfOk result (λ v. v.items ≡ written_over source.now senders.now defaults.now) }
-    ensures as_long { IfOk result (λ v. vec_len v ≡ length defaults.now) }
+    requires room { length out.old ≡ length defaults.now }
+    ensures { out.new ≡ written_over source.now senders.now defaults.now }
 {
     let elements = ElementsOr {
         source,
         senders,
         defaults,
     };
-    Ok(write_alone(alloc, &elements, defaults.len())?)
+    write_over(out, &elements);
 }

@@ -12,11 +12,11 @@ pub mod sends;
 mod stores;
 
 pub use backs::{
-    check_places, check_places_alone, elements_at, elements_at_alone, write_elements_at,
+    check_places, check_places_alone, elements_at, elements_at_over, write_elements_at,
 };
 pub use destinations::{AllTargets, Destinations, FlaggedTargets};
 pub use elements::{
-    elements_of, elements_of_alone, elements_or_defaults, elements_or_defaults_alone,
+    elements_of, elements_of_over, elements_or_defaults, elements_or_defaults_over,
 };
 pub use owners::senders_shared;
 pub use places::element_of;

@@ -7,6 +7,7 @@ pub mod FlatIndices
 pub mod Flattened
 pub mod Joined
 pub mod Ranges
+pub mod Roomed
 pub mod Runs
 pub mod Through
 pub mod Walked

@@ -11,7 +11,7 @@ ghost use Rattle.segdes.specs.Starts.{start_of};
 
 use crate::looks::Look;
 use cvl_base::{Fault, Memory, NoResources};
-use fresh::{Run, Writer, write_alone, write_in_runs};
+use fresh::{Run, Writer, write_in_runs, write_over};
 use permute_walks::write_elements_at;
 use segdes::SegDes;
 use std::alloc::Allocator;
@@ -124,16 +124,17 @@ pub(crate) fn segments_at<T: Copy + Send + Sync, R: Threads + Sync, A: Memory>(
     Ok(write_in_runs(rt, alloc, threads, &elements, index.len())?)
 }
 
-/// The same as [`segments_at`], by the thread that calls.
-pub(crate) fn segments_at_alone<T: Copy, A: Memory>(
-    alloc: A,
+/// The same as [`segments_at`], over a room of as many places, by the thread that calls.
+pub(crate) fn segments_at_over<T: Copy, A: Allocator>(
     source: &[T],
     index: &[i32],
     source_d: &SegDes<A>,
     index_d: &SegDes<A>,
-) -> Result<Vec<T, A>, NoResources>
+    out: &mut [T],
+)
     requires fits { IsSegmentedBack source_d.now source.now index_d.now index.now }
-    ensures { IfOk result (λ v. v.items ≡ segments_at source_d.now source.now index_d.now index.now) }
+    requires as_long { length out.old ≡ length index.now }
+    ensures { out.new ≡ segments_at source_d.now source.now index_d.now index.now }
 {
     let elements = SegmentsAt {
         source,
@@ -141,5 +142,5 @@ pub(crate) fn segments_at_alone<T: Copy, A: Memory>(
         source_d,
         index_d,
     };
-    Ok(write_alone(alloc, &elements, index.len())?)
+    write_over(out, &elements);
 }

@@ -8,13 +8,13 @@ ghost use Rattle.cvl_base.specs.SegmentedCalls.{seg_back_of};
 ghost use Rattle.permute_walks.specs.Indices.{first_outside};
 ghost use Rattle.permutes.specs.Backs.{outside_from};
 
-use crate::back_segments::{check_segments, segments_at, segments_at_alone};
-use crate::looks::{ByCaller, ByThreads, threads_looking};
+use crate::back_segments::{check_segments, segments_at};
+use crate::looks::{ByThreads, threads_looking};
 use crate::segment_races::check_segments_raced;
 use crew::{Gate, OpenGate};
 use cvl_base::{Config, Memory, Refused, check_agree};
 use permute_races::{check_indices_raced, permute_pace};
-use permute_walks::{check_places, check_places_alone, elements_at, elements_at_alone};
+use permute_walks::{check_places, elements_at};
 use segdes::{SegDes, check_total};
 use sharing::threads_for;
 use std::thread::Threads;
@@ -100,20 +100,6 @@ pub fn back_gated<T: Copy + Send + Sync, R: Threads + Sync, A: Memory, G: Gate>(
     Ok(elements_at(rt, alloc, threads, source, index)?)
 }
 
-/// The same as [`back`], by the thread that calls.
-pub fn back_alone<T: Copy, A: Memory>(
-    alloc: A,
-    source: &[T],
-    index: &[i32],
-) -> Result<Vec<T, A>, Refused>
-    requires in_limit { length index.now ≤ most_elements }
-    ensures values { Gives (λ v. v.items) result (back_of source.now index.now) }
-    ensures as_long { IfOk result (λ v. vec_len v ≡ length index.now) }
-{
-    check_places_alone(index, source.len(), 0)?;
-    Ok(elements_at_alone(alloc, source, index)?)
-}
-
 /// The back permute of each segment: `bck_pez` and `bck_peb`.
 ///
 /// The source has as many elements as the segments of `source_d` in all, the index as many as those of `index_d`, and the
@@ -162,24 +148,4 @@ pub fn seg_back_gated<T: Copy + Send + Sync, R: Threads + Sync, A: Memory, G: Ga
     check_segment_indices(rt, alloc, config, index, source_d, index_d, gate)?;
     let threads = threads_for(config, index.len());
     Ok(segments_at(rt, alloc, threads, source, index, source_d, index_d)?)
-}
-
-/// The same as [`seg_back`], by the thread that calls.
-pub fn seg_back_alone<T: Copy, A: Memory>(
-    alloc: A,
-    source: &[T],
-    index: &[i32],
-    source_d: &SegDes<A>,
-    index_d: &SegDes<A>,
-) -> Result<Vec<T, A>, Refused>
-    requires in_limit { length index.now ≤ most_elements }
-    ensures values { Gives (λ v. v.items) result
-        (seg_back_of source.now index.now source_d.now index_d.now) }
-    ensures as_long { IfOk result (λ v. vec_len v ≡ length index.now) }
-{
-    check_total(source, source_d)?;
-    check_total(index, index_d)?;
-    check_agree(source_d.count(), index_d.count())?;
-    check_segments(&ByCaller, index, source_d, index_d)?;
-    Ok(segments_at_alone(alloc, source, index, source_d, index_d)?)
 }

@@ -7,10 +7,9 @@ ghost use Rattle.cvl_base.specs.Permutes.{default_of};
 ghost use Rattle.cvl_base.specs.SegmentedCalls.{seg_default_of};
 
 use crate::sent::{elements_to_over, segment_senders};
-use crate::sent_alone::{elements_to_over_alone, segment_senders_alone};
 use crew::{Gate, OpenGate};
 use cvl_base::{Config, Memory, Refused, check_agree};
-use permute_walks::{AllTargets, elements_or_defaults, elements_or_defaults_alone};
+use permute_walks::{AllTargets, elements_or_defaults};
 use segdes::{SegDes, check_total};
 use sharing::threads_for;
 use std::thread::Threads;
@@ -59,21 +58,6 @@ pub fn default_into_gated<T: Copy + Send + Sync, R: Threads + Sync, A: Memory, G
         &AllTargets { index },
         gate,
     )
-}
-
-/// The same as [`default_into`], by the thread that calls.
-pub fn default_into_alone<T: Copy, A: Memory>(
-    alloc: A,
-    source: &[T],
-    index: &[i32],
-    defaults: &[T],
-) -> Result<Vec<T, A>, Refused>
-    requires in_limit { length index.now ≤ most_elements }
-    ensures values { Gives (λ v. v.items) result (default_of source.now index.now defaults.now) }
-    ensures as_long { IfOk result (λ v. vec_len v ≡ length defaults.now) }
-{
-    check_agree(source.len(), index.len())?;
-    elements_to_over_alone(alloc, source, defaults, &AllTargets { index })
 }
 
 /// The default permute of each segment: `def_pez` and `def_peb`.
@@ -127,26 +111,4 @@ pub fn seg_default_into_gated<T: Copy + Send + Sync, R: Threads + Sync, A: Memor
     let senders = segment_senders(rt, alloc, config, index, source_d, default_d, gate)?;
     let threads = threads_for(config, defaults.len());
     Ok(elements_or_defaults(rt, alloc, threads, source, &senders, defaults)?)
-}
-
-/// The same as [`seg_default_into`], by the thread that calls.
-pub fn seg_default_into_alone<T: Copy, A: Memory>(
-    alloc: A,
-    source: &[T],
-    index: &[i32],
-    defaults: &[T],
-    source_d: &SegDes<A>,
-    default_d: &SegDes<A>,
-) -> Result<Vec<T, A>, Refused>
-    requires in_limit { length index.now ≤ most_elements }
-    ensures values { Gives (λ v. v.items) result
-        (seg_default_of source.now index.now defaults.now source_d.now default_d.now) }
-    ensures as_long { IfOk result (λ v. vec_len v ≡ length defaults.now) }
-{
-    check_total(source, source_d)?;
-    check_total(index, source_d)?;
-    check_total(defaults, default_d)?;
-    check_agree(source_d.count(), default_d.count())?;
-    let senders = segment_senders_alone(alloc, index, source_d, default_d)?;
-    Ok(elements_or_defaults_alone(alloc, source, &senders, defaults)?)
 }

@@ -8,28 +8,28 @@
 //! Each call has a gated form with the same contract for every gate. Workers race for the first walk where short tiles are
 //! asked for, also for that of segments, whose indices are then counted from the start of the whole result first.
 //!
-//! Each call has a form without a runtime too, `.._alone`, with the same clauses: both walks by the thread that calls.
+//! Each call has a form without a runtime too, `.._over`: both walks by the thread that calls, the second over a room of the
+//! caller's. Nothing is written before it is known that there is no fault.
 #![tactic(auto)]
 
 mod back_segments;
 mod backs;
 mod defaults;
 mod looks;
+mod over;
 mod segment_races;
 mod segments;
 mod selects;
 mod sent;
 mod sent_alone;
 mod simples;
+mod taken_over;
 
-pub use backs::{back, back_alone, back_gated, seg_back, seg_back_alone, seg_back_gated};
-pub use defaults::{
-    default_into, default_into_alone, default_into_gated, seg_default_into, seg_default_into_alone,
-    seg_default_into_gated,
+pub use backs::{back, back_gated, seg_back, seg_back_gated};
+pub use defaults::{default_into, default_into_gated, seg_default_into, seg_default_into_gated};
+pub use over::{
+    back_over, default_into_over, seg_back_over, seg_default_into_over, seg_select_over,
+    seg_simple_over, select_over, simple_over,
 };
-pub use selects::{
-    seg_select, seg_select_alone, seg_select_gated, select, select_alone, select_gated,
-};
-pub use simples::{
-    seg_simple, seg_simple_alone, seg_simple_gated, simple, simple_alone, simple_gated,
-};
+pub use selects::{seg_select, seg_select_gated, select, select_gated};
+pub use simples::{seg_simple, seg_simple_gated, simple, simple_gated};

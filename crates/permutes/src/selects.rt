@@ -7,10 +7,9 @@ ghost use Rattle.cvl_base.specs.Permutes.{select_of};
 ghost use Rattle.cvl_base.specs.SegmentedCalls.{seg_select_of};
 
 use crate::sent::{elements_to, flagged_segment_senders};
-use crate::sent_alone::{elements_to_alone, flagged_segment_senders_alone};
 use crew::{Gate, OpenGate};
 use cvl_base::{Config, Memory, Refused, check_agree, true_count};
-use permute_walks::{FlaggedTargets, elements_of, elements_of_alone};
+use permute_walks::{FlaggedTargets, elements_of};
 use segdes::{SegDes, check_total};
 use sharing::threads_for;
 use std::thread::Threads;
@@ -64,23 +63,6 @@ pub fn select_gated<T: Copy + Send + Sync, R: Threads + Sync, A: Memory, G: Gate
     )
 }
 
-/// The same as [`select`], by the thread that calls.
-pub fn select_alone<T: Copy, A: Memory>(
-    alloc: A,
-    source: &[T],
-    index: &[i32],
-    flags: &[bool],
-) -> Result<Vec<T, A>, Refused>
-    requires in_limit { length index.now ≤ most_elements }
-    ensures values { Gives (λ v. v.items) result (select_of source.now index.now flags.now) }
-    ensures in_length { IfOk result (λ v. vec_len v ≤ length index.now) }
-{
-    check_agree(source.len(), index.len())?;
-    check_agree(index.len(), flags.len())?;
-    let places = true_count(flags);
-    elements_to_alone(alloc, source, places, &FlaggedTargets { index, flags })
-}
-
 /// The select permute of each segment: `sel_pez` and `sel_peb`.
 ///
 /// Source, index and flags have as many elements as the segments in all, else `LengthMismatch`, without a place. A
@@ -126,25 +108,4 @@ pub fn seg_select_gated<T: Copy + Send + Sync, R: Threads + Sync, A: Memory, G: 
     let senders = flagged_segment_senders(rt, alloc, config, index, flags, d, gate)?;
     let threads = threads_for(config, senders.len());
     Ok(elements_of(rt, alloc, threads, source, &senders)?)
-}
-
-/// The same as [`seg_select`], by the thread that calls.
-pub fn seg_select_alone<T: Copy, A: Memory>(
-    alloc: A,
-    source: &[T],
-    index: &[i32],
-    flags: &[bool],
-    d: &SegDes<A>,
-) -> Result<Vec<T, A>, Refused>
-    requires in_limit { length index.now ≤ most_elements }
-    ensures values { Gives (λ v. v.items) result
-        (seg_select_of source.now index.now flags.now d.now) }
-    ensures in_length { IfOk result (λ v. vec_len v ≤ length index.now) }
-{
-    check_total(source, d)?;
-    check_total(index, d)?;
-    check_total(flags, d)?;
-    let places = true_count(flags);
-    let senders = flagged_segment_senders_alone(alloc, index, flags, d, places)?;
-    Ok(elements_of_alone(alloc, source, &senders)?)
 }

@@ -1,20 +1,18 @@
-//! Both walks of a permute, by the thread that calls.
+//! The first walk of a permute, by the thread that calls.
 
-ghost use Rattle.std.specs.Prelude.{◌≡◌, ◌≤◌, IfOk, Ok, filter_map, length, replicate, slice_get, sum, vec_len};
+ghost use Rattle.std.specs.Prelude.{◌≡◌, ◌≤◌, Ok, length, replicate, sum};
 ghost use Rattle.std.specs.Fn.{FnOnceReturnsAtMut, FnOnceTakesAtMut};
 ghost use Rattle.cvl_base.specs.Gives.{Gives, unless};
 ghost use Rattle.cvl_base.specs.Limits.{most_elements};
 ghost use Rattle.cvl_base.specs.Packs.{count_of};
 ghost use Rattle.cvl_base.specs.Permutes.{first_fault, wrongs};
 ghost use Rattle.permutes.specs.Parts.{fault_from, flagged_parts, parts_of, senders_from};
-ghost use Rattle.permutes.specs.Walks.{AreAllSent, IsFound};
-ghost use Rattle.permute_walks.specs.Senders.{nobody, senders_of, written_over};
+ghost use Rattle.permutes.specs.Walks.{IsFound};
+ghost use Rattle.permute_walks.specs.Senders.{nobody, senders_of};
 
 use crate::segments::{send_flagged_segments, send_segments};
 use cvl_base::{Fault, Memory, Refused};
-use permute_walks::{
-    Destinations, NOBODY, elements_of_alone, elements_or_defaults_alone, send_places,
-};
+use permute_walks::{Destinations, NOBODY, send_places};
 use segdes::SegDes;
 
 /// The senders of so many places, which `send` finds from nobody on.
@@ -83,39 +81,4 @@ pub(crate) fn flagged_segment_senders_alone<A: Memory>(
     senders_found(alloc, places, |senders| {
         send_flagged_segments(senders, index, flags, d)
     })
-}
-
-/// The elements of a flat result, each place of which has a sender.
-pub(crate) fn elements_to_alone<T: Copy, A: Memory, D: Destinations>(
-    alloc: A,
-    source: &[T],
-    places: usize,
-    destinations: &D,
-) -> Result<Vec<T, A>, Refused>
-    requires few { length (D.targets destinations.now) ≤ most_elements }
-    ensures values { AreAllSent (first_fault 0 (wrongs places (D.targets destinations.now))) (length source.now)
-        (senders_of 0 (D.targets destinations.now) places)
-        → Gives (λ v. v.items) result (unless (first_fault 0 (wrongs places (D.targets destinations.now)))
-        (Ok (filter_map (slice_get source.now) (senders_of 0 (D.targets destinations.now) places)))) }
-    ensures in_length { IfOk result (λ v. vec_len v ≤ places) }
-{
-    let senders = senders_alone(alloc, places, destinations)?;
-    Ok(elements_of_alone(alloc, source, &senders)?)
-}
-
-/// The elements of a flat result, or the default of a place that has no sender.
-pub(crate) fn elements_to_over_alone<T: Copy, A: Memory, D: Destinations>(
-    alloc: A,
-    source: &[T],
-    defaults: &[T],
-    destinations: &D,
-) -> Result<Vec<T, A>, Refused>
-    requires few { length (D.targets destinations.now) ≤ most_elements }
-    ensures values { Gives (λ v. v.items) result
-        (unless (first_fault 0 (wrongs (length defaults.now) (D.targets destinations.now)))
-        (Ok (written_over source.now (senders_of 0 (D.targets destinations.now) (length defaults.now)) defaults.now))) }
-    ensures as_long { IfOk result (λ v. vec_len v ≡ length defaults.now) }
-{
-    let senders = senders_alone(alloc, defaults.len(), destinations)?;
-    Ok(elements_or_defaults_alone(alloc, source, &senders, defaults)?)
 }

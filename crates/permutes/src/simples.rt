@@ -7,10 +7,9 @@ ghost use Rattle.cvl_base.specs.Permutes.{simple_of};
 ghost use Rattle.cvl_base.specs.SegmentedCalls.{seg_simple_of};
 
 use crate::sent::{elements_to, segment_senders};
-use crate::sent_alone::{elements_to_alone, segment_senders_alone};
 use crew::{Gate, OpenGate};
 use cvl_base::{Config, Memory, Refused, check_agree};
-use permute_walks::{AllTargets, elements_of, elements_of_alone};
+use permute_walks::{AllTargets, elements_of};
 use segdes::{SegDes, check_total};
 use sharing::threads_for;
 use std::thread::Threads;
@@ -60,20 +59,6 @@ pub fn simple_gated<T: Copy + Send + Sync, R: Threads + Sync, A: Memory, G: Gate
     )
 }
 
-/// The same as [`simple`], by the thread that calls.
-pub fn simple_alone<T: Copy, A: Memory>(
-    alloc: A,
-    source: &[T],
-    index: &[i32],
-) -> Result<Vec<T, A>, Refused>
-    requires in_limit { length index.now ≤ most_elements }
-    ensures values { Gives (λ v. v.items) result (simple_of source.now index.now) }
-    ensures as_long { IfOk result (λ v. vec_len v ≡ length index.now) }
-{
-    check_agree(source.len(), index.len())?;
-    elements_to_alone(alloc, source, index.len(), &AllTargets { index })
-}
-
 /// The simple permute of each segment: `smp_pez` and `smp_peb`.
 ///
 /// Source and index have as many elements as the segments in all, else `LengthMismatch`, without a place; the result is
@@ -115,21 +100,4 @@ pub fn seg_simple_gated<T: Copy + Send + Sync, R: Threads + Sync, A: Memory, G: 
     let senders = segment_senders(rt, alloc, config, index, d, d, gate)?;
     let threads = threads_for(config, senders.len());
     Ok(elements_of(rt, alloc, threads, source, &senders)?)
-}
-
-/// The same as [`seg_simple`], by the thread that calls.
-pub fn seg_simple_alone<T: Copy, A: Memory>(
-    alloc: A,
-    source: &[T],
-    index: &[i32],
-    d: &SegDes<A>,
-) -> Result<Vec<T, A>, Refused>
-    requires in_limit { length index.now ≤ most_elements }
-    ensures values { Gives (λ v. v.items) result (seg_simple_of source.now index.now d.now) }
-    ensures in_length { IfOk result (λ v. vec_len v ≤ length index.now) }
-{
-    check_total(source, d)?;
-    check_total(index, d)?;
-    let senders = segment_senders_alone(alloc, index, d, d)?;
-    Ok(elements_of_alone(alloc, source, &senders)?)
 }

@@ -40,7 +40,7 @@ impl Call<i32> for IntCall {
             DefaultInt(source, index, defaults) => cvl_default_permute_int(
                 alloc, source, index, defaults, room,
             ),
-            BackInt(source, index) => cvl_back_permute_int(alloc, source, index, room),
+            BackInt(source, index) => cvl_back_permute_int(source, index, room),
         }
     }
 }
@@ -109,7 +109,7 @@ impl Call<bool> for BoolCall {
             DefaultBool(source, index, defaults) => cvl_default_permute_bool(
                 alloc, source, index, defaults, room,
             ),
-            BackBool(source, index) => cvl_back_permute_bool(alloc, source, index, room),
+            BackBool(source, index) => cvl_back_permute_bool(source, index, room),
         }
     }
 }
