@@ -1,7 +1,7 @@
 //! Copies of one item.
-ghost use Rattle.std.specs.Prelude.{◌≡◌, ◌+◌, ◌≤◌, [], length, replicate};
+ghost use Rattle.std.specs.Prelude.{◌≡◌, ◌+◌, ◌-◌, ◌≤◌, ◌++◌, [], length, replicate};
 ghost use Rattle.fresh.specs.Parts.{part};
-ghost use Rattle.fresh.specs.Places.{stretch, with_items};
+ghost use Rattle.fresh.specs.Places.{stretch};
 
 use crate::forks::Writer;
 use crate::run::Run;
@@ -34,7 +34,7 @@ impl<T: Copy> Run<T> {
     /// Writes the next `count` places by copies of an item.
     pub fn push_copies(mut self, item: T, count: usize) -> Run<T>
         requires { count ≤ self.room }
-        ensures { result ≡ with_items self (replicate count item) }
+        ensures { result ≡ stretch self.block self.first (self.items ++ replicate count item) (self.room - count) }
     {
         for _ in 0..count {
             self.push(item);

@@ -11,7 +11,7 @@ ghost use Rattle.fresh.specs.Places.{stretch};
 use crate::checks::length_for;
 use crate::segment_runs::{EndToEnd, Segments};
 use cvl_base::{Config, Fault, Memory, Refused, check_agree};
-use fresh::{Run, Writer, write_in_runs, write_over};
+use fresh::{Copies, Run, write_in_runs, write_over};
 use segdes::SegDes;
 use sharing::threads_for;
 use std::alloc::{AllocError, Allocator};
@@ -32,7 +32,10 @@ pub fn distribute<T: Copy + Send + Sync, R: Threads + Sync, A: Memory>(
     ensures in_limit { IfOk result (λ v. vec_len v ≤ most_elements) }
 {
     let length = length_for(&count)?;
-    let copies = Copies { value, length };
+    let copies = Copies {
+        item: value,
+        count: length,
+    };
     let threads = threads_for(config, length);
     Ok(write_in_runs(rt, alloc, threads, &copies, length)?)
 }
@@ -44,7 +47,11 @@ pub fn distribute_over<T: Copy>(value: T, count: i32, out: &mut [T]) -> Result<(
 {
     let length = length_for(&count)?;
     check_agree(length, out.len())?;
-    write_over(out, &Copies { value, length });
+    let copies = Copies {
+        item: value,
+        count: length,
+    };
+    write_over(out, &copies);
     Ok(())
 }
 
@@ -88,29 +95,6 @@ pub fn seg_distribute_over<T: Copy, A: Allocator>(
     };
     write_over(out, &copies);
     Ok(())
-}
-
-/// So many copies of one value.
-#[derive(Drop)]
-struct Copies<T: Copy> {
-    value: T,
-    length: usize,
-}
-
-impl<T: Copy> Writer<T> for Copies<T> {
-    ghost use Rattle.std.specs.Prelude.{[]};
-    ghost use Rattle.fresh.specs.Parts.{part};
-
-    ghost whole = { λ c. replicate c.length c.value };
-
-    fn write(&self, run: Run<T>) -> Run<T>
-        requires empty { run.items ≡ [] }
-        requires within { run.first + run.room ≤ length (replicate self.now.length self.now.value) }
-        ensures { result ≡ stretch run.block run.first (part (replicate self.now.length self.now.value) run.first run.room) 0 }
-    {
-        let count = run.room();
-        push_copies(run, self.value, count)
-    }
 }
 
 /// Copies of a value for each segment.
@@ -157,17 +141,6 @@ impl<'a, T: Copy, A: Allocator> Segments for SegmentCopies<'a, T, A> {
         requires room { count ≤ run.room }
         ensures { result ≡ stretch run.block run.first (run.items ++ part (slice_index_or (copies_of self.now.values.now self.now.d.now) s []) from count) (run.room - count) }
     {
-        push_copies(run, self.values[s], count)
+        run.push_copies(self.values[s], count)
     }
-}
-
-/// Pushes `count` copies of a value. There must be room for them.
-fn push_copies<T: Copy>(mut run: Run<T>, value: T, count: usize) -> Run<T>
-    requires { count ≤ run.room }
-    ensures { result ≡ stretch run.block run.first (run.items ++ replicate count value) (run.room - count) }
-{
-    for _ in 0..count {
-        run.push(value);
-    }
-    run
 }
