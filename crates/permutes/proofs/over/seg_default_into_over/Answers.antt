@@ -23,7 +23,7 @@ returns-in_err-check_agree g c =
 pub take_or_default_over-requires : goal.take_or_default_over-requires
 take_or_default_over-requires g c = record {
   as_long = seg_default_long c.args.source.now c.args.index.now c.args.defaults.now c.args.source_d.now c.args.default_d.now c.in_ok-senders.senders.items _ c.in_ok-senders.ensures
-    c.deref.ensures.value c.in_ok-check_total-3.ensures.agrees (omega (arith, c.in_ok-check_agree.ensures));
+      c.deref.ensures.value c.in_ok-check_total-3.ensures.agrees (omega (arith, c.in_ok-check_agree.ensures));
 }
 
 pub returns-in_err-senders : goal.returns-in_err-senders
