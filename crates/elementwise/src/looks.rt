@@ -28,45 +28,34 @@ pub(crate) fn all_have_values<O: PartialBinary>(
     clear
 }
 
-/// The least place without a value from place `from` on, where `later` is the least one from place `to` on.
-fn first_between<O: PartialBinary>(
-    first: &[i32],
-    second: &[i32],
-    from: usize,
-    to: usize,
-    later: Option<u32>,
-) -> Option<u32>
-    requires as_long { length first.now ≡ length second.now }
-    requires in_limit { length first.now ≤ most_elements }
-    requires in_order { from ≤ to }
-    requires within { to ≤ length first.now }
-    requires later { later ≡ least_without O.value first.now second.now to }
-    ensures { result ≡ least_without O.value first.now second.now from }
+/// The least place without a value from place `from` on, of two vectors that are equally long.
+fn first_from<O: PartialBinary>(a: &[i32], b: &[i32], from: usize) -> Option<u32>
+    requires as_long { length a.now ≡ length b.now }
+    requires in_limit { length a.now ≤ most_elements }
+    requires within { from ≤ length a.now }
+    ensures { result ≡ least_without O.value a.now b.now from }
 {
-    if all_have_values::<O>(first, second, from, to) {
-        return later;
-    }
-    for place in from..to {
-        if !O::has_value(&first[place], &second[place]) {
+    for place in from..a.len() {
+        if !O::has_value(&a[place], &b[place]) {
             return Some(place as u32);
         }
     }
-    later
+    None
 }
 
 /// The least place without a value, of two vectors that are equally long.
-// From the last block to the first, so that the front is in the cache where a walk over the vectors begins after it.
 pub(crate) fn first_without<O: PartialBinary>(a: &[i32], b: &[i32]) -> Option<u32>
     requires as_long { length a.now ≡ length b.now }
     requires in_limit { length a.now ≤ most_elements }
     ensures { result ≡ least_without O.value a.now b.now 0 }
 {
-    let mut least = None;
-    let mut end = a.len();
-    while end > 0 {
-        let start = end.saturating_sub(BLOCK);
-        least = first_between::<O>(a, b, start, end, least);
-        end = start;
+    let mut start = 0;
+    while start < a.len() {
+        let end = (start + BLOCK).min(a.len());
+        if !all_have_values::<O>(a, b, start, end) {
+            return first_from::<O>(a, b, start);
+        }
+        start = end;
     }
-    least
+    None
 }

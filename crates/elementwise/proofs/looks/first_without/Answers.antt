@@ -1,20 +1,29 @@
-use Rattle.std.proofs.Common.{◌≡◌, ◌∙◌, ℤ, ap, arith, length, map, sym}
+use Rattle.std.proofs.Common.{◌≡◌, ◌∙◌, ◌≤◌, ℤ, arith, length, map, refl, sym}
 use Rattle.std.specs.List.{zip}
 use Rattle.std.proofs.lemmas.List.{length-map}
 use Rattle.std.proofs.lemmas.Slice.Zip.{length-zip}
-use Rattle.elementwise.specs.Valueless.{least_without, slot_without}
-use Rattle.elementwise.proofs.FirstWithout.{none_left}
+use Rattle.elementwise.specs.Valueless.{slot_without}
+use Rattle.elementwise.proofs.FirstWithout.{none_left, passed_up_to}
 use Rattle.elementwise.proofs.looks.first_without.Goals as goal
 
-pub loop-end-init : goal.loop-end-init
-loop-end-init g c =
+pub loop-start-init : goal.loop-start-init
+loop-start-init g c = record { within = omega arith; least = refl }
+
+pub returns-then-not-all_have_values : goal.returns-then-not-all_have_values
+returns-then-not-all_have_values g c = c.first_from.ensures ∙ sym c.loop-start.invariant.least
+
+pub loop-start-preserved : goal.loop-start-preserved
+loop-start-preserved g c =
     let a = c.args.a.now in let b = c.args.b.now in let at = λ (p : ℤ × ℤ). slot_without (g.O.PartialBinary.value p.0 p.1) in
+    let within : c.min-end.result ≤ length a = omega (arith, c.min-end.ensures) in
+    let in_order : c.loop-start.start ≤ c.min-end.result = omega (arith, c.min-end.ensures, c.loop-start-test.true) in
     record {
-      within = omega arith;
-      least = sym (none_left (map at (zip a b)) (length a) (omega (arith, length-map (zip a b) at, length-zip a b, c.requires.as_long)));
+      within = within;
+      least = c.loop-start.invariant.least ∙ passed_up_to (map at (zip a b)) c.loop-start.start c.min-end.result in_order
+          (omega (arith, length-map (zip a b) at, length-zip a b, within, c.requires.as_long)) (c.all_have_values.ensures c.if-not-all_have_values.false);
     }
 
 pub returns : goal.returns
 returns g c =
-    let done : c.loop-end.end ≡ 0 = omega (arith, c.loop-end-test.false) in
-    c.loop-end.invariant.least ∙ ap (least_without g.O.PartialBinary.value c.args.a.now c.args.b.now) done
+    let a = c.args.a.now in let b = c.args.b.now in let at = λ (p : ℤ × ℤ). slot_without (g.O.PartialBinary.value p.0 p.1) in
+    sym (c.loop-start.invariant.least ∙ none_left (map at (zip a b)) c.loop-start.start (omega (arith, length-map (zip a b) at, length-zip a b, c.loop-start-test.false)))

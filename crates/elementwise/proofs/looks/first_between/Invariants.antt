@@ -1,7 +1,0 @@
-use Rattle.std.proofs.Common.{◌≡◌}
-use Rattle.elementwise.specs.Valueless.{least_without}
-use Rattle.elementwise.proofs.looks.first_between.Given as goal
-
-abbrev pub invariant-loop-place : goal.invariant-loop-place
-invariant-loop-place g l =
-    least_without g.O.PartialBinary.value l.first l.second l.from ≡ least_without g.O.PartialBinary.value l.first l.second l.place
