@@ -54,8 +54,8 @@ pub fn pack_gated<T: Copy + Send + Sync, R: Threads + Sync, A: Memory, G: Gate>(
 
 /// The same as [`pack`], at the front of a room of the caller's, by the thread that calls. It asks for no memory.
 ///
-/// The count becomes the number of true flags, also where the room is shorter, which is LengthMismatch, without a place, too.
-/// The rest of the room stays as it is, and so does a room that is too short.
+/// The count becomes the number of true flags, also where the room is too short for as many elements: that is LengthMismatch,
+/// without a place, and the room is as before. Else the rest of the room is as before. At any other fault the count is, too.
 pub fn pack_over<T: Copy>(
     values: &[T],
     flags: &[bool],

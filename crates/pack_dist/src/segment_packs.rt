@@ -51,8 +51,8 @@ pub fn seg_pack_values_gated<T: Copy + Send + Sync, R: Threads + Sync, A: Memory
 
 /// The same as [`seg_pack_values`], at the front of a room of the caller's, by the thread that calls. It asks for no memory.
 ///
-/// The count becomes the number of true flags, also where the room is shorter, which is LengthMismatch, without a place, too.
-/// The rest of the room stays as it is, and so does a room that is too short.
+/// The count becomes the number of true flags, also where the room is too short for as many elements: that is LengthMismatch,
+/// without a place, and the room is as before. Else the rest of the room is as before. At any other fault the count is, too.
 pub fn seg_pack_values_over<T: Copy, A: Allocator>(
     values: &[T],
     flags: &[bool],
