@@ -80,7 +80,7 @@ wrapped_scans (n ∷ ls) xs =
 
 -- ---- scans of segments are as long as the elements
 
-length-scans_of : {Item : Type 0} (join : Item → Item → Item) (unit : Item) (lengths : List ℕ) (xs : List Item) → sum lengths ≡ length xs → length (scans_of join unit lengths xs) ≡ length xs
+pub length-scans_of : {Item : Type 0} (join : Item → Item → Item) (unit : Item) (lengths : List ℕ) (xs : List Item) → sum lengths ≡ length xs → length (scans_of join unit lengths xs) ≡ length xs
 length-scans_of join unit [] xs total = omega (arith, total)
 length-scans_of join unit (n ∷ ls) xs total =
     let front = take n xs in

@@ -1,23 +1,20 @@
 -- The first number of a list that doesn't fit 32 bits, and the first tile that has one.
 -- Source: what the definitions of Checked and CheckedSums imply.
-use Rattle.std.proofs.Common.{◌≡◌, ◌∙◌, ◌⊎◌, refl, sym, ap, subst, ℕ, zero, suc, ◌+◌, ◌-◌, ◌*◌, ◌<◌, ◌≤◌, min, Bool, true, false, cond, ℤ, pos, ◌+ℤ◌, List, [], ◌∷◌, ◌++◌, length, map, take, drop, arith, take-add, Option, Some, None, Ok, Err, inl, inr}
+use Rattle.std.proofs.Common.{◌≡◌, ◌∙◌, ◌⊎◌, refl, sym, ap, subst, ℕ, zero, suc, ◌+◌, ◌-◌, ◌*◌, ◌<◌, ◌≤◌, min, Bool, true, false, ℤ, pos, ◌+ℤ◌, List, ◌∷◌, ◌++◌, length, map, take, drop, arith, take-add, Option, Some, None, Err, inl, inr}
 use Rattle.std.specs.Prelude.{if◌then◌else◌, nat_lt}
 use Rattle.std.specs.List.{range_with_len}
 use Rattle.std.proofs.lemmas.Bool.{true≢false}
 use Rattle.std.proofs.lemmas.Bool.Decides.{leb_tells}
 use Rattle.std.proofs.lemmas.List.{append_assoc, length-append, length-take, take-append-drop, take_all}
 use Rattle.std.proofs.lemmas.Option.{none-some, same_Some}
-use Rattle.operators.specs.NumberLaws.{number_words}
 use Rattle.boards.specs.Slots.{least_from}
 use Rattle.cvl_base.specs.CheckedSums.{fitting}
 use Rattle.cvl_base.specs.declared.fault.FaultNo.TheVariants.{Overflow}
 use Rattle.cvl_base.specs.Elementwise.{values_from}
 use Rattle.cvl_base.specs.Faults.{fault_at}
-use Rattle.cvl_base.specs.Gives.{◌>>=◌}
-use Rattle.cvl_base.specs.Integers.{wrap}
-use Rattle.cvl_base.specs.ItemWords.{is_number}
 use Rattle.scan_walks.specs.Fronts.{fitting_front}
 use Rattle.scan_walks.specs.Runs.{run_scan_of}
+use Rattle.scan_walks.proofs.Fitted.{overflows}
 use Rattle.scan_walks.proofs.FrontLaws.{front_past, front_within}
 use Rattle.scan_walks.proofs.RunPushed.{length-run_scan_of}
 use Rattle.tile_plan.specs.Ranges.{range_of, tile_count}
@@ -71,39 +68,6 @@ within_is zs ge =
       | inl e ↦ absurd (omega (arith, ge, e.1))
       | inr e ↦ e.0
     ]
-
-fails_at : (b : Bool) (n k : ℕ) (z : ℤ) (zs : List ℤ) → cond b (1 + fitting_front zs) 0 < 1 + length zs
-    → (fitting_front zs < length zs → values_from Overflow (n + 1) (map fitting zs) ≡ Err (fault_at Overflow (n + 1 + fitting_front zs)))
-    → values_from Overflow n ((if b then Some z else None) ∷ map fitting zs) ≡ Err (fault_at Overflow (n + cond b (1 + fitting_front zs) 0))
-fails_at true n k z zs lt others =
-    ap (λ r. r >>= λ ys. Ok (z ∷ ys)) (others (omega (arith, lt))) ∙ ap (λ p. Err (fault_at Overflow p)) (omega arith)
-fails_at false n k z zs lt others = ap (λ p. Err (fault_at Overflow p)) (omega arith)
-
--- the fault is that of the first number that doesn't fit
-pub overflows : (n : ℕ) (zs : List ℤ) → fitting_front zs < length zs → values_from Overflow n (map fitting zs) ≡ Err (fault_at Overflow (n + fitting_front zs))
-overflows n [] lt = absurd (omega (arith, lt))
-overflows n (z ∷ zs) lt = fails_at (is_number z) n 0 z zs (omega (arith, lt)) (overflows (n + 1) zs)
-
-fits_at : (b : Bool) (n : ℕ) (z : ℤ) (zs : List ℤ) → 1 + length zs ≤ cond b (1 + fitting_front zs) 0
-    → (length zs ≤ fitting_front zs → values_from Overflow (n + 1) (map fitting zs) ≡ Ok zs)
-    → values_from Overflow n ((if b then Some z else None) ∷ map fitting zs) ≡ Ok (z ∷ zs)
-fits_at true n z zs ge others = ap (λ r. r >>= λ ys. Ok (z ∷ ys)) (others (omega (arith, ge)))
-fits_at false n z zs ge others = absurd (omega (arith, ge))
-
--- where all fit they are the values
-pub all_fit : (n : ℕ) (zs : List ℤ) → length zs ≤ fitting_front zs → values_from Overflow n (map fitting zs) ≡ Ok zs
-all_fit n [] ge = refl
-all_fit n (z ∷ zs) ge = fits_at (is_number z) n z zs (omega (arith, ge)) (all_fit (n + 1) zs)
-
-wrapped_at : (b : Bool) (z : ℤ) (zs : List ℤ) → is_number z ≡ b → 1 + length zs ≤ cond b (1 + fitting_front zs) 0 → (length zs ≤ fitting_front zs → map wrap zs ≡ zs)
-    → map wrap (z ∷ zs) ≡ z ∷ zs
-wrapped_at true z zs number ge others = ap (λ y. y ∷ map wrap zs) (number_words.inverse z number) ∙ ap (λ ys. z ∷ ys) (others (omega (arith, ge)))
-wrapped_at false z zs number ge others = absurd (omega (arith, ge))
-
--- and to wrap them changes nothing
-pub wrapped_same : (zs : List ℤ) → length zs ≤ fitting_front zs → map wrap zs ≡ zs
-wrapped_same [] ge = refl
-wrapped_same (z ∷ zs) ge = wrapped_at (is_number z) z zs refl (omega (arith, ge)) (wrapped_same zs)
 
 pub overflow_meant : (zs : List ℤ) (o : Option ℕ) (p : ℕ) → o ≡ first_outside zs → o ≡ Some p → values_from Overflow 0 (map fitting zs) ≡ Err (fault_at Overflow p)
 overflow_meant zs o p is some =

@@ -4,10 +4,9 @@ use Rattle.std.proofs.Common.{inr}
 use Rattle.std.specs.Prelude.{sum}
 use Rattle.std.specs.List.{AllPass, flat_map, range_with_len}
 use Rattle.std.proofs.lemmas.Bool.Decides.{eqb_tells, leb_tells}
-use Rattle.std.proofs.lemmas.List.{length-append, length-drop, length-take, take_all}
+use Rattle.std.proofs.lemmas.List.{take_all}
 use Rattle.std.proofs.lemmas.List.FromFn.{get_or-map-range_with_len, length-map-range_with_len}
-use Rattle.operators.proofs.FoldLaws.{length-scan_of}
-use Rattle.cvl_base.specs.Folds.{fold_of, scan_of}
+use Rattle.cvl_base.specs.Folds.{fold_of}
 use Rattle.cvl_base.specs.Monoid.{MonoidLaws}
 use Rattle.cvl_base.specs.SegmentMonoid.{is_seg_item, seg_unit, seg_join}
 use Rattle.cvl_base.specs.TileSums.{before_tile}
@@ -99,14 +98,6 @@ module _ (plan : ℕ × ℕ) (lengths : List ℕ) where
             let more : t * plan.1 ≤ (t + 1) * plan.1 = omega arith in
             omega (arith, first_left_within t below, first_left_within (t + 1) (omega (arith, e.1)), starts_rise lengths (t * plan.1) ((t + 1) * plan.1) more)
       ]
-
-pub length-scans_of : {Item : Type 0} (join : Item → Item → Item) (unit : Item) (lengths : List ℕ) (xs : List Item) → sum lengths ≡ length xs → length (scans_of join unit lengths xs) ≡ length xs
-length-scans_of join unit [] xs total = omega (arith, total)
-length-scans_of join unit (n ∷ ls) xs total =
-    let front = take n xs in
-    let whole : n + sum ls ≡ length xs = omega (arith, total, sum-cons n ls) in
-    let rest = length-scans_of join unit ls (drop n xs) (omega (arith, whole, length-drop n xs)) in
-    omega (arith, length-append (scan_of join unit front) (scans_of join unit ls (drop n xs)), length-scan_of join unit front, length-take n xs, length-drop n xs, rest, whole)
 
 pub length-reduces_of : {Item : Type 0} (join : Item → Item → Item) (unit : Item) (lengths : List ℕ) (xs : List Item) → length (reduces_of join unit lengths xs) ≡ length lengths
 length-reduces_of join unit [] xs = refl

@@ -7,17 +7,14 @@ use Rattle.std.proofs.lemmas.Int.{to_z-of_z}
 use Rattle.std.proofs.lemmas.List.{length-drop, length-take}
 use Rattle.std.proofs.lemmas.List.Elements.{All-take}
 use Rattle.std.proofs.lemmas.List.FromFn.{get_or-map-range_with_len}
-use Rattle.operators.proofs.FoldLaws.{fold_of_is_item}
+use Rattle.operators.proofs.FoldLaws.{fold_of_is_item, length-scan_of}
 use Rattle.operators.specs.ExactLaws.{exact_laws, word-in}
-use Rattle.operators.specs.NumberLaws.{sum_laws}
 use Rattle.operators.specs.SegmentMonoidLaws.{seg_laws}
-use Rattle.cvl_base.specs.CheckedSums.{checked_scan_of, checked_seg_scan_of, fitting}
+use Rattle.cvl_base.specs.CheckedSums.{checked_scan_of, checked_seg_scan_of}
 use Rattle.cvl_base.specs.declared.fault.Fault.{Fault}
-use Rattle.cvl_base.specs.declared.fault.FaultNo.TheVariants.{Overflow}
 use Rattle.cvl_base.specs.declared.refused.Refused.{Refused}
 use Rattle.cvl_base.specs.declared.refused.Refused.TheVariants as refused
 use Rattle.cvl_base.specs.Gives.{Gives}
-use Rattle.cvl_base.specs.Elementwise.{values_from}
 use Rattle.cvl_base.specs.Folds.{scan_of}
 use Rattle.cvl_base.specs.Integers.{sum_of}
 use Rattle.cvl_base.specs.ItemWords.{is_number, is_word}
@@ -26,14 +23,14 @@ use Rattle.cvl_base.specs.SegmentMonoid.{is_seg_item}
 use Rattle.scan_walks.specs.Fronts.{fitting_front}
 use Rattle.scan_walks.specs.Runs.{continued, run_scan_of, scans_of, with_starts}
 use Rattle.scan_walks.proofs.Cut.{segments_scanned}
-use Rattle.scan_walks.proofs.Valued.{scans_valued}
+use Rattle.scan_walks.proofs.Fitted.{length-scans_of, scan_fits, scans_fit}
 use Rattle.scan_walks.proofs.WholeSums.{all_whole, whole_laws}
 use Rattle.tile_plan.specs.Ranges.{range_of, tile_count}
 use Rattle.tile_scans.specs.Checked.{first_outside, slot_of_tile, total_scan, total_since, totals_before}
 use Rattle.tile_scans.specs.Kernels.{tile_of}
-use Rattle.tile_scans.proofs.Outsides.{all_fit, length-total_scan, none_outside, outside_is, tile_scanned, within_is, wrapped_same}
-use Rattle.tile_scans.proofs.RunScans.{continued_passes, continued_run_scan, with_starts_passes}
-use Rattle.tile_scans.proofs.WholeSums.{all_words, exact_total, wrapped_scan}
+use Rattle.tile_scans.proofs.Outsides.{length-total_scan, none_outside, outside_is, tile_scanned, within_is}
+use Rattle.tile_scans.proofs.RunScans.{continued_run_scan}
+use Rattle.tile_scans.proofs.WholeSums.{all_words, exact_total}
 use Rattle.tile_scans.proofs.WideSums.{fits_wide}
 
 module _ (plan : ℕ × ℕ) (ws : List (Bool × ℤ)) (some : 1 ≤ plan.1) (few : plan.0 ≤ most_elements) (whole : length ws ≡ plan.0) (numbers : AllPass (is_seg_item is_number) ws) where
@@ -82,27 +79,20 @@ module _ (plan : ℕ × ℕ) (ws : List (Bool × ℤ)) (some : 1 ≤ plan.1) (fe
 
 -- ---- the scan of a run, written where all results fit
 
-run_scan_meant : (ws : List (Bool × ℤ)) (zs ys : List ℤ) → AllPass (is_seg_item is_number) ws → first_outside (total_scan ws) ≡ None → zs ≡ total_scan ws
-    → ys ≡ run_scan_of sum_of (pos 0) (pos 0) ws → values_from Overflow 0 (map fitting zs) ≡ Ok ys
-run_scan_meant ws zs ys numbers fit is_total is =
-    let ge : length (total_scan ws) ≤ fitting_front (total_scan ws) = none_outside (total_scan ws) None (sym fit) refl in
-    ap (λ rs. values_from Overflow 0 (map fitting rs)) is_total
-    ∙ all_fit 0 (total_scan ws) ge
-    ∙ ap Ok (sym (is ∙ wrapped_scan ws numbers ∙ wrapped_same (total_scan ws) ge))
-
 -- of a flat vector
-pub flat_scan_meant : (xs ys : List ℤ) → AllPass is_number xs → first_outside (total_scan (continued xs)) ≡ None → ys ≡ scan_of sum_of (pos 0) xs → checked_scan_of xs ≡ Ok ys
-flat_scan_meant xs ys numbers fit is =
-    run_scan_meant (continued xs) (scan_of ◌+ℤ◌ (pos 0) xs) ys (continued_passes is_number xs numbers) fit (sym (continued_run_scan ◌+ℤ◌ (pos 0) (pos 0) xs))
-    (is ∙ sym (continued_run_scan sum_of (pos 0) (pos 0) xs))
+pub flat_scan_meant : (xs ys : List ℤ) → first_outside (total_scan (continued xs)) ≡ None → ys ≡ scan_of sum_of (pos 0) xs → checked_scan_of xs ≡ Ok ys
+flat_scan_meant xs ys fit is =
+    let zs = scan_of ◌+ℤ◌ (pos 0) xs in
+    let ge = none_outside zs None (sym fit ∙ ap first_outside (continued_run_scan ◌+ℤ◌ (pos 0) (pos 0) xs)) refl in
+    scan_fits (fitting_front zs) xs refl (omega (arith, ge, length-scan_of ◌+ℤ◌ (pos 0) xs)) ∙ ap Ok (sym is)
 
 -- and of a segmented one
-pub segmented_scan_meant : (lengths : List ℕ) (xs ys : List ℤ) → sum lengths ≡ length xs → AllPass is_number xs → first_outside (total_scan (with_starts lengths xs)) ≡ None
+pub segmented_scan_meant : (lengths : List ℕ) (xs ys : List ℤ) → sum lengths ≡ length xs → first_outside (total_scan (with_starts lengths xs)) ≡ None
     → ys ≡ scans_of sum_of (pos 0) lengths xs → checked_seg_scan_of xs lengths ≡ Ok ys
-segmented_scan_meant lengths xs ys total numbers fit is =
-    scans_valued lengths xs total
-    ∙ run_scan_meant (with_starts lengths xs) (scans_of ◌+ℤ◌ (pos 0) lengths xs) ys (with_starts_passes is_number lengths xs numbers) fit
-    (sym (segments_scanned whole_laws lengths xs (pos 0) (all_whole xs))) (is ∙ sym (segments_scanned sum_laws lengths xs (pos 0) numbers))
+segmented_scan_meant lengths xs ys total fit is =
+    let zs = scans_of ◌+ℤ◌ (pos 0) lengths xs in
+    let ge = none_outside zs None (sym fit ∙ ap first_outside (segments_scanned whole_laws lengths xs (pos 0) (all_whole xs))) refl in
+    scans_fit (fitting_front zs) lengths xs total refl (omega (arith, ge, length-scans_of ◌+ℤ◌ (pos 0) lengths xs total)) ∙ ap Ok (sym is)
 
 -- a refusal is handed on
 pub refused_on : {X Y Z : Type 0} (view : X → Y) (other : Z → Y) (e : Refused) (m n : Result Y Fault) → m ≡ n → Gives other (Err e) m → Gives view (Err e) n

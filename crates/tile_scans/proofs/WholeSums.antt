@@ -19,10 +19,10 @@ use Rattle.cvl_base.specs.ItemWords.{is_number, is_word}
 use Rattle.cvl_base.specs.Limits.{most_elements}
 use Rattle.cvl_base.specs.SegmentMonoid.{is_seg_item, seg_join, seg_unit}
 use Rattle.cvl_base.specs.TileSums.{before_tile}
-use Rattle.scan_walks.specs.Runs.{run_scan_of}
+use Rattle.scan_walks.proofs.Fitted.{zero_wrapped}
 use Rattle.tile_plan.specs.Ranges.{range_of, tile_count}
 use Rattle.tile_plan.proofs.Numbers.{starts_within}
-use Rattle.tile_scans.specs.Checked.{total_scan, total_since, totals_before}
+use Rattle.tile_scans.specs.Checked.{total_since, totals_before}
 use Rattle.tile_scans.specs.Kernels.{sums_of, tile_of}
 use Rattle.tile_scans.specs.Written.{befores_of}
 use Rattle.tile_scans.proofs.Tiled.{sums_before}
@@ -71,25 +71,6 @@ wrapped_since f z ((true, x) ∷ ws) numbers =
 wrapped_since f z ((false, x) ∷ ws) numbers =
     ap (λ y. (fold_of (seg_join sum_of) (either f false, y) ws).1) (int_wrap-add_left w32 z x)
     ∙ wrapped_since (either f false) (z +ℤ x) ws (All-tail (λ w. is_seg_item is_number w ≡ true) (false, x) ws numbers)
-
-zero_wrapped : wrap (pos 0) ≡ pos 0
-zero_wrapped = number_words.inverse (pos 0) refl
-
--- the wrapped scan of a run
-wrapped_scan_after : (z : ℤ) (ws : List (Bool × ℤ)) → AllPass (is_seg_item is_number) ws
-    → run_scan_of sum_of (pos 0) (wrap z) ws ≡ map wrap (run_scan_of ◌+ℤ◌ (pos 0) z ws)
-wrapped_scan_after z [] numbers = refl
-wrapped_scan_after z ((true, x) ∷ ws) numbers =
-    let number : is_number x ≡ true = All-head (λ w. is_seg_item is_number w ≡ true) (true, x) ws numbers in
-    ap (λ y. y ∷ run_scan_of sum_of (pos 0) x ws) (sym zero_wrapped)
-    ∙ ap (λ y. wrap (pos 0) ∷ run_scan_of sum_of (pos 0) y ws) (sym (number_words.inverse x number))
-    ∙ ap (λ ys. wrap (pos 0) ∷ ys) (wrapped_scan_after x ws (All-tail (λ w. is_seg_item is_number w ≡ true) (true, x) ws numbers))
-wrapped_scan_after z ((false, x) ∷ ws) numbers =
-    ap (λ y. wrap z ∷ run_scan_of sum_of (pos 0) y ws) (int_wrap-add_left w32 z x)
-    ∙ ap (λ ys. wrap z ∷ ys) (wrapped_scan_after (z +ℤ x) ws (All-tail (λ w. is_seg_item is_number w ≡ true) (false, x) ws numbers))
-
-pub wrapped_scan : (ws : List (Bool × ℤ)) → AllPass (is_seg_item is_number) ws → run_scan_of sum_of (pos 0) (pos 0) ws ≡ map wrap (total_scan ws)
-wrapped_scan ws numbers = ap (λ z. run_scan_of sum_of (pos 0) z ws) (sym zero_wrapped) ∙ wrapped_scan_after (pos 0) ws numbers
 
 -- ---- what stands before each tile
 

@@ -34,7 +34,7 @@ returns-clause-values g c =
     let v = c.new-vector.result in
     let fit : first_outside (total_scan (continued a)) ≡ None =
     subst (λ xs. first_outside (total_scan (continued xs)) ≡ None) c.new-totals.ensures.elements c.in-Ok.ensures.fit in
-    flat_scan_meant a c.in_ok-sums.sums.items c.know_numbers.ensures fit
+    flat_scan_meant a c.in_ok-sums.sums.items fit
     (c.in_ok-sums.ensures ∙ ap (scan_of sum_of (pos 0)) (map-id v.elements.now ∙ c.new-vector.ensures.elements))
 
 pub returns-clause-as_long : goal.returns-clause-as_long

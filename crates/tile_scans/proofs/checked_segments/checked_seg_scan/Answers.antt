@@ -8,6 +8,7 @@ use Rattle.cvl_base.specs.Integers.{sum_of, wrap}
 use Rattle.cvl_base.specs.ItemWords.{is_number}
 use Rattle.scan_walks.specs.Runs.{scans_of, with_starts}
 use Rattle.scan_walks.proofs.Cut.{segments_scanned}
+use Rattle.scan_walks.proofs.Fitted.{length-scans_of}
 use Rattle.scan_walks.proofs.LastStart.{length-with_starts}
 use Rattle.scan_walks.proofs.Valued.{scans_valued}
 use Rattle.scan_walks.proofs.WholeSums.{all_whole, whole_laws}
@@ -15,7 +16,6 @@ use Rattle.tile_scans.specs.Checked.{first_outside, total_scan, totals_before}
 use Rattle.tile_scans.specs.Kernels.{segmented_sums}
 use Rattle.tile_scans.specs.Written.{befores_of}
 use Rattle.tile_scans.proofs.RunScans.{with_starts_passes}
-use Rattle.tile_scans.proofs.SegmentedTiles.{length-scans_of}
 use Rattle.tile_scans.proofs.TileFronts.{refused_on, segmented_scan_meant}
 use Rattle.tile_scans.proofs.WholeSums.{wrapped_befores}
 use Rattle.tile_scans.proofs.checked_segments.checked_seg_scan.Goals as goal
@@ -50,7 +50,7 @@ returns-clause-values g c =
     let fit : first_outside (total_scan (with_starts d a)) ≡ None =
     subst (λ xs. first_outside (total_scan (with_starts d xs)) ≡ None) c.new-totals.ensures.elements
     (subst (λ ls. first_outside (total_scan (with_starts ls c.new-totals.result.elements.now)) ≡ None) c.new-totals.ensures.segments c.in-Ok.ensures.fit) in
-    segmented_scan_meant d a c.in_ok-sums.sums.items c.in_ok-check_total.ensures.agrees c.know_numbers.ensures fit
+    segmented_scan_meant d a c.in_ok-sums.sums.items c.in_ok-check_total.ensures.agrees fit
     (written v.segments.now d v.elements.now a c.in_ok-sums.sums.items c.new-vector.ensures.segments (map-id v.elements.now ∙ c.new-vector.ensures.elements) c.in_ok-sums.ensures)
 
 pub returns-clause-as_long : goal.returns-clause-as_long

@@ -1,6 +1,7 @@
 use Rattle.std.proofs.Common.{Err, sym, ap, ◌∙◌}
+use Rattle.scan_walks.proofs.Fitted.{all_fit}
 use Rattle.tile_scans.specs.Checked.{total_scan}
-use Rattle.tile_scans.proofs.Outsides.{all_fit, none_outside, overflow_meant}
+use Rattle.tile_scans.proofs.Outsides.{none_outside, overflow_meant}
 use Rattle.tile_scans.proofs.overflows.befores_or_overflow.Goals as goal
 
 pub returns-in-Some-clause-meaning : goal.returns-in-Some-clause-meaning

@@ -1,8 +1,8 @@
 use Rattle.std.proofs.Common.{◌≡◌, Ok, arith, length, map, sym, ap, ◌∙◌}
 use Rattle.std.proofs.lemmas.List.{length-map, map-id}
 use Rattle.scan_walks.specs.Runs.{scans_of}
+use Rattle.scan_walks.proofs.Fitted.{length-scans_of}
 use Rattle.scan_walks.proofs.Segmented.{seg_scan-fits}
-use Rattle.tile_scans.proofs.SegmentedTiles.{length-scans_of}
 use Rattle.tile_scans.proofs.scans.seg_scan_gated.Goals as goal
 
 pub returns-clause-values : goal.returns-clause-values

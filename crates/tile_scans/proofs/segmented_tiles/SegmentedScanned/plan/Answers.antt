@@ -1,6 +1,7 @@
 use Rattle.std.proofs.Common.{map, sym, ◌∙◌}
 use Rattle.std.proofs.lemmas.List.{length-map}
-use Rattle.tile_scans.proofs.SegmentedTiles.{length-scans_of, length-segmented_sums}
+use Rattle.scan_walks.proofs.Fitted.{length-scans_of}
+use Rattle.tile_scans.proofs.SegmentedTiles.{length-segmented_sums}
 use Rattle.tile_scans.proofs.segmented_tiles.SegmentedScanned.plan.Goals as goal
 
 pub returns-clause-whole : goal.returns-clause-whole
