@@ -8,13 +8,14 @@ pub use bools::{
     bool_reduce, bool_reduce_gated, bool_scan, bool_scan_gated, seg_bool_reduce,
     seg_bool_reduce_gated, seg_bool_scan, seg_bool_scan_gated,
 };
+pub use checked_tile_scans::{checked_reduce, checked_scan, checked_seg_reduce, checked_seg_scan};
 pub use ints::{
     int_reduce, int_reduce_gated, int_scan, int_scan_gated, seg_int_reduce, seg_int_reduce_gated,
     seg_int_scan, seg_int_scan_gated,
 };
 pub use scan_walks::{Reading, readings, scan_of_run, sum_of_run};
 pub use tile_scans::{
-    checked_reduce, checked_scan, checked_seg_reduce, checked_seg_scan, reduce, reduce_gated,
-    reduce_readings, scan, scan_gated, scan_readings, scan_readings_gated, seg_reduce,
-    seg_reduce_gated, seg_reduce_readings, seg_reduce_readings_gated, seg_scan, seg_scan_gated,
+    reduce, reduce_gated, reduce_readings, scan, scan_gated, scan_readings, scan_readings_gated,
+    seg_reduce, seg_reduce_gated, seg_reduce_readings, seg_reduce_readings_gated, seg_scan,
+    seg_scan_gated,
 };

@@ -1,12 +1,5 @@
-pub mod FirstWithout
-pub mod FlatReduces
 pub mod FlatTiles
 pub mod Known
-pub mod Outsides
 pub mod RunScans
-pub mod SegmentTotals
 pub mod SegmentedTiles
-pub mod TileFronts
 pub mod Tiled
-pub mod WholeSums
-pub mod WideSums

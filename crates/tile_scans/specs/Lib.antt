@@ -1,4 +1,3 @@
-pub mod Checked
 pub mod Kernels
 pub mod Told
 pub mod Written

@@ -6,29 +6,25 @@
 //!
 //! Each call has a gated form, whose workers pass a gate at each point of their way through a tile. The call itself is its
 //! gated form at the gate that holds nobody, so that a gate sees whatever the call does.
+//!
+//! A crate above that sums up tiles in a way of its own has the parts: the pace, the race for what stands before each tile, and
+//! the scan that is written where that is known.
 #![tactic(auto)]
 
-mod checked;
-mod checked_segments;
+mod befores;
 mod flat_tiles;
-mod flat_totals;
 mod kernel;
-mod overflows;
 mod pace;
 mod race;
 mod reduces;
 mod scans;
-mod segment_sums;
 mod segmented_tiles;
-mod segmented_totals;
-mod sum_runs;
-mod summed_tile;
 mod tile_work;
-mod totals;
 mod writes;
 
-pub use checked::{checked_reduce, checked_scan};
-pub use checked_segments::{checked_seg_reduce, checked_seg_scan};
+pub use befores::{scan_after_befores, seg_scan_after_befores};
+pub use pace::{reduce_pace, scan_pace};
+pub use race::race_for_befores;
 pub use reduces::{
     reduce, reduce_gated, reduce_readings, seg_reduce, seg_reduce_gated, seg_reduce_readings,
     seg_reduce_readings_gated,

@@ -9,7 +9,7 @@ use cvl_base::Config;
 use sharing::{LEAST_REDUCED, LEAST_SCANNED, race_pace};
 
 /// The tiles and the workers of the race by which so many elements are scanned, or none where one thread walks them at once.
-pub(crate) fn scan_pace(config: Config, elements: usize) -> Option<Config>
+pub fn scan_pace(config: Config, elements: usize) -> Option<Config>
     ensures some { IfSome result (λ _. 1 ≤ elements) }
     ensures few { IfSome result (λ _. elements ≤ most_elements) }
 {
@@ -18,7 +18,7 @@ pub(crate) fn scan_pace(config: Config, elements: usize) -> Option<Config>
 
 /// The tiles and the workers of the race by which so many elements, which take so many bytes, are reduced, or none where one
 /// thread walks them at once.
-pub(crate) fn reduce_pace(config: Config, elements: usize, bytes: usize) -> Option<Config>
+pub fn reduce_pace(config: Config, elements: usize, bytes: usize) -> Option<Config>
     ensures some { IfSome result (λ _. 1 ≤ elements) }
     ensures few { IfSome result (λ _. elements ≤ most_elements) }
 {

@@ -70,11 +70,12 @@ where
     Ok(crewed.pieces)
 }
 
-/// What stands before each tile of a vector. Workers race for the tiles, tell their sums and their prefixes, and pass the
-/// gate at each point. Where there is one worker no thread is started. It keeps no memory but the answer's.
+/// What stands before each tile of a vector: what the tiles before it join to since the last start of a segment. Workers race
+/// for the tiles, tell their sums and their prefixes, and pass the gate at each point. Where there is one worker no thread is
+/// started. It keeps no memory but the answer's.
 ///
-/// Source: Merrill and Garland's decoupled look-back.
-pub(crate) fn race_for_befores<R: Threads + Sync, A: Memory, T: Tiles + Sync, G: Gate>(
+/// The result has one item for each tile. Source: Merrill and Garland's decoupled look-back.
+pub fn race_for_befores<R: Threads + Sync, A: Memory, T: Tiles + Sync, G: Gate>(
     rt: &R,
     alloc: A,
     config: Config,

@@ -1,0 +1,130 @@
+-- The first of some numbers that doesn't fit 32 bits, found while the numbers are written.
+-- Source: what the definitions of Checked and CheckedSums imply.
+use Rattle.std.proofs.Common.{◌≡◌, ◌∙◌, refl, sym, ap, ℕ, suc, ◌+◌, ◌-◌, ◌<◌, ◌≤◌, Bool, true, false, ℤ, pos, List, [], ◌∷◌, ◌++◌, length, map, take, drop, get_or, arith, take-add, Option, Some, None, Ok, Err}
+use Rattle.std.specs.Prelude.{if◌then◌else◌}
+use Rattle.std.specs.Option.{option_or}
+use Rattle.std.proofs.lemmas.List.{drop-drop, drop_more, get_or-map, length-drop, length-map, length-take, take_all}
+use Rattle.std.proofs.lemmas.Option.{none-some, same_Some}
+use Rattle.operators.specs.NumberLaws.{number_words}
+use Rattle.cvl_base.specs.CheckedSums.{fitting}
+use Rattle.cvl_base.specs.declared.fault.FaultNo.TheVariants.{Overflow}
+use Rattle.cvl_base.specs.Elementwise.{values_from}
+use Rattle.cvl_base.specs.Faults.{fault_at}
+use Rattle.cvl_base.specs.Gives.{◌>>=◌}
+use Rattle.cvl_base.specs.Integers.{wrap}
+use Rattle.cvl_base.specs.ItemWords.{is_number}
+use Rattle.fresh.specs.Parts.{part}
+use Rattle.fresh.specs.Places.{Stretch, stretch, with_items}
+use Rattle.tile_scans.specs.Written.{next_of}
+use Rattle.tile_scans.proofs.Known.{IsWrittenPart, more_written, next_is}
+use Rattle.checked_tile_scans.specs.Checked.{first_without}
+
+found_alone : (found : Option ℕ) → option_or found None ≡ found
+found_alone None = refl
+found_alone (Some w) = refl
+
+module _ {X : Type 0} where
+  -- ---- lists one after another
+
+  first_of_both : (place : ℕ) (vs ws : List (Option X)) → first_without place (vs ++ ws) ≡ option_or (first_without place vs) (first_without (place + length vs) ws)
+  first_of_both place [] ws = let same : place ≡ place + 0 = omega arith in ap (λ p. first_without p ws) same
+  first_of_both place (None ∷ vs) ws = refl
+  first_of_both place (Some x ∷ vs) ws =
+      let at : (place + 1) + length vs ≡ place + length (Some x ∷ vs) = omega arith in
+      first_of_both (place + 1) vs ws ∙ ap (λ p. option_or (first_without (place + 1) vs) (first_without p ws)) at
+
+  pub found_within : (place w : ℕ) (vs : List (Option X)) → first_without place vs ≡ Some w → w < place + length vs
+  found_within place w [] is = absurd (none-some w is)
+  found_within place w (None ∷ vs) is = let same : place ≡ w = same_Some place w is in omega (arith, same)
+  found_within place w (Some x ∷ vs) is = omega (arith, found_within (place + 1) w vs is)
+
+  module _ (whole : List (Option X)) where
+    part_of_both : (first n m : ℕ) → first + n ≤ length whole
+        → option_or (first_without first (part whole first n)) (first_without (first + n) (part whole (first + n) m)) ≡ first_without first (part whole first (n + m))
+    part_of_both first n m within =
+        let long : length (part whole first n) ≡ n = omega (arith, length-take n (drop first whole), length-drop first whole, within) in
+        ap (λ k. option_or (first_without first (part whole first n)) (first_without (first + k) (part whole (first + n) m))) (sym long)
+        ∙ sym (first_of_both first (part whole first n) (part whole (first + n) m))
+        ∙ ap (λ ys. first_without first (part whole first n ++ take m ys)) (sym (drop-drop n first whole))
+        ∙ ap (first_without first) (sym (take-add n m (drop first whole)))
+
+    -- of two runs, each with what was found in it
+    pub joined_without : {Y : Type 0} (run f b : Stretch Y) (x y o : Option ℕ) (k : ℕ) → run.items ≡ [] → k ≤ run.room → run.first + run.room ≤ length whole
+        → f ≡ stretch run.block run.first run.items (k - length run.items) → b ≡ stretch run.block (run.first + k) [] (length run.items + run.room - k)
+        → x ≡ first_without f.first (part whole f.first f.room) → y ≡ first_without b.first (part whole b.first b.room) → o ≡ option_or x y
+        → o ≡ first_without run.first (part whole run.first run.room)
+    joined_without run f b x y o k none le within is_f is_b is_x is_y is =
+        let long : length run.items ≡ 0 = ap length none in
+        let low : k - length run.items ≡ k = omega (arith, long) in
+        let high : length run.items + run.room - k ≡ run.room - k = omega (arith, long) in
+        let all : k + (run.room - k) ≡ run.room = omega (arith, le) in
+        is
+        ∙ ap (λ w. option_or w y) (is_x ∙ (λ i. first_without (is_f i).first (part whole (is_f i).first (is_f i).room)) ∙ ap (λ n. first_without run.first (part whole run.first n)) low)
+        ∙ ap (λ w. option_or (first_without run.first (part whole run.first k)) w)
+        (is_y ∙ (λ i. first_without (is_b i).first (part whole (is_b i).first (is_b i).room)) ∙ ap (λ n. first_without (run.first + k) (part whole (run.first + k) n)) high)
+        ∙ part_of_both run.first k (run.room - k) (omega (arith, le, within))
+        ∙ ap (λ n. first_without run.first (part whole run.first n)) all
+
+  -- ---- one at a time
+
+  found_before : (found : Option ℕ) (place : ℕ) (v : Option X) (vs : List (Option X))
+      → option_or (option_or found (first_without place (v ∷ []))) (first_without (place + 1) vs) ≡ option_or found (first_without place (v ∷ vs))
+  found_before None place None vs = refl
+  found_before None place (Some x) vs = refl
+  found_before (Some w) place v vs = refl
+
+  module _ (whole : List (Option X)) (found target : Option ℕ) (place room : ℕ) (is : option_or found (first_without place (part whole place room)) ≡ target) where
+    pub goes_on : (now : Option ℕ) (v : Option X) (next left : ℕ) → place < length whole → room ≡ left + 1 → next ≡ place + 1 → v ≡ get_or whole place None
+        → now ≡ option_or found (first_without place (v ∷ [])) → option_or now (first_without next (part whole next left)) ≡ target
+    goes_on now v next left lt one is_next is_v is_now =
+        let more : room ≡ suc left = omega (arith, one) in
+        ap (λ o. option_or o (first_without next (part whole next left))) is_now
+        ∙ ap (λ p. option_or (option_or found (first_without place (v ∷ []))) (first_without p (part whole p left))) is_next
+        ∙ found_before found place v (part whole (place + 1) left)
+        ∙ ap (λ x. option_or found (first_without place (x ∷ part whole (place + 1) left))) is_v
+        ∙ ap (λ ys. option_or found (first_without place (take (suc left) ys))) (sym (drop_more whole place None lt))
+        ∙ ap (λ n. option_or found (first_without place (part whole place n))) (sym more)
+        ∙ is
+
+    pub found_all : room ≡ 0 → found ≡ target
+    found_all none = sym (found_alone found) ∙ ap (λ n. option_or found (first_without place (part whole place n))) (sym none) ∙ is
+
+-- the part of a list that is all of it
+pub whole_part : {X : Type 0} (xs : List X) (first n : ℕ) → first ≡ 0 → n ≡ length xs → part xs first n ≡ xs
+whole_part xs first n begins all = ap (λ p. take n (drop p xs)) begins ∙ take_all n xs (omega (arith, all))
+
+-- ---- what it means
+
+pub fails_first : (n p : ℕ) (zs : List ℤ) → first_without n (map fitting zs) ≡ Some p → values_from Overflow n (map fitting zs) ≡ Err (fault_at Overflow p)
+fails_first n p zs is = fails n (map fitting zs) is
+  where
+    fails : (m : ℕ) (vs : List (Option ℤ)) → first_without m vs ≡ Some p → values_from Overflow m vs ≡ Err (fault_at Overflow p)
+    fails m [] e = absurd (none-some p e)
+    fails m (None ∷ vs) e = ap (λ q. Err (fault_at Overflow q)) (same_Some m p e)
+    fails m (Some z ∷ vs) e = ap (λ r. r >>= λ ys. Ok (z ∷ ys)) (fails (m + 1) vs e)
+
+fits_here : (b : Bool) (n : ℕ) (z : ℤ) (zs : List ℤ) → is_number z ≡ b → first_without n ((if b then Some z else None) ∷ map fitting zs) ≡ None
+    → (first_without (n + 1) (map fitting zs) ≡ None → values_from Overflow (n + 1) (map fitting zs) ≡ Ok (map wrap zs))
+    → values_from Overflow n ((if b then Some z else None) ∷ map fitting zs) ≡ Ok (wrap z ∷ map wrap zs)
+fits_here true n z zs number is others =
+    ap (λ r. r >>= λ ys. Ok (z ∷ ys)) (others is) ∙ ap (λ y. Ok (y ∷ map wrap zs)) (sym (number_words.inverse z number))
+fits_here false n z zs number is others = absurd (none-some n (sym is))
+
+pub all_fit : (n : ℕ) (zs : List ℤ) → first_without n (map fitting zs) ≡ None → values_from Overflow n (map fitting zs) ≡ Ok (map wrap zs)
+all_fit n [] is = refl
+all_fit n (z ∷ zs) is = fits_here (is_number z) n z zs refl is (all_fit (n + 1) zs)
+
+-- ---- the numbers, wrapped to 32 bits, while they are written
+
+module _ (zs : List ℤ) (old : Stretch ℤ) (within : old.first + old.room ≤ length (map wrap zs)) where
+  -- the next one is the number at the run's next place
+  pub one_more_written : (now next : Stretch ℤ) (x : ℤ) → 0 < now.room → IsWrittenPart (map wrap zs) old now → x ≡ wrap (get_or zs (next_of now) (pos 0))
+      → next ≡ stretch now.block now.first (now.items ++ x ∷ []) (now.room - 1) → (next.room ≡ now.room - 1) × IsWrittenPart (map wrap zs) old next
+  one_more_written now next x some so_far is pushed =
+      let place : ℕ = next_of now in
+      let at = next_is (map wrap zs) old within now so_far in
+      let inside : place < length (map wrap zs) = omega (arith, at, within, so_far.left, some) in
+      let here : x ∷ [] ≡ part (map wrap zs) place 1 =
+      ap (λ y. y ∷ []) (is ∙ sym (get_or-map wrap zs place (pos 0) (pos 0) (omega (arith, inside, length-map zs wrap))))
+      ∙ ap (take 1) (sym (drop_more (map wrap zs) place (pos 0) inside)) in
+      more_written (map wrap zs) old within now next 1 (omega (arith, some)) so_far (pushed ∙ ap (with_items now) here)

@@ -1,0 +1,7 @@
+pub mod FirstWithout
+pub mod FlatReduces
+pub mod Outsides
+pub mod SegmentTotals
+pub mod TileFronts
+pub mod WholeSums
+pub mod WideSums

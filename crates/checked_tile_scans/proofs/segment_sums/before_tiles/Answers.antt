@@ -1,0 +1,11 @@
+use Rattle.std.proofs.Common.{◌≡◌, sym, subst, ◌∙◌}
+use Rattle.std.specs.Prelude.{IfOk}
+use Rattle.scan_walks.specs.Runs.{with_starts}
+use Rattle.checked_tile_scans.proofs.SegmentTotals.{before_one}
+use Rattle.checked_tile_scans.proofs.segment_sums.before_tiles.Goals as goal
+
+pub returns-then-count-eq1 : goal.returns-then-count-eq1
+returns-then-count-eq1 g c =
+    let v = c.args.vector.now in
+    let one = sym c.count.ensures.value ∙ c.if-count-eq1.true in
+    subst (λ zs. IfOk c.nothing_before.result (λ before. before.items ≡ zs)) (sym (before_one v.plan (with_starts v.segments.now v.elements.now) one)) c.nothing_before.ensures

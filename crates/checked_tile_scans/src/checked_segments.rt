@@ -1,0 +1,81 @@
+//! The checked scans and reduces of segments: `Overflow` at the first result that does not fit 32 bits.
+//!
+//! Workers race for the tiles of a long vector, as for those of a flat one. The sum of a segment is found from the tile that
+//! holds its last element: from what stands before the tile, and the segment's elements in the tile. Where segments start about
+//! as often as threads need it there is one tile, and no race: each thread adds up segments of its own, once.
+
+ghost use Rattle.std.specs.Prelude.{◌≡◌, IfOk, length, vec_len};
+ghost use Rattle.cvl_base.specs.CheckedSums.{checked_seg_reduce_of, checked_seg_scan_of};
+ghost use Rattle.cvl_base.specs.Gives.{Gives};
+
+use crate::overflows::befores_or_overflow;
+use crate::segment_sums::{SegmentSums, before_tiles};
+use crate::segmented_totals::SegmentedTotals;
+use crate::sum_runs::fitting_sums;
+use crate::summed_tile::summed_tile;
+use cvl_base::monoids::Add;
+use cvl_base::{Config, Memory, Refused};
+use scan_walks::{checked_scan_of_segments, checked_sums_of_segments, know_numbers};
+use segdes::{SegDes, check_total};
+use sharing::threads_for;
+use std::mem::size_of_val;
+use std::thread::Threads;
+use tile_scans::{reduce_pace, scan_pace, seg_scan_after_befores};
+
+/// The exclusive scan of each segment by addition that never wraps: `tot_sez`.
+///
+/// The result is as long as the vector. LengthMismatch, without a place, where the segments' total is not the number of
+/// elements; else `Overflow` at the first result that does not fit 32 bits, at its place in the vector. Source: CVL's
+/// segmented scans, over whole numbers.
+pub fn checked_seg_scan<R: Threads + Sync, A: Memory>(
+    rt: &R,
+    alloc: A,
+    config: Config,
+    a: &[i32],
+    d: &SegDes<A>,
+) -> Result<Vec<i32, A>, Refused>
+    ensures values { Gives (λ sums. sums.items) result (checked_seg_scan_of a.now d.now) }
+    ensures as_long { IfOk result (λ sums. vec_len sums ≡ length a.now) }
+{
+    check_total(a, d)?;
+    let Some(pace) = scan_pace(config, a.len()) else {
+        return checked_scan_of_segments(alloc, a, d);
+    };
+    let totals = SegmentedTotals::new(a, d, pace.tile());
+    let before = match befores_or_overflow(rt, alloc, pace, &totals) {
+        Ok(before) => before,
+        Err(refused) => return Err(refused),
+    };
+    know_numbers(a);
+    let sums = seg_scan_after_befores::<R, A, Add>(rt, alloc, pace, a, d, &before)?;
+    Ok(sums)
+}
+
+/// The sum of each segment, which never wraps: `tot_rez`.
+///
+/// The result has one element for each segment. LengthMismatch, without a place, where the segments' total is not the
+/// number of elements; else `Overflow` at the first segment whose sum does not fit 32 bits. Source: CVL's segmented
+/// reduces, over whole numbers.
+pub fn checked_seg_reduce<R: Threads + Sync, A: Memory>(
+    rt: &R,
+    alloc: A,
+    config: Config,
+    a: &[i32],
+    d: &SegDes<A>,
+) -> Result<Vec<i32, A>, Refused>
+    ensures values { Gives (λ sums. sums.items) result (checked_seg_reduce_of a.now d.now) }
+    ensures one_each { IfOk result (λ sums. vec_len sums ≡ length d.now) }
+{
+    check_total(a, d)?;
+    let Some(pace) = reduce_pace(config, a.len(), size_of_val(a)) else {
+        return checked_sums_of_segments(alloc, a, d);
+    };
+    let totals = SegmentedTotals::new(a, d, summed_tile(pace, d));
+    let before = before_tiles(rt, alloc, pace, &totals)?;
+    let sums = SegmentSums {
+        vector: &totals,
+        before: &before,
+    };
+    let threads = threads_for(pace, a.len().max(d.count()));
+    fitting_sums(rt, alloc, threads, &sums, d.count())
+}
