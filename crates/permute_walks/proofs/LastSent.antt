@@ -126,7 +126,7 @@ module _ (place : ℕ) (ts : List (Option ℤ)) (m : ℕ) (small : place + lengt
       (last_senders place (take (k + 1) ts) 0 m) (count_targets (take (k + 1) ts)) (negsuc d) is refl
       (count_by_more_yes is_some ts k None lt (ap is_some is)) (lasts_other place ts 0 m k lt (λ j from below. ap (is_target (pos j)) is))
 
-  reached : (k : ℕ) → k ≤ length ts → IsReached k
+  pub reached : (k : ℕ) → k ≤ length ts → IsReached k
   reached zero le = stored_none place ts m (last_senders place [] 0 m) (nobody_sent 0 m)
   reached (suc k) le = subst IsReached (omega arith) (stored_target k (get_or ts k None) refl (omega arith) (reached k (omega arith)))
 

@@ -57,7 +57,7 @@ right_from true false inside is_free = absurd (false≢true is_free)
 right_from false free inside is_free = absurd (false≢true inside)
 
 -- an index that is right is a place
-inside_where_right : (senders : List ℕ) (i : ℤ) → wrong_with senders i ≡ None → is_place (length senders) i ≡ true
+pub inside_where_right : (senders : List ℕ) (i : ℤ) → wrong_with senders i ≡ None → is_place (length senders) i ≡ true
 inside_where_right senders (pos d) right = (right_tests (ltb d (length senders)) (eqb (get_or senders d 0) nobody) right).0
 inside_where_right senders (negsuc d) right = absurd (none-some IndexOutOfRange (sym right))
 
@@ -67,7 +67,7 @@ free_from false none = absurd (omega arith)
 
 module _ (place : ℕ) (ts : List (Option ℤ)) (m k sent : ℕ) (senders : List ℕ) (small : place + length ts ≤ nobody) (to : IsStoredTo place ts m k sent senders) (lt : k < length ts) where
   -- where no place is bad, this one is not
-  right_now : (i : ℤ) → get_or ts k None ≡ Some i → None ≡ first_fault place (wrongs m ts) → wrong_with senders i ≡ None
+  pub right_now : (i : ℤ) → get_or ts k None ≡ Some i → None ≡ first_fault place (wrongs m ts) → wrong_with senders i ≡ None
   right_now i is right =
       let sent_to = to.exact (to.apart right) in
       sym (found_here place ts m k senders small sent_to lt i is) ∙ right_here place ts m k senders right sent_to lt

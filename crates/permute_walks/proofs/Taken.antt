@@ -88,7 +88,7 @@ taken_over_flat source ts defaults long small =
 
 -- ---- where each sender is a place of the source
 
-read_at : {X : Type 0} (source : List X) (s : ℕ) → s < length source → (x : X) × (slice_get source s ≡ Some x)
+pub read_at : {X : Type 0} (source : List X) (s : ℕ) → s < length source → (x : X) × (slice_get source s ≡ Some x)
 read_at [] s below = absurd (omega arith)
 read_at (x ∷ source) s below = (get_or (x ∷ source) s x, slice_get-get_or (x ∷ source) s x below)
 

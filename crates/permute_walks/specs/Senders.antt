@@ -1,6 +1,6 @@
 -- Senders: for each place of a permute's result, the place whose element goes there.
 -- Source: CVL's permute, d[i[k]] = s[k], in which k is the sender of its index.
-use Rattle.std.specs.Prelude.{◌≡◌, ℕ, ◌+◌, ◌≤◌, ◌==◌, ℤ, pos, not, if◌then◌else◌, unsigned_abs, List, [], ◌∷◌, count_by, length, map}
+use Rattle.std.specs.Prelude.{◌≡◌, ℕ, ◌+◌, ◌≤◌, ◌==◌, ℤ, pos, Bool, not, if◌then◌else◌, unsigned_abs, List, [], ◌∷◌, count_by, length, map}
 use Rattle.std.specs.Prelude.{is_some, slice_get, slice_index, Option, Some, None, unwrap_or, Result, Ok, Err}
 use Rattle.std.specs.List.{range_with_len, zip}
 use Rattle.cvl_base.specs.declared.fault.Fault.{Fault}
@@ -35,6 +35,10 @@ fault_told (Err f) = Some f
 -- how many places have a sender
 abbrev pub count_sent : List ℕ → ℕ
 count_sent senders = count_by (λ s. not (s == nobody)) senders
+
+-- which places have a sender
+abbrev pub sent_marks : List ℕ → List Bool
+sent_marks senders = map (λ s. not (s == nobody)) senders
 
 -- The senders of the places 0 to m - 1, where so many targets were stored, a later one over an earlier: at most as many
 -- places have a sender. They are as many exactly where no target was bad, and then each sender is the first.

@@ -8,6 +8,7 @@ pub mod elements;
 mod index_counts;
 mod owners;
 pub mod places;
+mod scatters;
 pub mod sends;
 mod stores;
 
@@ -20,4 +21,5 @@ pub use elements::{
 };
 pub use owners::senders_shared;
 pub use places::element_of;
+pub use scatters::{is_permutation, scatter_over};
 pub use sends::{NOBODY, send_places};

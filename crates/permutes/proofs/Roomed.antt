@@ -1,5 +1,5 @@
 -- What the calls over a room give, told by what their two walks give.
-use Rattle.std.proofs.Common.{◌≡◌, ◌≢◌, ◌∙◌, ℕ, ◌<◌, List, length, refl, sym, ap, subst, Option, Some, None, Result, Ok, Err}
+use Rattle.std.proofs.Common.{◌≡◌, ◌≢◌, ◌∙◌, ℕ, ◌<◌, ◌≤◌, List, length, filter_map, refl, sym, ap, subst, arith, ℤ, slice_get, Option, Some, None, Result, Ok, Err}
 use Rattle.std.specs.List.{All}
 use Rattle.std.specs.Result.{IsErrAnd}
 use Rattle.cvl_base.specs.declared.fault.Fault.{Fault}
@@ -8,10 +8,16 @@ use Rattle.cvl_base.specs.declared.refused.Refused.{Refused}
 use Rattle.cvl_base.specs.declared.refused.Refused.TheVariants as refused
 use Rattle.cvl_base.specs.Faults.{fault}
 use Rattle.cvl_base.specs.Gives.{Gives, unless}
+use Rattle.cvl_base.specs.Limits.{most_elements}
+use Rattle.cvl_base.specs.Permutes.{all_targets, first_fault, simple_of, wrongs}
 use Rattle.cvl_base.specs.Rooms.{OverwritesOr, in_room}
 use Rattle.cvl_base.proofs.Rooms.{differs, fits}
 use Rattle.permutes.specs.Walks.{AreAllSent}
-use Rattle.permutes.proofs.Walked.{found_fault, taken_ok}
+use Rattle.permute_walks.specs.Senders.{senders_of}
+use Rattle.permute_walks.proofs.Sent.{length-senders_of}
+use Rattle.permute_walks.proofs.Taken.{length-taken}
+use Rattle.permutes.proofs.Flat.{simple-meaning}
+use Rattle.permutes.proofs.Walked.{found_fault, simple_sent, taken_ok}
 
 -- the call tells what a step before the second walk told
 pub told_or : {X : Type 0} (meaning : Result (List X) Fault) (answer : Result (Unit {0}) Refused) (e : Refused) (before : List X) → IsErrAnd answer (λ y. y ≡ e)
@@ -65,3 +71,25 @@ module _ (first : Option Fault) (senders found shown : List ℕ) (gave : unless 
   taken_in_room take_from room meaning is answer before now =
       let given = taken_ok take_from first senders found (take_from shown) gave (λ none same. ap take_from (shows ∙ same)) in
       subst (λ m. OverwritesOr (in_room room m) answer before now) (sym (is ∙ given))
+
+-- ---- a simple permute whose indices are a permutation of their places: the room is as long as they are, or not
+
+module _ {X : Type 0} (source : List X) (index : List ℤ) (agree : length source ≡ length index) (few : length index ≤ most_elements)
+    (none : None ≡ first_fault 0 (wrongs (length index) (all_targets index))) (room : ℕ) where
+  abbrev pub permuted : List X
+  permuted = filter_map (slice_get source) (senders_of 0 (all_targets index) (length index))
+
+  permuted_long : length permuted ≡ length index
+  permuted_long =
+      length-taken source (senders_of 0 (all_targets index) (length index)) (simple_sent index (length source) agree (omega (arith, few)) (sym none))
+      ∙ length-senders_of 0 (all_targets index) (length index)
+
+  pub permuted_differs : length index ≢ room → in_room room (simple_of source index) ≡ Err (fault LengthMismatch)
+  permuted_differs other =
+      differs_in_room room (simple_of source index) (first_fault 0 (wrongs (length index) (all_targets index))) permuted (simple-meaning source index agree few) none
+      (λ same. other (sym permuted_long ∙ same))
+
+  pub permuted_fits : length index ≡ room → in_room room (simple_of source index) ≡ Ok permuted
+  permuted_fits long =
+      fits_in_room room (simple_of source index) (first_fault 0 (wrongs (length index) (all_targets index))) permuted (simple-meaning source index agree few) none
+      (permuted_long ∙ long)

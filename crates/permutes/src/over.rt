@@ -1,7 +1,8 @@
 //! The permutes over a room of the caller's, by the thread that calls, for code that has no runtime.
 //!
 //! Each tells the faults of the permute first, and then `LengthMismatch`, without a place, where the room isn't as long as the
-//! result. Only then the room is written. A back permute asks for no memory, the others for that of the senders.
+//! result. Only then the room is written. A back permute asks for no memory. A flat simple permute asks for a byte a place, and
+//! for the senders only to find its first fault; the others ask for the senders, 4 bytes a place.
 
 ghost use Rattle.std.specs.Prelude.{◌≤◌, length};
 ghost use Rattle.cvl_base.specs.Limits.{most_elements};
@@ -14,7 +15,9 @@ use crate::looks::ByCaller;
 use crate::sent_alone::{flagged_segment_senders_alone, segment_senders_alone, senders_alone};
 use crate::taken_over::{take_or_default_over, take_over};
 use cvl_base::{Fault, Memory, Refused, check_agree, true_count};
-use permute_walks::{AllTargets, FlaggedTargets, check_places_alone, elements_at_over};
+use permute_walks::{
+    AllTargets, FlaggedTargets, check_places_alone, elements_at_over, is_permutation, scatter_over,
+};
 use segdes::{SegDes, check_total};
 use std::alloc::Allocator;
 
@@ -29,6 +32,11 @@ pub fn simple_over<T: Copy, A: Memory>(
     ensures { OverwritesOr (in_room (length out.old) (simple_of source.now index.now)) result out.old out.new }
 {
     check_agree(source.len(), index.len())?;
+    if is_permutation(alloc, index)? {
+        check_agree(index.len(), out.len())?;
+        scatter_over(source, index, out);
+        return Ok(());
+    }
     let senders = senders_alone(alloc, index.len(), &AllTargets { index })?;
     take_over(source, &senders, out)
 }

@@ -1,0 +1,64 @@
+//! The two walks of a simple permute straight into a room. The first marks the place that each index names, a byte a place; a
+//! sender would need four. The second writes each element to its index.
+
+ghost use Rattle.std.specs.Prelude.{◌≡◌, ◌≤◌, ◌↔◌, false, filter_map, length, replicate, slice_get, IfOk, IsTrue, None};
+ghost use Rattle.cvl_base.specs.Limits.{most_elements};
+ghost use Rattle.cvl_base.specs.Permutes.{all_targets, first_fault, wrongs};
+ghost use Rattle.permute_walks.specs.Senders.{last_senders, senders_of, sent_marks};
+
+use cvl_base::{Memory, NoResources, true_count};
+
+/// Marks the place that each index names; false where an index names none, and then the marks are of no use.
+// Without its sign an index below 0 is beyond the longest vector, so that one comparison is enough. Nothing that stands
+// there is looked at.
+// Inlined into a large function the loop keeps its pointers on the stack.
+#[inline(never)]
+fn mark_each(marks: &mut [bool], index: &[i32]) -> bool
+    requires fresh { marks.old ≡ replicate (length marks.old) false }
+    requires in_limit { (length index.now ≤ most_elements) × (length marks.old ≤ most_elements) }
+    ensures marked { IsTrue result → marks.new ≡ sent_marks (last_senders 0 (all_targets index.now) 0 (length marks.old)) }
+    ensures inside { None ≡ first_fault 0 (wrongs (length marks.old) (all_targets index.now)) → IsTrue result }
+{
+    let places = marks.len();
+    for i in index {
+        let named = i.cast_unsigned() as usize;
+        if named >= places {
+            return false;
+        }
+        marks[named] = true;
+    }
+    true
+}
+
+/// Whether each index names one of the places that are marked, and no two the same.
+fn are_apart(marks: &mut [bool], index: &[i32]) -> bool
+    requires fresh { marks.old ≡ replicate (length marks.old) false }
+    requires in_limit { (length index.now ≤ most_elements) × (length marks.old ≤ most_elements) }
+    ensures { IsTrue result ↔ None ≡ first_fault 0 (wrongs (length marks.old) (all_targets index.now)) }
+{
+    mark_each(marks, index) && true_count(marks) == index.len()
+}
+
+/// The first walk: whether the indices are a permutation of their own places, so that none is out of range or repeated.
+/// `NoResources` where there is no memory for a byte a place.
+pub fn is_permutation<A: Memory>(alloc: A, index: &[i32]) -> Result<bool, NoResources>
+    requires in_limit { length index.now ≤ most_elements }
+    ensures { IfOk result (λ is.
+        IsTrue is ↔ None ≡ first_fault 0 (wrongs (length index.now) (all_targets index.now))) }
+{
+    let mut marks = vec![in alloc; false; index.len()]?;
+    Ok(are_apart(&mut marks, index))
+}
+
+/// The second walk: writes the element of each place to its index, where the indices are a permutation of their own places.
+#[inline(never)]
+pub fn scatter_over<T: Copy>(source: &[T], index: &[i32], out: &mut [T])
+    requires as_long { (length source.now ≡ length index.now) × (length out.old ≡ length index.now) }
+    requires in_limit { length index.now ≤ most_elements }
+    requires apart { None ≡ first_fault 0 (wrongs (length index.now) (all_targets index.now)) }
+    ensures { out.new ≡ filter_map (slice_get source.now) (senders_of 0 (all_targets index.now) (length index.now)) }
+{
+    for (k, i) in index.iter().enumerate() {
+        out[*i as usize] = source[k];
+    }
+}
