@@ -1,16 +1,16 @@
 -- How many numbers of a list fit 32 bits, from the first one on: of scans, and of lists one after another.
 use Rattle.std.proofs.Common.{◌≡◌, ◌∙◌, refl, sym, ap, ℕ, ◌+◌, ◌-◌, ◌<◌, ◌≤◌, min, Bool, true, false, cond, ℤ, pos, ◌+ℤ◌, List, [], ◌∷◌, ◌++◌, length, take, drop, get_or, arith, Some, None}
 use Rattle.std.specs.Prelude.{if◌then◌else◌, sum}
-use Rattle.std.proofs.lemmas.List.{drop_more, drop_all}
+use Rattle.std.proofs.lemmas.List.{drop_more, drop_all, take-append-drop}
 use Rattle.operators.proofs.FoldLaws.{length-scan_of}
 use Rattle.cvl_base.specs.CheckedSums.{fitting}
-use Rattle.cvl_base.specs.Folds.{scan_of}
+use Rattle.cvl_base.specs.Folds.{fold_of, scan_of}
 use Rattle.cvl_base.specs.ItemWords.{is_number}
 use Rattle.scan_walks.specs.Fronts.{fitting_front}
 use Rattle.segdes.specs.Starts.{start_of}
 use Rattle.scan_walks.specs.Runs.{run_between, run_scan_of, scans_of}
 use Rattle.scan_walks.proofs.RunPushed.{run_pushed}
-use Rattle.scan_walks.proofs.Scanned.{scan_of-cons}
+use Rattle.scan_walks.proofs.Scanned.{scan_of-append, scan_of-cons}
 use Rattle.scan_walks.proofs.Segments.{scans_more_min}
 use Rattle.scan_walks.proofs.WholeSums.{all_whole, whole_laws}
 
@@ -86,6 +86,28 @@ scan_past before xs ys n is ge =
     let zs = scan_of ◌+ℤ◌ before xs in
     let long = length-scan_of ◌+ℤ◌ before xs in
     omega (arith, front_past zs ys (omega (arith, is, ge, long)), long)
+
+-- ---- a walk over blocks, of which the first ones, `done` numbers in all, were seen to fit
+
+module _ (whole done k : ℕ) (so_far : ℤ) (rest block others : List ℤ) (is_block : block ≡ take k rest) (is_others : others ≡ drop k rest)
+    (is : whole ≡ done + fitting_front (scan_of ◌+ℤ◌ so_far rest)) where
+  parted : whole ≡ done + fitting_front (scan_of ◌+ℤ◌ so_far block ++ scan_of ◌+ℤ◌ (fold_of ◌+ℤ◌ so_far block) others)
+  parted =
+      is
+      ∙ ap (λ ys. done + fitting_front (scan_of ◌+ℤ◌ so_far ys)) (sym (take-append-drop k rest))
+      ∙ ap (λ ys. done + fitting_front (scan_of ◌+ℤ◌ so_far (ys ++ drop k rest))) (sym is_block)
+      ∙ ap (λ ys. done + fitting_front (scan_of ◌+ℤ◌ so_far (block ++ ys))) (sym is_others)
+      ∙ ap (λ zs. done + fitting_front zs) (scan_of-append ◌+ℤ◌ so_far block others)
+
+  pub block_stops : (place : ℕ) → place ≡ fitting_front (scan_of ◌+ℤ◌ so_far block) → place < length block → done + place ≡ whole
+  block_stops place met lt = ap (λ j. done + j) (scan_within so_far block (scan_of ◌+ℤ◌ (fold_of ◌+ℤ◌ so_far block) others) place met lt) ∙ sym parted
+
+  pub block_passes : (next : ℕ) (sum : ℤ) → fitting_front (scan_of ◌+ℤ◌ so_far block) ≡ length block → sum ≡ fold_of ◌+ℤ◌ so_far block → next ≡ done + length block
+      → whole ≡ next + fitting_front (scan_of ◌+ℤ◌ sum others)
+  block_passes next sum fits is_sum is_next =
+      let past = scan_past so_far block (scan_of ◌+ℤ◌ (fold_of ◌+ℤ◌ so_far block) others) (length block) (sym fits) (omega arith) in
+      let same = ap (λ z. fitting_front (scan_of ◌+ℤ◌ z others)) is_sum in
+      omega (arith, parted, past, same, is_next)
 
 -- ---- a walk over segments, of whose scans the first ones, `done` in all, were seen to fit
 

@@ -1,3 +1,4 @@
+pub mod BlockLaws
 pub mod Continued
 pub mod Cut
 pub mod Fitted

@@ -19,6 +19,14 @@ module _ {Item : Type 0} (join : Item → Item → Item) where
       ∙ ap (λ tail. before ∷ tail) (scan_of_push (join before y) ys x)
       ∙ ap (λ sums. sums ++ fold_of join before (y ∷ ys) ∷ []) (sym (scan_of-cons before y ys))
 
+  -- of a list in two parts
+  pub scan_of-append : (before : Item) (xs ys : List Item) → scan_of join before (xs ++ ys) ≡ scan_of join before xs ++ scan_of join (fold_of join before xs) ys
+  scan_of-append before [] ys = refl
+  scan_of-append before (x ∷ xs) ys =
+      scan_of-cons before x (xs ++ ys)
+      ∙ ap (λ tail. before ∷ tail) (scan_of-append (join before x) xs ys)
+      ∙ ap (λ zs. zs ++ scan_of join (fold_of join before (x ∷ xs)) ys) (sym (scan_of-cons before x xs))
+
   -- the step of a loop over xs
   pub scan_of_more : (before : Item) (xs : List Item) (i : ℕ) (other : Item) → i < length xs → scan_of join before (take (i + 1) xs)
       ≡ scan_of join before (take i xs) ++ fold_of join before (take i xs) ∷ []

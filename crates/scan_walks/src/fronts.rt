@@ -6,10 +6,13 @@ ghost use Rattle.cvl_base.specs.Folds.{scan_of};
 ghost use Rattle.scan_walks.specs.Fronts.{fitting_front};
 ghost use Rattle.scan_walks.specs.Runs.{run_between, run_scan_of, scans_of};
 
+use crate::blocks::{BLOCK, sum_of_block, sum_one_by_one};
 use crate::runs::start_or_total;
-use crate::totals::{fitting, plus};
 use segdes::SegDes;
 use std::alloc::Allocator;
+
+/// Fewer elements than so many are looked at one by one.
+const SHORT: usize = 64;
 
 /// How many of the sums before each of the integers fit 32 bits, from the first one on. `before` stands before the integers.
 ///
@@ -18,14 +21,20 @@ pub fn fitting_of_scan(before: i64, xs: &[i32]) -> usize
     ensures front { result ≡ fitting_front (scan_of ◌+ℤ◌ before xs.now) }
     ensures within { result ≤ length xs.now }
 {
-    let mut so_far = before;
-    for (place, x) in xs.iter().enumerate() {
-        match fitting(&so_far) {
-            Some(sum) => so_far = plus(&sum, x),
-            None => return place,
+    let (mut so_far, mut done, mut rest) = (before, 0, xs);
+    while rest.len() >= SHORT {
+        let (block, others) = rest.split_at(rest.len().min(BLOCK));
+        match sum_of_block(so_far, block) {
+            Ok(sum) => so_far = sum,
+            Err(place) => return done + place,
         }
+        done += block.len();
+        rest = others;
     }
-    xs.len()
+    match sum_one_by_one(so_far, rest) {
+        Ok(_) => xs.len(),
+        Err(place) => done + place,
+    }
 }
 
 /// The same of the scans of the segments with these lengths, one after another. The segments have all of the integers, and

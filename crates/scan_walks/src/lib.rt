@@ -3,6 +3,7 @@
 #![tactic(auto)]
 
 pub mod alone;
+mod blocks;
 pub mod checked;
 pub mod checked_over;
 pub mod fronts;

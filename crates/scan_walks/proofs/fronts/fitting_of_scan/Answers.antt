@@ -1,22 +1,21 @@
-use Rattle.std.proofs.Common.{◌≡◌, ◌∙◌, pos, ◌+ℤ◌, to_z, of_z, w32, w64, get_or, sym, ap, arith}
+use Rattle.std.proofs.Common.{◌≡◌, ◌∙◌, ◌+◌, ◌+ℤ◌, to_z, of_z, w64, length, refl, ap, arith}
 use Rattle.std.proofs.lemmas.Int.{to_z-of_z}
 use Rattle.cvl_base.specs.Folds.{scan_of}
 use Rattle.scan_walks.specs.Fronts.{fitting_front}
-use Rattle.scan_walks.proofs.Continued.{fitting-same}
-use Rattle.scan_walks.proofs.FrontLaws.{front_goes_on, front_stops}
+use Rattle.scan_walks.proofs.FrontLaws.{block_passes, block_stops}
 use Rattle.scan_walks.proofs.fronts.fitting_of_scan.Goals as goal
 
-pub returns-in-None-clause-front : goal.returns-in-None-clause-front
-returns-in-None-clause-front c =
+pub returns-in-Err-clause-front : goal.returns-in-Err-clause-front
+returns-in-Err-clause-front c =
     let back : to_z w64 (of_z w64 c.args.before) ≡ c.args.before = grind (arith, to_z-of_z) in
-    front_stops _ _ _ _ c.loop-place.invariant c.loop-place-test.true (sym c.fitting.ensures ∙ c.in-None.is)
+    block_stops _ _ _ _ _ _ _ c.split_at.ensures.front c.split_at.ensures.back c.loop-rest.invariant.front c.in-Err.place c.in-Err.ensures.0 c.in-Err.ensures.1
     ∙ ap (λ z. fitting_front (scan_of ◌+ℤ◌ z c.args.xs.now)) back
 
-pub loop-place-preserved : goal.loop-place-preserved
-loop-place-preserved c =
-    let fits = sym c.fitting.ensures ∙ c.in-Some.is in
-    let same = fitting-same _ _ fits in
-    let back : to_z w32 (of_z w32 c.in-Some.sum) ≡ c.in-Some.sum = grind (arith, to_z-of_z) in
-    let wide : to_z w64 (of_z w64 c.plus-so_far.result) ≡ c.plus-so_far.result = grind (arith, to_z-of_z) in
-    front_goes_on _ _ _ _ c.loop-place.invariant c.in-Some.sum _ c.loop-place-test.true fits
-    (wide ∙ c.plus-so_far.ensures ∙ ap (λ z. z +ℤ get_or c.args.xs.now c.loop-place.place (pos 0)) (back ∙ same))
+pub loop-rest-preserved : goal.loop-rest-preserved
+loop-rest-preserved c =
+    let back : to_z w64 (of_z w64 c.in-Ok.sum) ≡ c.in-Ok.sum = grind (arith, to_z-of_z) in
+    record {
+      front = block_passes _ _ _ _ _ _ _ c.split_at.ensures.front c.split_at.ensures.back c.loop-rest.invariant.front (c.loop-rest.done + length c.split_at.result.0.now)
+          (to_z w64 (of_z w64 c.in-Ok.sum)) c.in-Ok.ensures.0 (back ∙ c.in-Ok.ensures.1) refl;
+      parts = omega (arith, c.loop-rest.invariant.parts, c.split_at.ensures.front_len, c.split_at.ensures.back_len, c.min.ensures);
+    }

@@ -1,0 +1,10 @@
+use Rattle.std.proofs.Common.{◌≡◌, ◌+◌, ◌+ℤ◌, drop, take}
+use Rattle.cvl_base.specs.Folds.{fold_of, scan_of}
+use Rattle.scan_walks.specs.Fronts.{fitting_front}
+use Rattle.scan_walks.proofs.blocks.sum_one_by_one.Given as goal
+
+abbrev pub invariant-loop-place : goal.invariant-loop-place
+invariant-loop-place l = record {
+  front : fitting_front (scan_of ◌+ℤ◌ l.before l.xs) ≡ l.place + fitting_front (scan_of ◌+ℤ◌ l.so_far (drop l.place l.xs));
+  sum : l.so_far ≡ fold_of ◌+ℤ◌ l.before (take l.place l.xs);
+}

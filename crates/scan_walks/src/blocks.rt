@@ -1,0 +1,90 @@
+//! What integers add up to, as long as the sum before each of them fits 32 bits: one by one, or a block at a time.
+
+ghost use Rattle.std.specs.Prelude.{◌≡◌, ◌+ℤ◌, ◌*ℤ◌, ◌≤◌, IfSome, Ok, length, pos};
+ghost use Rattle.cvl_base.specs.Folds.{fold_of};
+ghost use Rattle.cvl_base.specs.Integers.{greater_of, lesser_of, sum_of};
+ghost use Rattle.scan_walks.specs.Fronts.{IsWalked, most_of_block};
+
+use crate::totals::{fitting, plus};
+use operators::integer::{add, max, min};
+
+/// The most elements of a block.
+pub(crate) const BLOCK: usize = 512;
+
+/// What is seen of a block at once.
+#[derive(Drop)]
+struct Look {
+    /// The least of its elements and 0.
+    least: i32,
+    /// The greatest of its elements and 0.
+    greatest: i32,
+    /// Its sum, wrapped to 32 bits.
+    sum: i32,
+}
+
+/// The look at a block. `before` stands before it.
+// the loop has no way out before its end, so that the compiler takes several elements at a time
+fn look_at(before: &i32, block: &[i32]) -> Look
+    ensures least { result.least ≡ fold_of lesser_of (pos 0) block.now }
+    ensures greatest { result.greatest ≡ fold_of greater_of (pos 0) block.now }
+    ensures sum { result.sum ≡ fold_of sum_of before.now block.now }
+{
+    let (mut least, mut greatest, mut sum) = (0, 0, *before);
+    for x in block {
+        least = min(least, *x);
+        greatest = max(greatest, *x);
+        sum = add(sum, *x);
+    }
+    Look {
+        least,
+        greatest,
+        sum,
+    }
+}
+
+/// Where as many steps lead as a block has elements at most, from a number on.
+fn reach(from: &i32, step: &i32) -> i64
+    ensures { result ≡ from.now +ℤ (pos most_of_block *ℤ step.now) }
+{
+    i64::from(*from) + BLOCK as i64 * i64::from(*step)
+}
+
+/// What a block adds up to, where its least and its greatest element show that this and the sum before each element fit 32 bits.
+/// `before` stands before the block.
+fn sum_within(before: &i32, block: &[i32]) -> Option<i32>
+    requires { length block.now ≤ most_of_block }
+    ensures { IfSome result (λ sum. IsWalked before.now block.now (Ok sum)) }
+{
+    let look = look_at(before, block);
+    let _lowest = fitting(&reach(before, &look.least))?;
+    let _highest = fitting(&reach(before, &look.greatest))?;
+    Some(look.sum)
+}
+
+/// What the integers add up to, or the place of the first one before which the sum does not fit 32 bits. `before` stands before
+/// the integers.
+pub(crate) fn sum_one_by_one(before: i64, xs: &[i32]) -> Result<i64, usize>
+    ensures { IsWalked before xs.now result }
+{
+    let mut so_far = before;
+    for (place, x) in xs.iter().enumerate() {
+        match fitting(&so_far) {
+            Some(sum) => so_far = plus(&sum, x),
+            None => return Err(place),
+        }
+    }
+    Ok(so_far)
+}
+
+/// The same of a block, most often by one look at it.
+pub(crate) fn sum_of_block(before: i64, block: &[i32]) -> Result<i64, usize>
+    requires { length block.now ≤ most_of_block }
+    ensures { IsWalked before block.now result }
+{
+    if let Some(start) = fitting(&before) {
+        if let Some(sum) = sum_within(&start, block) {
+            return Ok(i64::from(sum));
+        }
+    }
+    sum_one_by_one(before, block)
+}
