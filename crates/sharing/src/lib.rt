@@ -49,6 +49,13 @@ pub const LEAST_READ: usize = 131_072;
 /// How many bytes of an input each thread reads at least.
 pub const LEAST_READ_EACH: usize = 32_768;
 
+/// From how many bytes on several threads pay where fresh memory for a file is written before the file is read to it. The system
+/// makes its pages then, which takes twice as long as to read the file's bytes.
+pub const LEAST_CLEARED: usize = 1_048_576;
+
+/// How many bytes of such memory each thread writes at least.
+pub const LEAST_CLEARED_EACH: usize = 262_144;
+
 /// From how many elements on a second thread pays where their texts are written. Several threads walk the elements twice: they
 /// count the bytes of their texts before they write them.
 pub const LEAST_WRITTEN: usize = 32_768;
@@ -100,6 +107,20 @@ pub fn threads_reading(config: Config, bytes: usize) -> u32
         return 1;
     }
     (bytes / LEAST_READ_EACH)
+        .min(config.workers() as usize)
+        .max(1) as u32
+}
+
+/// How many threads share the clearing of fresh memory for a file of so many bytes: at most as many as the configuration has
+/// workers, and one where a second doesn't pay.
+pub fn threads_clearing(config: Config, bytes: usize) -> u32
+    ensures least { 1 ≤ result }
+    ensures greatest { result ≤ config.1 }
+{
+    if bytes < LEAST_CLEARED {
+        return 1;
+    }
+    (bytes / LEAST_CLEARED_EACH)
         .min(config.workers() as usize)
         .max(1) as u32
 }
