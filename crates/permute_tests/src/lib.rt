@@ -2,7 +2,8 @@
 //!
 //! The worked values, by the plain and the gated forms, with each request for memory refused in turn; the least of several bad
 //! places, again and again, at a gate that sees each tile of each board; and every list of up to four indices, in short tiles
-//! and in segments, beside plain lists; and permutes so long that several threads share the first walk.
+//! and in segments, beside plain lists; permutes so long that several threads share the first walk; and the simple permute over
+//! a room.
 #![tactic(auto)]
 
 #[cfg(test)]
@@ -11,6 +12,8 @@ mod calls;
 mod lists;
 #[cfg(test)]
 mod long;
+#[cfg(test)]
+mod over;
 #[cfg(test)]
 mod plain;
 #[cfg(test)]
