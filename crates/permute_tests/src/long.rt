@@ -107,7 +107,11 @@ fn index_of(alloc: Global, flags: &[bool]) -> Result<Vec<i32>, AllocError> {
 }
 
 /// The indices with others at some places.
-fn changed(alloc: Global, index: &[i32], changes: &[(usize, i32)]) -> Result<Vec<i32>, AllocError> {
+pub fn changed(
+    alloc: Global,
+    index: &[i32],
+    changes: &[(usize, i32)],
+) -> Result<Vec<i32>, AllocError> {
     let mut changed = Vec::from_slice(alloc, index)?;
     for (place, other) in changes {
         if let Some(own) = changed.get_mut(*place) {

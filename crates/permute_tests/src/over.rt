@@ -1,5 +1,6 @@
 //! The simple permute over a room of the caller's.
 
+use crate::long::changed;
 use cvl_base::limits::MOST_ELEMENTS;
 use cvl_base::{Fault, FaultNo, Memory, Refused};
 use permutes::simple_over;
@@ -47,17 +48,6 @@ fn numbers(alloc: Global, reversed: bool) -> Result<Vec<i32>, AllocError> {
         numbers.push(number as i32)?;
     }
     Ok(numbers)
-}
-
-/// The indices with others at some places.
-fn changed(alloc: Global, index: &[i32], changes: &[(usize, i32)]) -> Result<Vec<i32>, AllocError> {
-    let mut changed = Vec::from_slice(alloc, index)?;
-    for (place, other) in changes {
-        if let Some(own) = changed.get_mut(*place) {
-            *own = *other;
-        }
-    }
-    Ok(changed)
 }
 
 /// Whether the permute answers what is right over a room of so many places, and leaves the room as before where it has a fault
