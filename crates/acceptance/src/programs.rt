@@ -245,12 +245,7 @@ enum Outcome<'a> {
 }
 
 /// A host in memory, of which standard output takes a byte a write.
-type Host<'a> = StreamHost<
-    &'a Refusing<Global>,
-    TableFiles<'a>,
-    NarrowWriter<Global>,
-    NarrowWriter<Global>,
->;
+type Host<'a> = StreamHost<TableFiles<'a>, NarrowWriter<Global>, NarrowWriter<Global>>;
 
 /// Whether a program with this status on this host comes out so.
 fn is_outcome(host: &Host<'_>, status: u8, outcome: Outcome) -> bool {
@@ -272,7 +267,7 @@ fn is_outcome(host: &Host<'_>, status: u8, outcome: Outcome) -> bool {
 }
 
 /// A host on which this fails.
-fn host_with<'a>(heap: &'a Refusing<Global>, alloc: Global, failing: Failing) -> Host<'a>
+fn host_with<'a>(alloc: Global, failing: Failing) -> Host<'a>
     ensures puts { result.failed_puts ≡ 0 }
     ensures flushes { result.failed_flushes ≡ 0 }
 {
@@ -292,7 +287,7 @@ fn host_with<'a>(heap: &'a Refusing<Global>, alloc: Global, failing: Failing) ->
             errors.writes_left = writes;
         }
     }
-    StreamHost::new(heap, TableFiles::new(alloc, FILES), output, errors)
+    StreamHost::new(TableFiles::new(alloc, FILES), output, errors)
 }
 
 /// Whether the program comes out so on a host on which this fails.
@@ -303,7 +298,7 @@ fn comes_out<R: Threads + Sync + AllocGlobal>(
     outcome: Outcome,
 ) -> bool {
     let heap = Refusing::none(rt.alloc());
-    let mut host = host_with(&heap, rt.alloc(), failing);
+    let mut host = host_with(rt.alloc(), failing);
     let status = program(rt, &heap, words, &mut host);
     is_outcome(&host, status, outcome)
 }
@@ -335,7 +330,7 @@ const READS: &[(&[&str], &str)] = &[
 /// Whether the program asks for files of these names.
 fn asks_for<R: Threads + Sync + AllocGlobal>(rt: &R, words: &[&str], asked: &str) -> bool {
     let heap = Refusing::none(rt.alloc());
-    let mut host = host_with(&heap, rt.alloc(), Failing::Nothing);
+    let mut host = host_with(rt.alloc(), Failing::Nothing);
     program(rt, &heap, words, &mut host);
     host.files.asked.as_slice() == asked.as_bytes()
 }

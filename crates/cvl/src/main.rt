@@ -6,6 +6,6 @@ use std::process::ExitCode;
 
 fn main(rt: HostRuntime) -> ExitCode {
     let files = SystemFiles::new(&rt);
-    let mut host = StreamHost::new(rt.alloc(), files, rt.stdout(), rt.stderr());
+    let mut host = StreamHost::new(files, rt.stdout(), rt.stderr());
     ExitCode::from(run_process(&rt, rt.alloc(), &mut host))
 }

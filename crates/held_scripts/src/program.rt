@@ -2,7 +2,7 @@
 
 use crew::Point;
 use cvl_base::Memory;
-use shell::{ReadFiles, StreamHost, program_gated};
+use shell::{ReadFiles, StreamHost, program_gated, read_whole};
 use std::test::Fail;
 use watching_gate::{Holds, Race, Watch};
 
@@ -15,13 +15,17 @@ impl ReadFiles for TwoFiles {
 
     ghost reads = { λ _. None };
 
-    fn read_file<A: Memory>(&mut self, alloc: A, name: &str) -> Option<Vec<u8, A>> {
+    fn expected_bytes(&self, _name: &str) -> usize {
+        0
+    }
+
+    fn read_file<A: Memory>(&mut self, name: &str, room: Vec<u8, A>) -> Option<Vec<u8, A>> {
         let text = if name == "script" {
             "a = input 1\nb = add_suz a\nwrite b\n"
         } else {
             "3 1 7 0"
         };
-        Vec::from_slice(alloc, text.as_bytes()).ok()
+        read_whole(&mut text.as_bytes(), room)
     }
 }
 
@@ -31,12 +35,7 @@ fn held_in_the_program(rt: HostRuntime) -> Result<(), Fail> {
     let words = ["cvl", "--tile", "1", "--workers", "2", "script", "numbers"];
     let holds = Holds::UntilOthers(Point::Claimed(0));
     let gate = Watch::new(rt.alloc(), Race::Scan, 4, 2, holds)?;
-    let mut host = StreamHost::new(
-        rt.alloc(),
-        TwoFiles,
-        Vec::new(rt.alloc()),
-        Vec::new(rt.alloc()),
-    );
+    let mut host = StreamHost::new(TwoFiles, Vec::new(rt.alloc()), Vec::new(rt.alloc()));
     let status = program_gated(&rt, rt.alloc(), &words, &mut host, &gate);
     assert!(rt; status == 0 && host.output.as_slice() == b"b = [0 3 4 11]\n".as_slice());
     assert!(rt; gate.saw_all());

@@ -200,9 +200,11 @@ const FILES: &[(&str, &str)] = &[
     ("numbers", "3 1 7 0 4\n"),
 ];
 
-/// A command line, and what comes of it with ample memory: standard output, standard error and the status.
+/// A command line with the files that there are, and what comes of it with ample memory: standard output, standard error and
+/// the status.
 #[derive(Clone, Copy)]
 struct Program<'a> {
+    files: &'a [(&'a str, &'a str)],
     words: &'a [&'a str],
     output: &'a str,
     errors: &'a str,
@@ -211,18 +213,21 @@ struct Program<'a> {
 
 const PROGRAMS: &[Program] = &[
     Program {
+        files: FILES,
         words: &["cvl", "fine", "numbers"],
         output: "b = [0 3 4 11 11]\n",
         errors: "",
         status: 0,
     },
     Program {
+        files: FILES,
         words: &["cvl", "late", "numbers"],
         output: "b = [0 3 4 11 11]\n",
         errors: "line 4: fault 2 UnknownCall\n",
         status: 1,
     },
     Program {
+        files: FILES,
         words: &["cvl", "late", "numbers", "nofile"],
         output: "",
         errors: "cannot read nofile\n",
@@ -259,10 +264,10 @@ fn program_on<R: Threads + Sync + AllocGlobal, A: Memory>(
     heap: A,
     row: &Program<'_>,
 ) -> Result<bool, NoResources> {
-    let files = TableFiles::new(rt.alloc(), FILES);
+    let files = TableFiles::new(rt.alloc(), row.files);
     let output = NarrowWriter::new(Vec::new(rt.alloc()), 0, u64::MAX);
     let errors = NarrowWriter::new(Vec::new(rt.alloc()), usize::MAX, 1);
-    let mut host = StreamHost::new(heap, files, output, errors);
+    let mut host = StreamHost::new(files, output, errors);
     let status = program(rt, heap, row.words, &mut host);
     let output = host.output.taken.as_slice();
     let errors = host.errors.taken.as_slice();
@@ -358,6 +363,23 @@ fn each_growth_of_the_program(rt: HostRuntime) -> Result<(), Fail> {
         // the room for the inputs and for a line, and the file of the script
         assert!(rt; requests > 2, "{requests}");
     }
+    Ok(())
+}
+
+/// A file that is so long that threads write the memory for it before it is read.
+#[test]
+fn each_growth_of_a_long_file(rt: HostRuntime) -> Result<(), Fail> {
+    let numbers = text_of(rt.alloc(), ("3 1 7 0 4", " ", 1_100_000, ""))?;
+    let row = Program {
+        files: &[FILES[0], ("numbers", numbers.as_str())],
+        words: &["cvl", "--workers", "3", "fine", "numbers"],
+        output: "b = [0 3 4 11 11]\n",
+        errors: "",
+        status: 0,
+    };
+    let requests = requests_of(&rt, Work::Program(&row))?;
+    // the room for the file, beside those for the inputs, for a line and for the script
+    assert!(rt; requests > 3, "{requests}");
     Ok(())
 }
 

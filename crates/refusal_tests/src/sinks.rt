@@ -36,7 +36,7 @@ fn takes<R: Threads + Sync>(rt: &R, alloc: Global, row: Row) -> Result<bool, NoR
     let files = TableFiles::new(alloc, &[]);
     let output = NarrowWriter::new(Vec::new(alloc), more_a_put, puts);
     let errors = NarrowWriter::new(Vec::new(alloc), 0, 0);
-    let mut sink = StreamHost::new(&heap, files, output, errors);
+    let mut sink = StreamHost::new(files, output, errors);
     let ran = run(rt, &heap, config, SCRIPT.as_bytes(), inputs, &mut sink);
     let text = sink.output.taken.as_slice();
     let right = match answer {

@@ -1,7 +1,7 @@
 //! Files in memory.
 
 use cvl_base::Memory;
-use shell::ReadFiles;
+use shell::{ReadFiles, read_whole};
 use std::alloc::Global;
 
 /// Files in memory, which claim nothing of what was read, and keep the names that they were asked for.
@@ -23,19 +23,29 @@ impl<'a> TableFiles<'a> {
     }
 }
 
+/// The bytes of the file of this name.
+fn file_of<'a>(files: &[(&'a str, &'a str)], name: &str) -> Option<&'a str> {
+    for (file, bytes) in files {
+        if *file == name {
+            return Some(*bytes);
+        }
+    }
+    None
+}
+
 impl ReadFiles for TableFiles<'_> {
     ghost use Rattle.std.specs.Prelude.{None};
 
     ghost reads = { λ _. None };
 
-    fn read_file<A: Memory>(&mut self, alloc: A, name: &str) -> Option<Vec<u8, A>> {
+    fn expected_bytes(&self, name: &str) -> usize {
+        file_of(self.files, name).map_or(0, str::len)
+    }
+
+    fn read_file<A: Memory>(&mut self, name: &str, room: Vec<u8, A>) -> Option<Vec<u8, A>> {
         let _ = self.asked.extend_from_slice(name.as_bytes());
         let _ = self.asked.push(b'\n');
-        for (file, bytes) in self.files {
-            if *file == name {
-                return Vec::from_slice(alloc, bytes.as_bytes()).ok();
-            }
-        }
-        None
+        let text = file_of(self.files, name)?;
+        read_whole(&mut text.as_bytes(), room)
     }
 }

@@ -47,7 +47,7 @@ fn end_of(answer: Result<(), Stop>, flushed: Result<(), SinkFault>) -> Option<St
 }
 
 /// Tells standard error of the stop, which takes no memory.
-pub(crate) fn tell_stop<A: Memory, H: Host<A>>(stop: &Stop, host: &mut H)
+pub(crate) fn tell_stop<H: Host>(stop: &Stop, host: &mut H)
     ensures { Tells (Some (stop_line stop.now)) (H.seen host.old) (H.seen host.new) }
 {
     let line = stop_line(stop);
@@ -67,7 +67,7 @@ fn put_piece<A: Memory>(piece: &[u8], line: &mut Vec<u8, A>)
 }
 
 /// Tells standard error of a file that cannot be read, by a line for which there is room.
-pub(crate) fn tell_unreadable<A: Memory, H: Host<A>>(name: &str, room: Vec<u8, A>, host: &mut H)
+pub(crate) fn tell_unreadable<A: Memory, H: Host>(name: &str, room: Vec<u8, A>, host: &mut H)
     requires empty { room.items ≡ [] }
     requires fits { length (unreadable_line name.now) ≤ vec_capacity room }
     ensures { Tells (Some (unreadable_line name.now)) (H.seen host.old) (H.seen host.new) }
@@ -80,7 +80,7 @@ pub(crate) fn tell_unreadable<A: Memory, H: Host<A>>(name: &str, room: Vec<u8, A
 }
 
 /// Sends on what standard output has taken, tells on standard error why the work ended, and answers the status.
-pub(crate) fn finish<A: Memory, H: Host<A>>(answer: Result<(), Stop>, host: &mut H) -> u8
+pub(crate) fn finish<H: Host>(answer: Result<(), Stop>, host: &mut H) -> u8
     requires { (H.seen host.old).failed_flushes < 2 ^ 64 - 1 }
     ensures { Finishes answer (H.seen host.old) (H.seen host.new) result }
 {

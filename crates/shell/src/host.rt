@@ -7,9 +7,14 @@ use cvl_base::Memory;
 use script_runs::{Sink, SinkFault};
 
 /// What a program is run on: its files, and where its text goes. `put` is standard output.
-pub trait Host<A: Memory>: Sink {
+pub trait Host: Sink {
+    /// How many bytes a file will have when it is read, as far as that is known; 0 where it is not. This is no read.
+    fn expected_bytes(&self, name: &str) -> usize;
+
     /// The whole of a file; none where it cannot be read, or there is no memory for it. Either is a read.
-    fn read_file(&mut self, name: &str) -> Option<Vec<u8, A>>
+    ///
+    /// `room` is memory that the file may be read to, which grows where the file needs more. What stands in it is lost.
+    fn read_file<A: Memory>(&mut self, name: &str, room: Vec<u8, A>) -> Option<Vec<u8, A>>
         ensures { Shows
             (with_reads (read_of name.now (option_map (λ file. file.items) result) ∷ []) (Self.seen self.old))
             (Self.seen self.new) };

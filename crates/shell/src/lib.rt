@@ -7,6 +7,7 @@ pub mod host;
 pub mod process;
 pub mod programs;
 pub mod stream_host;
+pub mod whole_files;
 
 pub use command_line::{Words, WordsFault, read_words};
 pub use host::Host;
@@ -17,3 +18,4 @@ pub use script_runs::{
     runs, sink, stop,
 };
 pub use stream_host::{ReadFiles, StreamHost};
+pub use whole_files::read_whole;

@@ -7,14 +7,15 @@ use crate::endings::{COMMAND_LINE, FAILED, tell_stop};
 use crate::host::Host;
 use crate::programs::program;
 use crate::stream_host::ReadFiles;
+use crate::whole_files::read_whole;
 use cvl_base::Memory;
 use script_runs::Stop;
 use std::alloc::{AllocError, Global};
 use std::fs::File;
-use std::io::{ErrorKind, Read};
+use std::io::ErrorKind;
 use std::rt::{Env, Files};
 use std::thread::Threads;
-use std::{env, io};
+use std::{env, fs, io};
 
 /// The system's files, of which nothing is told.
 #[derive(Drop)]
@@ -34,11 +35,18 @@ impl<R: Files> ReadFiles for SystemFiles<'_, R> {
 
     ghost reads = { λ _. None };
 
-    fn read_file<A: Memory>(&mut self, alloc: A, name: &str) -> Option<Vec<u8, A>> {
+    fn expected_bytes(&self, name: &str) -> usize {
+        match fs::metadata(self.rt, name) {
+            Ok(metadata) if metadata.is_file() => {
+                usize::try_from(metadata.len()).unwrap_or(usize::MAX)
+            }
+            _ => 0,
+        }
+    }
+
+    fn read_file<A: Memory>(&mut self, name: &str, room: Vec<u8, A>) -> Option<Vec<u8, A>> {
         let mut file = File::open(self.rt, name).ok()?;
-        let mut bytes = Vec::new(alloc);
-        file.read_to_end(&mut bytes).ok()?;
-        Some(bytes)
+        read_whole(&mut file, room)
     }
 }
 
@@ -57,7 +65,7 @@ fn borrowed(alloc: Global, arguments: &[String]) -> Result<Vec<&str>, AllocError
 }
 
 /// Tells why the words of the command line could not be had, and answers the status.
-fn tell_wordless<A: Memory, H: Host<A>>(is_text: bool, host: &mut H) -> u8
+fn tell_wordless<H: Host>(is_text: bool, host: &mut H) -> u8
     ensures { IsWordless (H.seen host.old) (H.seen host.new) result }
 {
     if is_text {
@@ -73,7 +81,7 @@ fn tell_wordless<A: Memory, H: Host<A>>(is_text: bool, host: &mut H) -> u8
 ///
 /// Where the command line is not UTF-8 standard error is told so, and the status is 2; where there is no memory for its
 /// words, `line 0: no resources` and 3. Else it is `program` on these words.
-pub fn run_process<R: Env + Threads + Sync + AllocGlobal, A: Memory, H: Host<A>>(
+pub fn run_process<R: Env + Threads + Sync + AllocGlobal, A: Memory, H: Host>(
     rt: &R,
     alloc: A,
     host: &mut H,

@@ -22,7 +22,7 @@ use vector_handles::Input;
 const STARVED: Stop = Stop::NoResources { line: 0 };
 
 /// Writes clap's help to standard output.
-fn put_help<A: Memory, H: Host<A>>(alloc: A, help: &clap::Error, host: &mut H) -> Result<(), Stop>
+fn put_help<A: Memory, H: Host>(alloc: A, help: &clap::Error, host: &mut H) -> Result<(), Stop>
     requires { (H.seen host.old).failed_puts < 2 ^ 64 - 1 }
     ensures { PutsHelp (H.seen host.old) (H.seen host.new) result }
 {
@@ -36,7 +36,7 @@ fn put_help<A: Memory, H: Host<A>>(alloc: A, help: &clap::Error, host: &mut H) -
 }
 
 /// Tells standard error clap's text of a refused command line, or that there is no memory for it.
-fn tell_refused<A: Memory, H: Host<A>>(alloc: A, error: &clap::Error, host: &mut H)
+fn tell_refused<A: Memory, H: Host>(alloc: A, error: &clap::Error, host: &mut H)
     ensures { TellsSome (H.seen host.old) (H.seen host.new) }
 {
     match format!(in alloc; "{error}") {
@@ -46,7 +46,7 @@ fn tell_refused<A: Memory, H: Host<A>>(alloc: A, error: &clap::Error, host: &mut
 }
 
 /// Runs the script and sends on its text, tells why the run stopped, and answers the status.
-fn run_script<R: Threads + Sync, A: Memory, H: Host<A>, G: Gate>(
+fn run_script<R: Threads + Sync, A: Memory, H: Host, G: Gate>(
     rt: &R,
     alloc: A,
     config: Config,
@@ -64,7 +64,7 @@ fn run_script<R: Threads + Sync, A: Memory, H: Host<A>, G: Gate>(
 }
 
 /// Reads the files of the script and of its inputs, and runs the script.
-fn run_files<R: Threads + Sync, A: Memory, H: Host<A>, G: Gate>(
+fn run_files<R: Threads + Sync, A: Memory, H: Host, G: Gate>(
     rt: &R,
     alloc: A,
     words: &Words<'_>,
@@ -79,12 +79,19 @@ fn run_files<R: Threads + Sync, A: Memory, H: Host<A>, G: Gate>(
     let Ok(room) = room_for(alloc, words) else {
         return finish(Err(STARVED), host);
     };
-    match host.read_file(words.script) {
+    match host.read_file(words.script, Vec::new(alloc)) {
         None => {
             tell_unreadable(words.script, room.line, host);
             FAILED
         }
-        Some(text) => match read_inputs(words.inputs.as_slice(), room.inputs, host) {
+        Some(text) => match read_inputs(
+            rt,
+            alloc,
+            words.config,
+            words.inputs.as_slice(),
+            room.inputs,
+            host,
+        ) {
             Err(name) => {
                 tell_unreadable(name, room.line, host);
                 FAILED
@@ -110,7 +117,7 @@ fn run_files<R: Threads + Sync, A: Memory, H: Host<A>, G: Gate>(
 ///
 /// The status is 0 where there is no fault, and after help; 1 at a fault of the script; 2 where the command line is
 /// refused; and 3 where a file cannot be read, memory is refused or a write fails.
-pub fn program<'a, R: Threads + Sync + AllocGlobal, A: Memory, H: Host<A>>(
+pub fn program<'a, R: Threads + Sync + AllocGlobal, A: Memory, H: Host>(
     rt: &R,
     alloc: A,
     words: &'a [&'a str],
@@ -126,7 +133,7 @@ pub fn program<'a, R: Threads + Sync + AllocGlobal, A: Memory, H: Host<A>>(
 
 /// The same as [`program`], by workers that pass a gate at the points of their way through a tile, in each call that races for
 /// tiles.
-pub fn program_gated<'a, R: Threads + Sync + AllocGlobal, A: Memory, H: Host<A>, G: Gate>(
+pub fn program_gated<'a, R: Threads + Sync + AllocGlobal, A: Memory, H: Host, G: Gate>(
     rt: &R,
     alloc: A,
     words: &'a [&'a str],

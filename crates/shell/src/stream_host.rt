@@ -17,8 +17,13 @@ pub trait ReadFiles {
     /// The reads so far; none where the reader does not tell them.
     ghost reads: { Self → Option (List Read) };
 
+    /// How many bytes a file will have when it is read, as far as that is known; 0 where it is not. This is no read.
+    fn expected_bytes(&self, name: &str) -> usize;
+
     /// The whole of a file; none where it cannot be read, or there is no memory for it. Either is a read.
-    fn read_file<A: Memory>(&mut self, alloc: A, name: &str) -> Option<Vec<u8, A>>
+    ///
+    /// `room` is memory that the file may be read to, which grows where the file needs more. What stands in it is lost.
+    fn read_file<A: Memory>(&mut self, name: &str, room: Vec<u8, A>) -> Option<Vec<u8, A>>
         ensures { IsTold
             (with_more (read_of name.now (option_map (λ file. file.items) result) ∷ []) (reads self.old))
             (reads self.new) };
@@ -27,9 +32,7 @@ pub trait ReadFiles {
 /// A host over a reader of files, a writer for standard output and one for standard error. It tells what these tell: all
 /// of it where they keep what they take in memory, and nothing where they are the system's.
 #[derive(Drop)]
-pub struct StreamHost<A, F, O, E> {
-    /// The memory that files are read to.
-    pub alloc: A,
+pub struct StreamHost<F, O, E> {
     /// The reader of files.
     pub files: F,
     /// Standard output.
@@ -48,14 +51,13 @@ pub struct StreamHost<A, F, O, E> {
     pub lost: bool,
 }
 
-impl<A, F, O, E> StreamHost<A, F, O, E> {
+impl<F, O, E> StreamHost<F, O, E> {
     /// A host on which nothing was done.
-    pub fn new(alloc: A, files: F, output: O, errors: E) -> StreamHost<A, F, O, E>
+    pub fn new(files: F, output: O, errors: E) -> StreamHost<F, O, E>
         ensures puts { result.failed_puts ≡ 0 }
         ensures flushes { result.failed_flushes ≡ 0 }
     {
         StreamHost {
-            alloc,
             files,
             output,
             errors,
@@ -86,7 +88,7 @@ fn write_whole<W: Write>(bytes: &[u8], writer: &mut W) -> bool
 }
 
 /// A write that takes none of some bytes is a failure.
-impl<A: Memory, F: ReadFiles, O: Write, E: Write> Sink for StreamHost<A, F, O, E> {
+impl<F: ReadFiles, O: Write, E: Write> Sink for StreamHost<F, O, E> {
     ghost seen = { λ h. record {
       output = O.contents h.output;
       failed_puts = h.failed_puts;
@@ -115,9 +117,13 @@ impl<A: Memory, F: ReadFiles, O: Write, E: Write> Sink for StreamHost<A, F, O, E
     }
 }
 
-impl<A: Memory, F: ReadFiles, O: Write, E: Write> Host<A> for StreamHost<A, F, O, E> {
-    fn read_file(&mut self, name: &str) -> Option<Vec<u8, A>> {
-        self.files.read_file(self.alloc, name)
+impl<F: ReadFiles, O: Write, E: Write> Host for StreamHost<F, O, E> {
+    fn expected_bytes(&self, name: &str) -> usize {
+        self.files.expected_bytes(name)
+    }
+
+    fn read_file<A: Memory>(&mut self, name: &str, room: Vec<u8, A>) -> Option<Vec<u8, A>> {
+        self.files.read_file(name, room)
     }
 
     fn flush(&mut self) -> Result<(), SinkFault> {
