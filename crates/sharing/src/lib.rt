@@ -63,6 +63,20 @@ pub const LEAST_WRITTEN: usize = 32_768;
 /// How many elements' texts each thread writes at least.
 pub const LEAST_WRITTEN_EACH: usize = 16_384;
 
+/// How many threads share so many elements or bytes, where each has at least `each` of them: at most `most`, and one where they
+/// are fewer than `least`.
+fn threads_sharing(most: u32, items: usize, least: usize, each: usize) -> u32
+    requires most { 1 ≤ most }
+    requires each { 1 ≤ each }
+    ensures least { 1 ≤ result }
+    ensures greatest { result ≤ most }
+{
+    if items < least {
+        return 1;
+    }
+    (items / each).min(most as usize).max(1) as u32
+}
+
 /// How many threads share a call that writes so many elements: at most as many as the configuration has workers, and one
 /// where a second doesn't pay.
 pub fn threads_for(config: Config, elements: usize) -> u32
@@ -78,10 +92,7 @@ pub fn threads_among(most: u32, elements: usize) -> u32
     ensures least { 1 ≤ result }
     ensures greatest { result ≤ most }
 {
-    if elements < LEAST_SHARED {
-        return 1;
-    }
-    (elements / LEAST_EACH).min(most as usize).max(1) as u32
+    threads_sharing(most, elements, LEAST_SHARED, LEAST_EACH)
 }
 
 /// How many threads share the first walk of a permute, each of which owns a range of a result of so many places: at most as
@@ -103,12 +114,7 @@ pub fn threads_reading(config: Config, bytes: usize) -> u32
     ensures least { 1 ≤ result }
     ensures greatest { result ≤ config.1 }
 {
-    if bytes < LEAST_READ {
-        return 1;
-    }
-    (bytes / LEAST_READ_EACH)
-        .min(config.workers() as usize)
-        .max(1) as u32
+    threads_sharing(config.workers(), bytes, LEAST_READ, LEAST_READ_EACH)
 }
 
 /// How many threads share the clearing of fresh memory for a file of so many bytes: at most as many as the configuration has
@@ -117,12 +123,7 @@ pub fn threads_clearing(config: Config, bytes: usize) -> u32
     ensures least { 1 ≤ result }
     ensures greatest { result ≤ config.1 }
 {
-    if bytes < LEAST_CLEARED {
-        return 1;
-    }
-    (bytes / LEAST_CLEARED_EACH)
-        .min(config.workers() as usize)
-        .max(1) as u32
+    threads_sharing(config.workers(), bytes, LEAST_CLEARED, LEAST_CLEARED_EACH)
 }
 
 /// How many threads share the writing of so many elements' texts: at most as many as the configuration has workers, and one
@@ -133,12 +134,15 @@ pub fn threads_writing(config: Config, elements: usize) -> u32
     ensures most { result ≤ most_workers }
     ensures few { 1 < result → elements ≤ most_elements }
 {
-    if elements < LEAST_WRITTEN || elements > MOST_ELEMENTS {
+    if elements > MOST_ELEMENTS {
         return 1;
     }
-    (elements / LEAST_WRITTEN_EACH)
-        .min(config.workers() as usize)
-        .max(1) as u32
+    threads_sharing(
+        config.workers(),
+        elements,
+        LEAST_WRITTEN,
+        LEAST_WRITTEN_EACH,
+    )
 }
 
 /// The tiles and the workers of the race for so many elements, or none where one thread walks them at once: what is asked for
