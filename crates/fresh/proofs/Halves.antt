@@ -3,6 +3,11 @@ use Rattle.std.proofs.Common.{◌≡◌, ℕ, zero, suc, ◌+◌, ◌-◌, ◌�
 use Rattle.fresh.specs.Places.{Stretch, stretch}
 use Rattle.fresh.specs.Parts.{part}
 
+pub parts_both : {X : Type 0} (whole : List X) (first n room : ℕ) → n ≤ room → part whole first room ≡ part whole first n ++ part whole (first + n) (room - n)
+parts_both whole first n room within =
+    let all : room ≡ n + (room - n) = omega arith in
+    ap (part whole first) all ∙ take-add n (room - n) (drop first whole) ∙ ap (λ l. part whole first n ++ take (room - n) l) (drop-drop n first whole)
+
 module _ {X : Type 0} (whole : List X) where
   part_both : (first n m : ℕ) → part whole first n ++ part whole (first + n) m ≡ part whole first (n + m)
   part_both first n m = sym (take-add n m (drop first whole) ∙ ap (λ l. part whole first n ++ take m l) (drop-drop n first whole))

@@ -1,5 +1,6 @@
 pub mod Blocks
 pub mod Crosses
+pub mod FirstWithout
 pub mod Halves
 pub mod Maps
 pub mod Memory

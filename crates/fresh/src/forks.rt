@@ -1,14 +1,15 @@
 //! A vector that several threads write, each a run of it.
 
-ghost use Rattle.std.specs.Prelude.{◌≡◌, ℕ, ◌+◌, ◌<◌, ◌≤◌, List, [], length, IfOk};
+ghost use Rattle.std.specs.Prelude.{◌≡◌, ℕ, ◌+◌, ◌<◌, ◌≤◌, List, [], Option, IfOk, length};
+ghost use Rattle.fresh.specs.Found.{first_without};
 ghost use Rattle.fresh.specs.Places.{stretch};
 ghost use Rattle.fresh.specs.Parts.{part};
-ghost use denote.Param.Send.{IsSync, IsSend};
 
 use crate::room::Room;
 use crate::run::Run;
+use crate::shares::{Share, write_in_parts};
 use std::alloc::{AllocError, Allocator};
-use std::thread::{Threads, join};
+use std::thread::Threads;
 
 /// What writes any run of a vector. Its meaning is the list of all the items.
 pub trait Writer<T> {
@@ -19,6 +20,127 @@ pub trait Writer<T> {
         requires empty { run.items ≡ [] }
         requires within { run.first + run.room ≤ length (whole self.now) }
         ensures { result ≡ stretch run.block run.first (part (whole self.now) run.first run.room) 0 };
+}
+
+/// What writes any run of a vector of which some items may have no value, and finds the first of these. Its meaning is the list
+/// of all items as they are written, whatever is written for those without a value, and the list of the values.
+pub trait CheckedWriter<T> {
+    ghost whole: { Self → List T };
+
+    ghost values: { Self → List (Option T) };
+
+    /// Writes all places of an empty run, and tells the first place of them whose item has no value.
+    fn write(&self, run: Run<T>) -> (Run<T>, Option<usize>)
+        requires empty { run.items ≡ [] }
+        requires within { run.first + run.room ≤ length (whole self.now) }
+        ensures run { result.0 ≡ stretch run.block run.first (part (whole self.now) run.first run.room) 0 }
+        ensures found { result.1 ≡ first_without run.first (part (values self.now) run.first run.room) };
+
+    /// How many of `room` places from the one at `first` on the first `fewer` of so many threads write, of which there is at
+    /// least one. Each writes as many, if nothing else is said.
+    fn share(&self, _first: usize, room: usize, fewer: usize, threads: usize) -> usize
+        requires some { 1 ≤ threads }
+        ensures { result ≤ room }
+    {
+        (room / threads).saturating_mul(fewer).min(room)
+    }
+}
+
+/// A writer as one that looks for no item without a value.
+#[derive(Drop)]
+struct Unchecked<'a, W> {
+    writer: &'a W,
+}
+
+impl<'a, T, W: Writer<T>> CheckedWriter<T> for Unchecked<'a, W> {
+    ghost use Rattle.std.specs.Prelude.{[]};
+
+    ghost whole = { λ w. W.whole w.writer.now };
+
+    ghost values = { λ w. [] };
+
+    fn write(&self, run: Run<T>) -> (Run<T>, Option<usize>)
+        requires empty { run.items ≡ [] }
+        requires within { run.first + run.room ≤ length (W.whole self.now.writer.now) }
+        ensures run { result.0 ≡ stretch run.block run.first (part (W.whole self.now.writer.now) run.first run.room) 0 }
+        ensures found { result.1 ≡ first_without {X = T} run.first (part [] run.first run.room) }
+    {
+        (self.writer.write(run), None)
+    }
+}
+
+/// The places that a writer writes, in as many parts as there are threads.
+#[derive(Drop)]
+struct Places<'a, W> {
+    writer: &'a W,
+    threads: usize,
+}
+
+impl<'a, T, W: CheckedWriter<T>> Share<T> for Places<'a, W> {
+    ghost use Rattle.std.specs.Prelude.{◌+◌, ◌≤◌, length};
+    ghost use Rattle.fresh.specs.Found.{first_without};
+    ghost use Rattle.fresh.specs.Parts.{part, length_part};
+
+    ghost IsOf = { λ s first room. first + room ≤ length (W.whole s.writer.now) };
+
+    ghost items = { λ s first room. part (W.whole s.writer.now) first room };
+
+    ghost found = { λ s first room. first_without first (part (W.values s.writer.now) first room) };
+
+    ghost parts = { λ s. s.threads };
+
+    ghost long = { λ s first room within. length_part (W.whole s.writer.now) first room within };
+
+    fn count(&self) -> usize {
+        self.threads
+    }
+
+    fn halves(self, first: usize, room: usize) -> (Places<'a, W>, usize, Places<'a, W>) {
+        let Places { writer, threads } = self;
+        let fewer = threads / 2;
+        let middle = writer.share(first, room, fewer, threads);
+        let low = Places {
+            writer,
+            threads: fewer,
+        };
+        let high = Places {
+            writer,
+            threads: threads - fewer,
+        };
+        (low, middle, high)
+    }
+
+    fn write(self, run: Run<T>) -> (Run<T>, Option<usize>)
+        requires one { self.threads < 2 }
+        requires empty { run.items ≡ [] }
+        requires places { run.first + run.room ≤ length (W.whole self.writer.now) }
+        ensures run { result.0 ≡ stretch run.block run.first (part (W.whole self.entry.writer.now) run.first run.room) 0 }
+        ensures found { result.1 ≡ first_without run.first (part (W.values self.entry.writer.now) run.first run.room) }
+    {
+        self.writer.write(run)
+    }
+}
+
+/// The writer's items as a vector, written by at most `threads` threads, and the first place whose item has no value.
+pub fn write_checked_in_runs<
+    T: Send + Drop,
+    R: Threads + Sync,
+    A: Allocator,
+    W: CheckedWriter<T> + Sync,
+>(
+    rt: &R,
+    alloc: A,
+    threads: u32,
+    writer: &W,
+    items: usize,
+) -> Result<(Vec<T, A>, Option<usize>), AllocError>
+    requires items { items ≡ length (W.whole writer.now) }
+    requires values { items ≡ length (W.values writer.now) }
+    ensures items { IfOk result (λ r. r.0.items ≡ W.whole writer.now) }
+    ensures found { IfOk result (λ r. r.1 ≡ first_without 0 (W.values writer.now)) }
+{
+    let threads = items.min(threads as usize);
+    write_in_parts(rt, alloc, Places { writer, threads }, items)
 }
 
 /// The writer's items as a vector, written by at most `threads` threads.
@@ -35,9 +157,10 @@ pub fn write_in_runs<T: Send + Drop, R: Threads + Sync, A: Allocator, W: Writer<
     requires { items ≡ length (W.whole writer.now) }
     ensures { IfOk result (λ v. v.items ≡ W.whole writer.now) }
 {
-    let (room, run) = Room::new(alloc, items)?;
     let threads = items.min(threads as usize);
-    Ok(room.into_vec(write_run(rt, writer, threads, run)))
+    let writer = &Unchecked { writer };
+    let (written, _) = write_in_parts(rt, alloc, Places { writer, threads }, items)?;
+    Ok(written)
 }
 
 /// The writer's items as a vector, written by the thread that calls.
@@ -51,54 +174,4 @@ pub fn write_alone<T: Drop, A: Allocator, W: Writer<T>>(
 {
     let (room, run) = Room::new(alloc, items)?;
     Ok(room.into_vec(writer.write(run)))
-}
-
-/// Writes a run by at most so many threads.
-#[cycle(halves)]
-fn write_run<T: Send + Drop, R: Threads + Sync, W: Writer<T> + Sync>(
-    rt: &R,
-    writer: &W,
-    threads: usize,
-    run: Run<T>,
-) -> Run<T>
-    requires empty { run.items ≡ [] }
-    requires within { run.first + run.room ≤ length (W.whole writer.now) }
-    ensures { result ≡ stretch run.block run.first (part (W.whole writer.now) run.first run.room) 0 }
-{
-    if threads < 2 {
-        return writer.write(run);
-    }
-    let fewer = threads / 2;
-    let middle = run.len() / threads * fewer;
-    let (front, back) = run.split_at(middle);
-    let (front, back) = write_both(rt, writer, fewer, front, threads - fewer, back);
-    front.joined(back)
-}
-
-/// `write_run` for two runs, each in a thread of its own.
-#[cycle(halves)]
-fn write_both<T: Send + Drop, R: Threads + Sync, W: Writer<T> + Sync>(
-    rt: &R,
-    writer: &W,
-    low: usize,
-    front: Run<T>,
-    high: usize,
-    back: Run<T>,
-) -> (Run<T>, Run<T>)
-    requires some { (1 ≤ low) × (1 ≤ high) }
-    requires empty { (front.items ≡ []) × (back.items ≡ []) }
-    requires front { front.first + front.room ≤ length (W.whole writer.now) }
-    requires back { back.first + back.room ≤ length (W.whole writer.now) }
-    ensures front { result.0 ≡ stretch front.block front.first (part (W.whole writer.now) front.first front.room) 0 }
-    ensures back { result.1 ≡ stretch back.block back.first (part (W.whole writer.now) back.first back.room) 0 }
-{
-    let write_front = move || -> Run<T>
-        requires { IsSync R.row × IsSync W.row × IsSend T.row × (front.items ≡ []) × (front.first + front.room ≤ length (W.whole writer.now)) }
-        ensures { result ≡ stretch front.block front.first (part (W.whole writer.entry.now) front.first front.room) 0 }
-    { write_run(rt, writer, low, front) };
-    let write_back = move || -> Run<T>
-        requires { IsSync R.row × IsSync W.row × IsSend T.row × (back.items ≡ []) × (back.first + back.room ≤ length (W.whole writer.now)) }
-        ensures { result ≡ stretch back.block back.first (part (W.whole writer.entry.now) back.first back.room) 0 }
-    { write_run(rt, writer, high, back) };
-    join(rt, write_front, write_back)
 }

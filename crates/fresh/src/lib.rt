@@ -6,9 +6,11 @@ mod cells;
 mod copies;
 mod fills;
 mod forks;
+mod found;
 mod over;
 mod room;
 mod run;
+mod shares;
 
 // A crate can name a run in a contract only if the types of its fields are exported.
 #[doc(hidden)]
@@ -16,7 +18,9 @@ pub use block::Deed;
 #[doc(hidden)]
 pub use cells::{Base, Cells};
 pub use copies::Copies;
-pub use forks::{Writer, write_alone, write_in_runs};
+pub use forks::{CheckedWriter, Writer, write_alone, write_checked_in_runs, write_in_runs};
+pub use found::first_found;
 pub use over::{fill_slice, write_over};
 pub use room::Room;
 pub use run::Run;
+pub use shares::{Share, extend_in_parts, write_in_parts};
