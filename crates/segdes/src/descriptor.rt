@@ -100,6 +100,18 @@ impl<A: Allocator> SegDes<A> {
         self.starts[s] as usize
     }
 
+    /// Where segment `s` starts, and the total where there is no such segment: the sum of the lengths before it.
+    #[tactic(auto, using(std::proofs::lemmas::List::take_all))]
+    pub fn start_or_total(&self, s: usize) -> usize
+        ensures { result ≡ start_of self.now s }
+    {
+        if s < self.count() {
+            self.start(s)
+        } else {
+            self.total()
+        }
+    }
+
     /// How many segments start before a place.
     pub fn starts_before(&self, place: usize) -> usize
         ensures in_count { result ≤ length self.now }
