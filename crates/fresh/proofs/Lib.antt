@@ -4,6 +4,7 @@ pub mod FirstWithout
 pub mod Halves
 pub mod Maps
 pub mod Memory
+pub mod PartWalk
 pub mod Places
 pub mod Rows
 pub mod Zips

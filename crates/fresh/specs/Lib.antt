@@ -1,3 +1,4 @@
+pub mod Counted
 pub mod Found
 pub mod Ownership
 pub mod Parts

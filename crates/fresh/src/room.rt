@@ -1,5 +1,5 @@
 //! The room of a vector to be, while runs of it are written elsewhere.
-ghost use Rattle.std.specs.Prelude.{◌≡◌, ℕ, ◌+◌, IfOk, IsOk, [], length};
+ghost use Rattle.std.specs.Prelude.{◌≡◌, ℕ, ◌+◌, ◌<◌, ◌^◌, IfOk, IsOk, [], length};
 ghost use Rattle.std.specs.Vec.{vec_len, vec_capacity};
 ghost use Rattle.fresh.specs.Places.{stretch, IsAllOf};
 
@@ -37,6 +37,7 @@ impl<T, A: Allocator> Room<T, A> {
     /// The room for so many items, and the run of all its places.
     pub fn new(alloc: A, places: usize) -> Result<(Room<T, A>, Run<T>), AllocError>
         ensures room { IfOk result (λ r. r.0.places ≡ places) }
+        ensures fits { IfOk result (λ _. places < 2 ^ 63) }
         ensures run { IfOk result (λ r. r.1 ≡ stretch r.0.block 0 [] places) }
         ensures succeeds { places ≡ 0 → IsOk result }
     {
