@@ -1,16 +1,15 @@
 //! The elements of a vector, whose texts are counted and written in parts.
 
-ghost use Rattle.std.specs.Prelude.{◌≡◌, ◌*◌, ◌≤◌, length, vec_len, IfOk};
+ghost use Rattle.std.specs.Prelude.{◌≡◌, ◌*◌, ◌≤◌, [], length, IfOk};
+ghost use Rattle.std.specs.List.{flat_map};
 ghost use Rattle.cvl_base.specs.Limits.{most_elements};
-ghost use Rattle.fresh.specs.Places.{with_items};
-ghost use Rattle.value_texts.specs.Parts.{texts_of};
+ghost use Rattle.fresh.specs.Places.{stretch, with_items};
 ghost use Rattle.value_texts.specs.Texts.{spaced};
 
-use crate::parts::Part;
 use crate::vector_text::{PAGE_BYTES, PAGE_ELEMENTS, Page, write_spaced};
 use crate::written::Written;
 use cvl_base::{Memory, NoResources};
-use fresh::Run;
+use fresh::{Part, Run};
 use std::alloc::AllocError;
 
 /// How many bytes the texts of the elements have with a space before each.
@@ -63,18 +62,26 @@ impl<'a, T> Clone for ElementTexts<'a, T> {
 
 impl<'a, T> Copy for ElementTexts<'a, T> {}
 
-impl<'a, T: Written> Part for ElementTexts<'a, T> {
+impl<'a, T: Written> Part<u8> for ElementTexts<'a, T> {
+    ghost use Rattle.std.specs.Prelude.{None};
     ghost use Rattle.value_texts.specs.Texts.{spaced};
 
-    ghost text = { λ part. spaced T.text_of part.xs.now };
+    ghost items = { λ part. spaced T.text_of part.xs.now };
 
-    fn count(&self) -> u32 {
-        count_spaced(self.xs)
+    ghost found = { λ part first. None };
+
+    fn count(&self) -> usize {
+        count_spaced(self.xs) as usize
     }
 
-    fn write(&self, run: Run<u8>) -> Run<u8> {
+    fn write(&self, run: Run<u8>) -> (Run<u8>, Option<usize>)
+        requires empty { run.items ≡ [] }
+        requires room { run.room ≡ length (spaced T.text_of self.now.xs.now) }
+        ensures run { result.0 ≡ stretch run.block run.first (spaced T.text_of self.now.xs.now) 0 }
+        ensures found { result.1 ≡ None }
+    {
         let mut page = [0; PAGE_BYTES];
-        write_into_run(self.xs, &mut page, run)
+        (write_into_run(self.xs, &mut page, run), None)
     }
 }
 
@@ -84,10 +91,8 @@ pub(crate) fn elements_in<T: Written, A: Memory>(
     xs: &[T],
     count: usize,
 ) -> Result<Vec<ElementTexts<'_, T>, A>, NoResources>
-    requires few { length xs.now ≤ most_elements }
-    requires some { 1 ≤ count }
-    ensures whole { IfOk result (λ parts. texts_of (λ p. spaced T.text_of p.xs.now) parts.items ≡ spaced T.text_of xs.now) }
-    ensures count { IfOk result (λ parts. vec_len parts ≤ count) }
+    requires { length xs.now ≤ most_elements }
+    ensures { IfOk result (λ parts. flat_map (λ p. spaced T.text_of p.xs.now) parts.items ≡ spaced T.text_of xs.now) }
 {
     let mut parts = Vec::with_capacity(alloc, count)?;
     let mut rest = xs;

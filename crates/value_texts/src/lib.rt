@@ -5,7 +5,6 @@ mod alone;
 mod elements;
 mod nest_text;
 mod part_writes;
-mod parts;
 mod segments;
 mod texts;
 mod vector_text;

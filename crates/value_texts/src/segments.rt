@@ -1,19 +1,17 @@
 //! The segments of a vector, whose texts are counted and written in parts.
 
-ghost use Rattle.std.specs.Prelude.{◌≡◌, ◌+◌, ◌*◌, ◌≤◌, length, map, sum, take, unsigned_abs, vec_len, IfOk, [], ◌∷◌};
-ghost use Rattle.std.specs.List.{join_with_byte};
+ghost use Rattle.std.specs.Prelude.{◌≡◌, ◌+◌, ◌*◌, ◌≤◌, length, map, sum, take, unsigned_abs, IfOk, [], ◌∷◌};
+ghost use Rattle.std.specs.List.{flat_map, join_with_byte};
 ghost use Rattle.cvl_base.specs.Limits.{most_elements};
 ghost use Rattle.cvl_base.specs.Nests.{cut_of};
-ghost use Rattle.fresh.specs.Places.{with_items};
-ghost use Rattle.value_texts.specs.Parts.{texts_of};
+ghost use Rattle.fresh.specs.Places.{stretch, with_items};
 ghost use Rattle.value_texts.specs.Texts.{spaced, vector_text};
 
 use crate::elements::{count_spaced, write_into_run};
-use crate::parts::Part;
 use crate::vector_text::{PAGE_BYTES, Page};
 use crate::written::Written;
 use cvl_base::{Memory, NoResources};
-use fresh::Run;
+use fresh::{Part, Run};
 use std::alloc::AllocError;
 
 /// How many bytes the text of a vector has.
@@ -108,20 +106,27 @@ impl<'a, T> Clone for SegmentTexts<'a, T> {
 
 impl<'a, T> Copy for SegmentTexts<'a, T> {}
 
-impl<'a, T: Written> Part for SegmentTexts<'a, T> {
-    ghost use Rattle.std.specs.Prelude.{map, unsigned_abs};
+impl<'a, T: Written> Part<u8> for SegmentTexts<'a, T> {
+    ghost use Rattle.std.specs.Prelude.{map, unsigned_abs, None};
     ghost use Rattle.cvl_base.specs.Nests.{cut_of};
     ghost use Rattle.value_texts.specs.Texts.{spaced, vector_text};
 
-    ghost text = { λ part. spaced (vector_text T.text_of) (cut_of (map unsigned_abs part.lengths.now) part.xs.now) };
+    ghost items = { λ part. spaced (vector_text T.text_of) (cut_of (map unsigned_abs part.lengths.now) part.xs.now) };
 
-    fn count(&self) -> u32 {
-        count_segments(self.lengths, self.xs)
+    ghost found = { λ part first. None };
+
+    fn count(&self) -> usize {
+        count_segments(self.lengths, self.xs) as usize
     }
 
-    fn write(&self, run: Run<u8>) -> Run<u8> {
+    fn write(&self, run: Run<u8>) -> (Run<u8>, Option<usize>)
+        requires empty { run.items ≡ [] }
+        requires room { run.room ≡ length (spaced (vector_text T.text_of) (cut_of (map unsigned_abs self.now.lengths.now) self.now.xs.now)) }
+        ensures run { result.0 ≡ stretch run.block run.first (spaced (vector_text T.text_of) (cut_of (map unsigned_abs self.now.lengths.now) self.now.xs.now)) 0 }
+        ensures found { result.1 ≡ None }
+    {
         let mut page = [0; PAGE_BYTES];
-        write_segments(self.lengths, self.xs, &mut page, run)
+        (write_segments(self.lengths, self.xs, &mut page, run), None)
     }
 }
 
@@ -153,10 +158,8 @@ pub(crate) fn segments_in<'a, T: Written, A: Memory>(
     requires few_segments { length lengths.now ≤ most_elements }
     requires few { length xs.now ≤ most_elements }
     requires cut { sum (map unsigned_abs lengths.now) ≡ length xs.now }
-    requires some { 1 ≤ count }
-    ensures whole { IfOk result (λ parts. texts_of (λ p. spaced (vector_text T.text_of) (cut_of (map unsigned_abs p.lengths.now) p.xs.now)) parts.items
+    ensures { IfOk result (λ parts. flat_map (λ p. spaced (vector_text T.text_of) (cut_of (map unsigned_abs p.lengths.now) p.xs.now)) parts.items
         ≡ spaced (vector_text T.text_of) (cut_of (map unsigned_abs lengths.now) xs.now)) }
-    ensures count { IfOk result (λ parts. vec_len parts ≤ count) }
 {
     let mut parts = Vec::with_capacity(alloc, count)?;
     let mut lengths = lengths;

@@ -1,7 +1,7 @@
 //! The text of vectors.
 
 ghost use Rattle.std.specs.Prelude.{◌≡◌, ◌≤◌, ◌++◌, codes, length, take, drop, IfOk, OnOk};
-ghost use Rattle.cvl_base.specs.Limits.{most_elements, most_workers};
+ghost use Rattle.cvl_base.specs.Limits.{most_elements};
 ghost use Rattle.value_texts.specs.Texts.{spaced, vector_text};
 
 use crate::elements::elements_in;
@@ -118,8 +118,7 @@ fn put_vector_in_parts<R: Threads + Sync, T: Written + Sync, A: Memory>(
     page: &mut Page,
     text: &mut Vec<u8, A>,
 ) -> Result<(), NoResources>
-    requires few { length xs.now ≤ most_elements }
-    requires threads { (1 ≤ threads) × (threads ≤ most_workers) }
+    requires { length xs.now ≤ most_elements }
     ensures ok { OnOk result (text.new.items ≡ text.old.items ++ vector_text T.text_of xs.now) }
     ensures begins { take (length text.old.items) text.new.items ≡ text.old.items }
 {

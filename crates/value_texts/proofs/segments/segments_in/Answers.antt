@@ -1,6 +1,6 @@
 use Rattle.std.proofs.Common.{◌≡◌, ◌++◌, length, length-drop, map, sum, unsigned_abs, ap, sym, ◌∙◌, arith}
 use Rattle.cvl_base.specs.Nests.{cut_of}
-use Rattle.value_texts.specs.Parts.{texts_of}
+use Rattle.std.specs.List.{flat_map}
 use Rattle.value_texts.specs.Texts.{spaced, vector_text}
 use Rattle.value_texts.proofs.PartWalk.{one_part_more}
 use Rattle.value_texts.proofs.SegmentWalk.{segments_cut, sums_cut}
@@ -21,7 +21,7 @@ loop-left-preserved g c =
     ≡ spaced (vector_text g.T.Written.text_of) (cut_of (map unsigned_abs lengths) rest) =
     rw (at.front, at.back, within.front, within.back) (sym (segments_cut g.T.Written.text_of lengths rest k n c.leading-segments.ensures.elements)) in
     record {
-      whole = ap (λ items. texts_of (λ p. spaced (vector_text g.T.Written.text_of) (cut_of (map unsigned_abs p.lengths.now) p.xs.now)) items ++ others) c.in_ok-push.ensures.items
+      whole = ap (λ items. flat_map (λ p. spaced (vector_text g.T.Written.text_of) (cut_of (map unsigned_abs p.lengths.now) p.xs.now)) items ++ others) c.in_ok-push.ensures.items
           ∙ one_part_more (λ p. spaced (vector_text g.T.Written.text_of) (cut_of (map unsigned_abs p.lengths.now) p.xs.now)) c.loop-left.parts.items _ others
           (spaced (vector_text g.T.Written.text_of) (cut_of (map unsigned_abs lengths) rest)) whole cut c.loop-left.invariant.whole;
       few_segments = omega (arith, ap length at.back, length-drop k lengths, c.loop-left.invariant.few_segments);
@@ -35,6 +35,4 @@ loop-left-preserved g c =
         ap length within.back,
         length-drop n rest,
       );
-      count = omega (arith, c.in_ok-push.ensures.len, c.loop-left.invariant.count);
-      some = omega arith;
     }
