@@ -1,15 +1,65 @@
-//! An input cut into pieces at white space, and the tokens of each piece counted.
+//! An input cut into pieces at white space, each of which is read by a thread of its own.
 
-ghost use Rattle.std.specs.Prelude.{◌≡◌, ◌≤◌, ◌++◌, false, length, map, IfOk};
+ghost use Rattle.std.specs.Prelude.{◌≡◌, ◌<◌, ◌≤◌, ◌++◌, [], false, length, map, IfOk};
+ghost use Rattle.std.specs.List.{flat_map};
 ghost use Rattle.call_reader.specs.Tokens.{tokens_by, begins_with_part};
 ghost use Rattle.call_reader.specs.Inputs.{input_class};
-ghost use Rattle.call_reader.specs.Pieces.{numbers_of, numbers_in, counts_of};
+ghost use Rattle.call_reader.specs.Pieces.{numbers_of, or_zero};
+ghost use Rattle.fresh.specs.Found.{first_without};
+ghost use Rattle.fresh.specs.Places.{stretch};
 
-use crate::inputs::{InputBytes, token_count};
+use crate::inputs::{InputBytes, first_number, token_count};
 use crate::token::run_length;
 use cvl_base::{Memory, NoResources};
-use fresh::{Run, Writer, write_in_runs};
-use std::thread::Threads;
+use fresh::{Part, Run, first_found};
+
+/// A piece of an input, of which no token goes on in another.
+#[derive(Clone, Copy)]
+pub(crate) struct Piece<'a> {
+    bytes: &'a [u8],
+}
+
+/// Writes the numbers of the bytes' tokens, a zero for each token that is no number, and tells the place of the first such
+/// token.
+fn read_piece(bytes: &[u8], run: Run<i32>) -> (Run<i32>, Option<usize>)
+    requires empty { run.items ≡ [] }
+    requires room { run.room ≡ length (numbers_of bytes.now) }
+    ensures run { result.0 ≡ stretch run.block run.first (map or_zero (numbers_of bytes.now)) 0 }
+    ensures found { result.1 ≡ first_without run.first (numbers_of bytes.now) }
+{
+    let mut run = run;
+    let mut wrong = None;
+    let mut rest = bytes;
+    while let Some((_token, number, others)) = first_number(rest) {
+        wrong = first_found(wrong, number, run.next_place());
+        run.push(number.unwrap_or(0));
+        rest = others;
+    }
+    (run, wrong)
+}
+
+impl<'a> Part<i32> for Piece<'a> {
+    ghost use Rattle.std.specs.Prelude.{map};
+    ghost use Rattle.fresh.specs.Found.{first_without};
+    ghost use Rattle.call_reader.specs.Pieces.{numbers_of, or_zero};
+
+    ghost items = { λ piece. map or_zero (numbers_of piece.bytes.now) };
+
+    ghost found = { λ piece first. first_without first (numbers_of piece.bytes.now) };
+
+    fn count(&self) -> usize {
+        token_count(self.bytes)
+    }
+
+    fn write(&self, run: Run<i32>) -> (Run<i32>, Option<usize>)
+        requires empty { run.items ≡ [] }
+        requires room { run.room ≡ length (map or_zero (numbers_of self.now.bytes.now)) }
+        ensures run { result.0 ≡ stretch run.block run.first (map or_zero (numbers_of self.now.bytes.now)) 0 }
+        ensures found { result.1 ≡ first_without run.first (numbers_of self.now.bytes.now) }
+    {
+        read_piece(self.bytes, run)
+    }
+}
 
 /// The bytes in two, of which the second begins with white space, or there is none: at the end of the token that stands at
 /// the place, or there where white space does.
@@ -27,56 +77,18 @@ pub(crate) fn pieces_of<A: Memory>(
     alloc: A,
     bytes: &[u8],
     count: usize,
-) -> Result<Vec<&[u8], A>, NoResources>
-    ensures { IfOk result (λ pieces. numbers_in (map (λ p. p.now) pieces.items) ≡ numbers_of bytes.now) }
+) -> Result<Vec<Piece<'_>, A>, NoResources>
+    ensures { IfOk result (λ pieces. flat_map (λ p. numbers_of p.bytes.now) pieces.items ≡ numbers_of bytes.now) }
 {
     let mut pieces = Vec::with_capacity(alloc, count)?;
     let mut rest = bytes;
     let mut left = count;
     while left > 1 {
-        let (piece, others) = cut_near(rest, rest.len() / left);
-        pieces.push(piece)?;
+        let (bytes, others) = cut_near(rest, rest.len() / left);
+        pieces.push(Piece { bytes })?;
         rest = others;
         left -= 1;
     }
-    pieces.push(rest)?;
+    pieces.push(Piece { bytes: rest })?;
     Ok(pieces)
-}
-
-/// Writes how many tokens each piece has.
-#[derive(Drop)]
-struct TokenCounts<'a> {
-    pieces: &'a [&'a [u8]],
-}
-
-impl<'a> Writer<usize> for TokenCounts<'a> {
-    ghost use Rattle.std.specs.Prelude.{◌+◌, ◌≤◌, []};
-    ghost use Rattle.fresh.specs.Parts.{part};
-    ghost use Rattle.fresh.specs.Places.{stretch};
-
-    ghost whole = { λ c. counts_of (map (λ p. p.now) c.pieces.now) };
-
-    fn write(&self, run: Run<usize>) -> Run<usize>
-        requires empty { run.items ≡ [] }
-        requires within { run.first + run.room ≤ length (counts_of (map (λ p. p.now) self.now.pieces.now)) }
-        ensures { result ≡ stretch run.block run.first (part (counts_of (map (λ p. p.now) self.now.pieces.now)) run.first run.room) 0 }
-    {
-        let count = |piece: &[u8]| -> usize
-            ensures { result ≡ length (numbers_of piece.now) }
-        { token_count(piece) };
-        run.fill_by(self.pieces, count)
-    }
-}
-
-/// How many tokens each piece has, counted by at most so many threads.
-pub(crate) fn count_pieces<R: Threads + Sync, A: Memory>(
-    rt: &R,
-    alloc: A,
-    threads: u32,
-    pieces: &[&[u8]],
-) -> Result<Vec<usize, A>, NoResources>
-    ensures { IfOk result (λ counts. counts.items ≡ counts_of (map (λ p. p.now) pieces.now)) }
-{
-    let counts = TokenCounts { pieces };
-    Ok(write_in_runs(rt, alloc, threads, &counts, pieces.len())?)
 }

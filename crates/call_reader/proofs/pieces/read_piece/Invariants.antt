@@ -1,14 +1,15 @@
 use Rattle.std.proofs.Common.{◌≡◌, ◌+◌, ◌++◌, length, map}
 use Rattle.std.specs.Option.{option_or}
-use Rattle.call_reader.specs.Pieces.{numbers_of, or_zero, first_wrong}
+use Rattle.fresh.specs.Found.{first_without}
+use Rattle.call_reader.specs.Pieces.{numbers_of, or_zero}
 use Rattle.fresh.specs.Places.{stretch}
-use Rattle.call_reader.proofs.piece_reads.read_piece.Given as goal
+use Rattle.call_reader.proofs.pieces.read_piece.Given as goal
 
 abbrev pub invariant-loop-token : goal.invariant-loop-token
 invariant-loop-token l = record {
   room : l.run.room ≡ length (numbers_of l.rest);
   so_far : stretch l.run.block l.run.first (l.run.items ++ map or_zero (numbers_of l.rest)) 0 ≡ stretch l.fn.run.block l.fn.run.first (map or_zero (numbers_of l.bytes)) 0;
-  wrong : option_or l.wrong (first_wrong (l.run.first + length l.run.items) (numbers_of l.rest)) ≡ first_wrong l.fn.run.first (numbers_of l.bytes);
+  wrong : option_or l.wrong (first_without (l.run.first + length l.run.items) (numbers_of l.rest)) ≡ first_without l.fn.run.first (numbers_of l.bytes);
 }
 
 abbrev pub decreases-loop-token : goal.decreases-loop-token
