@@ -11,7 +11,7 @@ use crate::checks::{check_limit, descriptor};
 use crate::status::{CvlStatus, told, told_one, told_over, told_over_or};
 use cvl_base::{Fault, Refused};
 use scan_walks::{
-    checked_scan_over, checked_seg_scan_over, checked_sum_of, checked_sums_of_segments,
+    checked_scan_over, checked_seg_reduce_vec, checked_seg_scan_over, checked_sum,
 };
 use std::alloc::Global;
 
@@ -28,7 +28,7 @@ fn reduce(a: &[i32]) -> Result<i32, Fault>
     ensures { result ≡ in_limit a.now (checked_reduce_of a.now) }
 {
     check_limit(a)?;
-    checked_sum_of(a)
+    checked_sum(a)
 }
 
 /// The scan of each segment.
@@ -44,7 +44,7 @@ fn reduce_each(alloc: Global, a: &[i32], lengths: &[i32]) -> Result<Vec<i32, Glo
     ensures { Gives (λ v. v.items) result (by_segments lengths.now (checked_seg_reduce_of a.now)) }
 {
     let d = descriptor(alloc, lengths)?;
-    checked_sums_of_segments(alloc, a, &d)
+    checked_seg_reduce_vec(alloc, a, &d)
 }
 
 /// For each integer the sum of those before it, which never wraps: `tot_suz`.

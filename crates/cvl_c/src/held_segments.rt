@@ -18,7 +18,7 @@ use crate::seg_scans::{
 };
 use crate::status::{CvlStatus, done, status_of, told, told_or, told_over};
 use cvl_base::{NoResources, Refused};
-use scan_walks::{checked_seg_scan_over, checked_sums_of_segments};
+use scan_walks::{checked_seg_reduce_vec, checked_seg_scan_over};
 use std::alloc::Global;
 
 /// The status of a call on a handle that holds nothing.
@@ -126,7 +126,7 @@ pub extern "C" fn cvl_segments_checked_reduce(
     let Some(held) = segments.take(alloc) else {
         return no_handle();
     };
-    let status = told(checked_sums_of_segments(alloc, a, &held.descriptor), out);
+    let status = told(checked_seg_reduce_vec(alloc, a, &held.descriptor), out);
     *segments = CvlSegments::of(held);
     status
 }

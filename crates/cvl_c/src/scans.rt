@@ -16,7 +16,7 @@ use crate::status::{CvlStatus, told_one, told_over};
 use cvl_base::monoid::know_laws;
 use cvl_base::monoids::{Add, And, BoolAnd, BoolIor, BoolXor, Ior, Max, Min, Mul, Xor};
 use cvl_base::{BoolBinary, Fault, IntMonoid, Monoid};
-use scan_walks::{Itself, know_numbers, scan_over, sum_readings_from};
+use scan_walks::{Itself, know_numbers, scan_over, sum_from};
 
 /// For each element those before it, joined from left to right, and the unit where none is.
 fn scan<M: Monoid>(a: &[M::Item], out: &mut [M::Item]) -> Result<(), Fault>
@@ -34,7 +34,7 @@ fn reduce<M: Monoid>(a: &[M::Item]) -> M::Item
     ensures { result ≡ fold_of M.join M.unit a.now }
 {
     know_laws::<M>();
-    sum_readings_from::<M, M::Item, Itself>(M::unit(), a)
+    sum_from::<M, M::Item, Itself>(M::unit(), a)
 }
 
 /// The scan of integers by an operator.

@@ -158,10 +158,9 @@ fn read_before_each_point(rt: HostRuntime) -> Result<(), Fail> {
     Ok(())
 }
 
-/// The last tile gives the reduce of the last segment, whose one element it reads once more before it is finished. The other
-/// tiles give reduces whose elements stand before them, and read nothing for it.
+/// A reduce of segments reads each element for its tile's sum, and once more when the reduces are written, after the race.
 #[test]
-fn items_before_finished(rt: HostRuntime) -> Result<(), Fail> {
+fn read_by_a_reduce_of_segments(rt: HostRuntime) -> Result<(), Fail> {
     let reads = words(0);
     let gate = Noting {
         watch: Watch::new(rt.alloc(), Race::Scan, 4, 1, Holds::Nobody)?,
@@ -179,6 +178,9 @@ fn items_before_finished(rt: HostRuntime) -> Result<(), Fail> {
         &gate,
     )?;
     assert!(rt; sums.as_slice() == [3, 1, 7, 0].as_slice());
-    assert_eq!(rt; gate.notes(), [90111, 90111, 90111, 90112, 91111]);
+    assert_eq!(rt; gate.notes(), [90111, 90111, 90111, 90111, 91111]);
+    for k in 0..4 {
+        assert_eq!(rt; reads[k].load(Ordering::SeqCst), 2);
+    }
     Ok(())
 }

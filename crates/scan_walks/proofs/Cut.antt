@@ -9,7 +9,7 @@ use Rattle.cvl_base.specs.Folds.{fold_of, scan_of}
 use Rattle.cvl_base.specs.Monoid.{MonoidLaws}
 use Rattle.cvl_base.proofs.Lists.{sum-cons}
 use Rattle.segdes.specs.Starts.{start_of}
-use Rattle.scan_walks.specs.Runs.{continued, started, with_starts, run_between, run_scan_of, scans_of}
+use Rattle.scan_walks.specs.Ranges.{continued, started, with_starts, range_between, range_scan_of, scans_of}
 use Rattle.scan_walks.proofs.Scanned.{scan_of-cons}
 
 module _ {Item : Type 0} where
@@ -41,24 +41,24 @@ module _ {Item : Type 0} where
       sym (drop-drop m n (front ++ rest)) ∙ ap (drop m) (drop_at front rest n (length-started (take n xs) ∙ length-take-le n xs within))
 
   -- `first` is the first segment that starts at `from` or after it, k elements on
-  pub run_cut : (lengths : List ℕ) (xs : List Item) (from k first : ℕ) → first ≤ length lengths → from ≤ length xs → from + k ≡ start_of lengths first
+  pub range_cut : (lengths : List ℕ) (xs : List Item) (from k first : ℕ) → first ≤ length lengths → from ≤ length xs → from + k ≡ start_of lengths first
       → ((s : ℕ) → s < first → start_of lengths s < from)
       → drop from (with_starts lengths xs) ≡ continued (take k (drop from xs)) ++ with_starts (drop first lengths) (drop k (drop from xs))
-  run_cut lengths xs zero zero zero le within is earlier = refl
-  run_cut lengths xs zero (suc k) zero le within is earlier = let none : start_of lengths 0 ≡ 0 = refl in absurd (omega (arith, is, none))
-  run_cut lengths xs (suc from) k zero le within is earlier = let none : start_of lengths 0 ≡ 0 = refl in absurd (omega (arith, is, none))
-  run_cut [] xs from k (suc first) le within is earlier = absurd (omega arith)
-  run_cut (n ∷ ls) xs from k (suc zero) le within is earlier =
+  range_cut lengths xs zero zero zero le within is earlier = refl
+  range_cut lengths xs zero (suc k) zero le within is earlier = let none : start_of lengths 0 ≡ 0 = refl in absurd (omega (arith, is, none))
+  range_cut lengths xs (suc from) k zero le within is earlier = let none : start_of lengths 0 ≡ 0 = refl in absurd (omega (arith, is, none))
+  range_cut [] xs from k (suc first) le within is earlier = absurd (omega arith)
+  range_cut (n ∷ ls) xs from k (suc zero) le within is earlier =
       let end : from + k ≡ n = omega (arith, is, sum-cons n []) in
       let begins : start_of (n ∷ ls) 0 < from = earlier 0 (omega arith) in
       ap (λ m. drop from (with_starts (m ∷ ls) xs)) (sym end) ∙ cut_here ls xs from k (omega (arith, begins)) within
-  run_cut (n ∷ ls) xs from k (suc (suc first)) le within is earlier =
+  range_cut (n ∷ ls) xs from k (suc (suc first)) le within is earlier =
       let after : start_of (n ∷ ls) 1 < from = earlier 1 (omega arith) in
       let m : ℕ = from - n in
       let split : n + m ≡ from = omega (arith, after, sum-cons n []) in
       ap (λ j. drop j (with_starts (n ∷ ls) xs)) (sym split)
       ∙ cut_later n m ls xs (omega (arith, split))
-      ∙ run_cut ls (drop n xs) m k (suc first) (omega arith) (omega (arith, split, length-drop n xs)) (omega (arith, is, split, sum-cons n (take (suc first) ls)))
+      ∙ range_cut ls (drop n xs) m k (suc first) (omega arith) (omega (arith, split, length-drop n xs)) (omega (arith, is, split, sum-cons n (take (suc first) ls)))
       (λ s lt. omega (arith, earlier (suc s) (omega arith), split, sum-cons n (take s ls)))
       ∙ ap (λ ys. continued (take k ys) ++ with_starts (drop (suc first) ls) (drop k ys)) (drop-drop m n xs)
       ∙ ap (λ j. continued (take k (drop j xs)) ++ with_starts (drop (suc first) ls) (drop k (drop j xs))) split
@@ -87,15 +87,15 @@ starts_in_order lengths from to first next in_order le earlier later =
 
 module _ {Item : Type 0} (join : Item → Item → Item) (unit : Item) where
   continued_scanned : (before : Item) (ys : List Item) (run : List (Bool × Item))
-      → run_scan_of join unit before (continued ys ++ run) ≡ scan_of join before ys ++ run_scan_of join unit (fold_of join before ys) run
+      → range_scan_of join unit before (continued ys ++ run) ≡ scan_of join before ys ++ range_scan_of join unit (fold_of join before ys) run
   continued_scanned before [] run = refl
   continued_scanned before (y ∷ ys) run =
       ap (λ tail. before ∷ tail) (continued_scanned (join before y) ys run)
-      ∙ ap (λ sums. sums ++ run_scan_of join unit (fold_of join before (y ∷ ys)) run) (sym (scan_of-cons join before y ys))
+      ∙ ap (λ sums. sums ++ range_scan_of join unit (fold_of join before (y ∷ ys)) run) (sym (scan_of-cons join before y ys))
 
 module _ {Item : Type 0} {is_item : Item → Bool} {unit : Item} {join : Item → Item → Item} (laws : MonoidLaws is_item unit join) where
   segment_scanned : (before : Item) (ys : List Item) (run : List (Bool × Item)) (sums : List Item) → AllPass is_item ys
-      → ((b : Item) → run_scan_of join unit b run ≡ sums) → run_scan_of join unit before (started ys ++ run) ≡ scan_of join unit ys ++ sums
+      → ((b : Item) → range_scan_of join unit b run ≡ sums) → range_scan_of join unit before (started ys ++ run) ≡ scan_of join unit ys ++ sums
   segment_scanned before [] run sums items rest = rest before
   segment_scanned before (y ∷ ys) run sums items rest =
       ap (λ tail. unit ∷ tail) (continued_scanned join unit y ys run)
@@ -103,7 +103,7 @@ module _ {Item : Type 0} {is_item : Item → Bool} {unit : Item} {join : Item �
       ∙ ap (λ b. (unit ∷ scan_of join b ys) ++ sums) (sym (laws.left_unit y (All-head (λ x. is_item x ≡ true) y ys items)))
       ∙ ap (λ tail. tail ++ sums) (sym (scan_of-cons join unit y ys))
 
-  pub segments_scanned : (lengths : List ℕ) (xs : List Item) (before : Item) → AllPass is_item xs → run_scan_of join unit before (with_starts lengths xs) ≡ scans_of join unit lengths xs
+  pub segments_scanned : (lengths : List ℕ) (xs : List Item) (before : Item) → AllPass is_item xs → range_scan_of join unit before (with_starts lengths xs) ≡ scans_of join unit lengths xs
   segments_scanned [] xs before items = refl
   segments_scanned (n ∷ ls) xs before items =
       segment_scanned before (take n xs) (with_starts ls (drop n xs)) (scans_of join unit ls (drop n xs))
@@ -111,37 +111,37 @@ module _ {Item : Type 0} {is_item : Item → Bool} {unit : Item} {join : Item �
       (λ b. segments_scanned ls (drop n xs) b (All-drop (λ x. is_item x ≡ true) n xs items))
 
   -- what a walk over the run gives, where `rest` are the run's elements
-  pub run_scanned : (lengths : List ℕ) (xs rest : List Item) (before : Item) (from m k first : ℕ) → first ≤ length lengths → from + m ≤ length xs
+  pub range_scanned : (lengths : List ℕ) (xs rest : List Item) (before : Item) (from m k first : ℕ) → first ≤ length lengths → from + m ≤ length xs
       → from + k ≡ start_of lengths first → ((s : ℕ) → s < first → start_of lengths s < from) → AllPass is_item xs → rest ≡ take m (drop from xs)
-      → run_scan_of join unit before (run_between lengths xs from (from + m)) ≡ scan_of join before (take k rest) ++ scans_of join unit (drop first lengths) (drop k rest)
-  run_scanned lengths xs rest before from m k first le within is earlier items is_rest =
-      let parts = run_cut lengths (take (from + m) xs) from k first le (omega (arith, length-take (from + m) xs)) is earlier in
+      → range_scan_of join unit before (range_between lengths xs from (from + m)) ≡ scan_of join before (take k rest) ++ scans_of join unit (drop first lengths) (drop k rest)
+  range_scanned lengths xs rest before from m k first le within is earlier items is_rest =
+      let parts = range_cut lengths (take (from + m) xs) from k first le (omega (arith, length-take (from + m) xs)) is earlier in
       let same : drop from (take (from + m) xs) ≡ rest = drop-take from m xs ∙ sym is_rest in
-      ap (run_scan_of join unit before) (parts ∙ ap (λ ys. continued (take k ys) ++ with_starts (drop first lengths) (drop k ys)) same)
+      ap (range_scan_of join unit before) (parts ∙ ap (λ ys. continued (take k ys) ++ with_starts (drop first lengths) (drop k ys)) same)
       ∙ continued_scanned join unit before (take k rest) (with_starts (drop first lengths) (drop k rest))
       ∙ ap (λ sums. scan_of join before (take k rest) ++ sums)
       (segments_scanned (drop first lengths) (drop k rest) (fold_of join before (take k rest))
       (All-drop (λ x. is_item x ≡ true) k rest (subst (AllPass is_item) (sym is_rest) (All-take (λ x. is_item x ≡ true) m (drop from xs) (All-drop (λ x. is_item x ≡ true) from xs items)))))
 
   -- the whole vector is a run
-  pub whole_scanned : (lengths : List ℕ) (xs : List Item) (before : Item) → AllPass is_item xs → run_scan_of join unit before (run_between lengths xs 0 (length xs)) ≡ scans_of join unit lengths xs
+  pub whole_scanned : (lengths : List ℕ) (xs : List Item) (before : Item) → AllPass is_item xs → range_scan_of join unit before (range_between lengths xs 0 (length xs)) ≡ scans_of join unit lengths xs
   whole_scanned lengths xs before items =
-      ap (λ ys. run_scan_of join unit before (with_starts lengths ys)) (take_all (length xs) xs (omega arith)) ∙ segments_scanned lengths xs before items
+      ap (λ ys. range_scan_of join unit before (with_starts lengths ys)) (take_all (length xs) xs (omega arith)) ∙ segments_scanned lengths xs before items
 
   -- what the walk over a run pushes: it splits the run's elements at the first start, or at the end of the run
-  pub run_walked : (lengths : List ℕ) (xs rest front others : List Item) (before : Item) (from to first start j : ℕ)
+  pub range_walked : (lengths : List ℕ) (xs rest front others : List Item) (before : Item) (from to first start j : ℕ)
       → sum lengths ≡ length xs → from ≤ to → to ≤ length xs → first ≤ length lengths
       → ((s : ℕ) → s < first → start_of lengths s < from) → ((s : ℕ) → first ≤ s → s < length lengths → from ≤ start_of lengths s)
       → AllPass is_item xs → rest ≡ take (to - from) (drop from xs) → start ≡ start_of lengths first → j ≡ min start to - from → front ≡ take j rest → others ≡ drop j rest
-      → run_scan_of join unit before (run_between lengths xs from to) ≡ scan_of join before front ++ scans_of join unit (drop first lengths) others
-  run_walked lengths xs rest front others before from to first start j total in_order within le earlier later items is_rest is_start is_j is_front is_others =
+      → range_scan_of join unit before (range_between lengths xs from to) ≡ scan_of join before front ++ scans_of join unit (drop first lengths) others
+  range_walked lengths xs rest front others before from to first start j total in_order within le earlier later items is_rest is_start is_j is_front is_others =
       let begins : from ≤ start_of lengths first = begins_by lengths from first (omega (arith, total)) later in
       let m : ℕ = to - from in
       let k : ℕ = start_of lengths first - from in
       let end : from + m ≡ to = omega (arith, in_order) in
       let long : length rest ≡ m = ap length is_rest ∙ omega (arith, length-take m (drop from xs), length-drop from xs) in
       let split : min k (length rest) ≡ j = omega (arith, long, is_j, is_start, begins) in
-      ap (λ t. run_scan_of join unit before (run_between lengths xs from t)) (sym end)
-      ∙ run_scanned lengths xs rest before from m k first le (omega (arith, end)) (omega (arith, begins)) earlier items is_rest
+      ap (λ t. range_scan_of join unit before (range_between lengths xs from t)) (sym end)
+      ∙ range_scanned lengths xs rest before from m k first le (omega (arith, end)) (omega (arith, begins)) earlier items is_rest
       ∙ ap (λ ys. scan_of join before ys ++ scans_of join unit (drop first lengths) (drop k rest)) (sym (take_min k rest) ∙ ap (λ i. take i rest) split ∙ sym is_front)
       ∙ ap (λ ys. scan_of join before front ++ scans_of join unit (drop first lengths) ys) (sym (drop_min k rest) ∙ ap (λ i. drop i rest) split ∙ sym is_others)

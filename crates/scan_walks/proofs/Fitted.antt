@@ -17,7 +17,7 @@ use Rattle.cvl_base.specs.Integers.{sum_of, wrap}
 use Rattle.cvl_base.specs.ItemWords.{is_number}
 use Rattle.cvl_base.proofs.Lists.{sum-cons}
 use Rattle.scan_walks.specs.Fronts.{fitting_front}
-use Rattle.scan_walks.specs.Runs.{scans_of}
+use Rattle.scan_walks.specs.Ranges.{scans_of}
 use Rattle.scan_walks.proofs.Scanned.{scan_of-cons}
 use Rattle.scan_walks.proofs.Valued.{scans_valued}
 

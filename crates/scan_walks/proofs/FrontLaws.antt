@@ -8,8 +8,8 @@ use Rattle.cvl_base.specs.Folds.{fold_of, scan_of}
 use Rattle.cvl_base.specs.ItemWords.{is_number}
 use Rattle.scan_walks.specs.Fronts.{fitting_front}
 use Rattle.segdes.specs.Starts.{start_of}
-use Rattle.scan_walks.specs.Runs.{run_between, run_scan_of, scans_of}
-use Rattle.scan_walks.proofs.RunPushed.{run_pushed}
+use Rattle.scan_walks.specs.Ranges.{range_between, range_scan_of, scans_of}
+use Rattle.scan_walks.proofs.RangePushed.{range_pushed}
 use Rattle.scan_walks.proofs.Scanned.{scan_of-append, scan_of-cons}
 use Rattle.scan_walks.proofs.Segments.{scans_more_min}
 use Rattle.scan_walks.proofs.WholeSums.{all_whole, whole_laws}
@@ -144,18 +144,18 @@ module _ (d : List ℕ) (xs rest front others : List ℤ) (before : ℤ) (from t
     (past : (s : ℕ) → next ≤ s → s < length d → to ≤ start_of d s)
     (is_rest : rest ≡ take (to - from) (drop from xs)) (is_start : start ≡ start_of d first) (is_j : j ≡ min start to - from)
     (is_front : front ≡ take j rest) (is_others : others ≡ drop j rest) where
-  walked : scan_of ◌+ℤ◌ before front ++ scans_of ◌+ℤ◌ (pos 0) (take (next - first) (drop first d)) others ≡ run_scan_of ◌+ℤ◌ (pos 0) before (run_between d xs from to)
+  walked : scan_of ◌+ℤ◌ before front ++ scans_of ◌+ℤ◌ (pos 0) (take (next - first) (drop first d)) others ≡ range_scan_of ◌+ℤ◌ (pos 0) before (range_between d xs from to)
   walked =
-      run_pushed whole_laws d xs rest front others [] (scan_of ◌+ℤ◌ before front)
+      range_pushed whole_laws d xs rest front others [] (scan_of ◌+ℤ◌ before front)
       (scan_of ◌+ℤ◌ before front ++ scans_of ◌+ℤ◌ (pos 0) (take (next - first) (drop first d)) others)
       before from to first next start j total in_order within few earlier at_or_after past (all_whole xs) is_rest is_start is_j is_front is_others refl refl
 
-  pub run_stops : (n : ℕ) → n ≡ fitting_front (scan_of ◌+ℤ◌ before front) → n < length front → n ≡ fitting_front (run_scan_of ◌+ℤ◌ (pos 0) before (run_between d xs from to))
-  run_stops n is lt = scan_within before front (scans_of ◌+ℤ◌ (pos 0) (take (next - first) (drop first d)) others) n is lt ∙ ap fitting_front walked
+  pub range_stops : (n : ℕ) → n ≡ fitting_front (scan_of ◌+ℤ◌ before front) → n < length front → n ≡ fitting_front (range_scan_of ◌+ℤ◌ (pos 0) before (range_between d xs from to))
+  range_stops n is lt = scan_within before front (scans_of ◌+ℤ◌ (pos 0) (take (next - first) (drop first d)) others) n is lt ∙ ap fitting_front walked
 
-  pub run_goes_on : (n m : ℕ) → n ≡ fitting_front (scan_of ◌+ℤ◌ before front) → n ≡ length front → m ≡ fitting_front (scans_of ◌+ℤ◌ (pos 0) (take (next - first) (drop first d)) others)
-      → n + m ≡ fitting_front (run_scan_of ◌+ℤ◌ (pos 0) before (run_between d xs from to))
-  run_goes_on n m is all later =
+  pub range_goes_on : (n m : ℕ) → n ≡ fitting_front (scan_of ◌+ℤ◌ before front) → n ≡ length front → m ≡ fitting_front (scans_of ◌+ℤ◌ (pos 0) (take (next - first) (drop first d)) others)
+      → n + m ≡ fitting_front (range_scan_of ◌+ℤ◌ (pos 0) before (range_between d xs from to))
+  range_goes_on n m is all later =
       let ys = scans_of ◌+ℤ◌ (pos 0) (take (next - first) (drop first d)) others in
       let same = ap fitting_front walked in
       omega (arith, scan_past before front ys n is (omega (arith, all)), all, later, same)

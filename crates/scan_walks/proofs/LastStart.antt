@@ -10,9 +10,9 @@ use Rattle.cvl_base.specs.Folds.{fold_of}
 use Rattle.cvl_base.specs.Monoid.{MonoidLaws}
 use Rattle.cvl_base.specs.SegmentMonoid.{seg_join}
 use Rattle.segdes.specs.Starts.{start_of}
-use Rattle.scan_walks.specs.Runs.{continued, started, with_starts, run_between}
+use Rattle.scan_walks.specs.Ranges.{continued, started, with_starts, range_between}
 use Rattle.cvl_base.proofs.Lists.{sum-cons}
-use Rattle.scan_walks.proofs.Cut.{run_cut, length-started}
+use Rattle.scan_walks.proofs.Cut.{range_cut, length-started}
 
 module _ {Item : Type 0} where
   with_starts-none : (lengths : List ℕ) → with_starts {Item = Item} lengths [] ≡ []
@@ -50,15 +50,15 @@ module _ {Item : Type 0} where
       )
 
   -- a run at whose elements no segment starts
-  pub run_continued : (lengths : List ℕ) (xs : List Item) (from to k first : ℕ) → from ≤ to → to ≤ length xs → first ≤ length lengths
+  pub range_continued : (lengths : List ℕ) (xs : List Item) (from to k first : ℕ) → from ≤ to → to ≤ length xs → first ≤ length lengths
       → from + k ≡ start_of lengths first → to ≤ from + k → ((s : ℕ) → s < first → start_of lengths s < from)
-      → run_between lengths xs from to ≡ continued (take (to - from) (drop from xs))
-  run_continued lengths xs from to k first in_order within le is past earlier =
+      → range_between lengths xs from to ≡ continued (take (to - from) (drop from xs))
+  range_continued lengths xs from to k first in_order within le is past earlier =
       let m : ℕ = to - from in
       let end : from + m ≡ to = omega (arith, in_order) in
       let ys = drop from (take to xs) in
       let few : length ys ≤ k = omega (arith, length-drop from (take to xs), length-take to xs, past) in
-      run_cut lengths (take to xs) from k first le (omega (arith, length-take to xs)) is earlier
+      range_cut lengths (take to xs) from k first le (omega (arith, length-take to xs)) is earlier
       ∙ ap (λ zs. continued zs ++ with_starts (drop first lengths) (drop k ys)) (take_all k ys few)
       ∙ ap (λ zs. continued ys ++ with_starts (drop first lengths) zs) (drop_all k ys few)
       ∙ ap (λ zs. continued ys ++ zs) (with_starts-none (drop first lengths))
@@ -67,10 +67,10 @@ module _ {Item : Type 0} where
       ∙ ap continued (drop-take from m xs)
 
   -- a run in which segment s is the last that starts
-  pub run_started : (lengths : List ℕ) (xs : List Item) (from to s : ℕ) → to ≤ length xs → s < length lengths
+  pub range_started : (lengths : List ℕ) (xs : List Item) (from to s : ℕ) → to ≤ length xs → s < length lengths
       → from ≤ start_of lengths s → start_of lengths s < to → to ≤ start_of lengths (s + 1)
-      → (front : List (Bool × Item)) × (run_between lengths xs from to ≡ front ++ started (take (to - start_of lengths s) (drop (start_of lengths s) xs)))
-  run_started lengths xs from to s within lt le before last =
+      → (front : List (Bool × Item)) × (range_between lengths xs from to ≡ front ++ started (take (to - start_of lengths s) (drop (start_of lengths s) xs)))
+  range_started lengths xs from to s within lt le before last =
       let p : ℕ = start_of lengths s in
       let n : ℕ = get_or lengths s 0 in
       let m : ℕ = to - p in
@@ -109,11 +109,11 @@ module _ {Item : Type 0} (join : Item → Item → Item) where
   continued_summed f before (y ∷ ys) =
       ap (λ g. fold_of (seg_join join) (g, join before y) (continued ys)) (flag_stays f) ∙ continued_summed f (join before y) ys
 
-  pub run_summed : (lengths : List ℕ) (xs : List Item) (f : Bool) (before : Item) (from to k first : ℕ) → from ≤ to → to ≤ length xs → first ≤ length lengths
+  pub range_summed : (lengths : List ℕ) (xs : List Item) (f : Bool) (before : Item) (from to k first : ℕ) → from ≤ to → to ≤ length xs → first ≤ length lengths
       → from + k ≡ start_of lengths first → to ≤ from + k → ((s : ℕ) → s < first → start_of lengths s < from)
-      → fold_of (seg_join join) (f, before) (run_between lengths xs from to) ≡ (f, fold_of join before (take (to - from) (drop from xs)))
-  run_summed lengths xs f before from to k first in_order within le is past earlier =
-      ap (fold_of (seg_join join) (f, before)) (run_continued lengths xs from to k first in_order within le is past earlier)
+      → fold_of (seg_join join) (f, before) (range_between lengths xs from to) ≡ (f, fold_of join before (take (to - from) (drop from xs)))
+  range_summed lengths xs f before from to k first in_order within le is past earlier =
+      ap (fold_of (seg_join join) (f, before)) (range_continued lengths xs from to k first in_order within le is past earlier)
       ∙ continued_summed f before (take (to - from) (drop from xs))
 
 module _ {Item : Type 0} {is_item : Item → Bool} {unit : Item} {join : Item → Item → Item} (laws : MonoidLaws is_item unit join) where
@@ -124,14 +124,14 @@ module _ {Item : Type 0} {is_item : Item → Bool} {unit : Item} {join : Item �
       ∙ continued_summed join true y ys
       ∙ ap (λ b. (true, fold_of join b ys)) (sym (laws.left_unit y (All-head (λ x. is_item x ≡ true) y ys items)))
 
-  pub started_run_summed : (lengths : List ℕ) (xs : List Item) (before : Bool × Item) (from to s : ℕ) → to ≤ length xs → s < length lengths
+  pub started_range_summed : (lengths : List ℕ) (xs : List Item) (before : Bool × Item) (from to s : ℕ) → to ≤ length xs → s < length lengths
       → from ≤ start_of lengths s → start_of lengths s < to → to ≤ start_of lengths (s + 1) → AllPass is_item xs
-      → fold_of (seg_join join) before (run_between lengths xs from to) ≡ (true, fold_of join unit (take (to - start_of lengths s) (drop (start_of lengths s) xs)))
-  started_run_summed lengths xs before from to s within lt le ends last items =
+      → fold_of (seg_join join) before (range_between lengths xs from to) ≡ (true, fold_of join unit (take (to - start_of lengths s) (drop (start_of lengths s) xs)))
+  started_range_summed lengths xs before from to s within lt le ends last items =
       let p : ℕ = start_of lengths s in
       let ys = take (to - p) (drop p xs) in
       let is_one : Item → Type 0 = λ x. is_item x ≡ true in
-      let parts = run_started lengths xs from to s within lt le ends last in
+      let parts = range_started lengths xs from to s within lt le ends last in
       ap (fold_of (seg_join join) before) parts.1
       ∙ fold-append (seg_join join) before parts.0 (started ys)
       ∙ started_summed (fold_of (seg_join join) before parts.0) ys (omega (arith, length-take (to - p) (drop p xs), length-drop p xs, ends, within))

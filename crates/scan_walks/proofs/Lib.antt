@@ -4,7 +4,7 @@ pub mod Cut
 pub mod Fitted
 pub mod FrontLaws
 pub mod LastStart
-pub mod RunPushed
+pub mod RangePushed
 pub mod Scanned
 pub mod SegmentReduces
 pub mod Segmented

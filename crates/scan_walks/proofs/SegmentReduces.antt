@@ -4,7 +4,7 @@ use Rattle.std.proofs.lemmas.List.{drop-drop, drop_more}
 use Rattle.std.proofs.lemmas.List.Sums.{fold-append, sum_by_more}
 use Rattle.cvl_base.specs.Folds.{fold_of}
 use Rattle.segdes.specs.Starts.{start_of}
-use Rattle.scan_walks.specs.Runs.{IsOpenAt, reduces_of}
+use Rattle.scan_walks.specs.Ranges.{IsOpenAt, reduces_of}
 use Rattle.cvl_base.proofs.Lists.{sum-cons}
 
 module _ {Item : Type 0} (join : Item → Item → Item) (unit : Item) where

@@ -12,7 +12,7 @@ use Rattle.cvl_base.proofs.Descriptors.{abs_pos}
 use Rattle.cvl_base.proofs.Lists.{sum-cons}
 use Rattle.segdes.proofs.Sums.{cast_fits, length_at}
 use Rattle.segdes.specs.Starts.{start_of}
-use Rattle.scan_walks.specs.Runs.{scans_of, reduces_of}
+use Rattle.scan_walks.specs.Ranges.{scans_of, reduces_of}
 
 -- ---- the step of a loop over the segments, which has scanned or reduced those before s and has `rest` left
 

@@ -1,24 +1,47 @@
 -- Checked scans and reduces of segments as values of one list of numbers: those that are written where all fit.
--- Source: what the definitions of CheckedSums and Runs imply.
-use Rattle.std.proofs.Common.{◌≡◌, ◌∙◌, refl, sym, ap, ℕ, ◌+◌, ◌≤◌, ℤ, pos, ◌+ℤ◌, List, [], ◌∷◌, ◌++◌, length, map, take, drop, arith, Option, Some, None, Result, Ok, Err}
+-- Source: what the definitions of CheckedSums and Ranges imply.
+use Rattle.std.proofs.Common.{◌≡◌, ◌∙◌, refl, sym, ap, ℕ, ◌+◌, ◌<◌, ◌≤◌, ℤ, pos, ◌+ℤ◌, List, [], ◌∷◌, ◌++◌, length, map, take, drop, get_or, arith, Option, Some, None, Result, Ok, Err}
 use Rattle.std.specs.Prelude.{sum}
-use Rattle.std.proofs.lemmas.List.{length-drop, length-map, length-take-le, map-append}
+use Rattle.std.proofs.lemmas.List.{drop_more, length-drop, length-map, length-take-le, map-append}
+use Rattle.std.proofs.lemmas.List.Sums.{sum_by_more}
 use Rattle.std.proofs.lemmas.Simd.{map-map}
 use Rattle.operators.proofs.FoldLaws.{length-scan_of}
-use Rattle.cvl_base.specs.CheckedSums.{checked_seg_reduce_of, checked_seg_scan_of, fitting, totals_of}
+use Rattle.cvl_base.specs.CheckedSums.{checked_scan_of, checked_seg_reduce_of, checked_seg_scan_of, fitting, totals_of}
 use Rattle.cvl_base.specs.Exact.{total_of}
 use Rattle.cvl_base.specs.declared.fault.Fault.{Fault}
 use Rattle.cvl_base.specs.declared.fault.FaultNo.{FaultNo}
 use Rattle.cvl_base.specs.declared.fault.FaultNo.TheVariants.{Overflow}
 use Rattle.cvl_base.specs.Elementwise.{values_from}
 use Rattle.cvl_base.specs.Gives.{◌>>=◌, after}
+use Rattle.cvl_base.specs.Lists.{joined}
 use Rattle.cvl_base.specs.Nests.{cut_of}
+use Rattle.cvl_base.specs.Segmented.{end_to_end, in_vector, moved, results_from}
 use Rattle.cvl_base.proofs.Gives.{after-none}
 use Rattle.cvl_base.proofs.Lists.{sum-cons}
-use Rattle.scan_walks.specs.Runs.{reduces_of, scans_of}
-use Rattle.scan_walks.proofs.Continued.{scans_from, scans_meant, sums_meant}
+use Rattle.cvl_base.proofs.Nests.{nest-fits}
+use Rattle.scan_walks.specs.Ranges.{reduces_of, scans_of}
+use Rattle.scan_walks.proofs.Continued.{sums_meant}
 
 module _ {Y : Type 0} where
+  moved-then : (to : ℕ → ℕ) (y : Y) (r : Result (List Y) Fault) → moved to (r >>= λ ys. Ok (y ∷ ys)) ≡ (moved to r >>= λ ys. Ok (y ∷ ys))
+  moved-then to y (Ok ys) = refl
+  moved-then to y (Err f) = refl
+
+  -- the place of a fault is counted from n on
+  moved_on : (number : FaultNo) (n k : ℕ) (vs : List (Option Y)) → moved (λ p. n + p) (values_from number k vs) ≡ values_from number (n + k) vs
+  moved_on number n k [] = refl
+  moved_on number n k (None ∷ vs) = refl
+  moved_on number n k (Some y ∷ vs) =
+      moved-then (λ p. n + p) y (values_from number (k + 1) vs)
+      ∙ ap (λ r. r >>= λ ys. Ok (y ∷ ys)) (moved_on number n (k + 1) vs)
+      ∙ ap (λ p. values_from number p vs >>= λ ys. Ok (y ∷ ys)) (omega arith)
+
+  chained : (first : Result (List Y) Fault) (others : Result (List (List Y)) Fault)
+      → ((first >>= λ r. others >>= λ rs. Ok (r ∷ rs)) >>= λ lists. Ok (joined lists)) ≡ (first >>= λ r. after r (others >>= λ lists. Ok (joined lists)))
+  chained (Ok r) (Ok rs) = refl
+  chained (Ok r) (Err f) = refl
+  chained (Err f) others = refl
+
   one_first : (y : Y) (first others : Result (List Y) Fault)
       → ((first >>= λ ys. after ys others) >>= λ zs. Ok (y ∷ zs)) ≡ ((first >>= λ ys. Ok (y ∷ ys)) >>= λ ys. after ys others)
   one_first y (Ok ys) (Ok zs) = refl
@@ -26,7 +49,7 @@ module _ {Y : Type 0} where
   one_first y (Err f) others = refl
 
   -- the values of some and then of others
-  pub values-append : (number : FaultNo) (n : ℕ) (vs ws : List (Option Y))
+  values-append : (number : FaultNo) (n : ℕ) (vs ws : List (Option Y))
       → values_from number n (vs ++ ws) ≡ (values_from number n vs >>= λ ys. after ys (values_from number (n + length vs) ws))
   values-append number n [] ws = sym (after-none (values_from number (n + 0) ws) ∙ ap (λ p. values_from number p ws) (omega arith))
   values-append number n (None ∷ vs) ws = refl
@@ -36,24 +59,35 @@ module _ {Y : Type 0} where
       ∙ one_first y (values_from number (n + 1) vs) (values_from number (n + 1 + length vs) ws)
       ∙ ap (λ p. (values_from number (n + 1) vs >>= λ ys. Ok (y ∷ ys)) >>= λ ys. after ys (values_from number p ws)) next
 
-scans_are_values : (n : ℕ) (lengths : List ℕ) (xs : List ℤ) → sum lengths ≡ length xs
-    → scans_from n lengths xs ≡ values_from Overflow n (map fitting (scans_of ◌+ℤ◌ (pos 0) lengths xs))
-scans_are_values n [] xs total = refl
-scans_are_values n (k ∷ lengths) xs total =
+heads : (k m : ℕ) (ks ms : List ℕ) → k ∷ ks ≡ m ∷ ms → (k ≡ m) × (ks ≡ ms)
+heads k m ks ms is = (cc, cc)
+
+-- the scans of the segments from number s on, the first of which stands at place n
+scans_are : (all : List ℕ) (s n : ℕ) (lengths : List ℕ) (xs : List ℤ) → lengths ≡ drop s all → n ≡ sum (take s all) → sum lengths ≡ length xs
+    → (results_from (in_vector all) checked_scan_of s (cut_of lengths xs) >>= λ lists. Ok (joined lists)) ≡ values_from Overflow n (map fitting (scans_of ◌+ℤ◌ (pos 0) lengths xs))
+scans_are all s n [] xs rest start total = refl
+scans_are all s n (k ∷ lengths) xs rest start total =
+    let lt : s < length all = omega (arith, ap length rest, length-drop s all) in
+    let same = heads k (get_or all s 0) lengths (drop (s + 1) all) (rest ∙ drop_more all s 0 lt) in
+    let next : n + k ≡ sum (take (s + 1) all) = omega (arith, start, same.0, sum_by_more (λ x. x) all s 0 lt) in
     let front = take k xs in
     let vs = map fitting (totals_of front) in
-    let others = scans_of ◌+ℤ◌ (pos 0) lengths (drop k xs) in
+    let others = map fitting (scans_of ◌+ℤ◌ (pos 0) lengths (drop k xs)) in
     let whole : k + sum lengths ≡ length xs = omega (arith, total, sum-cons k lengths) in
     let long : length vs ≡ k = length-map (totals_of front) fitting ∙ length-scan_of ◌+ℤ◌ (pos 0) front ∙ length-take-le k xs (omega (arith, whole)) in
-    ap (λ r. values_from Overflow n vs >>= λ ys. after ys r) (scans_are_values (n + k) lengths (drop k xs) (omega (arith, whole, length-drop k xs)))
-    ∙ ap (λ m. values_from Overflow n vs >>= λ ys. after ys (values_from Overflow (n + m) (map fitting others))) (sym long)
-    ∙ sym (values-append Overflow n vs (map fitting others))
-    ∙ ap (values_from Overflow n) (sym (map-append fitting (totals_of front) others))
+    let first : moved (in_vector all s) (values_from Overflow 0 vs) ≡ values_from Overflow n vs =
+    moved_on Overflow (sum (take s all)) 0 vs ∙ ap (λ p. values_from Overflow p vs) (omega (arith, start)) in
+    chained (moved (in_vector all s) (values_from Overflow 0 vs)) (results_from (in_vector all) checked_scan_of (s + 1) (cut_of lengths (drop k xs)))
+    ∙ ap (λ r. r >>= λ ys. after ys (results_from (in_vector all) checked_scan_of (s + 1) (cut_of lengths (drop k xs)) >>= λ lists. Ok (joined lists))) first
+    ∙ ap (λ r. values_from Overflow n vs >>= λ ys. after ys r) (scans_are all (s + 1) (n + k) lengths (drop k xs) same.1 next (omega (arith, whole, length-drop k xs)))
+    ∙ ap (λ m. values_from Overflow n vs >>= λ ys. after ys (values_from Overflow (n + m) others)) (sym long)
+    ∙ sym (values-append Overflow n vs others)
+    ∙ ap (values_from Overflow n) (sym (map-append fitting (totals_of front) (scans_of ◌+ℤ◌ (pos 0) lengths (drop k xs))))
 
 -- a checked scan of segments is a scan of each, one after another, where all results fit, or the fault of the first that doesn't
 pub scans_valued : (lengths : List ℕ) (xs : List ℤ) → sum lengths ≡ length xs
     → checked_seg_scan_of xs lengths ≡ values_from Overflow 0 (map fitting (scans_of ◌+ℤ◌ (pos 0) lengths xs))
-scans_valued lengths xs total = scans_meant lengths xs total ∙ scans_are_values 0 lengths xs total
+scans_valued lengths xs total = ap (end_to_end (in_vector lengths) checked_scan_of) (nest-fits lengths xs total) ∙ scans_are lengths 0 0 lengths xs refl refl total
 
 -- and a checked reduce the sum of each
 pub sums_valued : (lengths : List ℕ) (xs : List ℤ) → sum lengths ≡ length xs

@@ -4,7 +4,7 @@ use Rattle.std.proofs.Common.{◌≡◌, ℕ, ◌+◌, ◌-◌, ◌<◌, ◌≤�
 use Rattle.std.proofs.lemmas.List.{drop_all}
 use Rattle.cvl_base.specs.Folds.{fold_of, scan_of}
 use Rattle.fresh.specs.Places.{Stretch, stretch, with_items}
-use Rattle.scan_walks.specs.Runs.{reduces_of, scans_of}
+use Rattle.scan_walks.specs.Ranges.{reduces_of, scans_of}
 use Rattle.fresh.proofs.Written.{nothing_written, one_written, written_twice}
 use Rattle.scan_walks.proofs.Scanned.{scan_of_more}
 use Rattle.scan_walks.proofs.Segments.{reduces_more, scans_more_min}

@@ -5,10 +5,11 @@ ghost use Rattle.std.specs.List.{AllPass};
 ghost use Rattle.cvl_base.specs.Gives.{Gives};
 ghost use Rattle.cvl_base.specs.SegmentedCalls.{seg_reduce_of, seg_scan_of};
 
+use crate::ranges::{scan_range_vec, seg_reduces_into};
 use crate::readings::Reading;
-use crate::runs::{reduces_of_readings, scan_of_run};
 use cvl_base::monoid::know_laws;
 use cvl_base::{Monoid, Refused};
+use fresh::Room;
 use segdes::{SegDes, check_total};
 use std::alloc::Allocator;
 
@@ -17,18 +18,18 @@ use std::alloc::Allocator;
 ///
 /// The elements must be items of the monoid. The result is as long as they are. LengthMismatch, without a place, where
 /// the segments' total is not the number of elements. Source: Blelloch's segmented scans.
-pub fn seg_scan_alone<M: Monoid, A: Allocator>(
-    alloc: A,
+pub fn seg_scan_vec<M: Monoid, A: Allocator, B: Allocator>(
+    alloc: B,
     a: &[M::Item],
     d: &SegDes<A>,
-) -> Result<Vec<M::Item, A>, Refused>
+) -> Result<Vec<M::Item, B>, Refused>
     requires items { AllPass M.is_item a.now }
     ensures values { Gives (λ sums. sums.items) result (seg_scan_of M.join M.unit a.now d.now) }
     ensures as_long { IfOk result (λ sums. vec_len sums ≡ length a.now) }
 {
     know_laws::<M>();
     check_total(a, d)?;
-    let sums = scan_of_run::<M, A>(alloc, a, d, 0, a.len(), M::unit())?;
+    let sums = scan_range_vec::<M, A, B>(alloc, a, d, 0, a.len(), M::unit())?;
     Ok(sums)
 }
 
@@ -37,7 +38,7 @@ pub fn seg_scan_alone<M: Monoid, A: Allocator>(
 ///
 /// The elements must be read as items of the monoid. The result has one element for each segment. LengthMismatch, without
 /// a place, where the segments' total is not the number of elements. Source: CVL's segmented reduces.
-pub fn seg_reduce_readings_alone<M: Monoid, X: Copy, E: Reading<X, M::Item>, A: Allocator>(
+pub fn seg_reduce_vec<M: Monoid, X: Copy, E: Reading<X, M::Item>, A: Allocator>(
     alloc: A,
     a: &[X],
     d: &SegDes<A>,
@@ -49,6 +50,7 @@ pub fn seg_reduce_readings_alone<M: Monoid, X: Copy, E: Reading<X, M::Item>, A: 
 {
     know_laws::<M>();
     check_total(a, d)?;
-    let sums = reduces_of_readings::<M, X, E, A, A>(alloc, a, d, 0, d.count(), 0, M::unit())?;
-    Ok(sums)
+    let count = d.count();
+    let (room, run) = Room::new(alloc, count)?;
+    Ok(room.into_vec(seg_reduces_into::<M, X, E, A>(run, a, d, 0, count, 0, M::unit())))
 }

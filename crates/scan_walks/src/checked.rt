@@ -1,16 +1,117 @@
-//! The walks of checked sums, on one thread: they add in 64 bits, and stop at the first result that does not fit 32.
+//! Scans and sums that never wrap, by the thread that calls.
+//!
+//! The first result of a scan that does not fit 32 bits is looked for before anything is written. Where there is none, the
+//! results are those of the scan that wraps.
 
-ghost use Rattle.std.specs.Prelude.{◌≡◌, ◌+◌, ◌≤◌, IfOk, length, vec_len, vec_capacity};
+ghost use Rattle.std.specs.Prelude.{◌≡◌, ◌≤◌, IfOk, MatchResult, Ok, Err, length, pos, vec_len};
 ghost use Rattle.cvl_base.specs.CheckedSums.{checked_reduce_of, checked_scan_of, checked_seg_reduce_of, checked_seg_scan_of, fitting};
 ghost use Rattle.cvl_base.specs.Exact.{total_of};
+ghost use Rattle.cvl_base.specs.Folds.{scan_of};
 ghost use Rattle.cvl_base.specs.Gives.{Gives};
+ghost use Rattle.cvl_base.specs.Integers.{sum_of};
 ghost use Rattle.cvl_base.specs.Limits.{most_elements};
-ghost use Rattle.scan_walks.specs.Continued.{IsScanned};
+ghost use Rattle.cvl_base.specs.Rooms.{Overwrites, in_room};
+ghost use Rattle.cvl_base.specs.SegmentedCalls.{seg_scan_of};
 
-use crate::totals::{fitting, plus, total};
+use crate::alone::seg_scan_vec;
+use crate::fronts::{fitting_of_range, fitting_of_scan};
+use crate::over::{scan_over, seg_scan_over};
+use crate::plain::scan_vec;
+use crate::readings::Itself;
+use crate::totals::{fitting, know_numbers, total};
+use cvl_base::monoids::Add;
 use cvl_base::{Fault, FaultNo, Refused};
 use segdes::{SegDes, check_total};
 use std::alloc::Allocator;
+
+/// Looks whether all results of the checked scan fit 32 bits, so that they are those of the scan that wraps: `Overflow` at the
+/// first one that does not.
+fn check_scan(a: &[i32]) -> Result<(), Fault>
+    requires in_limit { length a.now ≤ most_elements }
+    ensures { MatchResult result (λ _. checked_scan_of a.now ≡ Ok (scan_of sum_of (pos 0) a.now))
+        (λ f. checked_scan_of a.now ≡ Err f) }
+{
+    let fitting = fitting_of_scan(0, a);
+    if fitting < a.len() {
+        return Err(Fault::at(FaultNo::Overflow, fitting as u32));
+    }
+    Ok(())
+}
+
+/// The same of the checked scans of segments: LengthMismatch, without a place, where the segments' total is not the number of
+/// elements, and else `Overflow` at the first result that does not fit, at its place in the vector.
+fn check_seg_scan<A: Allocator>(a: &[i32], d: &SegDes<A>) -> Result<(), Fault>
+    ensures { MatchResult result (λ _. checked_seg_scan_of a.now d.now ≡ seg_scan_of sum_of (pos 0) a.now d.now)
+        (λ f. checked_seg_scan_of a.now d.now ≡ Err f) }
+{
+    check_total(a, d)?;
+    let fitting = fitting_of_range(a, d, 0, a.len(), 0);
+    if fitting < a.len() {
+        return Err(Fault::at(FaultNo::Overflow, fitting as u32));
+    }
+    Ok(())
+}
+
+/// For each integer the sum of those before it, which never wraps: `Overflow` at the first sum that does not fit 32 bits.
+///
+/// The result is as long as the vector, which has at most 4,194,304 elements. Source: Blelloch's prescan.
+pub fn checked_scan_vec<A: Allocator>(alloc: A, a: &[i32]) -> Result<Vec<i32, A>, Refused>
+    requires in_limit { length a.now ≤ most_elements }
+    ensures values { Gives (λ sums. sums.items) result (checked_scan_of a.now) }
+    ensures as_long { IfOk result (λ sums. vec_len sums ≡ length a.now) }
+{
+    check_scan(a)?;
+    know_numbers(a);
+    let sums = scan_vec::<Add, i32, Itself, A>(alloc, 0, a)?;
+    Ok(sums)
+}
+
+/// Writes over a room for each integer the sum of those before it, which never wraps: `Overflow` at the first sum that does
+/// not fit 32 bits; else LengthMismatch, without a place, where the room isn't as long as the vector.
+///
+/// The vector has at most 4,194,304 elements. Source: Blelloch's prescan.
+pub fn checked_scan_over(a: &[i32], out: &mut [i32]) -> Result<(), Fault>
+    requires in_limit { length a.now ≤ most_elements }
+    ensures { Overwrites (in_room (length out.old) (checked_scan_of a.now)) result out.old out.new }
+{
+    check_scan(a)?;
+    know_numbers(a);
+    scan_over::<Add>(0, a, out)
+}
+
+/// The checked scan of each segment: `Overflow` at the first sum that does not fit 32 bits, at its place in the vector.
+///
+/// The result is as long as the vector. LengthMismatch, without a place, where the segments' total is not the number of
+/// elements. Source: Blelloch's segmented scans.
+pub fn checked_seg_scan_vec<A: Allocator, B: Allocator>(
+    alloc: B,
+    a: &[i32],
+    d: &SegDes<A>,
+) -> Result<Vec<i32, B>, Refused>
+    ensures values { Gives (λ sums. sums.items) result (checked_seg_scan_of a.now d.now) }
+    ensures as_long { IfOk result (λ sums. vec_len sums ≡ length a.now) }
+{
+    check_seg_scan(a, d)?;
+    know_numbers(a);
+    seg_scan_vec::<Add, A, B>(alloc, a, d)
+}
+
+/// Writes the checked scan of each segment over a room: `Overflow` at the first sum that does not fit 32 bits, at its place in
+/// the vector.
+///
+/// LengthMismatch, without a place, where the segments' total is not the number of elements, which is asked first, or where
+/// the room isn't as long as the vector, which is asked last. Source: Blelloch's segmented scans.
+pub fn checked_seg_scan_over<A: Allocator>(
+    a: &[i32],
+    d: &SegDes<A>,
+    out: &mut [i32],
+) -> Result<(), Fault>
+    ensures { Overwrites (in_room (length out.old) (checked_seg_scan_of a.now d.now)) result out.old out.new }
+{
+    check_seg_scan(a, d)?;
+    know_numbers(a);
+    seg_scan_over::<Add, A>(a, d, out)
+}
 
 /// The sum of at most 4,194,304 integers, if it fits 32 bits.
 fn fitting_total(xs: &[i32]) -> Option<i32>
@@ -20,45 +121,10 @@ fn fitting_total(xs: &[i32]) -> Option<i32>
     fitting(&total(xs))
 }
 
-/// Pushes, for each of the integers, the sum of those before it, or stops with `Overflow` at the first sum that does not
-/// fit 32 bits, at its place among all that is pushed. There must be room for the sums.
-fn push_checked_scan<A: Allocator>(sums: &mut Vec<i32, A>, xs: &[i32]) -> Result<(), Fault>
-    requires room { vec_len sums.old + length xs.now ≤ vec_capacity sums.old }
-    requires in_limit { vec_len sums.old + length xs.now ≤ most_elements }
-    ensures pushed { IsScanned sums.old.items xs.now sums.new.items result }
-    ensures as_long { IfOk result (λ _. vec_len sums.new ≡ vec_len sums.old + length xs.now) }
-    ensures capacity { vec_capacity sums.new ≡ vec_capacity sums.old }
-{
-    let mut so_far: i64 = 0;
-    for x in xs {
-        match fitting(&so_far) {
-            Some(sum) => {
-                sums.push_reserved(sum);
-                so_far = plus(&sum, x);
-            }
-            None => return Err(Fault::at(FaultNo::Overflow, sums.len() as u32)),
-        }
-    }
-    Ok(())
-}
-
-/// For each integer the sum of those before it, which never wraps: `Overflow` at the first sum that does not fit 32 bits.
-///
-/// The result is as long as the vector, which has at most 4,194,304 elements. Source: Blelloch's prescan.
-pub fn checked_scan_of<A: Allocator>(alloc: A, a: &[i32]) -> Result<Vec<i32, A>, Refused>
-    requires in_limit { length a.now ≤ most_elements }
-    ensures values { Gives (λ sums. sums.items) result (checked_scan_of a.now) }
-    ensures as_long { IfOk result (λ sums. vec_len sums ≡ length a.now) }
-{
-    let mut sums = Vec::with_capacity(alloc, a.len())?;
-    push_checked_scan(&mut sums, a)?;
-    Ok(sums)
-}
-
 /// The sum of the integers, which never wraps: `Overflow` at 0 where it does not fit 32 bits. It takes no memory.
 ///
 /// The vector has at most 4,194,304 elements. Source: CVL's reduces.
-pub fn checked_sum_of(a: &[i32]) -> Result<i32, Fault>
+pub fn checked_sum(a: &[i32]) -> Result<i32, Fault>
     requires in_limit { length a.now ≤ most_elements }
     ensures { result ≡ checked_reduce_of a.now }
 {
@@ -68,37 +134,11 @@ pub fn checked_sum_of(a: &[i32]) -> Result<i32, Fault>
     }
 }
 
-/// The checked scan of each segment: `Overflow` at the first sum that does not fit 32 bits, at its place in the vector.
-///
-/// The result is as long as the vector. LengthMismatch, without a place, where the segments' total is not the number of
-/// elements. Source: CVL's segmented scans.
-pub fn checked_scan_of_segments<A: Allocator, B: Allocator>(
-    alloc: B,
-    a: &[i32],
-    d: &SegDes<A>,
-) -> Result<Vec<i32, B>, Refused>
-    ensures values { Gives (λ sums. sums.items) result (checked_seg_scan_of a.now d.now) }
-    ensures as_long { IfOk result (λ sums. vec_len sums ≡ length a.now) }
-{
-    check_total(a, d)?;
-    let total = d.total();
-    let mut sums = Vec::with_capacity(alloc, total)?;
-    let mut rest = a;
-    for length in d.lengths() {
-        let (segment, others) = rest.split_at(*length as usize);
-        match push_checked_scan(&mut sums, segment) {
-            Ok(()) => rest = others,
-            Err(fault) => return Err(Refused::Fault(fault)),
-        }
-    }
-    Ok(sums)
-}
-
 /// The checked sum of each segment: `Overflow` at the first segment whose sum does not fit 32 bits.
 ///
 /// The result has one element for each segment. LengthMismatch, without a place, where the segments' total is not the
 /// number of elements. Source: CVL's segmented reduces.
-pub fn checked_sums_of_segments<A: Allocator, B: Allocator>(
+pub fn checked_seg_reduce_vec<A: Allocator, B: Allocator>(
     alloc: B,
     a: &[i32],
     d: &SegDes<A>,

@@ -4,10 +4,10 @@ ghost use Rattle.std.specs.Prelude.{◌≡◌, ◌+ℤ◌, ◌≤◌, length, ma
 ghost use Rattle.cvl_base.specs.Descriptors.{AreLengths};
 ghost use Rattle.cvl_base.specs.Folds.{scan_of};
 ghost use Rattle.scan_walks.specs.Fronts.{fitting_front};
-ghost use Rattle.scan_walks.specs.Runs.{run_between, run_scan_of, scans_of};
+ghost use Rattle.scan_walks.specs.Ranges.{range_between, range_scan_of, scans_of};
 
 use crate::blocks::{BLOCK, sum_of_block, sum_one_by_one};
-use crate::runs::start_or_total;
+use crate::ranges::start_or_total;
 use segdes::SegDes;
 use std::alloc::Allocator;
 
@@ -63,7 +63,7 @@ fn fitting_of_scans(lengths: &[i32], xs: &[i32]) -> usize
 /// first one on. `before` is what the elements of the first segment that stand before the range add up to.
 ///
 /// It takes no memory. Source: Blelloch's segmented scans, over whole numbers.
-pub fn fitting_of_run<A: Allocator>(
+pub fn fitting_of_range<A: Allocator>(
     a: &[i32],
     d: &SegDes<A>,
     from: usize,
@@ -73,7 +73,7 @@ pub fn fitting_of_run<A: Allocator>(
     requires total { sum d.now ≡ length a.now }
     requires in_order { from ≤ to }
     requires within { to ≤ length a.now }
-    ensures { result ≡ fitting_front (run_scan_of ◌+ℤ◌ (pos 0) before (run_between d.now a.now from to)) }
+    ensures { result ≡ fitting_front (range_scan_of ◌+ℤ◌ (pos 0) before (range_between d.now a.now from to)) }
 {
     let first = d.starts_before(from);
     let next = d.starts_before(to);

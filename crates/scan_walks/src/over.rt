@@ -7,11 +7,11 @@ ghost use Rattle.cvl_base.specs.Limits.{most_elements};
 ghost use Rattle.cvl_base.specs.Rooms.{Overwrites, in_room};
 ghost use Rattle.cvl_base.specs.SegmentedCalls.{seg_reduce_of, seg_scan_of};
 ghost use Rattle.fresh.specs.Places.{with_items};
-ghost use Rattle.scan_walks.specs.Runs.{reduces_of, run_between, run_scan_of};
+ghost use Rattle.scan_walks.specs.Ranges.{reduces_of, range_between, range_scan_of};
 
 use crate::plain::scan_into;
+use crate::ranges::{scan_range_into, seg_reduces_into};
 use crate::readings::{Itself, Reading};
-use crate::runs::{reduces_run_into, scan_run_into};
 use cvl_base::monoid::know_laws;
 use cvl_base::{Fault, Monoid, check_agree};
 use fresh::{Run, fill_slice};
@@ -64,8 +64,8 @@ pub fn seg_scan_over<M: Monoid, A: Allocator>(
         out,
         |run: Run<M::Item>| -> Run<M::Item>
             requires { (run.items ≡ []) × (run.room ≡ length a.now) × (sum d.now ≡ length a.now) × AllPass M.is_item a.now × IsTrue (M.is_item M.unit) }
-            ensures { result ≡ with_items run (run_scan_of M.join M.unit M.unit (run_between d.entry.now a.entry.now 0 (length a.entry.now))) }
-        { scan_run_into::<M, M::Item, Itself, A>(run, a, d, 0, a.len(), M::unit()) },
+            ensures { result ≡ with_items run (range_scan_of M.join M.unit M.unit (range_between d.entry.now a.entry.now 0 (length a.entry.now))) }
+        { scan_range_into::<M, M::Item, Itself, A>(run, a, d, 0, a.len(), M::unit()) },
     );
     Ok(())
 }
@@ -104,7 +104,7 @@ pub fn seg_reduce_readings_over<M: Monoid, X: Copy, E: Reading<X, M::Item>, A: A
         |run: Run<M::Item>| -> Run<M::Item>
             requires { (run.items ≡ []) × (run.room ≡ count) × (count ≡ length d.now) × (sum d.now ≡ length a.now) × AllPass (λ x. M.is_item (E.item x)) a.now × IsTrue (M.is_item M.unit) }
             ensures { result ≡ with_items run (slice_range (reduces_of M.join M.unit d.entry.now (map E.item a.entry.now)) 0 count) }
-        { reduces_run_into::<M, X, E, A>(run, a, d, 0, count, 0, M::unit()) },
+        { seg_reduces_into::<M, X, E, A>(run, a, d, 0, count, 0, M::unit()) },
     );
     Ok(())
 }

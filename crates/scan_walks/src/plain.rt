@@ -14,10 +14,7 @@ use std::alloc::Allocator;
 /// What stands before the elements, joined from left to right with what they are read as.
 ///
 /// `before` must be an item of the monoid, as all that is read must. It takes no memory. Source: CVL's reduces.
-pub fn sum_readings_from<M: Monoid, X: Copy, E: Reading<X, M::Item>>(
-    before: M::Item,
-    xs: &[X],
-) -> M::Item
+pub fn sum_from<M: Monoid, X: Copy, E: Reading<X, M::Item>>(before: M::Item, xs: &[X]) -> M::Item
     requires before { IsTrue (M.is_item before) }
     requires items { AllPass (λ x. M.is_item (E.item x)) xs.now }
     ensures { result ≡ fold_of M.join before (map E.item xs.now) }
@@ -60,7 +57,7 @@ pub fn scan_into<M: Monoid, X: Copy, E: Reading<X, M::Item>>(
 ///
 /// `before` must be an item of the monoid, as all that is read must. The result is as long as the elements. Source:
 /// Blelloch's prescan.
-pub fn scan_readings_from<M: Monoid, X: Copy, E: Reading<X, M::Item>, A: Allocator>(
+pub fn scan_vec<M: Monoid, X: Copy, E: Reading<X, M::Item>, A: Allocator>(
     alloc: A,
     before: M::Item,
     xs: &[X],

@@ -8,7 +8,7 @@ ghost use Rattle.cvl_base.specs.Folds.{fold_of};
 ghost use Rattle.cvl_base.specs.ItemWords.{is_number};
 ghost use Rattle.cvl_base.specs.Limits.{most_elements};
 ghost use Rattle.cvl_base.specs.SegmentMonoid.{seg_join, seg_unit};
-ghost use Rattle.scan_walks.specs.Runs.{run_between};
+ghost use Rattle.scan_walks.specs.Ranges.{range_between};
 
 use segdes::SegDes;
 use std::alloc::Allocator;
@@ -39,16 +39,16 @@ pub fn total(xs: &[i32]) -> i64
     sum
 }
 
-/// The sum of the run from place `from` to the one before place `to`: whether a segment starts in it, and what its elements
+/// The sum of the range from place `from` to the one before place `to`: whether a segment starts in it, and what its elements
 /// since the last start add up to.
 ///
 /// It reads no element before the last start, and takes no memory. Source: Blelloch's segmented scans.
-pub fn total_of_run<A: Allocator>(a: &[i32], d: &SegDes<A>, from: usize, to: usize) -> (bool, i64)
+pub fn total_of_range<A: Allocator>(a: &[i32], d: &SegDes<A>, from: usize, to: usize) -> (bool, i64)
     requires total { sum d.now ≡ length a.now }
     requires in_order { from ≤ to }
     requires within { to ≤ length a.now }
     requires in_limit { length a.now ≤ most_elements }
-    ensures { result ≡ fold_of (seg_join ◌+ℤ◌) (seg_unit (pos 0)) (run_between d.now a.now from to) }
+    ensures { result ≡ fold_of (seg_join ◌+ℤ◌) (seg_unit (pos 0)) (range_between d.now a.now from to) }
 {
     let first = d.starts_before(from);
     let next = d.starts_before(to);

@@ -1,5 +1,5 @@
-pub mod FlatTiles
-pub mod Known
-pub mod RunScans
-pub mod SegmentedTiles
-pub mod Tiled
+pub mod Flagged
+pub mod WrittenParts
+pub mod OpenSegments
+pub mod RangeScans
+pub mod SumsOfTiles

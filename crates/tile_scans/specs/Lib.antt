@@ -1,3 +1,3 @@
-pub mod Kernels
+pub mod TiledSums
 pub mod Told
 pub mod Written

@@ -12,21 +12,19 @@
 #![tactic(auto)]
 
 mod befores;
-mod flat_tiles;
-mod kernel;
+mod known;
+mod known_reduces;
+mod known_scans;
 mod pace;
 mod race;
 mod reduces;
 mod scans;
-mod segmented_tiles;
+mod steps;
 mod tile_work;
-mod writes;
+mod tiled;
 
-pub use befores::{scan_after_befores, seg_scan_after_befores};
+pub use befores::scan_after_befores;
 pub use pace::{reduce_pace, scan_pace};
 pub use race::race_for_befores;
-pub use reduces::{
-    reduce, reduce_gated, reduce_readings, seg_reduce, seg_reduce_gated, seg_reduce_readings,
-    seg_reduce_readings_gated,
-};
-pub use scans::{scan, scan_gated, scan_readings, scan_readings_gated, seg_scan, seg_scan_gated};
+pub use reduces::{reduce, reduce_gated, seg_reduce, seg_reduce_gated, seg_reduce_readings_gated};
+pub use scans::{scan, scan_gated, scan_readings_gated, seg_scan, seg_scan_gated};

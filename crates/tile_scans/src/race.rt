@@ -1,19 +1,14 @@
-//! Passes over the tiles of a vector, by workers that race for the tiles.
+//! The pass over the tiles of a vector, by workers that race for the tiles.
 
-ghost use Rattle.std.specs.Prelude.{◌≡◌, ◌≤◌, IfOk, length, map};
-ghost use Rattle.cvl_base.specs.Limits.{most_workers};
+ghost use Rattle.std.specs.Prelude.{◌≡◌, ◌≤◌, IfOk, length};
 ghost use Rattle.boards.specs.Boards.{IsSeatOf};
-ghost use Rattle.tile_plan.specs.Pieces.{AreOfTiles, in_order_of_tiles};
 ghost use Rattle.tile_scans.specs.Written.{befores_of};
 
-use crate::kernel::{Kernel, PrefixesAlone};
-use crate::tile_work::{LentTiles, TileWork};
+use crate::tile_work::{Lent, TileWork};
 use boards::{ScanBoard, ScanSeat, Tiles};
-use crew::{Gate, run_crew, run_crew_for_facts};
+use crew::{Gate, run_crew_for_facts};
 use cvl_base::{Config, Memory, Monoid, NoResources};
-use sharing::threads_for;
 use std::thread::Threads;
-use tile_plan::{Piece, gather_tiles};
 
 /// How many workers race for so many tiles: as many as the configuration says, but no more than there are tiles.
 fn workers_for(config: Config, tiles: u32) -> u32
@@ -21,53 +16,6 @@ fn workers_for(config: Config, tiles: u32) -> u32
     ensures few { result ≤ config.1 }
 {
     config.workers().min(tiles).max(1)
-}
-
-/// The items of all tiles, one tile after another, about `len` in all. Workers race for the tiles, and pass the gate at each
-/// point; then several threads write the items where they are many. Where there is one worker no thread is started.
-///
-/// Source: Merrill and Garland's single pass.
-pub(crate) fn race_for_items<R: Threads + Sync, A: Memory, K: Kernel + Sync, G: Gate>(
-    rt: &R,
-    alloc: A,
-    config: Config,
-    kernel: &K,
-    len: usize,
-    gate: &G,
-) -> Result<Vec<<K::M as Monoid>::Item, A>, NoResources>
-where
-    K::M: Send + Sync,
-    <K::M as Monoid>::Item: Send + Sync,
-    ensures { IfOk result (λ whole. whole.items
-        ≡ in_order_of_tiles (length (K.sums kernel.now)) (K.items kernel.now)) }
-{
-    let workers = workers_for(config, kernel.count());
-    let pieces = race_for_pieces(rt, alloc, workers, kernel, gate)?;
-    gather_tiles(rt, alloc, threads_for(config, len), pieces)
-}
-
-/// The pieces of all tiles, for which so many workers race.
-fn race_for_pieces<R: Threads + Sync, A: Memory, K: Kernel + Sync, G: Gate>(
-    rt: &R,
-    alloc: A,
-    workers: u32,
-    kernel: &K,
-    gate: &G,
-) -> Result<Vec<Piece<<K::M as Monoid>::Item, A>, A>, NoResources>
-where
-    K::M: Send + Sync,
-    <K::M as Monoid>::Item: Send + Sync,
-    requires some { 1 ≤ workers }
-    requires few { workers ≤ most_workers }
-    ensures { IfOk result (λ pieces. AreOfTiles (length (K.sums kernel.now)) (K.items kernel.now)
-        (map (λ p. (p.tile, p.items.items)) pieces.items)) }
-{
-    let (board, seats) = ScanBoard::new(alloc, LentTiles { kernel }, workers)?;
-    let work = TileWork { board, kernel };
-    let crewed = run_crew(rt, alloc, &work, seats, gate)?;
-    let TileWork { board, .. } = work;
-    board.close(crewed.seats);
-    Ok(crewed.pieces)
 }
 
 /// What stands before each tile of a vector: what the tiles before it join to since the last start of a segment. Workers race
@@ -89,12 +37,8 @@ where
 {
     let count = tiles.count();
     let workers = workers_for(config, count);
-    let kernel = PrefixesAlone { tiles };
-    let (board, seats) = ScanBoard::new(alloc, LentTiles { kernel: &kernel }, workers)?;
-    let work = TileWork {
-        board,
-        kernel: &kernel,
-    };
+    let (board, seats) = ScanBoard::new(alloc, Lent { tiles }, workers)?;
+    let work = TileWork { board, tiles };
     let mut seats = run_crew_for_facts(rt, alloc, &work, seats, gate)?;
     befores(alloc, &work.board, &mut seats[0], count)
 }

@@ -6,15 +6,15 @@ ghost use Rattle.cvl_base.specs.Folds.{fold_of};
 ghost use Rattle.cvl_base.specs.Gives.{Gives};
 ghost use Rattle.cvl_base.specs.SegmentedCalls.{seg_reduce_of};
 
-use crate::flat_tiles::Flat;
+use crate::known::Known;
+use crate::known_reduces::reduces_known;
 use crate::pace::reduce_pace;
-use crate::race::{race_for_befores, race_for_items};
-use crate::segmented_tiles::{Segmented, SegmentedReduce};
-use boards::Tiles;
+use crate::race::race_for_befores;
+use crate::tiled::Tiled;
 use crew::{Gate, OpenGate};
 use cvl_base::monoid::know_laws;
-use cvl_base::{Config, Memory, Monoid, NoResources, Packed, Refused};
-use scan_walks::{Itself, Reading, seg_reduce_readings_alone, sum_readings_from};
+use cvl_base::{Config, Memory, NoResources, Packed, Refused};
+use scan_walks::{Itself, Reading, seg_reduce_vec, sum_from};
 use segdes::{SegDes, check_total};
 use std::mem::size_of_val;
 use std::thread::Threads;
@@ -51,23 +51,16 @@ where
 {
     know_laws::<M>();
     let Some(pace) = reduce_pace(config, a.len(), size_of_val(a)) else {
-        return Ok(sum_readings_from::<M, M::Item, Itself>(M::unit(), a));
+        return Ok(sum_from::<M, M::Item, Itself>(M::unit(), a));
     };
-    let flat = Flat::<M, M::Item, Itself>::new(a, pace.tile());
-    let before = race_for_befores(rt, alloc, pace, &flat, gate)?;
-    let last = flat.count() - 1;
-    Ok(M::join(before[last as usize], flat.sum(last).1))
-}
-
-/// What the elements are read as, joined from left to right, and the unit where there are none. It takes no memory.
-///
-/// The elements must be read as items of the monoid. Source: CVL's reduces.
-pub fn reduce_readings<M: Monoid, X: Copy, E: Reading<X, M::Item>>(a: &[X]) -> M::Item
-    requires items { AllPass (λ x. M.is_item (E.item x)) a.now }
-    ensures { result ≡ fold_of M.join M.unit (map E.item a.now) }
-{
-    know_laws::<M>();
-    sum_readings_from::<M, X, E>(M::unit(), a)
+    let vector = Tiled::<M, M::Item, Itself, A>::new(a, None, pace.tile());
+    let before = race_for_befores(rt, alloc, pace, &vector, gate)?;
+    let known = Known {
+        vector: &vector,
+        before: &before,
+    };
+    let last = vector.plan.count() - 1;
+    Ok(known.before_place(last, a.len()))
 }
 
 /// For each segment its elements joined from left to right, and the unit where it is empty.
@@ -108,33 +101,11 @@ where
     seg_reduce_readings_gated::<R, A, M, M::Item, Itself, G>(rt, alloc, config, a, d, gate)
 }
 
-/// For each segment what its elements are read as, joined from left to right, and the unit where it is empty.
+/// For each segment what its elements are read as, joined from left to right, and the unit where it is empty. The workers pass
+/// a gate at each point of their way through a tile.
 ///
 /// The elements must be read as items of the monoid. The result has one element for each segment. LengthMismatch, without
 /// a place, where the segments' total is not the number of elements. Source: CVL's segmented reduces.
-pub fn seg_reduce_readings<R, A, M, X, E>(
-    rt: &R,
-    alloc: A,
-    config: Config,
-    a: &[X],
-    d: &SegDes<A>,
-) -> Result<Vec<M::Item, A>, Refused>
-where
-    R: Threads + Sync,
-    A: Memory,
-    M: Packed + Send + Sync,
-    M::Item: Send + Sync,
-    X: Copy + Send + Sync,
-    E: Reading<X, M::Item> + Send + Sync,
-    requires items { AllPass (λ x. M.is_item (E.item x)) a.now }
-    ensures values { Gives (λ sums. sums.items) result
-        (seg_reduce_of M.join M.unit (map E.item a.now) d.now) }
-    ensures one_each { IfOk result (λ sums. vec_len sums ≡ length d.now) }
-{
-    seg_reduce_readings_gated::<R, A, M, X, E, OpenGate>(rt, alloc, config, a, d, &OpenGate)
-}
-
-/// The same as [`seg_reduce_readings`], by workers that pass a gate at each point of their way through a tile.
 pub fn seg_reduce_readings_gated<R, A, M, X, E, G>(
     rt: &R,
     alloc: A,
@@ -157,11 +128,15 @@ where
     ensures one_each { IfOk result (λ sums. vec_len sums ≡ length d.now) }
 {
     let Some(pace) = reduce_pace(config, a.len(), size_of_val(a)) else {
-        return seg_reduce_readings_alone::<M, X, E, A>(alloc, a, d);
+        return seg_reduce_vec::<M, X, E, A>(alloc, a, d);
     };
     check_total(a, d)?;
-    let vector = Segmented::<M, X, E, A>::new(a, d, pace.tile());
-    let kernel = SegmentedReduce { vector };
-    let reduces = race_for_items(rt, alloc, pace, &kernel, d.count(), gate)?;
+    let vector = Tiled::<M, X, E, A>::new(a, Some(d), pace.tile());
+    let before = race_for_befores(rt, alloc, pace, &vector, gate)?;
+    let known = Known {
+        vector: &vector,
+        before: &before,
+    };
+    let reduces = reduces_known(rt, alloc, pace, &known, d)?;
     Ok(reduces)
 }

@@ -6,14 +6,15 @@ ghost use Rattle.cvl_base.specs.Folds.{scan_of};
 ghost use Rattle.cvl_base.specs.Gives.{Gives};
 ghost use Rattle.cvl_base.specs.SegmentedCalls.{seg_scan_of};
 
-use crate::flat_tiles::Flat;
+use crate::known::Known;
+use crate::known_scans::scan_known;
 use crate::pace::scan_pace;
-use crate::segmented_tiles::Segmented;
-use crate::writes::scan_in_tiles;
+use crate::race::race_for_befores;
+use crate::tiled::Tiled;
 use crew::{Gate, OpenGate};
 use cvl_base::monoid::know_laws;
 use cvl_base::{Config, Memory, NoResources, Packed, Refused};
-use scan_walks::{Itself, Reading, scan_readings_from, seg_scan_alone};
+use scan_walks::{Itself, Reading, scan_vec, seg_scan_vec};
 use segdes::{SegDes, check_total};
 use std::thread::Threads;
 
@@ -54,30 +55,9 @@ where
 }
 
 /// The exclusive scan of what the elements are read as: element `k` of the result joins the items of the elements before
-/// place `k`, from left to right, and is the unit at place 0.
+/// place `k`, from left to right, and is the unit at place 0. The workers pass a gate at each point of their way through a tile.
 ///
 /// The elements must be read as items of the monoid. The result is as long as they are. Source: Blelloch's prescan.
-pub fn scan_readings<R, A, M, X, E>(
-    rt: &R,
-    alloc: A,
-    config: Config,
-    a: &[X],
-) -> Result<Vec<M::Item, A>, NoResources>
-where
-    R: Threads + Sync,
-    A: Memory,
-    M: Packed + Send + Sync,
-    M::Item: Send + Sync,
-    X: Copy + Send + Sync,
-    E: Reading<X, M::Item> + Send + Sync,
-    requires items { AllPass (λ x. M.is_item (E.item x)) a.now }
-    ensures values { IfOk result (λ sums. sums.items ≡ scan_of M.join M.unit (map E.item a.now)) }
-    ensures as_long { IfOk result (λ sums. vec_len sums ≡ length a.now) }
-{
-    scan_readings_gated::<R, A, M, X, E, OpenGate>(rt, alloc, config, a, &OpenGate)
-}
-
-/// The same as [`scan_readings`], by workers that pass a gate at each point of their way through a tile.
 pub fn scan_readings_gated<R, A, M, X, E, G>(
     rt: &R,
     alloc: A,
@@ -99,10 +79,15 @@ where
 {
     know_laws::<M>();
     let Some(pace) = scan_pace(config, a.len()) else {
-        return scan_readings_from::<M, X, E, A>(alloc, M::unit(), a);
+        return scan_vec::<M, X, E, A>(alloc, M::unit(), a);
     };
-    let flat = Flat::<M, X, E>::new(a, pace.tile());
-    let sums = scan_in_tiles(rt, alloc, pace, &flat, gate)?;
+    let vector = Tiled::<M, X, E, A>::new(a, None, pace.tile());
+    let before = race_for_befores(rt, alloc, pace, &vector, gate)?;
+    let known = Known {
+        vector: &vector,
+        before: &before,
+    };
+    let sums = scan_known(rt, alloc, pace, &known)?;
     Ok(sums)
 }
 
@@ -143,10 +128,16 @@ where
     ensures as_long { IfOk result (λ sums. vec_len sums ≡ length a.now) }
 {
     let Some(pace) = scan_pace(config, a.len()) else {
-        return seg_scan_alone::<M, A>(alloc, a, d);
+        return seg_scan_vec::<M, A, A>(alloc, a, d);
     };
+    know_laws::<M>();
     check_total(a, d)?;
-    let vector = Segmented::<M, M::Item, Itself, A>::new(a, d, pace.tile());
-    let sums = scan_in_tiles(rt, alloc, pace, &vector, gate)?;
+    let vector = Tiled::<M, M::Item, Itself, A>::new(a, Some(d), pace.tile());
+    let before = race_for_befores(rt, alloc, pace, &vector, gate)?;
+    let known = Known {
+        vector: &vector,
+        before: &before,
+    };
+    let sums = scan_known(rt, alloc, pace, &known)?;
     Ok(sums)
 }

@@ -2,12 +2,20 @@ use Rattle.std.proofs.Common.{◌≡◌, arith, length, map, ap, ◌∙◌}
 use Rattle.std.proofs.lemmas.List.{length-map}
 use Rattle.cvl_base.specs.Folds.{scan_of}
 use Rattle.operators.proofs.FoldLaws.{length-scan_of}
+use Rattle.scan_walks.specs.Ranges.{range_scan_of}
+use Rattle.tile_scans.specs.TiledSums.{flagged}
+use Rattle.tile_scans.proofs.RangeScans.{continued_range_scan}
 use Rattle.tile_scans.proofs.scans.scan_readings_gated.Goals as goal
 
 pub returns-clause-values : goal.returns-clause-values
 returns-clause-values g c =
     let m = g.M.Monoid in
-    c.in_ok-sums.ensures ∙ ap (λ ys. scan_of m.join m.unit (map g.E.Reading.item ys)) c.new-flat.ensures.elements
+    let item = g.E.Reading.item in
+    let v = c.new-vector.result in
+    c.in_ok-sums.ensures
+    ∙ ap (λ s. range_scan_of m.join m.unit m.unit (flagged s (map item v.elements.now))) c.new-vector.ensures.segments
+    ∙ continued_range_scan m.join m.unit m.unit (map item v.elements.now)
+    ∙ ap (λ ys. scan_of m.join m.unit (map item ys)) c.new-vector.ensures.elements
 
 pub returns-clause-as_long : goal.returns-clause-as_long
 returns-clause-as_long g c =

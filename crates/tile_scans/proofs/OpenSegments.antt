@@ -1,0 +1,42 @@
+-- Which segments are open at a place of a segmented vector, and what stands before the place then.
+use Rattle.std.proofs.Common.{◌≡◌, ℕ, suc, ◌+◌, ◌-◌, ◌<◌, ◌≤◌, Bool, List, [], ◌∷◌, length, take, drop, slice_range, refl, ap, ◌∙◌, arith}
+use Rattle.std.specs.List.{AllPass}
+use Rattle.std.proofs.lemmas.List.Sums.{sum_by_more}
+use Rattle.cvl_base.specs.Folds.{fold_of}
+use Rattle.cvl_base.specs.Monoid.{MonoidLaws}
+use Rattle.cvl_base.specs.SegmentMonoid.{seg_unit, seg_join}
+use Rattle.segdes.specs.Starts.{start_of}
+use Rattle.scan_walks.specs.Ranges.{with_starts, reduces_of, IsOpenAt}
+use Rattle.scan_walks.proofs.LastStart.{started_range_summed}
+use Rattle.tile_scans.proofs.RangeScans.{with_starts-take}
+
+pub length-reduces_of : {Item : Type 0} (join : Item → Item → Item) (unit : Item) (lengths : List ℕ) (xs : List Item) → length (reduces_of join unit lengths xs) ≡ length lengths
+length-reduces_of join unit [] xs = refl
+length-reduces_of join unit (n ∷ ls) xs = ap suc (length-reduces_of join unit ls (drop n xs))
+
+module _ {Item : Type 0} {is_item : Item → Bool} {unit : Item} {join : Item → Item → Item} (laws : MonoidLaws is_item unit join) (lengths : List ℕ) (xs : List Item) (items : AllPass is_item xs) where
+  -- what stands before a place inside of segment s, or at its end, is what the segment's elements before the place join to
+  pub since_start : (place s : ℕ) → place ≤ length xs → s < length lengths → start_of lengths s < place → place ≤ start_of lengths (s + 1)
+      → (fold_of (seg_join join) (seg_unit unit) (take place (with_starts lengths xs))).1 ≡ fold_of join unit (slice_range xs (start_of lengths s) place)
+  since_start place s within lt begins ends =
+      ap (λ range. (fold_of (seg_join join) (seg_unit unit) range).1) (with_starts-take lengths xs place)
+      ∙ ap (λ w. w.1) (started_range_summed laws lengths xs (seg_unit unit) 0 place s within lt (omega arith) begins ends items)
+
+  -- so the segment is open there
+  pub is_open : (place s : ℕ) (before : Item) → place ≤ length xs → s < length lengths → start_of lengths s < place → place ≤ start_of lengths (s + 1)
+      → before ≡ (fold_of (seg_join join) (seg_unit unit) (take place (with_starts lengths xs))).1 → IsOpenAt join unit lengths xs s place before
+  is_open place s before within lt begins ends is = record {
+    begun = omega (arith, begins);
+    not_past = ends;
+    before_is = is ∙ since_start place s within lt begins ends;
+  }
+
+-- each segment is open where it starts
+pub open_at_start : {Item : Type 0} (join : Item → Item → Item) (unit : Item) (lengths : List ℕ) (xs : List Item) (s p : ℕ) (u : Item) → s < length lengths → p ≡ start_of lengths s → u ≡ unit
+    → IsOpenAt join unit lengths xs s p u
+open_at_start join unit lengths xs s p u lt is is_unit =
+    record {
+      begun = omega (arith, is);
+      not_past = omega (arith, is, sum_by_more (λ x. x) lengths s 0 lt);
+      before_is = is_unit ∙ (let none : 0 ≡ p - start_of lengths s = omega (arith, is) in ap (λ n. fold_of join unit (take n (drop (start_of lengths s) xs))) none);
+    }

@@ -1,0 +1,27 @@
+use Rattle.std.proofs.Common.{◌<◌, arith, false, map, sym, ap, slice_range, ◌∙◌}
+use Rattle.std.specs.Option.{option_copied}
+use Rattle.cvl_base.specs.Folds.{fold_of}
+use Rattle.cvl_base.specs.SegmentMonoid.{seg_join}
+use Rattle.tile_plan.specs.Ranges.{tile_count}
+use Rattle.tile_scans.specs.TiledSums.{flagged}
+use Rattle.tile_scans.proofs.SumsOfTiles.{length-sums_of, sum_at}
+use Rattle.tile_scans.proofs.tiled.TiledTiles.sum.Goals as goal
+
+pub range-from-requires : goal.range-from-requires
+range-from-requires g c =
+    let m = g.M.Monoid in
+    let v = c.args.self.now in
+    omega (arith, c.requires, length-sums_of m.join m.unit v.plan.0 v.plan.1 (flagged (option_copied v.segments) (map g.E.Reading.item v.elements.now)))
+
+pub returns : goal.returns
+returns g c =
+    let m = g.M.Monoid in
+    let v = c.args.self.now in
+    let ws = flagged (option_copied v.segments) (map g.E.Reading.item v.elements.now) in
+    let t = c.args.t in
+    let range = c.range-from.result in
+    let below : t < tile_count v.plan.0 v.plan.1 = omega (arith, c.requires, length-sums_of m.join m.unit v.plan.0 v.plan.1 ws) in
+    c.sum_between.ensures
+    ∙ ap (λ u. fold_of (seg_join m.join) (false, u) (slice_range ws range.0 range.1)) c.unit.ensures
+    ∙ ap (λ r. fold_of (seg_join m.join) (false, m.unit) (slice_range ws r.0 r.1)) c.range-from.ensures.value
+    ∙ sym (sum_at m.join m.unit v.plan.0 v.plan.1 ws t below)

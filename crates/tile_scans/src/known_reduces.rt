@@ -1,0 +1,116 @@
+//! The reduces of segments, written in runs once it is known what stands before each tile.
+
+ghost use Rattle.std.specs.Prelude.{◌≡◌, ◌≤◌, IfOk, Some, map};
+ghost use Rattle.std.specs.Option.{option_copied};
+ghost use Rattle.scan_walks.specs.Ranges.{reduces_of};
+
+use crate::known::Known;
+use crate::steps::{Steps, write_in_steps};
+use cvl_base::monoid::know_laws;
+use cvl_base::{Config, Memory, NoResources, Packed};
+use fresh::{Run, Writer, write_in_runs};
+use scan_walks::{Reading, seg_reduces_into};
+use segdes::SegDes;
+use sharing::threads_for;
+use std::alloc::Allocator;
+use std::thread::Threads;
+
+/// The reduces of the segments of a vector that is not empty, of which it is known what stands before each tile.
+#[derive(Drop)]
+struct KnownReduces<'a, M: Packed, X: Copy, E: Reading<X, M::Item>, A: Allocator> {
+    known: &'a Known<'a, M, X, E, A>,
+    segments: &'a SegDes<A>,
+    ghost cut: { option_copied known.now.vector.now.segments ≡ Some segments.now },
+    ghost filled: { 1 ≤ known.now.vector.now.plan.0 },
+}
+
+/// The reduces of the segments of a vector that is not empty, of which it is known what stands before each tile. They are
+/// written in runs, by several threads where the vector is long.
+pub(crate) fn reduces_known<R, A, M, X, E>(
+    rt: &R,
+    alloc: A,
+    config: Config,
+    known: &Known<M, X, E, A>,
+    segments: &SegDes<A>,
+) -> Result<Vec<M::Item, A>, NoResources>
+where
+    R: Threads + Sync,
+    A: Memory,
+    M: Packed + Send + Sync,
+    M::Item: Send + Sync,
+    X: Copy + Send + Sync,
+    E: Reading<X, M::Item> + Send + Sync,
+    requires cut { option_copied known.now.vector.now.segments ≡ Some segments.now }
+    requires filled { 1 ≤ known.now.vector.now.plan.0 }
+    ensures { IfOk result (λ sums. sums.items
+        ≡ reduces_of M.join M.unit segments.now (map E.item known.now.vector.now.elements.now)) }
+{
+    let reduces = KnownReduces { known, segments };
+    let count = segments.count();
+    let threads = threads_for(config, known.vector.elements.len().max(count));
+    let sums = write_in_runs(rt, alloc, threads, &reduces, count)?;
+    Ok(sums)
+}
+
+impl<'a, M: Packed, X: Copy, E: Reading<X, M::Item>, A: Allocator> Steps<M::Item>
+    for KnownReduces<'a, M, X, E, A> {
+    ghost use Rattle.std.specs.Prelude.{◌+◌, ◌<◌, ◌≤◌, length, map};
+    ghost use Rattle.scan_walks.specs.Ranges.{reduces_of};
+    ghost use Rattle.tile_scans.specs.Written.{IsWrittenOn, next_of};
+
+    ghost whole = { λ reduces. reduces_of M.join M.unit reduces.segments.now
+        (map E.item reduces.known.now.vector.now.elements.now) };
+
+    /// The step goes through the segments that end in the same tile as the next one. Of that one only the elements in the tile
+    /// are read, since it is known what stands before them.
+    fn write_on(&self, run: Run<M::Item>) -> Run<M::Item>
+        requires some { 0 < run.room }
+        requires within { next_of run + run.room ≤ length (reduces_of M.join M.unit self.now.segments.now
+            (map E.item self.now.known.now.vector.now.elements.now)) }
+        ensures { IsWrittenOn (reduces_of M.join M.unit self.now.segments.now
+            (map E.item self.now.known.now.vector.now.elements.now)) run result }
+    {
+        know_laws::<M>();
+        let (elements, plan, segments) = (
+            self.known.vector.elements,
+            self.known.vector.plan,
+            self.segments,
+        );
+        let first = run.next_place();
+        let start = segments.start(first);
+        let end = start + segments.length(first);
+        let t = plan.tile_at(end.max(1) as u32 - 1);
+        let (from, to) = plan.range(t);
+        let from = from as usize;
+        let ended = segments.starts_before(to as usize).saturating_sub(1);
+        let next = ended.max(first + 1).min(first + run.room());
+        if start < from {
+            let before = self.known.before_place(t, from);
+            return seg_reduces_into::<M, X, E, A>(
+                run, elements, segments, first, next, from, before,
+            );
+        }
+        seg_reduces_into::<M, X, E, A>(run, elements, segments, first, next, start, M::unit())
+    }
+}
+
+impl<'a, M: Packed, X: Copy, E: Reading<X, M::Item>, A: Allocator> Writer<M::Item>
+    for KnownReduces<'a, M, X, E, A> {
+    ghost use Rattle.std.specs.Prelude.{◌≡◌, ◌+◌, ◌≤◌, [], length, map};
+    ghost use Rattle.fresh.specs.Parts.{part};
+    ghost use Rattle.fresh.specs.Places.{stretch};
+    ghost use Rattle.scan_walks.specs.Ranges.{reduces_of};
+
+    ghost whole = { λ reduces. reduces_of M.join M.unit reduces.segments.now
+        (map E.item reduces.known.now.vector.now.elements.now) };
+
+    fn write(&self, run: Run<M::Item>) -> Run<M::Item>
+        requires empty { run.items ≡ [] }
+        requires within { run.first + run.room ≤ length (reduces_of M.join M.unit self.now.segments.now
+            (map E.item self.now.known.now.vector.now.elements.now)) }
+        ensures { result ≡ stretch run.block run.first (part (reduces_of M.join M.unit
+            self.now.segments.now (map E.item self.now.known.now.vector.now.elements.now)) run.first run.room) 0 }
+    {
+        write_in_steps(self, run)
+    }
+}

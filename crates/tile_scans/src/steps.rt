@@ -1,0 +1,32 @@
+//! Runs that are written some places at a time.
+
+ghost use Rattle.std.specs.Prelude.{◌≡◌, ◌+◌, ◌<◌, ◌≤◌, [], List, length};
+ghost use Rattle.fresh.specs.Parts.{part};
+ghost use Rattle.fresh.specs.Places.{stretch};
+ghost use Rattle.tile_scans.specs.Written.{IsWrittenOn, next_of};
+
+use fresh::Run;
+
+/// What is written in steps. Its meaning is the list of all the items.
+pub(crate) trait Steps<T> {
+    ghost whole: { Self → List T };
+
+    /// Writes the run's next place, and those behind it as far as one step goes.
+    fn write_on(&self, run: Run<T>) -> Run<T>
+        requires some { 0 < run.room }
+        requires within { next_of run + run.room ≤ length (whole self.now) }
+        ensures { IsWrittenOn (whole self.now) run result };
+}
+
+/// Writes all places of an empty run, step by step.
+pub(crate) fn write_in_steps<T, S: Steps<T>>(steps: &S, run: Run<T>) -> Run<T>
+    requires empty { run.items ≡ [] }
+    requires within { run.first + run.room ≤ length (S.whole steps.now) }
+    ensures { result ≡ stretch run.block run.first (part (S.whole steps.now) run.first run.room) 0 }
+{
+    let mut run = run;
+    while run.room() > 0 {
+        run = steps.write_on(run);
+    }
+    run
+}
