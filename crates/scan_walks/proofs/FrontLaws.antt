@@ -49,10 +49,6 @@ module _ (n i : ℕ) (so_far : ℤ) (xs : List ℤ) (is : n ≡ i + fitting_fron
   pub front_stops : i < length xs → fitting so_far ≡ None → i ≡ n
   front_stops lt fits = let more = begun false lt (fitting-fails so_far fits) in omega (arith, more)
 
-  pub front_ends : length xs ≤ i → i ≡ n
-  front_ends past =
-      let none = is ∙ ap (λ ys. i + fitting_front (scan_of ◌+ℤ◌ so_far ys)) (drop_all i xs past) in omega (arith, none)
-
 -- ---- lists one after another
 
 within_front : (b : Bool) (zs ys : List ℤ) (n : ℕ) → cond b (1 + fitting_front zs) 0 < 1 + n → (fitting_front zs < n → fitting_front (zs ++ ys) ≡ fitting_front zs)

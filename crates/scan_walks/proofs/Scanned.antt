@@ -1,5 +1,5 @@
 -- Scans that begin after what stands before them.
-use Rattle.std.proofs.Common.{◌≡◌, ℕ, ◌+◌, ◌<◌, ◌≤◌, List, [], ◌∷◌, ◌++◌, length, take, drop, map, get_or, append_assoc, refl, sym, ap, ◌∙◌, arith}
+use Rattle.std.proofs.Common.{◌≡◌, ℕ, ◌+◌, ◌<◌, ◌≤◌, List, [], ◌∷◌, ◌++◌, length, take, drop, map, get_or, refl, sym, ap, ◌∙◌, arith}
 use Rattle.std.proofs.lemmas.List.{drop-map, get_or-map, length-map, take-map, take_all, take_more}
 use Rattle.std.proofs.lemmas.List.Sums.{fold_more}
 use Rattle.cvl_base.specs.Folds.{fold_of, fronts, scan_of}
@@ -31,17 +31,6 @@ module _ {Item : Type 0} (join : Item → Item → Item) where
   pub scan_of_more : (before : Item) (xs : List Item) (i : ℕ) (other : Item) → i < length xs → scan_of join before (take (i + 1) xs)
       ≡ scan_of join before (take i xs) ++ fold_of join before (take i xs) ∷ []
   scan_of_more before xs i other within = ap (scan_of join before) (take_more xs i other within) ∙ scan_of_push before (take i xs) (get_or xs i other)
-
-  -- the same where the sums are pushed onto others
-  pub pushed_more : (start sums pushed : List Item) (before sum : Item) (xs : List Item) (i : ℕ) → i < length xs
-      → sums ≡ start ++ scan_of join before (take i xs) → sum ≡ fold_of join before (take i xs) → pushed ≡ sums ++ sum ∷ []
-      → pushed ≡ start ++ scan_of join before (take (i + 1) xs)
-  pushed_more start sums pushed before sum xs i within is is_sum grown =
-      grown
-      ∙ ap (λ s. s ++ sum ∷ []) is
-      ∙ ap (λ x. (start ++ scan_of join before (take i xs)) ++ x ∷ []) is_sum
-      ∙ append_assoc start (scan_of join before (take i xs)) (fold_of join before (take i xs) ∷ [])
-      ∙ ap (λ tail. start ++ tail) (sym (scan_of_more before xs i before within))
 
   -- the step of the sum itself
   pub joined_more : (before sum x next : Item) (xs : List Item) (i : ℕ) → i < length xs → x ≡ get_or xs i x → sum ≡ fold_of join before (take i xs) → next ≡ join sum x

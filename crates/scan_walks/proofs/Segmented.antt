@@ -1,12 +1,9 @@
 -- The scans and reduces of segments, where the lengths fit the elements and where they don't.
-use Rattle.std.proofs.Common.{◌≡◌, ℕ, ◌+◌, List, [], ◌∷◌, length, map, refl, ap, ◌∙◌, inl, inr, Ok, Err}
-use Rattle.std.specs.Prelude.{not, sum}
-use Rattle.std.proofs.lemmas.Bool.Decides.{eqb_tells}
+use Rattle.std.proofs.Common.{◌≡◌, ℕ, ◌+◌, List, [], ◌∷◌, length, map, refl, ap, ◌∙◌, Ok, Err}
+use Rattle.std.specs.Prelude.{sum}
 use Rattle.cvl_base.specs.declared.fault.Fault.{Fault}
-use Rattle.cvl_base.specs.declared.fault.FaultNo.TheVariants as no
-use Rattle.cvl_base.specs.Faults.{fault}
 use Rattle.cvl_base.specs.Folds.{fold_of, scan_of}
-use Rattle.cvl_base.specs.Gives.{◌>>=◌, fault_if}
+use Rattle.cvl_base.specs.Gives.{◌>>=◌}
 use Rattle.cvl_base.specs.Lists.{joined}
 use Rattle.cvl_base.specs.Nests.{cut_of, nest}
 use Rattle.cvl_base.specs.Segmented.{in_vector, results_from, one_each, end_to_end}

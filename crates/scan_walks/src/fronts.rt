@@ -7,7 +7,6 @@ ghost use Rattle.scan_walks.specs.Fronts.{fitting_front};
 ghost use Rattle.scan_walks.specs.Ranges.{range_between, range_scan_of, scans_of};
 
 use crate::blocks::{BLOCK, sum_of_block, sum_one_by_one};
-use crate::ranges::start_or_total;
 use segdes::SegDes;
 use std::alloc::Allocator;
 
@@ -77,7 +76,7 @@ pub fn fitting_of_range<A: Allocator>(
 {
     let first = d.starts_before(from);
     let next = d.starts_before(to);
-    let start = start_or_total(d, first);
+    let start = d.start_or_total(first);
     let (front, rest) = a[from..to].split_at(start.min(to) - from);
     let fitting = fitting_of_scan(before, front);
     if fitting < front.len() {

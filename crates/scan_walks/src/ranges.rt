@@ -8,7 +8,6 @@ ghost use Rattle.std.specs.List.{AllPass};
 ghost use Rattle.cvl_base.specs.Descriptors.{AreLengths};
 ghost use Rattle.cvl_base.specs.Folds.{fold_of};
 ghost use Rattle.cvl_base.specs.SegmentMonoid.{seg_join};
-ghost use Rattle.segdes.specs.Starts.{start_of};
 ghost use Rattle.scan_walks.specs.Ranges.{IsOpenAt, reduces_of, range_between, range_scan_of, scans_of};
 ghost use Rattle.fresh.specs.Places.{with_items};
 
@@ -19,14 +18,6 @@ use cvl_base::{Monoid, NoResources};
 use fresh::{Room, Run};
 use segdes::SegDes;
 use std::alloc::Allocator;
-
-/// Where a segment starts, and the total where the segments end.
-pub(crate) fn start_or_total<A: Allocator>(d: &SegDes<A>, s: usize) -> usize
-    requires { s ≤ length d.now }
-    ensures { result ≡ start_of d.now s }
-{
-    if s < d.count() { d.start(s) } else { d.total() }
-}
 
 /// Writes the scans of the segments with these lengths, one after another, of what the elements are read as. The
 /// segments have all of the elements, and the last may be cut short by the end of the elements. The run must have room
@@ -168,7 +159,7 @@ pub fn scan_range_into<M: Monoid, X: Copy, E: Reading<X, M::Item>, A: Allocator>
     know_laws::<M>();
     let first = d.starts_before(from);
     let next = d.starts_before(to);
-    let start = start_or_total(d, first);
+    let start = d.start_or_total(first);
     let (front, rest) = a[from..to].split_at(start.min(to) - from);
     let run = scan_into::<M, X, E>(run, before, front);
     scans_into::<M, X, E>(run, &d.lengths()[first..next], rest)

@@ -1,4 +1,4 @@
-use Rattle.std.proofs.Common.{◌≡◌, ◌∙◌, Err, ap, pos, sym}
+use Rattle.std.proofs.Common.{◌∙◌, Err, ap, pos, sym}
 use Rattle.cvl_base.specs.Integers.{sum_of}
 use Rattle.scan_walks.specs.Fronts.{fitting_front}
 use Rattle.scan_walks.proofs.Cut.{whole_scanned}

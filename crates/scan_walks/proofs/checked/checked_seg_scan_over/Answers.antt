@@ -1,4 +1,4 @@
-use Rattle.std.proofs.Common.{◌≡◌, ◌∙◌, Err, ap, length, refl, subst, sym}
+use Rattle.std.proofs.Common.{length, subst, sym}
 use Rattle.cvl_base.specs.Rooms.{Overwrites, in_room}
 use Rattle.scan_walks.proofs.checked.checked_seg_scan_over.Goals as goal
 

@@ -1,4 +1,4 @@
-use Rattle.std.proofs.Common.{◌≡◌, subst, sym}
+use Rattle.std.proofs.Common.{subst, sym}
 use Rattle.cvl_base.specs.Gives.{Gives}
 use Rattle.scan_walks.proofs.checked.checked_seg_scan_vec.Goals as goal
 
