@@ -1,17 +1,17 @@
--- Scripts by their calls: once each line is read, a script is its calls, one after the other.
-use Rattle.std.proofs.Common.{◌≡◌, ℕ, List, [], ◌∷◌, map, refl, ap, ◌∙◌, Some, None, Option, Ok, Err, Result}
+-- Scripts by their calls: once each line is read, the names that a script leaves are those after its calls.
+use Rattle.std.proofs.Common.{◌≡◌, ℕ, ◌+◌, List, [], ◌∷◌, map, refl, ap, ◌∙◌, Some, None, Option, Ok, Err, Result}
 use Rattle.cvl_base.specs.declared.fault.Fault.{Fault}
 use Rattle.cvl_base.specs.declared.call.Arg.{Arg}
 use Rattle.cvl_base.specs.declared.call.Call.{Call}
 use Rattle.cvl_base.specs.declared.call.Targets.TheVariants as targets
 use Rattle.cvl_base.specs.declared.operation.Op.{Op}
 use Rattle.cvl_base.specs.declared.value.Value.{Value}
-use Rattle.cvl_base.specs.Gives.{◌>>=◌}
+use Rattle.cvl_base.specs.Gives.{◌>>=◌, unless}
 use Rattle.call_reader.specs.Lines.{call_of}
 use Rattle.vector_handles.specs.declared.input.Input.{Input}
 use Rattle.vector_handles.specs.Names.{Entries}
 use Rattle.vector_handles.specs.Steps.{Stepped, step}
-use Rattle.recipes.specs.Recipes.{names_after, names_after_call}
+use Rattle.script_runs.specs.Meaning.{after_line, call_step, from_line, names_after_line, names_left, stop_fault}
 
 -- where a definition goes on after another without a fault, the first has a value
 pub value_of : {X Y : Type 0} (first : Result X Fault) (next : X → Result Y Fault) (y : Y) → (first >>= next) ≡ Ok y → (x : X) × (first ≡ Ok x) × (next x ≡ Ok y)
@@ -23,25 +23,45 @@ module _ {A : Type 0} where
   abbrev pub binds : List ℕ → Op → List Arg → Call A
   binds target op args = record { targets = targets.One target; op = op; args = args }
 
-  -- a line that is this call
-  abbrev pub reads_as : Call A → Result (Option (Call A)) Fault
-  reads_as call = Ok (Some call)
+  -- lines that are these calls, and an empty line after the last line feed
+  abbrev pub reads_all : List (Call A) → List (Result (Option (Call A)) Fault)
+  reads_all [] = Ok None ∷ []
+  reads_all (call ∷ calls) = Ok (Some call) ∷ reads_all calls
 
   abbrev pub names_after_calls : Entries A → List (Input A) → List (Call A) → Result (Entries A) Fault
   names_after_calls names inputs [] = Ok names
   names_after_calls names inputs (call ∷ others) =
       (step names inputs call >>= λ stepped. Ok stepped.names) >>= λ after. names_after_calls after inputs others
 
-  pub by_calls : (names : Entries A) (inputs : List (Input A)) (lines : List (List ℕ)) (calls : List (Call A)) → map call_of lines ≡ map reads_as calls → names_after names inputs lines
-      ≡ names_after_calls names inputs calls
-  by_calls names inputs [] [] is = refl
-  by_calls names inputs [] (call ∷ calls) is = cc
-  by_calls names inputs (line ∷ lines) [] is = cc
-  by_calls names inputs (line ∷ lines) (call ∷ calls) is =
+  -- the names that the lines from a number on leave
+  abbrev left_from : ℕ → Entries A → List (Input A) → List (List ℕ) → Result (Entries A) Fault
+  left_from number names inputs lines = unless (stop_fault (from_line number names inputs lines)) (Ok (names_left names inputs lines))
+
+  -- likewise, where the first line is read as this
+  abbrev left_reading : ℕ → Entries A → List (Input A) → List (List ℕ) → Result (Option (Call A)) Fault → Result (Entries A) Fault
+  left_reading number names inputs others read =
+      unless (stop_fault (after_line number (read >>= call_step names inputs) (λ after. from_line (number + 1) after inputs others)))
+      (Ok (names_after_line names (read >>= call_step names inputs) (λ after. names_left after inputs others)))
+
+  first_call : (number : ℕ) (names : Entries A) (inputs : List (Input A)) (others : List (List ℕ)) (stepped : Result (Stepped A) Fault) →
+      unless (stop_fault (after_line number stepped (λ after. from_line (number + 1) after inputs others))) (Ok (names_after_line names stepped (λ after. names_left after inputs others)))
+      ≡ ((stepped >>= λ s. Ok s.names) >>= λ after. left_from (number + 1) after inputs others)
+  first_call number names inputs others (Ok stepped) = refl
+  first_call number names inputs others (Err f) = refl
+
+  pub by_calls : (number : ℕ) (names : Entries A) (inputs : List (Input A)) (lines : List (List ℕ)) (calls : List (Call A)) → map call_of lines ≡ reads_all calls
+      → left_from number names inputs lines ≡ names_after_calls names inputs calls
+  by_calls number names inputs [] [] is = cc
+  by_calls number names inputs [] (call ∷ calls) is = cc
+  by_calls number names inputs (line ∷ []) [] is =
+      let first : call_of line ≡ Ok None = cc in ap (left_reading number names inputs []) first
+  by_calls number names inputs (line ∷ next ∷ others) [] is = cc
+  by_calls number names inputs (line ∷ others) (call ∷ calls) is =
       let first : call_of line ≡ Ok (Some call) = cc in
-      let others : map call_of lines ≡ map reads_as calls = cc in
-      ap (λ r. (r >>= names_after_call names inputs) >>= λ after. names_after after inputs lines) first
-      ∙ (λ i. (step names inputs call >>= λ stepped. Ok stepped.names) >>= λ after. by_calls after inputs lines calls others i)
+      let later : map call_of others ≡ reads_all calls = cc in
+      ap (left_reading number names inputs others) first
+      ∙ first_call number names inputs others (step names inputs call)
+      ∙ (λ i. (step names inputs call >>= λ stepped. Ok stepped.names) >>= λ after. by_calls (number + 1) after inputs others calls later i)
 
   abbrev after_binding : (Value A → Entries A) → Value A → Result (Stepped A) Fault
   after_binding bound v = Ok (record { names = bound v; shown = None })

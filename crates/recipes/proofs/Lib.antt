@@ -2,7 +2,6 @@ mod Answered
 mod Calls
 mod Fractions
 mod Greatest
-mod Lines
 mod ProductBound
 mod ProductScript
 mod RowProducts

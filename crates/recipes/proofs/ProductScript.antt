@@ -1,6 +1,5 @@
 -- What the script of the sparse product means: its four calls, one after the other.
 use Rattle.std.proofs.Common.{◌≡◌, ℕ, List, [], ◌∷◌, codes, map, pos, ℤ, refl, sym, ap, ◌∙◌, Ok, Result}
-use Rattle.std.specs.Str.Lines.{lines}
 use Rattle.cvl_base.specs.declared.fault.Fault.{Fault}
 use Rattle.cvl_base.specs.declared.call.Arg.{Arg}
 use Rattle.cvl_base.specs.declared.call.Arg.TheVariants as arg
@@ -24,9 +23,10 @@ use Rattle.call_reader.specs.Lines.{call_of}
 use Rattle.vector_handles.specs.declared.input.Input.{Input}
 use Rattle.vector_handles.specs.declared.input.Input.TheVariants as input
 use Rattle.vector_handles.specs.Names.{Entries, bind, value_at}
+use Rattle.script_runs.specs.Meaning.{lines_of}
 use Rattle.recipes.specs.declared.scripts.TheConstants.{SPARSE_MATVEC}
-use Rattle.recipes.specs.Recipes.{names_after, HasIntegers}
-use Rattle.recipes.proofs.Calls.{binds, reads_as, names_after_calls, by_calls, may_go_on, value_of}
+use Rattle.recipes.specs.Recipes.{names_bound, HasIntegers}
+use Rattle.recipes.proofs.Calls.{binds, reads_all, names_after_calls, by_calls, may_go_on, value_of}
 
 abbrev on_names : List (List ℕ) → List Arg
 on_names names = map arg.Name names
@@ -54,7 +54,7 @@ module _ {A : Type 0} where
       ∷ binds (codes "d") op.MakeDescriptor (on_names (codes "lens" ∷ []))
       ∷ from_permute
 
-  pub read : map call_of (lines SPARSE_MATVEC.now) ≡ map reads_as calls
+  pub read : map call_of (lines_of SPARSE_MATVEC.now) ≡ reads_all calls
   unfolding op_of int_binaries unaries comparisons bool_binaries int_monoids forms elements
   read = refl
 
@@ -101,14 +101,14 @@ module _ {A : Type 0} where
         may_go_on (back_of x cols) (λ g. value.Integers g) (bind (with_rows d) (codes "g")) inputs from_product
         ∙ (λ i. back_of x cols >>= λ g. products_are d g i)
 
-    pub meaning_is : names_after [] inputs (lines SPARSE_MATVEC.now) ≡ (descriptor_of lens >>= gathered)
+    pub meaning_is : names_bound SPARSE_MATVEC.now inputs ≡ (descriptor_of lens >>= gathered)
     meaning_is =
-        by_calls [] inputs (lines SPARSE_MATVEC.now) calls read
+        by_calls 1 [] inputs (lines_of SPARSE_MATVEC.now) calls read
         ∙ may_go_on (descriptor_of lens) (λ d. value.Descriptor d) (bind with_inputs (codes "d")) inputs from_permute
         ∙ (λ i. descriptor_of lens >>= λ d. gathered_are d i)
 
     -- where the script has no fault, each of its calls has a value
-    pub binds_integers : (names : Entries A) → names_after [] inputs (lines SPARSE_MATVEC.now) ≡ Ok names → HasIntegers names (codes "y")
+    pub binds_integers : (names : Entries A) → names_bound SPARSE_MATVEC.now inputs ≡ Ok names → HasIntegers names (codes "y")
     binds_integers names is =
         let d = value_of (descriptor_of lens) gathered names (sym meaning_is ∙ is) in
         let g = value_of (back_of x cols) (products d.0) names d.2 in

@@ -4,7 +4,6 @@ use Rattle.std.proofs.Common.{◌≡◌, refl, sym, ap, ◌∙◌, ℕ, zero, su
 use Rattle.std.specs.Prelude.{int_lt, ◌<ℤ◌, ◌&&◌, not, unwrap_or, unsigned_abs}
 use Rattle.std.specs.Int.{is_negative}
 use Rattle.std.specs.List.{list_all, range_with_len, AllPass}
-use Rattle.std.specs.Str.Lines.{lines}
 use Rattle.std.proofs.lemmas.Bool.{false≢true, le-ltb, ltb-true}
 use Rattle.std.proofs.lemmas.Int.{ints}
 use Rattle.std.proofs.lemmas.List.Elements.{All-head, All-tail}
@@ -16,7 +15,7 @@ use Rattle.cvl_base.specs.Limits.{most_elements}
 use Rattle.vector_handles.specs.declared.input.Input.TheVariants as input
 use Rattle.vector_handles.specs.Names.{Entries, value_at}
 use Rattle.recipes.specs.declared.scripts.TheConstants.{LINE_OF_SIGHT}
-use Rattle.recipes.specs.Recipes.{HasBooleans, bound_by, names_after}
+use Rattle.recipes.specs.Recipes.{HasBooleans, bound_by, names_bound}
 use Rattle.recipes.specs.Visibility.{AreExact, is_altitude, is_steeper, is_visible, visible_of, rise}
 use Rattle.recipes.proofs.Fractions.{floors_as_fractions}
 use Rattle.recipes.proofs.Greatest.{greatest_less, less_true}
@@ -87,7 +86,7 @@ module _ {A : Type 0} where
       ap (λ r. r >>= λ names. Ok (value_at names (codes "v"))) (seen a (values a exact.some few))
       ∙ ap (λ bs. Ok (Some (value.Booleans bs))) (sight_is a exact.some few ∙ flags_are a exact)
 
-  pub binds_booleans : (a : List ℤ) → length a ≤ most_elements → (names : Entries A) → names_after [] (input.Vector a ∷ []) (lines LINE_OF_SIGHT.now) ≡ Ok names → HasBooleans names (codes "v")
+  pub binds_booleans : (a : List ℤ) → length a ≤ most_elements → (names : Entries A) → names_bound LINE_OF_SIGHT.now (input.Vector a ∷ []) ≡ Ok names → HasBooleans names (codes "v")
   binds_booleans [] few names is = let none = nothing_seen {A = A} in cc
   binds_booleans (h ∷ hs) few names is =
       let w = values (h ∷ hs) (omega arith) few in

@@ -1,6 +1,5 @@
 -- What the script of line of sight means: its calls, one after the other, where each has a value.
 use Rattle.std.proofs.Common.{◌≡◌, ℕ, List, [], ◌∷◌, codes, map, drop, length, pos, negsuc, ℤ, Bool, true, refl, ◌∙◌, Ok, Err}
-use Rattle.std.specs.Str.Lines.{lines}
 use Rattle.cvl_base.specs.declared.fault.FaultNo.TheVariants.{IndexOutOfRange}
 use Rattle.cvl_base.specs.declared.call.Arg.{Arg}
 use Rattle.cvl_base.specs.declared.call.Arg.TheVariants as arg
@@ -24,9 +23,10 @@ use Rattle.call_reader.specs.Lines.{call_of}
 use Rattle.vector_handles.specs.declared.input.Input.{Input}
 use Rattle.vector_handles.specs.declared.input.Input.TheVariants as input
 use Rattle.vector_handles.specs.Names.{Entries, bind}
+use Rattle.script_runs.specs.Meaning.{lines_of}
 use Rattle.recipes.specs.declared.scripts.TheConstants.{LINE_OF_SIGHT}
-use Rattle.recipes.specs.Recipes.{names_after}
-use Rattle.recipes.proofs.Calls.{binds, reads_as, names_after_calls, by_calls, goes_on}
+use Rattle.recipes.specs.Recipes.{names_bound}
+use Rattle.recipes.proofs.Calls.{binds, reads_all, names_after_calls, by_calls, goes_on}
 
 abbrev name : List ℕ → Arg
 name bytes = arg.Name bytes
@@ -68,13 +68,13 @@ module _ {A : Type 0} where
   abbrev after : ℕ → List (Call A)
   after k = drop k calls
 
-  read : map call_of (lines LINE_OF_SIGHT.now) ≡ map reads_as calls
+  read : map call_of (lines_of LINE_OF_SIGHT.now) ≡ reads_all calls
   unfolding op_of int_binaries unaries comparisons bool_binaries int_monoids forms elements
   read = refl
 
   -- no altitude is at fault
-  pub nothing_seen : names_after {A = A} [] (input.Vector [] ∷ []) (lines LINE_OF_SIGHT.now) ≡ Err (fault_at IndexOutOfRange 0)
-  nothing_seen = by_calls [] (input.Vector [] ∷ []) (lines LINE_OF_SIGHT.now) calls read
+  pub nothing_seen : names_bound {A = A} LINE_OF_SIGHT.now (input.Vector [] ∷ []) ≡ Err (fault_at IndexOutOfRange 0)
+  nothing_seen = by_calls 1 [] (input.Vector [] ∷ []) (lines_of LINE_OF_SIGHT.now) calls read
 
 -- the values that the calls give, each from those before it
 pub record Values (a : List ℤ) : Type 0 where
@@ -192,5 +192,5 @@ module _ {A : Type 0} (a : List ℤ) (w : Values a) where
       ∙ goes_on (compare_of compare.Greater w.s (scan_of greater_of least w.s)) w.v0 (λ x. value.Booleans x) (bind n18 (codes "v0")) inputs (after 19) w.v0_is
       ∙ goes_on (replace_of w.v0 (pos 0) true) w.v (λ x. value.Booleans x) (bind n19 (codes "v")) inputs (after 20) w.v_is
 
-  pub seen : names_after [] inputs (lines LINE_OF_SIGHT.now) ≡ Ok n20
-  seen = by_calls [] inputs (lines LINE_OF_SIGHT.now) calls read ∙ to_slopes ∙ to_sight
+  pub seen : names_bound LINE_OF_SIGHT.now inputs ≡ Ok n20
+  seen = by_calls 1 [] inputs (lines_of LINE_OF_SIGHT.now) calls read ∙ to_slopes ∙ to_sight

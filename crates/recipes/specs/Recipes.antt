@@ -1,37 +1,23 @@
--- The meaning of a script that is run for what it binds: its lines, one after the other from no name bound, and then the
--- value of one name. The texts that it writes are dropped.
+-- What a script binds to a name: the value that its lines leave there, or the fault at which its run stops, without the line.
 -- Source: this library's script format.
-use Rattle.std.specs.Prelude.{◌≡◌, ℕ, ℤ, Bool, List, [], ◌∷◌, Option, Some, None, Result, Ok}
-use Rattle.std.specs.Str.Lines.{lines}
-use Rattle.cvl_base.specs.declared.call.Call.{Call}
+use Rattle.std.specs.Prelude.{◌≡◌, ℕ, ℤ, Bool, List, [], Option, Some, Result, Ok}
 use Rattle.cvl_base.specs.declared.fault.Fault.{Fault}
 use Rattle.cvl_base.specs.declared.value.Value.{Value}
 use Rattle.cvl_base.specs.declared.value.Value.TheVariants as value
 use Rattle.cvl_base.specs.declared.refused.Refused.{Refused}
-use Rattle.cvl_base.specs.Gives.{Gives, ◌>>=◌}
-use Rattle.call_reader.specs.Lines.{call_of}
+use Rattle.cvl_base.specs.Gives.{Gives, ◌>>=◌, unless}
 use Rattle.vector_handles.specs.declared.input.Input.{Input}
 use Rattle.vector_handles.specs.Names.{Entries, value_at}
-use Rattle.vector_handles.specs.Steps.{step}
+use Rattle.script_runs.specs.Meaning.{lines_of, meaning, names_left, stop_fault}
 
 module _ {A : Type 0} where
-  -- the names after a call; an empty line has none, and changes nothing
-  abbrev pub names_after_call : Entries A → List (Input A) → Option (Call A) → Result (Entries A) Fault
-  names_after_call names inputs None = Ok names
-  names_after_call names inputs (Some call) = step names inputs call >>= λ stepped. Ok stepped.names
+  -- the names that a script leaves
+  abbrev pub names_bound : List ℕ → List (Input A) → Result (Entries A) Fault
+  names_bound script inputs = unless (stop_fault (meaning script inputs)) (Ok (names_left [] inputs (lines_of script)))
 
-  abbrev pub names_after_line : Entries A → List (Input A) → List ℕ → Result (Entries A) Fault
-  names_after_line names inputs line = call_of line >>= names_after_call names inputs
-
-  -- the names after all lines, or the first fault
-  abbrev pub names_after : Entries A → List (Input A) → List (List ℕ) → Result (Entries A) Fault
-  names_after names inputs [] = Ok names
-  names_after names inputs (line ∷ others) =
-      names_after_line names inputs line >>= λ after. names_after after inputs others
-
-  -- what a script binds to a name, where it has no fault
+  -- what a script binds to a name
   abbrev pub bound_by : List ℕ → List (Input A) → List ℕ → Result (Option (Value A)) Fault
-  bound_by script inputs name = names_after [] inputs (lines script) >>= λ names. Ok (value_at names name)
+  bound_by script inputs name = names_bound script inputs >>= λ names. Ok (value_at names name)
 
   -- the answer, seen by `view` as a value, is what the script binds to the name
   abbrev pub GivesBound : {X : Type 0} → (X → Value A) → Result X Refused → List ℕ → List (Input A) → List ℕ → Type 0

@@ -1,15 +1,15 @@
 //! Runs of a recipe's script.
 
-ghost use Rattle.std.specs.Prelude.{◌≡◌, [], IfOk, IsTrue};
+ghost use Rattle.std.specs.Prelude.{◌≡◌, ◌≤◌, length, IfOk, IsTrue};
 ghost use Rattle.cvl_base.specs.declared.value.Value.TheVariants as value;
 ghost use Rattle.vector_handles.specs.Names.{value_at};
-ghost use Rattle.std.specs.Str.Lines.{lines};
 ghost use Rattle.cvl_base.specs.Gives.{Gives};
+ghost use Rattle.cvl_base.specs.Limits.{most_script_bytes};
 ghost use Rattle.cvl_base.specs.Words.{is_name};
-ghost use Rattle.recipes.specs.Recipes.{HasBooleans, HasIntegers, names_after, names_after_line};
+ghost use Rattle.recipes.specs.Recipes.{HasBooleans, HasIntegers, names_bound};
 
-use call_reader::read_line;
 use cvl_base::{Config, Memory, Name, NoResources, Refused, Value};
+use script_runs::{OpenGate, Sink, SinkFault, Stop, run_lines};
 use std::thread::Threads;
 use vector_handles::{Input, Session};
 
@@ -24,40 +24,22 @@ pub(crate) fn name_of(bytes: &[u8]) -> Name
     }
 }
 
-/// Reads one line and makes its call, if it has one. The text of a write is dropped.
-fn apply_line<R: Threads + Sync, A: Memory>(
-    rt: &R,
-    alloc: A,
-    session: &mut Session<A>,
-    line: &[u8],
-) -> Result<(), Refused>
-    ensures meaning { Gives (λ _. session.new.names) result
-        (names_after_line session.old.names session.old.inputs line.now) }
-    ensures inputs { session.new.inputs ≡ session.old.inputs }
-{
-    if let Some(call) = read_line(alloc, line)? {
-        session.apply(rt, &call)?;
+/// A sink that takes all bytes, keeps none and never fails.
+#[derive(Drop)]
+struct NothingKept;
+
+impl Sink for NothingKept {
+    ghost use Rattle.std.specs.Prelude.{None};
+    ghost use Rattle.script_runs.specs.Hosts.{sink_seen};
+
+    ghost seen = { λ _. sink_seen None 0 };
+
+    fn put(&mut self, bytes: &[u8]) -> Result<usize, SinkFault> {
+        Ok(bytes.len())
     }
-    Ok(())
 }
 
-/// Applies the lines of a script one after the other, up to the first that is refused.
-fn apply_lines<R: Threads + Sync, A: Memory>(
-    rt: &R,
-    alloc: A,
-    session: &mut Session<A>,
-    script: &str,
-) -> Result<(), Refused>
-    ensures { Gives (λ _. session.new.names) result
-        (names_after session.old.names session.old.inputs (lines script.now)) }
-{
-    for line in script.lines() {
-        apply_line(rt, alloc, session, line.as_bytes())?;
-    }
-    Ok(())
-}
-
-/// The session after all lines of a script over these inputs, from no name bound.
+/// The session after all lines of a script over these inputs, from no name bound. The text of the script is dropped.
 pub(crate) fn run_script<R: Threads + Sync, A: Memory>(
     rt: &R,
     alloc: A,
@@ -65,11 +47,17 @@ pub(crate) fn run_script<R: Threads + Sync, A: Memory>(
     script: &str,
     inputs: Vec<Input<A>, A>,
 ) -> Result<Session<A>, Refused>
-    ensures { Gives (λ session. session.names) result (names_after [] inputs.items (lines script.now)) }
+    requires { length script.now ≤ most_script_bytes }
+    ensures { Gives (λ session. session.names) result (names_bound script.now inputs.items) }
 {
     let mut session = Session::new(alloc, config, inputs)?;
-    apply_lines(rt, alloc, &mut session, script)?;
-    Ok(session)
+    let lines = script.as_bytes();
+    match run_lines(rt, alloc, &mut session, lines, &mut NothingKept, &OpenGate) {
+        Ok(()) => Ok(session),
+        Err(Stop::Script { fault, .. }) => Err(Refused::Fault(fault)),
+        Err(Stop::NoResources { .. }) => Err(Refused::NoResources),
+        Err(Stop::WriteFailed { .. }) => unreachable!(),
+    }
 }
 
 /// The vector of integers that is bound to a name.

@@ -17,7 +17,7 @@ use Rattle.script_runs.specs.declared.stop.Stop.TheVariants as stop
 use Rattle.script_runs.specs.Ends.{Runs, EndsAs, Reaches, line_text}
 use Rattle.script_runs.specs.Hosts.{Seen, Shows, with_output}
 use Rattle.script_runs.specs.LineRuns.{LineRuns, LineEndsAs, refused_at, text_of_step}
-use Rattle.script_runs.specs.Meaning.{Meaning, after_line, from_line, line_step}
+use Rattle.script_runs.specs.Meaning.{Meaning, after_line, from_line, line_step, names_after_line, names_left}
 use Rattle.script_runs.proofs.Shown.{answer_both, answer_ok, nothing_answered, output_ok, shows_nothing_put}
 
 -- the texts of the lines before this number are in the sink, and what is left means the rest
@@ -121,6 +121,13 @@ module _ {A : Type 0} where
         shown = answer_both (concat u.done) ran.written (Err why) before middle after u.shown ran.shown;
       }
 
+  -- the line has run, and the others go on from the names that it leaves
+  pub left_on : (number : ℕ) (names after : Entries A) (inputs : List (Input A)) (line : List ℕ) (others : List (List ℕ)) (before middle : Seen) → LineRuns number (line_step names inputs line) after before middle (Ok tt) → names_left names inputs (line ∷ others) ≡ names_left after inputs others
+  left_on number names after inputs line others before middle ran =
+      let ends = ran.ends in
+      ap (λ r. names_after_line names r (λ next. names_left next inputs others)) ends.1
+      ∙ ap (λ next. names_left next inputs others) (sym ends.2)
+
   -- the line's read or call is refused
   pub refused_line : (number : ℕ) (why : Refused) (meaning : Result (Stepped A) Fault) (names : Entries A) (s : Seen) → ((f : Fault) → why ≡ refused.Fault f → meaning ≡ Err f) → LineRuns number meaning names s s (Err (refused_at number why))
   refused_line number (refused.Fault f) meaning names s is =
@@ -134,12 +141,4 @@ refused_first m s = record {
   written = [];
   ends = record { reached = omega arith; beginning = (0, refl) };
   shown = nothing_answered (Err (stop.NoResources 0)) s refl;
-}
-
--- all lines have run
-pub finished : (m : Meaning) (number : ℕ) (before after : Seen) → IsUnderway m (record { texts = []; stop = None }) number before after → Runs m before after (Ok tt)
-finished m number before after u = record {
-  written = concat u.done;
-  ends = (u.stop, sym (ap concat (u.texts ∙ append-nil u.done)));
-  shown = answer_ok _ _ _ u.shown;
 }

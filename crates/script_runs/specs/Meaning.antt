@@ -1,7 +1,7 @@
 -- The meaning of a script: the text of each line that has run, and perhaps the line of the first fault with its fault.
 -- It knows neither tiles nor workers.
 -- Source: this library's script format.
-use Rattle.std.specs.Prelude.{ℕ, ◌+◌, ◌==◌, nat_lt, List, [], ◌∷◌, map, length, Option, Some, None, unwrap_or, Result, Ok, Err, if◌then◌else◌}
+use Rattle.std.specs.Prelude.{ℕ, ◌+◌, ◌==◌, nat_lt, List, [], ◌∷◌, map, length, Option, Some, None, option_map, unwrap_or, Result, Ok, Err, if◌then◌else◌}
 use Rattle.std.specs.List.{slice_split, concat}
 use Rattle.std.specs.Str.Lines.{strip_carriage_return}
 use Rattle.cvl_base.specs.declared.call.Call.{Call}
@@ -44,12 +44,27 @@ module _ {A : Type 0} where
   from_line number names inputs (line ∷ lines) =
       after_line number (line_step names inputs line) (λ after. from_line (number + 1) after inputs lines)
 
+  -- a line with a fault changes no names, and no line runs after it
+  abbrev pub names_after_line : Entries A → Result (Stepped A) Fault → (Entries A → Entries A) → Entries A
+  names_after_line names (Err f) rest = names
+  names_after_line names (Ok stepped) rest = rest stepped.names
+
+  -- the names that the lines leave
+  abbrev pub names_left : Entries A → List (Input A) → List (List ℕ) → Entries A
+  names_left names inputs [] = names
+  names_left names inputs (line ∷ lines) =
+      names_after_line names (line_step names inputs line) (λ after. names_left after inputs lines)
+
   -- a script with too many bytes is a fault before its first line
   abbrev pub meaning : List ℕ → List (Input A) → Meaning
   meaning script inputs =
       if nat_lt most_script_bytes (length script)
       then record { texts = []; stop = Some (0, fault ScriptTooLong) }
       else from_line 1 [] inputs (lines_of script)
+
+-- the fault at which a script stops, without its line
+abbrev pub stop_fault : Meaning → Option Fault
+stop_fault m = option_map (λ stop. stop.1) m.stop
 
 -- the text of the whole script, up to its first fault
 abbrev pub text_of_script : Meaning → List ℕ

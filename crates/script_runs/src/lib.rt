@@ -12,7 +12,7 @@ pub mod stop_lines;
 pub use crew::{Gate, OpenGate, Point};
 pub use mem_sink::MemSink;
 pub use puts::put_all;
-pub use runs::{run, run_gated};
+pub use runs::{run, run_gated, run_lines};
 pub use sink::{Sink, SinkFault};
 pub use stop::{Stop, put_stop};
 pub use stop_lines::stop_line;

@@ -1,12 +1,12 @@
 //! Runs of scripts.
 
-ghost use Rattle.std.specs.Prelude.{◌≡◌, ◌^◌, ◌<◌, ◌-◌, ◌≤◌, [], length, unwrap_or};
+ghost use Rattle.std.specs.Prelude.{◌≡◌, ◌^◌, ◌<◌, ◌-◌, ◌≤◌, [], length, unwrap_or, IfOk};
 ghost use Rattle.cvl_base.specs.Gives.{Gives};
 ghost use Rattle.cvl_base.specs.Limits.{most_script_bytes};
 ghost use Rattle.vector_handles.specs.Sessions.{text_shown};
 ghost use Rattle.script_runs.specs.Ends.{Runs};
 ghost use Rattle.script_runs.specs.LineRuns.{LineRuns, refused_at};
-ghost use Rattle.script_runs.specs.Meaning.{meaning, from_line, line_step, lines_of};
+ghost use Rattle.script_runs.specs.Meaning.{meaning, from_line, line_step, lines_of, names_left};
 
 use crate::lines::next_line;
 use crate::puts::put_all;
@@ -84,8 +84,12 @@ fn run_line<R: Threads + Sync, A: Memory, S: Sink, G: Gate>(
     }
 }
 
-/// Runs the lines one after the other, up to the first that stops the script.
-fn run_lines<R: Threads + Sync, A: Memory, S: Sink, G: Gate>(
+/// Runs the lines of a script on a session, one after the other, up to the first that stops the run, and puts their texts
+/// into the sink. Lines count from 1.
+///
+/// What the sink takes and the answer are as of [`run`], from the names that were bound before. Where no line stops the
+/// run, the names of the session are those that the lines leave. A script has at most 1,048,576 bytes.
+pub fn run_lines<R: Threads + Sync, A: Memory, S: Sink, G: Gate>(
     rt: &R,
     alloc: A,
     session: &mut Session<A>,
@@ -95,8 +99,11 @@ fn run_lines<R: Threads + Sync, A: Memory, S: Sink, G: Gate>(
 ) -> Result<(), Stop>
     requires failures { (S.seen sink.old).failed_puts < 2 ^ 64 - 1 }
     requires short { length script.now ≤ most_script_bytes }
-    ensures { Runs (from_line 1 session.old.names session.old.inputs (lines_of script.now))
+    ensures runs { Runs (from_line 1 session.old.names session.old.inputs (lines_of script.now))
         (S.seen sink.old) (S.seen sink.new) result }
+    ensures names { IfOk result (λ _. session.new.names ≡
+        names_left session.old.names session.old.inputs (lines_of script.now)) }
+    ensures inputs { session.new.inputs ≡ session.old.inputs }
 {
     let mut number = 1;
     let mut rest = Some(script);

@@ -5,7 +5,7 @@ use Rattle.vector_handles.specs.declared.input.Input.TheVariants as input
 use Rattle.recipes.specs.declared.scripts.TheConstants.{LINE_OF_SIGHT}
 use Rattle.recipes.specs.Recipes.{bound_by}
 use Rattle.recipes.specs.Visibility.{visible_of}
-use Rattle.recipes.proofs.Answered.{out_of_memory, refused_by_run, bound_after_run, is_answer}
+use Rattle.recipes.proofs.Answered.{out_of_memory, run_over, refused_by_run, bound_after_run, is_answer}
 use Rattle.recipes.proofs.SightBound.{sight_bound, binds_booleans}
 use Rattle.recipes.proofs.sight.line_of_sight.Goals as goal
 
@@ -21,22 +21,22 @@ returns-in_err-session-clause-visible g c =
     is_answer (λ (bs : List Bool). value.Booleans bs) (λ v. v.items) c.from_residual-in_err-session.result (bound_by LINE_OF_SIGHT.now given (codes "v"))
     (visible_of c.args.altitudes.items)
     (λ a b same. cc)
-    (refused_by_run (λ v. value.Booleans v.items) LINE_OF_SIGHT.now given (codes "v")
+    (refused_by_run (λ v. value.Booleans v.items) LINE_OF_SIGHT.now given (codes "v") _ c.in_ok-inputs.ensures
     c.from_residual-in_err-session.result c.in_err-session.field-0.0 c.from_residual-in_err-session.ensures.1
-    (rw c.in_ok-inputs.ensures at c.in_err-session.ensures))
+    c.in_err-session.ensures)
     (sight_bound c.args.altitudes.items exact)
 
 pub returns-in_err-session-clause-meaning : goal.returns-in_err-session-clause-meaning
 returns-in_err-session-clause-meaning g c =
-    refused_by_run (λ v. value.Booleans v.items) LINE_OF_SIGHT.now (input.Vector c.args.altitudes.items ∷ []) (codes "v")
+    refused_by_run (λ v. value.Booleans v.items) LINE_OF_SIGHT.now (input.Vector c.args.altitudes.items ∷ []) (codes "v") _ c.in_ok-inputs.ensures
     c.from_residual-in_err-session.result c.in_err-session.field-0.0 c.from_residual-in_err-session.ensures.1
-    (rw c.in_ok-inputs.ensures at c.in_err-session.ensures)
+    c.in_err-session.ensures
 
 pub booleans_at-requires-clause-booleans : goal.booleans_at-requires-clause-booleans
 booleans_at-requires-clause-booleans g c κs within =
     let few : length c.args.altitudes.items ≤ most_elements = omega (arith, c.requires, c.args.altitudes.ok.0) in
     binds_booleans c.args.altitudes.items few c.in_ok-session.session.names
-    (rw c.in_ok-inputs.ensures at c.in_ok-session.ensures)
+    (run_over LINE_OF_SIGHT.now _ _ _ c.in_ok-inputs.ensures c.in_ok-session.ensures)
 
 pub returns-in_err-booleans_at-clause-meaning : goal.returns-in_err-booleans_at-clause-meaning
 returns-in_err-booleans_at-clause-meaning g c =
@@ -50,12 +50,12 @@ returns-clause-visible g c =
     is_answer (λ (bs : List Bool). value.Booleans bs) (λ v. v.items) (Ok c.in_ok-booleans_at.field-0) (bound_by LINE_OF_SIGHT.now given (codes "v"))
     (visible_of c.args.altitudes.items)
     (λ a b same. cc)
-    (bound_after_run (λ (bs : List Bool). value.Booleans bs) LINE_OF_SIGHT.now given (codes "v") c.in_ok-session.session.names c.in_ok-booleans_at.field-0.items
-    (rw c.in_ok-inputs.ensures at c.in_ok-session.ensures) c.in_ok-booleans_at.ensures)
+    (bound_after_run (λ (bs : List Bool). value.Booleans bs) LINE_OF_SIGHT.now given (codes "v") _ c.in_ok-inputs.ensures c.in_ok-session.session.names c.in_ok-booleans_at.field-0.items
+    c.in_ok-session.ensures c.in_ok-booleans_at.ensures)
     (sight_bound c.args.altitudes.items exact)
 
 pub returns-clause-meaning : goal.returns-clause-meaning
 returns-clause-meaning g c =
-    bound_after_run (λ (bs : List Bool). value.Booleans bs) LINE_OF_SIGHT.now (input.Vector c.args.altitudes.items ∷ []) (codes "v")
+    bound_after_run (λ (bs : List Bool). value.Booleans bs) LINE_OF_SIGHT.now (input.Vector c.args.altitudes.items ∷ []) (codes "v") _ c.in_ok-inputs.ensures
     c.in_ok-session.session.names c.in_ok-booleans_at.field-0.items
-    (rw c.in_ok-inputs.ensures at c.in_ok-session.ensures) c.in_ok-booleans_at.ensures
+    c.in_ok-session.ensures c.in_ok-booleans_at.ensures

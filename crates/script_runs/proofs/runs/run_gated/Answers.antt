@@ -14,7 +14,7 @@ meaning_in_limit script inputs within = rw (le-ltb most_script_bytes (length scr
 pub returns-in-Ok : goal.returns-in-Ok
 returns-in-Ok g c =
     rw (meaning_in_limit c.args.script.now c.args.inputs.items c.if-script-gt-MOST_SCRIPT_BYTES.false)
-    (rw (c.in-Ok.ensures.names, c.in-Ok.ensures.inputs) at c.run_lines.ensures)
+    (rw (c.in-Ok.ensures.names, c.in-Ok.ensures.inputs) at c.run_lines.ensures.runs)
 
 pub returns-in-Err : goal.returns-in-Err
 returns-in-Err g c = refused_first (meaning c.args.script.now c.args.inputs.items) (g.S.Sink.seen c.args.sink.now)
