@@ -18,7 +18,7 @@ use Rattle.script_runs.specs.Ends.{Runs, EndsAs, Reaches, line_text}
 use Rattle.script_runs.specs.Hosts.{Seen, Shows, with_output}
 use Rattle.script_runs.specs.LineRuns.{LineRuns, LineEndsAs, refused_at, text_of_step}
 use Rattle.script_runs.specs.Meaning.{Meaning, after_line, from_line, line_step, names_after_line, names_left}
-use Rattle.script_runs.proofs.Shown.{answer_both, answer_ok, nothing_answered, output_ok, shows_nothing_put}
+use Rattle.script_runs.proofs.Shown.{answer_both, nothing_answered, output_ok, shows_nothing_put}
 
 -- the texts of the lines before this number are in the sink, and what is left means the rest
 pub record IsUnderway (m rest : Meaning) (number : ℕ) (before after : Seen) : Type 0 where
