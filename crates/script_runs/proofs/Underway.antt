@@ -14,7 +14,7 @@ use Rattle.vector_handles.specs.Names.{Entries}
 use Rattle.vector_handles.specs.Steps.{Stepped}
 use Rattle.script_runs.specs.declared.stop.Stop.{Stop}
 use Rattle.script_runs.specs.declared.stop.Stop.TheVariants as stop
-use Rattle.script_runs.specs.Ends.{Runs, EndsAs, Reaches, line_text}
+use Rattle.script_runs.specs.Ends.{AtEnd, AtFault, Runs, EndsAs, Reaches, line_text}
 use Rattle.script_runs.specs.Hosts.{Seen, Shows, with_output}
 use Rattle.script_runs.specs.LineRuns.{LineRuns, LineEndsAs, refused_at, text_of_step}
 use Rattle.script_runs.specs.Meaning.{Meaning, after_line, from_line, line_step, names_after_line, names_left}
@@ -128,12 +128,25 @@ module _ {A : Type 0} where
       ap (λ r. names_after_line names r (λ next. names_left next inputs others)) ends.1
       ∙ ap (λ next. names_left next inputs others) (sym ends.2)
 
+  -- a line with a fault is the last that runs, and leaves the names as they were
+  pub left_at_stop : (number : ℕ) (names after left : Entries A) (inputs : List (Input A)) (line : List ℕ) (others : List (List ℕ)) (before middle : Seen) (why : Stop) → left ≡ names_left names inputs (line ∷ others) → LineRuns number (line_step names inputs line) after before middle (Err why) → AtFault (Err why) (after ≡ names) → AtEnd (Err why) (after ≡ left)
+  left_at_stop number names after left inputs line others before middle (stop.Script at f) is ran kept =
+      let ends = ran.ends in
+      kept ∙ sym (is ∙ ap (λ r. names_after_line names r (λ next. names_left next inputs others)) ends.1)
+  left_at_stop number names after left inputs line others before middle (stop.NoResources at) is ran kept = tt
+  left_at_stop number names after left inputs line others before middle (stop.WriteFailed at) is ran kept = tt
+
   -- the line's read or call is refused
   pub refused_line : (number : ℕ) (why : Refused) (meaning : Result (Stepped A) Fault) (names : Entries A) (s : Seen) → ((f : Fault) → why ≡ refused.Fault f → meaning ≡ Err f) → LineRuns number meaning names s s (Err (refused_at number why))
   refused_line number (refused.Fault f) meaning names s is =
       record { written = []; ends = (refl, is f refl, refl); shown = nothing_answered (Err (stop.Script number f)) s refl }
   refused_line number refused.NoResources meaning names s is =
       record { written = []; ends = (refl, refl); shown = nothing_answered (Err (stop.NoResources number)) s refl }
+
+-- what a refused line keeps it keeps at a fault
+pub at_fault : (number : ℕ) (why : Refused) (claim : Type 0) → claim → AtFault (Err (refused_at number why)) claim
+at_fault number (refused.Fault f) claim holds = holds
+at_fault number refused.NoResources claim holds = tt
 
 -- memory is refused before the first line
 pub refused_first : (m : Meaning) (s : Seen) → Runs m s s (Err (stop.NoResources 0))

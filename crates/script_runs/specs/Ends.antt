@@ -34,6 +34,18 @@ EndsAs m written (Err (stop.Script line f)) = (m.stop ≡ Some (line, f)) × (wr
 EndsAs m written (Err (stop.NoResources line)) = IsCutAt m line written
 EndsAs m written (Err (stop.WriteFailed line)) = IsCutShortAt m line written
 
+-- what holds where a line has a fault
+abbrev pub AtFault : Result (Unit {0}) Stop → Type 0 → Type 0
+AtFault (Ok done) claim = Unit {0}
+AtFault (Err (stop.Script line f)) claim = claim
+AtFault (Err (stop.NoResources line)) claim = Unit {0}
+AtFault (Err (stop.WriteFailed line)) claim = Unit {0}
+
+-- what holds where the run came to its end, or to a line that has a fault
+abbrev pub AtEnd : Result (Unit {0}) Stop → Type 0 → Type 0
+AtEnd (Ok done) claim = claim
+AtEnd (Err why) claim = AtFault (Err why) claim
+
 -- how often the sink failed in the run: once where that is the answer, and else never
 abbrev pub failures_in : Result (Unit {0}) Stop → ℕ
 failures_in (Ok done) = 0

@@ -1,10 +1,10 @@
 //! Runs of scripts.
 
-ghost use Rattle.std.specs.Prelude.{◌≡◌, ◌^◌, ◌<◌, ◌-◌, ◌≤◌, [], length, unwrap_or, IfOk};
+ghost use Rattle.std.specs.Prelude.{◌≡◌, ◌^◌, ◌<◌, ◌-◌, ◌≤◌, [], length, unwrap_or, OnErr};
 ghost use Rattle.cvl_base.specs.Gives.{Gives};
 ghost use Rattle.cvl_base.specs.Limits.{most_script_bytes};
 ghost use Rattle.vector_handles.specs.Sessions.{text_shown};
-ghost use Rattle.script_runs.specs.Ends.{Runs};
+ghost use Rattle.script_runs.specs.Ends.{AtEnd, AtFault, Runs};
 ghost use Rattle.script_runs.specs.LineRuns.{LineRuns, refused_at};
 ghost use Rattle.script_runs.specs.Meaning.{meaning, from_line, line_step, lines_of, names_left};
 
@@ -30,6 +30,7 @@ fn step_line<R: Threads + Sync, A: Memory, G: Gate>(
     ensures meaning { Gives (λ shown. record { names = session.new.names; shown = text_shown shown }) result
         (line_step session.old.names session.old.inputs line.now) }
     ensures inputs { session.new.inputs ≡ session.old.inputs }
+    ensures refused { OnErr result (session.new.names ≡ session.old.names) }
 {
     match read_line(alloc, line) {
         Err(refused) => Err(refused),
@@ -74,6 +75,7 @@ fn run_line<R: Threads + Sync, A: Memory, S: Sink, G: Gate>(
     ensures runs { LineRuns number (line_step session.old.names session.old.inputs line.now) session.new.names
         (S.seen sink.old) (S.seen sink.new) result }
     ensures inputs { session.new.inputs ≡ session.old.inputs }
+    ensures refused { AtFault result (session.new.names ≡ session.old.names) }
 {
     match step_line(rt, alloc, session, line, gate) {
         Err(refused) => Err(stop_of(refused, number)),
@@ -87,8 +89,9 @@ fn run_line<R: Threads + Sync, A: Memory, S: Sink, G: Gate>(
 /// Runs the lines of a script on a session, one after the other, up to the first that stops the run, and puts their texts
 /// into the sink. Lines count from 1.
 ///
-/// What the sink takes and the answer are as of [`run`], from the names that were bound before. Where no line stops the
-/// run, the names of the session are those that the lines leave. A script has at most 1,048,576 bytes.
+/// What the sink takes and the answer are as of [`run`], from the names that were bound before. At the end of the script, and
+/// where the run stops at a line with a fault, the names of the session are those that the lines leave. A script has at
+/// most 1,048,576 bytes.
 pub fn run_lines<R: Threads + Sync, A: Memory, S: Sink, G: Gate>(
     rt: &R,
     alloc: A,
@@ -101,7 +104,7 @@ pub fn run_lines<R: Threads + Sync, A: Memory, S: Sink, G: Gate>(
     requires short { length script.now ≤ most_script_bytes }
     ensures runs { Runs (from_line 1 session.old.names session.old.inputs (lines_of script.now))
         (S.seen sink.old) (S.seen sink.new) result }
-    ensures names { IfOk result (λ _. session.new.names ≡
+    ensures names { AtEnd result (session.new.names ≡
         names_left session.old.names session.old.inputs (lines_of script.now)) }
     ensures inputs { session.new.inputs ≡ session.old.inputs }
 {

@@ -1,12 +1,16 @@
 use Rattle.std.proofs.Common.{take, refl, ap}
 use Rattle.script_runs.proofs.Shown.{answer_ok}
-use Rattle.script_runs.proofs.Underway.{refused_line}
+use Rattle.script_runs.proofs.Underway.{at_fault, refused_line}
 use Rattle.script_runs.proofs.runs.run_line.Goals as goal
 
 pub returns-in-Err-clause-runs : goal.returns-in-Err-clause-runs
 returns-in-Err-clause-runs g c =
     rw c.stop_of.ensures
     (refused_line c.args.number c.in-Err.refused _ _ _ (λ f is. rw is at c.in-Err.ensures.meaning))
+
+pub returns-in-Err-clause-refused : goal.returns-in-Err-clause-refused
+returns-in-Err-clause-refused g c =
+    rw c.stop_of.ensures (at_fault c.args.number c.in-Err.refused _ c.in-Err.ensures.refused)
 
 pub returns-in-Ok-put_all-clause-runs : goal.returns-in-Ok-put_all-clause-runs
 returns-in-Ok-put_all-clause-runs g c =

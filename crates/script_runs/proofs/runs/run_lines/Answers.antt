@@ -3,7 +3,7 @@ use Rattle.std.specs.Option.{option_copied}
 use Rattle.std.proofs.lemmas.Result.{err_from_is_err_and}
 use Rattle.script_runs.specs.LinesLeft.{lines_left}
 use Rattle.script_runs.specs.Meaning.{names_left}
-use Rattle.script_runs.proofs.Underway.{begins, left_on, went_on, stopped, stops_from}
+use Rattle.script_runs.proofs.Underway.{begins, left_at_stop, left_on, went_on, stopped, stops_from}
 use Rattle.script_runs.proofs.runs.run_lines.Goals as goal
 
 pub loop-rest-init : goal.loop-rest-init
@@ -17,6 +17,14 @@ returns-in_err-run_line-clause-runs g c =
     (λ names. stops_from (c.loop-rest.number + 1) names c.loop-rest.session.inputs (lines_left (option_copied c.next_line.result.1)))
     (rw (c.in-Some.is, c.next_line.ensures.lines) at c.loop-rest.invariant.underway)
     c.in_err-run_line.ensures.runs)
+
+pub returns-in_err-run_line-clause-names : goal.returns-in_err-run_line-clause-names
+returns-in_err-run_line-clause-names g c =
+    let p = err_from_is_err_and c.from_residual.result c.from_residual.ensures.1 in
+    rw (p.1, p.2)
+    (left_at_stop c.loop-rest.number c.loop-rest.session.names c.run_line.new.session.names _ c.loop-rest.session.inputs c.next_line.result.0.now (lines_left (option_copied c.next_line.result.1)) _ _ _
+    (rw (c.in-Some.is, c.next_line.ensures.lines) at c.loop-rest.invariant.names)
+    c.in_err-run_line.ensures.runs c.in_err-run_line.ensures.refused)
 
 pub loop-rest-preserved : goal.loop-rest-preserved
 loop-rest-preserved g c =
