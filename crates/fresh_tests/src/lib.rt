@@ -1,10 +1,8 @@
-//! Tests of vectors that several threads write: every length up to 40 by 1 to 8 threads, each growth refused in turn, a
-//! thread that stops early, and slices that are written over.
+//! Tests of vectors that several threads write: each growth refused in turn, also where the vector is pushed to, shrunk and
+//! cloned afterwards; a long one; a thread that stops early; and a slice that is written over.
 #![tactic(auto)]
 
 #[cfg(test)]
 mod doubles;
 #[cfg(test)]
 mod early;
-#[cfg(test)]
-mod over;
