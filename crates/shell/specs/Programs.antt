@@ -125,11 +125,20 @@ pub record Performs (A : Type 0) (words : List Text) (before after : Seen) (stat
   pub says : Says end told
   pub status_is : status ≡ status_of end
 
+-- there is no memory for the words of the command line: that is told, and nothing else is done
+abbrev pub IsStarved : Seen → Seen → ℕ → Type 0
+IsStarved before after status = Tells (Some (stop_line (stop.NoResources 0))) before after × (status ≡ 3)
+
+-- the program ran on these words, or there is no memory for them
+abbrev pub PerformsOrStarves : Type 0 → List Text → Seen → Seen → ℕ → Type 0
+PerformsOrStarves A words before after status =
+    IsStarved before after status ⊎ Performs A words before after status
+
 -- the words of the command line are not text, or there is no memory for them: that is told, and nothing else is done
 abbrev pub IsWordless : Seen → Seen → ℕ → Type 0
 IsWordless before after status =
     (Tells (Some (codes "the command line is not UTF-8\n")) before after × (status ≡ 2))
-    ⊎ (Tells (Some (stop_line (stop.NoResources 0))) before after × (status ≡ 3))
+    ⊎ IsStarved before after status
 
 -- the program ran on the words of its process, whichever these are
 abbrev pub PerformsOnSome : Type 0 → Seen → Seen → ℕ → Type 0

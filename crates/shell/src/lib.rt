@@ -11,7 +11,7 @@ pub mod whole_files;
 
 pub use command_line::{Words, WordsFault, read_words};
 pub use host::Host;
-pub use process::{SystemFiles, run_process};
+pub use process::{SystemFiles, run_process, run_words};
 pub use programs::{program, program_gated};
 pub use script_runs::{
     Gate, MemSink, OpenGate, Point, Sink, SinkFault, Stop, mem_sink, put_stop, run, run_gated,

@@ -1,7 +1,8 @@
 //! The program on the command line of its process.
 
-ghost use Rattle.std.specs.Prelude.{◌^◌, ◌<◌, ◌-◌};
-ghost use Rattle.shell.specs.Programs.{IsWordless, PerformsOnSome};
+ghost use Rattle.std.specs.Prelude.{◌≡◌, ◌^◌, ◌<◌, ◌-◌, IfOk, map};
+ghost use Rattle.clap.specs.Walk.{texts};
+ghost use Rattle.shell.specs.Programs.{IsStarved, IsWordless, PerformsOnSome, PerformsOrStarves};
 
 use crate::endings::{COMMAND_LINE, FAILED, tell_stop};
 use crate::host::Host;
@@ -56,7 +57,9 @@ fn command_line<R: Env + AllocGlobal>(rt: &R) -> io::Result<Vec<String>> {
 }
 
 /// The words as the program takes them.
-fn borrowed(alloc: Global, arguments: &[String]) -> Result<Vec<&str>, AllocError> {
+fn borrowed(alloc: Global, arguments: &[String]) -> Result<Vec<&str>, AllocError>
+    ensures { IfOk result (λ words. texts words.items ≡ map (λ a. a.bytes.items) arguments.now) }
+{
     let mut words = Vec::with_capacity(alloc, arguments.len())?;
     for argument in arguments {
         words.push(argument.as_str())?;
@@ -64,23 +67,50 @@ fn borrowed(alloc: Global, arguments: &[String]) -> Result<Vec<&str>, AllocError
     Ok(words)
 }
 
+/// Tells that there is no memory for the words of the command line, and answers the status.
+fn starved<H: Host>(host: &mut H) -> u8
+    ensures { IsStarved (H.seen host.old) (H.seen host.new) result }
+{
+    tell_stop(&Stop::NoResources { line: 0 }, host);
+    FAILED
+}
+
 /// Tells why the words of the command line could not be had, and answers the status.
 fn tell_wordless<H: Host>(is_text: bool, host: &mut H) -> u8
     ensures { IsWordless (H.seen host.old) (H.seen host.new) result }
 {
     if is_text {
-        tell_stop(&Stop::NoResources { line: 0 }, host);
-        FAILED
+        starved(host)
     } else {
         host.put_error(b"the command line is not UTF-8\n");
         COMMAND_LINE
     }
 }
 
+/// Runs the program on these very words, the program's own name first, and answers the status.
+///
+/// Where there is no memory for their list standard error is told `line 0: no resources`, and the status is 3.
+pub fn run_words<R: Threads + Sync + AllocGlobal, A: Memory, H: Host>(
+    rt: &R,
+    alloc: A,
+    arguments: &[String],
+    host: &mut H,
+) -> u8
+    requires failures { (H.seen host.old).failed_puts < 2 ^ 64 - 1 }
+    requires flushes { (H.seen host.old).failed_flushes < 2 ^ 64 - 1 }
+    ensures { PerformsOrStarves A (map (λ a. a.bytes.items) arguments.now)
+        (H.seen host.old) (H.seen host.new) result }
+{
+    match borrowed(rt.alloc(), arguments) {
+        Err(_) => starved(host),
+        Ok(words) => program(rt, alloc, words.as_slice(), host),
+    }
+}
+
 /// Runs the program on the words of its process's command line, and answers the status.
 ///
 /// Where the command line is not UTF-8 standard error is told so, and the status is 2; where there is no memory for its
-/// words, `line 0: no resources` and 3. Else it is `program` on these words.
+/// words, `line 0: no resources` and 3. Else it is [`run_words`] on these words.
 pub fn run_process<R: Env + Threads + Sync + AllocGlobal, A: Memory, H: Host>(
     rt: &R,
     alloc: A,
@@ -92,9 +122,6 @@ pub fn run_process<R: Env + Threads + Sync + AllocGlobal, A: Memory, H: Host>(
 {
     match command_line(rt) {
         Err(error) => tell_wordless(error.kind() != ErrorKind::InvalidData, host),
-        Ok(arguments) => match borrowed(rt.alloc(), arguments.as_slice()) {
-            Err(_) => tell_wordless(true, host),
-            Ok(words) => program(rt, alloc, words.as_slice(), host),
-        },
+        Ok(arguments) => run_words(rt, alloc, arguments.as_slice(), host),
     }
 }

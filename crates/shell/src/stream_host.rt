@@ -1,6 +1,6 @@
 //! A host over a reader of files and two writers.
 
-ghost use Rattle.std.specs.Prelude.{◌≡◌, ◌∷◌, [], option_map};
+ghost use Rattle.std.specs.Prelude.{◌≡◌, ◌∷◌, [], true, false, option_map};
 ghost use Rattle.script_runs.specs.Hosts.{IsTold, read_of, with_more};
 ghost use Rattle.shell.specs.Streams.{WritesWhole};
 
@@ -52,10 +52,17 @@ pub struct StreamHost<F, O, E> {
 }
 
 impl<F, O, E> StreamHost<F, O, E> {
-    /// A host on which nothing was done.
+    /// A host over these files, this output and these errors, on which nothing was done: there is nothing to send on, nothing
+    /// was told, and nothing failed or was lost.
     pub fn new(files: F, output: O, errors: E) -> StreamHost<F, O, E>
+        ensures files { result.files ≡ files }
+        ensures output { result.output ≡ output }
+        ensures errors { result.errors ≡ errors }
         ensures puts { result.failed_puts ≡ 0 }
         ensures flushes { result.failed_flushes ≡ 0 }
+        ensures sent { result.sent ≡ true }
+        ensures told_sent { result.told_sent ≡ true }
+        ensures lost { result.lost ≡ false }
     {
         StreamHost {
             files,
