@@ -1,38 +1,11 @@
 //! Files that are longer or shorter than they were expected to be, and files that are read a few bytes at a time.
-use cvl_base::Memory;
+use crate::hosts::{Failing, Files, are_told, host_with, status_of, text_of};
 use refusing_memory::Refusing;
-use script_hosts::text_of;
-use shell::{ReadFiles, StreamHost, program, read_whole};
-use std::alloc::Global;
+use shell::read_whole;
+use std::alloc::{AllocError, Global};
 use std::io::{Error, ErrorKind, Read, Result as IoResult};
 use std::test::Fail;
 use std::thread::Threads;
-
-/// A script, and an input of any other name that is expected to have so many bytes.
-#[derive(Clone, Copy, Drop)]
-struct Misjudged<'a> {
-    input: &'a str,
-    expected: usize,
-}
-
-impl ReadFiles for Misjudged<'_> {
-    ghost use Rattle.std.specs.Prelude.{None};
-
-    ghost reads = { λ _. None };
-
-    fn expected_bytes(&self, _name: &str) -> usize {
-        self.expected
-    }
-
-    fn read_file<A: Memory>(&mut self, name: &str, room: Vec<u8, A>) -> Option<Vec<u8, A>> {
-        let text = if name == "script" {
-            "a = input 1\nb = add_ruz a\nwrite b\nn = len_luz a\nwrite n\n"
-        } else {
-            self.input
-        };
-        read_whole(&mut text.as_bytes(), room)
-    }
-}
 
 /// How many sevens the input has, of two bytes each.
 const SEVENS: usize = 600_000;
@@ -43,24 +16,28 @@ const EXPECTED: &[usize] = &[
     0, 1_048_575, 1_048_576, 1_199_999, 1_200_000, 1_200_001, 3_000_000,
 ];
 
+/// The script of the sevens.
+const SCRIPT: &str = "a = input 1\nb = add_ruz a\nwrite b\nn = len_luz a\nwrite n\n";
+
 /// Whether the program reads the whole of the input.
-fn reads_all<R: Threads + Sync + AllocGlobal>(rt: &R, files: Misjudged<'_>) -> bool {
-    let words = ["cvl", "--workers", "3", "script", "sevens"];
+fn reads_all<R: Threads + Sync + AllocGlobal>(
+    rt: &R,
+    files: Files<'_>,
+    expected: usize,
+) -> Result<bool, AllocError> {
     let heap = Refusing::none(rt.alloc());
-    let mut host = StreamHost::new(files, Vec::new(rt.alloc()), Vec::new(rt.alloc()));
-    let status = program(rt, &heap, &words, &mut host);
-    status == 0 && host.output.as_slice() == b"b = 4200000\nn = 600000\n".as_slice()
+    let mut host = host_with(rt.alloc(), files, Failing::Nothing);
+    host.files.expected = Some(expected);
+    let status = status_of(rt, &heap, "cvl --workers 3 script sevens", &mut host)?;
+    Ok(status == 0 && are_told(&host, "b = 4200000\nn = 600000\n", ""))
 }
 
 #[test]
 fn files_of_other_lengths_than_expected(rt: HostRuntime) -> Result<(), Fail> {
-    let sevens = text_of(rt.alloc(), ("", " 7", SEVENS, ""))?;
+    let sevens = text_of(rt.alloc(), "", " 7", SEVENS, "")?;
+    let files = [("script", SCRIPT), ("sevens", sevens.as_str())];
     for expected in EXPECTED {
-        let files = Misjudged {
-            input: sevens.as_str(),
-            expected: *expected,
-        };
-        assert!(rt; reads_all(&rt, files), "{expected}");
+        assert!(rt; reads_all(&rt, &files, *expected)?, "{expected}");
     }
     Ok(())
 }

@@ -1,10 +1,10 @@
 //! Sessions by their calls: what a refused call leaves, and what the same call gives when it is made again.
+use crate::hosts::inputs_of;
 use crate::line_texts::are_whole;
 use crate::segments::{INPUTS, SCRIPT, TEXTS};
 use call_reader::read_line;
 use cvl_base::{Config, Fault, FaultNo, Ints, Memory, Name, NoResources, Refused, Value};
 use refusing_memory::{Refusal, Refusing, refuse_each};
-use script_hosts::inputs_of;
 use std::alloc::Global;
 use std::test::Fail;
 use std::thread::Threads;

@@ -9,6 +9,8 @@ use std::alloc::Global;
 pub struct TableFiles<'a> {
     /// The names and the bytes of the files.
     pub files: &'a [(&'a str, &'a str)],
+    /// How many bytes each file is said to have, where that is not its length.
+    pub expected: Option<usize>,
     /// The names that were asked for, each with a line feed.
     pub asked: Vec<u8>,
 }
@@ -18,6 +20,7 @@ impl<'a> TableFiles<'a> {
     pub fn new(alloc: Global, files: &'a [(&'a str, &'a str)]) -> TableFiles<'a> {
         TableFiles {
             files,
+            expected: None,
             asked: Vec::new(alloc),
         }
     }
@@ -39,7 +42,10 @@ impl ReadFiles for TableFiles<'_> {
     ghost reads = { λ _. None };
 
     fn expected_bytes(&self, name: &str) -> usize {
-        file_of(self.files, name).map_or(0, str::len)
+        match self.expected {
+            Some(bytes) => bytes,
+            None => file_of(self.files, name).map_or(0, str::len),
+        }
     }
 
     fn read_file<A: Memory>(&mut self, name: &str, room: Vec<u8, A>) -> Option<Vec<u8, A>> {

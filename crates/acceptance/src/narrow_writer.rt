@@ -1,6 +1,6 @@
 //! A writer in memory that takes few bytes a write, fails once it has taken so many writes, or is full.
 
-use std::alloc::Allocator;
+use std::alloc::Global;
 use std::io::{Error, ErrorKind, Result, Write};
 
 /// What a writer does once it has taken its writes.
@@ -14,9 +14,9 @@ pub enum Then {
 
 /// A writer that takes few bytes a write.
 #[derive(Drop)]
-pub struct NarrowWriter<A: Allocator> {
+pub struct NarrowWriter {
     /// The bytes taken so far.
-    pub taken: Vec<u8, A>,
+    pub taken: Vec<u8>,
     /// How many bytes it takes a write, beside the first.
     pub more_a_write: usize,
     /// How many writes it takes.
@@ -31,11 +31,11 @@ pub struct NarrowWriter<A: Allocator> {
     pub sent: usize,
 }
 
-impl<A: Allocator> NarrowWriter<A> {
-    /// A writer that keeps its bytes in this vector, and then fails.
-    pub fn new(taken: Vec<u8, A>, more_a_write: usize, writes_left: u64) -> NarrowWriter<A> {
+impl NarrowWriter {
+    /// A writer that takes so many bytes a write beside the first, so many times, and then fails.
+    pub fn new(alloc: Global, more_a_write: usize, writes_left: u64) -> NarrowWriter {
         NarrowWriter {
-            taken,
+            taken: Vec::new(alloc),
             more_a_write,
             writes_left,
             then: Then::Fail,
@@ -46,7 +46,7 @@ impl<A: Allocator> NarrowWriter<A> {
     }
 }
 
-impl<A: Allocator> Write for NarrowWriter<A> {
+impl Write for NarrowWriter {
     ghost use Rattle.std.specs.Prelude.{Some};
 
     ghost contents = { λ w. Some w.taken.items };
