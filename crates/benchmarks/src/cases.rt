@@ -1,4 +1,4 @@
-//! What is measured: a call of the library and a plain loop that does the same.
+//! What is measured: calls of the library.
 
 use crate::element_calls::{self, ElementCase};
 use crate::pack_calls::{self, PackCase};
@@ -31,16 +31,6 @@ pub fn call<R: Threads + Sync>(
         Case::Scan(case) => scan_calls::call(rt, alloc, config, case, vectors),
         Case::Permute(case) => permute_calls::call(rt, alloc, config, case, vectors),
         Case::Pack(case) => pack_calls::call(rt, alloc, config, case, vectors),
-    }
-}
-
-/// The same by a plain loop of one thread.
-pub fn plain_call(alloc: Global, case: &Case, vectors: &Vectors) -> Option<i32> {
-    match case {
-        Case::Elementwise(case) => element_calls::plain_call(alloc, case, vectors),
-        Case::Scan(case) => scan_calls::plain_call(alloc, case, vectors),
-        Case::Permute(case) => permute_calls::plain_call(alloc, case, vectors),
-        Case::Pack(case) => pack_calls::plain_call(alloc, case, vectors),
     }
 }
 

@@ -1,7 +1,5 @@
 //! The elementwise calls.
 
-mod plain;
-
 use crate::cases::{Case, last_flag, last_number};
 use crate::timing::measure_cases;
 use crate::vectors::{Shape, Vectors};
@@ -93,27 +91,6 @@ pub fn call<R: Threads + Sync>(
         ElementCase::BoolFromInt => last_flag(bool_from_int(rt, alloc, config, a)),
         ElementCase::CopyOfIntegers => last_number(int1(rt, alloc, config, Unary::Copy, a)),
         ElementCase::CopyOfBooleans => last_flag(bool1(rt, alloc, config, Unary::Copy, flags)),
-    }
-}
-
-/// The same by a plain loop.
-pub fn plain_call(alloc: Global, case: &ElementCase, vectors: &Vectors) -> Option<i32> {
-    let (a, b) = (vectors.numbers.as_slice(), vectors.divisors.as_slice());
-    let (flags, others) = (vectors.flags.as_slice(), vectors.others.as_slice());
-    let shifts = vectors.shifts.as_slice();
-    match case {
-        ElementCase::Add => last_number(plain::on_pairs(alloc, a, b, plain::sum)),
-        ElementCase::Div => last_number(plain::on_pairs(alloc, a, b, plain::quotient)),
-        ElementCase::LeftShift => last_number(plain::on_pairs(alloc, a, shifts, plain::left_shift)),
-        ElementCase::Greater => last_flag(plain::on_pairs(alloc, a, b, plain::is_greater)),
-        ElementCase::And => last_flag(plain::on_pairs(alloc, flags, others, plain::are_both)),
-        ElementCase::Select => last_number(plain::chosen(alloc, flags, a, b)),
-        ElementCase::NotOfIntegers => last_number(plain::on_each(alloc, a, plain::inverse)),
-        ElementCase::NotOfBooleans => last_flag(plain::on_each(alloc, flags, plain::opposite)),
-        ElementCase::IntFromBool => last_number(plain::on_each(alloc, flags, plain::int_of)),
-        ElementCase::BoolFromInt => last_flag(plain::on_each(alloc, a, plain::bool_of)),
-        ElementCase::CopyOfIntegers => last_number(Vec::from_slice(alloc, a)),
-        ElementCase::CopyOfBooleans => last_flag(Vec::from_slice(alloc, flags)),
     }
 }
 

@@ -33,12 +33,3 @@ pub fn random_flags(
     }
     Ok(flags)
 }
-
-/// How many flags are true, without a branch on each.
-pub fn count_true(flags: &[bool]) -> i32 {
-    let mut count: i32 = 0;
-    for flag in flags {
-        count = count.wrapping_add(i32::from(*flag));
-    }
-    count
-}

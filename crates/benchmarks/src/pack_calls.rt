@@ -1,10 +1,7 @@
 //! The packs, counts, distributes and indexes.
 
-mod plain;
-
 use crate::LENGTHS;
 use crate::cases::{Case, last_number};
-use crate::numbers::count_true;
 use crate::timing::measure_cases;
 use crate::vectors::{Shape, Vectors};
 use cvl_base::Config;
@@ -80,29 +77,6 @@ pub fn call<R: Threads + Sync>(
         PackCase::SegmentCounts => last_number(seg_count(rt, alloc, config, flags, d)),
         PackCase::SegmentDistribute => last_number(seg_distribute(rt, alloc, config, firsts, d)),
         PackCase::SegmentIndex => last_number(seg_index(rt, alloc, config, firsts, firsts, d)),
-    }
-}
-
-/// The same by a plain loop. A flat vector is one segment, and copies are numbers in steps of 0.
-pub fn plain_call(alloc: Global, case: &PackCase, vectors: &Vectors) -> Option<i32> {
-    let (xs, flags) = (vectors.numbers.as_slice(), vectors.flags.as_slice());
-    let (firsts, lengths) = (vectors.firsts.as_slice(), vectors.segments.lengths());
-    if xs.len() < flags.len() {
-        return None;
-    }
-    match case {
-        PackCase::Pack | PackCase::SegmentPack => {
-            let (kept, _counts) = plain::kept(alloc, lengths, xs, flags).ok()?;
-            kept.last().copied()
-        }
-        PackCase::Count => Some(count_true(flags)),
-        PackCase::SegmentCounts => last_number(plain::counts(alloc, lengths, flags)),
-        PackCase::Distribute | PackCase::SegmentDistribute => {
-            last_number(plain::steps(alloc, lengths, firsts, 0, xs.len()))
-        }
-        PackCase::Index | PackCase::SegmentIndex => {
-            last_number(plain::steps(alloc, lengths, firsts, 1, xs.len()))
-        }
     }
 }
 

@@ -1,7 +1,5 @@
 //! The permutes.
 
-mod plain;
-
 use crate::LENGTHS;
 use crate::cases::{Case, last_number};
 use crate::timing::measure_cases;
@@ -85,26 +83,6 @@ pub fn call<R: Threads + Sync>(
             seg_default_into(rt, alloc, config, xs, is, defaults, d, d)
         }
     })
-}
-
-/// The same by a plain loop. A flat vector is one segment.
-pub fn plain_call(alloc: Global, case: &PermuteCase, vectors: &Vectors) -> Option<i32> {
-    let (xs, is) = (vectors.numbers.as_slice(), vectors.index.as_slice());
-    let (defaults, chosen) = (vectors.divisors.as_slice(), vectors.chosen.as_slice());
-    let d = &vectors.segments;
-    let values = match case {
-        PermuteCase::Simple | PermuteCase::SegmentsSimple => {
-            plain::sent(alloc, vec![in alloc; 0; xs.len()].ok()?, xs, is, d)
-        }
-        PermuteCase::Default | PermuteCase::SegmentsDefault => {
-            plain::sent(alloc, Vec::from_slice(alloc, defaults).ok()?, xs, is, d)
-        }
-        PermuteCase::Select | PermuteCase::SegmentsSelect => {
-            plain::sent_flagged(alloc, xs, is, chosen, d)
-        }
-        PermuteCase::Back | PermuteCase::SegmentsBack => plain::taken(alloc, xs, is, d),
-    };
-    values?.last().copied()
 }
 
 /// Measures each call on vectors of each length, with an index in order and one at random.

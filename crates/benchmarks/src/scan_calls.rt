@@ -1,7 +1,5 @@
 //! The scans and reduces.
 
-mod plain;
-
 use crate::LENGTHS;
 use crate::cases::{Case, last_number};
 use crate::timing::measure_cases;
@@ -81,24 +79,6 @@ pub fn call<R: Threads + Sync>(
         }
         ScanCase::CheckedSegmentedReduce => {
             last_number(checked_seg_reduce(rt, alloc, config, small, d))
-        }
-    }
-}
-
-/// The same by a plain loop. A flat vector is one segment.
-pub fn plain_call(alloc: Global, case: &ScanCase, vectors: &Vectors) -> Option<i32> {
-    let (a, lengths) = (vectors.numbers.as_slice(), vectors.segments.lengths());
-    let small = vectors.shifts.as_slice();
-    match case {
-        ScanCase::Scan | ScanCase::SegmentedScan => {
-            last_number(plain::sums_before(alloc, lengths, a))
-        }
-        ScanCase::Reduce | ScanCase::SegmentedReduce => last_number(plain::sums(alloc, lengths, a)),
-        ScanCase::CheckedScan | ScanCase::CheckedSegmentedScan => {
-            last_number(plain::checked_sums_before(alloc, lengths, small))
-        }
-        ScanCase::CheckedReduce | ScanCase::CheckedSegmentedReduce => {
-            last_number(plain::checked_sums(alloc, lengths, small))
         }
     }
 }

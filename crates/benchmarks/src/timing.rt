@@ -1,6 +1,6 @@
-//! Times of calls and of plain loops.
+//! Times of calls.
 
-use crate::cases::{Case, call, plain_call};
+use crate::cases::{Case, call};
 use crate::vectors::{Shape, Vectors, vectors_of};
 use cvl_base::Config;
 use std::alloc::Global;
@@ -12,62 +12,40 @@ use std::time::{Duration, Instant};
 /// How often a case is measured. The best time counts.
 pub const ROUNDS: usize = 40;
 
-/// The best times of a call and of a plain loop, and whether their answers were always the same.
-#[derive(Drop)]
-pub struct Times {
-    call: Duration,
-    plain: Duration,
-    same: bool,
-}
-
-impl Times {
-    /// The times where nothing has been measured.
-    pub fn none() -> Times {
-        Times {
-            call: Duration::MAX,
-            plain: Duration::MAX,
-            same: true,
-        }
-    }
-
-    /// Takes in one more time of each, and whether the answers were the same.
-    pub fn add_turn(&mut self, call: Duration, plain: Duration, same: bool) {
-        self.call = self.call.min(call);
-        self.plain = self.plain.min(plain);
-        self.same &= same;
-    }
-
-    /// Prints the times of what was measured, or that the answers differ.
-    pub fn print<R: Print>(&self, rt: &R, name: &str, what: &str) -> io::Result<()> {
-        let (call, plain) = (self.call.as_nanos(), self.plain.as_nanos());
-        if self.same {
-            println!(rt; "{name}, {what}: {call} ns, a plain loop {plain} ns")
-        } else {
-            println!(rt; "{name}, {what}: the answers differ")
-        }
+/// Prints a case's line: its best time, and a number that hangs on its result; or that it was refused.
+pub fn print_time<R: Print>(
+    rt: &R,
+    name: &str,
+    what: &str,
+    best: Duration,
+    answer: Option<i32>,
+) -> io::Result<()> {
+    let nanos = best.as_nanos();
+    match answer {
+        Some(number) => println!(rt; "{name}, {what}: {nanos} ns, answer {number}"),
+        None => println!(rt; "{name}, {what}: refused"),
     }
 }
 
-/// Makes a case's call and its plain loop in turn.
-fn best_times<R: Clock + Threads + Sync>(
+/// The best time of a case's call, and its last answer.
+fn best_time<R: Clock + Threads + Sync>(
     rt: &R,
     alloc: Global,
     config: Config,
     case: &Case,
     vectors: &Vectors,
-) -> io::Result<Times> {
-    let mut times = Times::none();
+) -> io::Result<(Duration, Option<i32>)> {
+    let mut best = Duration::MAX;
+    let mut answer = None;
     for _ in 0..ROUNDS {
         let start = Instant::now(rt)?;
-        let answer = call(rt, alloc, config, case, vectors);
-        let call_time = start.elapsed(rt)?;
-        let start = Instant::now(rt)?;
-        let plain_answer = plain_call(alloc, case, vectors);
-        let plain_time = start.elapsed(rt)?;
-        let same = answer.is_some() && answer == plain_answer;
-        times.add_turn(call_time, plain_time, same);
+        answer = call(rt, alloc, config, case, vectors);
+        best = best.min(start.elapsed(rt)?);
+        if answer.is_none() {
+            break;
+        }
     }
-    Ok(times)
+    Ok((best, answer))
 }
 
 /// Measures these cases, each with what its line begins with, on vectors of a shape, and prints a line for each.
@@ -85,7 +63,8 @@ pub fn measure_cases<R: Print + Clock + Threads + Sync>(
     let words = shape.words;
     let what = format!(in alloc; "{length} elements, {segments} segments{words}")?;
     for (case, name) in cases {
-        best_times(rt, alloc, config, case, &vectors)?.print(rt, name, &what)?;
+        let (best, answer) = best_time(rt, alloc, config, case, &vectors)?;
+        print_time(rt, name, &what, best, answer)?;
     }
     Ok(())
 }

@@ -126,8 +126,11 @@ fn below(alloc: Global, numbers: &[i32], limit: i32) -> Result<Vec<bool>, AllocE
 
 /// So many random integers from 0 to 31.
 fn shifts_of(alloc: Global, n: usize) -> Result<Vec<i32>, AllocError> {
-    let numbers = random(alloc, 3, n, 0)?;
-    numbers.iter().map(|number| *number & 31).collect(alloc)
+    let mut numbers = random(alloc, 3, n, 0)?;
+    for number in &mut numbers {
+        *number &= 31;
+    }
+    Ok(numbers)
 }
 
 /// The vectors of a shape.
