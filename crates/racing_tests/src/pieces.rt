@@ -3,8 +3,6 @@
 ghost use Rattle.std.specs.Prelude.{◌≡◌, IfOk};
 
 use cvl_base::{Memory, NoResources};
-use refusing_memory::withstands_refusals;
-use std::test::Fail;
 use std::thread::Threads;
 use tile_plan::{Piece, Plan, gather};
 
@@ -13,18 +11,17 @@ fn piece<A: Memory>(alloc: A, tile: u32, items: &[i32]) -> Result<Piece<i32, A>,
     ensures tile { IfOk result (λ p. p.tile ≡ tile) }
     ensures items { IfOk result (λ p. p.items.items ≡ items.now) }
 {
-    Ok(Piece {
-        tile,
-        items: Vec::from_slice(alloc, items)?,
-    })
+    let items = Vec::from_slice(alloc, items)?;
+    Ok(Piece { tile, items })
 }
 
-/// Five elements, of which two threads might have made tiles of two, the last tile first, gathered by so many threads.
-fn gathered<R: Threads + Sync, A: Memory>(
+/// Whether five elements are in order, of which two threads might have made tiles of two, the last tile first, and which so many
+/// threads gather.
+pub fn is_in_order<R: Threads + Sync, A: Memory>(
     rt: &R,
     alloc: A,
     threads: u32,
-) -> Result<Vec<i32, A>, NoResources> {
+) -> Result<bool, NoResources> {
     let last = piece(alloc, 2, &[5])?;
     let first = piece(alloc, 0, &[1, 2])?;
     let middle = piece(alloc, 1, &[3, 4])?;
@@ -32,30 +29,6 @@ fn gathered<R: Threads + Sync, A: Memory>(
     pieces.push_reserved(last);
     pieces.push_reserved(first);
     pieces.push_reserved(middle);
-    gather(rt, alloc, threads, Plan::new(5, 2), pieces)
-}
-
-/// Whether the list is the elements in order.
-fn is_in_order<R: Threads + Sync, A: Memory>(
-    rt: &R,
-    alloc: A,
-    threads: u32,
-) -> Result<bool, NoResources> {
-    let whole = gathered(rt, alloc, threads)?;
+    let whole = gather(rt, alloc, threads, Plan::new(5, 2), pieces)?;
     Ok(whole.as_slice() == [1, 2, 3, 4, 5].as_slice())
-}
-
-#[test]
-fn out_of_order(rt: HostRuntime) -> Result<(), Fail> {
-    for threads in [1, 2, 4, 9] {
-        let requests = withstands_refusals(
-            rt.alloc(),
-            |heap| is_in_order(&rt, heap, threads),
-            Ok(true),
-            Err(NoResources),
-        )?;
-        // three pieces, their list, and the whole
-        assert_eq!(rt; requests, 5);
-    }
-    Ok(())
 }

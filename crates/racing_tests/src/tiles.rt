@@ -12,27 +12,22 @@ use std::sync::atomic::{AtomicBool, AtomicU64, Ordering};
 /// How often a worker that is held looks whether it may go on, at most. One turn reads one word.
 const TURNS: u64 = 100_000_000;
 
-/// Counts how often tiles are added up, and may hold the worker that adds up a tile first of all, inside the board's call that
-/// asks for the sum.
+/// Counts how often tiles are added up, and holds the worker that adds up a tile first of all, inside the board's call that
+/// asks for the sum, until tiles were added up so often.
 #[derive(Drop)]
 pub struct Counter {
     added_up: AtomicU64,
-    held_until: u64,
-    overdue: AtomicBool,
+    until: u64,
+    /// Whether a worker waited in vain.
+    pub is_overdue: AtomicBool,
 }
 
 impl Counter {
-    /// A counter that holds nobody.
-    pub fn new() -> Counter {
-        Counter::holding(0)
-    }
-
-    /// One that holds that worker until tiles were added up so often.
-    pub fn holding(until: u64) -> Counter {
+    pub fn new(until: u64) -> Counter {
         Counter {
             added_up: AtomicU64::new(0),
-            held_until: until,
-            overdue: AtomicBool::new(false),
+            until,
+            is_overdue: AtomicBool::new(false),
         }
     }
 
@@ -43,24 +38,15 @@ impl Counter {
 
     /// Counts one time more, and holds the first worker.
     fn add(&self) {
-        if self.added_up.fetch_add(1, Ordering::SeqCst) == 0 {
-            self.wait();
+        if self.added_up.fetch_add(1, Ordering::SeqCst) > 0 {
+            return;
         }
-    }
-
-    /// Waits until tiles were added up so often, or in vain.
-    fn wait(&self) {
         for _ in 0..TURNS {
-            if self.count() >= self.held_until {
+            if self.count() >= self.until {
                 return;
             }
         }
-        self.overdue.store(true, Ordering::SeqCst);
-    }
-
-    /// Whether a worker waited in vain.
-    pub fn is_overdue(&self) -> bool {
-        self.overdue.load(Ordering::SeqCst)
+        self.is_overdue.store(true, Ordering::SeqCst);
     }
 }
 

@@ -9,7 +9,8 @@ use std::sync::atomic::{AtomicBool, AtomicU64, Ordering};
 const TURNS: u64 = 100_000_000;
 
 /// A gate that sees whether each tile's points are passed in order, each once on each board, by a worker that works at no
-/// other tile meanwhile, and whether each worker takes its tiles in ascending order. So one worker passes all points of tile 0,
+/// other tile meanwhile, whether each worker takes its tiles in ascending order, and whether no tile of a board is claimed before
+/// all tiles of the boards before are finished. So one worker passes all points of tile 0,
 /// then all of tile 1, and so on; and two workers that have one number are seen once both have a tile.
 #[derive(Drop)]
 pub struct Watch {
@@ -69,9 +70,8 @@ impl Watch {
         let points = self.race.points();
         let before_here = passed.fetch_add(1, Ordering::SeqCst);
         let board = before_here / points;
-        let tiles_before = board
-            .wrapping_mul(self.passed.len() as u64)
-            .wrapping_add(u64::from(tile));
+        let boards_before = board.wrapping_mul(self.passed.len() as u64);
+        let tiles_before = boards_before.wrapping_add(u64::from(tile));
         let here = tiles_before.wrapping_mul(points).wrapping_add(number);
         let before = last.swap(here.wrapping_add(1), Ordering::SeqCst);
         let follows = if number == 0 {
@@ -79,7 +79,8 @@ impl Watch {
         } else {
             before == here
         };
-        before_here % points == number && follows
+        let comes_after = self.finished.load(Ordering::SeqCst) >= boards_before;
+        before_here % points == number && follows && comes_after
     }
 
     /// Counts the tiles that were given and those that are finished.

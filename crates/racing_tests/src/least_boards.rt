@@ -1,68 +1,75 @@
-//! Two threads of the caller's own, which lower each place of a list in one of three slots.
+//! Least boards: two seats whose workers take their steps in turn, and two threads of the caller's own.
 
 ghost use Rattle.std.specs.Prelude.{◌≡◌, ◌≤◌, ◌<◌, IfSome, length, map};
 ghost use Rattle.boards.specs.LeastBoards.{IsLeastSeatOf};
 ghost use Rattle.cvl_base.specs.Limits.{most_elements};
 ghost use Rattle.tile_plan.specs.Ranges.{tile_count};
-ghost use Rattle.least_tests.specs.ThreeSlots.{slot_of};
+ghost use Rattle.racing_tests.specs.Slots.{slot_of};
 
 use boards::{Claim, LeastBoard, LeastSeat, Targets};
 use cvl_base::{Memory, NoResources};
+use refusing_memory::Refusing;
 use std::alloc::Allocator;
 use std::test::Fail;
 use std::thread::{Threads, join_mut};
 use tile_plan::Plan;
 
-/// How many places there are.
-const PLACES: usize = 3000;
-
-/// How many tiles of 16 places there are.
-const TILES: u32 = 188;
-
-/// Places that have the slots of a list; a number above 2 is no slot.
+/// Places that have the slots which a list's numbers name; a number that is too great names none.
 #[derive(Drop)]
-struct ThreeSlots<'a> {
+struct Slots<'a> {
     numbers: &'a [u32],
+    count: u32,
     ghost few: { length numbers.now ≤ most_elements },
+    ghost few_slots: { count ≤ most_elements },
 }
 
 /// The slot that a number names.
-fn slot_of_number(number: u32) -> Option<u32>
-    ensures value { result ≡ slot_of number }
-    ensures within { IfSome result (λ s. s < 3) }
+fn slot_of_number(count: u32, number: u32) -> Option<u32>
+    ensures value { result ≡ slot_of count number }
+    ensures within { IfSome result (λ s. s < count) }
 {
-    if number < 3 { Some(number) } else { None }
+    if number < count { Some(number) } else { None }
 }
 
-impl Targets for ThreeSlots<'_> {
-    ghost targets = { λ places. map slot_of places.numbers.now };
+impl Targets for Slots<'_> {
+    ghost targets = { λ places. map (slot_of places.count) places.numbers.now };
 
-    ghost slot_count = { λ places. 3 };
+    ghost slot_count = { λ places. places.count };
 
     fn places(&self) -> u32 {
         self.numbers.len() as u32
     }
 
     fn slots(&self) -> u32 {
-        3
+        self.count
     }
 
     fn slot(&self, place: u32) -> Option<u32> {
-        slot_of_number(self.numbers[place as usize])
+        slot_of_number(self.count, self.numbers[place as usize])
     }
 }
 
 /// What the workers share: a board over the places of a list, and how these are cut into tiles.
 #[derive(Drop)]
 struct Shared<'a, 'b, A: Allocator> {
-    board: &'a LeastBoard<ThreeSlots<'b>, A>,
+    board: &'a LeastBoard<Slots<'b>, A>,
     numbers: &'b [u32],
+    count: u32,
     plan: Plan,
-    ghost targets: { board.now.targets ≡ map slot_of numbers.now },
-    ghost slots: { board.now.slots ≡ 3 },
+    ghost targets: { board.now.targets ≡ map (slot_of count) numbers.now },
+    ghost slots: { board.now.slots ≡ count },
     ghost tiles: { board.now.tiles ≡ tile_count plan.0 plan.1 },
     ghost places: { plan.0 ≡ length numbers.now },
 }
+
+/// How many places there are for threads.
+const PLACES: usize = 3000;
+
+/// How many tiles of 16 places there are.
+const TILES: u32 = 188;
+
+/// How often a worker claims: for each tile, and 1,000 times and more after it was told that none is left.
+const CLAIMS: u32 = 1189;
 
 impl<'a, 'b, A: Memory> Shared<'a, 'b, A> {
     /// Lowers each place from one up to another, which is not counted in, that has a slot.
@@ -72,27 +79,39 @@ impl<'a, 'b, A: Memory> Shared<'a, 'b, A> {
         ensures { IsLeastSeatOf self.now.board.now seat.new }
     {
         for place in from..to {
-            if let Some(slot) = slot_of_number(self.numbers[place as usize]) {
+            if let Some(slot) = slot_of_number(self.count, self.numbers[place as usize]) {
                 self.board.lower(seat, slot, place);
             }
         }
     }
 
-    /// One worker's part: it claims tiles until none is left, and lowers each place of them. It answers how many it got.
+    /// Claims a tile, and lowers each place of it; whether a tile was left.
+    fn take_tile(&self, seat: &mut LeastSeat) -> bool
+        requires { IsLeastSeatOf self.now.board.now seat.old }
+        ensures { IsLeastSeatOf self.now.board.now seat.new }
+    {
+        let Claim::Tile(t) = self.board.claim(seat) else {
+            return false;
+        };
+        let (from, to) = self.plan.range(t);
+        self.lower_each(seat, from, to);
+        true
+    }
+
+    /// One worker's part. It answers how many tiles it got, or none where one came after it was told that none is left.
     fn work(&self, seat: &mut LeastSeat) -> u32
         requires { IsLeastSeatOf self.now.board.now seat.old }
         ensures { IsLeastSeatOf self.now.board.now seat.new }
     {
         let mut given: u32 = 0;
-        for _ in 0..=TILES {
-            let Claim::Tile(t) = self.board.claim(seat) else {
-                break;
-            };
-            let (from, to) = self.plan.range(t);
-            self.lower_each(seat, from, to);
-            given = given.wrapping_add(1);
+        let mut last: u32 = 0;
+        for claim in 0..CLAIMS {
+            if self.take_tile(seat) {
+                given = given.wrapping_add(1);
+                last = claim.wrapping_add(1);
+            }
         }
-        given
+        if given == last { given } else { 0 }
     }
 
     /// Two workers' parts, each in a thread of its own, and how many tiles they got.
@@ -120,6 +139,41 @@ impl<'a, 'b, A: Memory> Shared<'a, 'b, A> {
     }
 }
 
+/// Whether each answer is the one that is worked out by hand, of eight places that are all in one slot: what one worker lowers,
+/// the other one sees, and a greater place changes nothing.
+pub fn answers_by_hand<A: Memory>(alloc: A) -> Result<bool, NoResources> {
+    let zeros = [0; 8];
+    let numbers = zeros.as_slice();
+    let plan = Plan::new(8, 2);
+    let (board, mut seats) = LeastBoard::new(alloc, Slots { numbers, count: 1 }, plan, 2)?;
+    let shared = Shared {
+        board: &board,
+        numbers,
+        count: 1,
+        plan,
+    };
+    let mut right = board.least(&mut seats[0], 0).is_none();
+    shared.lower_each(&mut seats[0], 7, 8);
+    right &= board.least(&mut seats[1], 0) == Some(7);
+    shared.lower_each(&mut seats[1], 3, 4);
+    right &= board.least(&mut seats[1], 0) == Some(3);
+    right &= board.least(&mut seats[0], 0) == Some(3);
+    shared.lower_each(&mut seats[0], 5, 6);
+    right &= board.least(&mut seats[1], 0) == Some(3);
+    Ok(right && board.close(seats).get(0) == Some(3))
+}
+
+/// What a board tells of its slot in which no place was lowered.
+fn of_none_lowered<A: Memory>(alloc: A) -> Result<Option<u32>, NoResources> {
+    let zeros = [0; 8];
+    let targets = Slots {
+        numbers: zeros.as_slice(),
+        count: 1,
+    };
+    let (board, seats) = LeastBoard::new(alloc, targets, Plan::new(8, 2), 2)?;
+    Ok(board.close(seats).get(0))
+}
+
 /// Places whose slots are 0, 1, 2 and 0 again.
 fn numbers() -> [u32; 3000] {
     let mut numbers = [0; PLACES];
@@ -137,13 +191,14 @@ fn by_two_threads<R: Threads + Sync, A: Memory>(
     let numbers = numbers();
     let numbers = numbers.as_slice();
     let plan = Plan::new(PLACES as u32, 16);
-    let (board, mut seats) = LeastBoard::new(alloc, ThreeSlots { numbers }, plan, 2)?;
+    let (board, mut seats) = LeastBoard::new(alloc, Slots { numbers, count: 3 }, plan, 2)?;
     let (Some(mut second), Some(mut first)) = (seats.pop(), seats.pop()) else {
         return Ok((0, [None; 3]));
     };
     let shared = Shared {
         board: &board,
         numbers,
+        count: 3,
         plan,
     };
     let given = shared.in_two_threads(rt, &mut first, &mut second);
@@ -156,10 +211,12 @@ fn by_two_threads<R: Threads + Sync, A: Memory>(
 }
 
 #[test]
-fn each_place_by_one_of_two_threads(rt: HostRuntime) -> Result<(), Fail> {
+fn workers_in_threads(rt: HostRuntime) -> Result<(), Fail> {
+    let heap = Refusing::none(rt.alloc());
+    assert_eq!(rt; of_none_lowered(&heap), Ok(None));
     let wanted = Ok((TILES, [Some(0), Some(1), Some(2)]));
     for _ in 0..10 {
-        assert_eq!(rt; by_two_threads(&rt, rt.alloc()), wanted);
+        assert_eq!(rt; by_two_threads(&rt, &heap), wanted);
     }
     Ok(())
 }
