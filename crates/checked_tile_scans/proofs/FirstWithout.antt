@@ -13,60 +13,17 @@ use Rattle.cvl_base.specs.Faults.{fault_at}
 use Rattle.cvl_base.specs.Gives.{◌>>=◌}
 use Rattle.cvl_base.specs.Integers.{wrap}
 use Rattle.cvl_base.specs.ItemWords.{is_number}
+use Rattle.fresh.specs.Found.{first_without}
 use Rattle.fresh.specs.Parts.{part}
 use Rattle.fresh.specs.Places.{Stretch, stretch, with_items}
 use Rattle.tile_scans.specs.Written.{next_of}
-use Rattle.tile_scans.proofs.Known.{IsWrittenPart, more_written, next_is}
-use Rattle.checked_tile_scans.specs.Checked.{first_without}
+use Rattle.tile_scans.proofs.WrittenParts.{IsWrittenPart, more_written, next_is}
 
 found_alone : (found : Option ℕ) → option_or found None ≡ found
 found_alone None = refl
 found_alone (Some w) = refl
 
 module _ {X : Type 0} where
-  -- ---- lists one after another
-
-  first_of_both : (place : ℕ) (vs ws : List (Option X)) → first_without place (vs ++ ws) ≡ option_or (first_without place vs) (first_without (place + length vs) ws)
-  first_of_both place [] ws = let same : place ≡ place + 0 = omega arith in ap (λ p. first_without p ws) same
-  first_of_both place (None ∷ vs) ws = refl
-  first_of_both place (Some x ∷ vs) ws =
-      let at : (place + 1) + length vs ≡ place + length (Some x ∷ vs) = omega arith in
-      first_of_both (place + 1) vs ws ∙ ap (λ p. option_or (first_without (place + 1) vs) (first_without p ws)) at
-
-  pub found_within : (place w : ℕ) (vs : List (Option X)) → first_without place vs ≡ Some w → w < place + length vs
-  found_within place w [] is = absurd (none-some w is)
-  found_within place w (None ∷ vs) is = let same : place ≡ w = same_Some place w is in omega (arith, same)
-  found_within place w (Some x ∷ vs) is = omega (arith, found_within (place + 1) w vs is)
-
-  module _ (whole : List (Option X)) where
-    part_of_both : (first n m : ℕ) → first + n ≤ length whole
-        → option_or (first_without first (part whole first n)) (first_without (first + n) (part whole (first + n) m)) ≡ first_without first (part whole first (n + m))
-    part_of_both first n m within =
-        let long : length (part whole first n) ≡ n = omega (arith, length-take n (drop first whole), length-drop first whole, within) in
-        ap (λ k. option_or (first_without first (part whole first n)) (first_without (first + k) (part whole (first + n) m))) (sym long)
-        ∙ sym (first_of_both first (part whole first n) (part whole (first + n) m))
-        ∙ ap (λ ys. first_without first (part whole first n ++ take m ys)) (sym (drop-drop n first whole))
-        ∙ ap (first_without first) (sym (take-add n m (drop first whole)))
-
-    -- of two runs, each with what was found in it
-    pub joined_without : {Y : Type 0} (run f b : Stretch Y) (x y o : Option ℕ) (k : ℕ) → run.items ≡ [] → k ≤ run.room → run.first + run.room ≤ length whole
-        → f ≡ stretch run.block run.first run.items (k - length run.items) → b ≡ stretch run.block (run.first + k) [] (length run.items + run.room - k)
-        → x ≡ first_without f.first (part whole f.first f.room) → y ≡ first_without b.first (part whole b.first b.room) → o ≡ option_or x y
-        → o ≡ first_without run.first (part whole run.first run.room)
-    joined_without run f b x y o k none le within is_f is_b is_x is_y is =
-        let long : length run.items ≡ 0 = ap length none in
-        let low : k - length run.items ≡ k = omega (arith, long) in
-        let high : length run.items + run.room - k ≡ run.room - k = omega (arith, long) in
-        let all : k + (run.room - k) ≡ run.room = omega (arith, le) in
-        is
-        ∙ ap (λ w. option_or w y) (is_x ∙ (λ i. first_without (is_f i).first (part whole (is_f i).first (is_f i).room)) ∙ ap (λ n. first_without run.first (part whole run.first n)) low)
-        ∙ ap (λ w. option_or (first_without run.first (part whole run.first k)) w)
-        (is_y ∙ (λ i. first_without (is_b i).first (part whole (is_b i).first (is_b i).room)) ∙ ap (λ n. first_without (run.first + k) (part whole (run.first + k) n)) high)
-        ∙ part_of_both run.first k (run.room - k) (omega (arith, le, within))
-        ∙ ap (λ n. first_without run.first (part whole run.first n)) all
-
-  -- ---- one at a time
-
   found_before : (found : Option ℕ) (place : ℕ) (v : Option X) (vs : List (Option X))
       → option_or (option_or found (first_without place (v ∷ []))) (first_without (place + 1) vs) ≡ option_or found (first_without place (v ∷ vs))
   found_before None place None vs = refl
@@ -89,9 +46,10 @@ module _ {X : Type 0} where
     pub found_all : room ≡ 0 → found ≡ target
     found_all none = sym (found_alone found) ∙ ap (λ n. option_or found (first_without place (part whole place n))) (sym none) ∙ is
 
--- the part of a list that is all of it
-pub whole_part : {X : Type 0} (xs : List X) (first n : ℕ) → first ≡ 0 → n ≡ length xs → part xs first n ≡ xs
-whole_part xs first n begins all = ap (λ p. take n (drop p xs)) begins ∙ take_all n xs (omega (arith, all))
+pub found_within : {X : Type 0} (place w : ℕ) (vs : List (Option X)) → first_without place vs ≡ Some w → w < place + length vs
+found_within place w [] is = absurd (none-some w is)
+found_within place w (None ∷ vs) is = let same : place ≡ w = same_Some place w is in omega (arith, same)
+found_within place w (Some x ∷ vs) is = omega (arith, found_within (place + 1) w vs is)
 
 -- ---- what it means
 

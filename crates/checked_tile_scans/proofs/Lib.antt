@@ -1,5 +1,4 @@
 pub mod FirstWithout
-pub mod FlatReduces
 pub mod Outsides
 pub mod SegmentTotals
 pub mod TileFronts

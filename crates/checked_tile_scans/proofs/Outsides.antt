@@ -13,15 +13,15 @@ use Rattle.cvl_base.specs.declared.fault.FaultNo.TheVariants.{Overflow}
 use Rattle.cvl_base.specs.Elementwise.{values_from}
 use Rattle.cvl_base.specs.Faults.{fault_at}
 use Rattle.scan_walks.specs.Fronts.{fitting_front}
-use Rattle.scan_walks.specs.Runs.{run_scan_of}
+use Rattle.scan_walks.specs.Ranges.{range_scan_of}
 use Rattle.scan_walks.proofs.Fitted.{overflows}
 use Rattle.scan_walks.proofs.FrontLaws.{front_past, front_within}
-use Rattle.scan_walks.proofs.RunPushed.{length-run_scan_of}
+use Rattle.scan_walks.proofs.RangePushed.{length-range_scan_of}
 use Rattle.tile_plan.specs.Ranges.{range_of, tile_count}
 use Rattle.tile_plan.proofs.Numbers.{ends_at, starts_past, starts_within}
-use Rattle.tile_scans.specs.Kernels.{tile_of}
-use Rattle.tile_scans.proofs.RunScans.{run_scan-drop, run_scan-take}
-use Rattle.tile_scans.proofs.Tiled.{tile_cut}
+use Rattle.tile_scans.specs.TiledSums.{tile_of}
+use Rattle.tile_scans.proofs.RangeScans.{range_scan-drop, range_scan-take}
+use Rattle.tile_scans.proofs.SumsOfTiles.{tile_cut}
 use Rattle.checked_tile_scans.specs.Checked.{first_outside, has_outside, total_scan, total_since}
 
 pub ltb_tells : (a b : ℕ) → ((nat_lt a b ≡ true) × (a < b)) ⊎ ((nat_lt a b ≡ false) × (b ≤ a))
@@ -190,12 +190,12 @@ module _ (len tile : ℕ) (zs : List ℤ) (some : 1 ≤ tile) (whole : length zs
 module _ (plan : ℕ × ℕ) (ws : List (Bool × ℤ)) where
   -- they are the scan of the tile, after what stands before it
   pub tile_scanned : (t : ℕ) → tile_of plan.0 plan.1 (total_scan ws) t
-      ≡ run_scan_of ◌+ℤ◌ (pos 0) (total_since (take (range_of plan.0 plan.1 t).0 ws)).1 (tile_of plan.0 plan.1 ws t)
+      ≡ range_scan_of ◌+ℤ◌ (pos 0) (total_since (take (range_of plan.0 plan.1 t).0 ws)).1 (tile_of plan.0 plan.1 ws t)
   tile_scanned t =
       let from : ℕ = (range_of plan.0 plan.1 t).0 in
       let n : ℕ = (range_of plan.0 plan.1 t).1 - from in
-      ap (take n) (run_scan-drop ◌+ℤ◌ (pos 0) false (pos 0) from ws)
-      ∙ run_scan-take ◌+ℤ◌ (pos 0) (total_since (take from ws)).1 n (drop from ws)
+      ap (take n) (range_scan-drop ◌+ℤ◌ (pos 0) false (pos 0) from ws)
+      ∙ range_scan-take ◌+ℤ◌ (pos 0) (total_since (take from ws)).1 n (drop from ws)
 
   pub length-total_scan : length (total_scan ws) ≡ length ws
-  length-total_scan = length-run_scan_of ◌+ℤ◌ (pos 0) (pos 0) ws
+  length-total_scan = length-range_scan_of ◌+ℤ◌ (pos 0) (pos 0) ws

@@ -21,13 +21,13 @@ use Rattle.cvl_base.specs.ItemWords.{is_number, is_word}
 use Rattle.cvl_base.specs.Limits.{most_elements}
 use Rattle.cvl_base.specs.SegmentMonoid.{is_seg_item}
 use Rattle.scan_walks.specs.Fronts.{fitting_front}
-use Rattle.scan_walks.specs.Runs.{continued, run_scan_of, scans_of, with_starts}
+use Rattle.scan_walks.specs.Ranges.{continued, range_scan_of, scans_of, with_starts}
 use Rattle.scan_walks.proofs.Cut.{segments_scanned}
 use Rattle.scan_walks.proofs.Fitted.{length-scans_of, scan_fits, scans_fit}
 use Rattle.scan_walks.proofs.WholeSums.{all_whole, whole_laws}
 use Rattle.tile_plan.specs.Ranges.{range_of, tile_count}
-use Rattle.tile_scans.specs.Kernels.{tile_of}
-use Rattle.tile_scans.proofs.RunScans.{continued_run_scan}
+use Rattle.tile_scans.specs.TiledSums.{tile_of}
+use Rattle.tile_scans.proofs.RangeScans.{continued_range_scan}
 use Rattle.checked_tile_scans.specs.Checked.{first_outside, slot_of_tile, total_scan, total_since, totals_before}
 use Rattle.checked_tile_scans.proofs.Outsides.{length-total_scan, none_outside, outside_is, tile_scanned, within_is}
 use Rattle.checked_tile_scans.proofs.WholeSums.{all_words, exact_total}
@@ -44,7 +44,7 @@ module _ (plan : ℕ × ℕ) (ws : List (Bool × ℤ)) (some : 1 ≤ plan.1) (fe
 
   -- how many results of tile t fit, from the first one on, as a walk from what is known to stand before it finds
   pub tile_front : (known : List ℤ) (t k : ℕ) → known ≡ totals_before plan ws → t < tile_count plan.0 plan.1
-      → k ≡ fitting_front (run_scan_of ◌+ℤ◌ (pos 0) (to_z w64 (of_z w64 (get_or known t (pos 0)))) (tile_of plan.0 plan.1 ws t))
+      → k ≡ fitting_front (range_scan_of ◌+ℤ◌ (pos 0) (to_z w64 (of_z w64 (get_or known t (pos 0)))) (tile_of plan.0 plan.1 ws t))
       → k ≡ fitting_front (tile_of plan.0 plan.1 (total_scan ws) t)
   tile_front known t k is below met =
       let from : ℕ = (range_of plan.0 plan.1 t).0 in
@@ -52,8 +52,8 @@ module _ (plan : ℕ × ℕ) (ws : List (Bool × ℤ)) (some : 1 ≤ plan.1) (fe
       ap (λ ks. get_or ks t (pos 0)) is
       ∙ get_or-map-range_with_len (λ j. (total_since (take (range_of plan.0 plan.1 j).0 ws)).1) 0 (tile_count plan.0 plan.1) t t (pos 0) below (omega arith) in
       met
-      ∙ ap (λ z. fitting_front (run_scan_of ◌+ℤ◌ (pos 0) (to_z w64 (of_z w64 z)) (tile_of plan.0 plan.1 ws t))) before
-      ∙ ap (λ z. fitting_front (run_scan_of ◌+ℤ◌ (pos 0) z (tile_of plan.0 plan.1 ws t))) (to_z-of_z w64 (total_since (take from ws)).1 (total_fits from))
+      ∙ ap (λ z. fitting_front (range_scan_of ◌+ℤ◌ (pos 0) (to_z w64 (of_z w64 z)) (tile_of plan.0 plan.1 ws t))) before
+      ∙ ap (λ z. fitting_front (range_scan_of ◌+ℤ◌ (pos 0) z (tile_of plan.0 plan.1 ws t))) (to_z-of_z w64 (total_since (take from ws)).1 (total_fits from))
       ∙ ap fitting_front (sym (tile_scanned plan ws t))
 
   pub tile_long : (t : ℕ) → length (tile_of plan.0 plan.1 (total_scan ws) t) ≡ (range_of plan.0 plan.1 t).1 - (range_of plan.0 plan.1 t).0
@@ -83,7 +83,7 @@ module _ (plan : ℕ × ℕ) (ws : List (Bool × ℤ)) (some : 1 ≤ plan.1) (fe
 pub flat_scan_meant : (xs ys : List ℤ) → first_outside (total_scan (continued xs)) ≡ None → ys ≡ scan_of sum_of (pos 0) xs → checked_scan_of xs ≡ Ok ys
 flat_scan_meant xs ys fit is =
     let zs = scan_of ◌+ℤ◌ (pos 0) xs in
-    let ge = none_outside zs None (sym fit ∙ ap first_outside (continued_run_scan ◌+ℤ◌ (pos 0) (pos 0) xs)) refl in
+    let ge = none_outside zs None (sym fit ∙ ap first_outside (continued_range_scan ◌+ℤ◌ (pos 0) (pos 0) xs)) refl in
     scan_fits (fitting_front zs) xs refl (omega (arith, ge, length-scan_of ◌+ℤ◌ (pos 0) xs)) ∙ ap Ok (sym is)
 
 -- and of a segmented one

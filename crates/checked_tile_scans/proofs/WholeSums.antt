@@ -22,9 +22,9 @@ use Rattle.cvl_base.specs.TileSums.{before_tile}
 use Rattle.scan_walks.proofs.Fitted.{zero_wrapped}
 use Rattle.tile_plan.specs.Ranges.{range_of, tile_count}
 use Rattle.tile_plan.proofs.Numbers.{starts_within}
-use Rattle.tile_scans.specs.Kernels.{sums_of, tile_of}
+use Rattle.tile_scans.specs.TiledSums.{sums_of, tile_of}
 use Rattle.tile_scans.specs.Written.{befores_of}
-use Rattle.tile_scans.proofs.Tiled.{sums_before}
+use Rattle.tile_scans.proofs.SumsOfTiles.{sums_before}
 use Rattle.checked_tile_scans.specs.Checked.{total_since, totals_before}
 
 pub all_words : (ws : List (Bool × ℤ)) → AllPass (is_seg_item is_number) ws → AllPass (is_seg_item is_word) ws

@@ -1,26 +1,26 @@
 -- Checked scans in tiles: what stands before each tile over whole numbers, and which results don't fit 32 bits.
 -- Source: Blelloch's segmented scans and the tiles of Merrill and Garland; that the first result that doesn't fit is the fault is this
 -- library's profile.
-use Rattle.std.specs.Prelude.{ℕ, ◌+◌, Bool, ℤ, pos, ◌+ℤ◌, List, [], ◌∷◌, length, map, take, nat_lt, Option, Some, None, if◌then◌else◌}
+use Rattle.std.specs.Prelude.{ℕ, Bool, ℤ, pos, ◌+ℤ◌, List, length, map, take, nat_lt, Option, Some, None, if◌then◌else◌}
 use Rattle.std.specs.List.{range_with_len}
 use Rattle.cvl_base.specs.Folds.{fold_of}
 use Rattle.cvl_base.specs.SegmentMonoid.{seg_join, seg_unit}
 use Rattle.tile_plan.specs.Ranges.{tile_count, range_of}
 use Rattle.scan_walks.specs.Fronts.{fitting_front}
-use Rattle.scan_walks.specs.Runs.{reduces_of, run_scan_of}
-use Rattle.tile_scans.specs.Kernels.{tile_of}
+use Rattle.scan_walks.specs.Ranges.{reduces_of, range_scan_of}
+use Rattle.tile_scans.specs.TiledSums.{tile_of}
 
--- what the elements of a run add up to since the last start of a segment
+-- what elements add up to since the last start of a segment
 abbrev pub total_since : List (Bool × ℤ) → Bool × ℤ
-total_since run = fold_of (seg_join ◌+ℤ◌) (seg_unit (pos 0)) run
+total_since ws = fold_of (seg_join ◌+ℤ◌) (seg_unit (pos 0)) ws
 
 -- what stands before each tile
 abbrev pub totals_before : ℕ × ℕ → List (Bool × ℤ) → List ℤ
-totals_before plan run = map (λ t. (total_since (take (range_of plan.0 plan.1 t).0 run)).1) (range_with_len 0 (tile_count plan.0 plan.1))
+totals_before plan ws = map (λ t. (total_since (take (range_of plan.0 plan.1 t).0 ws)).1) (range_with_len 0 (tile_count plan.0 plan.1))
 
 -- the results of the scan, whether they fit or not
 abbrev pub total_scan : List (Bool × ℤ) → List ℤ
-total_scan run = run_scan_of ◌+ℤ◌ (pos 0) (pos 0) run
+total_scan ws = range_scan_of ◌+ℤ◌ (pos 0) (pos 0) ws
 
 -- whether a number of a list doesn't fit
 abbrev pub has_outside : List ℤ → Bool
@@ -32,14 +32,8 @@ first_outside zs = if has_outside zs then Some (fitting_front zs) else None
 
 -- the one slot of tiles with a result that doesn't fit; the other tiles have none
 abbrev pub slot_of_tile : ℕ × ℕ → List (Bool × ℤ) → ℕ → Option ℕ
-slot_of_tile plan run t = if has_outside (tile_of plan.0 plan.1 (total_scan run) t) then Some 0 else None
+slot_of_tile plan ws t = if has_outside (tile_of plan.0 plan.1 (total_scan ws) t) then Some 0 else None
 
 -- the sum of each segment, whether it fits or not
 abbrev pub segment_totals : List ℕ → List ℤ → List ℤ
 segment_totals lengths xs = reduces_of ◌+ℤ◌ (pos 0) lengths xs
-
--- the place of the first that has no value, where the first of all has the place given
-abbrev pub first_without : {X : Type 0} → ℕ → List (Option X) → Option ℕ
-first_without place [] = None
-first_without place (None ∷ vs) = Some place
-first_without place (Some x ∷ vs) = first_without (place + 1) vs

@@ -8,12 +8,11 @@ ghost use Rattle.cvl_base.specs.CheckedSums.{checked_reduce_of, checked_scan_of}
 ghost use Rattle.cvl_base.specs.Gives.{Gives};
 ghost use Rattle.cvl_base.specs.Limits.{most_elements};
 
-use crate::flat_totals::FlatTotals;
 use crate::overflows::befores_or_overflow;
 use crate::totals::{Totals, race_for_totals};
 use cvl_base::monoids::Add;
 use cvl_base::{Config, Fault, FaultNo, Memory, Refused};
-use scan_walks::{checked_scan_of, checked_sum_of, fitting, know_numbers};
+use scan_walks::{checked_scan_vec, checked_sum, fitting, know_numbers};
 use std::mem::size_of_val;
 use std::thread::Threads;
 use tile_scans::{reduce_pace, scan_after_befores, scan_pace};
@@ -33,15 +32,16 @@ pub fn checked_scan<R: Threads + Sync, A: Memory>(
     ensures as_long { IfOk result (λ sums. vec_len sums ≡ length a.now) }
 {
     let Some(pace) = scan_pace(config, a.len()) else {
-        return checked_scan_of(alloc, a);
+        return checked_scan_vec(alloc, a);
     };
-    let totals = FlatTotals::new(a, pace.tile());
+    let totals = Totals::<A>::new(a, None, pace.tile());
     let before = match befores_or_overflow(rt, alloc, pace, &totals) {
         Ok(before) => before,
         Err(refused) => return Err(refused),
     };
     know_numbers(a);
-    let sums = scan_after_befores::<R, A, Add>(rt, alloc, pace, a, &before)?;
+    let flat = totals.segments;
+    let sums = scan_after_befores::<R, A, Add>(rt, alloc, pace, a, flat, &before)?;
     Ok(sums)
 }
 
@@ -59,12 +59,11 @@ pub fn checked_reduce<R: Threads + Sync, A: Memory>(
     ensures { Gives (λ sum. sum) result (checked_reduce_of a.now) }
 {
     let Some(pace) = reduce_pace(config, a.len(), size_of_val(a)) else {
-        return Ok(checked_sum_of(a)?);
+        return Ok(checked_sum(a)?);
     };
-    let totals = FlatTotals::new(a, pace.tile());
+    let totals = Totals::<A>::new(a, None, pace.tile());
     let before = race_for_totals(rt, alloc, pace, &totals)?;
-    let last = totals.plan().count() - 1;
-    let sum = before[last as usize] + totals.total(last).1;
+    let sum = totals.total_between(0, a.len(), &before);
     match fitting(&sum) {
         Some(sum) => Ok(sum),
         None => Err(Refused::Fault(Fault::at(FaultNo::Overflow, 0))),

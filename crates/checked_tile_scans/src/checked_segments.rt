@@ -9,18 +9,17 @@ ghost use Rattle.cvl_base.specs.CheckedSums.{checked_seg_reduce_of, checked_seg_
 ghost use Rattle.cvl_base.specs.Gives.{Gives};
 
 use crate::overflows::befores_or_overflow;
-use crate::segment_sums::{SegmentSums, before_tiles};
-use crate::segmented_totals::SegmentedTotals;
-use crate::sum_runs::fitting_sums;
+use crate::segment_sums::{before_tiles, sums_known};
 use crate::summed_tile::summed_tile;
+use crate::totals::Totals;
 use cvl_base::monoids::Add;
 use cvl_base::{Config, Memory, Refused};
-use scan_walks::{checked_scan_of_segments, checked_sums_of_segments, know_numbers};
+use scan_walks::{checked_seg_reduce_vec, checked_seg_scan_vec, know_numbers};
 use segdes::{SegDes, check_total};
 use sharing::threads_for;
 use std::mem::size_of_val;
 use std::thread::Threads;
-use tile_scans::{reduce_pace, scan_pace, seg_scan_after_befores};
+use tile_scans::{reduce_pace, scan_after_befores, scan_pace};
 
 /// The exclusive scan of each segment by addition that never wraps: `tot_sez`.
 ///
@@ -39,15 +38,15 @@ pub fn checked_seg_scan<R: Threads + Sync, A: Memory>(
 {
     check_total(a, d)?;
     let Some(pace) = scan_pace(config, a.len()) else {
-        return checked_scan_of_segments(alloc, a, d);
+        return checked_seg_scan_vec(alloc, a, d);
     };
-    let totals = SegmentedTotals::new(a, d, pace.tile());
+    let totals = Totals::new(a, Some(d), pace.tile());
     let before = match befores_or_overflow(rt, alloc, pace, &totals) {
         Ok(before) => before,
         Err(refused) => return Err(refused),
     };
     know_numbers(a);
-    let sums = seg_scan_after_befores::<R, A, Add>(rt, alloc, pace, a, d, &before)?;
+    let sums = scan_after_befores::<R, A, Add>(rt, alloc, pace, a, Some(d), &before)?;
     Ok(sums)
 }
 
@@ -68,14 +67,10 @@ pub fn checked_seg_reduce<R: Threads + Sync, A: Memory>(
 {
     check_total(a, d)?;
     let Some(pace) = reduce_pace(config, a.len(), size_of_val(a)) else {
-        return checked_sums_of_segments(alloc, a, d);
+        return checked_seg_reduce_vec(alloc, a, d);
     };
-    let totals = SegmentedTotals::new(a, d, summed_tile(pace, d));
+    let totals = Totals::new(a, Some(d), summed_tile(pace, d));
     let before = before_tiles(rt, alloc, pace, &totals)?;
-    let sums = SegmentSums {
-        vector: &totals,
-        before: &before,
-    };
     let threads = threads_for(pace, a.len().max(d.count()));
-    fitting_sums(rt, alloc, threads, &sums, d.count())
+    sums_known(rt, alloc, threads, &totals, d, &before)
 }

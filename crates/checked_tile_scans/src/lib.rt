@@ -8,11 +8,8 @@
 
 mod checked;
 mod checked_segments;
-mod flat_totals;
 mod overflows;
 mod segment_sums;
-mod segmented_totals;
-mod sum_runs;
 mod summed_tile;
 mod totals;
 

@@ -1,15 +1,13 @@
 //! The first result of a checked scan that does not fit 32 bits, for which workers race.
 
-ghost use Rattle.std.specs.Prelude.{◌≡◌, ◌≤◌, true, IfOk, length, map};
-ghost use Rattle.std.specs.List.{list_all};
+ghost use Rattle.std.specs.Prelude.{◌≡◌, IfOk, None, map};
+ghost use Rattle.std.specs.Option.{option_copied};
 ghost use Rattle.cvl_base.specs.CheckedSums.{fitting};
 ghost use Rattle.cvl_base.specs.declared.fault.FaultNo.TheVariants as no;
 ghost use Rattle.cvl_base.specs.Elementwise.{values_from};
 ghost use Rattle.cvl_base.specs.Gives.{Gives};
 ghost use Rattle.cvl_base.specs.Integers.{wrap};
-ghost use Rattle.cvl_base.specs.ItemWords.{is_number};
-ghost use Rattle.cvl_base.specs.Limits.{most_elements};
-ghost use Rattle.cvl_base.specs.SegmentMonoid.{is_seg_item};
+ghost use Rattle.tile_scans.specs.TiledSums.{flagged};
 ghost use Rattle.checked_tile_scans.specs.Checked.{first_outside, total_scan, totals_before};
 
 use crate::totals::{Totals, race_for_totals};
@@ -20,35 +18,32 @@ use cvl_base::{Config, Fault, FaultNo, Memory, NoResources, Packed, Refused};
 use least_races::race_for_least;
 use std::alloc::Allocator;
 use std::thread::Threads;
-use tile_plan::Plan;
 
 /// The tiles of a vector that have a result which does not fit 32 bits, all in one slot.
 #[derive(Drop)]
-struct Outside<'a, V: Totals> {
-    vector: &'a V,
-    plan: Plan,
+struct Outside<'a, A: Allocator> {
+    vector: &'a Totals<'a, A>,
     before: &'a [i64],
-    ghost cut: { plan ≡ V.tiling vector.now },
-    ghost known: { before.now ≡ totals_before (V.tiling vector.now) (V.run vector.now) },
-    ghost whole: { length (V.run vector.now) ≡ (V.tiling vector.now).0 },
-    ghost few: { (V.tiling vector.now).0 ≤ most_elements },
-    ghost some: { 1 ≤ (V.tiling vector.now).1 },
-    ghost numbers: { list_all (is_seg_item is_number) (V.run vector.now) ≡ true },
+    ghost known: { before.now
+        ≡ totals_before vector.now.plan (flagged (option_copied vector.now.segments) vector.now.elements.now) },
 }
 
-impl<'a, V: Totals> Targets for Outside<'a, V> {
+impl<'a, A: Allocator> Targets for Outside<'a, A> {
     ghost use Rattle.std.specs.Prelude.{map};
     ghost use Rattle.std.specs.List.{range_with_len};
+    ghost use Rattle.std.specs.Option.{option_copied};
     ghost use Rattle.tile_plan.specs.Ranges.{tile_count};
+    ghost use Rattle.tile_scans.specs.TiledSums.{flagged};
     ghost use Rattle.checked_tile_scans.specs.Checked.{slot_of_tile};
 
-    ghost targets = { λ o. map (slot_of_tile (V.tiling o.vector.now) (V.run o.vector.now))
-        (range_with_len 0 (tile_count (V.tiling o.vector.now).0 (V.tiling o.vector.now).1)) };
+    ghost targets = { λ o. map (slot_of_tile o.vector.now.plan
+        (flagged (option_copied o.vector.now.segments) o.vector.now.elements.now))
+        (range_with_len 0 (tile_count o.vector.now.plan.0 o.vector.now.plan.1)) };
 
     ghost slot_count = { λ o. 1 };
 
     fn places(&self) -> u32 {
-        self.plan.count()
+        self.vector.plan.count()
     }
 
     fn slots(&self) -> u32 {
@@ -56,7 +51,7 @@ impl<'a, V: Totals> Targets for Outside<'a, V> {
     }
 
     fn slot(&self, place: u32) -> Option<u32> {
-        let (from, to) = self.plan.range(place);
+        let (from, to) = self.vector.plan.range(place);
         if self.vector.fitting(place, self.before[place as usize]) < (to - from) as usize {
             Some(0)
         } else {
@@ -67,26 +62,23 @@ impl<'a, V: Totals> Targets for Outside<'a, V> {
 
 /// The place of the first result that does not fit 32 bits, where it is known what stands before each tile. Workers race for
 /// the first tile that has such a result; then one thread walks that tile again.
-fn first_overflow<R: Threads + Sync, A: Memory, V: Totals + Sync>(
+fn first_overflow<R: Threads + Sync, A: Memory>(
     rt: &R,
     alloc: A,
     config: Config,
-    vector: &V,
+    vector: &Totals<A>,
     before: &[i64],
 ) -> Result<Option<u32>, NoResources>
-    requires { before.now ≡ totals_before (V.tiling vector.now) (V.run vector.now) }
-    ensures { IfOk result (λ place. place ≡ first_outside (total_scan (V.run vector.now))) }
+    requires { before.now
+        ≡ totals_before vector.now.plan (flagged (option_copied vector.now.segments) vector.now.elements.now) }
+    ensures { IfOk result (λ place. place
+        ≡ first_outside (total_scan (flagged (option_copied vector.now.segments) vector.now.elements.now))) }
 {
-    let plan = vector.plan();
-    let outside = Outside {
-        vector,
-        plan,
-        before,
-    };
+    let outside = Outside { vector, before };
     let one_each = Config::new(1, config.workers()).unwrap_or(config);
     match race_for_least(rt, alloc, one_each, &outside, &OpenGate)? {
         Some(t) => {
-            let (from, _) = plan.range(t);
+            let (from, _) = vector.plan.range(t);
             Ok(Some(from + vector.fitting(t, before[t as usize]) as u32))
         }
         None => Ok(None),
@@ -102,17 +94,19 @@ fn wrapped<A: Allocator>(alloc: A, numbers: &[i64]) -> Result<Vec<i32, A>, NoRes
 
 /// What stands before each tile, of 32 bits, where all results of the scan fit them: `Overflow` at the first one that does
 /// not.
-pub(crate) fn befores_or_overflow<R: Threads + Sync, A: Memory, V: Totals + Sync>(
+pub(crate) fn befores_or_overflow<R: Threads + Sync, A: Memory>(
     rt: &R,
     alloc: A,
     config: Config,
-    vector: &V,
+    vector: &Totals<A>,
 ) -> Result<Vec<i32, A>, Refused>
-    ensures meaning { Gives (λ before. total_scan (V.run vector.now)) result
-        (values_from no.Overflow 0 (map fitting (total_scan (V.run vector.now)))) }
-    ensures fit { IfOk result (λ _. first_outside (total_scan (V.run vector.now)) ≡ None) }
-    ensures before { IfOk result (λ before. before.items
-        ≡ map wrap (totals_before (V.tiling vector.now) (V.run vector.now))) }
+    ensures meaning { Gives (λ before. total_scan (flagged (option_copied vector.now.segments) vector.now.elements.now)) result
+        (values_from no.Overflow 0 (map fitting
+        (total_scan (flagged (option_copied vector.now.segments) vector.now.elements.now)))) }
+    ensures fit { IfOk result (λ _. first_outside
+        (total_scan (flagged (option_copied vector.now.segments) vector.now.elements.now)) ≡ None) }
+    ensures before { IfOk result (λ before. before.items ≡ map wrap
+        (totals_before vector.now.plan (flagged (option_copied vector.now.segments) vector.now.elements.now))) }
 {
     let before = race_for_totals(rt, alloc, config, vector)?;
     if let Some(place) = first_overflow(rt, alloc, config, vector, &before)? {

@@ -1,27 +1,33 @@
-//! The sums of segments, each found from the tile that holds the segment's last element.
+//! The sums of segments, each found from the tile that holds the segment's last element. The first sum that does not fit 32 bits is
+//! found while they are written, so that nothing is added up a second time.
 
-ghost use Rattle.std.specs.Prelude.{◌≡◌, ◌∷◌, [], pos, IfOk};
-ghost use Rattle.std.specs.Option.{option_or};
-ghost use Rattle.scan_walks.specs.Runs.{with_starts};
-ghost use Rattle.checked_tile_scans.specs.Checked.{first_without, totals_before};
+ghost use Rattle.std.specs.Prelude.{◌≡◌, ◌∷◌, ◌≤◌, [], Some, pos, IfOk, length, map, vec_len};
+ghost use Rattle.std.specs.Option.{option_copied};
+ghost use Rattle.cvl_base.specs.CheckedSums.{fitting};
+ghost use Rattle.cvl_base.specs.declared.fault.FaultNo.TheVariants as no;
+ghost use Rattle.cvl_base.specs.Elementwise.{values_from};
+ghost use Rattle.cvl_base.specs.Gives.{Gives};
+ghost use Rattle.tile_scans.specs.TiledSums.{flagged};
+ghost use Rattle.checked_tile_scans.specs.Checked.{segment_totals, totals_before};
 
-use crate::segmented_totals::SegmentedTotals;
-use crate::sum_runs::Sums;
-use crate::totals::race_for_totals;
+use crate::totals::{Totals, race_for_totals};
 use cvl_base::monoids::Add;
-use cvl_base::{Config, Memory, NoResources, Packed};
-use fresh::Run;
+use cvl_base::{Config, Fault, FaultNo, Memory, NoResources, Packed, Refused};
+use fresh::{CheckedWriter, Run, first_found, write_checked_in_runs};
 use scan_walks::fitting;
+use segdes::SegDes;
 use std::alloc::Allocator;
 use std::thread::Threads;
 
 /// The sums of the segments of a vector, of which it is known what stands before each tile.
 #[derive(Drop)]
-pub(crate) struct SegmentSums<'a, A: Allocator> {
-    pub(crate) vector: &'a SegmentedTotals<'a, A>,
-    pub(crate) before: &'a [i64],
+struct SegmentSums<'a, A: Allocator> {
+    vector: &'a Totals<'a, A>,
+    segments: &'a SegDes<A>,
+    before: &'a [i64],
+    ghost cut: { option_copied vector.now.segments ≡ Some segments.now },
     ghost known: { before.now
-        ≡ totals_before vector.now.plan (with_starts vector.now.segments.now vector.now.elements.now) },
+        ≡ totals_before vector.now.plan (flagged (option_copied vector.now.segments) vector.now.elements.now) },
 }
 
 /// What stands before the one tile of a vector.
@@ -38,10 +44,10 @@ pub(crate) fn before_tiles<R: Threads + Sync, A: Memory>(
     rt: &R,
     alloc: A,
     config: Config,
-    vector: &SegmentedTotals<A>,
+    vector: &Totals<A>,
 ) -> Result<Vec<i64, A>, NoResources>
     ensures { IfOk result (λ before. before.items
-        ≡ totals_before vector.now.plan (with_starts vector.now.segments.now vector.now.elements.now)) }
+        ≡ totals_before vector.now.plan (flagged (option_copied vector.now.segments) vector.now.elements.now)) }
 {
     if vector.plan.count() == 1 {
         return nothing_before(alloc);
@@ -49,58 +55,91 @@ pub(crate) fn before_tiles<R: Threads + Sync, A: Memory>(
     race_for_totals(rt, alloc, config, vector)
 }
 
-/// The place of the first number that does not fit, where one was found before, or else that of this one if it does not.
-#[inline(always)]
-fn first_of(outside: Option<usize>, number: Option<i32>, place: usize) -> Option<usize>
-    ensures { result ≡ option_or outside (first_without place (number ∷ [])) }
+/// The sums of the segments, where it is known what stands before each tile. At most so many threads write them. `Overflow` at the
+/// first segment whose sum does not fit 32 bits.
+pub(crate) fn sums_known<R: Threads + Sync, A: Memory>(
+    rt: &R,
+    alloc: A,
+    threads: u32,
+    vector: &Totals<A>,
+    segments: &SegDes<A>,
+    before: &[i64],
+) -> Result<Vec<i32, A>, Refused>
+    requires cut { option_copied vector.now.segments ≡ Some segments.now }
+    requires known { before.now
+        ≡ totals_before vector.now.plan (flagged (option_copied vector.now.segments) vector.now.elements.now) }
+    ensures values { Gives (λ v. v.items) result
+        (values_from no.Overflow 0 (map fitting (segment_totals segments.now vector.now.elements.now))) }
+    ensures one_each { IfOk result (λ v. vec_len v ≡ length segments.now) }
 {
-    match (outside, number) {
-        (None, None) => Some(place),
-        _ => outside,
+    let sums = SegmentSums {
+        vector,
+        segments,
+        before,
+    };
+    let (written, outside) = write_checked_in_runs(rt, alloc, threads, &sums, segments.count())?;
+    match outside {
+        Some(place) => Err(Refused::Fault(Fault::at(FaultNo::Overflow, place as u32))),
+        None => Ok(written),
     }
 }
 
-impl<'a, A: Allocator> Sums for SegmentSums<'a, A> {
+impl<'a, A: Allocator> SegmentSums<'a, A> {
+    ghost use Rattle.std.specs.Prelude.{◌<◌, slice_index_or};
+
+    /// The sum of segment `s`.
+    fn sum(&self, s: usize) -> i64
+        requires { s < length self.now.segments.now }
+        ensures { result ≡ slice_index_or (segment_totals self.now.segments.now self.now.vector.now.elements.now) s (pos 0) }
+    {
+        let start = self.segments.start(s);
+        self.vector
+            .total_between(start, start + self.segments.length(s), self.before)
+    }
+}
+
+impl<'a, A: Allocator> CheckedWriter<i32> for SegmentSums<'a, A> {
     ghost use Rattle.std.specs.Prelude.{◌≡◌, ◌+◌, ◌≤◌, [], length, map};
     ghost use Rattle.cvl_base.specs.CheckedSums.{fitting};
     ghost use Rattle.cvl_base.specs.Integers.{wrap};
+    ghost use Rattle.fresh.specs.Found.{first_without};
     ghost use Rattle.fresh.specs.Parts.{part};
     ghost use Rattle.fresh.specs.Places.{stretch};
-    ghost use Rattle.checked_tile_scans.specs.Checked.{first_without, segment_totals};
+    ghost use Rattle.checked_tile_scans.specs.Checked.{segment_totals};
 
-    ghost sums = { λ sums. segment_totals sums.vector.now.segments.now sums.vector.now.elements.now };
+    ghost whole = { λ sums. map wrap (segment_totals sums.segments.now sums.vector.now.elements.now) };
+
+    ghost values = { λ sums. map fitting (segment_totals sums.segments.now sums.vector.now.elements.now) };
 
     fn write(&self, run: Run<i32>) -> (Run<i32>, Option<usize>)
         requires empty { run.items ≡ [] }
         requires within { run.first + run.room
-            ≤ length (segment_totals self.now.vector.now.segments.now self.now.vector.now.elements.now) }
+            ≤ length (map wrap (segment_totals self.now.segments.now self.now.vector.now.elements.now)) }
         ensures run { result.0 ≡ stretch run.block run.first (part
-            (map wrap (segment_totals self.now.vector.now.segments.now self.now.vector.now.elements.now))
-            run.first run.room) 0 }
-        ensures outside { result.1 ≡ first_without run.first (part
-            (map fitting (segment_totals self.now.vector.now.segments.now self.now.vector.now.elements.now))
-            run.first run.room) }
+            (map wrap (segment_totals self.now.segments.now self.now.vector.now.elements.now)) run.first run.room) 0 }
+        ensures found { result.1 ≡ first_without run.first (part
+            (map fitting (segment_totals self.now.segments.now self.now.vector.now.elements.now)) run.first run.room) }
     {
         let mut run = run;
         let mut outside = None;
         while run.room() > 0 {
             let place = run.next_place();
-            let sum = self.vector.segment_total(place, self.before);
-            outside = first_of(outside, fitting(&sum), place);
+            let sum = self.sum(place);
+            outside = first_found(outside, fitting(&sum), place);
             run.push(Add::from_word(sum));
         }
         (run, outside)
     }
 
-    fn share(&self, first: usize, count: usize, fewer: usize, threads: usize) -> usize {
-        let from = self.vector.start_or_total(first);
-        let to = self.vector.start_or_total(first.saturating_add(count));
+    /// Segments with about as many elements for each thread.
+    fn share(&self, first: usize, room: usize, fewer: usize, threads: usize) -> usize {
+        let from = self.segments.start_or_total(first);
+        let to = self.segments.start_or_total(first.saturating_add(room));
         let elements = to.saturating_sub(from) / threads;
         let place = from.saturating_add(elements.saturating_mul(fewer));
-        self.vector
-            .segments
+        self.segments
             .starts_before(place)
             .saturating_sub(first)
-            .min(count)
+            .min(room)
     }
 }

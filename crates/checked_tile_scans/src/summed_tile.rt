@@ -7,12 +7,6 @@ use segdes::SegDes;
 use sharing::LONG_TILE;
 use std::alloc::Allocator;
 
-/// Where the first segment starts that starts at a place or after it, and the number of elements where none does.
-fn start_from<A: Allocator>(d: &SegDes<A>, place: usize) -> usize {
-    let s = d.starts_before(place);
-    if s < d.count() { d.start(s) } else { d.total() }
-}
-
 /// Whether the elements can be cut between segments into so many parts, of which there is at least one, that are nearly equal:
 /// after each place that cuts them into equal parts a segment starts within half a part.
 fn is_cut_evenly<A: Allocator>(d: &SegDes<A>, parts: usize) -> bool
@@ -21,7 +15,8 @@ fn is_cut_evenly<A: Allocator>(d: &SegDes<A>, parts: usize) -> bool
     let each = d.total() / parts;
     for part in 1..parts {
         let place = each.saturating_mul(part);
-        if start_from(d, place).saturating_sub(place) > each / 2 {
+        let start = d.start_or_total(d.starts_before(place));
+        if start.saturating_sub(place) > each / 2 {
             return false;
         }
     }

@@ -1,76 +1,138 @@
-//! Integers in tiles that are added up over whole numbers, which never wrap.
+//! Vectors of integers in tiles, flat ones and segmented ones, that are added up over whole numbers, which never wrap.
 
-ghost use Rattle.std.specs.Prelude.{◌≡◌, ◌+ℤ◌, ◌-◌, ◌<◌, ◌≤◌, ℕ, ℤ, Bool, true, pos, IfOk, List, length};
-ghost use Rattle.std.specs.List.{AllPass, list_all};
+ghost use Rattle.std.specs.Prelude.{◌≡◌, ◌+ℤ◌, ◌<◌, ◌≤◌, true, pos, IfOk, length};
+ghost use Rattle.std.specs.List.{list_all};
+ghost use Rattle.std.specs.Option.{option_copied};
 ghost use Rattle.cvl_base.specs.ItemWords.{is_number};
 ghost use Rattle.cvl_base.specs.Limits.{most_elements};
-ghost use Rattle.cvl_base.specs.SegmentMonoid.{is_seg_item};
-ghost use Rattle.scan_walks.specs.Fronts.{fitting_front};
-ghost use Rattle.scan_walks.specs.Runs.{run_scan_of};
-ghost use Rattle.tile_plan.specs.Ranges.{range_of, tile_count};
-ghost use Rattle.tile_scans.specs.Kernels.{tile_of};
-ghost use Rattle.checked_tile_scans.specs.Checked.{total_since, totals_before};
+ghost use Rattle.tile_scans.specs.TiledSums.{elements_of, flagged};
+ghost use Rattle.checked_tile_scans.specs.Checked.{totals_before};
 
 use boards::Tiles;
 use crew::OpenGate;
 use cvl_base::monoids::Exact;
 use cvl_base::{Config, Memory, NoResources};
+use scan_walks::{fitting_of_range, fitting_of_scan, know_numbers, total, total_of_range};
+use segdes::SegDes;
+use std::alloc::Allocator;
 use std::thread::Threads;
 use tile_plan::Plan;
 use tile_scans::race_for_befores;
 
-/// A vector of integers in tiles, seen as its elements, each with whether a segment starts at it.
-pub(crate) trait Totals: Drop {
-    ghost run: { Self → List (Bool × ℤ) };
+/// A vector of integers in tiles. It is flat where it has no descriptor. Its tiles' sums race as numbers of 54 bits, which they
+/// all fit.
+#[derive(Drop)]
+pub(crate) struct Totals<'a, A: Allocator> {
+    pub(crate) elements: &'a [i32],
+    pub(crate) segments: Option<&'a SegDes<A>>,
+    pub(crate) plan: Plan,
+    ghost numbers: { list_all is_number elements.now ≡ true },
+    ghost agrees: { elements_of (option_copied segments) (length elements.now) ≡ length elements.now },
+    ghost whole: { plan.0 ≡ length elements.now },
+    ghost few: { plan.0 ≤ most_elements },
+    ghost some: { 1 ≤ plan.1 },
+}
 
-    ghost tiling: { Self → ℕ × ℕ };
+impl<'a, A: Allocator> Totals<'a, A> {
+    ghost use Rattle.std.specs.Prelude.{ℕ, slice_range, take};
+    ghost use Rattle.cvl_base.specs.Exact.{total_of};
+    ghost use Rattle.scan_walks.specs.Fronts.{fitting_front};
+    ghost use Rattle.scan_walks.specs.Ranges.{range_scan_of};
+    ghost use Rattle.tile_plan.specs.Ranges.{tile_count};
+    ghost use Rattle.tile_scans.specs.TiledSums.{tile_of};
+    ghost use Rattle.checked_tile_scans.specs.Checked.{total_since};
 
-    /// How the vector is cut into tiles.
-    fn plan(&self) -> Plan
-        ensures plan { result ≡ tiling self.now }
-        ensures whole { length (run self.now) ≡ (tiling self.now).0 }
-        ensures few { (tiling self.now).0 ≤ most_elements }
-        ensures some { 1 ≤ (tiling self.now).1 }
-        ensures numbers { AllPass (is_seg_item is_number) (run self.now) };
+    /// A vector of at most 4,194,304 elements, beside its descriptor if it has one, in tiles of `tile` elements, of which there is
+    /// at least one.
+    pub(crate) fn new(
+        elements: &'a [i32],
+        segments: Option<&'a SegDes<A>>,
+        tile: u32,
+    ) -> Totals<'a, A>
+        requires agrees { elements_of (option_copied segments) (length elements.now) ≡ length elements.now }
+        requires few { length elements.now ≤ most_elements }
+        requires some { 1 ≤ tile }
+        ensures elements { result.elements.now ≡ elements.now }
+        ensures segments { option_copied result.segments ≡ option_copied segments.entry }
+        ensures plan { result.plan ≡ (length elements.now, tile) }
+    {
+        know_numbers(elements);
+        Totals {
+            elements,
+            segments,
+            plan: Plan::new(elements.len() as u32, tile),
+        }
+    }
 
     /// Whether a segment starts in tile `t`, and what its elements add up to since the last start.
     fn total(&self, t: u32) -> (bool, i64)
-        requires { t < tile_count (tiling self.now).0 (tiling self.now).1 }
-        ensures { result ≡ total_since (tile_of (tiling self.now).0 (tiling self.now).1 (run self.now) t) };
+        requires { t < tile_count self.now.plan.0 self.now.plan.1 }
+        ensures { result ≡ total_since (tile_of self.now.plan.0 self.now.plan.1
+            (flagged (option_copied self.now.segments) self.now.elements.now) t) }
+    {
+        let (from, to) = self.plan.range(t);
+        let (from, to) = (from as usize, to as usize);
+        match self.segments {
+            None => (false, total(&self.elements[from..to])),
+            Some(d) => total_of_range(self.elements, d, from, to),
+        }
+    }
 
     /// How many results of the scan of tile `t` fit 32 bits, from the first one on, where `before` stands before the tile.
-    fn fitting(&self, t: u32, before: i64) -> usize
-        requires { t < tile_count (tiling self.now).0 (tiling self.now).1 }
-        ensures { result ≡ fitting_front (run_scan_of ◌+ℤ◌ (pos 0) before
-            (tile_of (tiling self.now).0 (tiling self.now).1 (run self.now) t)) };
+    pub(crate) fn fitting(&self, t: u32, before: i64) -> usize
+        requires { t < tile_count self.now.plan.0 self.now.plan.1 }
+        ensures { result ≡ fitting_front (range_scan_of ◌+ℤ◌ (pos 0) before (tile_of self.now.plan.0 self.now.plan.1
+            (flagged (option_copied self.now.segments) self.now.elements.now) t)) }
+    {
+        let (from, to) = self.plan.range(t);
+        let (from, to) = (from as usize, to as usize);
+        match self.segments {
+            None => fitting_of_scan(before, &self.elements[from..to]),
+            Some(d) => fitting_of_range(self.elements, d, from, to, before),
+        }
+    }
+
+    /// The sum of the elements from place `start` to the one before place `end`, among which no segment starts but the first,
+    /// where it is known what stands before each tile. No element before the tile that holds the last one is read.
+    pub(crate) fn total_between(&self, start: usize, end: usize, before: &[i64]) -> i64
+        requires in_order { start ≤ end }
+        requires within { end ≤ length self.now.elements.now }
+        requires known { before.now
+            ≡ totals_before self.now.plan (flagged (option_copied self.now.segments) self.now.elements.now) }
+        requires open { (place : ℕ) → start < place → place ≤ end
+            → (total_since (take place (flagged (option_copied self.now.segments) self.now.elements.now))).1
+            ≡ total_of (slice_range self.now.elements.now start place) }
+        ensures { result ≡ total_of (slice_range self.now.elements.now start end) }
+    {
+        if start == end {
+            return 0;
+        }
+        let t = self.plan.tile_at((end - 1) as u32);
+        let (from, _) = self.plan.range(t);
+        let from = from as usize;
+        if start < from {
+            return before[t as usize] + total(&self.elements[from..end]);
+        }
+        total(&self.elements[start..end])
+    }
 }
 
-/// The tiles of such a vector. Their sums race as numbers of 54 bits, which they all fit.
-#[derive(Drop)]
-struct ExactTiles<'a, V: Totals> {
-    vector: &'a V,
-    ghost numbers: { list_all (is_seg_item is_number) (V.run vector.now) ≡ true },
-    ghost whole: { length (V.run vector.now) ≡ (V.tiling vector.now).0 },
-    ghost few: { (V.tiling vector.now).0 ≤ most_elements },
-    ghost some: { 1 ≤ (V.tiling vector.now).1 },
-}
-
-impl<'a, V: Totals> Tiles for ExactTiles<'a, V> {
+impl<'a, A: Allocator> Tiles for Totals<'a, A> {
     ghost use Rattle.std.specs.Prelude.{pos};
+    ghost use Rattle.std.specs.Option.{option_copied};
     ghost use Rattle.cvl_base.specs.Exact.{exact_sum_of};
-    ghost use Rattle.tile_scans.specs.Kernels.{sums_of};
+    ghost use Rattle.tile_scans.specs.TiledSums.{flagged, sums_of};
 
     type M = Exact;
 
-    ghost sums = { λ tiles. sums_of exact_sum_of (pos 0) (V.tiling tiles.vector.now).0 (V.tiling tiles.vector.now).1
-        (V.run tiles.vector.now) };
+    ghost sums = { λ v. sums_of exact_sum_of (pos 0) v.plan.0 v.plan.1 (flagged (option_copied v.segments) v.elements.now) };
 
     fn count(&self) -> u32 {
-        self.vector.plan().count()
+        self.plan.count()
     }
 
     fn sum(&self, t: u32) -> (bool, i64) {
-        self.vector.total(t)
+        self.total(t)
     }
 }
 
@@ -78,16 +140,15 @@ impl<'a, V: Totals> Tiles for ExactTiles<'a, V> {
 /// memory but the answer's, which takes 8 bytes a tile.
 ///
 /// Source: Merrill and Garland's decoupled look-back.
-pub(crate) fn race_for_totals<R: Threads + Sync, A: Memory, V: Totals + Sync>(
+pub(crate) fn race_for_totals<R: Threads + Sync, A: Memory>(
     rt: &R,
     alloc: A,
     config: Config,
-    vector: &V,
+    vector: &Totals<A>,
 ) -> Result<Vec<i64, A>, NoResources>
-    ensures { IfOk result (λ before. before.items ≡ totals_before (V.tiling vector.now) (V.run vector.now)) }
+    ensures { IfOk result (λ before. before.items
+        ≡ totals_before vector.now.plan (flagged (option_copied vector.now.segments) vector.now.elements.now)) }
 {
-    let _known = vector.plan();
-    let tiles = ExactTiles { vector };
-    let before = race_for_befores(rt, alloc, config, &tiles, &OpenGate)?;
+    let before = race_for_befores(rt, alloc, config, vector, &OpenGate)?;
     Ok(before)
 }

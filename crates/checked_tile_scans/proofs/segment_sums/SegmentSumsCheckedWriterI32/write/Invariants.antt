@@ -2,15 +2,16 @@ use Rattle.std.proofs.Common.{◌≡◌, map}
 use Rattle.std.specs.Option.{option_or}
 use Rattle.cvl_base.specs.CheckedSums.{fitting}
 use Rattle.cvl_base.specs.Integers.{wrap}
+use Rattle.fresh.specs.Found.{first_without}
 use Rattle.fresh.specs.Parts.{part}
 use Rattle.tile_scans.specs.Written.{next_of}
-use Rattle.tile_scans.proofs.Known.{IsWrittenPart}
-use Rattle.checked_tile_scans.specs.Checked.{first_without, segment_totals}
-use Rattle.checked_tile_scans.proofs.segment_sums.SegmentSumsSums.write.Given as goal
+use Rattle.tile_scans.proofs.WrittenParts.{IsWrittenPart}
+use Rattle.checked_tile_scans.specs.Checked.{segment_totals}
+use Rattle.checked_tile_scans.proofs.segment_sums.SegmentSumsCheckedWriterI32.write.Given as goal
 
 abbrev pub invariant-loop-run : goal.invariant-loop-run
 invariant-loop-run g l =
-    let totals = segment_totals l.self.vector.now.segments.now l.self.vector.now.elements.now in
+    let totals = segment_totals l.self.segments.now l.self.vector.now.elements.now in
     record {
       written : IsWrittenPart (map wrap totals) l.fn.run l.run;
       outside : option_or l.outside (first_without (next_of l.run) (part (map fitting totals) (next_of l.run) l.run.room))

@@ -4,65 +4,64 @@ use Rattle.std.proofs.lemmas.Int.{to_z-of_z}
 use Rattle.std.proofs.lemmas.List.{get_or-map, length-map}
 use Rattle.cvl_base.specs.CheckedSums.{fitting}
 use Rattle.cvl_base.specs.Integers.{wrap}
+use Rattle.fresh.specs.Found.{first_without}
 use Rattle.fresh.specs.Parts.{part}
 use Rattle.tile_scans.specs.Written.{next_of}
-use Rattle.tile_scans.proofs.Known.{next_is, nothing_yet}
-use Rattle.checked_tile_scans.specs.Checked.{first_without, segment_totals}
+use Rattle.tile_scans.proofs.WrittenParts.{next_is, nothing_yet}
+use Rattle.checked_tile_scans.specs.Checked.{segment_totals}
 use Rattle.checked_tile_scans.proofs.FirstWithout.{found_all, goes_on, one_more_written}
 use Rattle.checked_tile_scans.proofs.SegmentTotals.{length-segment_totals}
-use Rattle.checked_tile_scans.proofs.segment_sums.SegmentSumsSums.write.Goals as goal
+use Rattle.checked_tile_scans.proofs.segment_sums.SegmentSumsCheckedWriterI32.write.Goals as goal
 
 pub loop-run-init : goal.loop-run-init
 loop-run-init g c =
-    let v = c.args.self.now.vector.now in
-    let totals = segment_totals v.segments.now v.elements.now in
-    let within : c.args.run.first + c.args.run.room ≤ length (map wrap totals) = omega (arith, c.requires.within, length-map totals wrap) in
+    let sums = c.args.self.now in
+    let totals = segment_totals sums.segments.now sums.vector.now.elements.now in
     let at : next_of c.args.run ≡ c.args.run.first = omega (arith, ap length c.requires.empty) in
     record {
-      written = nothing_yet (map wrap totals) c.args.run within c.requires.empty;
+      written = nothing_yet (map wrap totals) c.args.run c.requires.within c.requires.empty;
       outside = ap (λ p. first_without p (part (map fitting totals) p c.args.run.room)) at;
     }
 
-pub segment_total-sum-requires-clause-within : goal.segment_total-sum-requires-clause-within
-segment_total-sum-requires-clause-within g c =
-    let v = c.args.self.now.vector.now in
-    let totals = segment_totals v.segments.now v.elements.now in
-    let within : c.args.run.first + c.args.run.room ≤ length (map wrap totals) = omega (arith, c.requires.within, length-map totals wrap) in
-    let at = next_is (map wrap totals) c.args.run within c.loop-run.run c.loop-run.invariant.written in
+pub sum-sum-requires : goal.sum-sum-requires
+sum-sum-requires g c =
+    let sums = c.args.self.now in
+    let totals = segment_totals sums.segments.now sums.vector.now.elements.now in
+    let at = next_is (map wrap totals) c.args.run c.requires.within c.loop-run.run c.loop-run.invariant.written in
     omega (
       arith,
       at,
       c.next_place-place.ensures.place,
       c.requires.within,
+      length-map totals wrap,
       c.loop-run.invariant.written.left,
       c.loop-run-test.true,
       c.room.ensures,
-      length-segment_totals v.segments.now v.elements.now,
+      length-segment_totals sums.segments.now sums.vector.now.elements.now,
     )
 
 pub loop-run-preserved : goal.loop-run-preserved
 loop-run-preserved g c =
-    let v = c.args.self.now.vector.now in
-    let totals = segment_totals v.segments.now v.elements.now in
+    let sums = c.args.self.now in
+    let totals = segment_totals sums.segments.now sums.vector.now.elements.now in
     let run = c.loop-run.run in
-    let within : c.args.run.first + c.args.run.room ≤ length (map wrap totals) = omega (arith, c.requires.within, length-map totals wrap) in
+    let within = c.requires.within in
     let some : 0 < run.room = omega (arith, c.loop-run-test.true, c.room.ensures) in
     let at = next_is (map wrap totals) c.args.run within run c.loop-run.invariant.written in
-    let inside : next_of run < length totals = omega (arith, at, c.requires.within, c.loop-run.invariant.written.left, some) in
+    let inside : next_of run < length totals = omega (arith, at, within, length-map totals wrap, c.loop-run.invariant.written.left, some) in
     let place : c.next_place-place.result ≡ next_of run = c.next_place-place.ensures.place in
-    let back : to_z w64 (of_z w64 c.segment_total-sum.result) ≡ c.segment_total-sum.result = grind (arith, to_z-of_z) in
+    let back : to_z w64 (of_z w64 c.sum-sum.result) ≡ c.sum-sum.result = grind (arith, to_z-of_z) in
     let narrow : to_z w32 (of_z w32 c.from_word.result) ≡ c.from_word.result = grind (arith, to_z-of_z) in
-    let sum : to_z w64 (of_z w64 c.segment_total-sum.result) ≡ get_or totals (next_of run) (pos 0) =
-    back ∙ c.segment_total-sum.ensures ∙ ap (λ p. get_or totals p (pos 0)) place in
+    let sum : to_z w64 (of_z w64 c.sum-sum.result) ≡ get_or totals (next_of run) (pos 0) = back ∙ c.sum-sum.ensures ∙ ap (λ p. get_or totals p (pos 0)) place in
     let written = one_more_written totals c.args.run within run c.push.new.self _ some c.loop-run.invariant.written (narrow ∙ c.from_word.ensures ∙ ap wrap sum) c.push.ensures in
     let next = next_is (map wrap totals) c.args.run within c.push.new.self written.1 in
     record {
       written = written.1;
-      outside = goes_on (map fitting totals) c.loop-run.outside _ (next_of run) run.room c.loop-run.invariant.outside c.first_of-outside.result c.fitting.result
+      outside = goes_on (map fitting totals) c.loop-run.outside _ (next_of run) run.room c.loop-run.invariant.outside c.first_found-outside.result c.fitting.result
           (next_of c.push.new.self) c.push.new.self.room (omega (arith, inside, length-map totals fitting)) (omega (arith, written.0, some))
           (omega (arith, next, at, written.0, some, c.loop-run.invariant.written.left))
           (c.fitting.ensures ∙ ap fitting sum ∙ sym (get_or-map fitting totals (next_of run) (pos 0) None inside))
-          (c.first_of-outside.ensures ∙ ap (λ p. option_or c.loop-run.outside (first_without p (c.fitting.result ∷ []))) place);
+          (c.first_found-outside.ensures ∙ ap (λ p. option_or c.loop-run.outside (first_without p (c.fitting.result ∷ []))) place);
     }
 
 pub loop-run-smaller : goal.loop-run-smaller
@@ -70,9 +69,9 @@ loop-run-smaller g c =
     let left = ap (λ r. r.room) c.push.ensures in
     omega (arith, left, c.loop-run-test.true, c.room.ensures)
 
-pub returns-clause-outside : goal.returns-clause-outside
-returns-clause-outside g c =
-    let v = c.args.self.now.vector.now in
-    let totals = segment_totals v.segments.now v.elements.now in
+pub returns-clause-found : goal.returns-clause-found
+returns-clause-found g c =
+    let sums = c.args.self.now in
+    let totals = segment_totals sums.segments.now sums.vector.now.elements.now in
     let run = c.loop-run.run in
     found_all (map fitting totals) c.loop-run.outside _ (next_of run) run.room c.loop-run.invariant.outside (omega (arith, c.loop-run-test.false, c.room.ensures))

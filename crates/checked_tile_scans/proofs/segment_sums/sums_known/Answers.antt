@@ -1,0 +1,47 @@
+use Rattle.std.proofs.Common.{◌≡◌, ◌≤◌, length, map, ap, sym, ◌∙◌, arith, Ok, Err}
+use Rattle.std.proofs.lemmas.List.{length-map}
+use Rattle.std.proofs.Math.Facts.{Fits-below}
+use Rattle.cvl_base.specs.CheckedSums.{fitting}
+use Rattle.cvl_base.specs.Integers.{wrap}
+use Rattle.cvl_base.specs.Limits.{most_elements}
+use Rattle.checked_tile_scans.specs.Checked.{segment_totals}
+use Rattle.checked_tile_scans.proofs.FirstWithout.{all_fit, fails_first, found_within}
+use Rattle.checked_tile_scans.proofs.SegmentTotals.{length-segment_totals}
+use Rattle.checked_tile_scans.proofs.segment_sums.sums_known.Goals as goal
+
+pub write_checked_in_runs-requires-clause-items : goal.write_checked_in_runs-requires-clause-items
+write_checked_in_runs-requires-clause-items g c κs within =
+    let d = c.args.segments.now in
+    let xs = c.args.vector.now.elements.now in
+    omega (arith, c.count.ensures.value, length-segment_totals d xs, length-map (segment_totals d xs) wrap)
+
+pub write_checked_in_runs-requires-clause-values : goal.write_checked_in_runs-requires-clause-values
+write_checked_in_runs-requires-clause-values g c κs within =
+    let d = c.args.segments.now in
+    let xs = c.args.vector.now.elements.now in
+    omega (arith, c.count.ensures.value, length-segment_totals d xs, length-map (segment_totals d xs) fitting)
+
+pub overflow_cast-place : goal.overflow_cast-place
+overflow_cast-place g c =
+    let d = c.args.segments.now in
+    let xs = c.args.vector.now.elements.now in
+    let totals = segment_totals d xs in
+    let within = found_within 0 c.in-Some.place (map fitting totals) (sym c.in_ok-written.ensures.found ∙ c.in-Some.is) in
+    let small : c.in-Some.place ≤ most_elements = omega (arith, within, length-map totals fitting, length-segment_totals d xs, c.count.ensures.value, c.count.ensures.in_limit) in
+    Fits-below tt small
+
+pub returns-in-Some-clause-values : goal.returns-in-Some-clause-values
+returns-in-Some-clause-values g c =
+    let totals = segment_totals c.args.segments.now c.args.vector.now.elements.now in
+    fails_first 0 c.in-Some.place totals (sym c.in_ok-written.ensures.found ∙ c.in-Some.is) ∙ ap Err (sym c.at.ensures)
+
+pub returns-in-None-clause-values : goal.returns-in-None-clause-values
+returns-in-None-clause-values g c =
+    let totals = segment_totals c.args.segments.now c.args.vector.now.elements.now in
+    all_fit 0 totals (sym c.in_ok-written.ensures.found ∙ c.in-None.is) ∙ ap Ok (sym c.in_ok-written.ensures.items)
+
+pub returns-in-None-clause-one_each : goal.returns-in-None-clause-one_each
+returns-in-None-clause-one_each g c =
+    let d = c.args.segments.now in
+    let xs = c.args.vector.now.elements.now in
+    omega (arith, c.in_ok-written.written.ok, ap length c.in_ok-written.ensures.items, length-map (segment_totals d xs) wrap, length-segment_totals d xs)
