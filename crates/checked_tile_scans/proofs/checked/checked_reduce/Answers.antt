@@ -1,10 +1,10 @@
-use Rattle.std.proofs.Common.{◌≡◌, ◌∙◌, ◌-◌, ℕ, ℤ, to_z, of_z, w32, w64, List, Some, None, Ok, Err, length, take, drop, sym, ap, arith}
+use Rattle.std.proofs.Common.{◌≡◌, ◌∙◌, ◌-◌, ℕ, ℤ, to_z, of_z, w32, w64, List, Ok, Err, length, take, sym, ap, arith}
 use Rattle.std.specs.Option.{ok_or}
 use Rattle.std.specs.Prelude.{slice_range}
 use Rattle.std.proofs.lemmas.Int.{to_z-of_z}
 use Rattle.std.proofs.lemmas.List.{take_all}
 use Rattle.operators.specs.Exact.{total_of}
-use Rattle.cvl_base.specs.CheckedSums.{checked_reduce_of, fitting}
+use Rattle.cvl_base.specs.CheckedSums.{fitting}
 use Rattle.cvl_base.specs.declared.fault.FaultNo.TheVariants.{Overflow}
 use Rattle.cvl_base.specs.Faults.{fault_at}
 use Rattle.checked_tile_scans.proofs.SegmentTotals.{flat_open}

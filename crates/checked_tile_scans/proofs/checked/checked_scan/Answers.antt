@@ -4,14 +4,14 @@ use Rattle.std.proofs.lemmas.List.Sums.{AllPass-from_list_all}
 use Rattle.cvl_base.specs.CheckedSums.{fitting}
 use Rattle.cvl_base.specs.declared.fault.FaultNo.TheVariants.{Overflow}
 use Rattle.cvl_base.specs.Elementwise.{values_from}
-use Rattle.cvl_base.specs.Integers.{sum_of, wrap}
+use Rattle.cvl_base.specs.Integers.{sum_of}
 use Rattle.cvl_base.specs.ItemWords.{is_number}
 use Rattle.scan_walks.specs.Ranges.{continued, range_scan_of}
 use Rattle.tile_scans.specs.TiledSums.{elements_of, flagged, sums_of}
 use Rattle.tile_scans.specs.Written.{befores_of}
 use Rattle.tile_scans.proofs.Flagged.{flagged_passes, length-flagged}
 use Rattle.tile_scans.proofs.RangeScans.{continued_range_scan}
-use Rattle.checked_tile_scans.specs.Checked.{first_outside, total_scan, totals_before}
+use Rattle.checked_tile_scans.specs.Checked.{first_outside, total_scan}
 use Rattle.checked_tile_scans.proofs.TileFronts.{flat_scan_meant, refused_on}
 use Rattle.checked_tile_scans.proofs.WholeSums.{wrapped_befores}
 use Rattle.checked_tile_scans.proofs.checked.checked_scan.Goals as goal

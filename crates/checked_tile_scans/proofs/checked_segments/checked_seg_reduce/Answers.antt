@@ -1,4 +1,4 @@
-use Rattle.std.proofs.Common.{◌≡◌, ℤ, List, map, sym, ap, subst, ◌∙◌}
+use Rattle.std.proofs.Common.{ℤ, List, map, sym, ap, subst, ◌∙◌}
 use Rattle.cvl_base.specs.CheckedSums.{fitting}
 use Rattle.cvl_base.specs.declared.fault.FaultNo.TheVariants.{Overflow}
 use Rattle.cvl_base.specs.Elementwise.{values_from}

@@ -1,11 +1,11 @@
-use Rattle.std.proofs.Common.{◌≡◌, ℤ, Bool, Vec, List, pos, ◌+ℤ◌, length, map, sym, ap, subst, ◌∙◌, None}
+use Rattle.std.proofs.Common.{◌≡◌, ℤ, Bool, Vec, List, pos, length, map, sym, ap, subst, ◌∙◌, None}
 use Rattle.std.specs.Option.{option_copied}
 use Rattle.std.proofs.lemmas.List.Sums.{AllPass-from_list_all}
 use Rattle.operators.specs.NumberLaws.{sum_laws}
 use Rattle.cvl_base.specs.CheckedSums.{fitting}
 use Rattle.cvl_base.specs.declared.fault.FaultNo.TheVariants.{Overflow}
 use Rattle.cvl_base.specs.Elementwise.{values_from}
-use Rattle.cvl_base.specs.Integers.{sum_of, wrap}
+use Rattle.cvl_base.specs.Integers.{sum_of}
 use Rattle.cvl_base.specs.ItemWords.{is_number}
 use Rattle.scan_walks.specs.Ranges.{with_starts}
 use Rattle.scan_walks.proofs.Cut.{segments_scanned}
@@ -14,7 +14,7 @@ use Rattle.scan_walks.proofs.WholeSums.{all_whole, whole_laws}
 use Rattle.tile_scans.specs.TiledSums.{flagged, sums_of}
 use Rattle.tile_scans.specs.Written.{befores_of}
 use Rattle.tile_scans.proofs.Flagged.{flagged_passes, length-flagged}
-use Rattle.checked_tile_scans.specs.Checked.{first_outside, total_scan, totals_before}
+use Rattle.checked_tile_scans.specs.Checked.{first_outside, total_scan}
 use Rattle.checked_tile_scans.proofs.TileFronts.{refused_on, segmented_scan_meant}
 use Rattle.checked_tile_scans.proofs.WholeSums.{wrapped_befores}
 use Rattle.checked_tile_scans.proofs.checked_segments.checked_seg_scan.Goals as goal

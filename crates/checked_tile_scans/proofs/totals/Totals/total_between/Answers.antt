@@ -1,10 +1,9 @@
-use Rattle.std.proofs.Common.{◌≡◌, ◌∙◌, sym, ℕ, ◌-◌, ◌≤◌, ◌<◌, pos, length, drop, take, get_or, slice_range, ap, arith}
+use Rattle.std.proofs.Common.{◌≡◌, ◌∙◌, sym, ℕ, ◌-◌, ◌≤◌, pos, length, drop, take, get_or, ap, arith}
 use Rattle.std.specs.Option.{option_copied}
 use Rattle.std.proofs.lemmas.List.Sums.{AllPass-from_list_all}
 use Rattle.operators.specs.Exact.{total_of}
 use Rattle.cvl_base.specs.ItemWords.{is_number}
 use Rattle.cvl_base.specs.Limits.{most_elements}
-use Rattle.tile_plan.specs.Ranges.{range_of}
 use Rattle.tile_scans.specs.TiledSums.{flagged}
 use Rattle.checked_tile_scans.specs.Checked.{total_since}
 use Rattle.checked_tile_scans.proofs.SegmentTotals.{before_there, length-totals_before, parts_fit, parts_summed, range_read_back}
