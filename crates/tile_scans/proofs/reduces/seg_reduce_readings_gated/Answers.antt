@@ -1,4 +1,4 @@
-use Rattle.std.proofs.Common.{◌≡◌, Ok, arith, length, map, sym, ap, ◌∙◌}
+use Rattle.std.proofs.Common.{Ok, arith, length, map, sym, ap, ◌∙◌}
 use Rattle.std.proofs.lemmas.List.{length-map}
 use Rattle.scan_walks.specs.Ranges.{reduces_of}
 use Rattle.scan_walks.proofs.Segmented.{seg_reduce-fits}

@@ -1,8 +1,7 @@
-use Rattle.std.proofs.Common.{◌≡◌, ◌<◌, ◌≤◌, IsTrue, false, length, map, get_or, slice_range, arith, rules, sym, ap, subst, ◌∙◌}
+use Rattle.std.proofs.Common.{◌<◌, IsTrue, false, length, map, get_or, slice_range, arith, rules, sym, ap, subst, ◌∙◌}
 use Rattle.std.specs.Option.{option_copied}
 use Rattle.cvl_base.specs.Folds.{fold_of}
 use Rattle.cvl_base.specs.SegmentMonoid.{seg_join}
-use Rattle.cvl_base.specs.TileSums.{before_tile}
 use Rattle.tile_scans.specs.TiledSums.{flagged, sums_of}
 use Rattle.tile_scans.proofs.Flagged.{flagged_passes, items_read}
 use Rattle.tile_scans.proofs.WrittenParts.{as_many_known, before_known}

@@ -1,4 +1,4 @@
-use Rattle.std.proofs.Common.{◌≡◌, ◌-◌, ◌≤◌, length, map, slice_range, arith, rules, sym, ap, ◌∙◌}
+use Rattle.std.proofs.Common.{◌-◌, ◌≤◌, map, arith, rules, sym, ap, ◌∙◌}
 use Rattle.std.specs.Option.{option_copied}
 use Rattle.fresh.specs.Parts.{part}
 use Rattle.fresh.specs.Places.{with_items}

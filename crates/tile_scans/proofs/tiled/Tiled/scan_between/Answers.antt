@@ -1,4 +1,4 @@
-use Rattle.std.proofs.Common.{◌≡◌, ◌-◌, ap, length, map, ◌∙◌}
+use Rattle.std.proofs.Common.{◌-◌, ap, length, map, ◌∙◌}
 use Rattle.std.specs.Option.{option_copied}
 use Rattle.cvl_base.specs.Folds.{scan_of}
 use Rattle.fresh.specs.Places.{with_items}

@@ -1,4 +1,4 @@
-use Rattle.std.proofs.Common.{◌≡◌, ◌-◌, ap, length, map, ◌∙◌}
+use Rattle.std.proofs.Common.{◌-◌, ap, length, map, ◌∙◌}
 use Rattle.std.specs.Option.{option_copied}
 use Rattle.cvl_base.specs.Folds.{fold_of}
 use Rattle.scan_walks.proofs.Scanned.{part_read}
