@@ -1,28 +1,17 @@
 -- How a worker answers the places of a tile, and that what was answered once stays so.
 -- Source: what the definitions of Facts imply.
-use Rattle.std.specs.Prelude.{None, Some, slice_index_or}
-use Rattle.std.proofs.Common.{◌≡◌, refl, sym, ap, ◌∙◌, ℕ, ◌<◌, ◌≤◌, Bool, true, false, cond, arith, inl, inr}
-use Rattle.boards.specs.Boards.{Seated}
+use Rattle.std.proofs.Common.{◌≡◌, refl, sym, ap, ◌∙◌, ℕ, ◌+◌, ◌<◌, ◌≤◌, Bool, true, false, cond, arith, inl, inr, [], ◌∷◌, ◌++◌, append_assoc}
+use Rattle.std.proofs.lemmas.List.{length-append}
+use Rattle.std.proofs.lemmas.List.Elements.{All-append, All-cons, All-nil, All-weaker}
+use Rattle.boards.specs.Boards.{Seated, with_pass}
 use Rattle.boards.specs.Claims.{after_answer}
 use Rattle.boards.specs.LeastBoards.{LeastView}
-use Rattle.boards.specs.LeastPasses.{lowered_in, lowest, on_least_hand, seen_in}
+use Rattle.boards.specs.LeastPasses.{lowered_in, lowest, on_least_hand, place_lowered, seen_in}
 use Rattle.boards.specs.declared.claim.Claim.{Claim}
 use Rattle.boards.specs.declared.claim.Claim.TheVariants.{Done, Tile}
 use Rattle.boards.specs.declared.least_pass.LeastPass.{LeastPass}
-use Rattle.tile_plan.specs.Ranges.{range_of}
-use Rattle.least_races.specs.Facts.{HasAnswered, HasGoneOn}
-
--- nothing happened, and one thing after another
-pub stays : (seat : Seated LeastPass) → HasGoneOn seat seat
-stays seat = record { hand = refl; done = refl; lowered = λ slot. omega arith; seen = λ slot. omega arith }
-
-pub goes_on : (old now new : Seated LeastPass) → HasGoneOn old now → HasGoneOn now new → HasGoneOn old new
-goes_on old now new first second = record {
-  hand = second.hand ∙ first.hand;
-  done = second.done ∙ first.done;
-  lowered = λ slot. let x = first.lowered slot in let y = second.lowered slot in omega arith;
-  seen = λ slot. let x = first.seen slot in let y = second.seen slot in omega arith;
-}
+use Rattle.boards.specs.declared.least_pass.Low.{Low}
+use Rattle.least_races.specs.Facts.{HasAnswered, HasLowered}
 
 -- what was answered stays so where no less is lowered and seen
 pub still_answered : (board : LeastView) (plan : ℕ × ℕ) (old new : Seated LeastPass) (t : ℕ)
@@ -58,17 +47,44 @@ claim_keeps board plan old new answer t is had =
     (λ slot. let same = ap (lowest slot) seen in omega (arith, same))
     had
 
--- a tile of which each place was lowered
-pub lowers_all : (board : LeastView) (plan : ℕ × ℕ) (seat : Seated LeastPass) (t : ℕ)
-    → ((place slot : ℕ) → (range_of plan.0 plan.1 t).0 ≤ place → place < (range_of plan.0 plan.1 t).1
-    → slice_index_or board.targets place None ≡ Some slot → lowered_in slot seat.pass ≤ place)
-    → HasAnswered board plan seat t
-lowers_all board plan seat t lowered place slot begun not_past within is = inl (lowered place slot begun not_past is)
+-- the place lies in this range
+abbrev lies_in : ℕ → ℕ → Low → Type 0
+lies_in from to low = (from ≤ low.place) × (low.place < to)
 
--- a tile that is left out, since a lesser place than its first stands in the one slot
-pub leaves_out : (board : LeastView) (plan : ℕ × ℕ) (seat : Seated LeastPass) (t : ℕ) → board.slots ≡ 1
-    → seen_in 0 seat.pass < (range_of plan.0 plan.1 t).0 → HasAnswered board plan seat t
-leaves_out board plan seat t one less place slot begun not_past within is =
-    let same : slot ≡ 0 = omega (arith, within, one) in
-    let there : seen_in slot seat.pass ≡ seen_in 0 seat.pass = ap (λ s. seen_in s seat.pass) same in
-    inr (omega (arith, there, less, begun))
+-- nothing was lowered, or one place was
+pub lowered_none : (from to : ℕ) (old new : LeastPass) → from ≤ to → new.lowered ≡ old.lowered → HasLowered from to old new
+lowered_none from to old new begun same = record { added = []; lowered = same; within = All-nil _; few = omega (arith, begun) }
+
+pub lowered_one : (slot place : ℕ) (old new : Seated LeastPass) → new ≡ with_pass old (place_lowered old.pass slot place)
+    → HasLowered place (place + 1) old.pass new.pass
+lowered_one slot place old new is =
+    let low : Low = record { slot = slot; place = place } in
+    record {
+      added = low ∷ [];
+      lowered = ap (λ (s : Seated LeastPass). s.pass.lowered) is;
+      within = All-cons (lies_in place (place + 1)) low [] (omega arith, omega arith) (All-nil _);
+      few = omega arith;
+    }
+
+-- and what was lowered in one range after another
+pub lowered_later : (from to : ℕ) (old now new : LeastPass) → now.lowered ≡ old.lowered → HasLowered from to now new → HasLowered from to old new
+lowered_later from to old now new same next = record {
+  added = next.added;
+  lowered = next.lowered ∙ ap (λ lows. next.added ++ lows) same;
+  within = next.within;
+  few = next.few;
+}
+
+pub lowered_on : (from at to : ℕ) (old now new : LeastPass) → from ≤ at → at ≤ to → HasLowered from at old now → HasLowered at to now new → HasLowered from to old new
+lowered_on from at to old now new begun on first next =
+    let long = length-append next.added first.added in
+    let before = All-weaker (lies_in from at) (lies_in from to) (λ low is. (is.0, omega (arith, is.1, on))) first.added first.within in
+    let after = All-weaker (lies_in at to) (lies_in from to) (λ low is. (omega (arith, is.0, begun), is.1)) next.added next.within in
+    let few_first = first.few in
+    let few_next = next.few in
+    record {
+      added = next.added ++ first.added;
+      lowered = next.lowered ∙ ap (λ lows. next.added ++ lows) first.lowered ∙ sym (append_assoc next.added first.added old.lowered);
+      within = All-append (lies_in from to) next.added first.added after before;
+      few = omega (arith, long, few_first, few_next);
+    }

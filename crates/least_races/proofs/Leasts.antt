@@ -1,7 +1,7 @@
 -- The least places that a closed board tells, where each tile was given to a worker who answered all of its places.
 -- Source: what the definitions of Slots, LeastBoards and Facts imply.
 use Rattle.std.specs.Prelude.{◌||◌, None, Some, Option}
-use Rattle.std.proofs.Common.{◌≡◌, refl, sym, ap, ◌∙◌, subst, ℕ, zero, suc, ◌+◌, ◌-◌, ◌*◌, ◌<◌, ◌≤◌, min, cond, eqb, Bool, true, false, IsTrue, List, [], ◌∷◌, length, get_or, arith, inl, inr}
+use Rattle.std.proofs.Common.{◌≡◌, refl, sym, ap, ◌∙◌, ℕ, zero, suc, ◌+◌, ◌-◌, ◌*◌, ◌<◌, ◌≤◌, cond, true, false, IsTrue, List, [], ◌∷◌, length, get_or, arith, inl, inr}
 use Rattle.std.specs.List.{All, list_any, sum_by}
 use Rattle.std.proofs.lemmas.Bool.{cases_Bool, true≢false}
 use Rattle.std.proofs.lemmas.Bool.Decides.{eqb_tells, leb_tells}

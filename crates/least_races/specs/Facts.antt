@@ -1,10 +1,12 @@
 -- What each worker of a race for least places did by the time that it is done with a tile.
 -- Source: the priority write of a parallel machine with concurrent writes; that a later place of a slot may be left out is this library's.
-use Rattle.std.specs.Prelude.{◌≡◌, ℕ, ◌<◌, ◌≤◌, ◌⊎◌, List, slice_index_or, length, Option, Some, None}
+use Rattle.std.specs.Prelude.{◌≡◌, ℕ, ◌+◌, ◌<◌, ◌≤◌, ◌⊎◌, List, ◌++◌, slice_index_or, length, Option, Some, None}
+use Rattle.std.specs.List.{All}
 use Rattle.tile_plan.specs.Ranges.{range_of, tile_count}
 use Rattle.boards.specs.declared.least_pass.LeastPass.{LeastPass}
+use Rattle.boards.specs.declared.least_pass.Low.{Low}
 use Rattle.boards.specs.Boards.{Seated}
-use Rattle.boards.specs.LeastBoards.{IsLeastSeatOf, LeastView}
+use Rattle.boards.specs.LeastBoards.{LeastView}
 use Rattle.boards.specs.LeastPasses.{lowered_in, seen_in}
 
 -- the board's places are cut into tiles by this plan
@@ -32,3 +34,10 @@ pub record HasGoneOn (old new : Seated LeastPass) : Type 0 where
   pub done : new.is_done ≡ old.is_done
   pub lowered : (slot : ℕ) → lowered_in slot new.pass ≤ lowered_in slot old.pass
   pub seen : (slot : ℕ) → seen_in slot new.pass ≤ seen_in slot old.pass
+
+-- from one time to a later one the worker lowered places of this range alone, and no more of them than it has
+pub record HasLowered (from to : ℕ) (old new : LeastPass) : Type 0 where
+  pub added : List Low
+  pub lowered : new.lowered ≡ added ++ old.lowered
+  pub within : All (λ low. (from ≤ low.place) × (low.place < to)) added
+  pub few : length added + from ≤ to

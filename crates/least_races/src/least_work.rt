@@ -1,10 +1,10 @@
 //! What each worker does who races for the least places.
 
-ghost use Rattle.std.specs.Prelude.{◌≡◌, ◌<◌, ◌≤◌, ℕ, IfSome, IsTrue, None, Some, length, slice_index_or};
+ghost use Rattle.std.specs.Prelude.{◌≡◌, ◌+◌, ◌<◌, ◌≤◌, ℕ, IfSome, IsTrue, None, Some, length, slice_index_or};
 ghost use Rattle.boards.specs.LeastBoards.{IsLeastSeatOf};
 ghost use Rattle.boards.specs.LeastPasses.{lowered_in, seen_in};
-ghost use Rattle.least_races.specs.Facts.{HasAnswered, HasGoneOn, IsCutInto, IsOver};
-ghost use Rattle.tile_plan.specs.Ranges.{tile_count};
+ghost use Rattle.least_races.specs.Facts.{HasAnswered, HasGoneOn, HasLowered, IsCutInto, IsOver};
+ghost use Rattle.tile_plan.specs.Ranges.{range_of, tile_count};
 
 use boards::{Claim, LeastBoard, LeastSeat, Targets};
 use crew::{Gate, Work};
@@ -57,6 +57,7 @@ impl<'a, T: Targets, A: Allocator> LeastWork<'a, T, A> {
         requires over { IsOver self.now.board (T.targets self.now.targets.now) (T.slot_count self.now.targets.now) }
         ensures one { IsTrue result → self.now.board.slots ≡ 1 }
         ensures lesser { IsTrue result → seen_in 0 seat.new.pass < place }
+        ensures none { seat.new.pass.lowered ≡ seat.old.pass.lowered }
         ensures gone_on { HasGoneOn seat.old seat.new }
         ensures same { IsLeastSeatOf self.now.board seat.new }
     {
@@ -69,13 +70,36 @@ impl<'a, T: Targets, A: Allocator> LeastWork<'a, T, A> {
         }
     }
 
+    /// Tells the places of tile `t`: each that has a slot is lowered, or a lesser one of its slot is lowered or seen. Only places of
+    /// this tile are lowered, and no more of them than it has: none of an earlier tile is lowered again.
+    #[tactic(auto, using(crate::proofs::Answering::lowered_none, crate::proofs::Answering::lowered_later))]
+    fn tell_tile(&self, seat: &mut LeastSeat, t: u32)
+        requires seat { IsLeastSeatOf self.now.board seat.old }
+        requires over { IsOver self.now.board (T.targets self.now.targets.now) (T.slot_count self.now.targets.now) }
+        requires cut { IsCutInto self.now.board self.now.plan }
+        requires tile { t < tile_count self.now.plan.0 self.now.plan.1 }
+        ensures fact { HasAnswered self.now.board self.now.plan seat.new t }
+        ensures own { HasLowered (range_of self.now.plan.0 self.now.plan.1 t).0 (range_of self.now.plan.0 self.now.plan.1 t).1
+            seat.old.pass seat.new.pass }
+        ensures gone_on { HasGoneOn seat.old seat.new }
+        ensures same { IsLeastSeatOf self.now.board seat.new }
+    {
+        let (from, to) = self.plan.range(t);
+        if !self.sees_lesser(seat, from) && !self.targets.is_clear(from, to) {
+            self.lower_each(seat, from, to);
+        }
+    }
+
     /// Lowers each place from one up to another, which is not counted in, that has a slot. A place may be left out that follows one
     /// of the same slot.
     #[inline(never)]
+    #[tactic(auto, using(crate::proofs::Answering::lowered_none, crate::proofs::Answering::lowered_on))]
     fn lower_each(&self, seat: &mut LeastSeat, from: u32, to: u32)
         requires seat { IsLeastSeatOf self.now.board seat.old }
         requires over { IsOver self.now.board (T.targets self.now.targets.now) (T.slot_count self.now.targets.now) }
+        requires order { from ≤ to }
         requires within { to ≤ length self.now.board.targets }
+        ensures own { HasLowered from to seat.old.pass seat.new.pass }
         ensures lowered { (place slot : ℕ) → from ≤ place → place < to →
             slice_index_or self.now.board.targets place None ≡ Some slot → lowered_in slot seat.new.pass ≤ place }
         ensures gone_on { HasGoneOn seat.old seat.new }
@@ -90,6 +114,7 @@ impl<'a, T: Targets, A: Allocator> LeastWork<'a, T, A> {
 
     /// Lowers a place in its slot, if it has one, unless a place before it was the last one lowered and has that slot. It answers
     /// the slot of the last place lowered.
+    #[tactic(auto, using(crate::proofs::Answering::lowered_none))]
     fn lower_after(
         &self,
         seat: &mut LeastSeat,
@@ -101,6 +126,7 @@ impl<'a, T: Targets, A: Allocator> LeastWork<'a, T, A> {
         requires slot { IfSome slot (λ s. s < self.now.board.slots) }
         requires target { slot ≡ slice_index_or self.now.board.targets place None }
         requires last { IfSome last (λ s. lowered_in s seat.old.pass ≤ place) }
+        ensures own { HasLowered place (place + 1) seat.old.pass seat.new.pass }
         ensures lowered { IfSome slot (λ s. lowered_in s seat.new.pass ≤ place) }
         ensures last { IfSome result (λ s. lowered_in s seat.new.pass ≤ place) }
         ensures gone_on { HasGoneOn seat.old seat.new }
@@ -149,10 +175,7 @@ impl<'a, T: Targets + Sync, A: Memory> Work for LeastWork<'a, T, A> {
         t: u32,
         _gate: &G,
     ) -> Result<Vec<(), B>, NoResources> {
-        let (from, to) = self.plan.range(t);
-        if !self.sees_lesser(seat, from) && !self.targets.is_clear(from, to) {
-            self.lower_each(seat, from, to);
-        }
+        self.tell_tile(seat, t);
         Ok(Vec::new(alloc))
     }
 }
