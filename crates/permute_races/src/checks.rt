@@ -14,7 +14,7 @@ use least_races::race_for_least;
 use std::thread::Threads;
 
 /// Places, counted from 0, some of which are bad.
-pub trait Faulty: Drop {
+pub(crate) trait Faulty: Drop {
     ghost wrongs: { Self → List (Option FaultNo) };
 
     /// How many places there are.
@@ -57,7 +57,7 @@ impl<'a, F: Faulty> Targets for BadPlaces<'a, F> {
 }
 
 /// The fault of the least bad place, for which workers race over one slot.
-pub fn check_raced<R: Threads + Sync, A: Memory, F: Faulty + Sync, G: Gate>(
+pub(crate) fn check_raced<R: Threads + Sync, A: Memory, F: Faulty + Sync, G: Gate>(
     rt: &R,
     alloc: A,
     config: Config,

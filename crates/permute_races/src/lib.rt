@@ -7,7 +7,6 @@ mod indices;
 mod pace;
 mod slots;
 
-pub use checks::{Faulty, check_raced};
 pub use indices::check_indices_raced;
 pub use pace::permute_pace;
 pub use slots::senders_raced;
