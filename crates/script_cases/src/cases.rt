@@ -1,8 +1,35 @@
 //! The cases of a file.
+//!
+//! A file of cases is lines. What stands before its first heading is left out. A heading is a line that begins with `== `,
+//! and what it says of the last case is its rest and the lines below it, up to the next heading:
+//!
+//! | Heading | What it says |
+//! |---|---|
+//! | `== case NAME` | a case of this name begins |
+//! | `== tile 1 2 workers 3 64` | it is run in tiles of each of these lengths, by each of these numbers of workers; tiles of 2 elements and 3 workers where there is no such heading |
+//! | `== script` | the script |
+//! | `== input` | an input; the first is input 1 |
+//! | `== text` | what the script writes |
+//! | `== stop` | the line that tells why the script stops, where it does not run to its end |
+//! | `== each` | lines that are each a run of its own |
+//! | `== more` | what the heading before this one is of goes on with these lines |
+//! | `== refused 12` | each run makes at least so many requests for memory, each of which is refused in turn |
+//!
+//! Scripts, inputs, texts, stops and what they go on with are the lines below their heading with their line feeds. Behind the
+//! word, `times 1000` takes the lines without the last line feed, a thousand times; any other word names a file beside the
+//! file of cases, whose bytes stand for the lines.
+//!
+//! A line below `== each` has the last inputs of its run, with `|` between two of them. Behind ` -> ` it may have what comes of
+//! the run, one line of text or the line of a stop; where it has none, the text and the stop are those of the case.
+//!
+//! Where requests are refused, each is refused alone, and then with all behind it. A run that is refused memory may come out
+//! as with ample memory, if only one request is refused; or else it stops with `line N: no resources`, at a line N, behind all
+//! text of the lines before N and a beginning of the text of N. A line that writes begins with `write ` there. All memory is
+//! given back.
 
 use crate::sections::{Section, sections_of};
 use crate::trouble::Trouble;
-use cvl_base::Config;
+use cvl_base::{Config, NoResources};
 use std::alloc::Global;
 use std::fs;
 use std::rt::Files;
@@ -14,6 +41,8 @@ pub struct Case<'a> {
     pub name: &'a str,
     /// The tiles and workers on which it is run; tiles of 2 elements and 3 workers where there are none.
     pub configs: Vec<Config>,
+    /// How many requests for memory each run makes at least, where each of them is refused in turn.
+    pub requests: Option<u64>,
     /// The script.
     pub script: Vec<u8>,
     /// The inputs, in their order.
@@ -22,6 +51,10 @@ pub struct Case<'a> {
     pub text: Vec<u8>,
     /// The line that tells why the script stops; nothing where it runs to its end.
     pub stop: Vec<u8>,
+    /// Lines that are each a run of its own; nothing where the case is one run.
+    pub each: Vec<u8>,
+    /// What the last section was of.
+    last: &'a str,
 }
 
 impl<'a> Case<'a> {
@@ -30,10 +63,25 @@ impl<'a> Case<'a> {
         Case {
             name,
             configs: Vec::new(alloc),
+            requests: None,
             script: Vec::new(alloc),
             inputs: Vec::new(alloc),
             text: Vec::new(alloc),
             stop: Vec::new(alloc),
+            each: Vec::new(alloc),
+            last: "case",
+        }
+    }
+
+    /// Where the content of such a section goes.
+    fn place(&mut self, what: &str) -> Option<&mut Vec<u8>> {
+        match what {
+            "script" => Some(&mut self.script),
+            "input" => self.inputs.last_mut(),
+            "text" => Some(&mut self.text),
+            "stop" => Some(&mut self.stop),
+            "each" => Some(&mut self.each),
+            _ => None,
         }
     }
 
@@ -42,15 +90,20 @@ impl<'a> Case<'a> {
         &mut self,
         rt: &R,
         folder: &str,
-        section: Section<'a>,
+        section: &Section<'a>,
     ) -> Result<(), Trouble<'a>> {
         match section.what {
-            "tile" => add_configs(&mut self.configs, &section),
-            "script" => put_content(rt, folder, section, &mut self.script),
-            "input" => add_input(rt, folder, section, &mut self.inputs),
-            "text" => put_content(rt, folder, section, &mut self.text),
-            "stop" => put_content(rt, folder, section, &mut self.stop),
-            _ => Err(Trouble::Heading(section.heading)),
+            "tile" => return add_configs(&mut self.configs, section),
+            "refused" => return add_requests(&mut self.requests, section),
+            "more" => {}
+            what => self.last = what,
+        }
+        if section.what == "input" {
+            self.inputs.push(Vec::new(rt.alloc()))?;
+        }
+        match self.place(self.last) {
+            Some(place) => put_content(rt, folder, section, place),
+            None => Err(Trouble::Heading(section.heading)),
         }
     }
 }
@@ -84,47 +137,64 @@ fn add_configs<'a>(configs: &mut Vec<Config>, section: &Section<'a>) -> Result<(
     Ok(())
 }
 
-/// The content of a section: the file of the folder that its heading names, or else its lines.
-fn content_of<'a, R: Files + AllocGlobal>(
-    rt: &R,
-    folder: &str,
-    section: Section<'a>,
-) -> Result<Vec<u8>, Trouble<'a>> {
-    let name = section.rest;
-    if name.is_empty() {
-        return Ok(section.lines);
+/// Adds how many requests there are at least, of which a heading such as `refused 12` tells.
+fn add_requests<'a>(requests: &mut Option<u64>, section: &Section<'a>) -> Result<(), Trouble<'a>> {
+    match section.rest.parse() {
+        Ok(least) => {
+            *requests = Some(least);
+            Ok(())
+        }
+        Err(_) => Err(Trouble::Heading(section.heading)),
     }
-    let path = format!(in rt.alloc(); "{folder}{name}")?;
-    fs::read(rt, &path).map_err(|_| Trouble::Unreadable(name))
 }
 
-/// Puts the content of a section in its place.
+/// Puts lines without their last line feed behind other bytes, so many times.
+fn put_times(place: &mut Vec<u8>, lines: &[u8], times: u64) -> Result<(), NoResources> {
+    let piece = lines.strip_suffix(b"\n".as_slice()).unwrap_or(lines);
+    for _ in 0..times {
+        place.extend_from_slice(piece)?;
+    }
+    Ok(())
+}
+
+/// Puts the bytes of the file of this name behind other bytes.
+fn put_file<'a, R: Files + AllocGlobal>(
+    rt: &R,
+    folder: &str,
+    name: &'a str,
+    place: &mut Vec<u8>,
+) -> Result<(), Trouble<'a>> {
+    let path = format!(in rt.alloc(); "{folder}{name}")?;
+    match fs::read(rt, &path) {
+        Ok(bytes) => Ok(place.extend_from_slice(&bytes)?),
+        Err(_) => Err(Trouble::Unreadable(name)),
+    }
+}
+
+/// Puts the content of a section in its place, behind what stands there.
 fn put_content<'a, R: Files + AllocGlobal>(
     rt: &R,
     folder: &str,
-    section: Section<'a>,
+    section: &Section<'a>,
     place: &mut Vec<u8>,
 ) -> Result<(), Trouble<'a>> {
-    *place = content_of(rt, folder, section)?;
-    Ok(())
-}
-
-/// Adds the content of a section to the inputs.
-fn add_input<'a, R: Files + AllocGlobal>(
-    rt: &R,
-    folder: &str,
-    section: Section<'a>,
-    inputs: &mut Vec<Vec<u8>>,
-) -> Result<(), Trouble<'a>> {
-    inputs.push(content_of(rt, folder, section)?)?;
-    Ok(())
+    if section.rest.is_empty() {
+        return Ok(place.extend_from_slice(&section.lines)?);
+    }
+    match section.rest.strip_prefix("times ") {
+        Some(times) => match times.parse() {
+            Ok(times) => Ok(put_times(place, &section.lines, times)?),
+            Err(_) => Err(Trouble::Heading(section.heading)),
+        },
+        None => put_file(rt, folder, section.rest, place),
+    }
 }
 
 /// Adds what a section says to the cases: a case of its own, or a part of the last one.
 fn add_section<'a, R: Files + AllocGlobal>(
     rt: &R,
     folder: &str,
-    section: Section<'a>,
+    section: &Section<'a>,
     cases: &mut Vec<Case<'a>>,
 ) -> Result<(), Trouble<'a>> {
     if section.what == "case" {
@@ -145,7 +215,7 @@ pub fn cases_of<'a, R: Files + AllocGlobal>(
 ) -> Result<Vec<Case<'a>>, Trouble<'a>> {
     let mut cases = Vec::new(rt.alloc());
     for section in sections_of(rt.alloc(), file)? {
-        add_section(rt, folder, section, &mut cases)?;
+        add_section(rt, folder, &section, &mut cases)?;
     }
     Ok(cases)
 }

@@ -1,19 +1,26 @@
 //! Runs scripts on their inputs and compares what they write, and why they stop, with what is expected.
 //!
-//! The words of the command line name files of cases. It prints a line for each case, and for one that differs what came
-//! out beside what was expected. The status is 0 where all is as expected, 1 where a case differs, and 3 where a file
-//! cannot be read, has a heading of no meaning, or memory or standard output fails.
+//! The words of the command line name files of cases. It prints a line for each file, which tells how many cases came out, and
+//! for a run that differs its case and what came out beside what was expected. The status is 0 where all is as expected, 1
+//! where a case differs, and 3 where a file cannot be read, has a heading of no meaning, or memory or standard output fails.
+//!
+//! Every run is on the memory that tests refuse, so that the calls are compiled for one type of memory.
 #![tactic(auto)]
 
 mod cases;
+mod differences;
 mod outcomes;
 mod sections;
+mod single_runs;
 mod trouble;
 
 use crate::cases::{Case, cases_of};
-use crate::outcomes::{outcome_of, tell_difference};
+use crate::differences::{tell_difference, tell_flaw};
+use crate::outcomes::{comes_out, outcome_of};
+use crate::single_runs::{SingleRun, runs_of};
 use crate::trouble::Trouble;
-use cvl_base::Config;
+use cvl_base::{Config, NoResources};
+use refusing_memory::{Refusing, withstands_refusals};
 use std::io::Write;
 use std::process::ExitCode;
 use std::rt::{Env, Files};
@@ -37,19 +44,64 @@ fn small_config() -> Config {
     Config::new(2, 3).unwrap()
 }
 
-/// Runs a case on a configuration, tells what differs, and answers whether all came out as expected.
+/// Refuses each request of a run in turn, tells what is wrong, and answers whether all came out, of at least so many requests.
+fn refuse_in_turn<'a, R: AllocGlobal + Threads + Sync, W: Write>(
+    rt: &R,
+    output: &mut W,
+    config: Config,
+    case: &Case<'_>,
+    single: &SingleRun<'_>,
+    least: u64,
+) -> Result<bool, Trouble<'a>> {
+    let ample = rt.alloc();
+    let found = withstands_refusals(
+        ample,
+        |heap| comes_out(rt, ample, heap, config, single),
+        Ok(true),
+        Err(NoResources),
+    );
+    if let Ok(requests) = found
+        && requests >= least
+    {
+        return Ok(true);
+    }
+    tell_flaw(output, config, case, single, &found)?;
+    Ok(false)
+}
+
+/// Makes a run on a configuration, tells what differs, and answers whether all came out as expected.
 fn run_once<'a, R: AllocGlobal + Threads + Sync, W: Write>(
     rt: &R,
     output: &mut W,
     config: Config,
     case: &Case<'_>,
+    single: &SingleRun<'_>,
 ) -> Result<bool, Trouble<'a>> {
-    let outcome = outcome_of(rt, config, case)?;
-    let expected = outcome.is_expected(case);
-    if !expected {
-        tell_difference(output, config, case, &outcome)?;
+    let heap = Refusing::none(rt.alloc());
+    let outcome = outcome_of(rt, rt.alloc(), &heap, config, single)?;
+    if !outcome.is_expected(single) {
+        tell_difference(output, config, case, single, &outcome)?;
+        return Ok(false);
     }
-    Ok(expected)
+    match case.requests {
+        Some(least) => refuse_in_turn(rt, output, config, case, single, least),
+        None => Ok(true),
+    }
+}
+
+/// Makes the runs of a case on one configuration up to one that differs, and answers whether all came out as expected.
+fn run_on<'a, R: AllocGlobal + Threads + Sync, W: Write>(
+    rt: &R,
+    output: &mut W,
+    config: Config,
+    case: &Case<'_>,
+) -> Result<bool, Trouble<'a>> {
+    for single in runs_of(rt.alloc(), case)? {
+        if !run_once(rt, output, config, case, &single)? {
+            return Ok(false);
+        }
+    }
+    Ok(true)
 }
 
 /// Runs a case on each of its configurations up to one where it differs, and answers whether all came out as expected.
@@ -65,36 +117,37 @@ fn run_case<'a, R: AllocGlobal + Threads + Sync, W: Write>(
         case.configs.as_slice()
     };
     for config in configs {
-        if !run_once(rt, output, *config, case)? {
+        if !run_on(rt, output, *config, case)? {
             return Ok(false);
         }
     }
-    writeln!(output, "ok {}", case.name)?;
     Ok(true)
 }
 
-/// Runs cases, and tells whether all came out as expected.
+/// Runs cases, and answers how many came out as expected.
 fn run_cases<'a, R: AllocGlobal + Threads + Sync, W: Write>(
     rt: &R,
     output: &mut W,
     cases: &[Case<'_>],
-) -> Result<bool, Trouble<'a>> {
-    let mut all = true;
+) -> Result<usize, Trouble<'a>> {
+    let mut came_out: usize = 0;
     for case in cases {
-        all &= run_case(rt, output, case)?;
+        came_out = came_out.saturating_add(usize::from(run_case(rt, output, case)?));
     }
-    Ok(all)
+    Ok(came_out)
 }
 
-/// Runs the cases of a file, and tells whether all came out as expected.
+/// Runs the cases of a file of this name, and tells whether all came out as expected.
 fn run_file<'a, R: Files + AllocGlobal + Threads + Sync, W: Write>(
     rt: &R,
     output: &mut W,
-    folder: &str,
+    name: &str,
     file: &'a [u8],
 ) -> Result<bool, Trouble<'a>> {
-    let cases = cases_of(rt, folder, file)?;
-    run_cases(rt, output, &cases)
+    let cases = cases_of(rt, folder_of(name), file)?;
+    let came_out = run_cases(rt, output, &cases)?;
+    writeln!(output, "ok {came_out} cases of {name}")?;
+    Ok(came_out == cases.len())
 }
 
 /// Tells why the cases of a file cannot be run.
@@ -118,7 +171,7 @@ fn run_named<R: Files + AllocGlobal + Threads + Sync, W: Write, E: Write>(
     let Ok(file) = fs::read(rt, name) else {
         return tell_trouble(errors, name, Trouble::Unreadable(name));
     };
-    match run_file(rt, output, folder_of(name), &file) {
+    match run_file(rt, output, name, &file) {
         Ok(true) => FINE,
         Ok(false) => DIFFERS,
         Err(trouble) => tell_trouble(errors, name, trouble),

@@ -1,77 +1,111 @@
-//! What comes of a case.
+//! What comes of a run.
 
-use crate::cases::Case;
-use cvl_base::{Config, NoResources};
-use script_runs::{MemSink, put_stop, run};
+use crate::single_runs::SingleRun;
+use cvl_base::{Config, Memory, NoResources};
+use script_runs::{MemSink, Stop, put_stop, run};
 use std::alloc::Global;
-use std::io;
-use std::io::Write;
 use std::thread::Threads;
 use vector_handles::Input;
 
-/// What a script wrote, and the line that tells why it stopped.
+/// What a line that writes begins with.
+const WRITES: &[u8] = b"write ";
+
+/// What a script wrote, and why it stopped.
 #[derive(Drop)]
 pub struct Outcome {
-    text: Vec<u8>,
-    stop: Vec<u8>,
+    /// The text, and behind it the line that tells why the script stopped, where it did.
+    pub shown: Vec<u8>,
+    /// How many bytes the text has.
+    written: usize,
+    /// The line at which memory ran out.
+    out_of_memory: Option<u32>,
 }
 
 /// The inputs with these bytes.
-fn inputs_of(alloc: Global, files: &[Vec<u8>]) -> Result<Vec<Input<Global>>, NoResources> {
-    let mut inputs = Vec::with_capacity(alloc, files.len())?;
+fn inputs_of<A: Memory>(heap: A, files: &[&[u8]]) -> Result<Vec<Input<A>, A>, NoResources> {
+    let mut inputs = Vec::with_capacity(heap, files.len())?;
     for file in files {
-        inputs.push(Input::Bytes(Vec::from_slice(alloc, file)?))?;
+        inputs.push(Input::Bytes(Vec::from_slice(heap, file)?))?;
     }
     Ok(inputs)
 }
 
-/// Runs the script of a case.
-pub fn outcome_of<R: AllocGlobal + Threads + Sync>(
+/// Makes a run on this memory. What it shows is kept in ample memory.
+pub fn outcome_of<R: Threads + Sync, A: Memory>(
     rt: &R,
+    ample: Global,
+    heap: A,
     config: Config,
-    case: &Case<'_>,
+    single: &SingleRun<'_>,
 ) -> Result<Outcome, NoResources> {
-    let alloc = rt.alloc();
-    let inputs = inputs_of(alloc, &case.inputs)?;
-    let mut sink = MemSink::new(alloc);
-    let ran = run(rt, alloc, config, &case.script, inputs, &mut sink);
-    let mut stop = Vec::new(alloc);
+    let inputs = inputs_of(heap, &single.inputs)?;
+    let mut sink = MemSink::new(ample);
+    let ran = run(rt, heap, config, single.script, inputs, &mut sink);
+    let mut shown = sink.into_vec();
+    let written = shown.len();
+    let mut out_of_memory = None;
     if let Err(why) = ran {
-        put_stop(&why, &mut stop)?;
+        put_stop(&why, &mut shown)?;
+        if let Stop::NoResources { line } = why {
+            out_of_memory = Some(line);
+        }
     }
     Ok(Outcome {
-        text: sink.into_vec(),
-        stop,
+        shown,
+        written,
+        out_of_memory,
     })
 }
 
+/// How many of the first lines of a script write.
+fn writing_lines(script: &[u8], lines: usize) -> usize {
+    let mut writing: usize = 0;
+    for line in script.split(|byte| *byte == b'\n').take(lines) {
+        writing = writing.saturating_add(usize::from(line.starts_with(WRITES)));
+    }
+    writing
+}
+
+/// The first lines, so many of them.
+fn first_lines(bytes: &[u8], lines: usize) -> &[u8] {
+    let mut end: usize = 0;
+    for line in bytes.split_inclusive(|byte| *byte == b'\n').take(lines) {
+        end = end.saturating_add(line.len());
+    }
+    let (front, _) = bytes.split_at(end.min(bytes.len()));
+    front
+}
+
 impl Outcome {
-    /// Whether it is what the case expects.
-    pub fn is_expected(&self, case: &Case<'_>) -> bool {
-        self.text == case.text && self.stop == case.stop
+    /// Whether it is what is expected of the run.
+    pub fn is_expected(&self, single: &SingleRun<'_>) -> bool {
+        self.shown == single.shown
+    }
+
+    /// Whether the text is that of the lines before this one, and a beginning of the text of this one.
+    fn ends_in(&self, single: &SingleRun<'_>, line: u32) -> bool {
+        let line = line as usize;
+        let (text, _) = self.shown.split_at(self.written.min(self.shown.len()));
+        let before = writing_lines(single.script, line.saturating_sub(1));
+        let all = writing_lines(single.script, line);
+        text.starts_with(first_lines(&single.shown, before))
+            && first_lines(&single.shown, all).starts_with(text)
     }
 }
 
-/// Writes bytes below a line that tells what they are.
-fn tell_bytes<W: Write>(output: &mut W, what: &str, bytes: &[u8]) -> io::Result<()> {
-    writeln!(output, "-- {what}")?;
-    output.write_all(bytes)
-}
-
-/// Writes what came out beside what was expected.
-pub fn tell_difference<W: Write>(
-    output: &mut W,
+/// Whether a run on this memory comes out as expected. Where it is refused memory, whether its text ends in the line that it
+/// names: then the answer is the refusal.
+pub fn comes_out<R: Threads + Sync, A: Memory>(
+    rt: &R,
+    ample: Global,
+    heap: A,
     config: Config,
-    case: &Case<'_>,
-    outcome: &Outcome,
-) -> io::Result<()> {
-    let (name, tile, workers) = (case.name, config.tile(), config.workers());
-    writeln!(
-        output,
-        "differs: {name}, on tiles of {tile} and {workers} workers"
-    )?;
-    tell_bytes(output, "text", &outcome.text)?;
-    tell_bytes(output, "text expected", &case.text)?;
-    tell_bytes(output, "stop", &outcome.stop)?;
-    tell_bytes(output, "stop expected", &case.stop)
+    single: &SingleRun<'_>,
+) -> Result<bool, NoResources> {
+    let outcome = outcome_of(rt, ample, heap, config, single)?;
+    match outcome.out_of_memory {
+        Some(line) if outcome.ends_in(single, line) => Err(NoResources),
+        Some(_) => Ok(false),
+        None => Ok(outcome.is_expected(single)),
+    }
 }

@@ -1,0 +1,147 @@
+"""Calls on long vectors, which workers race for or threads share, about the lengths from which on they do, with faults."""
+
+from calls import GREATEST, LEAST
+from cases import refused, tiles, whole
+
+# how many elements permutes have: a power of two, so that a stride of an odd number names each place once
+PLACES = 2**20
+
+PERMUTED = f"n = dis_vuz {PLACES - 1} {PLACES}\nv = ind_luz 0 1 {PLACES}\ni = ind_luz 0 249989 {PLACES}\ni = and_wuz i n\n"
+
+# in segments of half the places
+HALVES = f"h = dis_vuz {PLACES // 2} 2\nd = mke_fov h\nm = dis_vuz {PLACES // 2 - 1} {PLACES}\ni = and_wuz i m\n"
+
+# the call, what stands before it, and what shows that its result is right: the result of a simple permute, taken back, is the source
+PERMUTES = [
+    ("smp_puz", "", "p = smp_puz v i\nq = bck_puz p i\n"),
+    ("sel_puz", "f = geq_wuz v v\n", "p = sel_puz v i f\nq = bck_puz p i\n"),
+    ("def_puz", "", "p = def_puz v i n\nq = bck_puz p i\n"),
+    ("bck_puz", "", "p = bck_puz v i\nq = smp_puz p i\n"),
+    ("smp_pez", HALVES, "p = smp_pez v i d\nq = bck_pez p i d d\n"),
+    ("bck_pez", HALVES, "p = bck_pez v i d d\nq = smp_pez p i d\n"),
+]
+
+# places whose index is another one: one that is no place, or none for that of the place before
+FLAWS = [[(599_990, -1)], [(599_990, PLACES)], [(599_990, None)], [(170_000, None), (599_990, -1)], [(PLACES - 1, None)]]
+
+
+def permutes(rng):
+    text = ""
+    settings = tiles(("4096", "4"))
+    for name, before, call in PERMUTES:
+        script = PERMUTED + before + call + "e = eql_wuz q v\nt = and_rub e\nwrite t\n"
+        text += f"== case long {name}\n{settings}== script\n{script}== text\nt = T\n"
+        for number, flaws in enumerate(FLAWS):
+            if name[0] == "b" and None in (other for _, other in flaws):
+                continue
+            changed, first = PERMUTED + before, min(place for place, _ in flaws)
+            for place, other in flaws:
+                changed += f"x = ext_vuz i {place - 1}\ni = rep_vuz i {place} {'x' if other is None else other}\n"
+            line = changed.count("\n") + 1
+            stop = f"line {line}: fault " + ("11 IndexRepeated" if dict(flaws)[first] is None else "10 IndexOutOfRange") + f" at {first}\n"
+            text += f"== case long {name} with a fault, {number}\n{settings}== script\n{changed}{call}== stop\n{stop}"
+    changed = PERMUTED + "i = rep_vuz i 599990 0\n"
+    # a long vector and its text take a few requests each
+    short = tiles(("4096", "4")) + refused(8)
+    text += f"== case a long permute where memory is refused\n{short}== script\n{PERMUTED}p = smp_puz v i\nx = ext_vuz p 0\nwrite x\n== text\nx = 0\n"
+    text += f"== case a long permute at fault where memory is refused\n{short}== script\n{changed}p = smp_puz v i\n" \
+        "== stop\nline 6: fault 11 IndexRepeated at 599990\n"
+    return text
+
+
+# scans and reduces of numbers of both signs whose sums wrap, about the lengths from which on workers race
+
+STRIDE = 1_103_515_245
+
+
+def scanned(count, lengths):
+    """A script of sums and maxima of so many numbers, flat and in segments, which shows some of the results."""
+    shown = (count - 1) // 9973 + 1
+    lines = f"a = ind_luz 12345 {STRIDE} {count}\nl = input 1\nd = mke_fov l\ni = ind_luz 0 9973 {shown}\n"
+    for name in ("add", "max"):
+        lines += f"r = {name}_ruz a\nwrite r\nr = {name}_rez a d\nwrite r\n"
+        lines += f"s = {name}_suz a\nt = bck_puz s i\nwrite t\ns = {name}_sez a d\nt = bck_puz s i\nwrite t\n"
+    return lines
+
+
+def scans(rng):
+    text = ""
+    # the elements, and the tiles and the workers that are asked for
+    for count, tile, workers in ((262143, 4096, 4), (262144, 4096, 4), (262145, 65536, 3), (300000, 1024, 5)):
+        lengths = f"1 0 170000 {count - 170001} 0 0"
+        text += whole(f"sums of {count} numbers", tiles((tile, f"1 {workers}")), scanned(count, lengths), [lengths])
+    return text
+
+
+# sums that never wrap, with and without a result that does not fit among the last elements
+
+def checked(rng):
+    text = ""
+    settings = tiles(("1000", "3"), ("4096", "4"))
+    for count, last in ((262144, 0), (262144, GREATEST), (600060, GREATEST)):
+        # numbers from -32768 to 32767, and a great one twice near the end
+        lines = f"o = dis_vuz 65535 {count}\na = ind_luz 7 12345 {count}\na = and_wuz a o\nb = dis_vuz 32768 {count}\na = sub_wuz a b\n"
+        if last:
+            lines += f"a = rep_vuz a {count - 20} {last}\na = rep_vuz a {count - 10} {last}\n"
+        lines += "l = input 1\nd = mke_fov l\n"
+        for name, by, show in (("tot_ruz", "", "r"), ("tot_rez", " d", "r"), ("tot_suz", "", "s"), ("tot_sez", " d", "s")):
+            script = lines + f"s = {name} a{by}\n"
+            script += "write s\n" if show == "r" else f"i = ind_luz 0 9973 {(count - 1) // 9973 + 1}\nt = bck_puz s i\nwrite t\n"
+            lengths = f"1 0 170000 {count - 170001} 0"
+            text += whole(f"{name} of {count} numbers" + (" that do not fit" if last else ""), settings, script, [lengths])
+    return text
+
+
+# how many sums fit in vectors of several blocks, whose sums are looked at together
+
+COUNT = 2060
+BLOCK_PLACES = [2, 63, 64, 256, 510, 511, 512, 513, 514, 1023, 1024, 1025, 2047, 2048, 2049, 2059]
+PAIRS = [(GREATEST, 1), (LEAST, -1), (GREATEST, 0), (LEAST, 0), (GREATEST, LEAST), (LEAST, GREATEST)]
+STEPS = [1048576, -1048576, 4194304, -4194304, 4194303, -4194303, 8388608, -8388608]
+
+
+def blocks(rng):
+    """Scans whose sums stop to fit at each place about the ends of blocks of 512."""
+    text = ""
+    settings = tiles(("1024 65536", "1 3"))
+    ends = "r = tot_suz a\nn = max_ruz r\nwrite n\n"
+    for place in BLOCK_PLACES:
+        for first, second in PAIRS:
+            script = f"a = dis_vuz 0 {COUNT}\na = rep_vuz a {place - 2} {first}\na = rep_vuz a {place - 1} {second}\n"
+            text += whole(f"{first} and {second} before {place}", settings, script + ends, [])
+    for step in STEPS:
+        text += whole(f"{step} again and again", settings, f"a = dis_vuz {step} {COUNT}\n" + ends, [])
+    in_turn = f"a = dis_vuz 1 {COUNT}\ni = ind_luz 0 1 {COUNT}\ni = and_wuz i a\nf = boo_wuz i\na = dis_vuz {GREATEST} {COUNT}\n" \
+        f"b = dis_vuz {-GREATEST} {COUNT}\na = sel_wuz f b a\n"
+    # a first number stands before the others, which are GREATEST and its opposite in turn
+    for first in (0, -1, LEAST, 1, GREATEST):
+        script = in_turn + f"b = dis_vuz {first} {COUNT + 1}\nj = ind_luz 1 1 {COUNT}\na = def_puz a j b\n"
+        text += whole(f"{first} and numbers in turn", settings, script + ends, [])
+    for place in (2, 64, 256, 510, 512, 514, 1024, 2058):
+        script = in_turn + f"a = rep_vuz a {place - 2} {GREATEST}\na = rep_vuz a {place - 1} 1\n"
+        text += whole(f"one more than fits before {place} among numbers in turn", settings, script + ends, [])
+    return text
+
+
+def divisions(rng):
+    """Quotients and shifts about the length from which on workers race, with faults at two places."""
+    text = ""
+    for call, good, wrong, fault in (("div_wuz", 1, 0, "8 DivideByZero"), ("rsh_wuz", 0, 32, "9 ShiftOutOfRange")):
+        for count in (262143, 262144, 600000):
+            start = f"a = dis_vuz 7 {count}\nb = dis_vuz {good} {count}\n"
+            ends = f"q = {call} a b\ne = eql_wuz q a\nt = and_rub e\nwrite t\n"
+            settings = tiles(("4096", "1 4"))
+            text += f"== case {call} of {count} elements\n{settings}== script\n{start}{ends}== text\nt = T\n"
+            flawed = start + f"b = rep_vuz b {count - 1} {wrong}\nb = rep_vuz b {count - 10} {wrong}\n"
+            text += f"== case {call} of {count} elements with two faults\n{settings}== script\n{flawed}{ends}== stop\nline 5: fault {fault} at {count - 10}\n"
+            if count == 600000 and good:
+                # the vectors, a wider one for the result, and where workers race for a fault its board
+                refusals = tiles(("4096", "4")) + refused(4)
+                text += f"== case {call} of {count} elements where memory is refused\n{refusals}== script\n{start}{ends}== text\nt = T\n"
+                text += f"== case {call} of {count} elements with two faults where memory is refused\n{refusals}== script\n{flawed}{ends}" \
+                    f"== stop\nline 5: fault {fault} at {count - 10}\n"
+    return text
+
+
+def cases(rng):
+    return permutes(rng) + scans(rng) + checked(rng) + blocks(rng) + divisions(rng)
