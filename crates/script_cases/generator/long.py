@@ -1,7 +1,7 @@
 """Long inputs that several threads read, and long texts that several threads write, in pieces that stand many times."""
 
 from cases import outcome, refused, tiles
-from scripts import run
+from scripts import run, words_of
 
 # from how many bytes on several threads read an input, and how many each of them has at least; the same of the elements of a
 # text, of which the first is written before threads share the others
@@ -46,7 +46,7 @@ def one_input(name, settings, pieces):
     """A case of one long input."""
     text = content(pieces)
     assert text.count("\n== ") == 0
-    count = len(text.split())
+    count = len(words_of(text))
     script = SHOWN.format(1, (count + 996) // 997)
     head = f"== case {name}\n{settings}{section('input', pieces)}"
     shown = run(script, [text])

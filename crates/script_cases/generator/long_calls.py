@@ -75,20 +75,23 @@ def scans(rng):
 
 # sums that never wrap, with and without a result that does not fit among the last elements
 
+CHECKED = [("tot_ruz", ""), ("tot_rez", " d"), ("tot_suz", ""), ("tot_sez", " d")]
+
+
 def checked(rng):
     text = ""
     settings = tiles(("1000", "3"), ("4096", "4"))
-    for count, last in ((262144, 0), (262144, GREATEST), (600060, GREATEST)):
+    for count, last, calls in ((262144, 0, CHECKED), (262144, GREATEST, CHECKED), (600060, GREATEST, CHECKED[3:])):
         # numbers from -32768 to 32767, and a great one twice near the end
         lines = f"o = dis_vuz 65535 {count}\na = ind_luz 7 12345 {count}\na = and_wuz a o\nb = dis_vuz 32768 {count}\na = sub_wuz a b\n"
         if last:
             lines += f"a = rep_vuz a {count - 20} {last}\na = rep_vuz a {count - 10} {last}\n"
-        lines += "l = input 1\nd = mke_fov l\n"
-        for name, by, show in (("tot_ruz", "", "r"), ("tot_rez", " d", "r"), ("tot_suz", "", "s"), ("tot_sez", " d", "s")):
-            script = lines + f"s = {name} a{by}\n"
-            script += "write s\n" if show == "r" else f"i = ind_luz 0 9973 {(count - 1) // 9973 + 1}\nt = bck_puz s i\nwrite t\n"
-            lengths = f"1 0 170000 {count - 170001} 0"
-            text += whole(f"{name} of {count} numbers" + (" that do not fit" if last else ""), settings, script, [lengths])
+        lines += f"l = input 1\nd = mke_fov l\ni = ind_luz 0 9973 {(count - 1) // 9973 + 1}\n"
+        ends = [f"s = {name} a{by}\n" + ("write s\n" if "_r" in name else "t = bck_puz s i\nwrite t\n") for name, by in calls]
+        # a fault ends a script
+        for number, end in enumerate(ends if last else ["".join(ends)]):
+            name = calls[number][0] if last else "sums that never wrap"
+            text += whole(f"{name} of {count} numbers" + (" that do not fit" if last else ""), settings, lines + end, [f"1 0 170000 {count - 170001} 0"])
     return text
 
 

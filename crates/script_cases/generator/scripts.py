@@ -7,7 +7,7 @@ from calls import CALLS, GREATEST, LEAST, MOST_ELEMENTS, Fault, agree, cut
 
 WORD = re.compile(r"[A-Za-z][A-Za-z0-9_]{0,31}")
 NUMBER = re.compile(r"-?[0-9]+")
-WHITE_SPACE = " \t\n\r"
+BLANKS = str.maketrans("\t\n\r", "   ")
 MOST_NAMES = 4096
 MOST_SCRIPT_BYTES = 1048576
 
@@ -73,9 +73,9 @@ def call_of(line):
 
 def words_of(text, alone=""):
     """The tokens between white space, of which those of these letters stand alone."""
-    alone = re.escape(alone)
-    pattern = f"[{alone}]|[^{WHITE_SPACE}{alone}]+" if alone else f"[^{WHITE_SPACE}]+"
-    return re.findall(pattern, text)
+    for letter in alone:
+        text = text.replace(letter, f" {letter} ")
+    return list(filter(None, text.translate(BLANKS).split(" ")))
 
 
 def input_of(text):
