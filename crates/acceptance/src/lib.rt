@@ -10,11 +10,15 @@
 #[cfg(test)]
 mod allocator_counts;
 #[cfg(test)]
+mod both_names;
+#[cfg(test)]
 mod command_lines;
 #[cfg(test)]
 mod files;
 #[cfg(test)]
 mod hosts;
+#[cfg(test)]
+mod kept_texts;
 #[cfg(test)]
 mod limits;
 #[cfg(test)]

@@ -11,7 +11,7 @@ use std::thread::Threads;
 use vector_handles::{Input, Session, Shown};
 
 /// Makes the call of a line, and drops what it shows.
-fn apply_line<R: Threads + Sync, A: Memory>(
+pub fn apply_line<R: Threads + Sync, A: Memory>(
     rt: &R,
     heap: A,
     session: &mut Session<A>,

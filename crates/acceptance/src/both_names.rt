@@ -1,7 +1,7 @@
 //! The two names that one call binds: both or neither, whichever request for memory is refused.
 
-use crate::scripts::inputs_of;
-use call_reader::read_line;
+use crate::hosts::inputs_of;
+use crate::sessions::apply_line;
 use cvl_base::{Config, Fault, FaultNo, Ints, Memory, Name, NoResources, Refused, Value};
 use refusing_memory::{Refusal, Refusing, refuse_each};
 use std::alloc::Global;
@@ -54,21 +54,8 @@ fn bound_in<A: Memory>(session: &Session<A>) -> [Bound; 3] {
 
 /// A session on a nested input and one of the number 8.
 fn started<A: Memory>(heap: A) -> Result<Session<A>, NoResources> {
-    let inputs = inputs_of(heap, &[b"[[1 2] [] [3]]", b"8"])?;
+    let inputs = inputs_of(heap, &["[[1 2] [] [3]]", "8"])?;
     Session::new(heap, Config::new(2, 3).unwrap(), inputs)
-}
-
-/// Makes the call of a line.
-fn apply_line<R: Threads + Sync, A: Memory>(
-    rt: &R,
-    heap: A,
-    session: &mut Session<A>,
-    line: &str,
-) -> Result<(), Refused> {
-    if let Some(call) = read_line(heap, line.as_bytes())? {
-        session.apply(rt, &call)?;
-    }
-    Ok(())
 }
 
 /// A session on which the calls of these lines are made. What is refused memory is done once more.
