@@ -41,8 +41,7 @@ def permutes(rng):
             stop = f"line {line}: fault " + ("11 IndexRepeated" if dict(flaws)[first] is None else "10 IndexOutOfRange") + f" at {first}\n"
             text += f"== case long {name} with a fault, {number}\n{settings}== script\n{changed}{call}== stop\n{stop}"
     changed = PERMUTED + "i = rep_vuz i 599990 0\n"
-    # a long vector and its text take a few requests each
-    short = tiles(("4096", "4")) + refused(8)
+    short = tiles(("4096", "4")) + refused(14)
     text += f"== case a long permute where memory is refused\n{short}== script\n{PERMUTED}p = smp_puz v i\nx = ext_vuz p 0\nwrite x\n== text\nx = 0\n"
     text += f"== case a long permute at fault where memory is refused\n{short}== script\n{changed}p = smp_puz v i\n" \
         "== stop\nline 6: fault 11 IndexRepeated at 599990\n"
@@ -138,8 +137,8 @@ def divisions(rng):
             flawed = start + f"b = rep_vuz b {count - 1} {wrong}\nb = rep_vuz b {count - 10} {wrong}\n"
             text += f"== case {call} of {count} elements with two faults\n{settings}== script\n{flawed}{ends}== stop\nline 5: fault {fault} at {count - 10}\n"
             if count == 600000 and good:
-                # the vectors, a wider one for the result, and where workers race for a fault its board
-                refusals = tiles(("4096", "4")) + refused(4)
+                # the two vectors, the race for the least fault, and the result
+                refusals = tiles(("4096", "4")) + refused(14)
                 text += f"== case {call} of {count} elements where memory is refused\n{refusals}== script\n{start}{ends}== text\nt = T\n"
                 text += f"== case {call} of {count} elements with two faults where memory is refused\n{refusals}== script\n{flawed}{ends}" \
                     f"== stop\nline 5: fault {fault} at {count - 10}\n"

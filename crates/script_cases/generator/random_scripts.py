@@ -1,7 +1,7 @@
 """Random scripts, and one that is cut after every byte."""
 
 from calls import CALLS, GREATEST, LEAST
-from cases import each, number_lines, refused, tiles, whole
+from cases import number_lines, refused, tiles, whole
 from scripts import run
 
 NAMES = ["a", "b", "c", "d", "e", "v", "w", "x_1", "Sum", "a" * 32]

@@ -1,6 +1,6 @@
 """Random arguments of each call, good ones and some that are at fault, with rows for them."""
 
-from calls import CALLS, GREATEST, LEAST, Fault, starts, cut
+from calls import CALLS, GREATEST, LEAST, Fault, cut
 from cases import each, number_lines, refused, tiles
 
 EDGES = [LEAST, LEAST + 1, -65536, -33, -32, -2, -1, 0, 1, 2, 31, 32, 65535, GREATEST - 1, GREATEST]

@@ -2,7 +2,7 @@
 
 from itertools import product
 
-from calls import BOOL_MONOIDS, COMPARE, INT2, INT_MONOIDS, LEAST, GREATEST, PARTIAL, cut
+from calls import BOOL_MONOIDS, COMPARE, GREATEST, INT2, INT_MONOIDS, LEAST, PARTIAL
 from cases import alike, each, number_lines, refused, tiles, whole
 from rows import EDGES
 
