@@ -24,10 +24,6 @@ module _ {X : Type 0} where
   somes_map [] = refl
   somes_map (x ∷ xs) = ap (λ l. x ∷ l) (somes_map xs)
 
-  pub length_filled : (xs : List X) (n : ℕ) → length (filled xs n) ≡ length xs + n
-  length_filled xs n = let ws : List (Option X) = map Some xs in let fore : length ws ≡ length xs = length-map xs Some in let rest : length (none n) ≡ n = length-replicate n None in
-      omega (arith, length-append ws (none n))
-
   take_none : (n k : ℕ) → k ≤ n → take k (none n) ≡ none k
   take_none n zero le = refl
   take_none zero (suc k) le = absurd (omega arith)

@@ -172,10 +172,6 @@ module _ (ts : List (Option ℤ)) (lowest n k destination sender : ℕ) (senders
         stands = ap (λ (ss : List ℕ). get_or ss destination 0) same ∙ to.stands;
       }
 
-pub range_all : (ts : List (Option ℤ)) (lowest n k destination sender : ℕ) (senders : List ℕ) → IsStoredIn ts lowest n k destination sender senders
-    → length ts ≤ k → senders ≡ last_senders 0 ts lowest n
-range_all ts lowest n k destination sender senders to ge = to.lasts ∙ ap (λ us. last_senders 0 us lowest n) (take_all k ts ge)
-
 -- ---- whether an index lies in the range, as the code asks it
 
 abbrev pub is_in_range : Bool → ℕ → ℕ → ℕ → Bool
