@@ -16,6 +16,8 @@ mod rule;
 pub mod seat;
 pub mod targets;
 pub mod tiles;
+#[cfg(test)]
+mod two_fields;
 mod words;
 
 pub use board::{Ended, ScanBoard};
