@@ -1,38 +1,37 @@
-//! Tests of what workers share and of the scans, reduces and quotients for whose tiles they race.
+//! Tests of what workers share, and of workers who are held at a gate.
 //!
-//! Of what they share: the scan board and the least board, by hand and by two threads of the test's own; the world of workers,
-//! by one list of their steps; and a list gathered from pieces, each with its requests for memory refused in turn. Of the
-//! scans and reduces: every cut into tiles beside plain lists, at a gate that sees each point of each tile; workers held
-//! at it; how often elements were read at each point; and each request for memory refused in turn. Of quotients: the least
-//! divisor of 0 among several, again and again, at a gate that sees each tile; long ones; and memory refused.
+//! Of what they share: the scan board and the least board, by hand and by two threads of the test's own; the world of workers;
+//! and a list gathered from pieces. Of the calls that race: scans whose workers are held at each point of each tile; how often
+//! elements were read before each point; each call in scripts in short tiles and about the lengths from which on workers race,
+//! at a gate that sees each point of each tile, and the program; and the calls that no script reaches, with each request for
+//! memory refused in turn.
+//!
+//! Whatever races runs on one type of memory, the test allocator, and nearly all of it at one gate, since each type of either
+//! has all calls compiled anew. What a call answers is shown by the cases of `script_cases`.
 #![tactic(auto)]
 
 #[cfg(test)]
-mod calls;
-#[cfg(test)]
-mod cuts;
-#[cfg(test)]
-mod divisions;
-#[cfg(test)]
-mod held;
+mod held_scans;
 #[cfg(test)]
 mod least_boards;
 #[cfg(test)]
-mod long;
+mod long_scripts;
 #[cfg(test)]
 mod pieces;
 #[cfg(test)]
-mod plain;
+mod plain_calls;
+#[cfg(test)]
+mod program;
 #[cfg(test)]
 mod readings;
-#[cfg(test)]
-mod refusals;
-#[cfg(test)]
-mod repeats;
 #[cfg(test)]
 mod requests;
 #[cfg(test)]
 mod scan_boards;
+#[cfg(test)]
+mod scripts;
+#[cfg(test)]
+mod short_scripts;
 #[cfg(test)]
 mod tiles;
 #[cfg(test)]

@@ -1,12 +1,12 @@
 //! How often the elements of a scan have been read when a worker passes each point.
 
-ghost use Rattle.std.specs.Prelude.{◌≡◌};
 ghost use Rattle.std.specs.List.{AllPass};
 ghost use Rattle.cvl_base.specs.ItemWords.{is_number};
 
 use crew::{Gate, Point};
 use cvl_base::Config;
 use cvl_base::monoids::Add;
+use refusing_memory::Refusing;
 use scan_ops::{Reading, scan_readings_gated, seg_reduce_readings_gated};
 use segdes::SegDes;
 use std::sync::atomic::{AtomicU64, Ordering};
@@ -18,14 +18,6 @@ use watching_gate::{Holds, Race, Watch, place_of};
 struct Counted<'a> {
     number: i32,
     reads: &'a AtomicU64,
-}
-
-impl<'a> Counted<'a> {
-    fn new(number: i32, reads: &'a AtomicU64) -> Counted<'a>
-        ensures { result.number ≡ number }
-    {
-        Counted { number, reads }
-    }
 }
 
 /// The rule by which such a number is read as itself, and counted.
@@ -59,19 +51,6 @@ impl Noting<'_> {
             note.store(digits, Ordering::SeqCst);
         }
     }
-
-    /// The notes, or zeros where a point was passed out of order.
-    fn notes(&self) -> [u64; 5] {
-        let mut notes = [0; 5];
-        if self.watch.saw_all() {
-            for k in 0..5 {
-                if let Some(note) = self.notes.get(k) {
-                    notes[k] = note.load(Ordering::SeqCst);
-                }
-            }
-        }
-        notes
-    }
 }
 
 impl Gate for Noting<'_> {
@@ -89,11 +68,24 @@ impl Gate for Noting<'_> {
 fn elements(reads: &[AtomicU64; 5]) -> [Counted<'_>; 4]
     ensures { AllPass (λ x. is_number x.number) result }
 {
+    let [first, second, third, fourth, _] = reads;
     [
-        Counted::new(3, &reads[0]),
-        Counted::new(1, &reads[1]),
-        Counted::new(7, &reads[2]),
-        Counted::new(0, &reads[3]),
+        Counted {
+            number: 3,
+            reads: first,
+        },
+        Counted {
+            number: 1,
+            reads: second,
+        },
+        Counted {
+            number: 7,
+            reads: third,
+        },
+        Counted {
+            number: 0,
+            reads: fourth,
+        },
     ]
 }
 
@@ -108,32 +100,50 @@ fn words(start: u64) -> [AtomicU64; 5] {
     ]
 }
 
+/// The workers, whether they reduce four segments and don't scan, who is held, the notes, and how often each element is read
+/// in all.
+type Row = (u32, bool, Holds, [u64; 5], [u64; 4]);
+
+const ROWS: [Row; 4] = [
+    // each element is read for its tile's sum, and once more when the scan is written
+    (
+        1,
+        false,
+        Holds::Nobody,
+        [90111, 90111, 90111, 90111, 91111],
+        [2, 2, 2, 2],
+    ),
+    // the look-back from tile 1 adds up tile 0, of which nothing is told
+    (
+        2,
+        false,
+        Holds::TileZero(Point::Claimed(0)),
+        [91222, 90111, 90111, 90111, 90011],
+        [3, 2, 2, 2],
+    ),
+    // and does not where its sum is told
+    (
+        2,
+        false,
+        Holds::TileZero(Point::Summed(0)),
+        [90111, 90111, 90111, 90111, 91111],
+        [2, 2, 2, 2],
+    ),
+    // a reduce of segments reads each element for its tile's sum, and once more when the reduces are written, after the race
+    (
+        1,
+        true,
+        Holds::Nobody,
+        [90111, 90111, 90111, 90111, 91111],
+        [2, 2, 2, 2],
+    ),
+];
+
 #[test]
 fn read_before_each_point(rt: HostRuntime) -> Result<(), Fail> {
-    let rows = [
-        // each element is read for its tile's sum, and once more when the scan is written
-        (
-            1,
-            Holds::Nobody,
-            [90111, 90111, 90111, 90111, 91111],
-            [2, 2, 2, 2],
-        ),
-        // the look-back from tile 1 adds up tile 0, of which nothing is told
-        (
-            2,
-            Holds::TileZero(Point::Claimed(0)),
-            [91222, 90111, 90111, 90111, 90011],
-            [3, 2, 2, 2],
-        ),
-        // and does not where its sum is told
-        (
-            2,
-            Holds::TileZero(Point::Summed(0)),
-            [90111, 90111, 90111, 90111, 91111],
-            [2, 2, 2, 2],
-        ),
-    ];
-    for (workers, holds, notes, in_all) in rows {
+    let heap = Refusing::none(rt.alloc());
+    let d = SegDes::from_lengths(&heap, &[1, 1, 1, 1])?;
+    for (workers, reduces, holds, notes, in_all) in ROWS {
         let reads = words(0);
         let gate = Noting {
             watch: Watch::new(rt.alloc(), Race::Scan, 4, workers, holds)?,
@@ -142,45 +152,24 @@ fn read_before_each_point(rt: HostRuntime) -> Result<(), Fail> {
         };
         let elements = elements(&reads);
         let config = Config::new(1, workers)?;
-        let sums = scan_readings_gated::<_, _, Add, Counted<'_>, Counting, _>(
-            &rt,
-            rt.alloc(),
-            config,
-            &elements,
-            &gate,
-        )?;
-        assert!(rt; sums.as_slice() == [0, 3, 4, 11].as_slice());
-        assert_eq!(rt; gate.notes(), notes);
+        let (sums, right) = if reduces {
+            let sums = seg_reduce_readings_gated::<_, _, Add, _, Counting, _>(
+                &rt, &heap, config, &elements, &d, &gate,
+            )?;
+            (sums, [3, 1, 7, 0])
+        } else {
+            let sums = scan_readings_gated::<_, _, Add, _, Counting, _>(
+                &rt, &heap, config, &elements, &gate,
+            )?;
+            (sums, [0, 3, 4, 11])
+        };
+        assert!(rt; sums.as_slice() == right.as_slice() && gate.watch.saw_all());
+        for k in 0..5 {
+            assert_eq!(rt; gate.notes[k].load(Ordering::SeqCst), notes[k]);
+        }
         for k in 0..4 {
             assert_eq!(rt; reads[k].load(Ordering::SeqCst), in_all[k]);
         }
-    }
-    Ok(())
-}
-
-/// A reduce of segments reads each element for its tile's sum, and once more when the reduces are written, after the race.
-#[test]
-fn read_by_a_reduce_of_segments(rt: HostRuntime) -> Result<(), Fail> {
-    let reads = words(0);
-    let gate = Noting {
-        watch: Watch::new(rt.alloc(), Race::Scan, 4, 1, Holds::Nobody)?,
-        reads: &reads,
-        notes: words(9),
-    };
-    let elements = elements(&reads);
-    let d = SegDes::from_lengths(rt.alloc(), &[1, 1, 1, 1])?;
-    let sums = seg_reduce_readings_gated::<_, _, Add, Counted<'_>, Counting, _>(
-        &rt,
-        rt.alloc(),
-        Config::new(1, 1)?,
-        &elements,
-        &d,
-        &gate,
-    )?;
-    assert!(rt; sums.as_slice() == [3, 1, 7, 0].as_slice());
-    assert_eq!(rt; gate.notes(), [90111, 90111, 90111, 90111, 91111]);
-    for k in 0..4 {
-        assert_eq!(rt; reads[k].load(Ordering::SeqCst), 2);
     }
     Ok(())
 }

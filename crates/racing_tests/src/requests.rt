@@ -1,6 +1,6 @@
 //! What no script makes, with ample memory and with each of its requests refused in turn.
 
-use crate::{least_boards, pieces, scan_boards, worlds};
+use crate::{least_boards, pieces, plain_calls, scan_boards, worlds};
 use cvl_base::{Memory, Refused};
 use refusing_memory::withstands_refusals;
 use std::test::Fail;
@@ -14,10 +14,13 @@ enum Made {
     World,
     /// A list, gathered by so many threads.
     List(u32),
+    Sums,
+    Permutes,
+    PermutesOfSegments,
 }
 
 /// Each, and how many requests it makes at least.
-const ALL: [(Made, u64); 7] = [
+const ALL: [(Made, u64); 10] = [
     (Made::ScanBoard, 3),
     (Made::LeastBoard, 3),
     // the sums, the words and the states
@@ -27,6 +30,9 @@ const ALL: [(Made, u64); 7] = [
     (Made::List(2), 5),
     (Made::List(4), 5),
     (Made::List(9), 5),
+    (Made::Sums, 16),
+    (Made::Permutes, 16),
+    (Made::PermutesOfSegments, 16),
 ];
 
 /// Whether it is right.
@@ -36,6 +42,9 @@ fn is_right<R: Threads + Sync, A: Memory>(rt: &R, heap: A, made: Made) -> Result
         Made::LeastBoard => Ok(least_boards::answers_by_hand(heap)?),
         Made::World => Ok(worlds::answers_by_hand(heap)?),
         Made::List(threads) => Ok(pieces::is_in_order(rt, heap, threads)?),
+        Made::Sums => plain_calls::sums_are_right(rt, heap),
+        Made::Permutes => plain_calls::permutes_are_right(rt, heap),
+        Made::PermutesOfSegments => plain_calls::segments_are_right(rt, heap),
     }
 }
 

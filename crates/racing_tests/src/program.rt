@@ -2,6 +2,7 @@
 
 use crew::Point;
 use cvl_base::Memory;
+use refusing_memory::Refusing;
 use shell::{ReadFiles, StreamHost, program_gated, read_whole};
 use std::test::Fail;
 use watching_gate::{Holds, Race, Watch};
@@ -34,9 +35,10 @@ impl ReadFiles for TwoFiles {
 fn held_in_the_program(rt: HostRuntime) -> Result<(), Fail> {
     let words = ["cvl", "--tile", "1", "--workers", "2", "script", "numbers"];
     let holds = Holds::UntilOthers(Point::Claimed(0));
+    let heap = Refusing::none(rt.alloc());
     let gate = Watch::new(rt.alloc(), Race::Scan, 4, 2, holds)?;
     let mut host = StreamHost::new(TwoFiles, Vec::new(rt.alloc()), Vec::new(rt.alloc()));
-    let status = program_gated(&rt, rt.alloc(), &words, &mut host, &gate);
+    let status = program_gated(&rt, &heap, &words, &mut host, &gate);
     assert!(rt; status == 0 && host.output.as_slice() == b"b = [0 3 4 11]\n".as_slice());
     assert!(rt; gate.saw_all());
     Ok(())

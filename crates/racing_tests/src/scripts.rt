@@ -1,0 +1,60 @@
+//! A script that is run at a gate.
+
+use cvl_base::{Config, Memory, NoResources};
+use refusing_memory::Refusing;
+use shell::{MemSink, put_stop, run_gated};
+use std::alloc::Global;
+use std::thread::Threads;
+use vector_handles::Input;
+use watching_gate::{Holds, Race, Watch};
+
+pub const SCAN: Race = Race::Scan;
+
+/// A race on one board, or on two boards one after the other.
+pub const ONE: Race = Race::Leasts(1);
+
+pub const TWO: Race = Race::Leasts(2);
+
+/// A script, its inputs, and what comes of it: the text that it writes, and the line that tells why it stops.
+#[derive(Clone, Copy)]
+pub struct Script<'a> {
+    pub lines: &'a str,
+    pub inputs: &'a [&'a str],
+    pub outcome: &'a str,
+    /// What its workers race for.
+    pub race: Race,
+}
+
+/// The inputs with these texts.
+fn inputs_of<A: Memory>(alloc: A, texts: &[&str]) -> Result<Vec<Input<A>, A>, NoResources> {
+    let mut inputs = Vec::with_capacity(alloc, texts.len())?;
+    for text in texts {
+        let bytes = Vec::from_slice(alloc, text.as_bytes())?;
+        inputs.push(Input::Bytes(bytes))?;
+    }
+    Ok(inputs)
+}
+
+/// Whether what comes of a script is right while workers are held so, and its gate sees every point of so many tiles and nobody who
+/// waits in vain.
+pub fn comes_out<R: Threads + Sync>(
+    rt: &R,
+    alloc: Global,
+    config: Config,
+    tiles: u32,
+    script: &Script<'_>,
+    holds: Holds,
+) -> Result<bool, NoResources> {
+    let heap = Refusing::none(alloc);
+    let workers = config.workers().min(tiles);
+    let gate = Watch::new(alloc, script.race, tiles, workers, holds)?;
+    let inputs = inputs_of(&heap, script.inputs)?;
+    let mut sink = MemSink::new(alloc);
+    let lines = script.lines.as_bytes();
+    let ran = run_gated(rt, &heap, config, lines, inputs, &mut sink, &gate);
+    let mut text = sink.into_vec();
+    if let Err(stop) = ran {
+        put_stop(&stop, &mut text)?;
+    }
+    Ok(text.as_slice() == script.outcome.as_bytes() && gate.saw_all())
+}
