@@ -506,6 +506,7 @@ static void pack_faults(void) {
     FAULT(cvl_seg_pack_int(values, 4, flags, 4, below, 3, ints, ROOM, &total), CVL_NEGATIVE_LENGTH, 1);
     FAULT(cvl_seg_pack_int(values, 5, flags, 5, above, 2, ints, ROOM, &total), CVL_TOO_LONG, -1);
     FAULT(cvl_seg_pack_int(values, 5, flags, 5, too_many_ints, many, ints, ROOM, &total), CVL_TOO_LONG, -1);
+    FAULT(cvl_seg_pack_int(values, 5, flags, 5, lengths, 2, ints, ROOM, &total), CVL_LENGTH_MISMATCH, -1);
     FAULT(cvl_seg_pack_bool(flags, 5, flags, 5, lengths, 2, bools, ROOM, &total), CVL_LENGTH_MISMATCH, -1);
     FAULT(cvl_seg_pack_bool(flags, 5, flags, 5, below, 3, bools, ROOM, &total), CVL_NEGATIVE_LENGTH, 1);
     FAULT(cvl_packed_lengths(flags, 5, lengths, 3, ints, 2), CVL_LENGTH_MISMATCH, -1);
@@ -676,6 +677,7 @@ static void texts(void) {
     TEXT(cvl_write_ints(a, 3, bytes, 8, &total), "[0 -3 4]");
     TEXT(cvl_write_ints(I(INT32_MIN, 2147483647), 2, bytes, TEXT_ROOM, &total), "[-2147483648 2147483647]");
     TEXT(cvl_write_ints(a, 0, bytes, TEXT_ROOM, &total), "[]");
+    TEXT(cvl_write_ints(a, 0, bytes, 2, &total), "[]");
     TEXT(cvl_write_bools(f, 2, bytes, TEXT_ROOM, &total), "[T F]");
     TEXT(cvl_write_bools(f, 0, bytes, 2, &total), "[]");
     TOO_SHORT(cvl_write_ints(a, 3, bytes, 7, &total), 8);
@@ -728,6 +730,8 @@ static void held_descriptors(void) {
         FAULT(cvl_segments_int_scan(CVL_SUB, a, 4, &held, ints, 4), CVL_UNKNOWN_CALL, -1);
         FAULT(cvl_segments_int_scan(CVL_ADD, a, 5, &held, ints, 4), CVL_LENGTH_MISMATCH, -1);
         FAULT(cvl_segments_bool_scan(CVL_AND, f, 4, &held, bools, 5), CVL_LENGTH_MISMATCH, -1);
+        FAULT(cvl_segments_int_reduce(CVL_RSH, a, 5, &held, ints, 3), CVL_UNKNOWN_CALL, -1);
+        FAULT(cvl_segments_bool_reduce(CVL_MAX, f, 5, &held, bools, 3), CVL_UNKNOWN_CALL, -1);
         FAULT(cvl_segments_checked_scan(a, 4, &held, ints, 4), CVL_LENGTH_MISMATCH, -1);
         FAULT(cvl_segments_checked_scan(a, 5, &held, ints, 4), CVL_LENGTH_MISMATCH, -1);
         FAULT(cvl_segments_checked_scan(I(1, 2, 2147483647, 1, 1), 5, &held, ints, 5), CVL_OVERFLOW, 4);
@@ -735,6 +739,8 @@ static void held_descriptors(void) {
         FAULT(cvl_segments_checked_reduce(I(2147483647, 1, 0, 0, 0), 5, &held, ints, 3), CVL_OVERFLOW, 0);
     }
     FAULT(cvl_segments_new(I(1, 1), 2, &held), CVL_DONE, -1);
+    reset();
+    counts("cvl_segments_total", cvl_segments_total(&held, &total), CVL_DONE, 2);
     INTS(cvl_segments_checked_reduce(a, 2, &held, ints, 2), 3, 1);
     FAULT(cvl_segments_new(I(1, -1), 2, &held), CVL_NEGATIVE_LENGTH, 1);
     FAULT(cvl_segments_total(&held, &total), CVL_NO_HANDLE, -1);
@@ -744,6 +750,7 @@ static void held_descriptors(void) {
     refusing = 0;
     FAULT(cvl_segments_new(too_many_ints, CVL_MOST_ELEMENTS + 1, &held), CVL_TOO_LONG, -1);
     FAULT(cvl_segments_new(I(CVL_MOST_ELEMENTS, 1), 2, &held), CVL_TOO_LONG, -1);
+    FAULT(cvl_segments_total(&held, &total), CVL_NO_HANDLE, -1);
     FAULT(cvl_segments_free(&held), CVL_DONE, -1);
     FAULT(cvl_segments_free(&held), CVL_DONE, -1);
 }
@@ -812,6 +819,7 @@ static void nested_texts(void) {
     TEXT(cvl_seg_write_ints(a, 3, lengths, 3, bytes, 14, &total), "[[] [5 1] [7]]");
     TEXT(cvl_seg_write_ints(I(INT32_MIN), 1, I(1), 1, bytes, TEXT_ROOM, &total), "[[-2147483648]]");
     TEXT(cvl_seg_write_ints(a, 0, lengths, 0, bytes, TEXT_ROOM, &total), "[]");
+    TEXT(cvl_seg_write_ints(a, 0, lengths, 0, bytes, 2, &total), "[]");
     TEXT(cvl_seg_write_ints(a, 0, I(0, 0), 2, bytes, TEXT_ROOM, &total), "[[] []]");
     TEXT(cvl_seg_write_bools(f, 2, I(1, 1), 2, bytes, TEXT_ROOM, &total), "[[T] [F]]");
     TOO_SHORT(cvl_seg_write_ints(a, 3, lengths, 3, bytes, 13, &total), 14);

@@ -1,51 +1,13 @@
 //! Sums that never wrap, of whole vectors and of segments.
 
-ghost use Rattle.std.specs.Prelude.{◌≡◌, length};
+ghost use Rattle.std.specs.Prelude.{length};
 ghost use Rattle.cvl_base.specs.CheckedSums.{checked_reduce_of, checked_scan_of, checked_seg_reduce_of, checked_seg_scan_of};
-ghost use Rattle.cvl_base.specs.Gives.{Gives};
-ghost use Rattle.cvl_base.specs.Rooms.{Overwrites, OverwritesOr};
-ghost use Rattle.cvl_c.specs.Calls.{by_segments, in_limit};
-ghost use Rattle.cvl_c.specs.Told.{Told, ToldOr, in_room};
+ghost use Rattle.c_calls.specs.Calls.{by_segments, in_limit};
+ghost use Rattle.c_calls.specs.Told.{Told, ToldOr, in_room};
 
-use crate::checks::{check_limit, descriptor};
-use crate::status::{CvlStatus, told, told_one, told_over, told_over_or};
-use cvl_base::{Fault, Refused};
-use scan_walks::{
-    checked_scan_over, checked_seg_reduce_vec, checked_seg_scan_over, checked_sum,
-};
+use c_calls::checked_sums::{reduce, reduce_each, scan, scan_each};
+use c_calls::status::{CvlStatus, told, told_one, told_over, told_over_or};
 use std::alloc::Global;
-
-/// For each integer the sum of those before it.
-fn scan(a: &[i32], out: &mut [i32]) -> Result<(), Fault>
-    ensures { Overwrites (in_room (length out.old) (in_limit a.now (checked_scan_of a.now))) result out.old out.new }
-{
-    check_limit(a)?;
-    checked_scan_over(a, out)
-}
-
-/// The sum of the integers.
-fn reduce(a: &[i32]) -> Result<i32, Fault>
-    ensures { result ≡ in_limit a.now (checked_reduce_of a.now) }
-{
-    check_limit(a)?;
-    checked_sum(a)
-}
-
-/// The scan of each segment.
-fn scan_each(alloc: Global, a: &[i32], lengths: &[i32], out: &mut [i32]) -> Result<(), Refused>
-    ensures { OverwritesOr (in_room (length out.old) (by_segments lengths.now (checked_seg_scan_of a.now))) result out.old out.new }
-{
-    let d = descriptor(alloc, lengths)?;
-    Ok(checked_seg_scan_over(a, &d, out)?)
-}
-
-/// The sum of each segment.
-fn reduce_each(alloc: Global, a: &[i32], lengths: &[i32]) -> Result<Vec<i32, Global>, Refused>
-    ensures { Gives (λ v. v.items) result (by_segments lengths.now (checked_seg_reduce_of a.now)) }
-{
-    let d = descriptor(alloc, lengths)?;
-    checked_seg_reduce_vec(alloc, a, &d)
-}
 
 /// For each integer the sum of those before it, which never wraps: `tot_suz`.
 #[unsafe(no_mangle)]

@@ -1,25 +1,16 @@
 //! Counts, single elements, and vectors of a given length: of whole vectors.
 
-ghost use Rattle.std.specs.Prelude.{◌≡◌, Ok, length, pos};
+ghost use Rattle.std.specs.Prelude.{Ok, length, pos};
 ghost use Rattle.cvl_base.specs.Distributes.{distribute_of, index_of};
 ghost use Rattle.cvl_base.specs.Extracts.{extract_of, replace_of};
 ghost use Rattle.cvl_base.specs.Packs.{count_of};
-ghost use Rattle.cvl_c.specs.Calls.{in_limit};
-ghost use Rattle.cvl_c.specs.Told.{Told, ToldOr, in_room};
+ghost use Rattle.c_calls.specs.Calls.{in_limit};
+ghost use Rattle.c_calls.specs.Told.{Told, ToldOr, in_room};
 
-use crate::checks::check_limit;
-use crate::status::{CvlStatus, told, told_one, told_over};
-use cvl_base::Fault;
-use pack_dist::{count_true, distribute_over, extract, index_over, replace};
+use c_calls::elements::count;
+use c_calls::status::{CvlStatus, told, told_one, told_over};
+use pack_dist::{distribute_over, extract, index_over, replace};
 use std::alloc::Global;
-
-/// The number of true flags, of which there are at most 4,194,304, else TooLong, without a place.
-fn count(flags: &[bool]) -> Result<i32, Fault>
-    ensures { result ≡ in_limit flags.now (Ok (pos (count_of flags.now))) }
-{
-    check_limit(flags)?;
-    Ok(count_true(flags))
-}
 
 /// The number of true flags: `cnt_lub`.
 #[unsafe(no_mangle)]

@@ -1,49 +1,34 @@
 //! Calls on a descriptor that is made once and held between the calls.
 
-ghost use Rattle.std.specs.Prelude.{◌≡◌, IfOk, None, Ok, length, sum};
+ghost use Rattle.std.specs.Prelude.{◌≡◌, None, Ok, length, sum};
 ghost use Rattle.cvl_base.specs.CheckedSums.{checked_seg_reduce_of, checked_seg_scan_of};
-ghost use Rattle.cvl_base.specs.Gives.{Gives};
 ghost use Rattle.cvl_base.specs.Scans.{bool_join_of, bool_unit_of, int_join_of, int_unit_of};
 ghost use Rattle.cvl_base.specs.SegmentedCalls.{seg_reduce_of, seg_scan_of};
-ghost use Rattle.cvl_c.specs.Calls.{by_operator, lengths_of};
-ghost use Rattle.cvl_c.specs.HeldSegments.{IsMade, ToldHeld, no_handle};
-ghost use Rattle.cvl_c.specs.Numbers.{bool_binary, int_monoid};
-ghost use Rattle.cvl_c.specs.Told.{done, in_room};
+ghost use Rattle.c_calls.specs.Calls.{by_operator, lengths_of};
+ghost use Rattle.c_calls.specs.HeldSegments.{IsMade, ToldHeld};
+ghost use Rattle.c_calls.specs.Numbers.{bool_binary, int_monoid};
+ghost use Rattle.c_calls.specs.Told.{done, in_room};
 
-use crate::checks::descriptor;
-use crate::held::{CvlSegments, Segments};
-use crate::seg_scans::{
+use c_calls::held::CvlSegments;
+use c_calls::held_segments::{made, no_handle};
+use c_calls::seg_scans::{
     bool_reduce_of_descriptor, bool_scan_of_descriptor, int_reduce_of_descriptor,
     int_scan_of_descriptor,
 };
-use crate::status::{CvlStatus, done, status_of, told, told_or, told_over};
-use cvl_base::{NoResources, Refused};
+use c_calls::status::{CvlStatus, done, status_of, told, told_or, told_over};
 use scan_walks::{checked_seg_reduce_vec, checked_seg_scan_over};
 use std::alloc::Global;
 
-/// The status of a call on a handle that holds nothing.
-fn no_handle() -> CvlStatus
-    ensures { result ≡ no_handle }
-{
-    CvlStatus {
-        number: 101,
-        place: -1,
-    }
-}
-
-/// A descriptor in memory of its own.
-fn boxed(alloc: Global, segments: Segments) -> Result<Box<Segments, Global>, NoResources>
-    ensures { IfOk result (λ b. b.value ≡ segments) }
-{
-    Ok(Box::new(alloc, segments)?)
-}
-
-/// The descriptor of segments with these lengths, in memory of its own.
-fn made(alloc: Global, lengths: &[i32]) -> Result<Box<Segments, Global>, Refused>
-    ensures { Gives (λ b. b.value.descriptor) result (lengths_of lengths.now) }
-{
-    let descriptor = descriptor(alloc, lengths)?;
-    Ok(boxed(alloc, Segments { descriptor })?)
+/// A call on the descriptor that a handle holds, which holds it afterwards too; the status of nothing held where it holds none.
+macro_rules! on_held {
+    ($alloc:ident, $segments:ident, $held:ident => $call:expr) => {{
+        let Some($held) = $segments.take($alloc) else {
+            return no_handle();
+        };
+        let status = $call;
+        *$segments = CvlSegments::of($held);
+        status
+    }};
 }
 
 /// Makes the descriptor of segments with these lengths, and holds it. What the handle held before is let go.
@@ -85,12 +70,7 @@ pub extern "C" fn cvl_segments_total(
     ensures told { ToldHeld segments.old.held.value (λ d. Ok (sum d)) result total_out.old total_out.new }
     ensures same { segments.new.held.value ≡ segments.old.held.value }
 {
-    let Some(held) = segments.take(alloc) else {
-        return no_handle();
-    };
-    let status = told_or(Ok(held.descriptor.total()), total_out);
-    *segments = CvlSegments::of(held);
-    status
+    on_held!(alloc, segments, held => told_or(Ok(held.descriptor.total()), total_out))
 }
 
 /// For each integer the sum of those before it in its segment, which never wraps.
@@ -104,12 +84,7 @@ pub extern "C" fn cvl_segments_checked_scan(
     ensures told { ToldHeld segments.old.held.value (λ d. in_room (length out.old) (checked_seg_scan_of a.now d)) result out.old out.new }
     ensures same { segments.new.held.value ≡ segments.old.held.value }
 {
-    let Some(held) = segments.take(alloc) else {
-        return no_handle();
-    };
-    let status = told_over::<i32>(checked_seg_scan_over(a, &held.descriptor, out));
-    *segments = CvlSegments::of(held);
-    status
+    on_held!(alloc, segments, held => told_over::<i32>(checked_seg_scan_over(a, &held.descriptor, out)))
 }
 
 /// The sum of each segment, which never wraps.
@@ -123,12 +98,7 @@ pub extern "C" fn cvl_segments_checked_reduce(
     ensures told { ToldHeld segments.old.held.value (λ d. in_room (length out.old) (checked_seg_reduce_of a.now d)) result out.old out.new }
     ensures same { segments.new.held.value ≡ segments.old.held.value }
 {
-    let Some(held) = segments.take(alloc) else {
-        return no_handle();
-    };
-    let status = told(checked_seg_reduce_vec(alloc, a, &held.descriptor), out);
-    *segments = CvlSegments::of(held);
-    status
+    on_held!(alloc, segments, held => told(checked_seg_reduce_vec(alloc, a, &held.descriptor), out))
 }
 
 /// For each integer those before it in its segment, joined by the operator.
@@ -144,12 +114,7 @@ pub extern "C" fn cvl_segments_int_scan(
         (λ o. seg_scan_of (int_join_of o) (int_unit_of o) a.now d))) result out.old out.new }
     ensures same { segments.new.held.value ≡ segments.old.held.value }
 {
-    let Some(held) = segments.take(alloc) else {
-        return no_handle();
-    };
-    let status = told_over::<i32>(int_scan_of_descriptor(op, a, &held.descriptor, out));
-    *segments = CvlSegments::of(held);
-    status
+    on_held!(alloc, segments, held => told_over::<i32>(int_scan_of_descriptor(op, a, &held.descriptor, out)))
 }
 
 /// The integers of each segment joined by the operator.
@@ -165,12 +130,7 @@ pub extern "C" fn cvl_segments_int_reduce(
         (λ o. seg_reduce_of (int_join_of o) (int_unit_of o) a.now d))) result out.old out.new }
     ensures same { segments.new.held.value ≡ segments.old.held.value }
 {
-    let Some(held) = segments.take(alloc) else {
-        return no_handle();
-    };
-    let status = told_over::<i32>(int_reduce_of_descriptor(op, a, &held.descriptor, out));
-    *segments = CvlSegments::of(held);
-    status
+    on_held!(alloc, segments, held => told_over::<i32>(int_reduce_of_descriptor(op, a, &held.descriptor, out)))
 }
 
 /// For each boolean those before it in its segment, joined by the operator.
@@ -186,12 +146,7 @@ pub extern "C" fn cvl_segments_bool_scan(
         (λ o. seg_scan_of (bool_join_of o) (bool_unit_of o) a.now d))) result out.old out.new }
     ensures same { segments.new.held.value ≡ segments.old.held.value }
 {
-    let Some(held) = segments.take(alloc) else {
-        return no_handle();
-    };
-    let status = told_over::<bool>(bool_scan_of_descriptor(op, a, &held.descriptor, out));
-    *segments = CvlSegments::of(held);
-    status
+    on_held!(alloc, segments, held => told_over::<bool>(bool_scan_of_descriptor(op, a, &held.descriptor, out)))
 }
 
 /// The booleans of each segment joined by the operator.
@@ -207,10 +162,5 @@ pub extern "C" fn cvl_segments_bool_reduce(
         (λ o. seg_reduce_of (bool_join_of o) (bool_unit_of o) a.now d))) result out.old out.new }
     ensures same { segments.new.held.value ≡ segments.old.held.value }
 {
-    let Some(held) = segments.take(alloc) else {
-        return no_handle();
-    };
-    let status = told_over::<bool>(bool_reduce_of_descriptor(op, a, &held.descriptor, out));
-    *segments = CvlSegments::of(held);
-    status
+    on_held!(alloc, segments, held => told_over::<bool>(bool_reduce_of_descriptor(op, a, &held.descriptor, out)))
 }

@@ -2,29 +2,17 @@
 
 ghost use Rattle.std.specs.Fmt.{signed_decimal};
 ghost use Rattle.call_reader.specs.NestedTexts.{nested_of};
-ghost use Rattle.cvl_base.specs.Gives.{Gives};
-ghost use Rattle.cvl_c.specs.Calls.{by_segments};
-ghost use Rattle.cvl_c.specs.Fronts.{FrontsToldOr};
-ghost use Rattle.cvl_c.specs.NestedTexts.{segments_text, with_lengths};
-ghost use Rattle.cvl_c.specs.Told.{FrontToldOr};
+ghost use Rattle.c_calls.specs.Calls.{by_segments};
+ghost use Rattle.c_calls.specs.Fronts.{FrontsToldOr};
+ghost use Rattle.c_calls.specs.NestedTexts.{segments_text, with_lengths};
+ghost use Rattle.c_calls.specs.Told.{FrontToldOr};
 ghost use Rattle.value_texts.specs.Texts.{boolean_text};
 
-use crate::checks::descriptor;
-use crate::status::{CvlStatus, told_in_front};
-use crate::told_nest::told_nest;
+use c_calls::nested_texts::text;
+use c_calls::status::{CvlStatus, told_in_front};
+use c_calls::told_nest::told_nest;
 use call_reader::read_nested;
-use cvl_base::{Refused, check_agree};
 use std::alloc::Global;
-use value_texts::{Written, nest_text_alone};
-
-/// The text of a vector, cut into segments of these lengths.
-fn text<T: Written>(alloc: Global, a: &[T], lengths: &[i32]) -> Result<Vec<u8, Global>, Refused>
-    ensures { Gives (λ v. v.items) result (by_segments lengths.now (segments_text T.text_of a.now)) }
-{
-    let d = descriptor(alloc, lengths)?;
-    check_agree(d.total(), a.len())?;
-    Ok(nest_text_alone(alloc, &d, a)?)
-}
 
 /// The integers of a nested text, and the lengths of its lists.
 #[unsafe(no_mangle)]

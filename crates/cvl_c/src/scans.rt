@@ -1,133 +1,13 @@
 //! Scans and reduces of whole vectors.
 
-ghost use Rattle.std.specs.Prelude.{◌≡◌, ◌≤◌, Ok, length};
-ghost use Rattle.std.specs.List.{AllPass};
-ghost use Rattle.cvl_base.specs.Folds.{fold_of, scan_of};
-ghost use Rattle.cvl_base.specs.Limits.{most_elements};
-ghost use Rattle.cvl_base.specs.Rooms.{Overwrites};
+ghost use Rattle.std.specs.Prelude.{Ok, length};
 ghost use Rattle.cvl_base.specs.Scans.{bool_reduce_of, bool_scan_of, int_reduce_of, int_scan_of};
-ghost use Rattle.cvl_c.specs.Calls.{by_operator, in_limit};
-ghost use Rattle.cvl_c.specs.Numbers.{bool_binary, int_monoid};
-ghost use Rattle.cvl_c.specs.Told.{Told, in_room};
+ghost use Rattle.c_calls.specs.Calls.{by_operator, in_limit};
+ghost use Rattle.c_calls.specs.Numbers.{bool_binary, int_monoid};
+ghost use Rattle.c_calls.specs.Told.{Told, in_room};
 
-use crate::checks::check_limit;
-use crate::numbers::{bool_binary, int_monoid};
-use crate::status::{CvlStatus, told_one, told_over};
-use cvl_base::monoid::know_laws;
-use cvl_base::monoids::{Add, And, BoolAnd, BoolIor, BoolXor, Ior, Max, Min, Mul, Xor};
-use cvl_base::{BoolBinary, Fault, IntMonoid, Monoid};
-use scan_walks::{Itself, know_numbers, scan_over, sum_from};
-
-/// For each element those before it, joined from left to right, and the unit where none is.
-fn scan<M: Monoid>(a: &[M::Item], out: &mut [M::Item]) -> Result<(), Fault>
-    requires items { AllPass M.is_item a.now }
-    requires in_limit { length a.now ≤ most_elements }
-    ensures { Overwrites (in_room (length out.old) (Ok (scan_of M.join M.unit a.now))) result out.old out.new }
-{
-    know_laws::<M>();
-    scan_over::<M>(M::unit(), a, out)
-}
-
-/// The elements, joined from left to right, and the unit where there are none.
-fn reduce<M: Monoid>(a: &[M::Item]) -> M::Item
-    requires { AllPass M.is_item a.now }
-    ensures { result ≡ fold_of M.join M.unit a.now }
-{
-    know_laws::<M>();
-    sum_from::<M, M::Item, Itself>(M::unit(), a)
-}
-
-/// The scan of integers by an operator.
-fn int_scan_by(op: IntMonoid, a: &[i32], out: &mut [i32]) -> Result<(), Fault>
-    requires { length a.now ≤ most_elements }
-    ensures { Overwrites (in_room (length out.old) (Ok (int_scan_of op a.now))) result out.old out.new }
-{
-    know_numbers(a);
-    match op {
-        IntMonoid::Add => scan::<Add>(a, out),
-        IntMonoid::Mul => scan::<Mul>(a, out),
-        IntMonoid::Min => scan::<Min>(a, out),
-        IntMonoid::Max => scan::<Max>(a, out),
-        IntMonoid::And => scan::<And>(a, out),
-        IntMonoid::Ior => scan::<Ior>(a, out),
-        IntMonoid::Xor => scan::<Xor>(a, out),
-    }
-}
-
-/// The reduce of integers by an operator.
-fn int_reduce_by(op: IntMonoid, a: &[i32]) -> i32
-    ensures { result ≡ int_reduce_of op a.now }
-{
-    know_numbers(a);
-    match op {
-        IntMonoid::Add => reduce::<Add>(a),
-        IntMonoid::Mul => reduce::<Mul>(a),
-        IntMonoid::Min => reduce::<Min>(a),
-        IntMonoid::Max => reduce::<Max>(a),
-        IntMonoid::And => reduce::<And>(a),
-        IntMonoid::Ior => reduce::<Ior>(a),
-        IntMonoid::Xor => reduce::<Xor>(a),
-    }
-}
-
-/// The scan of booleans by an operator.
-fn bool_scan_by(op: BoolBinary, a: &[bool], out: &mut [bool]) -> Result<(), Fault>
-    requires { length a.now ≤ most_elements }
-    ensures { Overwrites (in_room (length out.old) (Ok (bool_scan_of op a.now))) result out.old out.new }
-{
-    match op {
-        BoolBinary::And => scan::<BoolAnd>(a, out),
-        BoolBinary::Ior => scan::<BoolIor>(a, out),
-        BoolBinary::Xor => scan::<BoolXor>(a, out),
-    }
-}
-
-/// The reduce of booleans by an operator.
-fn bool_reduce_by(op: BoolBinary, a: &[bool]) -> bool
-    ensures { result ≡ bool_reduce_of op a.now }
-{
-    match op {
-        BoolBinary::And => reduce::<BoolAnd>(a),
-        BoolBinary::Ior => reduce::<BoolIor>(a),
-        BoolBinary::Xor => reduce::<BoolXor>(a),
-    }
-}
-
-/// The scan of integers by the operator of a number.
-fn int_scan(op: u32, a: &[i32], out: &mut [i32]) -> Result<(), Fault>
-    ensures { Overwrites (in_room (length out.old) (by_operator (int_monoid op) (λ o. in_limit a.now (Ok (int_scan_of o a.now))))) result out.old out.new }
-{
-    let op = int_monoid(op)?;
-    check_limit(a)?;
-    int_scan_by(op, a, out)
-}
-
-/// The reduce of integers by the operator of a number.
-fn int_reduce(op: u32, a: &[i32]) -> Result<i32, Fault>
-    ensures { result ≡ by_operator (int_monoid op) (λ o. in_limit a.now (Ok (int_reduce_of o a.now))) }
-{
-    let op = int_monoid(op)?;
-    check_limit(a)?;
-    Ok(int_reduce_by(op, a))
-}
-
-/// The scan of booleans by the operator of a number.
-fn bool_scan(op: u32, a: &[bool], out: &mut [bool]) -> Result<(), Fault>
-    ensures { Overwrites (in_room (length out.old) (by_operator (bool_binary op) (λ o. in_limit a.now (Ok (bool_scan_of o a.now))))) result out.old out.new }
-{
-    let op = bool_binary(op)?;
-    check_limit(a)?;
-    bool_scan_by(op, a, out)
-}
-
-/// The reduce of booleans by the operator of a number.
-fn bool_reduce(op: u32, a: &[bool]) -> Result<bool, Fault>
-    ensures { result ≡ by_operator (bool_binary op) (λ o. in_limit a.now (Ok (bool_reduce_of o a.now))) }
-{
-    let op = bool_binary(op)?;
-    check_limit(a)?;
-    Ok(bool_reduce_by(op, a))
-}
+use c_calls::scans::{bool_reduce, bool_scan, int_reduce, int_scan};
+use c_calls::status::{CvlStatus, told_one, told_over};
 
 /// For each integer those before it, joined by the operator: `add_suz` and its like.
 #[unsafe(no_mangle)]

@@ -1,19 +1,8 @@
-//! Each function that is exported, on worked values and on its faults, as a caller of another language would call it.
+//! Each exported function once on a worked value and once on a fault that it tells, as a caller of another language would call
+//! it, so that none is wired wrongly. `examples/c/test.c` has each fault of each, and each operator.
 
-mod answers;
-mod checked_sums;
-mod elements;
-mod flat_permutes;
-mod held;
-mod nested_texts;
-mod operator_numbers;
-mod packs;
-mod place_by_place;
-mod scans;
-mod seg_scans;
-mod segment_permutes;
-mod segments;
-mod statuses;
-mod texts;
-mod tiles;
-mod too_long;
+mod booleans;
+mod bytes;
+mod integers;
+mod nested;
+mod told;

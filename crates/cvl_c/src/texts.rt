@@ -3,25 +3,14 @@
 ghost use Rattle.std.specs.Prelude.{Ok};
 ghost use Rattle.std.specs.Fmt.{signed_decimal};
 ghost use Rattle.call_reader.specs.Inputs.{input_of};
-ghost use Rattle.cvl_base.specs.Gives.{Gives};
-ghost use Rattle.cvl_c.specs.Calls.{in_limit};
-ghost use Rattle.cvl_c.specs.Told.{FrontToldOr};
+ghost use Rattle.c_calls.specs.Calls.{in_limit};
+ghost use Rattle.c_calls.specs.Told.{FrontToldOr};
 ghost use Rattle.value_texts.specs.Texts.{boolean_text, vector_text};
 
-use crate::checks::check_limit;
-use crate::status::{CvlStatus, told_in_front};
+use c_calls::status::{CvlStatus, told_in_front};
+use c_calls::texts::text;
 use call_reader::read_vector_alone;
-use cvl_base::Refused;
 use std::alloc::Global;
-use value_texts::{Written, vector_text_alone};
-
-/// The text of a vector.
-fn text<T: Written>(alloc: Global, a: &[T]) -> Result<Vec<u8, Global>, Refused>
-    ensures { Gives (λ v. v.items) result (in_limit a.now (Ok (vector_text T.text_of a.now))) }
-{
-    check_limit(a)?;
-    Ok(vector_text_alone(alloc, a)?)
-}
 
 /// The integers that a text writes between white space.
 #[unsafe(no_mangle)]

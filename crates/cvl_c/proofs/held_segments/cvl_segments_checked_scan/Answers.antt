@@ -1,7 +1,7 @@
 use Rattle.std.proofs.Common.{ℤ, List, inl, length, subst}
 use Rattle.cvl_base.specs.CheckedSums.{checked_seg_scan_of}
-use Rattle.cvl_c.specs.HeldSegments.{ToldHeld}
-use Rattle.cvl_c.specs.Told.{Told, in_room}
+use Rattle.c_calls.specs.HeldSegments.{ToldHeld}
+use Rattle.c_calls.specs.Told.{Told, in_room}
 use Rattle.cvl_c.proofs.held_segments.cvl_segments_checked_scan.Goals as goal
 
 pub returns-clause-told : goal.returns-clause-told

@@ -1,5 +1,5 @@
 use Rattle.std.proofs.Common.{ℕ, Ok, sum, sym, ap, ◌∙◌, subst}
-use Rattle.cvl_c.specs.HeldSegments.{ToldHeld}
+use Rattle.c_calls.specs.HeldSegments.{ToldHeld}
 use Rattle.cvl_c.proofs.held_segments.cvl_segments_total.Goals as goal
 
 pub returns-clause-told : goal.returns-clause-told

@@ -1,0 +1,28 @@
+-- Two lists at the fronts of two rooms, whose lengths a caller may not know.
+-- Source: this library's header.
+use Rattle.std.specs.Prelude.{◌≡◌, ℕ, ◌⊎◌, List, length, Result, Ok, Err}
+use Rattle.cvl_base.specs.declared.fault.Fault.{Fault}
+use Rattle.cvl_base.specs.Gives.{◌>>=◌}
+use Rattle.c_calls.specs.declared.status.CvlStatus.{CvlStatus}
+use Rattle.c_calls.specs.Told.{Told, at_front, no_resources}
+
+module _ {X Y : Type 0} where
+  -- each list at the front of its room, whose rest is as before, else the fault of lengths that differ
+  abbrev pub at_fronts : List X × List Y → List X × List Y → Result (List X × List Y) Fault
+  at_fronts rooms lists = at_front rooms.0 lists.0 >>= λ first. at_front rooms.1 lists.1 >>= λ second. Ok (first, second)
+
+  -- how many items each list has, else what the counts were before
+  abbrev pub counts_or : ℕ × ℕ → Result (List X × List Y) Fault → ℕ × ℕ
+  counts_or before (Ok lists) = (length lists.0, length lists.1)
+  counts_or before (Err f) = before
+
+  -- Two lists whose lengths the caller may not know: each stands at the front of its room, or a room is too short and both are as
+  -- before; in both cases the counts are their lengths. Or the answer is the fault, and rooms and counts are as before.
+  abbrev pub FrontsTold : Result (List X × List Y) Fault → CvlStatus → List X × List Y → List X × List Y → ℕ × ℕ → ℕ × ℕ → Type 0
+  FrontsTold meaning status before now counts counted =
+      Told (meaning >>= at_fronts before) status before now × (counted ≡ counts_or counts meaning)
+
+  -- The same, or memory ran out and rooms and counts are as before.
+  abbrev pub FrontsToldOr : Result (List X × List Y) Fault → CvlStatus → List X × List Y → List X × List Y → ℕ × ℕ → ℕ × ℕ → Type 0
+  FrontsToldOr meaning status before now counts counted =
+      FrontsTold meaning status before now counts counted ⊎ ((status ≡ no_resources) × (now ≡ before) × (counted ≡ counts))

@@ -1,0 +1,33 @@
+//! The checks of what the library leaves to its callers.
+
+ghost use Rattle.std.specs.Prelude.{◌≡◌, ◌≤◌, ◌<◌, IfOk, Result, length, MatchResult};
+ghost use Rattle.cvl_base.specs.declared.fault.FaultNo.TheVariants as no;
+ghost use Rattle.cvl_base.specs.Faults.{fault};
+ghost use Rattle.cvl_base.specs.Gives.{Gives};
+ghost use Rattle.cvl_base.specs.Limits.{most_elements};
+ghost use Rattle.c_calls.specs.Calls.{lengths_of};
+
+use cvl_base::limits::MOST_ELEMENTS;
+use cvl_base::{Fault, FaultNo, Refused};
+use segdes::SegDes;
+use std::alloc::Global;
+
+/// Checks that a vector has at most 4,194,304 elements, else TooLong, without a place.
+pub(crate) fn check_limit<T>(vector: &[T]) -> Result<(), Fault>
+    ensures { MatchResult result (λ _. length vector.now ≤ most_elements)
+        (λ f. (f ≡ fault no.TooLong) × (most_elements < length vector.now)) }
+{
+    if vector.len() > MOST_ELEMENTS {
+        return Err(Fault::new(FaultNo::TooLong));
+    }
+    Ok(())
+}
+
+/// The descriptor of segments with these lengths: TooLong, without a place, where there are more than 4,194,304 lengths;
+/// NegativeLength at the first that is negative; TooLong where they add up to more than 4,194,304.
+pub(crate) fn descriptor(alloc: Global, lengths: &[i32]) -> Result<SegDes<Global>, Refused>
+    ensures { Gives (λ d. d) result (lengths_of lengths.now) }
+{
+    check_limit(lengths)?;
+    SegDes::from_lengths(alloc, lengths)
+}

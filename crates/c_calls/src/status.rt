@@ -1,0 +1,155 @@
+//! What an export answers, and what it leaves in its caller's room.
+
+ghost use Rattle.std.specs.Prelude.{◌≡◌, ◌≢◌, Err, List, Ok, Result, length, MatchResult};
+ghost use Rattle.cvl_base.specs.declared.fault.Fault.{Fault};
+ghost use Rattle.cvl_base.specs.declared.fault.FaultNo.TheVariants as no;
+ghost use Rattle.cvl_base.specs.Faults.{fault};
+ghost use Rattle.cvl_base.specs.Gives.{Gives};
+ghost use Rattle.cvl_base.specs.Rooms.{Overwrites, OverwritesOr};
+ghost use Rattle.c_calls.specs.Told.{FrontToldOr, Told, ToldOr, at_front, done, in_room, status_of};
+
+use cvl_base::{Fault, FaultNo, Refused, check_agree};
+use std::alloc::Global;
+
+/// What an export answers: a number, and a place where the number is that of a fault that has one.
+#[repr(C)]
+#[derive(Clone, Copy, Debug, PartialEq, Eq)]
+pub struct CvlStatus {
+    /// 0 where all is done, the number of a fault, or 100 where memory ran out.
+    pub number: u32,
+    /// The place of the fault, counted from 0, or -1.
+    pub place: i64,
+}
+
+/// The status of a call that is done.
+pub fn done() -> CvlStatus
+    ensures { result ≡ done }
+{
+    CvlStatus {
+        number: 0,
+        place: -1,
+    }
+}
+
+/// The status of a call that has no value.
+pub fn status_of(refused: Refused) -> CvlStatus
+    ensures { result ≡ status_of refused }
+{
+    match refused {
+        Refused::Fault(fault) => CvlStatus {
+            number: fault.number.number(),
+            place: fault.place.map_or(-1, i64::from),
+        },
+        Refused::NoResources => CvlStatus {
+            number: 100,
+            place: -1,
+        },
+    }
+}
+
+/// Puts items into a room of their length, or tells LengthMismatch, without a place, and leaves the room as it is.
+fn put<T: Copy>(items: &[T], room: &mut [T]) -> Result<(), Fault>
+    ensures { MatchResult result (λ _. (length items.now ≡ length room.old) × (room.new ≡ items.now))
+        (λ f. (f ≡ fault no.LengthMismatch) × (length items.now ≢ length room.old) × (room.new ≡ room.old)) }
+{
+    check_agree(items.len(), room.len())?;
+    room.copy_from_slice(items);
+    Ok(())
+}
+
+/// Tells a caller the items of a call, in a room of their length. The room of a call without items is as before.
+pub fn told<T: Copy>(answer: Result<Vec<T, Global>, Refused>, room: &mut [T]) -> CvlStatus
+    ensures { (meaning : Result (List T) Fault) → Gives (λ v. v.items) answer meaning
+        → ToldOr (in_room (length room.old) meaning) result room.old room.new }
+{
+    match answer {
+        Ok(items) => match put(&items, room) {
+            Ok(()) => done(),
+            Err(fault) => status_of(fault.into()),
+        },
+        Err(refused) => status_of(refused),
+    }
+}
+
+/// Puts items at the front of a room, whose rest stays as it is, or tells LengthMismatch, without a place, where the room is too
+/// short, and leaves it as it is.
+pub fn put_in_front<T: Copy>(items: &[T], room: &mut [T]) -> Result<(), Fault>
+    ensures { MatchResult result (λ _. at_front room.old items.now ≡ Ok room.new)
+        (λ f. (at_front room.old items.now ≡ Err f) × (room.new ≡ room.old)) }
+{
+    if items.len() > room.len() {
+        return Err(Fault::new(FaultNo::LengthMismatch));
+    }
+    let (front, _) = room.split_at_mut(items.len());
+    front.copy_from_slice(items);
+    Ok(())
+}
+
+/// Tells a caller the items of a call, who may not know how many they are: at the front of a room, and their number as the
+/// count. Where the room is too short it is as before, and the count is how long it has to be. Where the call has no items the
+/// room and the count are as before.
+pub fn told_in_front<T: Copy>(
+    answer: Result<Vec<T, Global>, Refused>,
+    room: &mut [T],
+    count: &mut usize,
+) -> CvlStatus
+    ensures { (meaning : Result (List T) Fault) → Gives (λ v. v.items) answer meaning
+        → FrontToldOr meaning result room.old room.new count.old count.new }
+{
+    match answer {
+        Ok(items) => {
+            *count = items.len();
+            match put_in_front(&items, room) {
+                Ok(()) => done(),
+                Err(fault) => status_of(fault.into()),
+            }
+        }
+        Err(refused) => status_of(refused),
+    }
+}
+
+/// Tells a caller whether a call wrote over its room.
+pub fn told_over<T>(answer: Result<(), Fault>) -> CvlStatus
+    ensures { (meaning : Result (List T) Fault) (before now : List T) → Overwrites meaning answer before now → Told meaning result before now }
+{
+    match answer {
+        Ok(()) => done(),
+        Err(fault) => status_of(fault.into()),
+    }
+}
+
+/// Tells a caller whether a call that takes memory wrote over its room.
+pub fn told_over_or<T>(answer: Result<(), Refused>) -> CvlStatus
+    ensures { (meaning : Result (List T) Fault) (before now : List T) → OverwritesOr meaning answer before now → ToldOr meaning result before now }
+{
+    match answer {
+        Ok(()) => done(),
+        Err(refused) => status_of(refused),
+    }
+}
+
+/// Tells a caller the one value of a call that takes no memory. The room of a call without a value is as before.
+pub fn told_one<T: Copy>(answer: Result<T, Fault>, room: &mut T) -> CvlStatus
+    ensures { Told answer result room.old room.new }
+{
+    match answer {
+        Ok(value) => {
+            *room = value;
+            done()
+        }
+        Err(fault) => status_of(fault.into()),
+    }
+}
+
+/// Tells a caller the one value of a call. The room of a call without a value is as before.
+pub fn told_or<T: Copy>(answer: Result<T, Refused>, room: &mut T) -> CvlStatus
+    ensures { (meaning : Result T Fault) → Gives (λ x. x) answer meaning → ToldOr meaning result room.old room.new }
+{
+    match answer {
+        Ok(value) => {
+            *room = value;
+            done()
+        }
+        Err(refused) => status_of(refused),
+    }
+}
