@@ -89,25 +89,3 @@ pub inside_first : (place m : ℕ) (lengths : List ℕ) (n : ℕ) (index_lengths
 inside_first place m lengths n index_lengths index none =
     let both = neither (first_outside place m (take n index)) (outside_from (place + n) lengths index_lengths (drop n index)) none in
     (all_inside place m (take n index) both.0, both.1)
-
--- ---- the segments of the result
-
-pub length-segments_at : {X : Type 0} (place : ℕ) (widths : List ℕ) (source : List X) (lengths : List ℕ) (index : List ℤ) → sum widths ≤ length source → length widths ≡ length lengths
-    → sum lengths ≤ length index → None ≡ outside_from place widths lengths index
-    → length (segments_at widths source lengths index) ≡ sum lengths
-length-segments_at place [] source [] index within count total none = refl
-length-segments_at place [] source (n ∷ ns) index within count total none = absurd (omega arith)
-length-segments_at place (m ∷ ms) source [] index within count total none = absurd (omega arith)
-length-segments_at place (m ∷ ms) source (n ∷ ns) index within count total none =
-    let both = inside_first place m ms n ns index none in
-    let wide = sum-cons m ms in
-    let all = sum-cons n ns in
-    let long : length (take m source) ≡ m = length-take-le m source (omega (arith, wide)) in
-    let here = length-elements_at (take m source) (take n index) (subst (λ k. AreInside k (take n index)) (sym long) both.0) in
-    let rest = length-segments_at (place + n) ms (drop m source) ns (drop n index) (omega (arith, wide, length-drop m source)) (omega arith) (omega (arith, all, length-drop n index)) both.1 in
-    omega (arith, length-append (elements_at (take m source) (take n index)) (segments_at ms (drop m source) ns (drop n index)), here, length-take-le n index (omega (arith, all)), rest, all)
-
-pub length-whole : {X : Type 0} (widths : List ℕ) (source : List X) (lengths : List ℕ) (index : List ℤ) → IsSegmentedBack widths source lengths index
-    → length (segments_at widths source lengths index) ≡ sum lengths
-length-whole widths source lengths index fits =
-    length-segments_at 0 widths source lengths index (omega (arith, fits.source_total)) fits.count (omega (arith, fits.total)) fits.inside

@@ -12,20 +12,6 @@ use Rattle.cvl_base.specs.Nests.{nest, cut_of}
 pub sum-cons : (n : ℕ) (ns : List ℕ) → sum (n ∷ ns) ≡ n + sum ns
 sum-cons n ns = sum_by-cons (λ x. x) n ns
 
--- an inner list for each length
-pub lengths-cut : {X : Type 0} (lengths : List ℕ) (xs : List X) → sum lengths ≤ length xs → map length (cut_of lengths xs) ≡ lengths
-lengths-cut [] xs h = refl
-lengths-cut (n ∷ ns) xs h =
-    let first : length (take n xs) ≡ n = length-take-le n xs (omega (arith, sum-cons n ns)) in
-    let rest : map length (cut_of ns (drop n xs)) ≡ ns = lengths-cut ns (drop n xs) (omega (arith, sum-cons n ns, length-drop n xs)) in
-    cc
-
-pub joined-cut : {X : Type 0} (lengths : List ℕ) (xs : List X) → sum lengths ≡ length xs → joined (cut_of lengths xs) ≡ xs
-joined-cut [] xs h = sym (nil_from_length xs (sym h))
-joined-cut (n ∷ ns) xs h =
-    ap (λ tail. take n xs ++ tail) (joined-cut ns (drop n xs) (omega (arith, sum-cons n ns, length-drop n xs)))
-    ∙ take-append-drop n xs
-
 pub nest-fits : {X : Type 0} (lengths : List ℕ) (xs : List X) → sum lengths ≡ length xs → nest lengths xs ≡ Ok (cut_of lengths xs)
 nest-fits lengths xs fits =
     elim (eqb_tells (sum lengths) (length xs)) [

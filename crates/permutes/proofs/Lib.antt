@@ -6,6 +6,7 @@ pub mod Flat
 pub mod FlatIndices
 pub mod Flattened
 pub mod Joined
+pub mod Listed
 pub mod Ranges
 pub mod Roomed
 pub mod Runs

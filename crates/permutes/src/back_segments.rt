@@ -1,20 +1,19 @@
 //! The two walks of a segmented back permute. The first looks at all indices, those of a long segment by several threads, so
 //! that the second, which several threads may make, has an element for each.
 
-ghost use Rattle.std.specs.Prelude.{◌≡◌, ◌+◌, ◌-◌, ◌<◌, ◌≤◌, ◌++◌, [], length, sum, min, IfOk};
+ghost use Rattle.std.specs.Prelude.{◌≡◌, ◌+◌, ◌-◌, ◌<◌, ◌≤◌, ◌++◌, [], length, map, slice_index_or, sum, IfOk};
 ghost use Rattle.fresh.specs.Parts.{part};
 ghost use Rattle.fresh.specs.Places.{stretch};
 ghost use Rattle.cvl_base.specs.Limits.{most_elements};
 ghost use Rattle.permute_walks.specs.Senders.{fault_told};
-ghost use Rattle.permutes.specs.Backs.{IsSegmentedBack, outside_from, places_left, segments_at};
-ghost use Rattle.segdes.specs.Starts.{start_of};
+ghost use Rattle.permutes.specs.Backs.{IsSegmentedBack, lists_at, outside_from, segments_at};
 
 use crate::looks::Look;
 use cvl_base::{Fault, Memory, NoResources};
-use fresh::{Run, Writer, write_in_runs, write_over};
+use fresh::{Run, write_in_runs, write_over};
 use permute_walks::write_elements_at;
-use segdes::SegDes;
-use std::alloc::Allocator;
+use segdes::{EndToEnd, SegDes, Segments};
+use std::alloc::{AllocError, Allocator};
 use std::thread::Threads;
 
 /// The first walk, which looks at one segment after another: `IndexOutOfRange` at the first place whose index is no place of its
@@ -39,8 +38,7 @@ pub(crate) fn check_segments<L: Look, A: Allocator>(
     Ok(())
 }
 
-/// Writes the element at each index, segment by segment.
-#[derive(Drop)]
+/// The element at each index, segment by segment.
 struct SegmentsAt<'a, T, A: Allocator> {
     source: &'a [T],
     index: &'a [i32],
@@ -49,55 +47,48 @@ struct SegmentsAt<'a, T, A: Allocator> {
     ghost fits: { IsSegmentedBack source_d.now source.now index_d.now index.now },
 }
 
-impl<'a, T: Copy, A: Allocator> SegmentsAt<'a, T, A> {
-    /// The segment in which a place lies; of an empty run at the end, any.
-    fn segment_of(&self, place: usize) -> usize
-        requires { place ≤ sum self.now.index_d.now }
-        ensures begun { start_of self.now.index_d.now result ≤ place }
-        ensures on { result < length self.now.index_d.now → place ≤ start_of self.now.index_d.now (result + 1) }
-    {
-        self.index_d.starts_before(place + 1).saturating_sub(1)
-    }
+impl<'a, T, A: Allocator> Clone for SegmentsAt<'a, T, A> {
+    ghost use Rattle.std.specs.Prelude.{⊤};
 
-    /// Writes the next places of a run, as many as lie in segment `s`.
-    fn write_segment(&self, run: Run<T>, s: usize) -> Run<T>
-        requires within { s < length self.now.index_d.now }
-        requires begun { start_of self.now.index_d.now s ≤ run.first + length run.items }
-        requires on { run.first + length run.items ≤ start_of self.now.index_d.now (s + 1) }
-        ensures { result ≡ stretch run.block run.first
-            (run.items ++ part (segments_at self.now.source_d.now self.now.source.now self.now.index_d.now self.now.index.now)
-            (run.first + length run.items) (places_left self.now.index_d.now s run))
-            (run.room - places_left self.now.index_d.now s run) }
-    {
-        let start = self.source_d.start(s);
-        let source = &self.source[start..start + self.source_d.length(s)];
-        let first = run.next_place();
-        let end = self.index_d.start(s) + self.index_d.length(s);
-        let last = end.min(first + run.room());
-        write_elements_at(run, source, &self.index[first..last])
+    ghost is_clone = { λ x y. y ≡ x };
+
+    ghost is_infallible = { λ _. ⊤ };
+
+    fn clone(&self) -> Result<SegmentsAt<'a, T, A>, AllocError> {
+        Ok(*self)
     }
 }
 
-impl<'a, T: Copy, A: Allocator> Writer<T> for SegmentsAt<'a, T, A> {
-    ghost use Rattle.permutes.specs.Backs.{segments_at};
+impl<'a, T, A: Allocator> Copy for SegmentsAt<'a, T, A> {}
 
-    ghost whole = { λ w. segments_at w.source_d.now w.source.now w.index_d.now w.index.now };
+impl<'a, T: Copy, A: Allocator> Segments for SegmentsAt<'a, T, A> {
+    ghost use Rattle.permutes.specs.Backs.{lists_at};
 
-    fn write(&self, run: Run<T>) -> Run<T>
-        requires empty { run.items ≡ [] }
-        requires within { run.first + run.room
-            ≤ length (segments_at self.now.source_d.now self.now.source.now self.now.index_d.now self.now.index.now) }
-        ensures { result ≡ stretch run.block run.first
-            (part (segments_at self.now.source_d.now self.now.source.now self.now.index_d.now self.now.index.now) run.first run.room) 0 }
+    type Item = T;
+
+    type A = A;
+
+    ghost lists = { λ w. lists_at w.source_d.now w.source.now w.index_d.now w.index.now };
+
+    fn descriptor(&self) -> &SegDes<A>
+        ensures { result.now ≡ map length (lists_at self.now.source_d.now self.now.source.now self.now.index_d.now self.now.index.now) }
     {
-        let mut run = run;
-        for s in self.segment_of(run.first())..self.index_d.count() {
-            if run.room() == 0 {
-                return run;
-            }
-            run = self.write_segment(run, s);
-        }
-        run
+        self.index_d
+    }
+
+    fn push_part(&self, run: Run<T>, s: usize, from: usize, count: usize) -> Run<T>
+        requires segment { s < length (lists_at self.now.source_d.now self.now.source.now self.now.index_d.now self.now.index.now) }
+        requires within { from + count
+            ≤ length (slice_index_or (lists_at self.now.source_d.now self.now.source.now self.now.index_d.now self.now.index.now) s []) }
+        requires room { count ≤ run.room }
+        ensures { result ≡ stretch run.block run.first
+            (run.items ++ part (slice_index_or (lists_at self.now.source_d.now self.now.source.now self.now.index_d.now self.now.index.now) s []) from count)
+            (run.room - count) }
+    {
+        let start = self.source_d.start(s);
+        let source = &self.source[start..start + self.source_d.length(s)];
+        let first = self.index_d.start(s) + from;
+        write_elements_at(run, source, &self.index[first..first + count])
     }
 }
 
@@ -115,13 +106,13 @@ pub(crate) fn segments_at<T: Copy + Send + Sync, R: Threads + Sync, A: Memory>(
     requires fits { IsSegmentedBack source_d.now source.now index_d.now index.now }
     ensures { IfOk result (λ v. v.items ≡ segments_at source_d.now source.now index_d.now index.now) }
 {
-    let elements = SegmentsAt {
+    let segments = SegmentsAt {
         source,
         index,
         source_d,
         index_d,
     };
-    Ok(write_in_runs(rt, alloc, threads, &elements, index.len())?)
+    Ok(write_in_runs(rt, alloc, threads, &EndToEnd { segments }, index.len())?)
 }
 
 /// The same as [`segments_at`], over a room of as many places, by the thread that calls.
@@ -136,11 +127,11 @@ pub(crate) fn segments_at_over<T: Copy, A: Allocator>(
     requires as_long { length out.old ≡ length index.now }
     ensures { out.new ≡ segments_at source_d.now source.now index_d.now index.now }
 {
-    let elements = SegmentsAt {
+    let segments = SegmentsAt {
         source,
         index,
         source_d,
         index_d,
     };
-    write_over(out, &elements);
+    write_over(out, &EndToEnd { segments });
 }

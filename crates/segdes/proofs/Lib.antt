@@ -1,3 +1,4 @@
 pub mod Checked
+pub mod ListRuns
 pub mod Searched
 pub mod Sums

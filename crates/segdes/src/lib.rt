@@ -1,4 +1,5 @@
-//! Descriptors of segmented vectors: how long the segments are and where each one starts.
+//! Descriptors of segmented vectors: how long the segments are and where each one starts; and the writer of what segments
+//! hold, one after another.
 //!
 //! A segmented vector is a flat vector beside a descriptor. Its segments lie one after another in the flat vector, so
 //! segment s starts at the sum of the lengths of the segments before it. Segments and elements are counted from 0.
@@ -6,8 +7,10 @@
 
 mod check;
 pub mod descriptor;
+mod segment_runs;
 mod starts;
 mod totals;
 
 pub use descriptor::SegDes;
+pub use segment_runs::{EndToEnd, Segments};
 pub use totals::check_total;

@@ -1,5 +1,5 @@
 use Rattle.std.proofs.Common.{arith}
-use Rattle.permutes.proofs.Backed.{length-whole}
+use Rattle.permutes.proofs.Listed.{length-whole}
 use Rattle.permutes.proofs.back_segments.segments_at.Goals as goal
 
 pub write_in_runs-requires-after_bounds : goal.write_in_runs-requires-after_bounds

@@ -1,5 +1,5 @@
 use Rattle.std.proofs.Common.{arith}
-use Rattle.permutes.proofs.Backed.{length-whole}
+use Rattle.permutes.proofs.Listed.{length-whole}
 use Rattle.permutes.proofs.back_segments.segments_at_over.Goals as goal
 
 pub write_over-requires-clause-as_long : goal.write_over-requires-clause-as_long

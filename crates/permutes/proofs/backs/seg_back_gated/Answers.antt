@@ -2,9 +2,10 @@ use Rattle.std.proofs.Common.{Vec, ◌∙◌, ap, arith, length, subst, sym, Err
 use Rattle.std.proofs.lemmas.Result.{err_from_is_err_and}
 use Rattle.cvl_base.specs.Gives.{Gives}
 use Rattle.permutes.specs.Backs.{outside_from, segments_at}
-use Rattle.permutes.proofs.Backed.{length-segments_at, seg_back-meaning}
+use Rattle.permutes.proofs.Backed.{seg_back-meaning}
 use Rattle.permutes.proofs.Called.{seg_back_taken}
 use Rattle.permutes.proofs.Checked.{none_told, refusal_stays}
+use Rattle.permutes.proofs.Listed.{length-whole}
 use Rattle.permutes.proofs.Whole.{seg_back-differ}
 use Rattle.permutes.proofs.backs.seg_back_gated.Goals as goal
 
@@ -54,6 +55,6 @@ returns-clause-as_long g c =
       c.in_ok-segments_at.field-0.ok.0,
       ap length c.in_ok-segments_at.ensures,
       total,
-      length-segments_at 0 c.args.source_d.now c.args.source.now c.args.index_d.now c.args.index.now (omega (arith, c.in_ok-check_total.ensures.agrees)) (omega (arith, c.in_ok-check_agree.ensures))
-          (omega (arith, total)) none,
+      length-whole c.args.source_d.now c.args.source.now c.args.index_d.now c.args.index.now
+          (record { source_total = c.in_ok-check_total.ensures.agrees; total = total; count = omega (arith, c.in_ok-check_agree.ensures); inside = none }),
     )

@@ -3,7 +3,8 @@ use Rattle.cvl_base.specs.Rooms.{in_room}
 use Rattle.cvl_base.specs.SegmentedCalls.{seg_back_of}
 use Rattle.cvl_base.proofs.Rooms.{told}
 use Rattle.permutes.specs.Backs.{outside_from, segments_at}
-use Rattle.permutes.proofs.Backed.{length-whole, seg_back-meaning}
+use Rattle.permutes.proofs.Backed.{seg_back-meaning}
+use Rattle.permutes.proofs.Listed.{length-whole}
 use Rattle.permutes.proofs.Roomed.{differs_in_room, fault_in_room, fits_in_room}
 use Rattle.permutes.proofs.Whole.{seg_back-differ}
 use Rattle.permutes.proofs.over.seg_back_over.Goals as goal
