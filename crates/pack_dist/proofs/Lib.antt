@@ -1,5 +1,4 @@
 pub mod Distributed
-pub mod EndToEnd
 pub mod Extracted
 pub mod Named
 pub mod Ones

@@ -17,10 +17,6 @@ pub count-section : (flags : List Bool) (from to first n : ℕ) → from ≤ to 
 count-section flags from to first n le before upto = omega (arith, count-split (take to flags) from, ap count_of (take-take from to flags le), before, upto)
 
 module _ {X : Type 0} where
-  kept-cons : (x : X) (flag : Bool) (xs : List X) (flags : List Bool) → kept_of (x ∷ xs) (flag ∷ flags) ≡ cond flag (x ∷ []) [] ++ kept_of xs flags
-  kept-cons x true xs flags = refl
-  kept-cons x false xs flags = refl
-
   pub kept-append : (xs ys : List X) (flags others : List Bool) → length xs ≡ length flags → kept_of (xs ++ ys) (flags ++ others) ≡ kept_of xs flags ++ kept_of ys others
   kept-append [] ys [] others long = refl
   kept-append [] ys (flag ∷ flags) others long = absurd (omega arith)

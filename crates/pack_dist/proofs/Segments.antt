@@ -24,8 +24,8 @@ use Rattle.cvl_base.proofs.Elementwise.{if_as_long-fits}
 use Rattle.cvl_base.proofs.Lists.{sum-cons}
 use Rattle.cvl_base.proofs.Nests.{length-cut, nest-fits, nest-misfits}
 use Rattle.cvl_base.proofs.Segmented.{beside-fits, results-ok}
-use Rattle.scan_ops.proofs.Segmented.{seg_reduce-fits, seg_reduce-misfits}
-use Rattle.scan_ops.specs.Ranges.{reduces_of}
+use Rattle.scan_walks.proofs.Segmented.{seg_reduce-fits, seg_reduce-misfits}
+use Rattle.scan_walks.specs.Ranges.{reduces_of}
 use Rattle.pack_dist.specs.Counts.{counts_of}
 use Rattle.pack_dist.specs.Kept.{kept_of}
 use Rattle.pack_dist.proofs.Ones.{ones_counted}

@@ -14,11 +14,11 @@ ghost use Rattle.pack_dist.specs.Kept.{ArePlaces};
 use crew::{Gate, OpenGate};
 use cvl_base::monoids::Add;
 use cvl_base::{Config, Fault, Memory, NoResources, Refused, true_count};
-use scan_ops::{Reading, scan_readings_gated, seg_reduce_readings_gated};
-use scan_walks::seg_reduce_readings_over;
+use scan_walks::{Reading, seg_reduce_readings_over};
 use segdes::SegDes;
 use std::alloc::Allocator;
 use std::thread::Threads;
+use tile_scans::{scan_readings_gated, seg_reduce_readings_gated};
 
 /// A flag is read as 1 where it is true, and as 0 where it is false, so that the sum of flags is their count.
 struct Ones;

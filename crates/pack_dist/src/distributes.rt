@@ -9,10 +9,9 @@ ghost use Rattle.cvl_base.specs.SegmentedCalls.{seg_distribute_of};
 ghost use Rattle.fresh.specs.Places.{stretch};
 
 use crate::checks::length_for;
-use crate::segment_runs::{EndToEnd, Segments};
 use cvl_base::{Config, Fault, Memory, Refused, check_agree};
 use fresh::{Copies, Run, write_in_runs, write_over};
-use segdes::SegDes;
+use segdes::{EndToEnd, SegDes, Segments};
 use sharing::threads_for;
 use std::alloc::{AllocError, Allocator};
 use std::thread::Threads;

@@ -10,10 +10,9 @@ ghost use Rattle.fresh.specs.Places.{stretch};
 ghost use Rattle.pack_dist.specs.Progressions.{numbers_from};
 
 use crate::checks::length_for;
-use crate::segment_runs::{EndToEnd, Segments};
 use cvl_base::{Config, Fault, Memory, Refused, check_agree};
 use fresh::{Run, Writer, write_in_runs, write_over};
-use segdes::SegDes;
+use segdes::{EndToEnd, SegDes, Segments};
 use sharing::threads_for;
 use std::alloc::{AllocError, Allocator};
 use std::thread::Threads;

@@ -15,7 +15,6 @@ mod packs;
 mod places;
 mod replaces;
 mod segment_packs;
-mod segment_runs;
 
 pub use counts::{count_true, seg_count, seg_count_gated, seg_count_over};
 pub use distributes::{distribute, distribute_over, seg_distribute, seg_distribute_over};

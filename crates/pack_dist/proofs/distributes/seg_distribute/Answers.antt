@@ -1,7 +1,7 @@
 use Rattle.std.proofs.Common.{◌∙◌, length, Ok, sym, ap, arith}
 use Rattle.pack_dist.specs.Lists.{copies_of}
 use Rattle.pack_dist.proofs.Distributed.{copies-long, distribute-fits}
-use Rattle.pack_dist.proofs.EndToEnd.{whole-long}
+use Rattle.segdes.proofs.ListRuns.{whole-long}
 use Rattle.pack_dist.proofs.distributes.seg_distribute.Goals as goal
 
 pub write_in_runs-requires-after_bounds : goal.write_in_runs-requires-after_bounds

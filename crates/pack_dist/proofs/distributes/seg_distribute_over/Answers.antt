@@ -5,7 +5,7 @@ use Rattle.cvl_base.specs.Rooms.{in_room}
 use Rattle.cvl_base.proofs.Rooms.{differs, fits, told}
 use Rattle.pack_dist.specs.Lists.{copies_of}
 use Rattle.pack_dist.proofs.Distributed.{copies-long, distribute-fits}
-use Rattle.pack_dist.proofs.EndToEnd.{whole-long}
+use Rattle.segdes.proofs.ListRuns.{whole-long}
 use Rattle.pack_dist.proofs.distributes.seg_distribute_over.Goals as goal
 
 pub returns-in_err-check_agree-2 : goal.returns-in_err-check_agree-2

@@ -1,7 +1,7 @@
 use Rattle.std.proofs.Common.{◌∙◌, length, Ok, sym, ap, arith, rules}
 use Rattle.pack_dist.specs.Lists.{progressions_of}
 use Rattle.pack_dist.proofs.Distributed.{index-fits, index-misfits, progressions-long}
-use Rattle.pack_dist.proofs.EndToEnd.{whole-long}
+use Rattle.segdes.proofs.ListRuns.{whole-long}
 use Rattle.pack_dist.proofs.indexes.seg_index.Goals as goal
 
 pub returns-in_err-check_agree-2-clause-values : goal.returns-in_err-check_agree-2-clause-values

@@ -3,7 +3,7 @@ use Rattle.fresh.specs.Parts.{part}
 use Rattle.fresh.specs.Places.{stretch}
 use Rattle.pack_dist.specs.Lists.{copies_of}
 use Rattle.pack_dist.proofs.Distributed.{copies-at, copies-long, copies-part}
-use Rattle.pack_dist.proofs.EndToEnd.{list-long, lists-many}
+use Rattle.segdes.proofs.ListRuns.{list-long, lists-many}
 use Rattle.pack_dist.proofs.distributes.SegmentCopiesSegments.push_part.Goals as goal
 
 pub offset_bounds-self-s : goal.offset_bounds-self-s

@@ -4,7 +4,7 @@ use Rattle.fresh.specs.Places.{stretch}
 use Rattle.pack_dist.specs.Lists.{progressions_of}
 use Rattle.pack_dist.specs.Progressions.{numbers_from, progression}
 use Rattle.pack_dist.proofs.Distributed.{progressions-at, progressions-long}
-use Rattle.pack_dist.proofs.EndToEnd.{list-long, list-short, lists-many}
+use Rattle.segdes.proofs.ListRuns.{list-long, list-short, lists-many}
 use Rattle.pack_dist.proofs.Progressed.{progression-part}
 use Rattle.pack_dist.proofs.indexes.SegmentProgressionsSegments.push_part.Goals as goal
 
