@@ -9,11 +9,6 @@ pub join_spaced : {X : Type 0} (f : X → List ℕ) (x : X) (xs : List X) → jo
 join_spaced f x [] = sym (append-nil (f x))
 join_spaced f x (y ∷ ys) = ap (λ t. f x ++ (32 ∷ t)) (join_spaced f y ys)
 
--- the first text appended, and then the others with a space before each: the texts joined by spaces
-pub joined_onto : {X : Type 0} (f : X → List ℕ) (old mid new : List ℕ) (x : X) (xs whole : List X) → whole ≡ x ∷ xs → mid ≡ old ++ f x → new ≡ mid ++ spaced f xs
-    → new ≡ old ++ join_with_byte 32 (map f whole)
-joined_onto f old mid new x xs whole parts first others = rw (others, first, parts, append_assoc old (f x) (spaced f xs), ← join_spaced f x xs)
-
 -- a text that begins with a longer text begins with what that one begins with
 pub begins_after : (old mid more new : List ℕ) → take (length old) mid ≡ old → take (length (mid ++ more)) new ≡ mid ++ more → take (length old) new ≡ old
 begins_after old mid more new first later =
@@ -25,19 +20,6 @@ begins_after old mid more new first later =
 -- what ends where a page ends has nothing after it
 pub nothing_behind : (text page : List ℕ) (end : ℕ) → length page ≤ end → text ++ drop end page ≡ text
 nothing_behind text page end h = ap (λ bs. text ++ bs) (drop_all end page h) ∙ append-nil text
-
--- an opening bracket (91) appended, and then texts, and then a closing bracket (93): the texts in brackets
-pub bracketed_onto : (old opened mid new texts : List ℕ) → opened ≡ old ++ (91 ∷ []) → mid ≡ opened ++ texts → new ≡ mid ++ (93 ∷ []) → new ≡ old ++ (91 ∷ (texts ++ (93 ∷ [])))
-bracketed_onto old opened mid new texts first inner last =
-    last ∙ ap (λ t. t ++ (93 ∷ [])) (inner ∙ ap (λ t. t ++ texts) first ∙ append_assoc old (91 ∷ []) texts) ∙ append_assoc old (91 ∷ texts) (93 ∷ [])
-
--- a text that begins with a grown text begins with what grew
-pub begins_before : (old more mid new : List ℕ) → mid ≡ old ++ more → take (length mid) new ≡ mid → take (length old) new ≡ old
-begins_before old more mid new grown later = begins_after old old more new (take_all (length old) old (omega arith)) (rw (← grown) later)
-
--- a grown text begins with what grew
-pub begins_with : (old more new : List ℕ) → new ≡ old ++ more → take (length old) new ≡ old
-begins_with old more new grown = begins_before old more new new grown (take_all (length new) new (omega arith))
 
 -- an opening bracket appended and then the first text: with the others, a space before each, and a closing bracket, the texts in brackets
 pub opened_onto : {X : Type 0} (f : X → List ℕ) (old opened new : List ℕ) (x : X) (xs whole : List X) → whole ≡ x ∷ xs → opened ≡ old ++ (91 ∷ []) → new ≡ opened ++ f x
