@@ -153,13 +153,6 @@ between-ends place (closing ∷ ms) e f = absurd (cc)
 between-ends place (number n ∷ ms) e f = refl
 between-ends place (stray ∷ ms) e f = refl
 
-pub before-ends : (ms : List Mark) → begin_with is_opening ms ≡ false → lists_from before 0 ms ≡ Err (fault_at BadInput 0)
-before-ends [] e = refl
-before-ends (opening ∷ ms) e = absurd (cc)
-before-ends (closing ∷ ms) e = refl
-before-ends (number n ∷ ms) e = refl
-before-ends (stray ∷ ms) e = refl
-
 -- the marks of a nest are read as its lists
 pub nest-read : (lists : List (List ℤ)) → lists_from before 0 (nest_marks lists) ≡ Ok lists
 nest-read lists = read-lists 1 (1 + length (flat_map list_marks lists)) lists (closing ∷ []) refl ∙ ap Ok (append-nil lists)
@@ -344,9 +337,6 @@ length-lengths : (lists : List (List ℤ)) → length (map pos (map length lists
 length-lengths [] = refl
 length-lengths (xs ∷ lists) = omega (arith, length-lengths lists)
 
-pub nothing_read : (bytes : List ℕ) (numbers lengths : List ℤ) → numbers ≡ [] → lengths ≡ [] → AreListsRead bytes bytes numbers lengths
-nothing_read bytes numbers lengths e f = record { lists = []; numbers_are = e; lengths_are = f; marks = refl }
-
 -- no room for one list more: there are too many
 pub lists_full : (bytes rest inner : List ℕ) (numbers lengths : List ℤ) (room_numbers room_lengths place : ℕ) → AreListsRead bytes rest numbers lengths → marks_of rest ≡ opening ∷ marks_of inner
     → room_lengths ≤ length lengths → HasRoom room_numbers room_lengths (opening ∷ marks_of bytes) → IsFaultAt place between 1 (marks_of bytes) (opening ∷ marks_of bytes)
@@ -430,20 +420,6 @@ behind_fault bytes inner rest after numbers lengths place is starts ends some at
     more-stands : (ms : List Mark) (last place : ℕ) → is_no_mark ms ≡ false → place ≡ last + 1 → lists_from behind (last + 1) ms ≡ Err (fault_at BadInput place)
     more-stands [] last place some at = absurd (cc)
     more-stands (m ∷ ms) last place some at = ap (λ (k : ℕ). Err (fault_at BadInput k)) (sym at)
-
-no_marks : (ms : List Mark) → is_no_mark ms ≡ true → ms ≡ []
-no_marks [] e = refl
-no_marks (m ∷ ms) e = absurd (cc)
-
-pub nest_ends : (bytes inner rest tail : List ℕ) (numbers lengths : List ℤ) → AreListsRead inner rest numbers lengths → marks_of bytes ≡ opening ∷ marks_of inner
-    → marks_of rest ≡ closing ∷ marks_of tail → is_no_mark (marks_of tail) ≡ true → IsNestRead bytes numbers lengths
-nest_ends bytes inner rest after numbers lengths is starts ends none = record {
-  lists = is.lists;
-  numbers_are = is.numbers_are;
-  lengths_are = is.lengths_are;
-  marks = behind_lists bytes inner rest numbers lengths is starts ∙ ap (λ (ms : List Mark). opening ∷ (flat_map list_marks is.lists ++ ms)) (ends
-      ∙ ap (λ (ms : List Mark). closing ∷ ms) (no_marks (marks_of after) none));
-}
 
 -- what was read is what the bytes write
 pub nest_given : (bytes : List ℕ) (numbers lengths : List ℤ) → IsNestRead bytes numbers lengths → length numbers ≤ most_elements → length lengths ≤ most_elements

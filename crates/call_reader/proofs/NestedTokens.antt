@@ -48,11 +48,6 @@ neither_one None true c e f = absurd (cc)
 neither_one None false true e f = absurd (cc)
 neither_one None false false e f = refl
 
-not_number : (b c : Bool) → is_number (if b then opening else (if c then closing else stray)) ≡ false
-not_number true c = refl
-not_number false true = refl
-not_number false false = refl
-
 pub opens : (token : List ℕ) → pointwise nat_eq token (codes "[") ≡ is_opening (mark_of token)
 opens token = by_case (pointwise nat_eq token (codes "[")) refl
   where
@@ -77,20 +72,9 @@ no_bracket token false false e f = sym (neither_one (written_number token) (poin
 pub first_mark : (bytes token others : List ℕ) → IsFirstToken nested_class bytes token others → marks_of bytes ≡ mark_of token ∷ marks_of others
 first_mark bytes token others is = ap (map mark_of) is
 
-pub begins_such : (p : Mark → Bool) (bytes token others : List ℕ) → IsFirstToken nested_class bytes token others → begin_with p (marks_of bytes) ≡ p (mark_of token)
-begins_such p bytes token others is = ap (begin_with p) (first_mark bytes token others is)
-
-pub begins_no_more : (p : Mark → Bool) (bytes : List ℕ) → tokens_by nested_class bytes ≡ [] → begin_with p (marks_of bytes) ≡ false
-begins_no_more p bytes none = ap (λ (tokens : List (List ℕ)). begin_with p (map mark_of tokens)) none
-
 pub number_mark : (token : List ℕ) (n : ℤ) → written_number token ≡ Some n → mark_of token ≡ number n
 number_mark token n e =
     ap (λ (o : Option ℤ). number_or o (if pointwise nat_eq token (codes "[") then opening else (if pointwise nat_eq token (codes "]") then closing else stray))) e
-
-pub no_number_mark : (token : List ℕ) → written_number token ≡ None → is_number (mark_of token) ≡ false
-no_number_mark token e =
-    ap (λ (o : Option ℤ). is_number (number_or o (if pointwise nat_eq token (codes "[") then opening else (if pointwise nat_eq token (codes "]") then closing else stray)))) e
-    ∙ not_number (pointwise nat_eq token (codes "[")) (pointwise nat_eq token (codes "]"))
 
 digit_in_nested : (b : ℕ) → is_ascii_digit b ≡ true → is_part (nested_class b) ≡ true
 digit_in_nested b e = grind (arith, nat_tests)
@@ -120,15 +104,3 @@ length_marks (token ∷ tokens) = omega (arith, length_marks tokens)
 -- each token has a byte
 pub marks_short : (p : Mark → Bool) (bytes : List ℕ) → count_by p (marks_of bytes) ≤ length bytes
 marks_short p bytes = omega (arith, count_by-le-length p (marks_of bytes), length_marks (tokens_by nested_class bytes), tokens_short bytes)
-
-as_one : (b : Bool) → cond b 1 0 ≡ from_bool b
-as_one true = refl
-as_one false = refl
-
--- the count with the first token
-pub counted_more : (p : Mark → Bool) (bytes token others : List ℕ) (one so_far total : ℕ) → IsFirstToken nested_class bytes token others → one ≡ from_bool (p (mark_of token))
-    → so_far + count_by p (marks_of bytes) ≡ total → (so_far + one) + count_by p (marks_of others) ≡ total
-counted_more p bytes token others one so_far total is one_is e =
-    let first = ap (count_by p) (first_mark bytes token others is) in
-    let more = sum_by-cons (λ x. cond (p x) 1 0) (mark_of token) (marks_of others) in
-    omega (arith, first, more, as_one (p (mark_of token)), one_is, e)

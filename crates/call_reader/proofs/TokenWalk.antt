@@ -14,11 +14,6 @@ class_is_part Blank e = cc
 class_is_part Alone e = cc
 class_is_part Part e = refl
 
--- the first byte and what it does to the tokens
-pub tokens_at : (class_of : ℕ → ByteClass) (bs : List ℕ) (i : ℕ) → i < length bs
-    → tokens_by class_of (drop i bs) ≡ with_byte (class_of (get_or bs i 0)) (begins_with_part class_of (drop (i + 1) bs)) (get_or bs i 0) (tokens_by class_of (drop (i + 1) bs))
-tokens_at class_of bs i h = ap (tokens_by class_of) (drop_more bs i 0 h)
-
 -- a run of one byte or more, after which no run goes on, is the first token
 pub run_first : (class_of : ℕ → ByteClass) (run rest : List ℕ) → list_all (λ b. is_part (class_of b)) run ≡ true → 0 < length run
     → begins_with_part class_of rest ≡ false → tokens_by class_of (run ++ rest) ≡ run ∷ tokens_by class_of rest
