@@ -21,8 +21,3 @@ module _ {X : Type 0} where
   -- nothing is left
   pub after-end : (done : List X) → after done (Ok []) ≡ Ok done
   after-end done = ap Ok (append-nil done)
-
-  -- a fault is one of the others
-  pub after-fails : (done : List X) (others : Result (List X) Fault) (f : Fault) → after done others ≡ Err f → others ≡ Err f
-  after-fails done (Ok xs) f is = cc
-  after-fails done (Err e) f is = is

@@ -1,14 +1,14 @@
 -- A list cut by lengths: the inner lists, and where the lengths add up to the list's and where they don't.
-use Rattle.std.proofs.Common.{◌≡◌, ◌≢◌, ◌∙◌, ℕ, zero, suc, ◌+◌, ◌<◌, ◌≤◌, not, List, [], ◌∷◌, ◌++◌, length, take, drop, get_or, map, refl, sym, ap, eq-eqb, arith, length-drop, Ok, Err}
+use Rattle.std.proofs.Common.{◌≡◌, ◌≢◌, ◌∙◌, ℕ, zero, suc, ◌<◌, ◌≤◌, not, List, [], ◌∷◌, ◌++◌, length, take, drop, get_or, map, refl, sym, ap, eq-eqb, arith, length-drop, Ok, Err}
 use Rattle.std.specs.Prelude.{sum}
 use Rattle.std.proofs.lemmas.Bool.{ne_eqb}
-use Rattle.std.proofs.lemmas.List.{drop-drop, drop_all, get_or_default, length-take-le, nil_from_length, take-append-drop}
+use Rattle.std.proofs.lemmas.List.{drop-drop, length-take-le, nil_from_length, take-append-drop}
 use Rattle.cvl_base.specs.declared.fault.FaultNo.TheVariants as no
 use Rattle.cvl_base.specs.Faults.{fault}
 use Rattle.cvl_base.specs.Gives.{fault_if}
 use Rattle.cvl_base.specs.Lists.{joined}
 use Rattle.cvl_base.specs.Nests.{nest, cut_of}
-use Rattle.cvl_base.proofs.Lists.{sum-cons, uncons}
+use Rattle.cvl_base.proofs.Lists.{sum-cons}
 
 pub length-cut : {X : Type 0} (lengths : List ℕ) (xs : List X) → length (cut_of lengths xs) ≡ length lengths
 length-cut [] xs = refl
@@ -39,16 +39,6 @@ cut_at (n ∷ ns) xs (suc s) lt =
     ∙ ap (take (get_or ns s 0)) (drop-drop (sum (take s ns)) n xs ∙ ap (λ k. drop k xs) (omega (arith, sum-cons n (take s ns))))
 
 module _ {X : Type 0} (lengths : List ℕ) (xs : List X) where
-  -- the inner lists from s on, the first of which starts at a place
-  pub cut_more : (s start n : ℕ) → s < length lengths → n ≡ get_or lengths s 0
-      → cut_of (drop s lengths) (drop start xs) ≡ take n (drop start xs) ∷ cut_of (drop (s + 1) lengths) (drop (start + n) xs)
-  cut_more s start n lt is =
-      ap (λ ls. cut_of ls (drop start xs)) (uncons lengths s n lt (is ∙ get_or_default lengths s 0 n lt))
-      ∙ ap (λ rest. take n (drop start xs) ∷ cut_of (drop (s + 1) lengths) rest) (drop-drop n start xs)
-
-  pub cut_all : (s : ℕ) → length lengths ≤ s → cut_of (drop s lengths) xs ≡ []
-  cut_all s ge = ap (λ ls. cut_of ls xs) (drop_all s lengths ge)
-
   pub nest-fits : sum lengths ≡ length xs → nest lengths xs ≡ Ok (cut_of lengths xs)
   nest-fits fits = ap (λ b. fault_if (not b) (fault no.LengthMismatch) (Ok (cut_of lengths xs))) (eq-eqb (sum lengths) (length xs) fits)
 

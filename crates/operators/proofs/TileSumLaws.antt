@@ -65,9 +65,6 @@ module _ {Element : Type 0} {is_item : Element → Bool} {unit : Element} {join 
 -- ---- the sums of tiles under the monoid on runs of a segmented vector
 
 module _ {Item : Type 0} (join : Item → Item → Item) (unit : Item) (tiles : List (List (Bool × Item))) where
-  pub before_none : before join unit tiles 0 ≡ seg_unit unit
-  before_none = refl
-
   pub before_next : (t : ℕ) → before join unit tiles (t + 1) ≡ upto join unit tiles t
   before_next t = let same : t + 1 ≡ suc t = omega arith in ap (before join unit tiles) same
 
