@@ -9,9 +9,7 @@ ghost use Rattle.c_calls.specs.Told.{in_room};
 
 use crate::checks::{check_limit, descriptor};
 use cvl_base::{Fault, Refused};
-use scan_walks::{
-    checked_scan_over, checked_seg_reduce_vec, checked_seg_scan_over, checked_sum,
-};
+use scan_walks::{checked_scan_over, checked_seg_reduce_vec, checked_seg_scan_over, checked_sum};
 use std::alloc::Global;
 
 /// For each integer the sum of those before it.
