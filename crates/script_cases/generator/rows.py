@@ -193,7 +193,7 @@ def cases(rng):
     text = ""
     for name in sorted(CALLS):
         script = script_of(name)
-        text += each(f"{name} of random arguments", tiles(("1 2 3 7", "1 2 3 5")), script, [], random_rows(rng, name))
+        text += each(f"{name} of random arguments", tiles(("1 7", "1 3"), ("2", "5"), ("3", "2")), script, [], random_rows(rng, name))
         settings = tiles(("1 4096", "3")) + refused(2 * len(CALLS[name][0]) + 2)
         text += each(f"{name} where memory is refused", settings, script, [], refused_rows(rng, name))
     return text

@@ -49,7 +49,7 @@ def permutes(rng):
             made = {"i": index, "f": [rng.random() < 0.7 for _ in index], "l": cuts(rng, len(index), 3)}
             rows[number % 4].append([number_lines(made[kind]) for kind in last])
         for tile, some in enumerate(rows, 1):
-            settings = tiles((tile, "2 7"), ((tile + 1) % 4 + 1, "1 3"))
+            settings = tiles((tile, "2"), ((tile + 1) % 4 + 1, "1 3"))
             text += each(f"{name} of every short list, in tiles of {tile}", settings, script + "\n", inputs, some)
     return text
 
@@ -79,7 +79,7 @@ def with_empty(rng, lengths):
 def checked(rng):
     text = ""
     inputs = [number_lines(OVERFLOWING)]
-    settings = tiles(("1 3", "3"), ("2 4", "2"))
+    settings = tiles(("1", "3"), ("2", "2"), ("3", "1"))
     vectors = lists(range(5), 4)
     for name in ("tot_suz", "tot_ruz"):
         rows = [[number_lines(v)] for v in vectors]
@@ -119,7 +119,7 @@ def in_tiles(rng):
     text = ""
     # more tiles and workers for a sum, and for an operator whose identity is no zero
     for name, x, is_full in [(op, "z", op in ("add", "max")) for op in INT_MONOIDS] + [(op, "b", op == "xor") for op in BOOL_MONOIDS]:
-        settings = tiles(("1 2 3 4 5 6 7 8", "1 3"), ("1 2 3", "2 7"), ("1", "64")) if is_full else tiles(("1 3", "2"), ("2 5", "3"), ("4 8", "7"))
+        settings = tiles(("1 2 3 4 5 6 7 8", "1"), ("1 2 3 5 7", "3"), ("2", "7")) if is_full else tiles(("1 4", "2"), ("3", "3"))
         start = "a = input 1\n" + ("" if x == "z" else "a = boo_wuz a\n") + "o = input 2\n"
         flat = by_segments = start
         for count in range(LONGEST + 1):
