@@ -1,7 +1,9 @@
 //! Files that are longer or shorter than they were expected to be, and files that are read a few bytes at a time.
-use crate::hosts::{Failing, Files, are_told, host_with, status_of, text_of};
+use crate::hosts::{Files, are_told, status_of, text_of};
+use crate::narrow_writer::NarrowWriter;
+use crate::table_files::TableFiles;
 use refusing_memory::Refusing;
-use shell::read_whole;
+use shell::{StreamHost, read_whole};
 use std::alloc::{AllocError, Global};
 use std::io::{Error, ErrorKind, Read, Result as IoResult};
 use std::test::Fail;
@@ -26,8 +28,14 @@ fn reads_all<R: Threads + Sync + AllocGlobal>(
     expected: usize,
 ) -> Result<bool, AllocError> {
     let heap = Refusing::none(rt.alloc());
-    let mut host = host_with(rt.alloc(), files, Failing::Nothing);
-    host.files.expected = Some(expected);
+    let files = TableFiles {
+        files,
+        expected: Some(expected),
+        asked: Vec::new(rt.alloc()),
+    };
+    let output = NarrowWriter::new(rt.alloc(), 0, u64::MAX);
+    let errors = NarrowWriter::new(rt.alloc(), usize::MAX, 1);
+    let mut host = StreamHost::new(files, output, errors);
     let status = status_of(rt, &heap, "cvl --workers 3 script sevens", &mut host)?;
     Ok(status == 0 && are_told(&host, "b = 4200000\nn = 600000\n", ""))
 }

@@ -1,10 +1,12 @@
 //! Sinks that take little at a time, or fail, and one whose room was made before.
-use crate::hosts::{Failing, host_with, inputs_of};
+use crate::hosts::inputs_of;
 use crate::line_texts::{are_whole, reach_into, total_of};
+use crate::narrow_writer::NarrowWriter;
 use crate::segments::{INPUTS, SCRIPT, TEXTS};
+use crate::table_files::TableFiles;
 use cvl_base::{Config, Memory, NoResources};
 use refusing_memory::{Refusing, withstands_refusals};
-use shell::{MemSink, Sink, SinkFault, Stop, run};
+use shell::{MemSink, Sink, SinkFault, Stop, StreamHost, run};
 use std::alloc::Global;
 use std::test::Fail;
 use std::thread::Threads;
@@ -36,9 +38,10 @@ fn takes<R: Threads + Sync, A: Memory>(
     row: Row,
 ) -> Result<bool, NoResources> {
     let (more_a_put, puts, taken, answer) = row;
-    let mut sink = host_with(alloc, &[], Failing::Writes(puts));
-    sink.output.more_a_write = more_a_put;
-    sink.output.taken = Vec::with_capacity(alloc, total_of(TEXTS))?;
+    let mut output = NarrowWriter::new(alloc, more_a_put, puts);
+    output.taken = Vec::with_capacity(alloc, total_of(TEXTS))?;
+    let errors = NarrowWriter::new(alloc, 0, 0);
+    let mut sink = StreamHost::new(TableFiles::new(alloc, &[]), output, errors);
     let inputs = inputs_of(heap, INPUTS)?;
     let config = Config::new(2, 3).unwrap();
     let ran = run(rt, heap, config, SCRIPT.as_bytes(), inputs, &mut sink);
