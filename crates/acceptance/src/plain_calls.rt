@@ -21,55 +21,89 @@ const FLAGS: &[bool] = &[true, false, true, true, false];
 /// The lengths of the segments.
 const LENGTHS: &[i32] = &[2, 0, 3];
 
-/// Whether scans and reduces in tiles of one element, and quotients, are right.
-fn scans_are_right<R: Threads + Sync, A: Memory>(rt: &R, heap: A) -> Result<bool, Refused> {
-    let config = Config::new(1, 3).unwrap();
-    let (add, xor) = (IntMonoid::Add, BoolBinary::Xor);
-    let d = SegDes::from_lengths(heap, LENGTHS)?;
-    let scan = int_scan(rt, heap, config, add, NUMBERS)?;
-    let scans = seg_int_scan(rt, heap, config, add, NUMBERS, &d)?;
-    let reduces = seg_int_reduce(rt, heap, config, add, NUMBERS, &d)?;
+/// Whether a vector of integers is the right one. It is let go here, so that no other call is made beside it.
+fn ints<A: Memory>(made: Vec<i32, A>, right: &[i32]) -> bool {
+    made.as_slice() == right
+}
+
+/// Whether a vector of booleans is the right one.
+fn bools<A: Memory>(made: Vec<bool, A>, right: &[bool]) -> bool {
+    made.as_slice() == right
+}
+
+/// Whether scans and reduces of integers in tiles of one element, and quotients, are right.
+fn numbers_are_right<R: Threads + Sync, A: Memory>(
+    rt: &R,
+    heap: A,
+    d: &SegDes<A>,
+) -> Result<bool, Refused> {
+    let (config, add) = (Config::new(1, 3).unwrap(), IntMonoid::Add);
     let halves = int2(rt, heap, config, IntBinary::Div, NUMBERS, &[2, 2, 2, 2, 2])?;
-    let parity = bool_scan(rt, heap, config, xor, FLAGS)?;
-    let parities = seg_bool_scan(rt, heap, config, xor, FLAGS, &d)?;
-    let odd = seg_bool_reduce(rt, heap, config, xor, FLAGS, &d)?;
     Ok(
-        scan.as_slice() == [0, 3, 4, 11, 11].as_slice()
+        ints(halves, &[1, 0, 3, 0, 2])
             && int_reduce(rt, heap, config, add, NUMBERS)? == 15
-            && scans.as_slice() == [0, 3, 0, 7, 7].as_slice()
-            && reduces.as_slice() == [4, 0, 11].as_slice()
-            && halves.as_slice() == [1, 0, 3, 0, 2].as_slice()
-            && parity.as_slice() == [false, true, true, false, true].as_slice()
+            && ints(
+                int_scan(rt, heap, config, add, NUMBERS)?,
+                &[0, 3, 4, 11, 11],
+            )
+            && ints(
+                seg_int_scan(rt, heap, config, add, NUMBERS, d)?,
+                &[0, 3, 0, 7, 7],
+            )
+            && ints(
+                seg_int_reduce(rt, heap, config, add, NUMBERS, d)?,
+                &[4, 0, 11],
+            ),
+    )
+}
+
+/// Whether scans and reduces of booleans in tiles of one element are right.
+fn flags_are_right<R: Threads + Sync, A: Memory>(
+    rt: &R,
+    heap: A,
+    d: &SegDes<A>,
+) -> Result<bool, Refused> {
+    let (config, xor) = (Config::new(1, 3).unwrap(), BoolBinary::Xor);
+    let parity = bool_scan(rt, heap, config, xor, FLAGS)?;
+    Ok(
+        bools(parity, &[false, true, true, false, true])
             && bool_reduce(rt, heap, config, xor, FLAGS)?
-            && parities.as_slice() == [false, true, false, true, false].as_slice()
-            && odd.as_slice() == [true, false, false].as_slice(),
+            && bools(
+                seg_bool_scan(rt, heap, config, xor, FLAGS, d)?,
+                &[false, true, false, true, false],
+            )
+            && bools(
+                seg_bool_reduce(rt, heap, config, xor, FLAGS, d)?,
+                &[true, false, false],
+            ),
     )
 }
 
 /// Whether packs and counts by segments are right.
-fn packs_are_right<R: Threads + Sync, A: Memory>(rt: &R, heap: A) -> Result<bool, Refused> {
+fn packs_are_right<R: Threads + Sync, A: Memory>(
+    rt: &R,
+    heap: A,
+    d: &SegDes<A>,
+) -> Result<bool, Refused> {
     let config = Config::new(1, 3).unwrap();
-    let d = SegDes::from_lengths(heap, LENGTHS)?;
-    let kept = pack(rt, heap, config, NUMBERS, FLAGS)?;
-    let values = seg_pack_values(rt, heap, config, NUMBERS, FLAGS, &d)?;
-    let (both_values, both_lengths) = seg_pack(rt, heap, config, NUMBERS, FLAGS, &d)?;
-    let counts = seg_count(rt, heap, config, FLAGS, &d)?;
-    let lengths = packed_descriptor(rt, heap, config, FLAGS, &d)?;
-    let (right, counted) = ([3, 7, 0], [1, 0, 2]);
+    let (right, counted) = (&[3, 7, 0], &[1, 0, 2]);
+    let (values, lengths) = seg_pack(rt, heap, config, NUMBERS, FLAGS, d)?;
     Ok(
-        kept.as_slice() == right.as_slice()
-            && values.as_slice() == right.as_slice()
-            && both_values.as_slice() == right.as_slice()
-            && both_lengths.lengths() == counted.as_slice()
-            && counts.as_slice() == counted.as_slice()
-            && lengths.lengths() == counted.as_slice(),
+        ints(values, right)
+            && lengths.lengths() == counted.as_slice()
+            && ints(pack(rt, heap, config, NUMBERS, FLAGS)?, right)
+            && ints(seg_pack_values(rt, heap, config, NUMBERS, FLAGS, d)?, right)
+            && ints(seg_count(rt, heap, config, FLAGS, d)?, counted)
+            && packed_descriptor(rt, heap, config, FLAGS, d)?.lengths() == counted.as_slice(),
     )
 }
 
 #[test]
 fn each_once(rt: HostRuntime) -> Result<(), Fail> {
     let heap = Refusing::none(rt.alloc());
-    assert_eq!(rt; scans_are_right(&rt, &heap), Ok(true));
-    assert_eq!(rt; packs_are_right(&rt, &heap), Ok(true));
+    let d = SegDes::from_lengths(&heap, LENGTHS)?;
+    assert_eq!(rt; numbers_are_right(&rt, &heap, &d), Ok(true));
+    assert_eq!(rt; flags_are_right(&rt, &heap, &d), Ok(true));
+    assert_eq!(rt; packs_are_right(&rt, &heap, &d), Ok(true));
     Ok(())
 }
