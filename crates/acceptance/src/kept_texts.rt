@@ -29,9 +29,16 @@ fn appends<R: Threads + Sync, A: Memory>(
         return Ok(false);
     }
     let sevens = Value::Integers(Ints::from_vec(sevens));
-    let no_descriptor: Option<&SegDes<A>> = None;
+    let no_descriptor: Option<SegDes<A>> = None;
     let mut text = Vec::from_slice(alloc, before.as_bytes())?;
-    match put_value(rt, alloc, config, &sevens, no_descriptor, &mut text) {
+    match put_value(
+        rt,
+        alloc,
+        config,
+        &sevens,
+        no_descriptor.as_ref(),
+        &mut text,
+    ) {
         Ok(()) => Ok(text.as_slice() == right.as_bytes()),
         Err(refused) if text.as_slice() == before.as_bytes() => Err(refused),
         Err(_) => Ok(false),
