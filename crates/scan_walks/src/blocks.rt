@@ -63,6 +63,8 @@ fn sum_within(before: &i32, block: &[i32]) -> Option<i32>
 
 /// What the integers add up to, or the place of the first one before which the sum does not fit 32 bits. `before` stands before
 /// the integers.
+// inlined, since a call takes longer than a short segment
+#[inline(always)]
 pub(crate) fn sum_one_by_one(before: i64, xs: &[i32]) -> Result<i64, usize>
     ensures { IsWalked before xs.now result }
 {

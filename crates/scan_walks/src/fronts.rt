@@ -16,6 +16,8 @@ const SHORT: usize = 64;
 /// How many of the sums before each of the integers fit 32 bits, from the first one on. `before` stands before the integers.
 ///
 /// It takes no memory. Source: Blelloch's prescan, over whole numbers.
+// inlined, since a call takes longer than a short segment
+#[inline(always)]
 pub fn fitting_of_scan(before: i64, xs: &[i32]) -> usize
     ensures front { result ≡ fitting_front (scan_of ◌+ℤ◌ before xs.now) }
     ensures within { result ≤ length xs.now }

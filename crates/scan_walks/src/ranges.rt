@@ -140,6 +140,8 @@ pub fn sum_of_range<M: Monoid, X: Copy, E: Reading<X, M::Item>, A: Allocator>(
 ///
 /// `before` is what the elements of the first segment that stand before the range join to. It must be an item of the
 /// monoid, as all that is read must. Source: Blelloch's segmented scans.
+// inlined, so that what is known of the run stays in registers from segment to segment
+#[inline(always)]
 pub fn scan_range_into<M: Monoid, X: Copy, E: Reading<X, M::Item>, A: Allocator>(
     run: Run<M::Item>,
     a: &[X],
