@@ -157,6 +157,9 @@ pub fn write_in_runs<T: Send + Drop, R: Threads + Sync, A: Allocator, W: Writer<
     requires { items ≡ length (W.whole writer.now) }
     ensures { IfOk result (λ v. v.items ≡ W.whole writer.now) }
 {
+    if threads < 2 {
+        return write_alone(alloc, writer, items);
+    }
     let threads = items.min(threads as usize);
     let writer = &Unchecked { writer };
     let (written, _) = write_in_parts(rt, alloc, Places { writer, threads }, items)?;
