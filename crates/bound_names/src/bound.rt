@@ -34,7 +34,7 @@ impl<A: Memory> Bound<A> {
         requires { vec_len items ≤ most_elements }
         ensures { result ≡ Value.Integers items.items }
     {
-        Bound::alone(Value::Integers(Ints::from_vec(items)))
+        Bound::of_value(Value::Integers(Ints::from_vec(items)))
     }
 
     /// A vector of booleans, at most 4,194,304.
@@ -42,11 +42,11 @@ impl<A: Memory> Bound<A> {
         requires { vec_len items ≤ most_elements }
         ensures { result ≡ Value.Booleans items.items }
     {
-        Bound::alone(Value::Booleans(Bools::from_vec(items)))
+        Bound::of_value(Value::Booleans(Bools::from_vec(items)))
     }
 
     /// A value that is no descriptor.
-    pub fn alone(value: Value<A>) -> Bound<A>
+    pub fn of_value(value: Value<A>) -> Bound<A>
         requires { lengths_of value ≡ None }
         ensures { result ≡ value }
     {

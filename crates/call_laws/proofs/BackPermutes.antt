@@ -6,13 +6,13 @@ use Rattle.std.proofs.lemmas.List.{length-map}
 use Rattle.std.proofs.lemmas.Option.{same_Some, slice_get-map, slice_get_within}
 use Rattle.cvl_base.specs.declared.fault.FaultNo.TheVariants.{IndexOutOfRange}
 use Rattle.cvl_base.specs.Extracts.{element_at}
-use Rattle.cvl_base.specs.Permutes.{back_of, simple_of, all_targets}
+use Rattle.cvl_base.specs.Permutes.{back_of, simple_of, all_destinations}
 use Rattle.call_laws.specs.Permuted.{IsBackPermute, IsSimplePermute}
 use Rattle.call_laws.proofs.LeastFaults.{values-meaning}
 use Rattle.cvl_base.proofs.Lists.{element}
 use Rattle.call_laws.proofs.Places.{same_elements}
 use Rattle.call_laws.proofs.Sending.{simple-meaning, sent-from_simple, index-here, all_named}
-use Rattle.call_laws.proofs.Targets.{each_is_target, target_there}
+use Rattle.call_laws.proofs.Destinations.{each_is_destination, destination_there}
 
 taken-from_values : {X : Type 0} (source : List X) (index : List ℤ) (result : List X) → map (element_at source) index ≡ map (λ x. Some x) result → IsBackPermute source index result
 taken-from_values source index result same =
@@ -68,5 +68,5 @@ simple-onto source index result p d within =
     let sent = sent-from_simple source index result is in
     let long : length result ≡ length index = is.as_long in
     let named_all = all_named (length index) index sent.right in
-    let sender = target_there (pos d) (all_targets index) (each_is_target (length index) (all_targets index) sent.right (omega arith) d (omega arith)) in
+    let sender = destination_there (pos d) (all_destinations index) (each_is_destination (length index) (all_destinations index) sent.right (omega arith) d (omega arith)) in
     (sender.0, index-here index sender.0 (pos d) sender.1)

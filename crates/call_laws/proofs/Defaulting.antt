@@ -7,29 +7,29 @@ use Rattle.std.proofs.lemmas.Bool.{both_ways, or_parts, cond-false, cases_Bool, 
 use Rattle.std.proofs.lemmas.List.{length-map}
 use Rattle.std.proofs.lemmas.List.FromFn.{length-enumerate_from}
 use Rattle.std.proofs.lemmas.Option.{slice_get_within}
-use Rattle.cvl_base.specs.Permutes.{all_targets, default_of, first_fault, is_target, sent_to, sent_over, wrongs}
+use Rattle.cvl_base.specs.Permutes.{all_destinations, default_of, first_fault, is_destination, sent_to, sent_over, wrongs}
 use Rattle.cvl_base.specs.Gives.{unless}
 use Rattle.call_laws.specs.Permuted.{IsDefaultPermute}
 use Rattle.cvl_base.proofs.Lists.{element}
 use Rattle.call_laws.proofs.Places.{same_elements}
 use Rattle.cvl_base.proofs.Elementwise.{if_as_long-fits}
-use Rattle.cvl_base.proofs.Permutes.{length-all_targets}
-use Rattle.call_laws.proofs.Sending.{if_as_long-Ok, index-here, sent_to-target, target-here, unless-Ok}
-use Rattle.call_laws.proofs.Targets.{IsRight, any-from_there, no_fault-from_right, once-from_right, right-from_no_fault, right-from_once, target_there}
+use Rattle.cvl_base.proofs.Permutes.{length-all_destinations}
+use Rattle.call_laws.proofs.Sending.{if_as_long-Ok, index-here, sent_to-destination, destination-here, unless-Ok}
+use Rattle.call_laws.proofs.Destinations.{IsRight, any-from_there, no_fault-from_right, once-from_right, right-from_no_fault, right-from_once, destination_there}
 
--- what each place of the result is, told by the targets
+-- what each place of the result is, told by the destinations
 record IsSentOver {X : Type 0} (source : List X) (ts : List (Option ℤ)) (defaults result : List X) : Type 0 where
   as_long : length result ≡ length defaults
   right : IsRight (length defaults) ts
   sent : (k d : ℕ) → slice_get ts k ≡ Some (Some (pos d)) → slice_get result d ≡ slice_get source k
-  kept : (d : ℕ) → list_any (is_target (pos d)) ts ≡ false → slice_get result d ≡ slice_get defaults d
+  kept : (d : ℕ) → list_any (is_destination (pos d)) ts ≡ false → slice_get result d ≡ slice_get defaults d
 
-nothing_sent : {X : Type 0} (source : List X) (ts : List (Option ℤ)) (d : ℕ) → list_any (is_target (pos d)) ts ≡ false → sent_to source ts d ≡ None
+nothing_sent : {X : Type 0} (source : List X) (ts : List (Option ℤ)) (d : ℕ) → list_any (is_destination (pos d)) ts ≡ false → sent_to source ts d ≡ None
 nothing_sent source [] d none = refl
 nothing_sent [] (t ∷ ts) d none = refl
 nothing_sent (y ∷ source) (t ∷ ts) d none =
-    let parts = or_parts (is_target (pos d) t) (list_any (is_target (pos d)) ts) none in
-    ap (option_map (λ (p : Option ℤ × _). p.1)) (cond-false (is_target (pos d) t) (Some (t, y)) (find (λ p. is_target (pos d) p.0) (zip ts source)) parts.0)
+    let parts = or_parts (is_destination (pos d) t) (list_any (is_destination (pos d)) ts) none in
+    ap (option_map (λ (p : Option ℤ × _). p.1)) (cond-false (is_destination (pos d) t) (Some (t, y)) (find (λ p. is_destination (pos d) p.0) (zip ts source)) parts.0)
     ∙ nothing_sent source ts d parts.1
 
 -- a list with some of its values put in by their places
@@ -68,11 +68,11 @@ over_sent : {X : Type 0} (source : List X) (ts : List (Option ℤ)) (defaults : 
 over_sent source ts defaults right long = record {
   as_long = length-laid_over (sent_to source ts) 0 defaults;
   right = right;
-  sent = λ k d target.
-      let here : k < length ts = slice_get_within ts k (Some (pos d)) target in
+  sent = λ k d destination.
+      let here : k < length ts = slice_get_within ts k (Some (pos d)) destination in
       let there = element source k (omega arith) in
-      let within : d < length defaults = ltb-true d (length defaults) (right.within k (pos d) target) in
-      at-some (sent_to source ts) defaults d there.0 within (sent_to-target (length defaults) source ts k d right long target ∙ there.1) ∙ sym there.1;
+      let within : d < length defaults = ltb-true d (length defaults) (right.within k (pos d) destination) in
+      at-some (sent_to source ts) defaults d there.0 within (sent_to-destination (length defaults) source ts k d right long destination ∙ there.1) ∙ sym there.1;
   kept = λ d none. at-none (sent_to source ts) defaults d (nothing_sent source ts d none);
 }
 
@@ -81,8 +81,8 @@ only_over source ts defaults xs ys p q =
     let long_xs : length xs ≡ length defaults = p.as_long in
     let long_ys : length ys ≡ length defaults = q.as_long in
     same_elements xs ys (omega arith) (λ d within.
-    elim (cases_Bool (list_any (is_target (pos d)) ts)) [
-      | inl named ↦ let sender = target_there (pos d) ts named in p.sent sender.0 d sender.1 ∙ sym (q.sent sender.0 d sender.1)
+    elim (cases_Bool (list_any (is_destination (pos d)) ts)) [
+      | inl named ↦ let sender = destination_there (pos d) ts named in p.sent sender.0 d sender.1 ∙ sym (q.sent sender.0 d sender.1)
       | inr none ↦ p.kept d none ∙ sym (q.kept d none)
     ])
 
@@ -99,37 +99,37 @@ sent_over-meaning source ts defaults result long =
           ∙ ap Ok (only_over source ts defaults over result (over_sent source ts defaults is.right long) is),
     )
 
-default-from_sent : {X : Type 0} (source : List X) (index : List ℤ) (defaults result : List X) → length source ≡ length index → IsSentOver source (all_targets index) defaults result
+default-from_sent : {X : Type 0} (source : List X) (index : List ℤ) (defaults result : List X) → length source ≡ length index → IsSentOver source (all_destinations index) defaults result
     → IsDefaultPermute source index defaults result
 default-from_sent source index defaults result long is = record {
   one_index_each = long;
   as_long = is.as_long;
-  within = λ k i here. is.right.within k i (target-here index k i here);
-  once = λ j k i first second. once-from_right (length defaults) (all_targets index) is.right j k i (target-here index j i first) (target-here index k i second);
-  sent = λ k d here. is.sent k d (target-here index k (pos d) here);
-  kept = λ d none. is.kept d (false_from_ne_true (list_any (is_target (pos d)) (all_targets index)) (λ named.
-      let sender = target_there (pos d) (all_targets index) named in
+  within = λ k i here. is.right.within k i (destination-here index k i here);
+  once = λ j k i first second. once-from_right (length defaults) (all_destinations index) is.right j k i (destination-here index j i first) (destination-here index k i second);
+  sent = λ k d here. is.sent k d (destination-here index k (pos d) here);
+  kept = λ d none. is.kept d (false_from_ne_true (list_any (is_destination (pos d)) (all_destinations index)) (λ named.
+      let sender = destination_there (pos d) (all_destinations index) named in
       none sender.0 (index-here index sender.0 (pos d) sender.1)));
 }
 
-sent-from_default : {X : Type 0} (source : List X) (index : List ℤ) (defaults result : List X) → IsDefaultPermute source index defaults result → IsSentOver source (all_targets index) defaults result
+sent-from_default : {X : Type 0} (source : List X) (index : List ℤ) (defaults result : List X) → IsDefaultPermute source index defaults result → IsSentOver source (all_destinations index) defaults result
 sent-from_default source index defaults result is = record {
   as_long = is.as_long;
-  right = right-from_once (length defaults) (all_targets index) (λ k i here. is.within k i (index-here index k i here))
+  right = right-from_once (length defaults) (all_destinations index) (λ k i here. is.within k i (index-here index k i here))
       (λ j k i first second. is.once j k i (index-here index j i first) (index-here index k i second));
   sent = λ k d here. is.sent k d (index-here index k (pos d) here);
-  kept = λ d none. is.kept d (λ k here. both_ways (list_any (is_target (pos d)) (all_targets index)) none (any-from_there (pos d) (all_targets index) k (target-here index k (pos d) here)));
+  kept = λ d none. is.kept d (λ k here. both_ways (list_any (is_destination (pos d)) (all_destinations index)) none (any-from_there (pos d) (all_destinations index) k (destination-here index k (pos d) here)));
 }
 
 pub default-meaning : {X : Type 0} (source : List X) (index : List ℤ) (defaults result : List X) → (default_of source index defaults ≡ Ok result) ↔ IsDefaultPermute source index defaults result
 default-meaning source index defaults result =
-    let long = length-all_targets index in (
+    let long = length-all_destinations index in (
       λ p.
-          let parts = if_as_long-Ok source index (sent_over source (all_targets index) defaults) result p in
+          let parts = if_as_long-Ok source index (sent_over source (all_destinations index) defaults) result p in
           let same : length source ≡ length index = parts.0 in
-          default-from_sent source index defaults result same ((sent_over-meaning source (all_targets index) defaults result (omega arith)).0 parts.1),
+          default-from_sent source index defaults result same ((sent_over-meaning source (all_destinations index) defaults result (omega arith)).0 parts.1),
       λ is.
           let same : length source ≡ length index = is.one_index_each in
-          if_as_long-fits source index (sent_over source (all_targets index) defaults) same
-          ∙ (sent_over-meaning source (all_targets index) defaults result (omega arith)).1 (sent-from_default source index defaults result is),
+          if_as_long-fits source index (sent_over source (all_destinations index) defaults) same
+          ∙ (sent_over-meaning source (all_destinations index) defaults result (omega arith)).1 (sent-from_default source index defaults result is),
     )

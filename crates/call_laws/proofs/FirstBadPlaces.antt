@@ -6,10 +6,10 @@ use Rattle.std.proofs.lemmas.Option.{none-some, same_Some, slice_get_within}
 use Rattle.cvl_base.specs.declared.fault.FaultNo.{FaultNo}
 use Rattle.cvl_base.specs.declared.fault.FaultNo.TheVariants.{IndexOutOfRange, IndexRepeated}
 use Rattle.cvl_base.specs.Faults.{fault_at}
-use Rattle.cvl_base.specs.Permutes.{first_fault, wrong_at, wrongs, is_place, is_target}
+use Rattle.cvl_base.specs.Permutes.{first_fault, wrong_at, wrongs, is_place, is_destination}
 use Rattle.call_laws.specs.Permuted.{IsGoodBefore}
 use Rattle.call_laws.proofs.Places.{slice_get-take, slice_get_in_front}
-use Rattle.call_laws.proofs.Targets.{any-from_there, no_fault-from_right, target_there, target_of_wrong, tests_by_right, wrong-here}
+use Rattle.call_laws.proofs.Destinations.{any-from_there, no_fault-from_right, destination_there, destination_of_wrong, tests_by_right, wrong-here}
 
 first_fault-at : (place : ℕ) (ws : List (Option FaultNo)) (k : ℕ) (number : FaultNo) → slice_get ws k ≡ Some (Some number) → ((j : ℕ) (w : Option FaultNo) → j < k → slice_get ws j ≡ Some w → w ≡ None)
     → first_fault place ws ≡ Some (fault_at number (place + k))
@@ -32,33 +32,33 @@ again_by_tests true false p q = absurd (false≢true q)
 again_by_tests false repeated p q = absurd (false≢true p)
 
 module _ (m : ℕ) (ts : List (Option ℤ)) (k : ℕ) (good : IsGoodBefore m ts k) where
-  fresh_before : (j : ℕ) (i : ℤ) → j < k → slice_get ts j ≡ Some (Some i) → list_any (is_target i) (take j ts) ≡ false
-  fresh_before j i below here = false_from_ne_true (list_any (is_target i) (take j ts)) (λ repeated.
-      let earlier = target_there i (take j ts) repeated in
+  fresh_before : (j : ℕ) (i : ℤ) → j < k → slice_get ts j ≡ Some (Some i) → list_any (is_destination i) (take j ts) ≡ false
+  fresh_before j i below here = false_from_ne_true (list_any (is_destination i) (take j ts)) (λ repeated.
+      let earlier = destination_there i (take j ts) repeated in
       let place = slice_get_in_front ts j earlier.0 (Some i) earlier.1 in
       good.once earlier.0 j i place.0 below place.1 here)
 
   none_wrong_before : (j : ℕ) (t : Option ℤ) → j < k → slice_get ts j ≡ Some t → wrong_at m (take j ts) t ≡ None
   none_wrong_before j None below here = refl
-  none_wrong_before j (Some i) below here = tests_by_right (is_place m i) (list_any (is_target i) (take j ts)) (good.within j i below here) (fresh_before j i below here)
+  none_wrong_before j (Some i) below here = tests_by_right (is_place m i) (list_any (is_destination i) (take j ts)) (good.within j i below here) (fresh_before j i below here)
 
   fault_here : (t : Option ℤ) (number : FaultNo) → slice_get ts k ≡ Some t → wrong_at m (take k ts) t ≡ Some number → first_fault 0 (wrongs m ts) ≡ Some (fault_at number k)
   fault_here t number here wrong =
       first_fault-at 0 (wrongs m ts) k number (wrong-here m ts k t here ∙ ap Some wrong) (λ j w below there.
-      let u = target_of_wrong m ts j w there in
+      let u = destination_of_wrong m ts j w there in
       same_Some w None (sym there ∙ wrong-here m ts j u.0 u.1 ∙ ap Some (none_wrong_before j u.0 below u.1)))
       ∙ ap (λ p. Some (fault_at number p)) (omega arith)
 
 pub fault-outside : (m : ℕ) (ts : List (Option ℤ)) (k : ℕ) (i : ℤ) → IsGoodBefore m ts k → slice_get ts k ≡ Some (Some i) → is_place m i ≡ false
     → first_fault 0 (wrongs m ts) ≡ Some (fault_at IndexOutOfRange k)
 fault-outside m ts k i good here out =
-    fault_here m ts k good (Some i) IndexOutOfRange here (outside_by_tests (is_place m i) (list_any (is_target i) (take k ts)) out)
+    fault_here m ts k good (Some i) IndexOutOfRange here (outside_by_tests (is_place m i) (list_any (is_destination i) (take k ts)) out)
 
 pub fault-again : (m : ℕ) (ts : List (Option ℤ)) (j k : ℕ) (i : ℤ) → IsGoodBefore m ts k → j < k → slice_get ts j ≡ Some (Some i) → slice_get ts k ≡ Some (Some i) → is_place m i ≡ true
     → first_fault 0 (wrongs m ts) ≡ Some (fault_at IndexRepeated k)
 fault-again m ts j k i good below first here inside =
     let repeated = any-from_there i (take k ts) j (slice_get-take ts k j below ∙ first) in
-    fault_here m ts k good (Some i) IndexRepeated here (again_by_tests (is_place m i) (list_any (is_target i) (take k ts)) inside repeated)
+    fault_here m ts k good (Some i) IndexRepeated here (again_by_tests (is_place m i) (list_any (is_destination i) (take k ts)) inside repeated)
 
 pub fault-none : (m : ℕ) (ts : List (Option ℤ)) → IsGoodBefore m ts (length ts) → first_fault 0 (wrongs m ts) ≡ None
 fault-none m ts good = no_fault-from_right m ts (record {

@@ -13,4 +13,4 @@ pub mod Places
 pub mod Segments
 pub mod Selecting
 pub mod Sending
-pub mod Targets
+pub mod Destinations

@@ -13,44 +13,44 @@ use Rattle.cvl_base.specs.Extracts.{element_at}
 use Rattle.cvl_base.specs.Faults.{fault, fault_at}
 use Rattle.cvl_base.specs.Gives.{◌>>=◌, unless}
 use Rattle.cvl_base.specs.Packs.{count_of}
-use Rattle.cvl_base.specs.Permutes.{all_targets, back_of, default_of, first_fault, flagged_targets, is_place, select_of, sent_over, sent_to, sent_to_all, simple_of, wrongs}
+use Rattle.cvl_base.specs.Permutes.{all_destinations, back_of, default_of, first_fault, flagged_destinations, is_place, select_of, sent_over, sent_to, sent_to_all, simple_of, wrongs}
 use Rattle.call_laws.specs.Permuted.{AreOnce, AreOnceFlagged, AreWithin, AreWithinFlagged, IsGoodBefore}
 use Rattle.call_laws.proofs.FirstBadPlaces.{fault-again, fault-outside}
 use Rattle.cvl_base.proofs.Lists.{element}
 use Rattle.call_laws.proofs.Selecting.{flagged-here, here-flagged}
 use Rattle.cvl_base.proofs.Elementwise.{if_as_long-fits, if_as_long-misfits}
-use Rattle.call_laws.proofs.Sending.{index-here, target-here}
+use Rattle.call_laws.proofs.Sending.{index-here, destination-here}
 
 -- ---- the indices before a place, where each place takes part
 
-all_good : (m : ℕ) (index : List ℤ) (k : ℕ) → AreWithin m index k → AreOnce index k → IsGoodBefore m (all_targets index) k
+all_good : (m : ℕ) (index : List ℤ) (k : ℕ) → AreWithin m index k → AreOnce index k → IsGoodBefore m (all_destinations index) k
 all_good m index k within once = record {
   within = λ j i below here. within j i below (index-here index j i here);
   once = λ h j i before below first second. once h j i before below (index-here index h i first) (index-here index j i second);
 }
 
-all-outside : (m : ℕ) (index : List ℤ) (k : ℕ) (i : ℤ) → AreWithin m index k → AreOnce index k → slice_get index k ≡ Some i → is_place m i ≡ false → first_fault 0 (wrongs m (all_targets index))
+all-outside : (m : ℕ) (index : List ℤ) (k : ℕ) (i : ℤ) → AreWithin m index k → AreOnce index k → slice_get index k ≡ Some i → is_place m i ≡ false → first_fault 0 (wrongs m (all_destinations index))
     ≡ Some (fault_at IndexOutOfRange k)
-all-outside m index k i within once here out = fault-outside m (all_targets index) k i (all_good m index k within once) (target-here index k i here) out
+all-outside m index k i within once here out = fault-outside m (all_destinations index) k i (all_good m index k within once) (destination-here index k i here) out
 
 all-again : (m : ℕ) (index : List ℤ) (g k : ℕ) (i : ℤ) → AreWithin m index k → AreOnce index k → g < k → slice_get index g ≡ Some i → slice_get index k ≡ Some i
-    → first_fault 0 (wrongs m (all_targets index)) ≡ Some (fault_at IndexRepeated k)
+    → first_fault 0 (wrongs m (all_destinations index)) ≡ Some (fault_at IndexRepeated k)
 all-again m index g k i within once below first here =
-    fault-again m (all_targets index) g k i (all_good m index k within once) below (target-here index g i first) (target-here index k i here) (within g i below first)
+    fault-again m (all_destinations index) g k i (all_good m index k within once) below (destination-here index g i first) (destination-here index k i here) (within g i below first)
 
 -- ---- the simple permute
 
 sent_to_all-fault : {X : Type 0} (source : List X) (ts : List (Option ℤ)) (m : ℕ) (f : Fault) → first_fault 0 (wrongs m ts) ≡ Some f → sent_to_all source ts m ≡ Err f
 sent_to_all-fault source ts m f bad = ap (λ o. unless o (Ok (filter_map (sent_to source ts) (range_with_len 0 m)))) bad
 
-simple-fault : {X : Type 0} (source : List X) (index : List ℤ) (f : Fault) → length source ≡ length index → first_fault 0 (wrongs (length index) (all_targets index)) ≡ Some f
+simple-fault : {X : Type 0} (source : List X) (index : List ℤ) (f : Fault) → length source ≡ length index → first_fault 0 (wrongs (length index) (all_destinations index)) ≡ Some f
     → simple_of source index ≡ Err f
 simple-fault source index f long bad =
-    if_as_long-fits source index (sent_to_all source (all_targets index) (length index)) long
-    ∙ sent_to_all-fault source (all_targets index) (length index) f bad
+    if_as_long-fits source index (sent_to_all source (all_destinations index) (length index)) long
+    ∙ sent_to_all-fault source (all_destinations index) (length index) f bad
 
 pub simple-mismatch : {X : Type 0} (source : List X) (index : List ℤ) → length source ≢ length index → simple_of source index ≡ Err (fault LengthMismatch)
-simple-mismatch source index differ = if_as_long-misfits source index (sent_to_all source (all_targets index) (length index)) differ
+simple-mismatch source index differ = if_as_long-misfits source index (sent_to_all source (all_destinations index) (length index)) differ
 
 pub simple-outside : {X : Type 0} (source : List X) (index : List ℤ) (k : ℕ) (i : ℤ) → length source ≡ length index → AreWithin (length index) index k → AreOnce index k → slice_get index k ≡ Some i
     → is_place (length index) i ≡ false → simple_of source index ≡ Err (fault_at IndexOutOfRange k)
@@ -64,7 +64,7 @@ simple-again source index g k i long within once below first here =
 
 -- ---- the select permute
 
-flagged_good : (m : ℕ) (index : List ℤ) (flags : List Bool) (k : ℕ) → AreWithinFlagged m index flags k → AreOnceFlagged index flags k → IsGoodBefore m (flagged_targets index flags) k
+flagged_good : (m : ℕ) (index : List ℤ) (flags : List Bool) (k : ℕ) → AreWithinFlagged m index flags k → AreOnceFlagged index flags k → IsGoodBefore m (flagged_destinations index flags) k
 flagged_good m index flags k within once = record {
   within = λ j i below here. let p = here-flagged index flags j i here in within j i below p.0 p.1;
   once = λ h j i before below first second.
@@ -74,20 +74,20 @@ flagged_good m index flags k within once = record {
 }
 
 select-fault : {X : Type 0} (source : List X) (index : List ℤ) (flags : List Bool) (f : Fault) → length source ≡ length index → length index ≡ length flags
-    → first_fault 0 (wrongs (count_of flags) (flagged_targets index flags)) ≡ Some f → select_of source index flags ≡ Err f
+    → first_fault 0 (wrongs (count_of flags) (flagged_destinations index flags)) ≡ Some f → select_of source index flags ≡ Err f
 select-fault source index flags f long flagged bad =
-    let sends = sent_to_all source (flagged_targets index flags) (count_of flags) in
+    let sends = sent_to_all source (flagged_destinations index flags) (count_of flags) in
     if_as_long-fits source index (if_as_long index flags sends) long
     ∙ if_as_long-fits index flags sends flagged
-    ∙ sent_to_all-fault source (flagged_targets index flags) (count_of flags) f bad
+    ∙ sent_to_all-fault source (flagged_destinations index flags) (count_of flags) f bad
 
 pub select-index_mismatch : {X : Type 0} (source : List X) (index : List ℤ) (flags : List Bool) → length source ≢ length index → select_of source index flags ≡ Err (fault LengthMismatch)
 select-index_mismatch source index flags differ =
-    if_as_long-misfits source index (if_as_long index flags (sent_to_all source (flagged_targets index flags) (count_of flags))) differ
+    if_as_long-misfits source index (if_as_long index flags (sent_to_all source (flagged_destinations index flags) (count_of flags))) differ
 
 pub select-flag_mismatch : {X : Type 0} (source : List X) (index : List ℤ) (flags : List Bool) → length index ≢ length flags → select_of source index flags ≡ Err (fault LengthMismatch)
 select-flag_mismatch source index flags differ =
-    let sends = sent_to_all source (flagged_targets index flags) (count_of flags) in
+    let sends = sent_to_all source (flagged_destinations index flags) (count_of flags) in
     elim (eqb_tells (length source) (length index)) [
       | inl same ↦ if_as_long-fits source index (if_as_long index flags sends) same.1 ∙ if_as_long-misfits index flags sends differ
       | inr other ↦ select-index_mismatch source index flags other.1
@@ -98,26 +98,26 @@ pub select-outside : {X : Type 0} (source : List X) (index : List ℤ) (flags : 
     → select_of source index flags ≡ Err (fault_at IndexOutOfRange k)
 select-outside source index flags k i long flagged within once flag here out =
     select-fault source index flags (fault_at IndexOutOfRange k) long flagged
-    (fault-outside (count_of flags) (flagged_targets index flags) k i (flagged_good (count_of flags) index flags k within once) (flagged-here index flags k i flag here) out)
+    (fault-outside (count_of flags) (flagged_destinations index flags) k i (flagged_good (count_of flags) index flags k within once) (flagged-here index flags k i flag here) out)
 
 pub select-again : {X : Type 0} (source : List X) (index : List ℤ) (flags : List Bool) (g k : ℕ) (i : ℤ) → length source ≡ length index → length index ≡ length flags
     → AreWithinFlagged (count_of flags) index flags k → AreOnceFlagged index flags k → g < k → slice_get flags g ≡ Some true → slice_get flags k ≡ Some true → slice_get index g ≡ Some i
     → slice_get index k ≡ Some i → select_of source index flags ≡ Err (fault_at IndexRepeated k)
 select-again source index flags g k i long flagged within once below first_flag flag first here =
     select-fault source index flags (fault_at IndexRepeated k) long flagged
-    (fault-again (count_of flags) (flagged_targets index flags) g k i (flagged_good (count_of flags) index flags k within once) below
+    (fault-again (count_of flags) (flagged_destinations index flags) g k i (flagged_good (count_of flags) index flags k within once) below
     (flagged-here index flags g i first_flag first) (flagged-here index flags k i flag here) (within g i below first_flag first))
 
 -- ---- the default permute
 
-default-fault : {X : Type 0} (source : List X) (index : List ℤ) (defaults : List X) (f : Fault) → length source ≡ length index → first_fault 0 (wrongs (length defaults) (all_targets index)) ≡ Some f
+default-fault : {X : Type 0} (source : List X) (index : List ℤ) (defaults : List X) (f : Fault) → length source ≡ length index → first_fault 0 (wrongs (length defaults) (all_destinations index)) ≡ Some f
     → default_of source index defaults ≡ Err f
 default-fault source index defaults f long bad =
-    if_as_long-fits source index (sent_over source (all_targets index) defaults) long
-    ∙ ap (λ o. unless o (Ok (map (λ p. unwrap_or (sent_to source (all_targets index) p.0) p.1) (enumerate_from 0 defaults)))) bad
+    if_as_long-fits source index (sent_over source (all_destinations index) defaults) long
+    ∙ ap (λ o. unless o (Ok (map (λ p. unwrap_or (sent_to source (all_destinations index) p.0) p.1) (enumerate_from 0 defaults)))) bad
 
 pub default-mismatch : {X : Type 0} (source : List X) (index : List ℤ) (defaults : List X) → length source ≢ length index → default_of source index defaults ≡ Err (fault LengthMismatch)
-default-mismatch source index defaults differ = if_as_long-misfits source index (sent_over source (all_targets index) defaults) differ
+default-mismatch source index defaults differ = if_as_long-misfits source index (sent_over source (all_destinations index) defaults) differ
 
 pub default-outside : {X : Type 0} (source : List X) (index : List ℤ) (defaults : List X) (k : ℕ) (i : ℤ) → length source ≡ length index → AreWithin (length defaults) index k → AreOnce index k
     → slice_get index k ≡ Some i → is_place (length defaults) i ≡ false → default_of source index defaults ≡ Err (fault_at IndexOutOfRange k)

@@ -17,7 +17,7 @@ use Rattle.cvl_base.specs.Gives.{◌>>=◌}
 use Rattle.cvl_base.specs.Lists.{joined}
 use Rattle.cvl_base.specs.Nests.{nest}
 use Rattle.cvl_base.specs.Packs.{count_of, pack_of}
-use Rattle.cvl_base.specs.Permutes.{simple_of, back_of, select_of, default_of, sent_to_all, sent_over, all_targets, flagged_targets}
+use Rattle.cvl_base.specs.Permutes.{simple_of, back_of, select_of, default_of, sent_to_all, sent_over, all_destinations, flagged_destinations}
 use Rattle.cvl_base.specs.Segmented.{beside, of_two, of_three, in_vector, at_segment, moved, results_from, one_each, end_to_end}
 use Rattle.cvl_base.specs.SegmentedCalls.{seg_scan_of, seg_reduce_of, seg_simple_of, seg_back_of, seg_select_of, seg_default_of, seg_pack_of, seg_count_of, seg_distribute_of, seg_index_of}
 use Rattle.cvl_base.specs.SegmentedCalls.{seg_extract_of, seg_replace_of}
@@ -142,7 +142,7 @@ two-again call xs ys mismatch =
     ]
 
 pub simple-again : {X : Type 0} (source : List X) (index : List ℤ) → seg_simple_of source index (length source ∷ []) ≡ simple_of source index
-simple-again source index = two-again simple_of source index (if_as_long-misfits source index (sent_to_all source (all_targets index) (length index)))
+simple-again source index = two-again simple_of source index (if_as_long-misfits source index (sent_to_all source (all_destinations index) (length index)))
 
 pub pack-again : {X : Type 0} (xs : List X) (flags : List Bool) → seg_pack_of xs flags (length xs ∷ []) ≡ pack_of xs flags
 pack-again xs flags = two-again pack_of xs flags (pack-mismatch xs flags)
@@ -162,14 +162,14 @@ default-again {X = X} source index defaults =
     ∙ ap (whole (Ok (source ∷ [])) (nest (length source ∷ []) index)) (nest_one defaults)
     ∙ elim (eqb_tells (length source) (length index)) [
       | inl t ↦ ap (λ b. whole (Ok (source ∷ [])) b (Ok (defaults ∷ []))) (nest_one_of source index t.1) ∙ flat-again (length source ∷ []) (of_three default_of) ((source, index), defaults)
-      | inr t ↦ ap (λ b. whole (Ok (source ∷ [])) b (Ok (defaults ∷ []))) (nest_one_not source index t.1) ∙ sym (if_as_long-misfits source index (sent_over source (all_targets index) defaults) t.1)
+      | inr t ↦ ap (λ b. whole (Ok (source ∷ [])) b (Ok (defaults ∷ []))) (nest_one_not source index t.1) ∙ sym (if_as_long-misfits source index (sent_over source (all_destinations index) defaults) t.1)
     ]
 
 pub select-again : {X : Type 0} (source : List X) (index : List ℤ) (flags : List Bool) → seg_select_of source index flags (length source ∷ []) ≡ select_of source index flags
 select-again {X = X} source index flags =
     let whole = λ (a : Result (List (List X)) Fault) (b : Result (List (List ℤ)) Fault) (c : Result (List (List Bool)) Fault). end_to_end (in_vector (length source ∷ [])) (of_three select_of)
     (beside (beside a b) c) in
-    let sends = sent_to_all source (flagged_targets index flags) (count_of flags) in
+    let sends = sent_to_all source (flagged_destinations index flags) (count_of flags) in
     ap (λ a. whole a (nest (length source ∷ []) index) (nest (length source ∷ []) flags)) (nest_one source)
     ∙ elim (eqb_tells (length source) (length index)) [
       | inl t ↦ ap (λ b. whole (Ok (source ∷ [])) b (nest (length source ∷ []) flags)) (nest_one_of source index t.1)

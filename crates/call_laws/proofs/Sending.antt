@@ -11,28 +11,28 @@ use Rattle.cvl_base.specs.Elementwise.{if_as_long}
 use Rattle.cvl_base.specs.declared.fault.FaultNo.TheVariants.{LengthMismatch}
 use Rattle.cvl_base.specs.Faults.{fault}
 use Rattle.cvl_base.specs.Gives.{unless, fault_if}
-use Rattle.cvl_base.specs.Permutes.{all_targets, first_fault, wrongs, is_target, sent_to, sent_to_all, simple_of}
+use Rattle.cvl_base.specs.Permutes.{all_destinations, first_fault, wrongs, is_destination, sent_to, sent_to_all, simple_of}
 use Rattle.call_laws.specs.Permuted.{IsSimplePermute}
 use Rattle.cvl_base.proofs.Elementwise.{if_as_long-fits}
 use Rattle.cvl_base.proofs.Lists.{element}
-use Rattle.cvl_base.proofs.Permutes.{length-all_targets}
+use Rattle.cvl_base.proofs.Permutes.{length-all_destinations}
 use Rattle.call_laws.proofs.Places.{same_elements}
-use Rattle.call_laws.proofs.Targets.{IsRight, right-from_no_fault, no_fault-from_right, once-from_right, right-from_once, target_there, named, each_is_target, tail-IsRight}
+use Rattle.call_laws.proofs.Destinations.{IsRight, right-from_no_fault, no_fault-from_right, once-from_right, right-from_once, destination_there, named, each_is_destination, tail-IsRight}
 
 -- ---- what is sent to one place
 
--- the element beside the first place with the target d
+-- the element beside the first place with the destination d
 pub sent_to-first : {X : Type 0} (source : List X) (ts : List (Option ℤ)) (k d : ℕ) (x : X) → slice_get ts k ≡ Some (Some (pos d)) → slice_get source k ≡ Some x
-    → list_any (is_target (pos d)) (take k ts) ≡ false → sent_to source ts d ≡ Some x
-sent_to-first source [] k d x target element fresh = absurd (none-some (Some (pos d)) target)
-sent_to-first [] (t ∷ ts) k d x target element fresh = absurd (none-some x element)
-sent_to-first (y ∷ source) (t ∷ ts) zero d x target element fresh =
-    let same : is_target (pos d) t ≡ true = ap (is_target (pos d)) (same_Some t (Some (pos d)) target) ∙ (Decides-int_eq (pos d) (pos d)).1 refl in
-    ap (option_map (λ (p : Option ℤ × _). p.1)) (cond-true (is_target (pos d) t) (Some (t, y)) (find (λ p. is_target (pos d) p.0) (zip ts source)) same) ∙ element
-sent_to-first (y ∷ source) (t ∷ ts) (suc k) d x target element fresh =
-    let parts = or_parts (is_target (pos d) t) (list_any (is_target (pos d)) (take k ts)) fresh in
-    ap (option_map (λ (p : Option ℤ × _). p.1)) (cond-false (is_target (pos d) t) (Some (t, y)) (find (λ p. is_target (pos d) p.0) (zip ts source)) parts.0)
-    ∙ sent_to-first source ts k d x target element parts.1
+    → list_any (is_destination (pos d)) (take k ts) ≡ false → sent_to source ts d ≡ Some x
+sent_to-first source [] k d x destination element fresh = absurd (none-some (Some (pos d)) destination)
+sent_to-first [] (t ∷ ts) k d x destination element fresh = absurd (none-some x element)
+sent_to-first (y ∷ source) (t ∷ ts) zero d x destination element fresh =
+    let same : is_destination (pos d) t ≡ true = ap (is_destination (pos d)) (same_Some t (Some (pos d)) destination) ∙ (Decides-int_eq (pos d) (pos d)).1 refl in
+    ap (option_map (λ (p : Option ℤ × _). p.1)) (cond-true (is_destination (pos d) t) (Some (t, y)) (find (λ p. is_destination (pos d) p.0) (zip ts source)) same) ∙ element
+sent_to-first (y ∷ source) (t ∷ ts) (suc k) d x destination element fresh =
+    let parts = or_parts (is_destination (pos d) t) (list_any (is_destination (pos d)) (take k ts)) fresh in
+    ap (option_map (λ (p : Option ℤ × _). p.1)) (cond-false (is_destination (pos d) t) (Some (t, y)) (find (λ p. is_destination (pos d) p.0) (zip ts source)) parts.0)
+    ∙ sent_to-first source ts k d x destination element parts.1
 
 -- ---- a list of values that are all there
 
@@ -51,28 +51,28 @@ all_there f a (suc n) each =
 
 -- ---- what is sent to all places
 
--- what each place of the result is, told by the targets
+-- what each place of the result is, told by the destinations
 pub record IsSent {X : Type 0} (m : ℕ) (source : List X) (ts : List (Option ℤ)) (result : List X) : Type 0 where
   pub as_long : length result ≡ m
   pub right : IsRight m ts
   pub sent : (k d : ℕ) → slice_get ts k ≡ Some (Some (pos d)) → slice_get result d ≡ slice_get source k
 
--- what is sent to a target is the source's element there
-pub sent_to-target : {X : Type 0} (m : ℕ) (source : List X) (ts : List (Option ℤ)) (k d : ℕ) → IsRight m ts → length ts ≤ length source → slice_get ts k ≡ Some (Some (pos d))
+-- what is sent to a destination is the source's element there
+pub sent_to-destination : {X : Type 0} (m : ℕ) (source : List X) (ts : List (Option ℤ)) (k d : ℕ) → IsRight m ts → length ts ≤ length source → slice_get ts k ≡ Some (Some (pos d))
     → sent_to source ts d ≡ slice_get source k
-sent_to-target m source ts k d right long target =
-    let within : k < length ts = slice_get_within ts k (Some (pos d)) target in
+sent_to-destination m source ts k d right long destination =
+    let within : k < length ts = slice_get_within ts k (Some (pos d)) destination in
     let here = element source k (omega arith) in
-    sent_to-first source ts k d here.0 target here.1 (right.fresh k (pos d) target) ∙ sym here.1
+    sent_to-first source ts k d here.0 destination here.1 (right.fresh k (pos d) destination) ∙ sym here.1
 
 -- where no place is bad and enough places take part, all places are sent something
 sent_to-there : {X : Type 0} (m : ℕ) (source : List X) (ts : List (Option ℤ)) → IsRight m ts → length ts ≤ length source → m ≤ length (named ts) → (d : ℕ) → d < m → (x : X)
     × (sent_to source ts d ≡ Some x)
 sent_to-there m source ts right long enough d within =
-    let sender = target_there (pos d) ts (each_is_target m ts right enough d within) in
+    let sender = destination_there (pos d) ts (each_is_destination m ts right enough d within) in
     let here : sender.0 < length ts = slice_get_within ts sender.0 (Some (pos d)) sender.1 in
     let sent = element source sender.0 (omega arith) in
-    (sent.0, sent_to-target m source ts sender.0 d right long sender.1 ∙ sent.1)
+    (sent.0, sent_to-destination m source ts sender.0 d right long sender.1 ∙ sent.1)
 
 -- all that is sent, in a list
 pub all_sent : {X : Type 0} (m : ℕ) (source : List X) (ts : List (Option ℤ)) → IsRight m ts → length ts ≤ length source → m ≤ length (named ts)
@@ -82,9 +82,9 @@ all_sent m source ts right long enough =
     record {
       as_long = values.0;
       right = right;
-      sent = λ k d target.
-          let within : d < m = ltb-true d m (right.within k (pos d) target) in
-          values.1 d within ∙ ap (sent_to source ts) (omega arith) ∙ sent_to-target m source ts k d right long target;
+      sent = λ k d destination.
+          let within : d < m = ltb-true d m (right.within k (pos d) destination) in
+          values.1 d within ∙ ap (sent_to source ts) (omega arith) ∙ sent_to-destination m source ts k d right long destination;
     }
 
 -- there is but one such list
@@ -93,7 +93,7 @@ only_sent m source ts xs ys enough p q =
     let long_xs : length xs ≡ m = p.as_long in
     let long_ys : length ys ≡ m = q.as_long in
     same_elements xs ys (omega arith) (λ d within.
-    let sender = target_there (pos d) ts (each_is_target m ts p.right enough d (omega arith)) in
+    let sender = destination_there (pos d) ts (each_is_destination m ts p.right enough d (omega arith)) in
     p.sent sender.0 d sender.1 ∙ sym (q.sent sender.0 d sender.1))
 
 -- ---- chains of checks
@@ -125,49 +125,49 @@ sent_to_all-meaning m source ts result long enough = (
 
 -- ---- the simple permute
 
-pub target-here : (index : List ℤ) (k : ℕ) (i : ℤ) → slice_get index k ≡ Some i → slice_get (all_targets index) k ≡ Some (Some i)
-target-here index k i here = slice_get-map (λ (i : ℤ). Some i) index k ∙ ap (option_map (λ (i : ℤ). Some i)) here
+pub destination-here : (index : List ℤ) (k : ℕ) (i : ℤ) → slice_get index k ≡ Some i → slice_get (all_destinations index) k ≡ Some (Some i)
+destination-here index k i here = slice_get-map (λ (i : ℤ). Some i) index k ∙ ap (option_map (λ (i : ℤ). Some i)) here
 
-pub index-here : (index : List ℤ) (k : ℕ) (i : ℤ) → slice_get (all_targets index) k ≡ Some (Some i) → slice_get index k ≡ Some i
+pub index-here : (index : List ℤ) (k : ℕ) (i : ℤ) → slice_get (all_destinations index) k ≡ Some (Some i) → slice_get index k ≡ Some i
 index-here [] k i here = absurd (none-some (Some i) here)
 index-here (j ∷ index) zero i here = same_Some (Some j) (Some i) here
 index-here (j ∷ index) (suc k) i here = index-here index k i here
 
-pub all_named : (m : ℕ) (index : List ℤ) → IsRight m (all_targets index) → length (named (all_targets index)) ≡ length index
+pub all_named : (m : ℕ) (index : List ℤ) → IsRight m (all_destinations index) → length (named (all_destinations index)) ≡ length index
 all_named m [] right = refl
-all_named m (pos d ∷ index) right = ap suc (all_named m index (tail-IsRight m (Some (pos d)) (all_targets index) right))
+all_named m (pos d ∷ index) right = ap suc (all_named m index (tail-IsRight m (Some (pos d)) (all_destinations index) right))
 all_named m (negsuc d ∷ index) right = absurd (false≢true (right.within 0 (negsuc d) refl))
 
-simple-from_sent : {X : Type 0} (source : List X) (index : List ℤ) (result : List X) → length source ≡ length index → IsSent (length index) source (all_targets index) result
+simple-from_sent : {X : Type 0} (source : List X) (index : List ℤ) (result : List X) → length source ≡ length index → IsSent (length index) source (all_destinations index) result
     → IsSimplePermute source index result
 simple-from_sent source index result long is = record {
   one_index_each = long;
   as_long = is.as_long;
-  within = λ k i here. is.right.within k i (target-here index k i here);
-  once = λ j k i first second. once-from_right (length index) (all_targets index) is.right j k i (target-here index j i first) (target-here index k i second);
-  sent = λ k d here. is.sent k d (target-here index k (pos d) here);
+  within = λ k i here. is.right.within k i (destination-here index k i here);
+  once = λ j k i first second. once-from_right (length index) (all_destinations index) is.right j k i (destination-here index j i first) (destination-here index k i second);
+  sent = λ k d here. is.sent k d (destination-here index k (pos d) here);
 }
 
-pub sent-from_simple : {X : Type 0} (source : List X) (index : List ℤ) (result : List X) → IsSimplePermute source index result → IsSent (length index) source (all_targets index) result
+pub sent-from_simple : {X : Type 0} (source : List X) (index : List ℤ) (result : List X) → IsSimplePermute source index result → IsSent (length index) source (all_destinations index) result
 sent-from_simple source index result is = record {
   as_long = is.as_long;
-  right = right-from_once (length index) (all_targets index) (λ k i here. is.within k i (index-here index k i here))
+  right = right-from_once (length index) (all_destinations index) (λ k i here. is.within k i (index-here index k i here))
       (λ j k i first second. is.once j k i (index-here index j i first) (index-here index k i second));
   sent = λ k d here. is.sent k d (index-here index k (pos d) here);
 }
 
 simple_sent : {X : Type 0} (source : List X) (index : List ℤ) (result : List X) → length source ≡ length index
-    → (sent_to_all source (all_targets index) (length index) ≡ Ok result) ↔ IsSent (length index) source (all_targets index) result
+    → (sent_to_all source (all_destinations index) (length index) ≡ Ok result) ↔ IsSent (length index) source (all_destinations index) result
 simple_sent source index result long =
-    let as_long = length-all_targets index in
-    sent_to_all-meaning (length index) source (all_targets index) result (omega arith) (λ right. let e = all_named (length index) index right in omega arith)
+    let as_long = length-all_destinations index in
+    sent_to_all-meaning (length index) source (all_destinations index) result (omega arith) (λ right. let e = all_named (length index) index right in omega arith)
 
 pub simple-meaning : {X : Type 0} (source : List X) (index : List ℤ) (result : List X) → (simple_of source index ≡ Ok result) ↔ IsSimplePermute source index result
 simple-meaning source index result = (
   λ p.
-      let parts = if_as_long-Ok source index (sent_to_all source (all_targets index) (length index)) result p in
+      let parts = if_as_long-Ok source index (sent_to_all source (all_destinations index) (length index)) result p in
       simple-from_sent source index result parts.0 ((simple_sent source index result parts.0).0 parts.1),
   λ is.
-      if_as_long-fits source index (sent_to_all source (all_targets index) (length index)) is.one_index_each
+      if_as_long-fits source index (sent_to_all source (all_destinations index) (length index)) is.one_index_each
       ∙ (simple_sent source index result is.one_index_each).1 (sent-from_simple source index result is),
 )

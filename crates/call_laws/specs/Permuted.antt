@@ -37,10 +37,10 @@ pub record IsBackPermute {X : Type 0} (source : List X) (index : List ℤ) (resu
   pub as_long : length result ≡ length index
   pub taken : (k : ℕ) (i : ℤ) → slice_get index k ≡ Some i → slice_get result k ≡ element_at source i
 
--- no place before k is bad: each that takes part has its target in the result, and no two have the same
-pub record IsGoodBefore (m : ℕ) (targets : List (Option ℤ)) (k : ℕ) : Type 0 where
-  pub within : (j : ℕ) (i : ℤ) → j < k → slice_get targets j ≡ Some (Some i) → IsTrue (is_place m i)
-  pub once : (h j : ℕ) (i : ℤ) → h < j → j < k → slice_get targets h ≡ Some (Some i) → slice_get targets j ≢ Some (Some i)
+-- no place before k is bad: each that takes part has its destination in the result, and no two have the same
+pub record IsGoodBefore (m : ℕ) (destinations : List (Option ℤ)) (k : ℕ) : Type 0 where
+  pub within : (j : ℕ) (i : ℤ) → j < k → slice_get destinations j ≡ Some (Some i) → IsTrue (is_place m i)
+  pub once : (h j : ℕ) (i : ℤ) → h < j → j < k → slice_get destinations h ≡ Some (Some i) → slice_get destinations j ≢ Some (Some i)
 
 -- the indices before place k are places of a result of m elements
 abbrev pub AreWithin : ℕ → List ℤ → ℕ → Type 0

@@ -39,17 +39,17 @@ pub fn default_permute_law<T>()
         (default_of source index defaults ≡ Ok result) ↔ IsDefaultPermute source index defaults result }
 {}
 
-/// The fault of simple, select and default permutes is that of the first bad place: one whose target lies outside of the
+/// The fault of simple, select and default permutes is that of the first bad place: one whose destination lies outside of the
 /// result, or else is that of an earlier place.
 pub fn first_bad_place_law()
-    ensures none { (m : ℕ) (targets : List (Option ℤ)) → IsGoodBefore m targets (length targets) →
-        first_fault 0 (wrongs m targets) ≡ None }
-    ensures outside { (m : ℕ) (targets : List (Option ℤ)) (k : ℕ) (i : ℤ) → IsGoodBefore m targets k →
-        slice_get targets k ≡ Some (Some i) → is_place m i ≡ false →
-        first_fault 0 (wrongs m targets) ≡ Some (fault_at no.IndexOutOfRange k) }
-    ensures again { (m : ℕ) (targets : List (Option ℤ)) (j k : ℕ) (i : ℤ) → IsGoodBefore m targets k →
-        j < k → slice_get targets j ≡ Some (Some i) → slice_get targets k ≡ Some (Some i) → is_place m i ≡ true →
-        first_fault 0 (wrongs m targets) ≡ Some (fault_at no.IndexRepeated k) }
+    ensures none { (m : ℕ) (destinations : List (Option ℤ)) → IsGoodBefore m destinations (length destinations) →
+        first_fault 0 (wrongs m destinations) ≡ None }
+    ensures outside { (m : ℕ) (destinations : List (Option ℤ)) (k : ℕ) (i : ℤ) → IsGoodBefore m destinations k →
+        slice_get destinations k ≡ Some (Some i) → is_place m i ≡ false →
+        first_fault 0 (wrongs m destinations) ≡ Some (fault_at no.IndexOutOfRange k) }
+    ensures again { (m : ℕ) (destinations : List (Option ℤ)) (j k : ℕ) (i : ℤ) → IsGoodBefore m destinations k →
+        j < k → slice_get destinations j ≡ Some (Some i) → slice_get destinations k ≡ Some (Some i) → is_place m i ≡ true →
+        first_fault 0 (wrongs m destinations) ≡ Some (fault_at no.IndexRepeated k) }
 {}
 
 /// The faults of a simple permute. With another number of indices than elements it is `LengthMismatch`. Else, where the

@@ -11,15 +11,15 @@ use Rattle.cvl_base.specs.declared.fault.FaultNo.TheVariants.{BadLine, UnknownCa
 use Rattle.cvl_base.specs.declared.call.Arg.{Arg}
 use Rattle.cvl_base.specs.declared.call.Arg.TheVariants as arg
 use Rattle.cvl_base.specs.declared.call.Call.{Call}
-use Rattle.cvl_base.specs.declared.call.Targets.{Targets}
-use Rattle.cvl_base.specs.declared.call.Targets.TheVariants as targets
+use Rattle.cvl_base.specs.declared.call.ResultNames.{ResultNames}
+use Rattle.cvl_base.specs.declared.call.ResultNames.TheVariants as results
 use Rattle.cvl_base.specs.declared.operation.Op.{Op}
 use Rattle.cvl_base.specs.declared.operation.Op.TheVariants.{Write}
 use Rattle.cvl_base.specs.Calls.{binds_of, takes_of}
 use Rattle.cvl_base.specs.Spellings.{op_of}
 use Rattle.cvl_base.specs.Faults.{fault}
 use Rattle.cvl_base.specs.Gives.{◌>>=◌, fault_if}
-use Rattle.cvl_base.specs.Targets.{count_of_targets}
+use Rattle.cvl_base.specs.ResultNames.{count_of_results}
 use Rattle.cvl_base.specs.Words.{is_word, is_name}
 use Rattle.call_reader.specs.declared.token.ByteClass.{ByteClass}
 use Rattle.call_reader.specs.declared.token.ByteClass.TheVariants.{Blank, Alone, Part}
@@ -58,12 +58,12 @@ args_of (token ∷ tokens) =
     ok_or (arg_of token) (fault BadNumber) >>= λ a. args_of tokens >>= λ others. Ok (a ∷ others)
 
 -- the names that a line binds: one, or two that differ
-abbrev pub one_target : List ℕ → Option Targets
-one_target name = if is_name name then Some (targets.One name) else None
+abbrev pub one_result : List ℕ → Option ResultNames
+one_result name = if is_name name then Some (results.One name) else None
 
-abbrev pub two_targets : List ℕ → List ℕ → Option Targets
-two_targets first second =
-    if is_name first && is_name second && not (pointwise nat_eq first second) then Some (targets.Two first second) else None
+abbrev pub two_results : List ℕ → List ℕ → Option ResultNames
+two_results first second =
+    if is_name first && is_name second && not (pointwise nat_eq first second) then Some (results.Two first second) else None
 
 -- what stands before the first `#` (35)
 abbrev pub before_comment : List ℕ → List ℕ
@@ -75,18 +75,18 @@ begins_with_equals (token ∷ tokens) = pointwise nat_eq token (codes "=")
 
 module _ {A : Type 0} where
   -- a line that is this call
-  abbrev pub the_call : Targets → Op → List Arg → Result (Option (Call A)) Fault
-  the_call bound op args = Ok (Some (record { targets = bound; op = op; args = args }))
+  abbrev pub the_call : ResultNames → Op → List Arg → Result (Option (Call A)) Fault
+  the_call bound op args = Ok (Some (record { results = bound; op = op; args = args }))
 
   -- as many arguments and names as the call takes and binds
-  abbrev pub with_op : Targets → Option Op → List (List ℕ) → Result (Option (Call A)) Fault
+  abbrev pub with_op : ResultNames → Option Op → List (List ℕ) → Result (Option (Call A)) Fault
   with_op bound None args = Err (fault UnknownCall)
   with_op bound (Some op) args =
-      fault_if (not (takes_of op (length args) && count_of_targets bound == binds_of op)) (fault WrongArgumentCount)
+      fault_if (not (takes_of op (length args) && count_of_results bound == binds_of op)) (fault WrongArgumentCount)
       (args_of args >>= the_call bound op)
 
   -- `= CALL ARG ..`, after the names that it binds
-  abbrev pub bound_call : Targets → List (List ℕ) → Result (Option (Call A)) Fault
+  abbrev pub bound_call : ResultNames → List (List ℕ) → Result (Option (Call A)) Fault
   bound_call bound (equals ∷ call ∷ args) =
       fault_if (not (pointwise nat_eq equals (codes "=") && is_word call && list_all is_arg args)) (fault BadLine)
       (with_op bound (op_of call) args)
@@ -96,13 +96,13 @@ module _ {A : Type 0} where
   abbrev pub binding : List (List ℕ) → Result (Option (Call A)) Fault
   binding (first ∷ second ∷ others) =
       if pointwise nat_eq second (codes "=")
-      then (ok_or (one_target first) (fault BadLine) >>= λ bound. bound_call bound (second ∷ others))
-      else (ok_or (two_targets first second) (fault BadLine) >>= λ bound. bound_call bound others)
+      then (ok_or (one_result first) (fault BadLine) >>= λ bound. bound_call bound (second ∷ others))
+      else (ok_or (two_results first second) (fault BadLine) >>= λ bound. bound_call bound others)
   binding _ = Err (fault BadLine)
 
   -- `write NAME` or `write NAME NAME`
   abbrev pub write_line : List (List ℕ) → Result (Option (Call A)) Fault
-  write_line names = fault_if (not (list_all is_name names)) (fault BadLine) (with_op targets.None (Some Write) names)
+  write_line names = fault_if (not (list_all is_name names)) (fault BadLine) (with_op results.None (Some Write) names)
 
   abbrev pub form_of : List (List ℕ) → Result (Option (Call A)) Fault
   form_of [] = Ok None

@@ -2,7 +2,7 @@
 
 ghost use Rattle.std.specs.Prelude.{◌≡◌, ℕ, codes, Ok, Err, [], ◌∷◌, pos, None};
 ghost use Rattle.cvl_base.specs.declared.call.Arg.TheVariants as arg;
-ghost use Rattle.cvl_base.specs.declared.call.Targets.TheVariants as targets;
+ghost use Rattle.cvl_base.specs.declared.call.ResultNames.TheVariants as results;
 ghost use Rattle.cvl_base.specs.declared.families.IntBinary.TheVariants.{Add};
 ghost use Rattle.cvl_base.specs.declared.fault.FaultNo.TheVariants.{BadLine, UnknownCall, WrongArgumentCount, BadNumber};
 ghost use Rattle.cvl_base.specs.declared.operation.Op.TheVariants.{Input, Ints2, Write};
@@ -14,17 +14,17 @@ pub fn know_lines()
     ensures empty { call_of {A = ℕ} [] ≡ Ok None }
     ensures comment { call_of {A = ℕ} (codes "# a = input 1") ≡ Ok None }
     ensures reads { call_of {A = ℕ} (codes "a = input 1")
-        ≡ the_call (targets.One (codes "a")) Input (arg.Integer (pos 1) ∷ []) }
+        ≡ the_call (results.One (codes "a")) Input (arg.Integer (pos 1) ∷ []) }
     ensures reads_unspaced { call_of {A = ℕ} (codes "a=input 1") ≡ call_of (codes "a = input 1") }
     ensures reads_to_comment { call_of {A = ℕ} (codes "a = input 1 # two # 3") ≡ call_of (codes "a = input 1") }
     ensures reads_zeros { call_of {A = ℕ} (codes "a = input 007")
-        ≡ the_call (targets.One (codes "a")) Input (arg.Integer (pos 7) ∷ []) }
+        ≡ the_call (results.One (codes "a")) Input (arg.Integer (pos 7) ∷ []) }
     ensures reads_minus_zero { call_of {A = ℕ} (codes "a = input -0")
-        ≡ the_call (targets.One (codes "a")) Input (arg.Integer (pos 0) ∷ []) }
+        ≡ the_call (results.One (codes "a")) Input (arg.Integer (pos 0) ∷ []) }
     ensures reads_names { call_of {A = ℕ} (codes "c = add_wuz q 1")
-        ≡ the_call (targets.One (codes "c")) (Ints2 Add) (arg.Name (codes "q") ∷ arg.Integer (pos 1) ∷ []) }
+        ≡ the_call (results.One (codes "c")) (Ints2 Add) (arg.Name (codes "q") ∷ arg.Integer (pos 1) ∷ []) }
     ensures reads_write { call_of {A = ℕ} (codes "write v d")
-        ≡ the_call targets.None Write (arg.Name (codes "v") ∷ arg.Name (codes "d") ∷ []) }
+        ≡ the_call results.None Write (arg.Name (codes "v") ∷ arg.Name (codes "d") ∷ []) }
     ensures no_call { call_of {A = ℕ} (codes "l =") ≡ Err (fault BadLine) }
     ensures bound_write { call_of {A = ℕ} (codes "write = input 1") ≡ Err (fault BadLine) }
     ensures written_truth { call_of {A = ℕ} (codes "write T") ≡ Err (fault BadLine) }
@@ -33,7 +33,7 @@ pub fn know_lines()
     ensures long_name { call_of {A = ℕ} (codes "a23456789012345678901234567890123 = input 1")
         ≡ Err (fault BadLine) }
     ensures longest_name { call_of {A = ℕ} (codes "write a2345678901234567890123456789012")
-        ≡ the_call targets.None Write (arg.Name (codes "a2345678901234567890123456789012") ∷ []) }
+        ≡ the_call results.None Write (arg.Name (codes "a2345678901234567890123456789012") ∷ []) }
     ensures unknown { call_of {A = ℕ} (codes "l = inp") ≡ Err (fault UnknownCall) }
     ensures too_few { call_of {A = ℕ} (codes "l = input") ≡ Err (fault WrongArgumentCount) }
     ensures nothing_written { call_of {A = ℕ} (codes "write") ≡ Err (fault WrongArgumentCount) }

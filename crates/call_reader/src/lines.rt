@@ -4,7 +4,7 @@ ghost use Rattle.std.specs.Prelude.{◌≡◌, ◌∷◌, length};
 ghost use Rattle.cvl_base.specs.Gives.{Gives};
 ghost use Rattle.cvl_base.specs.Faults.{fault};
 ghost use Rattle.cvl_base.specs.declared.refused.Refused.TheVariants as refused;
-ghost use Rattle.call_reader.specs.Lines.{line_tokens, call_of, form_of, binding, bound_call, one_target, two_targets, write_line, with_op};
+ghost use Rattle.call_reader.specs.Lines.{line_tokens, call_of, form_of, binding, bound_call, one_result, two_results, write_line, with_op};
 
 use crate::args::read_args;
 use crate::line_tokens::{
@@ -13,7 +13,7 @@ use crate::line_tokens::{
 use crate::token::first_token;
 use cvl_base::name::is_word_text;
 use cvl_base::spelling::op_of;
-use cvl_base::{Call, Fault, FaultNo, Memory, Name, Op, Refused, Targets};
+use cvl_base::{Call, Fault, FaultNo, Memory, Name, Op, Refused, ResultNames};
 
 /// Reads one line of a script, without its line feed: nothing on an empty line, else the call that it asks for.
 ///
@@ -47,7 +47,7 @@ fn read_write<A: Memory>(alloc: A, names: &[u8]) -> Result<Option<Call<A>>, Refu
     ensures { Gives (λ call. call) result (write_line (line_tokens names.now)) }
 {
     let count = count_passing::<Names>(names).ok_or(fault(FaultNo::BadLine))?;
-    with_op(alloc, Targets::None, Some(Op::Write), names, count)
+    with_op(alloc, ResultNames::None, Some(Op::Write), names, count)
 }
 
 /// Reads `NAME = CALL ARG ..` or `NAME NAME = CALL ARG ..`, where the first name and what stands after it are given.
@@ -61,43 +61,43 @@ fn read_binding<A: Memory>(
     let bad_line = fault(FaultNo::BadLine);
     let (second, rest) = first_token::<LineClasses>(others).ok_or(bad_line)?;
     if second == b"=".as_slice() {
-        let targets = one_target(first).ok_or(bad_line)?;
-        read_bound_call(alloc, targets, others)
+        let results = one_result(first).ok_or(bad_line)?;
+        read_bound_call(alloc, results, others)
     } else {
-        let targets = two_targets(first, second).ok_or(bad_line)?;
-        read_bound_call(alloc, targets, rest)
+        let results = two_results(first, second).ok_or(bad_line)?;
+        read_bound_call(alloc, results, rest)
     }
 }
 
 /// The one name of a binding.
-fn one_target(name: &[u8]) -> Option<Targets>
-    ensures { result ≡ one_target name.now }
+fn one_result(name: &[u8]) -> Option<ResultNames>
+    ensures { result ≡ one_result name.now }
 {
     match Name::new(name) {
-        Some(name) => Some(Targets::One(name)),
+        Some(name) => Some(ResultNames::One(name)),
         None => None,
     }
 }
 
 /// The two names of a binding; none where they are the same.
-fn two_targets(first: &[u8], second: &[u8]) -> Option<Targets>
-    ensures { result ≡ two_targets first.now second.now }
+fn two_results(first: &[u8], second: &[u8]) -> Option<ResultNames>
+    ensures { result ≡ two_results first.now second.now }
 {
     let first_name = Name::new(first)?;
     let second_name = Name::new(second)?;
     if first == second {
         return None;
     }
-    Some(Targets::Two(first_name, second_name))
+    Some(ResultNames::Two(first_name, second_name))
 }
 
 /// Reads `= CALL ARG ..`, after the names that it binds.
 fn read_bound_call<A: Memory>(
     alloc: A,
-    targets: Targets,
+    results: ResultNames,
     bytes: &[u8],
 ) -> Result<Option<Call<A>>, Refused>
-    ensures { Gives (λ call. call) result (bound_call targets (line_tokens bytes.now)) }
+    ensures { Gives (λ call. call) result (bound_call results (line_tokens bytes.now)) }
 {
     let bad_line = fault(FaultNo::BadLine);
     let (equals, others) = first_token::<LineClasses>(bytes).ok_or(bad_line)?;
@@ -106,26 +106,26 @@ fn read_bound_call<A: Memory>(
     if equals != b"=".as_slice() || !is_word_text(word) {
         return Err(bad_line);
     }
-    with_op(alloc, targets, op_of(word), args, count)
+    with_op(alloc, results, op_of(word), args, count)
 }
 
 /// The call with its arguments, of a line whose form is known to be good, by its arguments' tokens and their number.
 fn with_op<A: Memory>(
     alloc: A,
-    targets: Targets,
+    results: ResultNames,
     op: Option<Op>,
     args: &[u8],
     count: usize,
 ) -> Result<Option<Call<A>>, Refused>
     requires { count ≡ length (line_tokens args.now) }
-    ensures { Gives (λ call. call) result (with_op targets op (line_tokens args.now)) }
+    ensures { Gives (λ call. call) result (with_op results op (line_tokens args.now)) }
 {
     let op = op.ok_or(fault(FaultNo::UnknownCall))?;
-    if !op.takes(count) || targets.count() != op.binds() {
+    if !op.takes(count) || results.count() != op.binds() {
         return Err(fault(FaultNo::WrongArgumentCount));
     }
     let args = read_args(alloc, args, count)?;
-    Ok(Some(Call { targets, op, args }))
+    Ok(Some(Call { results, op, args }))
 }
 
 /// A fault of the whole line.

@@ -34,7 +34,7 @@ fn call(name: Spelling, operands: &'static [Kind], gives: Kind) -> Row
     Row {
         name,
         operands,
-        gives: alone(gives),
+        gives: of_kind(gives),
     }
 }
 
@@ -158,7 +158,7 @@ pub(crate) fn row_of(op: Op) -> Row
 }
 
 /// One kind, as a list of kinds.
-fn alone(kind: Kind) -> &'static [Kind]
+fn of_kind(kind: Kind) -> &'static [Kind]
     ensures { result.now ≡ kind ∷ [] }
 {
     match kind {

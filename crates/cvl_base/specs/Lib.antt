@@ -11,11 +11,11 @@ pub mod NameBytes
 pub mod Nests
 pub mod Packs
 pub mod Permutes
+pub mod ResultNames
 pub mod Rooms
 pub mod Scans
 pub mod Segmented
 pub mod SegmentedCalls
-pub mod Targets
 pub mod Values
 pub mod Words
 pub use Rattle.call_table.specs.Calls

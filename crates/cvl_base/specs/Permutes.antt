@@ -14,21 +14,21 @@ use Rattle.operators.specs.Folds.{fronts}
 use Rattle.cvl_base.specs.Gives.{unless}
 use Rattle.cvl_base.specs.Packs.{count_of}
 
--- ---- the pairs: the target of a place k is its index where k takes part, and then (index, k) is a pair
+-- ---- the pairs: the destination of a place k is its index where k takes part, and then (index, k) is a pair
 
-abbrev pub all_targets : List ℤ → List (Option ℤ)
-all_targets index = map (λ i. Some i) index
+abbrev pub all_destinations : List ℤ → List (Option ℤ)
+all_destinations index = map (λ i. Some i) index
 
-abbrev pub target_if : ℤ → Bool → Option ℤ
-target_if i true = Some i
-target_if i false = None
+abbrev pub destination_if : ℤ → Bool → Option ℤ
+destination_if i true = Some i
+destination_if i false = None
 
-abbrev pub flagged_targets : List ℤ → List Bool → List (Option ℤ)
-flagged_targets index flags = map (λ p. target_if p.0 p.1) (zip index flags)
+abbrev pub flagged_destinations : List ℤ → List Bool → List (Option ℤ)
+flagged_destinations index flags = map (λ p. destination_if p.0 p.1) (zip index flags)
 
-abbrev pub is_target : ℤ → Option ℤ → Bool
-is_target d None = false
-is_target d (Some i) = int_eq i d
+abbrev pub is_destination : ℤ → Option ℤ → Bool
+is_destination d None = false
+is_destination d (Some i) = int_eq i d
 
 -- ---- bad places
 
@@ -41,15 +41,15 @@ is_place m (negsuc d) = false
 abbrev pub place_among : ℕ → ℤ → Option ℕ
 place_among m i = if is_place m i then Some (unsigned_abs i) else None
 
--- what is wrong with a place's target where the result has m places and the earlier places have those targets
+-- what is wrong with a place's destination where the result has m places and the earlier places have those destinations
 abbrev pub wrong_at : ℕ → List (Option ℤ) → Option ℤ → Option FaultNo
 wrong_at m earlier None = None
 wrong_at m earlier (Some i) =
-    if not (is_place m i) then Some IndexOutOfRange else if list_any (is_target i) earlier then Some IndexRepeated else None
+    if not (is_place m i) then Some IndexOutOfRange else if list_any (is_destination i) earlier then Some IndexRepeated else None
 
 -- what is wrong with each place
 abbrev pub wrongs : ℕ → List (Option ℤ) → List (Option FaultNo)
-wrongs m targets = map (λ p. wrong_at m p.0 p.1) (zip (fronts targets) targets)
+wrongs m destinations = map (λ p. wrong_at m p.0 p.1) (zip (fronts destinations) destinations)
 
 -- the fault of the least bad place, where the first stands at the place given
 abbrev pub first_fault : ℕ → List (Option FaultNo) → Option Fault
@@ -61,27 +61,27 @@ first_fault place (Some number ∷ others) = Some (fault_at number place)
 
 -- the source's element k of the pair (d, k), if there is such a pair
 abbrev pub sent_to : {X : Type 0} → List X → List (Option ℤ) → ℕ → Option X
-sent_to source targets d = option_map (λ p. p.1) (find (λ p. is_target (pos d) p.0) (zip targets source))
+sent_to source destinations d = option_map (λ p. p.1) (find (λ p. is_destination (pos d) p.0) (zip destinations source))
 
 -- what was sent to the places 0 to m - 1
 abbrev pub sent_to_all : {X : Type 0} → List X → List (Option ℤ) → ℕ → Result (List X) Fault
-sent_to_all source targets m = unless (first_fault 0 (wrongs m targets)) (Ok (filter_map (sent_to source targets) (range_with_len 0 m)))
+sent_to_all source destinations m = unless (first_fault 0 (wrongs m destinations)) (Ok (filter_map (sent_to source destinations) (range_with_len 0 m)))
 
 -- what was sent to each place, or the default there
 abbrev pub sent_over : {X : Type 0} → List X → List (Option ℤ) → List X → Result (List X) Fault
-sent_over source targets defaults =
-    unless (first_fault 0 (wrongs (length defaults) targets))
-    (Ok (map (λ p. unwrap_or (sent_to source targets p.0) p.1) (enumerate_from 0 defaults)))
+sent_over source destinations defaults =
+    unless (first_fault 0 (wrongs (length defaults) destinations))
+    (Ok (map (λ p. unwrap_or (sent_to source destinations p.0) p.1) (enumerate_from 0 defaults)))
 
 abbrev pub simple_of : {X : Type 0} → List X → List ℤ → Result (List X) Fault
-simple_of source index = if_as_long source index (sent_to_all source (all_targets index) (length index))
+simple_of source index = if_as_long source index (sent_to_all source (all_destinations index) (length index))
 
 abbrev pub select_of : {X : Type 0} → List X → List ℤ → List Bool → Result (List X) Fault
 select_of source index flags =
-    if_as_long source index (if_as_long index flags (sent_to_all source (flagged_targets index flags) (count_of flags)))
+    if_as_long source index (if_as_long index flags (sent_to_all source (flagged_destinations index flags) (count_of flags)))
 
 abbrev pub default_of : {X : Type 0} → List X → List ℤ → List X → Result (List X) Fault
-default_of source index defaults = if_as_long source index (sent_over source (all_targets index) defaults)
+default_of source index defaults = if_as_long source index (sent_over source (all_destinations index) defaults)
 
 -- each place takes the source's element at its index
 abbrev pub back_of : {X : Type 0} → List X → List ℤ → Result (List X) Fault

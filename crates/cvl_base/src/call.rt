@@ -1,7 +1,7 @@
 //! Calls, as a line of a script asks for them.
 
 ghost use Rattle.std.specs.Prelude.{◌≡◌, ◌==◌, length};
-ghost use Rattle.cvl_base.specs.Targets.{count_of_targets};
+ghost use Rattle.cvl_base.specs.ResultNames.{count_of_results};
 
 use crate::name::Name;
 use call_table::Op;
@@ -74,7 +74,7 @@ impl<A: Allocator> Args<A> {
 
 /// The names that a line binds.
 #[derive(Clone, Copy, Debug)]
-pub enum Targets {
+pub enum ResultNames {
     /// None, as in a line that writes.
     None,
     /// One, bound to the value of a call.
@@ -83,15 +83,15 @@ pub enum Targets {
     Two(Name, Name),
 }
 
-impl Targets {
+impl ResultNames {
     /// How many names there are.
     pub fn count(&self) -> usize
-        ensures { result ≡ count_of_targets self.now }
+        ensures { result ≡ count_of_results self.now }
     {
         match self {
-            Targets::None => 0,
-            Targets::One(_) => 1,
-            Targets::Two(_, _) => 2,
+            ResultNames::None => 0,
+            ResultNames::One(_) => 1,
+            ResultNames::Two(_, _) => 2,
         }
     }
 }
@@ -101,7 +101,7 @@ impl Targets {
 #[derive_where(Debug; A)]
 pub struct Call<A: Allocator> {
     /// The names that are bound; none for `write`.
-    pub targets: Targets,
+    pub results: ResultNames,
     /// The call of the table, or `write`.
     pub op: Op,
     /// The arguments.

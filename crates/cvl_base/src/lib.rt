@@ -18,7 +18,7 @@ pub mod places;
 pub mod refused;
 pub mod value;
 
-pub use call::{Arg, Args, Call, Targets};
+pub use call::{Arg, Args, Call, ResultNames};
 pub use call_table::{
     BoolBinary, Comparison, Cut, Element, Form, IntBinary, IntMonoid, Kind, Op, Unary, families,
     kind, op_of, operation, spelling,

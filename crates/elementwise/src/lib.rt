@@ -19,7 +19,7 @@ mod races;
 mod runs;
 mod shared;
 mod singles;
-mod totals;
+mod total_operators;
 mod truths;
 
 pub use bools::{bool_from_int, bool1, bool2, compare};

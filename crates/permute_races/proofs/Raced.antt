@@ -17,7 +17,7 @@ use Rattle.cvl_base.specs.declared.refused.Refused.TheVariants as refused
 use Rattle.cvl_base.specs.Faults.{fault_at}
 use Rattle.cvl_base.specs.Gives.{Gives, unless}
 use Rattle.cvl_base.specs.Limits.{most_elements}
-use Rattle.cvl_base.specs.Permutes.{first_fault, is_place, is_target, place_among, wrong_at, wrongs}
+use Rattle.cvl_base.specs.Permutes.{first_fault, is_place, is_destination, place_among, wrong_at, wrongs}
 use Rattle.permute_walks.specs.Senders.{nobody, sender_from, senders_of}
 use Rattle.permute_walks.proofs.Sent.{length-senders_of, length-wrongs, sender_at, wrong_here}
 use Rattle.permute_races.specs.Races.{bad_slots, slot_of, slots_of, wrong_beside, wrongs_beside}
@@ -46,7 +46,7 @@ no_slot : (d a : ℕ) (b : Bool) → eqb a d ≡ false → is_slot d (if b then 
 no_slot d a true other = other
 no_slot d a false other = refl
 
-same_slot : (m d : ℕ) (t : Option ℤ) → d < m → is_slot d (slot_of m t) ≡ is_target (pos d) t
+same_slot : (m d : ℕ) (t : Option ℤ) → d < m → is_slot d (slot_of m t) ≡ is_destination (pos d) t
 same_slot m d None lt = refl
 same_slot m d (Some (negsuc a)) lt = refl
 same_slot m d (Some (pos a)) lt =
@@ -68,7 +68,7 @@ sender_least : (place : ℕ) (ts : List (Option ℤ)) (m d : ℕ) → d < m → 
 sender_least place [] m d lt = refl
 sender_least place (t ∷ ts) m d lt =
     ap (λ b. unwrap_or (if b then Some place else least_from (place + 1) (map (slot_of m) ts) d) nobody) (same_slot m d t lt)
-    ∙ first_or (is_target (pos d) t) place (least_from (place + 1) (map (slot_of m) ts) d) (sender_from (place + 1) ts d) (sender_least (place + 1) ts m d lt)
+    ∙ first_or (is_destination (pos d) t) place (least_from (place + 1) (map (slot_of m) ts) d) (sender_from (place + 1) ts d) (sender_least (place + 1) ts m d lt)
 
 pub senders_are : (ts : List (Option ℤ)) (m : ℕ) (leasts : List (Option ℕ)) → length ts ≤ most_elements → leasts ≡ leasts_of (slots_of m ts) m
     → map (λ least. unwrap_or least nobody) leasts ≡ senders_of 0 ts m
@@ -95,13 +95,13 @@ later_if true place other any k rest = elim (eqb_tells place (place + suc k)) [ 
 later_if false place other any k rest = let same : place + suc k ≡ place + 1 + k = omega arith in ap (λ n. eqb other n) same ∙ rest
 
 is_first : (place : ℕ) (ts : List (Option ℤ)) (k d : ℕ) → k < length ts → get_or ts k None ≡ Some (pos d)
-    → eqb (sender_from place ts d) (place + k) ≡ not (list_any (is_target (pos d)) (take k ts))
+    → eqb (sender_from place ts d) (place + k) ≡ not (list_any (is_destination (pos d)) (take k ts))
 is_first place [] k d lt is = absurd (omega arith)
 is_first place (t ∷ ts) zero d lt is =
-    ap (λ b. eqb (if b then place else sender_from (place + 1) ts d) (place + 0)) (ap (is_target (pos d)) is ∙ (Decides-int_eq (pos d) (pos d)).1 refl)
+    ap (λ b. eqb (if b then place else sender_from (place + 1) ts d) (place + 0)) (ap (is_destination (pos d)) is ∙ (Decides-int_eq (pos d) (pos d)).1 refl)
     ∙ is_equal place (place + 0) (omega arith)
 is_first place (t ∷ ts) (suc k) d lt is =
-    later_if (is_target (pos d) t) place (sender_from (place + 1) ts d) (list_any (is_target (pos d)) (take k ts)) k (is_first (place + 1) ts k d (omega arith) is)
+    later_if (is_destination (pos d) t) place (sender_from (place + 1) ts d) (list_any (is_destination (pos d)) (take k ts)) k (is_first (place + 1) ts k d (omega arith) is)
 
 turned : (any : Bool) → (if not any then None else Some IndexRepeated) ≡ (if any then Some IndexRepeated else None)
 turned true = refl
@@ -119,7 +119,7 @@ wrong_same m ts senders k (Some (negsuc a)) are lt is = refl
 wrong_same m ts senders k (Some (pos d)) are lt is =
     let long : length senders ≡ m = ap length are ∙ length-senders_of 0 ts m in
     ap (λ n. if not (ltb d n) then Some IndexOutOfRange else if eqb (get_or senders d 0) k then None else Some IndexRepeated) long
-    ∙ by_tests (ltb d m) (list_any (is_target (pos d)) (take k ts)) (eqb (get_or senders d 0) k) (λ inside.
+    ∙ by_tests (ltb d m) (list_any (is_destination (pos d)) (take k ts)) (eqb (get_or senders d 0) k) (λ inside.
     let from_0 : k ≡ 0 + k = omega arith in
     ap (λ ss. eqb (get_or ss d 0) k) are
     ∙ ap (λ s. eqb s k) (sender_at 0 ts m d (ltb-true d m inside))

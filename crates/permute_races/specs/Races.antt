@@ -7,16 +7,16 @@ use Rattle.cvl_base.specs.Permutes.{is_place, place_among}
 use Rattle.cvl_base.specs.declared.fault.FaultNo.{FaultNo}
 use Rattle.cvl_base.specs.declared.fault.FaultNo.TheVariants.{IndexOutOfRange, IndexRepeated}
 
--- the place of the result to which a target sends, among m places
+-- the place of the result to which a destination sends, among m places
 abbrev pub slot_of : ℕ → Option ℤ → Option ℕ
 slot_of m None = None
 slot_of m (Some i) = place_among m i
 
--- the same of each target that a board has room for
+-- the same of each destination that a board has room for
 abbrev pub slots_of : ℕ → List (Option ℤ) → List (Option ℕ)
-slots_of m targets = take most_elements (map (slot_of m) targets)
+slots_of m destinations = take most_elements (map (slot_of m) destinations)
 
--- what is wrong with the target of a place, where these are the least places that are sent to each place of the result
+-- what is wrong with the destination of a place, where these are the least places that are sent to each place of the result
 abbrev pub wrong_beside : List ℕ → ℕ → Option ℤ → Option FaultNo
 wrong_beside senders place None = None
 wrong_beside senders place (Some i) =
@@ -25,7 +25,7 @@ wrong_beside senders place (Some i) =
 
 -- what is wrong with each place
 abbrev pub wrongs_beside : List ℕ → List (Option ℤ) → List (Option FaultNo)
-wrongs_beside senders targets = map (λ p. wrong_beside senders p.0 p.1) (enumerate_from 0 targets)
+wrongs_beside senders destinations = map (λ p. wrong_beside senders p.0 p.1) (enumerate_from 0 destinations)
 
 -- the bad places that a board has room for are all in one slot
 abbrev pub bad_slots : List (Option FaultNo) → List (Option ℕ)

@@ -27,7 +27,7 @@ struct Slots<'a, D: Destinations> {
 impl<'a, D: Destinations> Targets for Slots<'a, D> {
     ghost use Rattle.permute_races.specs.Races.{slots_of};
 
-    ghost targets = { λ s. slots_of s.places (D.targets s.destinations.now) };
+    ghost targets = { λ s. slots_of s.places (D.destinations s.destinations.now) };
 
     ghost slot_count = { λ s. s.places };
 
@@ -61,7 +61,7 @@ struct Sent<'a, D: Destinations> {
 impl<'a, D: Destinations> Faulty for Sent<'a, D> {
     ghost use Rattle.permute_races.specs.Races.{wrongs_beside};
 
-    ghost wrongs = { λ s. wrongs_beside s.senders.now (D.targets s.destinations.now) };
+    ghost wrongs = { λ s. wrongs_beside s.senders.now (D.destinations s.destinations.now) };
 
     fn count(&self) -> usize {
         self.destinations.count()
@@ -108,9 +108,9 @@ fn firsts_raced<R: Threads + Sync, A: Memory, D: Destinations + Sync, G: Gate>(
     destinations: &D,
     gate: &G,
 ) -> Result<Vec<u32, A>, NoResources>
-    requires few { length (D.targets destinations.now) ≤ most_elements }
+    requires few { length (D.destinations destinations.now) ≤ most_elements }
     requires few_places { places ≤ most_elements }
-    ensures { IfOk result (λ v. v.items ≡ senders_of 0 (D.targets destinations.now) places) }
+    ensures { IfOk result (λ v. v.items ≡ senders_of 0 (D.destinations destinations.now) places) }
 {
     let slots = Slots {
         destinations,
@@ -131,10 +131,10 @@ pub fn senders_raced<R: Threads + Sync, A: Memory, D: Destinations + Sync, G: Ga
     destinations: &D,
     gate: &G,
 ) -> Result<Vec<u32, A>, Refused>
-    requires few { length (D.targets destinations.now) ≤ most_elements }
+    requires few { length (D.destinations destinations.now) ≤ most_elements }
     requires few_places { places ≤ most_elements }
-    ensures { Gives (λ v. v.items) result (unless (first_fault 0 (wrongs places (D.targets destinations.now)))
-        (Ok (senders_of 0 (D.targets destinations.now) places))) }
+    ensures { Gives (λ v. v.items) result (unless (first_fault 0 (wrongs places (D.destinations destinations.now)))
+        (Ok (senders_of 0 (D.destinations destinations.now) places))) }
 {
     let senders = firsts_raced(rt, alloc, config, places as u32, destinations, gate)?;
     let sent = Sent {

@@ -6,7 +6,7 @@ use Rattle.std.proofs.lemmas.Bool.{false≢true}
 use Rattle.std.proofs.lemmas.List.Elements.{All-from_get_or}
 use Rattle.std.proofs.lemmas.List.Sums.{sum_by-cons}
 use Rattle.cvl_base.specs.Packs.{count_of}
-use Rattle.cvl_base.specs.Permutes.{all_targets, first_fault, flagged_targets, is_target, wrongs}
+use Rattle.cvl_base.specs.Permutes.{all_destinations, first_fault, flagged_destinations, is_destination, wrongs}
 use Rattle.permute_walks.specs.Senders.{last_senders, nobody, sender_from, senders_of}
 use Rattle.permute_walks.proofs.LastSent.{lasts_stored}
 use Rattle.permute_walks.proofs.Sent.{length-senders_of, sender_at}
@@ -42,7 +42,7 @@ below_if false place other n rest some = omega (arith, rest some)
 
 sender_below : (place : ℕ) (ts : List (Option ℤ)) (d : ℕ) → eqb (sender_from place ts d) nobody ≡ false → sender_from place ts d < place + length ts
 sender_below place [] d some = absurd (false≢true (sym some))
-sender_below place (t ∷ ts) d some = below_if (is_target (pos d) t) place (sender_from (place + 1) ts d) (length ts) (sender_below (place + 1) ts d) some
+sender_below place (t ∷ ts) d some = below_if (is_destination (pos d) t) place (sender_from (place + 1) ts d) (length ts) (sender_below (place + 1) ts d) some
 
 pub each_sent : (place : ℕ) (ts : List (Option ℤ)) (m : ℕ) → place + length ts ≤ nobody → None ≡ first_fault place (wrongs m ts) → sum_by takes_part ts ≡ m
     → All (λ s. s < place + length ts) (senders_of place ts m)
@@ -58,15 +58,15 @@ each_sent place ts m small right as_many =
 
 -- ---- how many places take part
 
-pub all_take_part : (index : List ℤ) → sum_by takes_part (all_targets index) ≡ length index
+pub all_take_part : (index : List ℤ) → sum_by takes_part (all_destinations index) ≡ length index
 all_take_part [] = refl
-all_take_part (i ∷ index) = omega (arith, sum_by-cons takes_part (Some i) (all_targets index), all_take_part index)
+all_take_part (i ∷ index) = omega (arith, sum_by-cons takes_part (Some i) (all_destinations index), all_take_part index)
 
-pub flagged_take_part : (index : List ℤ) (flags : List Bool) → length index ≡ length flags → sum_by takes_part (flagged_targets index flags) ≡ count_of flags
+pub flagged_take_part : (index : List ℤ) (flags : List Bool) → length index ≡ length flags → sum_by takes_part (flagged_destinations index flags) ≡ count_of flags
 flagged_take_part [] [] same = refl
 flagged_take_part [] (f ∷ flags) same = absurd (omega arith)
 flagged_take_part (i ∷ index) [] same = absurd (omega arith)
 flagged_take_part (i ∷ index) (true ∷ flags) same =
-    omega (arith, sum_by-cons takes_part (Some i) (flagged_targets index flags), flagged_take_part index flags (omega arith), sum_by-cons (λ (f : Bool). cond f 1 0) true flags)
+    omega (arith, sum_by-cons takes_part (Some i) (flagged_destinations index flags), flagged_take_part index flags (omega arith), sum_by-cons (λ (f : Bool). cond f 1 0) true flags)
 flagged_take_part (i ∷ index) (false ∷ flags) same =
-    omega (arith, sum_by-cons takes_part None (flagged_targets index flags), flagged_take_part index flags (omega arith), sum_by-cons (λ (f : Bool). cond f 1 0) false flags)
+    omega (arith, sum_by-cons takes_part None (flagged_destinations index flags), flagged_take_part index flags (omega arith), sum_by-cons (λ (f : Bool). cond f 1 0) false flags)

@@ -12,8 +12,8 @@ use Rattle.std.proofs.lemmas.List.Sums.{count_by_more_no, count_by_more_yes}
 use Rattle.std.proofs.lemmas.Int.{to_z-of_z}
 use Rattle.cvl_base.specs.Limits.{most_elements}
 use Rattle.cvl_base.specs.declared.fault.Fault.{Fault}
-use Rattle.cvl_base.specs.Permutes.{first_fault, is_target, target_if, wrongs}
-use Rattle.permute_walks.specs.Senders.{IsStored, count_sent, count_targets, last_sender_from, last_senders, nobody, senders_of}
+use Rattle.cvl_base.specs.Permutes.{first_fault, is_destination, destination_if, wrongs}
+use Rattle.permute_walks.specs.Senders.{IsStored, count_sent, count_destinations, last_sender_from, last_senders, nobody, senders_of}
 use Rattle.permute_walks.proofs.Sent.{nobody_sent}
 use Rattle.permute_walks.proofs.Stored.{IsStoredTo, index_is, stored_none, stored_more, stored_outside, stored_skip, stored_all}
 
@@ -23,27 +23,27 @@ length-last_senders place ts lowest n = length-map-range_with_len (last_sender_f
 last_at : (place : ℕ) (ts : List (Option ℤ)) (lowest n j : ℕ) → j < n → get_or (last_senders place ts lowest n) j 0 ≡ last_sender_from nobody place ts (lowest + j)
 last_at place ts lowest n j lt = get_or-map-range_with_len (last_sender_from nobody place ts) lowest n j (lowest + j) 0 lt refl
 
--- ---- one more target
+-- ---- one more destination
 
 last_push : (other place : ℕ) (us : List (Option ℤ)) (t : Option ℤ) (d : ℕ) → last_sender_from other place (us ++ t ∷ []) d
-    ≡ (if is_target (pos d) t then place + length us else last_sender_from other place us d)
-last_push other place [] t d = ap (λ p. if is_target (pos d) t then p else other) (omega arith)
+    ≡ (if is_destination (pos d) t then place + length us else last_sender_from other place us d)
+last_push other place [] t d = ap (λ p. if is_destination (pos d) t then p else other) (omega arith)
 last_push other place (u ∷ us) t d =
-    let this = if is_target (pos d) u then place else other in
-    last_push this (place + 1) us t d ∙ ap (λ p. if is_target (pos d) t then p else last_sender_from this (place + 1) us d) (omega arith)
+    let this = if is_destination (pos d) u then place else other in
+    last_push this (place + 1) us t d ∙ ap (λ p. if is_destination (pos d) t then p else last_sender_from this (place + 1) us d) (omega arith)
 
 module _ (place : ℕ) (ts : List (Option ℤ)) (lowest n k : ℕ) (lt : k < length ts) where
   abbrev pub this : Option ℤ
   this = get_or ts k None
 
-  more_at : (d : ℕ) → last_sender_from nobody place (take (k + 1) ts) d ≡ (if is_target (pos d) this then place + k else last_sender_from nobody place (take k ts) d)
+  more_at : (d : ℕ) → last_sender_from nobody place (take (k + 1) ts) d ≡ (if is_destination (pos d) this then place + k else last_sender_from nobody place (take k ts) d)
   more_at d =
       ap (λ us. last_sender_from nobody place us d) (take_more ts k None lt)
       ∙ last_push nobody place (take k ts) this d
-      ∙ ap (λ p. if is_target (pos d) this then place + p else last_sender_from nobody place (take k ts) d) (omega (arith, length-take k ts))
+      ∙ ap (λ p. if is_destination (pos d) this then place + p else last_sender_from nobody place (take k ts) d) (omega (arith, length-take k ts))
 
   -- that is none of the range
-  pub lasts_other : ((d : ℕ) → lowest ≤ d → d < lowest + n → is_target (pos d) this ≡ false) → last_senders place (take (k + 1) ts) lowest n ≡ last_senders place (take k ts) lowest n
+  pub lasts_other : ((d : ℕ) → lowest ≤ d → d < lowest + n → is_destination (pos d) this ≡ false) → last_senders place (take (k + 1) ts) lowest n ≡ last_senders place (take k ts) lowest n
   lasts_other other =
       let new = last_senders place (take (k + 1) ts) lowest n in
       ext_get_or 0 new (last_senders place (take k ts) lowest n) (length-last_senders place (take (k + 1) ts) lowest n ∙ sym (length-last_senders place (take k ts) lowest n)) (λ j within.
@@ -63,7 +63,7 @@ module _ (place : ℕ) (ts : List (Option ℤ)) (lowest n k : ℕ) (lt : k < len
       let below : e < n = omega (arith, length-last_senders place (take (k + 1) ts) lowest n) in
       let pick = λ (b : Bool). if b then place + k else last_sender_from nobody place (take k ts) (lowest + e) in
       last_at place (take (k + 1) ts) lowest n e below ∙ more_at (lowest + e)
-      ∙ ap (λ t. pick (is_target (pos (lowest + e)) t)) is
+      ∙ ap (λ t. pick (is_destination (pos (lowest + e)) t)) is
       ∙ elim (eqb_tells e j) [
         | inl same ↦
             ap pick ((Decides-int_eq (pos (lowest + j)) (pos (lowest + e))).1 (ap (λ m. pos (lowest + m)) (sym same.1)))
@@ -95,19 +95,19 @@ lasts_both place ts lowest (suc n) m =
 
 module _ (place : ℕ) (ts : List (Option ℤ)) (m : ℕ) (small : place + length ts ≤ nobody) where
   abbrev pub IsReached : ℕ → Type 0
-  IsReached k = IsStoredTo place ts m k (count_targets (take k ts)) (last_senders place (take k ts) 0 m)
+  IsReached k = IsStoredTo place ts m k (count_destinations (take k ts)) (last_senders place (take k ts) 0 m)
 
   stored_place : (k d : ℕ) (inside : Bool) → ltb d m ≡ inside → get_or ts k None ≡ Some (pos d) → k < length ts → IsReached k → IsReached (k + 1)
   stored_place k d true inside is lt to =
       let lt_m : d < m = ltb-true d m inside in
-      stored_more place ts m k (count_targets (take k ts)) (last_senders place (take k ts) 0 m) small to lt
-      (last_senders place (take (k + 1) ts) 0 m) (count_targets (take (k + 1) ts)) d is lt_m
+      stored_more place ts m k (count_destinations (take k ts)) (last_senders place (take k ts) 0 m) small to lt
+      (last_senders place (take (k + 1) ts) 0 m) (count_destinations (take (k + 1) ts)) d is lt_m
       (count_by_more_yes is_some ts k None lt (ap is_some is)) (lasts_set place ts 0 m k lt d d lt_m (omega arith) is)
   stored_place k d false inside is lt to =
-      stored_outside place ts m k (count_targets (take k ts)) (last_senders place (take k ts) 0 m) small to lt
-      (last_senders place (take (k + 1) ts) 0 m) (count_targets (take (k + 1) ts)) (pos d) is inside
+      stored_outside place ts m k (count_destinations (take k ts)) (last_senders place (take k ts) 0 m) small to lt
+      (last_senders place (take (k + 1) ts) 0 m) (count_destinations (take (k + 1) ts)) (pos d) is inside
       (count_by_more_yes is_some ts k None lt (ap is_some is))
-      (lasts_other place ts 0 m k lt (λ j from below. ap (is_target (pos j)) is ∙ other_int j (omega arith)))
+      (lasts_other place ts 0 m k lt (λ j from below. ap (is_destination (pos j)) is ∙ other_int j (omega arith)))
     where
       other_int : (j : ℕ) → j < m → int_eq (pos d) (pos j) ≡ false
       other_int j below = false_from_ne_true (int_eq (pos d) (pos j)) (λ yes. let same : pos d ≡ pos j = (Decides-int_eq (pos d) (pos j)).0 yes in past same below)
@@ -115,25 +115,25 @@ module _ (place : ℕ) (ts : List (Option ℤ)) (m : ℕ) (small : place + lengt
           past : pos d ≡ pos j → j < m → ⊥
           past same below = let same_number : d ≡ j = ap unsigned_abs same in false≢true (sym inside ∙ lt-ltb d m (omega (arith, same_number, below)))
 
-  stored_target : (k : ℕ) (t : Option ℤ) → get_or ts k None ≡ t → k < length ts → IsReached k → IsReached (k + 1)
-  stored_target k None is lt to =
-      stored_skip place ts m k (count_targets (take k ts)) (last_senders place (take k ts) 0 m) small to lt
-      (last_senders place (take (k + 1) ts) 0 m) (count_targets (take (k + 1) ts)) is
-      (count_by_more_no is_some ts k None lt (ap is_some is)) (lasts_other place ts 0 m k lt (λ j from below. ap (is_target (pos j)) is))
-  stored_target k (Some (pos d)) is lt to = stored_place k d (ltb d m) refl is lt to
-  stored_target k (Some (negsuc d)) is lt to =
-      stored_outside place ts m k (count_targets (take k ts)) (last_senders place (take k ts) 0 m) small to lt
-      (last_senders place (take (k + 1) ts) 0 m) (count_targets (take (k + 1) ts)) (negsuc d) is refl
-      (count_by_more_yes is_some ts k None lt (ap is_some is)) (lasts_other place ts 0 m k lt (λ j from below. ap (is_target (pos j)) is))
+  stored_destination : (k : ℕ) (t : Option ℤ) → get_or ts k None ≡ t → k < length ts → IsReached k → IsReached (k + 1)
+  stored_destination k None is lt to =
+      stored_skip place ts m k (count_destinations (take k ts)) (last_senders place (take k ts) 0 m) small to lt
+      (last_senders place (take (k + 1) ts) 0 m) (count_destinations (take (k + 1) ts)) is
+      (count_by_more_no is_some ts k None lt (ap is_some is)) (lasts_other place ts 0 m k lt (λ j from below. ap (is_destination (pos j)) is))
+  stored_destination k (Some (pos d)) is lt to = stored_place k d (ltb d m) refl is lt to
+  stored_destination k (Some (negsuc d)) is lt to =
+      stored_outside place ts m k (count_destinations (take k ts)) (last_senders place (take k ts) 0 m) small to lt
+      (last_senders place (take (k + 1) ts) 0 m) (count_destinations (take (k + 1) ts)) (negsuc d) is refl
+      (count_by_more_yes is_some ts k None lt (ap is_some is)) (lasts_other place ts 0 m k lt (λ j from below. ap (is_destination (pos j)) is))
 
   pub reached : (k : ℕ) → k ≤ length ts → IsReached k
   reached zero le = stored_none place ts m (last_senders place [] 0 m) (nobody_sent 0 m)
-  reached (suc k) le = subst IsReached (omega arith) (stored_target k (get_or ts k None) refl (omega arith) (reached k (omega arith)))
+  reached (suc k) le = subst IsReached (omega arith) (stored_destination k (get_or ts k None) refl (omega arith) (reached k (omega arith)))
 
-  pub lasts_stored : IsStored place ts (count_targets ts) m (last_senders place ts 0 m)
+  pub lasts_stored : IsStored place ts (count_destinations ts) m (last_senders place ts 0 m)
   lasts_stored =
-      subst (λ us. IsStored place ts (count_targets us) m (last_senders place us 0 m)) (take_all (length ts) ts (omega arith))
-      (stored_all place ts m (length ts) (count_targets (take (length ts) ts)) (last_senders place (take (length ts) ts) 0 m) (reached (length ts) (omega arith)) (omega arith))
+      subst (λ us. IsStored place ts (count_destinations us) m (last_senders place us 0 m)) (take_all (length ts) ts (omega arith))
+      (stored_all place ts m (length ts) (count_destinations (take (length ts) ts)) (last_senders place (take (length ts) ts) 0 m) (reached (length ts) (omega arith)) (omega arith))
 
 -- ---- the walk over one range: what it leaves after the first k places, where it stored a sender last at a destination
 
@@ -162,7 +162,7 @@ module _ (ts : List (Option ℤ)) (lowest n k destination sender : ℕ) (senders
     stands = ap (λ (ss : List ℕ). get_or ss (d - lowest) 0) stored ∙ get_or-set_same senders (d - lowest) k 0 (omega (arith, range_long));
   }
 
-  pub range_other : (new : List ℕ) → ((d : ℕ) → lowest ≤ d → d < lowest + n → is_target (pos d) (get_or ts k None) ≡ false) → new ≡ set senders destination sender
+  pub range_other : (new : List ℕ) → ((d : ℕ) → lowest ≤ d → d < lowest + n → is_destination (pos d) (get_or ts k None) ≡ false) → new ≡ set senders destination sender
       → IsStoredIn ts lowest n (k + 1) destination sender new
   range_other new other stored =
       let same : new ≡ senders = stored ∙ ap (set senders destination) (sym to.stands) ∙ set-get_or senders destination 0 in
@@ -178,17 +178,17 @@ abbrev pub is_in_range : Bool → ℕ → ℕ → ℕ → Bool
 is_in_range takes_part lowest n named = (takes_part && leb lowest named) && ltb named (lowest + n)
 
 module _ (i : ℤ) (takes_part : Bool) (lowest n named : ℕ) (fits : FitsSigned w32 i) (cast : named ≡ of_z w32 (to_z w32 (of_z w32 i))) (within : lowest + n ≤ most_elements) where
-  pub index_in : is_in_range takes_part lowest n named ≡ true → (target_if i takes_part ≡ Some (pos named)) × ((lowest ≤ named) × (named < lowest + n))
+  pub index_in : is_in_range takes_part lowest n named ≡ true → (destination_if i takes_part ≡ Some (pos named)) × ((lowest ≤ named) × (named < lowest + n))
   index_in inside =
       let ends = and_parts (takes_part && leb lowest named) (ltb named (lowest + n)) inside in
       let starts = and_parts takes_part (leb lowest named) ends.0 in
       let below : named < lowest + n = ltb-true named (lowest + n) ends.1 in
-      (ap (target_if i) starts.0 ∙ ap (λ j. Some j) (index_is i named fits cast (omega arith)), (leb-true lowest named starts.1, below))
+      (ap (destination_if i) starts.0 ∙ ap (λ j. Some j) (index_is i named fits cast (omega arith)), (leb-true lowest named starts.1, below))
 
-  pub index_out : is_in_range takes_part lowest n named ≡ false → (d : ℕ) → lowest ≤ d → d < lowest + n → is_target (pos d) (target_if i takes_part) ≡ false
+  pub index_out : is_in_range takes_part lowest n named ≡ false → (d : ℕ) → lowest ≤ d → d < lowest + n → is_destination (pos d) (destination_if i takes_part) ≡ false
   index_out outside d from below = other takes_part outside i cast fits
     where
-      other : (b : Bool) → is_in_range b lowest n named ≡ false → (j : ℤ) → named ≡ of_z w32 (to_z w32 (of_z w32 j)) → FitsSigned w32 j → is_target (pos d) (target_if j b) ≡ false
+      other : (b : Bool) → is_in_range b lowest n named ≡ false → (j : ℤ) → named ≡ of_z w32 (to_z w32 (of_z w32 j)) → FitsSigned w32 j → is_destination (pos d) (destination_if j b) ≡ false
       other false out j cast fits = refl
       other true out (negsuc a) cast fits = refl
       other true out (pos a) cast fits = false_from_ne_true (int_eq (pos a) (pos d)) (λ yes.
@@ -205,11 +205,11 @@ bad_told None not_none = absurd (not_none refl)
 bad_told (Some f) not_none = refl
 
 module _ (ts : List (Option ℤ)) (m : ℕ) (small : length ts ≤ most_elements) (senders : List ℕ) (are : senders ≡ last_senders 0 ts 0 m) where
-  stored_here : IsStored 0 ts (count_targets ts) m senders
-  stored_here = subst (IsStored 0 ts (count_targets ts) m) (sym are) (lasts_stored 0 ts m (omega (arith, small)))
+  stored_here : IsStored 0 ts (count_destinations ts) m senders
+  stored_here = subst (IsStored 0 ts (count_destinations ts) m) (sym are) (lasts_stored 0 ts m (omega (arith, small)))
 
-  pub as_many_told : count_sent senders ≡ count_targets ts → (senders ≡ senders_of 0 ts m) × (false ≡ is_some (first_fault 0 (wrongs m ts)))
+  pub as_many_told : count_sent senders ≡ count_destinations ts → (senders ≡ senders_of 0 ts m) × (false ≡ is_some (first_fault 0 (wrongs m ts)))
   as_many_told same = (stored_here.are_first same, ap is_some (stored_here.no_fault same))
 
-  pub fewer_told : ¬ (count_sent senders ≡ count_targets ts) → true ≡ is_some (first_fault 0 (wrongs m ts))
+  pub fewer_told : ¬ (count_sent senders ≡ count_destinations ts) → true ≡ is_some (first_fault 0 (wrongs m ts))
   fewer_told fewer = bad_told (first_fault 0 (wrongs m ts)) (λ right. fewer (stored_here.apart right))

@@ -9,11 +9,11 @@ use Rattle.std.proofs.lemmas.List.Elements.{All-head, All-tail, All-weaker}
 use Rattle.std.proofs.lemmas.List.Sums.{sum_by-cons}
 use Rattle.std.proofs.lemmas.Option.{slice_get_past}
 use Rattle.cvl_base.specs.Packs.{count_of}
-use Rattle.cvl_base.specs.Permutes.{all_targets, first_fault, is_place, wrongs}
-use Rattle.permute_walks.specs.Senders.{count_sent, count_targets, last_senders, nobody, senders_of, sent_marks, written_over}
+use Rattle.cvl_base.specs.Permutes.{all_destinations, first_fault, is_place, wrongs}
+use Rattle.permute_walks.specs.Senders.{count_sent, count_destinations, last_senders, nobody, senders_of, sent_marks, written_over}
 use Rattle.permute_walks.proofs.EachSent.{all_take_part, each_sent}
 use Rattle.permute_walks.proofs.LastSent.{lasts_set, lasts_stored, reached}
-use Rattle.permute_walks.proofs.Sent.{length-all_targets, length-senders_of, nobody_sent}
+use Rattle.permute_walks.proofs.Sent.{length-all_destinations, length-senders_of, nobody_sent}
 use Rattle.permute_walks.proofs.Stored.{inside_where_right, is_sent, right_now}
 use Rattle.permute_walks.proofs.Taken.{read_at}
 
@@ -68,38 +68,38 @@ written_all source (s ∷ senders) (v ∷ values) long below =
 -- ---- the walks
 
 module _ (index : List ℤ) (m : ℕ) (few : length index ≤ nobody) where
-  small : 0 + length (all_targets index) ≤ nobody
-  small = omega (arith, length-all_targets index)
+  small : 0 + length (all_destinations index) ≤ nobody
+  small = omega (arith, length-all_destinations index)
 
   -- the senders after the first k places
   abbrev pub lasts : ℕ → List ℕ
-  lasts k = last_senders 0 (take k (all_targets index)) 0 m
+  lasts k = last_senders 0 (take k (all_destinations index)) 0 m
 
-  all_lasts : (k : ℕ) → length index ≤ k → lasts k ≡ last_senders 0 (all_targets index) 0 m
-  all_lasts k ge = ap (λ us. last_senders 0 us 0 m) (take_all k (all_targets index) (omega (arith, length-all_targets index)))
+  all_lasts : (k : ℕ) → length index ≤ k → lasts k ≡ last_senders 0 (all_destinations index) 0 m
+  all_lasts k ge = ap (λ us. last_senders 0 us 0 m) (take_all k (all_destinations index) (omega (arith, length-all_destinations index)))
 
   pub marks_none : replicate m false ≡ sent_marks (lasts 0)
   marks_none = sym (ap sent_marks (nobody_sent 0 m) ∙ none_marked m)
 
   module _ (k : ℕ) (lt : k < length index) where
-    this : get_or (all_targets index) k None ≡ Some (get_or index k (pos 0))
+    this : get_or (all_destinations index) k None ≡ Some (get_or index k (pos 0))
     this = get_or-map (λ i. Some i) index k (pos 0) None lt
 
-    within : k < length (all_targets index)
-    within = omega (arith, length-all_targets index)
+    within : k < length (all_destinations index)
+    within = omega (arith, length-all_destinations index)
 
     -- where no place is bad, this one's index is inside
-    pub right_inside : None ≡ first_fault 0 (wrongs m (all_targets index)) → is_place m (get_or index k (pos 0)) ≡ true
+    pub right_inside : None ≡ first_fault 0 (wrongs m (all_destinations index)) → is_place m (get_or index k (pos 0)) ≡ true
     right_inside right =
-        let to = reached 0 (all_targets index) m small k (omega (arith, within)) in
+        let to = reached 0 (all_destinations index) m small k (omega (arith, within)) in
         ap (λ n. is_place n (get_or index k (pos 0))) (sym to.as_long)
         ∙ inside_where_right (lasts k) (get_or index k (pos 0))
-        (right_now 0 (all_targets index) m k (count_targets (take k (all_targets index))) (lasts k) small to within (get_or index k (pos 0)) this right)
+        (right_now 0 (all_destinations index) m k (count_destinations (take k (all_destinations index))) (lasts k) small to within (get_or index k (pos 0)) this right)
 
     module _ (d : ℕ) (names : get_or index k (pos 0) ≡ pos d) (below : d < m) where
       sets : lasts (k + 1) ≡ set (lasts k) d k
       sets =
-          lasts_set 0 (all_targets index) 0 m k within d d below (omega arith) (this ∙ ap (λ i. Some i) names)
+          lasts_set 0 (all_destinations index) 0 m k within d d below (omega arith) (this ∙ ap (λ i. Some i) names)
           ∙ ap (set (lasts k) d) (omega arith)
 
       pub marks_more : (marks : List Bool) → marks ≡ sent_marks (lasts k) → set marks d true ≡ sent_marks (lasts (k + 1))
@@ -116,18 +116,18 @@ module _ (index : List ℤ) (m : ℕ) (few : length index ≤ nobody) where
           ∙ sym (written_set source (lasts k) old d k x is)
           ∙ ap (λ ss. written_over source ss old) (sym sets)
 
-  pub marks_all : (k : ℕ) → length index ≤ k → sent_marks (lasts k) ≡ sent_marks (last_senders 0 (all_targets index) 0 m)
+  pub marks_all : (k : ℕ) → length index ≤ k → sent_marks (lasts k) ≡ sent_marks (last_senders 0 (all_destinations index) 0 m)
   marks_all k ge = ap sent_marks (all_lasts k ge)
 
   -- the marks are as many as the indices exactly where no place is bad
-  pub marks_tell : count_of (sent_marks (last_senders 0 (all_targets index) 0 m)) ≡ length index → None ≡ first_fault 0 (wrongs m (all_targets index))
+  pub marks_tell : count_of (sent_marks (last_senders 0 (all_destinations index) 0 m)) ≡ length index → None ≡ first_fault 0 (wrongs m (all_destinations index))
   marks_tell all =
-      (lasts_stored 0 (all_targets index) m small).no_fault
-      (sym (count_marked (last_senders 0 (all_targets index) 0 m)) ∙ all ∙ sym (all_take_part index))
+      (lasts_stored 0 (all_destinations index) m small).no_fault
+      (sym (count_marked (last_senders 0 (all_destinations index) 0 m)) ∙ all ∙ sym (all_take_part index))
 
-  pub marks_full : None ≡ first_fault 0 (wrongs m (all_targets index)) → count_of (sent_marks (last_senders 0 (all_targets index) 0 m)) ≡ length index
+  pub marks_full : None ≡ first_fault 0 (wrongs m (all_destinations index)) → count_of (sent_marks (last_senders 0 (all_destinations index) 0 m)) ≡ length index
   marks_full right =
-      count_marked (last_senders 0 (all_targets index) 0 m) ∙ (lasts_stored 0 (all_targets index) m small).apart right ∙ all_take_part index
+      count_marked (last_senders 0 (all_destinations index) 0 m) ∙ (lasts_stored 0 (all_destinations index) m small).apart right ∙ all_take_part index
 
   module _ {X : Type 0} (source old : List X) (sourced : length source ≡ length index) (long : length old ≡ m) where
     pub room_none : old ≡ written_over source (lasts 0) old
@@ -138,12 +138,12 @@ module _ (index : List ℤ) (m : ℕ) (few : length index ≤ nobody) where
         ∙ written_none source old (omega arith)
         )
 
-    pub room_all : m ≡ length index → (k : ℕ) → length index ≤ k → None ≡ first_fault 0 (wrongs m (all_targets index))
-        → written_over source (lasts k) old ≡ filter_map (slice_get source) (senders_of 0 (all_targets index) m)
+    pub room_all : m ≡ length index → (k : ℕ) → length index ≤ k → None ≡ first_fault 0 (wrongs m (all_destinations index))
+        → written_over source (lasts k) old ≡ filter_map (slice_get source) (senders_of 0 (all_destinations index) m)
     room_all same k ge right =
-        let ts = all_targets index in
+        let ts = all_destinations index in
         let stored = lasts_stored 0 ts m small in
         ap (λ ss. written_over source ss old) (all_lasts k ge ∙ stored.are_first (stored.apart right))
         ∙ written_all source (senders_of 0 ts m) old (length-senders_of 0 ts m ∙ sym long)
-        (All-weaker (λ s. s < 0 + length ts) (λ s. s < length source) (λ s below. omega (arith, length-all_targets index)) (senders_of 0 ts m)
+        (All-weaker (λ s. s < 0 + length ts) (λ s. s < length source) (λ s below. omega (arith, length-all_destinations index)) (senders_of 0 ts m)
         (each_sent 0 ts m small right (all_take_part index ∙ sym same)))

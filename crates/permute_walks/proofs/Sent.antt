@@ -1,4 +1,4 @@
--- The walk that sends places to their targets: what it has found after the first places, and after all.
+-- The walk that sends places to their destinations: what it has found after the first places, and after all.
 use Rattle.std.proofs.Common.{◌≡◌, ◌∙◌, ℕ, zero, suc, ◌+◌, ◌<◌, ◌≤◌, Bool, true, false, not, ◌||◌, if◌then◌else◌, List, [], ◌∷◌, ◌++◌, length, map, take, drop, get_or, min, set, replicate, refl, sym}
 use Rattle.std.proofs.Common.{ap, add-one, arith, inl, inr, eqb, ltb, ℤ, pos, negsuc, unsigned_abs, option_map, Option, Some, None, Result}
 use Rattle.std.specs.List.{zip, list_any, range_with_len}
@@ -17,7 +17,7 @@ use Rattle.cvl_base.specs.declared.fault.FaultNo.{FaultNo}
 use Rattle.cvl_base.specs.declared.fault.FaultNo.TheVariants.{IndexOutOfRange, IndexRepeated}
 use Rattle.cvl_base.specs.Faults.{fault_at}
 use Rattle.cvl_base.specs.Folds.{fronts}
-use Rattle.cvl_base.specs.Permutes.{all_targets, first_fault, flagged_targets, is_target, target_if, wrong_at, wrongs}
+use Rattle.cvl_base.specs.Permutes.{all_destinations, first_fault, flagged_destinations, is_destination, destination_if, wrong_at, wrongs}
 use Rattle.permute_walks.specs.Senders.{nobody, sender_from, senders_of, fault_told, wrong_with}
 
 -- ---- what is wrong with a place
@@ -68,21 +68,21 @@ tells_first : (b : Bool) (place other : ℕ) (any : Bool) → place < nobody →
 tells_first true place other any small rest = elim (eqb_tells place nobody) [ inl t ↦ absurd (omega (arith, t.1)) | inr t ↦ ap not t.0 ]
 tells_first false place other any small rest = rest
 
-sender-tells : (place : ℕ) (ts : List (Option ℤ)) (d : ℕ) → place + length ts ≤ nobody → not (eqb (sender_from place ts d) nobody) ≡ list_any (is_target (pos d)) ts
+sender-tells : (place : ℕ) (ts : List (Option ℤ)) (d : ℕ) → place + length ts ≤ nobody → not (eqb (sender_from place ts d) nobody) ≡ list_any (is_destination (pos d)) ts
 sender-tells place [] d small = refl
 sender-tells place (t ∷ ts) d small =
-    tells_first (is_target (pos d) t) place (sender_from (place + 1) ts d) (list_any (is_target (pos d)) ts) (omega arith) (sender-tells (place + 1) ts d (omega arith))
+    tells_first (is_destination (pos d) t) place (sender_from (place + 1) ts d) (list_any (is_destination (pos d)) ts) (omega arith) (sender-tells (place + 1) ts d (omega arith))
 
--- one more target, that isn't d
-sender-other : (place : ℕ) (ts : List (Option ℤ)) (t : Option ℤ) (d : ℕ) → is_target (pos d) t ≡ false → sender_from place (ts ++ t ∷ []) d ≡ sender_from place ts d
+-- one more destination, that isn't d
+sender-other : (place : ℕ) (ts : List (Option ℤ)) (t : Option ℤ) (d : ℕ) → is_destination (pos d) t ≡ false → sender_from place (ts ++ t ∷ []) d ≡ sender_from place ts d
 sender-other place [] t d other = ap (λ b. if b then place else nobody) other
-sender-other place (u ∷ ts) t d other = ap (λ rest. if is_target (pos d) u then place else rest) (sender-other (place + 1) ts t d other)
+sender-other place (u ∷ ts) t d other = ap (λ rest. if is_destination (pos d) u then place else rest) (sender-other (place + 1) ts t d other)
 
--- one more target, that is d where none was before
-sender-found : (place : ℕ) (ts : List (Option ℤ)) (t : Option ℤ) (d : ℕ) → list_any (is_target (pos d)) ts ≡ false → is_target (pos d) t ≡ true → sender_from place (ts ++ t ∷ []) d ≡ place + length ts
+-- one more destination, that is d where none was before
+sender-found : (place : ℕ) (ts : List (Option ℤ)) (t : Option ℤ) (d : ℕ) → list_any (is_destination (pos d)) ts ≡ false → is_destination (pos d) t ≡ true → sender_from place (ts ++ t ∷ []) d ≡ place + length ts
 sender-found place [] t d none found = ap (λ b. if b then place else nobody) found ∙ omega arith
 sender-found place (u ∷ ts) t d none found =
-    let parts = or_parts (is_target (pos d) u) (list_any (is_target (pos d)) ts) none in
+    let parts = or_parts (is_destination (pos d) u) (list_any (is_destination (pos d)) ts) none in
     ap (λ b. if b then place else sender_from (place + 1) (ts ++ t ∷ []) d) parts.0 ∙ sender-found (place + 1) ts t d parts.1 found ∙ omega arith
 
 pub length-senders_of : (place : ℕ) (ts : List (Option ℤ)) (m : ℕ) → length (senders_of place ts m) ≡ m
@@ -113,7 +113,7 @@ sent_none place ts m senders fresh = record {
   fault_is = ap (λ p. first_fault p (wrongs m ts)) (omega arith);
 }
 
--- the index's fault is that of its target
+-- the index's fault is that of its destination
 by_tests : (inside any : Bool) (sender : ℕ) → (inside ≡ true → not (eqb sender nobody) ≡ any) → (if not inside then Some IndexOutOfRange else if any then Some IndexRepeated else None)
     ≡ (if not inside then Some IndexOutOfRange else if not (eqb sender nobody) then Some IndexRepeated else None)
 by_tests true any sender same = ap (λ b. if b then Some IndexRepeated else None) (sym (same refl))
@@ -123,7 +123,7 @@ wrong-same : (place : ℕ) (ts : List (Option ℤ)) (m : ℕ) (senders : List �
 wrong-same place ts m senders (negsuc d) small are = refl
 wrong-same place ts m senders (pos d) small are =
     let long : length senders ≡ m = ap length are ∙ length-senders_of place ts m in
-    by_tests (ltb d m) (list_any (is_target (pos d)) ts) (get_or senders d 0) (λ inside.
+    by_tests (ltb d m) (list_any (is_destination (pos d)) ts) (get_or senders d 0) (λ inside.
     ap (λ ss. not (eqb (get_or ss d 0) nobody)) are
     ∙ ap (λ s. not (eqb s nobody)) (sender_at place ts m d (ltb-true d m inside))
     ∙ sender-tells place ts d small)
@@ -134,27 +134,27 @@ right_tests true true right = (refl, refl)
 right_tests true false right = absurd (none-some IndexRepeated (sym right))
 right_tests false free right = absurd (none-some IndexOutOfRange (sym right))
 
--- one more target
+-- one more destination
 sent-same : (place : ℕ) (us : List (Option ℤ)) (t : Option ℤ) (m d : ℕ) (senders : List ℕ) → place + length us < nobody → senders ≡ senders_of place us m → t ≡ Some (pos d) → d < m
     → get_or senders d 0 ≡ nobody → set senders d (place + length us) ≡ senders_of place (us ++ t ∷ []) m
 sent-same place us t m d senders small are is lt free =
     let long : length senders ≡ m = ap length are ∙ length-senders_of place us m in
     let now : sender_from place us d ≡ nobody = sym (sender_at place us m d lt) ∙ ap (λ ss. get_or ss d 0) (sym are) ∙ free in
-    let none : list_any (is_target (pos d)) us ≡ false = sym (sender-tells place us d (omega arith)) ∙ ap (λ s. not (eqb s nobody)) now in
+    let none : list_any (is_destination (pos d)) us ≡ false = sym (sender-tells place us d (omega arith)) ∙ ap (λ s. not (eqb s nobody)) now in
     ext_get_or 0 (set senders d (place + length us)) (senders_of place (us ++ t ∷ []) m) (length-set senders d (place + length us) ∙ long ∙ sym (length-senders_of place (us ++ t ∷ []) m)) (λ e within.
     let below : e < m = omega (arith, length-set senders d (place + length us)) in
     elim (eqb_tells e d) [
       | inl same ↦
           ap (λ j. get_or (set senders d (place + length us)) j 0) same.1
           ∙ get_or-set_same senders d (place + length us) 0 (omega arith)
-          ∙ sym (sender-found place us t d none (ap (is_target (pos d)) is ∙ (Decides-int_eq (pos d) (pos d)).1 refl))
+          ∙ sym (sender-found place us t d none (ap (is_destination (pos d)) is ∙ (Decides-int_eq (pos d) (pos d)).1 refl))
           ∙ sym (sender_at place (us ++ t ∷ []) m d lt)
           ∙ ap (λ j. get_or (senders_of place (us ++ t ∷ []) m) j 0) (sym same.1)
       | inr other ↦
           get_or-set_other senders d e (place + length us) 0 other.1
           ∙ ap (λ ss. get_or ss e 0) are
           ∙ sender_at place us m e below
-          ∙ sym (sender-other place us t e (ap (is_target (pos e)) is ∙ false_from_ne_true (int_eq (pos d) (pos e))
+          ∙ sym (sender-other place us t e (ap (is_destination (pos e)) is ∙ false_from_ne_true (int_eq (pos d) (pos e))
           (λ yes. let same : pos d ≡ pos e = (Decides-int_eq (pos d) (pos e)).0 yes in other.1 (cc))))
           ∙ sym (sender_at place (us ++ t ∷ []) m e below)
     ])
@@ -189,7 +189,7 @@ module _ (place : ℕ) (ts : List (Option ℤ)) (m k : ℕ) (senders : List ℕ)
   pub skip_more : get_or ts k None ≡ None → IsSentTo place ts m (k + 1) senders
   skip_more is = record {
     senders_are = to.senders_are
-        ∙ sym (same_senders place (take k ts ++ get_or ts k None ∷ []) (take k ts) m (λ d below. sender-other place (take k ts) (get_or ts k None) d (ap (is_target (pos d)) is)))
+        ∙ sym (same_senders place (take k ts ++ get_or ts k None ∷ []) (take k ts) m (λ d below. sender-other place (take k ts) (get_or ts k None) d (ap (is_destination (pos d)) is)))
         ∙ ap (λ us. senders_of place us m) (sym (take_more ts k None lt));
     fault_is = past (wrong_here m ts k lt ∙ ap (wrong_at m (take k ts)) is);
   }
@@ -214,24 +214,24 @@ sent_all place ts m k senders to ge = (
   to.senders_are ∙ ap (λ us. senders_of place us m) (take_all k ts ge),
 )
 
--- ---- the targets of the indices
+-- ---- the destinations of the indices
 
-pub length-all_targets : (index : List ℤ) → length (all_targets index) ≡ length index
-length-all_targets index = length-map index (λ i. Some i)
+pub length-all_destinations : (index : List ℤ) → length (all_destinations index) ≡ length index
+length-all_destinations index = length-map index (λ i. Some i)
 
 -- where there are fewer flags than indices, or more, the places that have both
-pub count-flagged_targets : (index : List ℤ) (flags : List Bool) → length (flagged_targets index flags) ≡ min (length index) (length flags)
-count-flagged_targets index flags =
-    omega (arith, length-map (zip index flags) (λ (p : ℤ × Bool). target_if p.0 p.1), length-zip index flags)
+pub count-flagged_destinations : (index : List ℤ) (flags : List Bool) → length (flagged_destinations index flags) ≡ min (length index) (length flags)
+count-flagged_destinations index flags =
+    omega (arith, length-map (zip index flags) (λ (p : ℤ × Bool). destination_if p.0 p.1), length-zip index flags)
 
-pub flagged-target : (index : List ℤ) (flags : List Bool) (k : ℕ) → k < length index → k < length flags
-    → get_or (flagged_targets index flags) k None ≡ target_if (get_or index k (pos 0)) (get_or flags k false)
-flagged-target index flags k lt flagged =
-    get_or-map (λ (p : ℤ × Bool). target_if p.0 p.1) (zip index flags) k (pos 0, false) None (omega (arith, length-zip index flags))
-    ∙ ap (λ (p : ℤ × Bool). target_if p.0 p.1) (get_or-zip index flags k (pos 0, false) lt flagged)
+pub flagged-destination : (index : List ℤ) (flags : List Bool) (k : ℕ) → k < length index → k < length flags
+    → get_or (flagged_destinations index flags) k None ≡ destination_if (get_or index k (pos 0)) (get_or flags k false)
+flagged-destination index flags k lt flagged =
+    get_or-map (λ (p : ℤ × Bool). destination_if p.0 p.1) (zip index flags) k (pos 0, false) None (omega (arith, length-zip index flags))
+    ∙ ap (λ (p : ℤ × Bool). destination_if p.0 p.1) (get_or-zip index flags k (pos 0, false) lt flagged)
 
-pub length-flagged_targets : (index : List ℤ) (flags : List Bool) → length index ≡ length flags → length (flagged_targets index flags) ≡ length index
-length-flagged_targets index flags long = omega (arith, count-flagged_targets index flags)
+pub length-flagged_destinations : (index : List ℤ) (flags : List Bool) → length index ≡ length flags → length (flagged_destinations index flags) ≡ length index
+length-flagged_destinations index flags long = omega (arith, count-flagged_destinations index flags)
 
 -- the fault of a `?` is told again
 pub told_again : {T : Type 0} (r : Result T Fault) (f : Fault) → IsErrAnd r (λ y. y ≡ f) → fault_told r ≡ Some f

@@ -1,4 +1,4 @@
--- The walk that stores places at their targets: how many places then have a sender tells whether a target was bad.
+-- The walk that stores places at their destinations: how many places then have a sender tells whether a destination was bad.
 use Rattle.std.proofs.Common.{◌≡◌, ◌∙◌, ℕ, zero, suc, ◌+◌, ◌<◌, ◌≤◌, Bool, true, false, not, if◌then◌else◌, cond, List, ◌∷◌, drop, length, get_or, set, replicate}
 use Rattle.std.proofs.Common.{refl, sym, ap, subst, arith, eqb, ltb, ℤ, pos, negsuc, w32}
 use Rattle.std.proofs.Common.{to_z, of_z, FitsSigned, Option, Some, None}
@@ -72,7 +72,7 @@ module _ (place : ℕ) (ts : List (Option ℤ)) (m k sent : ℕ) (senders : List
       let sent_to = to.exact (to.apart right) in
       sym (found_here place ts m k senders small sent_to lt i is) ∙ right_here place ts m k senders right sent_to lt
 
-  -- one more target
+  -- one more destination
   pub stored_more : (new : List ℕ) (now d : ℕ) → get_or ts k None ≡ Some (pos d) → d < m → now ≡ sent + 1 → new ≡ set senders d (place + k) → IsStoredTo place ts m (k + 1) now new
   stored_more new now d is within more stored =
       let in_senders : d < length senders = omega (arith, to.as_long) in
@@ -94,7 +94,7 @@ module _ (place : ℕ) (ts : List (Option ℤ)) (m k sent : ℕ) (senders : List
             omega (arith, count, set_one, was, becomes, to.apart right, more);
       }
 
-  -- a target that is no place of the result
+  -- a destination that is no place of the result
   pub stored_outside : (new : List ℕ) (now : ℕ) (i : ℤ) → get_or ts k None ≡ Some i → is_place m i ≡ false → now ≡ sent + 1 → new ≡ senders → IsStoredTo place ts m (k + 1) now new
   stored_outside new now i is outside more same = record {
     as_long = ap length same ∙ to.as_long;

@@ -7,10 +7,10 @@ use Rattle.std.proofs.lemmas.List.{length-map}
 use Rattle.std.proofs.lemmas.List.Elements.{All-head, All-tail}
 use Rattle.std.proofs.lemmas.Slice.Zip.{length-zip}
 use Rattle.std.proofs.Math.Seq.{get_or-append_seam}
-use Rattle.cvl_base.specs.Permutes.{is_target, sent_to}
+use Rattle.cvl_base.specs.Permutes.{is_destination, sent_to}
 use Rattle.permute_walks.specs.Senders.{elements_or, nobody, sender_from, senders_of, written_over}
 
--- ---- what was sent: the source is ys, which the targets are of, after `before` and in front of `behind`
+-- ---- what was sent: the source is ys, which the destinations are of, after `before` and in front of `behind`
 
 first_found : {X : Type 0} (b : Bool) (x : X) (t : Option ℤ) (place other : ℕ) (rest : Option (Option ℤ × X)) (read : ℕ → Option X)
     → read place ≡ Some x → read other ≡ option_map (λ p. p.1) rest
@@ -27,7 +27,7 @@ sent_at before (y ∷ ys) behind place (t ∷ ts) d there long small =
     let whole = before ++ ((y ∷ ys) ++ behind) in
     let again : (before ++ y ∷ []) ++ (ys ++ behind) ≡ whole = append_assoc before (y ∷ []) (ys ++ behind) in
     let within : place < length whole = omega (arith, length-append before ((y ∷ ys) ++ behind)) in
-    first_found (is_target (pos d) t) y t place (sender_from (place + 1) ts d) (find (λ p. is_target (pos d) p.0) (zip ts ys)) (slice_get whole)
+    first_found (is_destination (pos d) t) y t place (sender_from (place + 1) ts d) (find (λ p. is_destination (pos d) p.0) (zip ts ys)) (slice_get whole)
     (slice_get_read whole (length whole) place y refl within (sym (ap (λ p. get_or whole p y) (sym there) ∙ get_or-append_seam before y (ys ++ behind) y)))
     (sym (ap (λ xs. slice_get xs (sender_from (place + 1) ts d)) again)
     ∙ sent_at (before ++ y ∷ []) ys behind (place + 1) ts d (omega (arith, length-append before (y ∷ []))) (omega arith) (omega (arith, ap length again)))
@@ -72,7 +72,7 @@ over_within source senders defaults n within =
     let one_each = length-map (zip senders defaults) (λ p. unwrap_or (slice_get source p.0) p.1) in
     (omega (arith, one_each, length-zip senders defaults, within), omega (arith, one_each, length-zip senders defaults, within))
 
--- ---- flat calls: the targets are of the whole source
+-- ---- flat calls: the destinations are of the whole source
 
 pub taken_flat : {X : Type 0} (source : List X) (ts : List (Option ℤ)) (m : ℕ) → length source ≡ length ts → length source ≤ nobody
     → filter_map (slice_get source) (senders_of 0 ts m) ≡ filter_map (sent_to source ts) (range_with_len 0 m)

@@ -6,20 +6,20 @@ use Rattle.std.specs.List.{range_with_len, zip}
 use Rattle.cvl_base.specs.declared.fault.Fault.{Fault}
 use Rattle.cvl_base.specs.declared.fault.FaultNo.{FaultNo}
 use Rattle.cvl_base.specs.declared.fault.FaultNo.TheVariants.{IndexOutOfRange, IndexRepeated}
-use Rattle.cvl_base.specs.Permutes.{first_fault, is_place, is_target, wrongs}
+use Rattle.cvl_base.specs.Permutes.{first_fault, is_place, is_destination, wrongs}
 
 -- stands where no element goes: the greatest number of 32 bits, which is no place
 abbrev pub nobody : ℕ
 nobody = 4294967295
 
--- the place of the first target that is d, where the first of all stands at the place given
+-- the place of the first destination that is d, where the first of all stands at the place given
 abbrev pub sender_from : ℕ → List (Option ℤ) → ℕ → ℕ
 sender_from place [] d = nobody
-sender_from place (t ∷ ts) d = if is_target (pos d) t then place else sender_from (place + 1) ts d
+sender_from place (t ∷ ts) d = if is_destination (pos d) t then place else sender_from (place + 1) ts d
 
 -- the senders of the places 0 to m - 1
 abbrev pub senders_of : ℕ → List (Option ℤ) → ℕ → List ℕ
-senders_of place targets m = map (sender_from place targets) (range_with_len 0 m)
+senders_of place destinations m = map (sender_from place destinations) (range_with_len 0 m)
 
 -- what is wrong with an index, where the earlier places that take part are these senders
 abbrev pub wrong_with : List ℕ → ℤ → Option FaultNo
@@ -40,26 +40,26 @@ count_sent senders = count_by (λ s. not (s == nobody)) senders
 abbrev pub sent_marks : List ℕ → List Bool
 sent_marks senders = map (λ s. not (s == nobody)) senders
 
--- The senders of the places 0 to m - 1, where so many targets were stored, a later one over an earlier: at most as many
--- places have a sender. They are as many exactly where no target was bad, and then each sender is the first.
-pub record IsStored (place : ℕ) (targets : List (Option ℤ)) (sent m : ℕ) (senders : List ℕ) : Type 0 where
+-- The senders of the places 0 to m - 1, where so many destinations were stored, a later one over an earlier: at most as many
+-- places have a sender. They are as many exactly where no destination was bad, and then each sender is the first.
+pub record IsStored (place : ℕ) (destinations : List (Option ℤ)) (sent m : ℕ) (senders : List ℕ) : Type 0 where
   pub at_most : count_sent senders ≤ sent
-  pub no_fault : count_sent senders ≡ sent → None ≡ first_fault place (wrongs m targets)
-  pub are_first : count_sent senders ≡ sent → senders ≡ senders_of place targets m
-  pub apart : None ≡ first_fault place (wrongs m targets) → count_sent senders ≡ sent
+  pub no_fault : count_sent senders ≡ sent → None ≡ first_fault place (wrongs m destinations)
+  pub are_first : count_sent senders ≡ sent → senders ≡ senders_of place destinations m
+  pub apart : None ≡ first_fault place (wrongs m destinations) → count_sent senders ≡ sent
 
--- the place of the last target that is d, or the other number where none is; the first of all stands at the place given
+-- the place of the last destination that is d, or the other number where none is; the first of all stands at the place given
 abbrev pub last_sender_from : ℕ → ℕ → List (Option ℤ) → ℕ → ℕ
 last_sender_from other place [] d = other
-last_sender_from other place (t ∷ ts) d = last_sender_from (if is_target (pos d) t then place else other) (place + 1) ts d
+last_sender_from other place (t ∷ ts) d = last_sender_from (if is_destination (pos d) t then place else other) (place + 1) ts d
 
 -- the last senders of the n places from `lowest` on
 abbrev pub last_senders : ℕ → List (Option ℤ) → ℕ → ℕ → List ℕ
-last_senders place targets lowest n = map (last_sender_from nobody place targets) (range_with_len lowest n)
+last_senders place destinations lowest n = map (last_sender_from nobody place destinations) (range_with_len lowest n)
 
 -- how many places take part
-abbrev pub count_targets : List (Option ℤ) → ℕ
-count_targets targets = count_by is_some targets
+abbrev pub count_destinations : List (Option ℤ) → ℕ
+count_destinations destinations = count_by is_some destinations
 
 -- what stands where the elements of senders were written over values: nobody has no element, and the value stays
 abbrev pub written_over : {X : Type 0} → List X → List ℕ → List X → List X

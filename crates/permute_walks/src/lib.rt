@@ -15,7 +15,7 @@ mod stores;
 pub use backs::{
     check_places, check_places_alone, elements_at, elements_at_over, write_elements_at,
 };
-pub use destinations::{AllTargets, Destinations, FlaggedTargets};
+pub use destinations::{AllDestinations, Destinations, FlaggedDestinations};
 pub use elements::{
     elements_of, elements_of_over, elements_or_defaults, elements_or_defaults_over,
 };

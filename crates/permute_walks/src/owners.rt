@@ -6,7 +6,7 @@ ghost use Rattle.std.specs.Prelude.{◌≡◌, ◌+◌, ◌≤◌, length, repli
 ghost use Rattle.std.specs.Thread.{IsSync};
 ghost use Rattle.cvl_base.specs.Limits.{most_elements};
 ghost use Rattle.cvl_base.specs.Permutes.{first_fault, wrongs};
-ghost use Rattle.permute_walks.specs.Senders.{count_sent, count_targets, last_senders, nobody, senders_of};
+ghost use Rattle.permute_walks.specs.Senders.{count_sent, count_destinations, last_senders, nobody, senders_of};
 
 use crate::destinations::Destinations;
 use crate::sends::NOBODY;
@@ -17,8 +17,8 @@ use std::thread::{Threads, join_mut};
 
 /// How many places take part.
 #[inline(never)]
-fn count_targets<D: Destinations>(destinations: &D) -> usize
-    ensures { result ≡ count_targets (D.targets destinations.now) }
+fn count_destinations<D: Destinations>(destinations: &D) -> usize
+    ensures { result ≡ count_destinations (D.destinations destinations.now) }
 {
     let mut count = 0;
     for k in 0..destinations.count() {
@@ -38,8 +38,8 @@ fn count_targets<D: Destinations>(destinations: &D) -> usize
 fn store_range<D: Destinations>(senders: &mut [u32], lowest: usize, destinations: &D)
     requires fresh { senders.old ≡ replicate (length senders.old) nobody }
     requires within { lowest + length senders.old ≤ most_elements }
-    requires in_limit { length (D.targets destinations.now) ≤ most_elements }
-    ensures { senders.new ≡ last_senders 0 (D.targets destinations.now) lowest (length senders.old) }
+    requires in_limit { length (D.destinations destinations.now) ≤ most_elements }
+    ensures { senders.new ≡ last_senders 0 (D.destinations destinations.now) lowest (length senders.old) }
 {
     if senders.is_empty() {
         return;
@@ -69,8 +69,8 @@ fn store_ranges<R: Threads + Sync, D: Destinations + Sync>(
 ) -> usize
     requires fresh { senders.old ≡ replicate (length senders.old) nobody }
     requires within { lowest + length senders.old ≤ most_elements }
-    requires in_limit { length (D.targets destinations.now) ≤ most_elements }
-    ensures stored { senders.new ≡ last_senders 0 (D.targets destinations.now) lowest (length senders.old) }
+    requires in_limit { length (D.destinations destinations.now) ≤ most_elements }
+    ensures stored { senders.new ≡ last_senders 0 (D.destinations destinations.now) lowest (length senders.old) }
     ensures count { result ≡ count_sent senders.new }
 {
     if threads < 2 {
@@ -107,21 +107,21 @@ fn store_both<R: Threads + Sync, D: Destinations + Sync>(
     requires some { (1 ≤ fewer) × (1 ≤ others) }
     requires fresh { (low.old ≡ replicate (length low.old) nobody) × (high.old ≡ replicate (length high.old) nobody) }
     requires within { (lowest + length low.old ≤ most_elements) × (middle + length high.old ≤ most_elements) }
-    requires in_limit { length (D.targets destinations.now) ≤ most_elements }
-    ensures low { low.new ≡ last_senders 0 (D.targets destinations.now) lowest (length low.old) }
-    ensures high { high.new ≡ last_senders 0 (D.targets destinations.now) middle (length high.old) }
+    requires in_limit { length (D.destinations destinations.now) ≤ most_elements }
+    ensures low { low.new ≡ last_senders 0 (D.destinations destinations.now) lowest (length low.old) }
+    ensures high { high.new ≡ last_senders 0 (D.destinations destinations.now) middle (length high.old) }
     ensures count { result ≡ count_sent low.new + count_sent high.new }
 {
     let mut store_low = || -> usize
         requires { IsSync R.row × IsSync D.row × (1 ≤ fewer) × (low.now ≡ replicate (length low.now) nobody)
-            × (lowest + length low.now ≤ most_elements) × (length (D.targets destinations.now) ≤ most_elements) }
-        ensures { (low.exit.now ≡ last_senders 0 (D.targets destinations.entry.now) lowest (length low.entry.now))
+            × (lowest + length low.now ≤ most_elements) × (length (D.destinations destinations.now) ≤ most_elements) }
+        ensures { (low.exit.now ≡ last_senders 0 (D.destinations destinations.entry.now) lowest (length low.entry.now))
             × (result ≡ count_sent low.exit.now) }
     { store_ranges(rt, destinations, fewer, lowest, low) };
     let mut store_high = || -> usize
         requires { IsSync R.row × IsSync D.row × (1 ≤ others) × (high.now ≡ replicate (length high.now) nobody)
-            × (middle + length high.now ≤ most_elements) × (length (D.targets destinations.now) ≤ most_elements) }
-        ensures { (high.exit.now ≡ last_senders 0 (D.targets destinations.entry.now) middle (length high.entry.now))
+            × (middle + length high.now ≤ most_elements) × (length (D.destinations destinations.now) ≤ most_elements) }
+        ensures { (high.exit.now ≡ last_senders 0 (D.destinations destinations.entry.now) middle (length high.entry.now))
             × (result ≡ count_sent high.exit.now) }
     { store_ranges(rt, destinations, others, middle, high) };
     let (in_low, in_high) = join_mut(rt, &mut store_low, &mut store_high);
@@ -137,10 +137,10 @@ pub fn senders_shared<R: Threads + Sync, A: Memory, D: Destinations + Sync>(
     places: usize,
     destinations: &D,
 ) -> Result<Option<Vec<u32, A>>, NoResources>
-    requires few { length (D.targets destinations.now) ≤ most_elements }
+    requires few { length (D.destinations destinations.now) ≤ most_elements }
     requires few_places { places ≤ most_elements }
-    ensures senders { IfOk result (λ found. IfSome found (λ v. v.items ≡ senders_of 0 (D.targets destinations.now) places)) }
-    ensures bad { IfOk result (λ found. is_none found ≡ is_some (first_fault 0 (wrongs places (D.targets destinations.now)))) }
+    ensures senders { IfOk result (λ found. IfSome found (λ v. v.items ≡ senders_of 0 (D.destinations destinations.now) places)) }
+    ensures bad { IfOk result (λ found. is_none found ≡ is_some (first_fault 0 (wrongs places (D.destinations destinations.now)))) }
 {
     let nobodies = Copies {
         item: NOBODY,
@@ -148,7 +148,7 @@ pub fn senders_shared<R: Threads + Sync, A: Memory, D: Destinations + Sync>(
     };
     let mut senders = write_in_runs(rt, alloc, threads, &nobodies, places)?;
     let sent = store_ranges(rt, destinations, threads as usize, 0, &mut senders);
-    if sent == count_targets(destinations) {
+    if sent == count_destinations(destinations) {
         Ok(Some(senders))
     } else {
         Ok(None)

@@ -3,7 +3,7 @@
 
 ghost use Rattle.std.specs.Prelude.{◌≡◌, ◌≤◌, ◌↔◌, false, filter_map, length, replicate, slice_get, IfOk, IsTrue, None};
 ghost use Rattle.cvl_base.specs.Limits.{most_elements};
-ghost use Rattle.cvl_base.specs.Permutes.{all_targets, first_fault, wrongs};
+ghost use Rattle.cvl_base.specs.Permutes.{all_destinations, first_fault, wrongs};
 ghost use Rattle.permute_walks.specs.Senders.{last_senders, senders_of, sent_marks};
 
 use cvl_base::{Memory, NoResources, true_count};
@@ -16,8 +16,8 @@ use cvl_base::{Memory, NoResources, true_count};
 fn mark_each(marks: &mut [bool], index: &[i32]) -> bool
     requires fresh { marks.old ≡ replicate (length marks.old) false }
     requires in_limit { (length index.now ≤ most_elements) × (length marks.old ≤ most_elements) }
-    ensures marked { IsTrue result → marks.new ≡ sent_marks (last_senders 0 (all_targets index.now) 0 (length marks.old)) }
-    ensures inside { None ≡ first_fault 0 (wrongs (length marks.old) (all_targets index.now)) → IsTrue result }
+    ensures marked { IsTrue result → marks.new ≡ sent_marks (last_senders 0 (all_destinations index.now) 0 (length marks.old)) }
+    ensures inside { None ≡ first_fault 0 (wrongs (length marks.old) (all_destinations index.now)) → IsTrue result }
 {
     let places = marks.len();
     for i in index {
@@ -34,7 +34,7 @@ fn mark_each(marks: &mut [bool], index: &[i32]) -> bool
 fn are_apart(marks: &mut [bool], index: &[i32]) -> bool
     requires fresh { marks.old ≡ replicate (length marks.old) false }
     requires in_limit { (length index.now ≤ most_elements) × (length marks.old ≤ most_elements) }
-    ensures { IsTrue result ↔ None ≡ first_fault 0 (wrongs (length marks.old) (all_targets index.now)) }
+    ensures { IsTrue result ↔ None ≡ first_fault 0 (wrongs (length marks.old) (all_destinations index.now)) }
 {
     mark_each(marks, index) && true_count(marks) == index.len()
 }
@@ -44,7 +44,7 @@ fn are_apart(marks: &mut [bool], index: &[i32]) -> bool
 pub fn is_permutation<A: Memory>(alloc: A, index: &[i32]) -> Result<bool, NoResources>
     requires in_limit { length index.now ≤ most_elements }
     ensures { IfOk result (λ is.
-        IsTrue is ↔ None ≡ first_fault 0 (wrongs (length index.now) (all_targets index.now))) }
+        IsTrue is ↔ None ≡ first_fault 0 (wrongs (length index.now) (all_destinations index.now))) }
 {
     let mut marks = vec![in alloc; false; index.len()]?;
     Ok(are_apart(&mut marks, index))
@@ -55,8 +55,8 @@ pub fn is_permutation<A: Memory>(alloc: A, index: &[i32]) -> Result<bool, NoReso
 pub fn scatter_over<T: Copy>(source: &[T], index: &[i32], out: &mut [T])
     requires as_long { (length source.now ≡ length index.now) × (length out.old ≡ length index.now) }
     requires in_limit { length index.now ≤ most_elements }
-    requires apart { None ≡ first_fault 0 (wrongs (length index.now) (all_targets index.now)) }
-    ensures { out.new ≡ filter_map (slice_get source.now) (senders_of 0 (all_targets index.now) (length index.now)) }
+    requires apart { None ≡ first_fault 0 (wrongs (length index.now) (all_destinations index.now)) }
+    ensures { out.new ≡ filter_map (slice_get source.now) (senders_of 0 (all_destinations index.now) (length index.now)) }
 {
     for (k, i) in index.iter().enumerate() {
         out[*i as usize] = source[k];

@@ -39,16 +39,20 @@ fn send_one(senders: &mut [u32], index: &i32, place: u32) -> Result<(), Fault>
 
 /// Sends each place of a segment in turn, and stops at the first bad one. The clauses are those of `send_places`.
 #[inline(never)]
-fn send_each<T: Destinations>(senders: &mut [u32], first: usize, targets: &T) -> Result<(), Fault>
+fn send_each<T: Destinations>(
+    senders: &mut [u32],
+    first: usize,
+    destinations: &T,
+) -> Result<(), Fault>
     requires fresh { senders.old ≡ replicate (length senders.old) nobody }
-    requires in_limit { first + length (T.targets targets.now) ≤ most_elements }
+    requires in_limit { first + length (T.destinations destinations.now) ≤ most_elements }
     ensures fault { fault_told result
-        ≡ first_fault first (wrongs (length senders.old) (T.targets targets.now)) }
+        ≡ first_fault first (wrongs (length senders.old) (T.destinations destinations.now)) }
     ensures sent { OnOk result
-        (senders.new ≡ senders_of first (T.targets targets.now) (length senders.old)) }
+        (senders.new ≡ senders_of first (T.destinations destinations.now) (length senders.old)) }
 {
-    for k in 0..targets.count() {
-        let (index, takes_part) = targets.at(k);
+    for k in 0..destinations.count() {
+        let (index, takes_part) = destinations.at(k);
         if takes_part {
             send_one(senders, index, (first + k) as u32)?;
         }
@@ -62,21 +66,21 @@ fn send_each<T: Destinations>(senders: &mut [u32], first: usize, targets: &T) ->
 pub fn send_places<T: Destinations>(
     senders: &mut [u32],
     first: usize,
-    targets: &T,
+    destinations: &T,
 ) -> Result<(), Fault>
     requires fresh { senders.old ≡ replicate (length senders.old) nobody }
-    requires in_limit { first + length (T.targets targets.now) ≤ most_elements }
+    requires in_limit { first + length (T.destinations destinations.now) ≤ most_elements }
     ensures fault { fault_told result
-        ≡ first_fault first (wrongs (length senders.old) (T.targets targets.now)) }
+        ≡ first_fault first (wrongs (length senders.old) (T.destinations destinations.now)) }
     ensures sent { OnOk result
-        (senders.new ≡ senders_of first (T.targets targets.now) (length senders.old)) }
+        (senders.new ≡ senders_of first (T.destinations destinations.now) (length senders.old)) }
 {
-    if targets.count() >= LONG {
-        let sent = store_each(senders, first, targets);
+    if destinations.count() >= LONG {
+        let sent = store_each(senders, first, destinations);
         if are_apart(senders, sent) {
             return Ok(());
         }
         senders.fill(NOBODY);
     }
-    send_each(senders, first, targets)
+    send_each(senders, first, destinations)
 }

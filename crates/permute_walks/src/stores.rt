@@ -20,20 +20,20 @@ use cvl_base::limits::MOST_ELEMENTS;
 pub(crate) fn store_each<T: Destinations>(
     senders: &mut [u32],
     first: usize,
-    targets: &T,
+    destinations: &T,
 ) -> Option<usize>
     requires fresh { senders.old ≡ replicate (length senders.old) nobody }
-    requires in_limit { first + length (T.targets targets.now) ≤ most_elements }
+    requires in_limit { first + length (T.destinations destinations.now) ≤ most_elements }
     ensures stored { IfSome result (λ sent.
-        IsStored first (T.targets targets.now) sent (length senders.old) senders.new) }
-    ensures in_length { IfSome result (λ sent. sent ≤ length (T.targets targets.now)) }
+        IsStored first (T.destinations destinations.now) sent (length senders.old) senders.new) }
+    ensures in_length { IfSome result (λ sent. sent ≤ length (T.destinations destinations.now)) }
 {
     let places = senders.len().min(MOST_ELEMENTS);
     let mut destination = 0;
     let mut sender = NOBODY;
     let mut sent = 0;
-    for k in 0..targets.count() {
-        let (index, takes_part) = targets.at(k);
+    for k in 0..destinations.count() {
+        let (index, takes_part) = destinations.at(k);
         let named = index.cast_unsigned();
         let place = (first + k) as u32;
         if takes_part {

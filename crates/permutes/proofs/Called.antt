@@ -7,7 +7,7 @@ use Rattle.cvl_base.specs.declared.refused.Refused.{Refused}
 use Rattle.cvl_base.specs.Gives.{Gives, unless}
 use Rattle.cvl_base.specs.Limits.{most_elements}
 use Rattle.cvl_base.specs.Packs.{count_of}
-use Rattle.cvl_base.specs.Permutes.{all_targets, back_of, first_fault, flagged_targets, select_of, simple_of, wrongs}
+use Rattle.cvl_base.specs.Permutes.{all_destinations, back_of, first_fault, flagged_destinations, select_of, simple_of, wrongs}
 use Rattle.cvl_base.specs.SegmentedCalls.{seg_back_of, seg_default_of, seg_select_of, seg_simple_of}
 use Rattle.permutes.specs.Backs.{outside_from, segments_at}
 use Rattle.permutes.specs.Parts.{fault_from, flagged_parts, parts_of, senders_from}
@@ -57,17 +57,17 @@ shown_long fault senders found shown is shows = ap length shows ∙ found_long f
 -- ---- flat calls
 
 module _ {V X : Type 0} (view : V → List X) (r : Result V Refused) (source : List X) (index : List ℤ) (long : length source ≡ length index) (few : length index ≤ most_elements) where
-  pub simple_gives : (AreAllSent (first_fault 0 (wrongs (length index) (all_targets index))) (length source) (senders_of 0 (all_targets index) (length index))
-      → Gives view r (unless (first_fault 0 (wrongs (length index) (all_targets index))) (Ok (filter_map (slice_get source) (senders_of 0 (all_targets index) (length index))))))
+  pub simple_gives : (AreAllSent (first_fault 0 (wrongs (length index) (all_destinations index))) (length source) (senders_of 0 (all_destinations index) (length index))
+      → Gives view r (unless (first_fault 0 (wrongs (length index) (all_destinations index))) (Ok (filter_map (slice_get source) (senders_of 0 (all_destinations index) (length index))))))
       → Gives view r (simple_of source index)
   simple_gives given = subst (Gives view r) (sym (simple-meaning source index long few)) (given (simple_sent index (length source) long (omega (arith, few))))
 
   pub simple_long : (len : V → ℕ) → ((v : V) → len v ≡ length (view v))
-      → (AreAllSent (first_fault 0 (wrongs (length index) (all_targets index))) (length source) (senders_of 0 (all_targets index) (length index))
-      → Gives view r (unless (first_fault 0 (wrongs (length index) (all_targets index))) (Ok (filter_map (slice_get source) (senders_of 0 (all_targets index) (length index))))))
+      → (AreAllSent (first_fault 0 (wrongs (length index) (all_destinations index))) (length source) (senders_of 0 (all_destinations index) (length index))
+      → Gives view r (unless (first_fault 0 (wrongs (length index) (all_destinations index))) (Ok (filter_map (slice_get source) (senders_of 0 (all_destinations index) (length index))))))
       → IfOk r (λ v. len v ≡ length index)
   simple_long len is given =
-      let ts = all_targets index in
+      let ts = all_destinations index in
       let places = length index in
       let senders = senders_of 0 ts places in
       let sent = simple_sent index (length source) long (omega (arith, few)) in
@@ -75,11 +75,11 @@ module _ {V X : Type 0} (view : V → List X) (r : Result V Refused) (source : L
       (λ right. length-taken source senders (sent right) ∙ length-senders_of 0 ts places) (given sent)
 
   pub select_gives : (flags : List Bool) (places : ℕ) → places ≡ count_of flags → length index ≡ length flags
-      → (AreAllSent (first_fault 0 (wrongs places (flagged_targets index flags))) (length source) (senders_of 0 (flagged_targets index flags) places)
-      → Gives view r (unless (first_fault 0 (wrongs places (flagged_targets index flags))) (Ok (filter_map (slice_get source) (senders_of 0 (flagged_targets index flags) places)))))
+      → (AreAllSent (first_fault 0 (wrongs places (flagged_destinations index flags))) (length source) (senders_of 0 (flagged_destinations index flags) places)
+      → Gives view r (unless (first_fault 0 (wrongs places (flagged_destinations index flags))) (Ok (filter_map (slice_get source) (senders_of 0 (flagged_destinations index flags) places)))))
       → Gives view r (select_of source index flags)
   select_gives flags places count flagged given =
-      let ts = flagged_targets index flags in
+      let ts = flagged_destinations index flags in
       subst (Gives view r) (sym (select-meaning source index flags long flagged few))
       (subst
       (λ n. AreAllSent (first_fault 0 (wrongs n ts)) (length source) (senders_of 0 ts n)

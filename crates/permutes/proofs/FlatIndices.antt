@@ -1,4 +1,4 @@
--- The flat indices of the segmented permutes: the walk that makes them, and what targets they are.
+-- The flat indices of the segmented permutes: the walk that makes them, and what destinations they are.
 use Rattle.std.proofs.Common.{◌≡◌, ◌∙◌, ℕ, suc, ◌+◌, ◌<◌, ◌≤◌, Bool, true, false, if◌then◌else◌, List, [], ◌∷◌, ◌++◌, length, map, sum, take, drop, get_or, refl, sym, ap, arith, inl, inr}
 use Rattle.std.proofs.Common.{append_assoc, append-nil, length-append, length-drop, ℤ, pos, negsuc, Option, Some, None, Ok}
 use Rattle.std.specs.Option.{option_or}
@@ -8,15 +8,15 @@ use Rattle.std.proofs.lemmas.List.{drop_all, drop_more, length-map, length-take-
 use Rattle.cvl_base.specs.declared.fault.FaultNo.TheVariants.{IndexOutOfRange}
 use Rattle.cvl_base.specs.Gives.{unless}
 use Rattle.cvl_base.specs.Packs.{count_of}
-use Rattle.cvl_base.specs.Permutes.{all_targets, flagged_targets, first_fault, target_if, wrongs}
+use Rattle.cvl_base.specs.Permutes.{all_destinations, flagged_destinations, first_fault, destination_if, wrongs}
 use Rattle.permute_walks.specs.Indices.{first_outside, outside}
 use Rattle.permute_walks.specs.Senders.{senders_of}
-use Rattle.permute_walks.proofs.Sent.{length-all_targets, length-flagged_targets}
+use Rattle.permute_walks.proofs.Sent.{length-all_destinations, length-flagged_destinations}
 use Rattle.permutes.specs.Backs.{outside_from}
 use Rattle.permutes.specs.FlatIndices.{flat_index, flat_indices}
-use Rattle.permutes.specs.Parts.{fault_from, flagged_parts, parts_of, places_in, senders_from, targets_in}
+use Rattle.permutes.specs.Parts.{fault_from, flagged_parts, parts_of, places_in, senders_from, destinations_in}
 use Rattle.permutes.proofs.Cuts.{sum-cons}
-use Rattle.permutes.proofs.Flattened.{fault_flat, first_fault-append, flat_target, flat_targets, senders_flat}
+use Rattle.permutes.proofs.Flattened.{fault_flat, first_fault-append, flat_destination, flat_destinations, senders_flat}
 
 -- ---- the walk
 
@@ -24,10 +24,10 @@ use Rattle.permutes.proofs.Flattened.{fault_flat, first_fault-append, flat_targe
 pub record IsFlatThrough (parts : List (ℕ × List (Option ℤ))) (index : List ℤ) (start s : ℕ) (flat rest : List ℤ) : Type 0 where
   pub indices_are : flat ++ flat_indices start (drop s parts) rest ≡ flat_indices 0 parts index
   pub places_left : start + places_in (drop s parts) ≡ places_in parts
-  pub targets_left : targets_in (drop s parts) ≡ length rest
+  pub destinations_left : destinations_in (drop s parts) ≡ length rest
 
-pub flat_none : (parts : List (ℕ × List (Option ℤ))) (index : List ℤ) → targets_in parts ≡ length index → IsFlatThrough parts index 0 0 [] index
-flat_none parts index long = record { indices_are = refl; places_left = omega arith; targets_left = long }
+pub flat_none : (parts : List (ℕ × List (Option ℤ))) (index : List ℤ) → destinations_in parts ≡ length index → IsFlatThrough parts index 0 0 [] index
+flat_none parts index long = record { indices_are = refl; places_left = omega arith; destinations_left = long }
 
 module _ (parts : List (ℕ × List (Option ℤ))) (index : List ℤ) (start s : ℕ) (flat rest : List ℤ) (m : ℕ) (ts : List (Option ℤ)) (to : IsFlatThrough parts index start s flat rest)
     (lt : s < length parts) (is : get_or parts s (0, []) ≡ (m, ts)) where
@@ -37,14 +37,14 @@ module _ (parts : List (ℕ × List (Option ℤ))) (index : List ℤ) (start s :
   places_more : start + m + places_in (drop (s + 1) parts) ≡ places_in parts
   places_more = omega (arith, to.places_left, ap places_in split, sum-cons m (map (λ (p : ℕ × List (Option ℤ)). p.0) (drop (s + 1) parts)))
 
-  targets_more : length ts + targets_in (drop (s + 1) parts) ≡ length rest
-  targets_more = omega (arith, to.targets_left, ap targets_in split, sum-cons (length ts) (map (λ (p : ℕ × List (Option ℤ)). length p.1) (drop (s + 1) parts)))
+  destinations_more : length ts + destinations_in (drop (s + 1) parts) ≡ length rest
+  destinations_more = omega (arith, to.destinations_left, ap destinations_in split, sum-cons (length ts) (map (λ (p : ℕ × List (Option ℤ)). length p.1) (drop (s + 1) parts)))
 
   pub flat_within : start + m ≤ places_in parts
   flat_within = omega (arith, places_more)
 
   pub flat_room : length ts ≤ length rest
-  flat_room = omega (arith, targets_more)
+  flat_room = omega (arith, destinations_more)
 
   pub flat_more : (new : List ℤ) → new ≡ flat ++ map (flat_index start m) (take (length ts) rest) → IsFlatThrough parts index (start + m) (s + 1) new (drop (length ts) rest)
   flat_more new pushed = record {
@@ -53,7 +53,7 @@ module _ (parts : List (ℕ × List (Option ℤ))) (index : List ℤ) (start s :
         ∙ ap (λ ps. flat ++ flat_indices start ps rest) (sym split)
         ∙ to.indices_are;
     places_left = places_more;
-    targets_left = omega (arith, targets_more, length-drop (length ts) rest);
+    destinations_left = omega (arith, destinations_more, length-drop (length ts) rest);
   }
 
 pub flat_all : (parts : List (ℕ × List (Option ℤ))) (index : List ℤ) (start s : ℕ) (flat rest : List ℤ) → IsFlatThrough parts index start s flat rest → length parts ≤ s
@@ -63,41 +63,41 @@ flat_all parts index start s flat rest to past =
 
 -- ---- where each place takes part
 
-flat_all_targets : (start m : ℕ) (index : List ℤ) → map (flat_target start m) (all_targets index) ≡ all_targets (map (flat_index start m) index)
-flat_all_targets start m [] = refl
-flat_all_targets start m (i ∷ index) = ap (λ rest. Some (flat_index start m i) ∷ rest) (flat_all_targets start m index)
+flat_all_destinations : (start m : ℕ) (index : List ℤ) → map (flat_destination start m) (all_destinations index) ≡ all_destinations (map (flat_index start m) index)
+flat_all_destinations start m [] = refl
+flat_all_destinations start m (i ∷ index) = ap (λ rest. Some (flat_index start m i) ∷ rest) (flat_all_destinations start m index)
 
-pub targets_all : (start : ℕ) (lengths widths : List ℕ) (index : List ℤ) → sum lengths ≤ length index
-    → flat_targets start (parts_of lengths widths index) ≡ all_targets (flat_indices start (parts_of lengths widths index) index)
-targets_all start [] [] index within = refl
-targets_all start [] (m ∷ ms) index within = refl
-targets_all start (n ∷ ns) [] index within = refl
-targets_all start (n ∷ ns) (m ∷ ms) index within =
+pub destinations_all : (start : ℕ) (lengths widths : List ℕ) (index : List ℤ) → sum lengths ≤ length index
+    → flat_destinations start (parts_of lengths widths index) ≡ all_destinations (flat_indices start (parts_of lengths widths index) index)
+destinations_all start [] [] index within = refl
+destinations_all start [] (m ∷ ms) index within = refl
+destinations_all start (n ∷ ns) [] index within = refl
+destinations_all start (n ∷ ns) (m ∷ ms) index within =
     let all = sum-cons n ns in
     let others = parts_of ns ms (drop n index) in
-    let long : length (all_targets (take n index)) ≡ n = length-all_targets (take n index) ∙ length-take-le n index (omega (arith, all, within)) in
-    (λ i. flat_all_targets start m (take n index) i ++ targets_all (start + m) ns ms (drop n index) (omega (arith, all, within, length-drop n index)) i)
+    let long : length (all_destinations (take n index)) ≡ n = length-all_destinations (take n index) ∙ length-take-le n index (omega (arith, all, within)) in
+    (λ i. flat_all_destinations start m (take n index) i ++ destinations_all (start + m) ns ms (drop n index) (omega (arith, all, within, length-drop n index)) i)
     ∙ sym (map-append (λ i. Some i) (map (flat_index start m) (take n index)) (flat_indices (start + m) others (drop n index)))
-    ∙ ap (λ k. all_targets (map (flat_index start m) (take k index) ++ flat_indices (start + m) others (drop k index))) (sym long)
+    ∙ ap (λ k. all_destinations (map (flat_index start m) (take k index) ++ flat_indices (start + m) others (drop k index))) (sym long)
 
 -- ---- where the flagged places do
 
-flat_flagged_targets : (start m : ℕ) (index : List ℤ) (flags : List Bool) → map (flat_target start m) (flagged_targets index flags) ≡ flagged_targets (map (flat_index start m) index) flags
-flat_flagged_targets start m [] flags = refl
-flat_flagged_targets start m (i ∷ index) [] = refl
-flat_flagged_targets start m (i ∷ index) (true ∷ flags) = ap (λ rest. Some (flat_index start m i) ∷ rest) (flat_flagged_targets start m index flags)
-flat_flagged_targets start m (i ∷ index) (false ∷ flags) = ap (λ rest. None ∷ rest) (flat_flagged_targets start m index flags)
+flat_flagged_destinations : (start m : ℕ) (index : List ℤ) (flags : List Bool) → map (flat_destination start m) (flagged_destinations index flags) ≡ flagged_destinations (map (flat_index start m) index) flags
+flat_flagged_destinations start m [] flags = refl
+flat_flagged_destinations start m (i ∷ index) [] = refl
+flat_flagged_destinations start m (i ∷ index) (true ∷ flags) = ap (λ rest. Some (flat_index start m i) ∷ rest) (flat_flagged_destinations start m index flags)
+flat_flagged_destinations start m (i ∷ index) (false ∷ flags) = ap (λ rest. None ∷ rest) (flat_flagged_destinations start m index flags)
 
 flagged-append : (index others : List ℤ) (flags : List Bool) → length index ≤ length flags
-    → flagged_targets (index ++ others) flags ≡ flagged_targets index (take (length index) flags) ++ flagged_targets others (drop (length index) flags)
+    → flagged_destinations (index ++ others) flags ≡ flagged_destinations index (take (length index) flags) ++ flagged_destinations others (drop (length index) flags)
 flagged-append [] others flags within = refl
 flagged-append (i ∷ index) others [] within = absurd (omega arith)
-flagged-append (i ∷ index) others (f ∷ flags) within = ap (λ rest. target_if i f ∷ rest) (flagged-append index others flags (omega (arith, within)))
+flagged-append (i ∷ index) others (f ∷ flags) within = ap (λ rest. destination_if i f ∷ rest) (flagged-append index others flags (omega (arith, within)))
 
-pub targets_flagged : (start : ℕ) (lengths : List ℕ) (index : List ℤ) (flags : List Bool) → sum lengths ≤ length index → sum lengths ≤ length flags
-    → flat_targets start (flagged_parts lengths index flags) ≡ flagged_targets (flat_indices start (flagged_parts lengths index flags) index) flags
-targets_flagged start [] index flags within flag_within = refl
-targets_flagged start (n ∷ ns) index flags within flag_within =
+pub destinations_flagged : (start : ℕ) (lengths : List ℕ) (index : List ℤ) (flags : List Bool) → sum lengths ≤ length index → sum lengths ≤ length flags
+    → flat_destinations start (flagged_parts lengths index flags) ≡ flagged_destinations (flat_indices start (flagged_parts lengths index flags) index) flags
+destinations_flagged start [] index flags within flag_within = refl
+destinations_flagged start (n ∷ ns) index flags within flag_within =
     let all = sum-cons n ns in
     let js = take n index in
     let fs = take n flags in
@@ -107,12 +107,12 @@ targets_flagged start (n ∷ ns) index flags within flag_within =
     let index_long : length js ≡ n = length-take-le n index (omega (arith, all, within)) in
     let flag_long : length fs ≡ n = length-take-le n flags (omega (arith, all, flag_within)) in
     let flat_long : length flat ≡ n = length-map js (flat_index start m) ∙ index_long in
-    let long : length (flagged_targets js fs) ≡ n = length-flagged_targets js fs (index_long ∙ sym flag_long) ∙ index_long in
-    (λ i. flat_flagged_targets start m js fs i
-    ++ targets_flagged (start + m) ns (drop n index) (drop n flags) (omega (arith, all, within, length-drop n index)) (omega (arith, all, flag_within, length-drop n flags)) i)
-    ∙ ap (λ k. flagged_targets flat (take k flags) ++ flagged_targets (flat_indices (start + m) others (drop n index)) (drop k flags)) (sym flat_long)
+    let long : length (flagged_destinations js fs) ≡ n = length-flagged_destinations js fs (index_long ∙ sym flag_long) ∙ index_long in
+    (λ i. flat_flagged_destinations start m js fs i
+    ++ destinations_flagged (start + m) ns (drop n index) (drop n flags) (omega (arith, all, within, length-drop n index)) (omega (arith, all, flag_within, length-drop n flags)) i)
+    ∙ ap (λ k. flagged_destinations flat (take k flags) ++ flagged_destinations (flat_indices (start + m) others (drop n index)) (drop k flags)) (sym flat_long)
     ∙ sym (flagged-append flat (flat_indices (start + m) others (drop n index)) flags (omega (arith, flat_long, all, flag_within)))
-    ∙ ap (λ k. flagged_targets (map (flat_index start m) (take k index) ++ flat_indices (start + m) others (drop k index)) flags) (sym long)
+    ∙ ap (λ k. flagged_destinations (map (flat_index start m) (take k index) ++ flat_indices (start + m) others (drop k index)) flags) (sym long)
 
 -- ---- of a back permute
 
@@ -144,7 +144,7 @@ outside_flat place start whole (m ∷ ms) (n ∷ ns) index count total within =
     let js = take n index in
     let others = flat_indices (start + m) (parts_of ns ms (drop n index)) (drop n index) in
     let index_long : length js ≡ n = length-take-le n index (omega (arith, all, total)) in
-    let long : length (all_targets js) ≡ n = length-all_targets js ∙ index_long in
+    let long : length (all_destinations js) ≡ n = length-all_destinations js ∙ index_long in
     ap (option_or (first_outside place m js)) (outside_flat (place + n) (start + m) whole ms ns (drop n index) (omega (arith, count)) (omega (arith, all, total, length-drop n index))
     (omega (arith, wide, within)))
     ∙ ap (λ k. option_or (first_outside place m js) (first_outside (place + k) whole others)) (sym (length-map js (outside m) ∙ index_long))
@@ -155,7 +155,7 @@ outside_flat place start whole (m ∷ ms) (n ∷ ns) index count total within =
 
 -- ---- as many as there are indices
 
-pub length-flat_indices : (start : ℕ) (parts : List (ℕ × List (Option ℤ))) (index : List ℤ) → targets_in parts ≤ length index → length (flat_indices start parts index) ≡ targets_in parts
+pub length-flat_indices : (start : ℕ) (parts : List (ℕ × List (Option ℤ))) (index : List ℤ) → destinations_in parts ≤ length index → length (flat_indices start parts index) ≡ destinations_in parts
 length-flat_indices start [] index within = refl
 length-flat_indices start ((m, ts) ∷ parts) index within =
     let all = sum-cons (length ts) (map (λ (p : ℕ × List (Option ℤ)). length p.1) parts) in
@@ -169,28 +169,28 @@ length-flat_indices start ((m, ts) ∷ parts) index within =
       length-flat_indices (start + m) parts (drop (length ts) index) (omega (arith, all, within, length-drop (length ts) index)),
     )
 
-pub targets_in-all : (lengths widths : List ℕ) (index : List ℤ) → sum lengths ≡ length index → length lengths ≡ length widths → targets_in (parts_of lengths widths index) ≡ length index
-targets_in-all [] [] index total count = total
-targets_in-all [] (m ∷ ms) index total count = absurd (omega (arith, count))
-targets_in-all (n ∷ ns) [] index total count = absurd (omega (arith, count))
-targets_in-all (n ∷ ns) (m ∷ ms) index total count =
+pub destinations_in-all : (lengths widths : List ℕ) (index : List ℤ) → sum lengths ≡ length index → length lengths ≡ length widths → destinations_in (parts_of lengths widths index) ≡ length index
+destinations_in-all [] [] index total count = total
+destinations_in-all [] (m ∷ ms) index total count = absurd (omega (arith, count))
+destinations_in-all (n ∷ ns) [] index total count = absurd (omega (arith, count))
+destinations_in-all (n ∷ ns) (m ∷ ms) index total count =
     let all = sum-cons n ns in
-    let ts = all_targets (take n index) in
+    let ts = all_destinations (take n index) in
     omega (
       arith,
       all,
       total,
       sum-cons (length ts) (map (λ (p : ℕ × List (Option ℤ)). length p.1) (parts_of ns ms (drop n index))),
-      length-all_targets (take n index),
+      length-all_destinations (take n index),
       length-take-le n index (omega (arith, all, total)),
-      targets_in-all ns ms (drop n index) (omega (arith, all, total, length-drop n index)) (omega (arith, count)),
+      destinations_in-all ns ms (drop n index) (omega (arith, all, total, length-drop n index)) (omega (arith, count)),
       length-drop n index,
     )
 
-pub targets_in-flagged : (lengths : List ℕ) (index : List ℤ) (flags : List Bool) → sum lengths ≡ length index → length index ≡ length flags
-    → targets_in (flagged_parts lengths index flags) ≡ length index
-targets_in-flagged [] index flags total same = total
-targets_in-flagged (n ∷ ns) index flags total same =
+pub destinations_in-flagged : (lengths : List ℕ) (index : List ℤ) (flags : List Bool) → sum lengths ≡ length index → length index ≡ length flags
+    → destinations_in (flagged_parts lengths index flags) ≡ length index
+destinations_in-flagged [] index flags total same = total
+destinations_in-flagged (n ∷ ns) index flags total same =
     let all = sum-cons n ns in
     let js = take n index in
     let fs = take n flags in
@@ -200,16 +200,16 @@ targets_in-flagged (n ∷ ns) index flags total same =
       arith,
       all,
       total,
-      sum-cons (length (flagged_targets js fs)) (map (λ (p : ℕ × List (Option ℤ)). length p.1) (flagged_parts ns (drop n index) (drop n flags))),
-      length-flagged_targets js fs (index_long ∙ sym flag_long),
+      sum-cons (length (flagged_destinations js fs)) (map (λ (p : ℕ × List (Option ℤ)). length p.1) (flagged_parts ns (drop n index) (drop n flags))),
+      length-flagged_destinations js fs (index_long ∙ sym flag_long),
       index_long,
-      targets_in-flagged ns (drop n index) (drop n flags) (omega (arith, all, total, length-drop n index)) (omega (arith, same, length-drop n index, length-drop n flags)),
+      destinations_in-flagged ns (drop n index) (drop n flags) (omega (arith, all, total, length-drop n index)) (omega (arith, same, length-drop n index, length-drop n flags)),
       length-drop n index,
     )
 
--- ---- what a race at flat targets finds
+-- ---- what a race at flat destinations finds
 
-pub raced_flat : (parts : List (ℕ × List (Option ℤ))) (whole : ℕ) (ts : List (Option ℤ)) → places_in parts ≡ whole → ts ≡ flat_targets 0 parts
+pub raced_flat : (parts : List (ℕ × List (Option ℤ))) (whole : ℕ) (ts : List (Option ℤ)) → places_in parts ≡ whole → ts ≡ flat_destinations 0 parts
     → unless (first_fault 0 (wrongs whole ts)) (Ok (senders_of 0 ts whole)) ≡ unless (fault_from 0 parts) (Ok (senders_from 0 parts))
 raced_flat parts whole ts wide are =
     ap (λ us. unless (first_fault 0 (wrongs whole us)) (Ok (senders_of 0 us whole))) are

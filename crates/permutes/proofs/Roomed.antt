@@ -9,7 +9,7 @@ use Rattle.cvl_base.specs.declared.refused.Refused.TheVariants as refused
 use Rattle.cvl_base.specs.Faults.{fault}
 use Rattle.cvl_base.specs.Gives.{Gives, unless}
 use Rattle.cvl_base.specs.Limits.{most_elements}
-use Rattle.cvl_base.specs.Permutes.{all_targets, first_fault, simple_of, wrongs}
+use Rattle.cvl_base.specs.Permutes.{all_destinations, first_fault, simple_of, wrongs}
 use Rattle.cvl_base.specs.Rooms.{OverwritesOr, in_room}
 use Rattle.cvl_base.proofs.Rooms.{differs, fits}
 use Rattle.permutes.specs.Walks.{AreAllSent}
@@ -75,21 +75,21 @@ module _ (first : Option Fault) (senders found shown : List ℕ) (gave : unless 
 -- ---- a simple permute whose indices are a permutation of their places: the room is as long as they are, or not
 
 module _ {X : Type 0} (source : List X) (index : List ℤ) (agree : length source ≡ length index) (few : length index ≤ most_elements)
-    (none : None ≡ first_fault 0 (wrongs (length index) (all_targets index))) (room : ℕ) where
+    (none : None ≡ first_fault 0 (wrongs (length index) (all_destinations index))) (room : ℕ) where
   abbrev pub permuted : List X
-  permuted = filter_map (slice_get source) (senders_of 0 (all_targets index) (length index))
+  permuted = filter_map (slice_get source) (senders_of 0 (all_destinations index) (length index))
 
   permuted_long : length permuted ≡ length index
   permuted_long =
-      length-taken source (senders_of 0 (all_targets index) (length index)) (simple_sent index (length source) agree (omega (arith, few)) (sym none))
-      ∙ length-senders_of 0 (all_targets index) (length index)
+      length-taken source (senders_of 0 (all_destinations index) (length index)) (simple_sent index (length source) agree (omega (arith, few)) (sym none))
+      ∙ length-senders_of 0 (all_destinations index) (length index)
 
   pub permuted_differs : length index ≢ room → in_room room (simple_of source index) ≡ Err (fault LengthMismatch)
   permuted_differs other =
-      differs_in_room room (simple_of source index) (first_fault 0 (wrongs (length index) (all_targets index))) permuted (simple-meaning source index agree few) none
+      differs_in_room room (simple_of source index) (first_fault 0 (wrongs (length index) (all_destinations index))) permuted (simple-meaning source index agree few) none
       (λ same. other (sym permuted_long ∙ same))
 
   pub permuted_fits : length index ≡ room → in_room room (simple_of source index) ≡ Ok permuted
   permuted_fits long =
-      fits_in_room room (simple_of source index) (first_fault 0 (wrongs (length index) (all_targets index))) permuted (simple-meaning source index agree few) none
+      fits_in_room room (simple_of source index) (first_fault 0 (wrongs (length index) (all_destinations index))) permuted (simple-meaning source index agree few) none
       (permuted_long ∙ long)

@@ -11,19 +11,19 @@ use borrow.Rule.Slice.PartMut.{put_mid}
 use Rattle.cvl_base.specs.declared.fault.Fault.{Fault}
 use Rattle.cvl_base.specs.Nests.{cut_of}
 use Rattle.cvl_base.specs.Packs.{count_of}
-use Rattle.cvl_base.specs.Permutes.{all_targets, first_fault, flagged_targets, wrongs}
-use Rattle.permutes.specs.Parts.{fault_from, flagged_parts, parts_of, places_in, senders_from, targets_in}
+use Rattle.cvl_base.specs.Permutes.{all_destinations, first_fault, flagged_destinations, wrongs}
+use Rattle.permutes.specs.Parts.{fault_from, flagged_parts, parts_of, places_in, senders_from, destinations_in}
 use Rattle.permute_walks.specs.Senders.{nobody, senders_of}
 use Rattle.permutes.proofs.Cuts.{cut_at, length-cut, sum-cons}
-use Rattle.permute_walks.proofs.Sent.{length-senders_of, length-all_targets, count-flagged_targets}
+use Rattle.permute_walks.proofs.Sent.{length-senders_of, length-all_destinations, count-flagged_destinations}
 
--- the first s parts are done: their targets end at the place given, and their part of the result at `start`
+-- the first s parts are done: their destinations end at the place given, and their part of the result at `start`
 pub record IsSentThrough (parts : List (ℕ × List (Option ℤ))) (place start s : ℕ) (senders : List ℕ) : Type 0 where
   pub fault_is : fault_from 0 parts ≡ fault_from place (drop s parts)
   pub senders_are : take start senders ++ senders_from place (drop s parts) ≡ senders_from 0 parts
   pub rest_is : drop start senders ≡ replicate (length senders - start) nobody
   pub room_is : start + places_in (drop s parts) ≡ length senders
-  pub left_is : place + targets_in (drop s parts) ≡ targets_in parts
+  pub left_is : place + destinations_in (drop s parts) ≡ destinations_in parts
 
 pub through_none : (parts : List (ℕ × List (Option ℤ))) (senders : List ℕ) → senders ≡ replicate (length senders) nobody → places_in parts ≡ length senders → IsSentThrough parts 0 0 0 senders
 through_none parts senders fresh room = record {
@@ -54,10 +54,10 @@ module _ (parts : List (ℕ × List (Option ℤ))) (place start s : ℕ) (sender
   room_more : start + m + places_in (drop (s + 1) parts) ≡ length senders
   room_more = omega (arith, to.room_is, ap places_in split, sum-cons m (map (λ (p : ℕ × List (Option ℤ)). p.0) (drop (s + 1) parts)))
 
-  left_more : place + length ts + targets_in (drop (s + 1) parts) ≡ targets_in parts
-  left_more = omega (arith, to.left_is, ap targets_in split, sum-cons (length ts) (map (λ (p : ℕ × List (Option ℤ)). length p.1) (drop (s + 1) parts)))
+  left_more : place + length ts + destinations_in (drop (s + 1) parts) ≡ destinations_in parts
+  left_more = omega (arith, to.left_is, ap destinations_in split, sum-cons (length ts) (map (λ (p : ℕ × List (Option ℤ)). length p.1) (drop (s + 1) parts)))
 
-  pub through_left : place + length ts ≤ targets_in parts
+  pub through_left : place + length ts ≤ destinations_in parts
   through_left = omega (arith, left_more)
 
   pub through_room : start + m ≤ length senders
@@ -144,31 +144,31 @@ firsts (x ∷ xs) (y ∷ ys) same = ap (λ rest. x ∷ rest) (firsts xs ys (omeg
 
 module _ (lengths result_lengths : List ℕ) (index : List ℤ) (count : length lengths ≡ length result_lengths) where
   pub length-parts : length (parts_of lengths result_lengths index) ≡ length lengths
-  length-parts = omega (arith, length-zip result_lengths (map all_targets (cut_of lengths index)), length-map (cut_of lengths index) all_targets, length-cut lengths index)
+  length-parts = omega (arith, length-zip result_lengths (map all_destinations (cut_of lengths index)), length-map (cut_of lengths index) all_destinations, length-cut lengths index)
 
   pub part_at : (s : ℕ) → s < length lengths → get_or (parts_of lengths result_lengths index) s (0, [])
-      ≡ (get_or result_lengths s 0, all_targets (take (get_or lengths s 0) (drop (sum (take s lengths)) index)))
+      ≡ (get_or result_lengths s 0, all_destinations (take (get_or lengths s 0) (drop (sum (take s lengths)) index)))
   part_at s lt =
       let long = length-cut lengths index in
-      get_or-zip result_lengths (map all_targets (cut_of lengths index)) s (0, []) (omega arith) (omega (arith, length-map (cut_of lengths index) all_targets))
-      ∙ ap (λ ts. (get_or result_lengths s 0, ts)) (get_or-map all_targets (cut_of lengths index) s [] [] (omega arith) ∙ ap all_targets (cut_at lengths index s lt))
+      get_or-zip result_lengths (map all_destinations (cut_of lengths index)) s (0, []) (omega arith) (omega (arith, length-map (cut_of lengths index) all_destinations))
+      ∙ ap (λ ts. (get_or result_lengths s 0, ts)) (get_or-map all_destinations (cut_of lengths index) s [] [] (omega arith) ∙ ap all_destinations (cut_at lengths index s lt))
 
   pub places-parts : places_in (parts_of lengths result_lengths index) ≡ sum result_lengths
-  places-parts = ap sum (firsts result_lengths (map all_targets (cut_of lengths index)) (omega (arith, length-map (cut_of lengths index) all_targets, length-cut lengths index)))
+  places-parts = ap sum (firsts result_lengths (map all_destinations (cut_of lengths index)) (omega (arith, length-map (cut_of lengths index) all_destinations, length-cut lengths index)))
 
--- a segment has no more targets than indices
-targets_more : (n m : ℕ) (index : List ℤ) (ts : List (Option ℤ)) (parts : List (ℕ × List (Option ℤ))) → length ts ≤ length (take n index)
-    → targets_in parts ≤ length (drop n index) → targets_in ((m, ts) ∷ parts) ≤ length index
-targets_more n m index ts parts here rest =
+-- a segment has no more destinations than indices
+destinations_more : (n m : ℕ) (index : List ℤ) (ts : List (Option ℤ)) (parts : List (ℕ × List (Option ℤ))) → length ts ≤ length (take n index)
+    → destinations_in parts ≤ length (drop n index) → destinations_in ((m, ts) ∷ parts) ≤ length index
+destinations_more n m index ts parts here rest =
     omega (arith, here, rest, length-take n index, length-drop n index, sum-cons (length ts) (map (λ (p : ℕ × List (Option ℤ)). length p.1) parts))
 
-pub targets-parts : (lengths result_lengths : List ℕ) (index : List ℤ) → targets_in (parts_of lengths result_lengths index) ≤ length index
-targets-parts [] [] index = omega arith
-targets-parts [] (m ∷ ms) index = omega arith
-targets-parts (n ∷ ns) [] index = omega arith
-targets-parts (n ∷ ns) (m ∷ ms) index =
-    targets_more n m index (all_targets (take n index)) (parts_of ns ms (drop n index)) (omega (arith, length-all_targets (take n index)))
-    (targets-parts ns ms (drop n index))
+pub destinations-parts : (lengths result_lengths : List ℕ) (index : List ℤ) → destinations_in (parts_of lengths result_lengths index) ≤ length index
+destinations-parts [] [] index = omega arith
+destinations-parts [] (m ∷ ms) index = omega arith
+destinations-parts (n ∷ ns) [] index = omega arith
+destinations-parts (n ∷ ns) (m ∷ ms) index =
+    destinations_more n m index (all_destinations (take n index)) (parts_of ns ms (drop n index)) (omega (arith, length-all_destinations (take n index)))
+    (destinations-parts ns ms (drop n index))
 
 -- ---- a segment lies in the vector
 
@@ -185,7 +185,7 @@ start_more lengths s lt = sum_by_more (λ x. x) lengths s 0 lt
 -- ---- the parts of flagged places
 
 abbrev flagged_part : List ℤ × List Bool → ℕ × List (Option ℤ)
-flagged_part p = (count_of p.1, flagged_targets p.0 p.1)
+flagged_part p = (count_of p.1, flagged_destinations p.0 p.1)
 
 counted : (lengths : List ℕ) (index : List ℤ) (flags : List Bool) → sum lengths ≡ length flags → places_in (flagged_parts lengths index flags) ≡ count_of flags
 counted [] index [] total = refl
@@ -213,7 +213,7 @@ module _ (lengths : List ℕ) (index : List ℤ) (flags : List Bool) where
       → get_or (flagged_parts lengths index flags) s (0, [])
       ≡ (
         count_of (take (get_or lengths s 0) (drop (sum (take s lengths)) flags)),
-        flagged_targets (take (get_or lengths s 0) (drop (sum (take s lengths)) index))
+        flagged_destinations (take (get_or lengths s 0) (drop (sum (take s lengths)) index))
             (take (get_or lengths s 0) (drop (sum (take s lengths)) flags)),
       )
   flagged_part_at s lt =
@@ -221,13 +221,13 @@ module _ (lengths : List ℕ) (index : List ℤ) (flags : List Bool) where
       let flag_long = length-cut lengths flags in
       get_or-map flagged_part (zip (cut_of lengths index) (cut_of lengths flags)) s ([], []) (0, []) (omega (arith, length-zip (cut_of lengths index) (cut_of lengths flags)))
       ∙ ap flagged_part (get_or-zip (cut_of lengths index) (cut_of lengths flags) s ([], []) (omega arith) (omega arith))
-      ∙ (λ i. (count_of (cut_at lengths flags s lt i), flagged_targets (cut_at lengths index s lt i) (cut_at lengths flags s lt i)))
+      ∙ (λ i. (count_of (cut_at lengths flags s lt i), flagged_destinations (cut_at lengths index s lt i) (cut_at lengths flags s lt i)))
 
   pub places-flagged_parts : sum lengths ≡ length flags → places_in (flagged_parts lengths index flags) ≡ count_of flags
   places-flagged_parts total = counted lengths index flags total
 
-pub targets-flagged_parts : (lengths : List ℕ) (index : List ℤ) (flags : List Bool) → targets_in (flagged_parts lengths index flags) ≤ length index
-targets-flagged_parts [] index flags = omega arith
-targets-flagged_parts (n ∷ ns) index flags =
-    targets_more n (count_of (take n flags)) index (flagged_targets (take n index) (take n flags)) (flagged_parts ns (drop n index) (drop n flags))
-    (omega (arith, count-flagged_targets (take n index) (take n flags))) (targets-flagged_parts ns (drop n index) (drop n flags))
+pub destinations-flagged_parts : (lengths : List ℕ) (index : List ℤ) (flags : List Bool) → destinations_in (flagged_parts lengths index flags) ≤ length index
+destinations-flagged_parts [] index flags = omega arith
+destinations-flagged_parts (n ∷ ns) index flags =
+    destinations_more n (count_of (take n flags)) index (flagged_destinations (take n index) (take n flags)) (flagged_parts ns (drop n index) (drop n flags))
+    (omega (arith, count-flagged_destinations (take n index) (take n flags))) (destinations-flagged_parts ns (drop n index) (drop n flags))

@@ -10,13 +10,13 @@ use Rattle.cvl_base.specs.declared.fault.Fault.{Fault}
 use Rattle.cvl_base.specs.declared.refused.Refused.{Refused}
 use Rattle.cvl_base.specs.Gives.{Gives, unless}
 use Rattle.cvl_base.specs.Packs.{count_of}
-use Rattle.cvl_base.specs.Permutes.{all_targets, first_fault, flagged_targets, wrongs}
+use Rattle.cvl_base.specs.Permutes.{all_destinations, first_fault, flagged_destinations, wrongs}
 use Rattle.permutes.specs.Parts.{fault_from, flagged_parts, parts_of, places_in, senders_from}
 use Rattle.permutes.specs.Walks.{AreAllSent}
 use Rattle.permute_walks.specs.Senders.{nobody, senders_of, fault_told}
 use Rattle.permutes.proofs.Cuts.{sum-cons}
 use Rattle.permute_walks.proofs.EachSent.{takes_part, each_sent, all_take_part, flagged_take_part}
-use Rattle.permute_walks.proofs.Sent.{length-senders_of, length-all_targets, length-flagged_targets}
+use Rattle.permute_walks.proofs.Sent.{length-senders_of, length-all_destinations, length-flagged_destinations}
 
 -- ---- a fault or senders
 
@@ -53,17 +53,17 @@ sends_at fault_of senders_at given now left m n same is met =
 -- ---- each place of a result has a sender
 
 pub simple_sent : (index : List ℤ) (n : ℕ) → n ≡ length index → length index ≤ nobody
-    → AreAllSent (first_fault 0 (wrongs (length index) (all_targets index))) n (senders_of 0 (all_targets index) (length index))
+    → AreAllSent (first_fault 0 (wrongs (length index) (all_destinations index))) n (senders_of 0 (all_destinations index) (length index))
 simple_sent index n same few right =
-    let long = length-all_targets index in
-    All-weaker (λ s. s < 0 + length (all_targets index)) (λ s. s < n) (λ s below. omega (arith, long)) (senders_of 0 (all_targets index) (length index))
-    (each_sent 0 (all_targets index) (length index) (omega (arith, long)) (sym right) (all_take_part index))
+    let long = length-all_destinations index in
+    All-weaker (λ s. s < 0 + length (all_destinations index)) (λ s. s < n) (λ s below. omega (arith, long)) (senders_of 0 (all_destinations index) (length index))
+    (each_sent 0 (all_destinations index) (length index) (omega (arith, long)) (sym right) (all_take_part index))
 
 pub select_sent : (index : List ℤ) (flags : List Bool) (n : ℕ) → n ≡ length index → length index ≡ length flags → length index ≤ nobody
-    → AreAllSent (first_fault 0 (wrongs (count_of flags) (flagged_targets index flags))) n (senders_of 0 (flagged_targets index flags) (count_of flags))
+    → AreAllSent (first_fault 0 (wrongs (count_of flags) (flagged_destinations index flags))) n (senders_of 0 (flagged_destinations index flags) (count_of flags))
 select_sent index flags n same flagged few right =
-    let ts = flagged_targets index flags in
-    let long = length-flagged_targets index flags flagged in
+    let ts = flagged_destinations index flags in
+    let long = length-flagged_destinations index flags flagged in
     All-weaker (λ s. s < 0 + length ts) (λ s. s < n) (λ s below. omega (arith, long)) (senders_of 0 ts (count_of flags))
     (each_sent 0 ts (count_of flags) (omega (arith, long)) (sym right) (flagged_take_part index flags flagged))
 
@@ -73,7 +73,7 @@ neither : (o others : Option Fault) → option_or o others ≡ None → (o ≡ N
 neither None others none = (refl, none)
 neither (Some f) others none = absurd (none-some f (sym none))
 
--- the targets of a part stand before n, and as many take part as its result has places
+-- the destinations of a part stand before n, and as many take part as its result has places
 module _ (n : ℕ) (few : n ≤ nobody) where
   in_front : (place m : ℕ) (ts : List (Option ℤ)) (parts : List (ℕ × List (Option ℤ))) → place + length ts ≤ n → sum_by takes_part ts ≡ m
       → (fault_from (place + length ts) parts ≡ None → All (λ s. s < n) (senders_from (place + length ts) parts))
@@ -91,10 +91,10 @@ module _ (n : ℕ) (few : n ≤ nobody) where
       let js = take k index in
       let whole = sum-cons k ks in
       let long : length js ≡ k = length-take-le k index (omega (arith, whole)) in
-      let count = length-all_targets js in
+      let count = length-all_destinations js in
       let left = length-drop k index in
-      in_front place k (all_targets js) (parts_of ks ks (drop k index)) (omega (arith, long, count, whole)) (all_take_part js ∙ long)
-      (segments_sent (place + length (all_targets js)) ks (drop k index) (omega (arith, whole, left)) (omega (arith, long, count, whole, left))) right
+      in_front place k (all_destinations js) (parts_of ks ks (drop k index)) (omega (arith, long, count, whole)) (all_take_part js ∙ long)
+      (segments_sent (place + length (all_destinations js)) ks (drop k index) (omega (arith, whole, left)) (omega (arith, long, count, whole, left))) right
 
   pub flagged_segments_sent : (place : ℕ) (lengths : List ℕ) (index : List ℤ) (flags : List Bool) → sum lengths ≡ length index → length index ≡ length flags → place + length index ≤ n
       → AreAllSent (fault_from place (flagged_parts lengths index flags)) n (senders_from place (flagged_parts lengths index flags))
@@ -105,11 +105,11 @@ module _ (n : ℕ) (few : n ≤ nobody) where
       let whole = sum-cons k ks in
       let long : length js ≡ k = length-take-le k index (omega (arith, whole)) in
       let flag_long : length fs ≡ k = length-take-le k flags (omega (arith, whole)) in
-      let count = length-flagged_targets js fs (long ∙ sym flag_long) in
+      let count = length-flagged_destinations js fs (long ∙ sym flag_long) in
       let left = length-drop k index in
       let flags_left = length-drop k flags in
-      in_front place (count_of fs) (flagged_targets js fs) (flagged_parts ks (drop k index) (drop k flags)) (omega (arith, long, count, whole)) (flagged_take_part js fs (long ∙ sym flag_long))
-      (flagged_segments_sent (place + length (flagged_targets js fs)) ks (drop k index) (drop k flags) (omega (arith, whole, left)) (omega (arith, left, flags_left))
+      in_front place (count_of fs) (flagged_destinations js fs) (flagged_parts ks (drop k index) (drop k flags)) (omega (arith, long, count, whole)) (flagged_take_part js fs (long ∙ sym flag_long))
+      (flagged_segments_sent (place + length (flagged_destinations js fs)) ks (drop k index) (drop k flags) (omega (arith, whole, left)) (omega (arith, left, flags_left))
       (omega (arith, long, count, whole, left))) right
 
 -- as many senders as places

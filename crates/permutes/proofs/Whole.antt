@@ -15,7 +15,7 @@ use Rattle.cvl_base.specs.Lists.{joined}
 use Rattle.cvl_base.specs.Limits.{most_elements}
 use Rattle.cvl_base.specs.Nests.{cut_of, nest}
 use Rattle.cvl_base.specs.Packs.{count_of}
-use Rattle.cvl_base.specs.Permutes.{all_targets, back_of, default_of, first_fault, flagged_targets, select_of, sent_over, sent_to, sent_to_all, simple_of, wrongs}
+use Rattle.cvl_base.specs.Permutes.{all_destinations, back_of, default_of, first_fault, flagged_destinations, select_of, sent_over, sent_to, sent_to_all, simple_of, wrongs}
 use Rattle.cvl_base.specs.Segmented.{beside, end_to_end, in_vector, of_two, of_three, results_from}
 use Rattle.cvl_base.specs.SegmentedCalls.{seg_back_of, seg_default_of, seg_select_of, seg_simple_of}
 use Rattle.permutes.specs.Parts.{fault_from, flagged_parts, parts_of, senders_from}
@@ -23,7 +23,7 @@ use Rattle.permute_walks.specs.Senders.{nobody}
 use Rattle.permutes.proofs.Cuts.{length-cut, nest-fits, sum-cons}
 use Rattle.permutes.proofs.Flat.{if_as_long-fits}
 use Rattle.permutes.proofs.Joined.{front_taken, front_over}
-use Rattle.permute_walks.proofs.Sent.{length-all_targets, length-flagged_targets}
+use Rattle.permute_walks.proofs.Sent.{length-all_destinations, length-flagged_destinations}
 
 -- the lengths that are left, after one more
 pub left_more : (lengths : List ℕ) (s n : ℕ) (others : List ℕ) → drop s lengths ≡ n ∷ others → (drop (s + 1) lengths ≡ others) × (sum (take (s + 1) lengths) ≡ sum (take s lengths) + n)
@@ -48,10 +48,10 @@ module _ {X : Type 0} (lengths : List ℕ) where
       let index_long : length js ≡ n = length-take-le n is (omega (arith, sum-cons n ns)) in
       let whole : before ++ (ys ++ drop n xs) ≡ before ++ xs = ap (λ zs. before ++ zs) (take-append-drop n xs) in
       let within : length (before ++ (ys ++ drop n xs)) ≤ nobody = omega (arith, ap length whole) in
-      front_taken lengths s start n (simple_of ys js) n (all_targets js) before ys (drop n xs)
+      front_taken lengths s start n (simple_of ys js) n (all_destinations js) before ys (drop n xs)
       (results_from (in_vector lengths) (of_two simple_of) (s + 1) (zip (cut_of ns (drop n xs)) (cut_of ns (drop n is)))) (parts_of ns ns (drop n is))
-      there here long (length-all_targets js ∙ index_long) within
-      (if_as_long-fits ys js (sent_to_all ys (all_targets js) (length js)) (long ∙ sym index_long) ∙ ap (sent_to_all ys (all_targets js)) index_long)
+      there here long (length-all_destinations js ∙ index_long) within
+      (if_as_long-fits ys js (sent_to_all ys (all_destinations js) (length js)) (long ∙ sym index_long) ∙ ap (sent_to_all ys (all_destinations js)) index_long)
       (simple_walked (s + 1) (start + n) ns (before ++ ys) (drop n xs) (drop n is) on.0 (omega (arith, on.1)) (omega (arith, length-append before ys)) (omega (arith, sum-cons n ns, length-drop n xs))
       (omega (arith, sum-cons n ns, length-drop n is))
       (omega (arith, length-append before ys, length-append (before ++ ys) (drop n xs), length-append before xs, length-drop n xs, sum-cons n ns)))
@@ -67,7 +67,7 @@ module _ {X : Type 0} (lengths : List ℕ) where
       let ys = take n xs in
       let js = take n is in
       let gs = take n fs in
-      let ts = flagged_targets js gs in
+      let ts = flagged_destinations js gs in
       let long : length ys ≡ n = length-take-le n xs (omega (arith, sum-cons n ns)) in
       let index_long : length js ≡ n = length-take-le n is (omega (arith, sum-cons n ns)) in
       let flag_long : length gs ≡ n = length-take-le n fs (omega (arith, sum-cons n ns)) in
@@ -75,7 +75,7 @@ module _ {X : Type 0} (lengths : List ℕ) where
       let within : length (before ++ (ys ++ drop n xs)) ≤ nobody = omega (arith, ap length whole) in
       front_taken lengths s start n (select_of ys js gs) (count_of gs) ts before ys (drop n xs)
       (results_from (in_vector lengths) (of_three select_of) (s + 1) (zip (zip (cut_of ns (drop n xs)) (cut_of ns (drop n is))) (cut_of ns (drop n fs)))) (flagged_parts ns (drop n is) (drop n fs))
-      there here long (length-flagged_targets js gs (index_long ∙ sym flag_long) ∙ index_long) within
+      there here long (length-flagged_destinations js gs (index_long ∙ sym flag_long) ∙ index_long) within
       (if_as_long-fits ys js (if_as_long js gs (sent_to_all ys ts (count_of gs))) (long ∙ sym index_long) ∙ if_as_long-fits js gs (sent_to_all ys ts (count_of gs)) (index_long ∙ sym flag_long))
       (select_walked (s + 1) (start + n) ns (before ++ ys) (drop n xs) (drop n is) (drop n fs) on.0 (omega (arith, on.1)) (omega (arith, length-append before ys))
       (omega (arith, sum-cons n ns, length-drop n xs)) (omega (arith, sum-cons n ns, length-drop n is)) (omega (arith, sum-cons n ns, length-drop n fs))
@@ -94,7 +94,7 @@ module _ {X : Type 0} (lengths : List ℕ) where
       let ys = take n xs in
       let js = take n is in
       let ds = take w defaults in
-      let ts = all_targets js in
+      let ts = all_destinations js in
       let long : length ys ≡ n = length-take-le n xs (omega (arith, sum-cons n ns)) in
       let index_long : length js ≡ n = length-take-le n is (omega (arith, sum-cons n ns)) in
       let wide : length ds ≡ w = length-take-le w defaults (omega (arith, sum-cons w ws)) in
@@ -102,7 +102,7 @@ module _ {X : Type 0} (lengths : List ℕ) where
       let within : length (before ++ (ys ++ drop n xs)) ≤ nobody = omega (arith, ap length whole) in
       front_over lengths s start n (default_of ys js ds) w ts before ys (drop n xs)
       (results_from (in_vector lengths) (of_three default_of) (s + 1) (zip (zip (cut_of ns (drop n xs)) (cut_of ns (drop n is))) (cut_of ws (drop w defaults)))) (parts_of ns ws (drop n is))
-      there here long (length-all_targets js ∙ index_long) within
+      there here long (length-all_destinations js ∙ index_long) within
       ds (drop w defaults) (sym wide)
       (if_as_long-fits ys js (sent_over ys ts ds) (long ∙ sym index_long) ∙ ap (λ k. unless (first_fault 0 (wrongs k ts)) (Ok (map (λ p. unwrap_or (sent_to ys ts p.0) p.1) (enumerate_from 0 ds))))
       wide)

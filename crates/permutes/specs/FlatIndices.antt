@@ -8,7 +8,7 @@ use Rattle.cvl_base.specs.Permutes.{is_place}
 abbrev pub flat_index : ℕ → ℕ → ℤ → ℤ
 flat_index start m i = if is_place m i then pos (start + unsigned_abs i) else negsuc 0
 
--- those of all parts, which have an index for each of their targets; the places of the first part begin at `start`
+-- those of all parts, which have an index for each of their destinations; the places of the first part begin at `start`
 abbrev pub flat_indices : ℕ → List (ℕ × List (Option ℤ)) → List ℤ → List ℤ
 flat_indices start [] index = []
 flat_indices start (part ∷ parts) index =

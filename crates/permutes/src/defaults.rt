@@ -9,7 +9,7 @@ ghost use Rattle.cvl_base.specs.SegmentedCalls.{seg_default_of};
 use crate::sent::{elements_to_over, segment_senders};
 use crew::{Gate, OpenGate};
 use cvl_base::{Config, Memory, Refused, check_agree};
-use permute_walks::{AllTargets, elements_or_defaults};
+use permute_walks::{AllDestinations, elements_or_defaults};
 use segdes::{SegDes, check_total};
 use sharing::threads_for;
 use std::thread::Threads;
@@ -55,7 +55,7 @@ pub fn default_into_gated<T: Copy + Send + Sync, R: Threads + Sync, A: Memory, G
         config,
         source,
         defaults,
-        &AllTargets { index },
+        &AllDestinations { index },
         gate,
     )
 }

@@ -16,7 +16,8 @@ use crate::sent_alone::{flagged_segment_senders_alone, segment_senders_alone, se
 use crate::taken_over::{take_or_default_over, take_over};
 use cvl_base::{Fault, Memory, Refused, check_agree, true_count};
 use permute_walks::{
-    AllTargets, FlaggedTargets, check_places_alone, elements_at_over, is_permutation, scatter_over,
+    AllDestinations, FlaggedDestinations, check_places_alone, elements_at_over, is_permutation,
+    scatter_over,
 };
 use segdes::{SegDes, check_total};
 use std::alloc::Allocator;
@@ -37,7 +38,7 @@ pub fn simple_over<T: Copy, A: Memory>(
         scatter_over(source, index, out);
         return Ok(());
     }
-    let senders = senders_alone(alloc, index.len(), &AllTargets { index })?;
+    let senders = senders_alone(alloc, index.len(), &AllDestinations { index })?;
     take_over(source, &senders, out)
 }
 
@@ -55,7 +56,7 @@ pub fn select_over<T: Copy, A: Memory>(
     check_agree(source.len(), index.len())?;
     check_agree(index.len(), flags.len())?;
     let places = true_count(flags);
-    let senders = senders_alone(alloc, places, &FlaggedTargets { index, flags })?;
+    let senders = senders_alone(alloc, places, &FlaggedDestinations { index, flags })?;
     take_over(source, &senders, out)
 }
 
@@ -71,7 +72,7 @@ pub fn default_into_over<T: Copy, A: Memory>(
     ensures { OverwritesOr (in_room (length out.old) (default_of source.now index.now defaults.now)) result out.old out.new }
 {
     check_agree(source.len(), index.len())?;
-    let senders = senders_alone(alloc, defaults.len(), &AllTargets { index })?;
+    let senders = senders_alone(alloc, defaults.len(), &AllDestinations { index })?;
     take_or_default_over(source, &senders, defaults, out)
 }
 

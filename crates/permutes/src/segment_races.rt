@@ -7,13 +7,13 @@ ghost use Rattle.cvl_base.specs.Limits.{most_elements};
 ghost use Rattle.cvl_base.specs.Packs.{count_of};
 ghost use Rattle.permutes.specs.Backs.{outside_from};
 ghost use Rattle.permutes.specs.FlatIndices.{flat_index, flat_indices};
-ghost use Rattle.permutes.specs.Parts.{fault_from, flagged_parts, parts_of, places_in, senders_from, targets_in};
+ghost use Rattle.permutes.specs.Parts.{fault_from, flagged_parts, parts_of, places_in, senders_from, destinations_in};
 
 use crate::segments::{AllParts, FlaggedParts, Parts};
 use crew::Gate;
 use cvl_base::{Config, Memory, NoResources, Refused, place_among};
 use permute_races::{check_indices_raced, senders_raced};
-use permute_walks::{AllTargets, Destinations, FlaggedTargets};
+use permute_walks::{AllDestinations, Destinations, FlaggedDestinations};
 use segdes::SegDes;
 use std::alloc::Allocator;
 use std::thread::Threads;
@@ -46,14 +46,14 @@ fn push_flat<A: Allocator>(flat: &mut Vec<i32, A>, start: usize, places: usize, 
     }
 }
 
-/// The flat indices of all parts, which have as many targets as there are indices.
+/// The flat indices of all parts, which have as many destinations as there are indices.
 fn flat_indices<P: Parts, A: Memory>(
     alloc: A,
     parts: &P,
     index: &[i32],
 ) -> Result<Vec<i32, A>, NoResources>
     requires cut { P.AreCut parts.now }
-    requires as_long { targets_in (P.parts parts.now) ≡ length index.now }
+    requires as_long { destinations_in (P.parts parts.now) ≡ length index.now }
     requires in_limit { places_in (P.parts parts.now) ≤ most_elements }
     ensures { IfOk result (λ flat. flat.items ≡ flat_indices 0 (P.parts parts.now) index.now) }
 {
@@ -61,8 +61,8 @@ fn flat_indices<P: Parts, A: Memory>(
     let mut rest = index;
     let mut start = 0;
     for s in 0..parts.count() {
-        let (places, targets) = parts.part(s);
-        let (segment, others) = rest.split_at(targets.count());
+        let (places, destinations) = parts.part(s);
+        let (segment, others) = rest.split_at(destinations.count());
         push_flat(&mut flat, start, places, segment);
         rest = others;
         start += places;
@@ -89,7 +89,14 @@ pub(crate) fn segments_raced<R: Threads + Sync, A: Memory, G: Gate>(
 {
     let places = result_d.total();
     let flat = flat_indices(alloc, &AllParts { index, d, result_d }, index)?;
-    senders_raced(rt, alloc, pace, places, &AllTargets { index: &flat }, gate)
+    senders_raced(
+        rt,
+        alloc,
+        pace,
+        places,
+        &AllDestinations { index: &flat },
+        gate,
+    )
 }
 
 /// The same where the places whose flag is true take part, of which there are so many, and each segment of the result has as
@@ -118,7 +125,7 @@ pub(crate) fn flagged_segments_raced<R: Threads + Sync, A: Memory, G: Gate>(
         alloc,
         pace,
         places,
-        &FlaggedTargets {
+        &FlaggedDestinations {
             index: &flat,
             flags,
         },

@@ -3,20 +3,20 @@
 ghost use Rattle.std.specs.Prelude.{◌≡◌, ◌<◌, ◌≤◌, ℕ, ℤ, List, [], length, OnOk, Option, replicate, slice_index_or, sum};
 ghost use Rattle.cvl_base.specs.Limits.{most_elements};
 ghost use Rattle.cvl_base.specs.Packs.{count_of};
-ghost use Rattle.permutes.specs.Parts.{fault_from, flagged_parts, parts_of, places_in, senders_from, targets_in};
+ghost use Rattle.permutes.specs.Parts.{fault_from, flagged_parts, parts_of, places_in, senders_from, destinations_in};
 ghost use Rattle.permute_walks.specs.Senders.{nobody, fault_told};
 
 use cvl_base::{Fault, true_count};
-use permute_walks::{AllTargets, Destinations, FlaggedTargets, send_places};
+use permute_walks::{AllDestinations, Destinations, FlaggedDestinations, send_places};
 use segdes::SegDes;
 use std::alloc::Allocator;
 
 /// The parts of a segmented permute, one for each segment.
 ///
-/// Its meaning is how many places each part of the result has, with the targets of the segment, and whether the vectors
+/// Its meaning is how many places each part of the result has, with the destinations of the segment, and whether the vectors
 /// are as long as the segments in all.
 pub(crate) trait Parts {
-    /// The targets of a segment.
+    /// The destinations of a segment.
     type Part: Destinations + Drop;
 
     ghost parts: { Self → List (ℕ × List (Option ℤ)) };
@@ -28,11 +28,11 @@ pub(crate) trait Parts {
         requires { AreCut self.now }
         ensures { result ≡ length (parts self.now) };
 
-    /// How many places the part of segment `s` has, and its targets.
+    /// How many places the part of segment `s` has, and its destinations.
     fn part(&self, s: usize) -> (usize, Self::Part)
         requires cut { AreCut self.now }
         requires within { s < length (parts self.now) }
-        ensures { slice_index_or (parts self.now) s (0, []) ≡ (result.0, Self.Part.targets result.1) };
+        ensures { slice_index_or (parts self.now) s (0, []) ≡ (result.0, Self.Part.destinations result.1) };
 }
 
 /// Each place takes part, and the result has segments of its own lengths.
@@ -47,7 +47,7 @@ impl<'a, A: Allocator> Parts for AllParts<'a, A> {
     ghost use Rattle.std.specs.Prelude.{◌≡◌, length, sum};
     ghost use Rattle.permutes.specs.Parts.{parts_of};
 
-    type Part = AllTargets<'a>;
+    type Part = AllDestinations<'a>;
 
     ghost parts = { λ p. parts_of p.d.now p.result_d.now p.index.now };
 
@@ -57,10 +57,10 @@ impl<'a, A: Allocator> Parts for AllParts<'a, A> {
         self.d.count()
     }
 
-    fn part(&self, s: usize) -> (usize, AllTargets<'a>) {
+    fn part(&self, s: usize) -> (usize, AllDestinations<'a>) {
         let first = self.d.start(s);
         let index = &self.index[first..first + self.d.length(s)];
-        (self.result_d.length(s), AllTargets { index })
+        (self.result_d.length(s), AllDestinations { index })
     }
 }
 
@@ -77,7 +77,7 @@ impl<'a, A: Allocator> Parts for FlaggedParts<'a, A> {
     ghost use Rattle.cvl_base.specs.Limits.{most_elements};
     ghost use Rattle.permutes.specs.Parts.{flagged_parts};
 
-    type Part = FlaggedTargets<'a>;
+    type Part = FlaggedDestinations<'a>;
 
     ghost parts = { λ p. flagged_parts p.d.now p.index.now p.flags.now };
 
@@ -88,12 +88,12 @@ impl<'a, A: Allocator> Parts for FlaggedParts<'a, A> {
         self.d.count()
     }
 
-    fn part(&self, s: usize) -> (usize, FlaggedTargets<'a>) {
+    fn part(&self, s: usize) -> (usize, FlaggedDestinations<'a>) {
         let first = self.d.start(s);
         let last = first + self.d.length(s);
         let index = &self.index[first..last];
         let flags = &self.flags[first..last];
-        (true_count(flags), FlaggedTargets { index, flags })
+        (true_count(flags), FlaggedDestinations { index, flags })
     }
 }
 
@@ -103,17 +103,17 @@ fn send_parts<P: Parts>(senders: &mut [u32], parts: &P) -> Result<(), Fault>
     requires cut { P.AreCut parts.now }
     requires fresh { senders.old ≡ replicate (length senders.old) nobody }
     requires as_long { places_in (P.parts parts.now) ≡ length senders.old }
-    requires in_limit { targets_in (P.parts parts.now) ≤ most_elements }
+    requires in_limit { destinations_in (P.parts parts.now) ≤ most_elements }
     ensures fault { fault_told result ≡ fault_from 0 (P.parts parts.now) }
     ensures sent { OnOk result (senders.new ≡ senders_from 0 (P.parts parts.now)) }
 {
     let mut first = 0;
     let mut start = 0;
     for s in 0..parts.count() {
-        let (places, targets) = parts.part(s);
+        let (places, destinations) = parts.part(s);
         let end = start + places;
-        send_places(&mut senders[start..end], first, &targets)?;
-        first += targets.count();
+        send_places(&mut senders[start..end], first, &destinations)?;
+        first += destinations.count();
         start = end;
     }
     Ok(())

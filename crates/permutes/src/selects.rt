@@ -9,7 +9,7 @@ ghost use Rattle.cvl_base.specs.SegmentedCalls.{seg_select_of};
 use crate::sent::{elements_to, flagged_segment_senders};
 use crew::{Gate, OpenGate};
 use cvl_base::{Config, Memory, Refused, check_agree, true_count};
-use permute_walks::{FlaggedTargets, elements_of};
+use permute_walks::{FlaggedDestinations, elements_of};
 use segdes::{SegDes, check_total};
 use sharing::threads_for;
 use std::thread::Threads;
@@ -58,7 +58,7 @@ pub fn select_gated<T: Copy + Send + Sync, R: Threads + Sync, A: Memory, G: Gate
         config,
         source,
         places,
-        &FlaggedTargets { index, flags },
+        &FlaggedDestinations { index, flags },
         gate,
     )
 }

@@ -27,9 +27,9 @@ fn senders_to<R: Threads + Sync, A: Memory, D: Destinations + Sync, G: Gate>(
     destinations: &D,
     gate: &G,
 ) -> Result<Vec<u32, A>, Refused>
-    requires few { length (D.targets destinations.now) ≤ most_elements }
-    ensures { Gives (λ v. v.items) result (unless (first_fault 0 (wrongs places (D.targets destinations.now)))
-        (Ok (senders_of 0 (D.targets destinations.now) places))) }
+    requires few { length (D.destinations destinations.now) ≤ most_elements }
+    ensures { Gives (λ v. v.items) result (unless (first_fault 0 (wrongs places (D.destinations destinations.now)))
+        (Ok (senders_of 0 (D.destinations destinations.now) places))) }
 {
     match permute_pace(config, destinations.count(), places) {
         Some(pace) => senders_raced(rt, alloc, pace, places, destinations, gate),
@@ -47,9 +47,9 @@ fn senders_unasked<R: Threads + Sync, A: Memory, D: Destinations + Sync, G: Gate
     destinations: &D,
     gate: &G,
 ) -> Result<Vec<u32, A>, Refused>
-    requires few { length (D.targets destinations.now) ≤ most_elements }
-    ensures { Gives (λ v. v.items) result (unless (first_fault 0 (wrongs places (D.targets destinations.now)))
-        (Ok (senders_of 0 (D.targets destinations.now) places))) }
+    requires few { length (D.destinations destinations.now) ≤ most_elements }
+    ensures { Gives (λ v. v.items) result (unless (first_fault 0 (wrongs places (D.destinations destinations.now)))
+        (Ok (senders_of 0 (D.destinations destinations.now) places))) }
 {
     let threads = threads_sending(config, places);
     if threads >= 2 {
@@ -128,11 +128,11 @@ pub(crate) fn elements_to<
     destinations: &D,
     gate: &G,
 ) -> Result<Vec<T, A>, Refused>
-    requires few { length (D.targets destinations.now) ≤ most_elements }
-    ensures values { AreAllSent (first_fault 0 (wrongs places (D.targets destinations.now))) (length source.now)
-        (senders_of 0 (D.targets destinations.now) places)
-        → Gives (λ v. v.items) result (unless (first_fault 0 (wrongs places (D.targets destinations.now)))
-        (Ok (filter_map (slice_get source.now) (senders_of 0 (D.targets destinations.now) places)))) }
+    requires few { length (D.destinations destinations.now) ≤ most_elements }
+    ensures values { AreAllSent (first_fault 0 (wrongs places (D.destinations destinations.now))) (length source.now)
+        (senders_of 0 (D.destinations destinations.now) places)
+        → Gives (λ v. v.items) result (unless (first_fault 0 (wrongs places (D.destinations destinations.now)))
+        (Ok (filter_map (slice_get source.now) (senders_of 0 (D.destinations destinations.now) places)))) }
     ensures in_length { IfOk result (λ v. vec_len v ≤ places) }
 {
     let senders = senders_to(rt, alloc, config, places, destinations, gate)?;
@@ -156,10 +156,10 @@ pub(crate) fn elements_to_over<
     destinations: &D,
     gate: &G,
 ) -> Result<Vec<T, A>, Refused>
-    requires few { length (D.targets destinations.now) ≤ most_elements }
+    requires few { length (D.destinations destinations.now) ≤ most_elements }
     ensures values { Gives (λ v. v.items) result
-        (unless (first_fault 0 (wrongs (length defaults.now) (D.targets destinations.now)))
-        (Ok (written_over source.now (senders_of 0 (D.targets destinations.now) (length defaults.now)) defaults.now))) }
+        (unless (first_fault 0 (wrongs (length defaults.now) (D.destinations destinations.now)))
+        (Ok (written_over source.now (senders_of 0 (D.destinations destinations.now) (length defaults.now)) defaults.now))) }
     ensures as_long { IfOk result (λ v. vec_len v ≡ length defaults.now) }
 {
     let senders = senders_to(rt, alloc, config, defaults.len(), destinations, gate)?;

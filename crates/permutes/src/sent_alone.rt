@@ -35,9 +35,9 @@ pub(crate) fn senders_alone<A: Memory, D: Destinations>(
     places: usize,
     destinations: &D,
 ) -> Result<Vec<u32, A>, Refused>
-    requires few { length (D.targets destinations.now) ≤ most_elements }
-    ensures { Gives (λ v. v.items) result (unless (first_fault 0 (wrongs places (D.targets destinations.now)))
-        (Ok (senders_of 0 (D.targets destinations.now) places))) }
+    requires few { length (D.destinations destinations.now) ≤ most_elements }
+    ensures { Gives (λ v. v.items) result (unless (first_fault 0 (wrongs places (D.destinations destinations.now)))
+        (Ok (senders_of 0 (D.destinations destinations.now) places))) }
 {
     senders_found(alloc, places, |senders| {
         send_places(senders, 0, destinations)

@@ -9,7 +9,7 @@ ghost use Rattle.cvl_base.specs.SegmentedCalls.{seg_simple_of};
 use crate::sent::{elements_to, segment_senders};
 use crew::{Gate, OpenGate};
 use cvl_base::{Config, Memory, Refused, check_agree};
-use permute_walks::{AllTargets, elements_of};
+use permute_walks::{AllDestinations, elements_of};
 use segdes::{SegDes, check_total};
 use sharing::threads_for;
 use std::thread::Threads;
@@ -54,7 +54,7 @@ pub fn simple_gated<T: Copy + Send + Sync, R: Threads + Sync, A: Memory, G: Gate
         config,
         source,
         index.len(),
-        &AllTargets { index },
+        &AllDestinations { index },
         gate,
     )
 }

@@ -3,7 +3,7 @@ use Rattle.std.proofs.Common.{◌≡◌, ℕ, ◌+◌, List, [], ◌∷◌, map,
 use Rattle.cvl_base.specs.declared.fault.Fault.{Fault}
 use Rattle.cvl_base.specs.declared.call.Arg.{Arg}
 use Rattle.cvl_base.specs.declared.call.Call.{Call}
-use Rattle.cvl_base.specs.declared.call.Targets.TheVariants as targets
+use Rattle.cvl_base.specs.declared.call.ResultNames.TheVariants as results
 use Rattle.cvl_base.specs.declared.operation.Op.{Op}
 use Rattle.cvl_base.specs.declared.value.Value.{Value}
 use Rattle.cvl_base.specs.Gives.{◌>>=◌, unless}
@@ -21,7 +21,7 @@ value_of (Err f) next y is = cc
 module _ {A : Type 0} where
   -- a line that binds a name to what a call gives
   abbrev pub binds : List ℕ → Op → List Arg → Call A
-  binds target op args = record { targets = targets.One target; op = op; args = args }
+  binds target op args = record { results = results.One target; op = op; args = args }
 
   -- lines that are these calls, and an empty line after the last line feed
   abbrev pub reads_all : List (Call A) → List (Result (Option (Call A)) Fault)

@@ -4,7 +4,7 @@ use Rattle.cvl_base.specs.declared.fault.Fault.{Fault}
 use Rattle.cvl_base.specs.declared.call.Arg.{Arg}
 use Rattle.cvl_base.specs.declared.call.Arg.TheVariants as arg
 use Rattle.cvl_base.specs.declared.call.Call.{Call}
-use Rattle.cvl_base.specs.declared.call.Targets.TheVariants as targets
+use Rattle.cvl_base.specs.declared.call.ResultNames.TheVariants as results
 use Rattle.cvl_base.specs.declared.families.Cut.TheVariants.{Flat, Segmented}
 use Rattle.cvl_base.specs.declared.families.Element.TheVariants as of
 use Rattle.cvl_base.specs.declared.families.Form.TheVariants as form
@@ -34,7 +34,7 @@ on_names names = map arg.Name names
 module _ {A : Type 0} where
   -- the calls from the last on, and from each on that may have a fault
   abbrev from_write : List (Call A)
-  from_write = record { targets = targets.None; op = op.Write; args = on_names (codes "y" ∷ []) } ∷ []
+  from_write = record { results = results.None; op = op.Write; args = on_names (codes "y" ∷ []) } ∷ []
 
   abbrev from_sum : List (Call A)
   from_sum = binds (codes "y") (op.Reduce monoid.Add Segmented) (on_names (codes "p" ∷ codes "d" ∷ [])) ∷ from_write

@@ -4,7 +4,7 @@ use Rattle.cvl_base.specs.declared.fault.FaultNo.TheVariants.{IndexOutOfRange}
 use Rattle.cvl_base.specs.declared.call.Arg.{Arg}
 use Rattle.cvl_base.specs.declared.call.Arg.TheVariants as arg
 use Rattle.cvl_base.specs.declared.call.Call.{Call}
-use Rattle.cvl_base.specs.declared.call.Targets.TheVariants as targets
+use Rattle.cvl_base.specs.declared.call.ResultNames.TheVariants as results
 use Rattle.cvl_base.specs.declared.families.Comparison.TheVariants as compare
 use Rattle.cvl_base.specs.declared.families.Cut.TheVariants.{Flat}
 use Rattle.cvl_base.specs.declared.families.Element.TheVariants as of
@@ -61,7 +61,7 @@ module _ {A : Type 0} where
       ∷ binds (codes "m") (op.Scan monoid.Max Flat) (name (codes "s") ∷ [])
       ∷ binds (codes "v0") (op.Compare compare.Greater) (name (codes "s") ∷ name (codes "m") ∷ [])
       ∷ binds (codes "v") (op.Replace Flat of.Boolean) (name (codes "v0") ∷ number (pos 0) ∷ arg.Boolean true ∷ [])
-      ∷ record { targets = targets.None; op = op.Write; args = name (codes "v") ∷ [] }
+      ∷ record { results = results.None; op = op.Write; args = name (codes "v") ∷ [] }
       ∷ []
 
   -- the calls after the first k

@@ -13,12 +13,12 @@ ghost use Rattle.cvl_base.specs.Limits.{most_elements};
 ghost use Rattle.cvl_base.specs.Rooms.{Overwrites, in_room};
 ghost use Rattle.cvl_base.specs.SegmentedCalls.{seg_scan_of};
 
-use crate::alone::seg_scan_vec;
 use crate::fronts::{fitting_of_range, fitting_of_scan};
 use crate::over::{scan_over, seg_scan_over};
 use crate::plain::scan_vec;
 use crate::readings::Itself;
-use crate::totals::{fitting, know_numbers, total};
+use crate::total_check::{fitting, know_numbers, total};
+use crate::vectors::seg_scan_vec;
 use cvl_base::monoids::Add;
 use cvl_base::{Fault, FaultNo, Refused};
 use segdes::{SegDes, check_total};

@@ -5,7 +5,6 @@
 //! caller's, one in `_vec` gives a vector, and one with no such ending a value.
 #![tactic(auto)]
 
-pub mod alone;
 mod blocks;
 pub mod checked;
 pub mod fronts;
@@ -13,9 +12,9 @@ pub mod over;
 pub mod plain;
 pub mod ranges;
 pub mod readings;
-pub mod totals;
+pub mod vectors;
+pub mod whole_sums;
 
-pub use alone::{seg_reduce_vec, seg_scan_vec};
 pub use checked::{
     checked_scan_over, checked_scan_vec, checked_seg_reduce_vec, checked_seg_scan_over,
     checked_seg_scan_vec, checked_sum,
@@ -25,4 +24,5 @@ pub use over::{scan_over, seg_reduce_over, seg_reduce_readings_over, seg_scan_ov
 pub use plain::{scan_into, scan_vec, sum_from};
 pub use ranges::{scan_range_into, scan_range_vec, seg_reduces_into, sum_of_range};
 pub use readings::{Itself, Reading};
-pub use totals::{fitting, know_numbers, total, total_of_range};
+pub use vectors::{seg_reduce_vec, seg_scan_vec};
+pub use whole_sums::{fitting, know_numbers, total, total_of_range};

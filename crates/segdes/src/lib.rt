@@ -9,8 +9,8 @@ mod check;
 pub mod descriptor;
 mod segment_runs;
 mod starts;
-mod totals;
+mod total_check;
 
 pub use descriptor::SegDes;
 pub use segment_runs::{EndToEnd, Segments};
-pub use totals::check_total;
+pub use total_check::check_total;

@@ -6,8 +6,8 @@ use Rattle.cvl_base.specs.declared.value.Value.{Value}
 use Rattle.cvl_base.specs.declared.call.Arg.{Arg}
 use Rattle.cvl_base.specs.declared.call.Arg.TheVariants as arg
 use Rattle.cvl_base.specs.declared.call.Call.{Call}
-use Rattle.cvl_base.specs.declared.call.Targets.{Targets}
-use Rattle.cvl_base.specs.declared.call.Targets.TheVariants as targets
+use Rattle.cvl_base.specs.declared.call.ResultNames.{ResultNames}
+use Rattle.cvl_base.specs.declared.call.ResultNames.TheVariants as results
 use Rattle.cvl_base.specs.declared.operation.Op.{Op}
 use Rattle.cvl_base.specs.declared.fault.Fault.{Fault}
 use Rattle.cvl_base.specs.declared.fault.FaultNo.TheVariants.{TooManyNames, WrongArgumentCount}
@@ -55,17 +55,17 @@ module _ {A : Type 0} where
   both_bound_to names first second both = record { names = bind_both names first second both; shown = None }
 
   -- what is done once the arguments are right
-  abbrev pub performed : Entries A → List (Input A) → Targets → Op → List Arg → Result (Stepped A) Fault
-  performed names inputs targets.None op args =
+  abbrev pub performed : Entries A → List (Input A) → ResultNames → Op → List Arg → Result (Stepped A) Fault
+  performed names inputs results.None op args =
       written args (argument_at names args) >>= λ text. Ok (record { names = names; shown = Some text })
-  performed names inputs (targets.One target) op args =
+  performed names inputs (results.One target) op args =
       fault_if (not (has_room names target)) (fault TooManyNames)
       (table_value inputs op (argument_at names args) >>= λ v. Ok (bound_to names target v))
-  performed names inputs (targets.Two first second) op args =
+  performed names inputs (results.Two first second) op args =
       fault_if (not (binds_of op == 2)) (fault WrongArgumentCount)
       (fault_if (not (has_room_for_both names first second)) (fault TooManyNames)
       (table_pair inputs op (argument_at names args) >>= λ both. Ok (both_bound_to names first second both)))
 
   abbrev pub step : Entries A → List (Input A) → Call A → Result (Stepped A) Fault
   step names inputs call =
-      unless (args_fault names call.op call.args) (performed names inputs call.targets call.op call.args)
+      unless (args_fault names call.op call.args) (performed names inputs call.results call.op call.args)

@@ -41,7 +41,7 @@ pub(crate) fn bound_integer<A: Memory>(answer: Result<i32, Fault>) -> Result<Bou
     ensures { Gives (λ v. v) result (single integer answer) }
 {
     match answer {
-        Ok(value) => Ok(Bound::alone(Value::Integer(value))),
+        Ok(value) => Ok(Bound::of_value(Value::Integer(value))),
         Err(fault) => Err(Refused::Fault(fault)),
     }
 }
@@ -51,7 +51,7 @@ pub(crate) fn bound_boolean<A: Memory>(answer: Result<bool, Fault>) -> Result<Bo
     ensures { Gives (λ v. v) result (single boolean answer) }
 {
     match answer {
-        Ok(value) => Ok(Bound::alone(Value::Boolean(value))),
+        Ok(value) => Ok(Bound::of_value(Value::Boolean(value))),
         Err(fault) => Err(Refused::Fault(fault)),
     }
 }

@@ -1,7 +1,7 @@
 //! The binding of a name, or of two, to what a call gives.
 
 ghost use Rattle.std.specs.Prelude.{◌≡◌, None, OnErr};
-ghost use Rattle.cvl_base.specs.declared.call.Targets.TheVariants as targets;
+ghost use Rattle.cvl_base.specs.declared.call.ResultNames.TheVariants as results;
 ghost use Rattle.vector_handles.specs.Answers.{left_by};
 ghost use Rattle.cvl_base.specs.Gives.{Gives, unless};
 ghost use Rattle.bound_names.specs.Arguments.{args_fault};
@@ -25,7 +25,7 @@ impl<A: Memory> Session<A> {
     ) -> Result<(), Refused>
         ensures meaning { Gives (λ _. left_by self.new None) result
             (unless (args_fault self.old.names op args.now)
-            (performed self.old.names self.old.inputs (targets.One target.now) op args.now)) }
+            (performed self.old.names self.old.inputs (results.One target.now) op args.now)) }
         ensures inputs { self.new.inputs ≡ self.old.inputs }
         ensures refused { OnErr result (self.new.names ≡ self.old.names) }
     {
@@ -45,7 +45,7 @@ impl<A: Memory> Session<A> {
     ) -> Result<Bound<A>, Refused>
         ensures { Gives (bound_to self.now.names target.now) result
             (unless (args_fault self.now.names op args.now)
-            (performed self.now.names self.now.inputs (targets.One target.now) op args.now)) }
+            (performed self.now.names self.now.inputs (results.One target.now) op args.now)) }
     {
         let operands = resolve(&self.names, op, args)?;
         if !is_room(&self.names, target) {
@@ -63,7 +63,7 @@ impl<A: Memory> Session<A> {
     ) -> Result<(), Refused>
         ensures meaning { Gives (λ _. left_by self.new None) result
             (unless (args_fault self.old.names op args.now)
-            (performed self.old.names self.old.inputs (targets.Two first.now second.now) op args.now)) }
+            (performed self.old.names self.old.inputs (results.Two first.now second.now) op args.now)) }
         ensures inputs { self.new.inputs ≡ self.old.inputs }
         ensures refused { OnErr result (self.new.names ≡ self.old.names) }
     {
@@ -83,7 +83,7 @@ impl<A: Memory> Session<A> {
     ) -> Result<(Bound<A>, Bound<A>), Refused>
         ensures { Gives (both_bound_to self.now.names first.now second.now) result
             (unless (args_fault self.now.names op args.now)
-            (performed self.now.names self.now.inputs (targets.Two first.now second.now) op args.now)) }
+            (performed self.now.names self.now.inputs (results.Two first.now second.now) op args.now)) }
     {
         let operands = resolve(&self.names, op, args)?;
         if op.binds() != 2 {

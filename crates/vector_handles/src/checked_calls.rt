@@ -46,7 +46,7 @@ impl<A: Memory> Session<A> {
         match cut {
             Cut::Flat => {
                 let sum = checked_reduce(rt, self.alloc, self.config, a)?;
-                Ok(Bound::alone(Value::Integer(sum)))
+                Ok(Bound::of_value(Value::Integer(sum)))
             }
             Cut::Segmented => {
                 let d = operands.second.descriptor();

@@ -33,7 +33,7 @@ impl<A: Memory> Session<A> {
             Element::Integer => operands.first.integers().len(),
             Element::Boolean => operands.first.booleans().len(),
         };
-        Ok(Bound::alone(Value::Integer(length as i32)))
+        Ok(Bound::of_value(Value::Integer(length as i32)))
     }
 
     /// The number of true flags, or that of each segment.
@@ -49,7 +49,7 @@ impl<A: Memory> Session<A> {
     {
         let flags = operands.first.booleans();
         match cut {
-            Cut::Flat => { Ok(Bound::alone(Value::Integer(count_true(flags)))) }
+            Cut::Flat => { Ok(Bound::of_value(Value::Integer(count_true(flags)))) }
             Cut::Segmented => {
                 let d = operands.second.descriptor();
                 let counts = seg_count_gated(rt, self.alloc, self.config, flags, d, gate)?;

@@ -65,7 +65,7 @@ impl<A: Memory> Session<A> {
         match cut {
             Cut::Flat => {
                 let sum = int_reduce_gated(rt, self.alloc, self.config, operator, a, gate)?;
-                Ok(Bound::alone(Value::Integer(sum)))
+                Ok(Bound::of_value(Value::Integer(sum)))
             }
             Cut::Segmented => {
                 let d = operands.second.descriptor();
@@ -131,7 +131,7 @@ impl<A: Memory> Session<A> {
         match cut {
             Cut::Flat => {
                 let sum = bool_reduce_gated(rt, self.alloc, self.config, operator, a, gate)?;
-                Ok(Bound::alone(Value::Boolean(sum)))
+                Ok(Bound::of_value(Value::Boolean(sum)))
             }
             Cut::Segmented => {
                 let d = operands.second.descriptor();

@@ -6,7 +6,7 @@ use crate::input::Input;
 use crate::shown::Shown;
 use bound_names::{Names, value_of};
 use crew::{Gate, OpenGate};
-use cvl_base::{Call, Config, Memory, Name, NoResources, Refused, Targets, Value};
+use cvl_base::{Call, Config, Memory, Name, NoResources, Refused, ResultNames, Value};
 use std::collections::BTreeMap;
 use std::marker::Model;
 use std::thread::Threads;
@@ -82,13 +82,13 @@ impl<A: Memory> Session<A> {
         ensures refused { OnErr result (self.new.names ≡ self.old.names) }
     {
         let args = call.args.as_slice();
-        match call.targets {
-            Targets::None => Ok(Shown::Text(self.text_of_call(rt, call.op, args)?)),
-            Targets::One(target) => {
+        match call.results {
+            ResultNames::None => Ok(Shown::Text(self.text_of_call(rt, call.op, args)?)),
+            ResultNames::One(target) => {
                 self.bind(rt, &target, call.op, args, gate)?;
                 Ok(Shown::Nothing)
             }
-            Targets::Two(first, second) => {
+            ResultNames::Two(first, second) => {
                 self.bind_both(&first, &second, call.op, args)?;
                 Ok(Shown::Nothing)
             }

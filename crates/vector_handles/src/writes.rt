@@ -1,6 +1,6 @@
 //! The text of a write.
 
-ghost use Rattle.cvl_base.specs.declared.call.Targets.TheVariants as targets;
+ghost use Rattle.cvl_base.specs.declared.call.ResultNames.TheVariants as results;
 ghost use Rattle.std.specs.Prelude.{◌≡◌, Some, is_ok, slice_get};
 ghost use Rattle.std.specs.Option.{option_copied};
 ghost use Rattle.call_reader.specs.Texts.{cut_text, value_text};
@@ -27,7 +27,7 @@ impl<A: Memory> Session<A> {
     ) -> Result<Vec<u8, A>, Refused>
         ensures { Gives (λ text. record { names = self.now.names; shown = Some text.items }) result
             (unless (args_fault self.now.names op args.now)
-            (performed self.now.names self.now.inputs targets.None op args.now)) }
+            (performed self.now.names self.now.inputs results.None op args.now)) }
     {
         let operands = resolve(&self.names, op, args)?;
         self.text_of_write(rt, args, &operands)

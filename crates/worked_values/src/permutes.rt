@@ -310,8 +310,8 @@ pub fn default_permute()
         ≡ Err (fault no.LengthMismatch) }
 {}
 
-/// What is wrong with each target: one outside is outside also where it comes again, and a place that takes no part is
-/// never wrong and takes no target.
+/// What is wrong with each destination: one outside is outside also where it comes again, and a place that takes no part is
+/// never wrong and takes no destination.
 pub fn bad_places()
     ensures outside_and_again { wrongs 2 (Some (pos 5) ∷ Some (pos 5) ∷ [])
         ≡ Some no.IndexOutOfRange ∷ Some no.IndexOutOfRange ∷ [] }

@@ -8,12 +8,12 @@ use Rattle.permute_races.proofs.slots.senders_raced.Goals as goal
 
 pub check_raced-requires-after_bounds : goal.check_raced-requires-after_bounds
 check_raced-requires-after_bounds g c κs within =
-    omega (arith, length-beside c.deref.result.now (g.D.Destinations.targets c.args.destinations.now), c.requires.few)
+    omega (arith, length-beside c.deref.result.now (g.D.Destinations.destinations c.args.destinations.now), c.requires.few)
 
 pub returns-in_err-check_raced : goal.returns-in_err-check_raced
 returns-in_err-check_raced g c =
     let m = c.args.places in
-    let ts = g.D.Destinations.targets c.args.destinations.now in
+    let ts = g.D.Destinations.destinations c.args.destinations.now in
     let p = err_from_is_err_and c.from_residual-in_err-check_raced.result c.from_residual-in_err-check_raced.ensures.1 in
     rw (p.1, p.2)
     (checked_err (λ (v : Vec ℕ g.row.A.Denot). v.items) (first_fault 0 (wrongs_beside c.deref.result.now ts)) (first_fault 0 (wrongs m ts)) (senders_of 0 ts m) c.in_err-check_raced.field-0.0
@@ -22,6 +22,6 @@ returns-in_err-check_raced g c =
 pub returns : goal.returns
 returns g c =
     let m = c.args.places in
-    let ts = g.D.Destinations.targets c.args.destinations.now in
+    let ts = g.D.Destinations.destinations c.args.destinations.now in
     checked_ok (first_fault 0 (wrongs_beside c.deref.result.now ts)) (first_fault 0 (wrongs m ts)) (senders_of 0 ts m) c.in_ok-senders.senders.items
     (ap (first_fault 0) (wrongs_same m ts c.deref.result.now (c.deref.ensures.value ∙ c.in_ok-senders.ensures))) c.in_ok-check_raced.ensures c.in_ok-senders.ensures

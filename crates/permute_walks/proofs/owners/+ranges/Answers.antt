@@ -5,7 +5,7 @@ use Rattle.permute_walks.proofs.owners.+ranges.Goals as goal
 
 pub store_ranges-returns-clause-stored : goal.store_ranges-returns-clause-stored
 store_ranges-returns-clause-stored g t c =
-    let ts = g.D.Destinations.targets c.args.destinations.now in
+    let ts = g.D.Destinations.destinations c.args.destinations.now in
     let lowest = c.args.lowest in
     let cut = c.split_at_mut-low in
     let m = length cut.result.0.now in

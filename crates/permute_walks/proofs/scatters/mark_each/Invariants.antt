@@ -1,7 +1,7 @@
 use Rattle.std.proofs.Common.{◌≡◌, length, take}
-use Rattle.cvl_base.specs.Permutes.{all_targets}
+use Rattle.cvl_base.specs.Permutes.{all_destinations}
 use Rattle.permute_walks.specs.Senders.{last_senders, sent_marks}
 use Rattle.permute_walks.proofs.scatters.mark_each.Given as goal
 
 abbrev pub invariant-loop-i : goal.invariant-loop-i
-invariant-loop-i l = l.marks ≡ sent_marks (last_senders 0 (take l.i-index (all_targets l.index)) 0 (length l.fn.marks))
+invariant-loop-i l = l.marks ≡ sent_marks (last_senders 0 (take l.i-index (all_destinations l.index)) 0 (length l.fn.marks))

@@ -1,18 +1,18 @@
 use Rattle.std.proofs.Common.{ℕ, List, ◌≤◌, ◌<◌, ◌+◌, ◌∙◌, ap, sym, subst, length, arith}
-use Rattle.cvl_base.specs.Permutes.{target_if}
+use Rattle.cvl_base.specs.Permutes.{destination_if}
 use Rattle.permute_walks.specs.Senders.{nobody}
 use Rattle.permute_walks.proofs.Sent.{IsSentTo, sent_none, sent_more, skip_more, sent_fails, sent_all, right_told, told_again}
 use Rattle.permute_walks.proofs.sends.send_each.Goals as goal
 use Rattle.permute_walks.proofs.sends.send_each.Goals.{then-takes_part+in_ok-send_one, else-takes_part}
 
 pub loop-k-init : goal.loop-k-init
-loop-k-init g c = sent_none c.args.first (g.T.Destinations.targets c.args.targets.now) _ c.args.senders.now c.requires.fresh
+loop-k-init g c = sent_none c.args.first (g.T.Destinations.destinations c.args.destinations.now) _ c.args.senders.now c.requires.fresh
 
 pub returns-in_err-send_one-clause-fault : goal.returns-in_err-send_one-clause-fault
 returns-in_err-send_one-clause-fault g c =
-    let ts = g.T.Destinations.targets c.args.targets.now in
+    let ts = g.T.Destinations.destinations c.args.destinations.now in
     let small : c.args.first + length ts ≤ nobody = omega (arith, c.requires.in_limit) in
-    let is = c.at-takes_part.ensures ∙ ap (target_if c.at-takes_part.result.0.now) c.if-takes_part.true in
+    let is = c.at-takes_part.ensures ∙ ap (destination_if c.at-takes_part.result.0.now) c.if-takes_part.true in
     told_again c.from_residual.result c.in_err-send_one.field-0.0 c.from_residual.ensures.1
     ∙ sent_fails c.args.first ts (length c.args.senders.now) c.loop-k.k c.loop-k.senders small c.loop-k.invariant
     (omega (arith, c.count-k-end.ensures, c.loop-k-test.true))
@@ -20,7 +20,7 @@ returns-in_err-send_one-clause-fault g c =
 
 pub loop-k-preserved : goal.loop-k-preserved
 loop-k-preserved g c =
-    let ts = g.T.Destinations.targets c.args.targets.now in
+    let ts = g.T.Destinations.destinations c.args.destinations.now in
     let m = length c.args.senders.now in
     let k = c.loop-k.k in
     let small : c.args.first + length ts ≤ nobody = omega (arith, c.requires.in_limit) in
@@ -28,20 +28,20 @@ loop-k-preserved g c =
     elim c.if-takes_part.branch [
       | then-takes_part+in_ok-send_one w ↦
           sent_more c.args.first ts m k c.loop-k.senders small c.loop-k.invariant within
-          c.if-takes_part.senders c.at-takes_part.result.0.now (c.at-takes_part.ensures ∙ ap (target_if c.at-takes_part.result.0.now) w.if-takes_part.true)
+          c.if-takes_part.senders c.at-takes_part.result.0.now (c.at-takes_part.ensures ∙ ap (destination_if c.at-takes_part.result.0.now) w.if-takes_part.true)
           (right_told _ (c.args.first + k) w.in_ok-send_one.ensures.fault) (w.senders-is ∙ w.in_ok-send_one.ensures.sent)
       | else-takes_part w ↦
           subst (λ (ss : List ℕ). IsSentTo c.args.first ts m (k + 1) ss) (sym w.senders-is)
           (skip_more c.args.first ts m k c.loop-k.senders small c.loop-k.invariant within
-          (c.at-takes_part.ensures ∙ ap (target_if c.at-takes_part.result.0.now) w.if-takes_part.false))
+          (c.at-takes_part.ensures ∙ ap (destination_if c.at-takes_part.result.0.now) w.if-takes_part.false))
     ]
 
 pub returns-clause-fault : goal.returns-clause-fault
 returns-clause-fault g c =
-    (sent_all c.args.first (g.T.Destinations.targets c.args.targets.now) _ c.loop-k.k _ c.loop-k.invariant
+    (sent_all c.args.first (g.T.Destinations.destinations c.args.destinations.now) _ c.loop-k.k _ c.loop-k.invariant
     (omega (arith, c.count-k-end.ensures, c.loop-k-test.false))).0
 
 pub returns-clause-sent : goal.returns-clause-sent
 returns-clause-sent g c =
-    (sent_all c.args.first (g.T.Destinations.targets c.args.targets.now) _ c.loop-k.k _ c.loop-k.invariant
+    (sent_all c.args.first (g.T.Destinations.destinations c.args.destinations.now) _ c.loop-k.k _ c.loop-k.invariant
     (omega (arith, c.count-k-end.ensures, c.loop-k-test.false))).1

@@ -3,4 +3,4 @@ use Rattle.permute_walks.proofs.Sent.{IsSentTo}
 use Rattle.permute_walks.proofs.sends.send_each.Given as goal
 
 abbrev pub invariant-loop-k : goal.invariant-loop-k
-invariant-loop-k g l = IsSentTo l.first (g.T.Destinations.targets l.targets) (length l.fn.senders) l.k l.senders
+invariant-loop-k g l = IsSentTo l.first (g.T.Destinations.destinations l.destinations) (length l.fn.senders) l.k l.senders

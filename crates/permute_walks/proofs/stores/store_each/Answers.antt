@@ -1,6 +1,6 @@
 use Rattle.std.proofs.Common.{◌≤◌, ◌+◌, ◌<◌, ℕ, List, get_or, set, length, w32, FitsSigned, Some, ◌∙◌, ap, sym, arith, rules}
 use Rattle.std.proofs.lemmas.List.{get_or-replicate, get_or-set_same, set-get_or}
-use Rattle.cvl_base.specs.Permutes.{target_if}
+use Rattle.cvl_base.specs.Permutes.{destination_if}
 use Rattle.permute_walks.specs.Senders.{nobody}
 use Rattle.permute_walks.proofs.Stored.{index_is, stored_none, stored_more, stored_skip, stored_all}
 use Rattle.permute_walks.proofs.stores.store_each.Goals as goal
@@ -8,18 +8,18 @@ use Rattle.permute_walks.proofs.stores.store_each.Goals.{then-takes_part, else-t
 
 pub loop-k-init : goal.loop-k-init
 loop-k-init g c = record {
-  so_far = stored_none c.args.first (g.T.Destinations.targets c.args.targets.now) _ c.args.senders.now c.requires.fresh;
+  so_far = stored_none c.args.first (g.T.Destinations.destinations c.args.destinations.now) _ c.args.senders.now c.requires.fresh;
   stands = λ some. ap (λ (ss : List ℕ). get_or ss 0 0) c.requires.fresh ∙ get_or-replicate (length c.args.senders.now) 0 nobody 0 some;
   in_length = omega arith;
 }
 
 pub loop-k-preserved : goal.loop-k-preserved
 loop-k-preserved g c =
-    let ts = g.T.Destinations.targets c.args.targets.now in
+    let ts = g.T.Destinations.destinations c.args.destinations.now in
     let m = length c.args.senders.now in
     let k = c.loop-k.k in
     let small : c.args.first + length ts ≤ nobody = omega (arith, c.requires.in_limit) in
-    let in_targets : k < length ts = omega (arith, c.count-k-end.ensures, c.loop-k-test.true) in
+    let in_destinations : k < length ts = omega (arith, c.count-k-end.ensures, c.loop-k-test.true) in
     let i = c.at-takes_part.result.0.now in
     let before = c.loop-k.invariant in
     let d = c.if-takes_part.destination in
@@ -29,12 +29,12 @@ loop-k-preserved g c =
         | then-takes_part w ↦
             let fits : FitsSigned w32 i = search rules in
             let is = index_is i d fits (w.destination-is ∙ c.cast_unsigned-named.ensures) (omega (arith, before.so_far.as_long)) in
-            stored_more c.args.first ts m k c.loop-k.sent c.loop-k.senders small before.so_far in_targets
-            _ c.if-takes_part.sent d (c.at-takes_part.ensures ∙ ap (target_if i) w.if-takes_part.true ∙ ap (λ j. Some j) is)
+            stored_more c.args.first ts m k c.loop-k.sent c.loop-k.senders small before.so_far in_destinations
+            _ c.if-takes_part.sent d (c.at-takes_part.ensures ∙ ap (destination_if i) w.if-takes_part.true ∙ ap (λ j. Some j) is)
             (omega (arith, before.so_far.as_long)) w.sent-is (ap (set c.loop-k.senders d) w.sender-is)
         | else-takes_part w ↦
-            stored_skip c.args.first ts m k c.loop-k.sent c.loop-k.senders small before.so_far in_targets
-            _ c.if-takes_part.sent (c.at-takes_part.ensures ∙ ap (target_if i) w.if-takes_part.false) w.sent-is
+            stored_skip c.args.first ts m k c.loop-k.sent c.loop-k.senders small before.so_far in_destinations
+            _ c.if-takes_part.sent (c.at-takes_part.ensures ∙ ap (destination_if i) w.if-takes_part.false) w.sent-is
             (ap (set c.loop-k.senders d) (w.sender-is ∙ sym (before.stands (omega arith)) ∙ ap (λ e. get_or c.loop-k.senders e 0) (sym w.destination-is))
             ∙ set-get_or c.loop-k.senders d 0)
       ];
@@ -44,5 +44,5 @@ loop-k-preserved g c =
 
 pub returns-clause-stored : goal.returns-clause-stored
 returns-clause-stored g c =
-    stored_all c.args.first (g.T.Destinations.targets c.args.targets.now) _ c.loop-k.k c.loop-k.sent c.loop-k.senders c.loop-k.invariant.so_far
+    stored_all c.args.first (g.T.Destinations.destinations c.args.destinations.now) _ c.loop-k.k c.loop-k.sent c.loop-k.senders c.loop-k.invariant.so_far
     (omega (arith, c.count-k-end.ensures, c.loop-k-test.false))

@@ -4,7 +4,7 @@ use Rattle.permute_walks.proofs.stores.store_each.Given as goal
 
 abbrev pub invariant-loop-k : goal.invariant-loop-k
 invariant-loop-k g l = record {
-  so_far : IsStoredTo l.first (g.T.Destinations.targets l.targets) (length l.fn.senders) l.k l.sent l.senders;
+  so_far : IsStoredTo l.first (g.T.Destinations.destinations l.destinations) (length l.fn.senders) l.k l.sent l.senders;
   stands : l.destination < length l.senders → get_or l.senders l.destination 0 ≡ l.sender;
   in_length : l.sent ≤ l.k;
 }

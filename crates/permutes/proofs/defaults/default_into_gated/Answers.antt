@@ -1,11 +1,11 @@
 use Rattle.std.proofs.Common.{arith, subst, sym}
 use Rattle.cvl_base.specs.Gives.{Gives}
-use Rattle.permute_walks.proofs.Sent.{length-all_targets}
+use Rattle.permute_walks.proofs.Sent.{length-all_destinations}
 use Rattle.permutes.proofs.Flat.{default-meaning}
 use Rattle.permutes.proofs.defaults.default_into_gated.Goals as goal
 
 pub elements_to_over-requires-clause-few : goal.elements_to_over-requires-clause-few
-elements_to_over-requires-clause-few g c κs within = omega (arith, length-all_targets c.args.index.now, c.requires.in_limit)
+elements_to_over-requires-clause-few g c κs within = omega (arith, length-all_destinations c.args.index.now, c.requires.in_limit)
 
 pub returns-clause-values : goal.returns-clause-values
 returns-clause-values g c =

@@ -1,8 +1,8 @@
 use Rattle.std.proofs.Common.{◌≡◌, Vec, arith, filter_map, length, slice_get, sym, subst, Ok}
 use Rattle.cvl_base.specs.Gives.{unless}
-use Rattle.cvl_base.specs.Permutes.{first_fault, flagged_targets, select_of, wrongs}
+use Rattle.cvl_base.specs.Permutes.{first_fault, flagged_destinations, select_of, wrongs}
 use Rattle.permute_walks.specs.Senders.{senders_of}
-use Rattle.permute_walks.proofs.Sent.{count-flagged_targets}
+use Rattle.permute_walks.proofs.Sent.{count-flagged_destinations}
 use Rattle.permutes.specs.Walks.{AreAllSent}
 use Rattle.permutes.proofs.Flat.{select-meaning}
 use Rattle.permutes.proofs.Roomed.{refused_in_room, shown_sent, taken_in_room, told_or}
@@ -10,11 +10,11 @@ use Rattle.permutes.proofs.Walked.{select_sent}
 use Rattle.permutes.proofs.over.select_over.Goals as goal
 
 pub senders_alone-requires-clause-few : goal.senders_alone-requires-clause-few
-senders_alone-requires-clause-few g c κs within = omega (arith, count-flagged_targets c.args.index.now c.args.flags.now, c.requires.in_limit)
+senders_alone-requires-clause-few g c κs within = omega (arith, count-flagged_destinations c.args.index.now c.args.flags.now, c.requires.in_limit)
 
 pub returns-in_err-senders : goal.returns-in_err-senders
 returns-in_err-senders g c =
-    let source = c.args.source.now in let index = c.args.index.now in let flags = c.args.flags.now in let ts = flagged_targets index flags in
+    let source = c.args.source.now in let index = c.args.index.now in let flags = c.args.flags.now in let ts = flagged_destinations index flags in
     let places = c.true_count-places.result in let count = sym c.true_count-places.ensures.value in
     let first = first_fault 0 (wrongs places ts) in let senders = senders_of 0 ts places in
     told_or _ c.from_residual-in_err-senders.result c.in_err-senders.field-0.0 c.args.out.now c.from_residual-in_err-senders.ensures.1
@@ -25,7 +25,7 @@ returns-in_err-senders g c =
 
 pub returns : goal.returns
 returns g c =
-    let source = c.args.source.now in let index = c.args.index.now in let flags = c.args.flags.now in let ts = flagged_targets index flags in
+    let source = c.args.source.now in let index = c.args.index.now in let flags = c.args.flags.now in let ts = flagged_destinations index flags in
     let places = c.true_count-places.result in let count = sym c.true_count-places.ensures.value in
     let first = first_fault 0 (wrongs places ts) in let senders = senders_of 0 ts places in
     let found = c.in_ok-senders.senders.items in let gave = c.in_ok-senders.ensures in let shows = c.deref.ensures.value in

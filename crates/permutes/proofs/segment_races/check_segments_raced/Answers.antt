@@ -2,12 +2,12 @@ use Rattle.std.proofs.Common.{◌∙◌, ap, subst, sym, arith, length, Ok}
 use Rattle.cvl_base.specs.Gives.{Gives, unless}
 use Rattle.permute_walks.specs.Indices.{first_outside}
 use Rattle.permutes.specs.Parts.{parts_of}
-use Rattle.permutes.proofs.FlatIndices.{length-flat_indices, outside_flat, targets_in-all}
+use Rattle.permutes.proofs.FlatIndices.{length-flat_indices, outside_flat, destinations_in-all}
 use Rattle.permutes.proofs.Through.{places-parts}
 use Rattle.permutes.proofs.segment_races.check_segments_raced.Goals as goal
 
 pub flat_indices-requires-clause-as_long : goal.flat_indices-requires-clause-as_long
-flat_indices-requires-clause-as_long g c κs within = targets_in-all c.args.index_d.now c.args.source_d.now c.args.index.now c.requires.total (sym c.requires.count)
+flat_indices-requires-clause-as_long g c κs within = destinations_in-all c.args.index_d.now c.args.source_d.now c.args.index.now c.requires.total (sym c.requires.count)
 
 pub flat_indices-requires-clause-in_limit : goal.flat_indices-requires-clause-in_limit
 flat_indices-requires-clause-in_limit g c κs within =
@@ -15,7 +15,7 @@ flat_indices-requires-clause-in_limit g c κs within =
 
 pub check_indices_raced-requires-after_bounds : goal.check_indices_raced-requires-after_bounds
 check_indices_raced-requires-after_bounds g c κs within =
-    let all = targets_in-all c.args.index_d.now c.args.source_d.now c.args.index.now c.requires.total (sym c.requires.count) in
+    let all = destinations_in-all c.args.index_d.now c.args.source_d.now c.args.index.now c.requires.total (sym c.requires.count) in
     omega (
       arith,
       ap length (c.deref.ensures.value ∙ c.in_ok-flat.ensures),

@@ -1,14 +1,14 @@
 use Rattle.std.proofs.Common.{◌∙◌, ap, subst, sym, arith, length}
 use Rattle.cvl_base.specs.Gives.{Gives}
-use Rattle.cvl_base.specs.Permutes.{all_targets}
-use Rattle.permute_walks.proofs.Sent.{length-all_targets}
+use Rattle.cvl_base.specs.Permutes.{all_destinations}
+use Rattle.permute_walks.proofs.Sent.{length-all_destinations}
 use Rattle.permutes.specs.Parts.{parts_of}
-use Rattle.permutes.proofs.FlatIndices.{length-flat_indices, raced_flat, targets_all, targets_in-all}
+use Rattle.permutes.proofs.FlatIndices.{length-flat_indices, raced_flat, destinations_all, destinations_in-all}
 use Rattle.permutes.proofs.Through.{places-parts}
 use Rattle.permutes.proofs.segment_races.segments_raced.Goals as goal
 
 pub flat_indices-requires-clause-as_long : goal.flat_indices-requires-clause-as_long
-flat_indices-requires-clause-as_long g c κs within = targets_in-all c.args.d.now c.args.result_d.now c.args.index.now c.requires.total c.requires.count
+flat_indices-requires-clause-as_long g c κs within = destinations_in-all c.args.d.now c.args.result_d.now c.args.index.now c.requires.total c.requires.count
 
 pub flat_indices-requires-clause-in_limit : goal.flat_indices-requires-clause-in_limit
 flat_indices-requires-clause-in_limit g c κs within =
@@ -17,10 +17,10 @@ flat_indices-requires-clause-in_limit g c κs within =
 pub senders_raced-requires-clause-few : goal.senders_raced-requires-clause-few
 senders_raced-requires-clause-few g c κs within =
     let parts = parts_of c.args.d.now c.args.result_d.now c.args.index.now in
-    let all = targets_in-all c.args.d.now c.args.result_d.now c.args.index.now c.requires.total c.requires.count in
+    let all = destinations_in-all c.args.d.now c.args.result_d.now c.args.index.now c.requires.total c.requires.count in
     omega (
       arith,
-      length-all_targets c.deref.result.now,
+      length-all_destinations c.deref.result.now,
       ap length (c.deref.ensures.value ∙ c.in_ok-flat.ensures),
       length-flat_indices 0 parts c.args.index.now (omega (arith, all)),
       all,
@@ -33,6 +33,6 @@ returns g c =
     let d = c.args.d.now in
     let result_d = c.args.result_d.now in
     subst (Gives (λ v. v.items) c.senders_raced.result)
-    (raced_flat (parts_of d result_d index) c.total-places.result (all_targets c.deref.result.now) (places-parts d result_d index c.requires.count ∙ sym c.total-places.ensures.value)
-    (ap all_targets (c.deref.ensures.value ∙ c.in_ok-flat.ensures) ∙ sym (targets_all 0 d result_d index (omega (arith, c.requires.total)))))
+    (raced_flat (parts_of d result_d index) c.total-places.result (all_destinations c.deref.result.now) (places-parts d result_d index c.requires.count ∙ sym c.total-places.ensures.value)
+    (ap all_destinations (c.deref.ensures.value ∙ c.in_ok-flat.ensures) ∙ sym (destinations_all 0 d result_d index (omega (arith, c.requires.total)))))
     c.senders_raced.ensures

@@ -1,5 +1,5 @@
 use Rattle.std.proofs.Common.{◌∙◌, arith}
-use Rattle.permutes.proofs.Through.{places-parts, targets-parts}
+use Rattle.permutes.proofs.Through.{places-parts, destinations-parts}
 use Rattle.permutes.proofs.segments.send_segments.Goals as goal
 
 pub send_parts-requires-clause-as_long : goal.send_parts-requires-clause-as_long
@@ -8,4 +8,4 @@ send_parts-requires-clause-as_long g c =
 
 pub send_parts-requires-clause-in_limit : goal.send_parts-requires-clause-in_limit
 send_parts-requires-clause-in_limit g c =
-    omega (arith, targets-parts c.args.d.now c.args.result_d.now c.args.index.now, c.requires.in_limit)
+    omega (arith, destinations-parts c.args.d.now c.args.result_d.now c.args.index.now, c.requires.in_limit)

@@ -1,10 +1,10 @@
 use Rattle.std.proofs.Common.{arith}
-use Rattle.permute_walks.proofs.Sent.{count-flagged_targets}
+use Rattle.permute_walks.proofs.Sent.{count-flagged_destinations}
 use Rattle.permutes.proofs.Called.{select_gives}
 use Rattle.permutes.proofs.selects.select_gated.Goals as goal
 
 pub elements_to-requires-clause-few : goal.elements_to-requires-clause-few
-elements_to-requires-clause-few g c κs within = omega (arith, count-flagged_targets c.args.index.now c.args.flags.now, c.requires.in_limit)
+elements_to-requires-clause-few g c κs within = omega (arith, count-flagged_destinations c.args.index.now c.args.flags.now, c.requires.in_limit)
 
 pub returns-clause-values : goal.returns-clause-values
 returns-clause-values g c =

@@ -10,7 +10,7 @@ use Rattle.permutes.proofs.sent.elements_to.Goals as goal
 pub returns-in_err-senders-clause-values : goal.returns-in_err-senders-clause-values
 returns-in_err-senders-clause-values g c sent =
     let p = err_from_is_err_and c.from_residual.result c.from_residual.ensures.1 in
-    let ts = g.D.Destinations.targets c.args.destinations.now in
+    let ts = g.D.Destinations.destinations c.args.destinations.now in
     let senders = senders_of 0 ts c.args.places in
     rw (p.1, p.2)
     (refusal_stays (λ (v : Vec ℕ g.row.A.Denot). v.items) (λ (v : Vec g.row.T.Denot g.row.A.Denot). v.items) (first_fault 0 (wrongs c.args.places ts)) senders
@@ -18,14 +18,14 @@ returns-in_err-senders-clause-values g c sent =
 
 pub returns-clause-values : goal.returns-clause-values
 returns-clause-values g c sent =
-    let ts = g.D.Destinations.targets c.args.destinations.now in
+    let ts = g.D.Destinations.destinations c.args.destinations.now in
     let places = c.args.places in
     elements_taken c.args.source.now (first_fault 0 (wrongs places ts)) (senders_of 0 ts places) c.in_ok-senders.senders.items _ _ c.in_ok-senders.ensures c.deref.ensures.value
     c.in_ok-elements_of.ensures.values sent
 
 pub returns-clause-in_length : goal.returns-clause-in_length
 returns-clause-in_length g c =
-    let ts = g.D.Destinations.targets c.args.destinations.now in
+    let ts = g.D.Destinations.destinations c.args.destinations.now in
     let places = c.args.places in
     omega (
       arith,

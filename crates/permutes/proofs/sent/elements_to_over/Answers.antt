@@ -9,14 +9,14 @@ use Rattle.permutes.proofs.sent.elements_to_over.Goals as goal
 
 pub elements_or_defaults-requires-clause-as_long : goal.elements_or_defaults-requires-clause-as_long
 elements_or_defaults-requires-clause-as_long g c κs within =
-    let ts = g.D.Destinations.targets c.args.destinations.now in
+    let ts = g.D.Destinations.destinations c.args.destinations.now in
     let places = length c.args.defaults.now in
     shown_long (first_fault 0 (wrongs places ts)) (senders_of 0 ts places) c.in_ok-senders.senders.items _ c.in_ok-senders.ensures c.deref.ensures.value ∙ length-senders_of 0 ts places
 
 pub returns-in_err-senders-clause-values : goal.returns-in_err-senders-clause-values
 returns-in_err-senders-clause-values g c =
     let p = err_from_is_err_and c.from_residual.result c.from_residual.ensures.1 in
-    let ts = g.D.Destinations.targets c.args.destinations.now in
+    let ts = g.D.Destinations.destinations c.args.destinations.now in
     let defaults = c.args.defaults.now in
     let senders = senders_of 0 ts (length defaults) in
     rw (p.1, p.2)
@@ -25,7 +25,7 @@ returns-in_err-senders-clause-values g c =
 
 pub returns-clause-values : goal.returns-clause-values
 returns-clause-values g c =
-    let ts = g.D.Destinations.targets c.args.destinations.now in
+    let ts = g.D.Destinations.destinations c.args.destinations.now in
     let places = length c.args.defaults.now in
     written_taken c.args.source.now c.args.defaults.now (first_fault 0 (wrongs places ts)) (senders_of 0 ts places) c.in_ok-senders.senders.items _ _ c.in_ok-senders.ensures
     c.deref.ensures.value c.in_ok-elements_or_defaults.ensures.values

@@ -8,7 +8,7 @@ use Rattle.permutes.proofs.sent_alone.senders_alone.Goals as goal
 
 pub returns : goal.returns
 returns g c =
-    let ts = g.D.Destinations.targets c.args.destinations.now in
+    let ts = g.D.Destinations.destinations c.args.destinations.now in
     let places = c.args.places in
     c.senders_found.ensures.1 (first_fault 0 (wrongs places ts)) (senders_of 0 ts places) (length-senders_of 0 ts places)
     (λ given left p.

@@ -1,10 +1,10 @@
 use Rattle.std.proofs.Common.{arith, vec_len}
-use Rattle.permute_walks.proofs.Sent.{length-all_targets}
+use Rattle.permute_walks.proofs.Sent.{length-all_destinations}
 use Rattle.permutes.proofs.Called.{simple_gives, simple_long}
 use Rattle.permutes.proofs.simples.simple_gated.Goals as goal
 
 pub elements_to-requires-clause-few : goal.elements_to-requires-clause-few
-elements_to-requires-clause-few g c κs within = omega (arith, length-all_targets c.args.index.now, c.requires.in_limit)
+elements_to-requires-clause-few g c κs within = omega (arith, length-all_destinations c.args.index.now, c.requires.in_limit)
 
 pub returns-clause-values : goal.returns-clause-values
 returns-clause-values g c =

@@ -1,28 +1,28 @@
 use Rattle.std.proofs.Common.{◌≡◌, ◌<◌, ◌∙◌, ap, sym, get_or, length, None}
-use Rattle.cvl_base.specs.Permutes.{target_if}
+use Rattle.cvl_base.specs.Permutes.{destination_if}
 use Rattle.permute_races.specs.Races.{slot_of, slots_of}
 use Rattle.permute_races.proofs.Raced.{shown-at}
 use Rattle.permute_races.proofs.slots.SlotsTargets.slot.Goals as goal
 
 pub at-takes_part-requires : goal.at-takes_part-requires
-at-takes_part-requires g c = (shown-at (slot_of c.args.self.now.places) (g.D.Destinations.targets c.args.self.now.destinations.now) c.args.place None None c.requires).0
+at-takes_part-requires g c = (shown-at (slot_of c.args.self.now.places) (g.D.Destinations.destinations c.args.self.now.destinations.now) c.args.place None None c.requires).0
 
 pub returns-then-not-takes_part-clause-value : goal.returns-then-not-takes_part-clause-value
 returns-then-not-takes_part-clause-value g c =
     let m = c.args.self.now.places in
-    sym ((shown-at (slot_of m) (g.D.Destinations.targets c.args.self.now.destinations.now) c.args.place None None c.requires).1
-    ∙ ap (slot_of m) (c.at-takes_part.ensures ∙ ap (target_if c.at-takes_part.result.0.now) c.if-not-takes_part.true))
+    sym ((shown-at (slot_of m) (g.D.Destinations.destinations c.args.self.now.destinations.now) c.args.place None None c.requires).1
+    ∙ ap (slot_of m) (c.at-takes_part.ensures ∙ ap (destination_if c.at-takes_part.result.0.now) c.if-not-takes_part.true))
 
 pub returns-in-Some-clause-value : goal.returns-in-Some-clause-value
 returns-in-Some-clause-value g c =
     let m = c.args.self.now.places in
-    sym ((shown-at (slot_of m) (g.D.Destinations.targets c.args.self.now.destinations.now) c.args.place None None c.requires).1
-    ∙ ap (slot_of m) (c.at-takes_part.ensures ∙ ap (target_if c.at-takes_part.result.0.now) c.if-not-takes_part.false)
+    sym ((shown-at (slot_of m) (g.D.Destinations.destinations c.args.self.now.destinations.now) c.args.place None None c.requires).1
+    ∙ ap (slot_of m) (c.at-takes_part.ensures ∙ ap (destination_if c.at-takes_part.result.0.now) c.if-not-takes_part.false)
     ∙ sym c.in-Some.ensures.value)
 
 pub returns-in-None-clause-value : goal.returns-in-None-clause-value
 returns-in-None-clause-value g c =
     let m = c.args.self.now.places in
-    sym ((shown-at (slot_of m) (g.D.Destinations.targets c.args.self.now.destinations.now) c.args.place None None c.requires).1
-    ∙ ap (slot_of m) (c.at-takes_part.ensures ∙ ap (target_if c.at-takes_part.result.0.now) c.if-not-takes_part.false)
+    sym ((shown-at (slot_of m) (g.D.Destinations.destinations c.args.self.now.destinations.now) c.args.place None None c.requires).1
+    ∙ ap (slot_of m) (c.at-takes_part.ensures ∙ ap (destination_if c.at-takes_part.result.0.now) c.if-not-takes_part.false)
     ∙ sym c.in-None.ensures.value)

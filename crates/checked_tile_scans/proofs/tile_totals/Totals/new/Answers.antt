@@ -1,0 +1,13 @@
+use Rattle.std.proofs.Common.{rules}
+use Rattle.std.proofs.lemmas.List.Sums.{list_all-from_AllPass}
+use Rattle.cvl_base.specs.ItemWords.{is_number}
+use Rattle.checked_tile_scans.proofs.tile_totals.Totals.new.Goals as goal
+
+pub invariant_of-result : goal.invariant_of-result
+invariant_of-result g c = record {
+  numbers = list_all-from_AllPass is_number c.args.elements.now c.know_numbers.ensures;
+  agrees = c.requires.agrees;
+  whole = search rules;
+  few = search rules;
+  some = search rules;
+}

@@ -1,0 +1,6 @@
+use Rattle.std.proofs.Common.{◌≡◌, ℕ, ℤ, ◌<◌, true, slice_index_or}
+use Rattle.cvl_base.specs.ItemWords.{is_number}
+use Rattle.scan_walks.proofs.whole_sums.know_numbers.Given as goal
+
+abbrev pub invariant-loop-x : goal.invariant-loop-x
+invariant-loop-x l = (k : ℕ) (other : ℤ) → k < l.x-index → is_number (slice_index_or l.a k other) ≡ true

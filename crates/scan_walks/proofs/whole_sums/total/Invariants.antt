@@ -1,0 +1,10 @@
+use Rattle.std.proofs.Common.{◌≡◌, ◌*◌, ◌≤◌, take, unsigned_abs}
+use Rattle.cvl_base.specs.Exact.{total_of}
+use Rattle.scan_walks.proofs.whole_sums.total.Given as goal
+
+-- each integer adds at most 2^31
+abbrev pub invariant-loop-x : goal.invariant-loop-x
+invariant-loop-x l = record {
+  sum : l.sum ≡ total_of (take l.x-index l.xs);
+  small : unsigned_abs l.sum ≤ l.x-index * 2147483648;
+}
