@@ -9,7 +9,7 @@ ghost use Rattle.cvl_base.specs.Gives.{Gives};
 ghost use Rattle.cvl_base.specs.Limits.{most_elements};
 
 use crate::overflows::befores_or_overflow;
-use crate::total_check::{Totals, race_for_totals};
+use crate::tile_totals::{Totals, race_for_totals};
 use cvl_base::monoids::Add;
 use cvl_base::{Config, Fault, FaultNo, Memory, Refused};
 use scan_walks::{checked_scan_vec, checked_sum, fitting, know_numbers};

@@ -11,7 +11,7 @@ ghost use Rattle.cvl_base.specs.Gives.{Gives};
 use crate::overflows::befores_or_overflow;
 use crate::segment_sums::{before_tiles, sums_known};
 use crate::summed_tile::summed_tile;
-use crate::total_check::Totals;
+use crate::tile_totals::Totals;
 use cvl_base::monoids::Add;
 use cvl_base::{Config, Memory, Refused};
 use scan_walks::{checked_seg_reduce_vec, checked_seg_scan_vec, know_numbers};

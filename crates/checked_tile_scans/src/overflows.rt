@@ -10,7 +10,7 @@ ghost use Rattle.cvl_base.specs.Integers.{wrap};
 ghost use Rattle.tile_scans.specs.TiledSums.{flagged};
 ghost use Rattle.checked_tile_scans.specs.Checked.{first_outside, total_scan, totals_before};
 
-use crate::total_check::{Totals, race_for_totals};
+use crate::tile_totals::{Totals, race_for_totals};
 use boards::Targets;
 use crew::OpenGate;
 use cvl_base::monoids::Add;

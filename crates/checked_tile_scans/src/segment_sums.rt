@@ -10,7 +10,7 @@ ghost use Rattle.cvl_base.specs.Gives.{Gives};
 ghost use Rattle.tile_scans.specs.TiledSums.{flagged};
 ghost use Rattle.checked_tile_scans.specs.Checked.{segment_totals, totals_before};
 
-use crate::total_check::{Totals, race_for_totals};
+use crate::tile_totals::{Totals, race_for_totals};
 use cvl_base::monoids::Add;
 use cvl_base::{Config, Fault, FaultNo, Memory, NoResources, Packed, Refused};
 use fresh::{CheckedWriter, Run, first_found, write_checked_in_runs};

@@ -11,7 +11,7 @@ use crate::on_pairs::values_on_pairs;
 use crate::partials::{Div, Lsh, Mod, Rsh};
 use crate::races::values_or_fault;
 use crate::singles::{IntOfBool, NotInt};
-use crate::total_check::{Add, And, Ior, Max, Min, Mul, Sub, Xor};
+use crate::total_operators::{Add, And, Ior, Max, Min, Mul, Sub, Xor};
 use crew::{Gate, OpenGate};
 use cvl_base::{Config, IntBinary, Memory, NoResources, Refused, Unary};
 use std::thread::Threads;

@@ -9,7 +9,7 @@ use crate::comparisons::{AtLeast, AtMost, Equal, Greater, Less, Unequal};
 use crate::looks::first_without;
 use crate::partials::{Div, Lsh, Mod, Rsh};
 use crate::singles::{BoolOfInt, IntOfBool, NotBool, NotInt};
-use crate::total_check::{Add, And, Ior, Max, Min, Mul, Sub, Xor};
+use crate::total_operators::{Add, And, Ior, Max, Min, Mul, Sub, Xor};
 use crate::truths::{Both, Differ, Either};
 use cvl_base::{BoolBinary, Comparison, Fault, IntBinary, Unary, check_agree};
 use element_walks::{Binary, Chosen, Copied, OnEach, OnPairs, OrZero, PartialBinary, Single};

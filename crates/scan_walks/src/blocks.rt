@@ -5,7 +5,7 @@ ghost use Rattle.cvl_base.specs.Folds.{fold_of};
 ghost use Rattle.cvl_base.specs.Integers.{greater_of, lesser_of, sum_of};
 ghost use Rattle.scan_walks.specs.Fronts.{IsWalked, most_of_block};
 
-use crate::total_check::{fitting, plus};
+use crate::whole_sums::{fitting, plus};
 use operators::integer::{add, max, min};
 
 /// The most elements of a block.
