@@ -1,6 +1,6 @@
 -- What a look-back has done after each of its looks.
 -- Source: what the definitions of Walks imply.
-use Rattle.std.proofs.Common.{◌≡◌, refl, ◌∙◌, ℕ, ◌+◌, ◌-◌, ◌<◌, ◌≤◌, ◌≢◌, ◌⊎◌, inl, inr, max, arith, ⊎_elim, sym, ap, subst, cond, eqb, eq-eqb, true, false, List, ◌∷◌}
+use Rattle.std.proofs.Common.{◌≡◌, refl, ◌∙◌, ℕ, suc, ◌+◌, ◌-◌, ◌<◌, ◌≤◌, ◌≢◌, ◌⊎◌, inl, inr, max, arith, ⊎_elim, sym, ap, subst, cond, eqb, eq-eqb, true, false, List, ◌∷◌}
 use Rattle.std.proofs.lemmas.Bool.{ne_eqb}
 use Rattle.std.proofs.lemmas.Bool.Decides.{eqb_tells}
 use Rattle.status_word.specs.declared.pass.Mark.{Mark}
@@ -10,11 +10,11 @@ use Rattle.boards.specs.Answers.{IsLookBack}
 use Rattle.boards.specs.Walks.{IsOneLook, IsWalk}
 
 -- the highest of the marks of a tile, after one more of that tile, and of another
-mark_here : (t rank : ℕ) (marks : List Mark) → highest_mark t (record { tile = t; rank = rank } ∷ marks) ≡ max rank (highest_mark t marks)
-mark_here t rank marks = ap (λ b. max (cond b rank 0) (highest_mark t marks)) (eq-eqb t t refl)
+mark_here : (t rank looks : ℕ) (marks : List Mark) → highest_mark t (record { tile = t; rank = rank; looks = looks } ∷ marks) ≡ max rank (highest_mark t marks)
+mark_here t rank looks marks = ap (λ b. max (cond b rank 0) (highest_mark t marks)) (eq-eqb t t refl)
 
-mark_elsewhere : (t x rank : ℕ) (marks : List Mark) → x ≢ t → highest_mark x (record { tile = t; rank = rank } ∷ marks) ≡ highest_mark x marks
-mark_elsewhere t x rank marks differ =
+mark_elsewhere : (t x rank looks : ℕ) (marks : List Mark) → x ≢ t → highest_mark x (record { tile = t; rank = rank; looks = looks } ∷ marks) ≡ highest_mark x marks
+mark_elsewhere t x rank looks marks differ =
     let other : eqb t x ≡ false = ne_eqb t x (λ e. differ (sym e)) in
     ap (λ b. max (cond b rank 0) (highest_mark x marks)) other ∙ omega arith
 
@@ -22,13 +22,14 @@ module _ {Item : Type 0} where
   -- a look that found this state, which isn't below what was known
   pub find_told : (at rank : ℕ) (old now : Pass Item) → now ≡ looked old at rank → known_at at old ≤ rank → IsOneLook at rank old now
   find_told at rank old now is risen =
-      let seen = mark_here at rank old.seen in
+      let seen = mark_here at rank old.looks old.seen in
       subst (IsOneLook at rank old) (sym is) record {
         looks = refl;
         known = omega arith;
         told = (omega arith, omega arith);
         seen = omega arith;
-        others = λ x differ. (refl, mark_elsewhere at x rank old.seen differ);
+        others = λ x differ. (refl, mark_elsewhere at x rank old.looks old.seen differ);
+        kept = λ x rank when there. there;
         hand = refl;
         sums = refl;
       }
@@ -36,14 +37,15 @@ module _ {Item : Type 0} where
   -- a look at a tile of which nothing was told, and then its sum was
   pub find_silent : (at : ℕ) (old now : Pass Item) → now ≡ told_state (looked old at 0) at 1 → known_at at old ≤ 0 → IsOneLook at 1 old now
   find_silent at old now is risen =
-      let seen = mark_here at 0 old.seen in
-      let told = mark_here at 1 old.told in
+      let seen = mark_here at 0 old.looks old.seen in
+      let told = mark_here at 1 (old.looks + 1) old.told in
       subst (IsOneLook at 1 old) (sym is) record {
         looks = refl;
         known = omega arith;
         told = (omega arith, omega arith);
         seen = omega arith;
-        others = λ x differ. (mark_elsewhere at x 1 old.told differ, mark_elsewhere at x 0 old.seen differ);
+        others = λ x differ. (mark_elsewhere at x 1 (old.looks + 1) old.told differ, mark_elsewhere at x 0 old.looks old.seen differ);
+        kept = λ x rank when there. (suc (there.0), omega (arith, there.1), there.2);
         hand = refl;
         sums = refl;
       }
@@ -55,6 +57,7 @@ module _ {Item : Type 0} where
     told = λ x. (omega arith, omega arith);
     seen = λ x. omega arith;
     others = λ x outside. (refl, refl);
+    kept = λ x rank when there. there;
     hand = refl;
     sums = refl;
   }
@@ -94,6 +97,7 @@ module _ {Item : Type 0} where
     told = λ x. let both = told_still t at next 1 old mid now one within walk found x in (both.0, both.1);
     seen = λ x. (told_still t at next 1 old mid now one within walk found x).2;
     others = others_still t at next 1 old mid now one within walk found;
+    kept = λ x rank when there. found.kept x rank when (walk.kept x rank when there);
     hand = found.hand ∙ walk.hand;
     sums = found.sums ∙ walk.sums;
   }
@@ -113,6 +117,7 @@ module _ {Item : Type 0} where
         passed = λ x from to. let here = known_still t at next 2 old mid now one walk found x (omega arith) to in omega arith;
         told = λ x. let both = told_still t at next 2 old mid now one within walk found x in (both.0, both.1);
         told_outside = λ x outside. (others_still t at next 2 old mid now one within walk found x (⊎_elim (λ (low : x < t - looks). inl (omega arith)) (λ (high : t ≤ x). inr high) outside)).0;
+        kept = λ x rank when there. found.kept x rank when (walk.kept x rank when there);
         seen = λ x. (told_still t at next 2 old mid now one within walk found x).2;
         seen_outside = λ x outside. (others_still t at next 2 old mid now one within walk found x (⊎_elim (λ (low : x < t - looks). inl (omega arith)) (λ (high : t ≤ x). inr high) outside)).1;
         hand = found.hand ∙ walk.hand;
@@ -133,6 +138,7 @@ module _ {Item : Type 0} where
         passed = λ x from to. let here = walk.known x (omega arith) to in omega arith;
         told = walk.told;
         told_outside = λ x out. (outside x out).0;
+        kept = walk.kept;
         seen = walk.seen;
         seen_outside = λ x out. (outside x out).1;
         hand = walk.hand;

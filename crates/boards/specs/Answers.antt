@@ -4,7 +4,7 @@
 use Rattle.std.specs.Prelude.{◌≡◌, ℕ, ◌+◌, ◌-◌, ◌<◌, ◌≤◌, ◌⊎◌, max, Bool, IsTrue, List, length, replicate}
 use Rattle.std.specs.List.{Any, sum_by}
 use Rattle.status_word.specs.declared.pass.Pass.{Pass}
-use Rattle.status_word.specs.Passes.{highest, known_at, seen_at, told_at}
+use Rattle.status_word.specs.Passes.{WasTold, highest, known_at, seen_at, told_at}
 use Rattle.boards.specs.Boards.{Board, Seated, new_seat}
 use Rattle.boards.specs.Claims.{AreGivenOnce}
 
@@ -34,6 +34,8 @@ pub record IsLookBack {Item : Type 0} (t looks : ℕ) (old new : Pass Item) : Ty
   -- it told sums alone, and of these tiles
   pub told : (x : ℕ) → (told_at x old ≤ told_at x new) × (told_at x new ≤ max (told_at x old) 1)
   pub told_outside : (x : ℕ) → IsOutside t looks x → told_at x new ≡ told_at x old
+  -- and nothing that was told before is lost
+  pub kept : (x rank when : ℕ) → WasTold x rank when old → WasTold x rank when new
   -- it saw these tiles alone
   pub seen : (x : ℕ) → seen_at x old ≤ seen_at x new
   pub seen_outside : (x : ℕ) → IsOutside t looks x → seen_at x new ≡ seen_at x old

@@ -3,7 +3,7 @@
 use Rattle.std.specs.Prelude.{◌≡◌, ℕ, ◌+◌, ◌<◌, ◌≤◌, ◌⊎◌, max, Bool, List}
 use Rattle.status_word.specs.declared.pass.Pass.{Pass}
 use Rattle.cvl_base.specs.TileSums.{own_sum, upto_tile}
-use Rattle.status_word.specs.Passes.{known_at, seen_at, told_at}
+use Rattle.status_word.specs.Passes.{WasTold, known_at, seen_at, told_at}
 use Rattle.boards.specs.declared.look_back.Found.{Found}
 use Rattle.boards.specs.declared.look_back.Found.TheVariants.{Sum, Prefix}
 
@@ -23,6 +23,7 @@ pub record IsOneLook {Item : Type 0} (at rank : ℕ) (old new : Pass Item) : Typ
   pub told : (told_at at old ≤ told_at at new) × (told_at at new ≤ max (told_at at old) 1)
   pub seen : seen_at at old ≤ seen_at at new
   pub others : (x : ℕ) → ¬ (x ≡ at) → (told_at x new ≡ told_at x old) × (seen_at x new ≡ seen_at x old)
+  pub kept : (x rank when : ℕ) → WasTold x rank when old → WasTold x rank when new
   pub hand : new.hand ≡ old.hand
   pub sums : new.sums ≡ old.sums
 
@@ -33,5 +34,6 @@ pub record IsWalk {Item : Type 0} (t at : ℕ) (old new : Pass Item) : Type 0 wh
   pub told : (x : ℕ) → (told_at x old ≤ told_at x new) × (told_at x new ≤ max (told_at x old) 1)
   pub seen : (x : ℕ) → seen_at x old ≤ seen_at x new
   pub others : (x : ℕ) → (x < at) ⊎ (t ≤ x) → (told_at x new ≡ told_at x old) × (seen_at x new ≡ seen_at x old)
+  pub kept : (x rank when : ℕ) → WasTold x rank when old → WasTold x rank when new
   pub hand : new.hand ≡ old.hand
   pub sums : new.sums ≡ old.sums

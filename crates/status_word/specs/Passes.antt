@@ -3,6 +3,7 @@
 use Rattle.std.specs.Prelude.{◌≡◌, ℕ, ◌+◌, ◌<◌, ◌≤◌, ◌==◌, max, Bool, List, [], ◌∷◌, ◌++◌, length, if◌then◌else◌}
 use mathlib.Core.Option.{some}
 use lib.ListN.{get_elem?}
+use Rattle.std.specs.List.{Contains}
 use Rattle.status_word.specs.declared.pass.Mark.{Mark}
 use Rattle.status_word.specs.declared.pass.Pass.{Pass}
 use Rattle.status_word.specs.Hands.{new_hand, hand_given, hand_done, hand_dealt, hands_joined, AreDealt}
@@ -37,11 +38,11 @@ module _ {Item : Type 0} where
 
   -- a look at tile t, which was in this state
   abbrev pub looked : Pass Item → ℕ → ℕ → Pass Item
-  looked p t rank = record p { seen = record { tile = t; rank = rank } ∷ p.seen; looks = p.looks + 1 }
+  looked p t rank = record p { seen = record { tile = t; rank = rank; looks = p.looks } ∷ p.seen; looks = p.looks + 1 }
 
   -- this state of tile t is told
   abbrev pub told_state : Pass Item → ℕ → ℕ → Pass Item
-  told_state p t rank = record p { told = record { tile = t; rank = rank } ∷ p.told }
+  told_state p t rank = record p { told = record { tile = t; rank = rank; looks = p.looks } ∷ p.told }
 
   -- a pass of several workers is cut: the new pass stands for one of them
   abbrev pub split_left : Pass Item → Pass Item
@@ -70,6 +71,10 @@ module _ {Item : Type 0} where
 
   abbrev pub known_at : ℕ → Pass Item → ℕ
   known_at t p = max (told_at t p) (seen_at t p)
+
+  -- this state of the tile was told after so many looks
+  abbrev pub WasTold : ℕ → ℕ → ℕ → Pass Item → Type 0
+  WasTold t rank looks p = Contains p.told (record { tile = t; rank = rank; looks = looks })
 
   abbrev pub given_at : ℕ → Pass Item → ℕ
   given_at t p = times t p.hand.given

@@ -8,6 +8,8 @@ pub struct Mark {
     pub tile: u32,
     /// The rank of its state.
     pub rank: u8,
+    /// How many looks the worker had taken before.
+    pub looks: u64,
 }
 
 /// What a pass has on every kind of board: the tiles that were given, the newest first, how often the worker was told that

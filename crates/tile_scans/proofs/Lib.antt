@@ -1,5 +1,6 @@
 pub mod Flagged
-pub mod WrittenParts
 pub mod OpenSegments
 pub mod RangeScans
 pub mod SumsOfTiles
+pub mod Telling
+pub mod WrittenParts

@@ -2,9 +2,9 @@
 
 ghost use Rattle.std.specs.Prelude.{◌≡◌, ℕ, ◌<◌, ◌≤◌, [], length};
 ghost use Rattle.boards.specs.Boards.{IsSeatOf};
-ghost use Rattle.boards.specs.Passes.{told_at};
+ghost use Rattle.boards.specs.Passes.{WasTold};
 ghost use Rattle.cvl_base.specs.TileSums.{before_tile};
-ghost use Rattle.tile_scans.specs.Told.{HasToldPrefix, HasToldSum};
+ghost use Rattle.tile_scans.specs.Told.{HasToldAround, HasToldSum};
 
 use boards::{Claim, ScanBoard, ScanSeat, Tiles};
 use crew::{Gate, Point, Work};
@@ -51,7 +51,8 @@ impl<'a, T: Tiles, A: Allocator> TileWork<'a, T, A> {
         requires tile { t < length self.now.board.sums }
         requires summed { HasToldSum seat.old t }
         ensures before { result ≡ before_tile T.M.join T.M.unit self.now.board.sums t }
-        ensures risen { (other : ℕ) → told_at other seat.old.pass ≤ told_at other seat.new.pass }
+        ensures kept { (x rank when : ℕ) → WasTold x rank when seat.old.pass → WasTold x rank when seat.new.pass }
+        ensures looked { 1 ≤ t → seat.old.pass.looks < seat.new.pass.looks }
         ensures hand { seat.new.pass.hand ≡ seat.old.pass.hand }
         ensures done { seat.new.is_done ≡ seat.old.is_done }
         ensures stays { IsSeatOf self.now.board seat.new }
@@ -79,7 +80,7 @@ where
 
     ghost is_done = { λ seat. seat.is_done };
 
-    ghost HasFact = { λ work seat t. HasToldPrefix seat t };
+    ghost HasFact = { λ work seat t. HasToldAround seat t };
 
     fn claim(&self, seat: &mut ScanSeat<T::M>) -> Claim {
         self.board.claim(seat)
