@@ -9,6 +9,7 @@ use Rattle.status_word.specs.declared.pass.Pass.{Pass}
 use Rattle.status_word.specs.Hands.{hands_joined, times}
 use Rattle.status_word.specs.Passes.{highest, passes_joined, seen_at, told_at}
 use Rattle.status_word.specs.RuleSteps.{JoinAdds}
+use Rattle.status_word.proofs.Dealt.{times-append}
 use Rattle.boards.specs.declared.least_pass.LeastPass.{LeastPass}
 use Rattle.boards.specs.Boards.{Seated}
 use Rattle.boards.specs.Joined.{AreHandsJoined, AreJoined, AreLeastsJoined}
@@ -18,10 +19,6 @@ use Rattle.boards.proofs.Lowest.{lowest-append, lows-append, lows_most}
 highest-append : {X : Type 0} (f : X → ℕ) (xs ys : List X) → highest f (xs ++ ys) ≡ max (highest f xs) (highest f ys)
 highest-append f [] ys = omega arith
 highest-append f (x ∷ xs) ys = let rest = highest-append f xs ys in omega arith
-
-times-append : (t : ℕ) (xs ys : List ℕ) → times t (xs ++ ys) ≡ times t xs + times t ys
-times-append t [] ys = omega arith
-times-append t (x ∷ xs) ys = let rest = times-append t xs ys in omega arith
 
 pub none_left : {X : Type 0} (xs : List X) → length xs ≡ 0 → xs ≡ []
 none_left [] none = refl

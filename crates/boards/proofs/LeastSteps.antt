@@ -13,7 +13,8 @@ use Rattle.boards.specs.declared.least_pass.LeastPass.{LeastPass}
 use Rattle.boards.specs.declared.least_pass.Low.{Low}
 use Rattle.boards.specs.LeastPasses.{first_least_pass, known_in, least_passes_joined, lowered_in, lowest, lowest_of, no_place, on_least_hand, place_lowered, place_seen, seen_in, spent_least_pass, split_least_left, split_least_right}
 use Rattle.boards.specs.LeastRules.{IsLeastFair, IsLeastKept, IsOfSlot, IsPlaced}
-use Rattle.boards.proofs.Lowest.{element_at, lowest_at, lowest-append, lowest_joined, lowest_most, lowest_same, lowest_set, lows-append, set_elsewhere}
+use Rattle.boards.proofs.Lowest.{element_at, lowest_at, lowest-append, lowest_joined, lowest_most, lowest_same, lowest_set, lows-append}
+use Rattle.status_word.proofs.Places.{set_else}
 
 module _ (targets : List (Option ℕ)) (slots tiles workers : ℕ) where
   abbrev Kept : ℕ → (ℕ → ℕ) → List LeastPass → Type 0
@@ -140,7 +141,7 @@ module _ (targets : List (Option ℕ)) (slots tiles workers : ℕ) where
   join_keeps deals claims word passes id other p q kept here differ there share =
       let both = least_passes_joined p q in
       let was = element_at (IsLeastFair targets tiles) passes id p kept.fair here in
-      let its = element_at (IsLeastFair targets tiles) passes other q kept.fair (sym (set_elsewhere passes id other both differ) ∙ there) in
+      let its = element_at (IsLeastFair targets tiles) passes other q kept.fair (sym (set_else passes id other both differ) ∙ there) in
       let least : (s : ℕ) → lowest_of (lowered_in s) (set (set passes id both) other spent_least_pass) ≡ lowest_of (lowered_in s) passes = λ s.
       lowest_joined (lowered_in s) passes id other p q both spent_least_pass here differ there (lows-append s p.lowered q.lowered) refl in
       record {

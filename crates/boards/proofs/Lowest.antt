@@ -6,6 +6,7 @@ use Rattle.std.proofs.lemmas.List.Elements.{All-head, All-tail}
 use Rattle.std.proofs.lemmas.List.Sums.{sum_by-cons}
 use mathlib.Core.Option.{some, some-injective, some-ne-none}
 use lib.ListN.{get_elem?}
+use Rattle.status_word.proofs.Places.{set_else, set_here}
 use Rattle.boards.specs.declared.least_pass.Low.{Low}
 use Rattle.boards.specs.LeastPasses.{lowest, lowest_of, no_place}
 
@@ -26,18 +27,6 @@ module _ {X : Type 0} where
   element_at P [] i x all here = absurd (some-ne-none x (sym here))
   element_at P (y ∷ xs) zero x all here = subst P (some-injective y x here) (All-head P y xs all)
   element_at P (y ∷ xs) (suc i) x all here = element_at P xs i x (All-tail P y xs all) here
-
-  pub set_found : (xs : List X) (i : ℕ) (x y : X) → get_elem? xs i ≡ some x → get_elem? (set xs i y) i ≡ some y
-  set_found [] i x y here = absurd (some-ne-none x (sym here))
-  set_found (z ∷ xs) zero x y here = refl
-  set_found (z ∷ xs) (suc i) x y here = set_found xs i x y here
-
-  pub set_elsewhere : (xs : List X) (i j : ℕ) (y : X) → j ≢ i → get_elem? (set xs i y) j ≡ get_elem? xs j
-  set_elsewhere [] i j y differ = refl
-  set_elsewhere (x ∷ xs) zero zero y differ = absurd (differ refl)
-  set_elsewhere (x ∷ xs) zero (suc j) y differ = refl
-  set_elsewhere (x ∷ xs) (suc i) zero y differ = refl
-  set_elsewhere (x ∷ xs) (suc i) (suc j) y differ = set_elsewhere xs i j y (λ same. differ (ap suc same))
 
   -- ---- the least of a measure
 
@@ -72,11 +61,11 @@ module _ {X : Type 0} where
   pub lowest_joined : (f : X → ℕ) (xs : List X) (i j : ℕ) (x z both spent : X) → get_elem? xs i ≡ some x → j ≢ i → get_elem? (set xs i both) j ≡ some z
       → f both ≡ min (f x) (f z) → f spent ≡ no_place → lowest_of f (set (set xs i both) j spent) ≡ lowest_of f xs
   lowest_joined f xs i j x z both spent here differ there lesser none =
-      let found : get_elem? xs j ≡ some z = sym (set_elsewhere xs i j both differ) ∙ there in
+      let found : get_elem? xs j ≡ some z = sym (set_else xs i j both differ) ∙ there in
       let had = lowest_at f xs j z found in
       let change = lowest_set f xs i x both (f z) here lesser in
       let out = lowest_out f (set xs i both) j z spent there none in
-      let stays = lowest_at f (set (set xs i both) j spent) i both (set_elsewhere (set xs i both) j i spent (λ e. differ (sym e)) ∙ set_found xs i x both here) in
+      let stays = lowest_at f (set (set xs i both) j spent) i both (set_else (set xs i both) j i spent (λ e. differ (sym e)) ∙ set_here xs i x both here) in
       omega arith
 
   -- ---- one element has all shares, and the others nothing

@@ -24,6 +24,22 @@ slice_get-fronts [] k within = absurd (omega arith)
 slice_get-fronts (x ∷ xs) zero within = refl
 slice_get-fronts (x ∷ xs) (suc k) within = slice_get-map (λ front. x ∷ front) (fronts xs) k ∙ ap (option_map (λ front. x ∷ front)) (slice_get-fronts xs k (omega arith))
 
+map-prefixed : {X Y : Type 0} (f : List X → Y) (x : X) (lists : List (List X)) → map f (map (λ front. x ∷ front) lists) ≡ map (λ front. f (x ∷ front)) lists
+map-prefixed f x [] = refl
+map-prefixed f x (list ∷ lists) = ap (λ tail. f (x ∷ list) ∷ tail) (map-prefixed f x lists)
+
+module _ {Item : Type 0} (join : Item → Item → Item) where
+  pub scan_of-cons : (before x : Item) (xs : List Item) → scan_of join before (x ∷ xs) ≡ before ∷ scan_of join (join before x) xs
+  scan_of-cons before x xs = ap (λ tail. before ∷ tail) (map-prefixed (fold_of join before) x (fronts xs))
+
+  -- of a list in two parts
+  pub scan_of-append : (before : Item) (xs ys : List Item) → scan_of join before (xs ++ ys) ≡ scan_of join before xs ++ scan_of join (fold_of join before xs) ys
+  scan_of-append before [] ys = refl
+  scan_of-append before (x ∷ xs) ys =
+      scan_of-cons before x (xs ++ ys)
+      ∙ ap (λ tail. before ∷ tail) (scan_of-append (join before x) xs ys)
+      ∙ ap (λ zs. zs ++ scan_of join (fold_of join before (x ∷ xs)) ys) (sym (scan_of-cons before x xs))
+
 module _ {Item : Type 0} (join : Item → Item → Item) (unit : Item) where
   pub fold_of_push : (xs : List Item) (x : Item) → fold_of join unit (xs ++ x ∷ []) ≡ join (fold_of join unit xs) x
   fold_of_push xs x = fold_push join unit xs x

@@ -34,7 +34,7 @@ abs-neg zero = refl
 abs-neg (suc n) = refl
 
 -- a quotient is no further from 0 than the dividend
-abs-quotient : (a b : ℤ) → unsigned_abs (int_div a b) ≤ unsigned_abs a
+pub abs-quotient : (a b : ℤ) → unsigned_abs (int_div a b) ≤ unsigned_abs a
 abs-quotient (pos a) (pos b) = div-le_self a b
 abs-quotient (pos a) (negsuc b) = omega (arith, abs-neg (a / suc b), div-le_self a (suc b))
 abs-quotient (negsuc a) (pos b) = omega (arith, abs-neg (suc a / b), div-le_self (suc a) b)

@@ -19,7 +19,7 @@ use Rattle.cvl_base.specs.SegmentedCalls.{seg_back_of}
 use Rattle.permute_walks.specs.Indices.{AreInside, elements_at, first_outside}
 use Rattle.permute_walks.proofs.Outside.{values_unless, all_inside, length-elements_at}
 use Rattle.permutes.specs.Backs.{IsSegmentedBack, outside_from, segments_at}
-use Rattle.permutes.proofs.Cuts.{sum-cons}
+use Rattle.cvl_base.proofs.Lists.{sum-cons}
 use Rattle.permutes.proofs.Whole.{beside-fits, left_more}
 
 -- ---- the definition

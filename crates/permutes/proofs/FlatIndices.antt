@@ -15,7 +15,7 @@ use Rattle.permute_walks.proofs.Sent.{length-all_destinations, length-flagged_de
 use Rattle.permutes.specs.Backs.{outside_from}
 use Rattle.permutes.specs.FlatIndices.{flat_index, flat_indices}
 use Rattle.permutes.specs.Parts.{fault_from, flagged_parts, parts_of, places_in, senders_from, destinations_in}
-use Rattle.permutes.proofs.Cuts.{sum-cons}
+use Rattle.cvl_base.proofs.Lists.{sum-cons}
 use Rattle.permutes.proofs.Flattened.{fault_flat, first_fault-append, flat_destination, flat_destinations, senders_flat}
 
 -- ---- the walk

@@ -16,7 +16,7 @@ use Rattle.permutes.specs.FlatIndices.{flat_index}
 use Rattle.permutes.specs.Parts.{fault_from, places_in, senders_from}
 use Rattle.permute_walks.specs.Senders.{nobody, sender_from, senders_of}
 use Rattle.permute_walks.proofs.Sent.{length-wrongs, wrong_here}
-use Rattle.permutes.proofs.Cuts.{sum-cons}
+use Rattle.cvl_base.proofs.Lists.{sum-cons}
 
 -- ---- the flat destinations
 

@@ -1,7 +1,6 @@
 pub mod Backed
 pub mod Called
 pub mod Checked
-pub mod Cuts
 pub mod Flat
 pub mod FlatIndices
 pub mod Flattened

@@ -8,7 +8,7 @@ use Rattle.permute_walks.specs.Indices.{AreInside, elements_at}
 use Rattle.permute_walks.proofs.Outside.{length-elements_at, part_at, part_inside}
 use Rattle.permutes.specs.Backs.{IsSegmentedBack, lists_at, outside_from, segments_at}
 use Rattle.permutes.proofs.Backed.{inside_first}
-use Rattle.permutes.proofs.Cuts.{sum-cons}
+use Rattle.cvl_base.proofs.Lists.{sum-cons}
 use Rattle.permutes.proofs.Ranges.{length-range, range_is}
 
 take_twice : {X : Type 0} (k n : ℕ) (xs : List X) → k ≤ n → take k (take n xs) ≡ take k xs

@@ -14,7 +14,8 @@ use Rattle.cvl_base.specs.Packs.{count_of}
 use Rattle.cvl_base.specs.Permutes.{all_destinations, first_fault, flagged_destinations, wrongs}
 use Rattle.permutes.specs.Parts.{fault_from, flagged_parts, parts_of, places_in, senders_from, destinations_in}
 use Rattle.permute_walks.specs.Senders.{nobody, senders_of}
-use Rattle.permutes.proofs.Cuts.{cut_at, length-cut, sum-cons}
+use Rattle.cvl_base.proofs.Nests.{cut_at, length-cut}
+use Rattle.cvl_base.proofs.Lists.{sum-cons}
 use Rattle.permute_walks.proofs.Sent.{length-senders_of, length-all_destinations, count-flagged_destinations}
 
 -- the first s parts are done: their destinations end at the place given, and their part of the result at `start`

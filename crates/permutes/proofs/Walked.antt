@@ -14,7 +14,7 @@ use Rattle.cvl_base.specs.Permutes.{all_destinations, first_fault, flagged_desti
 use Rattle.permutes.specs.Parts.{fault_from, flagged_parts, parts_of, places_in, senders_from}
 use Rattle.permutes.specs.Walks.{AreAllSent}
 use Rattle.permute_walks.specs.Senders.{nobody, senders_of, fault_told}
-use Rattle.permutes.proofs.Cuts.{sum-cons}
+use Rattle.cvl_base.proofs.Lists.{sum-cons}
 use Rattle.permute_walks.proofs.EachSent.{takes_part, each_sent, all_take_part, flagged_take_part}
 use Rattle.permute_walks.proofs.Sent.{length-senders_of, length-all_destinations, length-flagged_destinations}
 

@@ -20,7 +20,8 @@ use Rattle.cvl_base.specs.Segmented.{beside, end_to_end, in_vector, of_two, of_t
 use Rattle.cvl_base.specs.SegmentedCalls.{seg_back_of, seg_default_of, seg_select_of, seg_simple_of}
 use Rattle.permutes.specs.Parts.{fault_from, flagged_parts, parts_of, senders_from}
 use Rattle.permute_walks.specs.Senders.{nobody}
-use Rattle.permutes.proofs.Cuts.{length-cut, nest-fits, sum-cons}
+use Rattle.cvl_base.proofs.Nests.{length-cut, nest-fits}
+use Rattle.cvl_base.proofs.Lists.{sum-cons}
 use Rattle.permutes.proofs.Flat.{if_as_long-fits}
 use Rattle.permutes.proofs.Joined.{front_taken, front_over}
 use Rattle.permute_walks.proofs.Sent.{length-all_destinations, length-flagged_destinations}

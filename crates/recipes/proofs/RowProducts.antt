@@ -19,6 +19,7 @@ use Rattle.cvl_base.specs.Gives.{◌>>=◌, unless, fault_if}
 use Rattle.cvl_base.specs.Integers.{sum_of, product_of, wrap}
 use Rattle.cvl_base.specs.Limits.{most_elements}
 use Rattle.cvl_base.specs.Nests.{cut_of, nest}
+use Rattle.cvl_base.proofs.Nests.{nest-fits}
 use Rattle.cvl_base.specs.Permutes.{back_of, is_place}
 use Rattle.cvl_base.specs.Segmented.{results_from, in_vector}
 use Rattle.cvl_base.specs.SegmentedCalls.{seg_reduce_of}
@@ -109,12 +110,9 @@ each_fold : {Item : Type 0} (join : Item → Item → Item) (unit : Item) (place
 each_fold join unit place s [] = refl
 each_fold join unit place s (ys ∷ lists) = ap (λ r. r >>= λ others. Ok (fold_of join unit ys ∷ others)) (each_fold join unit place (s + 1) lists)
 
-nest_made : {X : Type 0} (lengths : List ℕ) (xs : List X) → sum lengths ≡ length xs → nest lengths xs ≡ Ok (cut_of lengths xs)
-nest_made lengths xs fits = ap (λ b. fault_if (not b) (fault no.LengthMismatch) (Ok (cut_of lengths xs))) (eq-eqb _ _ fits)
-
 pub rows_summed : (x : List ℤ) (lengths : List ℕ) (entries : List (ℤ × ℤ)) → sum lengths ≡ length (map (wrapped_term x) entries) → seg_reduce_of sum_of (pos 0) (map (wrapped_term x) entries) lengths
     ≡ Ok (map (row_product x) (cut_of lengths entries))
 rows_summed x lengths entries fits =
-    ap (λ r. r >>= λ lists. results_from (in_vector lengths) (λ ys. Ok (fold_of sum_of (pos 0) ys)) 0 lists) (nest_made lengths (map (wrapped_term x) entries) fits)
+    ap (λ r. r >>= λ lists. results_from (in_vector lengths) (λ ys. Ok (fold_of sum_of (pos 0) ys)) 0 lists) (nest-fits lengths (map (wrapped_term x) entries) fits)
     ∙ each_fold sum_of (pos 0) (in_vector lengths) 0 (cut_of lengths (map (wrapped_term x) entries))
     ∙ ap Ok (row_sums x lengths entries)

@@ -5,8 +5,8 @@ use Rattle.std.specs.Ordering.{int_eq}
 use Rattle.std.proofs.lemmas.Bool.{false_from_ne_true, le-ltb}
 use Rattle.std.proofs.lemmas.Bool.Decides.{Decides-int_eq}
 use Rattle.std.proofs.lemmas.Int.{ints, clamps, int_wrap_fits, fits_signed_from_abs, quot-rem, rem_below}
-use Rattle.std.proofs.Math.Nat.{div-le_self}
 use borrow.Author.Differences.{up, down}
+use Rattle.operators.proofs.Wrapping.{abs-quotient}
 use Rattle.cvl_base.specs.Conversions.{integer_of}
 use Rattle.cvl_base.specs.Integers.{IsFloor, difference_of, product_of, quotient_of, remainder_of, greater_of, is_less, wrap}
 
@@ -51,15 +51,6 @@ place_is k some few =
     let fits : FitsSigned w32 (pos k) = fits_signed_from_abs w32 (pos k) (omega arith) in
     ap (λ z. greater_of (wrap z) (pos 1)) whole ∙ ap (λ z. greater_of z (pos 1)) (int_wrap_fits w32 (pos k) fits) ∙ omega (arith, ints, clamps)
 
-abs-neg : (n : ℕ) → unsigned_abs (neg_ℤ (pos n)) ≡ n
-abs-neg zero = refl
-abs-neg (suc n) = refl
-
--- a quotient is no further from 0 than the dividend
-abs-quotient : (p : ℤ) (k : ℕ) → unsigned_abs (int_div p (pos k)) ≤ unsigned_abs p
-abs-quotient (pos a) k = div-le_self a k
-abs-quotient (negsuc a) k = omega (arith, abs-neg (suc a / k), div-le_self (suc a) k)
-
 one_less_times : (q : ℤ) (n : ℕ) → (q -ℤ pos 1) *ℤ pos n +ℤ pos n ≡ q *ℤ pos n
 one_less_times q n =
     let parts : up (q -ℤ pos 1) + down q + 1 ≡ down (q -ℤ pos 1) + up q = omega (arith, ints) in
@@ -89,7 +80,7 @@ slope_is_floor h base k low some few =
     let q = int_div scaled (pos k) in
     let r = int_rem scaled (pos k) in
     let c = integer_of (is_less r (pos 0)) in
-    let q_low : unsigned_abs q ≤ 2147418112 = omega (arith, abs-quotient scaled k) in
+    let q_low : unsigned_abs q ≤ 2147418112 = omega (arith, abs-quotient scaled (pos k)) in
     let q_fits : FitsSigned w32 q = fits_signed_from_abs w32 q (omega arith) in
     let floor = floor_by_remainder scaled q r k (quot-rem scaled (pos k)) (rem_below scaled (pos k) (omega arith)) in
     let low_enough : unsigned_abs (q -ℤ c) ≤ 2147418113 = one_less_fits q (is_less r (pos 0)) q_low in

@@ -9,6 +9,7 @@ use Rattle.std.proofs.lemmas.Option.{same_Some}
 use Rattle.operators.proofs.FoldLaws.{scan_of_push}
 use Rattle.cvl_base.specs.declared.fault.FaultNo.{FaultNo}
 use Rattle.cvl_base.specs.declared.fault.FaultNo.TheVariants as no
+use Rattle.cvl_base.proofs.Distributes.{as_length-fits}
 use Rattle.cvl_base.specs.Distributes.{as_length, distribute_of, index_of}
 use Rattle.cvl_base.specs.Elementwise.{on_pairs, on_pairs_or, values_from}
 use Rattle.cvl_base.specs.Extracts.{replace_of}
@@ -81,18 +82,15 @@ mapped op f (k ∷ ks) = ap (λ others. op (f k) ∷ others) (mapped op f ks)
 
 -- ---- calls that make a vector
 
-length_fits : (n : ℕ) → n ≤ most_elements → as_length (pos n) ≡ Ok n
-length_fits n few = ap (λ b. fault_if b (fault no.TooLong) (Ok n)) (le-ltb most_elements n few)
-
 copies : {X : Type 0} (x : X) (s n : ℕ) → replicate n x ≡ map (λ _. x) (range_with_len s n)
 copies x s zero = refl
 copies x s (suc n) = ap (λ others. x ∷ others) (copies x (s + 1) n)
 
 pub distributed : {X : Type 0} (x : X) (n : ℕ) → n ≤ most_elements → distribute_of x (pos n) ≡ Ok (table (λ _. x) n)
-distributed x n few = ap (λ r. r >>= λ m. Ok (replicate m x)) (length_fits n few) ∙ ap Ok (copies x 0 n)
+distributed x n few = ap (λ r. r >>= λ m. Ok (replicate m x)) (as_length-fits n few) ∙ ap Ok (copies x 0 n)
 
 pub indexed : (init stride : ℤ) (n : ℕ) → n ≤ most_elements → index_of init stride (pos n) ≡ Ok (table (λ k. wrap (init +ℤ pos k *ℤ stride)) n)
-indexed init stride n few = ap (λ r. r >>= λ m. Ok (map (λ k. wrap (init +ℤ pos k *ℤ stride)) (range_with_len 0 m))) (length_fits n few)
+indexed init stride n few = ap (λ r. r >>= λ m. Ok (map (λ k. wrap (init +ℤ pos k *ℤ stride)) (range_with_len 0 m))) (as_length-fits n few)
 
 -- ---- the first element replaced
 

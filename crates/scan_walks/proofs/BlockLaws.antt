@@ -11,7 +11,7 @@ use Rattle.cvl_base.specs.Folds.{fold_of, scan_of}
 use Rattle.cvl_base.specs.Integers.{greater_of, lesser_of, sum_of, wrap}
 use Rattle.cvl_base.specs.ItemWords.{is_number}
 use Rattle.scan_walks.specs.Fronts.{fitting_front}
-use Rattle.scan_walks.proofs.Scanned.{scan_of-cons}
+use Rattle.operators.proofs.FoldLaws.{scan_of-cons}
 
 -- ---- steps that are at most so long, down and up
 

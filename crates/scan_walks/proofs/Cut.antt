@@ -10,7 +10,7 @@ use Rattle.cvl_base.specs.Monoid.{MonoidLaws}
 use Rattle.cvl_base.proofs.Lists.{sum-cons}
 use Rattle.segdes.specs.Starts.{start_of}
 use Rattle.scan_walks.specs.Ranges.{continued, started, with_starts, range_between, range_scan_of, scans_of}
-use Rattle.scan_walks.proofs.Scanned.{scan_of-cons}
+use Rattle.operators.proofs.FoldLaws.{scan_of-cons}
 
 module _ {Item : Type 0} where
   pub length-started : (xs : List Item) → length (started xs) ≡ length xs

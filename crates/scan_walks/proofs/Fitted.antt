@@ -18,7 +18,7 @@ use Rattle.cvl_base.specs.ItemWords.{is_number}
 use Rattle.cvl_base.proofs.Lists.{sum-cons}
 use Rattle.scan_walks.specs.Fronts.{fitting_front}
 use Rattle.scan_walks.specs.Ranges.{scans_of}
-use Rattle.scan_walks.proofs.Scanned.{scan_of-cons}
+use Rattle.operators.proofs.FoldLaws.{scan_of-cons}
 use Rattle.scan_walks.proofs.Valued.{scans_valued}
 
 fails_at : (b : Bool) (n : ℕ) (z : ℤ) (zs : List ℤ) → cond b (1 + fitting_front zs) 0 < 1 + length zs

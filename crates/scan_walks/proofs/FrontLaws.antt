@@ -10,7 +10,7 @@ use Rattle.scan_walks.specs.Fronts.{fitting_front}
 use Rattle.segdes.specs.Starts.{start_of}
 use Rattle.scan_walks.specs.Ranges.{range_between, range_scan_of, scans_of}
 use Rattle.scan_walks.proofs.RangePushed.{range_pushed}
-use Rattle.scan_walks.proofs.Scanned.{scan_of-append, scan_of-cons}
+use Rattle.operators.proofs.FoldLaws.{scan_of-append, scan_of-cons}
 use Rattle.scan_walks.proofs.Segments.{scans_more_min}
 use Rattle.scan_walks.proofs.WholeSums.{all_whole, whole_laws}
 

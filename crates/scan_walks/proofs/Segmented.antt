@@ -8,12 +8,9 @@ use Rattle.cvl_base.specs.Lists.{joined}
 use Rattle.cvl_base.specs.Nests.{cut_of, nest}
 use Rattle.cvl_base.specs.Segmented.{in_vector, results_from, one_each, end_to_end}
 use Rattle.cvl_base.proofs.Nests.{nest-fits}
+use Rattle.cvl_base.proofs.Segmented.{results-ok}
 use Rattle.cvl_base.specs.SegmentedCalls.{seg_scan_of, seg_reduce_of}
 use Rattle.scan_walks.specs.Ranges.{scans_of, reduces_of}
-
-pub results-ok : {S R : Type 0} (place : ℕ → ℕ → ℕ) (f : S → R) (s : ℕ) (segments : List S) → results_from place (λ x. Ok (f x)) s segments ≡ Ok (map f segments)
-results-ok place f s [] = refl
-results-ok place f s (x ∷ xs) = ap (λ rest. rest >>= λ rs. Ok (f x ∷ rs)) (results-ok place f (s + 1) xs)
 
 module _ {Item : Type 0} (join : Item → Item → Item) (unit : Item) (xs : List Item) (lengths : List ℕ) where
   pub seg_scan-fits : sum lengths ≡ length xs → seg_scan_of join unit xs lengths ≡ Ok (scans_of join unit lengths xs)

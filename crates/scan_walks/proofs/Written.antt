@@ -6,7 +6,7 @@ use Rattle.cvl_base.specs.Folds.{fold_of, scan_of}
 use Rattle.fresh.specs.Places.{Stretch, stretch, with_items}
 use Rattle.scan_walks.specs.Ranges.{reduces_of, scans_of}
 use Rattle.fresh.proofs.Written.{nothing_written, one_written, written_twice}
-use Rattle.scan_walks.proofs.Scanned.{scan_of_more}
+use Rattle.operators.proofs.FoldLaws.{scan_of_more}
 use Rattle.scan_walks.proofs.Segments.{reduces_more, scans_more_min}
 
 -- the step of a scan
@@ -16,7 +16,7 @@ pub scan_written : {Item : Type 0} (join : Item → Item → Item) (run now next
 scan_written join run now next before sum xs i within is is_sum pushed =
     one_written run now next (scan_of join before (take i xs)) sum is pushed
     ∙ ap (λ x. with_items run (scan_of join before (take i xs) ++ x ∷ [])) is_sum
-    ∙ ap (with_items run) (sym (scan_of_more join before xs i before within))
+    ∙ ap (with_items run) (sym (scan_of_more join before xs i within))
 
 module _ {Item : Type 0} (join : Item → Item → Item) (unit : Item) (lengths : List ℕ) where
   -- the step of a walk over the segments, which has written the scans of those before s and has `rest` left

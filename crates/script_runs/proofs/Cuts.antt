@@ -4,15 +4,12 @@ use Rattle.std.specs.List.{slice_split, position_or_len, onto_first}
 use Rattle.std.specs.Str.Lines.{strip_carriage_return}
 use Rattle.std.proofs.lemmas.Bool.{ltb-true, ltb-false}
 use Rattle.std.proofs.lemmas.List.Splits.{slice_split_first}
+use Rattle.cvl_base.proofs.Lists.{not_found}
 use Rattle.script_runs.specs.Meaning.{lines_of}
 
 found : (b : Bool) (n at : ℕ) → cond b (Some n) None ≡ Some at → (b ≡ true) × (n ≡ at)
 found true n at e = (refl, cc)
 found false n at e = cc
-
-not_found : (b : Bool) (n : ℕ) → cond b (Some n) None ≡ None → b ≡ false
-not_found true n e = cc
-not_found false n e = refl
 
 one_part_more : {X : Type 0} (b : Bool) (x : X) (xs : List X) (parts : List (List X)) (n : ℕ) → length (x ∷ xs) ≤ cond (not b) (1 + n) 0 → (length xs ≤ n → parts ≡ xs ∷ []) → cond b ([] ∷ parts) (onto_first x parts) ≡ (x ∷ xs) ∷ []
 one_part_more true x xs parts n h one = absurd (omega arith)

@@ -11,7 +11,7 @@ use Rattle.cvl_base.specs.SegmentMonoid.{is_seg_item, seg_join, seg_unit}
 use Rattle.fresh.specs.Parts.{part}
 use Rattle.scan_walks.specs.Ranges.{continued, started, with_starts, range_between, range_scan_of}
 use Rattle.scan_walks.proofs.Cut.{length-started}
-use Rattle.scan_walks.proofs.Scanned.{scan_of-cons}
+use Rattle.operators.proofs.FoldLaws.{scan_of-cons}
 
 module _ {Item : Type 0} (join : Item → Item → Item) (unit : Item) where
   pub range_scan-take : (before : Item) (n : ℕ) (run : List (Bool × Item)) → take n (range_scan_of join unit before run) ≡ range_scan_of join unit before (take n run)
