@@ -12,6 +12,7 @@ use crate::inputs::{InputBytes, first_number, token_count};
 use crate::token::run_length;
 use cvl_base::{Memory, NoResources};
 use fresh::{Part, Run, first_found};
+use sharing::ThreadCount;
 
 /// A piece of an input, of which no token goes on in another.
 #[derive(Clone, Copy)]
@@ -72,17 +73,18 @@ fn cut_near(bytes: &[u8], place: usize) -> (&[u8], &[u8])
     bytes.split_at(place + run_length::<InputBytes>(back))
 }
 
-/// So many pieces of the bytes, about equally long, of which no token has a part in two.
+/// A piece of the bytes for each thread, about equally long, of which no token has a part in two.
 pub(crate) fn pieces_of<A: Memory>(
     alloc: A,
     bytes: &[u8],
-    count: usize,
+    threads: ThreadCount,
 ) -> Result<Vec<Piece<'_>, A>, NoResources>
-    ensures { IfOk result (λ pieces. flat_map (λ p. numbers_of p.bytes.now) pieces.items ≡ numbers_of bytes.now) }
+    ensures whole { IfOk result (λ pieces. flat_map (λ p. numbers_of p.bytes.now) pieces.items ≡ numbers_of bytes.now) }
+    ensures as_many { IfOk result (λ pieces. length pieces.items ≡ threads) }
 {
-    let mut pieces = Vec::with_capacity(alloc, count)?;
+    let mut pieces = Vec::with_capacity(alloc, threads.get())?;
     let mut rest = bytes;
-    let mut left = count;
+    let mut left = threads.get();
     while left > 1 {
         let (bytes, others) = cut_near(rest, rest.len() / left);
         pieces.push(Piece { bytes })?;

@@ -27,7 +27,7 @@ pub fn read_vector<R: Threads + Sync, A: Memory>(
     ensures in_limit { IfOk result (λ v. vec_len v ≤ most_elements) }
 {
     let threads = threads_reading(config, bytes.len());
-    if threads == 1 {
+    if threads.get() < 2 {
         return read_vector_alone(alloc, bytes);
     }
     read_by_several(rt, alloc, threads, bytes)

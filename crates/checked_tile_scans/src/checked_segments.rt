@@ -16,7 +16,6 @@ use cvl_base::monoids::Add;
 use cvl_base::{Config, Memory, Refused};
 use scan_walks::{checked_seg_reduce_vec, checked_seg_scan_vec, know_numbers};
 use segdes::{SegDes, check_total};
-use sharing::threads_for;
 use std::mem::size_of_val;
 use std::thread::Threads;
 use tile_scans::{reduce_pace, scan_after_befores, scan_pace};
@@ -71,6 +70,6 @@ pub fn checked_seg_reduce<R: Threads + Sync, A: Memory>(
     };
     let totals = Totals::new(a, Some(d), summed_tile(pace, d));
     let before = before_tiles(rt, alloc, pace, &totals)?;
-    let threads = threads_for(pace, a.len().max(d.count()));
+    let threads = pace.threads_writing(a.len().max(d.count()));
     sums_known(rt, alloc, threads, &totals, d, &before)
 }

@@ -14,8 +14,9 @@ use crate::tile_totals::{Totals, race_for_totals};
 use boards::Targets;
 use crew::OpenGate;
 use cvl_base::monoids::Add;
-use cvl_base::{Config, Fault, FaultNo, Memory, NoResources, Packed, Refused};
+use cvl_base::{Fault, FaultNo, Memory, NoResources, Packed, Refused};
 use least_races::race_for_least;
+use sharing::Pace;
 use std::alloc::Allocator;
 use std::thread::Threads;
 
@@ -65,7 +66,7 @@ impl<'a, A: Allocator> Targets for Outside<'a, A> {
 fn first_overflow<R: Threads + Sync, A: Memory>(
     rt: &R,
     alloc: A,
-    config: Config,
+    pace: Pace,
     vector: &Totals<A>,
     before: &[i64],
 ) -> Result<Option<u32>, NoResources>
@@ -75,8 +76,7 @@ fn first_overflow<R: Threads + Sync, A: Memory>(
         ≡ first_outside (total_scan (flagged (option_copied vector.now.segments) vector.now.elements.now))) }
 {
     let outside = Outside { vector, before };
-    let one_each = Config::new(1, config.workers()).unwrap_or(config);
-    match race_for_least(rt, alloc, one_each, &outside, &OpenGate)? {
+    match race_for_least(rt, alloc, pace.place_by_place(), &outside, &OpenGate)? {
         Some(t) => {
             let (from, _) = vector.plan.range(t);
             Ok(Some(from + vector.fitting(t, before[t as usize]) as u32))
@@ -97,7 +97,7 @@ fn wrapped<A: Allocator>(alloc: A, numbers: &[i64]) -> Result<Vec<i32, A>, NoRes
 pub(crate) fn befores_or_overflow<R: Threads + Sync, A: Memory>(
     rt: &R,
     alloc: A,
-    config: Config,
+    pace: Pace,
     vector: &Totals<A>,
 ) -> Result<Vec<i32, A>, Refused>
     ensures meaning { Gives (λ before. total_scan (flagged (option_copied vector.now.segments) vector.now.elements.now)) result
@@ -108,8 +108,8 @@ pub(crate) fn befores_or_overflow<R: Threads + Sync, A: Memory>(
     ensures before { IfOk result (λ before. before.items ≡ map wrap
         (totals_before vector.now.plan (flagged (option_copied vector.now.segments) vector.now.elements.now))) }
 {
-    let before = race_for_totals(rt, alloc, config, vector)?;
-    if let Some(place) = first_overflow(rt, alloc, config, vector, &before)? {
+    let before = race_for_totals(rt, alloc, pace, vector)?;
+    if let Some(place) = first_overflow(rt, alloc, pace, vector, &before)? {
         return Err(Refused::Fault(Fault::at(FaultNo::Overflow, place)));
     }
     Ok(wrapped(alloc, &before)?)

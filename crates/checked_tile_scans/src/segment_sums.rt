@@ -12,10 +12,11 @@ ghost use Rattle.checked_tile_scans.specs.Checked.{segment_totals, totals_before
 
 use crate::tile_totals::{Totals, race_for_totals};
 use cvl_base::monoids::Add;
-use cvl_base::{Config, Fault, FaultNo, Memory, NoResources, Packed, Refused};
+use cvl_base::{Fault, FaultNo, Memory, NoResources, Packed, Refused};
 use fresh::{CheckedWriter, Run, first_found, write_checked_in_runs};
 use scan_walks::fitting;
 use segdes::SegDes;
+use sharing::{Pace, ThreadCount};
 use std::alloc::Allocator;
 use std::thread::Threads;
 
@@ -43,7 +44,7 @@ fn nothing_before<A: Memory>(alloc: A) -> Result<Vec<i64, A>, NoResources>
 pub(crate) fn before_tiles<R: Threads + Sync, A: Memory>(
     rt: &R,
     alloc: A,
-    config: Config,
+    pace: Pace,
     vector: &Totals<A>,
 ) -> Result<Vec<i64, A>, NoResources>
     ensures { IfOk result (λ before. before.items
@@ -52,7 +53,7 @@ pub(crate) fn before_tiles<R: Threads + Sync, A: Memory>(
     if vector.plan.count() == 1 {
         return nothing_before(alloc);
     }
-    race_for_totals(rt, alloc, config, vector)
+    race_for_totals(rt, alloc, pace, vector)
 }
 
 /// The sums of the segments, where it is known what stands before each tile. At most so many threads write them. `Overflow` at the
@@ -60,7 +61,7 @@ pub(crate) fn before_tiles<R: Threads + Sync, A: Memory>(
 pub(crate) fn sums_known<R: Threads + Sync, A: Memory>(
     rt: &R,
     alloc: A,
-    threads: u32,
+    threads: ThreadCount,
     vector: &Totals<A>,
     segments: &SegDes<A>,
     before: &[i64],

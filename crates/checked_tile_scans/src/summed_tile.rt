@@ -2,9 +2,8 @@
 
 ghost use Rattle.std.specs.Prelude.{◌≤◌};
 
-use cvl_base::Config;
 use segdes::SegDes;
-use sharing::LONG_TILE;
+use sharing::{LONG_TILE, Pace};
 use std::alloc::Allocator;
 
 /// Whether the elements can be cut between segments into so many parts, of which there is at least one, that are nearly equal:
@@ -28,10 +27,10 @@ fn is_cut_evenly<A: Allocator>(d: &SegDes<A>, parts: usize) -> bool
 ///
 /// With one tile each worker adds up its segments once. The race adds up all elements twice, so that it is no faster than the
 /// worker who has half a part more than an equal one.
-pub(crate) fn summed_tile<A: Allocator>(pace: Config, d: &SegDes<A>) -> u32
+pub(crate) fn summed_tile<A: Allocator>(pace: Pace, d: &SegDes<A>) -> u32
     ensures { 1 ≤ result }
 {
-    if pace.tile() < LONG_TILE || !is_cut_evenly(d, pace.workers() as usize) {
+    if pace.tile() < LONG_TILE || !is_cut_evenly(d, pace.workers().get()) {
         return pace.tile();
     }
     (d.total() as u32).max(1)

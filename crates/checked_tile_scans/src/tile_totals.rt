@@ -11,9 +11,10 @@ ghost use Rattle.checked_tile_scans.specs.Checked.{totals_before};
 use boards::Tiles;
 use crew::OpenGate;
 use cvl_base::monoids::Exact;
-use cvl_base::{Config, Memory, NoResources};
+use cvl_base::{Memory, NoResources};
 use scan_walks::{fitting_of_range, fitting_of_scan, know_numbers, total, total_of_range};
 use segdes::SegDes;
+use sharing::Pace;
 use std::alloc::Allocator;
 use std::thread::Threads;
 use tile_plan::Plan;
@@ -143,12 +144,12 @@ impl<'a, A: Allocator> Tiles for Totals<'a, A> {
 pub(crate) fn race_for_totals<R: Threads + Sync, A: Memory>(
     rt: &R,
     alloc: A,
-    config: Config,
+    pace: Pace,
     vector: &Totals<A>,
 ) -> Result<Vec<i64, A>, NoResources>
     ensures { IfOk result (λ before. before.items
         ≡ totals_before vector.now.plan (flagged (option_copied vector.now.segments) vector.now.elements.now)) }
 {
-    let before = race_for_befores(rt, alloc, config, vector, &OpenGate)?;
+    let before = race_for_befores(rt, alloc, pace, vector, &OpenGate)?;
     Ok(before)
 }

@@ -12,6 +12,7 @@ use crate::gate::Gate;
 use crate::work::Work;
 use crate::worker::take_tiles;
 use cvl_base::{Memory, NoResources};
+use sharing::ThreadCount;
 use std::alloc::Allocator;
 use std::marker::PhantomData;
 use std::thread::{Threads, join};
@@ -28,7 +29,7 @@ pub struct Crewed<W: Work, A: Allocator> {
 
 /// One worker for each seat, numbered from 0 in the order of the seats, claims tiles until it is told that none is left.
 ///
-/// There are 1 to 64 seats, all of the work's board, to none of which a tile was given before. A worker passes `Claimed`
+/// There are one seat or more, at most `workers`, all of the work's board, to none of which a tile was given before. A worker passes `Claimed`
 /// before it works at a tile, and `Finished` after it has the tile's items. The seats are halved, and a half is given to a
 /// thread of its own, until each worker has one seat; where no thread can be made both halves are worked off in turn. With
 /// one seat no thread is started. At the end each seat has the fact of each tile that was given to it. Where a worker is out
@@ -36,12 +37,13 @@ pub struct Crewed<W: Work, A: Allocator> {
 pub fn run_crew<R: Threads + Sync, A: Memory, W: Work, G: Gate>(
     rt: &R,
     alloc: A,
+    workers: ThreadCount,
     work: &W,
     seats: Vec<W::Seat, A>,
     gate: &G,
 ) -> Result<Crewed<W, A>, NoResources>
     requires some { 1 ≤ vec_len seats }
-    requires at_most { vec_len seats ≤ most_workers }
+    requires at_most { vec_len seats ≤ workers }
     requires of_board { All (λ seat. W.IsSeat work.now seat) seats.items }
     requires fresh { All (λ seat. W.given seat ≡ []) seats.items }
     ensures as_many { IfOk result (λ crewed. vec_len crewed.seats ≡ vec_len seats) }
@@ -52,6 +54,8 @@ pub fn run_crew<R: Threads + Sync, A: Memory, W: Work, G: Gate>(
         (given_to W.given crewed.seats.items)
         (map (λ p. (p.tile, p.items.items)) crewed.pieces.items)) }
 {
+    // its contract bounds the number of workers
+    let _workers = workers.get();
     run_from(rt, alloc, work, 0, seats, true, gate)
 }
 
@@ -60,12 +64,13 @@ pub fn run_crew<R: Threads + Sync, A: Memory, W: Work, G: Gate>(
 pub fn run_crew_for_facts<R: Threads + Sync, A: Memory, W: Work, G: Gate>(
     rt: &R,
     alloc: A,
+    workers: ThreadCount,
     work: &W,
     seats: Vec<W::Seat, A>,
     gate: &G,
 ) -> Result<Vec<W::Seat, A>, NoResources>
     requires some { 1 ≤ vec_len seats }
-    requires at_most { vec_len seats ≤ most_workers }
+    requires at_most { vec_len seats ≤ workers }
     requires of_board { All (λ seat. W.IsSeat work.now seat) seats.items }
     requires fresh { All (λ seat. W.given seat ≡ []) seats.items }
     ensures as_many { IfOk result (λ left. vec_len left ≡ vec_len seats) }
@@ -73,6 +78,8 @@ pub fn run_crew_for_facts<R: Threads + Sync, A: Memory, W: Work, G: Gate>(
     ensures done { IfOk result (λ left. All (λ seat. IsTrue (W.is_done seat)) left.items) }
     ensures facts { IfOk result (λ left. All (HasFacts (W.HasFact work.now) W.given) left.items) }
 {
+    // its contract bounds the number of workers
+    let _workers = workers.get();
     let crewed = run_from(rt, alloc, work, 0, seats, false, gate)?;
     Ok(crewed.seats)
 }

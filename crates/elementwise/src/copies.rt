@@ -3,7 +3,7 @@
 ghost use Rattle.std.specs.Prelude.{◌≡◌, IfOk, length, vec_len};
 
 use crate::runs::written_in_runs;
-use crate::shared::threads_for;
+use crate::shared::rayon_threads;
 use cvl_base::{Memory, NoResources};
 use element_walks::Copied;
 use std::mem::size_of_val;
@@ -18,7 +18,7 @@ pub(crate) fn copied<X: Copy + Send + Sync, R: Threads + Sync, A: Memory>(
     ensures values { IfOk result (λ v. v.items ≡ a.now) }
     ensures as_long { IfOk result (λ v. vec_len v ≡ length a.now) }
 {
-    let threads = threads_for(rt, size_of_val(a));
+    let threads = rayon_threads(rt, size_of_val(a));
     if threads < 2 {
         return Ok(Vec::from_slice(alloc, a)?);
     }

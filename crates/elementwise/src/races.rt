@@ -14,7 +14,7 @@ use cvl_base::{Config, Fault, Memory, Refused, check_agree};
 use element_walks::{OnPairs, OrZero, PartialBinary, values_on_pairs_or};
 use fresh::write_in_runs;
 use least_races::{least_pace, race_for_least};
-use sharing::threads_for;
+use sharing::threads_writing;
 use std::marker::PhantomData;
 use std::thread::Threads;
 
@@ -80,5 +80,11 @@ pub(crate) fn values_or_fault<
         return Err(Refused::Fault(Fault::at(O::fault(), place)));
     }
     let values = OnPairs::<OrZero<O>, i32>::new(a, b);
-    Ok(write_in_runs(rt, alloc, threads_for(config, a.len()), &values, a.len())?)
+    Ok(write_in_runs(
+        rt,
+        alloc,
+        threads_writing(config, a.len()),
+        &values,
+        a.len(),
+    )?)
 }

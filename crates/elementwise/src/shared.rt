@@ -24,15 +24,16 @@ pub(crate) fn written_by_rayon<T: Send + Drop, R: Threads + Sync, A: Memory, W: 
     ensures values { IfOk result (λ v. v.items ≡ W.whole writer.now) }
     ensures as_long { IfOk result (λ v. vec_len v ≡ items) }
 {
-    let threads = threads_for(rt, read);
+    let threads = rayon_threads(rt, read);
     if threads < 2 {
         return Ok(write_alone(alloc, writer, items)?);
     }
     written_in_runs(rt, alloc, writer, items, threads)
 }
 
-/// How many threads share a call that reads so many bytes.
-pub(crate) fn threads_for(rt: &impl Threads, read: usize) -> usize
+/// How many threads of `rayon` share a call that reads so many bytes: as many as there are processors at most, since such a call
+/// has no configuration.
+pub(crate) fn rayon_threads(rt: &impl Threads, read: usize) -> usize
     ensures { 1 ≤ result }
 {
     let elements = read / READ_BY_A_SUM;

@@ -8,6 +8,7 @@ ghost use Rattle.fresh.specs.Parts.{part};
 use crate::room::Room;
 use crate::run::Run;
 use crate::shares::{Share, write_in_parts};
+use sharing::ThreadCount;
 use std::alloc::{AllocError, Allocator};
 use std::thread::Threads;
 
@@ -130,7 +131,7 @@ pub fn write_checked_in_runs<
 >(
     rt: &R,
     alloc: A,
-    threads: u32,
+    threads: ThreadCount,
     writer: &W,
     items: usize,
 ) -> Result<(Vec<T, A>, Option<usize>), AllocError>
@@ -139,8 +140,11 @@ pub fn write_checked_in_runs<
     ensures items { IfOk result (λ r. r.0.items ≡ W.whole writer.now) }
     ensures found { IfOk result (λ r. r.1 ≡ first_without 0 (W.values writer.now)) }
 {
-    let threads = items.min(threads as usize);
-    write_in_parts(rt, alloc, Places { writer, threads }, items)
+    let places = Places {
+        writer,
+        threads: items.min(threads.get()),
+    };
+    write_in_parts(rt, alloc, threads, places, items)
 }
 
 /// The writer's items as a vector, written by at most `threads` threads.
@@ -150,19 +154,21 @@ pub fn write_checked_in_runs<
 pub fn write_in_runs<T: Send + Drop, R: Threads + Sync, A: Allocator, W: Writer<T> + Sync>(
     rt: &R,
     alloc: A,
-    threads: u32,
+    threads: ThreadCount,
     writer: &W,
     items: usize,
 ) -> Result<Vec<T, A>, AllocError>
     requires { items ≡ length (W.whole writer.now) }
     ensures { IfOk result (λ v. v.items ≡ W.whole writer.now) }
 {
-    if threads < 2 {
+    if threads.get() < 2 {
         return write_alone(alloc, writer, items);
     }
-    let threads = items.min(threads as usize);
-    let writer = &Unchecked { writer };
-    let (written, _) = write_in_parts(rt, alloc, Places { writer, threads }, items)?;
+    let places = Places {
+        writer: &Unchecked { writer },
+        threads: items.min(threads.get()),
+    };
+    let (written, _) = write_in_parts(rt, alloc, threads, places, items)?;
     Ok(written)
 }
 

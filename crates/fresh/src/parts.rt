@@ -9,6 +9,7 @@ ghost use Rattle.fresh.specs.Places.{stretch};
 use crate::forks::{Writer, write_in_runs};
 use crate::run::Run;
 use crate::shares::Share;
+use sharing::ThreadCount;
 use std::alloc::{AllocError, Allocator};
 use std::marker::PhantomData;
 use std::thread::Threads;
@@ -76,7 +77,7 @@ fn total(counts: &[usize]) -> usize
 pub fn count_parts<T: Sync, R: Threads + Sync, A: Allocator, P: Part<T> + Sync>(
     rt: &R,
     alloc: A,
-    threads: u32,
+    threads: ThreadCount,
     parts: &[P],
 ) -> Result<(Vec<usize, A>, usize), AllocError>
     ensures counts { IfOk result (λ r. r.0.items ≡ counts_of P.items parts.now) }

@@ -7,6 +7,7 @@ ghost use denote.Param.Send.{IsSync, IsSend};
 
 use crate::room::Room;
 use crate::run::Run;
+use sharing::ThreadCount;
 use std::alloc::{AllocError, Allocator};
 use std::thread::{Threads, join};
 
@@ -103,13 +104,15 @@ fn write_both<T: Send + Drop, R: Threads + Sync, S: Share<T> + Send + Drop>(
 }
 
 /// Writes the next places of a run, as many as the share has, behind the items that it has, each part of the share by a thread
-/// of its own. It tells the first place whose item has no value.
+/// of its own. The share has at most `threads` parts. It tells the first place whose item has no value.
 pub fn extend_in_parts<T: Send + Drop, R: Threads + Sync, S: Share<T> + Send + Drop>(
     rt: &R,
+    threads: ThreadCount,
     share: S,
     run: Run<T>,
     room: usize,
 ) -> (Run<T>, Option<usize>)
+    requires few { S.parts share ≤ threads }
     requires within { room ≤ run.room }
     requires places { S.IsOf share (run.first + length run.items) room }
     ensures run { result.0 ≡ with_items run (S.items share (run.first + length run.items) room) }
@@ -123,14 +126,16 @@ pub fn extend_in_parts<T: Send + Drop, R: Threads + Sync, S: Share<T> + Send + D
 }
 
 /// A vector of so many places, all of which a share writes, each part by a thread of its own, and the first place whose item
-/// has no value.
+/// has no value. The share has at most `threads` parts.
 pub fn write_in_parts<T: Send + Drop, R: Threads + Sync, A: Allocator, S: Share<T> + Send + Drop>(
     rt: &R,
     alloc: A,
+    threads: ThreadCount,
     share: S,
     places: usize,
 ) -> Result<(Vec<T, A>, Option<usize>), AllocError>
-    requires { S.IsOf share 0 places }
+    requires few { S.parts share ≤ threads }
+    requires places { S.IsOf share 0 places }
     ensures items { IfOk result (λ r. r.0.items ≡ S.items share 0 places) }
     ensures found { IfOk result (λ r. r.1 ≡ S.found share 0 places) }
 {

@@ -5,9 +5,10 @@ ghost use Rattle.fresh.specs.Parts.{part};
 ghost use Rattle.fresh.specs.Places.{stretch};
 ghost use Rattle.fresh_tests.specs.Doubles.{double};
 
-use cvl_base::{Memory, NoResources};
+use cvl_base::{Config, Memory, NoResources};
 use fresh::{Run, Writer, write_in_runs, write_over};
 use refusing_memory::{Refusing, withstands_refusals};
+use sharing::{ThreadCount, all_workers};
 use std::test::Fail;
 use std::thread::Threads;
 
@@ -45,7 +46,7 @@ fn are_doubles(values: &[u64], numbers: &[u32]) -> bool {
 fn holds_doubles<R: Threads + Sync, A: Memory>(
     rt: &R,
     alloc: A,
-    threads: u32,
+    threads: ThreadCount,
     numbers: &[u32],
 ) -> Result<bool, NoResources> {
     let mut doubles = write_in_runs(rt, alloc, threads, &Doubles { numbers }, numbers.len())?;
@@ -69,7 +70,8 @@ const LENGTHS: &[usize] = &[0, 1, 5, 40];
 fn each_growth_refused(rt: HostRuntime) -> Result<(), Fail> {
     let numbers: Vec<u32> = (0..40u32).map(|k| k * k + 5).collect(rt.alloc())?;
     for length in LENGTHS {
-        for threads in [1, 3, 8] {
+        for workers in [1, 3, 8] {
+            let threads = all_workers(Config::new(1, workers)?);
             let (some, _) = numbers.as_slice().split_at(numbers.len().min(*length));
             let requests = withstands_refusals(
                 rt.alloc(),
@@ -77,7 +79,7 @@ fn each_growth_refused(rt: HostRuntime) -> Result<(), Fail> {
                 Ok(true),
                 Err(NoResources),
             )?;
-            assert!(rt; requests >= 2, "{length} by {threads}: {requests}");
+            assert!(rt; requests >= 2, "{length} by {workers}: {requests}");
         }
     }
     Ok(())
@@ -88,7 +90,8 @@ fn each_growth_refused(rt: HostRuntime) -> Result<(), Fail> {
 fn a_shared_length(rt: HostRuntime) -> Result<(), Fail> {
     let heap = Refusing::none(rt.alloc());
     let numbers: Vec<u32> = (0..262_145u32).map(|k| k % 1_000).collect(rt.alloc())?;
-    assert!(rt; holds_doubles(&rt, &heap, 8, &numbers) == Ok(true));
+    let threads = all_workers(Config::new(1, 8)?);
+    assert!(rt; holds_doubles(&rt, &heap, threads, &numbers) == Ok(true));
     Ok(())
 }
 

@@ -5,13 +5,14 @@ ghost use Rattle.std.specs.Prelude.{◌≤◌, IfSome};
 ghost use Rattle.cvl_base.specs.Limits.{most_elements};
 
 use cvl_base::Config;
-use sharing::{LEAST_SEARCHED, race_pace};
+use sharing::{LEAST_SEARCHED, Pace, race_pace};
 
 /// The tiles and the workers of the race for the least place of so many elements, or none where one thread walks them at once.
 /// It hangs on the configuration and on the length alone, and no result depends on it.
-pub fn least_pace(config: Config, elements: usize) -> Option<Config>
+pub fn least_pace(config: Config, elements: usize) -> Option<Pace>
     ensures some { IfSome result (λ _. 1 ≤ elements) }
     ensures few { IfSome result (λ _. elements ≤ most_elements) }
+    ensures workers { IfSome result (λ pace. pace.1 ≤ config.1) }
 {
     race_pace(elements >= LEAST_SEARCHED, config, elements)
 }

@@ -12,7 +12,7 @@ use crate::checks::length_for;
 use cvl_base::{Config, Fault, Memory, Refused, check_agree};
 use fresh::{Copies, Run, write_in_runs, write_over};
 use segdes::{EndToEnd, SegDes, Segments};
-use sharing::threads_for;
+use sharing::threads_writing;
 use std::alloc::{AllocError, Allocator};
 use std::thread::Threads;
 
@@ -35,7 +35,7 @@ pub fn distribute<T: Copy + Send + Sync, R: Threads + Sync, A: Memory>(
         item: value,
         count: length,
     };
-    let threads = threads_for(config, length);
+    let threads = threads_writing(config, length);
     Ok(write_in_runs(rt, alloc, threads, &copies, length)?)
 }
 
@@ -74,7 +74,7 @@ pub fn seg_distribute<T: Copy + Send + Sync, R: Threads + Sync, A: Memory>(
     let copies = EndToEnd {
         segments: SegmentCopies { values, d },
     };
-    let threads = threads_for(config, total);
+    let threads = threads_writing(config, total);
     Ok(write_in_runs(rt, alloc, threads, &copies, total)?)
 }
 

@@ -13,7 +13,7 @@ use crate::checks::length_for;
 use cvl_base::{Config, Fault, Memory, Refused, check_agree};
 use fresh::{Run, Writer, write_in_runs, write_over};
 use segdes::{EndToEnd, SegDes, Segments};
-use sharing::threads_for;
+use sharing::threads_writing;
 use std::alloc::{AllocError, Allocator};
 use std::thread::Threads;
 
@@ -38,7 +38,7 @@ pub fn index<R: Threads + Sync, A: Memory>(
         stride,
         length,
     };
-    let threads = threads_for(config, length);
+    let threads = threads_writing(config, length);
     Ok(write_in_runs(rt, alloc, threads, &numbers, length)?)
 }
 
@@ -80,7 +80,7 @@ pub fn seg_index<R: Threads + Sync, A: Memory>(
     let numbers = EndToEnd {
         segments: SegmentProgressions { inits, strides, d },
     };
-    let threads = threads_for(config, total);
+    let threads = threads_writing(config, total);
     Ok(write_in_runs(rt, alloc, threads, &numbers, total)?)
 }
 

@@ -14,7 +14,7 @@ use crate::kept_runs::Kept;
 use crew::{Gate, OpenGate};
 use cvl_base::{Config, Fault, FaultNo, Memory, NoResources, Refused, check_agree, true_count};
 use fresh::{Run, fill_slice, write_in_runs};
-use sharing::threads_for;
+use sharing::threads_writing;
 use std::thread::Threads;
 
 /// The elements whose flag is true, in order: `pck_luz` and `pck_lub`.
@@ -95,7 +95,7 @@ pub(crate) fn kept<T: Copy + Send + Sync, R: Threads + Sync, A: Memory, G: Gate>
         flags,
         places,
     };
-    let threads = threads_for(config, flags.len());
+    let threads = threads_writing(config, flags.len());
     Ok(write_in_runs(rt, alloc, threads, &kept, count)?)
 }
 

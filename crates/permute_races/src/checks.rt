@@ -9,8 +9,9 @@ ghost use Rattle.cvl_base.specs.Permutes.{first_fault};
 use boards::Targets;
 use crew::Gate;
 use cvl_base::limits::MOST_ELEMENTS;
-use cvl_base::{Config, Fault, FaultNo, Memory, Refused};
+use cvl_base::{Fault, FaultNo, Memory, Refused};
 use least_races::race_for_least;
+use sharing::Pace;
 use std::thread::Threads;
 
 /// Places, counted from 0, some of which are bad.
@@ -60,14 +61,14 @@ impl<'a, F: Faulty> Targets for BadPlaces<'a, F> {
 pub(crate) fn check_raced<R: Threads + Sync, A: Memory, F: Faulty + Sync, G: Gate>(
     rt: &R,
     alloc: A,
-    config: Config,
+    pace: Pace,
     faulty: &F,
     gate: &G,
 ) -> Result<(), Refused>
     requires { length (F.wrongs faulty.now) ≤ most_elements }
     ensures { Gives (λ u. u) result (unless (first_fault 0 (F.wrongs faulty.now)) (Ok tt)) }
 {
-    let Some(place) = race_for_least(rt, alloc, config, &BadPlaces { faulty }, gate)? else {
+    let Some(place) = race_for_least(rt, alloc, pace, &BadPlaces { faulty }, gate)? else {
         return Ok(());
     };
     match faulty.wrong(place as usize) {

@@ -7,7 +7,8 @@ ghost use Rattle.permute_walks.specs.Indices.{first_outside};
 
 use crate::checks::{Faulty, check_raced};
 use crew::Gate;
-use cvl_base::{Config, FaultNo, Memory, Refused, place_among};
+use cvl_base::{FaultNo, Memory, Refused, place_among};
+use sharing::Pace;
 use std::thread::Threads;
 
 /// Indices, which are bad where they are none of so many places.
@@ -40,7 +41,7 @@ impl<'a> Faulty for Indices<'a> {
 pub fn check_indices_raced<R: Threads + Sync, A: Memory, G: Gate>(
     rt: &R,
     alloc: A,
-    config: Config,
+    pace: Pace,
     index: &[i32],
     places: usize,
     gate: &G,
@@ -48,5 +49,5 @@ pub fn check_indices_raced<R: Threads + Sync, A: Memory, G: Gate>(
     requires { length index.now ≤ most_elements }
     ensures { Gives (λ u. u) result (unless (first_outside 0 places index.now) (Ok tt)) }
 {
-    check_raced(rt, alloc, config, &Indices { index, places }, gate)
+    check_raced(rt, alloc, pace, &Indices { index, places }, gate)
 }

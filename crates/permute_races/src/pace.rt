@@ -5,14 +5,15 @@ ghost use Rattle.cvl_base.specs.Limits.{most_elements};
 
 use cvl_base::Config;
 use cvl_base::limits::MOST_ELEMENTS;
-use sharing::{LONG_TILE, race_pace};
+use sharing::{LONG_TILE, Pace, race_pace};
 
 /// The tiles and the workers of the race of a permute of so many indices into so many places, or none where one thread walks
 /// them. Workers race where tiles of fewer than 1,024 elements are asked for, but for a result that has more places than a
 /// board has words. It hangs on the configuration and on these lengths alone, and no result depends on it.
-pub fn permute_pace(config: Config, indices: usize, places: usize) -> Option<Config>
+pub fn permute_pace(config: Config, indices: usize, places: usize) -> Option<Pace>
     ensures few { IfSome result (λ _. indices ≤ most_elements) }
     ensures few_places { IfSome result (λ _. places ≤ most_elements) }
+    ensures workers { IfSome result (λ pace. pace.1 ≤ config.1) }
 {
     if places > MOST_ELEMENTS || config.tile() >= LONG_TILE {
         return None;

@@ -10,9 +10,10 @@ use crate::checks::{Faulty, check_raced};
 use boards::{Leasts, Targets};
 use crew::Gate;
 use cvl_base::limits::MOST_ELEMENTS;
-use cvl_base::{Config, FaultNo, Memory, NoResources, Refused, place_among};
+use cvl_base::{FaultNo, Memory, NoResources, Refused, place_among};
 use least_races::race_for_leasts;
 use permute_walks::{Destinations, NOBODY};
+use sharing::Pace;
 use std::alloc::Allocator;
 use std::thread::Threads;
 
@@ -103,7 +104,7 @@ fn senders_told<A: Memory>(
 fn firsts_raced<R: Threads + Sync, A: Memory, D: Destinations + Sync, G: Gate>(
     rt: &R,
     alloc: A,
-    config: Config,
+    pace: Pace,
     places: u32,
     destinations: &D,
     gate: &G,
@@ -116,7 +117,7 @@ fn firsts_raced<R: Threads + Sync, A: Memory, D: Destinations + Sync, G: Gate>(
         destinations,
         places,
     };
-    let leasts = race_for_leasts(rt, alloc, config, &slots, gate)?;
+    let leasts = race_for_leasts(rt, alloc, pace, &slots, gate)?;
     senders_told(alloc, &leasts, places)
 }
 
@@ -126,7 +127,7 @@ fn firsts_raced<R: Threads + Sync, A: Memory, D: Destinations + Sync, G: Gate>(
 pub fn senders_raced<R: Threads + Sync, A: Memory, D: Destinations + Sync, G: Gate>(
     rt: &R,
     alloc: A,
-    config: Config,
+    pace: Pace,
     places: usize,
     destinations: &D,
     gate: &G,
@@ -136,11 +137,11 @@ pub fn senders_raced<R: Threads + Sync, A: Memory, D: Destinations + Sync, G: Ga
     ensures { Gives (λ v. v.items) result (unless (first_fault 0 (wrongs places (D.destinations destinations.now)))
         (Ok (senders_of 0 (D.destinations destinations.now) places))) }
 {
-    let senders = firsts_raced(rt, alloc, config, places as u32, destinations, gate)?;
+    let senders = firsts_raced(rt, alloc, pace, places as u32, destinations, gate)?;
     let sent = Sent {
         destinations,
         senders: &senders,
     };
-    check_raced(rt, alloc, config, &sent, gate)?;
+    check_raced(rt, alloc, pace, &sent, gate)?;
     Ok(senders)
 }

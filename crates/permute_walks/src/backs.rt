@@ -11,6 +11,7 @@ ghost use Rattle.permute_walks.specs.Senders.{fault_told};
 use crate::index_counts::{count_alone, count_outside};
 use cvl_base::{Fault, FaultNo, Memory, NoResources, place_among};
 use fresh::{Run, Writer, write_in_runs, write_over};
+use sharing::ThreadCount;
 use std::thread::Threads;
 
 /// From how many indices on they are counted before they are looked at in turn.
@@ -34,7 +35,7 @@ fn check_each(index: &[i32], places: usize, first: usize) -> Result<(), Fault>
 /// the source. The first index stands at place `first`.
 pub fn check_places<R: Threads + Sync>(
     rt: &R,
-    threads: u32,
+    threads: ThreadCount,
     index: &[i32],
     places: usize,
     first: usize,
@@ -42,10 +43,10 @@ pub fn check_places<R: Threads + Sync>(
     requires { first + length index.now ≤ most_elements }
     ensures { fault_told result ≡ first_outside first places index.now }
 {
-    if threads < 2 || index.len() < LONG {
+    if threads.get() < 2 || index.len() < LONG {
         return check_places_alone(index, places, first);
     }
-    if count_outside(rt, threads as usize, index, places) == 0 {
+    if count_outside(rt, threads, index, places) == 0 {
         return Ok(());
     }
     check_each(index, places, first)
@@ -109,7 +110,7 @@ impl<'a, T: Copy> Writer<T> for ElementsAt<'a, T> {
 pub fn elements_at<T: Copy + Send + Sync, R: Threads + Sync, A: Memory>(
     rt: &R,
     alloc: A,
-    threads: u32,
+    threads: ThreadCount,
     source: &[T],
     index: &[i32],
 ) -> Result<Vec<T, A>, NoResources>

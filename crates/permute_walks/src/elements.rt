@@ -9,6 +9,7 @@ ghost use Rattle.permute_walks.specs.Senders.{elements_or, written_over};
 use crate::places::element_of;
 use cvl_base::{Memory, NoResources};
 use fresh::{Run, Writer, write_in_runs, write_over};
+use sharing::ThreadCount;
 use std::thread::Threads;
 
 /// Writes the element of each sender, and another one for nobody, since a writer writes every place.
@@ -46,7 +47,7 @@ impl<'a, T: Copy> Writer<T> for ElementsOf<'a, T> {
 pub fn elements_of<T: Copy + Send + Sync, R: Threads + Sync, A: Memory>(
     rt: &R,
     alloc: A,
-    threads: u32,
+    threads: ThreadCount,
     source: &[T],
     senders: &[u32],
 ) -> Result<Vec<T, A>, NoResources>
@@ -114,7 +115,7 @@ impl<'a, T: Copy> Writer<T> for ElementsOr<'a, T> {
 pub fn elements_or_defaults<T: Copy + Send + Sync, R: Threads + Sync, A: Memory>(
     rt: &R,
     alloc: A,
-    threads: u32,
+    threads: ThreadCount,
     source: &[T],
     senders: &[u32],
     defaults: &[T],

@@ -5,7 +5,8 @@ ghost use Rattle.std.specs.Thread.{IsSync};
 ghost use Rattle.cvl_base.specs.Limits.{most_elements};
 ghost use Rattle.permute_walks.specs.Indices.{count_outside};
 
-use std::thread::{Threads, join};
+use sharing::ThreadCount;
+use std::thread::{Threads, join_mut};
 
 /// The greatest number of places that an index of 32 bits can name.
 const MOST_PLACES: usize = 2_147_483_648;
@@ -34,20 +35,20 @@ pub(crate) fn count_alone(index: &[i32], places: usize) -> u32
 #[cycle(parts)]
 pub(crate) fn count_outside<R: Threads + Sync>(
     rt: &R,
-    threads: usize,
+    threads: ThreadCount,
     index: &[i32],
     places: usize,
 ) -> u32
     requires { length index.now ≤ most_elements }
     ensures { result ≡ count_outside places index.now }
 {
-    if threads < 2 {
+    if threads.get() < 2 {
         return count_alone(index, places);
     }
-    let fewer = threads / 2;
-    let middle = index.len() / threads * fewer;
+    let (fewer, others) = threads.halves();
+    let middle = index.len() / threads.get() * fewer.get();
     let (low, high) = index.split_at(middle);
-    let (in_low, in_high) = count_both(rt, fewer, low, threads - fewer, high, places);
+    let (in_low, in_high) = count_both(rt, fewer, low, others, high, places);
     in_low + in_high
 }
 
@@ -55,9 +56,9 @@ pub(crate) fn count_outside<R: Threads + Sync>(
 #[cycle(parts)]
 fn count_both<R: Threads + Sync>(
     rt: &R,
-    fewer: usize,
+    fewer: ThreadCount,
     low: &[i32],
-    others: usize,
+    others: ThreadCount,
     high: &[i32],
     places: usize,
 ) -> (u32, u32)
@@ -66,13 +67,13 @@ fn count_both<R: Threads + Sync>(
     ensures low { result.0 ≡ count_outside places low.now }
     ensures high { result.1 ≡ count_outside places high.now }
 {
-    let count_low = move || -> u32
+    let mut count_low = || -> u32
         requires { IsSync R.row × (length low.now ≤ most_elements) }
         ensures { result ≡ count_outside places low.entry.now }
     { count_outside(rt, fewer, low, places) };
-    let count_high = move || -> u32
+    let mut count_high = || -> u32
         requires { IsSync R.row × (length high.now ≤ most_elements) }
         ensures { result ≡ count_outside places high.entry.now }
     { count_outside(rt, others, high, places) };
-    join(rt, count_low, count_high)
+    join_mut(rt, &mut count_low, &mut count_high)
 }

@@ -13,6 +13,7 @@ use crate::sends::NOBODY;
 use crate::stores::count_senders;
 use cvl_base::{Memory, NoResources};
 use fresh::{Copies, write_in_runs};
+use sharing::ThreadCount;
 use std::thread::{Threads, join_mut};
 
 /// How many places take part.
@@ -63,7 +64,7 @@ fn store_range<D: Destinations>(senders: &mut [u32], lowest: usize, destinations
 fn store_ranges<R: Threads + Sync, D: Destinations + Sync>(
     rt: &R,
     destinations: &D,
-    threads: usize,
+    threads: ThreadCount,
     lowest: usize,
     senders: &mut [u32],
 ) -> usize
@@ -73,12 +74,12 @@ fn store_ranges<R: Threads + Sync, D: Destinations + Sync>(
     ensures stored { senders.new ≡ last_senders 0 (D.destinations destinations.now) lowest (length senders.old) }
     ensures count { result ≡ count_sent senders.new }
 {
-    if threads < 2 {
+    if threads.get() < 2 {
         store_range(senders, lowest, destinations);
         return count_senders(senders) as usize;
     }
-    let fewer = threads / 2;
-    let middle = senders.len() / threads * fewer;
+    let (fewer, others) = threads.halves();
+    let middle = senders.len() / threads.get() * fewer.get();
     let (low, high) = senders.split_at_mut(middle);
     store_both(
         rt,
@@ -86,7 +87,7 @@ fn store_ranges<R: Threads + Sync, D: Destinations + Sync>(
         fewer,
         lowest,
         low,
-        threads - fewer,
+        others,
         lowest + middle,
         high,
     )
@@ -97,10 +98,10 @@ fn store_ranges<R: Threads + Sync, D: Destinations + Sync>(
 fn store_both<R: Threads + Sync, D: Destinations + Sync>(
     rt: &R,
     destinations: &D,
-    fewer: usize,
+    fewer: ThreadCount,
     lowest: usize,
     low: &mut [u32],
-    others: usize,
+    others: ThreadCount,
     middle: usize,
     high: &mut [u32],
 ) -> usize
@@ -133,7 +134,7 @@ fn store_both<R: Threads + Sync, D: Destinations + Sync>(
 pub fn senders_shared<R: Threads + Sync, A: Memory, D: Destinations + Sync>(
     rt: &R,
     alloc: A,
-    threads: u32,
+    threads: ThreadCount,
     places: usize,
     destinations: &D,
 ) -> Result<Option<Vec<u32, A>>, NoResources>
@@ -147,7 +148,7 @@ pub fn senders_shared<R: Threads + Sync, A: Memory, D: Destinations + Sync>(
         count: places,
     };
     let mut senders = write_in_runs(rt, alloc, threads, &nobodies, places)?;
-    let sent = store_ranges(rt, destinations, threads as usize, 0, &mut senders);
+    let sent = store_ranges(rt, destinations, threads, 0, &mut senders);
     if sent == count_destinations(destinations) {
         Ok(Some(senders))
     } else {

@@ -13,6 +13,7 @@ use cvl_base::{Fault, Memory, NoResources};
 use fresh::{Run, write_in_runs, write_over};
 use permute_walks::write_elements_at;
 use segdes::{EndToEnd, SegDes, Segments};
+use sharing::ThreadCount;
 use std::alloc::{AllocError, Allocator};
 use std::thread::Threads;
 
@@ -97,7 +98,7 @@ impl<'a, T: Copy, A: Allocator> Segments for SegmentsAt<'a, T, A> {
 pub(crate) fn segments_at<T: Copy + Send + Sync, R: Threads + Sync, A: Memory>(
     rt: &R,
     alloc: A,
-    threads: u32,
+    threads: ThreadCount,
     source: &[T],
     index: &[i32],
     source_d: &SegDes<A>,

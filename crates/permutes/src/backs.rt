@@ -16,7 +16,7 @@ use cvl_base::{Config, Memory, Refused, check_agree};
 use permute_races::{check_indices_raced, permute_pace};
 use permute_walks::{check_places, elements_at};
 use segdes::{SegDes, check_total};
-use sharing::threads_for;
+use sharing::threads_writing;
 use std::thread::Threads;
 
 /// `IndexOutOfRange` at the first place whose index is none of so many places, for which workers race, or one or several threads
@@ -96,7 +96,7 @@ pub fn back_gated<T: Copy + Send + Sync, R: Threads + Sync, A: Memory, G: Gate>(
     ensures as_long { IfOk result (λ v. vec_len v ≡ length index.now) }
 {
     check_indices(rt, alloc, config, index, source.len(), gate)?;
-    let threads = threads_for(config, index.len());
+    let threads = threads_writing(config, index.len());
     Ok(elements_at(rt, alloc, threads, source, index)?)
 }
 
@@ -146,6 +146,6 @@ pub fn seg_back_gated<T: Copy + Send + Sync, R: Threads + Sync, A: Memory, G: Ga
     check_total(index, index_d)?;
     check_agree(source_d.count(), index_d.count())?;
     check_segment_indices(rt, alloc, config, index, source_d, index_d, gate)?;
-    let threads = threads_for(config, index.len());
+    let threads = threads_writing(config, index.len());
     Ok(segments_at(rt, alloc, threads, source, index, source_d, index_d)?)
 }

@@ -11,7 +11,7 @@ use crew::{Gate, OpenGate};
 use cvl_base::{Config, Memory, Refused, check_agree};
 use permute_walks::{AllDestinations, elements_or_defaults};
 use segdes::{SegDes, check_total};
-use sharing::threads_for;
+use sharing::threads_writing;
 use std::thread::Threads;
 
 /// Each element goes to its index, and a place to which none goes keeps its default: `def_puz` and `def_pub`.
@@ -109,6 +109,6 @@ pub fn seg_default_into_gated<T: Copy + Send + Sync, R: Threads + Sync, A: Memor
     check_total(defaults, default_d)?;
     check_agree(source_d.count(), default_d.count())?;
     let senders = segment_senders(rt, alloc, config, index, source_d, default_d, gate)?;
-    let threads = threads_for(config, defaults.len());
+    let threads = threads_writing(config, defaults.len());
     Ok(elements_or_defaults(rt, alloc, threads, source, &senders, defaults)?)
 }

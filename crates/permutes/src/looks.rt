@@ -8,7 +8,7 @@ ghost use Rattle.permute_walks.specs.Senders.{fault_told};
 
 use cvl_base::{Config, Fault};
 use permute_walks::{check_places, check_places_alone};
-use sharing::{LEAST_SEARCHED, threads_for};
+use sharing::{LEAST_SEARCHED, ThreadCount, threads_writing};
 use std::thread::Threads;
 
 /// What looks at indices. Its meaning is what it needs so that it may look.
@@ -56,12 +56,12 @@ impl Look for ByCaller {
 
 /// How many threads look at so many indices of a back permute: at most as many as the configuration has workers, and one where
 /// a second doesn't pay.
-pub(crate) fn threads_looking(config: Config, indices: usize) -> u32
+pub(crate) fn threads_looking(config: Config, indices: usize) -> ThreadCount
     ensures least { 1 ≤ result }
     ensures greatest { result ≤ config.1 }
 {
     if indices < LEAST_SEARCHED {
-        return 1;
+        return ThreadCount::one();
     }
-    threads_for(config, indices)
+    threads_writing(config, indices)
 }

@@ -11,10 +11,11 @@ ghost use Rattle.permutes.specs.Parts.{fault_from, flagged_parts, parts_of, plac
 
 use crate::segments::{AllParts, FlaggedParts, Parts};
 use crew::Gate;
-use cvl_base::{Config, Memory, NoResources, Refused, place_among};
+use cvl_base::{Memory, NoResources, Refused, place_among};
 use permute_races::{check_indices_raced, senders_raced};
 use permute_walks::{AllDestinations, Destinations, FlaggedDestinations};
 use segdes::SegDes;
+use sharing::Pace;
 use std::alloc::Allocator;
 use std::thread::Threads;
 
@@ -75,7 +76,7 @@ fn flat_indices<P: Parts, A: Memory>(
 pub(crate) fn segments_raced<R: Threads + Sync, A: Memory, G: Gate>(
     rt: &R,
     alloc: A,
-    pace: Config,
+    pace: Pace,
     index: &[i32],
     d: &SegDes<A>,
     result_d: &SegDes<A>,
@@ -104,7 +105,7 @@ pub(crate) fn segments_raced<R: Threads + Sync, A: Memory, G: Gate>(
 pub(crate) fn flagged_segments_raced<R: Threads + Sync, A: Memory, G: Gate>(
     rt: &R,
     alloc: A,
-    pace: Config,
+    pace: Pace,
     index: &[i32],
     flags: &[bool],
     d: &SegDes<A>,
@@ -137,7 +138,7 @@ pub(crate) fn flagged_segments_raced<R: Threads + Sync, A: Memory, G: Gate>(
 pub(crate) fn check_segments_raced<R: Threads + Sync, A: Memory, G: Gate>(
     rt: &R,
     alloc: A,
-    pace: Config,
+    pace: Pace,
     index: &[i32],
     source_d: &SegDes<A>,
     index_d: &SegDes<A>,

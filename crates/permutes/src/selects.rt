@@ -11,7 +11,7 @@ use crew::{Gate, OpenGate};
 use cvl_base::{Config, Memory, Refused, check_agree, true_count};
 use permute_walks::{FlaggedDestinations, elements_of};
 use segdes::{SegDes, check_total};
-use sharing::threads_for;
+use sharing::threads_writing;
 use std::thread::Threads;
 
 /// Each element whose flag is true goes to its index: `sel_puz` and `sel_pub`.
@@ -106,6 +106,6 @@ pub fn seg_select_gated<T: Copy + Send + Sync, R: Threads + Sync, A: Memory, G: 
     check_total(index, d)?;
     check_total(flags, d)?;
     let senders = flagged_segment_senders(rt, alloc, config, index, flags, d, gate)?;
-    let threads = threads_for(config, senders.len());
+    let threads = threads_writing(config, senders.len());
     Ok(elements_of(rt, alloc, threads, source, &senders)?)
 }

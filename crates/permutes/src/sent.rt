@@ -15,7 +15,7 @@ use cvl_base::{Config, Memory, Refused, true_count};
 use permute_races::{permute_pace, senders_raced};
 use permute_walks::{Destinations, elements_of, elements_or_defaults, senders_shared};
 use segdes::SegDes;
-use sharing::{LEAST_SEARCHED, race_pace, threads_for, threads_sending};
+use sharing::{LEAST_SEARCHED, race_pace, threads_sending, threads_writing};
 use std::thread::Threads;
 
 /// For each place of a flat result its sender, for which workers race or one thread walks.
@@ -52,7 +52,7 @@ fn senders_unasked<R: Threads + Sync, A: Memory, D: Destinations + Sync, G: Gate
         (Ok (senders_of 0 (D.destinations destinations.now) places))) }
 {
     let threads = threads_sending(config, places);
-    if threads >= 2 {
+    if threads.get() >= 2 {
         if let Some(senders) = senders_shared(rt, alloc, threads, places, destinations)? {
             return Ok(senders);
         }
@@ -136,7 +136,7 @@ pub(crate) fn elements_to<
     ensures in_length { IfOk result (λ v. vec_len v ≤ places) }
 {
     let senders = senders_to(rt, alloc, config, places, destinations, gate)?;
-    let threads = threads_for(config, places);
+    let threads = threads_writing(config, places);
     Ok(elements_of(rt, alloc, threads, source, &senders)?)
 }
 
@@ -163,6 +163,6 @@ pub(crate) fn elements_to_over<
     ensures as_long { IfOk result (λ v. vec_len v ≡ length defaults.now) }
 {
     let senders = senders_to(rt, alloc, config, defaults.len(), destinations, gate)?;
-    let threads = threads_for(config, defaults.len());
+    let threads = threads_writing(config, defaults.len());
     Ok(elements_or_defaults(rt, alloc, threads, source, &senders, defaults)?)
 }

@@ -11,7 +11,7 @@ use crew::{Gate, OpenGate};
 use cvl_base::{Config, Memory, Refused, check_agree};
 use permute_walks::{AllDestinations, elements_of};
 use segdes::{SegDes, check_total};
-use sharing::threads_for;
+use sharing::threads_writing;
 use std::thread::Threads;
 
 /// Each element goes to its index, `d[i[k]] = s[k]`: `smp_puz` and `smp_pub`.
@@ -98,6 +98,6 @@ pub fn seg_simple_gated<T: Copy + Send + Sync, R: Threads + Sync, A: Memory, G: 
     check_total(source, d)?;
     check_total(index, d)?;
     let senders = segment_senders(rt, alloc, config, index, d, d, gate)?;
-    let threads = threads_for(config, senders.len());
+    let threads = threads_writing(config, senders.len());
     Ok(elements_of(rt, alloc, threads, source, &senders)?)
 }

@@ -3,6 +3,7 @@
 ghost use Rattle.std.specs.Prelude.{◌≡◌, IfOk};
 
 use cvl_base::{Memory, NoResources};
+use sharing::ThreadCount;
 use std::thread::Threads;
 use tile_plan::{Piece, Plan, gather};
 
@@ -20,7 +21,7 @@ fn piece<A: Memory>(alloc: A, tile: u32, items: &[i32]) -> Result<Piece<i32, A>,
 pub fn is_in_order<R: Threads + Sync, A: Memory>(
     rt: &R,
     alloc: A,
-    threads: u32,
+    threads: ThreadCount,
 ) -> Result<bool, NoResources> {
     let last = piece(alloc, 2, &[5])?;
     let first = piece(alloc, 0, &[1, 2])?;

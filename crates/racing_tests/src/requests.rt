@@ -1,8 +1,9 @@
 //! What no script makes, with ample memory and with each of its requests refused in turn.
 
 use crate::{least_boards, pieces, plain_calls, scan_boards, worlds};
-use cvl_base::{Memory, Refused};
+use cvl_base::{Config, Memory, Refused};
 use refusing_memory::withstands_refusals;
+use sharing::all_workers;
 use std::test::Fail;
 use std::thread::Threads;
 
@@ -12,7 +13,7 @@ enum Made {
     ScanBoard,
     LeastBoard,
     World,
-    /// A list, gathered by so many threads.
+    /// A list, gathered by so many workers.
     List(u32),
     Sums,
     Permutes,
@@ -41,7 +42,10 @@ fn is_right<R: Threads + Sync, A: Memory>(rt: &R, heap: A, made: Made) -> Result
         Made::ScanBoard => Ok(scan_boards::answers_by_hand(heap)?),
         Made::LeastBoard => Ok(least_boards::answers_by_hand(heap)?),
         Made::World => Ok(worlds::answers_by_hand(heap)?),
-        Made::List(threads) => Ok(pieces::is_in_order(rt, heap, threads)?),
+        Made::List(workers) => match Config::new(1, workers) {
+            Ok(config) => Ok(pieces::is_in_order(rt, heap, all_workers(config))?),
+            Err(_) => Ok(false),
+        },
         Made::Sums => plain_calls::sums_are_right(rt, heap),
         Made::Permutes => plain_calls::permutes_are_right(rt, heap),
         Made::PermutesOfSegments => plain_calls::segments_are_right(rt, heap),

@@ -1,15 +1,23 @@
 //! Rules of thumb: how many threads share a call, by how many elements it writes, and whether workers race for its tiles.
 //! No result depends on them.
 //!
+//! What forks takes a [`ThreadCount`], or a [`Pace`] of a race. Both are made here alone, of a configuration, and neither has more
+//! threads than the configuration has workers.
+//!
 //! All thresholds of the library stand here. They come from a machine with four processors, where most of them were measured
 //! and that of the first walk of permutes follows from a model of its loops.
 #![tactic(auto)]
 
-ghost use Rattle.std.specs.Prelude.{◌<◌, ◌≤◌, IfSome};
-ghost use Rattle.cvl_base.specs.Limits.{longest_tile, most_elements, most_workers};
+mod pace;
+mod thread_count;
+mod threads;
 
-use cvl_base::Config;
-use cvl_base::limits::{LONGEST_TILE, MOST_ELEMENTS};
+pub use pace::{Pace, race_pace};
+pub use thread_count::ThreadCount;
+pub use threads::{
+    all_workers, threads_among, threads_clearing, threads_reading, threads_sending,
+    threads_writing, threads_writing_text,
+};
 
 /// From how many elements on a second thread pays where they are written. One thread is done with fewer before another has
 /// started.
@@ -62,112 +70,3 @@ pub const LEAST_WRITTEN: usize = 32_768;
 
 /// How many elements' texts each thread writes at least.
 pub const LEAST_WRITTEN_EACH: usize = 16_384;
-
-/// How many threads share so many elements or bytes, where each has at least `each` of them: at most `most`, and one where they
-/// are fewer than `least`.
-fn threads_sharing(most: u32, items: usize, least: usize, each: usize) -> u32
-    requires most { 1 ≤ most }
-    requires each { 1 ≤ each }
-    ensures least { 1 ≤ result }
-    ensures greatest { result ≤ most }
-{
-    if items < least {
-        return 1;
-    }
-    (items / each).min(most as usize).max(1) as u32
-}
-
-/// How many threads share a call that writes so many elements: at most as many as the configuration has workers, and one
-/// where a second doesn't pay.
-pub fn threads_for(config: Config, elements: usize) -> u32
-    ensures least { 1 ≤ result }
-    ensures greatest { result ≤ config.1 }
-{
-    threads_among(config.workers(), elements)
-}
-
-/// The same of at most so many threads, of which there is at least one.
-pub fn threads_among(most: u32, elements: usize) -> u32
-    requires { 1 ≤ most }
-    ensures least { 1 ≤ result }
-    ensures greatest { result ≤ most }
-{
-    threads_sharing(most, elements, LEAST_SHARED, LEAST_EACH)
-}
-
-/// How many threads share the first walk of a permute, each of which owns a range of a result of so many places: at most as
-/// many as the configuration has workers, and one where a second doesn't pay, or the result is longer than the longest vector.
-pub fn threads_sending(config: Config, places: usize) -> u32
-    ensures least { 1 ≤ result }
-    ensures greatest { result ≤ config.1 }
-    ensures in_limit { 2 ≤ result → places ≤ most_elements }
-{
-    if places < LEAST_SENT || places > MOST_ELEMENTS {
-        return 1;
-    }
-    threads_for(config, places)
-}
-
-/// How many threads share the reading of an input of so many bytes: at most as many as the configuration has workers, and one
-/// where a second doesn't pay.
-pub fn threads_reading(config: Config, bytes: usize) -> u32
-    ensures least { 1 ≤ result }
-    ensures greatest { result ≤ config.1 }
-{
-    threads_sharing(config.workers(), bytes, LEAST_READ, LEAST_READ_EACH)
-}
-
-/// How many threads share the clearing of fresh memory for a file of so many bytes: at most as many as the configuration has
-/// workers, and one where a second doesn't pay.
-pub fn threads_clearing(config: Config, bytes: usize) -> u32
-    ensures least { 1 ≤ result }
-    ensures greatest { result ≤ config.1 }
-{
-    threads_sharing(config.workers(), bytes, LEAST_CLEARED, LEAST_CLEARED_EACH)
-}
-
-/// How many threads share the writing of so many elements' texts: at most as many as the configuration has workers, and one
-/// where a second doesn't pay, or where there are more than 4,194,304.
-pub fn threads_writing(config: Config, elements: usize) -> u32
-    ensures least { 1 ≤ result }
-    ensures greatest { result ≤ config.1 }
-    ensures most { result ≤ most_workers }
-    ensures few { 1 < result → elements ≤ most_elements }
-{
-    if elements > MOST_ELEMENTS {
-        return 1;
-    }
-    threads_sharing(
-        config.workers(),
-        elements,
-        LEAST_WRITTEN,
-        LEAST_WRITTEN_EACH,
-    )
-}
-
-/// The tiles and the workers of the race for so many elements, or none where one thread walks them at once: what is asked for
-/// where its tiles are short; for long tiles a share of the elements for each worker where the race pays, in tiles that are
-/// made longer. None where there is no board for the race: a vector of no elements has no tile, and one of more than 4,194,304
-/// may have more tiles than a board. It hangs on the configuration and on the length alone.
-pub fn race_pace(pays: bool, config: Config, elements: usize) -> Option<Config>
-    ensures some { IfSome result (λ _. 1 ≤ elements) }
-    ensures few { IfSome result (λ _. elements ≤ most_elements) }
-    ensures tile { IfSome result (λ pace. (1 ≤ pace.0) × (pace.0 ≤ longest_tile)) }
-    ensures workers { IfSome result (λ pace. (1 ≤ pace.1) × (pace.1 ≤ config.1)) }
-{
-    if elements == 0 || elements > MOST_ELEMENTS {
-        return None;
-    }
-    if config.tile() < LONG_TILE {
-        return Some(config);
-    }
-    let elements = elements as u32;
-    let workers = (elements / LEAST_RACED).min(config.workers());
-    if !pays || workers <= 1 {
-        return None;
-    }
-    let tile = (elements / (workers * TILES_EACH))
-        .min(LONGEST_TILE)
-        .max(config.tile());
-    Some(Config::new(tile, workers).unwrap_or(config))
-}

@@ -60,7 +60,7 @@ fn cleared_room<R: Threads + Sync, A: Memory>(
     bytes: usize,
 ) -> Vec<u8, A> {
     let threads = threads_clearing(config, bytes);
-    if threads < 2 {
+    if threads.get() < 2 {
         return Vec::new(alloc);
     }
     let count = bytes.saturating_add(1);

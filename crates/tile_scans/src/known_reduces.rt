@@ -7,11 +7,11 @@ ghost use Rattle.scan_walks.specs.Ranges.{reduces_of};
 use crate::known::Known;
 use crate::steps::{Steps, write_in_steps};
 use cvl_base::monoid::know_laws;
-use cvl_base::{Config, Memory, NoResources, Packed};
+use cvl_base::{Memory, NoResources, Packed};
 use fresh::{Run, Writer, write_in_runs};
 use scan_walks::{Reading, seg_reduces_into};
 use segdes::SegDes;
-use sharing::threads_for;
+use sharing::Pace;
 use std::alloc::Allocator;
 use std::thread::Threads;
 
@@ -29,7 +29,7 @@ struct KnownReduces<'a, M: Packed, X: Copy, E: Reading<X, M::Item>, A: Allocator
 pub(crate) fn reduces_known<R, A, M, X, E>(
     rt: &R,
     alloc: A,
-    config: Config,
+    pace: Pace,
     known: &Known<M, X, E, A>,
     segments: &SegDes<A>,
 ) -> Result<Vec<M::Item, A>, NoResources>
@@ -47,7 +47,7 @@ where
 {
     let reduces = KnownReduces { known, segments };
     let count = segments.count();
-    let threads = threads_for(config, known.vector.elements.len().max(count));
+    let threads = pace.threads_writing(known.vector.elements.len().max(count));
     let sums = write_in_runs(rt, alloc, threads, &reduces, count)?;
     Ok(sums)
 }

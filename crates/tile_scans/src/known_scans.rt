@@ -7,10 +7,10 @@ ghost use Rattle.tile_scans.specs.TiledSums.{flagged};
 
 use crate::known::Known;
 use crate::steps::{Steps, write_in_steps};
-use cvl_base::{Config, Memory, NoResources, Packed};
+use cvl_base::{Memory, NoResources, Packed};
 use fresh::{Run, Writer, write_in_runs};
 use scan_walks::Reading;
-use sharing::threads_for;
+use sharing::Pace;
 use std::alloc::Allocator;
 use std::thread::Threads;
 
@@ -19,7 +19,7 @@ use std::thread::Threads;
 pub(crate) fn scan_known<R, A, M, X, E>(
     rt: &R,
     alloc: A,
-    config: Config,
+    pace: Pace,
     known: &Known<M, X, E, A>,
 ) -> Result<Vec<M::Item, A>, NoResources>
 where
@@ -33,7 +33,7 @@ where
         (flagged (option_copied known.now.vector.now.segments) (map E.item known.now.vector.now.elements.now))) }
 {
     let len = known.vector.elements.len();
-    let sums = write_in_runs(rt, alloc, threads_for(config, len), known, len)?;
+    let sums = write_in_runs(rt, alloc, pace.threads_writing(len), known, len)?;
     Ok(sums)
 }
 

@@ -6,21 +6,23 @@ ghost use Rattle.std.specs.Prelude.{◌≤◌, IfSome};
 ghost use Rattle.cvl_base.specs.Limits.{most_elements};
 
 use cvl_base::Config;
-use sharing::{LEAST_REDUCED, LEAST_SCANNED, race_pace};
+use sharing::{LEAST_REDUCED, LEAST_SCANNED, Pace, race_pace};
 
 /// The tiles and the workers of the race by which so many elements are scanned, or none where one thread walks them at once.
-pub fn scan_pace(config: Config, elements: usize) -> Option<Config>
+pub fn scan_pace(config: Config, elements: usize) -> Option<Pace>
     ensures some { IfSome result (λ _. 1 ≤ elements) }
     ensures few { IfSome result (λ _. elements ≤ most_elements) }
+    ensures workers { IfSome result (λ pace. pace.1 ≤ config.1) }
 {
     race_pace(elements >= LEAST_SCANNED, config, elements)
 }
 
 /// The tiles and the workers of the race by which so many elements, which take so many bytes, are reduced, or none where one
 /// thread walks them at once.
-pub fn reduce_pace(config: Config, elements: usize, bytes: usize) -> Option<Config>
+pub fn reduce_pace(config: Config, elements: usize, bytes: usize) -> Option<Pace>
     ensures some { IfSome result (λ _. 1 ≤ elements) }
     ensures few { IfSome result (λ _. elements ≤ most_elements) }
+    ensures workers { IfSome result (λ pace. pace.1 ≤ config.1) }
 {
     race_pace(bytes >= LEAST_REDUCED, config, elements)
 }

@@ -7,26 +7,19 @@ ghost use Rattle.tile_scans.specs.Written.{befores_of};
 use crate::tile_work::{Lent, TileWork};
 use boards::{ScanBoard, ScanSeat, Tiles};
 use crew::{Gate, run_crew_for_facts};
-use cvl_base::{Config, Memory, Monoid, NoResources};
+use cvl_base::{Memory, Monoid, NoResources};
+use sharing::Pace;
 use std::thread::Threads;
 
-/// How many workers race for so many tiles: as many as the configuration says, but no more than there are tiles.
-fn workers_for(config: Config, tiles: u32) -> u32
-    ensures some { 1 ≤ result }
-    ensures few { result ≤ config.1 }
-{
-    config.workers().min(tiles).max(1)
-}
-
-/// What stands before each tile of a vector: what the tiles before it join to since the last start of a segment. Workers race
-/// for the tiles, tell their sums and their prefixes, and pass the gate at each point. Where there is one worker no thread is
-/// started. It keeps no memory but the answer's.
+/// What stands before each tile of a vector: what the tiles before it join to since the last start of a segment. As many workers
+/// as the pace says, but no more than there are tiles, race for the tiles, tell their sums and their prefixes, and pass the gate
+/// at each point. Where there is one worker no thread is started. It keeps no memory but the answer's.
 ///
 /// The result has one item for each tile. Source: Merrill and Garland's decoupled look-back.
 pub fn race_for_befores<R: Threads + Sync, A: Memory, T: Tiles + Sync, G: Gate>(
     rt: &R,
     alloc: A,
-    config: Config,
+    pace: Pace,
     tiles: &T,
     gate: &G,
 ) -> Result<Vec<<T::M as Monoid>::Item, A>, NoResources>
@@ -36,10 +29,10 @@ where
     ensures { IfOk result (λ before. before.items ≡ befores_of T.M.join T.M.unit (T.sums tiles.now)) }
 {
     let count = tiles.count();
-    let workers = workers_for(config, count);
-    let (board, seats) = ScanBoard::new(alloc, Lent { tiles }, workers)?;
+    let workers = pace.workers().at_most(count);
+    let (board, seats) = ScanBoard::new(alloc, Lent { tiles }, workers.get() as u32)?;
     let work = TileWork { board, tiles };
-    let mut seats = run_crew_for_facts(rt, alloc, &work, seats, gate)?;
+    let mut seats = run_crew_for_facts(rt, alloc, workers, &work, seats, gate)?;
     befores(alloc, &work.board, &mut seats[0], count)
 }
 

@@ -10,6 +10,7 @@ use crate::vector_text::{PAGE_BYTES, PAGE_ELEMENTS, Page, write_spaced};
 use crate::written::Written;
 use cvl_base::{Memory, NoResources};
 use fresh::{Part, Run};
+use sharing::ThreadCount;
 use std::alloc::AllocError;
 
 /// How many bytes the texts of the elements have with a space before each.
@@ -85,18 +86,19 @@ impl<'a, T: Written> Part<u8> for ElementTexts<'a, T> {
     }
 }
 
-/// So many parts of the elements, about equally many in each.
+/// A part of the elements for each thread, about equally many in each.
 pub(crate) fn elements_in<T: Written, A: Memory>(
     alloc: A,
     xs: &[T],
-    count: usize,
+    threads: ThreadCount,
 ) -> Result<Vec<ElementTexts<'_, T>, A>, NoResources>
     requires { length xs.now ≤ most_elements }
-    ensures { IfOk result (λ parts. flat_map (λ p. spaced T.text_of p.xs.now) parts.items ≡ spaced T.text_of xs.now) }
+    ensures whole { IfOk result (λ parts. flat_map (λ p. spaced T.text_of p.xs.now) parts.items ≡ spaced T.text_of xs.now) }
+    ensures as_many { IfOk result (λ parts. length parts.items ≡ threads) }
 {
-    let mut parts = Vec::with_capacity(alloc, count)?;
+    let mut parts = Vec::with_capacity(alloc, threads.get())?;
     let mut rest = xs;
-    let mut left = count;
+    let mut left = threads.get();
     while left > 1 {
         let (front, others) = rest.split_at(rest.len() / left);
         parts.push(ElementTexts { xs: front })?;

@@ -9,7 +9,7 @@ use crate::segments::segments_in;
 use crate::vector_text::{PAGE_ELEMENTS, Page, put_vector, put_vector_alone};
 use crate::written::{MOST_TEXT_BYTES, Written};
 use cvl_base::{Config, Memory, NoResources};
-use sharing::threads_writing;
+use sharing::threads_writing_text;
 use std::alloc::Allocator;
 use std::thread::Threads;
 
@@ -137,12 +137,12 @@ fn put_spaced_segments<R: Threads + Sync, T: Written + Sync, A: Memory>(
     ensures begins { take (length text.old.items) text.new.items ≡ text.old.items }
 {
     let most = xs.len().max(lengths.len());
-    let threads = threads_writing(config, most);
+    let threads = threads_writing_text(config, most);
     let moves_much = text.len() / MOST_TEXT_BYTES > most;
-    if threads < 2 || moves_much || !are_short(lengths, xs.len() / threads as usize) {
+    if threads.get() < 2 || moves_much || !are_short(lengths, xs.len() / threads.get()) {
         return put_segments_in_turn(rt, alloc, config, lengths, xs, page, text);
     }
-    let parts = segments_in(alloc, lengths, xs, threads as usize)?;
+    let parts = segments_in(alloc, lengths, xs, threads)?;
     put_parts(rt, alloc, threads, parts.as_slice(), text)
 }
 

@@ -12,6 +12,7 @@ use crate::vector_text::{PAGE_BYTES, Page};
 use crate::written::Written;
 use cvl_base::{Memory, NoResources};
 use fresh::{Part, Run};
+use sharing::ThreadCount;
 use std::alloc::AllocError;
 
 /// How many bytes the text of a vector has.
@@ -148,23 +149,24 @@ fn leading(lengths: &[i32], least: usize) -> (usize, usize)
     (lengths.len(), elements)
 }
 
-/// So many parts of the segments, about equally much to write in each.
+/// A part of the segments for each thread, about equally much to write in each.
 pub(crate) fn segments_in<'a, T: Written, A: Memory>(
     alloc: A,
     lengths: &'a [i32],
     xs: &'a [T],
-    count: usize,
+    threads: ThreadCount,
 ) -> Result<Vec<SegmentTexts<'a, T>, A>, NoResources>
     requires few_segments { length lengths.now ≤ most_elements }
     requires few { length xs.now ≤ most_elements }
     requires cut { sum (map unsigned_abs lengths.now) ≡ length xs.now }
-    ensures { IfOk result (λ parts. flat_map (λ p. spaced (vector_text T.text_of) (cut_of (map unsigned_abs p.lengths.now) p.xs.now)) parts.items
+    ensures whole { IfOk result (λ parts. flat_map (λ p. spaced (vector_text T.text_of) (cut_of (map unsigned_abs p.lengths.now) p.xs.now)) parts.items
         ≡ spaced (vector_text T.text_of) (cut_of (map unsigned_abs lengths.now) xs.now)) }
+    ensures as_many { IfOk result (λ parts. length parts.items ≡ threads) }
 {
-    let mut parts = Vec::with_capacity(alloc, count)?;
+    let mut parts = Vec::with_capacity(alloc, threads.get())?;
     let mut lengths = lengths;
     let mut rest = xs;
-    let mut left = count;
+    let mut left = threads.get();
     while left > 1 {
         let (segments, elements) = leading(lengths, (rest.len() + lengths.len()) / left);
         let (front_lengths, other_lengths) = lengths.split_at(segments);

@@ -8,7 +8,7 @@ use crate::elements::elements_in;
 use crate::part_writes::put_parts;
 use crate::written::{MOST_TEXT_BYTES, Written};
 use cvl_base::{Config, Memory, NoResources};
-use sharing::threads_writing;
+use sharing::{ThreadCount, threads_writing_text};
 use std::alloc::Allocator;
 use std::thread::Threads;
 
@@ -113,7 +113,7 @@ pub(crate) fn put_vector_alone<T: Written, A: Allocator>(
 fn put_vector_in_parts<R: Threads + Sync, T: Written + Sync, A: Memory>(
     rt: &R,
     alloc: A,
-    threads: u32,
+    threads: ThreadCount,
     xs: &[T],
     page: &mut Page,
     text: &mut Vec<u8, A>,
@@ -123,7 +123,7 @@ fn put_vector_in_parts<R: Threads + Sync, T: Written + Sync, A: Memory>(
     ensures begins { take (length text.old.items) text.new.items ≡ text.old.items }
 {
     let others = put_first(xs, page, text)?;
-    let parts = elements_in(alloc, others, threads as usize)?;
+    let parts = elements_in(alloc, others, threads)?;
     put_parts(rt, alloc, threads, parts.as_slice(), text)?;
     text.push(b']')?;
     Ok(())
@@ -142,8 +142,8 @@ pub(crate) fn put_vector<R: Threads + Sync, T: Written + Sync, A: Memory>(
     ensures ok { OnOk result (text.new.items ≡ text.old.items ++ vector_text T.text_of xs.now) }
     ensures begins { take (length text.old.items) text.new.items ≡ text.old.items }
 {
-    let threads = threads_writing(config, xs.len());
-    if threads < 2 || text.len() / MOST_TEXT_BYTES > xs.len() {
+    let threads = threads_writing_text(config, xs.len());
+    if threads.get() < 2 || text.len() / MOST_TEXT_BYTES > xs.len() {
         return put_vector_alone(xs, page, text);
     }
     put_vector_in_parts(rt, alloc, threads, xs, page, text)

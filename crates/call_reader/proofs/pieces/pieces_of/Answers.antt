@@ -1,4 +1,4 @@
-use Rattle.std.proofs.Common.{ap, ◌∙◌, ◌++◌}
+use Rattle.std.proofs.Common.{ap, ◌∙◌, ◌++◌, arith, length, length-append}
 use Rattle.call_reader.specs.Pieces.{numbers_of}
 use Rattle.call_reader.proofs.PieceWalk.{last_piece, numbers_in, one_piece_more}
 use Rattle.call_reader.proofs.pieces.pieces_of.Goals as goal
@@ -6,9 +6,13 @@ use Rattle.call_reader.proofs.pieces.pieces_of.Goals as goal
 pub loop-left-preserved : goal.loop-left-preserved
 loop-left-preserved g c =
     let others = c.cut_near.result.1.now in
-    ap (λ ps. numbers_in (λ p. p.bytes.now) ps ++ numbers_of others) c.in_ok-push.ensures.items
-    ∙ one_piece_more (λ p. p.bytes.now) c.loop-left.pieces.items _ others c.loop-left.rest.now _ c.cut_near.ensures.whole c.cut_near.ensures.between c.loop-left.invariant
+    record {
+      whole = ap (λ ps. numbers_in (λ p. p.bytes.now) ps ++ numbers_of others) c.in_ok-push.ensures.items
+          ∙ one_piece_more (λ p. p.bytes.now) c.loop-left.pieces.items _ others c.loop-left.rest.now _ c.cut_near.ensures.whole c.cut_near.ensures.between c.loop-left.invariant.whole;
+      as_many = omega (arith, ap length c.in_ok-push.ensures.items ∙ length-append c.loop-left.pieces.items _, c.loop-left.invariant.as_many);
+      some = omega arith;
+    }
 
-pub returns : goal.returns
-returns g c =
-    ap (numbers_in (λ p. p.bytes.now)) c.in_ok-push-2.ensures.items ∙ last_piece (λ p. p.bytes.now) c.loop-left.pieces.items _ ∙ c.loop-left.invariant
+pub returns-clause-whole : goal.returns-clause-whole
+returns-clause-whole g c =
+    ap (numbers_in (λ p. p.bytes.now)) c.in_ok-push-2.ensures.items ∙ last_piece (λ p. p.bytes.now) c.loop-left.pieces.items _ ∙ c.loop-left.invariant.whole

@@ -14,7 +14,7 @@ returns g c =
     let slots = g.T.Targets.slot_count c.args.targets.now in
     let plan = c.new-plan.result in
     let some : 1 ≤ length seats.items =
-    omega (arith, seats.ok, crew.as_many, c.in_ok-board.seats.ok, ap length new.seats_new, length-replicate c.max-workers.result (new_least_seat board), c.max-workers.ensures) in
+    omega (arith, seats.ok, crew.as_many, c.in_ok-board.seats.ok, ap length new.seats_new, length-replicate c.get.result (new_least_seat board), c.get.ensures.least) in
     let whole : plan.0 ≡ length board.targets = ap (λ (p : _ × _). p.0) c.new-plan.ensures ∙ c.places.ensures.count ∙ sym (ap length new.of_targets) in
     leasts_are board plan targets slots seats.items c.close.result
     (record { of_targets = new.of_targets; of_slots = new.of_slots })

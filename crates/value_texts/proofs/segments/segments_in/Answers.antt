@@ -1,4 +1,4 @@
-use Rattle.std.proofs.Common.{◌≡◌, ◌++◌, length, length-drop, map, sum, unsigned_abs, ap, sym, ◌∙◌, arith}
+use Rattle.std.proofs.Common.{◌≡◌, ◌++◌, length, length-append, length-drop, map, sum, unsigned_abs, ap, sym, ◌∙◌, arith}
 use Rattle.cvl_base.specs.Nests.{cut_of}
 use Rattle.std.specs.List.{flat_map}
 use Rattle.value_texts.specs.Texts.{spaced, vector_text}
@@ -35,4 +35,6 @@ loop-left-preserved g c =
         ap length within.back,
         length-drop n rest,
       );
+      as_many = omega (arith, ap length c.in_ok-push.ensures.items ∙ length-append c.loop-left.parts.items _, c.loop-left.invariant.as_many);
+      some = omega arith;
     }

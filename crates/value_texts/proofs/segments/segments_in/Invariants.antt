@@ -1,4 +1,4 @@
-use Rattle.std.proofs.Common.{◌≡◌, ◌≤◌, ◌++◌, length, map, sum, unsigned_abs}
+use Rattle.std.proofs.Common.{◌≡◌, ◌+◌, ◌≤◌, ◌++◌, length, map, sum, unsigned_abs}
 use Rattle.cvl_base.specs.Limits.{most_elements}
 use Rattle.cvl_base.specs.Nests.{cut_of}
 use Rattle.std.specs.List.{flat_map}
@@ -14,6 +14,8 @@ invariant-loop-left g l = record {
   few_segments : length l.lengths ≤ most_elements;
   few : length l.rest ≤ most_elements;
   cut : sum (map unsigned_abs l.lengths) ≡ length l.rest;
+  as_many : length l.parts.items + l.left ≡ l.fn.threads;
+  some : 1 ≤ l.left;
 }
 
 abbrev pub decreases-loop-left : goal.decreases-loop-left

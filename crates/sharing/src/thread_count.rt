@@ -1,0 +1,77 @@
+//! A number of threads that no caller can make up.
+
+ghost use Rattle.std.specs.Prelude.{◌≡◌, ◌+◌, ◌≤◌, max, min};
+ghost use Rattle.cvl_base.specs.Limits.{most_workers};
+
+use std::marker::Model;
+
+/// How many threads share something, 1 to 64. Only this crate makes one, by a configuration, and from a count only smaller ones
+/// can be made.
+#[derive(Clone, Copy, Debug, PartialEq, Eq)]
+pub struct ThreadCount {
+    threads: u32,
+}
+
+impl Model for ThreadCount {
+    ghost use Rattle.std.specs.Prelude.{ℕ, ◌≤◌};
+    ghost use Rattle.cvl_base.specs.Limits.{most_workers};
+
+    ghost Value = { ℕ };
+
+    ghost view = { λ count. count.threads };
+
+    ghost invariant = { λ count. (1 ≤ count.threads) × (count.threads ≤ most_workers) };
+
+    ghost inverse = { λ n. record { threads = n } };
+}
+
+impl ThreadCount {
+    /// So many threads.
+    pub(crate) fn new(threads: u32) -> ThreadCount
+        requires some { 1 ≤ threads }
+        requires most { threads ≤ most_workers }
+        ensures { result ≡ threads }
+    {
+        ThreadCount { threads }
+    }
+
+    /// One thread, by which nothing is shared.
+    pub fn one() -> ThreadCount
+        ensures { result ≡ 1 }
+    {
+        ThreadCount { threads: 1 }
+    }
+
+    /// The number.
+    pub fn get(self) -> usize
+        ensures value { result ≡ self }
+        ensures least { 1 ≤ result }
+        ensures greatest { result ≤ most_workers }
+    {
+        self.threads as usize
+    }
+
+    /// No more threads than there are things to share, and one where there is none.
+    pub fn at_most(self, things: u32) -> ThreadCount
+        ensures { result ≡ max (min self things) 1 }
+    {
+        ThreadCount {
+            threads: self.threads.min(things).max(1),
+        }
+    }
+
+    /// The threads in two, of which the first has no more than the second.
+    pub fn halves(self) -> (ThreadCount, ThreadCount)
+        requires { 2 ≤ self }
+        ensures order { result.0 ≤ result.1 }
+        ensures whole { result.0 + result.1 ≡ self }
+    {
+        let fewer = self.threads / 2;
+        (
+            ThreadCount { threads: fewer },
+            ThreadCount {
+                threads: self.threads - fewer,
+            },
+        )
+    }
+}

@@ -1,0 +1,105 @@
+//! How many threads share what a call does.
+
+ghost use Rattle.std.specs.Prelude.{◌≡◌, ◌<◌, ◌≤◌};
+ghost use Rattle.cvl_base.specs.Limits.{most_elements};
+
+use crate::thread_count::ThreadCount;
+use crate::{
+    LEAST_CLEARED, LEAST_CLEARED_EACH, LEAST_EACH, LEAST_READ, LEAST_READ_EACH, LEAST_SENT,
+    LEAST_SHARED, LEAST_WRITTEN, LEAST_WRITTEN_EACH,
+};
+use cvl_base::Config;
+use cvl_base::limits::MOST_ELEMENTS;
+
+/// How many threads share so many elements or bytes, where each has at least `each` of them: at most `most`, and one where they
+/// are fewer than `least`.
+fn share_of(most: u32, items: usize, least: usize, each: usize) -> u32
+    requires most { 1 ≤ most }
+    requires each { 1 ≤ each }
+    ensures least { 1 ≤ result }
+    ensures greatest { result ≤ most }
+{
+    if items < least {
+        return 1;
+    }
+    (items / each).min(most as usize).max(1) as u32
+}
+
+/// The same of the configuration's workers.
+fn threads_sharing(config: Config, items: usize, least: usize, each: usize) -> ThreadCount
+    requires { 1 ≤ each }
+    ensures least { 1 ≤ result }
+    ensures greatest { result ≤ config.1 }
+{
+    ThreadCount::new(share_of(config.workers(), items, least, each))
+}
+
+/// As many threads as the configuration has workers, whatever they share: for who has a reason to start them all.
+pub fn all_workers(config: Config) -> ThreadCount
+    ensures { result ≡ config.1 }
+{
+    ThreadCount::new(config.workers())
+}
+
+/// How many threads share the writing of so many elements: at most as many as the configuration has workers, and one where a
+/// second doesn't pay.
+pub fn threads_writing(config: Config, elements: usize) -> ThreadCount
+    ensures least { 1 ≤ result }
+    ensures greatest { result ≤ config.1 }
+{
+    threads_sharing(config, elements, LEAST_SHARED, LEAST_EACH)
+}
+
+/// The same of at most so many threads, of which there is at least one, where another library starts them: a plain number, by
+/// which nothing of this library forks.
+pub fn threads_among(most: u32, elements: usize) -> u32
+    requires { 1 ≤ most }
+    ensures least { 1 ≤ result }
+    ensures greatest { result ≤ most }
+{
+    share_of(most, elements, LEAST_SHARED, LEAST_EACH)
+}
+
+/// How many threads share the first walk of a permute, each of which owns a range of a result of so many places: at most as
+/// many as the configuration has workers, and one where a second doesn't pay, or the result is longer than the longest vector.
+pub fn threads_sending(config: Config, places: usize) -> ThreadCount
+    ensures least { 1 ≤ result }
+    ensures greatest { result ≤ config.1 }
+    ensures in_limit { 2 ≤ result → places ≤ most_elements }
+{
+    if places < LEAST_SENT || places > MOST_ELEMENTS {
+        return ThreadCount::one();
+    }
+    threads_writing(config, places)
+}
+
+/// How many threads share the reading of an input of so many bytes: at most as many as the configuration has workers, and one
+/// where a second doesn't pay.
+pub fn threads_reading(config: Config, bytes: usize) -> ThreadCount
+    ensures least { 1 ≤ result }
+    ensures greatest { result ≤ config.1 }
+{
+    threads_sharing(config, bytes, LEAST_READ, LEAST_READ_EACH)
+}
+
+/// How many threads share the clearing of fresh memory for a file of so many bytes: at most as many as the configuration has
+/// workers, and one where a second doesn't pay.
+pub fn threads_clearing(config: Config, bytes: usize) -> ThreadCount
+    ensures least { 1 ≤ result }
+    ensures greatest { result ≤ config.1 }
+{
+    threads_sharing(config, bytes, LEAST_CLEARED, LEAST_CLEARED_EACH)
+}
+
+/// How many threads share the writing of so many elements' texts: at most as many as the configuration has workers, and one
+/// where a second doesn't pay, or where there are more than 4,194,304.
+pub fn threads_writing_text(config: Config, elements: usize) -> ThreadCount
+    ensures least { 1 ≤ result }
+    ensures greatest { result ≤ config.1 }
+    ensures few { 1 < result → elements ≤ most_elements }
+{
+    if elements > MOST_ELEMENTS {
+        return ThreadCount::one();
+    }
+    threads_sharing(config, elements, LEAST_WRITTEN, LEAST_WRITTEN_EACH)
+}
