@@ -3,6 +3,7 @@ pub mod Continued
 pub mod Cut
 pub mod Fitted
 pub mod FrontLaws
+pub mod InPlace
 pub mod LastStart
 pub mod RangePushed
 pub mod Scanned

@@ -26,7 +26,7 @@ use std::alloc::Allocator;
 
 /// Looks whether all results of the checked scan fit 32 bits, so that they are those of the scan that wraps: `Overflow` at the
 /// first one that does not.
-fn check_scan(a: &[i32]) -> Result<(), Fault>
+pub(crate) fn check_scan(a: &[i32]) -> Result<(), Fault>
     requires in_limit { length a.now ≤ most_elements }
     ensures { MatchResult result (λ _. checked_scan_of a.now ≡ Ok (scan_of sum_of (pos 0) a.now))
         (λ f. checked_scan_of a.now ≡ Err f) }
@@ -40,7 +40,7 @@ fn check_scan(a: &[i32]) -> Result<(), Fault>
 
 /// The same of the checked scans of segments: LengthMismatch, without a place, where the segments' total is not the number of
 /// elements, and else `Overflow` at the first result that does not fit, at its place in the vector.
-fn check_seg_scan<A: Allocator>(a: &[i32], d: &SegDes<A>) -> Result<(), Fault>
+pub(crate) fn check_seg_scan<A: Allocator>(a: &[i32], d: &SegDes<A>) -> Result<(), Fault>
     ensures { MatchResult result (λ _. checked_seg_scan_of a.now d.now ≡ seg_scan_of sum_of (pos 0) a.now d.now)
         (λ f. checked_seg_scan_of a.now d.now ≡ Err f) }
 {

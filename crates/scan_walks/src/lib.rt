@@ -2,12 +2,13 @@
 //! segment, with a plain loop over the elements of each. The elements are read as items of a monoid.
 //!
 //! A walk is named by what it gives: one that ends in `_into` writes a run of fresh memory, one in `_over` a room of the
-//! caller's, one in `_vec` gives a vector, and one with no such ending a value.
+//! caller's, one in `_in` the vector that it reads, one in `_vec` gives a vector, and one with no such ending a value.
 #![tactic(auto)]
 
 mod blocks;
 pub mod checked;
 pub mod fronts;
+pub mod in_place;
 pub mod over;
 pub mod plain;
 pub mod ranges;
@@ -20,6 +21,7 @@ pub use checked::{
     checked_seg_scan_vec, checked_sum,
 };
 pub use fronts::{fitting_of_range, fitting_of_scan};
+pub use in_place::{checked_scan_in, checked_seg_scan_in, scan_in, seg_scan_in};
 pub use over::{scan_over, seg_reduce_over, seg_reduce_readings_over, seg_scan_over};
 pub use plain::{scan_into, scan_vec, sum_from};
 pub use ranges::{scan_range_into, scan_range_vec, seg_reduces_into, sum_of_range};

@@ -1,0 +1,71 @@
+-- A list that is written over from its front on: from the place that is next on it is as before.
+-- Source: what the definitions of take, drop and set imply.
+use Rattle.std.proofs.Common.{◌≡◌, ◌∙◌, ℕ, ◌+◌, ◌-◌, ◌<◌, ◌≤◌, List, [], ◌++◌, drop, get_or, length, set, take, sym, ap, arith}
+use Rattle.std.specs.Prelude.{sum}
+use Rattle.std.proofs.lemmas.List.{append-nil, append_assoc, drop-drop, drop-set-lt, drop_all, get_or-drop, length-drop, length-take, take_all}
+use Rattle.std.proofs.lemmas.List.Sums.{sum_by-drop_more}
+use Rattle.std.proofs.lemmas.Slice.{drop-put_mid, take-put_mid}
+use borrow.Rule.Slice.PartMut.{put_mid}
+use Rattle.operators.proofs.FoldLaws.{length-scan_of}
+use Rattle.cvl_base.specs.Folds.{scan_of}
+use Rattle.scan_walks.specs.Ranges.{scans_of}
+use Rattle.scan_walks.proofs.Segments.{scans_more}
+
+module _ {X : Type 0} (now before : List X) (i : ℕ) (left : drop i now ≡ drop i before) where
+  -- what stands at the place
+  pub still_at : (d : X) → get_or now i d ≡ get_or before i d
+  still_at d =
+      let at : (xs : List X) → get_or (drop i xs) 0 d ≡ get_or xs i d = λ xs. get_or-drop i xs 0 d ∙ ap (λ k. get_or xs k d) (omega arith) in
+      sym (at now) ∙ ap (λ xs. get_or xs 0 d) left ∙ at before
+
+  -- and behind it, once the place is written
+  pub still_behind : (x : X) → drop (i + 1) (set now i x) ≡ drop (i + 1) before
+  still_behind x = drop-set-lt (i + 1) now i x (omega arith) ∙ sym (drop-drop 1 i now) ∙ ap (drop 1) left ∙ drop-drop 1 i before
+
+-- ---- a loop over segments, which has written over those before s, up to place `start`
+
+module _ {Item : Type 0} (join : Item → Item → Item) (unit : Item) (lengths : List ℕ) (before now : List Item) (start s n : ℕ)
+    (lt : s < length lengths) (is_n : n ≡ get_or lengths s 0) (total : start + sum (drop s lengths) ≡ length before) (long : length now ≡ length before)
+    (left : drop start now ≡ drop start before) where
+  pub segment_fits : start + n ≤ length now
+  segment_fits = omega (arith, is_n, total, long, sum_by-drop_more (λ x. x) lengths s 0 lt)
+
+  pub total_more : start + n + sum (drop (s + 1) lengths) ≡ length before
+  total_more = omega (arith, is_n, total, sum_by-drop_more (λ x. x) lengths s 0 lt)
+
+  module _ (k : ℕ) (is_k : k ≡ n) (u : Item) (is_u : u ≡ unit) (segment : List Item) (is : segment ≡ scan_of join u (take k (drop start now))) where
+    length_segment : length segment ≡ n
+    length_segment =
+        let fits = segment_fits in
+        ap length is ∙ length-scan_of join u (take k (drop start now)) ∙ omega (arith, length-take k (drop start now), length-drop start now, is_k, fits)
+
+    pub left_more : drop (start + n) (put_mid start k now segment) ≡ drop (start + n) before
+    left_more =
+        let fits = segment_fits in
+        drop-put_mid start k now segment (start + n) (omega (arith, is_k)) (omega (arith, fits)) (length_segment ∙ sym is_k)
+        ∙ sym (drop-drop n start now) ∙ ap (drop n) left ∙ drop-drop n start before
+
+    pub whole_more : (whole : List Item) → take start now ++ scans_of join unit (drop s lengths) (drop start before) ≡ whole
+        → take (start + n) (put_mid start k now segment) ++ scans_of join unit (drop (s + 1) lengths) (drop (start + n) before) ≡ whole
+    whole_more whole so_far =
+        let fits = segment_fits in
+        let others = scans_of join unit (drop (s + 1) lengths) (drop (start + n) before) in
+        let as_scanned : segment ≡ scan_of join unit (take n (drop start before)) =
+        is ∙ ap (λ v. scan_of join v (take k (drop start now))) is_u ∙ ap (λ m. scan_of join unit (take m (drop start now))) is_k
+        ∙ ap (λ xs. scan_of join unit (take n xs)) left in
+        ap (λ xs. xs ++ others) (take-put_mid start k now segment (start + n) (omega (arith, length_segment)) (omega (arith, fits)))
+        ∙ append_assoc (take start now) segment others
+        ∙ ap (λ xs. take start now ++ xs)
+        (ap (λ xs. xs ++ others) as_scanned
+        ∙ ap (λ xs. scan_of join unit (take n (drop start before)) ++ scans_of join unit (drop (s + 1) lengths) xs) (sym (drop-drop n start before))
+        ∙ sym (scans_more join unit lengths s n (drop start before) lt is_n))
+        ∙ so_far
+
+-- no segment is left
+pub segments_ended : {Item : Type 0} (join : Item → Item → Item) (unit : Item) (lengths : List ℕ) (before now whole : List Item) (start s : ℕ)
+    → length lengths ≤ s → start + sum (drop s lengths) ≡ length before → length now ≡ length before
+    → take start now ++ scans_of join unit (drop s lengths) (drop start before) ≡ whole → now ≡ whole
+segments_ended join unit lengths before now whole start s past total long is_whole =
+    let none : drop s lengths ≡ [] = drop_all s lengths past in
+    sym (take_all start now (omega (arith, total, long, ap sum none))) ∙ sym (append-nil (take start now))
+    ∙ ap (λ ls. take start now ++ scans_of join unit ls (drop start before)) (sym none) ∙ is_whole

@@ -1,0 +1,93 @@
+//! Scans in place, by the thread that calls: each is written over the vector that it scans. They ask for no memory.
+
+ghost use Rattle.std.specs.Prelude.{◌≡◌, ◌≤◌, IsTrue, length, map, pos, sum, unsigned_abs};
+ghost use Rattle.std.specs.List.{AllPass};
+ghost use Rattle.cvl_base.specs.CheckedSums.{checked_scan_of, checked_seg_scan_of};
+ghost use Rattle.cvl_base.specs.Descriptors.{AreLengths};
+ghost use Rattle.cvl_base.specs.Folds.{scan_of};
+ghost use Rattle.cvl_base.specs.Limits.{most_elements};
+ghost use Rattle.cvl_base.specs.Rooms.{Overwrites};
+ghost use Rattle.cvl_base.specs.SegmentedCalls.{seg_scan_of};
+ghost use Rattle.scan_walks.specs.Ranges.{scans_of};
+
+use crate::checked::{check_scan, check_seg_scan};
+use crate::whole_sums::know_numbers;
+use cvl_base::monoid::know_laws;
+use cvl_base::monoids::Add;
+use cvl_base::{Fault, Monoid};
+use segdes::{SegDes, check_total};
+use std::alloc::Allocator;
+
+/// Writes the exclusive scan over the vector: each element gives way to `before`, joined from left to right with those that
+/// stood in front of it.
+///
+/// `before` and the elements must be items of the monoid. Source: Blelloch's prescan.
+// inlined, since a call takes longer than a short segment
+#[inline(always)]
+pub fn scan_in<M: Monoid>(before: M::Item, a: &mut [M::Item])
+    requires before { IsTrue (M.is_item before) }
+    requires items { AllPass M.is_item a.old }
+    ensures { a.new ≡ scan_of M.join before a.old }
+{
+    know_laws::<M>();
+    let mut so_far = before;
+    for place in 0..a.len() {
+        let item = a[place];
+        a[place] = so_far;
+        so_far = M::join(so_far, item);
+    }
+}
+
+/// Writes the exclusive scans of the segments with these lengths over the vector, which has as many elements.
+fn scans_in<M: Monoid>(lengths: &[i32], a: &mut [M::Item])
+    requires lengths { AreLengths lengths.now }
+    requires total { sum (map unsigned_abs lengths.now) ≡ length a.old }
+    requires items { AllPass M.is_item a.old }
+    ensures { a.new ≡ scans_of M.join M.unit (map unsigned_abs lengths.now) a.old }
+{
+    know_laws::<M>();
+    let mut start = 0;
+    for length in lengths {
+        let end = start + *length as usize;
+        scan_in::<M>(M::unit(), &mut a[start..end]);
+        start = end;
+    }
+}
+
+/// Writes the exclusive scan of each segment over the vector. LengthMismatch, without a place, where the segments' total is not
+/// the number of elements, which are then as before.
+///
+/// The elements must be items of the monoid. Source: Blelloch's segmented scans.
+pub fn seg_scan_in<M: Monoid, A: Allocator>(a: &mut [M::Item], d: &SegDes<A>) -> Result<(), Fault>
+    requires items { AllPass M.is_item a.old }
+    ensures { Overwrites (seg_scan_of M.join M.unit a.old d.now) result a.old a.new }
+{
+    check_total(a, d)?;
+    scans_in::<M>(d.lengths(), a);
+    Ok(())
+}
+
+/// Writes over the vector for each integer the sum of those before it, which never wraps: `Overflow` at the first sum that does
+/// not fit 32 bits, and the vector is then as before.
+///
+/// The vector has at most 4,194,304 elements. Source: Blelloch's prescan.
+pub fn checked_scan_in(a: &mut [i32]) -> Result<(), Fault>
+    requires in_limit { length a.old ≤ most_elements }
+    ensures { Overwrites (checked_scan_of a.old) result a.old a.new }
+{
+    check_scan(a)?;
+    know_numbers(a);
+    scan_in::<Add>(0, a);
+    Ok(())
+}
+
+/// Writes the checked scan of each segment over the vector: LengthMismatch, without a place, where the segments' total is not
+/// the number of elements, and else `Overflow` at the first sum that does not fit 32 bits, at its place in the vector. Then the
+/// vector is as before. Source: Blelloch's segmented scans.
+pub fn checked_seg_scan_in<A: Allocator>(a: &mut [i32], d: &SegDes<A>) -> Result<(), Fault>
+    ensures { Overwrites (checked_seg_scan_of a.old d.now) result a.old a.new }
+{
+    check_seg_scan(a, d)?;
+    know_numbers(a);
+    seg_scan_in::<Add, A>(a, d)
+}
