@@ -9,6 +9,7 @@ mod bools;
 mod choice;
 mod comparisons;
 mod copies;
+mod in_place;
 mod ints;
 mod looks;
 mod on_each;
@@ -18,12 +19,14 @@ mod partials;
 mod races;
 mod runs;
 mod shared;
+mod sides;
 mod singles;
 mod total_operators;
 mod truths;
 
 pub use bools::{bool_from_int, bool1, bool2, compare};
 pub use choice::select;
+pub use in_place::{int1_in, int2_in_both, int2_in_first, int2_in_second};
 pub use ints::{int_from_bool, int1, int2, int2_gated};
 pub use over::{
     bool_from_int_over, bool1_over, bool2_over, compare_over, int_from_bool_over, int1_over,

@@ -1,0 +1,173 @@
+//! The calls in place, by the thread that calls: the result is written over a vector that the operator takes. Where a fault is
+//! told the vector is as before. They ask for no memory.
+
+ghost use Rattle.std.specs.Prelude.{◌≡◌, ◌≤◌, Ok, length, map};
+ghost use Rattle.std.specs.List.{zip};
+ghost use Rattle.cvl_base.specs.Elementwise.{bools1_of, bools2_of, ints1_of, ints2_of, on_pairs, on_pairs_or};
+ghost use Rattle.cvl_base.specs.Limits.{most_elements};
+ghost use Rattle.cvl_base.specs.Rooms.{Overwrites};
+
+use crate::looks::first_without;
+use crate::partials::{Div, Lsh, Mod, Rsh};
+use crate::sides::{Flipped, Twice};
+use crate::singles::NotInt;
+use crate::total_operators::{Add, And, Ior, Max, Min, Mul, Sub, Xor};
+use cvl_base::{Fault, IntBinary, Unary, check_agree};
+use element_walks::{Binary, OrZero, PartialBinary, Single};
+
+/// Writes the operator's value over each element.
+fn write_each<O: Single<X, X>, X: Copy>(a: &mut [X])
+    ensures { a.new ≡ map O.value a.old }
+{
+    for place in 0..a.len() {
+        a[place] = O::apply(a[place]);
+    }
+}
+
+/// Writes the operator's values on the pairs of elements of two vectors over the first.
+fn write_pairs<O: Binary<X, X>, X: Copy>(a: &mut [X], b: &[X])
+    requires as_long { length a.old ≡ length b.now }
+    ensures { a.new ≡ map (λ p. O.value p.0 p.1) (zip a.old b.now) }
+{
+    for place in 0..a.len() {
+        a[place] = O::apply(a[place], b[place]);
+    }
+}
+
+/// Writes the operator's values on the pairs of elements over the first vector, or tells `LengthMismatch` where one is longer.
+fn on_pairs_in_first<O: Binary<X, X>, X: Copy>(a: &mut [X], b: &[X]) -> Result<(), Fault>
+    ensures { Overwrites (on_pairs O.value a.old b.now) result a.old a.new }
+{
+    check_agree(a.len(), b.len())?;
+    write_pairs::<O, X>(a, b);
+    Ok(())
+}
+
+/// The same over the second vector.
+fn on_pairs_in_second<O: Binary<X, X>, X: Copy>(a: &[X], b: &mut [X]) -> Result<(), Fault>
+    ensures { Overwrites (on_pairs O.value a.now b.old) result b.old b.new }
+{
+    check_agree(a.len(), b.len())?;
+    write_pairs::<Flipped<O>, X>(b, a);
+    Ok(())
+}
+
+/// The same of a vector and itself.
+fn on_pairs_in_both<O: Binary<X, X>, X: Copy>(a: &mut [X]) -> Result<(), Fault>
+    ensures { Overwrites (on_pairs O.value a.old a.old) result a.old a.new }
+{
+    write_each::<Twice<O>, X>(a);
+    Ok(())
+}
+
+/// Writes the operator's values on the pairs of elements over the first vector, or tells its fault at the least place without a
+/// value; `LengthMismatch` where one vector is longer.
+fn on_pairs_or_in_first<O: PartialBinary>(a: &mut [i32], b: &[i32]) -> Result<(), Fault>
+    requires { length a.old ≤ most_elements }
+    ensures { Overwrites (on_pairs_or O.fault O.value a.old b.now) result a.old a.new }
+{
+    check_agree(a.len(), b.len())?;
+    if let Some(place) = first_without::<O>(a, b) {
+        return Err(Fault::at(O::fault(), place));
+    }
+    write_pairs::<OrZero<O>, i32>(a, b);
+    Ok(())
+}
+
+/// The same over the second vector.
+fn on_pairs_or_in_second<O: PartialBinary>(a: &[i32], b: &mut [i32]) -> Result<(), Fault>
+    requires { length a.now ≤ most_elements }
+    ensures { Overwrites (on_pairs_or O.fault O.value a.now b.old) result b.old b.new }
+{
+    check_agree(a.len(), b.len())?;
+    if let Some(place) = first_without::<O>(a, b) {
+        return Err(Fault::at(O::fault(), place));
+    }
+    write_pairs::<Flipped<OrZero<O>>, i32>(b, a);
+    Ok(())
+}
+
+/// The same of a vector and itself.
+fn on_pairs_or_in_both<O: PartialBinary>(a: &mut [i32]) -> Result<(), Fault>
+    requires { length a.old ≤ most_elements }
+    ensures { Overwrites (on_pairs_or O.fault O.value a.old a.old) result a.old a.new }
+{
+    if let Some(place) = first_without::<O>(a, a) {
+        return Err(Fault::at(O::fault(), place));
+    }
+    write_each::<Twice<OrZero<O>>, i32>(a);
+    Ok(())
+}
+
+/// The same as [`int2`](crate::int2), over the first vector.
+pub fn int2_in_first(op: IntBinary, a: &mut [i32], b: &[i32]) -> Result<(), Fault>
+    requires { length a.old ≤ most_elements }
+    ensures { Overwrites (ints2_of op a.old b.now) result a.old a.new }
+{
+    match op {
+        IntBinary::Add => on_pairs_in_first::<Add, i32>(a, b),
+        IntBinary::Sub => on_pairs_in_first::<Sub, i32>(a, b),
+        IntBinary::Mul => on_pairs_in_first::<Mul, i32>(a, b),
+        IntBinary::Div => on_pairs_or_in_first::<Div>(a, b),
+        IntBinary::Mod => on_pairs_or_in_first::<Mod>(a, b),
+        IntBinary::Min => on_pairs_in_first::<Min, i32>(a, b),
+        IntBinary::Max => on_pairs_in_first::<Max, i32>(a, b),
+        IntBinary::Lsh => on_pairs_or_in_first::<Lsh>(a, b),
+        IntBinary::Rsh => on_pairs_or_in_first::<Rsh>(a, b),
+        IntBinary::And => on_pairs_in_first::<And, i32>(a, b),
+        IntBinary::Ior => on_pairs_in_first::<Ior, i32>(a, b),
+        IntBinary::Xor => on_pairs_in_first::<Xor, i32>(a, b),
+    }
+}
+
+/// The same as [`int2`](crate::int2), over the second vector.
+pub fn int2_in_second(op: IntBinary, a: &[i32], b: &mut [i32]) -> Result<(), Fault>
+    requires { length a.now ≤ most_elements }
+    ensures { Overwrites (ints2_of op a.now b.old) result b.old b.new }
+{
+    match op {
+        IntBinary::Add => on_pairs_in_second::<Add, i32>(a, b),
+        IntBinary::Sub => on_pairs_in_second::<Sub, i32>(a, b),
+        IntBinary::Mul => on_pairs_in_second::<Mul, i32>(a, b),
+        IntBinary::Div => on_pairs_or_in_second::<Div>(a, b),
+        IntBinary::Mod => on_pairs_or_in_second::<Mod>(a, b),
+        IntBinary::Min => on_pairs_in_second::<Min, i32>(a, b),
+        IntBinary::Max => on_pairs_in_second::<Max, i32>(a, b),
+        IntBinary::Lsh => on_pairs_or_in_second::<Lsh>(a, b),
+        IntBinary::Rsh => on_pairs_or_in_second::<Rsh>(a, b),
+        IntBinary::And => on_pairs_in_second::<And, i32>(a, b),
+        IntBinary::Ior => on_pairs_in_second::<Ior, i32>(a, b),
+        IntBinary::Xor => on_pairs_in_second::<Xor, i32>(a, b),
+    }
+}
+
+/// The same as [`int2`](crate::int2) of a vector and itself, over the vector.
+pub fn int2_in_both(op: IntBinary, a: &mut [i32]) -> Result<(), Fault>
+    requires { length a.old ≤ most_elements }
+    ensures { Overwrites (ints2_of op a.old a.old) result a.old a.new }
+{
+    match op {
+        IntBinary::Add => on_pairs_in_both::<Add, i32>(a),
+        IntBinary::Sub => on_pairs_in_both::<Sub, i32>(a),
+        IntBinary::Mul => on_pairs_in_both::<Mul, i32>(a),
+        IntBinary::Div => on_pairs_or_in_both::<Div>(a),
+        IntBinary::Mod => on_pairs_or_in_both::<Mod>(a),
+        IntBinary::Min => on_pairs_in_both::<Min, i32>(a),
+        IntBinary::Max => on_pairs_in_both::<Max, i32>(a),
+        IntBinary::Lsh => on_pairs_or_in_both::<Lsh>(a),
+        IntBinary::Rsh => on_pairs_or_in_both::<Rsh>(a),
+        IntBinary::And => on_pairs_in_both::<And, i32>(a),
+        IntBinary::Ior => on_pairs_in_both::<Ior, i32>(a),
+        IntBinary::Xor => on_pairs_in_both::<Xor, i32>(a),
+    }
+}
+
+/// The same as [`int1`](crate::int1), over the vector.
+pub fn int1_in(op: Unary, a: &mut [i32])
+    ensures { a.new ≡ ints1_of op a.old }
+{
+    match op {
+        Unary::Not => write_each::<NotInt, i32>(a),
+        Unary::Copy => {}
+    }
+}

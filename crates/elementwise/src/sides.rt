@@ -1,0 +1,30 @@
+//! Operators on two elements that take them in the other order, or one element twice.
+
+use element_walks::{Binary, Single};
+use std::marker::PhantomData;
+
+/// The operator with its elements in the other order.
+pub(crate) struct Flipped<O> {
+    operator: PhantomData<O>,
+}
+
+impl<O: Binary<X, X>, X: Copy> Binary<X, X> for Flipped<O> {
+    ghost value = { λ a b. O.value b a };
+
+    fn apply(a: X, b: X) -> X {
+        O::apply(b, a)
+    }
+}
+
+/// The operator on an element and itself.
+pub(crate) struct Twice<O> {
+    operator: PhantomData<O>,
+}
+
+impl<O: Binary<X, X>, X: Copy> Single<X, X> for Twice<O> {
+    ghost value = { λ a. O.value a a };
+
+    fn apply(a: X) -> X {
+        O::apply(a, a)
+    }
+}
