@@ -3,24 +3,42 @@
  *
  * Link with libcvl_c.a and the parts in C of the kit that built it; docs/embedding.md shows how. C99, and usable from C++.
  *
- * Every function answers a CvlStatus: number 0 where all is done, else the number of a fault, with its place or -1, or 100
- * where memory ran out. Where all is done the result is in the caller's room, the last array, value or values given. Else the
- * room is as it was. Each array comes as a pointer and a number of elements.
+ * Every function answers a CvlStatus: number 0 where all is done, the number of a fault, with its place or -1, 100 where memory
+ * ran out, 101 where a handle holds nothing, or 102 where arrays overlap. Where all is done the result is in the caller's room,
+ * the last array, value or values given. Else the room is as it was. Each array comes as a pointer and a number of elements.
  *
  * A function whose last argument is a count tells how many elements there are. They are at the front of the room, and the rest
  * of the room is as it was. Where the room is too short, it is as it was, the status is 7 LengthMismatch, and the count is how
  * many elements there have to be room for; a first call with room for none asks for that. At any other fault the count is as it
  * was too.
  *
- * What a caller owes: pointers that are not null, also where the number of elements is 0, to as many elements as is said; no
- * room that overlaps an argument or is used by another thread meanwhile; a bool that is 0 or 1; one malloc, realloc and
- * free in the program. All else is checked: whatever lengths, indices, operators and rooms are given, a call ends with a
- * status. It runs on the thread that calls. Several threads may call at once.
+ * A room is whatever a function writes, counts and single values too. A room that shares memory with another argument is told: the
+ * status is 102 Overlap, without a place, and nothing is written. That is looked at before all else. Arrays that are only read
+ * may overlap. An array of 0 elements overlaps nothing, and its pointer may be null.
+ *
+ * What a caller owes, and what it costs where it isn't so:
+ *   - A pointer leads to as many elements as is said, aligned for their type, which may be read and in a room written. Else the
+ *     call may crash, or read or write other memory.
+ *   - While a call is at work no other thread writes its arrays, or reads its rooms. Else the results are any, and the call may
+ *     crash or write other memory.
+ *   - A bool is 0 or 1. Else the results are any, and the call may crash or write other memory.
+ *   - The program has one malloc, realloc and free. Else memory is given back to an allocator that it isn't from.
+ *   - A handle is used as its section says. Else its memory may be given back twice, or read after that.
+ *   - Code that calls the library's exports otherwise than by this header, as other languages do, gives no room that shares memory
+ *     with another argument. Else the results are any, and the call may crash or write other memory.
+ * All else is checked: whatever lengths, indices, operators and rooms are given, a call ends with a status. It runs on the thread
+ * that calls. Several threads may call at once.
  *
  * Faults, beside those named at each function:
- *   2 UnknownCall, without a place, where a number is that of no operator of the family;
- *   7 LengthMismatch, without a place, where a room is not as long as the result, or shorter where a count is told, checked last;
- *  13 TooLong, without a place, where a vector has more than 4194304 elements, checked after the operator.
+ *   2 UnknownCall, without a place, where a number is that of no operator of the family, asked first;
+ *  13 TooLong, without a place, where the vector that a call goes by has more than 4194304 elements: its first vector, the flags of
+ *     a pack, or the index of a permute; asked next, on segments after the lengths. A call on segments other than a permute asks
+ *     no vector: there are at most 4194304 lengths, which add up to at most as much, and a longer vector has not as many elements
+ *     as they add up to, which is 7;
+ *   7 LengthMismatch, without a place, where vectors that belong together are not equally long, and where a room is not as long
+ *     as the result, or shorter where a count is told; a room is asked last.
+ * Other vectors may be longer than 4194304 elements where they need not be as long as another: the source of a back permute, the
+ * defaults of a permute, and the vectors of which one element is taken or replaced.
  * Places count from 0. Where two faults are there, the first in the order of the comment is told.
  */
 #ifndef CVL_H
@@ -36,7 +54,7 @@ extern "C" {
 
 /* What a call answers. */
 typedef struct CvlStatus {
-    uint32_t number; /* 0 where all is done, the number of a fault, or 100 where memory ran out */
+    uint32_t number; /* 0 where all is done, the number of a fault, or 100 or more, as below */
     int64_t place;   /* the place of the fault, counted from 0, or -1 */
 } CvlStatus;
 
@@ -53,7 +71,9 @@ enum {
     CVL_TOO_LONG = 13,
     CVL_BAD_INPUT = 15,
     CVL_OVERFLOW = 18,
-    CVL_NO_RESOURCES = 100
+    CVL_NO_RESOURCES = 100,
+    CVL_NO_HANDLE = 101,
+    CVL_OVERLAP = 102
 };
 
 /* The most elements of a vector, and the greatest total of a descriptor. */
@@ -405,8 +425,6 @@ typedef struct CvlSegments {
 #define CVL_NO_SEGMENTS ((CvlSegments){0})
 #endif
 
-enum { CVL_NO_HANDLE = 101 };
-
 /*
  * Holds the descriptor of segments with these lengths. What the handle held before is let go first, so that after a fault it
  * holds none. Faults: 12 NegativeLength at the first length that is negative; 13 TooLong, without a place.
@@ -471,11 +489,656 @@ CvlStatus cvl_seg_write_ints(
 CvlStatus cvl_seg_write_bools(
     const bool *a, size_t a_len, const int32_t *lengths, size_t segments, char *out, size_t out_len, size_t *count);
 
+
+/* ---- arrays that overlap ---- */
+
+/*
+ * The library can't see that two of its arrays overlap, so the functions here look at the addresses first, and then call the
+ * export of their name. A #define puts each in the place of its export, so that a program which names the export calls it.
+ */
+
+/* Whether two arrays, with so many elements of these sizes, have memory in common. */
+static inline bool cvl_meet(const void *a, size_t a_len, size_t a_size, const void *b, size_t b_len, size_t b_size) {
+    const uintptr_t from_a = (uintptr_t)a, from_b = (uintptr_t)b;
+    return a_len != 0 && b_len != 0 && ((from_a - from_b) / b_size < b_len || (from_b - from_a) / a_size < a_len);
+}
+#define CVL_MEET(a, a_len, b, b_len) cvl_meet(a, a_len, sizeof *(a), b, b_len, sizeof *(b))
+
+/* What a call answers whose arrays overlap. */
+static inline CvlStatus cvl_overlap(void) {
+    CvlStatus status;
+    status.number = CVL_OVERLAP;
+    status.place = -1;
+    return status;
+}
+
+static inline CvlStatus cvl_int2_apart(
+    uint32_t op, const int32_t *a, size_t a_len, const int32_t *b, size_t b_len, int32_t *out, size_t out_len) {
+    if (CVL_MEET(out, out_len, a, a_len) || CVL_MEET(out, out_len, b, b_len)) return cvl_overlap();
+    return cvl_int2(op, a, a_len, b, b_len, out, out_len);
+}
+#define cvl_int2 cvl_int2_apart
+
+static inline CvlStatus cvl_int1_apart(uint32_t op, const int32_t *a, size_t a_len, int32_t *out, size_t out_len) {
+    if (CVL_MEET(out, out_len, a, a_len)) return cvl_overlap();
+    return cvl_int1(op, a, a_len, out, out_len);
+}
+#define cvl_int1 cvl_int1_apart
+
+static inline CvlStatus cvl_compare_apart(
+    uint32_t op, const int32_t *a, size_t a_len, const int32_t *b, size_t b_len, bool *out, size_t out_len) {
+    if (CVL_MEET(out, out_len, a, a_len) || CVL_MEET(out, out_len, b, b_len)) return cvl_overlap();
+    return cvl_compare(op, a, a_len, b, b_len, out, out_len);
+}
+#define cvl_compare cvl_compare_apart
+
+static inline CvlStatus cvl_bool2_apart(
+    uint32_t op, const bool *a, size_t a_len, const bool *b, size_t b_len, bool *out, size_t out_len) {
+    if (CVL_MEET(out, out_len, a, a_len) || CVL_MEET(out, out_len, b, b_len)) return cvl_overlap();
+    return cvl_bool2(op, a, a_len, b, b_len, out, out_len);
+}
+#define cvl_bool2 cvl_bool2_apart
+
+static inline CvlStatus cvl_bool1_apart(uint32_t op, const bool *a, size_t a_len, bool *out, size_t out_len) {
+    if (CVL_MEET(out, out_len, a, a_len)) return cvl_overlap();
+    return cvl_bool1(op, a, a_len, out, out_len);
+}
+#define cvl_bool1 cvl_bool1_apart
+
+static inline CvlStatus cvl_int_from_bool_apart(const bool *a, size_t a_len, int32_t *out, size_t out_len) {
+    if (CVL_MEET(out, out_len, a, a_len)) return cvl_overlap();
+    return cvl_int_from_bool(a, a_len, out, out_len);
+}
+#define cvl_int_from_bool cvl_int_from_bool_apart
+
+static inline CvlStatus cvl_bool_from_int_apart(const int32_t *a, size_t a_len, bool *out, size_t out_len) {
+    if (CVL_MEET(out, out_len, a, a_len)) return cvl_overlap();
+    return cvl_bool_from_int(a, a_len, out, out_len);
+}
+#define cvl_bool_from_int cvl_bool_from_int_apart
+
+static inline CvlStatus cvl_select_int_apart(
+    const bool *flags, size_t flags_len, const int32_t *a, size_t a_len, const int32_t *b, size_t b_len, int32_t *out,
+    size_t out_len) {
+    if (CVL_MEET(out, out_len, flags, flags_len) || CVL_MEET(out, out_len, a, a_len) || CVL_MEET(out, out_len, b, b_len)) {
+        return cvl_overlap();
+    }
+    return cvl_select_int(flags, flags_len, a, a_len, b, b_len, out, out_len);
+}
+#define cvl_select_int cvl_select_int_apart
+
+static inline CvlStatus cvl_select_bool_apart(
+    const bool *flags, size_t flags_len, const bool *a, size_t a_len, const bool *b, size_t b_len, bool *out,
+    size_t out_len) {
+    if (CVL_MEET(out, out_len, flags, flags_len) || CVL_MEET(out, out_len, a, a_len) || CVL_MEET(out, out_len, b, b_len)) {
+        return cvl_overlap();
+    }
+    return cvl_select_bool(flags, flags_len, a, a_len, b, b_len, out, out_len);
+}
+#define cvl_select_bool cvl_select_bool_apart
+
+static inline CvlStatus cvl_int_scan_apart(uint32_t op, const int32_t *a, size_t a_len, int32_t *out, size_t out_len) {
+    if (CVL_MEET(out, out_len, a, a_len)) return cvl_overlap();
+    return cvl_int_scan(op, a, a_len, out, out_len);
+}
+#define cvl_int_scan cvl_int_scan_apart
+
+static inline CvlStatus cvl_int_reduce_apart(uint32_t op, const int32_t *a, size_t a_len, int32_t *out) {
+    if (CVL_MEET(out, 1, a, a_len)) return cvl_overlap();
+    return cvl_int_reduce(op, a, a_len, out);
+}
+#define cvl_int_reduce cvl_int_reduce_apart
+
+static inline CvlStatus cvl_bool_scan_apart(uint32_t op, const bool *a, size_t a_len, bool *out, size_t out_len) {
+    if (CVL_MEET(out, out_len, a, a_len)) return cvl_overlap();
+    return cvl_bool_scan(op, a, a_len, out, out_len);
+}
+#define cvl_bool_scan cvl_bool_scan_apart
+
+static inline CvlStatus cvl_bool_reduce_apart(uint32_t op, const bool *a, size_t a_len, bool *out) {
+    if (CVL_MEET(out, 1, a, a_len)) return cvl_overlap();
+    return cvl_bool_reduce(op, a, a_len, out);
+}
+#define cvl_bool_reduce cvl_bool_reduce_apart
+
+static inline CvlStatus cvl_checked_scan_apart(const int32_t *a, size_t a_len, int32_t *out, size_t out_len) {
+    if (CVL_MEET(out, out_len, a, a_len)) return cvl_overlap();
+    return cvl_checked_scan(a, a_len, out, out_len);
+}
+#define cvl_checked_scan cvl_checked_scan_apart
+
+static inline CvlStatus cvl_checked_reduce_apart(const int32_t *a, size_t a_len, int32_t *out) {
+    if (CVL_MEET(out, 1, a, a_len)) return cvl_overlap();
+    return cvl_checked_reduce(a, a_len, out);
+}
+#define cvl_checked_reduce cvl_checked_reduce_apart
+
+static inline CvlStatus cvl_seg_checked_scan_apart(
+    const int32_t *a, size_t a_len, const int32_t *lengths, size_t segments, int32_t *out, size_t out_len) {
+    if (CVL_MEET(out, out_len, a, a_len) || CVL_MEET(out, out_len, lengths, segments)) return cvl_overlap();
+    return cvl_seg_checked_scan(a, a_len, lengths, segments, out, out_len);
+}
+#define cvl_seg_checked_scan cvl_seg_checked_scan_apart
+
+static inline CvlStatus cvl_seg_checked_reduce_apart(
+    const int32_t *a, size_t a_len, const int32_t *lengths, size_t segments, int32_t *out, size_t out_len) {
+    if (CVL_MEET(out, out_len, a, a_len) || CVL_MEET(out, out_len, lengths, segments)) return cvl_overlap();
+    return cvl_seg_checked_reduce(a, a_len, lengths, segments, out, out_len);
+}
+#define cvl_seg_checked_reduce cvl_seg_checked_reduce_apart
+
+static inline CvlStatus cvl_count_apart(const bool *flags, size_t flags_len, int32_t *out) {
+    if (CVL_MEET(out, 1, flags, flags_len)) return cvl_overlap();
+    return cvl_count(flags, flags_len, out);
+}
+#define cvl_count cvl_count_apart
+
+static inline CvlStatus cvl_extract_int_apart(const int32_t *vector, size_t vector_len, int32_t index, int32_t *out) {
+    if (CVL_MEET(out, 1, vector, vector_len)) return cvl_overlap();
+    return cvl_extract_int(vector, vector_len, index, out);
+}
+#define cvl_extract_int cvl_extract_int_apart
+
+static inline CvlStatus cvl_extract_bool_apart(const bool *vector, size_t vector_len, int32_t index, bool *out) {
+    if (CVL_MEET(out, 1, vector, vector_len)) return cvl_overlap();
+    return cvl_extract_bool(vector, vector_len, index, out);
+}
+#define cvl_extract_bool cvl_extract_bool_apart
+
+static inline CvlStatus cvl_replace_int_apart(
+    const int32_t *vector, size_t vector_len, int32_t index, int32_t value, int32_t *out, size_t out_len) {
+    if (CVL_MEET(out, out_len, vector, vector_len)) return cvl_overlap();
+    return cvl_replace_int(vector, vector_len, index, value, out, out_len);
+}
+#define cvl_replace_int cvl_replace_int_apart
+
+static inline CvlStatus cvl_replace_bool_apart(
+    const bool *vector, size_t vector_len, int32_t index, bool value, bool *out, size_t out_len) {
+    if (CVL_MEET(out, out_len, vector, vector_len)) return cvl_overlap();
+    return cvl_replace_bool(vector, vector_len, index, value, out, out_len);
+}
+#define cvl_replace_bool cvl_replace_bool_apart
+
+static inline CvlStatus cvl_make_descriptor_apart(const int32_t *lengths, size_t segments, size_t *total) {
+    if (CVL_MEET(total, 1, lengths, segments)) return cvl_overlap();
+    return cvl_make_descriptor(lengths, segments, total);
+}
+#define cvl_make_descriptor cvl_make_descriptor_apart
+
+static inline CvlStatus cvl_seg_extract_int_apart(
+    const int32_t *vector, size_t vector_len, const int32_t *index, size_t index_len, const int32_t *lengths, size_t segments,
+    int32_t *out, size_t out_len) {
+    if (CVL_MEET(out, out_len, vector, vector_len) || CVL_MEET(out, out_len, index, index_len) ||
+        CVL_MEET(out, out_len, lengths, segments)) {
+        return cvl_overlap();
+    }
+    return cvl_seg_extract_int(vector, vector_len, index, index_len, lengths, segments, out, out_len);
+}
+#define cvl_seg_extract_int cvl_seg_extract_int_apart
+
+static inline CvlStatus cvl_seg_extract_bool_apart(
+    const bool *vector, size_t vector_len, const int32_t *index, size_t index_len, const int32_t *lengths, size_t segments,
+    bool *out, size_t out_len) {
+    if (CVL_MEET(out, out_len, vector, vector_len) || CVL_MEET(out, out_len, index, index_len) ||
+        CVL_MEET(out, out_len, lengths, segments)) {
+        return cvl_overlap();
+    }
+    return cvl_seg_extract_bool(vector, vector_len, index, index_len, lengths, segments, out, out_len);
+}
+#define cvl_seg_extract_bool cvl_seg_extract_bool_apart
+
+static inline CvlStatus cvl_seg_replace_int_apart(
+    const int32_t *vector, size_t vector_len, const int32_t *index, size_t index_len, const int32_t *values,
+    size_t values_len, const int32_t *lengths, size_t segments, int32_t *out, size_t out_len) {
+    if (CVL_MEET(out, out_len, vector, vector_len) || CVL_MEET(out, out_len, index, index_len) ||
+        CVL_MEET(out, out_len, values, values_len) || CVL_MEET(out, out_len, lengths, segments)) {
+        return cvl_overlap();
+    }
+    return cvl_seg_replace_int(vector, vector_len, index, index_len, values, values_len, lengths, segments, out, out_len);
+}
+#define cvl_seg_replace_int cvl_seg_replace_int_apart
+
+static inline CvlStatus cvl_seg_replace_bool_apart(
+    const bool *vector, size_t vector_len, const int32_t *index, size_t index_len, const bool *values, size_t values_len,
+    const int32_t *lengths, size_t segments, bool *out, size_t out_len) {
+    if (CVL_MEET(out, out_len, vector, vector_len) || CVL_MEET(out, out_len, index, index_len) ||
+        CVL_MEET(out, out_len, values, values_len) || CVL_MEET(out, out_len, lengths, segments)) {
+        return cvl_overlap();
+    }
+    return cvl_seg_replace_bool(vector, vector_len, index, index_len, values, values_len, lengths, segments, out, out_len);
+}
+#define cvl_seg_replace_bool cvl_seg_replace_bool_apart
+
+static inline CvlStatus cvl_seg_distribute_int_apart(
+    const int32_t *values, size_t values_len, const int32_t *lengths, size_t segments, int32_t *out, size_t out_len) {
+    if (CVL_MEET(out, out_len, values, values_len) || CVL_MEET(out, out_len, lengths, segments)) return cvl_overlap();
+    return cvl_seg_distribute_int(values, values_len, lengths, segments, out, out_len);
+}
+#define cvl_seg_distribute_int cvl_seg_distribute_int_apart
+
+static inline CvlStatus cvl_seg_distribute_bool_apart(
+    const bool *values, size_t values_len, const int32_t *lengths, size_t segments, bool *out, size_t out_len) {
+    if (CVL_MEET(out, out_len, values, values_len) || CVL_MEET(out, out_len, lengths, segments)) return cvl_overlap();
+    return cvl_seg_distribute_bool(values, values_len, lengths, segments, out, out_len);
+}
+#define cvl_seg_distribute_bool cvl_seg_distribute_bool_apart
+
+static inline CvlStatus cvl_seg_index_apart(
+    const int32_t *inits, size_t inits_len, const int32_t *strides, size_t strides_len, const int32_t *lengths,
+    size_t segments, int32_t *out, size_t out_len) {
+    if (CVL_MEET(out, out_len, inits, inits_len) || CVL_MEET(out, out_len, strides, strides_len) ||
+        CVL_MEET(out, out_len, lengths, segments)) {
+        return cvl_overlap();
+    }
+    return cvl_seg_index(inits, inits_len, strides, strides_len, lengths, segments, out, out_len);
+}
+#define cvl_seg_index cvl_seg_index_apart
+
+static inline CvlStatus cvl_seg_int_scan_apart(
+    uint32_t op, const int32_t *a, size_t a_len, const int32_t *lengths, size_t segments, int32_t *out, size_t out_len) {
+    if (CVL_MEET(out, out_len, a, a_len) || CVL_MEET(out, out_len, lengths, segments)) return cvl_overlap();
+    return cvl_seg_int_scan(op, a, a_len, lengths, segments, out, out_len);
+}
+#define cvl_seg_int_scan cvl_seg_int_scan_apart
+
+static inline CvlStatus cvl_seg_int_reduce_apart(
+    uint32_t op, const int32_t *a, size_t a_len, const int32_t *lengths, size_t segments, int32_t *out, size_t out_len) {
+    if (CVL_MEET(out, out_len, a, a_len) || CVL_MEET(out, out_len, lengths, segments)) return cvl_overlap();
+    return cvl_seg_int_reduce(op, a, a_len, lengths, segments, out, out_len);
+}
+#define cvl_seg_int_reduce cvl_seg_int_reduce_apart
+
+static inline CvlStatus cvl_seg_bool_scan_apart(
+    uint32_t op, const bool *a, size_t a_len, const int32_t *lengths, size_t segments, bool *out, size_t out_len) {
+    if (CVL_MEET(out, out_len, a, a_len) || CVL_MEET(out, out_len, lengths, segments)) return cvl_overlap();
+    return cvl_seg_bool_scan(op, a, a_len, lengths, segments, out, out_len);
+}
+#define cvl_seg_bool_scan cvl_seg_bool_scan_apart
+
+static inline CvlStatus cvl_seg_bool_reduce_apart(
+    uint32_t op, const bool *a, size_t a_len, const int32_t *lengths, size_t segments, bool *out, size_t out_len) {
+    if (CVL_MEET(out, out_len, a, a_len) || CVL_MEET(out, out_len, lengths, segments)) return cvl_overlap();
+    return cvl_seg_bool_reduce(op, a, a_len, lengths, segments, out, out_len);
+}
+#define cvl_seg_bool_reduce cvl_seg_bool_reduce_apart
+
+static inline CvlStatus cvl_pack_int_apart(
+    const int32_t *values, size_t values_len, const bool *flags, size_t flags_len, int32_t *out, size_t out_len,
+    size_t *count) {
+    if (CVL_MEET(out, out_len, values, values_len) || CVL_MEET(out, out_len, flags, flags_len) ||
+        CVL_MEET(out, out_len, count, 1) || CVL_MEET(count, 1, values, values_len) || CVL_MEET(count, 1, flags, flags_len)) {
+        return cvl_overlap();
+    }
+    return cvl_pack_int(values, values_len, flags, flags_len, out, out_len, count);
+}
+#define cvl_pack_int cvl_pack_int_apart
+
+static inline CvlStatus cvl_pack_bool_apart(
+    const bool *values, size_t values_len, const bool *flags, size_t flags_len, bool *out, size_t out_len, size_t *count) {
+    if (CVL_MEET(out, out_len, values, values_len) || CVL_MEET(out, out_len, flags, flags_len) ||
+        CVL_MEET(out, out_len, count, 1) || CVL_MEET(count, 1, values, values_len) || CVL_MEET(count, 1, flags, flags_len)) {
+        return cvl_overlap();
+    }
+    return cvl_pack_bool(values, values_len, flags, flags_len, out, out_len, count);
+}
+#define cvl_pack_bool cvl_pack_bool_apart
+
+static inline CvlStatus cvl_seg_pack_int_apart(
+    const int32_t *values, size_t values_len, const bool *flags, size_t flags_len, const int32_t *lengths, size_t segments,
+    int32_t *out, size_t out_len, size_t *count) {
+    if (CVL_MEET(out, out_len, values, values_len) || CVL_MEET(out, out_len, flags, flags_len) ||
+        CVL_MEET(out, out_len, lengths, segments) || CVL_MEET(out, out_len, count, 1) ||
+        CVL_MEET(count, 1, values, values_len) || CVL_MEET(count, 1, flags, flags_len) ||
+        CVL_MEET(count, 1, lengths, segments)) {
+        return cvl_overlap();
+    }
+    return cvl_seg_pack_int(values, values_len, flags, flags_len, lengths, segments, out, out_len, count);
+}
+#define cvl_seg_pack_int cvl_seg_pack_int_apart
+
+static inline CvlStatus cvl_seg_pack_bool_apart(
+    const bool *values, size_t values_len, const bool *flags, size_t flags_len, const int32_t *lengths, size_t segments,
+    bool *out, size_t out_len, size_t *count) {
+    if (CVL_MEET(out, out_len, values, values_len) || CVL_MEET(out, out_len, flags, flags_len) ||
+        CVL_MEET(out, out_len, lengths, segments) || CVL_MEET(out, out_len, count, 1) ||
+        CVL_MEET(count, 1, values, values_len) || CVL_MEET(count, 1, flags, flags_len) ||
+        CVL_MEET(count, 1, lengths, segments)) {
+        return cvl_overlap();
+    }
+    return cvl_seg_pack_bool(values, values_len, flags, flags_len, lengths, segments, out, out_len, count);
+}
+#define cvl_seg_pack_bool cvl_seg_pack_bool_apart
+
+static inline CvlStatus cvl_packed_lengths_apart(
+    const bool *flags, size_t flags_len, const int32_t *lengths, size_t segments, int32_t *out, size_t out_len) {
+    if (CVL_MEET(out, out_len, flags, flags_len) || CVL_MEET(out, out_len, lengths, segments)) return cvl_overlap();
+    return cvl_packed_lengths(flags, flags_len, lengths, segments, out, out_len);
+}
+#define cvl_packed_lengths cvl_packed_lengths_apart
+
+static inline CvlStatus cvl_seg_count_apart(
+    const bool *flags, size_t flags_len, const int32_t *lengths, size_t segments, int32_t *out, size_t out_len) {
+    if (CVL_MEET(out, out_len, flags, flags_len) || CVL_MEET(out, out_len, lengths, segments)) return cvl_overlap();
+    return cvl_seg_count(flags, flags_len, lengths, segments, out, out_len);
+}
+#define cvl_seg_count cvl_seg_count_apart
+
+static inline CvlStatus cvl_permute_int_apart(
+    const int32_t *source, size_t source_len, const int32_t *index, size_t index_len, int32_t *out, size_t out_len) {
+    if (CVL_MEET(out, out_len, source, source_len) || CVL_MEET(out, out_len, index, index_len)) return cvl_overlap();
+    return cvl_permute_int(source, source_len, index, index_len, out, out_len);
+}
+#define cvl_permute_int cvl_permute_int_apart
+
+static inline CvlStatus cvl_permute_bool_apart(
+    const bool *source, size_t source_len, const int32_t *index, size_t index_len, bool *out, size_t out_len) {
+    if (CVL_MEET(out, out_len, source, source_len) || CVL_MEET(out, out_len, index, index_len)) return cvl_overlap();
+    return cvl_permute_bool(source, source_len, index, index_len, out, out_len);
+}
+#define cvl_permute_bool cvl_permute_bool_apart
+
+static inline CvlStatus cvl_select_permute_int_apart(
+    const int32_t *source, size_t source_len, const int32_t *index, size_t index_len, const bool *flags, size_t flags_len,
+    int32_t *out, size_t out_len) {
+    if (CVL_MEET(out, out_len, source, source_len) || CVL_MEET(out, out_len, index, index_len) ||
+        CVL_MEET(out, out_len, flags, flags_len)) {
+        return cvl_overlap();
+    }
+    return cvl_select_permute_int(source, source_len, index, index_len, flags, flags_len, out, out_len);
+}
+#define cvl_select_permute_int cvl_select_permute_int_apart
+
+static inline CvlStatus cvl_select_permute_bool_apart(
+    const bool *source, size_t source_len, const int32_t *index, size_t index_len, const bool *flags, size_t flags_len,
+    bool *out, size_t out_len) {
+    if (CVL_MEET(out, out_len, source, source_len) || CVL_MEET(out, out_len, index, index_len) ||
+        CVL_MEET(out, out_len, flags, flags_len)) {
+        return cvl_overlap();
+    }
+    return cvl_select_permute_bool(source, source_len, index, index_len, flags, flags_len, out, out_len);
+}
+#define cvl_select_permute_bool cvl_select_permute_bool_apart
+
+static inline CvlStatus cvl_default_permute_int_apart(
+    const int32_t *source, size_t source_len, const int32_t *index, size_t index_len, const int32_t *defaults,
+    size_t defaults_len, int32_t *out, size_t out_len) {
+    if (CVL_MEET(out, out_len, source, source_len) || CVL_MEET(out, out_len, index, index_len) ||
+        CVL_MEET(out, out_len, defaults, defaults_len)) {
+        return cvl_overlap();
+    }
+    return cvl_default_permute_int(source, source_len, index, index_len, defaults, defaults_len, out, out_len);
+}
+#define cvl_default_permute_int cvl_default_permute_int_apart
+
+static inline CvlStatus cvl_default_permute_bool_apart(
+    const bool *source, size_t source_len, const int32_t *index, size_t index_len, const bool *defaults, size_t defaults_len,
+    bool *out, size_t out_len) {
+    if (CVL_MEET(out, out_len, source, source_len) || CVL_MEET(out, out_len, index, index_len) ||
+        CVL_MEET(out, out_len, defaults, defaults_len)) {
+        return cvl_overlap();
+    }
+    return cvl_default_permute_bool(source, source_len, index, index_len, defaults, defaults_len, out, out_len);
+}
+#define cvl_default_permute_bool cvl_default_permute_bool_apart
+
+static inline CvlStatus cvl_back_permute_int_apart(
+    const int32_t *source, size_t source_len, const int32_t *index, size_t index_len, int32_t *out, size_t out_len) {
+    if (CVL_MEET(out, out_len, source, source_len) || CVL_MEET(out, out_len, index, index_len)) return cvl_overlap();
+    return cvl_back_permute_int(source, source_len, index, index_len, out, out_len);
+}
+#define cvl_back_permute_int cvl_back_permute_int_apart
+
+static inline CvlStatus cvl_back_permute_bool_apart(
+    const bool *source, size_t source_len, const int32_t *index, size_t index_len, bool *out, size_t out_len) {
+    if (CVL_MEET(out, out_len, source, source_len) || CVL_MEET(out, out_len, index, index_len)) return cvl_overlap();
+    return cvl_back_permute_bool(source, source_len, index, index_len, out, out_len);
+}
+#define cvl_back_permute_bool cvl_back_permute_bool_apart
+
+static inline CvlStatus cvl_seg_permute_int_apart(
+    const int32_t *source, size_t source_len, const int32_t *index, size_t index_len, const int32_t *lengths, size_t segments,
+    int32_t *out, size_t out_len) {
+    if (CVL_MEET(out, out_len, source, source_len) || CVL_MEET(out, out_len, index, index_len) ||
+        CVL_MEET(out, out_len, lengths, segments)) {
+        return cvl_overlap();
+    }
+    return cvl_seg_permute_int(source, source_len, index, index_len, lengths, segments, out, out_len);
+}
+#define cvl_seg_permute_int cvl_seg_permute_int_apart
+
+static inline CvlStatus cvl_seg_permute_bool_apart(
+    const bool *source, size_t source_len, const int32_t *index, size_t index_len, const int32_t *lengths, size_t segments,
+    bool *out, size_t out_len) {
+    if (CVL_MEET(out, out_len, source, source_len) || CVL_MEET(out, out_len, index, index_len) ||
+        CVL_MEET(out, out_len, lengths, segments)) {
+        return cvl_overlap();
+    }
+    return cvl_seg_permute_bool(source, source_len, index, index_len, lengths, segments, out, out_len);
+}
+#define cvl_seg_permute_bool cvl_seg_permute_bool_apart
+
+static inline CvlStatus cvl_seg_select_permute_int_apart(
+    const int32_t *source, size_t source_len, const int32_t *index, size_t index_len, const bool *flags, size_t flags_len,
+    const int32_t *lengths, size_t segments, int32_t *out, size_t out_len) {
+    if (CVL_MEET(out, out_len, source, source_len) || CVL_MEET(out, out_len, index, index_len) ||
+        CVL_MEET(out, out_len, flags, flags_len) || CVL_MEET(out, out_len, lengths, segments)) {
+        return cvl_overlap();
+    }
+    return cvl_seg_select_permute_int(
+        source, source_len, index, index_len, flags, flags_len, lengths, segments, out, out_len);
+}
+#define cvl_seg_select_permute_int cvl_seg_select_permute_int_apart
+
+static inline CvlStatus cvl_seg_select_permute_bool_apart(
+    const bool *source, size_t source_len, const int32_t *index, size_t index_len, const bool *flags, size_t flags_len,
+    const int32_t *lengths, size_t segments, bool *out, size_t out_len) {
+    if (CVL_MEET(out, out_len, source, source_len) || CVL_MEET(out, out_len, index, index_len) ||
+        CVL_MEET(out, out_len, flags, flags_len) || CVL_MEET(out, out_len, lengths, segments)) {
+        return cvl_overlap();
+    }
+    return cvl_seg_select_permute_bool(
+        source, source_len, index, index_len, flags, flags_len, lengths, segments, out, out_len);
+}
+#define cvl_seg_select_permute_bool cvl_seg_select_permute_bool_apart
+
+static inline CvlStatus cvl_seg_default_permute_int_apart(
+    const int32_t *source, size_t source_len, const int32_t *index, size_t index_len, const int32_t *defaults,
+    size_t defaults_len, const int32_t *lengths, size_t segments, const int32_t *default_lengths, size_t default_segments,
+    int32_t *out, size_t out_len) {
+    if (CVL_MEET(out, out_len, source, source_len) || CVL_MEET(out, out_len, index, index_len) ||
+        CVL_MEET(out, out_len, defaults, defaults_len) || CVL_MEET(out, out_len, lengths, segments) ||
+        CVL_MEET(out, out_len, default_lengths, default_segments)) {
+        return cvl_overlap();
+    }
+    return cvl_seg_default_permute_int(
+        source, source_len, index, index_len, defaults, defaults_len, lengths, segments, default_lengths, default_segments, out,
+        out_len);
+}
+#define cvl_seg_default_permute_int cvl_seg_default_permute_int_apart
+
+static inline CvlStatus cvl_seg_default_permute_bool_apart(
+    const bool *source, size_t source_len, const int32_t *index, size_t index_len, const bool *defaults, size_t defaults_len,
+    const int32_t *lengths, size_t segments, const int32_t *default_lengths, size_t default_segments, bool *out,
+    size_t out_len) {
+    if (CVL_MEET(out, out_len, source, source_len) || CVL_MEET(out, out_len, index, index_len) ||
+        CVL_MEET(out, out_len, defaults, defaults_len) || CVL_MEET(out, out_len, lengths, segments) ||
+        CVL_MEET(out, out_len, default_lengths, default_segments)) {
+        return cvl_overlap();
+    }
+    return cvl_seg_default_permute_bool(
+        source, source_len, index, index_len, defaults, defaults_len, lengths, segments, default_lengths, default_segments, out,
+        out_len);
+}
+#define cvl_seg_default_permute_bool cvl_seg_default_permute_bool_apart
+
+static inline CvlStatus cvl_seg_back_permute_int_apart(
+    const int32_t *source, size_t source_len, const int32_t *index, size_t index_len, const int32_t *lengths, size_t segments,
+    const int32_t *index_lengths, size_t index_segments, int32_t *out, size_t out_len) {
+    if (CVL_MEET(out, out_len, source, source_len) || CVL_MEET(out, out_len, index, index_len) ||
+        CVL_MEET(out, out_len, lengths, segments) || CVL_MEET(out, out_len, index_lengths, index_segments)) {
+        return cvl_overlap();
+    }
+    return cvl_seg_back_permute_int(
+        source, source_len, index, index_len, lengths, segments, index_lengths, index_segments, out, out_len);
+}
+#define cvl_seg_back_permute_int cvl_seg_back_permute_int_apart
+
+static inline CvlStatus cvl_seg_back_permute_bool_apart(
+    const bool *source, size_t source_len, const int32_t *index, size_t index_len, const int32_t *lengths, size_t segments,
+    const int32_t *index_lengths, size_t index_segments, bool *out, size_t out_len) {
+    if (CVL_MEET(out, out_len, source, source_len) || CVL_MEET(out, out_len, index, index_len) ||
+        CVL_MEET(out, out_len, lengths, segments) || CVL_MEET(out, out_len, index_lengths, index_segments)) {
+        return cvl_overlap();
+    }
+    return cvl_seg_back_permute_bool(
+        source, source_len, index, index_len, lengths, segments, index_lengths, index_segments, out, out_len);
+}
+#define cvl_seg_back_permute_bool cvl_seg_back_permute_bool_apart
+
+static inline CvlStatus cvl_read_ints_apart(const char *text, size_t text_len, int32_t *out, size_t out_len, size_t *count) {
+    if (CVL_MEET(out, out_len, text, text_len) || CVL_MEET(out, out_len, count, 1) || CVL_MEET(count, 1, text, text_len)) {
+        return cvl_overlap();
+    }
+    return cvl_read_ints(text, text_len, out, out_len, count);
+}
+#define cvl_read_ints cvl_read_ints_apart
+
+static inline CvlStatus cvl_write_ints_apart(const int32_t *a, size_t a_len, char *out, size_t out_len, size_t *count) {
+    if (CVL_MEET(out, out_len, a, a_len) || CVL_MEET(out, out_len, count, 1) || CVL_MEET(count, 1, a, a_len)) {
+        return cvl_overlap();
+    }
+    return cvl_write_ints(a, a_len, out, out_len, count);
+}
+#define cvl_write_ints cvl_write_ints_apart
+
+static inline CvlStatus cvl_write_bools_apart(const bool *a, size_t a_len, char *out, size_t out_len, size_t *count) {
+    if (CVL_MEET(out, out_len, a, a_len) || CVL_MEET(out, out_len, count, 1) || CVL_MEET(count, 1, a, a_len)) {
+        return cvl_overlap();
+    }
+    return cvl_write_bools(a, a_len, out, out_len, count);
+}
+#define cvl_write_bools cvl_write_bools_apart
+
+static inline CvlStatus cvl_int_scan_after_apart(
+    uint32_t op, int32_t before, const int32_t *a, size_t a_len, int32_t *out, size_t out_len) {
+    if (CVL_MEET(out, out_len, a, a_len)) return cvl_overlap();
+    return cvl_int_scan_after(op, before, a, a_len, out, out_len);
+}
+#define cvl_int_scan_after cvl_int_scan_after_apart
+
+static inline CvlStatus cvl_bool_scan_after_apart(
+    uint32_t op, bool before, const bool *a, size_t a_len, bool *out, size_t out_len) {
+    if (CVL_MEET(out, out_len, a, a_len)) return cvl_overlap();
+    return cvl_bool_scan_after(op, before, a, a_len, out, out_len);
+}
+#define cvl_bool_scan_after cvl_bool_scan_after_apart
+
+static inline CvlStatus cvl_segments_new_apart(const int32_t *lengths, size_t lengths_len, CvlSegments *segments) {
+    if (CVL_MEET(segments, 1, lengths, lengths_len)) return cvl_overlap();
+    return cvl_segments_new(lengths, lengths_len, segments);
+}
+#define cvl_segments_new cvl_segments_new_apart
+
+static inline CvlStatus cvl_segments_total_apart(CvlSegments *segments, size_t *total_out) {
+    if (CVL_MEET(segments, 1, total_out, 1)) return cvl_overlap();
+    return cvl_segments_total(segments, total_out);
+}
+#define cvl_segments_total cvl_segments_total_apart
+
+static inline CvlStatus cvl_segments_checked_scan_apart(
+    const int32_t *a, size_t a_len, CvlSegments *segments, int32_t *out, size_t out_len) {
+    if (CVL_MEET(segments, 1, a, a_len) || CVL_MEET(segments, 1, out, out_len) || CVL_MEET(out, out_len, a, a_len)) {
+        return cvl_overlap();
+    }
+    return cvl_segments_checked_scan(a, a_len, segments, out, out_len);
+}
+#define cvl_segments_checked_scan cvl_segments_checked_scan_apart
+
+static inline CvlStatus cvl_segments_checked_reduce_apart(
+    const int32_t *a, size_t a_len, CvlSegments *segments, int32_t *out, size_t out_len) {
+    if (CVL_MEET(segments, 1, a, a_len) || CVL_MEET(segments, 1, out, out_len) || CVL_MEET(out, out_len, a, a_len)) {
+        return cvl_overlap();
+    }
+    return cvl_segments_checked_reduce(a, a_len, segments, out, out_len);
+}
+#define cvl_segments_checked_reduce cvl_segments_checked_reduce_apart
+
+static inline CvlStatus cvl_segments_int_scan_apart(
+    uint32_t op, const int32_t *a, size_t a_len, CvlSegments *segments, int32_t *out, size_t out_len) {
+    if (CVL_MEET(segments, 1, a, a_len) || CVL_MEET(segments, 1, out, out_len) || CVL_MEET(out, out_len, a, a_len)) {
+        return cvl_overlap();
+    }
+    return cvl_segments_int_scan(op, a, a_len, segments, out, out_len);
+}
+#define cvl_segments_int_scan cvl_segments_int_scan_apart
+
+static inline CvlStatus cvl_segments_int_reduce_apart(
+    uint32_t op, const int32_t *a, size_t a_len, CvlSegments *segments, int32_t *out, size_t out_len) {
+    if (CVL_MEET(segments, 1, a, a_len) || CVL_MEET(segments, 1, out, out_len) || CVL_MEET(out, out_len, a, a_len)) {
+        return cvl_overlap();
+    }
+    return cvl_segments_int_reduce(op, a, a_len, segments, out, out_len);
+}
+#define cvl_segments_int_reduce cvl_segments_int_reduce_apart
+
+static inline CvlStatus cvl_segments_bool_scan_apart(
+    uint32_t op, const bool *a, size_t a_len, CvlSegments *segments, bool *out, size_t out_len) {
+    if (CVL_MEET(segments, 1, a, a_len) || CVL_MEET(segments, 1, out, out_len) || CVL_MEET(out, out_len, a, a_len)) {
+        return cvl_overlap();
+    }
+    return cvl_segments_bool_scan(op, a, a_len, segments, out, out_len);
+}
+#define cvl_segments_bool_scan cvl_segments_bool_scan_apart
+
+static inline CvlStatus cvl_segments_bool_reduce_apart(
+    uint32_t op, const bool *a, size_t a_len, CvlSegments *segments, bool *out, size_t out_len) {
+    if (CVL_MEET(segments, 1, a, a_len) || CVL_MEET(segments, 1, out, out_len) || CVL_MEET(out, out_len, a, a_len)) {
+        return cvl_overlap();
+    }
+    return cvl_segments_bool_reduce(op, a, a_len, segments, out, out_len);
+}
+#define cvl_segments_bool_reduce cvl_segments_bool_reduce_apart
+
+static inline CvlStatus cvl_seg_read_ints_apart(
+    const char *text, size_t text_len, int32_t *out, size_t out_len, size_t *count, int32_t *lengths, size_t lengths_len,
+    size_t *segments) {
+    if (CVL_MEET(out, out_len, text, text_len) || CVL_MEET(out, out_len, count, 1) ||
+        CVL_MEET(out, out_len, lengths, lengths_len) || CVL_MEET(out, out_len, segments, 1) ||
+        CVL_MEET(count, 1, text, text_len) || CVL_MEET(count, 1, lengths, lengths_len) || CVL_MEET(count, 1, segments, 1) ||
+        CVL_MEET(lengths, lengths_len, text, text_len) || CVL_MEET(lengths, lengths_len, segments, 1) ||
+        CVL_MEET(segments, 1, text, text_len)) {
+        return cvl_overlap();
+    }
+    return cvl_seg_read_ints(text, text_len, out, out_len, count, lengths, lengths_len, segments);
+}
+#define cvl_seg_read_ints cvl_seg_read_ints_apart
+
+static inline CvlStatus cvl_seg_write_ints_apart(
+    const int32_t *a, size_t a_len, const int32_t *lengths, size_t segments, char *out, size_t out_len, size_t *count) {
+    if (CVL_MEET(out, out_len, a, a_len) || CVL_MEET(out, out_len, lengths, segments) || CVL_MEET(out, out_len, count, 1) ||
+        CVL_MEET(count, 1, a, a_len) || CVL_MEET(count, 1, lengths, segments)) {
+        return cvl_overlap();
+    }
+    return cvl_seg_write_ints(a, a_len, lengths, segments, out, out_len, count);
+}
+#define cvl_seg_write_ints cvl_seg_write_ints_apart
+
+static inline CvlStatus cvl_seg_write_bools_apart(
+    const bool *a, size_t a_len, const int32_t *lengths, size_t segments, char *out, size_t out_len, size_t *count) {
+    if (CVL_MEET(out, out_len, a, a_len) || CVL_MEET(out, out_len, lengths, segments) || CVL_MEET(out, out_len, count, 1) ||
+        CVL_MEET(count, 1, a, a_len) || CVL_MEET(count, 1, lengths, segments)) {
+        return cvl_overlap();
+    }
+    return cvl_seg_write_bools(a, a_len, lengths, segments, out, out_len, count);
+}
+#define cvl_seg_write_bools cvl_seg_write_bools_apart
+
 /* ---- place by place: the calls of the table ---- */
 
 /*
  * add_wuz: The wrapped sums. a, b and out have n elements.
  * Faults: 13 TooLong.
+ * In place: no.
  * a = 12 -7 2147483647, b = 10 2 1: out = 22 -5 -2147483648
  */
 static inline CvlStatus add_wuz(const int32_t *a, const int32_t *b, int32_t *out, size_t n) {
@@ -485,6 +1148,7 @@ static inline CvlStatus add_wuz(const int32_t *a, const int32_t *b, int32_t *out
 /*
  * mul_wuz: The wrapped products. a, b and out have n elements.
  * Faults: 13 TooLong.
+ * In place: no.
  * a = 12 -7 2147483647, b = 10 2 1: out = 120 -14 2147483647
  */
 static inline CvlStatus mul_wuz(const int32_t *a, const int32_t *b, int32_t *out, size_t n) {
@@ -494,6 +1158,7 @@ static inline CvlStatus mul_wuz(const int32_t *a, const int32_t *b, int32_t *out
 /*
  * min_wuz: The lesser of each two. a, b and out have n elements.
  * Faults: 13 TooLong.
+ * In place: no.
  * a = 12 -7 2147483647, b = 10 2 1: out = 10 -7 1
  */
 static inline CvlStatus min_wuz(const int32_t *a, const int32_t *b, int32_t *out, size_t n) {
@@ -503,6 +1168,7 @@ static inline CvlStatus min_wuz(const int32_t *a, const int32_t *b, int32_t *out
 /*
  * max_wuz: The greater of each two. a, b and out have n elements.
  * Faults: 13 TooLong.
+ * In place: no.
  * a = 12 -7 2147483647, b = 10 2 1: out = 12 2 2147483647
  */
 static inline CvlStatus max_wuz(const int32_t *a, const int32_t *b, int32_t *out, size_t n) {
@@ -512,6 +1178,7 @@ static inline CvlStatus max_wuz(const int32_t *a, const int32_t *b, int32_t *out
 /*
  * and_wuz: And, bit by bit. a, b and out have n elements.
  * Faults: 13 TooLong.
+ * In place: no.
  * a = 12 -7 2147483647, b = 10 2 1: out = 8 0 1
  */
 static inline CvlStatus and_wuz(const int32_t *a, const int32_t *b, int32_t *out, size_t n) {
@@ -521,6 +1188,7 @@ static inline CvlStatus and_wuz(const int32_t *a, const int32_t *b, int32_t *out
 /*
  * ior_wuz: Or, bit by bit. a, b and out have n elements.
  * Faults: 13 TooLong.
+ * In place: no.
  * a = 12 -7 2147483647, b = 10 2 1: out = 14 -5 2147483647
  */
 static inline CvlStatus ior_wuz(const int32_t *a, const int32_t *b, int32_t *out, size_t n) {
@@ -530,6 +1198,7 @@ static inline CvlStatus ior_wuz(const int32_t *a, const int32_t *b, int32_t *out
 /*
  * xor_wuz: Exclusive or, bit by bit. a, b and out have n elements.
  * Faults: 13 TooLong.
+ * In place: no.
  * a = 12 -7 2147483647, b = 10 2 1: out = 6 -5 2147483646
  */
 static inline CvlStatus xor_wuz(const int32_t *a, const int32_t *b, int32_t *out, size_t n) {
@@ -539,6 +1208,7 @@ static inline CvlStatus xor_wuz(const int32_t *a, const int32_t *b, int32_t *out
 /*
  * sub_wuz: The wrapped differences. a, b and out have n elements.
  * Faults: 13 TooLong.
+ * In place: no.
  * a = 12 -7 2147483647, b = 10 2 1: out = 2 -9 2147483646
  */
 static inline CvlStatus sub_wuz(const int32_t *a, const int32_t *b, int32_t *out, size_t n) {
@@ -548,6 +1218,7 @@ static inline CvlStatus sub_wuz(const int32_t *a, const int32_t *b, int32_t *out
 /*
  * div_wuz: The quotients, truncated toward zero; -2147483648 by -1 is -2147483648. a, b and out have n elements.
  * Faults: 13 TooLong; 8 DivideByZero at the first divisor that is 0.
+ * In place: no.
  * a = 7 -7 -2147483648, b = 2 2 -1: out = 3 -3 -2147483648
  */
 static inline CvlStatus div_wuz(const int32_t *a, const int32_t *b, int32_t *out, size_t n) {
@@ -557,6 +1228,7 @@ static inline CvlStatus div_wuz(const int32_t *a, const int32_t *b, int32_t *out
 /*
  * mod_wuz: The remainders of the quotients, with the dividends' signs. a, b and out have n elements.
  * Faults: 13 TooLong; 8 DivideByZero at the first divisor that is 0.
+ * In place: no.
  * a = 7 -7 -2147483648, b = 2 2 -1: out = 1 -1 0
  */
 static inline CvlStatus mod_wuz(const int32_t *a, const int32_t *b, int32_t *out, size_t n) {
@@ -566,6 +1238,7 @@ static inline CvlStatus mod_wuz(const int32_t *a, const int32_t *b, int32_t *out
 /*
  * lsh_wuz: The elements of a, shifted left by those of b. a, b and out have n elements.
  * Faults: 13 TooLong; 9 ShiftOutOfRange at the first element of b outside 0 to 31.
+ * In place: no.
  * a = 1 -7 3, b = 4 1 31: out = 16 -14 -2147483648
  */
 static inline CvlStatus lsh_wuz(const int32_t *a, const int32_t *b, int32_t *out, size_t n) {
@@ -575,6 +1248,7 @@ static inline CvlStatus lsh_wuz(const int32_t *a, const int32_t *b, int32_t *out
 /*
  * rsh_wuz: The elements of a, shifted right by those of b, with their signs. a, b and out have n elements.
  * Faults: 13 TooLong; 9 ShiftOutOfRange at the first element of b outside 0 to 31.
+ * In place: no.
  * a = 1 -7 3, b = 4 1 31: out = 0 -4 0
  */
 static inline CvlStatus rsh_wuz(const int32_t *a, const int32_t *b, int32_t *out, size_t n) {
@@ -584,6 +1258,7 @@ static inline CvlStatus rsh_wuz(const int32_t *a, const int32_t *b, int32_t *out
 /*
  * not_wuz: Each bit inverted. a and out have n elements.
  * Faults: 13 TooLong.
+ * In place: no.
  * a = 0 5 -1: out = -1 -6 0
  */
 static inline CvlStatus not_wuz(const int32_t *a, int32_t *out, size_t n) {
@@ -593,6 +1268,7 @@ static inline CvlStatus not_wuz(const int32_t *a, int32_t *out, size_t n) {
 /*
  * not_wub: Each boolean inverted. a and out have n elements.
  * Faults: 13 TooLong.
+ * In place: no.
  * a = false true: out = true false
  */
 static inline CvlStatus not_wub(const bool *a, bool *out, size_t n) {
@@ -602,6 +1278,7 @@ static inline CvlStatus not_wub(const bool *a, bool *out, size_t n) {
 /*
  * cpy_wuz: Each integer copied. a and out have n elements.
  * Faults: 13 TooLong.
+ * In place: no.
  * a = 3 1: out = 3 1
  */
 static inline CvlStatus cpy_wuz(const int32_t *a, int32_t *out, size_t n) {
@@ -611,6 +1288,7 @@ static inline CvlStatus cpy_wuz(const int32_t *a, int32_t *out, size_t n) {
 /*
  * cpy_wub: Each boolean copied. a and out have n elements.
  * Faults: 13 TooLong.
+ * In place: no.
  * a = true false: out = true false
  */
 static inline CvlStatus cpy_wub(const bool *a, bool *out, size_t n) {
@@ -620,6 +1298,7 @@ static inline CvlStatus cpy_wub(const bool *a, bool *out, size_t n) {
 /*
  * grt_wuz: True where a is greater. a, b and out have n elements.
  * Faults: 13 TooLong.
+ * In place: no.
  * a = 1 2 3, b = 2 2 2: out = false false true
  */
 static inline CvlStatus grt_wuz(const int32_t *a, const int32_t *b, bool *out, size_t n) {
@@ -629,6 +1308,7 @@ static inline CvlStatus grt_wuz(const int32_t *a, const int32_t *b, bool *out, s
 /*
  * les_wuz: True where a is less. a, b and out have n elements.
  * Faults: 13 TooLong.
+ * In place: no.
  * a = 1 2 3, b = 2 2 2: out = true false false
  */
 static inline CvlStatus les_wuz(const int32_t *a, const int32_t *b, bool *out, size_t n) {
@@ -638,6 +1318,7 @@ static inline CvlStatus les_wuz(const int32_t *a, const int32_t *b, bool *out, s
 /*
  * geq_wuz: True where a is greater, or they are equal. a, b and out have n elements.
  * Faults: 13 TooLong.
+ * In place: no.
  * a = 1 2 3, b = 2 2 2: out = false true true
  */
 static inline CvlStatus geq_wuz(const int32_t *a, const int32_t *b, bool *out, size_t n) {
@@ -647,6 +1328,7 @@ static inline CvlStatus geq_wuz(const int32_t *a, const int32_t *b, bool *out, s
 /*
  * leq_wuz: True where a is less, or they are equal. a, b and out have n elements.
  * Faults: 13 TooLong.
+ * In place: no.
  * a = 1 2 3, b = 2 2 2: out = true true false
  */
 static inline CvlStatus leq_wuz(const int32_t *a, const int32_t *b, bool *out, size_t n) {
@@ -656,6 +1338,7 @@ static inline CvlStatus leq_wuz(const int32_t *a, const int32_t *b, bool *out, s
 /*
  * eql_wuz: True where they are equal. a, b and out have n elements.
  * Faults: 13 TooLong.
+ * In place: no.
  * a = 1 2 3, b = 2 2 2: out = false true false
  */
 static inline CvlStatus eql_wuz(const int32_t *a, const int32_t *b, bool *out, size_t n) {
@@ -665,6 +1348,7 @@ static inline CvlStatus eql_wuz(const int32_t *a, const int32_t *b, bool *out, s
 /*
  * neq_wuz: True where they are not equal. a, b and out have n elements.
  * Faults: 13 TooLong.
+ * In place: no.
  * a = 1 2 3, b = 2 2 2: out = true false true
  */
 static inline CvlStatus neq_wuz(const int32_t *a, const int32_t *b, bool *out, size_t n) {
@@ -674,6 +1358,7 @@ static inline CvlStatus neq_wuz(const int32_t *a, const int32_t *b, bool *out, s
 /*
  * and_wub: Whether both are true. a, b and out have n elements.
  * Faults: 13 TooLong.
+ * In place: no.
  * a = true true false false, b = true false true false: out = true false false false
  */
 static inline CvlStatus and_wub(const bool *a, const bool *b, bool *out, size_t n) {
@@ -683,6 +1368,7 @@ static inline CvlStatus and_wub(const bool *a, const bool *b, bool *out, size_t 
 /*
  * ior_wub: Whether at least one is true. a, b and out have n elements.
  * Faults: 13 TooLong.
+ * In place: no.
  * a = true true false false, b = true false true false: out = true true true false
  */
 static inline CvlStatus ior_wub(const bool *a, const bool *b, bool *out, size_t n) {
@@ -692,6 +1378,7 @@ static inline CvlStatus ior_wub(const bool *a, const bool *b, bool *out, size_t 
 /*
  * xor_wub: Whether exactly one is true. a, b and out have n elements.
  * Faults: 13 TooLong.
+ * In place: no.
  * a = true true false false, b = true false true false: out = false true true false
  */
 static inline CvlStatus xor_wub(const bool *a, const bool *b, bool *out, size_t n) {
@@ -701,6 +1388,7 @@ static inline CvlStatus xor_wub(const bool *a, const bool *b, bool *out, size_t 
 /*
  * sel_wuz: The element of a where the flag is true, else that of b. flags, a, b and out have m elements.
  * Faults: 13 TooLong.
+ * In place: no.
  * flags = true false false, a = 5 0 5, b = 1 1 1: out = 5 1 1
  */
 static inline CvlStatus sel_wuz(const bool *flags, const int32_t *a, const int32_t *b, int32_t *out, size_t m) {
@@ -710,6 +1398,7 @@ static inline CvlStatus sel_wuz(const bool *flags, const int32_t *a, const int32
 /*
  * sel_wub: The element of a where the flag is true, else that of b. flags, a, b and out have m elements.
  * Faults: 13 TooLong.
+ * In place: no.
  * flags = true false, a = true true, b = false false: out = true false
  */
 static inline CvlStatus sel_wub(const bool *flags, const bool *a, const bool *b, bool *out, size_t m) {
@@ -719,6 +1408,7 @@ static inline CvlStatus sel_wub(const bool *flags, const bool *a, const bool *b,
 /*
  * int_wub: 1 for true and 0 for false. a and out have n elements.
  * Faults: 13 TooLong.
+ * In place: no.
  * a = false true true: out = 0 1 1
  */
 static inline CvlStatus int_wub(const bool *a, int32_t *out, size_t n) {
@@ -728,6 +1418,7 @@ static inline CvlStatus int_wub(const bool *a, int32_t *out, size_t n) {
 /*
  * boo_wuz: True where the integer is not 0. a and out have n elements.
  * Faults: 13 TooLong.
+ * In place: no.
  * a = 0 -3 7: out = false true true
  */
 static inline CvlStatus boo_wuz(const int32_t *a, bool *out, size_t n) {
@@ -739,6 +1430,7 @@ static inline CvlStatus boo_wuz(const int32_t *a, bool *out, size_t n) {
 /*
  * add_suz: For each integer those before it, summed, wrapped; 0 at place 0. a and out have n elements.
  * Faults: 13 TooLong.
+ * In place: no.
  * a = 3 1 4: out = 0 3 4
  */
 static inline CvlStatus add_suz(const int32_t *a, int32_t *out, size_t n) {
@@ -748,6 +1440,7 @@ static inline CvlStatus add_suz(const int32_t *a, int32_t *out, size_t n) {
 /*
  * add_ruz: The n integers, summed, wrapped; 0 where there are none.
  * Faults: 13 TooLong.
+ * In place: no.
  * a = 3 1 4: *out = 8
  */
 static inline CvlStatus add_ruz(const int32_t *a, size_t n, int32_t *out) {
@@ -757,6 +1450,7 @@ static inline CvlStatus add_ruz(const int32_t *a, size_t n, int32_t *out) {
 /*
  * mul_suz: For each integer those before it, multiplied, wrapped; 1 at place 0. a and out have n elements.
  * Faults: 13 TooLong.
+ * In place: no.
  * a = 3 1 4: out = 1 3 3
  */
 static inline CvlStatus mul_suz(const int32_t *a, int32_t *out, size_t n) {
@@ -766,6 +1460,7 @@ static inline CvlStatus mul_suz(const int32_t *a, int32_t *out, size_t n) {
 /*
  * mul_ruz: The n integers, multiplied, wrapped; 1 where there are none.
  * Faults: 13 TooLong.
+ * In place: no.
  * a = 3 1 4: *out = 12
  */
 static inline CvlStatus mul_ruz(const int32_t *a, size_t n, int32_t *out) {
@@ -775,6 +1470,7 @@ static inline CvlStatus mul_ruz(const int32_t *a, size_t n, int32_t *out) {
 /*
  * min_suz: For each integer those before it, the least of them; 2147483647 at place 0. a and out have n elements.
  * Faults: 13 TooLong.
+ * In place: no.
  * a = 3 1 4: out = 2147483647 3 1
  */
 static inline CvlStatus min_suz(const int32_t *a, int32_t *out, size_t n) {
@@ -784,6 +1480,7 @@ static inline CvlStatus min_suz(const int32_t *a, int32_t *out, size_t n) {
 /*
  * min_ruz: The n integers, the least of them; 2147483647 where there are none.
  * Faults: 13 TooLong.
+ * In place: no.
  * a = 3 1 4: *out = 1
  */
 static inline CvlStatus min_ruz(const int32_t *a, size_t n, int32_t *out) {
@@ -793,6 +1490,7 @@ static inline CvlStatus min_ruz(const int32_t *a, size_t n, int32_t *out) {
 /*
  * max_suz: For each integer those before it, the greatest of them; -2147483648 at place 0. a and out have n elements.
  * Faults: 13 TooLong.
+ * In place: no.
  * a = 3 1 4: out = -2147483648 3 3
  */
 static inline CvlStatus max_suz(const int32_t *a, int32_t *out, size_t n) {
@@ -802,6 +1500,7 @@ static inline CvlStatus max_suz(const int32_t *a, int32_t *out, size_t n) {
 /*
  * max_ruz: The n integers, the greatest of them; -2147483648 where there are none.
  * Faults: 13 TooLong.
+ * In place: no.
  * a = 3 1 4: *out = 4
  */
 static inline CvlStatus max_ruz(const int32_t *a, size_t n, int32_t *out) {
@@ -811,6 +1510,7 @@ static inline CvlStatus max_ruz(const int32_t *a, size_t n, int32_t *out) {
 /*
  * and_suz: For each integer those before it, and, bit by bit; -1 at place 0. a and out have n elements.
  * Faults: 13 TooLong.
+ * In place: no.
  * a = 3 1 4: out = -1 3 1
  */
 static inline CvlStatus and_suz(const int32_t *a, int32_t *out, size_t n) {
@@ -820,6 +1520,7 @@ static inline CvlStatus and_suz(const int32_t *a, int32_t *out, size_t n) {
 /*
  * and_ruz: The n integers, and, bit by bit; -1 where there are none.
  * Faults: 13 TooLong.
+ * In place: no.
  * a = 3 1 4: *out = 0
  */
 static inline CvlStatus and_ruz(const int32_t *a, size_t n, int32_t *out) {
@@ -829,6 +1530,7 @@ static inline CvlStatus and_ruz(const int32_t *a, size_t n, int32_t *out) {
 /*
  * ior_suz: For each integer those before it, or, bit by bit; 0 at place 0. a and out have n elements.
  * Faults: 13 TooLong.
+ * In place: no.
  * a = 3 1 4: out = 0 3 3
  */
 static inline CvlStatus ior_suz(const int32_t *a, int32_t *out, size_t n) {
@@ -838,6 +1540,7 @@ static inline CvlStatus ior_suz(const int32_t *a, int32_t *out, size_t n) {
 /*
  * ior_ruz: The n integers, or, bit by bit; 0 where there are none.
  * Faults: 13 TooLong.
+ * In place: no.
  * a = 3 1 4: *out = 7
  */
 static inline CvlStatus ior_ruz(const int32_t *a, size_t n, int32_t *out) {
@@ -847,6 +1550,7 @@ static inline CvlStatus ior_ruz(const int32_t *a, size_t n, int32_t *out) {
 /*
  * xor_suz: For each integer those before it, exclusive or, bit by bit; 0 at place 0. a and out have n elements.
  * Faults: 13 TooLong.
+ * In place: no.
  * a = 3 1 4: out = 0 3 2
  */
 static inline CvlStatus xor_suz(const int32_t *a, int32_t *out, size_t n) {
@@ -856,6 +1560,7 @@ static inline CvlStatus xor_suz(const int32_t *a, int32_t *out, size_t n) {
 /*
  * xor_ruz: The n integers, exclusive or, bit by bit; 0 where there are none.
  * Faults: 13 TooLong.
+ * In place: no.
  * a = 3 1 4: *out = 6
  */
 static inline CvlStatus xor_ruz(const int32_t *a, size_t n, int32_t *out) {
@@ -865,6 +1570,7 @@ static inline CvlStatus xor_ruz(const int32_t *a, size_t n, int32_t *out) {
 /*
  * and_sub: For each boolean, of those before it, whether all are true; true at place 0. a and out have n elements.
  * Faults: 13 TooLong.
+ * In place: no.
  * a = true false true: out = true true false
  */
 static inline CvlStatus and_sub(const bool *a, bool *out, size_t n) {
@@ -874,6 +1580,7 @@ static inline CvlStatus and_sub(const bool *a, bool *out, size_t n) {
 /*
  * and_rub: Of the n booleans, whether all are true; true where there are none.
  * Faults: 13 TooLong.
+ * In place: no.
  * a = true false true: *out = false
  */
 static inline CvlStatus and_rub(const bool *a, size_t n, bool *out) {
@@ -883,6 +1590,7 @@ static inline CvlStatus and_rub(const bool *a, size_t n, bool *out) {
 /*
  * ior_sub: For each boolean, of those before it, whether any is true; false at place 0. a and out have n elements.
  * Faults: 13 TooLong.
+ * In place: no.
  * a = true false true: out = false true true
  */
 static inline CvlStatus ior_sub(const bool *a, bool *out, size_t n) {
@@ -892,6 +1600,7 @@ static inline CvlStatus ior_sub(const bool *a, bool *out, size_t n) {
 /*
  * ior_rub: Of the n booleans, whether any is true; false where there are none.
  * Faults: 13 TooLong.
+ * In place: no.
  * a = true false true: *out = true
  */
 static inline CvlStatus ior_rub(const bool *a, size_t n, bool *out) {
@@ -901,6 +1610,7 @@ static inline CvlStatus ior_rub(const bool *a, size_t n, bool *out) {
 /*
  * xor_sub: For each boolean, of those before it, whether an odd number is true; false at place 0. a and out have n elements.
  * Faults: 13 TooLong.
+ * In place: no.
  * a = true false true: out = false true true
  */
 static inline CvlStatus xor_sub(const bool *a, bool *out, size_t n) {
@@ -910,6 +1620,7 @@ static inline CvlStatus xor_sub(const bool *a, bool *out, size_t n) {
 /*
  * xor_rub: Of the n booleans, whether an odd number is true; false where there are none.
  * Faults: 13 TooLong.
+ * In place: no.
  * a = true false true: *out = false
  */
 static inline CvlStatus xor_rub(const bool *a, size_t n, bool *out) {
@@ -921,6 +1632,7 @@ static inline CvlStatus xor_rub(const bool *a, size_t n, bool *out) {
 /*
  * tot_suz: For each integer the sum of those before it. a and out have n elements.
  * Faults: 13 TooLong; 18 Overflow at the first place whose sum does not fit 32 bits.
+ * In place: no.
  * a = 3 1 4: out = 0 3 4
  */
 static inline CvlStatus tot_suz(const int32_t *a, int32_t *out, size_t n) {
@@ -930,6 +1642,7 @@ static inline CvlStatus tot_suz(const int32_t *a, int32_t *out, size_t n) {
 /*
  * tot_ruz: The sum of the n integers.
  * Faults: 13 TooLong; 18 Overflow at 0 where it does not fit 32 bits.
+ * In place: no.
  * a = 3 1 4: *out = 8
  */
 static inline CvlStatus tot_ruz(const int32_t *a, size_t n, int32_t *out) {
@@ -941,6 +1654,7 @@ static inline CvlStatus tot_ruz(const int32_t *a, size_t n, int32_t *out) {
 /*
  * cnt_lub: The number of true flags, of n.
  * Faults: 13 TooLong.
+ * In place: no.
  * flags = false true true false true: *out = 3
  */
 static inline CvlStatus cnt_lub(const bool *flags, size_t n, int32_t *out) {
@@ -950,6 +1664,7 @@ static inline CvlStatus cnt_lub(const bool *flags, size_t n, int32_t *out) {
 /*
  * ext_vuz: The element of n at the index.
  * Faults: 10 IndexOutOfRange at 0 where the index is below 0, or n or more.
+ * In place: no.
  * vector = 4 5 6, index = 2: *out = 6
  */
 static inline CvlStatus ext_vuz(const int32_t *vector, size_t n, int32_t index, int32_t *out) {
@@ -959,6 +1674,7 @@ static inline CvlStatus ext_vuz(const int32_t *vector, size_t n, int32_t index, 
 /*
  * ext_vub: The element of n at the index.
  * Faults: 10 IndexOutOfRange at 0 where the index is below 0, or n or more.
+ * In place: no.
  * vector = true true false, index = 0: *out = true
  */
 static inline CvlStatus ext_vub(const bool *vector, size_t n, int32_t index, bool *out) {
@@ -968,6 +1684,7 @@ static inline CvlStatus ext_vub(const bool *vector, size_t n, int32_t index, boo
 /*
  * rep_vuz: The vector with the value at the index. vector and out have n elements.
  * Faults: 10 IndexOutOfRange at 0 where the index is below 0, or n or more.
+ * In place: no.
  * vector = 1 2 3, index = 1, value = 9: out = 1 9 3
  */
 static inline CvlStatus rep_vuz(const int32_t *vector, int32_t index, int32_t value, int32_t *out, size_t n) {
@@ -977,6 +1694,7 @@ static inline CvlStatus rep_vuz(const int32_t *vector, int32_t index, int32_t va
 /*
  * rep_vub: The vector with the value at the index. vector and out have n elements.
  * Faults: 10 IndexOutOfRange at 0 where the index is below 0, or n or more.
+ * In place: no.
  * vector = true true true, index = 2, value = false: out = true true false
  */
 static inline CvlStatus rep_vub(const bool *vector, int32_t index, bool value, bool *out, size_t n) {
@@ -986,6 +1704,7 @@ static inline CvlStatus rep_vub(const bool *vector, int32_t index, bool value, b
 /*
  * dis_vuz: count copies of the value; out has count elements.
  * Faults: 12 NegativeLength, without a place, where count is below 0; 13 TooLong where it is above 4194304.
+ * In place: no.
  * value = 7, count = 3: out = 7 7 7
  */
 static inline CvlStatus dis_vuz(int32_t value, int32_t count, int32_t *out) {
@@ -995,6 +1714,7 @@ static inline CvlStatus dis_vuz(int32_t value, int32_t count, int32_t *out) {
 /*
  * dis_vub: count copies of the value; out has count elements.
  * Faults: 12 NegativeLength, without a place, where count is below 0; 13 TooLong where it is above 4194304.
+ * In place: no.
  * value = true, count = 2: out = true true
  */
 static inline CvlStatus dis_vub(bool value, int32_t count, bool *out) {
@@ -1004,6 +1724,7 @@ static inline CvlStatus dis_vub(bool value, int32_t count, bool *out) {
 /*
  * ind_luz: The numbers init + k * stride, wrapped, for k from 0 to count - 1; out has count elements.
  * Faults: 12 NegativeLength, without a place, where count is below 0; 13 TooLong where it is above 4194304.
+ * In place: no.
  * init = 10, stride = -2, count = 3: out = 10 8 6
  */
 static inline CvlStatus ind_luz(int32_t init, int32_t stride, int32_t count, int32_t *out) {
@@ -1019,6 +1740,7 @@ static inline CvlStatus ind_luz(int32_t init, int32_t stride, int32_t count, int
  */
 /*
  * mke_fov: Whether the numbers are the lengths of segments, and how many elements these have in all.
+ * In place: no.
  * lengths = 2 0 3: *total = 5
  */
 static inline CvlStatus mke_fov(const int32_t *lengths, size_t segments, size_t *total) {
@@ -1028,6 +1750,7 @@ static inline CvlStatus mke_fov(const int32_t *lengths, size_t segments, size_t 
 /*
  * tot_sez: For each integer the sum of those before it in its segment. a and out have n elements.
  * Faults: 7 LengthMismatch where the lengths do not add up to n; 18 Overflow at the first place whose sum does not fit 32 bits.
+ * In place: no.
  * a = 3 1 4 1 5, lengths = 2 0 3: out = 0 3 0 4 5
  */
 static inline CvlStatus tot_sez(const int32_t *a, const int32_t *lengths, size_t segments, int32_t *out, size_t n) {
@@ -1037,6 +1760,7 @@ static inline CvlStatus tot_sez(const int32_t *a, const int32_t *lengths, size_t
 /*
  * tot_rez: The sum of each segment. a has n elements, out one for each segment.
  * Faults: 7 LengthMismatch where the lengths do not add up to n; 18 Overflow at the first segment whose sum does not fit 32 bits.
+ * In place: no.
  * a = 3 1 4 1 5, lengths = 2 0 3: out = 4 0 10
  */
 static inline CvlStatus tot_rez(const int32_t *a, size_t n, const int32_t *lengths, size_t segments, int32_t *out) {
@@ -1047,6 +1771,7 @@ static inline CvlStatus tot_rez(const int32_t *a, size_t n, const int32_t *lengt
  * ext_vez: The element of each segment at its index, which counts from the segment's start. The vector has n elements, index
  * and out one for each segment.
  * Faults: 7 LengthMismatch where the lengths do not add up to n; 10 IndexOutOfRange at the segment.
+ * In place: no.
  * vector = 1 2 3 4 5, index = 1 2, lengths = 2 3: out = 2 5
  */
 static inline CvlStatus ext_vez(
@@ -1058,6 +1783,7 @@ static inline CvlStatus ext_vez(
  * ext_veb: The element of each segment at its index, which counts from the segment's start. The vector has n elements, index
  * and out one for each segment.
  * Faults: 7 LengthMismatch where the lengths do not add up to n; 10 IndexOutOfRange at the segment.
+ * In place: no.
  * vector = true true false, index = 0 1, lengths = 1 2: out = true false
  */
 static inline CvlStatus ext_veb(
@@ -1069,6 +1795,7 @@ static inline CvlStatus ext_veb(
  * rep_vez: The vector with the value of each segment at its index, which counts from the segment's start. vector and out have
  * n elements, index and values one for each segment.
  * Faults: 7 LengthMismatch where the lengths do not add up to n; 10 IndexOutOfRange at the segment.
+ * In place: no.
  * vector = 1 2 3 4 5, index = 0 1, values = 8 9, lengths = 2 3: out = 8 2 3 9 5
  */
 static inline CvlStatus rep_vez(
@@ -1080,6 +1807,7 @@ static inline CvlStatus rep_vez(
  * rep_veb: The vector with the value of each segment at its index, which counts from the segment's start. vector and out have
  * n elements, index and values one for each segment.
  * Faults: 7 LengthMismatch where the lengths do not add up to n; 10 IndexOutOfRange at the segment.
+ * In place: no.
  * vector = true true false, index = 0 1, values = false true, lengths = 1 2: out = false true true
  */
 static inline CvlStatus rep_veb(
@@ -1090,6 +1818,7 @@ static inline CvlStatus rep_veb(
 /*
  * dis_vez: Copies of each value, as many as its segment has places. There is one value for each segment; out has n elements,
  * the total of the lengths, else 7 LengthMismatch.
+ * In place: no.
  * values = 7 8 9, lengths = 2 0 3: out = 7 7 9 9 9
  */
 static inline CvlStatus dis_vez(
@@ -1100,6 +1829,7 @@ static inline CvlStatus dis_vez(
 /*
  * dis_veb: Copies of each value, as many as its segment has places. There is one value for each segment; out has n elements,
  * the total of the lengths, else 7 LengthMismatch.
+ * In place: no.
  * values = true false, lengths = 1 2: out = true false false
  */
 static inline CvlStatus dis_veb(const bool *values, const int32_t *lengths, size_t segments, bool *out, size_t n) {
@@ -1109,6 +1839,7 @@ static inline CvlStatus dis_veb(const bool *values, const int32_t *lengths, size
 /*
  * ind_lez: The numbers of each segment from its init on, in steps of its stride, wrapped. There are one init and one stride for
  * each segment; out has n elements, the total of the lengths, else 7 LengthMismatch.
+ * In place: no.
  * inits = 0 5 10, strides = 1 1 -2, lengths = 2 0 3: out = 0 1 10 8 6
  */
 static inline CvlStatus ind_lez(
@@ -1122,6 +1853,7 @@ static inline CvlStatus ind_lez(
  * add_sez: For each integer those before it in its segment, summed, wrapped; 0 where a segment starts. a and out have n
  * elements.
  * Faults: 7 LengthMismatch where the lengths do not add up to n.
+ * In place: no.
  * a = 3 1 4 1 5, lengths = 2 0 3: out = 0 3 0 4 5
  */
 static inline CvlStatus add_sez(const int32_t *a, const int32_t *lengths, size_t segments, int32_t *out, size_t n) {
@@ -1132,6 +1864,7 @@ static inline CvlStatus add_sez(const int32_t *a, const int32_t *lengths, size_t
  * add_rez: The integers of each segment, summed, wrapped; 0 where it is empty. a has n elements, out one for each
  * segment.
  * Faults: 7 LengthMismatch where the lengths do not add up to n.
+ * In place: no.
  * a = 3 1 4 1 5, lengths = 2 0 3: out = 4 0 10
  */
 static inline CvlStatus add_rez(const int32_t *a, size_t n, const int32_t *lengths, size_t segments, int32_t *out) {
@@ -1142,6 +1875,7 @@ static inline CvlStatus add_rez(const int32_t *a, size_t n, const int32_t *lengt
  * mul_sez: For each integer those before it in its segment, multiplied, wrapped; 1 where a segment starts. a and out have n
  * elements.
  * Faults: 7 LengthMismatch where the lengths do not add up to n.
+ * In place: no.
  * a = 3 1 4 1 5, lengths = 2 0 3: out = 1 3 1 4 4
  */
 static inline CvlStatus mul_sez(const int32_t *a, const int32_t *lengths, size_t segments, int32_t *out, size_t n) {
@@ -1152,6 +1886,7 @@ static inline CvlStatus mul_sez(const int32_t *a, const int32_t *lengths, size_t
  * mul_rez: The integers of each segment, multiplied, wrapped; 1 where it is empty. a has n elements, out one for each
  * segment.
  * Faults: 7 LengthMismatch where the lengths do not add up to n.
+ * In place: no.
  * a = 3 1 4 1 5, lengths = 2 0 3: out = 3 1 20
  */
 static inline CvlStatus mul_rez(const int32_t *a, size_t n, const int32_t *lengths, size_t segments, int32_t *out) {
@@ -1162,6 +1897,7 @@ static inline CvlStatus mul_rez(const int32_t *a, size_t n, const int32_t *lengt
  * min_sez: For each integer those before it in its segment, the least of them; 2147483647 where a segment starts. a and out have n
  * elements.
  * Faults: 7 LengthMismatch where the lengths do not add up to n.
+ * In place: no.
  * a = 3 1 4 1 5, lengths = 2 0 3: out = 2147483647 3 2147483647 4 1
  */
 static inline CvlStatus min_sez(const int32_t *a, const int32_t *lengths, size_t segments, int32_t *out, size_t n) {
@@ -1172,6 +1908,7 @@ static inline CvlStatus min_sez(const int32_t *a, const int32_t *lengths, size_t
  * min_rez: The integers of each segment, the least of them; 2147483647 where it is empty. a has n elements, out one for each
  * segment.
  * Faults: 7 LengthMismatch where the lengths do not add up to n.
+ * In place: no.
  * a = 3 1 4 1 5, lengths = 2 0 3: out = 1 2147483647 1
  */
 static inline CvlStatus min_rez(const int32_t *a, size_t n, const int32_t *lengths, size_t segments, int32_t *out) {
@@ -1182,6 +1919,7 @@ static inline CvlStatus min_rez(const int32_t *a, size_t n, const int32_t *lengt
  * max_sez: For each integer those before it in its segment, the greatest of them; -2147483648 where a segment starts. a and out have n
  * elements.
  * Faults: 7 LengthMismatch where the lengths do not add up to n.
+ * In place: no.
  * a = 3 1 4 1 5, lengths = 2 0 3: out = -2147483648 3 -2147483648 4 4
  */
 static inline CvlStatus max_sez(const int32_t *a, const int32_t *lengths, size_t segments, int32_t *out, size_t n) {
@@ -1192,6 +1930,7 @@ static inline CvlStatus max_sez(const int32_t *a, const int32_t *lengths, size_t
  * max_rez: The integers of each segment, the greatest of them; -2147483648 where it is empty. a has n elements, out one for each
  * segment.
  * Faults: 7 LengthMismatch where the lengths do not add up to n.
+ * In place: no.
  * a = 3 1 4 1 5, lengths = 2 0 3: out = 3 -2147483648 5
  */
 static inline CvlStatus max_rez(const int32_t *a, size_t n, const int32_t *lengths, size_t segments, int32_t *out) {
@@ -1202,6 +1941,7 @@ static inline CvlStatus max_rez(const int32_t *a, size_t n, const int32_t *lengt
  * and_sez: For each integer those before it in its segment, and, bit by bit; -1 where a segment starts. a and out have n
  * elements.
  * Faults: 7 LengthMismatch where the lengths do not add up to n.
+ * In place: no.
  * a = 3 1 4 1 5, lengths = 2 0 3: out = -1 3 -1 4 0
  */
 static inline CvlStatus and_sez(const int32_t *a, const int32_t *lengths, size_t segments, int32_t *out, size_t n) {
@@ -1212,6 +1952,7 @@ static inline CvlStatus and_sez(const int32_t *a, const int32_t *lengths, size_t
  * and_rez: The integers of each segment, and, bit by bit; -1 where it is empty. a has n elements, out one for each
  * segment.
  * Faults: 7 LengthMismatch where the lengths do not add up to n.
+ * In place: no.
  * a = 3 1 4 1 5, lengths = 2 0 3: out = 1 -1 0
  */
 static inline CvlStatus and_rez(const int32_t *a, size_t n, const int32_t *lengths, size_t segments, int32_t *out) {
@@ -1222,6 +1963,7 @@ static inline CvlStatus and_rez(const int32_t *a, size_t n, const int32_t *lengt
  * ior_sez: For each integer those before it in its segment, or, bit by bit; 0 where a segment starts. a and out have n
  * elements.
  * Faults: 7 LengthMismatch where the lengths do not add up to n.
+ * In place: no.
  * a = 3 1 4 1 5, lengths = 2 0 3: out = 0 3 0 4 5
  */
 static inline CvlStatus ior_sez(const int32_t *a, const int32_t *lengths, size_t segments, int32_t *out, size_t n) {
@@ -1232,6 +1974,7 @@ static inline CvlStatus ior_sez(const int32_t *a, const int32_t *lengths, size_t
  * ior_rez: The integers of each segment, or, bit by bit; 0 where it is empty. a has n elements, out one for each
  * segment.
  * Faults: 7 LengthMismatch where the lengths do not add up to n.
+ * In place: no.
  * a = 3 1 4 1 5, lengths = 2 0 3: out = 3 0 5
  */
 static inline CvlStatus ior_rez(const int32_t *a, size_t n, const int32_t *lengths, size_t segments, int32_t *out) {
@@ -1242,6 +1985,7 @@ static inline CvlStatus ior_rez(const int32_t *a, size_t n, const int32_t *lengt
  * xor_sez: For each integer those before it in its segment, exclusive or, bit by bit; 0 where a segment starts. a and out have n
  * elements.
  * Faults: 7 LengthMismatch where the lengths do not add up to n.
+ * In place: no.
  * a = 3 1 4 1 5, lengths = 2 0 3: out = 0 3 0 4 5
  */
 static inline CvlStatus xor_sez(const int32_t *a, const int32_t *lengths, size_t segments, int32_t *out, size_t n) {
@@ -1252,6 +1996,7 @@ static inline CvlStatus xor_sez(const int32_t *a, const int32_t *lengths, size_t
  * xor_rez: The integers of each segment, exclusive or, bit by bit; 0 where it is empty. a has n elements, out one for each
  * segment.
  * Faults: 7 LengthMismatch where the lengths do not add up to n.
+ * In place: no.
  * a = 3 1 4 1 5, lengths = 2 0 3: out = 2 0 0
  */
 static inline CvlStatus xor_rez(const int32_t *a, size_t n, const int32_t *lengths, size_t segments, int32_t *out) {
@@ -1262,6 +2007,7 @@ static inline CvlStatus xor_rez(const int32_t *a, size_t n, const int32_t *lengt
  * and_seb: For each boolean, of those before it in its segment, whether all are true; true where a segment starts. a and out
  * have n elements.
  * Faults: 7 LengthMismatch where the lengths do not add up to n.
+ * In place: no.
  * a = true false true false true, lengths = 2 0 3: out = true true true true false
  */
 static inline CvlStatus and_seb(const bool *a, const int32_t *lengths, size_t segments, bool *out, size_t n) {
@@ -1272,6 +2018,7 @@ static inline CvlStatus and_seb(const bool *a, const int32_t *lengths, size_t se
  * and_reb: Of the booleans of each segment, whether all are true; true where it is empty. a has n elements, out one for each
  * segment.
  * Faults: 7 LengthMismatch where the lengths do not add up to n.
+ * In place: no.
  * a = true false true false true, lengths = 2 0 3: out = false true false
  */
 static inline CvlStatus and_reb(const bool *a, size_t n, const int32_t *lengths, size_t segments, bool *out) {
@@ -1282,6 +2029,7 @@ static inline CvlStatus and_reb(const bool *a, size_t n, const int32_t *lengths,
  * ior_seb: For each boolean, of those before it in its segment, whether any is true; false where a segment starts. a and out
  * have n elements.
  * Faults: 7 LengthMismatch where the lengths do not add up to n.
+ * In place: no.
  * a = true false true false true, lengths = 2 0 3: out = false true false true true
  */
 static inline CvlStatus ior_seb(const bool *a, const int32_t *lengths, size_t segments, bool *out, size_t n) {
@@ -1292,6 +2040,7 @@ static inline CvlStatus ior_seb(const bool *a, const int32_t *lengths, size_t se
  * ior_reb: Of the booleans of each segment, whether any is true; false where it is empty. a has n elements, out one for each
  * segment.
  * Faults: 7 LengthMismatch where the lengths do not add up to n.
+ * In place: no.
  * a = true false true false true, lengths = 2 0 3: out = true false true
  */
 static inline CvlStatus ior_reb(const bool *a, size_t n, const int32_t *lengths, size_t segments, bool *out) {
@@ -1302,6 +2051,7 @@ static inline CvlStatus ior_reb(const bool *a, size_t n, const int32_t *lengths,
  * xor_seb: For each boolean, of those before it in its segment, whether an odd number is true; false where a segment starts. a and out
  * have n elements.
  * Faults: 7 LengthMismatch where the lengths do not add up to n.
+ * In place: no.
  * a = true false true false true, lengths = 2 0 3: out = false true false true true
  */
 static inline CvlStatus xor_seb(const bool *a, const int32_t *lengths, size_t segments, bool *out, size_t n) {
@@ -1312,6 +2062,7 @@ static inline CvlStatus xor_seb(const bool *a, const int32_t *lengths, size_t se
  * xor_reb: Of the booleans of each segment, whether an odd number is true; false where it is empty. a has n elements, out one for each
  * segment.
  * Faults: 7 LengthMismatch where the lengths do not add up to n.
+ * In place: no.
  * a = true false true false true, lengths = 2 0 3: out = true false false
  */
 static inline CvlStatus xor_reb(const bool *a, size_t n, const int32_t *lengths, size_t segments, bool *out) {
@@ -1324,6 +2075,7 @@ static inline CvlStatus xor_reb(const bool *a, size_t n, const int32_t *lengths,
  * pck_luz: The values whose flag is true, in their order. values and flags have n elements, out has room for so many; room for n
  * is always enough. *count is how many they are, also where there is not room for them.
  * Faults: 13 TooLong; 7 LengthMismatch where there is not room.
+ * In place: no.
  * values = 1 2 3 4 5, flags = false true true false true: out = 2 3 5, *count = 3
  */
 static inline CvlStatus pck_luz(
@@ -1335,6 +2087,7 @@ static inline CvlStatus pck_luz(
  * pck_lub: The values whose flag is true, in their order. values and flags have n elements, out has room for so many; room for n
  * is always enough. *count is how many they are, also where there is not room for them.
  * Faults: 13 TooLong; 7 LengthMismatch where there is not room.
+ * In place: no.
  * values = true false true, flags = false true true: out = false true, *count = 2
  */
 static inline CvlStatus pck_lub(const bool *values, const bool *flags, size_t n, bool *out, size_t room, size_t *count) {
@@ -1346,6 +2099,7 @@ static inline CvlStatus pck_lub(const bool *values, const bool *flags, size_t n,
  * of these segments. values and flags have n elements, out has room for so many; room for n is always enough. *count is how many
  * they are, also where there is not room for them.
  * Faults: 7 LengthMismatch where the lengths do not add up to n, with *count as it was, and where there is not room.
+ * In place: no.
  * values = 1 2 3 4 5, flags = false true true false true, lengths = 2 0 3: out = 2 3 5, *count = 3
  */
 static inline CvlStatus pck_lez(
@@ -1359,6 +2113,7 @@ static inline CvlStatus pck_lez(
  * of these segments. values and flags have n elements, out has room for so many; room for n is always enough. *count is how many
  * they are, also where there is not room for them.
  * Faults: 7 LengthMismatch where the lengths do not add up to n, with *count as it was, and where there is not room.
+ * In place: no.
  * values = true false true, flags = false true true, lengths = 1 2: out = false true, *count = 2
  */
 static inline CvlStatus pck_leb(
@@ -1371,6 +2126,7 @@ static inline CvlStatus pck_leb(
  * pck_fov: The lengths of the segments of what a pack keeps, or a select permute, 0 for a segment of which nothing is kept. flags
  * has n elements, out one for each segment.
  * Faults: 7 LengthMismatch where the lengths do not add up to n.
+ * In place: no.
  * flags = false true true false true, lengths = 2 0 3: out = 1 0 2
  */
 static inline CvlStatus pck_fov(const bool *flags, size_t n, const int32_t *lengths, size_t segments, int32_t *out) {
@@ -1380,6 +2136,7 @@ static inline CvlStatus pck_fov(const bool *flags, size_t n, const int32_t *leng
 /*
  * cnt_leb: The number of true flags of each segment. flags has n elements, out one for each segment.
  * Faults: 7 LengthMismatch where the lengths do not add up to n.
+ * In place: no.
  * flags = false false true false true, lengths = 2 0 3: out = 0 0 2
  */
 static inline CvlStatus cnt_leb(const bool *flags, size_t n, const int32_t *lengths, size_t segments, int32_t *out) {
@@ -1396,6 +2153,7 @@ static inline CvlStatus cnt_leb(const bool *flags, size_t n, const int32_t *leng
  * smp_puz: Each element of the source at its index. source, index and out have n elements.
  * Faults: 13 TooLong; at the first bad index 10 IndexOutOfRange where it is below 0, or n or more, else 11 IndexRepeated
  * where an earlier one is the same.
+ * In place: no.
  * source = 10 20 30, index = 2 0 1: out = 20 30 10
  */
 static inline CvlStatus smp_puz(const int32_t *source, const int32_t *index, int32_t *out, size_t n) {
@@ -1406,6 +2164,7 @@ static inline CvlStatus smp_puz(const int32_t *source, const int32_t *index, int
  * smp_pub: Each element of the source at its index. source, index and out have n elements.
  * Faults: 13 TooLong; at the first bad index 10 IndexOutOfRange where it is below 0, or n or more, else 11 IndexRepeated
  * where an earlier one is the same.
+ * In place: no.
  * source = true false false, index = 2 0 1: out = false false true
  */
 static inline CvlStatus smp_pub(const bool *source, const int32_t *index, bool *out, size_t n) {
@@ -1417,6 +2176,7 @@ static inline CvlStatus smp_pub(const bool *source, const int32_t *index, bool *
  * the number of true flags, else 7 LengthMismatch. An index whose flag is false is not looked at.
  * Faults: 13 TooLong; at the first bad index 10 IndexOutOfRange where it is below 0, or the number of true flags or more,
  * else 11 IndexRepeated where an earlier one is the same.
+ * In place: no.
  * source = 1 2 3 4, index = 1 9 0 9, flags = true false true false: out = 3 1
  */
 static inline CvlStatus sel_puz(
@@ -1429,6 +2189,7 @@ static inline CvlStatus sel_puz(
  * the number of true flags, else 7 LengthMismatch. An index whose flag is false is not looked at.
  * Faults: 13 TooLong; at the first bad index 10 IndexOutOfRange where it is below 0, or the number of true flags or more,
  * else 11 IndexRepeated where an earlier one is the same.
+ * In place: no.
  * source = true true false true, index = 1 9 0 9, flags = true false true false: out = false true
  */
 static inline CvlStatus sel_pub(
@@ -1441,6 +2202,7 @@ static inline CvlStatus sel_pub(
  * elements, defaults and out m, which may be any number.
  * Faults: 13 TooLong; at the first bad index 10 IndexOutOfRange where it is below 0, or m or more, else 11 IndexRepeated
  * where an earlier one is the same.
+ * In place: no.
  * source = 7 8, index = 3 1, defaults = 0 0 0 0 0: out = 0 8 0 7 0
  */
 static inline CvlStatus def_puz(
@@ -1453,6 +2215,7 @@ static inline CvlStatus def_puz(
  * elements, defaults and out m, which may be any number.
  * Faults: 13 TooLong; at the first bad index 10 IndexOutOfRange where it is below 0, or m or more, else 11 IndexRepeated
  * where an earlier one is the same.
+ * In place: no.
  * source = true false, index = 3 1, defaults = false true true false: out = false false true true
  */
 static inline CvlStatus def_pub(
@@ -1464,6 +2227,7 @@ static inline CvlStatus def_pub(
  * bck_puz: At each place the element of the source at the place's index, which may repeat. The source has n elements, which
  * may be any number; index and out have m.
  * Faults: 13 TooLong; 10 IndexOutOfRange at the first index below 0, or n or more.
+ * In place: no.
  * source = 10 20 30, index = 2 2 0 0: out = 30 30 10 10
  */
 static inline CvlStatus bck_puz(const int32_t *source, size_t n, const int32_t *index, int32_t *out, size_t m) {
@@ -1474,6 +2238,7 @@ static inline CvlStatus bck_puz(const int32_t *source, size_t n, const int32_t *
  * bck_pub: At each place the element of the source at the place's index, which may repeat. The source has n elements, which
  * may be any number; index and out have m.
  * Faults: 13 TooLong; 10 IndexOutOfRange at the first index below 0, or n or more.
+ * In place: no.
  * source = true false false, index = 2 2 0 0: out = false false true true
  */
 static inline CvlStatus bck_pub(const bool *source, size_t n, const int32_t *index, bool *out, size_t m) {
@@ -1491,6 +2256,7 @@ static inline CvlStatus bck_pub(const bool *source, size_t n, const int32_t *ind
  * elements.
  * Faults: 13 TooLong; 7 LengthMismatch where the lengths do not add up to n; at the first bad index 10 IndexOutOfRange where
  * it is no place of its segment, else 11 IndexRepeated where an earlier one of its segment is the same.
+ * In place: no.
  * source = 1 2 3 4 5, index = 1 0 2 0 1, lengths = 2 0 3: out = 2 1 4 5 3
  */
 static inline CvlStatus smp_pez(
@@ -1503,6 +2269,7 @@ static inline CvlStatus smp_pez(
  * elements.
  * Faults: 13 TooLong; 7 LengthMismatch where the lengths do not add up to n; at the first bad index 10 IndexOutOfRange where
  * it is no place of its segment, else 11 IndexRepeated where an earlier one of its segment is the same.
+ * In place: no.
  * source = true false false false true, index = 1 0 2 0 1, lengths = 2 0 3: out = false true false true false
  */
 static inline CvlStatus smp_peb(
@@ -1516,6 +2283,7 @@ static inline CvlStatus smp_peb(
  * LengthMismatch. An index whose flag is false is not looked at.
  * Faults: 13 TooLong; 7 LengthMismatch where the lengths do not add up to n; at the first bad index 10 IndexOutOfRange where
  * it is no place of its segment of the result, else 11 IndexRepeated where an earlier one of its segment is the same.
+ * In place: no.
  * source = 1 2 3 4 5, index = 9 0 1 9 0, flags = false true true false true, lengths = 2 0 3: out = 2 5 3
  */
 static inline CvlStatus sel_pez(
@@ -1530,6 +2298,7 @@ static inline CvlStatus sel_pez(
  * LengthMismatch. An index whose flag is false is not looked at.
  * Faults: 13 TooLong; 7 LengthMismatch where the lengths do not add up to n; at the first bad index 10 IndexOutOfRange where
  * it is no place of its segment of the result, else 11 IndexRepeated where an earlier one of its segment is the same.
+ * In place: no.
  * source = true false true true false, index = 9 0 1 9 0, flags = false true true false true, lengths = 2 0 3:
  * out = false false true
  */
@@ -1546,6 +2315,7 @@ static inline CvlStatus sel_peb(
  * Faults: 13 TooLong; 7 LengthMismatch where the lengths do not add up to n or the default lengths to m; at the first bad
  * index 10 IndexOutOfRange where it is no place of its segment of the defaults, else 11 IndexRepeated where an earlier one
  * of its segment is the same.
+ * In place: no.
  * source = 1 2 3 4 5, index = 2 0 0 1 2, defaults = 0 0 0 9 0 0 0, lengths = 2 0 3, default_lengths = 3 1 3:
  * out = 2 0 1 9 3 4 5
  */
@@ -1562,6 +2332,7 @@ static inline CvlStatus def_pez(
  * Faults: 13 TooLong; 7 LengthMismatch where the lengths do not add up to n or the default lengths to m; at the first bad
  * index 10 IndexOutOfRange where it is no place of its segment of the defaults, else 11 IndexRepeated where an earlier one
  * of its segment is the same.
+ * In place: no.
  * source = true false, index = 1 0, defaults = false false true true, lengths = 1 1, default_lengths = 2 2:
  * out = false true false true
  */
@@ -1576,6 +2347,7 @@ static inline CvlStatus def_peb(
  * has n elements in segments with the lengths; index and out have m, in as many segments with the index lengths.
  * Faults: 13 TooLong; 7 LengthMismatch where the lengths do not add up to n or the index lengths to m; 10 IndexOutOfRange at
  * the first index that is no place of its segment of the source.
+ * In place: no.
  * source = 1 2 3 4 5, index = 1 1 1 2, lengths = 2 0 3, index_lengths = 3 0 1: out = 2 2 2 5
  */
 static inline CvlStatus bck_pez(
@@ -1589,6 +2361,7 @@ static inline CvlStatus bck_pez(
  * has n elements in segments with the lengths; index and out have m, in as many segments with the index lengths.
  * Faults: 13 TooLong; 7 LengthMismatch where the lengths do not add up to n or the index lengths to m; 10 IndexOutOfRange at
  * the first index that is no place of its segment of the source.
+ * In place: no.
  * source = true false false false true, index = 1 1 1 2, lengths = 2 0 3, index_lengths = 3 0 1:
  * out = false false false true
  */
