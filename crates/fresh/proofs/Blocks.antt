@@ -1,9 +1,8 @@
 -- The block of a vector is a row of places and the right to free it, and back. Assumes `Logic`.
-use mathlib.Core.Path.{◌≡◌, refl, sym, ap}
+use mathlib.Core.Path.{◌≡◌, ap}
 use mathlib.Core.Bool.{Bool, true, false, not}
-use Prim.Native.Nat.{ℕ, ◌+◌, ◌-◌, ◌*◌}
+use Prim.Native.Nat.{ℕ, zero, suc, ◌+◌, ◌-◌, ◌*◌, ◌≤◌}
 use native.Mathlib.Omega.{arith}
-use native.Mathlib.Nat.{zero-mul}
 use mathlib.Core.List.{List, [], ◌∷◌, ◌++◌, map}
 use lib.Dec.{T}
 use lib.ListN.{length, replicate, length-map}
@@ -11,10 +10,10 @@ use seplogic.Ra.Ura.{Ura}
 use base.Fraction.{full_share}
 use mir.Syntax.{ty_array}
 use mir.Raw.{raw as bare}
-use base.Logic.{ent, sep}
+use base.Logic.{ent, sep, emp}
 use base.Fml.{Fml, ftrue, froom}
 use types.Logic.{Logic, sem}
-use types.Kit.{‵, ◌⊛◌, ◌$◌, ◌∵◌, !, qed, move, keep, drop, use0, use1, split, rewrite, fsplit3, fjoin, done}
+use types.Kit.{‵, ◌⊛◌, given, ◌$◌, ◌∵◌, !, qed, move, keep, use0, use1, use2, split, learn, fsplit3, fjoin, done}
 use denote.Memory.{part_at}
 use denote.Array.{Array}
 use denote.Index.{row}
@@ -26,9 +25,9 @@ use Rattle.std.specs.Prelude.{Some, None}
 use Rattle.std_alloc.specs.Vec.Ownership.{owns_if}
 use Rattle.std_alloc.proofs.RawLayout.{as_raw, as_written}
 use Rattle.std_alloc.proofs.VecSteps.El.{El, el_x, elτ, R, sz, Hd}
-use Rattle.std_alloc.proofs.VecSteps.Rows.{whole}
+use Rattle.std_alloc.proofs.VecSteps.Rows.{apart, whole}
 use Rattle.fresh.specs.Ownership.{slots}
-use Rattle.fresh.proofs.Memory.{cut, to_row, of_room, to_room}
+use Rattle.fresh.proofs.Memory.{cut, glue, of_row, to_row, of_room, to_room}
 
 abbrev pub el : El → one.El
 el E = record { row = E.row; laws = E.laws }
@@ -45,18 +44,23 @@ module _ (E : El) {M : Type 1} {𝓤 : Ura M} (𝓛 : Logic 𝓤) (b o : ℕ) (a
   abbrev pub Holds : ℕ → ℕ → List (el_x E) → Fml
   Holds n c xs = block_with_items (token E.al a) (R E) (block_ptr b o) n c xs
 
-  pub room_out : (y : Bool) (c : ℕ) → (T (not y) → c ≡ 0) → ent 𝓤 (sem 𝓛 (owns_if y (Holds 0 c []))) (sep 𝓤 (sem 𝓛 (slots (R E) b o (replicate c None))) (sem 𝓛 (owns_if y (Frees c))))
-  room_out false c dead = qed 𝓛 (‵ ftrue ∷ []) ∵
-      use0 𝓛 (‵ (slots (R E) b o (replicate 0 None))) (nothing_there) $
-      rewrite ! 0 (λ (j : ℕ). ‵ (slots (R E) b o (replicate j None))) (sym (dead tt)) refl $ done !
+  pub items_out : (y : Bool) (n c : ℕ) (xs : List (el_x E)) → (T (not y) → c ≡ 0) → n ≡ length xs → n ≤ c
+      → ent 𝓤 (sem 𝓛 (owns_if y (Holds n c xs))) (sep 𝓤 (sem 𝓛 (slots (R E) b o (map Some xs ++ replicate (c - n) None))) (sem 𝓛 (owns_if y (Frees c))))
+  items_out false n c xs dead long le = qed 𝓛 (‵ ftrue ∷ []) ∵
+      use0 𝓛 (‵ (slots (R E) b o (map Some xs ++ replicate (c - n) None))) (nothing_there xs (omega (arith, dead tt)) (c - n) (omega (arith, dead tt))) $ done !
     where
-      nothing_there : ent 𝓤 (sem 𝓛 ftrue) (sem 𝓛 (slots (R E) b o (replicate 0 None)))
-      nothing_there = qed 𝓛 (‵ ftrue ∷ []) ∵ done !
-  room_out true c dead =
-      let all : c - 0 ≡ c = omega arith in let start : o + 0 * s ≡ o = omega (arith, zero-mul s) in
-      qed 𝓛 (‵ (Holds 0 c []) ∷ []) ∵ fsplit3 ! $ drop ! $ as_written ! (ty_array (elτ E) (c - 0)) b (o + 0 * s) $
-      rewrite ! 0 (λ (j : ℕ). ‵ (froom (ty_array (elτ E) j) b (o + 0 * s))) all refl $ rewrite ! 0 (λ (j : ℕ). ‵ (froom (ty_array (elτ E) c) b j)) start refl $
-      use1 𝓛 (‵ (slots (R E) b o (replicate c None))) (of_room (el E) 𝓛 b c o) $ done !
+      nothing_there : (xs : List (el_x E)) → length xs ≡ 0 → (k : ℕ) → k ≡ 0 → ent 𝓤 (emp 𝓤) (sem 𝓛 (slots (R E) b o (map Some xs ++ replicate k None)))
+      nothing_there [] e zero none = qed 𝓛 [] ∵ done !
+      nothing_there [] e (suc k) none = absurd (omega arith)
+      nothing_there (x ∷ xs) e k none = absurd (omega arith)
+  items_out true n c xs dead long le =
+      let at : o + n * s ≡ length (map Some xs) * s + o = let same : n ≡ length (map Some xs) = omega (arith, length-map xs Some) in let more = ap (λ j. j * s) same in omega arith in
+      qed 𝓛 (‵ (Holds n c xs) ∷ []) ∵ fsplit3 ! $
+      use1 𝓛 (given (length xs ≡ n) (‵ (row (R E) full_share xs b o))) (apart E 𝓛 full_share n xs b o) $ learn ! (λ _.
+      use1 𝓛 (‵ (slots (R E) b o (map Some xs))) (of_row (el E) 𝓛 b xs o) $ move ! (1 ∷ []) $
+      as_written ! (ty_array (elτ E) (c - n)) b (o + n * s) $
+      use1 𝓛 (‵ (slots (R E) b (o + n * s) (replicate (c - n) None))) (of_room (el E) 𝓛 b (c - n) (o + n * s)) $ move ! (1 ∷ 0 ∷ []) $
+      use2 𝓛 (‵ (slots (R E) b o (map Some xs ++ replicate (c - n) None))) (glue (el E) 𝓛 b (map Some xs) (replicate (c - n) None) o (o + n * s) at) $ done !)
 
   pub items_in : (y : Bool) (n c : ℕ) (xs : List (el_x E)) → length xs ≡ n
       → ent 𝓤 (sep 𝓤 (sem 𝓛 (slots (R E) b o (map Some xs ++ replicate (c - n) None))) (sem 𝓛 (owns_if y (Frees c)))) (sem 𝓛 (owns_if y (Holds n c xs)))

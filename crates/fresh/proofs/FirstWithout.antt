@@ -1,5 +1,5 @@
 -- The first of some items that has no value, of lists one after another.
-use Rattle.std.proofs.Common.{◌≡◌, ℕ, zero, suc, ◌+◌, ◌-◌, ◌≤◌, List, [], ◌∷◌, ◌++◌, length, take, drop, refl, sym, ap, ◌∙◌, arith, Option, Some, None, drop-drop, take-add}
+use Rattle.std.proofs.Common.{◌≡◌, ℕ, zero, suc, ◌+◌, ◌-◌, ◌≤◌, List, [], ◌∷◌, ◌++◌, length, take, drop, refl, ap, ◌∙◌, arith, Option, Some, None, drop-drop, take-add}
 use Rattle.std.specs.Option.{option_or}
 use Rattle.fresh.specs.Found.{first_without}
 use Rattle.fresh.specs.Parts.{part}

@@ -1,4 +1,5 @@
 pub mod Blocks
+pub mod Copied
 pub mod Crosses
 pub mod FirstWithout
 pub mod Halves

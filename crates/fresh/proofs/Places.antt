@@ -1,9 +1,7 @@
 -- Lists of places that begin with items and end empty.
 --     made      what a run is made of
 --     take_filled, drop_filled, joined_filled, pushed      its places parted, joined, and one more written
-use Rattle.std.proofs.Common.{◌≡◌, ℕ, zero, suc, ◌+◌, ◌-◌, ◌<◌, ◌≤◌, ◌^◌, ◌⊎◌, inl, inr, List, [], ◌∷◌, ◌++◌, length, map, take, drop, replicate, slice_set, Option, Some, None, refl, sym, ap, ◌∙◌, arith, length-append}
-use Rattle.std.proofs.lemmas.List.{length-replicate}
-use lib.ListN.{length-map}
+use Rattle.std.proofs.Common.{◌≡◌, ℕ, zero, suc, ◌+◌, ◌-◌, ◌<◌, ◌≤◌, ◌^◌, ◌⊎◌, inl, inr, List, [], ◌∷◌, ◌++◌, length, map, take, drop, replicate, slice_set, Option, Some, None, refl, sym, ap, ◌∙◌, arith}
 use denote.RawPtr.{Ptr}
 use Rattle.fresh.specs.Places.{stretch, filled, somes, IsRun}
 use Rattle.fresh.specs.declared.cells.Cells.{Cells}

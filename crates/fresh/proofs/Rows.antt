@@ -1,16 +1,14 @@
 -- The two raw calls of a row of slots, and its places as those of a block. Assumes `Logic`.
 use mathlib.Core.Path.{◌≡◌, refl, sym, ap, subst, ◌∙◌}
-use mathlib.Core.Bool.{Bool, true, false}
-use Prim.Native.Nat.{ℕ, ◌+◌, ◌*◌, ◌<◌, ◌^◌}
-use native.Mathlib.Omega.{arith}
-use native.Mathlib.Nat.{zero-mul}
+use mathlib.Core.Bool.{Bool, true}
+use Prim.Native.Nat.{ℕ, ◌*◌, ◌<◌, ◌^◌}
 use mathlib.Core.List.{List, [], ◌∷◌, ◌++◌, map}
 use lib.Dec.{T}
 use lib.ListN.{length, replicate}
 use seplogic.Ra.Ura.{Ura}
 use mir.Syntax.{w64, ty_array}
 use mir.Val.{Val, vint, vptr, vstruct, of_list, has_ty, WT}
-use base.Logic.{SProp, ent, sep, ex, guard, emp, via, id⊢}
+use base.Logic.{SProp, ent, sep, ex, guard, emp, id⊢}
 use base.Fml.{Fml, Lft, Share, ftrue, fsep, flft, froom}
 use prog.Memory.{Memory}
 use prog.Routine.{Routine}
@@ -37,7 +35,7 @@ use Rattle.core.proofs.mem.Param.{El, el_x, elτ, R}
 use Rattle.core.proofs.slots.Places as Core
 use Rattle.core.proofs.slots.Opens.{Sr, words_val, row_val, row_had, row_made}
 use Rattle.fresh.specs.Ownership.{slots}
-use Rattle.fresh.proofs.Memory.{sz, of_room, to_row}
+use Rattle.fresh.proofs.Memory.{of_room, to_row}
 
 module _ (E : El) where
   abbrev pub Row : RattleType

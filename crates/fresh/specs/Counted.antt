@@ -1,6 +1,5 @@
 -- A list in parts, each of which is counted before it is written.
 use Rattle.std.specs.Prelude.{ℕ, ◌+◌, List, [], ◌∷◌, length, map, Option, None}
-use Rattle.std.specs.List.{flat_map}
 use Rattle.std.specs.Option.{option_or}
 
 module _ {P X : Type 0} (items : P → List X) where

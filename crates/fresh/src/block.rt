@@ -1,9 +1,10 @@
-//! The block of an empty vector, taken out of it as places and put back with its items.
+//! The block of a vector, taken out of it as places and put back with its items.
 ghost use Rattle.std.specs.Prelude.{◌≡◌, ℕ, ◌-◌, ◌^◌, ◌<◌, ◌≤◌, List, Some, None, ◌++◌, length, map, replicate};
 ghost use Rattle.std.specs.Vec.{vec_len, vec_capacity, vec_allocator};
 ghost use base.Fml.{ftrue};
 ghost use denote.RawPtr.{Ptr};
 ghost use Rattle.fresh.specs.Ownership.{deed_owns};
+ghost use Rattle.fresh.specs.Places.{filled};
 
 use crate::cells::{Base, Cells};
 use std::alloc::Allocator;
@@ -37,16 +38,18 @@ struct Parts<T, A: Allocator> {
     alloc: A,
 }
 
-/// Takes the block out of an empty vector, which is left without one.
+/// Takes the block out of a vector, which is left without one. Its places begin with the vector's items, and the others are empty.
 pub(crate) fn take_block<T, A: Allocator>(v: &mut Vec<T, A>) -> (Base<T>, Cells<T>, Deed<T, A>)
-    requires { vec_len v.old ≡ 0 }
-    ensures cells { (result.1.at ≡ result.0.ptr) × (result.1.from ≡ 0) × (result.1.slots ≡ replicate (vec_capacity v.old) None) }
+    ensures cells { (result.1.at ≡ result.0.ptr) × (result.1.from ≡ 0) × (result.1.slots ≡ filled v.old.items (vec_capacity v.old - vec_len v.old)) }
     ensures deed { (result.2.at ≡ result.0.ptr) × (result.2.len ≡ vec_capacity v.old) × (result.2.alloc ≡ vec_allocator v.old) }
     ensures left { (vec_capacity v.new ≡ 0) × (vec_allocator v.new ≡ vec_allocator v.old) }
 {
     let parts = v as *mut Vec<T, A> as *mut Parts<T, A>;
     let ptr = unsafe { (*parts).ptr };
-    unsafe { (*parts).cap = 0 };
+    unsafe {
+        (*parts).len = 0;
+        (*parts).cap = 0;
+    }
     let base = Base {
         ptr: ptr.cast_mut(),
     };

@@ -2,12 +2,12 @@
 
 ghost use Rattle.std.specs.Prelude.{◌≡◌, ℕ, ◌+◌, ◌<◌, ◌≤◌, List, [], Option, IfOk, length};
 ghost use Rattle.fresh.specs.Found.{first_without};
-ghost use Rattle.fresh.specs.Places.{stretch};
+ghost use Rattle.fresh.specs.Places.{stretch, with_items};
 ghost use Rattle.fresh.specs.Parts.{part};
 
 use crate::room::Room;
 use crate::run::Run;
-use crate::shares::{Share, write_in_parts};
+use crate::shares::{Share, extend_in_parts, write_in_parts};
 use sharing::ThreadCount;
 use std::alloc::{AllocError, Allocator};
 use std::thread::Threads;
@@ -170,6 +170,27 @@ pub fn write_in_runs<T: Send + Drop, R: Threads + Sync, A: Allocator, W: Writer<
     };
     let (written, _) = write_in_parts(rt, alloc, threads, places, items)?;
     Ok(written)
+}
+
+/// Writes the next places of a run behind the items that it has, each by the writer's item of its number, by at most `threads`
+/// threads.
+pub fn extend_in_runs<T: Send + Drop, R: Threads + Sync, W: Writer<T> + Sync>(
+    rt: &R,
+    threads: ThreadCount,
+    writer: &W,
+    run: Run<T>,
+    more: usize,
+) -> Run<T>
+    requires room { more ≤ run.room }
+    requires within { run.first + length run.items + more ≤ length (W.whole writer.now) }
+    ensures { result ≡ with_items run (part (W.whole writer.now) (run.first + length run.items) more) }
+{
+    let places = Places {
+        writer: &Unchecked { writer },
+        threads: more.min(threads.get()),
+    };
+    let (run, _) = extend_in_parts(rt, threads, places, run, more);
+    run
 }
 
 /// The writer's items as a vector, written by the thread that calls.

@@ -18,8 +18,10 @@ mod shares;
 pub use block::Deed;
 #[doc(hidden)]
 pub use cells::{Base, Cells};
-pub use copies::Copies;
-pub use forks::{CheckedWriter, Writer, write_alone, write_checked_in_runs, write_in_runs};
+pub use copies::{Copies, extend_by_copies};
+pub use forks::{
+    CheckedWriter, Writer, extend_in_runs, write_alone, write_checked_in_runs, write_in_runs,
+};
 pub use found::first_found;
 pub use over::{fill_slice, write_over};
 pub use parts::{CountedParts, Part, count_parts};

@@ -1,5 +1,5 @@
 //! The room of a vector to be, while runs of it are written elsewhere.
-ghost use Rattle.std.specs.Prelude.{◌≡◌, ℕ, ◌+◌, ◌<◌, ◌^◌, IfOk, IsOk, [], length};
+ghost use Rattle.std.specs.Prelude.{◌≡◌, ℕ, ◌+◌, ◌-◌, ◌<◌, ◌^◌, IfOk, IsOk, [], length};
 ghost use Rattle.std.specs.Vec.{vec_len, vec_capacity};
 ghost use Rattle.fresh.specs.Places.{stretch, IsAllOf};
 
@@ -41,17 +41,26 @@ impl<T, A: Allocator> Room<T, A> {
         ensures run { IfOk result (λ r. r.1 ≡ stretch r.0.block 0 [] places) }
         ensures succeeds { places ≡ 0 → IsOk result }
     {
-        let mut vec = Vec::with_capacity(alloc, places)?;
+        Ok(Room::of(Vec::with_capacity(alloc, places)?))
+    }
+
+    /// The room of a vector, and the run of all its places, which begins with the vector's items.
+    pub fn of(mut vec: Vec<T, A>) -> (Room<T, A>, Run<T>)
+        ensures room { result.0.places ≡ vec_capacity vec }
+        ensures fits { vec_capacity vec < 2 ^ 63 }
+        ensures run { result.1 ≡ stretch result.0.block 0 vec.items (vec_capacity vec - vec_len vec) }
+    {
+        let written = vec.len();
+        let places = vec.capacity();
         let (base, cells, deed) = take_block(&mut vec);
-        Ok((
-            Room {
-                base,
-                places,
-                deed,
-                vec,
-            },
-            Run::whole(base, places, cells),
-        ))
+        let run = Run::begun(base, places, written, cells);
+        let room = Room {
+            base,
+            places,
+            deed,
+            vec,
+        };
+        (room, run)
     }
 
     /// The vector of the items that are written in the run of all places.

@@ -1,7 +1,7 @@
 //! A run of places of a block, which one thread writes from front to back.
 ghost use Rattle.std.specs.Prelude.{◌≡◌, ℕ, ◌+◌, ◌-◌, ◌<◌, ◌≤◌, ◌⊎◌, List, [], ◌∷◌, ◌++◌, length, map, take, slice_index_or, None, replicate, ◌^◌};
 ghost use Rattle.std.specs.List.{AllZip};
-ghost use Rattle.fresh.specs.Places.{stretch, filled, Follows};
+ghost use Rattle.fresh.specs.Places.{stretch, filled, somes, Follows};
 
 use crate::cells::{Base, Cells};
 use std::marker::Model;
@@ -43,6 +43,21 @@ impl<T> Run<T> {
             first: 0,
             len,
             written: 0,
+            cells,
+        }
+    }
+
+    /// All the places of a block, of which the first ones are written.
+    pub(crate) fn begun(base: Base<T>, len: usize, written: usize, cells: Cells<T>) -> Run<T>
+        requires place { (cells.at ≡ base.ptr) × (cells.from ≡ 0) × (len < 2 ^ 63) }
+        requires laid { (items : List T) × (length items ≡ written) × (written ≤ len) × (cells.slots ≡ filled items (len - written)) }
+        ensures { result ≡ stretch base.ptr 0 (somes cells.slots) (len - written) }
+    {
+        Run {
+            base,
+            first: 0,
+            len,
+            written,
             cells,
         }
     }

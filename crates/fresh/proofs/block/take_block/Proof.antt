@@ -1,16 +1,16 @@
--- `take_block` parts an empty vector from its block. Assumes `Logic`.
-use mathlib.Core.Path.{◌≡◌, refl, sym, subst, ◌∙◌}
-use Prim.Native.Nat.{ℕ, ◌+◌, ◌*◌, ◌<◌, ◌^◌}
+-- `take_block` parts a vector from its block. Assumes `Logic`.
+use mathlib.Core.Path.{◌≡◌, refl, sym, subst}
+use Prim.Native.Nat.{ℕ, ◌+◌, ◌-◌, ◌*◌, ◌<◌, ◌≤◌, ◌^◌}
 use native.Mathlib.Omega.{arith}
 use native.Mathlib.Nat.{zero-mul}
-use mathlib.Core.List.{List, [], ◌∷◌, ◌++◌}
+use mathlib.Core.List.{List, [], ◌∷◌, ◌++◌, map}
 use lib.Dec.{lit<}
-use lib.ListN.{length, replicate, length-replicate}
+use lib.ListN.{length, replicate, length-append, length-map, length-replicate}
 use seplogic.Ra.Ura.{Ura}
 use mir.Syntax.{Fn}
 use mir.MapTy.{inst_fn}
 use mir.Val.{Val, vptr}
-use base.Logic.{SProp, ent, id⊢}
+use base.Logic.{SProp, ent, emp, id⊢}
 use base.Fml.{ftrue, flft}
 use prog.Memory.{Memory}
 use prog.Routine.{Routine}
@@ -22,37 +22,33 @@ use contract.Running.{tables, tables_of}
 use sound.WpLaws.{WpFn-mono}
 use types.Kit.{‵, raw, ◌⊛◌, at_ret, ◌$◌, ◌∵◌, !, qed, move, keep, drop, use0, use1, use3, split, split3, join, rewrite, fsplit, fsplit3, fjoin, fjoin3, feq_i, feq_l, flt_i, suffices, done}
 use types.Part.{whole, sub, agg, look_in, store_in}
-use types.Run.{stop, fld, load, addr, lit, of_opd, no_more, and_then, assigns_last, first, blocks, exec, returns, enter}
+use types.Run.{stop, fld, load, addr, lit, of_opd, no_more, and_then, assigns, assigns_last, first, blocks, exec, returns, enter}
 use types.ByLocal.{alloc_all, pass_all, free_all, look_at, get, through, sets, sets_last, env}
 use denote.RattleType.{RattleType, owns}
 use denote.RawPtr.{Ptr, block_ptr}
 use denote.Signature.{plain, types_at}
-use denote.Steps.{heard, nothing}
+use denote.Steps.{nothing}
 use denote.Triple.Clauses.{Clauses, Ended, closing}
 use denote.Triple.Spec.{Meets, triple_of}
 use denote.Triple.Table.{entered}
 use denote.Triple.Walked.{Stays, stay_ref, walk_of, ends_at, Goes-ref, walk_Meets}
-use Rattle.std.specs.Prelude.{None}
+use Rattle.std.specs.Prelude.{None, Some}
 use Rattle.core.proofs.mem.Facts.{says_three}
 use Rattle.std_alloc.specs.Vec.Ownership.{owns_if, has_block}
 use Rattle.std_alloc.proofs.RcSteps.{Good, word, word-Good}
 use Rattle.std_alloc.proofs.VecSteps.El.{El, args, el_x, el_d, Vr, R, P, sz}
-use Rattle.std_alloc.proofs.VecSteps.Opens.{Blk, not_live, vec_opens⁰, vec_closes⁰}
+use Rattle.std_alloc.proofs.VecSteps.Opens.{not_live, vec_opens⁰, vec_closes⁰}
 use Rattle.std_alloc.proofs.VecSteps.Shapes.{after}
 use denote.Param.{layout}
 use denote.Struct.Tuple.{Tuple}
 use Rattle.fresh.specs.Ownership.{slots}
-use Rattle.fresh.proofs.Blocks.{el, Frees, room_out}
-use Rattle.fresh.proofs.Memory.{Bs, Cr, Mark, mark, mark_made, word_made, three_val, three_of}
+use Rattle.fresh.proofs.Blocks.{el, Frees, items_out}
+use Rattle.fresh.proofs.Memory.{Bs, Cr, Mark, Place, mark, mark_made, word_made, three_val, three_of}
 use Rattle.fresh.specs.contracts.block.Deed as D-type
 use Rattle.fresh.specs.contracts.block.take_block as F
 use Rattle.fresh.specs.contracts.block.take_block.Key.{name as #self}
 use Rattle.fresh.proofs.block.take_block.Statement as stated
 use Rattle.fresh.proofs.block.take_block.Code as code
-
-no_item : {X : Type 0} (xs : List X) → length xs ≡ 0 → xs ≡ []
-no_item [] e = refl
-no_item (x ∷ xs) e = cc
 
 module _ (E : El) where
   abbrev here : Fn
@@ -87,13 +83,13 @@ module _ (E : El) where
         let Run : List Val → SProp 𝓤 = λ ws. WpFn 𝓤 H 𝓣.C 𝓣.Λ here ws Post in
         let h : el_d E = z.0.3.0.now in let a = h.alloc in let s = sz E in
         let c : ℕ = h.cap in
-        let None_yet : Type 0 = h.len ≡ 0 in
         qed 𝓛 (((‵ (flft κ q) ⊛ ‵ (flft κ₁ q₁) ⊛ ‵ (flft κ₂ q₂) ⊛ ‵ ftrue) ⊛ ‵ (owns (types_at ended.signature.params z.0.0) z.0.3 vss))
-        ∷ (raw (fact 𝓤 (κ₁ ⊑ E.row.lives)) ⊛ raw (fact 𝓤 (κ₂ ⊑ E.al.row.lives)) ⊛ raw (fact 𝓤 None_yet)) ∷ []) ∵
-        move ! (1 ∷ []) $ split3 ! $ drop ! $ drop ! $ heard ! None_yet (λ none.
+        ∷ (raw (fact 𝓤 (κ₁ ⊑ E.row.lives)) ⊛ raw (fact 𝓤 (κ₂ ⊑ E.al.row.lives)) ⊛ raw (emp 𝓤)) ∷ []) ∵
+        move ! (1 ∷ []) $ split3 ! $ drop ! $ drop ! $ drop ! $
         split ! $ split3 ! $ move ! (3 ∷ []) $ fsplit ! $ fsplit3 ! $ feq_l ! (λ e₀. keep ! (0 ∷ 1 ∷ 3 ∷ 4 ∷ 5 ∷ []) $
         let us : List Val = vptr rb ro ∷ [] in
-        let bare_of : h.items ≡ [] = no_item h.items (sym h.ok.0 ∙ none) in
+        let n : ℕ = h.len in let xs : List (el_x E) = h.items in
+        let ws : List (Place (el E)) = map Some xs in let zs : List (Place (el E)) = replicate (c - n) None in let places : List (Place (el E)) = ws ++ zs in
         let new : el_d E = record { ptr = h.ptr; len = 0; cap = 0; alloc = a; items = []; ok = (refl, omega arith); small = lit< tt } in
         suffices ! (Run us) (subst (λ (ws : List Val). ent 𝓤 (Run us) (Run ws)) (sym (λ i. e₀ i ++ [])) (id⊢ 𝓤 (Run us))) $
         enter ! 𝓣.C 𝓣.Λ here us Post $ alloc_all ! (λ l. pass_all ! refl ((tt, tt), tt) $
@@ -102,18 +98,20 @@ module _ (E : El) where
         vec_opens⁰ E ! tt h rb ro (λ b o hv at_b fl fc fit.
         let p : Ptr = block_ptr b o in
         let base : (Bs (el E)).Denot = record { ptr = p } in
-        let cells : (Cr (el E)).Denot = record { mark = record {}; at = p; from = 0; slots = replicate c None } in
+        let cells : (Cr (el E)).Denot = record { mark = record {}; at = p; from = 0; slots = places } in
         let deed : Dd.Denot = record { mark = record {}; at = p; len = c; alloc = a; small = h.small } in
         let made : Val = three_val (word p) mark mark in
         let typed : Good (layout (Tuple (Bs (el E) ∷ Cr (el E) ∷ Dd ∷ []))) made = (tt, ((tt, tt), ((tt, tt), ((tt, tt), tt)))) in
         let start : o ≡ 0 * s + o = omega (arith, zero-mul s) in
-        let lasting : length cells.slots ≡ c = length-replicate c None in let count : c ≡ 0 + length cells.slots = omega arith in
-        rewrite ! 0 (λ (t : ℕ × List (el_x E)). ‵ (Blk E a b o t.0 c t.1)) (λ i. (none i, bare_of i)) refl $
-        use1 𝓛 (‵ (slots (R E) b o (replicate c None)) ⊛ ‵ (owns_if (has_block c) (Frees E 𝓛 b o a c))) (room_out E 𝓛 b o a (has_block c) c (not_live c)) $ split ! $
+        let sum = length-append ws zs in let fore : length ws ≡ length xs = length-map xs Some in let rest : length zs ≡ c - n = length-replicate (c - n) None in
+        let long : n ≡ length xs = h.ok.0 in let le : n ≤ c = h.ok.1 in let count : c ≡ 0 + length cells.slots = omega arith in
+        use1 𝓛 (‵ (slots (R E) b o places) ⊛ ‵ (owns_if (has_block c) (Frees E 𝓛 b o a c))) (items_out E 𝓛 b o a (has_block c) n c xs (not_live c) long le) $ split ! $
         -- [the places; the right to free them; the words; the open borrow; obs; auth; the tokens]
         first ! $ blocks ! $ sets_last ! (of_opd ! (load ! (through ! refl (fld ! refl (stop !))) (look_in ! 2 (sub ! 0 refl (whole !))))) refl (tt, tt) $
         exec ! 𝓣.C 𝓣.Λ En (after 3 here.body) (at_ret En Post) $ sets ! (of_opd ! (get ! refl)) refl (tt, tt) $
-        first ! $ blocks ! $ assigns_last ! (of_opd ! (lit ! tt)) (through ! refl (fld ! refl (stop !))) (store_in ! 2 (sub ! 2 refl (whole !)) (tt, record { fits = lit< tt })) $
+        first ! $ blocks ! $
+        assigns ! (of_opd ! (lit ! tt)) (through ! refl (fld ! refl (stop !))) (store_in ! 2 (sub ! 1 refl (whole !)) (tt, record { fits = lit< tt })) $
+        assigns_last ! (of_opd ! (lit ! tt)) (through ! refl (fld ! refl (stop !))) (store_in ! 2 (sub ! 2 refl (whole !)) (tt, record { fits = lit< tt })) $
         exec ! 𝓣.C 𝓣.Λ En (after 5 here.body) (at_ret En Post) $
         sets ! (agg ! (and_then ! (get ! refl) (no_more !))) refl (word-Good [] p) $
         sets ! (agg ! (no_more !)) refl (tt, tt) $ sets ! (agg ! (and_then ! (get ! refl) (no_more !))) refl (tt, (tt, tt)) $
@@ -125,11 +123,11 @@ module _ (E : El) where
         use0 𝓛 (‵ ((Mark (el E)).own_val (tt, tt) (mark ∷ []))) (mark_made (el E) 𝓛) $ fjoin ! $ move ! (1 ∷ 0 ∷ []) $ word_made ! p $
         use3 𝓛 (‵ ((Tuple (Bs (el E) ∷ Cr (el E) ∷ Dd ∷ [])).own_val (base, cells, deed) (made ∷ []))) (three_of 𝓛 (Bs (el E)) (Cr (el E)) Dd base cells deed (word p) mark mark) $
         nothing ! $ move ! (0 ∷ 2 ∷ 3 ∷ 4 ∷ 5 ∷ []) $
-        vec_closes⁰ E ! tt new b o h.len 0 [] rb ro (at_b, sym none, refl, refl) fl (lit< tt) (omega arith) $
+        vec_closes⁰ E ! tt new b o 0 0 [] rb ro (at_b, refl, refl, refl) (lit< tt) (lit< tt) (omega arith) $
         returns ! (look_at ! 0 refl) $ free_all ! refl $
         suffices ! _ (ends_at 𝓛 ended stayed held z made (base, cells, deed) (new, tt) (tt, tt)) $ says_three ! ((refl, refl, refl), (refl, refl, refl), (refl, refl)) $
         feq_i ! (List Val) vss.0 (vptr rb ro ∷ []) e₀ $ fjoin3 ! $ nothing ! $ move ! (1 ∷ 0 ∷ []) $ fjoin ! $
-        move ! (3 ∷ 4 ∷ []) $ join ! $ move ! (2 ∷ 0 ∷ []) $ join ! $ keep ! (0 ∷ 1 ∷ 2 ∷ []) $ done !))))
+        move ! (3 ∷ 4 ∷ []) $ join ! $ move ! (2 ∷ 0 ∷ []) $ join ! $ keep ! (0 ∷ 1 ∷ 2 ∷ []) $ done !)))
 
     meets : Meets 𝓛 ended.signature (WpFn 𝓤 H 𝓣.C 𝓣.Λ here) (closing 𝓛 ended held)
     meets = walk_Meets 𝓛 ended stayed (Goes-ref 𝓛 3 0 tt (plain (λ _. Vr E)), tt) held (WpFn 𝓤 H 𝓣.C 𝓣.Λ here) (WpFn-mono 𝓤 H 𝓛.laws 𝓣 here) walk

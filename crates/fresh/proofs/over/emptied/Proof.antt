@@ -6,17 +6,15 @@ use native.Mathlib.Omega.{arith}
 use native.Mathlib.Nat.{zero-mul}
 use mathlib.Core.List.{List, [], ◌∷◌, ◌++◌}
 use lib.ListN.{length, replicate, length-replicate}
-use seplogic.Ra.Ura.{Ura}
 use mir.Syntax.{Fn}
 use mir.MapTy.{inst_fn}
 use mir.Val.{Val, WT}
 use base.Logic.{SProp, ent, emp, id⊢}
 use base.Fml.{Lft, Share, ftrue, flft}
 use prog.Wp.{WpFn}
-use types.Logic.{Logic}
 use contract.BorrowLft.{◌⊑◌}
 use contract.Monad.{fact}
-use contract.Running.{MachineTables, tables, tables_of}
+use contract.Running.{tables, tables_of}
 use sound.WpLaws.{FmC, WpFn-mono}
 use types.Kit.{‵, raw, ◌⊛◌, given, later, at_ret, ◌$◌, ◌∵◌, !, qed, move, keep, drop, use0, use1, use2, split, join, rewrite, fsplit, fjoin, learn, await, flt_i, suffices, done}
 use types.Part.{agg, sub, whole}
@@ -24,25 +22,25 @@ use types.Run.{stop, fld, of_opd, and_then, no_more, first, blocks, exec, return
 use types.ByLocal.{alloc_all, pass_all, free_all, look_at, get, get_in, sets, lands_last, is, env}
 use denote.Exit.{no}
 use denote.Param.{layout}
-use denote.RattleType.{RattleType, owns}
+use denote.RattleType.{owns}
 use denote.RawPtr.{Ptr, block_ptr}
 use denote.Signature.{plain, types_at}
 use denote.Steps.{heard, nothing}
 use denote.Struct.Tuple.{Tuple}
 use denote.Triple.Call.{calls_at_last}
 use denote.Triple.Clauses.{Ended, closing}
-use denote.Triple.Spec.{Meets, triple_of}
+use denote.Triple.Spec.{triple_of}
 use denote.Triple.Table.{entered, framed}
 use denote.Triple.Walked.{Stays, stay_dropped, walk_of, ends_at, Goes-dropped, walk_Meets}
 use Rattle.std.specs.Prelude.{None}
-use Rattle.core.specs.Mem.Slots.{slots_items, slots_filled, slots_ptr, slots_len, slots_counts}
+use Rattle.core.specs.Mem.Slots.{slots_items, slots_filled, slots_len, slots_counts}
 use Rattle.core.proofs.atomic.Steps.{tail}
 use Rattle.core.proofs.mem.Facts.{says_two}
 use Rattle.core.proofs.mem.Param.{El, R, args, el_x}
 use Rattle.core.proofs.slots.Opens.{row_val}
 use Rattle.core.proofs.slots.Slots.into_raw_parts.Met as callee
 use Rattle.std_alloc.proofs.RcSteps.{Good, word, word-Good}
-use Rattle.fresh.specs.Ownership.{slots, cells_own}
+use Rattle.fresh.specs.Ownership.{slots}
 use Rattle.fresh.proofs.Memory.{Bs, Cr, Mark, mark, mark_made, word_made, two_val, two_of}
 use Rattle.fresh.proofs.Rows.{Row, all, parts_typed, row_seen, Into, at_into, into_goes, into_gives, empties}
 use Rattle.fresh.specs.contracts.over.emptied as F

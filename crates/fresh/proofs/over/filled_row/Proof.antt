@@ -6,26 +6,24 @@ use native.Mathlib.Omega.{arith}
 use native.Mathlib.Nat.{zero-mul}
 use mathlib.Core.List.{List, [], ◌∷◌, ◌++◌, map}
 use lib.ListN.{length, replicate, length-map, length-replicate, get_or, get_or-replicate}
-use seplogic.Ra.Ura.{Ura}
 use mir.Syntax.{Fn, w64}
 use mir.MapTy.{inst_fn}
 use mir.Val.{Val, WT, vint}
-use base.Logic.{SProp, ent, emp, never, id⊢}
+use base.Logic.{SProp, ent, never, id⊢}
 use base.Fml.{Lft, Share, ftrue, flft}
 use prog.Wp.{WpFn}
-use types.Logic.{Logic}
 use contract.BorrowLft.{◌⊑◌}
 use contract.Monad.{fact}
 use contract.Running.{tables, tables_of}
 use sound.WpLaws.{FmC, WpFn-mono}
-use types.Kit.{‵, raw, ◌⊛◌, some, given, later, at_ret, ◌$◌, ◌∵◌, !, qed, move, keep, drop, use1, use2, split, split3, join, pick, rewrite, fsplit, fjoin, feq_l, flt_l, learn, await, suffices, done}
+use types.Kit.{‵, raw, ◌⊛◌, some, given, later, at_ret, ◌$◌, ◌∵◌, !, qed, move, keep, use1, use2, split, split3, join, pick, rewrite, fsplit, fjoin, feq_l, flt_l, learn, await, suffices, done}
 use types.Part.{sub, whole}
 use types.Run.{stop, fld, of_opd, and_then, no_more, first, blocks, exec, returns, enter}
 use types.ByLocal.{alloc_all, pass_all, free_all, look_at, get, get_in, sets, lands_last, is, env}
 use denote.Builtin.{usize}
 use denote.Exit.{yes, no}
 use denote.RattleType.{owns}
-use denote.RawPtr.{Ptr, ptr_val, block_ptr, in_a_block}
+use denote.RawPtr.{Ptr, block_ptr, in_a_block}
 use denote.Signature.{plain, types_at}
 use denote.Steps.{heard, nothing}
 use denote.Triple.Call.{calls_at_last}
@@ -34,7 +32,7 @@ use denote.Triple.Spec.{triple_of}
 use denote.Triple.Table.{entered, framed}
 use denote.Triple.Walked.{Stays, stay_dropped, walk_of, ends_at, Goes-dropped, walk_Meets}
 use Rattle.std.specs.Prelude.{Option, Some}
-use Rattle.core.specs.Mem.Slots.{slots_items, slots_ptr, slots_len, IsFull}
+use Rattle.core.specs.Mem.Slots.{IsFull}
 use Rattle.core.proofs.alloc.Calls.{Goes-blank}
 use Rattle.core.proofs.atomic.Steps.{tail}
 use Rattle.core.proofs.mem.Facts.{says_two}

@@ -1,4 +1,4 @@
-use Rattle.std.proofs.Common.{◌≡◌, [], sym, ap, ◌∙◌, subst}
+use Rattle.std.proofs.Common.{[], sym, ap, ◌∙◌, subst}
 use Rattle.core.specs.Mem.Slots.{slots_items}
 use Rattle.fresh.specs.Places.{somes, stretch}
 use Rattle.fresh.specs.contracts.over.write_row.F-FnOnce.{words}

@@ -1,11 +1,9 @@
-use Rattle.std.proofs.Common.{◌≡◌, ◌+◌, ◌-◌, ◌≤◌, ◌++◌, ◌∙◌, ℕ, length, replicate, take, sym, ap, arith}
-use Rattle.std.proofs.lemmas.List.{drop-replicate, length-replicate, take-replicate}
+use Rattle.std.proofs.Common.{◌≡◌, ◌+◌, ◌-◌, ◌≤◌, ◌++◌, ◌∙◌, replicate, sym, ap, arith}
+use Rattle.std.proofs.lemmas.List.{length-replicate}
 use Rattle.fresh.specs.Parts.{part}
 use Rattle.fresh.specs.Places.{stretch}
+use Rattle.fresh.proofs.Copied.{part_of_copies}
 use Rattle.fresh.proofs.copies.CopiesWriter.write.Goals as goal
-
-part_of_copies : {X : Type 0} (item : X) (count first room : ℕ) → first + room ≤ count → part (replicate count item) first room ≡ replicate room item
-part_of_copies item count first room within = ap (take room) (drop-replicate first count item) ∙ take-replicate room (count - first) item (omega arith)
 
 pub returns : goal.returns
 returns g c =
