@@ -1,14 +1,14 @@
 -- The two calls that count, `Calls::refuses` and `Calls::free`: what each is handed, and what its caller has of it. Assumes `Logic`.
-use Rattle.std.proofs.Common.{◌≡◌, ℕ, Bool, List, [], ◌∷◌, refl, ap}
+use Rattle.std.proofs.Common.{◌≡◌, ℕ, ◌^◌, ◌<◌, Bool, List, [], ◌∷◌, refl, ap, w64}
 use seplogic.Ra.Ura.{Ura}
-use mir.Val.{Val, vbool, vunit, vptr}
+use mir.Val.{Val, vbool, vint, vunit, vptr}
 use base.Logic.{SProp, ent, ex, sep, guard, id⊢}
 use base.Fml.{Lft, Share, ftrue, fsep, flft}
 use prog.Memory.{Memory}
 use prog.Routine.{Routine}
 use types.Logic.{Logic, sem}
 use contract.Monad.{Fun}
-use types.Kit.{‵, ◌⊛◌, some, later, show, ◌$◌, ◌∵◌, !, qed, move, keep, use1, split, join, pick, fjoin, feq_i, feq_l, check, await, updating, now as at_once, done}
+use types.Kit.{‵, ◌⊛◌, some, later, show, ◌$◌, ◌∵◌, !, qed, move, keep, use1, split, join, pick, fjoin, feq_i, feq_l, flt_i, check, await, updating, now as at_once, done}
 use denote.RattleType.{RattleType}
 use denote.Memory.{hidden_shr}
 use denote.Builtin.{bool, unit}
@@ -29,8 +29,8 @@ module _ {M : Type 1} {𝓤 : Ura M} (𝓛 : Logic 𝓤) (at_mem : Memory → SP
   abbrev pub Frees : Contract 𝓤
   Frees = triple_of 𝓛 FR.signature (FR.spec 𝓛 at_mem run)
 
-  abbrev pub at_refuses : Lft → Share → ℕ × ℕ → Counts.Denot → Refuses.Ghost
-  at_refuses κ q c x = (((κ, tt), (q, tt), tt, (record { ref_ptr = c; now = x }, tt), (vptr c.0 c.1 ∷ [], tt)), tt)
+  abbrev pub at_refuses : Lft → Share → ℕ × ℕ → Counts.Denot → ℕ → Refuses.Ghost
+  at_refuses κ q c x n = (((κ, tt), (q, tt), tt, (record { ref_ptr = c; now = x }, (n, tt)), (vptr c.0 c.1 ∷ [], (vint w64 n ∷ [], tt))), tt)
 
   abbrev pub at_frees : Lft → Share → ℕ × ℕ → Counts.Denot → Frees.Ghost
   at_frees κ q c x = (((κ, tt), (q, tt), tt, (record { ref_ptr = c; now = x }, tt), (vptr c.0 c.1 ∷ [], tt)), tt)
@@ -38,15 +38,18 @@ module _ {M : Type 1} {𝓤 : Ura M} (𝓛 : Logic 𝓤) (at_mem : Memory → SP
 module _ {M : Type 1} {𝓤 : Ura M} (𝓛 : Logic 𝓤) (at_mem : Memory → SProp 𝓤) (run : Routine → Fun 𝓤) (κ : Lft) (q : Share) (c : ℕ × ℕ) (x : Counts.Denot) where
   open 𝓛 use {H, A}
 
-  pub Refuses-goes : ent 𝓤 (sep 𝓤 (sem 𝓛 (hidden_shr Counts κ x c.0 c.1)) (A.lft κ q)) ((Refuses 𝓛 at_mem run).pre (at_refuses 𝓛 at_mem run κ q c x))
-  Refuses-goes =
-      qed 𝓛 (‵ (hidden_shr Counts κ x c.0 c.1) ∷ ‵ (flft κ q) ∷ []) ∵ feq_i ! (List Val) (vptr c.0 c.1 ∷ []) (vptr c.0 c.1 ∷ []) refl $ fjoin ! $
-      nothing ! $ move ! (1 ∷ []) $ fjoin ! $ nothing ! $ move ! (2 ∷ []) $ join ! $ join ! $ nothing ! $ move ! (1 ∷ []) $ done !
+  pub Refuses-goes : (n : ℕ) → n < 2 ^ 64 → ent 𝓤 (sep 𝓤 (sem 𝓛 (hidden_shr Counts κ x c.0 c.1)) (A.lft κ q)) ((Refuses 𝓛 at_mem run).pre (at_refuses 𝓛 at_mem run κ q c x n))
+  Refuses-goes n fn =
+      qed 𝓛 (‵ (hidden_shr Counts κ x c.0 c.1) ∷ ‵ (flft κ q) ∷ []) ∵
+      nothing ! $ flt_i ! n (2 ^ 64) fn $ feq_i ! (List Val) (vint w64 n ∷ []) (vint w64 n ∷ []) refl $ fjoin ! $ fjoin ! $
+      move ! (1 ∷ []) $ feq_i ! (List Val) (vptr c.0 c.1 ∷ []) (vptr c.0 c.1 ∷ []) refl $ fjoin ! $ fjoin ! $
+      nothing ! $ move ! (2 ∷ []) $ join ! $ join ! $ nothing ! $ move ! (1 ∷ []) $ done !
 
-  pub Refuses-gives : (v : Val) → ent 𝓤 ((Refuses 𝓛 at_mem run).post (at_refuses 𝓛 at_mem run κ q c x) v) (H.⇛ (ex 𝓤 (λ (r : Bool). guard 𝓤 (v ≡ vbool r) (A.lft κ q))))
-  Refuses-gives v =
-      qed 𝓛 (types.Kit.raw ((Refuses 𝓛 at_mem run).post (at_refuses 𝓛 at_mem run κ q c x) v) ∷ []) ∵ updating ! $
-      use1 𝓛 (later (some (λ (r : Bool). ((‵ (flft κ q) ⊛ ‵ ftrue) ⊛ ‵ (bool.own_val r (v ∷ []))) ⊛ some (λ (ws : Unit {0} × Unit {0}). ‵ (fsep ftrue ftrue) ⊛ ‵ ftrue)))) (id⊢ 𝓤 _) $ await ! tt $ pick ! (λ r.
+  pub Refuses-gives : (n : ℕ) (v : Val) → ent 𝓤 ((Refuses 𝓛 at_mem run).post (at_refuses 𝓛 at_mem run κ q c x n) v) (H.⇛ (ex 𝓤 (λ (r : Bool). guard 𝓤 (v ≡ vbool r) (A.lft κ q))))
+  Refuses-gives n v =
+      qed 𝓛 (types.Kit.raw ((Refuses 𝓛 at_mem run).post (at_refuses 𝓛 at_mem run κ q c x n) v) ∷ []) ∵ updating ! $
+      use1 𝓛 (later (some (λ (r : Bool). ((‵ (flft κ q) ⊛ ‵ ftrue) ⊛ ‵ (bool.own_val r (v ∷ [])))
+      ⊛ some (λ (ws : Unit {0} × (Unit {0} × Unit {0})). ‵ (fsep ftrue (fsep ftrue ftrue)) ⊛ ‵ ftrue)))) (id⊢ 𝓤 _) $ await ! tt $ pick ! (λ r.
       split ! $ split ! $ move ! (1 ∷ []) $ feq_l ! (λ e. split ! $ at_once ! $
       show ! (λ (r : Bool). guard 𝓤 (v ≡ vbool r) (A.lft κ q)) r $ check ! (ap only e) $ keep ! (0 ∷ []) $ done !))
 

@@ -4,11 +4,12 @@ ghost use Rattle.std.specs.Prelude.{◌≡◌};
 use crate::rule::Refusal;
 use std::sync::atomic::{AtomicU64, Ordering};
 
-/// The requests and frees so far, and the rule by which requests are refused.
+/// The requests, their bytes and the frees so far, and the rule by which requests are refused.
 #[derive(Drop)]
 pub struct Calls {
     refusal: Refusal,
     requests: AtomicU64,
+    bytes: AtomicU64,
     refused: AtomicU64,
     frees: AtomicU64,
 }
@@ -21,14 +22,16 @@ impl Calls {
         Calls {
             refusal,
             requests: AtomicU64::new(0),
+            bytes: AtomicU64::new(0),
             refused: AtomicU64::new(0),
             frees: AtomicU64::new(0),
         }
     }
 
-    /// Counts a request, and says whether it is refused.
-    pub fn refuses(&self) -> bool {
+    /// Counts a request for so many bytes, and says whether it is refused.
+    pub fn refuses(&self, bytes: usize) -> bool {
         let request = self.requests.fetch_add(1, Ordering::SeqCst);
+        self.bytes.fetch_add(bytes as u64, Ordering::SeqCst);
         let refused = self.refusal.refuses(request);
         if refused {
             self.refused.fetch_add(1, Ordering::SeqCst);
@@ -51,6 +54,11 @@ impl Calls {
     /// How many requests were made so far, refused ones among them.
     pub fn requests(&self) -> u64 {
         self.requests.load(Ordering::SeqCst)
+    }
+
+    /// How many bytes these requests asked for in all, modulo 2^64.
+    pub fn bytes(&self) -> u64 {
+        self.bytes.load(Ordering::SeqCst)
     }
 
     /// How many of the requests were refused.

@@ -24,7 +24,7 @@ use counting::Calls;
 pub use each::{Flaw, MOST_RUNS, refuse_each, withstands_refusals};
 pub use rule::Refusal;
 
-/// An allocator that passes each request on to `inner`, except for those that its rule refuses, and counts them all.
+/// An allocator that passes each request on to `inner`, except for those that its rule refuses, and counts them all, and their bytes.
 #[derive(Drop)]
 pub struct Refusing<B: Allocator> {
     inner: B,
@@ -77,6 +77,11 @@ impl<B: Allocator> Refusing<B> {
         self.calls.requests()
     }
 
+    /// How many bytes the requests so far asked for in all, granted or refused.
+    pub fn bytes(&self) -> u64 {
+        self.calls.bytes()
+    }
+
     /// How many requests were refused so far by the rule.
     pub fn refused(&self) -> u64 {
         self.calls.refused()
@@ -98,7 +103,7 @@ unsafe impl<B: Allocator> Allocator for Refusing<B> {
     ghost dealloc_token = { λ heap ty ptr. B.dealloc_token heap.inner ty ptr };
 
     fn allocate(&self, size: usize, align: usize) -> Result<*mut u8, AllocError> {
-        if self.calls.refuses() {
+        if self.calls.refuses(size) {
             return Err(AllocError);
         }
         self.inner.allocate(size, align)
