@@ -1,6 +1,6 @@
 -- A scan after an integer, which a call reads from its machine word.
 use Rattle.std.specs.Prelude.{Ok, Result}
-use Rattle.std.proofs.Common.{◌≡◌, ◌≤◌, ◌∙◌, ℕ, ℤ, List, ap, length, subst, sym, w32}
+use Rattle.std.proofs.Common.{◌≡◌, ◌≤◌, ◌∙◌, ℕ, ℤ, List, ap, length, subst, w32}
 use Rattle.std.proofs.lemmas.Bool.{le-ltb}
 use Rattle.std.proofs.lemmas.Int.{to_z-of_z}
 use mir.Val.{of_z, to_z, SFits}

@@ -17,7 +17,7 @@ use Rattle.cvl_base.specs.Gives.{◌>>=◌}
 use Rattle.cvl_base.specs.Values.{kind_of}
 use Rattle.vector_handles.specs.declared.input.Input.{Input}
 use Rattle.bound_names.specs.Arguments.{integer_in}
-use Rattle.vector_handles.specs.CallValues.{HasNamedKind, HaveNamedKinds, integers_of, nest_of, nested_values, numbered, vector_and_descriptor}
+use Rattle.vector_handles.specs.CallValues.{HasNamedKind, HaveNamedKinds, integers_of, nest_of, numbered, vector_and_descriptor}
 use Rattle.vector_handles.specs.ElementTypes.{integer}
 use Rattle.vector_handles.specs.Families.{ArgumentAt, vector}
 
