@@ -103,17 +103,6 @@ stops_later first bytes names reads name h = record {
 pub all_longer : (a b : ℕ) (names : List Text) → a ≤ b → All (λ (name : Text). length name ≤ a) names → All (λ (name : Text). length name ≤ b) names
 all_longer a b names le all k d lt = omega (arith, all k d lt)
 
-pub room_of_longest : (room longest : ℕ) (names : List Text) → 13 + longest ≤ room → All (λ (name : Text). length name ≤ longest) names → HasRoomFor room names
-room_of_longest room longest names le all k d lt =
-    rw length-append (omega (arith, all k d lt))
-
--- a room that holds so many bytes, or as many as there are numbers for
-pub room_of_longest_name : (room bytes longest : ℕ) (script : Text) (inputs : List Text) → room ≡ bytes → room < 2 ^ 63 → bytes ≡ min (longest + 13) (2 ^ 64 - 1) → length script ≤ longest
-    → All (λ (name : Text). length name ≤ longest) inputs → HasRoomFor room (script ∷ inputs)
-room_of_longest_name room bytes longest script inputs is small sum first all =
-    room_of_longest room longest (script ∷ inputs) (omega arith)
-    (all_first (λ (name : Text). length name ≤ longest) script inputs first all)
-
 -- the line of an input that cannot be read has its room
 pub missed_fits : (room : ℕ) (script : Text) (inputs : List Text) (reads : List Read) (name : Text) → StopsAt inputs reads name → HasRoomFor room (script ∷ inputs)
     → length (unreadable_line name) ≤ room
