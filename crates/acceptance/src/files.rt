@@ -2,8 +2,9 @@
 use crate::hosts::{Files, are_told, status_of, text_of};
 use crate::narrow_writer::NarrowWriter;
 use crate::table_files::TableFiles;
+use cvl_base::{Config, Memory};
 use refusing_memory::Refusing;
-use shell::{StreamHost, read_whole};
+use shell::{FileRoom, StreamHost};
 use std::alloc::{AllocError, Global};
 use std::io::{Error, ErrorKind, Read, Result as IoResult};
 use std::test::Fail;
@@ -76,51 +77,88 @@ impl Read for Narrow<'_> {
     }
 }
 
-const TEXT: &[u8] = b"12 -7 2147483647\n";
+/// How many bytes the file has: two steps of a mebibyte, and some more.
+const LONG: usize = 2_200_000;
 
-/// The bytes of a read, the room, the read that fails and how, and whether the whole text is read.
+/// The bytes of a read, how many bytes are expected, the read that fails and how, and whether the whole file is read.
 type Row = (usize, usize, Option<(usize, ErrorKind)>, bool);
 
 const ROWS: &[Row] = &[
-    (1, 0, None, true),
-    (1, 5, None, true),
-    (1, 17, None, true),
-    (1, 18, None, true),
-    (4, 18, None, true),
-    (100, 10, None, true),
-    (100, 40, None, true),
-    // a read that was interrupted is made again, in the room and after it
-    (4, 18, Some((1, ErrorKind::Interrupted)), true),
-    (4, 18, Some((3, ErrorKind::Interrupted)), true),
-    (4, 18, Some((6, ErrorKind::Interrupted)), true),
-    (4, 8, Some((4, ErrorKind::Interrupted)), true),
+    (usize::MAX, 0, None, true),
+    (100_000, 1_048_576, None, true),
+    (100_000, LONG - 1, None, true),
+    (100_000, LONG, None, true),
+    (100_000, LONG + 1, None, true),
+    (100_000, 7_000_000, None, true),
+    (100_000, usize::MAX, None, true),
+    // a read that was interrupted is made again, in a step, in a later one, and after all of them
+    (700_000, LONG, Some((1, ErrorKind::Interrupted)), true),
+    (700_000, LONG, Some((4, ErrorKind::Interrupted)), true),
+    (700_000, 1_048_576, Some((4, ErrorKind::Interrupted)), true),
     // one that fails is not
-    (4, 18, Some((1, ErrorKind::PermissionDenied)), false),
-    (4, 18, Some((3, ErrorKind::PermissionDenied)), false),
-    (4, 0, Some((1, ErrorKind::PermissionDenied)), false),
-    (4, 8, Some((4, ErrorKind::PermissionDenied)), false),
+    (700_000, LONG, Some((1, ErrorKind::PermissionDenied)), false),
+    (700_000, LONG, Some((4, ErrorKind::PermissionDenied)), false),
+    (700_000, 0, Some((2, ErrorKind::PermissionDenied)), false),
+    (
+        700_000,
+        1_048_576,
+        Some((4, ErrorKind::PermissionDenied)),
+        false,
+    ),
 ];
 
-/// Whether the text is read whole, into a room with bytes of its own.
-fn is_read(alloc: Global, row: Row) -> Result<bool, Fail> {
-    let (a_read, room, fails, _) = row;
+/// The bytes of the file, of which no two thousands that follow one another are the same.
+fn long_file(alloc: Global) -> Result<Vec<u8>, AllocError> {
+    let mut bytes = Vec::with_capacity(alloc, LONG)?;
+    for place in 0..LONG {
+        bytes.push((place % 251 + place / 1000 % 5) as u8)?;
+    }
+    Ok(bytes)
+}
+
+/// Whether the file is read whole.
+fn is_read<R: Threads + Sync, A: Memory>(rt: &R, heap: A, file: &[u8], row: Row) -> bool {
+    let (a_read, expected, fails, _) = row;
     let mut reader = Narrow {
-        left: TEXT,
+        left: file,
         a_read,
         reads: 0,
         fails,
     };
-    let room = vec![in alloc; b'x'; room]?;
-    Ok(match read_whole(&mut reader, room) {
-        Some(bytes) => bytes.as_slice() == TEXT,
+    let config = Config::new(4096, 3).unwrap();
+    match FileRoom::new(rt, heap, config).read_whole(&mut reader, expected) {
+        Some(bytes) => bytes.as_slice() == file,
         None => false,
-    })
+    }
 }
 
 #[test]
 fn readers_of_few_bytes(rt: HostRuntime) -> Result<(), Fail> {
+    let file = long_file(rt.alloc())?;
+    let heap = Refusing::none(rt.alloc());
     for row in ROWS {
-        assert!(rt; is_read(rt.alloc(), *row)? == row.3, "{} {}", row.0, row.1);
+        assert!(rt;
+            is_read(&rt, &heap, &file, *row) == row.3,
+            "{} {}",
+            row.0,
+            row.1
+        );
+    }
+    Ok(())
+}
+
+/// How many bytes a file has that is said to have two thousand million. No more than a mebibyte is asked for.
+const SAID_LONG: &[usize] = &[0, 5, 1_000_000, 1_048_575];
+
+#[test]
+fn files_that_are_said_to_be_long(rt: HostRuntime) -> Result<(), Fail> {
+    let file = long_file(rt.alloc())?;
+    for bytes in SAID_LONG {
+        let heap = Refusing::none(rt.alloc());
+        let (front, _) = file.as_slice().split_at((*bytes).min(file.len()));
+        let row = (usize::MAX, 2_000_000_000, None, true);
+        assert!(rt; is_read(&rt, &heap, front, row), "{bytes}");
+        assert!(rt; heap.bytes() <= 1_048_576, "{bytes} {}", heap.bytes());
     }
     Ok(())
 }

@@ -1,8 +1,9 @@
 //! Files in memory.
 
 use cvl_base::Memory;
-use shell::{ReadFiles, read_whole};
+use shell::{FileRoom, ReadFiles};
 use std::alloc::Global;
+use std::thread::Threads;
 
 /// Files in memory, which claim nothing of what was read, and keep the names that they were asked for.
 #[derive(Drop)]
@@ -41,17 +42,15 @@ impl ReadFiles for TableFiles<'_> {
 
     ghost reads = { λ _. None };
 
-    fn expected_bytes(&self, name: &str) -> usize {
-        match self.expected {
-            Some(bytes) => bytes,
-            None => file_of(self.files, name).map_or(0, str::len),
-        }
-    }
-
-    fn read_file<A: Memory>(&mut self, name: &str, room: Vec<u8, A>) -> Option<Vec<u8, A>> {
+    fn read_file<R: Threads + Sync, A: Memory>(
+        &mut self,
+        name: &str,
+        room: FileRoom<'_, R, A>,
+    ) -> Option<Vec<u8, A>> {
         let _ = self.asked.extend_from_slice(name.as_bytes());
         let _ = self.asked.push(b'\n');
         let text = file_of(self.files, name)?;
-        read_whole(&mut text.as_bytes(), room)
+        let expected = self.expected.unwrap_or(text.len());
+        room.read_whole(&mut text.as_bytes(), expected)
     }
 }

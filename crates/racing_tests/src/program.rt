@@ -3,8 +3,9 @@
 use crew::Point;
 use cvl_base::Memory;
 use refusing_memory::Refusing;
-use shell::{ReadFiles, StreamHost, program_gated, read_whole};
+use shell::{FileRoom, ReadFiles, StreamHost, program_gated};
 use std::test::Fail;
+use std::thread::Threads;
 use watching_gate::{Holds, Race, Watch};
 
 /// The file of a script, and that of its input, which has any other name.
@@ -16,17 +17,17 @@ impl ReadFiles for TwoFiles {
 
     ghost reads = { λ _. None };
 
-    fn expected_bytes(&self, _name: &str) -> usize {
-        0
-    }
-
-    fn read_file<A: Memory>(&mut self, name: &str, room: Vec<u8, A>) -> Option<Vec<u8, A>> {
+    fn read_file<R: Threads + Sync, A: Memory>(
+        &mut self,
+        name: &str,
+        room: FileRoom<'_, R, A>,
+    ) -> Option<Vec<u8, A>> {
         let text = if name == "script" {
             "a = input 1\nb = add_suz a\nwrite b\n"
         } else {
             "3 1 7 0"
         };
-        read_whole(&mut text.as_bytes(), room)
+        room.read_whole(&mut text.as_bytes(), 0)
     }
 }
 

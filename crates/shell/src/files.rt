@@ -7,10 +7,9 @@ ghost use Rattle.shell.specs.ProgramParts.{HasRoomFor, Misses, ReadsInputs};
 
 use crate::endings::UNREADABLE_BYTES;
 use crate::host::Host;
+use crate::whole_files::FileRoom;
 use command_line::Words;
 use cvl_base::{Config, Memory, NoResources};
-use fresh::{Copies, write_in_runs};
-use sharing::threads_clearing;
 use std::thread::Threads;
 use vector_handles::Input;
 
@@ -49,27 +48,6 @@ pub(crate) fn room_for<A: Memory>(alloc: A, words: &Words<'_>) -> Result<Room<A>
     })
 }
 
-/// Memory for a file of so many bytes, and for one more, which shows that the file has no more. It is empty where several
-/// threads don't pay, or it is refused: then the memory grows while the file is read.
-// The system makes a page of fresh memory when it is first written, which takes longer than to read the page's bytes. So
-// several threads write all of it.
-fn cleared_room<R: Threads + Sync, A: Memory>(
-    rt: &R,
-    alloc: A,
-    config: Config,
-    bytes: usize,
-) -> Vec<u8, A> {
-    let threads = threads_clearing(config, bytes);
-    if threads.get() < 2 {
-        return Vec::new(alloc);
-    }
-    let count = bytes.saturating_add(1);
-    match write_in_runs(rt, alloc, threads, &Copies { item: 0, count }, count) {
-        Ok(room) => room,
-        Err(_) => Vec::new(alloc),
-    }
-}
-
 /// Reads the inputs in their order, or names the first that cannot be read.
 pub(crate) fn read_inputs<'a, R: Threads + Sync, A: Memory, H: Host>(
     rt: &R,
@@ -88,8 +66,7 @@ pub(crate) fn read_inputs<'a, R: Threads + Sync, A: Memory, H: Host>(
 {
     let mut inputs = room;
     for name in names {
-        let room = cleared_room(rt, alloc, config, host.expected_bytes(name));
-        match host.read_file(name, room) {
+        match host.read_file(name, FileRoom::new(rt, alloc, config)) {
             None => return Err(name),
             Some(bytes) => inputs.push_reserved(Input::Bytes(bytes)),
         }

@@ -1,20 +1,26 @@
 //! What a program is run on.
 
 ghost use Rattle.std.specs.Prelude.{◌^◌, ◌<◌, ◌-◌, ◌∷◌, [], Some, is_ok, option_map};
+ghost use denote.Param.Send.{IsSync};
 ghost use Rattle.script_runs.specs.Hosts.{Shows, Tells, read_of, with_flush, with_reads};
 
+use crate::whole_files::FileRoom;
 use cvl_base::Memory;
 use script_runs::{Sink, SinkFault};
+use std::thread::Threads;
 
 /// What a program is run on: its files, and where its text goes. `put` is standard output.
 pub trait Host: Sink {
-    /// How many bytes a file will have when it is read, as far as that is known; 0 where it is not. This is no read.
-    fn expected_bytes(&self, name: &str) -> usize;
-
     /// The whole of a file; none where it cannot be read, or there is no memory for it. Either is a read.
     ///
-    /// `room` is memory that the file may be read to, which grows where the file needs more. What stands in it is lost.
-    fn read_file<A: Memory>(&mut self, name: &str, room: Vec<u8, A>) -> Option<Vec<u8, A>>
+    /// `room` reads it, and is told how many bytes the file is expected to have, as far as that is known.
+    // That the runtime may be shared is said by a clause too, since a bound of a method is assumed of the calling thread alone.
+    fn read_file<R: Threads + Sync, A: Memory>(
+        &mut self,
+        name: &str,
+        room: FileRoom<'_, R, A>,
+    ) -> Option<Vec<u8, A>>
+        requires { IsSync R.row }
         ensures { Shows
             (with_reads (read_of name.now (option_map (λ file. file.items) result) ∷ []) (Self.seen self.old))
             (Self.seen self.new) };

@@ -18,4 +18,4 @@ pub use script_runs::{
     runs, sink, stop,
 };
 pub use stream_host::{ReadFiles, StreamHost};
-pub use whole_files::read_whole;
+pub use whole_files::FileRoom;

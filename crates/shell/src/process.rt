@@ -8,7 +8,7 @@ use crate::endings::{COMMAND_LINE, FAILED, tell_stop};
 use crate::host::Host;
 use crate::programs::program;
 use crate::stream_host::ReadFiles;
-use crate::whole_files::read_whole;
+use crate::whole_files::FileRoom;
 use cvl_base::Memory;
 use script_runs::Stop;
 use std::alloc::{AllocError, Global};
@@ -36,18 +36,24 @@ impl<R: Files> ReadFiles for SystemFiles<'_, R> {
 
     ghost reads = { λ _. None };
 
-    fn expected_bytes(&self, name: &str) -> usize {
-        match fs::metadata(self.rt, name) {
-            Ok(metadata) if metadata.is_file() => {
-                usize::try_from(metadata.len()).unwrap_or(usize::MAX)
-            }
-            _ => 0,
-        }
-    }
-
-    fn read_file<A: Memory>(&mut self, name: &str, room: Vec<u8, A>) -> Option<Vec<u8, A>> {
+    fn read_file<T: Threads + Sync, A: Memory>(
+        &mut self,
+        name: &str,
+        room: FileRoom<'_, T, A>,
+    ) -> Option<Vec<u8, A>> {
+        let expected = expected_bytes(self.rt, name);
         let mut file = File::open(self.rt, name).ok()?;
-        read_whole(&mut file, room)
+        room.read_whole(&mut file, expected)
+    }
+}
+
+/// How many bytes a file will have when it is read, as far as the system knows; 0 where it doesn't.
+fn expected_bytes<R: Files>(rt: &R, name: &str) -> usize {
+    match fs::metadata(rt, name) {
+        Ok(metadata) if metadata.is_file() => {
+            usize::try_from(metadata.len()).unwrap_or(usize::MAX)
+        }
+        _ => 0,
     }
 }
 

@@ -10,6 +10,7 @@ ghost use Rattle.shell.specs.Programs.{Performs};
 use crate::endings::{COMMAND_LINE, FAILED, finish, tell_stop, tell_unreadable};
 use crate::files::{read_inputs, room_for};
 use crate::host::Host;
+use crate::whole_files::FileRoom;
 use clap::error::ErrorKind;
 use command_line::{Words, WordsFault, read_words};
 use crew::{Gate, OpenGate};
@@ -79,7 +80,7 @@ fn run_files<R: Threads + Sync, A: Memory, H: Host, G: Gate>(
     let Ok(room) = room_for(alloc, words) else {
         return finish(Err(STARVED), host);
     };
-    match host.read_file(words.script, Vec::new(alloc)) {
+    match host.read_file(words.script, FileRoom::new(rt, alloc, words.config)) {
         None => {
             tell_unreadable(words.script, room.line, host);
             FAILED

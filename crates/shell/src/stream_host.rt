@@ -1,13 +1,16 @@
 //! A host over a reader of files and two writers.
 
 ghost use Rattle.std.specs.Prelude.{◌≡◌, ◌∷◌, [], true, false, option_map};
+ghost use denote.Param.Send.{IsSync};
 ghost use Rattle.script_runs.specs.Hosts.{IsTold, read_of, with_more};
 ghost use Rattle.shell.specs.Streams.{WritesWhole};
 
 use crate::host::Host;
+use crate::whole_files::FileRoom;
 use cvl_base::Memory;
 use script_runs::{Sink, SinkFault};
 use std::io::Write;
+use std::thread::Threads;
 
 /// What reads files whole.
 pub trait ReadFiles {
@@ -17,13 +20,16 @@ pub trait ReadFiles {
     /// The reads so far; none where the reader does not tell them.
     ghost reads: { Self → Option (List Read) };
 
-    /// How many bytes a file will have when it is read, as far as that is known; 0 where it is not. This is no read.
-    fn expected_bytes(&self, name: &str) -> usize;
-
     /// The whole of a file; none where it cannot be read, or there is no memory for it. Either is a read.
     ///
-    /// `room` is memory that the file may be read to, which grows where the file needs more. What stands in it is lost.
-    fn read_file<A: Memory>(&mut self, name: &str, room: Vec<u8, A>) -> Option<Vec<u8, A>>
+    /// `room` reads it, and is told how many bytes the file is expected to have, as far as that is known.
+    // That the runtime may be shared is said by a clause too, since a bound of a method is assumed of the calling thread alone.
+    fn read_file<R: Threads + Sync, A: Memory>(
+        &mut self,
+        name: &str,
+        room: FileRoom<'_, R, A>,
+    ) -> Option<Vec<u8, A>>
+        requires { IsSync R.row }
         ensures { IsTold
             (with_more (read_of name.now (option_map (λ file. file.items) result) ∷ []) (reads self.old))
             (reads self.new) };
@@ -125,11 +131,11 @@ impl<F: ReadFiles, O: Write, E: Write> Sink for StreamHost<F, O, E> {
 }
 
 impl<F: ReadFiles, O: Write, E: Write> Host for StreamHost<F, O, E> {
-    fn expected_bytes(&self, name: &str) -> usize {
-        self.files.expected_bytes(name)
-    }
-
-    fn read_file<A: Memory>(&mut self, name: &str, room: Vec<u8, A>) -> Option<Vec<u8, A>> {
+    fn read_file<R: Threads + Sync, A: Memory>(
+        &mut self,
+        name: &str,
+        room: FileRoom<'_, R, A>,
+    ) -> Option<Vec<u8, A>> {
         self.files.read_file(name, room)
     }
 

@@ -1,19 +1,28 @@
-//! Files that are read whole, into memory that was made ready for them.
+//! Files that are read whole, into memory that several threads make ready while the bytes come.
 
-ghost use Rattle.std.specs.Prelude.{◌≡◌, ◌≤◌, IfSome, IsTrue, length, take};
+ghost use Rattle.std.specs.Prelude.{◌≡◌, ◌+◌, ◌-◌, ◌^◌, ◌<◌, ◌≤◌, List, Option, ℕ, IfSome, IsTrue, length, max, min, take};
 ghost use Rattle.std.specs.Io.KnownBytes.{Consumes, IsAtEnd};
 
+use cvl_base::Config;
+use fresh::extend_by_copies;
+use sharing::threads_clearing;
 use std::alloc::Allocator;
 use std::io::{ErrorKind, Read};
+use std::thread::Threads;
 
-/// Reads into the places of a room, from the first on, until there is no place left, no byte, or a read is interrupted. Tells
-/// how many places were filled, and whether no byte is left; none where a read fails.
-fn fill<F: Read>(file: &mut F, room: &mut [u8]) -> Option<(usize, bool)>
-    ensures within { IfSome result (λ r. r.0 ≤ length room.new) }
-    ensures bytes { IfSome result (λ r. Consumes (F.remaining file.old) (F.remaining file.new) (take r.0 room.new)) }
+/// How many bytes of memory are made ready for a long file before any byte was read.
+const FIRST_STEP: usize = 1_048_576;
+
+/// Reads into the places of a room, from the one of this number on, until there is no place left, no byte, or a read is
+/// interrupted. Tells how many places are filled then, and whether no byte is left; none where a read fails.
+fn fill<F: Read>(file: &mut F, room: &mut [u8], from: usize) -> Option<(usize, bool)>
+    requires { from ≤ length room.old }
+    ensures within { IfSome result (λ r. (from ≤ r.0) × (r.0 ≤ length room.new)) }
+    ensures bytes { IfSome result (λ r. (before : Option (List ℕ))
+        → Consumes before (F.remaining file.old) (take from room.old) → Consumes before (F.remaining file.new) (take r.0 room.new)) }
     ensures end { IfSome result (λ r. IsTrue r.1 → IsAtEnd (F.remaining file.new)) }
 {
-    let mut filled = 0;
+    let mut filled = from;
     while filled < room.len() {
         let (_, left) = room.split_at_mut(filled);
         match file.read(left) {
@@ -26,19 +35,84 @@ fn fill<F: Read>(file: &mut F, room: &mut [u8]) -> Option<(usize, bool)>
     Some((filled, false))
 }
 
-/// All bytes that a file has left; none where a read fails, or there is no memory for them.
-///
-/// They are read into `room` as far as it reaches, and it grows where they are more. What stands in it is lost. Where a room has
-/// a place more than the file has bytes, it doesn't grow.
-// `read_to_end` makes a read again that was interrupted.
-pub fn read_whole<F: Read, A: Allocator>(file: &mut F, room: Vec<u8, A>) -> Option<Vec<u8, A>>
-    ensures { IfSome result (λ bytes. IfSome (F.remaining file.old) (λ left. bytes.items ≡ left)) }
+/// How many bytes of memory are still wanted where so many bytes were read of those that are expected: one more than there
+/// are, which shows that the file has no more.
+fn places_left(read: usize, expected: usize) -> usize
+    ensures { result ≡ min (expected + 1) (2 ^ 64 - 1) - read }
 {
-    let mut bytes = room;
-    let (filled, at_end) = fill(file, bytes.as_mut_slice())?;
-    bytes.truncate(filled);
-    if !at_end {
-        file.read_to_end(&mut bytes).ok()?;
+    expected.saturating_add(1).saturating_sub(read)
+}
+
+/// How many of these are written next: as many as bytes were read, or a mebibyte where these are fewer.
+fn next_step(read: usize, expected: usize) -> usize
+    ensures { result ≡ min (min (expected + 1) (2 ^ 64 - 1) - read) (max read 1048576) }
+{
+    places_left(read, expected).min(read.max(FIRST_STEP))
+}
+
+/// Memory for a file that is read whole.
+///
+/// The system makes a page of fresh memory when it is first written, which takes longer than to read the page's bytes. So for
+/// a long file several threads write the memory, in steps: a mebibyte, and then as much as was read so far. A file that is
+/// shorter than it was expected to be takes at most a mebibyte, or twice its bytes.
+#[derive(Drop)]
+pub struct FileRoom<'a, R, A> {
+    rt: &'a R,
+    alloc: A,
+    config: Config,
+}
+
+impl<'a, R: Threads + Sync, A: Allocator> FileRoom<'a, R, A> {
+    /// Memory of this allocator, written by at most as many threads as the configuration has workers.
+    pub fn new(rt: &'a R, alloc: A, config: Config) -> FileRoom<'a, R, A> {
+        FileRoom { rt, alloc, config }
     }
-    Some(bytes)
+
+    /// All bytes that a file has left, of which so many are expected; none where a read fails, or there is no memory for them.
+    // `read_to_end` makes a read again that was interrupted.
+    pub fn read_whole<F: Read>(self, file: &mut F, expected: usize) -> Option<Vec<u8, A>>
+        ensures { IfSome result (λ bytes. IfSome (F.remaining file.old) (λ left. bytes.items ≡ left)) }
+    {
+        let (mut bytes, at_end) = self.read_expected(file, expected)?;
+        if !at_end {
+            file.read_to_end(&mut bytes).ok()?;
+        }
+        Some(bytes)
+    }
+
+    /// Reads the bytes that are expected, as far as several threads pay and memory is granted, and tells whether the file has no
+    /// more.
+    // Memory is asked for a mebibyte, and then at once for all that is expected: what isn't written costs nothing, and a block
+    // that grows is copied.
+    fn read_expected<F: Read>(self, file: &mut F, expected: usize) -> Option<(Vec<u8, A>, bool)>
+        ensures bytes { IfSome result (λ r. Consumes (F.remaining file.old) (F.remaining file.new) r.0.items) }
+        ensures end { IfSome result (λ r. IsTrue r.1 → IsAtEnd (F.remaining file.new)) }
+    {
+        let FileRoom { rt, alloc, config } = self;
+        let mut bytes = Vec::new(alloc);
+        if threads_clearing(config, expected).get() < 2 {
+            return Some((bytes, false));
+        }
+        let mut step = next_step(0, expected);
+        while step > 0 {
+            let read = bytes.len();
+            let room = if read == 0 {
+                step
+            } else {
+                places_left(read, expected)
+            };
+            if bytes.reserve_exact(room).is_err() {
+                break;
+            }
+            let threads = threads_clearing(config, step);
+            bytes = extend_by_copies(rt, threads, bytes, 0, step);
+            let (filled, at_end) = fill(file, bytes.as_mut_slice(), read)?;
+            bytes.truncate(filled);
+            if at_end || filled < read + step {
+                return Some((bytes, at_end));
+            }
+            step = next_step(filled, expected);
+        }
+        Some((bytes, false))
+    }
 }

@@ -14,8 +14,9 @@ loop-filled-preserved g c =
     let filled : length front ≡ c.loop-filled.filled = omega (arith, left.front_len) in
     let whole : take (c.loop-filled.filled + n) (front ++ read) ≡ front ++ take n read = ap (λ k. take (k + n) (front ++ read)) (sym filled) ∙ take-append-add front read n in
     record {
+      from = omega (arith, c.loop-filled.invariant.from);
       within = omega (arith, length-append front read, filled, c.in-Ok.ensures.bound);
       as_long = omega (arith, length-append front read, filled, left.back_len, c.loop-filled.invariant.as_long);
-      bytes = subst (Consumes _ _) (sym whole)
-          (Consumes-trans _ _ _ front (take n read) (subst (Consumes _ _) (sym left.front) c.loop-filled.invariant.bytes) c.in-Ok.ensures.bytes.0);
+      bytes = λ before had. subst (Consumes before _) (sym whole)
+          (Consumes-trans before _ _ front (take n read) (subst (Consumes before _) (sym left.front) (c.loop-filled.invariant.bytes before had)) c.in-Ok.ensures.bytes.0);
     }
