@@ -13,8 +13,10 @@
  * was too.
  *
  * A room is whatever a function writes, counts and single values too. A room that shares memory with another argument is told: the
- * status is 102 Overlap, without a place, and nothing is written. That is looked at before all else. Arrays that are only read
- * may overlap. An array of 0 elements overlaps nothing, and its pointer may be null.
+ * status is 102 Overlap, without a place, and nothing is written. That is looked at before all else. One overlap is none, a call
+ * in place: a vector that a function reads may be its room, from the first to the last element, where the line "In place" of a
+ * call says so, and for each export that has others of its name and `_in`. The answer is the same then, and at a fault the vector
+ * is as it was. Arrays that are only read may overlap. An array of 0 elements overlaps nothing, and its pointer may be null.
  *
  * What a caller owes, and what it costs where it isn't so:
  *   - A pointer leads to as many elements as is said, aligned for their type, which may be read and in a room written. Else the
@@ -489,6 +491,21 @@ CvlStatus cvl_seg_write_ints(
 CvlStatus cvl_seg_write_bools(
     const bool *a, size_t a_len, const int32_t *lengths, size_t segments, char *out, size_t out_len, size_t *count);
 
+/* ---- in place: exports ---- */
+
+/*
+ * Each is the function of its name before `_in`, with the result in the place of a vector that it reads, and no room: the status
+ * is the same, and at a fault the vector is as it was. The functions of the next part call these where a room is an input.
+ */
+CvlStatus cvl_int2_in_first(uint32_t op, int32_t *a, size_t a_len, const int32_t *b, size_t b_len);
+CvlStatus cvl_int2_in_second(uint32_t op, const int32_t *a, size_t a_len, int32_t *b, size_t b_len);
+CvlStatus cvl_int2_in_both(uint32_t op, int32_t *a, size_t a_len);
+CvlStatus cvl_int1_in(uint32_t op, int32_t *a, size_t a_len);
+CvlStatus cvl_int_scan_in(uint32_t op, int32_t *a, size_t a_len);
+CvlStatus cvl_checked_scan_in(int32_t *a, size_t a_len);
+CvlStatus cvl_seg_checked_scan_in(int32_t *a, size_t a_len, const int32_t *lengths, size_t segments);
+CvlStatus cvl_seg_int_scan_in(uint32_t op, int32_t *a, size_t a_len, const int32_t *lengths, size_t segments);
+CvlStatus cvl_int_scan_after_in(uint32_t op, int32_t before, int32_t *a, size_t a_len);
 
 /* ---- arrays that overlap ---- */
 
@@ -514,12 +531,17 @@ static inline CvlStatus cvl_overlap(void) {
 
 static inline CvlStatus cvl_int2_apart(
     uint32_t op, const int32_t *a, size_t a_len, const int32_t *b, size_t b_len, int32_t *out, size_t out_len) {
-    if (CVL_MEET(out, out_len, a, a_len) || CVL_MEET(out, out_len, b, b_len)) return cvl_overlap();
+    const bool first = out == a && out_len == a_len, second = out == b && out_len == b_len;
+    if ((!first && CVL_MEET(out, out_len, a, a_len)) || (!second && CVL_MEET(out, out_len, b, b_len))) return cvl_overlap();
+    if (first && second) return cvl_int2_in_both(op, out, out_len);
+    if (first) return cvl_int2_in_first(op, out, out_len, b, b_len);
+    if (second) return cvl_int2_in_second(op, a, a_len, out, out_len);
     return cvl_int2(op, a, a_len, b, b_len, out, out_len);
 }
 #define cvl_int2 cvl_int2_apart
 
 static inline CvlStatus cvl_int1_apart(uint32_t op, const int32_t *a, size_t a_len, int32_t *out, size_t out_len) {
+    if (out == a && out_len == a_len) return cvl_int1_in(op, out, out_len);
     if (CVL_MEET(out, out_len, a, a_len)) return cvl_overlap();
     return cvl_int1(op, a, a_len, out, out_len);
 }
@@ -578,6 +600,7 @@ static inline CvlStatus cvl_select_bool_apart(
 #define cvl_select_bool cvl_select_bool_apart
 
 static inline CvlStatus cvl_int_scan_apart(uint32_t op, const int32_t *a, size_t a_len, int32_t *out, size_t out_len) {
+    if (out == a && out_len == a_len) return cvl_int_scan_in(op, out, out_len);
     if (CVL_MEET(out, out_len, a, a_len)) return cvl_overlap();
     return cvl_int_scan(op, a, a_len, out, out_len);
 }
@@ -602,6 +625,7 @@ static inline CvlStatus cvl_bool_reduce_apart(uint32_t op, const bool *a, size_t
 #define cvl_bool_reduce cvl_bool_reduce_apart
 
 static inline CvlStatus cvl_checked_scan_apart(const int32_t *a, size_t a_len, int32_t *out, size_t out_len) {
+    if (out == a && out_len == a_len) return cvl_checked_scan_in(out, out_len);
     if (CVL_MEET(out, out_len, a, a_len)) return cvl_overlap();
     return cvl_checked_scan(a, a_len, out, out_len);
 }
@@ -615,7 +639,9 @@ static inline CvlStatus cvl_checked_reduce_apart(const int32_t *a, size_t a_len,
 
 static inline CvlStatus cvl_seg_checked_scan_apart(
     const int32_t *a, size_t a_len, const int32_t *lengths, size_t segments, int32_t *out, size_t out_len) {
-    if (CVL_MEET(out, out_len, a, a_len) || CVL_MEET(out, out_len, lengths, segments)) return cvl_overlap();
+    if (CVL_MEET(out, out_len, lengths, segments)) return cvl_overlap();
+    if (out == a && out_len == a_len) return cvl_seg_checked_scan_in(out, out_len, lengths, segments);
+    if (CVL_MEET(out, out_len, a, a_len)) return cvl_overlap();
     return cvl_seg_checked_scan(a, a_len, lengths, segments, out, out_len);
 }
 #define cvl_seg_checked_scan cvl_seg_checked_scan_apart
@@ -736,7 +762,9 @@ static inline CvlStatus cvl_seg_index_apart(
 
 static inline CvlStatus cvl_seg_int_scan_apart(
     uint32_t op, const int32_t *a, size_t a_len, const int32_t *lengths, size_t segments, int32_t *out, size_t out_len) {
-    if (CVL_MEET(out, out_len, a, a_len) || CVL_MEET(out, out_len, lengths, segments)) return cvl_overlap();
+    if (CVL_MEET(out, out_len, lengths, segments)) return cvl_overlap();
+    if (out == a && out_len == a_len) return cvl_seg_int_scan_in(op, out, out_len, lengths, segments);
+    if (CVL_MEET(out, out_len, a, a_len)) return cvl_overlap();
     return cvl_seg_int_scan(op, a, a_len, lengths, segments, out, out_len);
 }
 #define cvl_seg_int_scan cvl_seg_int_scan_apart
@@ -1021,6 +1049,7 @@ static inline CvlStatus cvl_write_bools_apart(const bool *a, size_t a_len, char 
 
 static inline CvlStatus cvl_int_scan_after_apart(
     uint32_t op, int32_t before, const int32_t *a, size_t a_len, int32_t *out, size_t out_len) {
+    if (out == a && out_len == a_len) return cvl_int_scan_after_in(op, before, out, out_len);
     if (CVL_MEET(out, out_len, a, a_len)) return cvl_overlap();
     return cvl_int_scan_after(op, before, a, a_len, out, out_len);
 }
@@ -1138,7 +1167,7 @@ static inline CvlStatus cvl_seg_write_bools_apart(
 /*
  * add_wuz: The wrapped sums. a, b and out have n elements.
  * Faults: 13 TooLong.
- * In place: no.
+ * In place: a, b or both may be out.
  * a = 12 -7 2147483647, b = 10 2 1: out = 22 -5 -2147483648
  */
 static inline CvlStatus add_wuz(const int32_t *a, const int32_t *b, int32_t *out, size_t n) {
@@ -1148,7 +1177,7 @@ static inline CvlStatus add_wuz(const int32_t *a, const int32_t *b, int32_t *out
 /*
  * mul_wuz: The wrapped products. a, b and out have n elements.
  * Faults: 13 TooLong.
- * In place: no.
+ * In place: a, b or both may be out.
  * a = 12 -7 2147483647, b = 10 2 1: out = 120 -14 2147483647
  */
 static inline CvlStatus mul_wuz(const int32_t *a, const int32_t *b, int32_t *out, size_t n) {
@@ -1158,7 +1187,7 @@ static inline CvlStatus mul_wuz(const int32_t *a, const int32_t *b, int32_t *out
 /*
  * min_wuz: The lesser of each two. a, b and out have n elements.
  * Faults: 13 TooLong.
- * In place: no.
+ * In place: a, b or both may be out.
  * a = 12 -7 2147483647, b = 10 2 1: out = 10 -7 1
  */
 static inline CvlStatus min_wuz(const int32_t *a, const int32_t *b, int32_t *out, size_t n) {
@@ -1168,7 +1197,7 @@ static inline CvlStatus min_wuz(const int32_t *a, const int32_t *b, int32_t *out
 /*
  * max_wuz: The greater of each two. a, b and out have n elements.
  * Faults: 13 TooLong.
- * In place: no.
+ * In place: a, b or both may be out.
  * a = 12 -7 2147483647, b = 10 2 1: out = 12 2 2147483647
  */
 static inline CvlStatus max_wuz(const int32_t *a, const int32_t *b, int32_t *out, size_t n) {
@@ -1178,7 +1207,7 @@ static inline CvlStatus max_wuz(const int32_t *a, const int32_t *b, int32_t *out
 /*
  * and_wuz: And, bit by bit. a, b and out have n elements.
  * Faults: 13 TooLong.
- * In place: no.
+ * In place: a, b or both may be out.
  * a = 12 -7 2147483647, b = 10 2 1: out = 8 0 1
  */
 static inline CvlStatus and_wuz(const int32_t *a, const int32_t *b, int32_t *out, size_t n) {
@@ -1188,7 +1217,7 @@ static inline CvlStatus and_wuz(const int32_t *a, const int32_t *b, int32_t *out
 /*
  * ior_wuz: Or, bit by bit. a, b and out have n elements.
  * Faults: 13 TooLong.
- * In place: no.
+ * In place: a, b or both may be out.
  * a = 12 -7 2147483647, b = 10 2 1: out = 14 -5 2147483647
  */
 static inline CvlStatus ior_wuz(const int32_t *a, const int32_t *b, int32_t *out, size_t n) {
@@ -1198,7 +1227,7 @@ static inline CvlStatus ior_wuz(const int32_t *a, const int32_t *b, int32_t *out
 /*
  * xor_wuz: Exclusive or, bit by bit. a, b and out have n elements.
  * Faults: 13 TooLong.
- * In place: no.
+ * In place: a, b or both may be out.
  * a = 12 -7 2147483647, b = 10 2 1: out = 6 -5 2147483646
  */
 static inline CvlStatus xor_wuz(const int32_t *a, const int32_t *b, int32_t *out, size_t n) {
@@ -1208,7 +1237,7 @@ static inline CvlStatus xor_wuz(const int32_t *a, const int32_t *b, int32_t *out
 /*
  * sub_wuz: The wrapped differences. a, b and out have n elements.
  * Faults: 13 TooLong.
- * In place: no.
+ * In place: a, b or both may be out.
  * a = 12 -7 2147483647, b = 10 2 1: out = 2 -9 2147483646
  */
 static inline CvlStatus sub_wuz(const int32_t *a, const int32_t *b, int32_t *out, size_t n) {
@@ -1218,7 +1247,7 @@ static inline CvlStatus sub_wuz(const int32_t *a, const int32_t *b, int32_t *out
 /*
  * div_wuz: The quotients, truncated toward zero; -2147483648 by -1 is -2147483648. a, b and out have n elements.
  * Faults: 13 TooLong; 8 DivideByZero at the first divisor that is 0.
- * In place: no.
+ * In place: a, b or both may be out.
  * a = 7 -7 -2147483648, b = 2 2 -1: out = 3 -3 -2147483648
  */
 static inline CvlStatus div_wuz(const int32_t *a, const int32_t *b, int32_t *out, size_t n) {
@@ -1228,7 +1257,7 @@ static inline CvlStatus div_wuz(const int32_t *a, const int32_t *b, int32_t *out
 /*
  * mod_wuz: The remainders of the quotients, with the dividends' signs. a, b and out have n elements.
  * Faults: 13 TooLong; 8 DivideByZero at the first divisor that is 0.
- * In place: no.
+ * In place: a, b or both may be out.
  * a = 7 -7 -2147483648, b = 2 2 -1: out = 1 -1 0
  */
 static inline CvlStatus mod_wuz(const int32_t *a, const int32_t *b, int32_t *out, size_t n) {
@@ -1238,7 +1267,7 @@ static inline CvlStatus mod_wuz(const int32_t *a, const int32_t *b, int32_t *out
 /*
  * lsh_wuz: The elements of a, shifted left by those of b. a, b and out have n elements.
  * Faults: 13 TooLong; 9 ShiftOutOfRange at the first element of b outside 0 to 31.
- * In place: no.
+ * In place: a, b or both may be out.
  * a = 1 -7 3, b = 4 1 31: out = 16 -14 -2147483648
  */
 static inline CvlStatus lsh_wuz(const int32_t *a, const int32_t *b, int32_t *out, size_t n) {
@@ -1248,7 +1277,7 @@ static inline CvlStatus lsh_wuz(const int32_t *a, const int32_t *b, int32_t *out
 /*
  * rsh_wuz: The elements of a, shifted right by those of b, with their signs. a, b and out have n elements.
  * Faults: 13 TooLong; 9 ShiftOutOfRange at the first element of b outside 0 to 31.
- * In place: no.
+ * In place: a, b or both may be out.
  * a = 1 -7 3, b = 4 1 31: out = 0 -4 0
  */
 static inline CvlStatus rsh_wuz(const int32_t *a, const int32_t *b, int32_t *out, size_t n) {
@@ -1258,7 +1287,7 @@ static inline CvlStatus rsh_wuz(const int32_t *a, const int32_t *b, int32_t *out
 /*
  * not_wuz: Each bit inverted. a and out have n elements.
  * Faults: 13 TooLong.
- * In place: no.
+ * In place: a may be out.
  * a = 0 5 -1: out = -1 -6 0
  */
 static inline CvlStatus not_wuz(const int32_t *a, int32_t *out, size_t n) {
@@ -1278,7 +1307,7 @@ static inline CvlStatus not_wub(const bool *a, bool *out, size_t n) {
 /*
  * cpy_wuz: Each integer copied. a and out have n elements.
  * Faults: 13 TooLong.
- * In place: no.
+ * In place: a may be out.
  * a = 3 1: out = 3 1
  */
 static inline CvlStatus cpy_wuz(const int32_t *a, int32_t *out, size_t n) {
@@ -1430,7 +1459,7 @@ static inline CvlStatus boo_wuz(const int32_t *a, bool *out, size_t n) {
 /*
  * add_suz: For each integer those before it, summed, wrapped; 0 at place 0. a and out have n elements.
  * Faults: 13 TooLong.
- * In place: no.
+ * In place: a may be out.
  * a = 3 1 4: out = 0 3 4
  */
 static inline CvlStatus add_suz(const int32_t *a, int32_t *out, size_t n) {
@@ -1450,7 +1479,7 @@ static inline CvlStatus add_ruz(const int32_t *a, size_t n, int32_t *out) {
 /*
  * mul_suz: For each integer those before it, multiplied, wrapped; 1 at place 0. a and out have n elements.
  * Faults: 13 TooLong.
- * In place: no.
+ * In place: a may be out.
  * a = 3 1 4: out = 1 3 3
  */
 static inline CvlStatus mul_suz(const int32_t *a, int32_t *out, size_t n) {
@@ -1470,7 +1499,7 @@ static inline CvlStatus mul_ruz(const int32_t *a, size_t n, int32_t *out) {
 /*
  * min_suz: For each integer those before it, the least of them; 2147483647 at place 0. a and out have n elements.
  * Faults: 13 TooLong.
- * In place: no.
+ * In place: a may be out.
  * a = 3 1 4: out = 2147483647 3 1
  */
 static inline CvlStatus min_suz(const int32_t *a, int32_t *out, size_t n) {
@@ -1490,7 +1519,7 @@ static inline CvlStatus min_ruz(const int32_t *a, size_t n, int32_t *out) {
 /*
  * max_suz: For each integer those before it, the greatest of them; -2147483648 at place 0. a and out have n elements.
  * Faults: 13 TooLong.
- * In place: no.
+ * In place: a may be out.
  * a = 3 1 4: out = -2147483648 3 3
  */
 static inline CvlStatus max_suz(const int32_t *a, int32_t *out, size_t n) {
@@ -1510,7 +1539,7 @@ static inline CvlStatus max_ruz(const int32_t *a, size_t n, int32_t *out) {
 /*
  * and_suz: For each integer those before it, and, bit by bit; -1 at place 0. a and out have n elements.
  * Faults: 13 TooLong.
- * In place: no.
+ * In place: a may be out.
  * a = 3 1 4: out = -1 3 1
  */
 static inline CvlStatus and_suz(const int32_t *a, int32_t *out, size_t n) {
@@ -1530,7 +1559,7 @@ static inline CvlStatus and_ruz(const int32_t *a, size_t n, int32_t *out) {
 /*
  * ior_suz: For each integer those before it, or, bit by bit; 0 at place 0. a and out have n elements.
  * Faults: 13 TooLong.
- * In place: no.
+ * In place: a may be out.
  * a = 3 1 4: out = 0 3 3
  */
 static inline CvlStatus ior_suz(const int32_t *a, int32_t *out, size_t n) {
@@ -1550,7 +1579,7 @@ static inline CvlStatus ior_ruz(const int32_t *a, size_t n, int32_t *out) {
 /*
  * xor_suz: For each integer those before it, exclusive or, bit by bit; 0 at place 0. a and out have n elements.
  * Faults: 13 TooLong.
- * In place: no.
+ * In place: a may be out.
  * a = 3 1 4: out = 0 3 2
  */
 static inline CvlStatus xor_suz(const int32_t *a, int32_t *out, size_t n) {
@@ -1632,7 +1661,7 @@ static inline CvlStatus xor_rub(const bool *a, size_t n, bool *out) {
 /*
  * tot_suz: For each integer the sum of those before it. a and out have n elements.
  * Faults: 13 TooLong; 18 Overflow at the first place whose sum does not fit 32 bits.
- * In place: no.
+ * In place: a may be out.
  * a = 3 1 4: out = 0 3 4
  */
 static inline CvlStatus tot_suz(const int32_t *a, int32_t *out, size_t n) {
@@ -1750,7 +1779,7 @@ static inline CvlStatus mke_fov(const int32_t *lengths, size_t segments, size_t 
 /*
  * tot_sez: For each integer the sum of those before it in its segment. a and out have n elements.
  * Faults: 7 LengthMismatch where the lengths do not add up to n; 18 Overflow at the first place whose sum does not fit 32 bits.
- * In place: no.
+ * In place: a may be out.
  * a = 3 1 4 1 5, lengths = 2 0 3: out = 0 3 0 4 5
  */
 static inline CvlStatus tot_sez(const int32_t *a, const int32_t *lengths, size_t segments, int32_t *out, size_t n) {
@@ -1853,7 +1882,7 @@ static inline CvlStatus ind_lez(
  * add_sez: For each integer those before it in its segment, summed, wrapped; 0 where a segment starts. a and out have n
  * elements.
  * Faults: 7 LengthMismatch where the lengths do not add up to n.
- * In place: no.
+ * In place: a may be out.
  * a = 3 1 4 1 5, lengths = 2 0 3: out = 0 3 0 4 5
  */
 static inline CvlStatus add_sez(const int32_t *a, const int32_t *lengths, size_t segments, int32_t *out, size_t n) {
@@ -1875,7 +1904,7 @@ static inline CvlStatus add_rez(const int32_t *a, size_t n, const int32_t *lengt
  * mul_sez: For each integer those before it in its segment, multiplied, wrapped; 1 where a segment starts. a and out have n
  * elements.
  * Faults: 7 LengthMismatch where the lengths do not add up to n.
- * In place: no.
+ * In place: a may be out.
  * a = 3 1 4 1 5, lengths = 2 0 3: out = 1 3 1 4 4
  */
 static inline CvlStatus mul_sez(const int32_t *a, const int32_t *lengths, size_t segments, int32_t *out, size_t n) {
@@ -1897,7 +1926,7 @@ static inline CvlStatus mul_rez(const int32_t *a, size_t n, const int32_t *lengt
  * min_sez: For each integer those before it in its segment, the least of them; 2147483647 where a segment starts. a and out have n
  * elements.
  * Faults: 7 LengthMismatch where the lengths do not add up to n.
- * In place: no.
+ * In place: a may be out.
  * a = 3 1 4 1 5, lengths = 2 0 3: out = 2147483647 3 2147483647 4 1
  */
 static inline CvlStatus min_sez(const int32_t *a, const int32_t *lengths, size_t segments, int32_t *out, size_t n) {
@@ -1919,7 +1948,7 @@ static inline CvlStatus min_rez(const int32_t *a, size_t n, const int32_t *lengt
  * max_sez: For each integer those before it in its segment, the greatest of them; -2147483648 where a segment starts. a and out have n
  * elements.
  * Faults: 7 LengthMismatch where the lengths do not add up to n.
- * In place: no.
+ * In place: a may be out.
  * a = 3 1 4 1 5, lengths = 2 0 3: out = -2147483648 3 -2147483648 4 4
  */
 static inline CvlStatus max_sez(const int32_t *a, const int32_t *lengths, size_t segments, int32_t *out, size_t n) {
@@ -1941,7 +1970,7 @@ static inline CvlStatus max_rez(const int32_t *a, size_t n, const int32_t *lengt
  * and_sez: For each integer those before it in its segment, and, bit by bit; -1 where a segment starts. a and out have n
  * elements.
  * Faults: 7 LengthMismatch where the lengths do not add up to n.
- * In place: no.
+ * In place: a may be out.
  * a = 3 1 4 1 5, lengths = 2 0 3: out = -1 3 -1 4 0
  */
 static inline CvlStatus and_sez(const int32_t *a, const int32_t *lengths, size_t segments, int32_t *out, size_t n) {
@@ -1963,7 +1992,7 @@ static inline CvlStatus and_rez(const int32_t *a, size_t n, const int32_t *lengt
  * ior_sez: For each integer those before it in its segment, or, bit by bit; 0 where a segment starts. a and out have n
  * elements.
  * Faults: 7 LengthMismatch where the lengths do not add up to n.
- * In place: no.
+ * In place: a may be out.
  * a = 3 1 4 1 5, lengths = 2 0 3: out = 0 3 0 4 5
  */
 static inline CvlStatus ior_sez(const int32_t *a, const int32_t *lengths, size_t segments, int32_t *out, size_t n) {
@@ -1985,7 +2014,7 @@ static inline CvlStatus ior_rez(const int32_t *a, size_t n, const int32_t *lengt
  * xor_sez: For each integer those before it in its segment, exclusive or, bit by bit; 0 where a segment starts. a and out have n
  * elements.
  * Faults: 7 LengthMismatch where the lengths do not add up to n.
- * In place: no.
+ * In place: a may be out.
  * a = 3 1 4 1 5, lengths = 2 0 3: out = 0 3 0 4 5
  */
 static inline CvlStatus xor_sez(const int32_t *a, const int32_t *lengths, size_t segments, int32_t *out, size_t n) {

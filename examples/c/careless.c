@@ -21,10 +21,10 @@ static size_t n, segments, trues, text_length, text_room;
  * The functions, a row for each: its name; a letter for each of its arrays, as `array_of` reads it; which inputs may be the
  * room, by their numbers; and its arguments, where p[k] is array k. X is given each row.
  */
-#define PAIRS(X, name) X(name, "iiI", "", (p[0], p[1], p[2], n))
-#define SCAN(X, name) X(name, "iI", "", (p[0], p[1], n))
+#define PAIRS(X, name) X(name, "iiI", "01", (p[0], p[1], p[2], n))
+#define SCAN(X, name) X(name, "iI", "0", (p[0], p[1], n))
 #define REDUCE(X, name) X(name, "io", "", (p[0], n, p[1]))
-#define SEGMENT_SCAN(X, name) X(name, "ilI", "", (p[0], p[1], segments, p[2], n))
+#define SEGMENT_SCAN(X, name) X(name, "ilI", "0", (p[0], p[1], segments, p[2], n))
 #define SEGMENT_REDUCE(X, name) X(name, "ilS", "", (p[0], n, p[1], segments, p[2]))
 #define FLAG_PAIRS(X, name) X(name, "ffF", "", (p[0], p[1], p[2], n))
 #define FLAG_SCAN(X, name) X(name, "fF", "", (p[0], p[1], n))
@@ -148,8 +148,8 @@ static size_t n, segments, trues, text_length, text_room;
     EXPORTS(X)
 
 #define EXPORTS(X)                                                                                                             \
-    X(cvl_int2, "iiI", "", (CVL_SUB, p[0], n, p[1], n, p[2], n))                                                             \
-    X(cvl_int1, "iI", "", (CVL_NOT, p[0], n, p[1], n))                                                                        \
+    X(cvl_int2, "iiI", "01", (CVL_SUB, p[0], n, p[1], n, p[2], n))                                                             \
+    X(cvl_int1, "iI", "0", (CVL_NOT, p[0], n, p[1], n))                                                                        \
     X(cvl_compare, "iiF", "", (CVL_LES, p[0], n, p[1], n, p[2], n))                                                            \
     X(cvl_bool2, "ffF", "", (CVL_XOR, p[0], n, p[1], n, p[2], n))                                                              \
     X(cvl_bool1, "fF", "", (CVL_NOT, p[0], n, p[1], n))                                                                        \
@@ -157,13 +157,13 @@ static size_t n, segments, trues, text_length, text_room;
     X(cvl_bool_from_int, "iF", "", (p[0], n, p[1], n))                                                                         \
     X(cvl_select_int, "fiiI", "", (p[0], n, p[1], n, p[2], n, p[3], n))                                                        \
     X(cvl_select_bool, "fffF", "", (p[0], n, p[1], n, p[2], n, p[3], n))                                                       \
-    X(cvl_int_scan, "iI", "", (CVL_ADD, p[0], n, p[1], n))                                                                    \
+    X(cvl_int_scan, "iI", "0", (CVL_ADD, p[0], n, p[1], n))                                                                    \
     X(cvl_int_reduce, "io", "", (CVL_ADD, p[0], n, p[1]))                                                                      \
     X(cvl_bool_scan, "fF", "", (CVL_XOR, p[0], n, p[1], n))                                                                    \
     X(cvl_bool_reduce, "fp", "", (CVL_XOR, p[0], n, p[1]))                                                                     \
-    X(cvl_checked_scan, "iI", "", (p[0], n, p[1], n))                                                                         \
+    X(cvl_checked_scan, "iI", "0", (p[0], n, p[1], n))                                                                         \
     X(cvl_checked_reduce, "io", "", (p[0], n, p[1]))                                                                           \
-    X(cvl_seg_checked_scan, "ilI", "", (p[0], n, p[1], segments, p[2], n))                                                    \
+    X(cvl_seg_checked_scan, "ilI", "0", (p[0], n, p[1], segments, p[2], n))                                                    \
     X(cvl_seg_checked_reduce, "ilS", "", (p[0], n, p[1], segments, p[2], segments))                                            \
     X(cvl_count, "fo", "", (p[0], n, p[1]))                                                                                    \
     X(cvl_extract_int, "io", "", (p[0], n, 0, p[1]))                                                                           \
@@ -181,7 +181,7 @@ static size_t n, segments, trues, text_length, text_room;
     X(cvl_seg_distribute_int, "slI", "", (p[0], segments, p[1], segments, p[2], n))                                            \
     X(cvl_seg_distribute_bool, "glF", "", (p[0], segments, p[1], segments, p[2], n))                                           \
     X(cvl_seg_index, "sslI", "", (p[0], segments, p[1], segments, p[2], segments, p[3], n))                                    \
-    X(cvl_seg_int_scan, "ilI", "", (CVL_ADD, p[0], n, p[1], segments, p[2], n))                                               \
+    X(cvl_seg_int_scan, "ilI", "0", (CVL_ADD, p[0], n, p[1], segments, p[2], n))                                               \
     X(cvl_seg_int_reduce, "ilS", "", (CVL_ADD, p[0], n, p[1], segments, p[2], segments))                                       \
     X(cvl_seg_bool_scan, "flF", "", (CVL_XOR, p[0], n, p[1], segments, p[2], n))                                               \
     X(cvl_seg_bool_reduce, "flG", "", (CVL_XOR, p[0], n, p[1], segments, p[2], segments))                                      \
@@ -213,7 +213,7 @@ static size_t n, segments, trues, text_length, text_room;
     X(cvl_seg_read_ints, "uIcSc", "", (p[0], text_length, p[1], n, p[2], p[3], segments, p[4]))                                       \
     X(cvl_seg_write_ints, "ilXc", "", (p[0], n, p[1], segments, p[2], text_room, p[3]))                                        \
     X(cvl_seg_write_bools, "flXc", "", (p[0], n, p[1], segments, p[2], text_room, p[3]))                                       \
-    X(cvl_int_scan_after, "iI", "", (CVL_ADD, 5, p[0], n, p[1], n))                                                           \
+    X(cvl_int_scan_after, "iI", "0", (CVL_ADD, 5, p[0], n, p[1], n))                                                           \
     X(cvl_bool_scan_after, "fF", "", (CVL_XOR, true, p[0], n, p[1], n))                                                        \
     X(cvl_segments_new, "lh", "", (p[0], segments, p[1]))                                                                      \
     X(cvl_segments_free, "h", "", (p[0]))                                                                                      \

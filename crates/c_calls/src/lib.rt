@@ -10,6 +10,7 @@ pub mod elements;
 pub mod flat_permutes;
 pub mod held;
 pub mod held_segments;
+pub mod in_place;
 mod loose;
 pub mod nested_texts;
 mod numbers;

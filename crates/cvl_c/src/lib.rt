@@ -10,6 +10,7 @@ mod descriptors;
 mod elements;
 mod flat_permutes;
 mod held_segments;
+mod in_place;
 mod nested_texts;
 mod packs;
 mod place_by_place;

@@ -3,6 +3,7 @@
 
 mod booleans;
 mod bytes;
+mod in_place;
 mod integers;
 mod nested;
 mod told;

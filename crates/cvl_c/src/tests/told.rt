@@ -115,7 +115,7 @@ pub fn first_wrong<T: Copy + PartialEq, C: Call<T>>(
 
 /// A status of no call, for a room without a place for the one value of a call.
 pub const NO_ROOM: CvlStatus = CvlStatus {
-    number: 102,
+    number: 255,
     place: -1,
 };
 

@@ -1,0 +1,166 @@
+//! The calls in place: the result is written over a vector that the call reads, which is as before where a fault is told. They
+//! check what the same calls over a room check, in the same order; there is no room whose length could differ.
+
+ghost use Rattle.std.specs.Prelude.{◌≡◌, ◌≤◌, Ok, length};
+ghost use Rattle.std.specs.List.{AllPass};
+ghost use Rattle.cvl_base.specs.CheckedSums.{checked_scan_of, checked_seg_scan_of};
+ghost use Rattle.cvl_base.specs.Elementwise.{ints1_of, ints2_of};
+ghost use Rattle.cvl_base.specs.Folds.{scan_of};
+ghost use Rattle.cvl_base.specs.Limits.{most_elements};
+ghost use Rattle.cvl_base.specs.Rooms.{Overwrites, OverwritesOr};
+ghost use Rattle.cvl_base.specs.Scans.{int_join_of, int_scan_of, int_unit_of};
+ghost use Rattle.cvl_base.specs.SegmentedCalls.{seg_scan_of};
+ghost use Rattle.c_calls.specs.Calls.{by_operator, by_segments, in_limit};
+ghost use Rattle.c_calls.specs.Numbers.{int_binary, int_monoid, unary};
+ghost use Rattle.c_calls.specs.Tiles.{int_scan_after};
+
+use crate::checks::{check_limit, descriptor};
+use crate::numbers::{int_binary, int_monoid, unary};
+use cvl_base::monoid::know_laws;
+use cvl_base::monoids::{Add, And, Ior, Max, Min, Mul, Xor};
+use cvl_base::{Fault, IntMonoid, Monoid, Refused};
+use elementwise::{int1_in, int2_in_both, int2_in_first, int2_in_second};
+use scan_walks::{checked_scan_in, checked_seg_scan_in, know_numbers, scan_in, seg_scan_in};
+use segdes::SegDes;
+use std::alloc::Global;
+
+/// The operator on each two integers at the same place, over the first.
+pub fn int2_first(op: u32, a: &mut [i32], b: &[i32]) -> Result<(), Fault>
+    ensures { Overwrites (by_operator (int_binary op) (λ o. in_limit a.old (ints2_of o a.old b.now))) result a.old a.new }
+{
+    let op = int_binary(op)?;
+    check_limit(a)?;
+    int2_in_first(op, a, b)
+}
+
+/// The operator on each two integers at the same place, over the second.
+pub fn int2_second(op: u32, a: &[i32], b: &mut [i32]) -> Result<(), Fault>
+    ensures { Overwrites (by_operator (int_binary op) (λ o. in_limit a.now (ints2_of o a.now b.old))) result b.old b.new }
+{
+    let op = int_binary(op)?;
+    check_limit(a)?;
+    int2_in_second(op, a, b)
+}
+
+/// The operator on each integer and itself, over the integers.
+pub fn int2_both(op: u32, a: &mut [i32]) -> Result<(), Fault>
+    ensures { Overwrites (by_operator (int_binary op) (λ o. in_limit a.old (ints2_of o a.old a.old))) result a.old a.new }
+{
+    let op = int_binary(op)?;
+    check_limit(a)?;
+    int2_in_both(op, a)
+}
+
+/// The operator on each integer, over the integers.
+pub fn int1(op: u32, a: &mut [i32]) -> Result<(), Fault>
+    ensures { Overwrites (by_operator (unary op) (λ o. in_limit a.old (Ok (ints1_of o a.old)))) result a.old a.new }
+{
+    let op = unary(op)?;
+    check_limit(a)?;
+    int1_in(op, a);
+    Ok(())
+}
+
+/// The scan from the unit on, over the elements.
+fn scan<M: Monoid>(a: &mut [M::Item])
+    requires items { AllPass M.is_item a.old }
+    ensures { a.new ≡ scan_of M.join M.unit a.old }
+{
+    know_laws::<M>();
+    scan_in::<M>(M::unit(), a);
+}
+
+/// The scan of integers by an operator, over the integers.
+fn int_scan_by(op: IntMonoid, a: &mut [i32])
+    ensures { a.new ≡ int_scan_of op a.old }
+{
+    know_numbers(a);
+    match op {
+        IntMonoid::Add => scan::<Add>(a),
+        IntMonoid::Mul => scan::<Mul>(a),
+        IntMonoid::Min => scan::<Min>(a),
+        IntMonoid::Max => scan::<Max>(a),
+        IntMonoid::And => scan::<And>(a),
+        IntMonoid::Ior => scan::<Ior>(a),
+        IntMonoid::Xor => scan::<Xor>(a),
+    }
+}
+
+/// The scan of integers by the operator of a number, over the integers.
+pub fn int_scan(op: u32, a: &mut [i32]) -> Result<(), Fault>
+    ensures { Overwrites (by_operator (int_monoid op) (λ o. in_limit a.old (Ok (int_scan_of o a.old)))) result a.old a.new }
+{
+    let op = int_monoid(op)?;
+    check_limit(a)?;
+    int_scan_by(op, a);
+    Ok(())
+}
+
+/// The scan of integers by an operator, after an integer, over the integers.
+fn int_scan_after_by(op: IntMonoid, before: i32, a: &mut [i32])
+    ensures { a.new ≡ int_scan_after op before a.old }
+{
+    know_numbers(&[before]);
+    know_numbers(a);
+    match op {
+        IntMonoid::Add => scan_in::<Add>(before, a),
+        IntMonoid::Mul => scan_in::<Mul>(before, a),
+        IntMonoid::Min => scan_in::<Min>(before, a),
+        IntMonoid::Max => scan_in::<Max>(before, a),
+        IntMonoid::And => scan_in::<And>(before, a),
+        IntMonoid::Ior => scan_in::<Ior>(before, a),
+        IntMonoid::Xor => scan_in::<Xor>(before, a),
+    }
+}
+
+/// The scan of integers by the operator of a number, after an integer, over the integers.
+pub fn int_scan_from(op: u32, before: i32, a: &mut [i32]) -> Result<(), Fault>
+    ensures { Overwrites (by_operator (int_monoid op) (λ o. in_limit a.old (Ok (int_scan_after o before a.old)))) result a.old a.new }
+{
+    let op = int_monoid(op)?;
+    check_limit(a)?;
+    int_scan_after_by(op, before, a);
+    Ok(())
+}
+
+/// For each integer the sum of those before it, over the integers.
+pub fn checked_scan(a: &mut [i32]) -> Result<(), Fault>
+    ensures { Overwrites (in_limit a.old (checked_scan_of a.old)) result a.old a.new }
+{
+    check_limit(a)?;
+    checked_scan_in(a)
+}
+
+/// The scan of each segment of integers by an operator, over the integers.
+fn int_scan_of_segments(op: IntMonoid, a: &mut [i32], d: &SegDes<Global>) -> Result<(), Fault>
+    ensures { Overwrites (seg_scan_of (int_join_of op) (int_unit_of op) a.old d.now) result a.old a.new }
+{
+    know_numbers(a);
+    match op {
+        IntMonoid::Add => seg_scan_in::<Add, Global>(a, d),
+        IntMonoid::Mul => seg_scan_in::<Mul, Global>(a, d),
+        IntMonoid::Min => seg_scan_in::<Min, Global>(a, d),
+        IntMonoid::Max => seg_scan_in::<Max, Global>(a, d),
+        IntMonoid::And => seg_scan_in::<And, Global>(a, d),
+        IntMonoid::Ior => seg_scan_in::<Ior, Global>(a, d),
+        IntMonoid::Xor => seg_scan_in::<Xor, Global>(a, d),
+    }
+}
+
+/// The scan of each segment of integers by the operator of a number, over the integers.
+pub fn seg_int_scan(alloc: Global, op: u32, a: &mut [i32], lengths: &[i32]) -> Result<(), Refused>
+    ensures { OverwritesOr (by_operator (int_monoid op)
+        (λ o. by_segments lengths.now (seg_scan_of (int_join_of o) (int_unit_of o) a.old))) result a.old a.new }
+{
+    let op = int_monoid(op)?;
+    let d = descriptor(alloc, lengths)?;
+    Ok(int_scan_of_segments(op, a, &d)?)
+}
+
+/// For each integer the sum of those before it in its segment, over the integers.
+pub fn seg_checked_scan(alloc: Global, a: &mut [i32], lengths: &[i32]) -> Result<(), Refused>
+    ensures { OverwritesOr (by_segments lengths.now (checked_seg_scan_of a.old)) result a.old a.new }
+{
+    let d = descriptor(alloc, lengths)?;
+    Ok(checked_seg_scan_in(a, &d)?)
+}

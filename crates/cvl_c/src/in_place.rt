@@ -1,0 +1,100 @@
+//! The calls in place: the result is written over a vector that the call reads, and there is no room.
+
+ghost use Rattle.std.specs.Prelude.{Ok};
+ghost use Rattle.cvl_base.specs.CheckedSums.{checked_scan_of, checked_seg_scan_of};
+ghost use Rattle.cvl_base.specs.Elementwise.{ints1_of, ints2_of};
+ghost use Rattle.cvl_base.specs.Scans.{int_join_of, int_scan_of, int_unit_of};
+ghost use Rattle.cvl_base.specs.SegmentedCalls.{seg_scan_of};
+ghost use Rattle.c_calls.specs.Calls.{by_operator, by_segments, in_limit};
+ghost use Rattle.c_calls.specs.Numbers.{int_binary, int_monoid, unary};
+ghost use Rattle.c_calls.specs.Tiles.{int_scan_after};
+ghost use Rattle.c_calls.specs.Told.{Told, ToldOr};
+
+use c_calls::in_place::{
+    checked_scan, int_scan, int_scan_from, int1, int2_both, int2_first, int2_second,
+    seg_checked_scan, seg_int_scan,
+};
+use c_calls::status::{CvlStatus, told_over, told_over_or};
+use std::alloc::Global;
+
+/// `cvl_int2` over `a`.
+#[unsafe(no_mangle)]
+pub extern "C" fn cvl_int2_in_first(op: u32, a: &mut [i32], b: &[i32]) -> CvlStatus
+    ensures { Told (by_operator (int_binary op) (λ o. in_limit a.old (ints2_of o a.old b.now))) result a.old a.new }
+{
+    told_over::<i32>(int2_first(op, a, b))
+}
+
+/// `cvl_int2` over `b`.
+#[unsafe(no_mangle)]
+pub extern "C" fn cvl_int2_in_second(op: u32, a: &[i32], b: &mut [i32]) -> CvlStatus
+    ensures { Told (by_operator (int_binary op) (λ o. in_limit a.now (ints2_of o a.now b.old))) result b.old b.new }
+{
+    told_over::<i32>(int2_second(op, a, b))
+}
+
+/// `cvl_int2` of `a` and itself, over `a`.
+#[unsafe(no_mangle)]
+pub extern "C" fn cvl_int2_in_both(op: u32, a: &mut [i32]) -> CvlStatus
+    ensures { Told (by_operator (int_binary op) (λ o. in_limit a.old (ints2_of o a.old a.old))) result a.old a.new }
+{
+    told_over::<i32>(int2_both(op, a))
+}
+
+/// `cvl_int1` over `a`.
+#[unsafe(no_mangle)]
+pub extern "C" fn cvl_int1_in(op: u32, a: &mut [i32]) -> CvlStatus
+    ensures { Told (by_operator (unary op) (λ o. in_limit a.old (Ok (ints1_of o a.old)))) result a.old a.new }
+{
+    told_over::<i32>(int1(op, a))
+}
+
+/// `cvl_int_scan` over `a`.
+#[unsafe(no_mangle)]
+pub extern "C" fn cvl_int_scan_in(op: u32, a: &mut [i32]) -> CvlStatus
+    ensures { Told (by_operator (int_monoid op) (λ o. in_limit a.old (Ok (int_scan_of o a.old)))) result a.old a.new }
+{
+    told_over::<i32>(int_scan(op, a))
+}
+
+/// `cvl_int_scan_after` over `a`.
+#[unsafe(no_mangle)]
+pub extern "C" fn cvl_int_scan_after_in(op: u32, before: i32, a: &mut [i32]) -> CvlStatus
+    ensures { Told (by_operator (int_monoid op) (λ o. in_limit a.old (Ok (int_scan_after o before a.old)))) result a.old a.new }
+{
+    told_over::<i32>(int_scan_from(op, before, a))
+}
+
+/// `cvl_checked_scan` over `a`.
+#[unsafe(no_mangle)]
+pub extern "C" fn cvl_checked_scan_in(a: &mut [i32]) -> CvlStatus
+    ensures { Told (in_limit a.old (checked_scan_of a.old)) result a.old a.new }
+{
+    told_over::<i32>(checked_scan(a))
+}
+
+/// `cvl_seg_int_scan` over `a`.
+#[unsafe(no_mangle)]
+pub extern "C" fn cvl_seg_int_scan_in(
+    alloc: Global,
+    op: u32,
+    a: &mut [i32],
+    lengths: &[i32],
+) -> CvlStatus
+    ensures { ToldOr (by_operator (int_monoid op)
+        (λ o. by_segments lengths.now (seg_scan_of (int_join_of o) (int_unit_of o) a.old))) result a.old a.new }
+{
+    told_over_or::<i32>(seg_int_scan(alloc, op, a, lengths))
+}
+
+/// `cvl_seg_checked_scan` over `a`.
+#[unsafe(no_mangle)]
+pub extern "C" fn cvl_seg_checked_scan_in(
+    alloc: Global,
+    a: &mut [i32],
+    lengths: &[i32],
+) -> CvlStatus
+    ensures { ToldOr (by_segments lengths.now (checked_seg_scan_of a.old)) result a.old a.new }
+{
+    told_over_or::<i32>(seg_checked_scan(alloc, a, lengths))
+}
