@@ -16,7 +16,7 @@ const TURNS: u64 = 100_000_000;
 /// Writes zeros. Each run waits until two have begun.
 #[derive(Drop)]
 struct Meeting {
-    items: usize,
+    zeros: Copies<u8>,
     begun: AtomicU64,
     /// Whether a run waited in vain.
     is_overdue: AtomicBool,
@@ -38,26 +38,22 @@ impl Meeting {
 impl Writer<u8> for Meeting {
     ghost use Rattle.std.specs.Prelude.{replicate};
 
-    ghost whole = { λ m. replicate m.items 0 };
+    ghost whole = { λ m. replicate m.zeros.count m.zeros.item };
 
     fn write(&self, run: Run<u8>) -> Run<u8>
         requires empty { run.items ≡ [] }
-        requires within { run.first + run.room ≤ length (replicate self.now.items 0) }
-        ensures { result ≡ stretch run.block run.first (part (replicate self.now.items 0) run.first run.room) 0 }
+        requires within { run.first + run.room ≤ length (replicate self.now.zeros.count self.now.zeros.item) }
+        ensures { result ≡ stretch run.block run.first (part (replicate self.now.zeros.count self.now.zeros.item) run.first run.room) 0 }
     {
         self.begin();
-        let zeros = Copies {
-            item: 0,
-            count: self.items,
-        };
-        zeros.write(run)
+        self.zeros.write(run)
     }
 }
 
 #[test]
 fn two_runs_at_one_moment(rt: HostRuntime) -> Result<(), Fail> {
     let meeting = Meeting {
-        items: 40,
+        zeros: Copies { item: 0, count: 40 },
         begun: AtomicU64::new(0),
         is_overdue: AtomicBool::new(false),
     };
