@@ -1,12 +1,12 @@
 -- The last senders of a range of the result, of which each thread finds those of its own range; and that all of them are what
 -- one walk of stores leaves.
-use Rattle.std.proofs.Common.{◌≡◌, ◌∙◌, ℕ, zero, suc, ◌+◌, ◌-◌, ◌<◌, ◌≤◌, Bool, true, false, ◌&&◌, if◌then◌else◌, List, [], ◌∷◌, ◌++◌, length, take, get_or, set, replicate, refl, sym, ap, subst}
+use Rattle.std.proofs.Common.{◌≡◌, ◌∙◌, ℕ, zero, suc, ◌+◌, ◌<◌, ◌≤◌, Bool, true, false, ◌&&◌, if◌then◌else◌, List, [], ◌∷◌, ◌++◌, length, take, get_or, set, refl, sym, ap, subst}
 use Rattle.std.proofs.Common.{arith, inl, inr, leb, ltb, w32, to_z, of_z, FitsSigned, ℤ, pos, negsuc, unsigned_abs, is_some, Option, Some, None}
 use Rattle.std.specs.Ordering.{int_eq}
 use Rattle.std.specs.Cmp.Derive.{both_true}
 use Rattle.std.proofs.lemmas.Bool.{and_parts, le-leb, leb-true, lt-ltb, ltb-true, false_from_ne_true, false≢true}
 use Rattle.std.proofs.lemmas.Bool.Decides.{eqb_tells, Decides-int_eq}
-use Rattle.std.proofs.lemmas.List.{ext_get_or, get_or-set_same, get_or-replicate, get_or-set_other, length-set, set-get_or, length-take, take_more, take_all}
+use Rattle.std.proofs.lemmas.List.{ext_get_or, get_or-set_same, get_or-set_other, length-set, length-take, take_more, take_all}
 use Rattle.std.proofs.lemmas.List.FromFn.{length-map-range_with_len, get_or-map-range_with_len}
 use Rattle.std.proofs.lemmas.List.Sums.{count_by_more_no, count_by_more_yes}
 use Rattle.std.proofs.lemmas.Int.{to_z-of_z}
@@ -135,43 +135,6 @@ module _ (place : ℕ) (ts : List (Option ℤ)) (m : ℕ) (small : place + lengt
       subst (λ us. IsStored place ts (count_destinations us) m (last_senders place us 0 m)) (take_all (length ts) ts (omega arith))
       (stored_all place ts m (length ts) (count_destinations (take (length ts) ts)) (last_senders place (take (length ts) ts) 0 m) (reached (length ts) (omega arith)) (omega arith))
 
--- ---- the walk over one range: what it leaves after the first k places, where it stored a sender last at a destination
-
-pub record IsStoredIn (ts : List (Option ℤ)) (lowest n k destination sender : ℕ) (senders : List ℕ) : Type 0 where
-  pub lasts : senders ≡ last_senders 0 (take k ts) lowest n
-  pub inside : destination < n
-  pub stands : get_or senders destination 0 ≡ sender
-
-pub range_none : (ts : List (Option ℤ)) (lowest n : ℕ) (senders : List ℕ) → senders ≡ replicate n nobody → 0 < n → IsStoredIn ts lowest n 0 0 nobody senders
-range_none ts lowest n senders fresh some = record {
-  lasts = fresh ∙ sym (nobody_sent lowest n);
-  inside = some;
-  stands = ap (λ (ss : List ℕ). get_or ss 0 0) fresh ∙ get_or-replicate n 0 nobody 0 some;
-}
-
-module _ (ts : List (Option ℤ)) (lowest n k destination sender : ℕ) (senders : List ℕ) (to : IsStoredIn ts lowest n k destination sender senders) (lt : k < length ts) where
-  range_long : length senders ≡ n
-  range_long = ap length to.lasts ∙ length-last_senders 0 (take k ts) lowest n
-
-  pub range_more : (new : List ℕ) (d : ℕ) → get_or ts k None ≡ Some (pos d) → lowest ≤ d → d < lowest + n → new ≡ set senders (d - lowest) k
-      → IsStoredIn ts lowest n (k + 1) (d - lowest) k new
-  range_more new d is from below stored = record {
-    lasts = stored ∙ ap (λ ss. set ss (d - lowest) k) to.lasts ∙ ap (set (last_senders 0 (take k ts) lowest n) (d - lowest)) (omega arith)
-        ∙ sym (lasts_set 0 ts lowest n k lt (d - lowest) d (omega arith) (omega arith) is);
-    inside = omega arith;
-    stands = ap (λ (ss : List ℕ). get_or ss (d - lowest) 0) stored ∙ get_or-set_same senders (d - lowest) k 0 (omega (arith, range_long));
-  }
-
-  pub range_other : (new : List ℕ) → ((d : ℕ) → lowest ≤ d → d < lowest + n → is_destination (pos d) (get_or ts k None) ≡ false) → new ≡ set senders destination sender
-      → IsStoredIn ts lowest n (k + 1) destination sender new
-  range_other new other stored =
-      let same : new ≡ senders = stored ∙ ap (set senders destination) (sym to.stands) ∙ set-get_or senders destination 0 in
-      record {
-        lasts = same ∙ to.lasts ∙ sym (lasts_other 0 ts lowest n k lt other);
-        inside = to.inside;
-        stands = ap (λ (ss : List ℕ). get_or ss destination 0) same ∙ to.stands;
-      }
-
 -- ---- whether an index lies in the range, as the code asks it
 
 abbrev pub is_in_range : Bool → ℕ → ℕ → ℕ → Bool
@@ -204,12 +167,12 @@ bad_told : (fault : Option Fault) → ¬ (None ≡ fault) → true ≡ is_some f
 bad_told None not_none = absurd (not_none refl)
 bad_told (Some f) not_none = refl
 
-module _ (ts : List (Option ℤ)) (m : ℕ) (small : length ts ≤ most_elements) (senders : List ℕ) (are : senders ≡ last_senders 0 ts 0 m) where
-  stored_here : IsStored 0 ts (count_destinations ts) m senders
-  stored_here = subst (IsStored 0 ts (count_destinations ts) m) (sym are) (lasts_stored 0 ts m (omega (arith, small)))
+module _ (ts : List (Option ℤ)) (m : ℕ) (small : length ts ≤ most_elements) where
+  stored_here : IsStored 0 ts (count_destinations ts) m (last_senders 0 ts 0 m)
+  stored_here = lasts_stored 0 ts m (omega (arith, small))
 
-  pub as_many_told : count_sent senders ≡ count_destinations ts → (senders ≡ senders_of 0 ts m) × (false ≡ is_some (first_fault 0 (wrongs m ts)))
+  pub as_many_told : count_sent (last_senders 0 ts 0 m) ≡ count_destinations ts → (last_senders 0 ts 0 m ≡ senders_of 0 ts m) × (false ≡ is_some (first_fault 0 (wrongs m ts)))
   as_many_told same = (stored_here.are_first same, ap is_some (stored_here.no_fault same))
 
-  pub fewer_told : ¬ (count_sent senders ≡ count_destinations ts) → true ≡ is_some (first_fault 0 (wrongs m ts))
+  pub fewer_told : ¬ (count_sent (last_senders 0 ts 0 m) ≡ count_destinations ts) → true ≡ is_some (first_fault 0 (wrongs m ts))
   fewer_told fewer = bad_told (first_fault 0 (wrongs m ts)) (λ right. fewer (stored_here.apart right))

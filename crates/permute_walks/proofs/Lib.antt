@@ -5,3 +5,4 @@ pub mod Scattered
 pub mod Sent
 pub mod Stored
 pub mod Taken
+pub mod Written

@@ -1,5 +1,5 @@
 -- The walks of a simple permute straight into a room: what the marks of the places tell, and what the room holds.
-use Rattle.std.proofs.Common.{◌≡◌, ◌∙◌, ℕ, zero, suc, ◌+◌, ◌<◌, ◌≤◌, Bool, true, false, not, cond, List, [], ◌∷◌, length, filter_map, take, get_or, set, replicate, refl, sym, ap}
+use Rattle.std.proofs.Common.{◌≡◌, ◌≢◌, ◌∙◌, ℕ, zero, suc, ◌+◌, ◌<◌, ◌≤◌, Bool, true, false, not, cond, List, [], ◌∷◌, length, filter_map, take, get_or, set, replicate, refl, sym, ap}
 use Rattle.std.proofs.Common.{arith, eqb, w32, to_z, of_z, FitsSigned, ℤ, pos, negsuc, slice_get, unwrap_or, Some, None}
 use Rattle.std.specs.List.{All, cons_option}
 use Rattle.std.proofs.lemmas.Bool.{false≢true, ltb-true, ne_eqb}
@@ -19,14 +19,18 @@ use Rattle.permute_walks.proofs.Taken.{read_at}
 
 -- ---- marks
 
-none_marked : (m : ℕ) → sent_marks (replicate m nobody) ≡ replicate m false
+pub none_marked : (m : ℕ) → sent_marks (replicate m nobody) ≡ replicate m false
 none_marked zero = refl
 none_marked (suc m) = ap (λ rest. false ∷ rest) (none_marked m)
 
-count_marked : (senders : List ℕ) → count_of (sent_marks senders) ≡ count_sent senders
+pub count_marked : (senders : List ℕ) → count_of (sent_marks senders) ≡ count_sent senders
 count_marked [] = refl
 count_marked (s ∷ senders) =
     omega (arith, sum_by-cons (λ (b : _). cond b 1 0) (not (eqb s nobody)) (sent_marks senders), sum_by-cons is_sent s senders, count_marked senders)
+
+-- one more place is sent
+pub marked_set : (senders : List ℕ) (d k : ℕ) → k ≢ nobody → sent_marks (set senders d k) ≡ set (sent_marks senders) d true
+marked_set senders d k other = map-set (λ s. not (eqb s nobody)) senders d k ∙ ap (set (sent_marks senders) d) (ap not (ne_eqb k nobody other))
 
 -- where a place that is inside is read without its sign
 pub named_below : (m : ℕ) (i : ℤ) (named : ℕ) → FitsSigned w32 i → named ≡ of_z w32 (to_z w32 (of_z w32 i)) → is_place m i ≡ true → named < m
@@ -37,7 +41,7 @@ named_below m (negsuc d) named fits cast inside = absurd (false≢true inside)
 -- ---- the room
 
 -- one more place is sent
-written_set : {X : Type 0} (source : List X) (senders : List ℕ) (values : List X) (d k : ℕ) (x : X) → slice_get source k ≡ Some x
+pub written_set : {X : Type 0} (source : List X) (senders : List ℕ) (values : List X) (d k : ℕ) (x : X) → slice_get source k ≡ Some x
     → written_over source (set senders d k) values ≡ set (written_over source senders values) d x
 written_set source [] values d k x is = refl
 written_set source (s ∷ senders) [] zero k x is = refl
@@ -47,7 +51,7 @@ written_set source (s ∷ senders) (v ∷ values) (suc d) k x is =
     ap (λ rest. unwrap_or (slice_get source s) v ∷ rest) (written_set source senders values d k x is)
 
 -- nobody was sent
-written_none : {X : Type 0} (source values : List X) → length source ≤ nobody → written_over source (replicate (length values) nobody) values ≡ values
+pub written_none : {X : Type 0} (source values : List X) → length source ≤ nobody → written_over source (replicate (length values) nobody) values ≡ values
 written_none source [] small = refl
 written_none source (v ∷ values) small =
     let none = slice_get_past source nobody small in
@@ -55,7 +59,7 @@ written_none source (v ∷ values) small =
     λ i. unwrap_or (none i) v ∷ rest i
 
 -- somebody was sent to each place
-written_all : {X : Type 0} (source : List X) (senders : List ℕ) (values : List X) → length senders ≡ length values → All (λ s. s < length source) senders
+pub written_all : {X : Type 0} (source : List X) (senders : List ℕ) (values : List X) → length senders ≡ length values → All (λ s. s < length source) senders
     → written_over source senders values ≡ filter_map (slice_get source) senders
 written_all source [] values long below = refl
 written_all source (s ∷ senders) [] long below = absurd (omega arith)
@@ -104,10 +108,7 @@ module _ (index : List ℤ) (m : ℕ) (few : length index ≤ nobody) where
 
       pub marks_more : (marks : List Bool) → marks ≡ sent_marks (lasts k) → set marks d true ≡ sent_marks (lasts (k + 1))
       marks_more marks are =
-          ap (λ bs. set bs d true) are
-          ∙ ap (set (sent_marks (lasts k)) d) (ap not (sym (ne_eqb k nobody (λ same. omega arith))))
-          ∙ sym (map-set (λ s. not (eqb s nobody)) (lasts k) d k)
-          ∙ ap sent_marks (sym sets)
+          ap (λ bs. set bs d true) are ∙ sym (marked_set (lasts k) d k (λ same. omega arith)) ∙ ap sent_marks (sym sets)
 
       pub room_more : {X : Type 0} (source old room : List X) (x : X) → slice_get source k ≡ Some x → room ≡ written_over source (lasts k) old
           → set room d x ≡ written_over source (lasts (k + 1)) old

@@ -1,18 +1,16 @@
-//! The first walk of a permute by several threads, each of which owns a range of the result. Each reads all indices, stores
-//! the places whose index lies in its range, and counts its senders. So no two threads write one place, no place is waited
-//! for, and each thread's stores lie close together.
+//! A permute in one walk by several threads, each of which owns a range of the result and a mark for each place of it. Each reads
+//! all indices, writes and marks the places of its range to which an index sends, and counts its marks. So no two threads write
+//! one place, no place is waited for, and each thread's writes lie close together.
 
-ghost use Rattle.std.specs.Prelude.{◌≡◌, ◌+◌, ◌≤◌, length, replicate, IfOk, IfSome, is_none, is_some};
-ghost use Rattle.std.specs.Thread.{IsSync};
+ghost use Rattle.std.specs.Prelude.{◌≡◌, ◌+◌, ◌≤◌, List, false, length, replicate, IfOk, IfSome, is_none, is_some};
+ghost use Rattle.std.specs.Thread.{IsSend, IsSync};
 ghost use Rattle.cvl_base.specs.Limits.{most_elements};
 ghost use Rattle.cvl_base.specs.Permutes.{first_fault, wrongs};
-ghost use Rattle.permute_walks.specs.Senders.{count_sent, count_destinations, last_senders, nobody, senders_of};
+ghost use Rattle.permute_walks.specs.Senders.{count_sent, count_destinations, last_senders, senders_of, sent_marks, written_over};
 
 use crate::destinations::Destinations;
-use crate::sends::NOBODY;
-use crate::stores::count_senders;
-use cvl_base::{Memory, NoResources};
-use fresh::{Copies, write_in_runs};
+use cvl_base::{Memory, NoResources, true_count};
+use fresh::{Copies, Writer, write_in_runs};
 use sharing::ThreadCount;
 use std::thread::{Threads, join_mut};
 
@@ -31,126 +29,196 @@ fn count_destinations<D: Destinations>(destinations: &D) -> usize
     count
 }
 
-/// Stores each place that takes part at its index, where that is a place of one range of the result. The range begins at
-/// place `lowest`, and its senders are nobody to begin with.
-// Without its sign an index below 0 is beyond the longest vector. A place that is sent elsewhere stores the sender before it
-// once more, so that the machine code has no branch on where it is sent.
+/// Writes the element of each place that takes part at its index, and marks it there, where that is a place of one range of the
+/// result. The range begins at place `lowest`, and no place of it is marked to begin with.
+// Without its sign an index below 0 is beyond the longest vector. A place that is sent elsewhere writes the element and the mark
+// before it once more, so that the machine code has no branch on where it is sent.
 #[inline(never)]
-fn store_range<D: Destinations>(senders: &mut [u32], lowest: usize, destinations: &D)
-    requires fresh { senders.old ≡ replicate (length senders.old) nobody }
-    requires within { lowest + length senders.old ≤ most_elements }
+pub(crate) fn write_range<T: Copy, D: Destinations>(
+    source: &[T],
+    destinations: &D,
+    lowest: usize,
+    out: &mut [T],
+    marks: &mut [bool],
+)
+    requires sourced { length source.now ≡ length (D.destinations destinations.now) }
+    requires unmarked { marks.old ≡ replicate (length out.old) false }
+    requires within { lowest + length out.old ≤ most_elements }
     requires in_limit { length (D.destinations destinations.now) ≤ most_elements }
-    ensures { senders.new ≡ last_senders 0 (D.destinations destinations.now) lowest (length senders.old) }
+    ensures written { out.new ≡ written_over source.now (last_senders 0 (D.destinations destinations.now) lowest (length out.old)) out.old }
+    ensures marked { marks.new ≡ sent_marks (last_senders 0 (D.destinations destinations.now) lowest (length out.old)) }
 {
-    if senders.is_empty() {
+    if out.is_empty() {
         return;
     }
-    let end = lowest + senders.len();
+    let end = lowest + out.len();
     let mut destination = 0;
-    let mut sender = NOBODY;
+    let mut element = out[0];
+    let mut marked = false;
     for k in 0..destinations.count() {
         let (index, takes_part) = destinations.at(k);
         let named = index.cast_unsigned() as usize;
+        let sent = source[k];
         if takes_part & (named >= lowest) & (named < end) {
             destination = named - lowest;
-            sender = k as u32;
+            element = sent;
+            marked = true;
         }
-        senders[destination] = sender;
+        out[destination] = element;
+        marks[destination] = marked;
     }
 }
 
-/// Stores the places of one range, which at most so many threads share, and tells how many senders there are.
+/// The elements of the places.
+// By this trait, and not as a slice, they go to other threads beside the range of the result, whose elements are of the same type.
+trait Elements<T> {
+    ghost elements: { Self → List T };
+
+    fn elements(&self) -> &[T]
+        ensures { result.now ≡ elements self.now };
+}
+
+/// All elements of a slice.
+#[derive(Drop)]
+struct AllElements<'a, T> {
+    elements: &'a [T],
+}
+
+impl<'a, T> Elements<T> for AllElements<'a, T> {
+    ghost elements = { λ a. a.elements.now };
+
+    fn elements(&self) -> &[T] {
+        self.elements
+    }
+}
+
+/// Writes and marks the places of one range, which at most so many threads share, and tells how many are marked.
 #[cycle(ranges)]
-fn store_ranges<R: Threads + Sync, D: Destinations + Sync>(
+fn write_ranges<T: Copy + Send, R: Threads + Sync, S: Elements<T> + Sync, D: Destinations + Sync>(
     rt: &R,
+    source: &S,
     destinations: &D,
     threads: ThreadCount,
     lowest: usize,
-    senders: &mut [u32],
+    out: &mut [T],
+    marks: &mut [bool],
 ) -> usize
-    requires fresh { senders.old ≡ replicate (length senders.old) nobody }
-    requires within { lowest + length senders.old ≤ most_elements }
+    requires sourced { length (S.elements source.now) ≡ length (D.destinations destinations.now) }
+    requires unmarked { marks.old ≡ replicate (length out.old) false }
+    requires within { lowest + length out.old ≤ most_elements }
     requires in_limit { length (D.destinations destinations.now) ≤ most_elements }
-    ensures stored { senders.new ≡ last_senders 0 (D.destinations destinations.now) lowest (length senders.old) }
-    ensures count { result ≡ count_sent senders.new }
+    ensures written { out.new ≡ written_over (S.elements source.now) (last_senders 0 (D.destinations destinations.now) lowest (length out.old)) out.old }
+    ensures count { result ≡ count_sent (last_senders 0 (D.destinations destinations.now) lowest (length out.old)) }
 {
     if threads.get() < 2 {
-        store_range(senders, lowest, destinations);
-        return count_senders(senders) as usize;
+        write_range(source.elements(), destinations, lowest, out, marks);
+        return true_count(marks);
     }
     let (fewer, others) = threads.halves();
-    let middle = senders.len() / threads.get() * fewer.get();
-    let (low, high) = senders.split_at_mut(middle);
-    store_both(
+    let middle = out.len() / threads.get() * fewer.get();
+    let (low, high) = out.split_at_mut(middle);
+    let (low_marks, high_marks) = marks.split_at_mut(middle);
+    write_both(
         rt,
+        source,
         destinations,
         fewer,
         lowest,
         low,
+        low_marks,
         others,
         lowest + middle,
         high,
+        high_marks,
     )
 }
 
-/// `store_ranges` for two ranges, each in a thread of its own: how many senders there are in both.
+/// `write_ranges` for two ranges, each in a thread of its own: how many places are marked in both.
 #[cycle(ranges)]
-fn store_both<R: Threads + Sync, D: Destinations + Sync>(
+fn write_both<T: Copy + Send, R: Threads + Sync, S: Elements<T> + Sync, D: Destinations + Sync>(
     rt: &R,
+    source: &S,
     destinations: &D,
     fewer: ThreadCount,
     lowest: usize,
-    low: &mut [u32],
+    low: &mut [T],
+    low_marks: &mut [bool],
     others: ThreadCount,
     middle: usize,
-    high: &mut [u32],
+    high: &mut [T],
+    high_marks: &mut [bool],
 ) -> usize
     requires some { (1 ≤ fewer) × (1 ≤ others) }
-    requires fresh { (low.old ≡ replicate (length low.old) nobody) × (high.old ≡ replicate (length high.old) nobody) }
+    requires sourced { length (S.elements source.now) ≡ length (D.destinations destinations.now) }
+    requires unmarked { (low_marks.old ≡ replicate (length low.old) false) × (high_marks.old ≡ replicate (length high.old) false) }
     requires within { (lowest + length low.old ≤ most_elements) × (middle + length high.old ≤ most_elements) }
     requires in_limit { length (D.destinations destinations.now) ≤ most_elements }
-    ensures low { low.new ≡ last_senders 0 (D.destinations destinations.now) lowest (length low.old) }
-    ensures high { high.new ≡ last_senders 0 (D.destinations destinations.now) middle (length high.old) }
-    ensures count { result ≡ count_sent low.new + count_sent high.new }
+    ensures low { low.new ≡ written_over (S.elements source.now) (last_senders 0 (D.destinations destinations.now) lowest (length low.old)) low.old }
+    ensures high { high.new ≡ written_over (S.elements source.now) (last_senders 0 (D.destinations destinations.now) middle (length high.old)) high.old }
+    ensures count { result ≡ count_sent (last_senders 0 (D.destinations destinations.now) lowest (length low.old))
+        + count_sent (last_senders 0 (D.destinations destinations.now) middle (length high.old)) }
 {
-    let mut store_low = || -> usize
-        requires { IsSync R.row × IsSync D.row × (1 ≤ fewer) × (low.now ≡ replicate (length low.now) nobody)
+    let mut write_low = || -> usize
+        requires { IsSync R.row × IsSend T.row × IsSync S.row × IsSync D.row × (1 ≤ fewer) × (length (S.elements source.now) ≡ length (D.destinations destinations.now))
+            × (low_marks.now ≡ replicate (length low.now) false)
             × (lowest + length low.now ≤ most_elements) × (length (D.destinations destinations.now) ≤ most_elements) }
-        ensures { (low.exit.now ≡ last_senders 0 (D.destinations destinations.entry.now) lowest (length low.entry.now))
-            × (result ≡ count_sent low.exit.now) }
-    { store_ranges(rt, destinations, fewer, lowest, low) };
-    let mut store_high = || -> usize
-        requires { IsSync R.row × IsSync D.row × (1 ≤ others) × (high.now ≡ replicate (length high.now) nobody)
+        ensures { (low.exit.now ≡ written_over (S.elements source.entry.now) (last_senders 0 (D.destinations destinations.entry.now) lowest (length low.entry.now)) low.entry.now)
+            × (result ≡ count_sent (last_senders 0 (D.destinations destinations.entry.now) lowest (length low.entry.now))) }
+    { write_ranges(rt, source, destinations, fewer, lowest, low, low_marks) };
+    let mut write_high = || -> usize
+        requires { IsSync R.row × IsSend T.row × IsSync S.row × IsSync D.row × (1 ≤ others) × (length (S.elements source.now) ≡ length (D.destinations destinations.now))
+            × (high_marks.now ≡ replicate (length high.now) false)
             × (middle + length high.now ≤ most_elements) × (length (D.destinations destinations.now) ≤ most_elements) }
-        ensures { (high.exit.now ≡ last_senders 0 (D.destinations destinations.entry.now) middle (length high.entry.now))
-            × (result ≡ count_sent high.exit.now) }
-    { store_ranges(rt, destinations, others, middle, high) };
-    let (in_low, in_high) = join_mut(rt, &mut store_low, &mut store_high);
+        ensures { (high.exit.now ≡ written_over (S.elements source.entry.now) (last_senders 0 (D.destinations destinations.entry.now) middle (length high.entry.now)) high.entry.now)
+            × (result ≡ count_sent (last_senders 0 (D.destinations destinations.entry.now) middle (length high.entry.now))) }
+    { write_ranges(rt, source, destinations, others, middle, high, high_marks) };
+    let (in_low, in_high) = join_mut(rt, &mut write_low, &mut write_high);
     in_low + in_high
 }
 
-/// For each place of a flat result its sender, which at most `threads` threads find, each for a range of the result: none
-/// where a place is bad. `NoResources` where there is no memory for the senders.
-pub fn senders_shared<R: Threads + Sync, A: Memory, D: Destinations + Sync>(
+/// What a permute of so many places leaves of what stands there before, in one walk, which at most `threads` threads share: the
+/// element of each place's sender, or what `before` writes where it has none. None where a place is bad. `NoResources` where
+/// there is no memory for the places, or for a mark for each.
+pub fn permuted_shared<T, R, A, D, W>(
     rt: &R,
     alloc: A,
     threads: ThreadCount,
-    places: usize,
+    source: &[T],
     destinations: &D,
-) -> Result<Option<Vec<u32, A>>, NoResources>
+    places: usize,
+    before: &W,
+) -> Result<Option<Vec<T, A>>, NoResources>
+where
+    T: Copy + Send + Sync,
+    R: Threads + Sync,
+    A: Memory,
+    D: Destinations + Sync,
+    W: Writer<T> + Sync,
+    requires sourced { length source.now ≡ length (D.destinations destinations.now) }
     requires few { length (D.destinations destinations.now) ≤ most_elements }
     requires few_places { places ≤ most_elements }
-    ensures senders { IfOk result (λ found. IfSome found (λ v. v.items ≡ senders_of 0 (D.destinations destinations.now) places)) }
+    requires whole { places ≡ length (W.whole before.now) }
+    ensures written { IfOk result (λ found. IfSome found (λ v.
+        v.items ≡ written_over source.now (senders_of 0 (D.destinations destinations.now) places) (W.whole before.now))) }
     ensures bad { IfOk result (λ found. is_none found ≡ is_some (first_fault 0 (wrongs places (D.destinations destinations.now)))) }
 {
-    let nobodies = Copies {
-        item: NOBODY,
+    let mut out = write_in_runs(rt, alloc, threads, before, places)?;
+    let unmarked = Copies {
+        item: false,
         count: places,
     };
-    let mut senders = write_in_runs(rt, alloc, threads, &nobodies, places)?;
-    let sent = store_ranges(rt, destinations, threads, 0, &mut senders);
+    let mut marks = write_in_runs(rt, alloc, threads, &unmarked, places)?;
+    let sent = write_ranges(
+        rt,
+        &AllElements { elements: source },
+        destinations,
+        threads,
+        0,
+        &mut out,
+        &mut marks,
+    );
     if sent == count_destinations(destinations) {
-        Ok(Some(senders))
+        Ok(Some(out))
     } else {
         Ok(None)
     }

@@ -1,5 +1,5 @@
 -- The definition of a segmented back permute, told by its two walks, and what is known where no index is outside.
-use Rattle.std.proofs.Common.{◌≡◌, ◌∙◌, ℕ, ◌+◌, ◌≤◌, List, [], ◌∷◌, ◌++◌, length, map, sum, take, drop, refl, sym, ap, subst, length-append, length-drop, arith, ℤ, Option, Some, None, Result, Ok, Err}
+use Rattle.std.proofs.Common.{◌≡◌, ◌∙◌, ℕ, ◌+◌, ◌≤◌, List, [], ◌∷◌, ◌++◌, length, map, sum, take, drop, refl, ap, length-drop, arith, ℤ, Option, Some, None, Result, Ok, Err}
 use Rattle.std.specs.List.{zip}
 use Rattle.std.specs.Option.{option_or}
 use Rattle.std.proofs.lemmas.List.{length-take-le}
@@ -17,8 +17,8 @@ use Rattle.cvl_base.specs.Permutes.{back_of}
 use Rattle.cvl_base.specs.Segmented.{end_to_end, in_vector, moved, of_two, results_from}
 use Rattle.cvl_base.specs.SegmentedCalls.{seg_back_of}
 use Rattle.permute_walks.specs.Indices.{AreInside, elements_at, first_outside}
-use Rattle.permute_walks.proofs.Outside.{values_unless, all_inside, length-elements_at}
-use Rattle.permutes.specs.Backs.{IsSegmentedBack, outside_from, segments_at}
+use Rattle.permute_walks.proofs.Outside.{values_unless, all_inside}
+use Rattle.permutes.specs.Backs.{outside_from, segments_at}
 use Rattle.cvl_base.proofs.Lists.{sum-cons}
 use Rattle.permutes.proofs.Whole.{beside-fits, left_more}
 

@@ -1,5 +1,5 @@
 -- What the calls give, told by what their two walks give: the same for several threads as for one.
-use Rattle.std.proofs.Common.{◌≡◌, ◌∙◌, ℕ, ◌<◌, ◌≤◌, Bool, List, length, filter_map, sum, sym, ap, subst, arith, ℤ, slice_get, refl, Option, None, Result, Ok, Err, IfOk}
+use Rattle.std.proofs.Common.{◌≡◌, ◌∙◌, ℕ, ◌<◌, ◌≤◌, Bool, List, length, filter_map, sum, sym, ap, subst, arith, ℤ, slice_get, refl, Option, Some, None, Result, Ok, Err, IfOk, IfSome}
 use Rattle.std.specs.List.{All}
 use Rattle.std.proofs.lemmas.List.Sums.{count_by-le-length}
 use Rattle.cvl_base.specs.declared.fault.Fault.{Fault}
@@ -15,6 +15,7 @@ use Rattle.permutes.specs.Walks.{AreAllSent}
 use Rattle.permute_walks.specs.Indices.{elements_at, first_outside}
 use Rattle.permute_walks.specs.Senders.{senders_of, written_over}
 use Rattle.permute_walks.proofs.Outside.{values_unless}
+use Rattle.permute_walks.proofs.Scattered.{written_all}
 use Rattle.permute_walks.proofs.Sent.{length-senders_of}
 use Rattle.permute_walks.proofs.Taken.{length-taken}
 use Rattle.permutes.proofs.Backed.{seg_back-meaning}
@@ -49,6 +50,16 @@ pub written_taken : {X : Type 0} (source defaults : List X) (fault : Option Faul
     → items ≡ written_over source shown defaults → unless fault (Ok (written_over source senders defaults)) ≡ Ok items
 written_taken source defaults fault senders found shown items is shows are =
     taken_ok (λ (ss : List ℕ). written_over source ss defaults) fault senders found items is (λ none same. are ∙ ap (λ ss. written_over source ss defaults) (shows ∙ same))
+
+-- what holds of what was found
+pub found_gives : {V : Type 0} (P : V → Type 0) (found : Option V) (v : V) → found ≡ Some v → IfSome found P → P v
+found_gives P found v is given = subst (λ o. IfSome o P) is given
+
+-- several threads write the elements over what stands before: over each of it where each place has a sender
+pub written_sent : {X : Type 0} (source before : List X) (fault : Option Fault) (senders : List ℕ) (items : List X) → length senders ≡ length before → None ≡ fault → items ≡ written_over source senders before
+    → AreAllSent fault (length source) senders → unless fault (Ok (filter_map (slice_get source) senders)) ≡ Ok items
+written_sent source before fault senders items long right are sent =
+    ap (λ f. unless f (Ok (filter_map (slice_get source) senders))) (sym right) ∙ ap (λ xs. Ok xs) (sym (are ∙ written_all source senders before long (sent (sym right))))
 
 -- as many senders were shown as were meant
 pub shown_long : (fault : Option Fault) (senders found shown : List ℕ) → unless fault (Ok senders) ≡ Ok found → shown ≡ found → length shown ≡ length senders

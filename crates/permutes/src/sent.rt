@@ -1,6 +1,7 @@
-//! Both walks of a permute, of which several threads share the second where the result is long.
+//! The elements of a permute: of a long flat result in one walk that several threads share, else in two, of which they share the
+//! second where the result is long.
 
-ghost use Rattle.std.specs.Prelude.{◌≡◌, ◌≤◌, IfOk, Ok, filter_map, length, slice_get, sum, vec_len};
+ghost use Rattle.std.specs.Prelude.{◌≡◌, ◌≤◌, IfOk, IfSome, None, Ok, filter_map, length, slice_get, sum, vec_len};
 ghost use Rattle.cvl_base.specs.Gives.{Gives, unless};
 ghost use Rattle.cvl_base.specs.Limits.{most_elements};
 ghost use Rattle.cvl_base.specs.Permutes.{first_fault, wrongs};
@@ -11,12 +12,25 @@ ghost use Rattle.permute_walks.specs.Senders.{senders_of, written_over};
 use crate::segment_races::{flagged_segments_raced, segments_raced};
 use crate::sent_alone::{flagged_segment_senders_alone, segment_senders_alone, senders_alone};
 use crew::Gate;
-use cvl_base::{Config, Memory, Refused, true_count};
+use cvl_base::{Config, Memory, NoResources, Refused, true_count};
+use element_walks::Copied;
+use fresh::{Copies, Writer};
 use permute_races::{permute_pace, senders_raced};
-use permute_walks::{Destinations, elements_of, elements_or_defaults, senders_shared};
+use permute_walks::{Destinations, elements_of, elements_or_defaults, permuted_shared};
 use segdes::SegDes;
-use sharing::{LEAST_SEARCHED, race_pace, threads_sending, threads_writing};
+use sharing::{LEAST_SEARCHED, Pace, race_pace, threads_sending, threads_writing};
 use std::thread::Threads;
+
+/// The tiles and the workers of the race for the senders of a flat result, or none where one thread walks: what is asked for, and
+/// where several threads found that a place is bad, what the search for the first one pays for.
+fn senders_pace(config: Config, indices: usize, places: usize) -> Option<Pace>
+    ensures { IfSome result (λ _. places ≤ most_elements) }
+{
+    if threads_sending(config, places).get() < 2 {
+        return permute_pace(config, indices, places);
+    }
+    race_pace(indices >= LEAST_SEARCHED, config, indices)
+}
 
 /// For each place of a flat result its sender, for which workers race or one thread walks.
 fn senders_to<R: Threads + Sync, A: Memory, D: Destinations + Sync, G: Gate>(
@@ -31,37 +45,41 @@ fn senders_to<R: Threads + Sync, A: Memory, D: Destinations + Sync, G: Gate>(
     ensures { Gives (λ v. v.items) result (unless (first_fault 0 (wrongs places (D.destinations destinations.now)))
         (Ok (senders_of 0 (D.destinations destinations.now) places))) }
 {
-    match permute_pace(config, destinations.count(), places) {
+    match senders_pace(config, destinations.count(), places) {
         Some(pace) => senders_raced(rt, alloc, pace, places, destinations, gate),
-        None => senders_unasked(rt, alloc, config, places, destinations, gate),
+        None => senders_alone(alloc, places, destinations),
     }
 }
 
-/// The same where no race is asked for. Several threads share the walk over a long result, and where a place is bad workers
-/// race for the first one.
-fn senders_unasked<R: Threads + Sync, A: Memory, D: Destinations + Sync, G: Gate>(
+/// What several threads write over what stands before in a flat result. None where one thread is to walk, or a place is bad.
+fn permuted_long<T, R, A, D, W>(
     rt: &R,
     alloc: A,
     config: Config,
-    places: usize,
+    source: &[T],
     destinations: &D,
-    gate: &G,
-) -> Result<Vec<u32, A>, Refused>
+    places: usize,
+    before: &W,
+) -> Result<Option<Vec<T, A>>, NoResources>
+where
+    T: Copy + Send + Sync,
+    R: Threads + Sync,
+    A: Memory,
+    D: Destinations + Sync,
+    W: Writer<T> + Sync,
+    requires sourced { length source.now ≡ length (D.destinations destinations.now) }
     requires few { length (D.destinations destinations.now) ≤ most_elements }
-    ensures { Gives (λ v. v.items) result (unless (first_fault 0 (wrongs places (D.destinations destinations.now)))
-        (Ok (senders_of 0 (D.destinations destinations.now) places))) }
+    requires whole { places ≡ length (W.whole before.now) }
+    ensures right { IfOk result (λ found. IfSome found (λ _. None ≡ first_fault 0 (wrongs places (D.destinations destinations.now)))) }
+    ensures written { IfOk result (λ found. IfSome found (λ v.
+        v.items ≡ written_over source.now (senders_of 0 (D.destinations destinations.now) places) (W.whole before.now))) }
 {
     let threads = threads_sending(config, places);
-    if threads.get() >= 2 {
-        if let Some(senders) = senders_shared(rt, alloc, threads, places, destinations)? {
-            return Ok(senders);
-        }
-        let indices = destinations.count();
-        if let Some(pace) = race_pace(indices >= LEAST_SEARCHED, config, indices) {
-            return senders_raced(rt, alloc, pace, places, destinations, gate);
-        }
+    let raced = permute_pace(config, destinations.count(), places).is_some();
+    if threads.get() < 2 || raced {
+        return Ok(None);
     }
-    senders_alone(alloc, places, destinations)
+    permuted_shared(rt, alloc, threads, source, destinations, places, before)
 }
 
 /// For each place of a result with segments of its own lengths its sender, for which workers race or one thread walks the
@@ -128,6 +146,7 @@ pub(crate) fn elements_to<
     destinations: &D,
     gate: &G,
 ) -> Result<Vec<T, A>, Refused>
+    requires sourced { length source.now ≡ length (D.destinations destinations.now) }
     requires few { length (D.destinations destinations.now) ≤ most_elements }
     ensures values { AreAllSent (first_fault 0 (wrongs places (D.destinations destinations.now))) (length source.now)
         (senders_of 0 (D.destinations destinations.now) places)
@@ -135,6 +154,23 @@ pub(crate) fn elements_to<
         (Ok (filter_map (slice_get source.now) (senders_of 0 (D.destinations destinations.now) places)))) }
     ensures in_length { IfOk result (λ v. vec_len v ≤ places) }
 {
+    if let Some(first) = source.first() {
+        let before = Copies {
+            item: *first,
+            count: places,
+        };
+        if let Some(elements) = permuted_long(
+            rt,
+            alloc,
+            config,
+            source,
+            destinations,
+            places,
+            &before,
+        )? {
+            return Ok(elements);
+        }
+    }
     let senders = senders_to(rt, alloc, config, places, destinations, gate)?;
     let threads = threads_writing(config, places);
     Ok(elements_of(rt, alloc, threads, source, &senders)?)
@@ -156,13 +192,27 @@ pub(crate) fn elements_to_over<
     destinations: &D,
     gate: &G,
 ) -> Result<Vec<T, A>, Refused>
+    requires sourced { length source.now ≡ length (D.destinations destinations.now) }
     requires few { length (D.destinations destinations.now) ≤ most_elements }
     ensures values { Gives (λ v. v.items) result
         (unless (first_fault 0 (wrongs (length defaults.now) (D.destinations destinations.now)))
         (Ok (written_over source.now (senders_of 0 (D.destinations destinations.now) (length defaults.now)) defaults.now))) }
     ensures as_long { IfOk result (λ v. vec_len v ≡ length defaults.now) }
 {
-    let senders = senders_to(rt, alloc, config, defaults.len(), destinations, gate)?;
-    let threads = threads_writing(config, defaults.len());
+    let places = defaults.len();
+    let before = Copied { elements: defaults };
+    if let Some(elements) = permuted_long(
+        rt,
+        alloc,
+        config,
+        source,
+        destinations,
+        places,
+        &before,
+    )? {
+        return Ok(elements);
+    }
+    let senders = senders_to(rt, alloc, config, places, destinations, gate)?;
+    let threads = threads_writing(config, places);
     Ok(elements_or_defaults(rt, alloc, threads, source, &senders, defaults)?)
 }

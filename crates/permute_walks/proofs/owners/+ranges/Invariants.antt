@@ -1,14 +1,14 @@
 use Rattle.std.proofs.Common.{◌+◌, ◌-◌, ◌*◌}
 use Rattle.permute_walks.proofs.owners.+ranges.Given as goal
 
-abbrev pub decreases-store_ranges : goal.decreases-store_ranges
-decreases-store_ranges g l = 4 * l.threads
+abbrev pub decreases-write_ranges : goal.decreases-write_ranges
+decreases-write_ranges g l = 4 * l.threads
 
-abbrev pub decreases-store_both : goal.decreases-store_both
-decreases-store_both g l = 4 * (l.fewer + l.others) - 1
+abbrev pub decreases-write_both : goal.decreases-write_both
+decreases-write_both g l = 4 * (l.fewer + l.others) - 1
 
-abbrev pub decreases-store_both-store_low : goal.decreases-store_both-store_low
-decreases-store_both-store_low g l = 4 * l.fewer + 1
+abbrev pub decreases-write_both-write_low : goal.decreases-write_both-write_low
+decreases-write_both-write_low g l = 4 * l.fewer + 1
 
-abbrev pub decreases-store_both-store_high : goal.decreases-store_both-store_high
-decreases-store_both-store_high g l = 4 * l.others + 1
+abbrev pub decreases-write_both-write_high : goal.decreases-write_both-write_high
+decreases-write_both-write_high g l = 4 * l.others + 1

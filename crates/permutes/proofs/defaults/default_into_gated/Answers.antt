@@ -11,3 +11,6 @@ pub returns-clause-values : goal.returns-clause-values
 returns-clause-values g c =
     subst (Gives (λ v. v.items) c.elements_to_over.result)
     (sym (default-meaning c.args.source.now c.args.index.now c.args.defaults.now c.in_ok-check_agree.ensures c.requires.in_limit)) c.elements_to_over.ensures.values
+
+pub elements_to_over-requires-clause-sourced : goal.elements_to_over-requires-clause-sourced
+elements_to_over-requires-clause-sourced g c κs within = omega (arith, length-all_destinations c.args.index.now, c.in_ok-check_agree.ensures)

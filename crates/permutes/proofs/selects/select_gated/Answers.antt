@@ -10,3 +10,7 @@ pub returns-clause-values : goal.returns-clause-values
 returns-clause-values g c =
     select_gives (λ v. v.items) c.elements_to.result c.args.source.now c.args.index.now c.in_ok-check_agree.ensures c.requires.in_limit c.args.flags.now c.true_count-places.result
     c.true_count-places.ensures.value c.in_ok-check_agree-2.ensures c.elements_to.ensures.values
+
+pub elements_to-requires-clause-sourced : goal.elements_to-requires-clause-sourced
+elements_to-requires-clause-sourced g c κs within =
+    omega (arith, count-flagged_destinations c.args.index.now c.args.flags.now, c.in_ok-check_agree.ensures, c.in_ok-check_agree-2.ensures)

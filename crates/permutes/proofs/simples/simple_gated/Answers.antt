@@ -14,3 +14,6 @@ pub returns-clause-as_long : goal.returns-clause-as_long
 returns-clause-as_long g c =
     simple_long (λ v. v.items) c.elements_to.result c.args.source.now c.args.index.now c.in_ok-check_agree.ensures c.requires.in_limit (λ v. vec_len v) (λ v. omega (arith, v.ok.0))
     c.elements_to.ensures.values
+
+pub elements_to-requires-clause-sourced : goal.elements_to-requires-clause-sourced
+elements_to-requires-clause-sourced g c κs within = omega (arith, length-all_destinations c.args.index.now, c.in_ok-check_agree.ensures)
