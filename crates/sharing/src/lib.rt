@@ -5,7 +5,7 @@
 //! threads than the configuration has workers.
 //!
 //! All thresholds of the library stand here. They come from a machine with four processors, where most of them were measured
-//! and that of the first walk of permutes follows from a model of its loops.
+//! and that of long flat permutes follows from a model of an older walk, which stored senders.
 #![tactic(auto)]
 
 mod pace;
@@ -46,7 +46,7 @@ pub const LEAST_RACED: u32 = 131_072;
 /// late, or is held up, then leaves some of its tiles to the others.
 pub const TILES_EACH: u32 = 16;
 
-/// From how many places of a result on several threads share the first walk of a permute. Each of them reads all indices, so
+/// From how many places of a result on several threads share a flat permute, in one walk. Each of them reads all indices, so
 /// that shorter results are walked sooner by one.
 pub const LEAST_SENT: usize = 524_288;
 

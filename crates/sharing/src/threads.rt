@@ -60,7 +60,7 @@ pub fn threads_among(most: u32, elements: usize) -> u32
     share_of(most, elements, LEAST_SHARED, LEAST_EACH)
 }
 
-/// How many threads share the first walk of a permute, each of which owns a range of a result of so many places: at most as
+/// How many threads share the one walk of a flat permute, each of which owns a range of a result of so many places: at most as
 /// many as the configuration has workers, and one where a second doesn't pay, or the result is longer than the longest vector.
 pub fn threads_sending(config: Config, places: usize) -> ThreadCount
     ensures least { 1 ≤ result }
