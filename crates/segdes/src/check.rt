@@ -1,6 +1,6 @@
 //! The check that numbers are the lengths of a descriptor.
 
-ghost use Rattle.std.specs.Prelude.{◌≡◌, ◌≤◌, length, map, unsigned_abs, IfOk, MatchResult};
+ghost use Rattle.std.specs.Prelude.{◌≡◌, ◌≤◌, length, map, sum, unsigned_abs, IfOk, MatchResult};
 ghost use Rattle.std.specs.Int.{is_negative};
 ghost use Rattle.cvl_base.specs.Descriptors.{AreLengths, descriptor_of};
 ghost use Rattle.cvl_base.specs.Limits.{most_elements};
@@ -16,11 +16,12 @@ fn is_below_zero(number: &i32) -> bool
 }
 
 /// Checks in one pass that the numbers are the lengths of a descriptor: none is negative, else NegativeLength at the
-/// first that is, and their total is at most 4,194,304, else TooLong.
-pub(crate) fn check_lengths(numbers: &[i32]) -> Result<(), Fault>
+/// first that is, and their total is at most 4,194,304, else TooLong. The answer is the total.
+pub(crate) fn check_lengths(numbers: &[i32]) -> Result<u32, Fault>
     requires { length numbers.now ≤ most_elements }
     ensures meaning { MatchResult result (λ _. descriptor_of numbers.now ≡ Ok (map unsigned_abs numbers.now)) (λ f. descriptor_of numbers.now ≡ Err f) }
     ensures lengths { IfOk result (λ _. AreLengths numbers.now) }
+    ensures total { IfOk result (λ total. total ≡ sum (map unsigned_abs numbers.now)) }
 {
     // The total of at most 2^22 numbers below 2^31 fits 64 bits, so the limit is tested once, after the loop.
     let mut total: u64 = 0;
@@ -33,5 +34,5 @@ pub(crate) fn check_lengths(numbers: &[i32]) -> Result<(), Fault>
     if total > MOST_ELEMENTS as u64 {
         return Err(Fault::new(FaultNo::TooLong));
     }
-    Ok(())
+    Ok(total as u32)
 }

@@ -7,6 +7,7 @@ ghost use Rattle.cvl_base.specs.Limits.{most_elements};
 ghost use Rattle.segdes.specs.Starts.{start_of};
 
 use crate::check::check_lengths;
+use crate::seg_lengths::SegLengths;
 use crate::starts::starts_and_total;
 use cvl_base::{Lengths, Memory, NoResources, Refused};
 use std::alloc::Allocator;
@@ -129,6 +130,14 @@ impl<A: Allocator> SegDes<A> {
         ensures in_limit { result ≤ most_elements }
     {
         self.total as usize
+    }
+
+    /// The lengths alone, for a walk over whole segments in turn.
+    #[tactic(auto, using(cvl_base::proofs::Descriptors::abs_pos))]
+    pub fn as_lengths(&self) -> SegLengths<'_>
+        ensures { result ≡ self.now }
+    {
+        SegLengths::kept(self.lengths.as_slice(), self.total)
     }
 
     /// The lengths of the segments.

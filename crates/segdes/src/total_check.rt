@@ -5,7 +5,7 @@ ghost use Rattle.cvl_base.specs.Limits.{most_elements};
 ghost use Rattle.cvl_base.specs.Nests.{nest};
 
 use crate::descriptor::SegDes;
-use cvl_base::{Fault, check_agree};
+use cvl_base::Fault;
 use std::alloc::Allocator;
 
 /// Checks that the segments have as many elements in all as the vector, else `LengthMismatch`, without a place.
@@ -14,5 +14,5 @@ pub fn check_total<T, A: Allocator>(a: &[T], d: &SegDes<A>) -> Result<(), Fault>
         (λ f. nest d.now a.now ≡ Err f) }
     ensures in_limit { IfOk result (λ _. length a.now ≤ most_elements) }
 {
-    check_agree(d.total(), a.len())
+    d.as_lengths().check_total(a)
 }

@@ -1,0 +1,9 @@
+use Rattle.std.proofs.Common.{arith, w64}
+use Rattle.std.proofs.Math.Facts.{Fits-below}
+use Rattle.segdes.proofs.Sums.{cast_fits, in_row}
+use Rattle.segdes.proofs.seg_lengths.SegLengths.length.Goals as goal
+
+pub overflow_cast-result : goal.overflow_cast-result
+overflow_cast-result c =
+    cast_fits w64 _ _ _ c.lengths.ensures.value c.lengths.ensures.total
+    (in_row _ _ _ c.lengths.ensures.value (omega (arith, c.requires))) (λ n le. Fits-below tt le)

@@ -1,0 +1,96 @@
+//! Descriptors that are no more than lengths, which lie elsewhere.
+
+ghost use Rattle.std.specs.Prelude.{◌≡◌, ◌<◌, ◌≤◌, IfOk, MatchResult, Err, length, map, pos, slice_index, sum, unsigned_abs, Ok};
+ghost use Rattle.cvl_base.specs.Descriptors.{AreLengths, descriptor_of};
+ghost use Rattle.cvl_base.specs.Limits.{most_elements};
+ghost use Rattle.cvl_base.specs.Nests.{nest};
+
+use crate::check::check_lengths;
+use cvl_base::{Fault, check_agree};
+use std::marker::Model;
+
+/// The lengths of segments, where they lie: a descriptor that needs no memory, seen as the list of the lengths.
+///
+/// It serves a walk over whole segments in turn. It does not tell where a segment starts, as [`SegDes`](crate::SegDes) does.
+#[derive(Drop)]
+pub struct SegLengths<'a> {
+    lengths: &'a [i32],
+    total: u32,
+}
+
+impl<'a> Model for SegLengths<'a> {
+    ghost use Rattle.std.specs.Prelude.{◌≡◌, ℕ, List, map, sum, unsigned_abs};
+    ghost use Rattle.cvl_base.specs.Descriptors.{AreLengths};
+
+    ghost Value = { List ℕ };
+
+    ghost view = { λ d. map unsigned_abs d.lengths.now };
+
+    ghost invariant = { λ d. AreLengths d.lengths.now × (d.total ≡ sum (map unsigned_abs d.lengths.now)) };
+}
+
+impl<'a> SegLengths<'a> {
+    /// The descriptor of segments with these lengths, which are checked in one pass: NegativeLength at the first length that
+    /// is negative; TooLong, without a place, where none is and the total is above 4,194,304.
+    ///
+    /// The lengths are at most 4,194,304 themselves.
+    pub fn of(lengths: &'a [i32]) -> Result<SegLengths<'a>, Fault>
+        requires { length lengths.now ≤ most_elements }
+        ensures { MatchResult result (λ d. descriptor_of lengths.now ≡ Ok d) (λ f. descriptor_of lengths.now ≡ Err f) }
+    {
+        let total = check_lengths(lengths)?;
+        Ok(SegLengths { lengths, total })
+    }
+
+    /// The descriptor of segments with these lengths, which were checked before, and their total.
+    pub(crate) fn kept(lengths: &'a [i32], total: u32) -> SegLengths<'a>
+        requires lengths { AreLengths lengths.now }
+        requires total { total ≡ sum (map unsigned_abs lengths.now) }
+        ensures { result ≡ map unsigned_abs lengths.now }
+    {
+        SegLengths { lengths, total }
+    }
+
+    /// How many segments there are, empty ones included.
+    pub fn count(&self) -> usize
+        ensures value { result ≡ length self.now }
+        ensures in_limit { result ≤ most_elements }
+    {
+        self.lengths.len()
+    }
+
+    /// How many elements segment `s` has, which is below `count`.
+    #[tactic(auto, using(crate::proofs::Sums::length_at))]
+    pub fn length(&self, s: usize) -> usize
+        requires { s < length self.now }
+        ensures { result ≡ slice_index self.now s }
+    {
+        self.lengths()[s] as usize
+    }
+
+    /// How many elements the segments have in all.
+    pub fn total(&self) -> usize
+        ensures value { result ≡ sum self.now }
+        ensures in_limit { result ≤ most_elements }
+    {
+        self.total as usize
+    }
+
+    /// The lengths of the segments.
+    pub fn lengths(&self) -> &[i32]
+        ensures value { result.now ≡ map pos self.now }
+        ensures lengths { AreLengths result.now }
+        ensures total { sum self.now ≤ most_elements }
+    {
+        self.lengths
+    }
+
+    /// Checks that the segments have as many elements in all as the vector, else `LengthMismatch`, without a place.
+    pub fn check_total<T>(&self, a: &[T]) -> Result<(), Fault>
+        ensures agrees { MatchResult result (λ _. sum self.now ≡ length a.now)
+            (λ f. nest self.now a.now ≡ Err f) }
+        ensures in_limit { IfOk result (λ _. length a.now ≤ most_elements) }
+    {
+        check_agree(self.total(), a.len())
+    }
+}
