@@ -4,7 +4,7 @@
  * Link with libcvl_c.a and the parts in C of the kit that built it; docs/embedding.md shows how. C99, and usable from C++.
  *
  * Every function answers a CvlStatus: number 0 where all is done, the number of a fault, with its place or -1, 100 where memory
- * ran out, 101 where a handle holds nothing, or 102 where arrays overlap. Where all is done the result is in the caller's room,
+ * ran out, 101 where there is no descriptor, or 102 where arrays overlap. Where all is done the result is in the caller's room,
  * the last array, value or values given. Else the room is as it was. Each array comes as a pointer and a number of elements.
  *
  * A function whose last argument is a count tells how many elements there are. They are at the front of the room, and the rest
@@ -25,7 +25,7 @@
  *     crash or write other memory.
  *   - A bool is 0 or 1. Else the results are any, and the call may crash or write other memory.
  *   - The program has one malloc, realloc and free. Else memory is given back to an allocator that it isn't from.
- *   - A handle is used as its section says. Else its memory may be given back twice, or read after that.
+ *   - The lengths of a descriptor live as long as calls take it. Else the call may crash or read other memory.
  *   - Code that calls the library's exports otherwise than by this header, as other languages do, gives no room that shares memory
  *     with another argument. Else the results are any, and the call may crash or write other memory.
  * All else is checked: whatever lengths, indices, operators and rooms are given, a call ends with a status. It runs on the thread
@@ -389,77 +389,6 @@ CvlStatus cvl_write_ints(const int32_t *a, size_t a_len, char *out, size_t out_l
  * a = true false: out = "[T F]", count = 5
  */
 CvlStatus cvl_write_bools(const bool *a, size_t a_len, char *out, size_t out_len, size_t *count);
-/* ---- scans in parts, by threads of the caller's: exports ---- */
-
-/*
- * Threads of the caller's own scan one vector together in three steps, with a barrier of the caller's between them:
- *
- *   1. each thread reduces its tiles: cvl_int_reduce(op, a + from, to - from, &sums[t]), for tile t from place `from` to `to`;
- *   2. one thread scans the sums: cvl_int_scan(op, sums, tiles, before, tiles);
- *   3. each thread scans its tiles: cvl_int_scan_after(op, before[t], a + from, to - from, out + from, to - from).
- *
- * Then out is what cvl_int_scan gives of the whole. The tiles may have any lengths, 0 too, and any thread may take any tile
- * of a step. The library starts no thread, and no call waits for another. examples/c/threads.c does this with POSIX threads.
- */
-
-/* For each integer `before`, joined by the operator, of CVL_ADD to CVL_XOR, with those in front of it. */
-CvlStatus cvl_int_scan_after(uint32_t op, int32_t before, const int32_t *a, size_t a_len, int32_t *out, size_t out_len);
-
-/* For each boolean `before`, joined by the operator, of CVL_AND to CVL_XOR, with those in front of it. */
-CvlStatus cvl_bool_scan_after(uint32_t op, bool before, const bool *a, size_t a_len, bool *out, size_t out_len);
-
-/* ---- descriptors that are held between calls: exports ---- */
-
-/*
- * A handle on a descriptor of segments, which is made once by cvl_segments_new and used by several calls, until
- * cvl_segments_free lets it go. It starts as CVL_NO_SEGMENTS. It may be moved, but only one copy of it may be used; only these
- * calls write it, and one call at a time uses it, on the thread on which the descriptor was made. A call on a handle that
- * holds no descriptor answers 101 (CVL_NO_HANDLE), and leaves its room as it was.
- */
-typedef struct CvlSegments {
-    unsigned char *at; /* the library's memory */
-    bool some;         /* whether a descriptor is held */
-} CvlSegments;
-
-#ifdef __cplusplus
-#define CVL_NO_SEGMENTS CvlSegments()
-#else
-#define CVL_NO_SEGMENTS ((CvlSegments){0})
-#endif
-
-/*
- * Holds the descriptor of segments with these lengths. What the handle held before is let go first, so that after a fault it
- * holds none. Faults: 12 NegativeLength at the first length that is negative; 13 TooLong, without a place.
- */
-CvlStatus cvl_segments_new(const int32_t *lengths, size_t lengths_len, CvlSegments *segments);
-
-/* Lets go of the descriptor that is held, if one is. */
-CvlStatus cvl_segments_free(CvlSegments *segments);
-
-/* How many elements the segments have in all. */
-CvlStatus cvl_segments_total(CvlSegments *segments, size_t *total_out);
-
-/* For each integer the sum of those before it in its segment, which never wraps, as cvl_seg_checked_scan gives it. */
-CvlStatus cvl_segments_checked_scan(const int32_t *a, size_t a_len, CvlSegments *segments, int32_t *out, size_t out_len);
-
-/* The sum of each segment, which never wraps, as cvl_seg_checked_reduce gives it. */
-CvlStatus cvl_segments_checked_reduce(const int32_t *a, size_t a_len, CvlSegments *segments, int32_t *out, size_t out_len);
-
-/* For each integer those before it in its segment, joined by the operator, of CVL_ADD to CVL_XOR. */
-CvlStatus cvl_segments_int_scan(
-    uint32_t op, const int32_t *a, size_t a_len, CvlSegments *segments, int32_t *out, size_t out_len);
-
-/* The integers of each segment joined by the operator, of CVL_ADD to CVL_XOR. */
-CvlStatus cvl_segments_int_reduce(
-    uint32_t op, const int32_t *a, size_t a_len, CvlSegments *segments, int32_t *out, size_t out_len);
-
-/* For each boolean those before it in its segment, joined by the operator, of CVL_AND to CVL_XOR. */
-CvlStatus cvl_segments_bool_scan(
-    uint32_t op, const bool *a, size_t a_len, CvlSegments *segments, bool *out, size_t out_len);
-
-/* The booleans of each segment joined by the operator, of CVL_AND to CVL_XOR. */
-CvlStatus cvl_segments_bool_reduce(
-    uint32_t op, const bool *a, size_t a_len, CvlSegments *segments, bool *out, size_t out_len);
 
 /*
  * cvl_seg_read_ints: The integers and the lengths of the lists of a nested text: "[", any number of lists, "]", where a list is
@@ -490,6 +419,25 @@ CvlStatus cvl_seg_write_ints(
  */
 CvlStatus cvl_seg_write_bools(
     const bool *a, size_t a_len, const int32_t *lengths, size_t segments, char *out, size_t out_len, size_t *count);
+
+/* ---- scans in parts, by threads of the caller's: exports ---- */
+
+/*
+ * Threads of the caller's own scan one vector together in three steps, with a barrier of the caller's between them:
+ *
+ *   1. each thread reduces its tiles: cvl_int_reduce(op, a + from, to - from, &sums[t]), for tile t from place `from` to `to`;
+ *   2. one thread scans the sums: cvl_int_scan(op, sums, tiles, before, tiles);
+ *   3. each thread scans its tiles: cvl_int_scan_after(op, before[t], a + from, to - from, out + from, to - from).
+ *
+ * Then out is what cvl_int_scan gives of the whole. The tiles may have any lengths, 0 too, and any thread may take any tile
+ * of a step. The library starts no thread, and no call waits for another. examples/c/threads.c does this with POSIX threads.
+ */
+
+/* For each integer `before`, joined by the operator, of CVL_ADD to CVL_XOR, with those in front of it. */
+CvlStatus cvl_int_scan_after(uint32_t op, int32_t before, const int32_t *a, size_t a_len, int32_t *out, size_t out_len);
+
+/* For each boolean `before`, joined by the operator, of CVL_AND to CVL_XOR, with those in front of it. */
+CvlStatus cvl_bool_scan_after(uint32_t op, bool before, const bool *a, size_t a_len, bool *out, size_t out_len);
 
 /* ---- in place: exports ---- */
 
@@ -1061,72 +1009,6 @@ static inline CvlStatus cvl_bool_scan_after_apart(
     return cvl_bool_scan_after(op, before, a, a_len, out, out_len);
 }
 #define cvl_bool_scan_after cvl_bool_scan_after_apart
-
-static inline CvlStatus cvl_segments_new_apart(const int32_t *lengths, size_t lengths_len, CvlSegments *segments) {
-    if (CVL_MEET(segments, 1, lengths, lengths_len)) return cvl_overlap();
-    return cvl_segments_new(lengths, lengths_len, segments);
-}
-#define cvl_segments_new cvl_segments_new_apart
-
-static inline CvlStatus cvl_segments_total_apart(CvlSegments *segments, size_t *total_out) {
-    if (CVL_MEET(segments, 1, total_out, 1)) return cvl_overlap();
-    return cvl_segments_total(segments, total_out);
-}
-#define cvl_segments_total cvl_segments_total_apart
-
-static inline CvlStatus cvl_segments_checked_scan_apart(
-    const int32_t *a, size_t a_len, CvlSegments *segments, int32_t *out, size_t out_len) {
-    if (CVL_MEET(segments, 1, a, a_len) || CVL_MEET(segments, 1, out, out_len) || CVL_MEET(out, out_len, a, a_len)) {
-        return cvl_overlap();
-    }
-    return cvl_segments_checked_scan(a, a_len, segments, out, out_len);
-}
-#define cvl_segments_checked_scan cvl_segments_checked_scan_apart
-
-static inline CvlStatus cvl_segments_checked_reduce_apart(
-    const int32_t *a, size_t a_len, CvlSegments *segments, int32_t *out, size_t out_len) {
-    if (CVL_MEET(segments, 1, a, a_len) || CVL_MEET(segments, 1, out, out_len) || CVL_MEET(out, out_len, a, a_len)) {
-        return cvl_overlap();
-    }
-    return cvl_segments_checked_reduce(a, a_len, segments, out, out_len);
-}
-#define cvl_segments_checked_reduce cvl_segments_checked_reduce_apart
-
-static inline CvlStatus cvl_segments_int_scan_apart(
-    uint32_t op, const int32_t *a, size_t a_len, CvlSegments *segments, int32_t *out, size_t out_len) {
-    if (CVL_MEET(segments, 1, a, a_len) || CVL_MEET(segments, 1, out, out_len) || CVL_MEET(out, out_len, a, a_len)) {
-        return cvl_overlap();
-    }
-    return cvl_segments_int_scan(op, a, a_len, segments, out, out_len);
-}
-#define cvl_segments_int_scan cvl_segments_int_scan_apart
-
-static inline CvlStatus cvl_segments_int_reduce_apart(
-    uint32_t op, const int32_t *a, size_t a_len, CvlSegments *segments, int32_t *out, size_t out_len) {
-    if (CVL_MEET(segments, 1, a, a_len) || CVL_MEET(segments, 1, out, out_len) || CVL_MEET(out, out_len, a, a_len)) {
-        return cvl_overlap();
-    }
-    return cvl_segments_int_reduce(op, a, a_len, segments, out, out_len);
-}
-#define cvl_segments_int_reduce cvl_segments_int_reduce_apart
-
-static inline CvlStatus cvl_segments_bool_scan_apart(
-    uint32_t op, const bool *a, size_t a_len, CvlSegments *segments, bool *out, size_t out_len) {
-    if (CVL_MEET(segments, 1, a, a_len) || CVL_MEET(segments, 1, out, out_len) || CVL_MEET(out, out_len, a, a_len)) {
-        return cvl_overlap();
-    }
-    return cvl_segments_bool_scan(op, a, a_len, segments, out, out_len);
-}
-#define cvl_segments_bool_scan cvl_segments_bool_scan_apart
-
-static inline CvlStatus cvl_segments_bool_reduce_apart(
-    uint32_t op, const bool *a, size_t a_len, CvlSegments *segments, bool *out, size_t out_len) {
-    if (CVL_MEET(segments, 1, a, a_len) || CVL_MEET(segments, 1, out, out_len) || CVL_MEET(out, out_len, a, a_len)) {
-        return cvl_overlap();
-    }
-    return cvl_segments_bool_reduce(op, a, a_len, segments, out, out_len);
-}
-#define cvl_segments_bool_reduce cvl_segments_bool_reduce_apart
 
 static inline CvlStatus cvl_seg_read_ints_apart(
     const char *text, size_t text_len, int32_t *out, size_t out_len, size_t *count, int32_t *lengths, size_t lengths_len,
@@ -2398,6 +2280,322 @@ static inline CvlStatus bck_peb(
     const bool *source, size_t n, const int32_t *index, const int32_t *lengths, const int32_t *index_lengths,
     size_t segments, bool *out, size_t m) {
     return cvl_seg_back_permute_bool(source, n, index, m, lengths, segments, index_lengths, segments, out, m);
+}
+
+/* ---- descriptors: the calls on segments that take one ---- */
+
+/*
+ * A descriptor names the lengths of segments and how many there are. It is plain memory: the lengths stay where they are, no
+ * call writes them or the descriptor, and nothing of the library's is held. So it may be constant and copied, any number of
+ * threads may use it at once, and there is nothing to let go. It starts as CVL_NO_SEGMENTS, and cvl_segments_new makes it.
+ *
+ * Each function here is the call on segments of its name, cvl_seg_int_scan for cvl_segments_int_scan, with a descriptor in the
+ * place of the lengths: the same results and faults, and in place where that may be. Each looks at the lengths before it writes
+ * anything, so that lengths that were changed after the descriptor was made are those of the call, and wrong ones are told by a
+ * fault; nobody may write them while a call runs. A room may share memory with neither the lengths nor the descriptor. Without a
+ * descriptor, at CVL_NO_SEGMENTS or a null pointer, a call answers 101 (CVL_NO_HANDLE), and its room is as it was.
+ */
+typedef struct CvlSegments {
+    const int32_t *lengths; /* the caller's, which live as long as the descriptor is used */
+    size_t count;           /* how many segments there are */
+    bool some;              /* whether there is a descriptor */
+} CvlSegments;
+
+#ifdef __cplusplus
+#define CVL_NO_SEGMENTS CvlSegments()
+#else
+#define CVL_NO_SEGMENTS ((CvlSegments){0})
+#endif
+
+/* What a call without a descriptor answers. */
+static inline CvlStatus cvl_no_handle(void) {
+    CvlStatus status;
+    status.number = CVL_NO_HANDLE;
+    status.place = -1;
+    return status;
+}
+
+/* Whether there is a descriptor. */
+static inline bool cvl_is_made(const CvlSegments *segments) { return segments != NULL && segments->some; }
+
+/* Lets go of a descriptor, of which nothing is left then. The lengths are the caller's. */
+static inline CvlStatus cvl_segments_free(CvlSegments *segments) {
+    CvlStatus status;
+    status.number = CVL_DONE;
+    status.place = -1;
+    segments->lengths = NULL;
+    segments->count = 0;
+    segments->some = false;
+    return status;
+}
+
+/*
+ * Makes the descriptor of segments with these lengths, empty ones too. After a fault of the lengths there is none.
+ * Faults: 13 TooLong, without a place, where there are more than 4194304 lengths; 12 NegativeLength at the first that is below
+ * 0; 13 TooLong, without a place, where they add up to more than 4194304.
+ */
+static inline CvlStatus cvl_segments_new(const int32_t *lengths, size_t count, CvlSegments *segments) {
+    size_t total;
+    CvlStatus status;
+    if (CVL_MEET(segments, 1, lengths, count)) return cvl_overlap();
+    status = cvl_make_descriptor(lengths, count, &total);
+    cvl_segments_free(segments);
+    if (status.number == CVL_DONE) {
+        segments->lengths = lengths;
+        segments->count = count;
+        segments->some = true;
+    }
+    return status;
+}
+
+/* How many elements the segments have in all. */
+static inline CvlStatus cvl_segments_total(const CvlSegments *segments, size_t *total) {
+    if (CVL_MEET(total, 1, segments, 1)) return cvl_overlap();
+    if (!cvl_is_made(segments)) return cvl_no_handle();
+    return cvl_make_descriptor(segments->lengths, segments->count, total);
+}
+
+/* For each integer the sum of those before it in its segment, which never wraps. */
+static inline CvlStatus cvl_segments_checked_scan(
+    const int32_t *a, size_t a_len, const CvlSegments *segments, int32_t *out, size_t out_len) {
+    if (CVL_MEET(out, out_len, segments, 1)) return cvl_overlap();
+    if (!cvl_is_made(segments)) return cvl_no_handle();
+    return cvl_seg_checked_scan(a, a_len, segments->lengths, segments->count, out, out_len);
+}
+
+/* The sum of each segment, which never wraps. */
+static inline CvlStatus cvl_segments_checked_reduce(
+    const int32_t *a, size_t a_len, const CvlSegments *segments, int32_t *out, size_t out_len) {
+    if (CVL_MEET(out, out_len, segments, 1)) return cvl_overlap();
+    if (!cvl_is_made(segments)) return cvl_no_handle();
+    return cvl_seg_checked_reduce(a, a_len, segments->lengths, segments->count, out, out_len);
+}
+
+/* For each integer those before it in its segment, joined by the operator, of CVL_ADD to CVL_XOR. */
+static inline CvlStatus cvl_segments_int_scan(
+    uint32_t op, const int32_t *a, size_t a_len, const CvlSegments *segments, int32_t *out, size_t out_len) {
+    if (CVL_MEET(out, out_len, segments, 1)) return cvl_overlap();
+    if (!cvl_is_made(segments)) return cvl_no_handle();
+    return cvl_seg_int_scan(op, a, a_len, segments->lengths, segments->count, out, out_len);
+}
+
+/* The integers of each segment joined by the operator, of CVL_ADD to CVL_XOR. */
+static inline CvlStatus cvl_segments_int_reduce(
+    uint32_t op, const int32_t *a, size_t a_len, const CvlSegments *segments, int32_t *out, size_t out_len) {
+    if (CVL_MEET(out, out_len, segments, 1)) return cvl_overlap();
+    if (!cvl_is_made(segments)) return cvl_no_handle();
+    return cvl_seg_int_reduce(op, a, a_len, segments->lengths, segments->count, out, out_len);
+}
+
+/* For each boolean those before it in its segment, joined by the operator, of CVL_AND to CVL_XOR. */
+static inline CvlStatus cvl_segments_bool_scan(
+    uint32_t op, const bool *a, size_t a_len, const CvlSegments *segments, bool *out, size_t out_len) {
+    if (CVL_MEET(out, out_len, segments, 1)) return cvl_overlap();
+    if (!cvl_is_made(segments)) return cvl_no_handle();
+    return cvl_seg_bool_scan(op, a, a_len, segments->lengths, segments->count, out, out_len);
+}
+
+/* The booleans of each segment joined by the operator, of CVL_AND to CVL_XOR. */
+static inline CvlStatus cvl_segments_bool_reduce(
+    uint32_t op, const bool *a, size_t a_len, const CvlSegments *segments, bool *out, size_t out_len) {
+    if (CVL_MEET(out, out_len, segments, 1)) return cvl_overlap();
+    if (!cvl_is_made(segments)) return cvl_no_handle();
+    return cvl_seg_bool_reduce(op, a, a_len, segments->lengths, segments->count, out, out_len);
+}
+
+/* The integers of each segment whose flag is true, in order, and how many they are. */
+static inline CvlStatus cvl_segments_pack_int(
+    const int32_t *values, size_t values_len, const bool *flags, size_t flags_len, const CvlSegments *segments,
+    int32_t *out, size_t out_len, size_t *count) {
+    if (CVL_MEET(out, out_len, segments, 1) || CVL_MEET(count, 1, segments, 1)) return cvl_overlap();
+    if (!cvl_is_made(segments)) return cvl_no_handle();
+    return cvl_seg_pack_int(values, values_len, flags, flags_len, segments->lengths, segments->count, out, out_len, count);
+}
+
+/* The booleans of each segment whose flag is true, in order, and how many they are. */
+static inline CvlStatus cvl_segments_pack_bool(
+    const bool *values, size_t values_len, const bool *flags, size_t flags_len, const CvlSegments *segments, bool *out,
+    size_t out_len, size_t *count) {
+    if (CVL_MEET(out, out_len, segments, 1) || CVL_MEET(count, 1, segments, 1)) return cvl_overlap();
+    if (!cvl_is_made(segments)) return cvl_no_handle();
+    return cvl_seg_pack_bool(values, values_len, flags, flags_len, segments->lengths, segments->count, out, out_len, count);
+}
+
+/* The lengths of the segments of what a pack keeps. */
+static inline CvlStatus cvl_segments_packed_lengths(
+    const bool *flags, size_t flags_len, const CvlSegments *segments, int32_t *out, size_t out_len) {
+    if (CVL_MEET(out, out_len, segments, 1)) return cvl_overlap();
+    if (!cvl_is_made(segments)) return cvl_no_handle();
+    return cvl_packed_lengths(flags, flags_len, segments->lengths, segments->count, out, out_len);
+}
+
+/* The number of true flags of each segment. */
+static inline CvlStatus cvl_segments_count(
+    const bool *flags, size_t flags_len, const CvlSegments *segments, int32_t *out, size_t out_len) {
+    if (CVL_MEET(out, out_len, segments, 1)) return cvl_overlap();
+    if (!cvl_is_made(segments)) return cvl_no_handle();
+    return cvl_seg_count(flags, flags_len, segments->lengths, segments->count, out, out_len);
+}
+
+/* The integer of each segment at its index. */
+static inline CvlStatus cvl_segments_extract_int(
+    const int32_t *vector, size_t vector_len, const int32_t *index, size_t index_len, const CvlSegments *segments,
+    int32_t *out, size_t out_len) {
+    if (CVL_MEET(out, out_len, segments, 1)) return cvl_overlap();
+    if (!cvl_is_made(segments)) return cvl_no_handle();
+    return cvl_seg_extract_int(vector, vector_len, index, index_len, segments->lengths, segments->count, out, out_len);
+}
+
+/* The integers with another one in each segment, at its index. */
+static inline CvlStatus cvl_segments_replace_int(
+    const int32_t *vector, size_t vector_len, const int32_t *index, size_t index_len, const int32_t *values,
+    size_t values_len, const CvlSegments *segments, int32_t *out, size_t out_len) {
+    if (CVL_MEET(out, out_len, segments, 1)) return cvl_overlap();
+    if (!cvl_is_made(segments)) return cvl_no_handle();
+    return cvl_seg_replace_int(
+        vector, vector_len, index, index_len, values, values_len, segments->lengths, segments->count, out, out_len);
+}
+
+/* Copies of the integer of each segment, as many as it has places. */
+static inline CvlStatus cvl_segments_distribute_int(
+    const int32_t *values, size_t values_len, const CvlSegments *segments, int32_t *out, size_t out_len) {
+    if (CVL_MEET(out, out_len, segments, 1)) return cvl_overlap();
+    if (!cvl_is_made(segments)) return cvl_no_handle();
+    return cvl_seg_distribute_int(values, values_len, segments->lengths, segments->count, out, out_len);
+}
+
+/* The boolean of each segment at its index. */
+static inline CvlStatus cvl_segments_extract_bool(
+    const bool *vector, size_t vector_len, const int32_t *index, size_t index_len, const CvlSegments *segments, bool *out,
+    size_t out_len) {
+    if (CVL_MEET(out, out_len, segments, 1)) return cvl_overlap();
+    if (!cvl_is_made(segments)) return cvl_no_handle();
+    return cvl_seg_extract_bool(vector, vector_len, index, index_len, segments->lengths, segments->count, out, out_len);
+}
+
+/* The booleans with another one in each segment, at its index. */
+static inline CvlStatus cvl_segments_replace_bool(
+    const bool *vector, size_t vector_len, const int32_t *index, size_t index_len, const bool *values, size_t values_len,
+    const CvlSegments *segments, bool *out, size_t out_len) {
+    if (CVL_MEET(out, out_len, segments, 1)) return cvl_overlap();
+    if (!cvl_is_made(segments)) return cvl_no_handle();
+    return cvl_seg_replace_bool(
+        vector, vector_len, index, index_len, values, values_len, segments->lengths, segments->count, out, out_len);
+}
+
+/* Copies of the boolean of each segment, as many as it has places. */
+static inline CvlStatus cvl_segments_distribute_bool(
+    const bool *values, size_t values_len, const CvlSegments *segments, bool *out, size_t out_len) {
+    if (CVL_MEET(out, out_len, segments, 1)) return cvl_overlap();
+    if (!cvl_is_made(segments)) return cvl_no_handle();
+    return cvl_seg_distribute_bool(values, values_len, segments->lengths, segments->count, out, out_len);
+}
+
+/* The numbers of each segment from its init on, in steps of its stride. */
+static inline CvlStatus cvl_segments_index(
+    const int32_t *inits, size_t inits_len, const int32_t *strides, size_t strides_len, const CvlSegments *segments,
+    int32_t *out, size_t out_len) {
+    if (CVL_MEET(out, out_len, segments, 1)) return cvl_overlap();
+    if (!cvl_is_made(segments)) return cvl_no_handle();
+    return cvl_seg_index(inits, inits_len, strides, strides_len, segments->lengths, segments->count, out, out_len);
+}
+
+/* Each integer at its index in its segment. */
+static inline CvlStatus cvl_segments_permute_int(
+    const int32_t *source, size_t source_len, const int32_t *index, size_t index_len, const CvlSegments *segments,
+    int32_t *out, size_t out_len) {
+    if (CVL_MEET(out, out_len, segments, 1)) return cvl_overlap();
+    if (!cvl_is_made(segments)) return cvl_no_handle();
+    return cvl_seg_permute_int(source, source_len, index, index_len, segments->lengths, segments->count, out, out_len);
+}
+
+/* Each integer whose flag is true at its index in its segment of the result. */
+static inline CvlStatus cvl_segments_select_permute_int(
+    const int32_t *source, size_t source_len, const int32_t *index, size_t index_len, const bool *flags, size_t flags_len,
+    const CvlSegments *segments, int32_t *out, size_t out_len) {
+    if (CVL_MEET(out, out_len, segments, 1)) return cvl_overlap();
+    if (!cvl_is_made(segments)) return cvl_no_handle();
+    return cvl_seg_select_permute_int(
+        source, source_len, index, index_len, flags, flags_len, segments->lengths, segments->count, out, out_len);
+}
+
+/* Each boolean at its index in its segment. */
+static inline CvlStatus cvl_segments_permute_bool(
+    const bool *source, size_t source_len, const int32_t *index, size_t index_len, const CvlSegments *segments, bool *out,
+    size_t out_len) {
+    if (CVL_MEET(out, out_len, segments, 1)) return cvl_overlap();
+    if (!cvl_is_made(segments)) return cvl_no_handle();
+    return cvl_seg_permute_bool(source, source_len, index, index_len, segments->lengths, segments->count, out, out_len);
+}
+
+/* Each boolean whose flag is true at its index in its segment of the result. */
+static inline CvlStatus cvl_segments_select_permute_bool(
+    const bool *source, size_t source_len, const int32_t *index, size_t index_len, const bool *flags, size_t flags_len,
+    const CvlSegments *segments, bool *out, size_t out_len) {
+    if (CVL_MEET(out, out_len, segments, 1)) return cvl_overlap();
+    if (!cvl_is_made(segments)) return cvl_no_handle();
+    return cvl_seg_select_permute_bool(
+        source, source_len, index, index_len, flags, flags_len, segments->lengths, segments->count, out, out_len);
+}
+
+/* Each integer at its index in its segment of the defaults, and at a place to which none goes its default. */
+static inline CvlStatus cvl_segments_default_permute_int(
+    const int32_t *source, size_t source_len, const int32_t *index, size_t index_len, const int32_t *defaults,
+    size_t defaults_len, const CvlSegments *segments, const CvlSegments *default_segments, int32_t *out, size_t out_len) {
+    if (CVL_MEET(out, out_len, segments, 1) || CVL_MEET(out, out_len, default_segments, 1)) return cvl_overlap();
+    if (!cvl_is_made(segments) || !cvl_is_made(default_segments)) return cvl_no_handle();
+    return cvl_seg_default_permute_int(
+        source, source_len, index, index_len, defaults, defaults_len, segments->lengths, segments->count,
+        default_segments->lengths, default_segments->count, out, out_len);
+}
+
+/* At each place the integer at the place's index in the same segment of the source. */
+static inline CvlStatus cvl_segments_back_permute_int(
+    const int32_t *source, size_t source_len, const int32_t *index, size_t index_len, const CvlSegments *segments,
+    const CvlSegments *index_segments, int32_t *out, size_t out_len) {
+    if (CVL_MEET(out, out_len, segments, 1) || CVL_MEET(out, out_len, index_segments, 1)) return cvl_overlap();
+    if (!cvl_is_made(segments) || !cvl_is_made(index_segments)) return cvl_no_handle();
+    return cvl_seg_back_permute_int(
+        source, source_len, index, index_len, segments->lengths, segments->count, index_segments->lengths,
+        index_segments->count, out, out_len);
+}
+
+/* Each boolean at its index in its segment of the defaults, and at a place to which none goes its default. */
+static inline CvlStatus cvl_segments_default_permute_bool(
+    const bool *source, size_t source_len, const int32_t *index, size_t index_len, const bool *defaults,
+    size_t defaults_len, const CvlSegments *segments, const CvlSegments *default_segments, bool *out, size_t out_len) {
+    if (CVL_MEET(out, out_len, segments, 1) || CVL_MEET(out, out_len, default_segments, 1)) return cvl_overlap();
+    if (!cvl_is_made(segments) || !cvl_is_made(default_segments)) return cvl_no_handle();
+    return cvl_seg_default_permute_bool(
+        source, source_len, index, index_len, defaults, defaults_len, segments->lengths, segments->count,
+        default_segments->lengths, default_segments->count, out, out_len);
+}
+
+/* At each place the boolean at the place's index in the same segment of the source. */
+static inline CvlStatus cvl_segments_back_permute_bool(
+    const bool *source, size_t source_len, const int32_t *index, size_t index_len, const CvlSegments *segments,
+    const CvlSegments *index_segments, bool *out, size_t out_len) {
+    if (CVL_MEET(out, out_len, segments, 1) || CVL_MEET(out, out_len, index_segments, 1)) return cvl_overlap();
+    if (!cvl_is_made(segments) || !cvl_is_made(index_segments)) return cvl_no_handle();
+    return cvl_seg_back_permute_bool(
+        source, source_len, index, index_len, segments->lengths, segments->count, index_segments->lengths,
+        index_segments->count, out, out_len);
+}
+
+/* The text of the integers, cut into segments, in brackets. */
+static inline CvlStatus cvl_segments_write_ints(
+    const int32_t *a, size_t a_len, const CvlSegments *segments, char *out, size_t out_len, size_t *count) {
+    if (CVL_MEET(out, out_len, segments, 1) || CVL_MEET(count, 1, segments, 1)) return cvl_overlap();
+    if (!cvl_is_made(segments)) return cvl_no_handle();
+    return cvl_seg_write_ints(a, a_len, segments->lengths, segments->count, out, out_len, count);
+}
+
+/* The text of the booleans, cut into segments, in brackets. */
+static inline CvlStatus cvl_segments_write_bools(
+    const bool *a, size_t a_len, const CvlSegments *segments, char *out, size_t out_len, size_t *count) {
+    if (CVL_MEET(out, out_len, segments, 1) || CVL_MEET(count, 1, segments, 1)) return cvl_overlap();
+    if (!cvl_is_made(segments)) return cvl_no_handle();
+    return cvl_seg_write_bools(a, a_len, segments->lengths, segments->count, out, out_len, count);
 }
 
 #ifdef __cplusplus

@@ -1,7 +1,7 @@
 /*
  * Calls every function of cvl.h as a careless program would: with each two of its arrays overlapping, whole or by one element
  * at either end; in place; with null for arrays without elements; with arrays that end or begin at a page that must not be
- * touched; and with handles that hold nothing. It prints what is not as the header promises, and its status is then 1.
+ * touched; and without a descriptor. It prints what is not as the header promises, and its status is then 1.
  * `examples/c/run careless` builds and runs it under sanitizers and without. A new function of the header is one more row.
  */
 #define _DEFAULT_SOURCE
@@ -215,15 +215,36 @@ static size_t n, segments, trues, text_length, text_room;
     X(cvl_seg_write_bools, "flXc", "", (p[0], n, p[1], segments, p[2], text_room, p[3]))                                       \
     X(cvl_int_scan_after, "iI", "0", (CVL_ADD, 5, p[0], n, p[1], n))                                                           \
     X(cvl_bool_scan_after, "fF", "", (CVL_XOR, true, p[0], n, p[1], n))                                                        \
-    X(cvl_segments_new, "lh", "", (p[0], segments, p[1]))                                                                      \
     X(cvl_segments_free, "h", "", (p[0]))                                                                                      \
-    X(cvl_segments_total, "hc", "", (p[0], p[1]))                                                                              \
-    X(cvl_segments_checked_scan, "ihI", "", (p[0], n, p[1], p[2], n))                                                          \
-    X(cvl_segments_checked_reduce, "ihS", "", (p[0], n, p[1], p[2], segments))                                                 \
-    X(cvl_segments_int_scan, "ihI", "", (CVL_ADD, p[0], n, p[1], p[2], n))                                                     \
-    X(cvl_segments_int_reduce, "ihS", "", (CVL_ADD, p[0], n, p[1], p[2], segments))                                            \
-    X(cvl_segments_bool_scan, "fhF", "", (CVL_XOR, p[0], n, p[1], p[2], n))                                                    \
-    X(cvl_segments_bool_reduce, "fhG", "", (CVL_XOR, p[0], n, p[1], p[2], segments))
+    X(cvl_segments_new, "lh", "", (p[0], segments, p[1]))                                                                      \
+    X(cvl_segments_total, "dc", "", (p[0], p[1]))                                                                              \
+    X(cvl_segments_checked_scan, "idI", "0", (p[0], n, p[1], p[2], n))                                                         \
+    X(cvl_segments_checked_reduce, "idS", "", (p[0], n, p[1], p[2], segments))                                                 \
+    X(cvl_segments_int_scan, "idI", "0", (CVL_ADD, p[0], n, p[1], p[2], n))                                                    \
+    X(cvl_segments_int_reduce, "idS", "", (CVL_ADD, p[0], n, p[1], p[2], segments))                                            \
+    X(cvl_segments_bool_scan, "fdF", "", (CVL_XOR, p[0], n, p[1], p[2], n))                                                    \
+    X(cvl_segments_bool_reduce, "fdG", "", (CVL_XOR, p[0], n, p[1], p[2], segments))                                           \
+    X(cvl_segments_pack_int, "ifdIc", "", (p[0], n, p[1], n, p[2], p[3], n, p[4]))                                             \
+    X(cvl_segments_pack_bool, "ffdFc", "", (p[0], n, p[1], n, p[2], p[3], n, p[4]))                                            \
+    X(cvl_segments_packed_lengths, "fdS", "", (p[0], n, p[1], p[2], segments))                                                 \
+    X(cvl_segments_count, "fdS", "", (p[0], n, p[1], p[2], segments))                                                          \
+    X(cvl_segments_extract_int, "iedS", "", (p[0], n, p[1], segments, p[2], p[3], segments))                                   \
+    X(cvl_segments_replace_int, "iesdI", "", (p[0], n, p[1], segments, p[2], segments, p[3], p[4], n))                         \
+    X(cvl_segments_distribute_int, "sdI", "", (p[0], segments, p[1], p[2], n))                                                 \
+    X(cvl_segments_extract_bool, "fedG", "", (p[0], n, p[1], segments, p[2], p[3], segments))                                  \
+    X(cvl_segments_replace_bool, "fegdF", "", (p[0], n, p[1], segments, p[2], segments, p[3], p[4], n))                        \
+    X(cvl_segments_distribute_bool, "gdF", "", (p[0], segments, p[1], p[2], n))                                                \
+    X(cvl_segments_index, "ssdI", "", (p[0], segments, p[1], segments, p[2], p[3], n))                                         \
+    X(cvl_segments_permute_int, "iydI", "", (p[0], n, p[1], n, p[2], p[3], n))                                                 \
+    X(cvl_segments_select_permute_int, "iwfdM", "", (p[0], n, p[1], n, p[2], n, p[3], p[4], trues))                            \
+    X(cvl_segments_permute_bool, "fydF", "", (p[0], n, p[1], n, p[2], p[3], n))                                                \
+    X(cvl_segments_select_permute_bool, "fwfdN", "", (p[0], n, p[1], n, p[2], n, p[3], p[4], trues))                           \
+    X(cvl_segments_default_permute_int, "iyiddI", "", (p[0], n, p[1], n, p[2], n, p[3], p[4], p[5], n))                        \
+    X(cvl_segments_back_permute_int, "iyddI", "", (p[0], n, p[1], n, p[2], p[3], p[4], n))                                     \
+    X(cvl_segments_default_permute_bool, "fyfddF", "", (p[0], n, p[1], n, p[2], n, p[3], p[4], p[5], n))                       \
+    X(cvl_segments_back_permute_bool, "fyddF", "", (p[0], n, p[1], n, p[2], p[3], p[4], n))                                    \
+    X(cvl_segments_write_ints, "idXc", "", (p[0], n, p[1], p[2], text_room, p[3]))                                             \
+    X(cvl_segments_write_bools, "fdXc", "", (p[0], n, p[1], p[2], text_room, p[3]))
 
 /* A function: its name, a letter for each array, the inputs that may be the room, and the call with these arrays. */
 typedef struct Row {
@@ -259,7 +280,8 @@ static void fail(const Row *row, const char *test, const char *why, CvlStatus st
     }
 }
 
-/* What the letter of an array means: integers, flags, lengths, indices, texts, and in upper case and by o, p, c and h the rooms. */
+/* What the letter of an array means: integers, flags, lengths, indices, texts, a descriptor, and in upper case and by o, p, c and
+ * h the rooms. */
 static Array array_of(char letter) {
     const size_t of_int = sizeof(int32_t);
     switch (letter) {
@@ -268,6 +290,7 @@ static Array array_of(char letter) {
     case 'l': case 's': case 'e': return (Array){of_int, segments, false};
     case 'g': return (Array){1, segments, false};
     case 't': case 'u': return (Array){1, text_length, false};
+    case 'd': return (Array){sizeof(CvlSegments), 1, false};
     case 'I': return (Array){of_int, n, true};
     case 'F': return (Array){1, n, true};
     case 'S': return (Array){of_int, segments, true};
@@ -319,12 +342,25 @@ static int32_t index_at(char letter, size_t k) {
     }
 }
 
+/* A descriptor of the segments of a call. */
+static CvlSegments described(void) {
+    static int32_t lengths[3];
+    const CvlSegments descriptor = {lengths, segments, true};
+    for (size_t s = 0; s < segments; s++) lengths[s] = length_at(s);
+    return descriptor;
+}
+
 /* Fills an input of a call that has no fault, or of one with any integers and flags; a room is as if nobody had written it. */
 static void fill(char letter, unsigned char *at, bool any) {
     const Array array = array_of(letter);
     int32_t *ints = (int32_t *)(void *)at;
     if (array.is_room) {
         memset(at, letter == 'h' ? 0 : UNTOUCHED, array.size * array.count);
+        return;
+    }
+    if (letter == 'd') {
+        const CvlSegments descriptor = described();
+        memcpy(at, &descriptor, sizeof descriptor);
         return;
     }
     for (size_t k = 0; k < array.count; k++) {
@@ -356,8 +392,8 @@ static CvlStatus call_at(const Row *row, unsigned char *const *at) {
     for (size_t k = 0; k < arrays_of(row); k++) p[k] = at[k];
     calls++;
     const CvlStatus status = row->call(p);
-    const char *handle = strchr(row->arrays, 'h');
-    if (handle != NULL && status.number == CVL_DONE) cvl_segments_free(p[handle - row->arrays]);
+    const char *made = strchr(row->arrays, 'h');
+    if (made != NULL && status.number == CVL_DONE) cvl_segments_free(p[made - row->arrays]);
     return status;
 }
 
@@ -389,7 +425,7 @@ static void move_and_call(const Row *row, size_t i, size_t j, long by, const cha
     const bool overlap = by < i_bytes && -by < j_bytes, in_place = by == 0 && may_be_in_place(row, i, j);
     apart(row, at, false);
     const CvlStatus plain = call_at(row, at);
-    if (plain.number != CVL_DONE && strchr(row->arrays, 'h') == NULL) fail(row, "apart", "it is not done", plain);
+    if (plain.number != CVL_DONE) fail(row, "apart", "it is not done", plain);
     apart(row, at, false);
     at[j] = at[i] + by;
     if (!in_place) fill(row->arrays[j], at[j], false);
@@ -541,23 +577,23 @@ static void guards(const Row *row) {
     }
 }
 
-/* ---- handles */
+/* ---- descriptors */
 
-/* A handle holds nothing before a descriptor is made, after one was let go and after one could not be made. */
-static void handles(void) {
+/* There is no descriptor before one is made, after one was let go and after one could not be made. */
+static void descriptors(void) {
     static const int32_t lengths[] = {2, 0, 3}, below[] = {2, -1};
-    const Row row = {"a handle", "", "", NULL};
-    CvlSegments handle = CVL_NO_SEGMENTS;
+    const Row row = {"a descriptor", "", "", NULL};
+    CvlSegments made = CVL_NO_SEGMENTS;
     size_t total = 0;
-    if (cvl_segments_total(&handle, &total).number != CVL_NO_HANDLE) fail(&row, "before it is made", "something is held", cvl_segments_free(&handle));
-    if (cvl_segments_new(lengths, 3, &handle).number != CVL_DONE) fail(&row, "made", "it is not done", cvl_segments_free(&handle));
-    if (cvl_segments_total(&handle, &total).number != CVL_DONE || total != 5) fail(&row, "made", "another total", cvl_segments_free(&handle));
-    if (cvl_segments_new(below, 2, &handle).number != CVL_NEGATIVE_LENGTH) fail(&row, "not made", "no fault", cvl_segments_free(&handle));
-    if (cvl_segments_total(&handle, &total).number != CVL_NO_HANDLE) fail(&row, "not made", "something is held", cvl_segments_free(&handle));
-    cvl_segments_new(lengths, 3, &handle);
-    if (cvl_segments_free(&handle).number != CVL_DONE) fail(&row, "let go", "it is not done", cvl_segments_free(&handle));
-    if (cvl_segments_free(&handle).number != CVL_DONE) fail(&row, "let go twice", "it is not done", cvl_segments_free(&handle));
-    if (cvl_segments_total(&handle, &total).number != CVL_NO_HANDLE) fail(&row, "let go", "something is held", cvl_segments_free(&handle));
+    if (cvl_segments_total(&made, &total).number != CVL_NO_HANDLE) fail(&row, "before it is made", "there is one", cvl_segments_free(&made));
+    if (cvl_segments_new(lengths, 3, &made).number != CVL_DONE) fail(&row, "made", "it is not done", cvl_segments_free(&made));
+    if (cvl_segments_total(&made, &total).number != CVL_DONE || total != 5) fail(&row, "made", "another total", cvl_segments_free(&made));
+    if (cvl_segments_new(below, 2, &made).number != CVL_NEGATIVE_LENGTH) fail(&row, "not made", "no fault", cvl_segments_free(&made));
+    if (cvl_segments_total(&made, &total).number != CVL_NO_HANDLE) fail(&row, "not made", "there is one", cvl_segments_free(&made));
+    cvl_segments_new(lengths, 3, &made);
+    if (cvl_segments_free(&made).number != CVL_DONE) fail(&row, "let go", "it is not done", cvl_segments_free(&made));
+    if (cvl_segments_free(&made).number != CVL_DONE) fail(&row, "let go twice", "it is not done", cvl_segments_free(&made));
+    if (cvl_segments_total(&made, &total).number != CVL_NO_HANDLE) fail(&row, "let go", "there is one", cvl_segments_free(&made));
 }
 
 int main(void) {
@@ -570,7 +606,7 @@ int main(void) {
         nulls(&rows[k]);
         guards(&rows[k]);
     }
-    handles();
+    descriptors();
     printf("%d functions, %ld calls, %ld not as promised\n", (int)ROWS, calls, failed);
     return failed == 0 ? EXIT_SUCCESS : EXIT_FAILURE;
 }

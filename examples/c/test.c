@@ -706,53 +706,129 @@ static void texts_of_any_length(void) {
     if (total != 3000 || memcmp(read, numbers, sizeof numbers) != 0) fail("their text", "other integers");
 }
 
-static void held_descriptors(void) {
-    const int32_t *a = I(3, 1, 4, 1, 5), *lengths = I(2, 0, 3);
+/* Each call on segments without a descriptor, of which there is none here. */
+static void without_a_descriptor(const CvlSegments *none) {
+    const int32_t *a = I(3, 1, 4, 1, 5), *index = I(0, 0, 0, 0, 0);
     const bool *f = B(true, false, true, false, true);
-    CvlSegments held = CVL_NO_SEGMENTS;
-    FAULT(cvl_segments_total(&held, &total), CVL_NO_HANDLE, -1);
-    FAULT(cvl_segments_checked_scan(a, 5, &held, ints, 5), CVL_NO_HANDLE, -1);
-    FAULT(cvl_segments_checked_reduce(a, 5, &held, ints, 3), CVL_NO_HANDLE, -1);
-    FAULT(cvl_segments_int_scan(CVL_SUB, a, 5, &held, ints, 5), CVL_NO_HANDLE, -1);
-    FAULT(cvl_segments_bool_reduce(CVL_AND, f, 5, &held, bools, 3), CVL_NO_HANDLE, -1);
-    FAULT(cvl_segments_free(&held), CVL_DONE, -1);
-    FAULT(cvl_segments_new(lengths, 3, &held), CVL_DONE, -1);
-    for (int k = 0; k < 2; k++) {
-        reset();
-        tells("cvl_segments_total", cvl_segments_total(&held, &total), CVL_DONE, -1);
-        if (total != 5) fail("cvl_segments_total", "another total");
-        INTS(cvl_segments_checked_scan(a, 5, &held, ints, 5), 0, 3, 0, 4, 5);
-        INTS(cvl_segments_checked_reduce(a, 5, &held, ints, 3), 4, 0, 10);
-        INTS(cvl_segments_int_scan(CVL_MUL, a, 5, &held, ints, 5), 1, 3, 1, 4, 4);
-        INTS(cvl_segments_int_reduce(CVL_MAX, a, 5, &held, ints, 3), 3, INT32_MIN, 5);
-        BOOLS(cvl_segments_bool_scan(CVL_IOR, f, 5, &held, bools, 5), false, true, false, true, true);
-        BOOLS(cvl_segments_bool_reduce(CVL_AND, f, 5, &held, bools, 3), false, true, false);
-        FAULT(cvl_segments_int_scan(CVL_SUB, a, 4, &held, ints, 4), CVL_UNKNOWN_CALL, -1);
-        FAULT(cvl_segments_int_scan(CVL_ADD, a, 5, &held, ints, 4), CVL_LENGTH_MISMATCH, -1);
-        FAULT(cvl_segments_bool_scan(CVL_AND, f, 4, &held, bools, 5), CVL_LENGTH_MISMATCH, -1);
-        FAULT(cvl_segments_int_reduce(CVL_RSH, a, 5, &held, ints, 3), CVL_UNKNOWN_CALL, -1);
-        FAULT(cvl_segments_bool_reduce(CVL_MAX, f, 5, &held, bools, 3), CVL_UNKNOWN_CALL, -1);
-        FAULT(cvl_segments_checked_scan(a, 4, &held, ints, 4), CVL_LENGTH_MISMATCH, -1);
-        FAULT(cvl_segments_checked_scan(a, 5, &held, ints, 4), CVL_LENGTH_MISMATCH, -1);
-        FAULT(cvl_segments_checked_scan(I(1, 2, 2147483647, 1, 1), 5, &held, ints, 5), CVL_OVERFLOW, 4);
-        FAULT(cvl_segments_checked_reduce(a, 5, &held, ints, 2), CVL_LENGTH_MISMATCH, -1);
-        FAULT(cvl_segments_checked_reduce(I(2147483647, 1, 0, 0, 0), 5, &held, ints, 3), CVL_OVERFLOW, 0);
-    }
-    FAULT(cvl_segments_new(I(1, 1), 2, &held), CVL_DONE, -1);
-    reset();
-    counts("cvl_segments_total", cvl_segments_total(&held, &total), CVL_DONE, 2);
-    INTS(cvl_segments_checked_reduce(a, 2, &held, ints, 2), 3, 1);
-    FAULT(cvl_segments_new(I(1, -1), 2, &held), CVL_NEGATIVE_LENGTH, 1);
-    FAULT(cvl_segments_total(&held, &total), CVL_NO_HANDLE, -1);
-    FAULT(cvl_segments_new(lengths, 3, &held), CVL_DONE, -1);
+    FAULT(cvl_segments_total(none, &total), CVL_NO_HANDLE, -1);
+    FAULT(cvl_segments_checked_scan(a, 5, none, ints, 5), CVL_NO_HANDLE, -1);
+    FAULT(cvl_segments_checked_reduce(a, 5, none, ints, 3), CVL_NO_HANDLE, -1);
+    FAULT(cvl_segments_int_scan(CVL_SUB, a, 5, none, ints, 5), CVL_NO_HANDLE, -1);
+    FAULT(cvl_segments_int_reduce(CVL_ADD, a, 5, none, ints, 3), CVL_NO_HANDLE, -1);
+    FAULT(cvl_segments_bool_scan(CVL_AND, f, 5, none, bools, 5), CVL_NO_HANDLE, -1);
+    FAULT(cvl_segments_bool_reduce(CVL_AND, f, 5, none, bools, 3), CVL_NO_HANDLE, -1);
+    FAULT(cvl_segments_pack_int(a, 5, f, 5, none, ints, 5, &total), CVL_NO_HANDLE, -1);
+    FAULT(cvl_segments_pack_bool(f, 5, f, 5, none, bools, 5, &total), CVL_NO_HANDLE, -1);
+    FAULT(cvl_segments_packed_lengths(f, 5, none, ints, 3), CVL_NO_HANDLE, -1);
+    FAULT(cvl_segments_count(f, 5, none, ints, 3), CVL_NO_HANDLE, -1);
+    FAULT(cvl_segments_extract_int(a, 5, index, 3, none, ints, 3), CVL_NO_HANDLE, -1);
+    FAULT(cvl_segments_extract_bool(f, 5, index, 3, none, bools, 3), CVL_NO_HANDLE, -1);
+    FAULT(cvl_segments_replace_int(a, 5, index, 3, a, 3, none, ints, 5), CVL_NO_HANDLE, -1);
+    FAULT(cvl_segments_replace_bool(f, 5, index, 3, f, 3, none, bools, 5), CVL_NO_HANDLE, -1);
+    FAULT(cvl_segments_distribute_int(a, 3, none, ints, 5), CVL_NO_HANDLE, -1);
+    FAULT(cvl_segments_distribute_bool(f, 3, none, bools, 5), CVL_NO_HANDLE, -1);
+    FAULT(cvl_segments_index(a, 3, a, 3, none, ints, 5), CVL_NO_HANDLE, -1);
+    FAULT(cvl_segments_permute_int(a, 5, index, 5, none, ints, 5), CVL_NO_HANDLE, -1);
+    FAULT(cvl_segments_permute_bool(f, 5, index, 5, none, bools, 5), CVL_NO_HANDLE, -1);
+    FAULT(cvl_segments_select_permute_int(a, 5, index, 5, f, 5, none, ints, 3), CVL_NO_HANDLE, -1);
+    FAULT(cvl_segments_select_permute_bool(f, 5, index, 5, f, 5, none, bools, 3), CVL_NO_HANDLE, -1);
+    FAULT(cvl_segments_write_ints(a, 5, none, bytes, TEXT_ROOM, &total), CVL_NO_HANDLE, -1);
+    FAULT(cvl_segments_write_bools(f, 5, none, bytes, TEXT_ROOM, &total), CVL_NO_HANDLE, -1);
+}
+
+/* Calls on two descriptors, of which one is none. */
+static void without_one_of_two(const CvlSegments *segments, const CvlSegments *others) {
+    const int32_t *a = I(3, 1, 4, 1, 5), *index = I(0, 0, 0, 0, 0);
+    const bool *f = B(true, false, true, false, true);
+    FAULT(cvl_segments_default_permute_int(a, 5, index, 5, a, 5, segments, others, ints, 5), CVL_NO_HANDLE, -1);
+    FAULT(cvl_segments_default_permute_bool(f, 5, index, 5, f, 5, segments, others, bools, 5), CVL_NO_HANDLE, -1);
+    FAULT(cvl_segments_back_permute_int(a, 5, index, 5, segments, others, ints, 5), CVL_NO_HANDLE, -1);
+    FAULT(cvl_segments_back_permute_bool(f, 5, index, 5, segments, others, bools, 5), CVL_NO_HANDLE, -1);
+}
+
+/* Each call on segments on one descriptor, which stays as it is. */
+static void with_a_descriptor(const CvlSegments *d, const CvlSegments *wide, const CvlSegments *narrow) {
+    const int32_t *a = I(3, 1, 4, 1, 5), *up = I(1, 2, 3, 4, 5);
+    const bool *f = B(true, false, true, false, true), *flags = B(false, true, true, false, true);
+    counts("cvl_segments_total", (reset(), cvl_segments_total(d, &total)), CVL_DONE, 5);
+    INTS(cvl_segments_checked_scan(a, 5, d, ints, 5), 0, 3, 0, 4, 5);
+    INTS(cvl_segments_checked_reduce(a, 5, d, ints, 3), 4, 0, 10);
+    INTS(cvl_segments_int_scan(CVL_MUL, a, 5, d, ints, 5), 1, 3, 1, 4, 4);
+    INTS(cvl_segments_int_reduce(CVL_MAX, a, 5, d, ints, 3), 3, INT32_MIN, 5);
+    BOOLS(cvl_segments_bool_scan(CVL_IOR, f, 5, d, bools, 5), false, true, false, true, true);
+    BOOLS(cvl_segments_bool_reduce(CVL_AND, f, 5, d, bools, 3), false, true, false);
+    COUNTED_INTS(cvl_segments_pack_int(up, 5, flags, 5, d, ints, 5, &total), 2, 3, 5);
+    COUNTED_BOOLS(cvl_segments_pack_bool(f, 5, flags, 5, d, bools, 5, &total), false, true, true);
+    INTS(cvl_segments_packed_lengths(flags, 5, d, ints, 3), 1, 0, 2);
+    INTS(cvl_segments_count(flags, 5, d, ints, 3), 1, 0, 2);
+    FAULT(cvl_segments_extract_int(up, 5, I(0, 0, 0), 3, d, ints, 3), CVL_INDEX_OUT_OF_RANGE, 1);
+    INTS(cvl_segments_extract_int(up, 5, I(1, 2), 2, narrow, ints, 2), 2, 5);
+    BOOLS(cvl_segments_extract_bool(f, 5, I(1, 2), 2, narrow, bools, 2), false, true);
+    INTS(cvl_segments_replace_int(up, 5, I(0, 1), 2, I(8, 9), 2, narrow, ints, 5), 8, 2, 3, 9, 5);
+    BOOLS(cvl_segments_replace_bool(f, 5, I(1, 2), 2, B(true, false), 2, narrow, bools, 5), true, true, true, false, false);
+    INTS(cvl_segments_distribute_int(I(7, 8, 9), 3, d, ints, 5), 7, 7, 9, 9, 9);
+    BOOLS(cvl_segments_distribute_bool(B(true, true, false), 3, d, bools, 5), true, true, false, false, false);
+    INTS(cvl_segments_index(I(0, 5, 10), 3, I(1, 1, -2), 3, d, ints, 5), 0, 1, 10, 8, 6);
+    INTS(cvl_segments_permute_int(up, 5, I(1, 0, 2, 0, 1), 5, d, ints, 5), 2, 1, 4, 5, 3);
+    BOOLS(cvl_segments_permute_bool(f, 5, I(1, 0, 2, 0, 1), 5, d, bools, 5), false, true, false, true, true);
+    INTS(cvl_segments_select_permute_int(up, 5, I(9, 0, 1, 9, 0), 5, flags, 5, d, ints, 3), 2, 5, 3);
+    BOOLS(cvl_segments_select_permute_bool(f, 5, I(9, 0, 1, 9, 0), 5, flags, 5, d, bools, 3), false, true, true);
+    INTS(cvl_segments_default_permute_int(up, 5, I(2, 0, 0, 1, 2), 5, I(0, 0, 0, 9, 0, 0, 0), 7, d, wide, ints, 7), 2, 0, 1, 9, 3, 4, 5);
+    BOOLS(cvl_segments_default_permute_bool(f, 5, I(2, 0, 0, 1, 2), 5, B(0, 0, 0, 1, 0, 0, 0), 7, d, wide, bools, 7), false, false, true,
+          true, true, false, true);
+    INTS(cvl_segments_back_permute_int(up, 5, I(0, 1, 1, 2, 1, 0, 2), 7, narrow, narrow + 1, ints, 7), 1, 2, 2, 5, 4, 3, 5);
+    BOOLS(cvl_segments_back_permute_bool(f, 5, I(0, 1, 1, 2, 1, 0, 2), 7, narrow, narrow + 1, bools, 7), true, false, false, true, false,
+          true, true);
+    TEXT(cvl_segments_write_ints(a, 5, d, bytes, TEXT_ROOM, &total), "[[3 1] [] [4 1 5]]");
+    TEXT(cvl_segments_write_bools(f, 5, d, bytes, TEXT_ROOM, &total), "[[T F] [] [T F T]]");
+    FAULT(cvl_segments_int_scan(CVL_SUB, a, 5, d, ints, 5), CVL_UNKNOWN_CALL, -1);
+    FAULT(cvl_segments_int_scan(CVL_ADD, a, 5, d, ints, 4), CVL_LENGTH_MISMATCH, -1);
+    FAULT(cvl_segments_bool_scan(CVL_AND, f, 4, d, bools, 5), CVL_LENGTH_MISMATCH, -1);
+    FAULT(cvl_segments_checked_scan(I(1, 2, 2147483647, 1, 1), 5, d, ints, 5), CVL_OVERFLOW, 4);
+}
+
+static void made_descriptors(void) {
+    int32_t lengths[] = {2, 0, 3};
+    const int32_t *a = I(3, 1, 4, 1, 5);
+    CvlSegments made = CVL_NO_SEGMENTS, wide = CVL_NO_SEGMENTS, narrow[] = {CVL_NO_SEGMENTS, CVL_NO_SEGMENTS}, copy;
+    without_a_descriptor(&made);
+    without_a_descriptor(NULL);
+    FAULT(cvl_segments_free(&made), CVL_DONE, -1);
+    FAULT(cvl_segments_new(lengths, 3, &made), CVL_DONE, -1);
+    FAULT(cvl_segments_new(I(3, 1, 3), 3, &wide), CVL_DONE, -1);
+    FAULT(cvl_segments_new(I(2, 3), 2, &narrow[0]), CVL_DONE, -1);
+    FAULT(cvl_segments_new(I(3, 4), 2, &narrow[1]), CVL_DONE, -1);
+    copy = made;
+    with_a_descriptor(&made, &wide, narrow);
+    with_a_descriptor(&copy, &wide, narrow);
     refusing = 1;
-    tells("cvl_segments_new", cvl_segments_new(lengths, 3, &held), CVL_NO_RESOURCES, -1);
+    FAULT(cvl_segments_new(lengths, 3, &made), CVL_DONE, -1);
     refusing = 0;
-    FAULT(cvl_segments_new(too_many_ints, CVL_MOST_ELEMENTS + 1, &held), CVL_TOO_LONG, -1);
-    FAULT(cvl_segments_new(I(CVL_MOST_ELEMENTS, 1), 2, &held), CVL_TOO_LONG, -1);
-    FAULT(cvl_segments_total(&held, &total), CVL_NO_HANDLE, -1);
-    FAULT(cvl_segments_free(&held), CVL_DONE, -1);
-    FAULT(cvl_segments_free(&held), CVL_DONE, -1);
+    /* lengths that are changed are those of the call, and wrong ones are told */
+    lengths[1] = 1;
+    FAULT(cvl_segments_int_scan(CVL_ADD, a, 5, &made, ints, 5), CVL_LENGTH_MISMATCH, -1);
+    lengths[2] = 2;
+    INTS(cvl_segments_int_reduce(CVL_ADD, a, 5, &made, ints, 3), 4, 4, 6);
+    lengths[1] = -1;
+    FAULT(cvl_segments_int_scan(CVL_ADD, a, 5, &made, ints, 5), CVL_NEGATIVE_LENGTH, 1);
+    FAULT(cvl_segments_permute_int(a, 5, a, 5, &made, ints, 5), CVL_NEGATIVE_LENGTH, 1);
+    lengths[1] = CVL_MOST_ELEMENTS;
+    FAULT(cvl_segments_count(B(true, true, true, true, true), 5, &made, ints, 3), CVL_TOO_LONG, -1);
+    FAULT(cvl_segments_new(lengths, 3, &made), CVL_TOO_LONG, -1);
+    without_a_descriptor(&made);
+    FAULT(cvl_segments_new(I(1, -1), 2, &made), CVL_NEGATIVE_LENGTH, 1);
+    FAULT(cvl_segments_new(too_many_ints, CVL_MOST_ELEMENTS + 1, &made), CVL_TOO_LONG, -1);
+    without_one_of_two(&made, &wide);
+    without_one_of_two(&wide, &made);
+    without_one_of_two(&wide, NULL);
+    without_one_of_two(NULL, &wide);
+    FAULT(cvl_segments_new(a, 0, &made), CVL_DONE, -1);
+    reset();
+    counts("no segments", cvl_segments_total(&made, &total), CVL_DONE, 0);
+    FAULT(cvl_segments_free(&made), CVL_DONE, -1);
+    FAULT(cvl_segments_free(&made), CVL_DONE, -1);
+    without_a_descriptor(&made);
+    without_a_descriptor(&(CvlSegments){a, 0, false});
 }
 
 /* A nested text, read into rooms of these lengths. */
@@ -850,7 +926,7 @@ int main(void) {
     permutes_of_wrong_segments();
     texts();
     texts_of_any_length();
-    held_descriptors();
+    made_descriptors();
     nested_texts();
     if (failed) return EXIT_FAILURE;
     printf("%d calls as they should be\n", calls);

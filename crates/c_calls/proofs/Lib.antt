@@ -1,3 +1,1 @@
 pub mod Afters
-pub mod HeldValues
-pub mod LooseValues

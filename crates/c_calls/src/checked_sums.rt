@@ -3,11 +3,11 @@
 ghost use Rattle.std.specs.Prelude.{◌≡◌, length};
 ghost use Rattle.cvl_base.specs.CheckedSums.{checked_reduce_of, checked_scan_of, checked_seg_reduce_of, checked_seg_scan_of};
 ghost use Rattle.cvl_base.specs.Gives.{Gives};
-ghost use Rattle.cvl_base.specs.Rooms.{Overwrites, OverwritesOr};
+ghost use Rattle.cvl_base.specs.Rooms.{Overwrites};
 ghost use Rattle.c_calls.specs.Calls.{by_segments, in_limit};
 ghost use Rattle.c_calls.specs.Told.{in_room};
 
-use crate::checks::{check_limit, descriptor};
+use crate::checks::{check_limit, segments};
 use cvl_base::{Fault, Refused};
 use scan_walks::{checked_scan_over, checked_seg_reduce_vec, checked_seg_scan_over, checked_sum};
 use std::alloc::Global;
@@ -29,17 +29,17 @@ pub fn reduce(a: &[i32]) -> Result<i32, Fault>
 }
 
 /// The scan of each segment.
-pub fn scan_each(alloc: Global, a: &[i32], lengths: &[i32], out: &mut [i32]) -> Result<(), Refused>
-    ensures { OverwritesOr (in_room (length out.old) (by_segments lengths.now (checked_seg_scan_of a.now))) result out.old out.new }
+pub fn scan_each(a: &[i32], lengths: &[i32], out: &mut [i32]) -> Result<(), Fault>
+    ensures { Overwrites (in_room (length out.old) (by_segments lengths.now (checked_seg_scan_of a.now))) result out.old out.new }
 {
-    let d = descriptor(alloc, lengths)?;
-    Ok(checked_seg_scan_over(a, &d, out)?)
+    let d = segments(lengths)?;
+    checked_seg_scan_over(a, &d, out)
 }
 
 /// The sum of each segment.
 pub fn reduce_each(alloc: Global, a: &[i32], lengths: &[i32]) -> Result<Vec<i32, Global>, Refused>
     ensures { Gives (λ v. v.items) result (by_segments lengths.now (checked_seg_reduce_of a.now)) }
 {
-    let d = descriptor(alloc, lengths)?;
+    let d = segments(lengths)?;
     checked_seg_reduce_vec(alloc, a, &d)
 }

@@ -1,6 +1,6 @@
 //! The checks of what the library leaves to its callers.
 
-ghost use Rattle.std.specs.Prelude.{◌≡◌, ◌≤◌, ◌<◌, IfOk, Result, length, MatchResult};
+ghost use Rattle.std.specs.Prelude.{◌≡◌, ◌≤◌, ◌<◌, Err, IfOk, Ok, Result, length, MatchResult};
 ghost use Rattle.cvl_base.specs.declared.fault.FaultNo.TheVariants as no;
 ghost use Rattle.cvl_base.specs.Faults.{fault};
 ghost use Rattle.cvl_base.specs.Gives.{Gives};
@@ -9,7 +9,7 @@ ghost use Rattle.c_calls.specs.Calls.{lengths_of};
 
 use cvl_base::limits::MOST_ELEMENTS;
 use cvl_base::{Fault, FaultNo, Refused};
-use segdes::SegDes;
+use segdes::{SegDes, SegLengths};
 use std::alloc::Global;
 
 /// Checks that a vector has at most 4,194,304 elements, else TooLong, without a place.
@@ -21,6 +21,15 @@ pub(crate) fn check_limit<T>(vector: &[T]) -> Result<(), Fault>
         return Err(Fault::new(FaultNo::TooLong));
     }
     Ok(())
+}
+
+/// The segments with these lengths, which are looked at where they lie: TooLong, without a place, where there are more than
+/// 4,194,304 lengths; NegativeLength at the first that is negative; TooLong where they add up to more than 4,194,304.
+pub(crate) fn segments(lengths: &[i32]) -> Result<SegLengths<'_>, Fault>
+    ensures { MatchResult result (λ d. lengths_of lengths.now ≡ Ok d) (λ f. lengths_of lengths.now ≡ Err f) }
+{
+    check_limit(lengths)?;
+    SegLengths::of(lengths)
 }
 
 /// The descriptor of segments with these lengths: TooLong, without a place, where there are more than 4,194,304 lengths;

@@ -7,22 +7,21 @@ ghost use Rattle.cvl_base.specs.CheckedSums.{checked_scan_of, checked_seg_scan_o
 ghost use Rattle.cvl_base.specs.Elementwise.{ints1_of, ints2_of};
 ghost use Rattle.cvl_base.specs.Folds.{scan_of};
 ghost use Rattle.cvl_base.specs.Limits.{most_elements};
-ghost use Rattle.cvl_base.specs.Rooms.{Overwrites, OverwritesOr};
+ghost use Rattle.cvl_base.specs.Rooms.{Overwrites};
 ghost use Rattle.cvl_base.specs.Scans.{int_join_of, int_scan_of, int_unit_of};
 ghost use Rattle.cvl_base.specs.SegmentedCalls.{seg_scan_of};
 ghost use Rattle.c_calls.specs.Calls.{by_operator, by_segments, in_limit};
 ghost use Rattle.c_calls.specs.Numbers.{int_binary, int_monoid, unary};
 ghost use Rattle.c_calls.specs.Tiles.{int_scan_after};
 
-use crate::checks::{check_limit, descriptor};
+use crate::checks::{check_limit, segments};
 use crate::numbers::{int_binary, int_monoid, unary};
 use cvl_base::monoid::know_laws;
 use cvl_base::monoids::{Add, And, Ior, Max, Min, Mul, Xor};
-use cvl_base::{Fault, IntMonoid, Monoid, Refused};
+use cvl_base::{Fault, IntMonoid, Monoid};
 use elementwise::{int1_in, int2_in_both, int2_in_first, int2_in_second};
 use scan_walks::{checked_scan_in, checked_seg_scan_in, know_numbers, scan_in, seg_scan_in};
-use segdes::SegDes;
-use std::alloc::Global;
+use segdes::SegLengths;
 
 /// The operator on each two integers at the same place, over the first.
 pub fn int2_first(op: u32, a: &mut [i32], b: &[i32]) -> Result<(), Fault>
@@ -132,35 +131,35 @@ pub fn checked_scan(a: &mut [i32]) -> Result<(), Fault>
 }
 
 /// The scan of each segment of integers by an operator, over the integers.
-fn int_scan_of_segments(op: IntMonoid, a: &mut [i32], d: &SegDes<Global>) -> Result<(), Fault>
+fn int_scan_of_segments(op: IntMonoid, a: &mut [i32], d: &SegLengths) -> Result<(), Fault>
     ensures { Overwrites (seg_scan_of (int_join_of op) (int_unit_of op) a.old d.now) result a.old a.new }
 {
     know_numbers(a);
     match op {
-        IntMonoid::Add => seg_scan_in::<Add, Global>(a, d),
-        IntMonoid::Mul => seg_scan_in::<Mul, Global>(a, d),
-        IntMonoid::Min => seg_scan_in::<Min, Global>(a, d),
-        IntMonoid::Max => seg_scan_in::<Max, Global>(a, d),
-        IntMonoid::And => seg_scan_in::<And, Global>(a, d),
-        IntMonoid::Ior => seg_scan_in::<Ior, Global>(a, d),
-        IntMonoid::Xor => seg_scan_in::<Xor, Global>(a, d),
+        IntMonoid::Add => seg_scan_in::<Add>(a, d),
+        IntMonoid::Mul => seg_scan_in::<Mul>(a, d),
+        IntMonoid::Min => seg_scan_in::<Min>(a, d),
+        IntMonoid::Max => seg_scan_in::<Max>(a, d),
+        IntMonoid::And => seg_scan_in::<And>(a, d),
+        IntMonoid::Ior => seg_scan_in::<Ior>(a, d),
+        IntMonoid::Xor => seg_scan_in::<Xor>(a, d),
     }
 }
 
 /// The scan of each segment of integers by the operator of a number, over the integers.
-pub fn seg_int_scan(alloc: Global, op: u32, a: &mut [i32], lengths: &[i32]) -> Result<(), Refused>
-    ensures { OverwritesOr (by_operator (int_monoid op)
+pub fn seg_int_scan(op: u32, a: &mut [i32], lengths: &[i32]) -> Result<(), Fault>
+    ensures { Overwrites (by_operator (int_monoid op)
         (λ o. by_segments lengths.now (seg_scan_of (int_join_of o) (int_unit_of o) a.old))) result a.old a.new }
 {
     let op = int_monoid(op)?;
-    let d = descriptor(alloc, lengths)?;
-    Ok(int_scan_of_segments(op, a, &d)?)
+    let d = segments(lengths)?;
+    int_scan_of_segments(op, a, &d)
 }
 
 /// For each integer the sum of those before it in its segment, over the integers.
-pub fn seg_checked_scan(alloc: Global, a: &mut [i32], lengths: &[i32]) -> Result<(), Refused>
-    ensures { OverwritesOr (by_segments lengths.now (checked_seg_scan_of a.old)) result a.old a.new }
+pub fn seg_checked_scan(a: &mut [i32], lengths: &[i32]) -> Result<(), Fault>
+    ensures { Overwrites (by_segments lengths.now (checked_seg_scan_of a.old)) result a.old a.new }
 {
-    let d = descriptor(alloc, lengths)?;
-    Ok(checked_seg_scan_in(a, &d)?)
+    let d = segments(lengths)?;
+    checked_seg_scan_in(a, &d)
 }

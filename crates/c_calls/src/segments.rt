@@ -7,7 +7,7 @@ ghost use Rattle.cvl_base.specs.SegmentedCalls.{seg_distribute_of, seg_extract_o
 ghost use Rattle.c_calls.specs.Calls.{by_segments};
 ghost use Rattle.c_calls.specs.Told.{in_room};
 
-use crate::checks::descriptor;
+use crate::checks::{descriptor, segments};
 use cvl_base::Refused;
 use pack_dist::{seg_distribute_over, seg_extract, seg_index_over, seg_replace};
 use std::alloc::Global;
@@ -21,7 +21,7 @@ pub fn extract_each<T: Copy>(
 ) -> Result<Vec<T, Global>, Refused>
     ensures { Gives (λ v. v.items) result (by_segments lengths.now (seg_extract_of vector.now index.now)) }
 {
-    let d = descriptor(alloc, lengths)?;
+    let d = segments(lengths)?;
     seg_extract(alloc, vector, index, &d)
 }
 
@@ -35,7 +35,7 @@ pub fn replace_each<T: Copy>(
 ) -> Result<Vec<T, Global>, Refused>
     ensures { Gives (λ v. v.items) result (by_segments lengths.now (seg_replace_of vector.now index.now values.now)) }
 {
-    let d = descriptor(alloc, lengths)?;
+    let d = segments(lengths)?;
     seg_replace(alloc, vector, index, values, &d)
 }
 

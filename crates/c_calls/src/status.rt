@@ -140,16 +140,3 @@ pub fn told_one<T: Copy>(answer: Result<T, Fault>, room: &mut T) -> CvlStatus
         Err(fault) => status_of(fault.into()),
     }
 }
-
-/// Tells a caller the one value of a call. The room of a call without a value is as before.
-pub fn told_or<T: Copy>(answer: Result<T, Refused>, room: &mut T) -> CvlStatus
-    ensures { (meaning : Result T Fault) → Gives (λ x. x) answer meaning → ToldOr meaning result room.old room.new }
-{
-    match answer {
-        Ok(value) => {
-            *room = value;
-            done()
-        }
-        Err(refused) => status_of(refused),
-    }
-}

@@ -66,7 +66,7 @@ pub fn checked_seg_reduce<R: Threads + Sync, A: Memory>(
 {
     check_total(a, d)?;
     let Some(pace) = reduce_pace(config, a.len(), size_of_val(a)) else {
-        return checked_seg_reduce_vec(alloc, a, d);
+        return checked_seg_reduce_vec(alloc, a, &d.as_lengths());
     };
     let totals = Totals::new(a, Some(d), summed_tile(pace, d));
     let before = before_tiles(rt, alloc, pace, &totals)?;

@@ -6,7 +6,7 @@ ghost use Rattle.c_calls.specs.Calls.{by_segments, in_limit};
 ghost use Rattle.c_calls.specs.Told.{Told, ToldOr, in_room};
 
 use c_calls::checked_sums::{reduce, reduce_each, scan, scan_each};
-use c_calls::status::{CvlStatus, told, told_one, told_over, told_over_or};
+use c_calls::status::{CvlStatus, told, told_one, told_over};
 use std::alloc::Global;
 
 /// For each integer the sum of those before it, which never wraps: `tot_suz`.
@@ -27,15 +27,10 @@ pub extern "C" fn cvl_checked_reduce(a: &[i32], out: &mut i32) -> CvlStatus
 
 /// For each integer the sum of those before it in its segment, which never wraps: `tot_sez`.
 #[unsafe(no_mangle)]
-pub extern "C" fn cvl_seg_checked_scan(
-    alloc: Global,
-    a: &[i32],
-    lengths: &[i32],
-    out: &mut [i32],
-) -> CvlStatus
-    ensures { ToldOr (in_room (length out.old) (by_segments lengths.now (checked_seg_scan_of a.now))) result out.old out.new }
+pub extern "C" fn cvl_seg_checked_scan(a: &[i32], lengths: &[i32], out: &mut [i32]) -> CvlStatus
+    ensures { Told (in_room (length out.old) (by_segments lengths.now (checked_seg_scan_of a.now))) result out.old out.new }
 {
-    told_over_or::<i32>(scan_each(alloc, a, lengths, out))
+    told_over::<i32>(scan_each(a, lengths, out))
 }
 
 /// The sum of each segment, which never wraps: `tot_rez`.

@@ -8,14 +8,13 @@ ghost use Rattle.cvl_base.specs.SegmentedCalls.{seg_scan_of};
 ghost use Rattle.c_calls.specs.Calls.{by_operator, by_segments, in_limit};
 ghost use Rattle.c_calls.specs.Numbers.{int_binary, int_monoid, unary};
 ghost use Rattle.c_calls.specs.Tiles.{int_scan_after};
-ghost use Rattle.c_calls.specs.Told.{Told, ToldOr};
+ghost use Rattle.c_calls.specs.Told.{Told};
 
 use c_calls::in_place::{
     checked_scan, int_scan, int_scan_from, int1, int2_both, int2_first, int2_second,
     seg_checked_scan, seg_int_scan,
 };
-use c_calls::status::{CvlStatus, told_over, told_over_or};
-use std::alloc::Global;
+use c_calls::status::{CvlStatus, told_over};
 
 /// `cvl_int2` over `a`.
 #[unsafe(no_mangle)]
@@ -75,26 +74,17 @@ pub extern "C" fn cvl_checked_scan_in(a: &mut [i32]) -> CvlStatus
 
 /// `cvl_seg_int_scan` over `a`.
 #[unsafe(no_mangle)]
-pub extern "C" fn cvl_seg_int_scan_in(
-    alloc: Global,
-    op: u32,
-    a: &mut [i32],
-    lengths: &[i32],
-) -> CvlStatus
-    ensures { ToldOr (by_operator (int_monoid op)
+pub extern "C" fn cvl_seg_int_scan_in(op: u32, a: &mut [i32], lengths: &[i32]) -> CvlStatus
+    ensures { Told (by_operator (int_monoid op)
         (λ o. by_segments lengths.now (seg_scan_of (int_join_of o) (int_unit_of o) a.old))) result a.old a.new }
 {
-    told_over_or::<i32>(seg_int_scan(alloc, op, a, lengths))
+    told_over::<i32>(seg_int_scan(op, a, lengths))
 }
 
 /// `cvl_seg_checked_scan` over `a`.
 #[unsafe(no_mangle)]
-pub extern "C" fn cvl_seg_checked_scan_in(
-    alloc: Global,
-    a: &mut [i32],
-    lengths: &[i32],
-) -> CvlStatus
-    ensures { ToldOr (by_segments lengths.now (checked_seg_scan_of a.old)) result a.old a.new }
+pub extern "C" fn cvl_seg_checked_scan_in(a: &mut [i32], lengths: &[i32]) -> CvlStatus
+    ensures { Told (by_segments lengths.now (checked_seg_scan_of a.old)) result a.old a.new }
 {
-    told_over_or::<i32>(seg_checked_scan(alloc, a, lengths))
+    told_over::<i32>(seg_checked_scan(a, lengths))
 }

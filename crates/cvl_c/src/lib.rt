@@ -9,7 +9,6 @@ mod checked_sums;
 mod descriptors;
 mod elements;
 mod flat_permutes;
-mod held_segments;
 mod in_place;
 mod nested_texts;
 mod packs;

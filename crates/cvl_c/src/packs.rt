@@ -4,11 +4,10 @@ ghost use Rattle.std.specs.Prelude.{length};
 ghost use Rattle.cvl_base.specs.Packs.{pack_of};
 ghost use Rattle.cvl_base.specs.SegmentedCalls.{seg_pack_of};
 ghost use Rattle.c_calls.specs.Calls.{by_segments, counts_of, in_limit};
-ghost use Rattle.c_calls.specs.Told.{FrontTold, FrontToldOr, ToldOr, in_room};
+ghost use Rattle.c_calls.specs.Told.{FrontTold, Told, in_room};
 
 use c_calls::packs::{count_each, pack, pack_each};
-use c_calls::status::{CvlStatus, told_over, told_over_or};
-use std::alloc::Global;
+use c_calls::status::{CvlStatus, told_over};
 
 /// The integers whose flag is true, in order: `pck_luz`.
 #[unsafe(no_mangle)]
@@ -39,55 +38,43 @@ pub extern "C" fn cvl_pack_bool(
 /// The integers of each segment whose flag is true, in order, one segment after another: `pck_lez`.
 #[unsafe(no_mangle)]
 pub extern "C" fn cvl_seg_pack_int(
-    alloc: Global,
     values: &[i32],
     flags: &[bool],
     lengths: &[i32],
     out: &mut [i32],
     count: &mut usize,
 ) -> CvlStatus
-    ensures { FrontToldOr (by_segments lengths.now (seg_pack_of values.now flags.now)) result out.old out.new count.old count.new }
+    ensures { FrontTold (by_segments lengths.now (seg_pack_of values.now flags.now)) result out.old out.new count.old count.new }
 {
-    pack_each(alloc, values, flags, lengths, out, count)
+    told_over::<i32>(pack_each(values, flags, lengths, out, count))
 }
 
 /// The booleans of each segment whose flag is true, in order, one segment after another: `pck_leb`.
 #[unsafe(no_mangle)]
 pub extern "C" fn cvl_seg_pack_bool(
-    alloc: Global,
     values: &[bool],
     flags: &[bool],
     lengths: &[i32],
     out: &mut [bool],
     count: &mut usize,
 ) -> CvlStatus
-    ensures { FrontToldOr (by_segments lengths.now (seg_pack_of values.now flags.now)) result out.old out.new count.old count.new }
+    ensures { FrontTold (by_segments lengths.now (seg_pack_of values.now flags.now)) result out.old out.new count.old count.new }
 {
-    pack_each(alloc, values, flags, lengths, out, count)
+    told_over::<bool>(pack_each(values, flags, lengths, out, count))
 }
 
 /// The lengths of the segments of what a pack of segments keeps, empty ones included: `pck_fov`.
 #[unsafe(no_mangle)]
-pub extern "C" fn cvl_packed_lengths(
-    alloc: Global,
-    flags: &[bool],
-    lengths: &[i32],
-    out: &mut [i32],
-) -> CvlStatus
-    ensures { ToldOr (in_room (length out.old) (by_segments lengths.now (counts_of flags.now))) result out.old out.new }
+pub extern "C" fn cvl_packed_lengths(flags: &[bool], lengths: &[i32], out: &mut [i32]) -> CvlStatus
+    ensures { Told (in_room (length out.old) (by_segments lengths.now (counts_of flags.now))) result out.old out.new }
 {
-    told_over_or::<i32>(count_each(alloc, flags, lengths, out))
+    told_over::<i32>(count_each(flags, lengths, out))
 }
 
 /// The number of true flags of each segment: `cnt_leb`.
 #[unsafe(no_mangle)]
-pub extern "C" fn cvl_seg_count(
-    alloc: Global,
-    flags: &[bool],
-    lengths: &[i32],
-    out: &mut [i32],
-) -> CvlStatus
-    ensures { ToldOr (in_room (length out.old) (by_segments lengths.now (counts_of flags.now))) result out.old out.new }
+pub extern "C" fn cvl_seg_count(flags: &[bool], lengths: &[i32], out: &mut [i32]) -> CvlStatus
+    ensures { Told (in_room (length out.old) (by_segments lengths.now (counts_of flags.now))) result out.old out.new }
 {
-    told_over_or::<i32>(count_each(alloc, flags, lengths, out))
+    told_over::<i32>(count_each(flags, lengths, out))
 }

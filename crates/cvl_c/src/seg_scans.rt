@@ -5,68 +5,63 @@ ghost use Rattle.cvl_base.specs.Scans.{bool_join_of, bool_unit_of, int_join_of, 
 ghost use Rattle.cvl_base.specs.SegmentedCalls.{seg_reduce_of, seg_scan_of};
 ghost use Rattle.c_calls.specs.Calls.{by_operator, by_segments};
 ghost use Rattle.c_calls.specs.Numbers.{bool_binary, int_monoid};
-ghost use Rattle.c_calls.specs.Told.{ToldOr, in_room};
+ghost use Rattle.c_calls.specs.Told.{Told, in_room};
 
 use c_calls::seg_scans::{bool_reduce, bool_scan, int_reduce, int_scan};
-use c_calls::status::{CvlStatus, told_over_or};
-use std::alloc::Global;
+use c_calls::status::{CvlStatus, told_over};
 
 /// For each integer those before it in its segment, joined by the operator: `add_sez` and its like.
 #[unsafe(no_mangle)]
 pub extern "C" fn cvl_seg_int_scan(
-    alloc: Global,
     op: u32,
     a: &[i32],
     lengths: &[i32],
     out: &mut [i32],
 ) -> CvlStatus
-    ensures { ToldOr (in_room (length out.old) (by_operator (int_monoid op)
+    ensures { Told (in_room (length out.old) (by_operator (int_monoid op)
         (λ o. by_segments lengths.now (seg_scan_of (int_join_of o) (int_unit_of o) a.now)))) result out.old out.new }
 {
-    told_over_or::<i32>(int_scan(alloc, op, a, lengths, out))
+    told_over::<i32>(int_scan(op, a, lengths, out))
 }
 
 /// The integers of each segment joined by the operator: `add_rez` and its like.
 #[unsafe(no_mangle)]
 pub extern "C" fn cvl_seg_int_reduce(
-    alloc: Global,
     op: u32,
     a: &[i32],
     lengths: &[i32],
     out: &mut [i32],
 ) -> CvlStatus
-    ensures { ToldOr (in_room (length out.old) (by_operator (int_monoid op)
+    ensures { Told (in_room (length out.old) (by_operator (int_monoid op)
         (λ o. by_segments lengths.now (seg_reduce_of (int_join_of o) (int_unit_of o) a.now)))) result out.old out.new }
 {
-    told_over_or::<i32>(int_reduce(alloc, op, a, lengths, out))
+    told_over::<i32>(int_reduce(op, a, lengths, out))
 }
 
 /// For each boolean those before it in its segment, joined by the operator: `and_seb` and its like.
 #[unsafe(no_mangle)]
 pub extern "C" fn cvl_seg_bool_scan(
-    alloc: Global,
     op: u32,
     a: &[bool],
     lengths: &[i32],
     out: &mut [bool],
 ) -> CvlStatus
-    ensures { ToldOr (in_room (length out.old) (by_operator (bool_binary op)
+    ensures { Told (in_room (length out.old) (by_operator (bool_binary op)
         (λ o. by_segments lengths.now (seg_scan_of (bool_join_of o) (bool_unit_of o) a.now)))) result out.old out.new }
 {
-    told_over_or::<bool>(bool_scan(alloc, op, a, lengths, out))
+    told_over::<bool>(bool_scan(op, a, lengths, out))
 }
 
 /// The booleans of each segment joined by the operator: `and_reb` and its like.
 #[unsafe(no_mangle)]
 pub extern "C" fn cvl_seg_bool_reduce(
-    alloc: Global,
     op: u32,
     a: &[bool],
     lengths: &[i32],
     out: &mut [bool],
 ) -> CvlStatus
-    ensures { ToldOr (in_room (length out.old) (by_operator (bool_binary op)
+    ensures { Told (in_room (length out.old) (by_operator (bool_binary op)
         (λ o. by_segments lengths.now (seg_reduce_of (bool_join_of o) (bool_unit_of o) a.now)))) result out.old out.new }
 {
-    told_over_or::<bool>(bool_reduce(alloc, op, a, lengths, out))
+    told_over::<bool>(bool_reduce(op, a, lengths, out))
 }

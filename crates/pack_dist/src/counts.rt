@@ -15,8 +15,7 @@ use crew::{Gate, OpenGate};
 use cvl_base::monoids::Add;
 use cvl_base::{Config, Fault, Memory, NoResources, Refused, true_count};
 use scan_walks::{Reading, seg_reduce_readings_over};
-use segdes::SegDes;
-use std::alloc::Allocator;
+use segdes::{SegDes, SegLengths};
 use std::thread::Threads;
 use tile_scans::{scan_readings_gated, seg_reduce_readings_gated};
 
@@ -98,14 +97,10 @@ pub fn seg_count_gated<R: Threads + Sync, A: Memory, G: Gate>(
 
 /// The same as [`seg_count`], over a room of the caller's, by the thread that calls: LengthMismatch, without a place, where the
 /// room hasn't one place for each segment, which is checked last. It asks for no memory.
-pub fn seg_count_over<A: Allocator>(
-    flags: &[bool],
-    d: &SegDes<A>,
-    out: &mut [i32],
-) -> Result<(), Fault>
+pub fn seg_count_over(flags: &[bool], d: &SegLengths, out: &mut [i32]) -> Result<(), Fault>
     ensures { Overwrites (in_room (length out.old) (counts_of flags.now d.now)) result out.old out.new }
 {
     // its contract names the limits of a descriptor's lengths
     let _lengths = d.lengths();
-    seg_reduce_readings_over::<Add, bool, Ones, A>(flags, d, out)
+    seg_reduce_readings_over::<Add, bool, Ones>(flags, d, out)
 }

@@ -7,7 +7,7 @@ ghost use Rattle.cvl_base.specs.SegmentedCalls.{seg_extract_of};
 
 use crate::places::place_in_segment;
 use cvl_base::{Fault, FaultNo, Memory, Refused, check_agree, place_among};
-use segdes::{SegDes, check_total};
+use segdes::SegLengths;
 
 /// The element at the place that an index names, counted from 0: `ext_vuz` and its like.
 ///
@@ -32,12 +32,12 @@ pub fn seg_extract<T: Copy, A: Memory>(
     alloc: A,
     vector: &[T],
     index: &[i32],
-    d: &SegDes<A>,
+    d: &SegLengths,
 ) -> Result<Vec<T, A>, Refused>
     ensures values { Gives (λ v. v.items) result (seg_extract_of vector.now index.now d.now) }
     ensures as_long { IfOk result (λ v. vec_len v ≡ length d.now) }
 {
-    check_total(vector, d)?;
+    d.check_total(vector)?;
     check_agree(d.count(), index.len())?;
     let mut elements = Vec::with_capacity(alloc, d.count())?;
     let mut start = 0;

@@ -7,7 +7,7 @@ ghost use Rattle.cvl_base.specs.SegmentedCalls.{seg_replace_of};
 
 use crate::places::place_in_segment;
 use cvl_base::{Fault, FaultNo, Memory, Refused, check_agree, place_among};
-use segdes::{SegDes, check_total};
+use segdes::SegLengths;
 
 /// The vector with `value` at the place that an index names, counted from 0: `rep_vuz` and its like.
 ///
@@ -41,13 +41,13 @@ pub fn seg_replace<T: Copy, A: Memory>(
     vector: &[T],
     index: &[i32],
     values: &[T],
-    d: &SegDes<A>,
+    d: &SegLengths,
 ) -> Result<Vec<T, A>, Refused>
     ensures values { Gives (λ v. v.items) result
         (seg_replace_of vector.now index.now values.now d.now) }
     ensures as_long { IfOk result (λ v. vec_len v ≡ length vector.now) }
 {
-    check_total(vector, d)?;
+    d.check_total(vector)?;
     check_agree(d.count(), index.len())?;
     check_agree(d.count(), values.len())?;
     let mut replaced = Vec::from_slice(alloc, vector)?;

@@ -9,8 +9,7 @@ use crate::counts::seg_count_gated;
 use crate::packs::{kept, kept_over};
 use crew::{Gate, OpenGate};
 use cvl_base::{Config, Fault, Lengths, Memory, Refused};
-use segdes::{SegDes, check_total};
-use std::alloc::Allocator;
+use segdes::{SegDes, SegLengths, check_total};
 use std::thread::Threads;
 
 /// The elements of each segment whose flag is true, in order, one segment after another: `pck_lez` and `pck_leb`.
@@ -53,17 +52,17 @@ pub fn seg_pack_values_gated<T: Copy + Send + Sync, R: Threads + Sync, A: Memory
 ///
 /// The count becomes the number of true flags, also where the room is too short for as many elements: that is LengthMismatch,
 /// without a place, and the room is as before. Else the rest of the room is as before. At any other fault the count is, too.
-pub fn seg_pack_values_over<T: Copy, A: Allocator>(
+pub fn seg_pack_values_over<T: Copy>(
     values: &[T],
     flags: &[bool],
-    d: &SegDes<A>,
+    d: &SegLengths,
     out: &mut [T],
     count: &mut usize,
 ) -> Result<(), Fault>
     ensures { OverwritesFront (seg_pack_of values.now flags.now d.now) result out.old out.new count.old count.new }
 {
-    check_total(values, d)?;
-    check_total(flags, d)?;
+    d.check_total(values)?;
+    d.check_total(flags)?;
     kept_over(values, flags, out, count)
 }
 

@@ -13,7 +13,7 @@ ghost use Rattle.cvl_base.specs.Limits.{most_elements};
 ghost use Rattle.cvl_base.specs.Rooms.{Overwrites, in_room};
 ghost use Rattle.cvl_base.specs.SegmentedCalls.{seg_scan_of};
 
-use crate::fronts::{fitting_of_range, fitting_of_scan};
+use crate::fronts::{fitting_of_scan, fitting_of_scans};
 use crate::over::{scan_over, seg_scan_over};
 use crate::plain::scan_vec;
 use crate::readings::Itself;
@@ -21,7 +21,7 @@ use crate::vectors::seg_scan_vec;
 use crate::whole_sums::{fitting, know_numbers, total};
 use cvl_base::monoids::Add;
 use cvl_base::{Fault, FaultNo, Refused};
-use segdes::{SegDes, check_total};
+use segdes::{SegDes, SegLengths};
 use std::alloc::Allocator;
 
 /// Looks whether all results of the checked scan fit 32 bits, so that they are those of the scan that wraps: `Overflow` at the
@@ -40,12 +40,12 @@ pub(crate) fn check_scan(a: &[i32]) -> Result<(), Fault>
 
 /// The same of the checked scans of segments: LengthMismatch, without a place, where the segments' total is not the number of
 /// elements, and else `Overflow` at the first result that does not fit, at its place in the vector.
-pub(crate) fn check_seg_scan<A: Allocator>(a: &[i32], d: &SegDes<A>) -> Result<(), Fault>
+pub(crate) fn check_seg_scan(a: &[i32], d: &SegLengths) -> Result<(), Fault>
     ensures { MatchResult result (λ _. checked_seg_scan_of a.now d.now ≡ seg_scan_of sum_of (pos 0) a.now d.now)
         (λ f. checked_seg_scan_of a.now d.now ≡ Err f) }
 {
-    check_total(a, d)?;
-    let fitting = fitting_of_range(a, d, 0, a.len(), 0);
+    d.check_total(a)?;
+    let fitting = fitting_of_scans(d.lengths(), a);
     if fitting < a.len() {
         return Err(Fault::at(FaultNo::Overflow, fitting as u32));
     }
@@ -91,7 +91,7 @@ pub fn checked_seg_scan_vec<A: Allocator, B: Allocator>(
     ensures values { Gives (λ sums. sums.items) result (checked_seg_scan_of a.now d.now) }
     ensures as_long { IfOk result (λ sums. vec_len sums ≡ length a.now) }
 {
-    check_seg_scan(a, d)?;
+    check_seg_scan(a, &d.as_lengths())?;
     know_numbers(a);
     seg_scan_vec::<Add, A, B>(alloc, a, d)
 }
@@ -101,16 +101,12 @@ pub fn checked_seg_scan_vec<A: Allocator, B: Allocator>(
 ///
 /// LengthMismatch, without a place, where the segments' total is not the number of elements, which is asked first, or where
 /// the room isn't as long as the vector, which is asked last. Source: Blelloch's segmented scans.
-pub fn checked_seg_scan_over<A: Allocator>(
-    a: &[i32],
-    d: &SegDes<A>,
-    out: &mut [i32],
-) -> Result<(), Fault>
+pub fn checked_seg_scan_over(a: &[i32], d: &SegLengths, out: &mut [i32]) -> Result<(), Fault>
     ensures { Overwrites (in_room (length out.old) (checked_seg_scan_of a.now d.now)) result out.old out.new }
 {
     check_seg_scan(a, d)?;
     know_numbers(a);
-    seg_scan_over::<Add, A>(a, d, out)
+    seg_scan_over::<Add>(a, d, out)
 }
 
 /// The sum of at most 4,194,304 integers, if it fits 32 bits.
@@ -138,15 +134,15 @@ pub fn checked_sum(a: &[i32]) -> Result<i32, Fault>
 ///
 /// The result has one element for each segment. LengthMismatch, without a place, where the segments' total is not the
 /// number of elements. Source: CVL's segmented reduces.
-pub fn checked_seg_reduce_vec<A: Allocator, B: Allocator>(
-    alloc: B,
+pub fn checked_seg_reduce_vec<A: Allocator>(
+    alloc: A,
     a: &[i32],
-    d: &SegDes<A>,
-) -> Result<Vec<i32, B>, Refused>
+    d: &SegLengths,
+) -> Result<Vec<i32, A>, Refused>
     ensures values { Gives (λ sums. sums.items) result (checked_seg_reduce_of a.now d.now) }
     ensures one_each { IfOk result (λ sums. vec_len sums ≡ length d.now) }
 {
-    check_total(a, d)?;
+    d.check_total(a)?;
     let count = d.count();
     let mut sums = Vec::with_capacity(alloc, count)?;
     let mut rest = a;

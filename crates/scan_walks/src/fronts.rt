@@ -40,7 +40,7 @@ pub fn fitting_of_scan(before: i64, xs: &[i32]) -> usize
 
 /// The same of the scans of the segments with these lengths, one after another. The segments have all of the integers, and
 /// the last may be cut short by the end of the integers.
-fn fitting_of_scans(lengths: &[i32], xs: &[i32]) -> usize
+pub(crate) fn fitting_of_scans(lengths: &[i32], xs: &[i32]) -> usize
     requires lengths { AreLengths lengths.now }
     requires covered { length xs.now ≤ sum (map unsigned_abs lengths.now) }
     ensures front { result ≡ fitting_front (scans_of ◌+ℤ◌ (pos 0) (map unsigned_abs lengths.now) xs.now) }

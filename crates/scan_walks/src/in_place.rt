@@ -15,8 +15,7 @@ use crate::whole_sums::know_numbers;
 use cvl_base::monoid::know_laws;
 use cvl_base::monoids::Add;
 use cvl_base::{Fault, Monoid};
-use segdes::{SegDes, check_total};
-use std::alloc::Allocator;
+use segdes::SegLengths;
 
 /// Writes the exclusive scan over the vector: each element gives way to `before`, joined from left to right with those that
 /// stood in front of it.
@@ -58,11 +57,11 @@ fn scans_in<M: Monoid>(lengths: &[i32], a: &mut [M::Item])
 /// the number of elements, which are then as before.
 ///
 /// The elements must be items of the monoid. Source: Blelloch's segmented scans.
-pub fn seg_scan_in<M: Monoid, A: Allocator>(a: &mut [M::Item], d: &SegDes<A>) -> Result<(), Fault>
+pub fn seg_scan_in<M: Monoid>(a: &mut [M::Item], d: &SegLengths) -> Result<(), Fault>
     requires items { AllPass M.is_item a.old }
     ensures { Overwrites (seg_scan_of M.join M.unit a.old d.now) result a.old a.new }
 {
-    check_total(a, d)?;
+    d.check_total(a)?;
     scans_in::<M>(d.lengths(), a);
     Ok(())
 }
@@ -84,10 +83,10 @@ pub fn checked_scan_in(a: &mut [i32]) -> Result<(), Fault>
 /// Writes the checked scan of each segment over the vector: LengthMismatch, without a place, where the segments' total is not
 /// the number of elements, and else `Overflow` at the first sum that does not fit 32 bits, at its place in the vector. Then the
 /// vector is as before. Source: Blelloch's segmented scans.
-pub fn checked_seg_scan_in<A: Allocator>(a: &mut [i32], d: &SegDes<A>) -> Result<(), Fault>
+pub fn checked_seg_scan_in(a: &mut [i32], d: &SegLengths) -> Result<(), Fault>
     ensures { Overwrites (checked_seg_scan_of a.old d.now) result a.old a.new }
 {
     check_seg_scan(a, d)?;
     know_numbers(a);
-    seg_scan_in::<Add, A>(a, d)
+    seg_scan_in::<Add>(a, d)
 }

@@ -1,22 +1,22 @@
 //! Scans and reduces over a room of the caller's, by the thread that calls. They ask for no memory.
 
-ghost use Rattle.std.specs.Prelude.{◌≡◌, ◌≤◌, IsTrue, Ok, [], length, map, slice_range, sum};
+ghost use Rattle.std.specs.Prelude.{◌≡◌, ◌≤◌, IsTrue, Ok, [], length, map, sum, unsigned_abs};
 ghost use Rattle.std.specs.List.{AllPass};
+ghost use Rattle.cvl_base.specs.Descriptors.{AreLengths};
 ghost use Rattle.cvl_base.specs.Folds.{scan_of};
 ghost use Rattle.cvl_base.specs.Limits.{most_elements};
 ghost use Rattle.cvl_base.specs.Rooms.{Overwrites, in_room};
 ghost use Rattle.cvl_base.specs.SegmentedCalls.{seg_reduce_of, seg_scan_of};
 ghost use Rattle.fresh.specs.Places.{with_items};
-ghost use Rattle.scan_walks.specs.Ranges.{reduces_of, range_between, range_scan_of};
+ghost use Rattle.scan_walks.specs.Ranges.{reduces_of, scans_of};
 
 use crate::plain::scan_into;
-use crate::ranges::{scan_range_into, seg_reduces_into};
+use crate::ranges::{reduces_into, scans_into};
 use crate::readings::{Itself, Reading};
 use cvl_base::monoid::know_laws;
 use cvl_base::{Fault, Monoid, check_agree};
 use fresh::{Run, fill_slice};
-use segdes::{SegDes, check_total};
-use std::alloc::Allocator;
+use segdes::SegLengths;
 
 /// Writes the exclusive scan over a room: for each element `before`, joined from left to right with those in front of it.
 /// LengthMismatch, without a place, where the room isn't as long.
@@ -49,23 +49,24 @@ pub fn scan_over<M: Monoid>(
 /// number of elements, or the room isn't as long.
 ///
 /// The elements must be items of the monoid. Source: Blelloch's segmented scans.
-pub fn seg_scan_over<M: Monoid, A: Allocator>(
+pub fn seg_scan_over<M: Monoid>(
     a: &[M::Item],
-    d: &SegDes<A>,
+    d: &SegLengths,
     out: &mut [M::Item],
 ) -> Result<(), Fault>
     requires items { AllPass M.is_item a.now }
     ensures { Overwrites (in_room (length out.old) (seg_scan_of M.join M.unit a.now d.now)) result out.old out.new }
 {
     know_laws::<M>();
-    check_total(a, d)?;
+    d.check_total(a)?;
     check_agree(a.len(), out.len())?;
+    let lengths = d.lengths();
     fill_slice(
         out,
         |run: Run<M::Item>| -> Run<M::Item>
-            requires { (run.items ≡ []) × (run.room ≡ length a.now) × (sum d.now ≡ length a.now) × AllPass M.is_item a.now × IsTrue (M.is_item M.unit) }
-            ensures { result ≡ with_items run (range_scan_of M.join M.unit M.unit (range_between d.entry.now a.entry.now 0 (length a.entry.now))) }
-        { scan_range_into::<M, M::Item, Itself, A>(run, a, d, 0, a.len(), M::unit()) },
+            requires { (run.items ≡ []) × (run.room ≡ length a.now) × AreLengths lengths.now × (length a.now ≡ sum (map unsigned_abs lengths.now)) × AllPass M.is_item a.now }
+            ensures { result ≡ with_items run (scans_of M.join M.unit (map unsigned_abs lengths.entry.now) a.entry.now) }
+        { scans_into::<M, M::Item, Itself>(run, lengths, a) },
     );
     Ok(())
 }
@@ -75,36 +76,36 @@ pub fn seg_scan_over<M: Monoid, A: Allocator>(
 /// for each segment.
 ///
 /// The elements must be items of the monoid. Source: CVL's segmented reduces.
-pub fn seg_reduce_over<M: Monoid, A: Allocator>(
+pub fn seg_reduce_over<M: Monoid>(
     a: &[M::Item],
-    d: &SegDes<A>,
+    d: &SegLengths,
     out: &mut [M::Item],
 ) -> Result<(), Fault>
     requires items { AllPass M.is_item a.now }
     ensures { Overwrites (in_room (length out.old) (seg_reduce_of M.join M.unit a.now d.now)) result out.old out.new }
 {
-    seg_reduce_readings_over::<M, M::Item, Itself, A>(a, d, out)
+    seg_reduce_readings_over::<M, M::Item, Itself>(a, d, out)
 }
 
 /// The same as [`seg_reduce_over`], of what the elements are read as, which must be items of the monoid.
-pub fn seg_reduce_readings_over<M: Monoid, X: Copy, E: Reading<X, M::Item>, A: Allocator>(
+pub fn seg_reduce_readings_over<M: Monoid, X: Copy, E: Reading<X, M::Item>>(
     a: &[X],
-    d: &SegDes<A>,
+    d: &SegLengths,
     out: &mut [M::Item],
 ) -> Result<(), Fault>
     requires items { AllPass (λ x. M.is_item (E.item x)) a.now }
     ensures { Overwrites (in_room (length out.old) (seg_reduce_of M.join M.unit (map E.item a.now) d.now)) result out.old out.new }
 {
     know_laws::<M>();
-    check_total(a, d)?;
-    let count = d.count();
-    check_agree(count, out.len())?;
+    d.check_total(a)?;
+    check_agree(d.count(), out.len())?;
+    let lengths = d.lengths();
     fill_slice(
         out,
         |run: Run<M::Item>| -> Run<M::Item>
-            requires { (run.items ≡ []) × (run.room ≡ count) × (count ≡ length d.now) × (sum d.now ≡ length a.now) × AllPass (λ x. M.is_item (E.item x)) a.now × IsTrue (M.is_item M.unit) }
-            ensures { result ≡ with_items run (slice_range (reduces_of M.join M.unit d.entry.now (map E.item a.entry.now)) 0 count) }
-        { seg_reduces_into::<M, X, E, A>(run, a, d, 0, count, 0, M::unit()) },
+            requires { (run.items ≡ []) × (run.room ≡ length lengths.now) × AreLengths lengths.now × (sum (map unsigned_abs lengths.now) ≡ length a.now) × AllPass (λ x. M.is_item (E.item x)) a.now }
+            ensures { result ≡ with_items run (reduces_of M.join M.unit (map unsigned_abs lengths.entry.now) (map E.item a.entry.now)) }
+        { reduces_into::<M, X, E>(run, lengths, a) },
     );
     Ok(())
 }

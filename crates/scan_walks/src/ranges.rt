@@ -24,7 +24,7 @@ use std::alloc::Allocator;
 /// for the scans.
 // inlined for the loop that it calls
 #[inline(always)]
-fn scans_into<M: Monoid, X: Copy, E: Reading<X, M::Item>>(
+pub(crate) fn scans_into<M: Monoid, X: Copy, E: Reading<X, M::Item>>(
     run: Run<M::Item>,
     lengths: &[i32],
     xs: &[X],
@@ -48,7 +48,7 @@ fn scans_into<M: Monoid, X: Copy, E: Reading<X, M::Item>>(
 
 /// Writes the reduces of the segments with these lengths, of what the elements are read as. The elements begin with
 /// those of the segments. The run must have room for the reduces.
-fn reduces_into<M: Monoid, X: Copy, E: Reading<X, M::Item>>(
+pub(crate) fn reduces_into<M: Monoid, X: Copy, E: Reading<X, M::Item>>(
     run: Run<M::Item>,
     lengths: &[i32],
     xs: &[X],

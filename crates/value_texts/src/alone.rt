@@ -8,7 +8,7 @@ use crate::nest_text::put_nest_alone;
 use crate::vector_text::{PAGE_BYTES, put_vector_alone};
 use crate::written::Written;
 use cvl_base::{Memory, NoResources};
-use segdes::SegDes;
+use segdes::SegLengths;
 use std::alloc::Allocator;
 
 /// The text of a vector of integers or booleans, as [`put_value`](crate::put_value) appends it. The text grows by the bytes of
@@ -31,7 +31,7 @@ pub fn vector_text_alone<T: Written, A: Allocator>(
 #[tactic(auto, using(cvl_base::proofs::Descriptors::abs_pos))]
 pub fn nest_text_alone<T: Written, A: Memory>(
     alloc: A,
-    d: &SegDes<A>,
+    d: &SegLengths,
     xs: &[T],
 ) -> Result<Vec<u8, A>, NoResources>
     requires { sum d.now ≡ length xs.now }

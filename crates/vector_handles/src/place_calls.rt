@@ -156,11 +156,11 @@ impl<A: Memory> Session<A> {
         match element {
             Element::Integer => {
                 let vector = operands.first.integers();
-                bound_integers(seg_extract(self.alloc, vector, places, d))
+                bound_integers(seg_extract(self.alloc, vector, places, &d.as_lengths()))
             }
             Element::Boolean => {
                 let vector = operands.first.booleans();
-                bound_booleans(seg_extract(self.alloc, vector, places, d))
+                bound_booleans(seg_extract(self.alloc, vector, places, &d.as_lengths()))
             }
         }
     }
@@ -241,6 +241,6 @@ impl<A: Memory> Session<A> {
     {
         let places = operands.second.integers();
         let d = operands.fourth.descriptor();
-        seg_replace(self.alloc, vector, places, values, d)
+        seg_replace(self.alloc, vector, places, values, &d.as_lengths())
     }
 }

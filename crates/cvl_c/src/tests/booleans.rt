@@ -2,7 +2,6 @@
 
 use crate::elements::*;
 use crate::flat_permutes::*;
-use crate::held_segments::*;
 use crate::packs::*;
 use crate::place_by_place::*;
 use crate::scans::*;
@@ -12,7 +11,6 @@ use crate::segments::*;
 use crate::tests::booleans::BoolCall::*;
 use crate::tests::told::*;
 use crate::tiles::*;
-use c_calls::held::CvlSegments;
 use c_calls::status::CvlStatus;
 use std::alloc::Global;
 use std::test::Fail;
@@ -45,18 +43,10 @@ enum BoolCall {
     SegBackPermute(Flags, Ints, Ints, Ints),
     Pack(Flags, Flags),
     SegPack(Flags, Flags, Ints),
-    HeldScan(u32, Flags),
-    HeldReduce(u32, Flags),
 }
 
 impl Call<bool> for BoolCall {
-    fn answer(
-        &self,
-        alloc: Global,
-        held: &mut CvlSegments,
-        room: &mut [bool],
-        count: &mut usize,
-    ) -> CvlStatus {
+    fn answer(&self, alloc: Global, room: &mut [bool], count: &mut usize) -> CvlStatus {
         match self {
             Compare(op, a, b) => cvl_compare(*op, a, b, room),
             Bool2(op, a, b) => cvl_bool2(*op, a, b, room),
@@ -72,8 +62,8 @@ impl Call<bool> for BoolCall {
             SegExtract(a, index, d) => cvl_seg_extract_bool(alloc, a, index, d, room),
             SegReplace(a, index, b, d) => cvl_seg_replace_bool(alloc, a, index, b, d, room),
             SegDistribute(a, d) => cvl_seg_distribute_bool(alloc, a, d, room),
-            SegScan(op, a, d) => cvl_seg_bool_scan(alloc, *op, a, d, room),
-            SegReduce(op, a, d) => cvl_seg_bool_reduce(alloc, *op, a, d, room),
+            SegScan(op, a, d) => cvl_seg_bool_scan(*op, a, d, room),
+            SegReduce(op, a, d) => cvl_seg_bool_reduce(*op, a, d, room),
             Permute(a, index) => cvl_permute_bool(alloc, a, index, room),
             SelectPermute(a, index, flags) => cvl_select_permute_bool(alloc, a, index, flags, room),
             DefaultPermute(a, index, b) => cvl_default_permute_bool(alloc, a, index, b, room),
@@ -89,9 +79,7 @@ impl Call<bool> for BoolCall {
                 alloc, a, index, d, e, room,
             ),
             Pack(a, flags) => cvl_pack_bool(a, flags, room, count),
-            SegPack(a, flags, d) => cvl_seg_pack_bool(alloc, a, flags, d, room, count),
-            HeldScan(op, a) => cvl_segments_bool_scan(alloc, *op, a, held, room),
-            HeldReduce(op, a) => cvl_segments_bool_reduce(alloc, *op, a, held, room),
+            SegPack(a, flags, d) => cvl_seg_pack_bool(a, flags, d, room, count),
         }
     }
 }
@@ -165,10 +153,6 @@ const ROWS: &[Row<BoolCall, bool>] = rows! {
     Pack(FLAGS, FLAGS), 2 => Err((LENGTH_MISMATCH, -1)), 3;
     SegPack(&[true, false, true], LAST, &[1, 2]), 2 => Ok(&[false, true]), 2;
     SegPack(FLAGS, FLAGS, BELOW), 8 => Err((NEGATIVE_LENGTH, 1));
-    HeldScan(IOR, T), 5 => Ok(&[false, true, false, true, true]);
-    HeldScan(AND, F), 5 => Err((LENGTH_MISMATCH, -1));
-    HeldReduce(AND, T), 3 => Ok(&[false, true, false]);
-    HeldReduce(MAX, T), 3 => Err((UNKNOWN_CALL, -1));
 };
 
 #[test]

@@ -4,7 +4,6 @@ use crate::nested_texts::*;
 use crate::tests::bytes::TextCall::*;
 use crate::tests::told::*;
 use crate::texts::*;
-use c_calls::held::CvlSegments;
 use c_calls::status::CvlStatus;
 use std::alloc::Global;
 use std::test::Fail;
@@ -18,13 +17,7 @@ enum TextCall {
 }
 
 impl Call<u8> for TextCall {
-    fn answer(
-        &self,
-        alloc: Global,
-        _: &mut CvlSegments,
-        room: &mut [u8],
-        count: &mut usize,
-    ) -> CvlStatus {
+    fn answer(&self, alloc: Global, room: &mut [u8], count: &mut usize) -> CvlStatus {
         match self {
             WriteInts(a) => cvl_write_ints(alloc, a, room, count),
             WriteBools(a) => cvl_write_bools(alloc, a, room, count),

@@ -4,7 +4,6 @@ use crate::in_place::*;
 use crate::tests::in_place::InPlace::*;
 use crate::tests::told::*;
 use c_calls::status::CvlStatus;
-use std::alloc::Global;
 use std::test::Fail;
 
 /// A call of such an export, beside the vector that it is made over.
@@ -22,7 +21,7 @@ enum InPlace {
 
 impl InPlace {
     /// What the export answers, over a vector.
-    fn answer(&self, alloc: Global, over: &mut [i32]) -> CvlStatus {
+    fn answer(&self, over: &mut [i32]) -> CvlStatus {
         match self {
             First(op, b) => cvl_int2_in_first(*op, over, b),
             Second(op, a) => cvl_int2_in_second(*op, a, over),
@@ -31,8 +30,8 @@ impl InPlace {
             Scan(op) => cvl_int_scan_in(*op, over),
             ScanAfter(op, before) => cvl_int_scan_after_in(*op, *before, over),
             CheckedScan => cvl_checked_scan_in(over),
-            SegScan(op, d) => cvl_seg_int_scan_in(alloc, *op, over, d),
-            SegCheckedScan(d) => cvl_seg_checked_scan_in(alloc, over, d),
+            SegScan(op, d) => cvl_seg_int_scan_in(*op, over, d),
+            SegCheckedScan(d) => cvl_seg_checked_scan_in(over, d),
         }
     }
 }
@@ -72,7 +71,7 @@ const ROWS: &[(InPlace, Ints, Answer<i32>)] = &[
 fn exports_in_place(rt: HostRuntime) -> Result<(), Fail> {
     for (call, before, answer) in ROWS {
         let mut over = Vec::from_slice(rt.alloc(), before)?;
-        let status = call.answer(rt.alloc(), &mut over);
+        let status = call.answer(&mut over);
         let (wanted, number, place) = match answer {
             Ok(after) => (*after, 0, -1),
             Err((number, place)) => (*before, *number, *place),

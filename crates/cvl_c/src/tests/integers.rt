@@ -4,7 +4,6 @@ use crate::checked_sums::*;
 use crate::descriptors::*;
 use crate::elements::*;
 use crate::flat_permutes::*;
-use crate::held_segments::*;
 use crate::packs::*;
 use crate::place_by_place::*;
 use crate::scans::*;
@@ -15,7 +14,6 @@ use crate::tests::integers::IntCall::*;
 use crate::tests::told::*;
 use crate::texts::*;
 use crate::tiles::*;
-use c_calls::held::CvlSegments;
 use c_calls::status::CvlStatus;
 use std::alloc::Global;
 use std::test::Fail;
@@ -58,23 +56,10 @@ enum IntCall {
     SegPack(Ints, Flags, Ints),
     Read(&'static [u8]),
     MakeDescriptor(Ints),
-    New(Ints),
-    Free,
-    HeldTotal,
-    HeldCheckedScan(Ints),
-    HeldCheckedReduce(Ints),
-    HeldScan(u32, Ints),
-    HeldReduce(u32, Ints),
 }
 
 impl Call<i32> for IntCall {
-    fn answer(
-        &self,
-        alloc: Global,
-        held: &mut CvlSegments,
-        room: &mut [i32],
-        count: &mut usize,
-    ) -> CvlStatus {
+    fn answer(&self, alloc: Global, room: &mut [i32], count: &mut usize) -> CvlStatus {
         match self {
             Int2(op, a, b) => cvl_int2(*op, a, b, room),
             Int1(op, a) => cvl_int1(*op, a, room),
@@ -85,7 +70,7 @@ impl Call<i32> for IntCall {
             ScanAfter(op, before, a) => cvl_int_scan_after(*op, *before, a, room),
             CheckedScan(a) => cvl_checked_scan(a, room),
             CheckedReduce(a) => in_one!(room, one => cvl_checked_reduce(a, one)),
-            SegCheckedScan(a, d) => cvl_seg_checked_scan(alloc, a, d, room),
+            SegCheckedScan(a, d) => cvl_seg_checked_scan(a, d, room),
             SegCheckedReduce(a, d) => cvl_seg_checked_reduce(alloc, a, d, room),
             Counts(flags) => in_one!(room, one => cvl_count(flags, one)),
             Extract(a, index) => in_one!(room, one => cvl_extract_int(a, *index, one)),
@@ -96,10 +81,10 @@ impl Call<i32> for IntCall {
             SegReplace(a, index, b, d) => cvl_seg_replace_int(alloc, a, index, b, d, room),
             SegDistribute(a, d) => cvl_seg_distribute_int(alloc, a, d, room),
             SegIndex(a, b, d) => cvl_seg_index(alloc, a, b, d, room),
-            SegScan(op, a, d) => cvl_seg_int_scan(alloc, *op, a, d, room),
-            SegReduce(op, a, d) => cvl_seg_int_reduce(alloc, *op, a, d, room),
-            PackedLengths(flags, d) => cvl_packed_lengths(alloc, flags, d, room),
-            SegCounts(flags, d) => cvl_seg_count(alloc, flags, d, room),
+            SegScan(op, a, d) => cvl_seg_int_scan(*op, a, d, room),
+            SegReduce(op, a, d) => cvl_seg_int_reduce(*op, a, d, room),
+            PackedLengths(flags, d) => cvl_packed_lengths(flags, d, room),
+            SegCounts(flags, d) => cvl_seg_count(flags, d, room),
             Permute(a, index) => cvl_permute_int(alloc, a, index, room),
             SelectPermute(a, index, flags) => cvl_select_permute_int(alloc, a, index, flags, room),
             DefaultPermute(a, index, b) => cvl_default_permute_int(alloc, a, index, b, room),
@@ -113,16 +98,9 @@ impl Call<i32> for IntCall {
             ),
             SegBackPermute(a, index, d, e) => cvl_seg_back_permute_int(alloc, a, index, d, e, room),
             Pack(a, flags) => cvl_pack_int(a, flags, room, count),
-            SegPack(a, flags, d) => cvl_seg_pack_int(alloc, a, flags, d, room, count),
+            SegPack(a, flags, d) => cvl_seg_pack_int(a, flags, d, room, count),
             Read(text) => cvl_read_ints(alloc, text, room, count),
-            MakeDescriptor(d) => cvl_make_descriptor(alloc, d, count),
-            New(d) => cvl_segments_new(alloc, d, held),
-            Free => cvl_segments_free(alloc, held),
-            HeldTotal => cvl_segments_total(alloc, held, count),
-            HeldCheckedScan(a) => cvl_segments_checked_scan(alloc, a, held, room),
-            HeldCheckedReduce(a) => cvl_segments_checked_reduce(alloc, a, held, room),
-            HeldScan(op, a) => cvl_segments_int_scan(alloc, *op, a, held, room),
-            HeldReduce(op, a) => cvl_segments_int_reduce(alloc, *op, a, held, room),
+            MakeDescriptor(d) => cvl_make_descriptor(d, count),
         }
     }
 }
@@ -223,23 +201,6 @@ const ROWS: &[Row<IntCall, i32>] = rows! {
     Read(b"1 +2 3"), 3 => Err((BAD_INPUT, 1));
     MakeDescriptor(LENGTHS), 0 => Ok(&[]), 5;
     MakeDescriptor(BELOW), 0 => Err((NEGATIVE_LENGTH, 1));
-    HeldTotal, 0 => Ok(&[]), 5;
-    HeldCheckedScan(PI), 5 => Ok(&[0, 3, 0, 4, 5]);
-    HeldCheckedScan(&[1, 2, i32::MAX, 1, 1]), 5 => Err((OVERFLOW, 4));
-    HeldCheckedReduce(PI), 3 => Ok(&[4, 0, 10]);
-    HeldCheckedReduce(&[i32::MAX, 1, 0, 0, 0]), 3 => Err((OVERFLOW, 0));
-    HeldScan(MUL, PI), 5 => Ok(&[1, 3, 1, 4, 4]);
-    HeldScan(SUB, A), 3 => Err((UNKNOWN_CALL, -1));
-    HeldReduce(MAX, PI), 3 => Ok(&[3, i32::MIN, 5]);
-    HeldReduce(SUB, PI), 3 => Err((UNKNOWN_CALL, -1));
-    New(&[1, 1]), 0 => Ok(&[]);
-    HeldTotal, 0 => Ok(&[]), 2;
-    New(BELOW), 0 => Err((NEGATIVE_LENGTH, 1));
-    HeldTotal, 0 => Err((NO_HANDLE, -1));
-    HeldCheckedScan(PI), 5 => Err((NO_HANDLE, -1));
-    New(LENGTHS), 0 => Ok(&[]);
-    Free, 0 => Ok(&[]);
-    HeldTotal, 0 => Err((NO_HANDLE, -1));
 };
 
 #[test]

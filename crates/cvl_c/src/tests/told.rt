@@ -1,7 +1,5 @@
 //! What a call has to tell, and the first row of a table that is told wrongly.
 
-use crate::held_segments::cvl_segments_new;
-use c_calls::held::CvlSegments;
 use c_calls::status::CvlStatus;
 use std::alloc::{AllocError, Global};
 
@@ -28,8 +26,6 @@ pub const BAD_INPUT: u32 = 15;
 
 pub const OVERFLOW: u32 = 18;
 
-pub const NO_HANDLE: u32 = 101;
-
 // the numbers of operators, as the header names them
 pub const ADD: u32 = 0;
 
@@ -53,7 +49,7 @@ pub const NOT: u32 = 18;
 
 pub const NO_OPERATOR: u32 = 20;
 
-/// Lengths of segments, of which those of the handle are made.
+/// Lengths of segments, of which the second is empty.
 pub const LENGTHS: Ints = &[2, 0, 3];
 
 /// A count before a call.
@@ -81,31 +77,23 @@ pub fn is_told<T: Copy + PartialEq>(
 
 /// A call of an export.
 pub trait Call<T> {
-    /// What the export answers, on a handle, a room and a count.
-    fn answer(
-        &self,
-        alloc: Global,
-        held: &mut CvlSegments,
-        room: &mut [T],
-        count: &mut usize,
-    ) -> CvlStatus;
+    /// What the export answers, on a room and a count.
+    fn answer(&self, alloc: Global, room: &mut [T], count: &mut usize) -> CvlStatus;
 }
 
 /// A call, the length of its room, what it answers, and the count after it.
 pub type Row<C, T> = (C, usize, Answer<T>, usize);
 
-/// The first row that is told wrongly. All are called in turn on one handle, which holds a descriptor when the first one is.
+/// The first row that is told wrongly.
 pub fn first_wrong<T: Copy + PartialEq, C: Call<T>>(
     alloc: Global,
     rows: &[Row<C, T>],
     before: T,
 ) -> Result<Option<usize>, AllocError> {
-    let mut held = CvlSegments::none();
-    cvl_segments_new(alloc, LENGTHS, &mut held);
     for (k, (call, length, answer, counted)) in rows.iter().enumerate() {
         let mut room = vec![in alloc; before; *length]?;
         let mut count = COUNT;
-        let status = call.answer(alloc, &mut held, &mut room, &mut count);
+        let status = call.answer(alloc, &mut room, &mut count);
         if !is_told(answer, status, &room, before) || count != *counted {
             return Ok(Some(k));
         }

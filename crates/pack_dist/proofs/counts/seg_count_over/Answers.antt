@@ -4,7 +4,7 @@ use Rattle.pack_dist.proofs.Segments.{counts_reduced, descriptor-small}
 use Rattle.pack_dist.proofs.counts.seg_count_over.Goals as goal
 
 pub returns : goal.returns
-returns g c =
+returns c =
     let d = c.args.d.now in
     let row = c.lengths-lengths.ensures in
     let out = c.args.out.now in

@@ -1,26 +1,28 @@
-use Rattle.std.proofs.Common.{◌∙◌, Err, ap, pos, sym}
+use Rattle.std.proofs.Common.{◌≡◌, ◌∙◌, ◌+ℤ◌, ap, Err, map, pos, sym, unsigned_abs}
 use Rattle.cvl_base.specs.Integers.{sum_of}
+use Rattle.cvl_base.proofs.Descriptors.{abs_pos}
 use Rattle.scan_walks.specs.Fronts.{fitting_front}
-use Rattle.scan_walks.proofs.Cut.{whole_scanned}
+use Rattle.scan_walks.specs.Ranges.{scans_of}
 use Rattle.scan_walks.proofs.Fitted.{scans_fit, scans_overflow}
 use Rattle.scan_walks.proofs.Segmented.{seg_scan-fits}
-use Rattle.scan_walks.proofs.WholeSums.{all_whole, whole_laws}
 use Rattle.scan_walks.proofs.checked.check_seg_scan.Goals as goal
 
 pub returns-then-fitting-a : goal.returns-then-fitting-a
-returns-then-fitting-a g c =
+returns-then-fitting-a c =
     let a = c.args.a.now in
     let d = c.args.d.now in
-    let fitting = c.fitting_of_range-fitting in
+    let fitting = c.fitting_of_scans-fitting in
+    let are : map unsigned_abs c.lengths.result.now ≡ d = ap (map unsigned_abs) c.lengths.ensures.value ∙ abs_pos d in
     scans_overflow fitting.result d a c.in_ok-check_total.ensures.agrees
-    (fitting.ensures ∙ ap fitting_front (whole_scanned whole_laws d a (pos 0) (all_whole a))) c.if-fitting-a.true
+    (fitting.ensures.front ∙ ap (λ ls. fitting_front (scans_of ◌+ℤ◌ (pos 0) ls a)) are) c.if-fitting-a.true
     ∙ ap Err (sym c.at.ensures)
 
 pub returns : goal.returns
-returns g c =
+returns c =
     let a = c.args.a.now in
     let d = c.args.d.now in
-    let fitting = c.fitting_of_range-fitting in
+    let fitting = c.fitting_of_scans-fitting in
     let agrees = c.in_ok-check_total.ensures.agrees in
-    scans_fit fitting.result d a agrees (fitting.ensures ∙ ap fitting_front (whole_scanned whole_laws d a (pos 0) (all_whole a))) c.if-fitting-a.false
+    let are : map unsigned_abs c.lengths.result.now ≡ d = ap (map unsigned_abs) c.lengths.ensures.value ∙ abs_pos d in
+    scans_fit fitting.result d a agrees (fitting.ensures.front ∙ ap (λ ls. fitting_front (scans_of ◌+ℤ◌ (pos 0) ls a)) are) c.if-fitting-a.false
     ∙ sym (seg_scan-fits sum_of (pos 0) a d agrees)

@@ -1,9 +1,9 @@
-use Rattle.std.proofs.Common.{◌≡◌, ◌∙◌, ◌-◌, Err, Ok, ap, arith, length, map, sym}
-use Rattle.std.specs.Prelude.{slice_range}
-use Rattle.std.proofs.lemmas.List.{length-map, take_all}
+use Rattle.std.proofs.Common.{◌≡◌, ◌∙◌, Err, Ok, ap, arith, length, map, sym, unsigned_abs}
+use Rattle.std.proofs.lemmas.List.{length-map}
 use Rattle.cvl_base.specs.Folds.{fold_of}
 use Rattle.cvl_base.specs.Nests.{cut_of}
 use Rattle.cvl_base.specs.Rooms.{in_room}
+use Rattle.cvl_base.proofs.Descriptors.{abs_pos}
 use Rattle.cvl_base.proofs.Nests.{length-cut}
 use Rattle.cvl_base.proofs.Rooms.{differs, fits, told}
 use Rattle.scan_walks.specs.Ranges.{reduces_of}
@@ -17,21 +17,23 @@ returns-in_err-check_agree g c =
     let long : length sums ≡ length d = length-map (cut_of d (map item a)) (fold_of m.join m.unit) ∙ length-cut d (map item a) in
     told _ c.from_residual-in_err-check_agree.result c.in_err-check_agree.field-0.0 c.args.out.now c.from_residual-in_err-check_agree.ensures.1
     (ap (in_room room) (seg_reduce-fits m.join m.unit (map item a) d (c.in_ok-check_total.ensures.agrees ∙ sym (length-map a item)))
-    ∙ differs room sums (λ same. c.in_err-check_agree.ensures.1 (c.count-count.ensures.value ∙ sym long ∙ same)) ∙ ap Err (sym c.in_err-check_agree.ensures.0))
+    ∙ differs room sums (λ same. c.in_err-check_agree.ensures.1 (c.count.ensures.value ∙ sym long ∙ same)) ∙ ap Err (sym c.in_err-check_agree.ensures.0))
 
 pub fill_slice-requires-clause-full : goal.fill_slice-requires-clause-full
 fill_slice-requires-clause-full g c = λ block run done.
-    let m = g.M.Monoid in let item = g.E.Reading.item in let a = c.args.a.now in let d = c.args.d.now in let count = c.count-count.result in let is = done.1 in
-    let sums = reduces_of m.join m.unit d (map item a) in
-    let whole : length sums ≡ count = length-map (cut_of d (map item a)) (fold_of m.join m.unit) ∙ length-cut d (map item a) ∙ sym c.count-count.ensures.value in
-    let long : length (slice_range sums 0 count) ≡ length c.args.out.now = ap length (take_all (count - 0) sums (omega (arith, whole))) ∙ whole ∙ c.in_ok-check_agree.ensures in
+    let m = g.M.Monoid in let item = g.E.Reading.item in let a = c.args.a.now in let d = c.args.d.now in let is = done.1 in
+    let are : map unsigned_abs c.lengths-lengths.result.now ≡ d = ap (map unsigned_abs) c.lengths-lengths.ensures.value ∙ abs_pos d in
+    let long : length (reduces_of m.join m.unit (map unsigned_abs c.lengths-lengths.result.now) (map item a)) ≡ length c.args.out.now =
+    ap (λ ls. length (reduces_of m.join m.unit ls (map item a))) are ∙ length-map (cut_of d (map item a)) (fold_of m.join m.unit) ∙ length-cut d (map item a)
+    ∙ sym c.count.ensures.value ∙ c.in_ok-check_agree.ensures in
     (ap (λ s. s.block) is, ap (λ s. s.first) is, ap (λ s. s.room) is ∙ omega (arith, long), ap (λ s. length s.items) is ∙ long)
 
 pub returns : goal.returns
 returns g c =
-    let m = g.M.Monoid in let item = g.E.Reading.item in let a = c.args.a.now in let d = c.args.d.now in let room = length c.args.out.now in let count = c.count-count.result in
+    let m = g.M.Monoid in let item = g.E.Reading.item in let a = c.args.a.now in let d = c.args.d.now in let room = length c.args.out.now in
+    let are : map unsigned_abs c.lengths-lengths.result.now ≡ d = ap (map unsigned_abs) c.lengths-lengths.ensures.value ∙ abs_pos d in
     let sums = reduces_of m.join m.unit d (map item a) in
-    let whole : length sums ≡ count = length-map (cut_of d (map item a)) (fold_of m.join m.unit) ∙ length-cut d (map item a) ∙ sym c.count-count.ensures.value in
-    let all : slice_range sums 0 count ≡ sums = take_all (count - 0) sums (omega (arith, whole)) in
+    let whole : length sums ≡ room = length-map (cut_of d (map item a)) (fold_of m.join m.unit) ∙ length-cut d (map item a) ∙ sym c.count.ensures.value ∙ c.in_ok-check_agree.ensures in
     ap (in_room room) (seg_reduce-fits m.join m.unit (map item a) d (c.in_ok-check_total.ensures.agrees ∙ sym (length-map a item)))
-    ∙ fits room sums (whole ∙ c.in_ok-check_agree.ensures) ∙ ap Ok (sym (c.fill_slice.ensures.3 ∙ ap (λ s. s.items) c.fill_slice.ensures.2.1 ∙ all))
+    ∙ fits room sums whole
+    ∙ ap Ok (sym (c.fill_slice.ensures.3 ∙ ap (λ s. s.items) c.fill_slice.ensures.2.1 ∙ ap (λ ls. reduces_of m.join m.unit ls (map item a)) are))
