@@ -26,8 +26,9 @@
  *   - A bool is 0 or 1. Else the results are any, and the call may crash or write other memory.
  *   - The program has one malloc, realloc and free. Else memory is given back to an allocator that it isn't from.
  *   - The lengths of a descriptor live as long as calls take it. Else the call may crash or read other memory.
- *   - Code that calls the library's exports otherwise than by this header, as other languages do, gives no room that shares memory
- *     with another argument. Else the results are any, and the call may crash or write other memory.
+ *   - Code of other languages that calls the export of a family, as cvl_int2, gives no room that shares memory with another argument.
+ *     Else the results are any, and the call may crash or write other memory. A call under its own name, as cvl_add_wuz, tells
+ *     overlaps to every language.
  * All else is checked: whatever lengths, indices, operators and rooms are given, a call ends with a status. It runs on the thread
  * that calls. Several threads may call at once.
  *
@@ -52,6 +53,26 @@
 
 #ifdef __cplusplus
 extern "C" {
+#endif
+
+/* The version of this header; cvl_version() tells that of the library. docs/versions.md says what may change at which number. */
+#define CVL_VERSION "1.0.0"
+#define CVL_VERSION_MAJOR 1
+#define CVL_VERSION_MINOR 0
+#define CVL_VERSION_PATCH 0
+
+/*
+ * CVL_CHECKED: a status that is not looked at is warned of. CVL_NONNULL: a pointer to a single value, which may never be null.
+ * CVL_RESTRICT: a room that may overlap no argument.
+ */
+#if defined(__GNUC__)
+#define CVL_CHECKED __attribute__((warn_unused_result))
+#define CVL_NONNULL(...) __attribute__((nonnull(__VA_ARGS__)))
+#define CVL_RESTRICT __restrict__
+#else
+#define CVL_CHECKED
+#define CVL_NONNULL(...)
+#define CVL_RESTRICT
 #endif
 
 /* What a call answers. */
@@ -104,6 +125,15 @@ enum {
     CVL_NOT = 18, /* on one vector: each bit, or each boolean, inverted */
     CVL_CPY = 19  /* the same again */
 };
+
+/* ---- the version, and the names of faults ---- */
+
+/* The version of the library, as CVL_VERSION has that of the header. */
+const char *cvl_version(void);
+
+/* The name of the number of a status, as "DivideByZero"; "Unknown" where it is no such number. */
+const char *cvl_fault_name(uint32_t number);
+
 /* ---- place by place: exports ---- */
 
 /* The operator on each two integers at the same place. */
@@ -1043,6 +1073,17 @@ static inline CvlStatus cvl_seg_write_bools_apart(
     return cvl_seg_write_bools(a, a_len, lengths, segments, out, out_len, count);
 }
 #define cvl_seg_write_bools cvl_seg_write_bools_apart
+
+/* ---- each call of the table, by its name ---- */
+
+/*
+ * Each call of the table stands below under its own name, as add_wuz. Under the same name with the prefix cvl_ it is a function of
+ * the library, with the same arguments, for languages that call by name. Where CVL_NO_SHORT_NAMES is defined before this header is
+ * included, the names without the prefix are not defined.
+ */
+#include "cvl_calls.h"
+
+#ifndef CVL_NO_SHORT_NAMES
 
 /* ---- place by place: the calls of the table ---- */
 
@@ -2281,6 +2322,8 @@ static inline CvlStatus bck_peb(
     size_t segments, bool *out, size_t m) {
     return cvl_seg_back_permute_bool(source, n, index, m, lengths, segments, index_lengths, segments, out, m);
 }
+
+#endif
 
 /* ---- descriptors: the calls on segments that take one ---- */
 
