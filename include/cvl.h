@@ -137,255 +137,255 @@ const char *cvl_fault_name(uint32_t number);
 /* ---- place by place: exports ---- */
 
 /* The operator on each two integers at the same place. */
-CvlStatus cvl_int2(
+CVL_CHECKED CvlStatus cvl_int2(
     uint32_t op, const int32_t *a, size_t a_len, const int32_t *b, size_t b_len, int32_t *out, size_t out_len);
 
 /* The operator, CVL_NOT or CVL_CPY, on each integer. */
-CvlStatus cvl_int1(uint32_t op, const int32_t *a, size_t a_len, int32_t *out, size_t out_len);
+CVL_CHECKED CvlStatus cvl_int1(uint32_t op, const int32_t *a, size_t a_len, int32_t *out, size_t out_len);
 
 /* The comparison of each two integers at the same place, on signed numbers. */
-CvlStatus cvl_compare(
+CVL_CHECKED CvlStatus cvl_compare(
     uint32_t op, const int32_t *a, size_t a_len, const int32_t *b, size_t b_len, bool *out, size_t out_len);
 
 /* The operator on each two booleans at the same place. */
-CvlStatus cvl_bool2(uint32_t op, const bool *a, size_t a_len, const bool *b, size_t b_len, bool *out, size_t out_len);
+CVL_CHECKED CvlStatus cvl_bool2(uint32_t op, const bool *a, size_t a_len, const bool *b, size_t b_len, bool *out, size_t out_len);
 
 /* The operator, CVL_NOT or CVL_CPY, on each boolean. */
-CvlStatus cvl_bool1(uint32_t op, const bool *a, size_t a_len, bool *out, size_t out_len);
+CVL_CHECKED CvlStatus cvl_bool1(uint32_t op, const bool *a, size_t a_len, bool *out, size_t out_len);
 
 /* 1 for true and 0 for false. */
-CvlStatus cvl_int_from_bool(const bool *a, size_t a_len, int32_t *out, size_t out_len);
+CVL_CHECKED CvlStatus cvl_int_from_bool(const bool *a, size_t a_len, int32_t *out, size_t out_len);
 
 /* False for 0 and true for all else. */
-CvlStatus cvl_bool_from_int(const int32_t *a, size_t a_len, bool *out, size_t out_len);
+CVL_CHECKED CvlStatus cvl_bool_from_int(const int32_t *a, size_t a_len, bool *out, size_t out_len);
 
 /* At each place the element of a where the flag is true, else that of b. */
-CvlStatus cvl_select_int(
+CVL_CHECKED CvlStatus cvl_select_int(
     const bool *flags, size_t flags_len, const int32_t *a, size_t a_len, const int32_t *b, size_t b_len, int32_t *out, size_t out_len);
 
 /* At each place the element of a where the flag is true, else that of b. */
-CvlStatus cvl_select_bool(
+CVL_CHECKED CvlStatus cvl_select_bool(
     const bool *flags, size_t flags_len, const bool *a, size_t a_len, const bool *b, size_t b_len, bool *out, size_t out_len);
 
 /* ---- scans and reduces: exports ---- */
 
 /* For each integer those before it, joined by the operator, of CVL_ADD to CVL_XOR. */
-CvlStatus cvl_int_scan(uint32_t op, const int32_t *a, size_t a_len, int32_t *out, size_t out_len);
+CVL_CHECKED CvlStatus cvl_int_scan(uint32_t op, const int32_t *a, size_t a_len, int32_t *out, size_t out_len);
 
 /* The integers joined by the operator, of CVL_ADD to CVL_XOR. */
-CvlStatus cvl_int_reduce(uint32_t op, const int32_t *a, size_t a_len, int32_t *out);
+CVL_CHECKED CvlStatus cvl_int_reduce(uint32_t op, const int32_t *a, size_t a_len, int32_t *out);
 
 /* For each boolean those before it, joined by the operator, of CVL_AND to CVL_XOR. */
-CvlStatus cvl_bool_scan(uint32_t op, const bool *a, size_t a_len, bool *out, size_t out_len);
+CVL_CHECKED CvlStatus cvl_bool_scan(uint32_t op, const bool *a, size_t a_len, bool *out, size_t out_len);
 
 /* The booleans joined by the operator, of CVL_AND to CVL_XOR. */
-CvlStatus cvl_bool_reduce(uint32_t op, const bool *a, size_t a_len, bool *out);
+CVL_CHECKED CvlStatus cvl_bool_reduce(uint32_t op, const bool *a, size_t a_len, bool *out);
 
 /* ---- sums that never wrap: exports ---- */
 
 /* For each integer the sum of those before it. */
-CvlStatus cvl_checked_scan(const int32_t *a, size_t a_len, int32_t *out, size_t out_len);
+CVL_CHECKED CvlStatus cvl_checked_scan(const int32_t *a, size_t a_len, int32_t *out, size_t out_len);
 
 /* The sum of the integers. */
-CvlStatus cvl_checked_reduce(const int32_t *a, size_t a_len, int32_t *out);
+CVL_CHECKED CvlStatus cvl_checked_reduce(const int32_t *a, size_t a_len, int32_t *out);
 
 /* For each integer the sum of those before it in its segment. */
-CvlStatus cvl_seg_checked_scan(
+CVL_CHECKED CvlStatus cvl_seg_checked_scan(
     const int32_t *a, size_t a_len, const int32_t *lengths, size_t segments, int32_t *out, size_t out_len);
 
 /* The sum of each segment. */
-CvlStatus cvl_seg_checked_reduce(
+CVL_CHECKED CvlStatus cvl_seg_checked_reduce(
     const int32_t *a, size_t a_len, const int32_t *lengths, size_t segments, int32_t *out, size_t out_len);
 
 /* ---- counts, single elements, and vectors of a given length: exports ---- */
 
 /* The number of true flags. */
-CvlStatus cvl_count(const bool *flags, size_t flags_len, int32_t *out);
+CVL_CHECKED CvlStatus cvl_count(const bool *flags, size_t flags_len, int32_t *out);
 
 /* The element at an index. Vectors of any length. */
-CvlStatus cvl_extract_int(const int32_t *vector, size_t vector_len, int32_t index, int32_t *out);
+CVL_CHECKED CvlStatus cvl_extract_int(const int32_t *vector, size_t vector_len, int32_t index, int32_t *out);
 
 /* The element at an index. Vectors of any length. */
-CvlStatus cvl_extract_bool(const bool *vector, size_t vector_len, int32_t index, bool *out);
+CVL_CHECKED CvlStatus cvl_extract_bool(const bool *vector, size_t vector_len, int32_t index, bool *out);
 
 /* The vector with another element at an index. Vectors of any length. */
-CvlStatus cvl_replace_int(
+CVL_CHECKED CvlStatus cvl_replace_int(
     const int32_t *vector, size_t vector_len, int32_t index, int32_t value, int32_t *out, size_t out_len);
 
 /* The vector with another element at an index. Vectors of any length. */
-CvlStatus cvl_replace_bool(
+CVL_CHECKED CvlStatus cvl_replace_bool(
     const bool *vector, size_t vector_len, int32_t index, bool value, bool *out, size_t out_len);
 
 /* Copies of a value, count of them. */
-CvlStatus cvl_distribute_int(int32_t value, int32_t count, int32_t *out, size_t out_len);
+CVL_CHECKED CvlStatus cvl_distribute_int(int32_t value, int32_t count, int32_t *out, size_t out_len);
 
 /* Copies of a value, count of them. */
-CvlStatus cvl_distribute_bool(bool value, int32_t count, bool *out, size_t out_len);
+CVL_CHECKED CvlStatus cvl_distribute_bool(bool value, int32_t count, bool *out, size_t out_len);
 
 /* The numbers init + k * stride, each wrapped to 32 bits, count of them. */
-CvlStatus cvl_index(int32_t init, int32_t stride, int32_t count, int32_t *out, size_t out_len);
+CVL_CHECKED CvlStatus cvl_index(int32_t init, int32_t stride, int32_t count, int32_t *out, size_t out_len);
 
 /* ---- segments, which come as their lengths: exports ---- */
 
 /* Whether the numbers are lengths of segments, and their total. */
-CvlStatus cvl_make_descriptor(const int32_t *lengths, size_t segments, size_t *total);
+CVL_CHECKED CvlStatus cvl_make_descriptor(const int32_t *lengths, size_t segments, size_t *total);
 
 /* The element of each segment at its index. */
-CvlStatus cvl_seg_extract_int(
+CVL_CHECKED CvlStatus cvl_seg_extract_int(
     const int32_t *vector, size_t vector_len, const int32_t *index, size_t index_len, const int32_t *lengths, size_t segments, int32_t *out, size_t out_len);
 
 /* The element of each segment at its index. */
-CvlStatus cvl_seg_extract_bool(
+CVL_CHECKED CvlStatus cvl_seg_extract_bool(
     const bool *vector, size_t vector_len, const int32_t *index, size_t index_len, const int32_t *lengths, size_t segments, bool *out, size_t out_len);
 
 /* The vector with another element in each segment, at its index. */
-CvlStatus cvl_seg_replace_int(
+CVL_CHECKED CvlStatus cvl_seg_replace_int(
     const int32_t *vector, size_t vector_len, const int32_t *index, size_t index_len, const int32_t *values, size_t values_len,
     const int32_t *lengths, size_t segments, int32_t *out, size_t out_len);
 
 /* The vector with another element in each segment, at its index. */
-CvlStatus cvl_seg_replace_bool(
+CVL_CHECKED CvlStatus cvl_seg_replace_bool(
     const bool *vector, size_t vector_len, const int32_t *index, size_t index_len, const bool *values, size_t values_len,
     const int32_t *lengths, size_t segments, bool *out, size_t out_len);
 
 /* Copies of the value of each segment, as many as it has places. */
-CvlStatus cvl_seg_distribute_int(
+CVL_CHECKED CvlStatus cvl_seg_distribute_int(
     const int32_t *values, size_t values_len, const int32_t *lengths, size_t segments, int32_t *out, size_t out_len);
 
 /* Copies of the value of each segment, as many as it has places. */
-CvlStatus cvl_seg_distribute_bool(
+CVL_CHECKED CvlStatus cvl_seg_distribute_bool(
     const bool *values, size_t values_len, const int32_t *lengths, size_t segments, bool *out, size_t out_len);
 
 /* The numbers of each segment from its init on, in steps of its stride. */
-CvlStatus cvl_seg_index(
+CVL_CHECKED CvlStatus cvl_seg_index(
     const int32_t *inits, size_t inits_len, const int32_t *strides, size_t strides_len, const int32_t *lengths, size_t segments,
     int32_t *out, size_t out_len);
 
 /* ---- scans and reduces of segments: exports ---- */
 
 /* For each integer those before it in its segment, joined by the operator, of CVL_ADD to CVL_XOR. */
-CvlStatus cvl_seg_int_scan(
+CVL_CHECKED CvlStatus cvl_seg_int_scan(
     uint32_t op, const int32_t *a, size_t a_len, const int32_t *lengths, size_t segments, int32_t *out, size_t out_len);
 
 /* The integers of each segment joined by the operator, of CVL_ADD to CVL_XOR. */
-CvlStatus cvl_seg_int_reduce(
+CVL_CHECKED CvlStatus cvl_seg_int_reduce(
     uint32_t op, const int32_t *a, size_t a_len, const int32_t *lengths, size_t segments, int32_t *out, size_t out_len);
 
 /* For each boolean those before it in its segment, joined by the operator, of CVL_AND to CVL_XOR. */
-CvlStatus cvl_seg_bool_scan(
+CVL_CHECKED CvlStatus cvl_seg_bool_scan(
     uint32_t op, const bool *a, size_t a_len, const int32_t *lengths, size_t segments, bool *out, size_t out_len);
 
 /* The booleans of each segment joined by the operator, of CVL_AND to CVL_XOR. */
-CvlStatus cvl_seg_bool_reduce(
+CVL_CHECKED CvlStatus cvl_seg_bool_reduce(
     uint32_t op, const bool *a, size_t a_len, const int32_t *lengths, size_t segments, bool *out, size_t out_len);
 
 /* ---- packs and counts of segments: exports ---- */
 
 /* The integers whose flag is true, in order, and how many they are. */
-CvlStatus cvl_pack_int(
+CVL_CHECKED CvlStatus cvl_pack_int(
     const int32_t *values, size_t values_len, const bool *flags, size_t flags_len, int32_t *out, size_t out_len, size_t *count);
 
 /* The booleans whose flag is true, in order, and how many they are. */
-CvlStatus cvl_pack_bool(
+CVL_CHECKED CvlStatus cvl_pack_bool(
     const bool *values, size_t values_len, const bool *flags, size_t flags_len, bool *out, size_t out_len, size_t *count);
 
 /* The integers of each segment whose flag is true, in order, one segment after another, and how many they are. */
-CvlStatus cvl_seg_pack_int(
+CVL_CHECKED CvlStatus cvl_seg_pack_int(
     const int32_t *values, size_t values_len, const bool *flags, size_t flags_len, const int32_t *lengths, size_t segments,
     int32_t *out, size_t out_len, size_t *count);
 
 /* The booleans of each segment whose flag is true, in order, one segment after another, and how many they are. */
-CvlStatus cvl_seg_pack_bool(
+CVL_CHECKED CvlStatus cvl_seg_pack_bool(
     const bool *values, size_t values_len, const bool *flags, size_t flags_len, const int32_t *lengths, size_t segments,
     bool *out, size_t out_len, size_t *count);
 
 /* The lengths of the segments of what a pack of segments keeps. */
-CvlStatus cvl_packed_lengths(
+CVL_CHECKED CvlStatus cvl_packed_lengths(
     const bool *flags, size_t flags_len, const int32_t *lengths, size_t segments, int32_t *out, size_t out_len);
 
 /* The number of true flags of each segment. */
-CvlStatus cvl_seg_count(
+CVL_CHECKED CvlStatus cvl_seg_count(
     const bool *flags, size_t flags_len, const int32_t *lengths, size_t segments, int32_t *out, size_t out_len);
 /* ---- permutes: exports ---- */
 
 /* Each element of the source at its index. */
-CvlStatus cvl_permute_int(
+CVL_CHECKED CvlStatus cvl_permute_int(
     const int32_t *source, size_t source_len, const int32_t *index, size_t index_len, int32_t *out, size_t out_len);
 
 /* Each element of the source at its index. */
-CvlStatus cvl_permute_bool(
+CVL_CHECKED CvlStatus cvl_permute_bool(
     const bool *source, size_t source_len, const int32_t *index, size_t index_len, bool *out, size_t out_len);
 
 /* Each element of the source whose flag is true at its index. */
-CvlStatus cvl_select_permute_int(
+CVL_CHECKED CvlStatus cvl_select_permute_int(
     const int32_t *source, size_t source_len, const int32_t *index, size_t index_len, const bool *flags, size_t flags_len,
     int32_t *out, size_t out_len);
 
 /* Each element of the source whose flag is true at its index. */
-CvlStatus cvl_select_permute_bool(
+CVL_CHECKED CvlStatus cvl_select_permute_bool(
     const bool *source, size_t source_len, const int32_t *index, size_t index_len, const bool *flags, size_t flags_len,
     bool *out, size_t out_len);
 
 /* Each element of the source at its index, and at a place to which none goes its default. */
-CvlStatus cvl_default_permute_int(
+CVL_CHECKED CvlStatus cvl_default_permute_int(
     const int32_t *source, size_t source_len, const int32_t *index, size_t index_len,
     const int32_t *defaults, size_t defaults_len, int32_t *out, size_t out_len);
 
 /* Each element of the source at its index, and at a place to which none goes its default. */
-CvlStatus cvl_default_permute_bool(
+CVL_CHECKED CvlStatus cvl_default_permute_bool(
     const bool *source, size_t source_len, const int32_t *index, size_t index_len,
     const bool *defaults, size_t defaults_len, bool *out, size_t out_len);
 
 /* At each place the element of the source at the place's index. */
-CvlStatus cvl_back_permute_int(
+CVL_CHECKED CvlStatus cvl_back_permute_int(
     const int32_t *source, size_t source_len, const int32_t *index, size_t index_len, int32_t *out, size_t out_len);
 
 /* At each place the element of the source at the place's index. */
-CvlStatus cvl_back_permute_bool(
+CVL_CHECKED CvlStatus cvl_back_permute_bool(
     const bool *source, size_t source_len, const int32_t *index, size_t index_len, bool *out, size_t out_len);
 
 /* ---- permutes of segments: exports ---- */
 
 /* Each element of the source at its index in its segment. */
-CvlStatus cvl_seg_permute_int(
+CVL_CHECKED CvlStatus cvl_seg_permute_int(
     const int32_t *source, size_t source_len, const int32_t *index, size_t index_len,
     const int32_t *lengths, size_t segments, int32_t *out, size_t out_len);
 
 /* Each element of the source at its index in its segment. */
-CvlStatus cvl_seg_permute_bool(
+CVL_CHECKED CvlStatus cvl_seg_permute_bool(
     const bool *source, size_t source_len, const int32_t *index, size_t index_len, const int32_t *lengths, size_t segments,
     bool *out, size_t out_len);
 
 /* Each element of the source whose flag is true at its index in its segment of the result. */
-CvlStatus cvl_seg_select_permute_int(
+CVL_CHECKED CvlStatus cvl_seg_select_permute_int(
     const int32_t *source, size_t source_len, const int32_t *index, size_t index_len, const bool *flags, size_t flags_len,
     const int32_t *lengths, size_t segments, int32_t *out, size_t out_len);
 
 /* Each element of the source whose flag is true at its index in its segment of the result. */
-CvlStatus cvl_seg_select_permute_bool(
+CVL_CHECKED CvlStatus cvl_seg_select_permute_bool(
     const bool *source, size_t source_len, const int32_t *index, size_t index_len, const bool *flags, size_t flags_len,
     const int32_t *lengths, size_t segments, bool *out, size_t out_len);
 
 /* Each element of the source at its index in its segment of the defaults, and at a place to which none goes its default. */
-CvlStatus cvl_seg_default_permute_int(
+CVL_CHECKED CvlStatus cvl_seg_default_permute_int(
     const int32_t *source, size_t source_len, const int32_t *index, size_t index_len,
     const int32_t *defaults, size_t defaults_len, const int32_t *lengths, size_t segments,
     const int32_t *default_lengths, size_t default_segments, int32_t *out, size_t out_len);
 
 /* Each element of the source at its index in its segment of the defaults, and at a place to which none goes its default. */
-CvlStatus cvl_seg_default_permute_bool(
+CVL_CHECKED CvlStatus cvl_seg_default_permute_bool(
     const bool *source, size_t source_len, const int32_t *index, size_t index_len,
     const bool *defaults, size_t defaults_len, const int32_t *lengths, size_t segments,
     const int32_t *default_lengths, size_t default_segments, bool *out, size_t out_len);
 
 /* At each place the element at the place's index in the same segment of the source. */
-CvlStatus cvl_seg_back_permute_int(
+CVL_CHECKED CvlStatus cvl_seg_back_permute_int(
     const int32_t *source, size_t source_len, const int32_t *index, size_t index_len,
     const int32_t *lengths, size_t segments, const int32_t *index_lengths, size_t index_segments,
     int32_t *out, size_t out_len);
 
 /* At each place the element at the place's index in the same segment of the source. */
-CvlStatus cvl_seg_back_permute_bool(
+CVL_CHECKED CvlStatus cvl_seg_back_permute_bool(
     const bool *source, size_t source_len, const int32_t *index, size_t index_len, const int32_t *lengths, size_t segments,
     const int32_t *index_lengths, size_t index_segments, bool *out, size_t out_len);
 /* ---- texts: exports ---- */
@@ -404,21 +404,21 @@ CvlStatus cvl_seg_back_permute_bool(
  * 15 BadInput at the first word that is no such integer.
  * text = "5 -1\n007 -0": out = 5 -1 7 0, count = 4
  */
-CvlStatus cvl_read_ints(const char *text, size_t text_len, int32_t *out, size_t out_len, size_t *count);
+CVL_CHECKED CvlStatus cvl_read_ints(const char *text, size_t text_len, int32_t *out, size_t out_len, size_t *count);
 
 /*
  * cvl_write_ints: The text of a vector of integers: in decimal, a space between each two, in brackets.
  * Faults: 13 TooLong.
  * a = 0 -3 4: out = "[0 -3 4]", count = 8
  */
-CvlStatus cvl_write_ints(const int32_t *a, size_t a_len, char *out, size_t out_len, size_t *count);
+CVL_CHECKED CvlStatus cvl_write_ints(const int32_t *a, size_t a_len, char *out, size_t out_len, size_t *count);
 
 /*
  * cvl_write_bools: The text of a vector of booleans: each T or F, a space between each two, in brackets.
  * Faults: 13 TooLong.
  * a = true false: out = "[T F]", count = 5
  */
-CvlStatus cvl_write_bools(const bool *a, size_t a_len, char *out, size_t out_len, size_t *count);
+CVL_CHECKED CvlStatus cvl_write_bools(const bool *a, size_t a_len, char *out, size_t out_len, size_t *count);
 
 /*
  * cvl_seg_read_ints: The integers and the lengths of the lists of a nested text: "[", any number of lists, "]", where a list is
@@ -429,7 +429,7 @@ CvlStatus cvl_write_bools(const bool *a, size_t a_len, char *out, size_t out_len
  * early, at the number of its words and brackets.
  * text = "[[1 2] [] [3]]": out = 1 2 3, count = 3, lengths = 2 0 1, segments = 3
  */
-CvlStatus cvl_seg_read_ints(
+CVL_CHECKED CvlStatus cvl_seg_read_ints(
     const char *text, size_t text_len, int32_t *out, size_t out_len, size_t *count, int32_t *lengths, size_t lengths_len,
     size_t *segments);
 
@@ -440,14 +440,14 @@ CvlStatus cvl_seg_read_ints(
  * lengths do not add up to the vector's.
  * a = 5 1 7, lengths = 0 2 1: out = "[[] [5 1] [7]]", count = 14
  */
-CvlStatus cvl_seg_write_ints(
+CVL_CHECKED CvlStatus cvl_seg_write_ints(
     const int32_t *a, size_t a_len, const int32_t *lengths, size_t segments, char *out, size_t out_len, size_t *count);
 
 /*
  * cvl_seg_write_bools: The same of booleans, each T or F.
  * a = true false, lengths = 1 1: out = "[[T] [F]]", count = 9
  */
-CvlStatus cvl_seg_write_bools(
+CVL_CHECKED CvlStatus cvl_seg_write_bools(
     const bool *a, size_t a_len, const int32_t *lengths, size_t segments, char *out, size_t out_len, size_t *count);
 
 /* ---- scans in parts, by threads of the caller's: exports ---- */
@@ -464,10 +464,10 @@ CvlStatus cvl_seg_write_bools(
  */
 
 /* For each integer `before`, joined by the operator, of CVL_ADD to CVL_XOR, with those in front of it. */
-CvlStatus cvl_int_scan_after(uint32_t op, int32_t before, const int32_t *a, size_t a_len, int32_t *out, size_t out_len);
+CVL_CHECKED CvlStatus cvl_int_scan_after(uint32_t op, int32_t before, const int32_t *a, size_t a_len, int32_t *out, size_t out_len);
 
 /* For each boolean `before`, joined by the operator, of CVL_AND to CVL_XOR, with those in front of it. */
-CvlStatus cvl_bool_scan_after(uint32_t op, bool before, const bool *a, size_t a_len, bool *out, size_t out_len);
+CVL_CHECKED CvlStatus cvl_bool_scan_after(uint32_t op, bool before, const bool *a, size_t a_len, bool *out, size_t out_len);
 
 /* ---- in place: exports ---- */
 
@@ -475,15 +475,15 @@ CvlStatus cvl_bool_scan_after(uint32_t op, bool before, const bool *a, size_t a_
  * Each is the function of its name before `_in`, with the result in the place of a vector that it reads, and no room: the status
  * is the same, and at a fault the vector is as it was. The functions of the next part call these where a room is an input.
  */
-CvlStatus cvl_int2_in_first(uint32_t op, int32_t *a, size_t a_len, const int32_t *b, size_t b_len);
-CvlStatus cvl_int2_in_second(uint32_t op, const int32_t *a, size_t a_len, int32_t *b, size_t b_len);
-CvlStatus cvl_int2_in_both(uint32_t op, int32_t *a, size_t a_len);
-CvlStatus cvl_int1_in(uint32_t op, int32_t *a, size_t a_len);
-CvlStatus cvl_int_scan_in(uint32_t op, int32_t *a, size_t a_len);
-CvlStatus cvl_checked_scan_in(int32_t *a, size_t a_len);
-CvlStatus cvl_seg_checked_scan_in(int32_t *a, size_t a_len, const int32_t *lengths, size_t segments);
-CvlStatus cvl_seg_int_scan_in(uint32_t op, int32_t *a, size_t a_len, const int32_t *lengths, size_t segments);
-CvlStatus cvl_int_scan_after_in(uint32_t op, int32_t before, int32_t *a, size_t a_len);
+CVL_CHECKED CvlStatus cvl_int2_in_first(uint32_t op, int32_t *a, size_t a_len, const int32_t *b, size_t b_len);
+CVL_CHECKED CvlStatus cvl_int2_in_second(uint32_t op, const int32_t *a, size_t a_len, int32_t *b, size_t b_len);
+CVL_CHECKED CvlStatus cvl_int2_in_both(uint32_t op, int32_t *a, size_t a_len);
+CVL_CHECKED CvlStatus cvl_int1_in(uint32_t op, int32_t *a, size_t a_len);
+CVL_CHECKED CvlStatus cvl_int_scan_in(uint32_t op, int32_t *a, size_t a_len);
+CVL_CHECKED CvlStatus cvl_checked_scan_in(int32_t *a, size_t a_len);
+CVL_CHECKED CvlStatus cvl_seg_checked_scan_in(int32_t *a, size_t a_len, const int32_t *lengths, size_t segments);
+CVL_CHECKED CvlStatus cvl_seg_int_scan_in(uint32_t op, int32_t *a, size_t a_len, const int32_t *lengths, size_t segments);
+CVL_CHECKED CvlStatus cvl_int_scan_after_in(uint32_t op, int32_t before, int32_t *a, size_t a_len);
 
 /* ---- arrays that overlap ---- */
 
@@ -500,14 +500,14 @@ static inline bool cvl_meet(const void *a, size_t a_len, size_t a_size, const vo
 #define CVL_MEET(a, a_len, b, b_len) cvl_meet(a, a_len, sizeof *(a), b, b_len, sizeof *(b))
 
 /* What a call answers whose arrays overlap. */
-static inline CvlStatus cvl_overlap(void) {
+CVL_CHECKED static inline CvlStatus cvl_overlap(void) {
     CvlStatus status;
     status.number = CVL_OVERLAP;
     status.place = -1;
     return status;
 }
 
-static inline CvlStatus cvl_int2_apart(
+CVL_CHECKED static inline CvlStatus cvl_int2_apart(
     uint32_t op, const int32_t *a, size_t a_len, const int32_t *b, size_t b_len, int32_t *out, size_t out_len) {
     const bool first = out == a && out_len == a_len, second = out == b && out_len == b_len;
     if ((!first && CVL_MEET(out, out_len, a, a_len)) || (!second && CVL_MEET(out, out_len, b, b_len))) return cvl_overlap();
@@ -518,46 +518,46 @@ static inline CvlStatus cvl_int2_apart(
 }
 #define cvl_int2 cvl_int2_apart
 
-static inline CvlStatus cvl_int1_apart(uint32_t op, const int32_t *a, size_t a_len, int32_t *out, size_t out_len) {
+CVL_CHECKED static inline CvlStatus cvl_int1_apart(uint32_t op, const int32_t *a, size_t a_len, int32_t *out, size_t out_len) {
     if (out == a && out_len == a_len) return cvl_int1_in(op, out, out_len);
     if (CVL_MEET(out, out_len, a, a_len)) return cvl_overlap();
     return cvl_int1(op, a, a_len, out, out_len);
 }
 #define cvl_int1 cvl_int1_apart
 
-static inline CvlStatus cvl_compare_apart(
+CVL_CHECKED static inline CvlStatus cvl_compare_apart(
     uint32_t op, const int32_t *a, size_t a_len, const int32_t *b, size_t b_len, bool *out, size_t out_len) {
     if (CVL_MEET(out, out_len, a, a_len) || CVL_MEET(out, out_len, b, b_len)) return cvl_overlap();
     return cvl_compare(op, a, a_len, b, b_len, out, out_len);
 }
 #define cvl_compare cvl_compare_apart
 
-static inline CvlStatus cvl_bool2_apart(
+CVL_CHECKED static inline CvlStatus cvl_bool2_apart(
     uint32_t op, const bool *a, size_t a_len, const bool *b, size_t b_len, bool *out, size_t out_len) {
     if (CVL_MEET(out, out_len, a, a_len) || CVL_MEET(out, out_len, b, b_len)) return cvl_overlap();
     return cvl_bool2(op, a, a_len, b, b_len, out, out_len);
 }
 #define cvl_bool2 cvl_bool2_apart
 
-static inline CvlStatus cvl_bool1_apart(uint32_t op, const bool *a, size_t a_len, bool *out, size_t out_len) {
+CVL_CHECKED static inline CvlStatus cvl_bool1_apart(uint32_t op, const bool *a, size_t a_len, bool *out, size_t out_len) {
     if (CVL_MEET(out, out_len, a, a_len)) return cvl_overlap();
     return cvl_bool1(op, a, a_len, out, out_len);
 }
 #define cvl_bool1 cvl_bool1_apart
 
-static inline CvlStatus cvl_int_from_bool_apart(const bool *a, size_t a_len, int32_t *out, size_t out_len) {
+CVL_CHECKED static inline CvlStatus cvl_int_from_bool_apart(const bool *a, size_t a_len, int32_t *out, size_t out_len) {
     if (CVL_MEET(out, out_len, a, a_len)) return cvl_overlap();
     return cvl_int_from_bool(a, a_len, out, out_len);
 }
 #define cvl_int_from_bool cvl_int_from_bool_apart
 
-static inline CvlStatus cvl_bool_from_int_apart(const int32_t *a, size_t a_len, bool *out, size_t out_len) {
+CVL_CHECKED static inline CvlStatus cvl_bool_from_int_apart(const int32_t *a, size_t a_len, bool *out, size_t out_len) {
     if (CVL_MEET(out, out_len, a, a_len)) return cvl_overlap();
     return cvl_bool_from_int(a, a_len, out, out_len);
 }
 #define cvl_bool_from_int cvl_bool_from_int_apart
 
-static inline CvlStatus cvl_select_int_apart(
+CVL_CHECKED static inline CvlStatus cvl_select_int_apart(
     const bool *flags, size_t flags_len, const int32_t *a, size_t a_len, const int32_t *b, size_t b_len, int32_t *out,
     size_t out_len) {
     if (CVL_MEET(out, out_len, flags, flags_len) || CVL_MEET(out, out_len, a, a_len) || CVL_MEET(out, out_len, b, b_len)) {
@@ -567,7 +567,7 @@ static inline CvlStatus cvl_select_int_apart(
 }
 #define cvl_select_int cvl_select_int_apart
 
-static inline CvlStatus cvl_select_bool_apart(
+CVL_CHECKED static inline CvlStatus cvl_select_bool_apart(
     const bool *flags, size_t flags_len, const bool *a, size_t a_len, const bool *b, size_t b_len, bool *out,
     size_t out_len) {
     if (CVL_MEET(out, out_len, flags, flags_len) || CVL_MEET(out, out_len, a, a_len) || CVL_MEET(out, out_len, b, b_len)) {
@@ -577,45 +577,45 @@ static inline CvlStatus cvl_select_bool_apart(
 }
 #define cvl_select_bool cvl_select_bool_apart
 
-static inline CvlStatus cvl_int_scan_apart(uint32_t op, const int32_t *a, size_t a_len, int32_t *out, size_t out_len) {
+CVL_CHECKED static inline CvlStatus cvl_int_scan_apart(uint32_t op, const int32_t *a, size_t a_len, int32_t *out, size_t out_len) {
     if (out == a && out_len == a_len) return cvl_int_scan_in(op, out, out_len);
     if (CVL_MEET(out, out_len, a, a_len)) return cvl_overlap();
     return cvl_int_scan(op, a, a_len, out, out_len);
 }
 #define cvl_int_scan cvl_int_scan_apart
 
-static inline CvlStatus cvl_int_reduce_apart(uint32_t op, const int32_t *a, size_t a_len, int32_t *out) {
+CVL_CHECKED static inline CvlStatus cvl_int_reduce_apart(uint32_t op, const int32_t *a, size_t a_len, int32_t *out) {
     if (CVL_MEET(out, 1, a, a_len)) return cvl_overlap();
     return cvl_int_reduce(op, a, a_len, out);
 }
 #define cvl_int_reduce cvl_int_reduce_apart
 
-static inline CvlStatus cvl_bool_scan_apart(uint32_t op, const bool *a, size_t a_len, bool *out, size_t out_len) {
+CVL_CHECKED static inline CvlStatus cvl_bool_scan_apart(uint32_t op, const bool *a, size_t a_len, bool *out, size_t out_len) {
     if (CVL_MEET(out, out_len, a, a_len)) return cvl_overlap();
     return cvl_bool_scan(op, a, a_len, out, out_len);
 }
 #define cvl_bool_scan cvl_bool_scan_apart
 
-static inline CvlStatus cvl_bool_reduce_apart(uint32_t op, const bool *a, size_t a_len, bool *out) {
+CVL_CHECKED static inline CvlStatus cvl_bool_reduce_apart(uint32_t op, const bool *a, size_t a_len, bool *out) {
     if (CVL_MEET(out, 1, a, a_len)) return cvl_overlap();
     return cvl_bool_reduce(op, a, a_len, out);
 }
 #define cvl_bool_reduce cvl_bool_reduce_apart
 
-static inline CvlStatus cvl_checked_scan_apart(const int32_t *a, size_t a_len, int32_t *out, size_t out_len) {
+CVL_CHECKED static inline CvlStatus cvl_checked_scan_apart(const int32_t *a, size_t a_len, int32_t *out, size_t out_len) {
     if (out == a && out_len == a_len) return cvl_checked_scan_in(out, out_len);
     if (CVL_MEET(out, out_len, a, a_len)) return cvl_overlap();
     return cvl_checked_scan(a, a_len, out, out_len);
 }
 #define cvl_checked_scan cvl_checked_scan_apart
 
-static inline CvlStatus cvl_checked_reduce_apart(const int32_t *a, size_t a_len, int32_t *out) {
+CVL_CHECKED static inline CvlStatus cvl_checked_reduce_apart(const int32_t *a, size_t a_len, int32_t *out) {
     if (CVL_MEET(out, 1, a, a_len)) return cvl_overlap();
     return cvl_checked_reduce(a, a_len, out);
 }
 #define cvl_checked_reduce cvl_checked_reduce_apart
 
-static inline CvlStatus cvl_seg_checked_scan_apart(
+CVL_CHECKED static inline CvlStatus cvl_seg_checked_scan_apart(
     const int32_t *a, size_t a_len, const int32_t *lengths, size_t segments, int32_t *out, size_t out_len) {
     if (CVL_MEET(out, out_len, lengths, segments)) return cvl_overlap();
     if (out == a && out_len == a_len) return cvl_seg_checked_scan_in(out, out_len, lengths, segments);
@@ -624,52 +624,52 @@ static inline CvlStatus cvl_seg_checked_scan_apart(
 }
 #define cvl_seg_checked_scan cvl_seg_checked_scan_apart
 
-static inline CvlStatus cvl_seg_checked_reduce_apart(
+CVL_CHECKED static inline CvlStatus cvl_seg_checked_reduce_apart(
     const int32_t *a, size_t a_len, const int32_t *lengths, size_t segments, int32_t *out, size_t out_len) {
     if (CVL_MEET(out, out_len, a, a_len) || CVL_MEET(out, out_len, lengths, segments)) return cvl_overlap();
     return cvl_seg_checked_reduce(a, a_len, lengths, segments, out, out_len);
 }
 #define cvl_seg_checked_reduce cvl_seg_checked_reduce_apart
 
-static inline CvlStatus cvl_count_apart(const bool *flags, size_t flags_len, int32_t *out) {
+CVL_CHECKED static inline CvlStatus cvl_count_apart(const bool *flags, size_t flags_len, int32_t *out) {
     if (CVL_MEET(out, 1, flags, flags_len)) return cvl_overlap();
     return cvl_count(flags, flags_len, out);
 }
 #define cvl_count cvl_count_apart
 
-static inline CvlStatus cvl_extract_int_apart(const int32_t *vector, size_t vector_len, int32_t index, int32_t *out) {
+CVL_CHECKED static inline CvlStatus cvl_extract_int_apart(const int32_t *vector, size_t vector_len, int32_t index, int32_t *out) {
     if (CVL_MEET(out, 1, vector, vector_len)) return cvl_overlap();
     return cvl_extract_int(vector, vector_len, index, out);
 }
 #define cvl_extract_int cvl_extract_int_apart
 
-static inline CvlStatus cvl_extract_bool_apart(const bool *vector, size_t vector_len, int32_t index, bool *out) {
+CVL_CHECKED static inline CvlStatus cvl_extract_bool_apart(const bool *vector, size_t vector_len, int32_t index, bool *out) {
     if (CVL_MEET(out, 1, vector, vector_len)) return cvl_overlap();
     return cvl_extract_bool(vector, vector_len, index, out);
 }
 #define cvl_extract_bool cvl_extract_bool_apart
 
-static inline CvlStatus cvl_replace_int_apart(
+CVL_CHECKED static inline CvlStatus cvl_replace_int_apart(
     const int32_t *vector, size_t vector_len, int32_t index, int32_t value, int32_t *out, size_t out_len) {
     if (CVL_MEET(out, out_len, vector, vector_len)) return cvl_overlap();
     return cvl_replace_int(vector, vector_len, index, value, out, out_len);
 }
 #define cvl_replace_int cvl_replace_int_apart
 
-static inline CvlStatus cvl_replace_bool_apart(
+CVL_CHECKED static inline CvlStatus cvl_replace_bool_apart(
     const bool *vector, size_t vector_len, int32_t index, bool value, bool *out, size_t out_len) {
     if (CVL_MEET(out, out_len, vector, vector_len)) return cvl_overlap();
     return cvl_replace_bool(vector, vector_len, index, value, out, out_len);
 }
 #define cvl_replace_bool cvl_replace_bool_apart
 
-static inline CvlStatus cvl_make_descriptor_apart(const int32_t *lengths, size_t segments, size_t *total) {
+CVL_CHECKED static inline CvlStatus cvl_make_descriptor_apart(const int32_t *lengths, size_t segments, size_t *total) {
     if (CVL_MEET(total, 1, lengths, segments)) return cvl_overlap();
     return cvl_make_descriptor(lengths, segments, total);
 }
 #define cvl_make_descriptor cvl_make_descriptor_apart
 
-static inline CvlStatus cvl_seg_extract_int_apart(
+CVL_CHECKED static inline CvlStatus cvl_seg_extract_int_apart(
     const int32_t *vector, size_t vector_len, const int32_t *index, size_t index_len, const int32_t *lengths, size_t segments,
     int32_t *out, size_t out_len) {
     if (CVL_MEET(out, out_len, vector, vector_len) || CVL_MEET(out, out_len, index, index_len) ||
@@ -680,7 +680,7 @@ static inline CvlStatus cvl_seg_extract_int_apart(
 }
 #define cvl_seg_extract_int cvl_seg_extract_int_apart
 
-static inline CvlStatus cvl_seg_extract_bool_apart(
+CVL_CHECKED static inline CvlStatus cvl_seg_extract_bool_apart(
     const bool *vector, size_t vector_len, const int32_t *index, size_t index_len, const int32_t *lengths, size_t segments,
     bool *out, size_t out_len) {
     if (CVL_MEET(out, out_len, vector, vector_len) || CVL_MEET(out, out_len, index, index_len) ||
@@ -691,7 +691,7 @@ static inline CvlStatus cvl_seg_extract_bool_apart(
 }
 #define cvl_seg_extract_bool cvl_seg_extract_bool_apart
 
-static inline CvlStatus cvl_seg_replace_int_apart(
+CVL_CHECKED static inline CvlStatus cvl_seg_replace_int_apart(
     const int32_t *vector, size_t vector_len, const int32_t *index, size_t index_len, const int32_t *values,
     size_t values_len, const int32_t *lengths, size_t segments, int32_t *out, size_t out_len) {
     if (CVL_MEET(out, out_len, vector, vector_len) || CVL_MEET(out, out_len, index, index_len) ||
@@ -702,7 +702,7 @@ static inline CvlStatus cvl_seg_replace_int_apart(
 }
 #define cvl_seg_replace_int cvl_seg_replace_int_apart
 
-static inline CvlStatus cvl_seg_replace_bool_apart(
+CVL_CHECKED static inline CvlStatus cvl_seg_replace_bool_apart(
     const bool *vector, size_t vector_len, const int32_t *index, size_t index_len, const bool *values, size_t values_len,
     const int32_t *lengths, size_t segments, bool *out, size_t out_len) {
     if (CVL_MEET(out, out_len, vector, vector_len) || CVL_MEET(out, out_len, index, index_len) ||
@@ -713,21 +713,21 @@ static inline CvlStatus cvl_seg_replace_bool_apart(
 }
 #define cvl_seg_replace_bool cvl_seg_replace_bool_apart
 
-static inline CvlStatus cvl_seg_distribute_int_apart(
+CVL_CHECKED static inline CvlStatus cvl_seg_distribute_int_apart(
     const int32_t *values, size_t values_len, const int32_t *lengths, size_t segments, int32_t *out, size_t out_len) {
     if (CVL_MEET(out, out_len, values, values_len) || CVL_MEET(out, out_len, lengths, segments)) return cvl_overlap();
     return cvl_seg_distribute_int(values, values_len, lengths, segments, out, out_len);
 }
 #define cvl_seg_distribute_int cvl_seg_distribute_int_apart
 
-static inline CvlStatus cvl_seg_distribute_bool_apart(
+CVL_CHECKED static inline CvlStatus cvl_seg_distribute_bool_apart(
     const bool *values, size_t values_len, const int32_t *lengths, size_t segments, bool *out, size_t out_len) {
     if (CVL_MEET(out, out_len, values, values_len) || CVL_MEET(out, out_len, lengths, segments)) return cvl_overlap();
     return cvl_seg_distribute_bool(values, values_len, lengths, segments, out, out_len);
 }
 #define cvl_seg_distribute_bool cvl_seg_distribute_bool_apart
 
-static inline CvlStatus cvl_seg_index_apart(
+CVL_CHECKED static inline CvlStatus cvl_seg_index_apart(
     const int32_t *inits, size_t inits_len, const int32_t *strides, size_t strides_len, const int32_t *lengths,
     size_t segments, int32_t *out, size_t out_len) {
     if (CVL_MEET(out, out_len, inits, inits_len) || CVL_MEET(out, out_len, strides, strides_len) ||
@@ -738,7 +738,7 @@ static inline CvlStatus cvl_seg_index_apart(
 }
 #define cvl_seg_index cvl_seg_index_apart
 
-static inline CvlStatus cvl_seg_int_scan_apart(
+CVL_CHECKED static inline CvlStatus cvl_seg_int_scan_apart(
     uint32_t op, const int32_t *a, size_t a_len, const int32_t *lengths, size_t segments, int32_t *out, size_t out_len) {
     if (CVL_MEET(out, out_len, lengths, segments)) return cvl_overlap();
     if (out == a && out_len == a_len) return cvl_seg_int_scan_in(op, out, out_len, lengths, segments);
@@ -747,28 +747,28 @@ static inline CvlStatus cvl_seg_int_scan_apart(
 }
 #define cvl_seg_int_scan cvl_seg_int_scan_apart
 
-static inline CvlStatus cvl_seg_int_reduce_apart(
+CVL_CHECKED static inline CvlStatus cvl_seg_int_reduce_apart(
     uint32_t op, const int32_t *a, size_t a_len, const int32_t *lengths, size_t segments, int32_t *out, size_t out_len) {
     if (CVL_MEET(out, out_len, a, a_len) || CVL_MEET(out, out_len, lengths, segments)) return cvl_overlap();
     return cvl_seg_int_reduce(op, a, a_len, lengths, segments, out, out_len);
 }
 #define cvl_seg_int_reduce cvl_seg_int_reduce_apart
 
-static inline CvlStatus cvl_seg_bool_scan_apart(
+CVL_CHECKED static inline CvlStatus cvl_seg_bool_scan_apart(
     uint32_t op, const bool *a, size_t a_len, const int32_t *lengths, size_t segments, bool *out, size_t out_len) {
     if (CVL_MEET(out, out_len, a, a_len) || CVL_MEET(out, out_len, lengths, segments)) return cvl_overlap();
     return cvl_seg_bool_scan(op, a, a_len, lengths, segments, out, out_len);
 }
 #define cvl_seg_bool_scan cvl_seg_bool_scan_apart
 
-static inline CvlStatus cvl_seg_bool_reduce_apart(
+CVL_CHECKED static inline CvlStatus cvl_seg_bool_reduce_apart(
     uint32_t op, const bool *a, size_t a_len, const int32_t *lengths, size_t segments, bool *out, size_t out_len) {
     if (CVL_MEET(out, out_len, a, a_len) || CVL_MEET(out, out_len, lengths, segments)) return cvl_overlap();
     return cvl_seg_bool_reduce(op, a, a_len, lengths, segments, out, out_len);
 }
 #define cvl_seg_bool_reduce cvl_seg_bool_reduce_apart
 
-static inline CvlStatus cvl_pack_int_apart(
+CVL_CHECKED static inline CvlStatus cvl_pack_int_apart(
     const int32_t *values, size_t values_len, const bool *flags, size_t flags_len, int32_t *out, size_t out_len,
     size_t *count) {
     if (CVL_MEET(out, out_len, values, values_len) || CVL_MEET(out, out_len, flags, flags_len) ||
@@ -779,7 +779,7 @@ static inline CvlStatus cvl_pack_int_apart(
 }
 #define cvl_pack_int cvl_pack_int_apart
 
-static inline CvlStatus cvl_pack_bool_apart(
+CVL_CHECKED static inline CvlStatus cvl_pack_bool_apart(
     const bool *values, size_t values_len, const bool *flags, size_t flags_len, bool *out, size_t out_len, size_t *count) {
     if (CVL_MEET(out, out_len, values, values_len) || CVL_MEET(out, out_len, flags, flags_len) ||
         CVL_MEET(out, out_len, count, 1) || CVL_MEET(count, 1, values, values_len) || CVL_MEET(count, 1, flags, flags_len)) {
@@ -789,7 +789,7 @@ static inline CvlStatus cvl_pack_bool_apart(
 }
 #define cvl_pack_bool cvl_pack_bool_apart
 
-static inline CvlStatus cvl_seg_pack_int_apart(
+CVL_CHECKED static inline CvlStatus cvl_seg_pack_int_apart(
     const int32_t *values, size_t values_len, const bool *flags, size_t flags_len, const int32_t *lengths, size_t segments,
     int32_t *out, size_t out_len, size_t *count) {
     if (CVL_MEET(out, out_len, values, values_len) || CVL_MEET(out, out_len, flags, flags_len) ||
@@ -802,7 +802,7 @@ static inline CvlStatus cvl_seg_pack_int_apart(
 }
 #define cvl_seg_pack_int cvl_seg_pack_int_apart
 
-static inline CvlStatus cvl_seg_pack_bool_apart(
+CVL_CHECKED static inline CvlStatus cvl_seg_pack_bool_apart(
     const bool *values, size_t values_len, const bool *flags, size_t flags_len, const int32_t *lengths, size_t segments,
     bool *out, size_t out_len, size_t *count) {
     if (CVL_MEET(out, out_len, values, values_len) || CVL_MEET(out, out_len, flags, flags_len) ||
@@ -815,35 +815,35 @@ static inline CvlStatus cvl_seg_pack_bool_apart(
 }
 #define cvl_seg_pack_bool cvl_seg_pack_bool_apart
 
-static inline CvlStatus cvl_packed_lengths_apart(
+CVL_CHECKED static inline CvlStatus cvl_packed_lengths_apart(
     const bool *flags, size_t flags_len, const int32_t *lengths, size_t segments, int32_t *out, size_t out_len) {
     if (CVL_MEET(out, out_len, flags, flags_len) || CVL_MEET(out, out_len, lengths, segments)) return cvl_overlap();
     return cvl_packed_lengths(flags, flags_len, lengths, segments, out, out_len);
 }
 #define cvl_packed_lengths cvl_packed_lengths_apart
 
-static inline CvlStatus cvl_seg_count_apart(
+CVL_CHECKED static inline CvlStatus cvl_seg_count_apart(
     const bool *flags, size_t flags_len, const int32_t *lengths, size_t segments, int32_t *out, size_t out_len) {
     if (CVL_MEET(out, out_len, flags, flags_len) || CVL_MEET(out, out_len, lengths, segments)) return cvl_overlap();
     return cvl_seg_count(flags, flags_len, lengths, segments, out, out_len);
 }
 #define cvl_seg_count cvl_seg_count_apart
 
-static inline CvlStatus cvl_permute_int_apart(
+CVL_CHECKED static inline CvlStatus cvl_permute_int_apart(
     const int32_t *source, size_t source_len, const int32_t *index, size_t index_len, int32_t *out, size_t out_len) {
     if (CVL_MEET(out, out_len, source, source_len) || CVL_MEET(out, out_len, index, index_len)) return cvl_overlap();
     return cvl_permute_int(source, source_len, index, index_len, out, out_len);
 }
 #define cvl_permute_int cvl_permute_int_apart
 
-static inline CvlStatus cvl_permute_bool_apart(
+CVL_CHECKED static inline CvlStatus cvl_permute_bool_apart(
     const bool *source, size_t source_len, const int32_t *index, size_t index_len, bool *out, size_t out_len) {
     if (CVL_MEET(out, out_len, source, source_len) || CVL_MEET(out, out_len, index, index_len)) return cvl_overlap();
     return cvl_permute_bool(source, source_len, index, index_len, out, out_len);
 }
 #define cvl_permute_bool cvl_permute_bool_apart
 
-static inline CvlStatus cvl_select_permute_int_apart(
+CVL_CHECKED static inline CvlStatus cvl_select_permute_int_apart(
     const int32_t *source, size_t source_len, const int32_t *index, size_t index_len, const bool *flags, size_t flags_len,
     int32_t *out, size_t out_len) {
     if (CVL_MEET(out, out_len, source, source_len) || CVL_MEET(out, out_len, index, index_len) ||
@@ -854,7 +854,7 @@ static inline CvlStatus cvl_select_permute_int_apart(
 }
 #define cvl_select_permute_int cvl_select_permute_int_apart
 
-static inline CvlStatus cvl_select_permute_bool_apart(
+CVL_CHECKED static inline CvlStatus cvl_select_permute_bool_apart(
     const bool *source, size_t source_len, const int32_t *index, size_t index_len, const bool *flags, size_t flags_len,
     bool *out, size_t out_len) {
     if (CVL_MEET(out, out_len, source, source_len) || CVL_MEET(out, out_len, index, index_len) ||
@@ -865,7 +865,7 @@ static inline CvlStatus cvl_select_permute_bool_apart(
 }
 #define cvl_select_permute_bool cvl_select_permute_bool_apart
 
-static inline CvlStatus cvl_default_permute_int_apart(
+CVL_CHECKED static inline CvlStatus cvl_default_permute_int_apart(
     const int32_t *source, size_t source_len, const int32_t *index, size_t index_len, const int32_t *defaults,
     size_t defaults_len, int32_t *out, size_t out_len) {
     if (CVL_MEET(out, out_len, source, source_len) || CVL_MEET(out, out_len, index, index_len) ||
@@ -876,7 +876,7 @@ static inline CvlStatus cvl_default_permute_int_apart(
 }
 #define cvl_default_permute_int cvl_default_permute_int_apart
 
-static inline CvlStatus cvl_default_permute_bool_apart(
+CVL_CHECKED static inline CvlStatus cvl_default_permute_bool_apart(
     const bool *source, size_t source_len, const int32_t *index, size_t index_len, const bool *defaults, size_t defaults_len,
     bool *out, size_t out_len) {
     if (CVL_MEET(out, out_len, source, source_len) || CVL_MEET(out, out_len, index, index_len) ||
@@ -887,21 +887,21 @@ static inline CvlStatus cvl_default_permute_bool_apart(
 }
 #define cvl_default_permute_bool cvl_default_permute_bool_apart
 
-static inline CvlStatus cvl_back_permute_int_apart(
+CVL_CHECKED static inline CvlStatus cvl_back_permute_int_apart(
     const int32_t *source, size_t source_len, const int32_t *index, size_t index_len, int32_t *out, size_t out_len) {
     if (CVL_MEET(out, out_len, source, source_len) || CVL_MEET(out, out_len, index, index_len)) return cvl_overlap();
     return cvl_back_permute_int(source, source_len, index, index_len, out, out_len);
 }
 #define cvl_back_permute_int cvl_back_permute_int_apart
 
-static inline CvlStatus cvl_back_permute_bool_apart(
+CVL_CHECKED static inline CvlStatus cvl_back_permute_bool_apart(
     const bool *source, size_t source_len, const int32_t *index, size_t index_len, bool *out, size_t out_len) {
     if (CVL_MEET(out, out_len, source, source_len) || CVL_MEET(out, out_len, index, index_len)) return cvl_overlap();
     return cvl_back_permute_bool(source, source_len, index, index_len, out, out_len);
 }
 #define cvl_back_permute_bool cvl_back_permute_bool_apart
 
-static inline CvlStatus cvl_seg_permute_int_apart(
+CVL_CHECKED static inline CvlStatus cvl_seg_permute_int_apart(
     const int32_t *source, size_t source_len, const int32_t *index, size_t index_len, const int32_t *lengths, size_t segments,
     int32_t *out, size_t out_len) {
     if (CVL_MEET(out, out_len, source, source_len) || CVL_MEET(out, out_len, index, index_len) ||
@@ -912,7 +912,7 @@ static inline CvlStatus cvl_seg_permute_int_apart(
 }
 #define cvl_seg_permute_int cvl_seg_permute_int_apart
 
-static inline CvlStatus cvl_seg_permute_bool_apart(
+CVL_CHECKED static inline CvlStatus cvl_seg_permute_bool_apart(
     const bool *source, size_t source_len, const int32_t *index, size_t index_len, const int32_t *lengths, size_t segments,
     bool *out, size_t out_len) {
     if (CVL_MEET(out, out_len, source, source_len) || CVL_MEET(out, out_len, index, index_len) ||
@@ -923,7 +923,7 @@ static inline CvlStatus cvl_seg_permute_bool_apart(
 }
 #define cvl_seg_permute_bool cvl_seg_permute_bool_apart
 
-static inline CvlStatus cvl_seg_select_permute_int_apart(
+CVL_CHECKED static inline CvlStatus cvl_seg_select_permute_int_apart(
     const int32_t *source, size_t source_len, const int32_t *index, size_t index_len, const bool *flags, size_t flags_len,
     const int32_t *lengths, size_t segments, int32_t *out, size_t out_len) {
     if (CVL_MEET(out, out_len, source, source_len) || CVL_MEET(out, out_len, index, index_len) ||
@@ -935,7 +935,7 @@ static inline CvlStatus cvl_seg_select_permute_int_apart(
 }
 #define cvl_seg_select_permute_int cvl_seg_select_permute_int_apart
 
-static inline CvlStatus cvl_seg_select_permute_bool_apart(
+CVL_CHECKED static inline CvlStatus cvl_seg_select_permute_bool_apart(
     const bool *source, size_t source_len, const int32_t *index, size_t index_len, const bool *flags, size_t flags_len,
     const int32_t *lengths, size_t segments, bool *out, size_t out_len) {
     if (CVL_MEET(out, out_len, source, source_len) || CVL_MEET(out, out_len, index, index_len) ||
@@ -947,7 +947,7 @@ static inline CvlStatus cvl_seg_select_permute_bool_apart(
 }
 #define cvl_seg_select_permute_bool cvl_seg_select_permute_bool_apart
 
-static inline CvlStatus cvl_seg_default_permute_int_apart(
+CVL_CHECKED static inline CvlStatus cvl_seg_default_permute_int_apart(
     const int32_t *source, size_t source_len, const int32_t *index, size_t index_len, const int32_t *defaults,
     size_t defaults_len, const int32_t *lengths, size_t segments, const int32_t *default_lengths, size_t default_segments,
     int32_t *out, size_t out_len) {
@@ -962,7 +962,7 @@ static inline CvlStatus cvl_seg_default_permute_int_apart(
 }
 #define cvl_seg_default_permute_int cvl_seg_default_permute_int_apart
 
-static inline CvlStatus cvl_seg_default_permute_bool_apart(
+CVL_CHECKED static inline CvlStatus cvl_seg_default_permute_bool_apart(
     const bool *source, size_t source_len, const int32_t *index, size_t index_len, const bool *defaults, size_t defaults_len,
     const int32_t *lengths, size_t segments, const int32_t *default_lengths, size_t default_segments, bool *out,
     size_t out_len) {
@@ -977,7 +977,7 @@ static inline CvlStatus cvl_seg_default_permute_bool_apart(
 }
 #define cvl_seg_default_permute_bool cvl_seg_default_permute_bool_apart
 
-static inline CvlStatus cvl_seg_back_permute_int_apart(
+CVL_CHECKED static inline CvlStatus cvl_seg_back_permute_int_apart(
     const int32_t *source, size_t source_len, const int32_t *index, size_t index_len, const int32_t *lengths, size_t segments,
     const int32_t *index_lengths, size_t index_segments, int32_t *out, size_t out_len) {
     if (CVL_MEET(out, out_len, source, source_len) || CVL_MEET(out, out_len, index, index_len) ||
@@ -989,7 +989,7 @@ static inline CvlStatus cvl_seg_back_permute_int_apart(
 }
 #define cvl_seg_back_permute_int cvl_seg_back_permute_int_apart
 
-static inline CvlStatus cvl_seg_back_permute_bool_apart(
+CVL_CHECKED static inline CvlStatus cvl_seg_back_permute_bool_apart(
     const bool *source, size_t source_len, const int32_t *index, size_t index_len, const int32_t *lengths, size_t segments,
     const int32_t *index_lengths, size_t index_segments, bool *out, size_t out_len) {
     if (CVL_MEET(out, out_len, source, source_len) || CVL_MEET(out, out_len, index, index_len) ||
@@ -1001,7 +1001,7 @@ static inline CvlStatus cvl_seg_back_permute_bool_apart(
 }
 #define cvl_seg_back_permute_bool cvl_seg_back_permute_bool_apart
 
-static inline CvlStatus cvl_read_ints_apart(const char *text, size_t text_len, int32_t *out, size_t out_len, size_t *count) {
+CVL_CHECKED static inline CvlStatus cvl_read_ints_apart(const char *text, size_t text_len, int32_t *out, size_t out_len, size_t *count) {
     if (CVL_MEET(out, out_len, text, text_len) || CVL_MEET(out, out_len, count, 1) || CVL_MEET(count, 1, text, text_len)) {
         return cvl_overlap();
     }
@@ -1009,7 +1009,7 @@ static inline CvlStatus cvl_read_ints_apart(const char *text, size_t text_len, i
 }
 #define cvl_read_ints cvl_read_ints_apart
 
-static inline CvlStatus cvl_write_ints_apart(const int32_t *a, size_t a_len, char *out, size_t out_len, size_t *count) {
+CVL_CHECKED static inline CvlStatus cvl_write_ints_apart(const int32_t *a, size_t a_len, char *out, size_t out_len, size_t *count) {
     if (CVL_MEET(out, out_len, a, a_len) || CVL_MEET(out, out_len, count, 1) || CVL_MEET(count, 1, a, a_len)) {
         return cvl_overlap();
     }
@@ -1017,7 +1017,7 @@ static inline CvlStatus cvl_write_ints_apart(const int32_t *a, size_t a_len, cha
 }
 #define cvl_write_ints cvl_write_ints_apart
 
-static inline CvlStatus cvl_write_bools_apart(const bool *a, size_t a_len, char *out, size_t out_len, size_t *count) {
+CVL_CHECKED static inline CvlStatus cvl_write_bools_apart(const bool *a, size_t a_len, char *out, size_t out_len, size_t *count) {
     if (CVL_MEET(out, out_len, a, a_len) || CVL_MEET(out, out_len, count, 1) || CVL_MEET(count, 1, a, a_len)) {
         return cvl_overlap();
     }
@@ -1025,7 +1025,7 @@ static inline CvlStatus cvl_write_bools_apart(const bool *a, size_t a_len, char 
 }
 #define cvl_write_bools cvl_write_bools_apart
 
-static inline CvlStatus cvl_int_scan_after_apart(
+CVL_CHECKED static inline CvlStatus cvl_int_scan_after_apart(
     uint32_t op, int32_t before, const int32_t *a, size_t a_len, int32_t *out, size_t out_len) {
     if (out == a && out_len == a_len) return cvl_int_scan_after_in(op, before, out, out_len);
     if (CVL_MEET(out, out_len, a, a_len)) return cvl_overlap();
@@ -1033,14 +1033,14 @@ static inline CvlStatus cvl_int_scan_after_apart(
 }
 #define cvl_int_scan_after cvl_int_scan_after_apart
 
-static inline CvlStatus cvl_bool_scan_after_apart(
+CVL_CHECKED static inline CvlStatus cvl_bool_scan_after_apart(
     uint32_t op, bool before, const bool *a, size_t a_len, bool *out, size_t out_len) {
     if (CVL_MEET(out, out_len, a, a_len)) return cvl_overlap();
     return cvl_bool_scan_after(op, before, a, a_len, out, out_len);
 }
 #define cvl_bool_scan_after cvl_bool_scan_after_apart
 
-static inline CvlStatus cvl_seg_read_ints_apart(
+CVL_CHECKED static inline CvlStatus cvl_seg_read_ints_apart(
     const char *text, size_t text_len, int32_t *out, size_t out_len, size_t *count, int32_t *lengths, size_t lengths_len,
     size_t *segments) {
     if (CVL_MEET(out, out_len, text, text_len) || CVL_MEET(out, out_len, count, 1) ||
@@ -1054,7 +1054,7 @@ static inline CvlStatus cvl_seg_read_ints_apart(
 }
 #define cvl_seg_read_ints cvl_seg_read_ints_apart
 
-static inline CvlStatus cvl_seg_write_ints_apart(
+CVL_CHECKED static inline CvlStatus cvl_seg_write_ints_apart(
     const int32_t *a, size_t a_len, const int32_t *lengths, size_t segments, char *out, size_t out_len, size_t *count) {
     if (CVL_MEET(out, out_len, a, a_len) || CVL_MEET(out, out_len, lengths, segments) || CVL_MEET(out, out_len, count, 1) ||
         CVL_MEET(count, 1, a, a_len) || CVL_MEET(count, 1, lengths, segments)) {
@@ -1064,7 +1064,7 @@ static inline CvlStatus cvl_seg_write_ints_apart(
 }
 #define cvl_seg_write_ints cvl_seg_write_ints_apart
 
-static inline CvlStatus cvl_seg_write_bools_apart(
+CVL_CHECKED static inline CvlStatus cvl_seg_write_bools_apart(
     const bool *a, size_t a_len, const int32_t *lengths, size_t segments, char *out, size_t out_len, size_t *count) {
     if (CVL_MEET(out, out_len, a, a_len) || CVL_MEET(out, out_len, lengths, segments) || CVL_MEET(out, out_len, count, 1) ||
         CVL_MEET(count, 1, a, a_len) || CVL_MEET(count, 1, lengths, segments)) {
@@ -1093,7 +1093,7 @@ static inline CvlStatus cvl_seg_write_bools_apart(
  * In place: a, b or both may be out.
  * a = 12 -7 2147483647, b = 10 2 1: out = 22 -5 -2147483648
  */
-static inline CvlStatus add_wuz(const int32_t *a, const int32_t *b, int32_t *out, size_t n) {
+CVL_CHECKED static inline CvlStatus add_wuz(const int32_t *a, const int32_t *b, int32_t *out, size_t n) {
     return cvl_int2(CVL_ADD, a, n, b, n, out, n);
 }
 
@@ -1103,7 +1103,7 @@ static inline CvlStatus add_wuz(const int32_t *a, const int32_t *b, int32_t *out
  * In place: a, b or both may be out.
  * a = 12 -7 2147483647, b = 10 2 1: out = 120 -14 2147483647
  */
-static inline CvlStatus mul_wuz(const int32_t *a, const int32_t *b, int32_t *out, size_t n) {
+CVL_CHECKED static inline CvlStatus mul_wuz(const int32_t *a, const int32_t *b, int32_t *out, size_t n) {
     return cvl_int2(CVL_MUL, a, n, b, n, out, n);
 }
 
@@ -1113,7 +1113,7 @@ static inline CvlStatus mul_wuz(const int32_t *a, const int32_t *b, int32_t *out
  * In place: a, b or both may be out.
  * a = 12 -7 2147483647, b = 10 2 1: out = 10 -7 1
  */
-static inline CvlStatus min_wuz(const int32_t *a, const int32_t *b, int32_t *out, size_t n) {
+CVL_CHECKED static inline CvlStatus min_wuz(const int32_t *a, const int32_t *b, int32_t *out, size_t n) {
     return cvl_int2(CVL_MIN, a, n, b, n, out, n);
 }
 
@@ -1123,7 +1123,7 @@ static inline CvlStatus min_wuz(const int32_t *a, const int32_t *b, int32_t *out
  * In place: a, b or both may be out.
  * a = 12 -7 2147483647, b = 10 2 1: out = 12 2 2147483647
  */
-static inline CvlStatus max_wuz(const int32_t *a, const int32_t *b, int32_t *out, size_t n) {
+CVL_CHECKED static inline CvlStatus max_wuz(const int32_t *a, const int32_t *b, int32_t *out, size_t n) {
     return cvl_int2(CVL_MAX, a, n, b, n, out, n);
 }
 
@@ -1133,7 +1133,7 @@ static inline CvlStatus max_wuz(const int32_t *a, const int32_t *b, int32_t *out
  * In place: a, b or both may be out.
  * a = 12 -7 2147483647, b = 10 2 1: out = 8 0 1
  */
-static inline CvlStatus and_wuz(const int32_t *a, const int32_t *b, int32_t *out, size_t n) {
+CVL_CHECKED static inline CvlStatus and_wuz(const int32_t *a, const int32_t *b, int32_t *out, size_t n) {
     return cvl_int2(CVL_AND, a, n, b, n, out, n);
 }
 
@@ -1143,7 +1143,7 @@ static inline CvlStatus and_wuz(const int32_t *a, const int32_t *b, int32_t *out
  * In place: a, b or both may be out.
  * a = 12 -7 2147483647, b = 10 2 1: out = 14 -5 2147483647
  */
-static inline CvlStatus ior_wuz(const int32_t *a, const int32_t *b, int32_t *out, size_t n) {
+CVL_CHECKED static inline CvlStatus ior_wuz(const int32_t *a, const int32_t *b, int32_t *out, size_t n) {
     return cvl_int2(CVL_IOR, a, n, b, n, out, n);
 }
 
@@ -1153,7 +1153,7 @@ static inline CvlStatus ior_wuz(const int32_t *a, const int32_t *b, int32_t *out
  * In place: a, b or both may be out.
  * a = 12 -7 2147483647, b = 10 2 1: out = 6 -5 2147483646
  */
-static inline CvlStatus xor_wuz(const int32_t *a, const int32_t *b, int32_t *out, size_t n) {
+CVL_CHECKED static inline CvlStatus xor_wuz(const int32_t *a, const int32_t *b, int32_t *out, size_t n) {
     return cvl_int2(CVL_XOR, a, n, b, n, out, n);
 }
 
@@ -1163,7 +1163,7 @@ static inline CvlStatus xor_wuz(const int32_t *a, const int32_t *b, int32_t *out
  * In place: a, b or both may be out.
  * a = 12 -7 2147483647, b = 10 2 1: out = 2 -9 2147483646
  */
-static inline CvlStatus sub_wuz(const int32_t *a, const int32_t *b, int32_t *out, size_t n) {
+CVL_CHECKED static inline CvlStatus sub_wuz(const int32_t *a, const int32_t *b, int32_t *out, size_t n) {
     return cvl_int2(CVL_SUB, a, n, b, n, out, n);
 }
 
@@ -1173,7 +1173,7 @@ static inline CvlStatus sub_wuz(const int32_t *a, const int32_t *b, int32_t *out
  * In place: a, b or both may be out.
  * a = 7 -7 -2147483648, b = 2 2 -1: out = 3 -3 -2147483648
  */
-static inline CvlStatus div_wuz(const int32_t *a, const int32_t *b, int32_t *out, size_t n) {
+CVL_CHECKED static inline CvlStatus div_wuz(const int32_t *a, const int32_t *b, int32_t *out, size_t n) {
     return cvl_int2(CVL_DIV, a, n, b, n, out, n);
 }
 
@@ -1183,7 +1183,7 @@ static inline CvlStatus div_wuz(const int32_t *a, const int32_t *b, int32_t *out
  * In place: a, b or both may be out.
  * a = 7 -7 -2147483648, b = 2 2 -1: out = 1 -1 0
  */
-static inline CvlStatus mod_wuz(const int32_t *a, const int32_t *b, int32_t *out, size_t n) {
+CVL_CHECKED static inline CvlStatus mod_wuz(const int32_t *a, const int32_t *b, int32_t *out, size_t n) {
     return cvl_int2(CVL_MOD, a, n, b, n, out, n);
 }
 
@@ -1193,7 +1193,7 @@ static inline CvlStatus mod_wuz(const int32_t *a, const int32_t *b, int32_t *out
  * In place: a, b or both may be out.
  * a = 1 -7 3, b = 4 1 31: out = 16 -14 -2147483648
  */
-static inline CvlStatus lsh_wuz(const int32_t *a, const int32_t *b, int32_t *out, size_t n) {
+CVL_CHECKED static inline CvlStatus lsh_wuz(const int32_t *a, const int32_t *b, int32_t *out, size_t n) {
     return cvl_int2(CVL_LSH, a, n, b, n, out, n);
 }
 
@@ -1203,7 +1203,7 @@ static inline CvlStatus lsh_wuz(const int32_t *a, const int32_t *b, int32_t *out
  * In place: a, b or both may be out.
  * a = 1 -7 3, b = 4 1 31: out = 0 -4 0
  */
-static inline CvlStatus rsh_wuz(const int32_t *a, const int32_t *b, int32_t *out, size_t n) {
+CVL_CHECKED static inline CvlStatus rsh_wuz(const int32_t *a, const int32_t *b, int32_t *out, size_t n) {
     return cvl_int2(CVL_RSH, a, n, b, n, out, n);
 }
 
@@ -1213,7 +1213,7 @@ static inline CvlStatus rsh_wuz(const int32_t *a, const int32_t *b, int32_t *out
  * In place: a may be out.
  * a = 0 5 -1: out = -1 -6 0
  */
-static inline CvlStatus not_wuz(const int32_t *a, int32_t *out, size_t n) {
+CVL_CHECKED static inline CvlStatus not_wuz(const int32_t *a, int32_t *out, size_t n) {
     return cvl_int1(CVL_NOT, a, n, out, n);
 }
 
@@ -1223,7 +1223,7 @@ static inline CvlStatus not_wuz(const int32_t *a, int32_t *out, size_t n) {
  * In place: no.
  * a = false true: out = true false
  */
-static inline CvlStatus not_wub(const bool *a, bool *out, size_t n) {
+CVL_CHECKED static inline CvlStatus not_wub(const bool *a, bool *out, size_t n) {
     return cvl_bool1(CVL_NOT, a, n, out, n);
 }
 
@@ -1233,7 +1233,7 @@ static inline CvlStatus not_wub(const bool *a, bool *out, size_t n) {
  * In place: a may be out.
  * a = 3 1: out = 3 1
  */
-static inline CvlStatus cpy_wuz(const int32_t *a, int32_t *out, size_t n) {
+CVL_CHECKED static inline CvlStatus cpy_wuz(const int32_t *a, int32_t *out, size_t n) {
     return cvl_int1(CVL_CPY, a, n, out, n);
 }
 
@@ -1243,7 +1243,7 @@ static inline CvlStatus cpy_wuz(const int32_t *a, int32_t *out, size_t n) {
  * In place: no.
  * a = true false: out = true false
  */
-static inline CvlStatus cpy_wub(const bool *a, bool *out, size_t n) {
+CVL_CHECKED static inline CvlStatus cpy_wub(const bool *a, bool *out, size_t n) {
     return cvl_bool1(CVL_CPY, a, n, out, n);
 }
 
@@ -1253,7 +1253,7 @@ static inline CvlStatus cpy_wub(const bool *a, bool *out, size_t n) {
  * In place: no.
  * a = 1 2 3, b = 2 2 2: out = false false true
  */
-static inline CvlStatus grt_wuz(const int32_t *a, const int32_t *b, bool *out, size_t n) {
+CVL_CHECKED static inline CvlStatus grt_wuz(const int32_t *a, const int32_t *b, bool *out, size_t n) {
     return cvl_compare(CVL_GRT, a, n, b, n, out, n);
 }
 
@@ -1263,7 +1263,7 @@ static inline CvlStatus grt_wuz(const int32_t *a, const int32_t *b, bool *out, s
  * In place: no.
  * a = 1 2 3, b = 2 2 2: out = true false false
  */
-static inline CvlStatus les_wuz(const int32_t *a, const int32_t *b, bool *out, size_t n) {
+CVL_CHECKED static inline CvlStatus les_wuz(const int32_t *a, const int32_t *b, bool *out, size_t n) {
     return cvl_compare(CVL_LES, a, n, b, n, out, n);
 }
 
@@ -1273,7 +1273,7 @@ static inline CvlStatus les_wuz(const int32_t *a, const int32_t *b, bool *out, s
  * In place: no.
  * a = 1 2 3, b = 2 2 2: out = false true true
  */
-static inline CvlStatus geq_wuz(const int32_t *a, const int32_t *b, bool *out, size_t n) {
+CVL_CHECKED static inline CvlStatus geq_wuz(const int32_t *a, const int32_t *b, bool *out, size_t n) {
     return cvl_compare(CVL_GEQ, a, n, b, n, out, n);
 }
 
@@ -1283,7 +1283,7 @@ static inline CvlStatus geq_wuz(const int32_t *a, const int32_t *b, bool *out, s
  * In place: no.
  * a = 1 2 3, b = 2 2 2: out = true true false
  */
-static inline CvlStatus leq_wuz(const int32_t *a, const int32_t *b, bool *out, size_t n) {
+CVL_CHECKED static inline CvlStatus leq_wuz(const int32_t *a, const int32_t *b, bool *out, size_t n) {
     return cvl_compare(CVL_LEQ, a, n, b, n, out, n);
 }
 
@@ -1293,7 +1293,7 @@ static inline CvlStatus leq_wuz(const int32_t *a, const int32_t *b, bool *out, s
  * In place: no.
  * a = 1 2 3, b = 2 2 2: out = false true false
  */
-static inline CvlStatus eql_wuz(const int32_t *a, const int32_t *b, bool *out, size_t n) {
+CVL_CHECKED static inline CvlStatus eql_wuz(const int32_t *a, const int32_t *b, bool *out, size_t n) {
     return cvl_compare(CVL_EQL, a, n, b, n, out, n);
 }
 
@@ -1303,7 +1303,7 @@ static inline CvlStatus eql_wuz(const int32_t *a, const int32_t *b, bool *out, s
  * In place: no.
  * a = 1 2 3, b = 2 2 2: out = true false true
  */
-static inline CvlStatus neq_wuz(const int32_t *a, const int32_t *b, bool *out, size_t n) {
+CVL_CHECKED static inline CvlStatus neq_wuz(const int32_t *a, const int32_t *b, bool *out, size_t n) {
     return cvl_compare(CVL_NEQ, a, n, b, n, out, n);
 }
 
@@ -1313,7 +1313,7 @@ static inline CvlStatus neq_wuz(const int32_t *a, const int32_t *b, bool *out, s
  * In place: no.
  * a = true true false false, b = true false true false: out = true false false false
  */
-static inline CvlStatus and_wub(const bool *a, const bool *b, bool *out, size_t n) {
+CVL_CHECKED static inline CvlStatus and_wub(const bool *a, const bool *b, bool *out, size_t n) {
     return cvl_bool2(CVL_AND, a, n, b, n, out, n);
 }
 
@@ -1323,7 +1323,7 @@ static inline CvlStatus and_wub(const bool *a, const bool *b, bool *out, size_t 
  * In place: no.
  * a = true true false false, b = true false true false: out = true true true false
  */
-static inline CvlStatus ior_wub(const bool *a, const bool *b, bool *out, size_t n) {
+CVL_CHECKED static inline CvlStatus ior_wub(const bool *a, const bool *b, bool *out, size_t n) {
     return cvl_bool2(CVL_IOR, a, n, b, n, out, n);
 }
 
@@ -1333,7 +1333,7 @@ static inline CvlStatus ior_wub(const bool *a, const bool *b, bool *out, size_t 
  * In place: no.
  * a = true true false false, b = true false true false: out = false true true false
  */
-static inline CvlStatus xor_wub(const bool *a, const bool *b, bool *out, size_t n) {
+CVL_CHECKED static inline CvlStatus xor_wub(const bool *a, const bool *b, bool *out, size_t n) {
     return cvl_bool2(CVL_XOR, a, n, b, n, out, n);
 }
 
@@ -1343,7 +1343,7 @@ static inline CvlStatus xor_wub(const bool *a, const bool *b, bool *out, size_t 
  * In place: no.
  * flags = true false false, a = 5 0 5, b = 1 1 1: out = 5 1 1
  */
-static inline CvlStatus sel_wuz(const bool *flags, const int32_t *a, const int32_t *b, int32_t *out, size_t m) {
+CVL_CHECKED static inline CvlStatus sel_wuz(const bool *flags, const int32_t *a, const int32_t *b, int32_t *out, size_t m) {
     return cvl_select_int(flags, m, a, m, b, m, out, m);
 }
 
@@ -1353,7 +1353,7 @@ static inline CvlStatus sel_wuz(const bool *flags, const int32_t *a, const int32
  * In place: no.
  * flags = true false, a = true true, b = false false: out = true false
  */
-static inline CvlStatus sel_wub(const bool *flags, const bool *a, const bool *b, bool *out, size_t m) {
+CVL_CHECKED static inline CvlStatus sel_wub(const bool *flags, const bool *a, const bool *b, bool *out, size_t m) {
     return cvl_select_bool(flags, m, a, m, b, m, out, m);
 }
 
@@ -1363,7 +1363,7 @@ static inline CvlStatus sel_wub(const bool *flags, const bool *a, const bool *b,
  * In place: no.
  * a = false true true: out = 0 1 1
  */
-static inline CvlStatus int_wub(const bool *a, int32_t *out, size_t n) {
+CVL_CHECKED static inline CvlStatus int_wub(const bool *a, int32_t *out, size_t n) {
     return cvl_int_from_bool(a, n, out, n);
 }
 
@@ -1373,7 +1373,7 @@ static inline CvlStatus int_wub(const bool *a, int32_t *out, size_t n) {
  * In place: no.
  * a = 0 -3 7: out = false true true
  */
-static inline CvlStatus boo_wuz(const int32_t *a, bool *out, size_t n) {
+CVL_CHECKED static inline CvlStatus boo_wuz(const int32_t *a, bool *out, size_t n) {
     return cvl_bool_from_int(a, n, out, n);
 }
 
@@ -1385,7 +1385,7 @@ static inline CvlStatus boo_wuz(const int32_t *a, bool *out, size_t n) {
  * In place: a may be out.
  * a = 3 1 4: out = 0 3 4
  */
-static inline CvlStatus add_suz(const int32_t *a, int32_t *out, size_t n) {
+CVL_CHECKED static inline CvlStatus add_suz(const int32_t *a, int32_t *out, size_t n) {
     return cvl_int_scan(CVL_ADD, a, n, out, n);
 }
 
@@ -1395,7 +1395,7 @@ static inline CvlStatus add_suz(const int32_t *a, int32_t *out, size_t n) {
  * In place: no.
  * a = 3 1 4: *out = 8
  */
-static inline CvlStatus add_ruz(const int32_t *a, size_t n, int32_t *out) {
+CVL_CHECKED static inline CvlStatus add_ruz(const int32_t *a, size_t n, int32_t *out) {
     return cvl_int_reduce(CVL_ADD, a, n, out);
 }
 
@@ -1405,7 +1405,7 @@ static inline CvlStatus add_ruz(const int32_t *a, size_t n, int32_t *out) {
  * In place: a may be out.
  * a = 3 1 4: out = 1 3 3
  */
-static inline CvlStatus mul_suz(const int32_t *a, int32_t *out, size_t n) {
+CVL_CHECKED static inline CvlStatus mul_suz(const int32_t *a, int32_t *out, size_t n) {
     return cvl_int_scan(CVL_MUL, a, n, out, n);
 }
 
@@ -1415,7 +1415,7 @@ static inline CvlStatus mul_suz(const int32_t *a, int32_t *out, size_t n) {
  * In place: no.
  * a = 3 1 4: *out = 12
  */
-static inline CvlStatus mul_ruz(const int32_t *a, size_t n, int32_t *out) {
+CVL_CHECKED static inline CvlStatus mul_ruz(const int32_t *a, size_t n, int32_t *out) {
     return cvl_int_reduce(CVL_MUL, a, n, out);
 }
 
@@ -1425,7 +1425,7 @@ static inline CvlStatus mul_ruz(const int32_t *a, size_t n, int32_t *out) {
  * In place: a may be out.
  * a = 3 1 4: out = 2147483647 3 1
  */
-static inline CvlStatus min_suz(const int32_t *a, int32_t *out, size_t n) {
+CVL_CHECKED static inline CvlStatus min_suz(const int32_t *a, int32_t *out, size_t n) {
     return cvl_int_scan(CVL_MIN, a, n, out, n);
 }
 
@@ -1435,7 +1435,7 @@ static inline CvlStatus min_suz(const int32_t *a, int32_t *out, size_t n) {
  * In place: no.
  * a = 3 1 4: *out = 1
  */
-static inline CvlStatus min_ruz(const int32_t *a, size_t n, int32_t *out) {
+CVL_CHECKED static inline CvlStatus min_ruz(const int32_t *a, size_t n, int32_t *out) {
     return cvl_int_reduce(CVL_MIN, a, n, out);
 }
 
@@ -1445,7 +1445,7 @@ static inline CvlStatus min_ruz(const int32_t *a, size_t n, int32_t *out) {
  * In place: a may be out.
  * a = 3 1 4: out = -2147483648 3 3
  */
-static inline CvlStatus max_suz(const int32_t *a, int32_t *out, size_t n) {
+CVL_CHECKED static inline CvlStatus max_suz(const int32_t *a, int32_t *out, size_t n) {
     return cvl_int_scan(CVL_MAX, a, n, out, n);
 }
 
@@ -1455,7 +1455,7 @@ static inline CvlStatus max_suz(const int32_t *a, int32_t *out, size_t n) {
  * In place: no.
  * a = 3 1 4: *out = 4
  */
-static inline CvlStatus max_ruz(const int32_t *a, size_t n, int32_t *out) {
+CVL_CHECKED static inline CvlStatus max_ruz(const int32_t *a, size_t n, int32_t *out) {
     return cvl_int_reduce(CVL_MAX, a, n, out);
 }
 
@@ -1465,7 +1465,7 @@ static inline CvlStatus max_ruz(const int32_t *a, size_t n, int32_t *out) {
  * In place: a may be out.
  * a = 3 1 4: out = -1 3 1
  */
-static inline CvlStatus and_suz(const int32_t *a, int32_t *out, size_t n) {
+CVL_CHECKED static inline CvlStatus and_suz(const int32_t *a, int32_t *out, size_t n) {
     return cvl_int_scan(CVL_AND, a, n, out, n);
 }
 
@@ -1475,7 +1475,7 @@ static inline CvlStatus and_suz(const int32_t *a, int32_t *out, size_t n) {
  * In place: no.
  * a = 3 1 4: *out = 0
  */
-static inline CvlStatus and_ruz(const int32_t *a, size_t n, int32_t *out) {
+CVL_CHECKED static inline CvlStatus and_ruz(const int32_t *a, size_t n, int32_t *out) {
     return cvl_int_reduce(CVL_AND, a, n, out);
 }
 
@@ -1485,7 +1485,7 @@ static inline CvlStatus and_ruz(const int32_t *a, size_t n, int32_t *out) {
  * In place: a may be out.
  * a = 3 1 4: out = 0 3 3
  */
-static inline CvlStatus ior_suz(const int32_t *a, int32_t *out, size_t n) {
+CVL_CHECKED static inline CvlStatus ior_suz(const int32_t *a, int32_t *out, size_t n) {
     return cvl_int_scan(CVL_IOR, a, n, out, n);
 }
 
@@ -1495,7 +1495,7 @@ static inline CvlStatus ior_suz(const int32_t *a, int32_t *out, size_t n) {
  * In place: no.
  * a = 3 1 4: *out = 7
  */
-static inline CvlStatus ior_ruz(const int32_t *a, size_t n, int32_t *out) {
+CVL_CHECKED static inline CvlStatus ior_ruz(const int32_t *a, size_t n, int32_t *out) {
     return cvl_int_reduce(CVL_IOR, a, n, out);
 }
 
@@ -1505,7 +1505,7 @@ static inline CvlStatus ior_ruz(const int32_t *a, size_t n, int32_t *out) {
  * In place: a may be out.
  * a = 3 1 4: out = 0 3 2
  */
-static inline CvlStatus xor_suz(const int32_t *a, int32_t *out, size_t n) {
+CVL_CHECKED static inline CvlStatus xor_suz(const int32_t *a, int32_t *out, size_t n) {
     return cvl_int_scan(CVL_XOR, a, n, out, n);
 }
 
@@ -1515,7 +1515,7 @@ static inline CvlStatus xor_suz(const int32_t *a, int32_t *out, size_t n) {
  * In place: no.
  * a = 3 1 4: *out = 6
  */
-static inline CvlStatus xor_ruz(const int32_t *a, size_t n, int32_t *out) {
+CVL_CHECKED static inline CvlStatus xor_ruz(const int32_t *a, size_t n, int32_t *out) {
     return cvl_int_reduce(CVL_XOR, a, n, out);
 }
 
@@ -1525,7 +1525,7 @@ static inline CvlStatus xor_ruz(const int32_t *a, size_t n, int32_t *out) {
  * In place: no.
  * a = true false true: out = true true false
  */
-static inline CvlStatus and_sub(const bool *a, bool *out, size_t n) {
+CVL_CHECKED static inline CvlStatus and_sub(const bool *a, bool *out, size_t n) {
     return cvl_bool_scan(CVL_AND, a, n, out, n);
 }
 
@@ -1535,7 +1535,7 @@ static inline CvlStatus and_sub(const bool *a, bool *out, size_t n) {
  * In place: no.
  * a = true false true: *out = false
  */
-static inline CvlStatus and_rub(const bool *a, size_t n, bool *out) {
+CVL_CHECKED static inline CvlStatus and_rub(const bool *a, size_t n, bool *out) {
     return cvl_bool_reduce(CVL_AND, a, n, out);
 }
 
@@ -1545,7 +1545,7 @@ static inline CvlStatus and_rub(const bool *a, size_t n, bool *out) {
  * In place: no.
  * a = true false true: out = false true true
  */
-static inline CvlStatus ior_sub(const bool *a, bool *out, size_t n) {
+CVL_CHECKED static inline CvlStatus ior_sub(const bool *a, bool *out, size_t n) {
     return cvl_bool_scan(CVL_IOR, a, n, out, n);
 }
 
@@ -1555,7 +1555,7 @@ static inline CvlStatus ior_sub(const bool *a, bool *out, size_t n) {
  * In place: no.
  * a = true false true: *out = true
  */
-static inline CvlStatus ior_rub(const bool *a, size_t n, bool *out) {
+CVL_CHECKED static inline CvlStatus ior_rub(const bool *a, size_t n, bool *out) {
     return cvl_bool_reduce(CVL_IOR, a, n, out);
 }
 
@@ -1565,7 +1565,7 @@ static inline CvlStatus ior_rub(const bool *a, size_t n, bool *out) {
  * In place: no.
  * a = true false true: out = false true true
  */
-static inline CvlStatus xor_sub(const bool *a, bool *out, size_t n) {
+CVL_CHECKED static inline CvlStatus xor_sub(const bool *a, bool *out, size_t n) {
     return cvl_bool_scan(CVL_XOR, a, n, out, n);
 }
 
@@ -1575,7 +1575,7 @@ static inline CvlStatus xor_sub(const bool *a, bool *out, size_t n) {
  * In place: no.
  * a = true false true: *out = false
  */
-static inline CvlStatus xor_rub(const bool *a, size_t n, bool *out) {
+CVL_CHECKED static inline CvlStatus xor_rub(const bool *a, size_t n, bool *out) {
     return cvl_bool_reduce(CVL_XOR, a, n, out);
 }
 
@@ -1587,7 +1587,7 @@ static inline CvlStatus xor_rub(const bool *a, size_t n, bool *out) {
  * In place: a may be out.
  * a = 3 1 4: out = 0 3 4
  */
-static inline CvlStatus tot_suz(const int32_t *a, int32_t *out, size_t n) {
+CVL_CHECKED static inline CvlStatus tot_suz(const int32_t *a, int32_t *out, size_t n) {
     return cvl_checked_scan(a, n, out, n);
 }
 
@@ -1597,7 +1597,7 @@ static inline CvlStatus tot_suz(const int32_t *a, int32_t *out, size_t n) {
  * In place: no.
  * a = 3 1 4: *out = 8
  */
-static inline CvlStatus tot_ruz(const int32_t *a, size_t n, int32_t *out) {
+CVL_CHECKED static inline CvlStatus tot_ruz(const int32_t *a, size_t n, int32_t *out) {
     return cvl_checked_reduce(a, n, out);
 }
 
@@ -1609,7 +1609,7 @@ static inline CvlStatus tot_ruz(const int32_t *a, size_t n, int32_t *out) {
  * In place: no.
  * flags = false true true false true: *out = 3
  */
-static inline CvlStatus cnt_lub(const bool *flags, size_t n, int32_t *out) {
+CVL_CHECKED static inline CvlStatus cnt_lub(const bool *flags, size_t n, int32_t *out) {
     return cvl_count(flags, n, out);
 }
 
@@ -1619,7 +1619,7 @@ static inline CvlStatus cnt_lub(const bool *flags, size_t n, int32_t *out) {
  * In place: no.
  * vector = 4 5 6, index = 2: *out = 6
  */
-static inline CvlStatus ext_vuz(const int32_t *vector, size_t n, int32_t index, int32_t *out) {
+CVL_CHECKED static inline CvlStatus ext_vuz(const int32_t *vector, size_t n, int32_t index, int32_t *out) {
     return cvl_extract_int(vector, n, index, out);
 }
 
@@ -1629,7 +1629,7 @@ static inline CvlStatus ext_vuz(const int32_t *vector, size_t n, int32_t index, 
  * In place: no.
  * vector = true true false, index = 0: *out = true
  */
-static inline CvlStatus ext_vub(const bool *vector, size_t n, int32_t index, bool *out) {
+CVL_CHECKED static inline CvlStatus ext_vub(const bool *vector, size_t n, int32_t index, bool *out) {
     return cvl_extract_bool(vector, n, index, out);
 }
 
@@ -1639,7 +1639,7 @@ static inline CvlStatus ext_vub(const bool *vector, size_t n, int32_t index, boo
  * In place: no.
  * vector = 1 2 3, index = 1, value = 9: out = 1 9 3
  */
-static inline CvlStatus rep_vuz(const int32_t *vector, int32_t index, int32_t value, int32_t *out, size_t n) {
+CVL_CHECKED static inline CvlStatus rep_vuz(const int32_t *vector, int32_t index, int32_t value, int32_t *out, size_t n) {
     return cvl_replace_int(vector, n, index, value, out, n);
 }
 
@@ -1649,7 +1649,7 @@ static inline CvlStatus rep_vuz(const int32_t *vector, int32_t index, int32_t va
  * In place: no.
  * vector = true true true, index = 2, value = false: out = true true false
  */
-static inline CvlStatus rep_vub(const bool *vector, int32_t index, bool value, bool *out, size_t n) {
+CVL_CHECKED static inline CvlStatus rep_vub(const bool *vector, int32_t index, bool value, bool *out, size_t n) {
     return cvl_replace_bool(vector, n, index, value, out, n);
 }
 
@@ -1659,7 +1659,7 @@ static inline CvlStatus rep_vub(const bool *vector, int32_t index, bool value, b
  * In place: no.
  * value = 7, count = 3: out = 7 7 7
  */
-static inline CvlStatus dis_vuz(int32_t value, int32_t count, int32_t *out) {
+CVL_CHECKED static inline CvlStatus dis_vuz(int32_t value, int32_t count, int32_t *out) {
     return cvl_distribute_int(value, count, out, count < 0 ? 0 : (size_t)count);
 }
 
@@ -1669,7 +1669,7 @@ static inline CvlStatus dis_vuz(int32_t value, int32_t count, int32_t *out) {
  * In place: no.
  * value = true, count = 2: out = true true
  */
-static inline CvlStatus dis_vub(bool value, int32_t count, bool *out) {
+CVL_CHECKED static inline CvlStatus dis_vub(bool value, int32_t count, bool *out) {
     return cvl_distribute_bool(value, count, out, count < 0 ? 0 : (size_t)count);
 }
 
@@ -1679,7 +1679,7 @@ static inline CvlStatus dis_vub(bool value, int32_t count, bool *out) {
  * In place: no.
  * init = 10, stride = -2, count = 3: out = 10 8 6
  */
-static inline CvlStatus ind_luz(int32_t init, int32_t stride, int32_t count, int32_t *out) {
+CVL_CHECKED static inline CvlStatus ind_luz(int32_t init, int32_t stride, int32_t count, int32_t *out) {
     return cvl_index(init, stride, count, out, count < 0 ? 0 : (size_t)count);
 }
 
@@ -1695,7 +1695,7 @@ static inline CvlStatus ind_luz(int32_t init, int32_t stride, int32_t count, int
  * In place: no.
  * lengths = 2 0 3: *total = 5
  */
-static inline CvlStatus mke_fov(const int32_t *lengths, size_t segments, size_t *total) {
+CVL_CHECKED static inline CvlStatus mke_fov(const int32_t *lengths, size_t segments, size_t *total) {
     return cvl_make_descriptor(lengths, segments, total);
 }
 
@@ -1705,7 +1705,7 @@ static inline CvlStatus mke_fov(const int32_t *lengths, size_t segments, size_t 
  * In place: a may be out.
  * a = 3 1 4 1 5, lengths = 2 0 3: out = 0 3 0 4 5
  */
-static inline CvlStatus tot_sez(const int32_t *a, const int32_t *lengths, size_t segments, int32_t *out, size_t n) {
+CVL_CHECKED static inline CvlStatus tot_sez(const int32_t *a, const int32_t *lengths, size_t segments, int32_t *out, size_t n) {
     return cvl_seg_checked_scan(a, n, lengths, segments, out, n);
 }
 
@@ -1715,7 +1715,7 @@ static inline CvlStatus tot_sez(const int32_t *a, const int32_t *lengths, size_t
  * In place: no.
  * a = 3 1 4 1 5, lengths = 2 0 3: out = 4 0 10
  */
-static inline CvlStatus tot_rez(const int32_t *a, size_t n, const int32_t *lengths, size_t segments, int32_t *out) {
+CVL_CHECKED static inline CvlStatus tot_rez(const int32_t *a, size_t n, const int32_t *lengths, size_t segments, int32_t *out) {
     return cvl_seg_checked_reduce(a, n, lengths, segments, out, segments);
 }
 
@@ -1726,7 +1726,7 @@ static inline CvlStatus tot_rez(const int32_t *a, size_t n, const int32_t *lengt
  * In place: no.
  * vector = 1 2 3 4 5, index = 1 2, lengths = 2 3: out = 2 5
  */
-static inline CvlStatus ext_vez(
+CVL_CHECKED static inline CvlStatus ext_vez(
     const int32_t *vector, size_t n, const int32_t *index, const int32_t *lengths, size_t segments, int32_t *out) {
     return cvl_seg_extract_int(vector, n, index, segments, lengths, segments, out, segments);
 }
@@ -1738,7 +1738,7 @@ static inline CvlStatus ext_vez(
  * In place: no.
  * vector = true true false, index = 0 1, lengths = 1 2: out = true false
  */
-static inline CvlStatus ext_veb(
+CVL_CHECKED static inline CvlStatus ext_veb(
     const bool *vector, size_t n, const int32_t *index, const int32_t *lengths, size_t segments, bool *out) {
     return cvl_seg_extract_bool(vector, n, index, segments, lengths, segments, out, segments);
 }
@@ -1750,7 +1750,7 @@ static inline CvlStatus ext_veb(
  * In place: no.
  * vector = 1 2 3 4 5, index = 0 1, values = 8 9, lengths = 2 3: out = 8 2 3 9 5
  */
-static inline CvlStatus rep_vez(
+CVL_CHECKED static inline CvlStatus rep_vez(
     const int32_t *vector, size_t n, const int32_t *index, const int32_t *values, const int32_t *lengths, size_t segments, int32_t *out) {
     return cvl_seg_replace_int(vector, n, index, segments, values, segments, lengths, segments, out, n);
 }
@@ -1762,7 +1762,7 @@ static inline CvlStatus rep_vez(
  * In place: no.
  * vector = true true false, index = 0 1, values = false true, lengths = 1 2: out = false true true
  */
-static inline CvlStatus rep_veb(
+CVL_CHECKED static inline CvlStatus rep_veb(
     const bool *vector, size_t n, const int32_t *index, const bool *values, const int32_t *lengths, size_t segments, bool *out) {
     return cvl_seg_replace_bool(vector, n, index, segments, values, segments, lengths, segments, out, n);
 }
@@ -1773,7 +1773,7 @@ static inline CvlStatus rep_veb(
  * In place: no.
  * values = 7 8 9, lengths = 2 0 3: out = 7 7 9 9 9
  */
-static inline CvlStatus dis_vez(
+CVL_CHECKED static inline CvlStatus dis_vez(
     const int32_t *values, const int32_t *lengths, size_t segments, int32_t *out, size_t n) {
     return cvl_seg_distribute_int(values, segments, lengths, segments, out, n);
 }
@@ -1784,7 +1784,7 @@ static inline CvlStatus dis_vez(
  * In place: no.
  * values = true false, lengths = 1 2: out = true false false
  */
-static inline CvlStatus dis_veb(const bool *values, const int32_t *lengths, size_t segments, bool *out, size_t n) {
+CVL_CHECKED static inline CvlStatus dis_veb(const bool *values, const int32_t *lengths, size_t segments, bool *out, size_t n) {
     return cvl_seg_distribute_bool(values, segments, lengths, segments, out, n);
 }
 
@@ -1794,7 +1794,7 @@ static inline CvlStatus dis_veb(const bool *values, const int32_t *lengths, size
  * In place: no.
  * inits = 0 5 10, strides = 1 1 -2, lengths = 2 0 3: out = 0 1 10 8 6
  */
-static inline CvlStatus ind_lez(
+CVL_CHECKED static inline CvlStatus ind_lez(
     const int32_t *inits, const int32_t *strides, const int32_t *lengths, size_t segments, int32_t *out, size_t n) {
     return cvl_seg_index(inits, segments, strides, segments, lengths, segments, out, n);
 }
@@ -1808,7 +1808,7 @@ static inline CvlStatus ind_lez(
  * In place: a may be out.
  * a = 3 1 4 1 5, lengths = 2 0 3: out = 0 3 0 4 5
  */
-static inline CvlStatus add_sez(const int32_t *a, const int32_t *lengths, size_t segments, int32_t *out, size_t n) {
+CVL_CHECKED static inline CvlStatus add_sez(const int32_t *a, const int32_t *lengths, size_t segments, int32_t *out, size_t n) {
     return cvl_seg_int_scan(CVL_ADD, a, n, lengths, segments, out, n);
 }
 
@@ -1819,7 +1819,7 @@ static inline CvlStatus add_sez(const int32_t *a, const int32_t *lengths, size_t
  * In place: no.
  * a = 3 1 4 1 5, lengths = 2 0 3: out = 4 0 10
  */
-static inline CvlStatus add_rez(const int32_t *a, size_t n, const int32_t *lengths, size_t segments, int32_t *out) {
+CVL_CHECKED static inline CvlStatus add_rez(const int32_t *a, size_t n, const int32_t *lengths, size_t segments, int32_t *out) {
     return cvl_seg_int_reduce(CVL_ADD, a, n, lengths, segments, out, segments);
 }
 
@@ -1830,7 +1830,7 @@ static inline CvlStatus add_rez(const int32_t *a, size_t n, const int32_t *lengt
  * In place: a may be out.
  * a = 3 1 4 1 5, lengths = 2 0 3: out = 1 3 1 4 4
  */
-static inline CvlStatus mul_sez(const int32_t *a, const int32_t *lengths, size_t segments, int32_t *out, size_t n) {
+CVL_CHECKED static inline CvlStatus mul_sez(const int32_t *a, const int32_t *lengths, size_t segments, int32_t *out, size_t n) {
     return cvl_seg_int_scan(CVL_MUL, a, n, lengths, segments, out, n);
 }
 
@@ -1841,7 +1841,7 @@ static inline CvlStatus mul_sez(const int32_t *a, const int32_t *lengths, size_t
  * In place: no.
  * a = 3 1 4 1 5, lengths = 2 0 3: out = 3 1 20
  */
-static inline CvlStatus mul_rez(const int32_t *a, size_t n, const int32_t *lengths, size_t segments, int32_t *out) {
+CVL_CHECKED static inline CvlStatus mul_rez(const int32_t *a, size_t n, const int32_t *lengths, size_t segments, int32_t *out) {
     return cvl_seg_int_reduce(CVL_MUL, a, n, lengths, segments, out, segments);
 }
 
@@ -1852,7 +1852,7 @@ static inline CvlStatus mul_rez(const int32_t *a, size_t n, const int32_t *lengt
  * In place: a may be out.
  * a = 3 1 4 1 5, lengths = 2 0 3: out = 2147483647 3 2147483647 4 1
  */
-static inline CvlStatus min_sez(const int32_t *a, const int32_t *lengths, size_t segments, int32_t *out, size_t n) {
+CVL_CHECKED static inline CvlStatus min_sez(const int32_t *a, const int32_t *lengths, size_t segments, int32_t *out, size_t n) {
     return cvl_seg_int_scan(CVL_MIN, a, n, lengths, segments, out, n);
 }
 
@@ -1863,7 +1863,7 @@ static inline CvlStatus min_sez(const int32_t *a, const int32_t *lengths, size_t
  * In place: no.
  * a = 3 1 4 1 5, lengths = 2 0 3: out = 1 2147483647 1
  */
-static inline CvlStatus min_rez(const int32_t *a, size_t n, const int32_t *lengths, size_t segments, int32_t *out) {
+CVL_CHECKED static inline CvlStatus min_rez(const int32_t *a, size_t n, const int32_t *lengths, size_t segments, int32_t *out) {
     return cvl_seg_int_reduce(CVL_MIN, a, n, lengths, segments, out, segments);
 }
 
@@ -1874,7 +1874,7 @@ static inline CvlStatus min_rez(const int32_t *a, size_t n, const int32_t *lengt
  * In place: a may be out.
  * a = 3 1 4 1 5, lengths = 2 0 3: out = -2147483648 3 -2147483648 4 4
  */
-static inline CvlStatus max_sez(const int32_t *a, const int32_t *lengths, size_t segments, int32_t *out, size_t n) {
+CVL_CHECKED static inline CvlStatus max_sez(const int32_t *a, const int32_t *lengths, size_t segments, int32_t *out, size_t n) {
     return cvl_seg_int_scan(CVL_MAX, a, n, lengths, segments, out, n);
 }
 
@@ -1885,7 +1885,7 @@ static inline CvlStatus max_sez(const int32_t *a, const int32_t *lengths, size_t
  * In place: no.
  * a = 3 1 4 1 5, lengths = 2 0 3: out = 3 -2147483648 5
  */
-static inline CvlStatus max_rez(const int32_t *a, size_t n, const int32_t *lengths, size_t segments, int32_t *out) {
+CVL_CHECKED static inline CvlStatus max_rez(const int32_t *a, size_t n, const int32_t *lengths, size_t segments, int32_t *out) {
     return cvl_seg_int_reduce(CVL_MAX, a, n, lengths, segments, out, segments);
 }
 
@@ -1896,7 +1896,7 @@ static inline CvlStatus max_rez(const int32_t *a, size_t n, const int32_t *lengt
  * In place: a may be out.
  * a = 3 1 4 1 5, lengths = 2 0 3: out = -1 3 -1 4 0
  */
-static inline CvlStatus and_sez(const int32_t *a, const int32_t *lengths, size_t segments, int32_t *out, size_t n) {
+CVL_CHECKED static inline CvlStatus and_sez(const int32_t *a, const int32_t *lengths, size_t segments, int32_t *out, size_t n) {
     return cvl_seg_int_scan(CVL_AND, a, n, lengths, segments, out, n);
 }
 
@@ -1907,7 +1907,7 @@ static inline CvlStatus and_sez(const int32_t *a, const int32_t *lengths, size_t
  * In place: no.
  * a = 3 1 4 1 5, lengths = 2 0 3: out = 1 -1 0
  */
-static inline CvlStatus and_rez(const int32_t *a, size_t n, const int32_t *lengths, size_t segments, int32_t *out) {
+CVL_CHECKED static inline CvlStatus and_rez(const int32_t *a, size_t n, const int32_t *lengths, size_t segments, int32_t *out) {
     return cvl_seg_int_reduce(CVL_AND, a, n, lengths, segments, out, segments);
 }
 
@@ -1918,7 +1918,7 @@ static inline CvlStatus and_rez(const int32_t *a, size_t n, const int32_t *lengt
  * In place: a may be out.
  * a = 3 1 4 1 5, lengths = 2 0 3: out = 0 3 0 4 5
  */
-static inline CvlStatus ior_sez(const int32_t *a, const int32_t *lengths, size_t segments, int32_t *out, size_t n) {
+CVL_CHECKED static inline CvlStatus ior_sez(const int32_t *a, const int32_t *lengths, size_t segments, int32_t *out, size_t n) {
     return cvl_seg_int_scan(CVL_IOR, a, n, lengths, segments, out, n);
 }
 
@@ -1929,7 +1929,7 @@ static inline CvlStatus ior_sez(const int32_t *a, const int32_t *lengths, size_t
  * In place: no.
  * a = 3 1 4 1 5, lengths = 2 0 3: out = 3 0 5
  */
-static inline CvlStatus ior_rez(const int32_t *a, size_t n, const int32_t *lengths, size_t segments, int32_t *out) {
+CVL_CHECKED static inline CvlStatus ior_rez(const int32_t *a, size_t n, const int32_t *lengths, size_t segments, int32_t *out) {
     return cvl_seg_int_reduce(CVL_IOR, a, n, lengths, segments, out, segments);
 }
 
@@ -1940,7 +1940,7 @@ static inline CvlStatus ior_rez(const int32_t *a, size_t n, const int32_t *lengt
  * In place: a may be out.
  * a = 3 1 4 1 5, lengths = 2 0 3: out = 0 3 0 4 5
  */
-static inline CvlStatus xor_sez(const int32_t *a, const int32_t *lengths, size_t segments, int32_t *out, size_t n) {
+CVL_CHECKED static inline CvlStatus xor_sez(const int32_t *a, const int32_t *lengths, size_t segments, int32_t *out, size_t n) {
     return cvl_seg_int_scan(CVL_XOR, a, n, lengths, segments, out, n);
 }
 
@@ -1951,7 +1951,7 @@ static inline CvlStatus xor_sez(const int32_t *a, const int32_t *lengths, size_t
  * In place: no.
  * a = 3 1 4 1 5, lengths = 2 0 3: out = 2 0 0
  */
-static inline CvlStatus xor_rez(const int32_t *a, size_t n, const int32_t *lengths, size_t segments, int32_t *out) {
+CVL_CHECKED static inline CvlStatus xor_rez(const int32_t *a, size_t n, const int32_t *lengths, size_t segments, int32_t *out) {
     return cvl_seg_int_reduce(CVL_XOR, a, n, lengths, segments, out, segments);
 }
 
@@ -1962,7 +1962,7 @@ static inline CvlStatus xor_rez(const int32_t *a, size_t n, const int32_t *lengt
  * In place: no.
  * a = true false true false true, lengths = 2 0 3: out = true true true true false
  */
-static inline CvlStatus and_seb(const bool *a, const int32_t *lengths, size_t segments, bool *out, size_t n) {
+CVL_CHECKED static inline CvlStatus and_seb(const bool *a, const int32_t *lengths, size_t segments, bool *out, size_t n) {
     return cvl_seg_bool_scan(CVL_AND, a, n, lengths, segments, out, n);
 }
 
@@ -1973,7 +1973,7 @@ static inline CvlStatus and_seb(const bool *a, const int32_t *lengths, size_t se
  * In place: no.
  * a = true false true false true, lengths = 2 0 3: out = false true false
  */
-static inline CvlStatus and_reb(const bool *a, size_t n, const int32_t *lengths, size_t segments, bool *out) {
+CVL_CHECKED static inline CvlStatus and_reb(const bool *a, size_t n, const int32_t *lengths, size_t segments, bool *out) {
     return cvl_seg_bool_reduce(CVL_AND, a, n, lengths, segments, out, segments);
 }
 
@@ -1984,7 +1984,7 @@ static inline CvlStatus and_reb(const bool *a, size_t n, const int32_t *lengths,
  * In place: no.
  * a = true false true false true, lengths = 2 0 3: out = false true false true true
  */
-static inline CvlStatus ior_seb(const bool *a, const int32_t *lengths, size_t segments, bool *out, size_t n) {
+CVL_CHECKED static inline CvlStatus ior_seb(const bool *a, const int32_t *lengths, size_t segments, bool *out, size_t n) {
     return cvl_seg_bool_scan(CVL_IOR, a, n, lengths, segments, out, n);
 }
 
@@ -1995,7 +1995,7 @@ static inline CvlStatus ior_seb(const bool *a, const int32_t *lengths, size_t se
  * In place: no.
  * a = true false true false true, lengths = 2 0 3: out = true false true
  */
-static inline CvlStatus ior_reb(const bool *a, size_t n, const int32_t *lengths, size_t segments, bool *out) {
+CVL_CHECKED static inline CvlStatus ior_reb(const bool *a, size_t n, const int32_t *lengths, size_t segments, bool *out) {
     return cvl_seg_bool_reduce(CVL_IOR, a, n, lengths, segments, out, segments);
 }
 
@@ -2006,7 +2006,7 @@ static inline CvlStatus ior_reb(const bool *a, size_t n, const int32_t *lengths,
  * In place: no.
  * a = true false true false true, lengths = 2 0 3: out = false true false true true
  */
-static inline CvlStatus xor_seb(const bool *a, const int32_t *lengths, size_t segments, bool *out, size_t n) {
+CVL_CHECKED static inline CvlStatus xor_seb(const bool *a, const int32_t *lengths, size_t segments, bool *out, size_t n) {
     return cvl_seg_bool_scan(CVL_XOR, a, n, lengths, segments, out, n);
 }
 
@@ -2017,7 +2017,7 @@ static inline CvlStatus xor_seb(const bool *a, const int32_t *lengths, size_t se
  * In place: no.
  * a = true false true false true, lengths = 2 0 3: out = true false false
  */
-static inline CvlStatus xor_reb(const bool *a, size_t n, const int32_t *lengths, size_t segments, bool *out) {
+CVL_CHECKED static inline CvlStatus xor_reb(const bool *a, size_t n, const int32_t *lengths, size_t segments, bool *out) {
     return cvl_seg_bool_reduce(CVL_XOR, a, n, lengths, segments, out, segments);
 }
 
@@ -2030,7 +2030,7 @@ static inline CvlStatus xor_reb(const bool *a, size_t n, const int32_t *lengths,
  * In place: no.
  * values = 1 2 3 4 5, flags = false true true false true: out = 2 3 5, *count = 3
  */
-static inline CvlStatus pck_luz(
+CVL_CHECKED static inline CvlStatus pck_luz(
     const int32_t *values, const bool *flags, size_t n, int32_t *out, size_t room, size_t *count) {
     return cvl_pack_int(values, n, flags, n, out, room, count);
 }
@@ -2042,7 +2042,7 @@ static inline CvlStatus pck_luz(
  * In place: no.
  * values = true false true, flags = false true true: out = false true, *count = 2
  */
-static inline CvlStatus pck_lub(const bool *values, const bool *flags, size_t n, bool *out, size_t room, size_t *count) {
+CVL_CHECKED static inline CvlStatus pck_lub(const bool *values, const bool *flags, size_t n, bool *out, size_t room, size_t *count) {
     return cvl_pack_bool(values, n, flags, n, out, room, count);
 }
 
@@ -2054,7 +2054,7 @@ static inline CvlStatus pck_lub(const bool *values, const bool *flags, size_t n,
  * In place: no.
  * values = 1 2 3 4 5, flags = false true true false true, lengths = 2 0 3: out = 2 3 5, *count = 3
  */
-static inline CvlStatus pck_lez(
+CVL_CHECKED static inline CvlStatus pck_lez(
     const int32_t *values, const bool *flags, size_t n, const int32_t *lengths, size_t segments, int32_t *out, size_t room,
     size_t *count) {
     return cvl_seg_pack_int(values, n, flags, n, lengths, segments, out, room, count);
@@ -2068,7 +2068,7 @@ static inline CvlStatus pck_lez(
  * In place: no.
  * values = true false true, flags = false true true, lengths = 1 2: out = false true, *count = 2
  */
-static inline CvlStatus pck_leb(
+CVL_CHECKED static inline CvlStatus pck_leb(
     const bool *values, const bool *flags, size_t n, const int32_t *lengths, size_t segments, bool *out, size_t room,
     size_t *count) {
     return cvl_seg_pack_bool(values, n, flags, n, lengths, segments, out, room, count);
@@ -2081,7 +2081,7 @@ static inline CvlStatus pck_leb(
  * In place: no.
  * flags = false true true false true, lengths = 2 0 3: out = 1 0 2
  */
-static inline CvlStatus pck_fov(const bool *flags, size_t n, const int32_t *lengths, size_t segments, int32_t *out) {
+CVL_CHECKED static inline CvlStatus pck_fov(const bool *flags, size_t n, const int32_t *lengths, size_t segments, int32_t *out) {
     return cvl_packed_lengths(flags, n, lengths, segments, out, segments);
 }
 
@@ -2091,7 +2091,7 @@ static inline CvlStatus pck_fov(const bool *flags, size_t n, const int32_t *leng
  * In place: no.
  * flags = false false true false true, lengths = 2 0 3: out = 0 0 2
  */
-static inline CvlStatus cnt_leb(const bool *flags, size_t n, const int32_t *lengths, size_t segments, int32_t *out) {
+CVL_CHECKED static inline CvlStatus cnt_leb(const bool *flags, size_t n, const int32_t *lengths, size_t segments, int32_t *out) {
     return cvl_seg_count(flags, n, lengths, segments, out, segments);
 }
 
@@ -2108,7 +2108,7 @@ static inline CvlStatus cnt_leb(const bool *flags, size_t n, const int32_t *leng
  * In place: no.
  * source = 10 20 30, index = 2 0 1: out = 20 30 10
  */
-static inline CvlStatus smp_puz(const int32_t *source, const int32_t *index, int32_t *out, size_t n) {
+CVL_CHECKED static inline CvlStatus smp_puz(const int32_t *source, const int32_t *index, int32_t *out, size_t n) {
     return cvl_permute_int(source, n, index, n, out, n);
 }
 
@@ -2119,7 +2119,7 @@ static inline CvlStatus smp_puz(const int32_t *source, const int32_t *index, int
  * In place: no.
  * source = true false false, index = 2 0 1: out = false false true
  */
-static inline CvlStatus smp_pub(const bool *source, const int32_t *index, bool *out, size_t n) {
+CVL_CHECKED static inline CvlStatus smp_pub(const bool *source, const int32_t *index, bool *out, size_t n) {
     return cvl_permute_bool(source, n, index, n, out, n);
 }
 
@@ -2131,7 +2131,7 @@ static inline CvlStatus smp_pub(const bool *source, const int32_t *index, bool *
  * In place: no.
  * source = 1 2 3 4, index = 1 9 0 9, flags = true false true false: out = 3 1
  */
-static inline CvlStatus sel_puz(
+CVL_CHECKED static inline CvlStatus sel_puz(
     const int32_t *source, const int32_t *index, const bool *flags, size_t n, int32_t *out, size_t m) {
     return cvl_select_permute_int(source, n, index, n, flags, n, out, m);
 }
@@ -2144,7 +2144,7 @@ static inline CvlStatus sel_puz(
  * In place: no.
  * source = true true false true, index = 1 9 0 9, flags = true false true false: out = false true
  */
-static inline CvlStatus sel_pub(
+CVL_CHECKED static inline CvlStatus sel_pub(
     const bool *source, const int32_t *index, const bool *flags, size_t n, bool *out, size_t m) {
     return cvl_select_permute_bool(source, n, index, n, flags, n, out, m);
 }
@@ -2157,7 +2157,7 @@ static inline CvlStatus sel_pub(
  * In place: no.
  * source = 7 8, index = 3 1, defaults = 0 0 0 0 0: out = 0 8 0 7 0
  */
-static inline CvlStatus def_puz(
+CVL_CHECKED static inline CvlStatus def_puz(
     const int32_t *source, const int32_t *index, size_t n, const int32_t *defaults, int32_t *out, size_t m) {
     return cvl_default_permute_int(source, n, index, n, defaults, m, out, m);
 }
@@ -2170,7 +2170,7 @@ static inline CvlStatus def_puz(
  * In place: no.
  * source = true false, index = 3 1, defaults = false true true false: out = false false true true
  */
-static inline CvlStatus def_pub(
+CVL_CHECKED static inline CvlStatus def_pub(
     const bool *source, const int32_t *index, size_t n, const bool *defaults, bool *out, size_t m) {
     return cvl_default_permute_bool(source, n, index, n, defaults, m, out, m);
 }
@@ -2182,7 +2182,7 @@ static inline CvlStatus def_pub(
  * In place: no.
  * source = 10 20 30, index = 2 2 0 0: out = 30 30 10 10
  */
-static inline CvlStatus bck_puz(const int32_t *source, size_t n, const int32_t *index, int32_t *out, size_t m) {
+CVL_CHECKED static inline CvlStatus bck_puz(const int32_t *source, size_t n, const int32_t *index, int32_t *out, size_t m) {
     return cvl_back_permute_int(source, n, index, m, out, m);
 }
 
@@ -2193,7 +2193,7 @@ static inline CvlStatus bck_puz(const int32_t *source, size_t n, const int32_t *
  * In place: no.
  * source = true false false, index = 2 2 0 0: out = false false true true
  */
-static inline CvlStatus bck_pub(const bool *source, size_t n, const int32_t *index, bool *out, size_t m) {
+CVL_CHECKED static inline CvlStatus bck_pub(const bool *source, size_t n, const int32_t *index, bool *out, size_t m) {
     return cvl_back_permute_bool(source, n, index, m, out, m);
 }
 
@@ -2211,7 +2211,7 @@ static inline CvlStatus bck_pub(const bool *source, size_t n, const int32_t *ind
  * In place: no.
  * source = 1 2 3 4 5, index = 1 0 2 0 1, lengths = 2 0 3: out = 2 1 4 5 3
  */
-static inline CvlStatus smp_pez(
+CVL_CHECKED static inline CvlStatus smp_pez(
     const int32_t *source, const int32_t *index, const int32_t *lengths, size_t segments, int32_t *out, size_t n) {
     return cvl_seg_permute_int(source, n, index, n, lengths, segments, out, n);
 }
@@ -2224,7 +2224,7 @@ static inline CvlStatus smp_pez(
  * In place: no.
  * source = true false false false true, index = 1 0 2 0 1, lengths = 2 0 3: out = false true false true false
  */
-static inline CvlStatus smp_peb(
+CVL_CHECKED static inline CvlStatus smp_peb(
     const bool *source, const int32_t *index, const int32_t *lengths, size_t segments, bool *out, size_t n) {
     return cvl_seg_permute_bool(source, n, index, n, lengths, segments, out, n);
 }
@@ -2238,7 +2238,7 @@ static inline CvlStatus smp_peb(
  * In place: no.
  * source = 1 2 3 4 5, index = 9 0 1 9 0, flags = false true true false true, lengths = 2 0 3: out = 2 5 3
  */
-static inline CvlStatus sel_pez(
+CVL_CHECKED static inline CvlStatus sel_pez(
     const int32_t *source, const int32_t *index, const bool *flags, size_t n, const int32_t *lengths,
     size_t segments, int32_t *out, size_t m) {
     return cvl_seg_select_permute_int(source, n, index, n, flags, n, lengths, segments, out, m);
@@ -2254,7 +2254,7 @@ static inline CvlStatus sel_pez(
  * source = true false true true false, index = 9 0 1 9 0, flags = false true true false true, lengths = 2 0 3:
  * out = false false true
  */
-static inline CvlStatus sel_peb(
+CVL_CHECKED static inline CvlStatus sel_peb(
     const bool *source, const int32_t *index, const bool *flags, size_t n, const int32_t *lengths,
     size_t segments, bool *out, size_t m) {
     return cvl_seg_select_permute_bool(source, n, index, n, flags, n, lengths, segments, out, m);
@@ -2271,7 +2271,7 @@ static inline CvlStatus sel_peb(
  * source = 1 2 3 4 5, index = 2 0 0 1 2, defaults = 0 0 0 9 0 0 0, lengths = 2 0 3, default_lengths = 3 1 3:
  * out = 2 0 1 9 3 4 5
  */
-static inline CvlStatus def_pez(
+CVL_CHECKED static inline CvlStatus def_pez(
     const int32_t *source, const int32_t *index, size_t n, const int32_t *defaults, const int32_t *lengths,
     const int32_t *default_lengths, size_t segments, int32_t *out, size_t m) {
     return cvl_seg_default_permute_int(source, n, index, n, defaults, m, lengths, segments, default_lengths, segments, out, m);
@@ -2288,7 +2288,7 @@ static inline CvlStatus def_pez(
  * source = true false, index = 1 0, defaults = false false true true, lengths = 1 1, default_lengths = 2 2:
  * out = false true false true
  */
-static inline CvlStatus def_peb(
+CVL_CHECKED static inline CvlStatus def_peb(
     const bool *source, const int32_t *index, size_t n, const bool *defaults, const int32_t *lengths,
     const int32_t *default_lengths, size_t segments, bool *out, size_t m) {
     return cvl_seg_default_permute_bool(source, n, index, n, defaults, m, lengths, segments, default_lengths, segments, out, m);
@@ -2302,7 +2302,7 @@ static inline CvlStatus def_peb(
  * In place: no.
  * source = 1 2 3 4 5, index = 1 1 1 2, lengths = 2 0 3, index_lengths = 3 0 1: out = 2 2 2 5
  */
-static inline CvlStatus bck_pez(
+CVL_CHECKED static inline CvlStatus bck_pez(
     const int32_t *source, size_t n, const int32_t *index, const int32_t *lengths, const int32_t *index_lengths,
     size_t segments, int32_t *out, size_t m) {
     return cvl_seg_back_permute_int(source, n, index, m, lengths, segments, index_lengths, segments, out, m);
@@ -2317,7 +2317,7 @@ static inline CvlStatus bck_pez(
  * source = true false false false true, index = 1 1 1 2, lengths = 2 0 3, index_lengths = 3 0 1:
  * out = false false false true
  */
-static inline CvlStatus bck_peb(
+CVL_CHECKED static inline CvlStatus bck_peb(
     const bool *source, size_t n, const int32_t *index, const int32_t *lengths, const int32_t *index_lengths,
     size_t segments, bool *out, size_t m) {
     return cvl_seg_back_permute_bool(source, n, index, m, lengths, segments, index_lengths, segments, out, m);
@@ -2351,7 +2351,7 @@ typedef struct CvlSegments {
 #endif
 
 /* What a call without a descriptor answers. */
-static inline CvlStatus cvl_no_handle(void) {
+CVL_CHECKED static inline CvlStatus cvl_no_handle(void) {
     CvlStatus status;
     status.number = CVL_NO_HANDLE;
     status.place = -1;
@@ -2377,7 +2377,7 @@ static inline CvlStatus cvl_segments_free(CvlSegments *segments) {
  * Faults: 13 TooLong, without a place, where there are more than 4194304 lengths; 12 NegativeLength at the first that is below
  * 0; 13 TooLong, without a place, where they add up to more than 4194304.
  */
-static inline CvlStatus cvl_segments_new(const int32_t *lengths, size_t count, CvlSegments *segments) {
+CVL_CHECKED static inline CvlStatus cvl_segments_new(const int32_t *lengths, size_t count, CvlSegments *segments) {
     size_t total;
     CvlStatus status;
     if (CVL_MEET(segments, 1, lengths, count)) return cvl_overlap();
@@ -2392,14 +2392,14 @@ static inline CvlStatus cvl_segments_new(const int32_t *lengths, size_t count, C
 }
 
 /* How many elements the segments have in all. */
-static inline CvlStatus cvl_segments_total(const CvlSegments *segments, size_t *total) {
+CVL_CHECKED static inline CvlStatus cvl_segments_total(const CvlSegments *segments, size_t *total) {
     if (CVL_MEET(total, 1, segments, 1)) return cvl_overlap();
     if (!cvl_is_made(segments)) return cvl_no_handle();
     return cvl_make_descriptor(segments->lengths, segments->count, total);
 }
 
 /* For each integer the sum of those before it in its segment, which never wraps. */
-static inline CvlStatus cvl_segments_checked_scan(
+CVL_CHECKED static inline CvlStatus cvl_segments_checked_scan(
     const int32_t *a, size_t a_len, const CvlSegments *segments, int32_t *out, size_t out_len) {
     if (CVL_MEET(out, out_len, segments, 1)) return cvl_overlap();
     if (!cvl_is_made(segments)) return cvl_no_handle();
@@ -2407,7 +2407,7 @@ static inline CvlStatus cvl_segments_checked_scan(
 }
 
 /* The sum of each segment, which never wraps. */
-static inline CvlStatus cvl_segments_checked_reduce(
+CVL_CHECKED static inline CvlStatus cvl_segments_checked_reduce(
     const int32_t *a, size_t a_len, const CvlSegments *segments, int32_t *out, size_t out_len) {
     if (CVL_MEET(out, out_len, segments, 1)) return cvl_overlap();
     if (!cvl_is_made(segments)) return cvl_no_handle();
@@ -2415,7 +2415,7 @@ static inline CvlStatus cvl_segments_checked_reduce(
 }
 
 /* For each integer those before it in its segment, joined by the operator, of CVL_ADD to CVL_XOR. */
-static inline CvlStatus cvl_segments_int_scan(
+CVL_CHECKED static inline CvlStatus cvl_segments_int_scan(
     uint32_t op, const int32_t *a, size_t a_len, const CvlSegments *segments, int32_t *out, size_t out_len) {
     if (CVL_MEET(out, out_len, segments, 1)) return cvl_overlap();
     if (!cvl_is_made(segments)) return cvl_no_handle();
@@ -2423,7 +2423,7 @@ static inline CvlStatus cvl_segments_int_scan(
 }
 
 /* The integers of each segment joined by the operator, of CVL_ADD to CVL_XOR. */
-static inline CvlStatus cvl_segments_int_reduce(
+CVL_CHECKED static inline CvlStatus cvl_segments_int_reduce(
     uint32_t op, const int32_t *a, size_t a_len, const CvlSegments *segments, int32_t *out, size_t out_len) {
     if (CVL_MEET(out, out_len, segments, 1)) return cvl_overlap();
     if (!cvl_is_made(segments)) return cvl_no_handle();
@@ -2431,7 +2431,7 @@ static inline CvlStatus cvl_segments_int_reduce(
 }
 
 /* For each boolean those before it in its segment, joined by the operator, of CVL_AND to CVL_XOR. */
-static inline CvlStatus cvl_segments_bool_scan(
+CVL_CHECKED static inline CvlStatus cvl_segments_bool_scan(
     uint32_t op, const bool *a, size_t a_len, const CvlSegments *segments, bool *out, size_t out_len) {
     if (CVL_MEET(out, out_len, segments, 1)) return cvl_overlap();
     if (!cvl_is_made(segments)) return cvl_no_handle();
@@ -2439,7 +2439,7 @@ static inline CvlStatus cvl_segments_bool_scan(
 }
 
 /* The booleans of each segment joined by the operator, of CVL_AND to CVL_XOR. */
-static inline CvlStatus cvl_segments_bool_reduce(
+CVL_CHECKED static inline CvlStatus cvl_segments_bool_reduce(
     uint32_t op, const bool *a, size_t a_len, const CvlSegments *segments, bool *out, size_t out_len) {
     if (CVL_MEET(out, out_len, segments, 1)) return cvl_overlap();
     if (!cvl_is_made(segments)) return cvl_no_handle();
@@ -2447,7 +2447,7 @@ static inline CvlStatus cvl_segments_bool_reduce(
 }
 
 /* The integers of each segment whose flag is true, in order, and how many they are. */
-static inline CvlStatus cvl_segments_pack_int(
+CVL_CHECKED static inline CvlStatus cvl_segments_pack_int(
     const int32_t *values, size_t values_len, const bool *flags, size_t flags_len, const CvlSegments *segments,
     int32_t *out, size_t out_len, size_t *count) {
     if (CVL_MEET(out, out_len, segments, 1) || CVL_MEET(count, 1, segments, 1)) return cvl_overlap();
@@ -2456,7 +2456,7 @@ static inline CvlStatus cvl_segments_pack_int(
 }
 
 /* The booleans of each segment whose flag is true, in order, and how many they are. */
-static inline CvlStatus cvl_segments_pack_bool(
+CVL_CHECKED static inline CvlStatus cvl_segments_pack_bool(
     const bool *values, size_t values_len, const bool *flags, size_t flags_len, const CvlSegments *segments, bool *out,
     size_t out_len, size_t *count) {
     if (CVL_MEET(out, out_len, segments, 1) || CVL_MEET(count, 1, segments, 1)) return cvl_overlap();
@@ -2465,7 +2465,7 @@ static inline CvlStatus cvl_segments_pack_bool(
 }
 
 /* The lengths of the segments of what a pack keeps. */
-static inline CvlStatus cvl_segments_packed_lengths(
+CVL_CHECKED static inline CvlStatus cvl_segments_packed_lengths(
     const bool *flags, size_t flags_len, const CvlSegments *segments, int32_t *out, size_t out_len) {
     if (CVL_MEET(out, out_len, segments, 1)) return cvl_overlap();
     if (!cvl_is_made(segments)) return cvl_no_handle();
@@ -2473,7 +2473,7 @@ static inline CvlStatus cvl_segments_packed_lengths(
 }
 
 /* The number of true flags of each segment. */
-static inline CvlStatus cvl_segments_count(
+CVL_CHECKED static inline CvlStatus cvl_segments_count(
     const bool *flags, size_t flags_len, const CvlSegments *segments, int32_t *out, size_t out_len) {
     if (CVL_MEET(out, out_len, segments, 1)) return cvl_overlap();
     if (!cvl_is_made(segments)) return cvl_no_handle();
@@ -2481,7 +2481,7 @@ static inline CvlStatus cvl_segments_count(
 }
 
 /* The integer of each segment at its index. */
-static inline CvlStatus cvl_segments_extract_int(
+CVL_CHECKED static inline CvlStatus cvl_segments_extract_int(
     const int32_t *vector, size_t vector_len, const int32_t *index, size_t index_len, const CvlSegments *segments,
     int32_t *out, size_t out_len) {
     if (CVL_MEET(out, out_len, segments, 1)) return cvl_overlap();
@@ -2490,7 +2490,7 @@ static inline CvlStatus cvl_segments_extract_int(
 }
 
 /* The integers with another one in each segment, at its index. */
-static inline CvlStatus cvl_segments_replace_int(
+CVL_CHECKED static inline CvlStatus cvl_segments_replace_int(
     const int32_t *vector, size_t vector_len, const int32_t *index, size_t index_len, const int32_t *values,
     size_t values_len, const CvlSegments *segments, int32_t *out, size_t out_len) {
     if (CVL_MEET(out, out_len, segments, 1)) return cvl_overlap();
@@ -2500,7 +2500,7 @@ static inline CvlStatus cvl_segments_replace_int(
 }
 
 /* Copies of the integer of each segment, as many as it has places. */
-static inline CvlStatus cvl_segments_distribute_int(
+CVL_CHECKED static inline CvlStatus cvl_segments_distribute_int(
     const int32_t *values, size_t values_len, const CvlSegments *segments, int32_t *out, size_t out_len) {
     if (CVL_MEET(out, out_len, segments, 1)) return cvl_overlap();
     if (!cvl_is_made(segments)) return cvl_no_handle();
@@ -2508,7 +2508,7 @@ static inline CvlStatus cvl_segments_distribute_int(
 }
 
 /* The boolean of each segment at its index. */
-static inline CvlStatus cvl_segments_extract_bool(
+CVL_CHECKED static inline CvlStatus cvl_segments_extract_bool(
     const bool *vector, size_t vector_len, const int32_t *index, size_t index_len, const CvlSegments *segments, bool *out,
     size_t out_len) {
     if (CVL_MEET(out, out_len, segments, 1)) return cvl_overlap();
@@ -2517,7 +2517,7 @@ static inline CvlStatus cvl_segments_extract_bool(
 }
 
 /* The booleans with another one in each segment, at its index. */
-static inline CvlStatus cvl_segments_replace_bool(
+CVL_CHECKED static inline CvlStatus cvl_segments_replace_bool(
     const bool *vector, size_t vector_len, const int32_t *index, size_t index_len, const bool *values, size_t values_len,
     const CvlSegments *segments, bool *out, size_t out_len) {
     if (CVL_MEET(out, out_len, segments, 1)) return cvl_overlap();
@@ -2527,7 +2527,7 @@ static inline CvlStatus cvl_segments_replace_bool(
 }
 
 /* Copies of the boolean of each segment, as many as it has places. */
-static inline CvlStatus cvl_segments_distribute_bool(
+CVL_CHECKED static inline CvlStatus cvl_segments_distribute_bool(
     const bool *values, size_t values_len, const CvlSegments *segments, bool *out, size_t out_len) {
     if (CVL_MEET(out, out_len, segments, 1)) return cvl_overlap();
     if (!cvl_is_made(segments)) return cvl_no_handle();
@@ -2535,7 +2535,7 @@ static inline CvlStatus cvl_segments_distribute_bool(
 }
 
 /* The numbers of each segment from its init on, in steps of its stride. */
-static inline CvlStatus cvl_segments_index(
+CVL_CHECKED static inline CvlStatus cvl_segments_index(
     const int32_t *inits, size_t inits_len, const int32_t *strides, size_t strides_len, const CvlSegments *segments,
     int32_t *out, size_t out_len) {
     if (CVL_MEET(out, out_len, segments, 1)) return cvl_overlap();
@@ -2544,7 +2544,7 @@ static inline CvlStatus cvl_segments_index(
 }
 
 /* Each integer at its index in its segment. */
-static inline CvlStatus cvl_segments_permute_int(
+CVL_CHECKED static inline CvlStatus cvl_segments_permute_int(
     const int32_t *source, size_t source_len, const int32_t *index, size_t index_len, const CvlSegments *segments,
     int32_t *out, size_t out_len) {
     if (CVL_MEET(out, out_len, segments, 1)) return cvl_overlap();
@@ -2553,7 +2553,7 @@ static inline CvlStatus cvl_segments_permute_int(
 }
 
 /* Each integer whose flag is true at its index in its segment of the result. */
-static inline CvlStatus cvl_segments_select_permute_int(
+CVL_CHECKED static inline CvlStatus cvl_segments_select_permute_int(
     const int32_t *source, size_t source_len, const int32_t *index, size_t index_len, const bool *flags, size_t flags_len,
     const CvlSegments *segments, int32_t *out, size_t out_len) {
     if (CVL_MEET(out, out_len, segments, 1)) return cvl_overlap();
@@ -2563,7 +2563,7 @@ static inline CvlStatus cvl_segments_select_permute_int(
 }
 
 /* Each boolean at its index in its segment. */
-static inline CvlStatus cvl_segments_permute_bool(
+CVL_CHECKED static inline CvlStatus cvl_segments_permute_bool(
     const bool *source, size_t source_len, const int32_t *index, size_t index_len, const CvlSegments *segments, bool *out,
     size_t out_len) {
     if (CVL_MEET(out, out_len, segments, 1)) return cvl_overlap();
@@ -2572,7 +2572,7 @@ static inline CvlStatus cvl_segments_permute_bool(
 }
 
 /* Each boolean whose flag is true at its index in its segment of the result. */
-static inline CvlStatus cvl_segments_select_permute_bool(
+CVL_CHECKED static inline CvlStatus cvl_segments_select_permute_bool(
     const bool *source, size_t source_len, const int32_t *index, size_t index_len, const bool *flags, size_t flags_len,
     const CvlSegments *segments, bool *out, size_t out_len) {
     if (CVL_MEET(out, out_len, segments, 1)) return cvl_overlap();
@@ -2582,7 +2582,7 @@ static inline CvlStatus cvl_segments_select_permute_bool(
 }
 
 /* Each integer at its index in its segment of the defaults, and at a place to which none goes its default. */
-static inline CvlStatus cvl_segments_default_permute_int(
+CVL_CHECKED static inline CvlStatus cvl_segments_default_permute_int(
     const int32_t *source, size_t source_len, const int32_t *index, size_t index_len, const int32_t *defaults,
     size_t defaults_len, const CvlSegments *segments, const CvlSegments *default_segments, int32_t *out, size_t out_len) {
     if (CVL_MEET(out, out_len, segments, 1) || CVL_MEET(out, out_len, default_segments, 1)) return cvl_overlap();
@@ -2593,7 +2593,7 @@ static inline CvlStatus cvl_segments_default_permute_int(
 }
 
 /* At each place the integer at the place's index in the same segment of the source. */
-static inline CvlStatus cvl_segments_back_permute_int(
+CVL_CHECKED static inline CvlStatus cvl_segments_back_permute_int(
     const int32_t *source, size_t source_len, const int32_t *index, size_t index_len, const CvlSegments *segments,
     const CvlSegments *index_segments, int32_t *out, size_t out_len) {
     if (CVL_MEET(out, out_len, segments, 1) || CVL_MEET(out, out_len, index_segments, 1)) return cvl_overlap();
@@ -2604,7 +2604,7 @@ static inline CvlStatus cvl_segments_back_permute_int(
 }
 
 /* Each boolean at its index in its segment of the defaults, and at a place to which none goes its default. */
-static inline CvlStatus cvl_segments_default_permute_bool(
+CVL_CHECKED static inline CvlStatus cvl_segments_default_permute_bool(
     const bool *source, size_t source_len, const int32_t *index, size_t index_len, const bool *defaults,
     size_t defaults_len, const CvlSegments *segments, const CvlSegments *default_segments, bool *out, size_t out_len) {
     if (CVL_MEET(out, out_len, segments, 1) || CVL_MEET(out, out_len, default_segments, 1)) return cvl_overlap();
@@ -2615,7 +2615,7 @@ static inline CvlStatus cvl_segments_default_permute_bool(
 }
 
 /* At each place the boolean at the place's index in the same segment of the source. */
-static inline CvlStatus cvl_segments_back_permute_bool(
+CVL_CHECKED static inline CvlStatus cvl_segments_back_permute_bool(
     const bool *source, size_t source_len, const int32_t *index, size_t index_len, const CvlSegments *segments,
     const CvlSegments *index_segments, bool *out, size_t out_len) {
     if (CVL_MEET(out, out_len, segments, 1) || CVL_MEET(out, out_len, index_segments, 1)) return cvl_overlap();
@@ -2626,7 +2626,7 @@ static inline CvlStatus cvl_segments_back_permute_bool(
 }
 
 /* The text of the integers, cut into segments, in brackets. */
-static inline CvlStatus cvl_segments_write_ints(
+CVL_CHECKED static inline CvlStatus cvl_segments_write_ints(
     const int32_t *a, size_t a_len, const CvlSegments *segments, char *out, size_t out_len, size_t *count) {
     if (CVL_MEET(out, out_len, segments, 1) || CVL_MEET(count, 1, segments, 1)) return cvl_overlap();
     if (!cvl_is_made(segments)) return cvl_no_handle();
@@ -2634,7 +2634,7 @@ static inline CvlStatus cvl_segments_write_ints(
 }
 
 /* The text of the booleans, cut into segments, in brackets. */
-static inline CvlStatus cvl_segments_write_bools(
+CVL_CHECKED static inline CvlStatus cvl_segments_write_bools(
     const bool *a, size_t a_len, const CvlSegments *segments, char *out, size_t out_len, size_t *count) {
     if (CVL_MEET(out, out_len, segments, 1) || CVL_MEET(count, 1, segments, 1)) return cvl_overlap();
     if (!cvl_is_made(segments)) return cvl_no_handle();
