@@ -359,8 +359,13 @@ static void fill(char letter, unsigned char *at, bool any) {
         return;
     }
     if (letter == 'd') {
-        const CvlSegments descriptor = described();
-        memcpy(at, &descriptor, sizeof descriptor);
+        /* field by field over zeros, since the bytes between the fields are compared too */
+        CvlSegments *descriptor = (CvlSegments *)(void *)at;
+        const CvlSegments made = described();
+        memset(at, 0, sizeof made);
+        descriptor->lengths = made.lengths;
+        descriptor->count = made.count;
+        descriptor->some = made.some;
         return;
     }
     for (size_t k = 0; k < array.count; k++) {

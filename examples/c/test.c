@@ -788,16 +788,18 @@ static void with_a_descriptor(const CvlSegments *d, const CvlSegments *wide, con
 }
 
 static void made_descriptors(void) {
+    /* named, since a descriptor is used for longer than a literal lives in a row */
     int32_t lengths[] = {2, 0, 3};
+    const int32_t widths[] = {3, 1, 3}, fronts[] = {2, 3}, backs[] = {3, 4};
     const int32_t *a = I(3, 1, 4, 1, 5);
     CvlSegments made = CVL_NO_SEGMENTS, wide = CVL_NO_SEGMENTS, narrow[] = {CVL_NO_SEGMENTS, CVL_NO_SEGMENTS}, copy;
     without_a_descriptor(&made);
     without_a_descriptor(NULL);
     FAULT(cvl_segments_free(&made), CVL_DONE, -1);
     FAULT(cvl_segments_new(lengths, 3, &made), CVL_DONE, -1);
-    FAULT(cvl_segments_new(I(3, 1, 3), 3, &wide), CVL_DONE, -1);
-    FAULT(cvl_segments_new(I(2, 3), 2, &narrow[0]), CVL_DONE, -1);
-    FAULT(cvl_segments_new(I(3, 4), 2, &narrow[1]), CVL_DONE, -1);
+    FAULT(cvl_segments_new(widths, 3, &wide), CVL_DONE, -1);
+    FAULT(cvl_segments_new(fronts, 2, &narrow[0]), CVL_DONE, -1);
+    FAULT(cvl_segments_new(backs, 2, &narrow[1]), CVL_DONE, -1);
     copy = made;
     with_a_descriptor(&made, &wide, narrow);
     with_a_descriptor(&copy, &wide, narrow);
