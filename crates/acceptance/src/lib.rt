@@ -24,6 +24,8 @@ mod limits;
 #[cfg(test)]
 mod line_texts;
 #[cfg(test)]
+mod memory_of_calls;
+#[cfg(test)]
 mod narrow_writer;
 #[cfg(test)]
 mod plain_calls;
