@@ -95,7 +95,7 @@ enum {
     CVL_BAD_INPUT = 15,
     CVL_OVERFLOW = 18,
     CVL_NO_RESOURCES = 100,
-    CVL_NO_HANDLE = 101,
+    CVL_NO_DESCRIPTOR = 101,
     CVL_OVERLAP = 102
 };
 
@@ -2336,7 +2336,7 @@ CVL_CHECKED static inline CvlStatus bck_peb(
  * place of the lengths: the same results and faults, and in place where that may be. Each looks at the lengths before it writes
  * anything, so that lengths that were changed after the descriptor was made are those of the call, and wrong ones are told by a
  * fault; nobody may write them while a call runs. A room may share memory with neither the lengths nor the descriptor. Without a
- * descriptor, at CVL_NO_SEGMENTS or a null pointer, a call answers 101 (CVL_NO_HANDLE), and its room is as it was.
+ * descriptor, at CVL_NO_SEGMENTS or a null pointer, a call answers 101 (CVL_NO_DESCRIPTOR), and its room is as it was.
  */
 typedef struct CvlSegments {
     const int32_t *lengths; /* the caller's, which live as long as the descriptor is used */
@@ -2351,9 +2351,9 @@ typedef struct CvlSegments {
 #endif
 
 /* What a call without a descriptor answers. */
-CVL_CHECKED static inline CvlStatus cvl_no_handle(void) {
+CVL_CHECKED static inline CvlStatus cvl_no_descriptor(void) {
     CvlStatus status;
-    status.number = CVL_NO_HANDLE;
+    status.number = CVL_NO_DESCRIPTOR;
     status.place = -1;
     return status;
 }
@@ -2394,7 +2394,7 @@ CVL_CHECKED static inline CvlStatus cvl_segments_new(const int32_t *lengths, siz
 /* How many elements the segments have in all. */
 CVL_CHECKED static inline CvlStatus cvl_segments_total(const CvlSegments *segments, size_t *total) {
     if (CVL_MEET(total, 1, segments, 1)) return cvl_overlap();
-    if (!cvl_is_made(segments)) return cvl_no_handle();
+    if (!cvl_is_made(segments)) return cvl_no_descriptor();
     return cvl_make_descriptor(segments->lengths, segments->count, total);
 }
 
@@ -2402,7 +2402,7 @@ CVL_CHECKED static inline CvlStatus cvl_segments_total(const CvlSegments *segmen
 CVL_CHECKED static inline CvlStatus cvl_segments_checked_scan(
     const int32_t *a, size_t a_len, const CvlSegments *segments, int32_t *out, size_t out_len) {
     if (CVL_MEET(out, out_len, segments, 1)) return cvl_overlap();
-    if (!cvl_is_made(segments)) return cvl_no_handle();
+    if (!cvl_is_made(segments)) return cvl_no_descriptor();
     return cvl_seg_checked_scan(a, a_len, segments->lengths, segments->count, out, out_len);
 }
 
@@ -2410,7 +2410,7 @@ CVL_CHECKED static inline CvlStatus cvl_segments_checked_scan(
 CVL_CHECKED static inline CvlStatus cvl_segments_checked_reduce(
     const int32_t *a, size_t a_len, const CvlSegments *segments, int32_t *out, size_t out_len) {
     if (CVL_MEET(out, out_len, segments, 1)) return cvl_overlap();
-    if (!cvl_is_made(segments)) return cvl_no_handle();
+    if (!cvl_is_made(segments)) return cvl_no_descriptor();
     return cvl_seg_checked_reduce(a, a_len, segments->lengths, segments->count, out, out_len);
 }
 
@@ -2418,7 +2418,7 @@ CVL_CHECKED static inline CvlStatus cvl_segments_checked_reduce(
 CVL_CHECKED static inline CvlStatus cvl_segments_int_scan(
     uint32_t op, const int32_t *a, size_t a_len, const CvlSegments *segments, int32_t *out, size_t out_len) {
     if (CVL_MEET(out, out_len, segments, 1)) return cvl_overlap();
-    if (!cvl_is_made(segments)) return cvl_no_handle();
+    if (!cvl_is_made(segments)) return cvl_no_descriptor();
     return cvl_seg_int_scan(op, a, a_len, segments->lengths, segments->count, out, out_len);
 }
 
@@ -2426,7 +2426,7 @@ CVL_CHECKED static inline CvlStatus cvl_segments_int_scan(
 CVL_CHECKED static inline CvlStatus cvl_segments_int_reduce(
     uint32_t op, const int32_t *a, size_t a_len, const CvlSegments *segments, int32_t *out, size_t out_len) {
     if (CVL_MEET(out, out_len, segments, 1)) return cvl_overlap();
-    if (!cvl_is_made(segments)) return cvl_no_handle();
+    if (!cvl_is_made(segments)) return cvl_no_descriptor();
     return cvl_seg_int_reduce(op, a, a_len, segments->lengths, segments->count, out, out_len);
 }
 
@@ -2434,7 +2434,7 @@ CVL_CHECKED static inline CvlStatus cvl_segments_int_reduce(
 CVL_CHECKED static inline CvlStatus cvl_segments_bool_scan(
     uint32_t op, const bool *a, size_t a_len, const CvlSegments *segments, bool *out, size_t out_len) {
     if (CVL_MEET(out, out_len, segments, 1)) return cvl_overlap();
-    if (!cvl_is_made(segments)) return cvl_no_handle();
+    if (!cvl_is_made(segments)) return cvl_no_descriptor();
     return cvl_seg_bool_scan(op, a, a_len, segments->lengths, segments->count, out, out_len);
 }
 
@@ -2442,7 +2442,7 @@ CVL_CHECKED static inline CvlStatus cvl_segments_bool_scan(
 CVL_CHECKED static inline CvlStatus cvl_segments_bool_reduce(
     uint32_t op, const bool *a, size_t a_len, const CvlSegments *segments, bool *out, size_t out_len) {
     if (CVL_MEET(out, out_len, segments, 1)) return cvl_overlap();
-    if (!cvl_is_made(segments)) return cvl_no_handle();
+    if (!cvl_is_made(segments)) return cvl_no_descriptor();
     return cvl_seg_bool_reduce(op, a, a_len, segments->lengths, segments->count, out, out_len);
 }
 
@@ -2451,7 +2451,7 @@ CVL_CHECKED static inline CvlStatus cvl_segments_pack_int(
     const int32_t *values, size_t values_len, const bool *flags, size_t flags_len, const CvlSegments *segments,
     int32_t *out, size_t out_len, size_t *count) {
     if (CVL_MEET(out, out_len, segments, 1) || CVL_MEET(count, 1, segments, 1)) return cvl_overlap();
-    if (!cvl_is_made(segments)) return cvl_no_handle();
+    if (!cvl_is_made(segments)) return cvl_no_descriptor();
     return cvl_seg_pack_int(values, values_len, flags, flags_len, segments->lengths, segments->count, out, out_len, count);
 }
 
@@ -2460,7 +2460,7 @@ CVL_CHECKED static inline CvlStatus cvl_segments_pack_bool(
     const bool *values, size_t values_len, const bool *flags, size_t flags_len, const CvlSegments *segments, bool *out,
     size_t out_len, size_t *count) {
     if (CVL_MEET(out, out_len, segments, 1) || CVL_MEET(count, 1, segments, 1)) return cvl_overlap();
-    if (!cvl_is_made(segments)) return cvl_no_handle();
+    if (!cvl_is_made(segments)) return cvl_no_descriptor();
     return cvl_seg_pack_bool(values, values_len, flags, flags_len, segments->lengths, segments->count, out, out_len, count);
 }
 
@@ -2468,7 +2468,7 @@ CVL_CHECKED static inline CvlStatus cvl_segments_pack_bool(
 CVL_CHECKED static inline CvlStatus cvl_segments_packed_lengths(
     const bool *flags, size_t flags_len, const CvlSegments *segments, int32_t *out, size_t out_len) {
     if (CVL_MEET(out, out_len, segments, 1)) return cvl_overlap();
-    if (!cvl_is_made(segments)) return cvl_no_handle();
+    if (!cvl_is_made(segments)) return cvl_no_descriptor();
     return cvl_packed_lengths(flags, flags_len, segments->lengths, segments->count, out, out_len);
 }
 
@@ -2476,7 +2476,7 @@ CVL_CHECKED static inline CvlStatus cvl_segments_packed_lengths(
 CVL_CHECKED static inline CvlStatus cvl_segments_count(
     const bool *flags, size_t flags_len, const CvlSegments *segments, int32_t *out, size_t out_len) {
     if (CVL_MEET(out, out_len, segments, 1)) return cvl_overlap();
-    if (!cvl_is_made(segments)) return cvl_no_handle();
+    if (!cvl_is_made(segments)) return cvl_no_descriptor();
     return cvl_seg_count(flags, flags_len, segments->lengths, segments->count, out, out_len);
 }
 
@@ -2485,7 +2485,7 @@ CVL_CHECKED static inline CvlStatus cvl_segments_extract_int(
     const int32_t *vector, size_t vector_len, const int32_t *index, size_t index_len, const CvlSegments *segments,
     int32_t *out, size_t out_len) {
     if (CVL_MEET(out, out_len, segments, 1)) return cvl_overlap();
-    if (!cvl_is_made(segments)) return cvl_no_handle();
+    if (!cvl_is_made(segments)) return cvl_no_descriptor();
     return cvl_seg_extract_int(vector, vector_len, index, index_len, segments->lengths, segments->count, out, out_len);
 }
 
@@ -2494,7 +2494,7 @@ CVL_CHECKED static inline CvlStatus cvl_segments_replace_int(
     const int32_t *vector, size_t vector_len, const int32_t *index, size_t index_len, const int32_t *values,
     size_t values_len, const CvlSegments *segments, int32_t *out, size_t out_len) {
     if (CVL_MEET(out, out_len, segments, 1)) return cvl_overlap();
-    if (!cvl_is_made(segments)) return cvl_no_handle();
+    if (!cvl_is_made(segments)) return cvl_no_descriptor();
     return cvl_seg_replace_int(
         vector, vector_len, index, index_len, values, values_len, segments->lengths, segments->count, out, out_len);
 }
@@ -2503,7 +2503,7 @@ CVL_CHECKED static inline CvlStatus cvl_segments_replace_int(
 CVL_CHECKED static inline CvlStatus cvl_segments_distribute_int(
     const int32_t *values, size_t values_len, const CvlSegments *segments, int32_t *out, size_t out_len) {
     if (CVL_MEET(out, out_len, segments, 1)) return cvl_overlap();
-    if (!cvl_is_made(segments)) return cvl_no_handle();
+    if (!cvl_is_made(segments)) return cvl_no_descriptor();
     return cvl_seg_distribute_int(values, values_len, segments->lengths, segments->count, out, out_len);
 }
 
@@ -2512,7 +2512,7 @@ CVL_CHECKED static inline CvlStatus cvl_segments_extract_bool(
     const bool *vector, size_t vector_len, const int32_t *index, size_t index_len, const CvlSegments *segments, bool *out,
     size_t out_len) {
     if (CVL_MEET(out, out_len, segments, 1)) return cvl_overlap();
-    if (!cvl_is_made(segments)) return cvl_no_handle();
+    if (!cvl_is_made(segments)) return cvl_no_descriptor();
     return cvl_seg_extract_bool(vector, vector_len, index, index_len, segments->lengths, segments->count, out, out_len);
 }
 
@@ -2521,7 +2521,7 @@ CVL_CHECKED static inline CvlStatus cvl_segments_replace_bool(
     const bool *vector, size_t vector_len, const int32_t *index, size_t index_len, const bool *values, size_t values_len,
     const CvlSegments *segments, bool *out, size_t out_len) {
     if (CVL_MEET(out, out_len, segments, 1)) return cvl_overlap();
-    if (!cvl_is_made(segments)) return cvl_no_handle();
+    if (!cvl_is_made(segments)) return cvl_no_descriptor();
     return cvl_seg_replace_bool(
         vector, vector_len, index, index_len, values, values_len, segments->lengths, segments->count, out, out_len);
 }
@@ -2530,7 +2530,7 @@ CVL_CHECKED static inline CvlStatus cvl_segments_replace_bool(
 CVL_CHECKED static inline CvlStatus cvl_segments_distribute_bool(
     const bool *values, size_t values_len, const CvlSegments *segments, bool *out, size_t out_len) {
     if (CVL_MEET(out, out_len, segments, 1)) return cvl_overlap();
-    if (!cvl_is_made(segments)) return cvl_no_handle();
+    if (!cvl_is_made(segments)) return cvl_no_descriptor();
     return cvl_seg_distribute_bool(values, values_len, segments->lengths, segments->count, out, out_len);
 }
 
@@ -2539,7 +2539,7 @@ CVL_CHECKED static inline CvlStatus cvl_segments_index(
     const int32_t *inits, size_t inits_len, const int32_t *strides, size_t strides_len, const CvlSegments *segments,
     int32_t *out, size_t out_len) {
     if (CVL_MEET(out, out_len, segments, 1)) return cvl_overlap();
-    if (!cvl_is_made(segments)) return cvl_no_handle();
+    if (!cvl_is_made(segments)) return cvl_no_descriptor();
     return cvl_seg_index(inits, inits_len, strides, strides_len, segments->lengths, segments->count, out, out_len);
 }
 
@@ -2548,7 +2548,7 @@ CVL_CHECKED static inline CvlStatus cvl_segments_permute_int(
     const int32_t *source, size_t source_len, const int32_t *index, size_t index_len, const CvlSegments *segments,
     int32_t *out, size_t out_len) {
     if (CVL_MEET(out, out_len, segments, 1)) return cvl_overlap();
-    if (!cvl_is_made(segments)) return cvl_no_handle();
+    if (!cvl_is_made(segments)) return cvl_no_descriptor();
     return cvl_seg_permute_int(source, source_len, index, index_len, segments->lengths, segments->count, out, out_len);
 }
 
@@ -2557,7 +2557,7 @@ CVL_CHECKED static inline CvlStatus cvl_segments_select_permute_int(
     const int32_t *source, size_t source_len, const int32_t *index, size_t index_len, const bool *flags, size_t flags_len,
     const CvlSegments *segments, int32_t *out, size_t out_len) {
     if (CVL_MEET(out, out_len, segments, 1)) return cvl_overlap();
-    if (!cvl_is_made(segments)) return cvl_no_handle();
+    if (!cvl_is_made(segments)) return cvl_no_descriptor();
     return cvl_seg_select_permute_int(
         source, source_len, index, index_len, flags, flags_len, segments->lengths, segments->count, out, out_len);
 }
@@ -2567,7 +2567,7 @@ CVL_CHECKED static inline CvlStatus cvl_segments_permute_bool(
     const bool *source, size_t source_len, const int32_t *index, size_t index_len, const CvlSegments *segments, bool *out,
     size_t out_len) {
     if (CVL_MEET(out, out_len, segments, 1)) return cvl_overlap();
-    if (!cvl_is_made(segments)) return cvl_no_handle();
+    if (!cvl_is_made(segments)) return cvl_no_descriptor();
     return cvl_seg_permute_bool(source, source_len, index, index_len, segments->lengths, segments->count, out, out_len);
 }
 
@@ -2576,7 +2576,7 @@ CVL_CHECKED static inline CvlStatus cvl_segments_select_permute_bool(
     const bool *source, size_t source_len, const int32_t *index, size_t index_len, const bool *flags, size_t flags_len,
     const CvlSegments *segments, bool *out, size_t out_len) {
     if (CVL_MEET(out, out_len, segments, 1)) return cvl_overlap();
-    if (!cvl_is_made(segments)) return cvl_no_handle();
+    if (!cvl_is_made(segments)) return cvl_no_descriptor();
     return cvl_seg_select_permute_bool(
         source, source_len, index, index_len, flags, flags_len, segments->lengths, segments->count, out, out_len);
 }
@@ -2586,7 +2586,7 @@ CVL_CHECKED static inline CvlStatus cvl_segments_default_permute_int(
     const int32_t *source, size_t source_len, const int32_t *index, size_t index_len, const int32_t *defaults,
     size_t defaults_len, const CvlSegments *segments, const CvlSegments *default_segments, int32_t *out, size_t out_len) {
     if (CVL_MEET(out, out_len, segments, 1) || CVL_MEET(out, out_len, default_segments, 1)) return cvl_overlap();
-    if (!cvl_is_made(segments) || !cvl_is_made(default_segments)) return cvl_no_handle();
+    if (!cvl_is_made(segments) || !cvl_is_made(default_segments)) return cvl_no_descriptor();
     return cvl_seg_default_permute_int(
         source, source_len, index, index_len, defaults, defaults_len, segments->lengths, segments->count,
         default_segments->lengths, default_segments->count, out, out_len);
@@ -2597,7 +2597,7 @@ CVL_CHECKED static inline CvlStatus cvl_segments_back_permute_int(
     const int32_t *source, size_t source_len, const int32_t *index, size_t index_len, const CvlSegments *segments,
     const CvlSegments *index_segments, int32_t *out, size_t out_len) {
     if (CVL_MEET(out, out_len, segments, 1) || CVL_MEET(out, out_len, index_segments, 1)) return cvl_overlap();
-    if (!cvl_is_made(segments) || !cvl_is_made(index_segments)) return cvl_no_handle();
+    if (!cvl_is_made(segments) || !cvl_is_made(index_segments)) return cvl_no_descriptor();
     return cvl_seg_back_permute_int(
         source, source_len, index, index_len, segments->lengths, segments->count, index_segments->lengths,
         index_segments->count, out, out_len);
@@ -2608,7 +2608,7 @@ CVL_CHECKED static inline CvlStatus cvl_segments_default_permute_bool(
     const bool *source, size_t source_len, const int32_t *index, size_t index_len, const bool *defaults,
     size_t defaults_len, const CvlSegments *segments, const CvlSegments *default_segments, bool *out, size_t out_len) {
     if (CVL_MEET(out, out_len, segments, 1) || CVL_MEET(out, out_len, default_segments, 1)) return cvl_overlap();
-    if (!cvl_is_made(segments) || !cvl_is_made(default_segments)) return cvl_no_handle();
+    if (!cvl_is_made(segments) || !cvl_is_made(default_segments)) return cvl_no_descriptor();
     return cvl_seg_default_permute_bool(
         source, source_len, index, index_len, defaults, defaults_len, segments->lengths, segments->count,
         default_segments->lengths, default_segments->count, out, out_len);
@@ -2619,7 +2619,7 @@ CVL_CHECKED static inline CvlStatus cvl_segments_back_permute_bool(
     const bool *source, size_t source_len, const int32_t *index, size_t index_len, const CvlSegments *segments,
     const CvlSegments *index_segments, bool *out, size_t out_len) {
     if (CVL_MEET(out, out_len, segments, 1) || CVL_MEET(out, out_len, index_segments, 1)) return cvl_overlap();
-    if (!cvl_is_made(segments) || !cvl_is_made(index_segments)) return cvl_no_handle();
+    if (!cvl_is_made(segments) || !cvl_is_made(index_segments)) return cvl_no_descriptor();
     return cvl_seg_back_permute_bool(
         source, source_len, index, index_len, segments->lengths, segments->count, index_segments->lengths,
         index_segments->count, out, out_len);
@@ -2629,7 +2629,7 @@ CVL_CHECKED static inline CvlStatus cvl_segments_back_permute_bool(
 CVL_CHECKED static inline CvlStatus cvl_segments_write_ints(
     const int32_t *a, size_t a_len, const CvlSegments *segments, char *out, size_t out_len, size_t *count) {
     if (CVL_MEET(out, out_len, segments, 1) || CVL_MEET(count, 1, segments, 1)) return cvl_overlap();
-    if (!cvl_is_made(segments)) return cvl_no_handle();
+    if (!cvl_is_made(segments)) return cvl_no_descriptor();
     return cvl_seg_write_ints(a, a_len, segments->lengths, segments->count, out, out_len, count);
 }
 
@@ -2637,7 +2637,7 @@ CVL_CHECKED static inline CvlStatus cvl_segments_write_ints(
 CVL_CHECKED static inline CvlStatus cvl_segments_write_bools(
     const bool *a, size_t a_len, const CvlSegments *segments, char *out, size_t out_len, size_t *count) {
     if (CVL_MEET(out, out_len, segments, 1) || CVL_MEET(count, 1, segments, 1)) return cvl_overlap();
-    if (!cvl_is_made(segments)) return cvl_no_handle();
+    if (!cvl_is_made(segments)) return cvl_no_descriptor();
     return cvl_seg_write_bools(a, a_len, segments->lengths, segments->count, out, out_len, count);
 }
 

@@ -22,7 +22,7 @@ const char *cvl_fault_name(uint32_t number) {
     case 15: return "BadInput";
     case 18: return "Overflow";
     case 100: return "NoResources";
-    case 101: return "NoHandle";
+    case 101: return "NoDescriptor";
     case 102: return "Overlap";
     default: return "Unknown";
     }

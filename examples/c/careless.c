@@ -590,15 +590,15 @@ static void descriptors(void) {
     const Row row = {"a descriptor", "", "", NULL};
     CvlSegments made = CVL_NO_SEGMENTS;
     size_t total = 0;
-    if (cvl_segments_total(&made, &total).number != CVL_NO_HANDLE) fail(&row, "before it is made", "there is one", cvl_segments_free(&made));
+    if (cvl_segments_total(&made, &total).number != CVL_NO_DESCRIPTOR) fail(&row, "before it is made", "there is one", cvl_segments_free(&made));
     if (cvl_segments_new(lengths, 3, &made).number != CVL_DONE) fail(&row, "made", "it is not done", cvl_segments_free(&made));
     if (cvl_segments_total(&made, &total).number != CVL_DONE || total != 5) fail(&row, "made", "another total", cvl_segments_free(&made));
     if (cvl_segments_new(below, 2, &made).number != CVL_NEGATIVE_LENGTH) fail(&row, "not made", "no fault", cvl_segments_free(&made));
-    if (cvl_segments_total(&made, &total).number != CVL_NO_HANDLE) fail(&row, "not made", "there is one", cvl_segments_free(&made));
+    if (cvl_segments_total(&made, &total).number != CVL_NO_DESCRIPTOR) fail(&row, "not made", "there is one", cvl_segments_free(&made));
     if (cvl_segments_new(lengths, 3, &made).number != CVL_DONE) fail(&row, "made again", "it is not done", cvl_segments_free(&made));
     if (cvl_segments_free(&made).number != CVL_DONE) fail(&row, "let go", "it is not done", cvl_segments_free(&made));
     if (cvl_segments_free(&made).number != CVL_DONE) fail(&row, "let go twice", "it is not done", cvl_segments_free(&made));
-    if (cvl_segments_total(&made, &total).number != CVL_NO_HANDLE) fail(&row, "let go", "there is one", cvl_segments_free(&made));
+    if (cvl_segments_total(&made, &total).number != CVL_NO_DESCRIPTOR) fail(&row, "let go", "there is one", cvl_segments_free(&made));
 }
 
 int main(void) {

@@ -710,40 +710,40 @@ static void texts_of_any_length(void) {
 static void without_a_descriptor(const CvlSegments *none) {
     const int32_t *a = I(3, 1, 4, 1, 5), *index = I(0, 0, 0, 0, 0);
     const bool *f = B(true, false, true, false, true);
-    FAULT(cvl_segments_total(none, &total), CVL_NO_HANDLE, -1);
-    FAULT(cvl_segments_checked_scan(a, 5, none, ints, 5), CVL_NO_HANDLE, -1);
-    FAULT(cvl_segments_checked_reduce(a, 5, none, ints, 3), CVL_NO_HANDLE, -1);
-    FAULT(cvl_segments_int_scan(CVL_SUB, a, 5, none, ints, 5), CVL_NO_HANDLE, -1);
-    FAULT(cvl_segments_int_reduce(CVL_ADD, a, 5, none, ints, 3), CVL_NO_HANDLE, -1);
-    FAULT(cvl_segments_bool_scan(CVL_AND, f, 5, none, bools, 5), CVL_NO_HANDLE, -1);
-    FAULT(cvl_segments_bool_reduce(CVL_AND, f, 5, none, bools, 3), CVL_NO_HANDLE, -1);
-    FAULT(cvl_segments_pack_int(a, 5, f, 5, none, ints, 5, &total), CVL_NO_HANDLE, -1);
-    FAULT(cvl_segments_pack_bool(f, 5, f, 5, none, bools, 5, &total), CVL_NO_HANDLE, -1);
-    FAULT(cvl_segments_packed_lengths(f, 5, none, ints, 3), CVL_NO_HANDLE, -1);
-    FAULT(cvl_segments_count(f, 5, none, ints, 3), CVL_NO_HANDLE, -1);
-    FAULT(cvl_segments_extract_int(a, 5, index, 3, none, ints, 3), CVL_NO_HANDLE, -1);
-    FAULT(cvl_segments_extract_bool(f, 5, index, 3, none, bools, 3), CVL_NO_HANDLE, -1);
-    FAULT(cvl_segments_replace_int(a, 5, index, 3, a, 3, none, ints, 5), CVL_NO_HANDLE, -1);
-    FAULT(cvl_segments_replace_bool(f, 5, index, 3, f, 3, none, bools, 5), CVL_NO_HANDLE, -1);
-    FAULT(cvl_segments_distribute_int(a, 3, none, ints, 5), CVL_NO_HANDLE, -1);
-    FAULT(cvl_segments_distribute_bool(f, 3, none, bools, 5), CVL_NO_HANDLE, -1);
-    FAULT(cvl_segments_index(a, 3, a, 3, none, ints, 5), CVL_NO_HANDLE, -1);
-    FAULT(cvl_segments_permute_int(a, 5, index, 5, none, ints, 5), CVL_NO_HANDLE, -1);
-    FAULT(cvl_segments_permute_bool(f, 5, index, 5, none, bools, 5), CVL_NO_HANDLE, -1);
-    FAULT(cvl_segments_select_permute_int(a, 5, index, 5, f, 5, none, ints, 3), CVL_NO_HANDLE, -1);
-    FAULT(cvl_segments_select_permute_bool(f, 5, index, 5, f, 5, none, bools, 3), CVL_NO_HANDLE, -1);
-    FAULT(cvl_segments_write_ints(a, 5, none, bytes, TEXT_ROOM, &total), CVL_NO_HANDLE, -1);
-    FAULT(cvl_segments_write_bools(f, 5, none, bytes, TEXT_ROOM, &total), CVL_NO_HANDLE, -1);
+    FAULT(cvl_segments_total(none, &total), CVL_NO_DESCRIPTOR, -1);
+    FAULT(cvl_segments_checked_scan(a, 5, none, ints, 5), CVL_NO_DESCRIPTOR, -1);
+    FAULT(cvl_segments_checked_reduce(a, 5, none, ints, 3), CVL_NO_DESCRIPTOR, -1);
+    FAULT(cvl_segments_int_scan(CVL_SUB, a, 5, none, ints, 5), CVL_NO_DESCRIPTOR, -1);
+    FAULT(cvl_segments_int_reduce(CVL_ADD, a, 5, none, ints, 3), CVL_NO_DESCRIPTOR, -1);
+    FAULT(cvl_segments_bool_scan(CVL_AND, f, 5, none, bools, 5), CVL_NO_DESCRIPTOR, -1);
+    FAULT(cvl_segments_bool_reduce(CVL_AND, f, 5, none, bools, 3), CVL_NO_DESCRIPTOR, -1);
+    FAULT(cvl_segments_pack_int(a, 5, f, 5, none, ints, 5, &total), CVL_NO_DESCRIPTOR, -1);
+    FAULT(cvl_segments_pack_bool(f, 5, f, 5, none, bools, 5, &total), CVL_NO_DESCRIPTOR, -1);
+    FAULT(cvl_segments_packed_lengths(f, 5, none, ints, 3), CVL_NO_DESCRIPTOR, -1);
+    FAULT(cvl_segments_count(f, 5, none, ints, 3), CVL_NO_DESCRIPTOR, -1);
+    FAULT(cvl_segments_extract_int(a, 5, index, 3, none, ints, 3), CVL_NO_DESCRIPTOR, -1);
+    FAULT(cvl_segments_extract_bool(f, 5, index, 3, none, bools, 3), CVL_NO_DESCRIPTOR, -1);
+    FAULT(cvl_segments_replace_int(a, 5, index, 3, a, 3, none, ints, 5), CVL_NO_DESCRIPTOR, -1);
+    FAULT(cvl_segments_replace_bool(f, 5, index, 3, f, 3, none, bools, 5), CVL_NO_DESCRIPTOR, -1);
+    FAULT(cvl_segments_distribute_int(a, 3, none, ints, 5), CVL_NO_DESCRIPTOR, -1);
+    FAULT(cvl_segments_distribute_bool(f, 3, none, bools, 5), CVL_NO_DESCRIPTOR, -1);
+    FAULT(cvl_segments_index(a, 3, a, 3, none, ints, 5), CVL_NO_DESCRIPTOR, -1);
+    FAULT(cvl_segments_permute_int(a, 5, index, 5, none, ints, 5), CVL_NO_DESCRIPTOR, -1);
+    FAULT(cvl_segments_permute_bool(f, 5, index, 5, none, bools, 5), CVL_NO_DESCRIPTOR, -1);
+    FAULT(cvl_segments_select_permute_int(a, 5, index, 5, f, 5, none, ints, 3), CVL_NO_DESCRIPTOR, -1);
+    FAULT(cvl_segments_select_permute_bool(f, 5, index, 5, f, 5, none, bools, 3), CVL_NO_DESCRIPTOR, -1);
+    FAULT(cvl_segments_write_ints(a, 5, none, bytes, TEXT_ROOM, &total), CVL_NO_DESCRIPTOR, -1);
+    FAULT(cvl_segments_write_bools(f, 5, none, bytes, TEXT_ROOM, &total), CVL_NO_DESCRIPTOR, -1);
 }
 
 /* Calls on two descriptors, of which one is none. */
 static void without_one_of_two(const CvlSegments *segments, const CvlSegments *others) {
     const int32_t *a = I(3, 1, 4, 1, 5), *index = I(0, 0, 0, 0, 0);
     const bool *f = B(true, false, true, false, true);
-    FAULT(cvl_segments_default_permute_int(a, 5, index, 5, a, 5, segments, others, ints, 5), CVL_NO_HANDLE, -1);
-    FAULT(cvl_segments_default_permute_bool(f, 5, index, 5, f, 5, segments, others, bools, 5), CVL_NO_HANDLE, -1);
-    FAULT(cvl_segments_back_permute_int(a, 5, index, 5, segments, others, ints, 5), CVL_NO_HANDLE, -1);
-    FAULT(cvl_segments_back_permute_bool(f, 5, index, 5, segments, others, bools, 5), CVL_NO_HANDLE, -1);
+    FAULT(cvl_segments_default_permute_int(a, 5, index, 5, a, 5, segments, others, ints, 5), CVL_NO_DESCRIPTOR, -1);
+    FAULT(cvl_segments_default_permute_bool(f, 5, index, 5, f, 5, segments, others, bools, 5), CVL_NO_DESCRIPTOR, -1);
+    FAULT(cvl_segments_back_permute_int(a, 5, index, 5, segments, others, ints, 5), CVL_NO_DESCRIPTOR, -1);
+    FAULT(cvl_segments_back_permute_bool(f, 5, index, 5, segments, others, bools, 5), CVL_NO_DESCRIPTOR, -1);
 }
 
 /* Each call on segments on one descriptor, which stays as it is. */
