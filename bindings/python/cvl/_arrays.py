@@ -33,14 +33,22 @@ def _refuse(array, name, dtype, write):
         raise TypeError(f"{name} has elements of {array.dtype}, and has to have {dtype}; write {write}")
     if array.ndim != 1:
         raise TypeError(f"{name} has {array.ndim} dimensions, and has to have one; write {name}.ravel()")
-    raise TypeError(f"the elements of {name} do not lie side by side; write numpy.ascontiguousarray({name})")
+    if not array.flags.c_contiguous:
+        raise TypeError(f"the elements of {name} do not lie side by side; write numpy.ascontiguousarray({name})")
+    raise TypeError(f"the elements of {name} are not aligned in memory; write {name}.copy()")
+
+
+def _lies_well(array):
+    """Whether the elements lie in one dimension, side by side, and aligned."""
+    flags = array.flags
+    return array.ndim == 1 and flags.c_contiguous and flags.aligned
 
 
 def int_array(array, name):
-    """The array, if it holds int32 in one dimension, side by side."""
+    """The array, if it holds int32 in one dimension, side by side and aligned."""
     if type(array) is not numpy.ndarray:
         array = _viewed(array, name, "numpy.int32")
-    if array.dtype != INT or array.ndim != 1 or not array.flags.c_contiguous:
+    if array.dtype != INT or not _lies_well(array):
         _refuse(array, name, INT, f"{name}.astype(numpy.int32)")
     return array
 
@@ -49,7 +57,7 @@ def flag_array(array, name):
     """The array, if it holds bool in one dimension, side by side."""
     if type(array) is not numpy.ndarray:
         array = _viewed(array, name, "bool")
-    if array.dtype != FLAG or array.ndim != 1 or not array.flags.c_contiguous:
+    if array.dtype != FLAG or not _lies_well(array):
         _refuse(array, name, FLAG, f"{name} != 0")
     return array
 

@@ -51,7 +51,9 @@ class Segments:
     def from_offsets(cls, offsets):
         """Segments whose starts stand in `offsets`, and last where the last one ends, as in a matrix of compressed rows."""
         given = numpy.asarray(offsets)
-        if given.ndim != 1 or given.size == 0 or given[0] != 0:
+        if given.size and (given.dtype.kind not in "iu" or given.ndim != 1):
+            raise TypeError("offsets are no whole numbers in one dimension")
+        if given.size == 0 or given[0] != 0:
             raise ValueError("offsets begin with 0")
         return cls(numpy.diff(given.astype(numpy.int64)))
 

@@ -38,6 +38,9 @@ class Arguments(unittest.TestCase):
         self.refused(r"a has 0 dimensions", cvl.add_suz, numpy.zeros((), numpy.int32))
         self.refused(r"do not lie side by side", cvl.add_suz, numpy.zeros(4, numpy.int32)[::2])
         self.refused(r"do not lie side by side", cvl.add_suz, numpy.zeros(4, numpy.int32)[::-1])
+        shifted = numpy.zeros(9, numpy.uint8)[1:].view(numpy.int32)
+        self.refused(r"a are not aligned in memory; write a\.copy\(\)", cvl.add_suz, shifted)
+        self.refused(r"out are not aligned in memory", cvl.add_suz, ints(1, 2), out=shifted)
 
     def test_single_values(self):
         with self.assertRaisesRegex(OverflowError, "index is 4294967296"):
@@ -144,12 +147,14 @@ class Cut(unittest.TestCase):
         self.assertEqual(repr(rows), "Segments([2, 0, 3])")
         with self.assertRaises(ValueError):
             rows.lengths[0] = 1
-        with self.assertRaises(ValueError):
-            cvl.Segments.from_offsets([1, 2])
+        for offsets in ([1, 2], []):
+            with self.assertRaises(ValueError):
+                cvl.Segments.from_offsets(offsets)
         with self.assertRaises(OverflowError):
             cvl.Segments([2**31])
-        with self.assertRaises(TypeError):
-            cvl.Segments([0.5])
+        for make in (cvl.Segments, cvl.Segments.from_offsets):
+            with self.assertRaises(TypeError):
+                make([0, 0.5])
 
     def test_segments_copy_their_lengths(self):
         lengths = ints(2, 1)
