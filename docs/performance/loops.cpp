@@ -115,6 +115,12 @@ template <class T, class F> Answer each(const Vectors &v, F element) {
 int32_t quotient(int32_t x, int32_t y) { return y == 0 ? 0 : y == -1 ? int32_t(0u - uint32_t(x)) : x / y; }
 int32_t left_shift(int32_t x, int32_t y) { return y < 0 || y > 31 ? 0 : int32_t(uint32_t(x) << y); }
 
+// x where the flag is true, else y, by masks: a loop of these is vector code, where one that asks the flag is not.
+int32_t masked(bool flag, int32_t x, int32_t y) {
+    const int32_t mask = -int32_t(flag);
+    return (x & mask) | (y & ~mask);
+}
+
 #define EACH(TYPE, ELEMENT)                                                                                                     \
     [](const Vectors &v) {                                                                                                      \
         const int32_t *a = v.numbers.data(), *b = v.divisors.data(), *shifts = v.shifts.data();                                 \
@@ -257,8 +263,9 @@ Answer back(const Vectors &v) {
 
 // ---- packs, counts, distributes and indexes, by segments
 
-// The elements whose flag is true, and how many each segment keeps.
-Answer pack(const Vectors &v) {
+// The elements whose flag is true, and how many each segment keeps. Without a branch each element is written where the next one
+// that is kept belongs.
+template <bool BRANCHES> Answer packed(const Vectors &v) {
     const int32_t *a = v.numbers.data();
     const bool *flags = v.flags.get();
     const auto out = fresh<int32_t>(v.n);
@@ -267,13 +274,17 @@ Answer pack(const Vectors &v) {
     for (size_t s = 0; s < v.lengths.size(); s++) {
         const size_t before = kept;
         for (const size_t end = at + size_t(v.lengths[s]); at < end; at++) {
-            if (flags[at]) out[kept++] = a[at];
+            if (!BRANCHES || flags[at]) out[kept] = a[at];
+            kept += flags[at];
         }
         counts[s] = kept - before;
     }
     last(counts.get(), v.lengths.size());
     return last(out.get(), kept);
 }
+
+Answer pack(const Vectors &v) { return packed<true>(v); }
+Answer pack_without_branch(const Vectors &v) { return packed<false>(v); }
 
 Answer count(const Vectors &v) { return int32_t(count_true(v.flags.get(), v.n)); }
 
@@ -317,6 +328,8 @@ Answer index(const Vectors &v) {
 struct Case {
     const char *name;
     Answer (*loop)(const Vectors &);
+    // The same where flags choose no branch; null where none does.
+    Answer (*without_branch)(const Vectors &) = nullptr;
 };
 
 template <class F> void measure_loop(const char *name, const std::string &what, F loop) {
@@ -339,7 +352,10 @@ template <class F> void measure_loop(const char *name, const std::string &what, 
 template <size_t N> void measure(const Case (&cases)[N], const Shape &shape) {
     const Vectors v = vectors_of(shape);
     const std::string what = std::to_string(v.n) + " elements, " + std::to_string(v.lengths.size()) + " segments" + shape.words;
-    for (const Case &c : cases) measure_loop(c.name, what, [&] { return c.loop(v); });
+    for (const Case &c : cases) {
+        measure_loop(c.name, what, [&] { return c.loop(v); });
+        if (c.without_branch) measure_loop(c.name, what + ", without a branch", [&] { return c.without_branch(v); });
+    }
 }
 
 void elementwise() {
@@ -349,7 +365,7 @@ void elementwise() {
         {"left shift", EACH(int32_t, left_shift(a[k], shifts[k]))},
         {"greater", EACH(bool, a[k] > b[k])},
         {"and", EACH(bool, flags[k] & others[k])},
-        {"select", EACH(int32_t, flags[k] ? a[k] : b[k])},
+        {"select", EACH(int32_t, flags[k] ? a[k] : b[k]), EACH(int32_t, masked(flags[k], a[k], b[k]))},
         {"not of integers", EACH(int32_t, ~a[k])},
         {"not of booleans", EACH(bool, !flags[k])},
         {"integers from booleans", EACH(int32_t, flags[k])},
@@ -393,9 +409,9 @@ void permutes() {
 }
 
 void packs() {
-    const Case of_flags[] = {{"pack", pack}, {"count", count}};
+    const Case of_flags[] = {{"pack", pack, pack_without_branch}, {"count", count}};
     const Case segmented[] = {{"count by segments", counts},
-                              {"pack by segments", pack},
+                              {"pack by segments", pack, pack_without_branch},
                               {"distribute by segments", distribute},
                               {"index by segments", index}};
     const Case without_flags[] = {{"distribute", distribute}, {"index", index}};
