@@ -1,3 +1,4 @@
 mod NamedFiles
 mod Performed
 mod Streams
+mod TextWords

@@ -1,8 +1,8 @@
 -- Files that are read one after the other, and the room for the line that tells of one.
-use Rattle.std.proofs.Common.{◌≡◌, ℕ, zero, suc, ◌+◌, ◌<◌, ◌≤◌, ◌-◌, ◌^◌, min, List, [], ◌∷◌, ◌++◌, Some, None, IsSome, is_some, map, length, take, drop, refl, ap, sym, ◌∙◌, arith}
+use Rattle.std.proofs.Common.{◌≡◌, ℕ, zero, suc, ◌<◌, ◌≤◌, List, [], ◌∷◌, ◌++◌, Some, None, IsSome, is_some, map, length, take, drop, refl, ap, sym, ◌∙◌, arith}
 use Rattle.std.specs.Borrow.{Bor}
 use Rattle.std.specs.List.{All, AllZip, slice_index_or}
-use Rattle.std.proofs.lemmas.List.{map-append, length-append}
+use Rattle.std.proofs.lemmas.List.{map-append}
 use Rattle.clap.specs.Walk.{Text, texts}
 use Rattle.vector_handles.specs.declared.input.Input.{Input}
 use Rattle.vector_handles.specs.declared.input.Input.TheVariants.{Bytes, Vector}

@@ -2,7 +2,8 @@
 -- error.
 -- Source: this library's program.
 use Rattle.std.specs.Prelude.{◌≡◌, ◌⊎◌, ℕ, Bool, true, false, List, [], ◌∷◌, ◌++◌, map, codes, Option, Some, None, IsSome, Result, Ok, Err}
-use Rattle.std.specs.List.{All, AllZip}
+use Rattle.std.specs.List.{All, AllZip, list_all}
+use Rattle.std.specs.Str.{is_utf8}
 use Rattle.clap.specs.Words.{IsAmong, Text, fault_of}
 use Rattle.clap.specs.declared.error.kind.ErrorKind.{ErrorKind}
 use Rattle.clap.specs.declared.error.kind.ErrorKind.TheVariants.{DisplayHelp}
@@ -134,13 +135,17 @@ abbrev pub PerformsOrStarves : Type 0 → List Text → Seen → Seen → ℕ �
 PerformsOrStarves A words before after status =
     IsStarved before after status ⊎ Performs A words before after status
 
--- the words of the command line are not text, or there is no memory for them: that is told, and nothing else is done
-abbrev pub IsWordless : Seen → Seen → ℕ → Type 0
-IsWordless before after status =
-    (Tells (Some (codes "the command line is not UTF-8\n")) before after × (status ≡ 2))
-    ⊎ IsStarved before after status
+-- a word of the command line is not UTF-8: that is told, and nothing else is done
+abbrev pub IsNoText : Seen → Seen → ℕ → Type 0
+IsNoText before after status =
+    Tells (Some (codes "the command line is not UTF-8\n")) before after × (status ≡ 2)
 
--- the program ran on the words of its process, whichever these are
+-- the program ran on these words, of any bytes
+pub record PerformsOn (A : Type 0) (words : List (List ℕ)) (before after : Seen) (status : ℕ) : Type 0 where
+  pub texts : list_all is_utf8 words ≡ true → PerformsOrStarves A words before after status
+  pub no_text : list_all is_utf8 words ≡ false → IsNoText before after status
+
+-- there is no memory for the words of the process, or the program ran on them, whichever these are
 abbrev pub PerformsOnSome : Type 0 → Seen → Seen → ℕ → Type 0
 PerformsOnSome A before after status =
-    IsWordless before after status ⊎ ((words : List Text) × Performs A words before after status)
+    IsStarved before after status ⊎ ((words : List (List ℕ)) × PerformsOn A words before after status)

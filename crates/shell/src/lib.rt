@@ -5,6 +5,7 @@ pub mod endings;
 mod files;
 pub mod host;
 pub mod process;
+mod process_words;
 pub mod programs;
 pub mod stream_host;
 pub mod whole_files;
