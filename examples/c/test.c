@@ -909,6 +909,249 @@ static void nested_texts(void) {
     FAULT(cvl_seg_write_bools(too_many_bools, many, I(CVL_MOST_ELEMENTS, 1), 2, bytes, TEXT_ROOM, &total), CVL_TOO_LONG, -1);
 }
 
+/*
+ * Each call that takes memory once more, at the greatest length, and over a million segments, beyond each length at which its
+ * body changes its way. A row says for each place of the result where its element stands; the call is read against that.
+ */
+enum { MOST = CVL_MOST_ELEMENTS, LONG_SEGMENT = 5000, SHORTER_SEGMENT = 40, LONG_TEXT = 16 * MOST };
+
+static int32_t long_ints[MOST], other_ints[MOST], int_room[MOST];
+static bool long_bools[MOST], other_bools[MOST], bool_room[MOST], taking_part[MOST];
+static int32_t long_index[MOST], long_lengths[MOST], half_lengths[MOST], length_room[MOST];
+static char long_text[LONG_TEXT], text_room[LONG_TEXT];
+static size_t long_segments, text_length;
+
+/* For each place of a result the place of its element in the vector, or -1 - k where it is at place k of the other vector. */
+static int32_t from[MOST];
+
+/* The vectors, and the lengths of a long segment, a shorter one, and some of 1 to 3 elements for all others. */
+static void make_long_vectors(void) {
+    size_t left = MOST;
+    for (int32_t k = 0; k < MOST; k++) {
+        long_ints[k] = k * 509 - 1000000000;
+        other_ints[k] = -k;
+        long_bools[k] = k % 3 == 0;
+        other_bools[k] = k % 5 == 0;
+        taking_part[k] = k % 4 != 1;
+    }
+    for (size_t s = 0; left > 0; s++) {
+        size_t length = s == 0 ? LONG_SEGMENT : s == 1 ? SHORTER_SEGMENT : 1 + s % 3;
+        if (length > left) length = left;
+        long_lengths[s] = (int32_t)length;
+        half_lengths[s] = (int32_t)(length / 2);
+        left -= length;
+        long_segments = s + 1;
+    }
+}
+
+/* The call is done, and the room has so many elements, each from where it should be. */
+#define LONG_ROW(call, vector, others, room, count)                                                                             \
+    do {                                                                                                                        \
+        memset(room, 0, sizeof room);                                                                                           \
+        calls++;                                                                                                                \
+        tells(#call, call, CVL_DONE, -1);                                                                                       \
+        for (size_t k = 0; k < (count); k++) {                                                                                  \
+            if (room[k] != (from[k] >= 0 ? vector[from[k]] : others[-1 - from[k]])) {                                           \
+                fail(#call, "another element in a long row");                                                                   \
+                break;                                                                                                          \
+            }                                                                                                                   \
+        }                                                                                                                       \
+    } while (0)
+#define LONG_INTS(call, count) LONG_ROW(call, long_ints, other_ints, int_room, count)
+#define LONG_BOOLS(call, count) LONG_ROW(call, long_bools, other_bools, bool_room, count)
+
+static void long_permutes(void) {
+    const int32_t *a = long_ints, *b = other_ints, *index = long_index;
+    const bool *f = long_bools, *g = other_bools, *flags = taking_part;
+    const size_t n = MOST, half = MOST / 2;
+    size_t taken = 0, left;
+    for (uint32_t k = 0; k < MOST; k++) {
+        uint32_t to = k * 2654435761u % MOST;
+        long_index[k] = (int32_t)to;
+        from[to] = (int32_t)k;
+    }
+    LONG_INTS(cvl_permute_int(a, n, index, n, int_room, n), n);
+    LONG_BOOLS(cvl_permute_bool(f, n, index, n, bool_room, n), n);
+    for (int32_t k = 0; k < MOST; k++) taken += flags[k];
+    left = taken;
+    for (int32_t k = 0; k < MOST; k++) {
+        long_index[k] = -1;
+        if (!flags[k]) continue;
+        left--;
+        long_index[k] = (int32_t)left;
+        from[left] = k;
+    }
+    LONG_INTS(cvl_select_permute_int(a, n, index, n, flags, n, int_room, taken), taken);
+    LONG_BOOLS(cvl_select_permute_bool(f, n, index, n, flags, n, bool_room, taken), taken);
+    for (int32_t k = 0; k < MOST / 2; k++) {
+        long_index[k] = 2 * k + 1;
+        from[2 * k] = -1 - 2 * k;
+        from[2 * k + 1] = k;
+    }
+    LONG_INTS(cvl_default_permute_int(a, half, index, half, b, n, int_room, n), n);
+    LONG_BOOLS(cvl_default_permute_bool(f, half, index, half, g, n, bool_room, n), n);
+    for (int32_t k = 0; k < MOST; k++) from[k] = k;
+    from[MOST - 1] = -1;
+    LONG_INTS(cvl_replace_int(a, n, MOST - 1, b[0], int_room, n), n);
+    LONG_BOOLS(cvl_replace_bool(f, n, MOST - 1, g[0], bool_room, n), n);
+}
+
+static void long_permutes_of_segments(void) {
+    const int32_t *a = long_ints, *b = other_ints, *index = long_index, *d = long_lengths, *e = half_lengths;
+    const bool *f = long_bools, *g = other_bools, *flags = taking_part;
+    const size_t n = MOST, segments = long_segments;
+    int32_t start = 0, taken = 0, half = 0;
+    for (size_t s = 0; s < segments; start += d[s++]) {
+        for (int32_t j = 0; j < d[s]; j++) {
+            long_index[start + j] = d[s] - 1 - j;
+            from[start + d[s] - 1 - j] = start + j;
+        }
+    }
+    LONG_INTS(cvl_seg_permute_int(a, n, index, n, d, segments, int_room, n), n);
+    LONG_BOOLS(cvl_seg_permute_bool(f, n, index, n, d, segments, bool_room, n), n);
+    LONG_INTS(cvl_seg_back_permute_int(a, n, index, n, d, segments, d, segments, int_room, n), n);
+    LONG_BOOLS(cvl_seg_back_permute_bool(f, n, index, n, d, segments, d, segments, bool_room, n), n);
+    start = 0;
+    for (size_t s = 0; s < segments; start += d[s++]) {
+        int32_t first = taken, left;
+        for (int32_t j = 0; j < d[s]; j++) taken += flags[start + j];
+        left = taken - first;
+        for (int32_t j = 0; j < d[s]; j++) {
+            long_index[start + j] = -1;
+            if (!flags[start + j]) continue;
+            left--;
+            long_index[start + j] = left;
+            from[first + left] = start + j;
+        }
+    }
+    LONG_INTS(cvl_seg_select_permute_int(a, n, index, n, flags, n, d, segments, int_room, taken), (size_t)taken);
+    LONG_BOOLS(cvl_seg_select_permute_bool(f, n, index, n, flags, n, d, segments, bool_room, taken), (size_t)taken);
+    start = 0;
+    for (size_t s = 0; s < segments; start += d[s++]) {
+        for (int32_t j = 0; j < d[s]; j++) from[start + j] = -1 - (start + j);
+        for (int32_t j = 0; j < e[s]; j++) {
+            long_index[half] = 2 * j + 1;
+            from[start + 2 * j + 1] = half++;
+        }
+    }
+    LONG_INTS(cvl_seg_default_permute_int(a, half, index, half, b, n, e, segments, d, segments, int_room, n), n);
+    LONG_BOOLS(cvl_seg_default_permute_bool(f, half, index, half, g, n, e, segments, d, segments, bool_room, n), n);
+}
+
+static void long_calls_of_segments(void) {
+    const int32_t *a = long_ints, *b = other_ints, *index = long_index, *d = long_lengths;
+    const bool *f = long_bools, *g = other_bools;
+    const size_t n = MOST, segments = long_segments;
+    int32_t start = 0;
+    for (size_t s = 0; s < segments; start += d[s++]) {
+        long_index[s] = d[s] - 1;
+        from[s] = start + d[s] - 1;
+    }
+    LONG_INTS(cvl_seg_extract_int(a, n, index, segments, d, segments, int_room, segments), segments);
+    LONG_BOOLS(cvl_seg_extract_bool(f, n, index, segments, d, segments, bool_room, segments), segments);
+    for (int32_t k = 0; k < MOST; k++) from[k] = k;
+    start = 0;
+    for (size_t s = 0; s < segments; start += d[s++]) from[start + d[s] - 1] = -1 - (int32_t)s;
+    LONG_INTS(cvl_seg_replace_int(a, n, index, segments, b, segments, d, segments, int_room, n), n);
+    LONG_BOOLS(cvl_seg_replace_bool(f, n, index, segments, g, segments, d, segments, bool_room, n), n);
+    start = 0;
+    for (size_t s = 0; s < segments; start += d[s++]) {
+        for (int32_t j = 0; j < d[s]; j++) from[start + j] = (int32_t)s;
+    }
+    LONG_INTS(cvl_seg_distribute_int(a, segments, d, segments, int_room, n), n);
+    LONG_BOOLS(cvl_seg_distribute_bool(f, segments, d, segments, bool_room, n), n);
+}
+
+/* The numbers of segments whose inits and strides give 0, -1, -2 and so on, and sums of segments that give these. */
+static void long_numbers_of_segments(void) {
+    const int32_t *d = long_lengths;
+    const size_t n = MOST, segments = long_segments;
+    int32_t start = 0;
+    for (int32_t k = 0; k < MOST; k++) from[k] = -1 - k;
+    for (size_t s = 0; s < segments; start += d[s++]) {
+        long_index[s] = -start;
+        length_room[s] = -1;
+    }
+    LONG_INTS(cvl_seg_index(long_index, segments, length_room, segments, d, segments, int_room, n), n);
+    start = 0;
+    for (size_t s = 0; s < segments; start += d[s++]) {
+        for (int32_t j = 1; j < d[s]; j++) long_index[start + j] = j % 2 == 1 ? 1 : -1;
+        long_index[start] = -(int32_t)s - (d[s] % 2 == 0);
+    }
+    LONG_INTS(cvl_seg_checked_reduce(long_index, n, d, segments, int_room, segments), segments);
+}
+
+/* Appends the decimal of a number to the long text. */
+static void put_decimal(int32_t number) {
+    char digits[10];
+    int count = 0;
+    int64_t left = number < 0 ? -(int64_t)number : number;
+    do digits[count++] = (char)('0' + left % 10);
+    while ((left /= 10) > 0);
+    if (number < 0) long_text[text_length++] = '-';
+    while (count > 0) long_text[text_length++] = digits[--count];
+}
+
+/* Appends the text of so many integers, or booleans, from a place on. */
+static void put_vector(int are_ints, int32_t start, int32_t count) {
+    long_text[text_length++] = '[';
+    for (int32_t k = start; k < start + count; k++) {
+        if (k > start) long_text[text_length++] = ' ';
+        if (are_ints) {
+            put_decimal(long_ints[k]);
+        } else {
+            long_text[text_length++] = long_bools[k] ? 'T' : 'F';
+        }
+    }
+    long_text[text_length++] = ']';
+}
+
+static void put_nest(int are_ints) {
+    int32_t start = 0;
+    text_length = 0;
+    long_text[text_length++] = '[';
+    for (size_t s = 0; s < long_segments; start += long_lengths[s++]) {
+        if (s > 0) long_text[text_length++] = ' ';
+        put_vector(are_ints, start, long_lengths[s]);
+    }
+    long_text[text_length++] = ']';
+}
+
+/* The call writes the long text. */
+#define LONG_WRITE(call)                                                                                                        \
+    do {                                                                                                                        \
+        reset();                                                                                                                \
+        tells(#call, call, CVL_DONE, -1);                                                                                       \
+        if (total != text_length || memcmp(text_room, long_text, text_length) != 0) fail(#call, "another long text");           \
+    } while (0)
+
+static void long_texts(void) {
+    text_length = 0;
+    put_vector(0, 0, MOST);
+    LONG_WRITE(cvl_write_bools(long_bools, MOST, text_room, LONG_TEXT, &total));
+    put_nest(0);
+    LONG_WRITE(cvl_seg_write_bools(long_bools, MOST, long_lengths, long_segments, text_room, LONG_TEXT, &total));
+    for (int32_t k = 0; k < MOST; k++) from[k] = k;
+    text_length = 0;
+    put_vector(1, 0, MOST);
+    LONG_WRITE(cvl_write_ints(long_ints, MOST, text_room, LONG_TEXT, &total));
+    LONG_INTS(cvl_read_ints(long_text + 1, text_length - 2, int_room, MOST, &total), MOST);
+    put_nest(1);
+    LONG_WRITE(cvl_seg_write_ints(long_ints, MOST, long_lengths, long_segments, text_room, LONG_TEXT, &total));
+    LONG_INTS(cvl_seg_read_ints(long_text, text_length, int_room, MOST, &total, length_room, MOST, &list_count), MOST);
+    if (total != MOST || list_count != long_segments) fail("a long nested text", "other counts");
+    if (memcmp(length_room, long_lengths, long_segments * sizeof *long_lengths) != 0) fail("a long nested text", "other lengths");
+}
+
+static void long_rows(void) {
+    make_long_vectors();
+    long_permutes();
+    long_permutes_of_segments();
+    long_calls_of_segments();
+    long_numbers_of_segments();
+    long_texts();
+}
+
 int main(void) {
     place_by_place();
     place_by_place_faults();
@@ -930,6 +1173,7 @@ int main(void) {
     texts_of_any_length();
     made_descriptors();
     nested_texts();
+    long_rows();
     if (failed) return EXIT_FAILURE;
     printf("%d calls as they should be\n", calls);
     return EXIT_SUCCESS;
