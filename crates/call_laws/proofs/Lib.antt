@@ -9,8 +9,10 @@ pub mod InParts
 pub mod LeastFaults
 pub mod Packing
 pub mod PermuteFaults
+pub mod PlaceByPlace
 pub mod Places
 pub mod Segments
 pub mod Selecting
 pub mod Sending
 pub mod Destinations
+pub mod TwoParts

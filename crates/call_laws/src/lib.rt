@@ -11,5 +11,6 @@ pub mod extracts;
 pub mod nests;
 pub mod packs;
 pub mod permutes;
+pub mod permutes_in_parts;
 pub mod scans;
 pub mod segmented;

@@ -1,0 +1,124 @@
+-- What two parts give together, and the results on segments and on more segments behind them.
+use Rattle.std.proofs.Common.{◌≡◌, ℕ, ◌+◌, ◌<◌, List, [], ◌∷◌, ◌++◌, length, append_assoc, refl, sym, ap, ◌∙◌, arith, option_map, Option, Some, None, Ok, Err, Result}
+use Rattle.std.specs.Option.{ok_or}
+use Rattle.std.proofs.lemmas.Grind.{flat_map-append}
+use Rattle.cvl_base.specs.declared.fault.Fault.{Fault}
+use Rattle.cvl_base.specs.declared.fault.FaultNo.{FaultNo}
+use Rattle.cvl_base.specs.Elementwise.{values_from}
+use Rattle.cvl_base.specs.Faults.{fault_at}
+use Rattle.cvl_base.specs.Gives.{◌>>=◌, after}
+use Rattle.cvl_base.specs.Lists.{joined}
+use Rattle.cvl_base.specs.Segmented.{moved, results_from, one_each, end_to_end, at_segment}
+use Rattle.cvl_base.proofs.Gives.{after-none}
+use Rattle.call_laws.specs.InParts.{in_two}
+
+-- ---- places that are moved
+
+place-moved : (f g h : ℕ → ℕ) → ((p : ℕ) → f p ≡ h (g p)) → (o : Option ℕ) → option_map f o ≡ option_map h (option_map g o)
+place-moved f g h same None = refl
+place-moved f g h same (Some p) = ap Some (same p)
+
+moved-moved : {X : Type 0} (f g h : ℕ → ℕ) → ((p : ℕ) → f p ≡ h (g p)) → (r : Result X Fault) → moved f r ≡ moved h (moved g r)
+moved-moved f g h same (Ok x) = refl
+moved-moved f g h same (Err e) = λ i. Err (record { number = e.number; place = place-moved f g h same e.place i })
+
+place-stays : (f : ℕ → ℕ) → ((p : ℕ) → f p ≡ p) → (o : Option ℕ) → option_map f o ≡ o
+place-stays f same None = refl
+place-stays f same (Some p) = ap Some (same p)
+
+moved-stays : {X : Type 0} (f : ℕ → ℕ) → ((p : ℕ) → f p ≡ p) → (r : Result X Fault) → moved f r ≡ r
+moved-stays f same (Ok x) = refl
+moved-stays f same (Err e) = λ i. Err (record { number = e.number; place = place-stays f same e.place i })
+
+moved-onto : {R : Type 0} (f : ℕ → ℕ) (a : Result R Fault) (b : Result (List R) Fault)
+    → moved f (a >>= λ r. b >>= λ rs. Ok (r ∷ rs)) ≡ (moved f a >>= λ r. moved f b >>= λ rs. Ok (r ∷ rs))
+moved-onto f (Err e) b = refl
+moved-onto f (Ok r) (Err e) = refl
+moved-onto f (Ok r) (Ok rs) = refl
+
+-- ---- two parts
+
+-- the first of three parts may be cut off before or after the second
+pub in_two-assoc : {X : Type 0} (m n : ℕ) (a b c : Result (List X) Fault) → in_two (m + n) (in_two m a b) c ≡ in_two m a (in_two n b c)
+in_two-assoc m n (Err e) b c = refl
+in_two-assoc m n (Ok xs) (Err e) c = refl
+in_two-assoc m n (Ok xs) (Ok ys) (Ok zs) = ap Ok (append_assoc xs ys zs)
+in_two-assoc {X = X} m n (Ok xs) (Ok ys) (Err e) =
+    ap (after xs) (moved-moved {X = List X} (λ p. (m + n) + p) (λ p. n + p) (λ p. m + p) (λ p. omega arith) (Err e))
+
+pub joined-append : {X : Type 0} (xs ys : List (List X)) → joined (xs ++ ys) ≡ joined xs ++ joined ys
+joined-append xs ys = flat_map-append (λ zs. zs) xs ys
+
+pub joined-two : {X : Type 0} (n : ℕ) (a b : Result (List (List X)) Fault)
+    → (in_two n a b >>= λ lists. Ok (joined lists)) ≡ in_two n (a >>= λ lists. Ok (joined lists)) (b >>= λ lists. Ok (joined lists))
+joined-two n (Err e) b = refl
+joined-two n (Ok xs) (Err e) = refl
+joined-two n (Ok xs) (Ok ys) = ap Ok (joined-append xs ys)
+
+onto-after : {R : Type 0} (a : Result R Fault) (b c : Result (List R) Fault)
+    → (a >>= λ r. (b >>= λ rs. after rs c) >>= λ rs. Ok (r ∷ rs)) ≡ ((a >>= λ r. b >>= λ rs. Ok (r ∷ rs)) >>= λ rs. after rs c)
+onto-after (Err e) b c = refl
+onto-after (Ok r) (Err e) c = refl
+onto-after (Ok r) (Ok rs) (Err e) = refl
+onto-after (Ok r) (Ok rs) (Ok others) = refl
+
+-- ---- the results on segments
+
+module _ {S R : Type 0} (call : S → Result R Fault) where
+  results-append : (place : ℕ → ℕ → ℕ) (s : ℕ) (xs ys : List S)
+      → results_from place call s (xs ++ ys) ≡ (results_from place call s xs >>= λ rs. after rs (results_from place call (s + length xs) ys))
+  results-append place s [] ys =
+      ap (λ n. results_from place call n ys) (omega arith) ∙ sym (after-none (results_from place call (s + length {A = S} []) ys))
+  results-append place s (x ∷ xs) ys =
+      ap (λ others. moved (place s) (call x) >>= λ r. others >>= λ rs. Ok (r ∷ rs)) (results-append place (s + 1) xs ys)
+      ∙ onto-after (moved (place s) (call x)) (results_from place call (s + 1) xs) (results_from place call (s + 1 + length xs) ys)
+      ∙ ap (λ n. results_from place call s (x ∷ xs) >>= λ rs. after rs (results_from place call n ys)) (omega arith)
+
+  -- the same segments, counted from another number on, whose places are moved
+  results-moved : (place other : ℕ → ℕ → ℕ) (move : ℕ → ℕ) (d s : ℕ) (xs : List S) → ((u p : ℕ) → u < s + length xs → place (d + u) p ≡ move (other u p))
+      → results_from place call (d + s) xs ≡ moved move (results_from other call s xs)
+  results-moved place other move d s [] same = refl
+  results-moved place other move d s (x ∷ xs) same =
+      let first = moved-moved (place (d + s)) (other s) move (λ p. same s p (omega arith)) (call x) in
+      let rest : results_from place call (d + s + 1) xs ≡ moved move (results_from other call (s + 1) xs) =
+      ap (λ n. results_from place call n xs) (omega arith) ∙ results-moved place other move d (s + 1) xs (λ u p lt. same u p (omega arith)) in
+      (λ i. first i >>= λ r. rest i >>= λ rs. Ok (r ∷ rs)) ∙ sym (moved-onto move (moved (other s) (call x)) (results_from other call (s + 1) xs))
+
+  module _ (place first_place second_place : ℕ → ℕ → ℕ) (n : ℕ) (before others : List S)
+      (in_first : (s p : ℕ) → s < length before → place s p ≡ first_place s p)
+      (in_second : (s p : ℕ) → s < length others → place (length before + s) p ≡ n + second_place s p) where
+    pub results-two : one_each place call (Ok (before ++ others)) ≡ in_two n (one_each first_place call (Ok before)) (one_each second_place call (Ok others))
+    results-two =
+        let first : results_from place call 0 before ≡ results_from first_place call 0 before =
+        results-moved place first_place (λ p. p) 0 0 before (λ u p lt. ap (λ s. place s p) (omega arith) ∙ in_first u p (omega arith))
+        ∙ moved-stays (λ p. p) (λ p. refl) (results_from first_place call 0 before) in
+        let second : results_from place call (0 + length before) others ≡ moved (λ p. n + p) (results_from second_place call 0 others) =
+        ap (λ s. results_from place call s others) (omega arith)
+        ∙ results-moved place second_place (λ p. n + p) (length before) 0 others (λ u p lt. in_second u p (omega arith)) in
+        results-append place 0 before others ∙ (λ i. first i >>= λ rs. after rs (second i))
+
+  -- as many segments before as there are places before
+  pub at_segment-two : (before others : List S)
+      → one_each at_segment call (Ok (before ++ others)) ≡ in_two (length before) (one_each at_segment call (Ok before)) (one_each at_segment call (Ok others))
+  at_segment-two before others = results-two at_segment at_segment at_segment (length before) before others (λ s p lt. refl) (λ s p lt. refl)
+
+pub lists-two : {S X : Type 0} (call : S → Result (List X) Fault) (place first_place second_place : ℕ → ℕ → ℕ) (n : ℕ) (before others : List S)
+    → ((s p : ℕ) → s < length before → place s p ≡ first_place s p) → ((s p : ℕ) → s < length others → place (length before + s) p ≡ n + second_place s p)
+    → end_to_end place call (Ok (before ++ others)) ≡ in_two n (end_to_end first_place call (Ok before)) (end_to_end second_place call (Ok others))
+lists-two call place first_place second_place n before others in_first in_second =
+    ap (λ r. r >>= λ lists. Ok (joined lists)) (results-two call place first_place second_place n before others in_first in_second)
+    ∙ joined-two n (one_each first_place call (Ok before)) (one_each second_place call (Ok others))
+
+-- ---- values some of which may be missing
+
+-- each value is a segment of its own
+pub values-each : {Y : Type 0} (number : FaultNo) (place : ℕ) (vs : List (Option Y)) → values_from number place vs ≡ results_from at_segment (λ v. ok_or v (fault_at number 0)) place vs
+values-each number place [] = refl
+values-each number place (None ∷ vs) = refl
+values-each number place (Some y ∷ vs) = ap (λ r. r >>= λ ys. Ok (y ∷ ys)) (values-each number (place + 1) vs)
+
+pub values-two : {Y : Type 0} (number : FaultNo) (vs ws : List (Option Y)) → values_from number 0 (vs ++ ws) ≡ in_two (length vs) (values_from number 0 vs) (values_from number 0 ws)
+values-two number vs ws =
+    values-each number 0 (vs ++ ws)
+    ∙ at_segment-two (λ v. ok_or v (fault_at number 0)) vs ws
+    ∙ (λ i. in_two (length vs) (sym (values-each number 0 vs) i) (sym (values-each number 0 ws) i))
