@@ -1,11 +1,12 @@
--- A scan in parts.
+-- Scans and reduces in parts.
 use Rattle.std.proofs.Common.{◌≡◌, Bool, IsTrue, List, [], ◌∷◌, ◌++◌, map, refl, sym, ap, ◌∙◌}
-use Rattle.std.specs.List.{All, AllPass}
-use Rattle.cvl_base.specs.Folds.{fold_of, fronts, scan_of}
+use Rattle.std.specs.List.{All, AllPass, fold}
+use Rattle.cvl_base.specs.Folds.{fold_of, scan_of}
 use Rattle.cvl_base.specs.Lists.{joined}
 use Rattle.cvl_base.specs.Monoid.{MonoidLaws}
 use Rattle.operators.proofs.FoldLaws.{fold_from, fold_of_is_item, scan_of-append, scan_of-cons}
 use Rattle.std.proofs.lemmas.List.Elements.{All-head, All-tail}
+use Rattle.std.proofs.lemmas.List.Sums.{fold-append}
 use Rattle.call_laws.specs.InParts.{scans_after}
 
 module _ {Item : Type 0} {is_item : Item → Bool} {unit : Item} {join : Item → Item → Item} (laws : MonoidLaws is_item unit join) where
@@ -22,3 +23,13 @@ module _ {Item : Type 0} {is_item : Item → Bool} {unit : Item} {join : Item �
       ∙ ap (λ b. scan_of join before xs ++ scan_of join b (joined parts)) (fold_from laws before xs is own)
       ∙ ap (λ sums. scan_of join before xs ++ sums) (scan-parts next parts next_is rest)
       ∙ sym (ap (λ befores. joined (scans_after join befores (xs ∷ parts))) (scan_of-cons join before sum (map (fold_of join unit) parts)))
+
+  pub fold-parts : (before : Item) (parts : List (List Item)) → IsTrue (is_item before) → All (AllPass is_item) parts
+      → fold join before (joined parts) ≡ fold join before (map (fold_of join unit) parts)
+  fold-parts before [] is items = refl
+  fold-parts before (xs ∷ parts) is items =
+      let own = All-head (AllPass is_item) xs parts items in
+      let next_is : IsTrue (is_item (join before (fold_of join unit xs))) = laws.join_is_item before (fold_of join unit xs) is (fold_of_is_item laws xs own) in
+      fold-append join before xs (joined parts)
+      ∙ ap (λ b. fold join b (joined parts)) (fold_from laws before xs is own)
+      ∙ fold-parts (join before (fold_of join unit xs)) parts next_is (All-tail (AllPass is_item) xs parts items)

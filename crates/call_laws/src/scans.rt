@@ -22,3 +22,9 @@ pub fn know_scans_in_parts<M: Monoid>()
         scan_of M.join M.unit (joined parts)
         ≡ joined (scans_after M.join (scan_of M.join M.unit (map (fold_of M.join M.unit) parts)) parts) }
 {}
+
+/// A reduce in parts: the reduce of a vector is that of its parts' reduces.
+pub fn know_reduces_in_parts<M: Monoid>()
+    ensures { (parts : List (List M.Item)) → All (AllPass M.is_item) parts →
+        fold_of M.join M.unit (joined parts) ≡ fold_of M.join M.unit (map (fold_of M.join M.unit) parts) }
+{}
