@@ -1,5 +1,6 @@
 mod Cuts
 pub mod BackPermutes
+pub mod Carries
 pub mod CutResults
 pub mod Defaulting
 pub mod ElementPlaces
@@ -12,6 +13,7 @@ pub mod PermuteFaults
 pub mod PlaceByPlace
 pub mod Places
 pub mod Segments
+pub mod SegmentsInTwo
 pub mod Selecting
 pub mod Sending
 pub mod Destinations

@@ -127,7 +127,7 @@ one_result : {X : Type 0} (lengths : List ℕ) (r : Result (List X) Fault) → (
 one_result lengths (Ok xs) = refl
 one_result lengths (Err f) = refl
 
-flat-again : {S X : Type 0} (lengths : List ℕ) (call : S → Result (List X) Fault) (x : S) → end_to_end (in_vector lengths) call (Ok (x ∷ [])) ≡ call x
+pub flat-again : {S X : Type 0} (lengths : List ℕ) (call : S → Result (List X) Fault) (x : S) → end_to_end (in_vector lengths) call (Ok (x ∷ [])) ≡ call x
 flat-again lengths call x = one_result lengths (call x) ∙ alone lengths (call x)
 
 -- a call of two vectors that must be equally long

@@ -1,3 +1,4 @@
+pub mod Carried
 pub mod CutAgain
 pub mod InParts
 pub mod Permuted

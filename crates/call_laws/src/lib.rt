@@ -4,6 +4,7 @@
 //! the field means by the call is refused here.
 #![tactic(auto)]
 
+pub mod cut_segments;
 pub mod descriptors;
 pub mod distributes;
 pub mod elementwise;
