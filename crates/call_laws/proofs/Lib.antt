@@ -1,6 +1,7 @@
 mod Cuts
 pub mod BackPermutes
 pub mod Carries
+pub mod CheckedInTwo
 pub mod CutResults
 pub mod Defaulting
 pub mod ElementPlaces

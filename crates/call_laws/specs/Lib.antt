@@ -1,4 +1,5 @@
 pub mod Carried
+pub mod CheckedParts
 pub mod CutAgain
 pub mod InParts
 pub mod Permuted

@@ -4,6 +4,7 @@
 //! the field means by the call is refused here.
 #![tactic(auto)]
 
+pub mod checked_sums;
 pub mod cut_segments;
 pub mod descriptors;
 pub mod distributes;
