@@ -9,6 +9,7 @@ pub mod FirstBadPlaces
 pub mod FirstNegatives
 pub mod InParts
 pub mod LeastFaults
+pub mod MadeInTwo
 pub mod Packing
 pub mod PermuteFaults
 pub mod PlaceByPlace
