@@ -1,5 +1,6 @@
 mod Cuts
 pub mod BackPermutes
+pub mod ByRanges
 pub mod Carries
 pub mod CheckedInTwo
 pub mod CutResults

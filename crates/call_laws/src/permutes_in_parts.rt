@@ -1,11 +1,53 @@
 //! Laws of permutes in parts, each a function that takes and gives nothing and whose contract is the law.
 
-ghost use Rattle.std.specs.Prelude.{◌≡◌, ℤ, List, ◌++◌, length};
+ghost use Rattle.std.specs.Prelude.{◌≡◌, ◌+◌, ◌≤◌, ℕ, ℤ, Bool, Option, List, ◌++◌, length};
 ghost use Rattle.call_laws.specs.InParts.{in_two};
-ghost use Rattle.cvl_base.specs.Permutes.{back_of};
+ghost use Rattle.call_laws.specs.ResultRanges.{count_in, written_in};
+ghost use Rattle.cvl_base.specs.Limits.{most_elements};
+ghost use Rattle.cvl_base.specs.Packs.{count_of};
+ghost use Rattle.cvl_base.specs.Permutes.{all_destinations, back_of, default_of, flagged_destinations, select_of, simple_of};
 
 /// A back permute by an index that is cut in two is the back permutes by the two parts, each from the whole source.
 pub fn back_permute_in_parts<T>()
     ensures { (source : List T) (index more : List ℤ) →
         back_of source (index ++ more) ≡ in_two (length index) (back_of source index) (back_of source more) }
+{}
+
+/// A range of a permute's result that is cut in two is written as the two ranges are, and its count is theirs added.
+pub fn range_in_parts<T>()
+    ensures written { (source : List T) (destinations : List (Option ℤ)) (low : ℕ) (room more : List T) →
+        written_in source destinations low (room ++ more)
+        ≡ written_in source destinations low room ++ written_in source destinations (low + length room) more }
+    ensures counted { (destinations : List (Option ℤ)) (low n m : ℕ) →
+        count_in destinations low (n + m) ≡ count_in destinations low n + count_in destinations (low + n) m }
+{}
+
+/// A simple permute by ranges of its result: it has one exactly where as many places are sent something as there are indices,
+/// and that is then what was written, over any room of its length.
+pub fn simple_permute_by_ranges<T>()
+    ensures written { (source room : List T) (index : List ℤ) → length source ≡ length index → length index ≤ most_elements →
+        length room ≡ length index → count_in (all_destinations index) 0 (length room) ≡ length index →
+        simple_of source index ≡ Ok (written_in source (all_destinations index) 0 room) }
+    ensures counted { (source room result : List T) (index : List ℤ) → length source ≡ length index → length index ≤ most_elements →
+        length room ≡ length index → simple_of source index ≡ Ok result →
+        count_in (all_destinations index) 0 (length room) ≡ length index }
+{}
+
+/// The same of a select permute, in which as many indices take part as there are true flags.
+pub fn select_permute_by_ranges<T>()
+    ensures written { (source room : List T) (index : List ℤ) (flags : List Bool) → length source ≡ length index → length index ≤ most_elements →
+        length index ≡ length flags → length room ≡ count_of flags → count_in (flagged_destinations index flags) 0 (length room) ≡ count_of flags →
+        select_of source index flags ≡ Ok (written_in source (flagged_destinations index flags) 0 room) }
+    ensures counted { (source room result : List T) (index : List ℤ) (flags : List Bool) → length source ≡ length index → length index ≤ most_elements →
+        length index ≡ length flags → length room ≡ count_of flags → select_of source index flags ≡ Ok result →
+        count_in (flagged_destinations index flags) 0 (length room) ≡ count_of flags }
+{}
+
+/// The same of a default permute, whose room holds the defaults.
+pub fn default_permute_by_ranges<T>()
+    ensures written { (source defaults : List T) (index : List ℤ) → length source ≡ length index → length index ≤ most_elements →
+        count_in (all_destinations index) 0 (length defaults) ≡ length index →
+        default_of source index defaults ≡ Ok (written_in source (all_destinations index) 0 defaults) }
+    ensures counted { (source defaults result : List T) (index : List ℤ) → length source ≡ length index → length index ≤ most_elements →
+        default_of source index defaults ≡ Ok result → count_in (all_destinations index) 0 (length defaults) ≡ length index }
 {}
