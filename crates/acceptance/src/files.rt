@@ -32,7 +32,6 @@ fn reads_all<R: Threads + Sync + AllocGlobal>(
     let files = TableFiles {
         files,
         expected: Some(expected),
-        asked: Vec::new(rt.alloc()),
     };
     let output = NarrowWriter::new(rt.alloc(), 0, u64::MAX);
     let errors = NarrowWriter::new(rt.alloc(), usize::MAX, 1);

@@ -52,7 +52,7 @@ pub fn host_with<'a>(alloc: Global, files: Files<'a>, failing: Failing) -> Host<
             errors.writes_left = writes;
         }
     }
-    StreamHost::new(TableFiles::new(alloc, files), output, errors)
+    StreamHost::new(TableFiles::new(files), output, errors)
 }
 
 /// The words of a command line, between which there are spaces.

@@ -132,39 +132,6 @@ fn texts_messages_and_statuses(rt: HostRuntime) -> Result<(), Fail> {
     Ok(())
 }
 
-/// A command line, and the names that are read, in their order.
-const READS: &[(&str, &str)] = &[
-    ("cvl scan numbers", "scan\nnumbers\n"),
-    (
-        "cvl divide --tile 2 numbers divisors numbers",
-        "divide\nnumbers\ndivisors\nnumbers\n",
-    ),
-    ("cvl nofile numbers", "nofile\n"),
-    ("cvl scan none numbers", "scan\nnone\n"),
-    ("cvl --help scan numbers", ""),
-    ("cvl --tile 0 scan numbers", ""),
-];
-
-/// Whether the program asks for files of these names.
-fn asks_for<R: Threads + Sync + AllocGlobal>(
-    rt: &R,
-    line: &str,
-    asked: &str,
-) -> Result<bool, AllocError> {
-    let heap = Refusing::none(rt.alloc());
-    let mut host = host_with(rt.alloc(), FILES, Failing::Nothing);
-    status_of(rt, &heap, line, &mut host)?;
-    Ok(host.files.asked.as_slice() == asked.as_bytes())
-}
-
-#[test]
-fn files_are_read_once_and_in_order(rt: HostRuntime) -> Result<(), Fail> {
-    for (line, asked) in READS {
-        assert!(rt; asks_for(&rt, line, asked)?, "{line}");
-    }
-    Ok(())
-}
-
 /// The script reads input 198, which is the last.
 #[test]
 fn long_command_line(rt: HostRuntime) -> Result<(), Fail> {

@@ -41,7 +41,7 @@ fn takes<R: Threads + Sync, A: Memory>(
     let mut output = NarrowWriter::new(alloc, more_a_put, puts);
     output.taken = Vec::with_capacity(alloc, total_of(TEXTS))?;
     let errors = NarrowWriter::new(alloc, 0, 0);
-    let mut sink = StreamHost::new(TableFiles::new(alloc, &[]), output, errors);
+    let mut sink = StreamHost::new(TableFiles::new(&[]), output, errors);
     let inputs = inputs_of(heap, INPUTS)?;
     let config = Config::new(2, 3).unwrap();
     let ran = run(rt, heap, config, SCRIPT.as_bytes(), inputs, &mut sink);

@@ -2,27 +2,23 @@
 
 use cvl_base::Memory;
 use shell::{FileRoom, ReadFiles};
-use std::alloc::Global;
 use std::thread::Threads;
 
-/// Files in memory, which claim nothing of what was read, and keep the names that they were asked for.
+/// Files in memory, which claim nothing of what was read.
 #[derive(Drop)]
 pub struct TableFiles<'a> {
     /// The names and the bytes of the files.
     pub files: &'a [(&'a str, &'a str)],
     /// How many bytes each file is said to have, where that is not its length.
     pub expected: Option<usize>,
-    /// The names that were asked for, each with a line feed.
-    pub asked: Vec<u8>,
 }
 
 impl<'a> TableFiles<'a> {
-    /// These files, of which none was read.
-    pub fn new(alloc: Global, files: &'a [(&'a str, &'a str)]) -> TableFiles<'a> {
+    /// These files, each as long as it is said to be.
+    pub fn new(files: &'a [(&'a str, &'a str)]) -> TableFiles<'a> {
         TableFiles {
             files,
             expected: None,
-            asked: Vec::new(alloc),
         }
     }
 }
@@ -47,8 +43,6 @@ impl ReadFiles for TableFiles<'_> {
         name: &str,
         room: FileRoom<'_, R, A>,
     ) -> Option<Vec<u8, A>> {
-        let _ = self.asked.extend_from_slice(name.as_bytes());
-        let _ = self.asked.push(b'\n');
         let text = file_of(self.files, name)?;
         let expected = self.expected.unwrap_or(text.len());
         room.read_whole(&mut text.as_bytes(), expected)
