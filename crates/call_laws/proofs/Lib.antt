@@ -20,4 +20,5 @@ pub mod SegmentsInTwo
 pub mod Selecting
 pub mod Sending
 pub mod Destinations
+pub mod TextsInTwo
 pub mod TwoParts

@@ -16,3 +16,4 @@ pub mod permutes;
 pub mod permutes_in_parts;
 pub mod scans;
 pub mod segmented;
+pub mod texts;
