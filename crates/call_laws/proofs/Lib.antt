@@ -22,3 +22,4 @@ pub mod Sending
 pub mod Destinations
 pub mod TextsInTwo
 pub mod TwoParts
+pub mod VectorsInTwo

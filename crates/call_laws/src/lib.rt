@@ -6,6 +6,7 @@
 
 pub mod checked_sums;
 pub mod cut_segments;
+pub mod cut_vectors;
 pub mod descriptors;
 pub mod distributes;
 pub mod elementwise;
