@@ -1,5 +1,5 @@
 -- Checked sums in parts.
-use Rattle.std.proofs.Common.{◌≡◌, ℕ, ◌+◌, ◌*◌, ◌^◌, ◌≤◌, true, List, [], ◌∷◌, ◌++◌, length, map, refl, sym, ap, ◌∙◌, arith, inl, inr, length-append, ℤ, pos, ◌+ℤ◌, ◌≤ℤ◌, w64, FitsSigned, Ok, Err, Result}
+use Rattle.std.proofs.Common.{◌≡◌, ℕ, ◌+◌, ◌*◌, ◌^◌, ◌≤◌, true, List, [], ◌∷◌, ◌++◌, length, map, refl, sym, ap, ◌∙◌, arith, inl, inr, length-append, ℤ, pos, ◌+ℤ◌, ◌≤ℤ◌, w64, FitsSigned, Ok, Err, Result, suc, take, drop}
 use Rattle.std.specs.Prelude.{sum}
 use Rattle.std.specs.List.{fold, AllPass}
 use Rattle.std.specs.Option.{ok_or}
@@ -21,14 +21,15 @@ use Rattle.cvl_base.specs.ItemWords.{is_number}
 use Rattle.cvl_base.specs.Lists.{joined}
 use Rattle.cvl_base.specs.Nests.{nest, cut_of}
 use Rattle.cvl_base.specs.Segmented.{at_segment, end_to_end, in_vector, moved, one_each, results_from}
+use Rattle.cvl_base.specs.SegmentedCalls.{seg_reduce_of, seg_scan_of}
 use Rattle.cvl_base.proofs.Lists.{sum-cons}
-use Rattle.cvl_base.proofs.Nests.{joined-cut, lengths-cut, nest-fits, nest-misfits}
+use Rattle.cvl_base.proofs.Nests.{joined-cut, length-cut, lengths-cut, nest-fits, nest-misfits}
 use Rattle.operators.proofs.FoldLaws.{length-scan_of, scan_of-append}
 use Rattle.operators.specs.NumberLaws.{fits-is_number}
 use Rattle.call_laws.specs.Carried.{each_after, seg_scan_after, seg_reduce_after}
 use Rattle.call_laws.specs.CheckedParts.{all_fitting, checked_scan_after, checked_seg_scan_after, checked_seg_reduce_after}
 use Rattle.call_laws.specs.InParts.{in_two}
-use Rattle.call_laws.proofs.Carries.{each-plain, reduce-inside, scan-inside}
+use Rattle.call_laws.proofs.Carries.{each-plain, reduce-between, reduce-inside, reduce-plain, scan-between, scan-inside, scan-plain}
 use Rattle.call_laws.proofs.Segments.{flat-again}
 use Rattle.call_laws.proofs.SegmentsInTwo.{lists-between}
 use Rattle.call_laws.proofs.TwoParts.{values-each, values-two}
@@ -69,14 +70,14 @@ length-each carry [] = refl
 length-each carry (xs ∷ segments) =
     omega (arith, length-append (scan_of ◌+ℤ◌ carry xs) (joined (map totals_of segments)), length-append xs (joined segments), length-scan_of ◌+ℤ◌ carry xs, length-scans segments)
 
--- a result that has as many places as its part
-fitting-parts : (n : ℕ) (zs ws : List ℤ) (first second : Result (List ℤ) Fault) → first ≡ Ok zs → second ≡ Ok ws → length zs ≡ n
-    → (in_two n first second >>= all_fitting) ≡ in_two n (first >>= all_fitting) (second >>= all_fitting)
-fitting-parts n zs ws first second is_first is_second long =
+-- two lists of sums, the first of which has so many
+fitting-parts : (n m : ℕ) (zs ws : List ℤ) (first second : Result (List ℤ) Fault) → first ≡ Ok zs → second ≡ Ok ws → length zs ≡ m
+    → (in_two n first second >>= all_fitting) ≡ in_two m (first >>= all_fitting) (second >>= all_fitting)
+fitting-parts n m zs ws first second is_first is_second long =
     (λ i. in_two n (is_first i) (is_second i) >>= all_fitting)
     ∙ fitting-two zs ws
     ∙ ap (λ k. in_two k (all_fitting zs) (all_fitting ws)) long
-    ∙ (λ i. in_two n (sym is_first i >>= all_fitting) (sym is_second i >>= all_fitting))
+    ∙ (λ i. in_two m (sym is_first i >>= all_fitting) (sym is_second i >>= all_fitting))
 
 scan-fits : (carry : ℤ) (xs : List ℤ) (lengths : List ℕ) → sum lengths ≡ length xs
     → seg_scan_after ◌+ℤ◌ (pos 0) carry xs lengths ≡ Ok (joined (each_after (scan_of ◌+ℤ◌) (pos 0) carry (cut_of lengths xs)))
@@ -91,7 +92,7 @@ module _ (carry : ℤ) (lengths : List ℕ) (m n : ℕ) (more : List ℕ) (xs ys
       let front = lengths ++ m ∷ [] in
       let all : sum front ≡ length xs = omega (arith, total, sum_by-append (λ (k : ℕ). k) lengths (m ∷ []), sum-cons m []) in
       ap (λ r. r >>= all_fitting) (scan-inside ◌+ℤ◌ (pos 0) carry lengths m n more xs ys closed out total also_total reduced)
-      ∙ fitting-parts (length xs) (joined (each_after (scan_of ◌+ℤ◌) (pos 0) carry (cut_of front xs))) (joined (each_after (scan_of ◌+ℤ◌) (pos 0) out (cut_of (n ∷ more) ys)))
+      ∙ fitting-parts (length xs) (length xs) (joined (each_after (scan_of ◌+ℤ◌) (pos 0) carry (cut_of front xs))) (joined (each_after (scan_of ◌+ℤ◌) (pos 0) out (cut_of (n ∷ more) ys)))
       (seg_scan_after ◌+ℤ◌ (pos 0) carry xs front) (seg_scan_after ◌+ℤ◌ (pos 0) out ys (n ∷ more))
       (scan-fits carry xs front all) (scan-fits out ys (n ∷ more) (omega (arith, also_total, sum-cons n more)))
       (length-each carry (cut_of front xs) ∙ ap length (joined-cut front xs all))
@@ -150,6 +151,34 @@ checked_reduce-plain xs lengths = by_segments (nest lengths xs)
         → ((segments >>= λ ss. Ok (each_after (fold_of ◌+ℤ◌) (pos 0) (pos 0) ss)) >>= all_fitting) ≡ one_each at_segment checked_reduce_of segments
     by_segments (Ok ss) = ap all_fitting (each-plain (fold_of ◌+ℤ◌) (pos 0) ss) ∙ reduces-tested ss
     by_segments (Err e) = refl
+
+-- ---- cut between segments, of which the first part has one at least
+
+module _ (carry : ℤ) (k : ℕ) (lengths more : List ℕ) (xs ys : List ℤ) (total : sum (k ∷ lengths) ≡ length xs) (also_total : sum more ≡ length ys) where
+  pub checked_scan-between : checked_seg_scan_after carry (xs ++ ys) ((k ∷ lengths) ++ more)
+      ≡ in_two (length xs) (checked_seg_scan_after carry xs (k ∷ lengths)) (checked_seg_scan_of ys more)
+  checked_scan-between =
+      ap (λ r. r >>= all_fitting) (scan-between ◌+ℤ◌ (pos 0) carry k lengths more xs ys total also_total)
+      ∙ fitting-parts (length xs) (length xs) (joined (each_after (scan_of ◌+ℤ◌) (pos 0) carry (cut_of (k ∷ lengths) xs))) (joined (each_after (scan_of ◌+ℤ◌) (pos 0) (pos 0) (cut_of more ys)))
+      (seg_scan_after ◌+ℤ◌ (pos 0) carry xs (k ∷ lengths)) (seg_scan_of ◌+ℤ◌ (pos 0) ys more)
+      (scan-fits carry xs (k ∷ lengths) total) (sym (scan-plain ◌+ℤ◌ (pos 0) ys more) ∙ scan-fits (pos 0) ys more also_total)
+      (length-each carry (cut_of (k ∷ lengths) xs) ∙ ap length (joined-cut (k ∷ lengths) xs total))
+      ∙ ap (in_two (length xs) (checked_seg_scan_after carry xs (k ∷ lengths)))
+      (ap (λ r. r >>= all_fitting) (sym (scan-plain ◌+ℤ◌ (pos 0) ys more)) ∙ checked_scan-plain ys more)
+
+  pub checked_reduce-between : checked_seg_reduce_after carry (xs ++ ys) ((k ∷ lengths) ++ more)
+      ≡ in_two (length (k ∷ lengths)) (checked_seg_reduce_after carry xs (k ∷ lengths)) (checked_seg_reduce_of ys more)
+  checked_reduce-between =
+      let segments = cut_of lengths (drop k xs) in
+      let sums = each_after (fold_of ◌+ℤ◌) (pos 0) in
+      ap (λ r. r >>= all_fitting) (reduce-between ◌+ℤ◌ (pos 0) carry k lengths more xs ys total also_total)
+      ∙ fitting-parts (length xs) (length (k ∷ lengths)) (sums carry (take k xs ∷ segments)) (sums (pos 0) (cut_of more ys))
+      (seg_reduce_after ◌+ℤ◌ (pos 0) carry xs (k ∷ lengths)) (seg_reduce_of ◌+ℤ◌ (pos 0) ys more)
+      (ap (λ r. r >>= λ ss. Ok (sums carry ss)) (nest-fits (k ∷ lengths) xs total))
+      (sym (reduce-plain ◌+ℤ◌ (pos 0) ys more) ∙ ap (λ r. r >>= λ ss. Ok (sums (pos 0) ss)) (nest-fits more ys also_total))
+      (ap suc (length-map segments (fold_of ◌+ℤ◌ (pos 0)) ∙ length-cut lengths (drop k xs)))
+      ∙ ap (in_two (length (k ∷ lengths)) (checked_seg_reduce_after carry xs (k ∷ lengths)))
+      (ap (λ r. r >>= all_fitting) (sym (reduce-plain ◌+ℤ◌ (pos 0) ys more)) ∙ checked_reduce-plain ys more)
 
 -- ---- how large a carry may get
 

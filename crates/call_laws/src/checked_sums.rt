@@ -24,20 +24,27 @@ pub fn checked_sums_in_parts()
         checked_reduce_of (xs ++ ys) ≡ ok_or (fitting (total_of xs +ℤ total_of ys)) (fault_at no.Overflow 0) }
 {}
 
-/// Checked scans and reduces by segments in two parts, cut inside a segment: the second part goes on from the last of the first
-/// part's reduces over whole numbers. The fault of a reduce stands at its segment.
+/// Checked scans and reduces by segments in two parts. Where the cut lies inside a segment, the second part goes on from the
+/// last of the first part's reduces over whole numbers; behind a cut between segments it starts anew. The fault of a reduce
+/// stands at its segment.
 pub fn checked_segments_in_parts()
     ensures scan { (carry out : ℤ) (xs ys closed : List ℤ) (lengths more : List ℕ) (m n : ℕ) →
         sum lengths + m ≡ length xs → n + sum more ≡ length ys →
         seg_reduce_after ◌+ℤ◌ (pos 0) carry xs (lengths ++ m ∷ []) ≡ Ok (closed ++ out ∷ []) →
         checked_seg_scan_after carry (xs ++ ys) (lengths ++ (m + n) ∷ more)
         ≡ in_two (length xs) (checked_seg_scan_after carry xs (lengths ++ m ∷ [])) (checked_seg_scan_after out ys (n ∷ more)) }
+    ensures scan_between { (carry : ℤ) (xs ys : List ℤ) (k : ℕ) (lengths more : List ℕ) → sum (k ∷ lengths) ≡ length xs → sum more ≡ length ys →
+        checked_seg_scan_after carry (xs ++ ys) ((k ∷ lengths) ++ more)
+        ≡ in_two (length xs) (checked_seg_scan_after carry xs (k ∷ lengths)) (checked_seg_scan_of ys more) }
     ensures scan_call { (xs : List ℤ) (lengths : List ℕ) → checked_seg_scan_after (pos 0) xs lengths ≡ checked_seg_scan_of xs lengths }
     ensures reduce { (carry out : ℤ) (xs ys closed : List ℤ) (lengths more : List ℕ) (m n : ℕ) →
         sum lengths + m ≡ length xs → n + sum more ≡ length ys →
         seg_reduce_after ◌+ℤ◌ (pos 0) carry xs (lengths ++ m ∷ []) ≡ Ok (closed ++ out ∷ []) →
         checked_seg_reduce_after carry (xs ++ ys) (lengths ++ (m + n) ∷ more)
         ≡ in_two (length closed) (all_fitting closed) (checked_seg_reduce_after out ys (n ∷ more)) }
+    ensures reduce_between { (carry : ℤ) (xs ys : List ℤ) (k : ℕ) (lengths more : List ℕ) → sum (k ∷ lengths) ≡ length xs → sum more ≡ length ys →
+        checked_seg_reduce_after carry (xs ++ ys) ((k ∷ lengths) ++ more)
+        ≡ in_two (length (k ∷ lengths)) (checked_seg_reduce_after carry xs (k ∷ lengths)) (checked_seg_reduce_of ys more) }
     ensures reduce_call { (xs : List ℤ) (lengths : List ℕ) → checked_seg_reduce_after (pos 0) xs lengths ≡ checked_seg_reduce_of xs lengths }
 {}
 

@@ -1,4 +1,4 @@
-use Rattle.call_laws.proofs.CheckedInTwo.{checked_scan-inside, checked_scan-plain, checked_reduce-inside, checked_reduce-plain}
+use Rattle.call_laws.proofs.CheckedInTwo.{checked_scan-between, checked_scan-inside, checked_scan-plain, checked_reduce-between, checked_reduce-inside, checked_reduce-plain}
 use Rattle.call_laws.proofs.checked_sums.checked_segments_in_parts.Goals as goal
 
 pub returns-clause-scan : goal.returns-clause-scan
@@ -12,3 +12,9 @@ returns-clause-reduce c = λ carry out xs ys closed lengths more m n. checked_re
 
 pub returns-clause-reduce_call : goal.returns-clause-reduce_call
 returns-clause-reduce_call c = checked_reduce-plain
+
+pub returns-clause-scan_between : goal.returns-clause-scan_between
+returns-clause-scan_between c = λ carry xs ys k lengths more. checked_scan-between carry k lengths more xs ys
+
+pub returns-clause-reduce_between : goal.returns-clause-reduce_between
+returns-clause-reduce_between c = λ carry xs ys k lengths more. checked_reduce-between carry k lengths more xs ys
