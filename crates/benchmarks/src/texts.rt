@@ -90,11 +90,16 @@ fn nest_of(alloc: Global, list: &[u8]) -> Result<Vec<u8>, AllocError> {
 }
 
 /// Reads a list of lists several times, and gives the best time.
-fn best_nested_reading<R: Clock>(rt: &R, alloc: Global, input: &[u8]) -> io::Result<Duration> {
+fn best_nested_reading<R: Clock + Threads + Sync>(
+    rt: &R,
+    alloc: Global,
+    config: Config,
+    input: &[u8],
+) -> io::Result<Duration> {
     let mut best = Duration::MAX;
     for _ in 0..ROUNDS {
         let start = Instant::now(rt)?;
-        let answer = read_nested(alloc, input);
+        let answer = read_nested(rt, alloc, config, input);
         let time = start.elapsed(rt)?;
         if answer.is_ok() {
             best = best.min(time);
@@ -155,7 +160,7 @@ pub fn measure<R: Print + Clock + Threads + Sync>(
             print_rate(rt, case.reading, input.len(), time)?;
         }
         if let Ok(nest) = nest_of(alloc, &text) {
-            let time = best_nested_reading(rt, alloc, &nest)?;
+            let time = best_nested_reading(rt, alloc, config, &nest)?;
             print_rate(rt, case.reading_nested, nest.len(), time)?;
         }
     }

@@ -4,6 +4,7 @@ pub mod DigitLanes
 pub mod InputWalk
 pub mod NestedBack
 pub mod NestedMarks
+pub mod NestedPieces
 pub mod NestedTokens
 pub mod NumberWalk
 pub mod PieceWalk

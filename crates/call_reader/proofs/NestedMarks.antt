@@ -22,7 +22,7 @@ use Rattle.call_reader.specs.NestedReads.{is_closing, is_number, begin_with}
 use Rattle.call_reader.specs.NestedTexts.{with_number, lists_from, flat_nest, nested_of, marks_of, list_marks, nest_marks, IsNestedText}
 use Rattle.call_reader.specs.NestedReads.{is_no_mark, ArePushed, AreListsRead, IsNestRead, IsFaultAt, HasRoom}
 
-count-cons : (p : Mark → Bool) (m : Mark) (ms : List Mark) → count_by p (m ∷ ms) ≡ cond (p m) 1 0 + count_by p ms
+pub count-cons : (p : Mark → Bool) (m : Mark) (ms : List Mark) → count_by p (m ∷ ms) ≡ cond (p m) 1 0 + count_by p ms
 count-cons p m ms = sum_by-cons (λ x. cond (p x) 1 0) m ms
 
 pub count-append : (p : Mark → Bool) (ms ns : List Mark) → count_by p (ms ++ ns) ≡ count_by p ms + count_by p ns

@@ -8,6 +8,8 @@ pub mod line_laws;
 mod line_tokens;
 mod lines;
 pub mod nested_laws;
+mod nested_pieces;
+mod nested_reads;
 mod nested_texts;
 mod nested_tokens;
 mod number;
@@ -19,6 +21,6 @@ mod vector_reads;
 
 pub use inputs::{read_vector_alone, worked_inputs};
 pub use lines::read_line;
-pub use nested_texts::read_nested;
+pub use nested_reads::{read_nested, read_nested_alone};
 pub use value_texts::put_value;
 pub use vector_reads::read_vector;

@@ -48,7 +48,7 @@ fn count_between(start: usize, end: usize) -> i32
 /// Reads the inner lists of a nested text, of which the bytes are what stands after its first `[`, into empty vectors: the
 /// numbers, and how many each list has. It returns what stands after the last of them, or the place in the text of the
 /// first token that can't stand there.
-fn read_lists<'a, A: Allocator>(
+pub(crate) fn read_lists<'a, A: Allocator>(
     bytes: &'a [u8],
     numbers: &mut Vec<i32, A>,
     lengths: &mut Vec<i32, A>,
@@ -123,16 +123,15 @@ fn fault_there(bytes: &[u8], place: usize) -> Fault
     }
 }
 
-/// Reads a nested text: `[`, any number of inner lists, `]`, where an inner list is `[`, signed decimals between white space,
-/// `]`. It gives the numbers of all inner lists, one list after another, and the descriptor of the lists' lengths.
-///
-/// Its faults are `TooLong`, without a place, where there are more tokens other than brackets than 4,194,304 or more `[`
-/// than 4,194,305, whatever they are; and else `BadInput` at the first token that can't stand there, counted from 0, or at
-/// the number of tokens where they end too early. Where room is refused, it answers `NoResources`.
-pub fn read_nested<A: Memory>(alloc: A, bytes: &[u8]) -> Result<(Vec<i32, A>, SegDes<A>), Refused>
-    ensures values { Gives (λ p. (p.0.items, p.1)) result (nested_of bytes.now) }
-    ensures total { IfOk result (λ p. sum p.1 ≡ vec_len p.0) }
-    ensures in_limit { IfOk result (λ p. vec_len p.0 ≤ most_elements) }
+/// The numbers of all inner lists and how many each list has, as the thread that calls reads them.
+pub(crate) fn nest_alone<A: Memory>(
+    alloc: A,
+    bytes: &[u8],
+) -> Result<(Vec<i32, A>, Vec<i32, A>), Refused>
+    ensures read { MatchResult result
+        (λ p. IsNestRead bytes.now p.0.items p.1.items)
+        (λ refused. Gives (λ p. p) (Err refused) (nested_of bytes.now)) }
+    ensures few { IfOk result (λ p. (vec_len p.0 ≤ most_elements) × (vec_len p.1 ≤ most_elements)) }
 {
     // each token has a byte
     let room = bytes.len().min(MOST_ELEMENTS);
@@ -141,6 +140,5 @@ pub fn read_nested<A: Memory>(alloc: A, bytes: &[u8]) -> Result<(Vec<i32, A>, Se
     if let Err(place) = read_nest(bytes, &mut numbers, &mut lengths) {
         return Err(Refused::Fault(fault_there(bytes, place)));
     }
-    let descriptor = SegDes::new(alloc, Lengths::from_vec(lengths))?;
-    Ok((numbers, descriptor))
+    Ok((numbers, lengths))
 }

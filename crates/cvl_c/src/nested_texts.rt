@@ -11,7 +11,7 @@ ghost use Rattle.value_texts.specs.Texts.{boolean_text};
 use c_calls::nested_texts::text;
 use c_calls::status::{CvlStatus, told_in_front};
 use c_calls::told_nest::told_nest;
-use call_reader::read_nested;
+use call_reader::read_nested_alone;
 use std::alloc::Global;
 
 /// The integers of a nested text, and the lengths of its lists.
@@ -27,7 +27,7 @@ pub extern "C" fn cvl_seg_read_ints(
     ensures { FrontsToldOr (with_lengths (nested_of text.now)) result
         (out.old, lengths.old) (out.new, lengths.new) (count.old, segments.old) (count.new, segments.new) }
 {
-    told_nest(read_nested(alloc, text), out, count, lengths, segments)
+    told_nest(read_nested_alone(alloc, text), out, count, lengths, segments)
 }
 
 /// The text of the integers, cut into segments, in brackets.

@@ -53,9 +53,11 @@ impl<A: Memory> Session<A> {
         }
         self.value_of_call(rt, op, &operands, gate)
     }
+
     /// Binds both names to the two values that a call gives, or neither.
-    pub(crate) fn bind_both(
+    pub(crate) fn bind_both<R: Threads + Sync>(
         &mut self,
+        rt: &R,
         first: &Name,
         second: &Name,
         op: Op,
@@ -67,15 +69,16 @@ impl<A: Memory> Session<A> {
         ensures inputs { self.new.inputs ≡ self.old.inputs }
         ensures refused { OnErr result (self.new.names ≡ self.old.names) }
     {
-        let answer = self.values_for(first, second, op, args);
+        let answer = self.values_for(rt, first, second, op, args);
         bind_answers(&mut self.names, first, second, answer)
     }
 
     /// The two values that a call gives, to be bound to two names: the first fault of the arguments, `WrongArgumentCount`
     /// where the call binds one name or none, `TooManyNames` where the names bound and the new ones are together too many,
     /// and then the call's faults.
-    fn values_for(
+    fn values_for<R: Threads + Sync>(
         &self,
+        rt: &R,
         first: &Name,
         second: &Name,
         op: Op,
@@ -92,6 +95,6 @@ impl<A: Memory> Session<A> {
         if !is_room_for_both(&self.names, first, second) {
             return Err(Refused::Fault(Fault::new(FaultNo::TooManyNames)));
         }
-        self.pair_of_call(op, &operands)
+        self.pair_of_call(rt, op, &operands)
     }
 }

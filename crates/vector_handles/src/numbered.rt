@@ -40,15 +40,17 @@ pub(crate) fn integers_of_input<R: Threads + Sync, A: Memory>(
 }
 
 /// The integers of a nested input and their descriptor: an input that is a vector is no nested text, `BadInput` at 0.
-pub(crate) fn nest_of_input<A: Memory>(
+pub(crate) fn nest_of_input<R: Threads + Sync, A: Memory>(
+    rt: &R,
     alloc: A,
+    config: Config,
     input: &Input<A>,
 ) -> Result<(Vec<i32, A>, SegDes<A>), Refused>
     ensures meaning { Gives (λ nest. (nest.0.items, nest.1)) result (nest_of input.now) }
     ensures in_limit { IfOk result (λ nest. vec_len nest.0 ≤ most_elements) }
 {
     match input {
-        Input::Bytes(bytes) => read_nested(alloc, bytes.as_slice()),
+        Input::Bytes(bytes) => read_nested(rt, alloc, config, bytes.as_slice()),
         Input::Vector(_) => Err(Refused::Fault(Fault::at(FaultNo::BadInput, 0))),
     }
 }

@@ -11,11 +11,13 @@ use crate::session::Session;
 use bound_names::{Bound, Operands};
 use cvl_base::{Fault, FaultNo, Memory, Op, Refused};
 use segdes::SegDes;
+use std::thread::Threads;
 
 impl<A: Memory> Session<A> {
     /// The two values that a call gives; `WrongArgumentCount` for every call that gives one or none.
-    pub(crate) fn pair_of_call(
+    pub(crate) fn pair_of_call<R: Threads + Sync>(
         &self,
+        rt: &R,
         op: Op,
         operands: &Operands<'_, A>,
     ) -> Result<(Bound<A>, Bound<A>), Refused>
@@ -23,18 +25,24 @@ impl<A: Memory> Session<A> {
         ensures { IsTablePair self.now.inputs op operands.now result }
     {
         match op {
-            Op::Nested => self.pair_of_nested(operands),
+            Op::Nested => self.pair_of_nested(rt, operands),
             _ => Err(Refused::Fault(Fault::new(FaultNo::WrongArgumentCount))),
         }
     }
 
     /// `nested`: `NoSuchInput` where no input has that number, and the faults of reading it.
-    fn pair_of_nested(&self, operands: &Operands<'_, A>) -> Result<(Bound<A>, Bound<A>), Refused>
+    fn pair_of_nested<R: Threads + Sync>(
+        &self,
+        rt: &R,
+        operands: &Operands<'_, A>,
+    ) -> Result<(Bound<A>, Bound<A>), Refused>
         requires kinds { AreTaken op.Nested operands.now }
         ensures { IsTablePair self.now.inputs op.Nested operands.now result }
     {
         match self.input_asked_for(operands) {
-            Some(input) => bound_nest(self.alloc, nest_of_input(self.alloc, input)),
+            Some(input) => {
+                bound_nest(self.alloc, nest_of_input(rt, self.alloc, self.config, input))
+            }
             None => Err(Refused::Fault(Fault::new(FaultNo::NoSuchInput))),
         }
     }

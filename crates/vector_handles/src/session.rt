@@ -89,7 +89,7 @@ impl<A: Memory> Session<A> {
                 Ok(Shown::Nothing)
             }
             ResultNames::Two(first, second) => {
-                self.bind_both(&first, &second, call.op, args)?;
+                self.bind_both(rt, &first, &second, call.op, args)?;
                 Ok(Shown::Nothing)
             }
         }
