@@ -16,19 +16,19 @@ use Rattle.permute_walks.proofs.LastSent.{lasts_both, lasts_stored, length-last_
 use Rattle.permute_walks.proofs.Sent.{length-flagged_destinations, length-senders_of}
 use Rattle.permute_walks.proofs.Taken.{read_at, taken_flat, taken_over_flat}
 use Rattle.permute_walks.proofs.Written.{count_both, written_both}
-use Rattle.call_laws.specs.ResultRanges.{count_in, written_in}
+use Rattle.call_laws.specs.ResultRanges.{count_of_range, room_of_range}
 use Rattle.call_laws.proofs.Sending.{if_as_long-Ok, unless-Ok}
 
 -- ---- two ranges side by side are one
 
 pub range-cut : {X : Type 0} (source : List X) (ts : List (Option ℤ)) (low : ℕ) (room more : List X)
-    → written_in source ts low (room ++ more) ≡ written_in source ts low room ++ written_in source ts (low + length room) more
+    → room_of_range source ts low (room ++ more) ≡ room_of_range source ts low room ++ room_of_range source ts (low + length room) more
 range-cut source ts low room more =
     ap (λ n. written_over source (last_senders 0 ts low n) (room ++ more)) (length-append room more)
     ∙ ap (λ senders. written_over source senders (room ++ more)) (sym (lasts_both 0 ts low (length room) (length more)))
     ∙ sym (written_both source (last_senders 0 ts low (length room)) (last_senders 0 ts (low + length room) (length more)) room more (length-last_senders 0 ts low (length room)))
 
-pub count-cut : (ts : List (Option ℤ)) (low n m : ℕ) → count_in ts low (n + m) ≡ count_in ts low n + count_in ts (low + n) m
+pub count-cut : (ts : List (Option ℤ)) (low n m : ℕ) → count_of_range ts low (n + m) ≡ count_of_range ts low n + count_of_range ts (low + n) m
 count-cut ts low n m = sym (count_both 0 ts low n m)
 
 -- ---- the whole result
@@ -88,28 +88,28 @@ module _ {X : Type 0} (source : List X) (index : List ℤ) (long : length source
   as_few : length (all_destinations index) ≤ most_elements
   as_few = omega (arith, few, length-all_destinations index)
 
-  pub simple-ranges : (room : List X) → length room ≡ length index → count_in (all_destinations index) 0 (length room) ≡ length index
-      → simple_of source index ≡ Ok (written_in source (all_destinations index) 0 room)
+  pub simple-ranges : (room : List X) → length room ≡ length index → count_of_range (all_destinations index) 0 (length room) ≡ length index
+      → simple_of source index ≡ Ok (room_of_range source (all_destinations index) 0 room)
   simple-ranges room as_room all =
       if_as_long-fits source index (sent_to_all source (all_destinations index) (length index)) long
       ∙ ap (sent_to_all source (all_destinations index)) (sym as_room)
       ∙ all-written source (all_destinations index) room as_long as_few (all_take_part index ∙ sym as_room) (all ∙ sym (all_take_part index))
 
   pub simple-counted : (room result : List X) → length room ≡ length index → simple_of source index ≡ Ok result
-      → count_in (all_destinations index) 0 (length room) ≡ length index
+      → count_of_range (all_destinations index) 0 (length room) ≡ length index
   simple-counted room result as_room p =
       all-counted source (all_destinations index) room as_long as_few result
       (ap (sent_to_all source (all_destinations index)) as_room ∙ (if_as_long-Ok source index (sent_to_all source (all_destinations index) (length index)) result p).1)
       ∙ all_take_part index
 
-  pub default-ranges : (defaults : List X) → count_in (all_destinations index) 0 (length defaults) ≡ length index
-      → default_of source index defaults ≡ Ok (written_in source (all_destinations index) 0 defaults)
+  pub default-ranges : (defaults : List X) → count_of_range (all_destinations index) 0 (length defaults) ≡ length index
+      → default_of source index defaults ≡ Ok (room_of_range source (all_destinations index) 0 defaults)
   default-ranges defaults all =
       if_as_long-fits source index (sent_over source (all_destinations index) defaults) long
       ∙ over-written source (all_destinations index) defaults as_long as_few (all ∙ sym (all_take_part index))
 
   pub default-counted : (defaults result : List X) → default_of source index defaults ≡ Ok result
-      → count_in (all_destinations index) 0 (length defaults) ≡ length index
+      → count_of_range (all_destinations index) 0 (length defaults) ≡ length index
   default-counted defaults result p =
       over-counted source (all_destinations index) defaults as_long as_few result (if_as_long-Ok source index (sent_over source (all_destinations index) defaults) result p).1
       ∙ all_take_part index
@@ -121,8 +121,8 @@ module _ {X : Type 0} (source : List X) (index : List ℤ) (long : length source
     flagged_few : length (flagged_destinations index flags) ≤ most_elements
     flagged_few = omega (arith, few, length-flagged_destinations index flags flagged)
 
-    pub select-ranges : (room : List X) → length room ≡ count_of flags → count_in (flagged_destinations index flags) 0 (length room) ≡ count_of flags
-        → select_of source index flags ≡ Ok (written_in source (flagged_destinations index flags) 0 room)
+    pub select-ranges : (room : List X) → length room ≡ count_of flags → count_of_range (flagged_destinations index flags) 0 (length room) ≡ count_of flags
+        → select_of source index flags ≡ Ok (room_of_range source (flagged_destinations index flags) 0 room)
     select-ranges room as_room all =
         let ts = flagged_destinations index flags in
         if_as_long-fits source index (if_as_long index flags (sent_to_all source ts (count_of flags))) long
@@ -131,7 +131,7 @@ module _ {X : Type 0} (source : List X) (index : List ℤ) (long : length source
         ∙ all-written source ts room flagged_long flagged_few (flagged_take_part index flags flagged ∙ sym as_room) (all ∙ sym (flagged_take_part index flags flagged))
 
     pub select-counted : (room result : List X) → length room ≡ count_of flags → select_of source index flags ≡ Ok result
-        → count_in (flagged_destinations index flags) 0 (length room) ≡ count_of flags
+        → count_of_range (flagged_destinations index flags) 0 (length room) ≡ count_of flags
     select-counted room result as_room p =
         let ts = flagged_destinations index flags in
         let inner = (if_as_long-Ok source index (if_as_long index flags (sent_to_all source ts (count_of flags))) result p).1 in

@@ -5,13 +5,15 @@ use Rattle.std.proofs.lemmas.List.{take-append-le, drop-append-le}
 use Rattle.std.proofs.lemmas.List.Sums.{sum_by-append}
 use Rattle.std.proofs.Math.Seq.{take-append-add}
 use Rattle.cvl_base.specs.declared.fault.Fault.{Fault}
+use Rattle.cvl_base.specs.Gives.{◌>>=◌}
+use Rattle.cvl_base.specs.Lists.{joined}
 use Rattle.cvl_base.specs.Nests.{nest, cut_of}
 use Rattle.cvl_base.specs.Segmented.{in_vector, one_each, end_to_end}
 use Rattle.cvl_base.proofs.Lists.{sum-cons}
 use Rattle.cvl_base.proofs.Nests.{nest-fits, length-cut}
 use Rattle.call_laws.specs.InParts.{in_two}
 use Rattle.call_laws.proofs.Segments.{flat-again}
-use Rattle.call_laws.proofs.TwoParts.{in_two-assoc, lists-two, results-two}
+use Rattle.call_laws.proofs.TwoParts.{in_two-assoc, joined-two, results-two}
 
 -- ---- places in a vector that is cut between two segments
 
@@ -33,9 +35,8 @@ module _ {S : Type 0} (before others : List S) (lengths more : List ℕ) (one_ea
   pub lists-between : {X : Type 0} (call : S → Result (List X) Fault)
       → end_to_end (in_vector (lengths ++ more)) call (Ok (before ++ others)) ≡ in_two (sum lengths) (end_to_end (in_vector lengths) call (Ok before)) (end_to_end (in_vector more) call (Ok others))
   lists-between call =
-      lists-two call (in_vector (lengths ++ more)) (in_vector lengths) (in_vector more) (sum lengths) before others
-      (λ s p lt. place-first lengths more s p (omega (arith, one_each_length)))
-      (λ s p lt. ap (λ n. in_vector (lengths ++ more) (n + s) p) one_each_length ∙ place-second lengths more s p)
+      ap (λ r. r >>= λ lists. Ok (joined lists)) (values-between call)
+      ∙ joined-two (sum lengths) (one_each (in_vector lengths) call (Ok before)) (one_each (in_vector more) call (Ok others))
 
 -- ---- vectors
 
@@ -54,14 +55,6 @@ module _ {X : Type 0} (lengths more : List ℕ) (xs ys : List X) (total : sum le
       ∙ ap Ok (cut-between lengths more xs ys total)
 
   -- a segmented call of one vector
-  pub call-between : {Y : Type 0} (call : List X → Result (List Y) Fault)
-      → end_to_end (in_vector (lengths ++ more)) call (nest (lengths ++ more) (xs ++ ys))
-      ≡ in_two (length xs) (end_to_end (in_vector lengths) call (nest lengths xs)) (end_to_end (in_vector more) call (nest more ys))
-  call-between call =
-      ap (end_to_end (in_vector (lengths ++ more)) call) nest-between
-      ∙ lists-between (cut_of lengths xs) (cut_of more ys) lengths more (length-cut lengths xs) call
-      ∙ (λ i. in_two (total i) (end_to_end (in_vector lengths) call (sym (nest-fits lengths xs total) i)) (end_to_end (in_vector more) call (sym (nest-fits more ys also_total) i)))
-
   pub values_call-between : {R : Type 0} (call : List X → Result R Fault)
       → one_each (in_vector (lengths ++ more)) call (nest (lengths ++ more) (xs ++ ys))
       ≡ in_two (length xs) (one_each (in_vector lengths) call (nest lengths xs)) (one_each (in_vector more) call (nest more ys))
@@ -69,6 +62,13 @@ module _ {X : Type 0} (lengths more : List ℕ) (xs ys : List X) (total : sum le
       ap (one_each (in_vector (lengths ++ more)) call) nest-between
       ∙ values-between (cut_of lengths xs) (cut_of more ys) lengths more (length-cut lengths xs) call
       ∙ (λ i. in_two (total i) (one_each (in_vector lengths) call (sym (nest-fits lengths xs total) i)) (one_each (in_vector more) call (sym (nest-fits more ys also_total) i)))
+
+  pub call-between : {Y : Type 0} (call : List X → Result (List Y) Fault)
+      → end_to_end (in_vector (lengths ++ more)) call (nest (lengths ++ more) (xs ++ ys))
+      ≡ in_two (length xs) (end_to_end (in_vector lengths) call (nest lengths xs)) (end_to_end (in_vector more) call (nest more ys))
+  call-between call =
+      ap (λ r. r >>= λ lists. Ok (joined lists)) (values_call-between call)
+      ∙ joined-two (length xs) (one_each (in_vector lengths) call (nest lengths xs)) (one_each (in_vector more) call (nest more ys))
 
 -- ---- cut inside a segment whose flat call may be cut in two
 

@@ -102,12 +102,11 @@ module _ {S R : Type 0} (call : S → Result R Fault) where
       → one_each at_segment call (Ok (before ++ others)) ≡ in_two (length before) (one_each at_segment call (Ok before)) (one_each at_segment call (Ok others))
   at_segment-two before others = results-two at_segment at_segment at_segment (length before) before others (λ s p lt. refl) (λ s p lt. refl)
 
-pub lists-two : {S X : Type 0} (call : S → Result (List X) Fault) (place first_place second_place : ℕ → ℕ → ℕ) (n : ℕ) (before others : List S)
-    → ((s p : ℕ) → s < length before → place s p ≡ first_place s p) → ((s p : ℕ) → s < length others → place (length before + s) p ≡ n + second_place s p)
-    → end_to_end place call (Ok (before ++ others)) ≡ in_two n (end_to_end first_place call (Ok before)) (end_to_end second_place call (Ok others))
-lists-two call place first_place second_place n before others in_first in_second =
-    ap (λ r. r >>= λ lists. Ok (joined lists)) (results-two call place first_place second_place n before others in_first in_second)
-    ∙ joined-two n (one_each first_place call (Ok before)) (one_each second_place call (Ok others))
+pub at_segment-lists : {S X : Type 0} (call : S → Result (List X) Fault) (before others : List S)
+    → end_to_end at_segment call (Ok (before ++ others)) ≡ in_two (length before) (end_to_end at_segment call (Ok before)) (end_to_end at_segment call (Ok others))
+at_segment-lists call before others =
+    ap (λ r. r >>= λ lists. Ok (joined lists)) (at_segment-two call before others)
+    ∙ joined-two (length before) (one_each at_segment call (Ok before)) (one_each at_segment call (Ok others))
 
 -- ---- values some of which may be missing
 

@@ -15,7 +15,7 @@ use Rattle.cvl_base.proofs.Segmented.{beside-fits}
 use Rattle.call_laws.specs.InParts.{in_two}
 use Rattle.call_laws.proofs.PlaceByPlace.{zip-append}
 use Rattle.call_laws.proofs.SegmentsInTwo.{lists-between, nest-between}
-use Rattle.call_laws.proofs.TwoParts.{at_segment-two, lists-two}
+use Rattle.call_laws.proofs.TwoParts.{at_segment-lists, at_segment-two}
 
 -- the arguments of segments in two parts, one after another
 record AreTwo {S : Type 0} (whole first second : Result (List S) Fault) (before others : List S) : Type 0 where
@@ -56,7 +56,7 @@ module _ {S X : Type 0} (call : S → Result (List X) Fault) {whole first second
   by_segment : end_to_end at_segment call whole ≡ in_two (length before) (end_to_end at_segment call first) (end_to_end at_segment call second)
   by_segment =
       ap (end_to_end at_segment call) two.together
-      ∙ lists-two call at_segment at_segment at_segment (length before) before others (λ s p lt. refl) (λ s p lt. refl)
+      ∙ at_segment-lists call before others
       ∙ (λ i. in_two (length before) (end_to_end at_segment call (sym two.one i)) (end_to_end at_segment call (sym two.other i)))
 
 zip-long : {A B : Type 0} (firsts : List A) (seconds : List B) (n : ℕ) → length firsts ≡ n → length seconds ≡ n → length (zip firsts seconds) ≡ n

@@ -2,7 +2,7 @@
 
 ghost use Rattle.std.specs.Prelude.{◌≡◌, ◌+◌, ◌≤◌, ℕ, ℤ, Bool, Option, List, ◌++◌, length};
 ghost use Rattle.call_laws.specs.InParts.{in_two};
-ghost use Rattle.call_laws.specs.ResultRanges.{count_in, written_in};
+ghost use Rattle.call_laws.specs.ResultRanges.{count_of_range, room_of_range};
 ghost use Rattle.cvl_base.specs.Limits.{most_elements};
 ghost use Rattle.cvl_base.specs.Packs.{count_of};
 ghost use Rattle.cvl_base.specs.Permutes.{all_destinations, back_of, default_of, flagged_destinations, select_of, simple_of};
@@ -16,38 +16,38 @@ pub fn back_permute_in_parts<T>()
 /// A range of a permute's result that is cut in two is written as the two ranges are, and its count is theirs added.
 pub fn range_in_parts<T>()
     ensures written { (source : List T) (destinations : List (Option ℤ)) (low : ℕ) (room more : List T) →
-        written_in source destinations low (room ++ more)
-        ≡ written_in source destinations low room ++ written_in source destinations (low + length room) more }
+        room_of_range source destinations low (room ++ more)
+        ≡ room_of_range source destinations low room ++ room_of_range source destinations (low + length room) more }
     ensures counted { (destinations : List (Option ℤ)) (low n m : ℕ) →
-        count_in destinations low (n + m) ≡ count_in destinations low n + count_in destinations (low + n) m }
+        count_of_range destinations low (n + m) ≡ count_of_range destinations low n + count_of_range destinations (low + n) m }
 {}
 
 /// A simple permute by ranges of its result: it has one exactly where as many places are sent something as there are indices,
 /// and that is then what was written, over any room of its length.
 pub fn simple_permute_by_ranges<T>()
     ensures written { (source room : List T) (index : List ℤ) → length source ≡ length index → length index ≤ most_elements →
-        length room ≡ length index → count_in (all_destinations index) 0 (length room) ≡ length index →
-        simple_of source index ≡ Ok (written_in source (all_destinations index) 0 room) }
+        length room ≡ length index → count_of_range (all_destinations index) 0 (length room) ≡ length index →
+        simple_of source index ≡ Ok (room_of_range source (all_destinations index) 0 room) }
     ensures counted { (source room result : List T) (index : List ℤ) → length source ≡ length index → length index ≤ most_elements →
         length room ≡ length index → simple_of source index ≡ Ok result →
-        count_in (all_destinations index) 0 (length room) ≡ length index }
+        count_of_range (all_destinations index) 0 (length room) ≡ length index }
 {}
 
 /// The same of a select permute, in which as many indices take part as there are true flags.
 pub fn select_permute_by_ranges<T>()
     ensures written { (source room : List T) (index : List ℤ) (flags : List Bool) → length source ≡ length index → length index ≤ most_elements →
-        length index ≡ length flags → length room ≡ count_of flags → count_in (flagged_destinations index flags) 0 (length room) ≡ count_of flags →
-        select_of source index flags ≡ Ok (written_in source (flagged_destinations index flags) 0 room) }
+        length index ≡ length flags → length room ≡ count_of flags → count_of_range (flagged_destinations index flags) 0 (length room) ≡ count_of flags →
+        select_of source index flags ≡ Ok (room_of_range source (flagged_destinations index flags) 0 room) }
     ensures counted { (source room result : List T) (index : List ℤ) (flags : List Bool) → length source ≡ length index → length index ≤ most_elements →
         length index ≡ length flags → length room ≡ count_of flags → select_of source index flags ≡ Ok result →
-        count_in (flagged_destinations index flags) 0 (length room) ≡ count_of flags }
+        count_of_range (flagged_destinations index flags) 0 (length room) ≡ count_of flags }
 {}
 
 /// The same of a default permute, whose room holds the defaults.
 pub fn default_permute_by_ranges<T>()
     ensures written { (source defaults : List T) (index : List ℤ) → length source ≡ length index → length index ≤ most_elements →
-        count_in (all_destinations index) 0 (length defaults) ≡ length index →
-        default_of source index defaults ≡ Ok (written_in source (all_destinations index) 0 defaults) }
+        count_of_range (all_destinations index) 0 (length defaults) ≡ length index →
+        default_of source index defaults ≡ Ok (room_of_range source (all_destinations index) 0 defaults) }
     ensures counted { (source defaults result : List T) (index : List ℤ) → length source ≡ length index → length index ≤ most_elements →
-        default_of source index defaults ≡ Ok result → count_in (all_destinations index) 0 (length defaults) ≡ length index }
+        default_of source index defaults ≡ Ok result → count_of_range (all_destinations index) 0 (length defaults) ≡ length index }
 {}
