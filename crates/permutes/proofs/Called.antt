@@ -10,7 +10,8 @@ use Rattle.cvl_base.specs.Packs.{count_of}
 use Rattle.cvl_base.specs.Permutes.{all_destinations, back_of, first_fault, flagged_destinations, select_of, simple_of, wrongs}
 use Rattle.cvl_base.specs.SegmentedCalls.{seg_back_of, seg_default_of, seg_select_of, seg_simple_of}
 use Rattle.permutes.specs.Backs.{outside_from, segments_at}
-use Rattle.permutes.specs.Parts.{fault_from, flagged_parts, parts_of, senders_from}
+use Rattle.permutes.specs.Parts.{fault_from, flagged_parts, parts_of, places_in, senders_from}
+use Rattle.permutes.specs.Shares.{permuted}
 use Rattle.permutes.specs.Walks.{AreAllSent}
 use Rattle.permute_walks.specs.Indices.{elements_at, first_outside}
 use Rattle.permute_walks.specs.Senders.{senders_of, written_over}
@@ -165,3 +166,29 @@ seg_back_taken source index widths lengths items total index_total count none ar
     seg_back-meaning source index widths lengths total index_total count
     ∙ ap (λ o. unless o (Ok (segments_at widths source lengths index))) (sym none)
     ∙ ap (λ xs. Ok xs) (sym are)
+
+-- ---- segmented calls in one walk
+
+module _ {X : Type 0} (source : List X) (index : List ℤ) (lengths : List ℕ) (total : sum lengths ≡ length source) (index_total : sum lengths ≡ length index) (few : length index ≤ most_elements)
+    (items : List X) where
+  pub seg_simple_walked : None ≡ fault_from 0 (parts_of lengths lengths index) → items ≡ permuted source (parts_of lengths lengths index) source → seg_simple_of source index lengths ≡ Ok items
+  seg_simple_walked right are =
+      let parts = parts_of lengths lengths index in
+      seg_simple-meaning source index lengths total index_total few
+      ∙ written_sent source source (fault_from 0 parts) (senders_from 0 parts) items (length-senders_from 0 parts ∙ places-parts lengths lengths index refl ∙ total) right are
+      (segments_sent (length source) (omega (arith, total, index_total, few)) 0 lengths index index_total (omega (arith, total, index_total)))
+
+  pub seg_select_walked : (flags : List Bool) (before : List X) → sum lengths ≡ length flags → places_in (flagged_parts lengths index flags) ≡ length before
+      → None ≡ fault_from 0 (flagged_parts lengths index flags) → items ≡ permuted source (flagged_parts lengths index flags) before → seg_select_of source index flags lengths ≡ Ok items
+  seg_select_walked flags before flag_total long right are =
+      let parts = flagged_parts lengths index flags in
+      seg_select-meaning source index flags lengths total index_total flag_total few
+      ∙ written_sent source before (fault_from 0 parts) (senders_from 0 parts) items (length-senders_from 0 parts ∙ long) right are
+      (flagged_segments_sent (length source) (omega (arith, total, index_total, few)) 0 lengths index flags index_total (sym index_total ∙ flag_total) (omega (arith, total, index_total)))
+
+  pub seg_default_walked : (defaults : List X) (widths : List ℕ) → sum widths ≡ length defaults → length lengths ≡ length widths → None ≡ fault_from 0 (parts_of lengths widths index)
+      → items ≡ permuted source (parts_of lengths widths index) defaults → seg_default_of source index defaults lengths widths ≡ Ok items
+  seg_default_walked defaults widths default_total count right are =
+      let parts = parts_of lengths widths index in
+      seg_default-meaning source index defaults lengths widths total index_total default_total count few
+      ∙ ap (λ f. unless f (Ok (written_over source (senders_from 0 parts) defaults))) (sym right) ∙ ap (λ xs. Ok xs) (sym are)

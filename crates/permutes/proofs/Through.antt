@@ -1,10 +1,11 @@
 -- The first walk through the segments: what it has found after the first segments, and after all.
-use Rattle.std.proofs.Common.{◌≡◌, ◌∙◌, cond, subst, ℕ, ◌+◌, ◌-◌, ◌<◌, ◌≤◌, Bool, List, [], ◌∷◌, ◌++◌, length, map, sum, take, drop, get_or, replicate, refl, sym, ap, append_assoc, append-nil}
+use Rattle.std.proofs.Common.{◌≡◌, ◌∙◌, cond, subst, ℕ, zero, suc, ◌+◌, ◌-◌, ◌<◌, ◌≤◌, Bool, List, [], ◌∷◌, ◌++◌, length, map, sum, take, drop, get_or, replicate, refl, sym, ap, append_assoc, append-nil}
 use Rattle.std.proofs.Common.{length-append, length-drop, arith, ℤ, Option, Some, None}
 use Rattle.std.specs.List.{zip}
 use Rattle.std.specs.Option.{option_or}
-use Rattle.std.proofs.lemmas.List.{drop_more, drop_all, take_all, take-replicate, drop-replicate, drop-drop, get_or-map, length-map, length-take, length-take-le}
-use Rattle.std.proofs.lemmas.List.Sums.{sum_by-take-drop, sum_by_more_le, sum_by_more}
+use Rattle.std.proofs.lemmas.List.{drop_more, drop_all, take_all, take-map, take-replicate, drop-replicate, drop-drop, get_or-map, length-map, length-take, length-take-le}
+use Rattle.std.proofs.lemmas.List.Sums.{count_by-le-length, sum_by-append, sum_by-take-drop, sum_by-take-le, sum_by_more_le, sum_by_more}
+use Rattle.std.proofs.Math.Seq.{take-add}
 use Rattle.std.proofs.lemmas.Slice.{take-put_mid, drop-put_mid}
 use Rattle.std.proofs.lemmas.Slice.Zip.{get_or-zip, length-zip}
 use borrow.Rule.Slice.PartMut.{put_mid}
@@ -36,7 +37,7 @@ through_none parts senders fresh room = record {
 }
 
 -- a write to a range of a list keeps its length
-put_length : {X : Type 0} (start k : ℕ) (xs ys : List X) → start + k ≤ length xs → length ys ≡ k → length (put_mid start k xs ys) ≡ length xs
+pub put_length : {X : Type 0} (start k : ℕ) (xs ys : List X) → start + k ≤ length xs → length ys ≡ k → length (put_mid start k xs ys) ≡ length xs
 put_length start k xs ys within long =
     omega (
       arith,
@@ -232,3 +233,65 @@ destinations-flagged_parts [] index flags = omega arith
 destinations-flagged_parts (n ∷ ns) index flags =
     destinations_more n (count_of (take n flags)) index (flagged_destinations (take n index) (take n flags)) (flagged_parts ns (drop n index) (drop n flags))
     (omega (arith, count-flagged_destinations (take n index) (take n flags))) (destinations-flagged_parts ns (drop n index) (drop n flags))
+
+-- ---- how many places and destinations the parts before a segment have
+
+each_long : (lengths widths : List ℕ) (index : List ℤ) → sum lengths ≤ length index → length lengths ≡ length widths → map (λ p. length p.1) (parts_of lengths widths index) ≡ lengths
+each_long [] [] index total count = refl
+each_long [] (m ∷ ms) index total count = absurd (omega (arith, count))
+each_long (n ∷ ns) [] index total count = absurd (omega (arith, count))
+each_long (n ∷ ns) (m ∷ ms) index total count =
+    let all = sum-cons n ns in
+    let here : length (all_destinations (take n index)) ≡ n = length-all_destinations (take n index) ∙ length-take-le n index (omega (arith, all, total)) in
+    let rest = each_long ns ms (drop n index) (omega (arith, all, total, length-drop n index)) (omega (arith, count)) in
+    λ i. here i ∷ rest i
+
+module _ (lengths widths : List ℕ) (index : List ℤ) (count : length lengths ≡ length widths) (s : ℕ) where
+  pub places_ahead : places_in (take s (parts_of lengths widths index)) ≡ sum (take s widths)
+  places_ahead =
+      ap sum (sym (take-map (λ (p : ℕ × List (Option ℤ)). p.0) s (parts_of lengths widths index))
+      ∙ ap (take s) (firsts widths (map all_destinations (cut_of lengths index)) (omega (arith, length-map (cut_of lengths index) all_destinations, length-cut lengths index, count))))
+
+  pub destinations_ahead : sum lengths ≡ length index → destinations_in (take s (parts_of lengths widths index)) ≡ sum (take s lengths)
+  destinations_ahead total =
+      ap sum (sym (take-map (λ (p : ℕ × List (Option ℤ)). length p.1) s (parts_of lengths widths index)) ∙ ap (take s) (each_long lengths widths index (omega (arith, total)) count))
+
+flagged_long : (lengths : List ℕ) (index : List ℤ) (flags : List Bool) → sum lengths ≤ length index → sum lengths ≤ length flags → map (λ p. length p.1) (flagged_parts lengths index flags) ≡ lengths
+flagged_long [] index flags total flag_total = refl
+flagged_long (n ∷ ns) index flags total flag_total =
+    let all = sum-cons n ns in
+    let index_long : length (take n index) ≡ n = length-take-le n index (omega (arith, all, total)) in
+    let flags_long : length (take n flags) ≡ n = length-take-le n flags (omega (arith, all, flag_total)) in
+    let here : length (flagged_destinations (take n index) (take n flags)) ≡ n = omega (arith, count-flagged_destinations (take n index) (take n flags), index_long, flags_long) in
+    let rest = flagged_long ns (drop n index) (drop n flags) (omega (arith, all, total, length-drop n index)) (omega (arith, all, flag_total, length-drop n flags)) in
+    λ i. here i ∷ rest i
+
+pub flagged_destinations_ahead : (lengths : List ℕ) (index : List ℤ) (flags : List Bool) (s : ℕ) → sum lengths ≡ length index → sum lengths ≡ length flags
+    → destinations_in (take s (flagged_parts lengths index flags)) ≡ sum (take s lengths)
+flagged_destinations_ahead lengths index flags s total flag_total =
+    ap sum (sym (take-map (λ (p : ℕ × List (Option ℤ)). length p.1) s (flagged_parts lengths index flags))
+    ∙ ap (take s) (flagged_long lengths index flags (omega (arith, total)) (omega (arith, flag_total))))
+
+pub flagged_places_ahead : (lengths : List ℕ) (index : List ℤ) (flags : List Bool) (s : ℕ) → places_in (take s (flagged_parts lengths index flags)) ≡ count_of (take (sum (take s lengths)) flags)
+flagged_places_ahead [] index flags zero = refl
+flagged_places_ahead [] index flags (suc s) = refl
+flagged_places_ahead (n ∷ ns) index flags zero = refl
+flagged_places_ahead (n ∷ ns) index flags (suc s) =
+    let k = sum (take s ns) in
+    let cut : take (sum (take (suc s) (n ∷ ns))) flags ≡ take n flags ++ take k (drop n flags) = ap (λ j. take j flags) (sum-cons n (take s ns)) ∙ take-add n k flags in
+    omega (
+      arith,
+      sum-cons (count_of (take n flags)) (map (λ (p : ℕ × List (Option ℤ)). p.0) (take s (flagged_parts ns (drop n index) (drop n flags)))),
+      flagged_places_ahead ns (drop n index) (drop n flags) s,
+      ap count_of cut,
+      sum_by-append (λ (f : Bool). cond f 1 0) (take n flags) (take k (drop n flags)),
+    )
+
+pub start_within : (lengths : List ℕ) (s n : ℕ) → sum lengths ≡ n → sum (take s lengths) ≤ n
+start_within lengths s n total = omega (arith, total, sum_by-take-le (λ x. x) lengths s)
+
+-- of a segment's flags no more are true
+pub flagged_width : (lengths : List ℕ) (index : List ℤ) (flags : List Bool) (s : ℕ) → s < length lengths → (get_or (flagged_parts lengths index flags) s (0, [])).0 ≤ get_or lengths s 0
+flagged_width lengths index flags s lt =
+    let fs = take (get_or lengths s 0) (drop (sum (take s lengths)) flags) in
+    omega (arith, ap (λ (p : ℕ × List (Option ℤ)). p.0) (flagged_part_at lengths index flags s lt), count_by-le-length (λ (flag : Bool). flag) fs, length-take (get_or lengths s 0) (drop (sum (take s lengths)) flags))

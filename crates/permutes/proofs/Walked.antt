@@ -69,7 +69,7 @@ select_sent index flags n same flagged few right =
 
 -- ---- by segments
 
-neither : (o others : Option Fault) → option_or o others ≡ None → (o ≡ None) × (others ≡ None)
+pub neither : (o others : Option Fault) → option_or o others ≡ None → (o ≡ None) × (others ≡ None)
 neither None others none = (refl, none)
 neither (Some f) others none = absurd (none-some f (sym none))
 

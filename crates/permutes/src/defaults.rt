@@ -6,7 +6,8 @@ ghost use Rattle.cvl_base.specs.Limits.{most_elements};
 ghost use Rattle.cvl_base.specs.Permutes.{default_of};
 ghost use Rattle.cvl_base.specs.SegmentedCalls.{seg_default_of};
 
-use crate::sent::{elements_to_over, segment_senders};
+use crate::segments::AllParts;
+use crate::sent::{elements_to_over, permuted_segments, segment_senders};
 use crew::{Gate, OpenGate};
 use cvl_base::{Config, Memory, Refused, check_agree};
 use permute_walks::{AllDestinations, elements_or_defaults};
@@ -108,6 +109,14 @@ pub fn seg_default_into_gated<T: Copy + Send + Sync, R: Threads + Sync, A: Memor
     check_total(index, source_d)?;
     check_total(defaults, default_d)?;
     check_agree(source_d.count(), default_d.count())?;
+    let parts = AllParts {
+        index,
+        d: source_d,
+        result_d: default_d,
+    };
+    if let Some(elements) = permuted_segments(rt, alloc, config, source, defaults, &parts)? {
+        return Ok(elements);
+    }
     let senders = segment_senders(rt, alloc, config, index, source_d, default_d, gate)?;
     let threads = threads_writing(config, defaults.len());
     Ok(elements_or_defaults(rt, alloc, threads, source, &senders, defaults)?)

@@ -1,10 +1,11 @@
 //! Permutes: simple, back, select and default permutes, flat and by segments.
 //!
-//! Each goes in two walks. The first walk of a simple, select or default permute finds for each place of the result its
+//! Most go in two walks. The first walk of a simple, select or default permute finds for each place of the result its
 //! sender, the place whose element goes there; that of a back permute looks at all indices. The second writes the elements,
 //! by several threads where the result is long. They share the look at a long segment of a back permute, too. A long flat
 //! simple, select or default permute they make in one walk: each owns a range of the result, writes the elements that are
-//! sent there over what stood there before, and counts the places that it wrote.
+//! sent there over what stood there before, and counts the places that it wrote. A permute by segments is one walk too: each
+//! thread, or the only one, takes whole segments, and a buffer holds the senders of one segment at a time.
 //!
 //! Each call has a gated form with the same contract for every gate. Workers race for the first walk where short tiles are
 //! asked for, also for that of segments, whose indices are then counted from the start of the whole result first.
@@ -20,6 +21,7 @@ mod defaults;
 mod looks;
 mod over;
 mod segment_races;
+mod segment_walks;
 mod segments;
 mod selects;
 mod sent;

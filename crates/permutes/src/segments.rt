@@ -1,9 +1,10 @@
 //! The first walk of a segmented permute, segment by segment.
 
-ghost use Rattle.std.specs.Prelude.{◌≡◌, ◌<◌, ◌≤◌, ℕ, ℤ, List, [], length, OnOk, Option, replicate, slice_index_or, sum};
+ghost use Rattle.std.specs.Prelude.{◌≡◌, ◌<◌, ◌≤◌, ℕ, ℤ, List, [], length, OnOk, Option, replicate, slice_index, slice_index_or, sum, take};
 ghost use Rattle.cvl_base.specs.Limits.{most_elements};
 ghost use Rattle.cvl_base.specs.Packs.{count_of};
 ghost use Rattle.permutes.specs.Parts.{fault_from, flagged_parts, parts_of, places_in, senders_from, destinations_in};
+ghost use Rattle.permutes.specs.Shares.{AreWithin};
 ghost use Rattle.permute_walks.specs.Senders.{nobody, fault_told};
 
 use cvl_base::{Fault, true_count};
@@ -17,7 +18,7 @@ use std::alloc::Allocator;
 /// are as long as the segments in all.
 pub(crate) trait Parts {
     /// The destinations of a segment.
-    type Part: Destinations + Drop;
+    type Part: Destinations + Send + Sync + Drop;
 
     ghost parts: { Self → List (ℕ × List (Option ℤ)) };
 
@@ -33,6 +34,37 @@ pub(crate) trait Parts {
         requires cut { AreCut self.now }
         requires within { s < length (parts self.now) }
         ensures { slice_index_or (parts self.now) s (0, []) ≡ (result.0, Self.Part.destinations result.1) };
+
+    /// How many places the parts before that of segment `s` have, and all parts where there is no such segment.
+    fn places_before(&self, s: usize) -> usize
+        requires { AreCut self.now }
+        ensures { result ≡ places_in (take s (parts self.now)) };
+
+    /// How many destinations the segments before segment `s` have, and all segments where there is no such one.
+    fn destinations_before(&self, s: usize) -> usize
+        requires { AreCut self.now }
+        ensures { result ≡ destinations_in (take s (parts self.now)) };
+
+    /// How many segments start before a place of the index.
+    fn starts_before(&self, place: usize) -> usize
+        requires { AreCut self.now }
+        ensures { result ≤ length (parts self.now) };
+
+    /// A number of places that no part exceeds.
+    fn widest(&self) -> usize
+        requires { AreCut self.now }
+        ensures { AreWithin result (parts self.now) };
+}
+
+/// The length of the longest segment.
+fn longest<A: Allocator>(d: &SegDes<A>) -> usize
+    ensures { (s : ℕ) → s < length d.now → slice_index d.now s ≤ result }
+{
+    let mut longest = 0;
+    for s in 0..d.count() {
+        longest = d.length(s).max(longest);
+    }
+    longest
 }
 
 /// Each place takes part, and the result has segments of its own lengths.
@@ -61,6 +93,22 @@ impl<'a, A: Allocator> Parts for AllParts<'a, A> {
         let first = self.d.start(s);
         let index = &self.index[first..first + self.d.length(s)];
         (self.result_d.length(s), AllDestinations { index })
+    }
+
+    fn places_before(&self, s: usize) -> usize {
+        self.result_d.start_or_total(s)
+    }
+
+    fn destinations_before(&self, s: usize) -> usize {
+        self.d.start_or_total(s)
+    }
+
+    fn starts_before(&self, place: usize) -> usize {
+        self.d.starts_before(place)
+    }
+
+    fn widest(&self) -> usize {
+        longest(self.result_d)
     }
 }
 
@@ -94,6 +142,24 @@ impl<'a, A: Allocator> Parts for FlaggedParts<'a, A> {
         let index = &self.index[first..last];
         let flags = &self.flags[first..last];
         (true_count(flags), FlaggedDestinations { index, flags })
+    }
+
+    fn places_before(&self, s: usize) -> usize {
+        let (flags, _) = self.flags.split_at(self.d.start_or_total(s));
+        true_count(flags)
+    }
+
+    fn destinations_before(&self, s: usize) -> usize {
+        self.d.start_or_total(s)
+    }
+
+    fn starts_before(&self, place: usize) -> usize {
+        self.d.starts_before(place)
+    }
+
+    // Of its flags no segment has more that are true.
+    fn widest(&self) -> usize {
+        longest(self.d)
     }
 }
 

@@ -6,7 +6,8 @@ ghost use Rattle.cvl_base.specs.Limits.{most_elements};
 ghost use Rattle.cvl_base.specs.Permutes.{select_of};
 ghost use Rattle.cvl_base.specs.SegmentedCalls.{seg_select_of};
 
-use crate::sent::{elements_to, flagged_segment_senders};
+use crate::segments::FlaggedParts;
+use crate::sent::{elements_to, flagged_segment_senders, permuted_segments};
 use crew::{Gate, OpenGate};
 use cvl_base::{Config, Memory, Refused, check_agree, true_count};
 use permute_walks::{FlaggedDestinations, elements_of};
@@ -105,6 +106,12 @@ pub fn seg_select_gated<T: Copy + Send + Sync, R: Threads + Sync, A: Memory, G: 
     check_total(source, d)?;
     check_total(index, d)?;
     check_total(flags, d)?;
+    // Each place has a sender, so that what stands before in the places is of no account.
+    let (before, _) = source.split_at(true_count(flags));
+    let parts = FlaggedParts { index, flags, d };
+    if let Some(elements) = permuted_segments(rt, alloc, config, source, before, &parts)? {
+        return Ok(elements);
+    }
     let senders = flagged_segment_senders(rt, alloc, config, index, flags, d, gate)?;
     let threads = threads_writing(config, senders.len());
     Ok(elements_of(rt, alloc, threads, source, &senders)?)

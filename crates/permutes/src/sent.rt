@@ -1,15 +1,18 @@
-//! The elements of a permute: of a long flat result in one walk that several threads share, else in two, of which they share the
-//! second where the result is long.
+//! The elements of a permute: of a long flat result, and of one by segments, in one walk that several threads share, else in two, of
+//! which they share the second where the result is long.
 
 ghost use Rattle.std.specs.Prelude.{◌≡◌, ◌≤◌, IfOk, IfSome, None, Ok, filter_map, length, slice_get, sum, vec_len};
 ghost use Rattle.cvl_base.specs.Gives.{Gives, unless};
 ghost use Rattle.cvl_base.specs.Limits.{most_elements};
 ghost use Rattle.cvl_base.specs.Permutes.{first_fault, wrongs};
-ghost use Rattle.permutes.specs.Parts.{fault_from, flagged_parts, parts_of, senders_from};
+ghost use Rattle.permutes.specs.Parts.{destinations_in, fault_from, flagged_parts, parts_of, places_in, senders_from};
+ghost use Rattle.permutes.specs.Shares.{permuted};
 ghost use Rattle.permutes.specs.Walks.{AreAllSent};
 ghost use Rattle.permute_walks.specs.Senders.{senders_of, written_over};
 
 use crate::segment_races::{flagged_segments_raced, segments_raced};
+use crate::segment_walks::permuted_by_segments;
+use crate::segments::Parts;
 use crate::sent_alone::{flagged_segment_senders_alone, segment_senders_alone, senders_alone};
 use crew::Gate;
 use cvl_base::{Config, Memory, NoResources, Refused, true_count};
@@ -80,6 +83,37 @@ where
         return Ok(None);
     }
     permuted_shared(rt, alloc, threads, source, destinations, places, before)
+}
+
+/// What threads write over what stands before in a result by segments, each in whole segments. None where workers race, one segment
+/// is longer than a thread's share, or a place is bad.
+pub(crate) fn permuted_segments<T, R, A, P>(
+    rt: &R,
+    alloc: A,
+    config: Config,
+    source: &[T],
+    before: &[T],
+    parts: &P,
+) -> Result<Option<Vec<T, A>>, NoResources>
+where
+    T: Copy + Send + Sync,
+    R: Threads + Sync,
+    A: Memory,
+    P: Parts + Sync,
+    requires cut { P.AreCut parts.now }
+    requires few { destinations_in (P.parts parts.now) ≤ most_elements }
+    requires as_long { places_in (P.parts parts.now) ≡ length before.now }
+    ensures right { IfOk result (λ found. IfSome found (λ _. None ≡ fault_from 0 (P.parts parts.now))) }
+    ensures written { IfOk result (λ found. IfSome found (λ v. v.items ≡ permuted source.now (P.parts parts.now) before.now)) }
+{
+    let places = before.len();
+    let threads = threads_writing(config, places);
+    let widest = parts.widest();
+    let raced = permute_pace(config, source.len(), places).is_some();
+    if raced || widest > places / threads.get() {
+        return Ok(None);
+    }
+    permuted_by_segments(rt, alloc, threads, source, before, parts, widest)
 }
 
 /// For each place of a result with segments of its own lengths its sender, for which workers race or one thread walks the

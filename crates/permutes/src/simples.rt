@@ -6,7 +6,8 @@ ghost use Rattle.cvl_base.specs.Limits.{most_elements};
 ghost use Rattle.cvl_base.specs.Permutes.{simple_of};
 ghost use Rattle.cvl_base.specs.SegmentedCalls.{seg_simple_of};
 
-use crate::sent::{elements_to, segment_senders};
+use crate::segments::AllParts;
+use crate::sent::{elements_to, permuted_segments, segment_senders};
 use crew::{Gate, OpenGate};
 use cvl_base::{Config, Memory, Refused, check_agree};
 use permute_walks::{AllDestinations, elements_of};
@@ -97,6 +98,15 @@ pub fn seg_simple_gated<T: Copy + Send + Sync, R: Threads + Sync, A: Memory, G: 
 {
     check_total(source, d)?;
     check_total(index, d)?;
+    let parts = AllParts {
+        index,
+        d,
+        result_d: d,
+    };
+    // Each place has a sender, so that what stands before in the places is of no account.
+    if let Some(elements) = permuted_segments(rt, alloc, config, source, source, &parts)? {
+        return Ok(elements);
+    }
     let senders = segment_senders(rt, alloc, config, index, d, d, gate)?;
     let threads = threads_writing(config, senders.len());
     Ok(elements_of(rt, alloc, threads, source, &senders)?)

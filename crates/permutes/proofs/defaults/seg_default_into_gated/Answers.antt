@@ -1,9 +1,11 @@
-use Rattle.std.proofs.Common.{Vec, ◌∙◌, ap, sym, arith, Err}
+use Rattle.std.proofs.Common.{Vec, ◌≡◌, ◌∙◌, ap, sym, arith, length, Err}
 use Rattle.std.proofs.lemmas.Result.{err_from_is_err_and}
 use Rattle.cvl_base.specs.SegmentedCalls.{seg_default_of}
 use Rattle.permute_walks.specs.Senders.{written_over}
 use Rattle.permutes.specs.Parts.{fault_from, parts_of, senders_from}
-use Rattle.permutes.proofs.Called.{refusal_told, seg_default_long, seg_default_taken}
+use Rattle.permutes.proofs.Called.{found_gives, refusal_told, seg_default_long, seg_default_taken, seg_default_walked}
+use Rattle.permutes.proofs.Shared.{length-permuted}
+use Rattle.permutes.proofs.Through.{destinations-parts, places-parts}
 use Rattle.permutes.proofs.Whole.{seg_default-meaning, seg_default-differ}
 use Rattle.permutes.proofs.defaults.seg_default_into_gated.Goals as goal
 
@@ -41,3 +43,26 @@ returns-clause-values g c =
     seg_default_taken c.args.source.now c.args.index.now c.args.defaults.now c.args.source_d.now c.args.default_d.now c.in_ok-senders.senders.items _ c.in_ok-senders.ensures
     c.deref.ensures.value c.in_ok-check_total-3.ensures.agrees (omega (arith, c.in_ok-check_agree.ensures)) _ c.in_ok-check_total.ensures.agrees c.in_ok-check_total-2.ensures.agrees
     c.requires.in_limit c.in_ok-elements_or_defaults.ensures.values
+
+pub permuted_segments-requires-clause-few : goal.permuted_segments-requires-clause-few
+permuted_segments-requires-clause-few g c κs within = omega (arith, destinations-parts c.args.source_d.now c.args.default_d.now c.args.index.now, c.requires.in_limit)
+
+pub permuted_segments-requires-clause-as_long : goal.permuted_segments-requires-clause-as_long
+permuted_segments-requires-clause-as_long g c κs within =
+    let count : length c.args.source_d.now ≡ length c.args.default_d.now = omega (arith, c.in_ok-check_agree.ensures) in
+    places-parts c.args.source_d.now c.args.default_d.now c.args.index.now count ∙ c.in_ok-check_total-3.ensures.agrees
+
+pub returns-in-Some-clause-values : goal.returns-in-Some-clause-values
+returns-in-Some-clause-values g c =
+    seg_default_walked c.args.source.now c.args.index.now c.args.source_d.now c.in_ok-check_total.ensures.agrees c.in_ok-check_total-2.ensures.agrees c.requires.in_limit c.in-Some.elements.items
+    c.args.defaults.now c.args.default_d.now c.in_ok-check_total-3.ensures.agrees (omega (arith, c.in_ok-check_agree.ensures))
+    (found_gives _ c.in_ok-elements.field-0 c.in-Some.elements c.in-Some.is c.in_ok-elements.ensures.right)
+    (found_gives _ c.in_ok-elements.field-0 c.in-Some.elements c.in-Some.is c.in_ok-elements.ensures.written)
+
+pub returns-in-Some-clause-as_long : goal.returns-in-Some-clause-as_long
+returns-in-Some-clause-as_long g c =
+    let parts = parts_of c.args.source_d.now c.args.default_d.now c.args.index.now in
+    let count : length c.args.source_d.now ≡ length c.args.default_d.now = omega (arith, c.in_ok-check_agree.ensures) in
+    let long = places-parts c.args.source_d.now c.args.default_d.now c.args.index.now count ∙ c.in_ok-check_total-3.ensures.agrees in
+    let are = found_gives _ c.in_ok-elements.field-0 c.in-Some.elements c.in-Some.is c.in_ok-elements.ensures.written in
+    omega (arith, c.in-Some.elements.ok.0, ap length are, length-permuted c.args.source.now parts c.args.defaults.now long)

@@ -1,8 +1,10 @@
-use Rattle.std.proofs.Common.{Vec, filter_map, slice_get}
+use Rattle.std.proofs.Common.{Vec, ◌∙◌, ap, arith, filter_map, length, refl, slice_get}
 use Rattle.std.proofs.lemmas.Result.{err_from_is_err_and}
 use Rattle.cvl_base.specs.SegmentedCalls.{seg_simple_of}
 use Rattle.permutes.specs.Parts.{fault_from, parts_of, senders_from}
-use Rattle.permutes.proofs.Called.{refusal_told, seg_simple_taken, seg_simple_within}
+use Rattle.permutes.proofs.Called.{found_gives, refusal_told, seg_simple_taken, seg_simple_walked, seg_simple_within}
+use Rattle.permutes.proofs.Shared.{length-permuted}
+use Rattle.permutes.proofs.Through.{destinations-parts, places-parts}
 use Rattle.permutes.proofs.Whole.{seg_simple-meaning}
 use Rattle.permutes.proofs.simples.seg_simple_gated.Goals as goal
 
@@ -27,3 +29,23 @@ pub returns-clause-in_length : goal.returns-clause-in_length
 returns-clause-in_length g c =
     seg_simple_within c.args.index.now c.args.d.now c.in_ok-check_total-2.ensures.agrees c.in_ok-senders.senders.items _ _ c.deref.ensures.value c.in_ok-elements_of.ensures.in_length
     c.in_ok-senders.ensures
+
+pub permuted_segments-requires-clause-few : goal.permuted_segments-requires-clause-few
+permuted_segments-requires-clause-few g c κs within = omega (arith, destinations-parts c.args.d.now c.args.d.now c.args.index.now, c.requires.in_limit)
+
+pub permuted_segments-requires-clause-as_long : goal.permuted_segments-requires-clause-as_long
+permuted_segments-requires-clause-as_long g c κs within = places-parts c.args.d.now c.args.d.now c.args.index.now refl ∙ c.in_ok-check_total.ensures.agrees
+
+pub returns-in-Some-clause-values : goal.returns-in-Some-clause-values
+returns-in-Some-clause-values g c =
+    seg_simple_walked c.args.source.now c.args.index.now c.args.d.now c.in_ok-check_total.ensures.agrees c.in_ok-check_total-2.ensures.agrees c.requires.in_limit c.in-Some.elements.items
+    (found_gives _ c.in_ok-elements.field-0 c.in-Some.elements c.in-Some.is c.in_ok-elements.ensures.right)
+    (found_gives _ c.in_ok-elements.field-0 c.in-Some.elements c.in-Some.is c.in_ok-elements.ensures.written)
+
+pub returns-in-Some-clause-in_length : goal.returns-in-Some-clause-in_length
+returns-in-Some-clause-in_length g c =
+    let source = c.args.source.now in
+    let parts = parts_of c.args.d.now c.args.d.now c.args.index.now in
+    let total = c.in_ok-check_total.ensures.agrees in
+    let are = found_gives _ c.in_ok-elements.field-0 c.in-Some.elements c.in-Some.is c.in_ok-elements.ensures.written in
+    omega (arith, c.in-Some.elements.ok.0, ap length are, length-permuted source parts source (places-parts c.args.d.now c.args.d.now c.args.index.now refl ∙ total), total, c.in_ok-check_total-2.ensures.agrees)
