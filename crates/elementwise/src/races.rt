@@ -1,17 +1,18 @@
-//! Operators that have no value on some pairs: workers race for the least place without one, and then write the values.
+//! Operators that have no value on some pairs: the least place without one is looked for, by workers that race where the vectors are
+//! long, and then the values are written.
 
 ghost use Rattle.std.specs.Prelude.{◌≡◌, ◌≤◌, IfOk, length, map, vec_len};
 ghost use Rattle.std.specs.List.{zip};
 ghost use Rattle.cvl_base.specs.Elementwise.{on_pairs_or};
 ghost use Rattle.cvl_base.specs.Gives.{Gives};
 ghost use Rattle.cvl_base.specs.Limits.{most_elements};
-ghost use Rattle.elementwise.specs.Valueless.{slot_without};
+ghost use Rattle.elementwise.specs.Valueless.{least_without, slot_without};
 
-use crate::looks::all_have_values;
+use crate::looks::{all_have_values, first_without};
 use boards::Targets;
 use crew::Gate;
-use cvl_base::{Config, Fault, Memory, Refused, check_agree};
-use element_walks::{OnPairs, OrZero, PartialBinary, values_on_pairs_or};
+use cvl_base::{Config, Fault, Memory, NoResources, Refused, check_agree};
+use element_walks::{OnPairs, OrZero, PartialBinary};
 use fresh::write_in_runs;
 use least_races::{least_pace, race_for_least};
 use sharing::threads_writing;
@@ -55,8 +56,34 @@ impl<'a, O: PartialBinary> Targets for Valueless<'a, O> {
     }
 }
 
+/// The least place at which the operator has no value on the pair of elements of two equally long vectors, for which workers
+/// race, or the thread that calls looks.
+fn least_valueless<O: PartialBinary + Send + Sync, R: Threads + Sync, A: Memory, G: Gate>(
+    rt: &R,
+    alloc: A,
+    config: Config,
+    a: &[i32],
+    b: &[i32],
+    gate: &G,
+) -> Result<Option<u32>, NoResources>
+    requires as_long { length a.now ≡ length b.now }
+    requires in_limit { length a.now ≤ most_elements }
+    ensures { IfOk result (λ place. place ≡ least_without O.value a.now b.now 0) }
+{
+    let Some(pace) = least_pace(config, a.len()) else {
+        return Ok(first_without::<O>(a, b));
+    };
+    let valueless = Valueless::<O> {
+        first: a,
+        second: b,
+        operator: PhantomData,
+    };
+    race_for_least(rt, alloc, pace, &valueless, gate)
+}
+
 /// The operator's values on the pairs of elements, or its fault at the least place without a value; `LengthMismatch` where
 /// one vector is longer.
+// All pairs are looked at before the first value is written, by vector code. A walk that stops at a pair has none.
 pub(crate) fn values_or_fault<
     O: PartialBinary + Send + Sync,
     R: Threads + Sync,
@@ -68,15 +95,7 @@ pub(crate) fn values_or_fault<
     ensures as_long { IfOk result (λ v. vec_len v ≡ length a.now) }
 {
     check_agree(a.len(), b.len())?;
-    let Some(pace) = least_pace(config, a.len()) else {
-        return values_on_pairs_or::<O, A>(alloc, a, b);
-    };
-    let valueless = Valueless::<O> {
-        first: a,
-        second: b,
-        operator: PhantomData,
-    };
-    if let Some(place) = race_for_least(rt, alloc, pace, &valueless, gate)? {
+    if let Some(place) = least_valueless::<O, R, A, G>(rt, alloc, config, a, b, gate)? {
         return Err(Refused::Fault(Fault::at(O::fault(), place)));
     }
     let values = OnPairs::<OrZero<O>, i32>::new(a, b);

@@ -7,13 +7,13 @@ use Rattle.cvl_base.proofs.Elementwise.{if_as_long-fits}
 use Rattle.elementwise.proofs.LeastFaults.{fails, succeeds}
 use Rattle.elementwise.proofs.races.values_or_fault.Goals as goal
 
-pub returns-in-Some-2-clause-values : goal.returns-in-Some-2-clause-values
-returns-in-Some-2-clause-values g c =
+pub returns-in-Some-clause-values : goal.returns-in-Some-clause-values
+returns-in-Some-clause-values g c =
     let a = c.args.a.now in let b = c.args.b.now in
     if_as_long-fits a b _ (omega (arith, c.in_ok-check_agree.ensures))
     ∙ rw (c.at.ensures, c.fault.ensures)
-    (fails g.O.PartialBinary.fault (λ p. g.O.PartialBinary.value p.0 p.1) (pos 0) (zip a b) 0 c.in-Some-2.place
-    (sym c.in_ok-place.ensures ∙ c.in-Some-2.is))
+    (fails g.O.PartialBinary.fault (λ p. g.O.PartialBinary.value p.0 p.1) (pos 0) (zip a b) 0 c.in-Some.place
+    (sym c.in_ok-place.ensures ∙ c.in-Some.is))
 
 pub write_in_runs-requires-after_bounds : goal.write_in_runs-requires-after_bounds
 write_in_runs-requires-after_bounds g c κs within =
@@ -25,7 +25,7 @@ pub returns-clause-values : goal.returns-clause-values
 returns-clause-values g c =
     let a = c.args.a.now in let b = c.args.b.now in
     if_as_long-fits a b _ (omega (arith, c.in_ok-check_agree.ensures))
-    ∙ succeeds g.O.PartialBinary.fault (λ p. g.O.PartialBinary.value p.0 p.1) (pos 0) (zip a b) 0 (sym c.in_ok-place.ensures ∙ c.in_default-2.is)
+    ∙ succeeds g.O.PartialBinary.fault (λ p. g.O.PartialBinary.value p.0 p.1) (pos 0) (zip a b) 0 (sym c.in_ok-place.ensures ∙ c.in_default.is)
     ∙ sym (ap Ok (c.in_ok-write_in_runs.ensures
     ∙ λ i. map (λ p. unwrap_or (g.O.PartialBinary.value p.0 p.1) (pos 0)) (zip (c.new-values.ensures.first i) (c.new-values.ensures.second i))))
 
