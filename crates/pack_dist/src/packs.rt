@@ -13,9 +13,10 @@ use crate::kept_blocks::push_kept;
 use crate::kept_runs::Kept;
 use crew::{Gate, OpenGate};
 use cvl_base::{Config, Fault, FaultNo, Memory, NoResources, Refused, check_agree, true_count};
-use fresh::{Run, fill_slice, write_in_runs};
+use fresh::{Room, Run, fill_slice, write_in_runs};
 use sharing::threads_writing;
 use std::thread::Threads;
+use tile_scans::scan_pace;
 
 /// The elements whose flag is true, in order: `pck_luz` and `pck_lub`.
 ///
@@ -69,8 +70,8 @@ pub fn pack_over<T: Copy>(
     kept_over(values, flags, out, count)
 }
 
-/// The elements whose flag is true, of as many as there are flags. A scan of the flags says where each of them is put, and
-/// so where in the flags a run of the result begins. The workers of that scan pass the gate.
+/// The elements whose flag is true, of as many as there are flags. Where workers race, a scan of the flags says where each of them
+/// is put, and so where in the flags a run of the result begins. The workers of that scan pass the gate.
 pub(crate) fn kept<T: Copy + Send + Sync, R: Threads + Sync, A: Memory, G: Gate>(
     rt: &R,
     alloc: A,
@@ -84,9 +85,9 @@ pub(crate) fn kept<T: Copy + Send + Sync, R: Threads + Sync, A: Memory, G: Gate>
     ensures values { IfOk result (λ v. v.items ≡ kept_of values.now flags.now) }
     ensures no_longer { IfOk result (λ v. vec_len v ≤ length values.now) }
 {
-    if flags.is_empty() {
-        return Ok(Vec::new(alloc));
-    }
+    let Some(_) = scan_pace(config, flags.len()) else {
+        return kept_alone(alloc, values, flags);
+    };
     let places = counts_before(rt, alloc, config, flags, gate)?;
     let places = places.as_slice();
     let count = count_by_places(flags, places);
@@ -97,6 +98,22 @@ pub(crate) fn kept<T: Copy + Send + Sync, R: Threads + Sync, A: Memory, G: Gate>
     };
     let threads = threads_writing(config, flags.len());
     Ok(write_in_runs(rt, alloc, threads, &kept, count)?)
+}
+
+/// The same by the thread that calls, which counts what is kept first, and then asks for memory for it alone.
+fn kept_alone<T: Copy, A: Memory>(
+    alloc: A,
+    values: &[T],
+    flags: &[bool],
+) -> Result<Vec<T, A>, NoResources>
+    requires few { length flags.now ≤ most_elements }
+    requires as_long { length values.now ≡ length flags.now }
+    ensures values { IfOk result (λ v. v.items ≡ kept_of values.now flags.now) }
+    ensures no_longer { IfOk result (λ v. vec_len v ≤ length values.now) }
+{
+    let (room, run) = Room::new(alloc, true_count(flags))?;
+    let run = push_kept(run, values, flags);
+    Ok(room.into_vec(run))
 }
 
 /// The elements whose flag is true, of as many as there are flags, at the front of a room, and their number as the count. It
