@@ -3,7 +3,7 @@
  *
  * Link with libcvl_c.a and the parts in C of the kit that built it; docs/embedding.md shows how. C99, and usable from C++.
  *
- * Every function answers a CvlStatus: number 0 where all is done, the number of a fault, with its place or -1, 100 where memory
+ * Every call answers a CvlStatus: number 0 where all is done, the number of a fault, with its place or -1, 100 where memory
  * ran out, 101 where there is no descriptor, or 102 where arrays overlap. Where all is done the result is in the caller's room,
  * the last array, value or values given. Else the room is as it was. Each array comes as a pointer and a number of elements.
  *
@@ -18,17 +18,23 @@
  * call says so, and for each export that has others of its name and `_in`. The answer is the same then, and at a fault the vector
  * is as it was. Arrays that are only read may overlap. An array of 0 elements overlaps nothing, and its pointer may be null.
  *
+ * A boolean is a byte, and any byte but 0 is true, as in C. That is so for each array of booleans that a function reads, its
+ * parameters of the type const bool *; an array of another type of bytes may be passed by a cast, since no function reads it as
+ * bool. Booleans that are results are 0 and 1. Packs, permutes, scans, replaces, distributes and texts read booleans where they lie
+ * if each is 0 or 1, and else take memory for a copy, one byte an element; without it the status is 100 NoResources, and the room is
+ * as it was. All other functions read any bytes where they lie.
+ *
  * What a caller owes, and what it costs where it isn't so:
  *   - A pointer leads to as many elements as is said, aligned for their type, which may be read and in a room written. Else the
  *     call may crash, or read or write other memory.
  *   - While a call is at work no other thread writes its arrays, or reads its rooms. Else the results are any, and the call may
  *     crash or write other memory.
- *   - A bool is 0 or 1. Else the results are any, and the call may crash or write other memory.
  *   - The program has one malloc, realloc and free. Else memory is given back to an allocator that it isn't from.
  *   - The lengths of a descriptor live as long as calls take it. Else the call may crash or read other memory.
  *   - Code of other languages that calls the export of a family, as cvl_int2, gives no room that shares memory with another argument.
- *     Else the results are any, and the call may crash or write other memory. A call under its own name, as cvl_add_wuz, tells
- *     overlaps to every language.
+ *     Else the results are any, and the call may crash or write other memory. The same is so of a boolean that is neither 0 nor 1 in
+ *     an array of a pack, a permute, a scan, a replace, a distribute or a text: cvl_make_flags makes it one. A call under its own
+ *     name, as cvl_add_wuz, tells overlaps to every language, and takes any byte.
  * All else is checked: whatever lengths, indices, operators and rooms are given, a call ends with a status. It runs on the thread
  * that calls. Several threads may call at once.
  *
@@ -50,6 +56,8 @@
 #include <stdbool.h>
 #include <stddef.h>
 #include <stdint.h>
+#include <stdlib.h>
+#include <string.h>
 
 #ifdef __cplusplus
 extern "C" {
@@ -473,7 +481,7 @@ CVL_CHECKED CvlStatus cvl_bool_scan_after(uint32_t op, bool before, const bool *
 
 /*
  * Each is the function of its name before `_in`, with the result in the place of a vector that it reads, and no room: the status
- * is the same, and at a fault the vector is as it was. The functions of the next part call these where a room is an input.
+ * is the same, and at a fault the vector is as it was. Functions below call these where a room is an input.
  */
 CVL_CHECKED CvlStatus cvl_int2_in_first(uint32_t op, int32_t *a, size_t a_len, const int32_t *b, size_t b_len);
 CVL_CHECKED CvlStatus cvl_int2_in_second(uint32_t op, const int32_t *a, size_t a_len, int32_t *b, size_t b_len);
@@ -484,6 +492,72 @@ CVL_CHECKED CvlStatus cvl_checked_scan_in(int32_t *a, size_t a_len);
 CVL_CHECKED CvlStatus cvl_seg_checked_scan_in(int32_t *a, size_t a_len, const int32_t *lengths, size_t segments);
 CVL_CHECKED CvlStatus cvl_seg_int_scan_in(uint32_t op, int32_t *a, size_t a_len, const int32_t *lengths, size_t segments);
 CVL_CHECKED CvlStatus cvl_int_scan_after_in(uint32_t op, int32_t before, int32_t *a, size_t a_len);
+CVL_CHECKED CvlStatus cvl_bool2_in_first(uint32_t op, bool *a, size_t a_len, const bool *b, size_t b_len);
+CVL_CHECKED CvlStatus cvl_bool2_in_second(uint32_t op, const bool *a, size_t a_len, bool *b, size_t b_len);
+CVL_CHECKED CvlStatus cvl_bool2_in_both(uint32_t op, bool *a, size_t a_len);
+CVL_CHECKED CvlStatus cvl_bool1_in(uint32_t op, bool *a, size_t a_len);
+CVL_CHECKED CvlStatus cvl_select_int_in_first(
+    const bool *flags, size_t flags_len, int32_t *a, size_t a_len, const int32_t *b, size_t b_len);
+CVL_CHECKED CvlStatus cvl_select_int_in_second(
+    const bool *flags, size_t flags_len, const int32_t *a, size_t a_len, int32_t *b, size_t b_len);
+CVL_CHECKED CvlStatus cvl_select_bool_in_first(
+    const bool *flags, size_t flags_len, bool *a, size_t a_len, const bool *b, size_t b_len);
+CVL_CHECKED CvlStatus cvl_select_bool_in_second(
+    const bool *flags, size_t flags_len, const bool *a, size_t a_len, bool *b, size_t b_len);
+CVL_CHECKED CvlStatus cvl_bool_scan_in(uint32_t op, bool *a, size_t a_len);
+CVL_CHECKED CvlStatus cvl_bool_scan_after_in(uint32_t op, bool before, bool *a, size_t a_len);
+CVL_CHECKED CvlStatus cvl_seg_bool_scan_in(uint32_t op, bool *a, size_t a_len, const int32_t *lengths, size_t segments);
+
+/* ---- booleans that are neither 0 nor 1 ---- */
+
+/* Whether each byte is 0 or 1. */
+bool cvl_are_flags(const bool *flags, size_t flags_len);
+
+/* Makes each byte that is not 0 a 1. */
+void cvl_make_flags(bool *flags, size_t flags_len);
+
+/* A status without a place. */
+CVL_CHECKED static inline CvlStatus cvl_without_place(uint32_t number) {
+    CvlStatus status;
+    status.number = number;
+    status.place = -1;
+    return status;
+}
+
+/*
+ * Lets `flags` lead to booleans that are each 0 or 1: it stays as it is where they are, and else leads to a copy, which is to be
+ * freed. Whether there was memory for that.
+ */
+static inline bool cvl_take_flags(const bool **flags, size_t count, bool **copy) {
+    if (cvl_are_flags(*flags, count)) return true;
+    *copy = (bool *)malloc(count);
+    if (*copy == NULL) return false;
+    memcpy(*copy, *flags, count);
+    cvl_make_flags(*copy, count);
+    *flags = *copy;
+    return true;
+}
+
+/* Answers the call of an export that takes no boolean but 0 and 1, in one array or in two. The call names the arrays. */
+#define CVL_WITH_FLAGS(flags, flags_len, call)                                                                                 \
+    do {                                                                                                                       \
+        bool *cvl_copy = NULL;                                                                                                 \
+        const CvlStatus cvl_told =                                                                                             \
+            cvl_take_flags(&(flags), flags_len, &cvl_copy) ? (call) : cvl_without_place(CVL_NO_RESOURCES);                     \
+        free(cvl_copy);                                                                                                        \
+        return cvl_told;                                                                                                       \
+    } while (0)
+#define CVL_WITH_FLAGS_OF_TWO(flags, flags_len, others, others_len, call)                                                      \
+    do {                                                                                                                       \
+        bool *cvl_copies[2] = {NULL, NULL};                                                                                    \
+        const CvlStatus cvl_told =                                                                                             \
+            cvl_take_flags(&(flags), flags_len, &cvl_copies[0]) && cvl_take_flags(&(others), others_len, &cvl_copies[1])       \
+                ? (call)                                                                                                       \
+                : cvl_without_place(CVL_NO_RESOURCES);                                                                         \
+        free(cvl_copies[0]);                                                                                                   \
+        free(cvl_copies[1]);                                                                                                   \
+        return cvl_told;                                                                                                       \
+    } while (0)
 
 /* ---- arrays that overlap ---- */
 
@@ -501,10 +575,7 @@ static inline bool cvl_meet(const void *a, size_t a_len, size_t a_size, const vo
 
 /* What a call answers whose arrays overlap. */
 CVL_CHECKED static inline CvlStatus cvl_overlap(void) {
-    CvlStatus status;
-    status.number = CVL_OVERLAP;
-    status.place = -1;
-    return status;
+    return cvl_without_place(CVL_OVERLAP);
 }
 
 CVL_CHECKED static inline CvlStatus cvl_int2_apart(
@@ -534,12 +605,17 @@ CVL_CHECKED static inline CvlStatus cvl_compare_apart(
 
 CVL_CHECKED static inline CvlStatus cvl_bool2_apart(
     uint32_t op, const bool *a, size_t a_len, const bool *b, size_t b_len, bool *out, size_t out_len) {
-    if (CVL_MEET(out, out_len, a, a_len) || CVL_MEET(out, out_len, b, b_len)) return cvl_overlap();
+    const bool first = out == a && out_len == a_len, second = out == b && out_len == b_len;
+    if ((!first && CVL_MEET(out, out_len, a, a_len)) || (!second && CVL_MEET(out, out_len, b, b_len))) return cvl_overlap();
+    if (first && second) return cvl_bool2_in_both(op, out, out_len);
+    if (first) return cvl_bool2_in_first(op, out, out_len, b, b_len);
+    if (second) return cvl_bool2_in_second(op, a, a_len, out, out_len);
     return cvl_bool2(op, a, a_len, b, b_len, out, out_len);
 }
 #define cvl_bool2 cvl_bool2_apart
 
 CVL_CHECKED static inline CvlStatus cvl_bool1_apart(uint32_t op, const bool *a, size_t a_len, bool *out, size_t out_len) {
+    if (out == a && out_len == a_len) return cvl_bool1_in(op, out, out_len);
     if (CVL_MEET(out, out_len, a, a_len)) return cvl_overlap();
     return cvl_bool1(op, a, a_len, out, out_len);
 }
@@ -560,9 +636,13 @@ CVL_CHECKED static inline CvlStatus cvl_bool_from_int_apart(const int32_t *a, si
 CVL_CHECKED static inline CvlStatus cvl_select_int_apart(
     const bool *flags, size_t flags_len, const int32_t *a, size_t a_len, const int32_t *b, size_t b_len, int32_t *out,
     size_t out_len) {
-    if (CVL_MEET(out, out_len, flags, flags_len) || CVL_MEET(out, out_len, a, a_len) || CVL_MEET(out, out_len, b, b_len)) {
+    const bool first = out == a && out_len == a_len, second = !first && out == b && out_len == b_len;
+    if (CVL_MEET(out, out_len, flags, flags_len) || (!first && CVL_MEET(out, out_len, a, a_len)) ||
+        (!second && CVL_MEET(out, out_len, b, b_len))) {
         return cvl_overlap();
     }
+    if (first) return cvl_select_int_in_first(flags, flags_len, out, out_len, b, b_len);
+    if (second) return cvl_select_int_in_second(flags, flags_len, a, a_len, out, out_len);
     return cvl_select_int(flags, flags_len, a, a_len, b, b_len, out, out_len);
 }
 #define cvl_select_int cvl_select_int_apart
@@ -570,9 +650,13 @@ CVL_CHECKED static inline CvlStatus cvl_select_int_apart(
 CVL_CHECKED static inline CvlStatus cvl_select_bool_apart(
     const bool *flags, size_t flags_len, const bool *a, size_t a_len, const bool *b, size_t b_len, bool *out,
     size_t out_len) {
-    if (CVL_MEET(out, out_len, flags, flags_len) || CVL_MEET(out, out_len, a, a_len) || CVL_MEET(out, out_len, b, b_len)) {
+    const bool first = out == a && out_len == a_len, second = !first && out == b && out_len == b_len;
+    if (CVL_MEET(out, out_len, flags, flags_len) || (!first && CVL_MEET(out, out_len, a, a_len)) ||
+        (!second && CVL_MEET(out, out_len, b, b_len))) {
         return cvl_overlap();
     }
+    if (first) return cvl_select_bool_in_first(flags, flags_len, out, out_len, b, b_len);
+    if (second) return cvl_select_bool_in_second(flags, flags_len, a, a_len, out, out_len);
     return cvl_select_bool(flags, flags_len, a, a_len, b, b_len, out, out_len);
 }
 #define cvl_select_bool cvl_select_bool_apart
@@ -591,8 +675,10 @@ CVL_CHECKED static inline CvlStatus cvl_int_reduce_apart(uint32_t op, const int3
 #define cvl_int_reduce cvl_int_reduce_apart
 
 CVL_CHECKED static inline CvlStatus cvl_bool_scan_apart(uint32_t op, const bool *a, size_t a_len, bool *out, size_t out_len) {
-    if (CVL_MEET(out, out_len, a, a_len)) return cvl_overlap();
-    return cvl_bool_scan(op, a, a_len, out, out_len);
+    const bool same = out == a && out_len == a_len;
+    if (same && cvl_are_flags(a, a_len)) return cvl_bool_scan_in(op, out, out_len);
+    if (!same && CVL_MEET(out, out_len, a, a_len)) return cvl_overlap();
+    CVL_WITH_FLAGS(a, a_len, cvl_bool_scan(op, a, a_len, out, out_len));
 }
 #define cvl_bool_scan cvl_bool_scan_apart
 
@@ -659,7 +745,7 @@ CVL_CHECKED static inline CvlStatus cvl_replace_int_apart(
 CVL_CHECKED static inline CvlStatus cvl_replace_bool_apart(
     const bool *vector, size_t vector_len, int32_t index, bool value, bool *out, size_t out_len) {
     if (CVL_MEET(out, out_len, vector, vector_len)) return cvl_overlap();
-    return cvl_replace_bool(vector, vector_len, index, value, out, out_len);
+    CVL_WITH_FLAGS(vector, vector_len, cvl_replace_bool(vector, vector_len, index, value, out, out_len));
 }
 #define cvl_replace_bool cvl_replace_bool_apart
 
@@ -709,7 +795,8 @@ CVL_CHECKED static inline CvlStatus cvl_seg_replace_bool_apart(
         CVL_MEET(out, out_len, values, values_len) || CVL_MEET(out, out_len, lengths, segments)) {
         return cvl_overlap();
     }
-    return cvl_seg_replace_bool(vector, vector_len, index, index_len, values, values_len, lengths, segments, out, out_len);
+    CVL_WITH_FLAGS_OF_TWO(vector, vector_len, values, values_len,
+        cvl_seg_replace_bool(vector, vector_len, index, index_len, values, values_len, lengths, segments, out, out_len));
 }
 #define cvl_seg_replace_bool cvl_seg_replace_bool_apart
 
@@ -723,7 +810,7 @@ CVL_CHECKED static inline CvlStatus cvl_seg_distribute_int_apart(
 CVL_CHECKED static inline CvlStatus cvl_seg_distribute_bool_apart(
     const bool *values, size_t values_len, const int32_t *lengths, size_t segments, bool *out, size_t out_len) {
     if (CVL_MEET(out, out_len, values, values_len) || CVL_MEET(out, out_len, lengths, segments)) return cvl_overlap();
-    return cvl_seg_distribute_bool(values, values_len, lengths, segments, out, out_len);
+    CVL_WITH_FLAGS(values, values_len, cvl_seg_distribute_bool(values, values_len, lengths, segments, out, out_len));
 }
 #define cvl_seg_distribute_bool cvl_seg_distribute_bool_apart
 
@@ -756,8 +843,10 @@ CVL_CHECKED static inline CvlStatus cvl_seg_int_reduce_apart(
 
 CVL_CHECKED static inline CvlStatus cvl_seg_bool_scan_apart(
     uint32_t op, const bool *a, size_t a_len, const int32_t *lengths, size_t segments, bool *out, size_t out_len) {
-    if (CVL_MEET(out, out_len, a, a_len) || CVL_MEET(out, out_len, lengths, segments)) return cvl_overlap();
-    return cvl_seg_bool_scan(op, a, a_len, lengths, segments, out, out_len);
+    const bool same = out == a && out_len == a_len;
+    if ((!same && CVL_MEET(out, out_len, a, a_len)) || CVL_MEET(out, out_len, lengths, segments)) return cvl_overlap();
+    if (same && cvl_are_flags(a, a_len)) return cvl_seg_bool_scan_in(op, out, out_len, lengths, segments);
+    CVL_WITH_FLAGS(a, a_len, cvl_seg_bool_scan(op, a, a_len, lengths, segments, out, out_len));
 }
 #define cvl_seg_bool_scan cvl_seg_bool_scan_apart
 
@@ -775,7 +864,7 @@ CVL_CHECKED static inline CvlStatus cvl_pack_int_apart(
         CVL_MEET(out, out_len, count, 1) || CVL_MEET(count, 1, values, values_len) || CVL_MEET(count, 1, flags, flags_len)) {
         return cvl_overlap();
     }
-    return cvl_pack_int(values, values_len, flags, flags_len, out, out_len, count);
+    CVL_WITH_FLAGS(flags, flags_len, cvl_pack_int(values, values_len, flags, flags_len, out, out_len, count));
 }
 #define cvl_pack_int cvl_pack_int_apart
 
@@ -785,7 +874,8 @@ CVL_CHECKED static inline CvlStatus cvl_pack_bool_apart(
         CVL_MEET(out, out_len, count, 1) || CVL_MEET(count, 1, values, values_len) || CVL_MEET(count, 1, flags, flags_len)) {
         return cvl_overlap();
     }
-    return cvl_pack_bool(values, values_len, flags, flags_len, out, out_len, count);
+    CVL_WITH_FLAGS_OF_TWO(values, values_len, flags, flags_len,
+        cvl_pack_bool(values, values_len, flags, flags_len, out, out_len, count));
 }
 #define cvl_pack_bool cvl_pack_bool_apart
 
@@ -798,7 +888,8 @@ CVL_CHECKED static inline CvlStatus cvl_seg_pack_int_apart(
         CVL_MEET(count, 1, lengths, segments)) {
         return cvl_overlap();
     }
-    return cvl_seg_pack_int(values, values_len, flags, flags_len, lengths, segments, out, out_len, count);
+    CVL_WITH_FLAGS(flags, flags_len,
+        cvl_seg_pack_int(values, values_len, flags, flags_len, lengths, segments, out, out_len, count));
 }
 #define cvl_seg_pack_int cvl_seg_pack_int_apart
 
@@ -811,7 +902,8 @@ CVL_CHECKED static inline CvlStatus cvl_seg_pack_bool_apart(
         CVL_MEET(count, 1, lengths, segments)) {
         return cvl_overlap();
     }
-    return cvl_seg_pack_bool(values, values_len, flags, flags_len, lengths, segments, out, out_len, count);
+    CVL_WITH_FLAGS_OF_TWO(values, values_len, flags, flags_len,
+        cvl_seg_pack_bool(values, values_len, flags, flags_len, lengths, segments, out, out_len, count));
 }
 #define cvl_seg_pack_bool cvl_seg_pack_bool_apart
 
@@ -839,7 +931,7 @@ CVL_CHECKED static inline CvlStatus cvl_permute_int_apart(
 CVL_CHECKED static inline CvlStatus cvl_permute_bool_apart(
     const bool *source, size_t source_len, const int32_t *index, size_t index_len, bool *out, size_t out_len) {
     if (CVL_MEET(out, out_len, source, source_len) || CVL_MEET(out, out_len, index, index_len)) return cvl_overlap();
-    return cvl_permute_bool(source, source_len, index, index_len, out, out_len);
+    CVL_WITH_FLAGS(source, source_len, cvl_permute_bool(source, source_len, index, index_len, out, out_len));
 }
 #define cvl_permute_bool cvl_permute_bool_apart
 
@@ -850,7 +942,8 @@ CVL_CHECKED static inline CvlStatus cvl_select_permute_int_apart(
         CVL_MEET(out, out_len, flags, flags_len)) {
         return cvl_overlap();
     }
-    return cvl_select_permute_int(source, source_len, index, index_len, flags, flags_len, out, out_len);
+    CVL_WITH_FLAGS(flags, flags_len,
+        cvl_select_permute_int(source, source_len, index, index_len, flags, flags_len, out, out_len));
 }
 #define cvl_select_permute_int cvl_select_permute_int_apart
 
@@ -861,7 +954,8 @@ CVL_CHECKED static inline CvlStatus cvl_select_permute_bool_apart(
         CVL_MEET(out, out_len, flags, flags_len)) {
         return cvl_overlap();
     }
-    return cvl_select_permute_bool(source, source_len, index, index_len, flags, flags_len, out, out_len);
+    CVL_WITH_FLAGS_OF_TWO(source, source_len, flags, flags_len,
+        cvl_select_permute_bool(source, source_len, index, index_len, flags, flags_len, out, out_len));
 }
 #define cvl_select_permute_bool cvl_select_permute_bool_apart
 
@@ -883,7 +977,8 @@ CVL_CHECKED static inline CvlStatus cvl_default_permute_bool_apart(
         CVL_MEET(out, out_len, defaults, defaults_len)) {
         return cvl_overlap();
     }
-    return cvl_default_permute_bool(source, source_len, index, index_len, defaults, defaults_len, out, out_len);
+    CVL_WITH_FLAGS_OF_TWO(source, source_len, defaults, defaults_len,
+        cvl_default_permute_bool(source, source_len, index, index_len, defaults, defaults_len, out, out_len));
 }
 #define cvl_default_permute_bool cvl_default_permute_bool_apart
 
@@ -897,7 +992,7 @@ CVL_CHECKED static inline CvlStatus cvl_back_permute_int_apart(
 CVL_CHECKED static inline CvlStatus cvl_back_permute_bool_apart(
     const bool *source, size_t source_len, const int32_t *index, size_t index_len, bool *out, size_t out_len) {
     if (CVL_MEET(out, out_len, source, source_len) || CVL_MEET(out, out_len, index, index_len)) return cvl_overlap();
-    return cvl_back_permute_bool(source, source_len, index, index_len, out, out_len);
+    CVL_WITH_FLAGS(source, source_len, cvl_back_permute_bool(source, source_len, index, index_len, out, out_len));
 }
 #define cvl_back_permute_bool cvl_back_permute_bool_apart
 
@@ -919,7 +1014,8 @@ CVL_CHECKED static inline CvlStatus cvl_seg_permute_bool_apart(
         CVL_MEET(out, out_len, lengths, segments)) {
         return cvl_overlap();
     }
-    return cvl_seg_permute_bool(source, source_len, index, index_len, lengths, segments, out, out_len);
+    CVL_WITH_FLAGS(source, source_len,
+        cvl_seg_permute_bool(source, source_len, index, index_len, lengths, segments, out, out_len));
 }
 #define cvl_seg_permute_bool cvl_seg_permute_bool_apart
 
@@ -930,8 +1026,8 @@ CVL_CHECKED static inline CvlStatus cvl_seg_select_permute_int_apart(
         CVL_MEET(out, out_len, flags, flags_len) || CVL_MEET(out, out_len, lengths, segments)) {
         return cvl_overlap();
     }
-    return cvl_seg_select_permute_int(
-        source, source_len, index, index_len, flags, flags_len, lengths, segments, out, out_len);
+    CVL_WITH_FLAGS(flags, flags_len,
+        cvl_seg_select_permute_int(source, source_len, index, index_len, flags, flags_len, lengths, segments, out, out_len));
 }
 #define cvl_seg_select_permute_int cvl_seg_select_permute_int_apart
 
@@ -942,8 +1038,8 @@ CVL_CHECKED static inline CvlStatus cvl_seg_select_permute_bool_apart(
         CVL_MEET(out, out_len, flags, flags_len) || CVL_MEET(out, out_len, lengths, segments)) {
         return cvl_overlap();
     }
-    return cvl_seg_select_permute_bool(
-        source, source_len, index, index_len, flags, flags_len, lengths, segments, out, out_len);
+    CVL_WITH_FLAGS_OF_TWO(source, source_len, flags, flags_len,
+        cvl_seg_select_permute_bool(source, source_len, index, index_len, flags, flags_len, lengths, segments, out, out_len));
 }
 #define cvl_seg_select_permute_bool cvl_seg_select_permute_bool_apart
 
@@ -971,9 +1067,9 @@ CVL_CHECKED static inline CvlStatus cvl_seg_default_permute_bool_apart(
         CVL_MEET(out, out_len, default_lengths, default_segments)) {
         return cvl_overlap();
     }
-    return cvl_seg_default_permute_bool(
-        source, source_len, index, index_len, defaults, defaults_len, lengths, segments, default_lengths, default_segments, out,
-        out_len);
+    CVL_WITH_FLAGS_OF_TWO(source, source_len, defaults, defaults_len,
+        cvl_seg_default_permute_bool(source, source_len, index, index_len, defaults, defaults_len, lengths, segments,
+        default_lengths, default_segments, out, out_len));
 }
 #define cvl_seg_default_permute_bool cvl_seg_default_permute_bool_apart
 
@@ -996,8 +1092,9 @@ CVL_CHECKED static inline CvlStatus cvl_seg_back_permute_bool_apart(
         CVL_MEET(out, out_len, lengths, segments) || CVL_MEET(out, out_len, index_lengths, index_segments)) {
         return cvl_overlap();
     }
-    return cvl_seg_back_permute_bool(
-        source, source_len, index, index_len, lengths, segments, index_lengths, index_segments, out, out_len);
+    CVL_WITH_FLAGS(source, source_len,
+        cvl_seg_back_permute_bool(source, source_len, index, index_len, lengths, segments, index_lengths, index_segments, out,
+        out_len));
 }
 #define cvl_seg_back_permute_bool cvl_seg_back_permute_bool_apart
 
@@ -1021,7 +1118,7 @@ CVL_CHECKED static inline CvlStatus cvl_write_bools_apart(const bool *a, size_t 
     if (CVL_MEET(out, out_len, a, a_len) || CVL_MEET(out, out_len, count, 1) || CVL_MEET(count, 1, a, a_len)) {
         return cvl_overlap();
     }
-    return cvl_write_bools(a, a_len, out, out_len, count);
+    CVL_WITH_FLAGS(a, a_len, cvl_write_bools(a, a_len, out, out_len, count));
 }
 #define cvl_write_bools cvl_write_bools_apart
 
@@ -1035,8 +1132,10 @@ CVL_CHECKED static inline CvlStatus cvl_int_scan_after_apart(
 
 CVL_CHECKED static inline CvlStatus cvl_bool_scan_after_apart(
     uint32_t op, bool before, const bool *a, size_t a_len, bool *out, size_t out_len) {
-    if (CVL_MEET(out, out_len, a, a_len)) return cvl_overlap();
-    return cvl_bool_scan_after(op, before, a, a_len, out, out_len);
+    const bool same = out == a && out_len == a_len;
+    if (same && cvl_are_flags(a, a_len)) return cvl_bool_scan_after_in(op, before, out, out_len);
+    if (!same && CVL_MEET(out, out_len, a, a_len)) return cvl_overlap();
+    CVL_WITH_FLAGS(a, a_len, cvl_bool_scan_after(op, before, a, a_len, out, out_len));
 }
 #define cvl_bool_scan_after cvl_bool_scan_after_apart
 
@@ -1070,7 +1169,7 @@ CVL_CHECKED static inline CvlStatus cvl_seg_write_bools_apart(
         CVL_MEET(count, 1, a, a_len) || CVL_MEET(count, 1, lengths, segments)) {
         return cvl_overlap();
     }
-    return cvl_seg_write_bools(a, a_len, lengths, segments, out, out_len, count);
+    CVL_WITH_FLAGS(a, a_len, cvl_seg_write_bools(a, a_len, lengths, segments, out, out_len, count));
 }
 #define cvl_seg_write_bools cvl_seg_write_bools_apart
 
@@ -1220,7 +1319,7 @@ CVL_CHECKED static inline CvlStatus not_wuz(const int32_t *a, int32_t *out, size
 /*
  * not_wub: Each boolean inverted. a and out have n elements.
  * Faults: 13 TooLong.
- * In place: no.
+ * In place: a may be out.
  * a = false true: out = true false
  */
 CVL_CHECKED static inline CvlStatus not_wub(const bool *a, bool *out, size_t n) {
@@ -1240,7 +1339,7 @@ CVL_CHECKED static inline CvlStatus cpy_wuz(const int32_t *a, int32_t *out, size
 /*
  * cpy_wub: Each boolean copied. a and out have n elements.
  * Faults: 13 TooLong.
- * In place: no.
+ * In place: a may be out.
  * a = true false: out = true false
  */
 CVL_CHECKED static inline CvlStatus cpy_wub(const bool *a, bool *out, size_t n) {
@@ -1250,7 +1349,7 @@ CVL_CHECKED static inline CvlStatus cpy_wub(const bool *a, bool *out, size_t n) 
 /*
  * grt_wuz: True where a is greater. a, b and out have n elements.
  * Faults: 13 TooLong.
- * In place: no.
+ * In place: no, 102 Overlap.
  * a = 1 2 3, b = 2 2 2: out = false false true
  */
 CVL_CHECKED static inline CvlStatus grt_wuz(const int32_t *a, const int32_t *b, bool *out, size_t n) {
@@ -1260,7 +1359,7 @@ CVL_CHECKED static inline CvlStatus grt_wuz(const int32_t *a, const int32_t *b, 
 /*
  * les_wuz: True where a is less. a, b and out have n elements.
  * Faults: 13 TooLong.
- * In place: no.
+ * In place: no, 102 Overlap.
  * a = 1 2 3, b = 2 2 2: out = true false false
  */
 CVL_CHECKED static inline CvlStatus les_wuz(const int32_t *a, const int32_t *b, bool *out, size_t n) {
@@ -1270,7 +1369,7 @@ CVL_CHECKED static inline CvlStatus les_wuz(const int32_t *a, const int32_t *b, 
 /*
  * geq_wuz: True where a is greater, or they are equal. a, b and out have n elements.
  * Faults: 13 TooLong.
- * In place: no.
+ * In place: no, 102 Overlap.
  * a = 1 2 3, b = 2 2 2: out = false true true
  */
 CVL_CHECKED static inline CvlStatus geq_wuz(const int32_t *a, const int32_t *b, bool *out, size_t n) {
@@ -1280,7 +1379,7 @@ CVL_CHECKED static inline CvlStatus geq_wuz(const int32_t *a, const int32_t *b, 
 /*
  * leq_wuz: True where a is less, or they are equal. a, b and out have n elements.
  * Faults: 13 TooLong.
- * In place: no.
+ * In place: no, 102 Overlap.
  * a = 1 2 3, b = 2 2 2: out = true true false
  */
 CVL_CHECKED static inline CvlStatus leq_wuz(const int32_t *a, const int32_t *b, bool *out, size_t n) {
@@ -1290,7 +1389,7 @@ CVL_CHECKED static inline CvlStatus leq_wuz(const int32_t *a, const int32_t *b, 
 /*
  * eql_wuz: True where they are equal. a, b and out have n elements.
  * Faults: 13 TooLong.
- * In place: no.
+ * In place: no, 102 Overlap.
  * a = 1 2 3, b = 2 2 2: out = false true false
  */
 CVL_CHECKED static inline CvlStatus eql_wuz(const int32_t *a, const int32_t *b, bool *out, size_t n) {
@@ -1300,7 +1399,7 @@ CVL_CHECKED static inline CvlStatus eql_wuz(const int32_t *a, const int32_t *b, 
 /*
  * neq_wuz: True where they are not equal. a, b and out have n elements.
  * Faults: 13 TooLong.
- * In place: no.
+ * In place: no, 102 Overlap.
  * a = 1 2 3, b = 2 2 2: out = true false true
  */
 CVL_CHECKED static inline CvlStatus neq_wuz(const int32_t *a, const int32_t *b, bool *out, size_t n) {
@@ -1310,7 +1409,7 @@ CVL_CHECKED static inline CvlStatus neq_wuz(const int32_t *a, const int32_t *b, 
 /*
  * and_wub: Whether both are true. a, b and out have n elements.
  * Faults: 13 TooLong.
- * In place: no.
+ * In place: a, b or both may be out.
  * a = true true false false, b = true false true false: out = true false false false
  */
 CVL_CHECKED static inline CvlStatus and_wub(const bool *a, const bool *b, bool *out, size_t n) {
@@ -1320,7 +1419,7 @@ CVL_CHECKED static inline CvlStatus and_wub(const bool *a, const bool *b, bool *
 /*
  * ior_wub: Whether at least one is true. a, b and out have n elements.
  * Faults: 13 TooLong.
- * In place: no.
+ * In place: a, b or both may be out.
  * a = true true false false, b = true false true false: out = true true true false
  */
 CVL_CHECKED static inline CvlStatus ior_wub(const bool *a, const bool *b, bool *out, size_t n) {
@@ -1330,7 +1429,7 @@ CVL_CHECKED static inline CvlStatus ior_wub(const bool *a, const bool *b, bool *
 /*
  * xor_wub: Whether exactly one is true. a, b and out have n elements.
  * Faults: 13 TooLong.
- * In place: no.
+ * In place: a, b or both may be out.
  * a = true true false false, b = true false true false: out = false true true false
  */
 CVL_CHECKED static inline CvlStatus xor_wub(const bool *a, const bool *b, bool *out, size_t n) {
@@ -1340,7 +1439,7 @@ CVL_CHECKED static inline CvlStatus xor_wub(const bool *a, const bool *b, bool *
 /*
  * sel_wuz: The element of a where the flag is true, else that of b. flags, a, b and out have m elements.
  * Faults: 13 TooLong.
- * In place: no.
+ * In place: a or b may be out, but not both.
  * flags = true false false, a = 5 0 5, b = 1 1 1: out = 5 1 1
  */
 CVL_CHECKED static inline CvlStatus sel_wuz(const bool *flags, const int32_t *a, const int32_t *b, int32_t *out, size_t m) {
@@ -1350,7 +1449,7 @@ CVL_CHECKED static inline CvlStatus sel_wuz(const bool *flags, const int32_t *a,
 /*
  * sel_wub: The element of a where the flag is true, else that of b. flags, a, b and out have m elements.
  * Faults: 13 TooLong.
- * In place: no.
+ * In place: a or b may be out, but not both.
  * flags = true false, a = true true, b = false false: out = true false
  */
 CVL_CHECKED static inline CvlStatus sel_wub(const bool *flags, const bool *a, const bool *b, bool *out, size_t m) {
@@ -1360,7 +1459,7 @@ CVL_CHECKED static inline CvlStatus sel_wub(const bool *flags, const bool *a, co
 /*
  * int_wub: 1 for true and 0 for false. a and out have n elements.
  * Faults: 13 TooLong.
- * In place: no.
+ * In place: no, 102 Overlap.
  * a = false true true: out = 0 1 1
  */
 CVL_CHECKED static inline CvlStatus int_wub(const bool *a, int32_t *out, size_t n) {
@@ -1370,7 +1469,7 @@ CVL_CHECKED static inline CvlStatus int_wub(const bool *a, int32_t *out, size_t 
 /*
  * boo_wuz: True where the integer is not 0. a and out have n elements.
  * Faults: 13 TooLong.
- * In place: no.
+ * In place: no, 102 Overlap.
  * a = 0 -3 7: out = false true true
  */
 CVL_CHECKED static inline CvlStatus boo_wuz(const int32_t *a, bool *out, size_t n) {
@@ -1392,7 +1491,7 @@ CVL_CHECKED static inline CvlStatus add_suz(const int32_t *a, int32_t *out, size
 /*
  * add_ruz: The n integers, summed, wrapped; 0 where there are none.
  * Faults: 13 TooLong.
- * In place: no.
+ * In place: no, 102 Overlap.
  * a = 3 1 4: *out = 8
  */
 CVL_CHECKED static inline CvlStatus add_ruz(const int32_t *a, size_t n, int32_t *out) {
@@ -1412,7 +1511,7 @@ CVL_CHECKED static inline CvlStatus mul_suz(const int32_t *a, int32_t *out, size
 /*
  * mul_ruz: The n integers, multiplied, wrapped; 1 where there are none.
  * Faults: 13 TooLong.
- * In place: no.
+ * In place: no, 102 Overlap.
  * a = 3 1 4: *out = 12
  */
 CVL_CHECKED static inline CvlStatus mul_ruz(const int32_t *a, size_t n, int32_t *out) {
@@ -1432,7 +1531,7 @@ CVL_CHECKED static inline CvlStatus min_suz(const int32_t *a, int32_t *out, size
 /*
  * min_ruz: The n integers, the least of them; 2147483647 where there are none.
  * Faults: 13 TooLong.
- * In place: no.
+ * In place: no, 102 Overlap.
  * a = 3 1 4: *out = 1
  */
 CVL_CHECKED static inline CvlStatus min_ruz(const int32_t *a, size_t n, int32_t *out) {
@@ -1452,7 +1551,7 @@ CVL_CHECKED static inline CvlStatus max_suz(const int32_t *a, int32_t *out, size
 /*
  * max_ruz: The n integers, the greatest of them; -2147483648 where there are none.
  * Faults: 13 TooLong.
- * In place: no.
+ * In place: no, 102 Overlap.
  * a = 3 1 4: *out = 4
  */
 CVL_CHECKED static inline CvlStatus max_ruz(const int32_t *a, size_t n, int32_t *out) {
@@ -1472,7 +1571,7 @@ CVL_CHECKED static inline CvlStatus and_suz(const int32_t *a, int32_t *out, size
 /*
  * and_ruz: The n integers, and, bit by bit; -1 where there are none.
  * Faults: 13 TooLong.
- * In place: no.
+ * In place: no, 102 Overlap.
  * a = 3 1 4: *out = 0
  */
 CVL_CHECKED static inline CvlStatus and_ruz(const int32_t *a, size_t n, int32_t *out) {
@@ -1492,7 +1591,7 @@ CVL_CHECKED static inline CvlStatus ior_suz(const int32_t *a, int32_t *out, size
 /*
  * ior_ruz: The n integers, or, bit by bit; 0 where there are none.
  * Faults: 13 TooLong.
- * In place: no.
+ * In place: no, 102 Overlap.
  * a = 3 1 4: *out = 7
  */
 CVL_CHECKED static inline CvlStatus ior_ruz(const int32_t *a, size_t n, int32_t *out) {
@@ -1512,7 +1611,7 @@ CVL_CHECKED static inline CvlStatus xor_suz(const int32_t *a, int32_t *out, size
 /*
  * xor_ruz: The n integers, exclusive or, bit by bit; 0 where there are none.
  * Faults: 13 TooLong.
- * In place: no.
+ * In place: no, 102 Overlap.
  * a = 3 1 4: *out = 6
  */
 CVL_CHECKED static inline CvlStatus xor_ruz(const int32_t *a, size_t n, int32_t *out) {
@@ -1522,7 +1621,7 @@ CVL_CHECKED static inline CvlStatus xor_ruz(const int32_t *a, size_t n, int32_t 
 /*
  * and_sub: For each boolean, of those before it, whether all are true; true at place 0. a and out have n elements.
  * Faults: 13 TooLong.
- * In place: no.
+ * In place: a may be out.
  * a = true false true: out = true true false
  */
 CVL_CHECKED static inline CvlStatus and_sub(const bool *a, bool *out, size_t n) {
@@ -1532,7 +1631,7 @@ CVL_CHECKED static inline CvlStatus and_sub(const bool *a, bool *out, size_t n) 
 /*
  * and_rub: Of the n booleans, whether all are true; true where there are none.
  * Faults: 13 TooLong.
- * In place: no.
+ * In place: no, 102 Overlap.
  * a = true false true: *out = false
  */
 CVL_CHECKED static inline CvlStatus and_rub(const bool *a, size_t n, bool *out) {
@@ -1542,7 +1641,7 @@ CVL_CHECKED static inline CvlStatus and_rub(const bool *a, size_t n, bool *out) 
 /*
  * ior_sub: For each boolean, of those before it, whether any is true; false at place 0. a and out have n elements.
  * Faults: 13 TooLong.
- * In place: no.
+ * In place: a may be out.
  * a = true false true: out = false true true
  */
 CVL_CHECKED static inline CvlStatus ior_sub(const bool *a, bool *out, size_t n) {
@@ -1552,7 +1651,7 @@ CVL_CHECKED static inline CvlStatus ior_sub(const bool *a, bool *out, size_t n) 
 /*
  * ior_rub: Of the n booleans, whether any is true; false where there are none.
  * Faults: 13 TooLong.
- * In place: no.
+ * In place: no, 102 Overlap.
  * a = true false true: *out = true
  */
 CVL_CHECKED static inline CvlStatus ior_rub(const bool *a, size_t n, bool *out) {
@@ -1562,7 +1661,7 @@ CVL_CHECKED static inline CvlStatus ior_rub(const bool *a, size_t n, bool *out) 
 /*
  * xor_sub: For each boolean, of those before it, whether an odd number is true; false at place 0. a and out have n elements.
  * Faults: 13 TooLong.
- * In place: no.
+ * In place: a may be out.
  * a = true false true: out = false true true
  */
 CVL_CHECKED static inline CvlStatus xor_sub(const bool *a, bool *out, size_t n) {
@@ -1572,7 +1671,7 @@ CVL_CHECKED static inline CvlStatus xor_sub(const bool *a, bool *out, size_t n) 
 /*
  * xor_rub: Of the n booleans, whether an odd number is true; false where there are none.
  * Faults: 13 TooLong.
- * In place: no.
+ * In place: no, 102 Overlap.
  * a = true false true: *out = false
  */
 CVL_CHECKED static inline CvlStatus xor_rub(const bool *a, size_t n, bool *out) {
@@ -1594,7 +1693,7 @@ CVL_CHECKED static inline CvlStatus tot_suz(const int32_t *a, int32_t *out, size
 /*
  * tot_ruz: The sum of the n integers.
  * Faults: 13 TooLong; 18 Overflow at 0 where it does not fit 32 bits.
- * In place: no.
+ * In place: no, 102 Overlap.
  * a = 3 1 4: *out = 8
  */
 CVL_CHECKED static inline CvlStatus tot_ruz(const int32_t *a, size_t n, int32_t *out) {
@@ -1606,7 +1705,7 @@ CVL_CHECKED static inline CvlStatus tot_ruz(const int32_t *a, size_t n, int32_t 
 /*
  * cnt_lub: The number of true flags, of n.
  * Faults: 13 TooLong.
- * In place: no.
+ * In place: no, 102 Overlap.
  * flags = false true true false true: *out = 3
  */
 CVL_CHECKED static inline CvlStatus cnt_lub(const bool *flags, size_t n, int32_t *out) {
@@ -1616,7 +1715,7 @@ CVL_CHECKED static inline CvlStatus cnt_lub(const bool *flags, size_t n, int32_t
 /*
  * ext_vuz: The element of n at the index.
  * Faults: 10 IndexOutOfRange at 0 where the index is below 0, or n or more.
- * In place: no.
+ * In place: no, 102 Overlap.
  * vector = 4 5 6, index = 2: *out = 6
  */
 CVL_CHECKED static inline CvlStatus ext_vuz(const int32_t *vector, size_t n, int32_t index, int32_t *out) {
@@ -1626,7 +1725,7 @@ CVL_CHECKED static inline CvlStatus ext_vuz(const int32_t *vector, size_t n, int
 /*
  * ext_vub: The element of n at the index.
  * Faults: 10 IndexOutOfRange at 0 where the index is below 0, or n or more.
- * In place: no.
+ * In place: no, 102 Overlap.
  * vector = true true false, index = 0: *out = true
  */
 CVL_CHECKED static inline CvlStatus ext_vub(const bool *vector, size_t n, int32_t index, bool *out) {
@@ -1636,7 +1735,7 @@ CVL_CHECKED static inline CvlStatus ext_vub(const bool *vector, size_t n, int32_
 /*
  * rep_vuz: The vector with the value at the index. vector and out have n elements.
  * Faults: 10 IndexOutOfRange at 0 where the index is below 0, or n or more.
- * In place: no.
+ * In place: no, 102 Overlap.
  * vector = 1 2 3, index = 1, value = 9: out = 1 9 3
  */
 CVL_CHECKED static inline CvlStatus rep_vuz(const int32_t *vector, int32_t index, int32_t value, int32_t *out, size_t n) {
@@ -1646,7 +1745,7 @@ CVL_CHECKED static inline CvlStatus rep_vuz(const int32_t *vector, int32_t index
 /*
  * rep_vub: The vector with the value at the index. vector and out have n elements.
  * Faults: 10 IndexOutOfRange at 0 where the index is below 0, or n or more.
- * In place: no.
+ * In place: no, 102 Overlap.
  * vector = true true true, index = 2, value = false: out = true true false
  */
 CVL_CHECKED static inline CvlStatus rep_vub(const bool *vector, int32_t index, bool value, bool *out, size_t n) {
@@ -1656,7 +1755,7 @@ CVL_CHECKED static inline CvlStatus rep_vub(const bool *vector, int32_t index, b
 /*
  * dis_vuz: count copies of the value; out has count elements.
  * Faults: 12 NegativeLength, without a place, where count is below 0; 13 TooLong where it is above 4194304.
- * In place: no.
+ * In place: no, 102 Overlap.
  * value = 7, count = 3: out = 7 7 7
  */
 CVL_CHECKED static inline CvlStatus dis_vuz(int32_t value, int32_t count, int32_t *out) {
@@ -1666,7 +1765,7 @@ CVL_CHECKED static inline CvlStatus dis_vuz(int32_t value, int32_t count, int32_
 /*
  * dis_vub: count copies of the value; out has count elements.
  * Faults: 12 NegativeLength, without a place, where count is below 0; 13 TooLong where it is above 4194304.
- * In place: no.
+ * In place: no, 102 Overlap.
  * value = true, count = 2: out = true true
  */
 CVL_CHECKED static inline CvlStatus dis_vub(bool value, int32_t count, bool *out) {
@@ -1676,7 +1775,7 @@ CVL_CHECKED static inline CvlStatus dis_vub(bool value, int32_t count, bool *out
 /*
  * ind_luz: The numbers init + k * stride, wrapped, for k from 0 to count - 1; out has count elements.
  * Faults: 12 NegativeLength, without a place, where count is below 0; 13 TooLong where it is above 4194304.
- * In place: no.
+ * In place: no, 102 Overlap.
  * init = 10, stride = -2, count = 3: out = 10 8 6
  */
 CVL_CHECKED static inline CvlStatus ind_luz(int32_t init, int32_t stride, int32_t count, int32_t *out) {
@@ -1692,7 +1791,7 @@ CVL_CHECKED static inline CvlStatus ind_luz(int32_t init, int32_t stride, int32_
  */
 /*
  * mke_fov: Whether the numbers are the lengths of segments, and how many elements these have in all.
- * In place: no.
+ * In place: no, 102 Overlap.
  * lengths = 2 0 3: *total = 5
  */
 CVL_CHECKED static inline CvlStatus mke_fov(const int32_t *lengths, size_t segments, size_t *total) {
@@ -1712,7 +1811,7 @@ CVL_CHECKED static inline CvlStatus tot_sez(const int32_t *a, const int32_t *len
 /*
  * tot_rez: The sum of each segment. a has n elements, out one for each segment.
  * Faults: 7 LengthMismatch where the lengths do not add up to n; 18 Overflow at the first segment whose sum does not fit 32 bits.
- * In place: no.
+ * In place: no, 102 Overlap.
  * a = 3 1 4 1 5, lengths = 2 0 3: out = 4 0 10
  */
 CVL_CHECKED static inline CvlStatus tot_rez(const int32_t *a, size_t n, const int32_t *lengths, size_t segments, int32_t *out) {
@@ -1723,7 +1822,7 @@ CVL_CHECKED static inline CvlStatus tot_rez(const int32_t *a, size_t n, const in
  * ext_vez: The element of each segment at its index, which counts from the segment's start. The vector has n elements, index
  * and out one for each segment.
  * Faults: 7 LengthMismatch where the lengths do not add up to n; 10 IndexOutOfRange at the segment.
- * In place: no.
+ * In place: no, 102 Overlap.
  * vector = 1 2 3 4 5, index = 1 2, lengths = 2 3: out = 2 5
  */
 CVL_CHECKED static inline CvlStatus ext_vez(
@@ -1735,7 +1834,7 @@ CVL_CHECKED static inline CvlStatus ext_vez(
  * ext_veb: The element of each segment at its index, which counts from the segment's start. The vector has n elements, index
  * and out one for each segment.
  * Faults: 7 LengthMismatch where the lengths do not add up to n; 10 IndexOutOfRange at the segment.
- * In place: no.
+ * In place: no, 102 Overlap.
  * vector = true true false, index = 0 1, lengths = 1 2: out = true false
  */
 CVL_CHECKED static inline CvlStatus ext_veb(
@@ -1747,7 +1846,7 @@ CVL_CHECKED static inline CvlStatus ext_veb(
  * rep_vez: The vector with the value of each segment at its index, which counts from the segment's start. vector and out have
  * n elements, index and values one for each segment.
  * Faults: 7 LengthMismatch where the lengths do not add up to n; 10 IndexOutOfRange at the segment.
- * In place: no.
+ * In place: no, 102 Overlap.
  * vector = 1 2 3 4 5, index = 0 1, values = 8 9, lengths = 2 3: out = 8 2 3 9 5
  */
 CVL_CHECKED static inline CvlStatus rep_vez(
@@ -1759,7 +1858,7 @@ CVL_CHECKED static inline CvlStatus rep_vez(
  * rep_veb: The vector with the value of each segment at its index, which counts from the segment's start. vector and out have
  * n elements, index and values one for each segment.
  * Faults: 7 LengthMismatch where the lengths do not add up to n; 10 IndexOutOfRange at the segment.
- * In place: no.
+ * In place: no, 102 Overlap.
  * vector = true true false, index = 0 1, values = false true, lengths = 1 2: out = false true true
  */
 CVL_CHECKED static inline CvlStatus rep_veb(
@@ -1770,7 +1869,7 @@ CVL_CHECKED static inline CvlStatus rep_veb(
 /*
  * dis_vez: Copies of each value, as many as its segment has places. There is one value for each segment; out has n elements,
  * the total of the lengths, else 7 LengthMismatch.
- * In place: no.
+ * In place: no, 102 Overlap.
  * values = 7 8 9, lengths = 2 0 3: out = 7 7 9 9 9
  */
 CVL_CHECKED static inline CvlStatus dis_vez(
@@ -1781,7 +1880,7 @@ CVL_CHECKED static inline CvlStatus dis_vez(
 /*
  * dis_veb: Copies of each value, as many as its segment has places. There is one value for each segment; out has n elements,
  * the total of the lengths, else 7 LengthMismatch.
- * In place: no.
+ * In place: no, 102 Overlap.
  * values = true false, lengths = 1 2: out = true false false
  */
 CVL_CHECKED static inline CvlStatus dis_veb(const bool *values, const int32_t *lengths, size_t segments, bool *out, size_t n) {
@@ -1791,7 +1890,7 @@ CVL_CHECKED static inline CvlStatus dis_veb(const bool *values, const int32_t *l
 /*
  * ind_lez: The numbers of each segment from its init on, in steps of its stride, wrapped. There are one init and one stride for
  * each segment; out has n elements, the total of the lengths, else 7 LengthMismatch.
- * In place: no.
+ * In place: no, 102 Overlap.
  * inits = 0 5 10, strides = 1 1 -2, lengths = 2 0 3: out = 0 1 10 8 6
  */
 CVL_CHECKED static inline CvlStatus ind_lez(
@@ -1816,7 +1915,7 @@ CVL_CHECKED static inline CvlStatus add_sez(const int32_t *a, const int32_t *len
  * add_rez: The integers of each segment, summed, wrapped; 0 where it is empty. a has n elements, out one for each
  * segment.
  * Faults: 7 LengthMismatch where the lengths do not add up to n.
- * In place: no.
+ * In place: no, 102 Overlap.
  * a = 3 1 4 1 5, lengths = 2 0 3: out = 4 0 10
  */
 CVL_CHECKED static inline CvlStatus add_rez(const int32_t *a, size_t n, const int32_t *lengths, size_t segments, int32_t *out) {
@@ -1838,7 +1937,7 @@ CVL_CHECKED static inline CvlStatus mul_sez(const int32_t *a, const int32_t *len
  * mul_rez: The integers of each segment, multiplied, wrapped; 1 where it is empty. a has n elements, out one for each
  * segment.
  * Faults: 7 LengthMismatch where the lengths do not add up to n.
- * In place: no.
+ * In place: no, 102 Overlap.
  * a = 3 1 4 1 5, lengths = 2 0 3: out = 3 1 20
  */
 CVL_CHECKED static inline CvlStatus mul_rez(const int32_t *a, size_t n, const int32_t *lengths, size_t segments, int32_t *out) {
@@ -1860,7 +1959,7 @@ CVL_CHECKED static inline CvlStatus min_sez(const int32_t *a, const int32_t *len
  * min_rez: The integers of each segment, the least of them; 2147483647 where it is empty. a has n elements, out one for each
  * segment.
  * Faults: 7 LengthMismatch where the lengths do not add up to n.
- * In place: no.
+ * In place: no, 102 Overlap.
  * a = 3 1 4 1 5, lengths = 2 0 3: out = 1 2147483647 1
  */
 CVL_CHECKED static inline CvlStatus min_rez(const int32_t *a, size_t n, const int32_t *lengths, size_t segments, int32_t *out) {
@@ -1882,7 +1981,7 @@ CVL_CHECKED static inline CvlStatus max_sez(const int32_t *a, const int32_t *len
  * max_rez: The integers of each segment, the greatest of them; -2147483648 where it is empty. a has n elements, out one for each
  * segment.
  * Faults: 7 LengthMismatch where the lengths do not add up to n.
- * In place: no.
+ * In place: no, 102 Overlap.
  * a = 3 1 4 1 5, lengths = 2 0 3: out = 3 -2147483648 5
  */
 CVL_CHECKED static inline CvlStatus max_rez(const int32_t *a, size_t n, const int32_t *lengths, size_t segments, int32_t *out) {
@@ -1904,7 +2003,7 @@ CVL_CHECKED static inline CvlStatus and_sez(const int32_t *a, const int32_t *len
  * and_rez: The integers of each segment, and, bit by bit; -1 where it is empty. a has n elements, out one for each
  * segment.
  * Faults: 7 LengthMismatch where the lengths do not add up to n.
- * In place: no.
+ * In place: no, 102 Overlap.
  * a = 3 1 4 1 5, lengths = 2 0 3: out = 1 -1 0
  */
 CVL_CHECKED static inline CvlStatus and_rez(const int32_t *a, size_t n, const int32_t *lengths, size_t segments, int32_t *out) {
@@ -1926,7 +2025,7 @@ CVL_CHECKED static inline CvlStatus ior_sez(const int32_t *a, const int32_t *len
  * ior_rez: The integers of each segment, or, bit by bit; 0 where it is empty. a has n elements, out one for each
  * segment.
  * Faults: 7 LengthMismatch where the lengths do not add up to n.
- * In place: no.
+ * In place: no, 102 Overlap.
  * a = 3 1 4 1 5, lengths = 2 0 3: out = 3 0 5
  */
 CVL_CHECKED static inline CvlStatus ior_rez(const int32_t *a, size_t n, const int32_t *lengths, size_t segments, int32_t *out) {
@@ -1948,7 +2047,7 @@ CVL_CHECKED static inline CvlStatus xor_sez(const int32_t *a, const int32_t *len
  * xor_rez: The integers of each segment, exclusive or, bit by bit; 0 where it is empty. a has n elements, out one for each
  * segment.
  * Faults: 7 LengthMismatch where the lengths do not add up to n.
- * In place: no.
+ * In place: no, 102 Overlap.
  * a = 3 1 4 1 5, lengths = 2 0 3: out = 2 0 0
  */
 CVL_CHECKED static inline CvlStatus xor_rez(const int32_t *a, size_t n, const int32_t *lengths, size_t segments, int32_t *out) {
@@ -1959,7 +2058,7 @@ CVL_CHECKED static inline CvlStatus xor_rez(const int32_t *a, size_t n, const in
  * and_seb: For each boolean, of those before it in its segment, whether all are true; true where a segment starts. a and out
  * have n elements.
  * Faults: 7 LengthMismatch where the lengths do not add up to n.
- * In place: no.
+ * In place: a may be out.
  * a = true false true false true, lengths = 2 0 3: out = true true true true false
  */
 CVL_CHECKED static inline CvlStatus and_seb(const bool *a, const int32_t *lengths, size_t segments, bool *out, size_t n) {
@@ -1970,7 +2069,7 @@ CVL_CHECKED static inline CvlStatus and_seb(const bool *a, const int32_t *length
  * and_reb: Of the booleans of each segment, whether all are true; true where it is empty. a has n elements, out one for each
  * segment.
  * Faults: 7 LengthMismatch where the lengths do not add up to n.
- * In place: no.
+ * In place: no, 102 Overlap.
  * a = true false true false true, lengths = 2 0 3: out = false true false
  */
 CVL_CHECKED static inline CvlStatus and_reb(const bool *a, size_t n, const int32_t *lengths, size_t segments, bool *out) {
@@ -1981,7 +2080,7 @@ CVL_CHECKED static inline CvlStatus and_reb(const bool *a, size_t n, const int32
  * ior_seb: For each boolean, of those before it in its segment, whether any is true; false where a segment starts. a and out
  * have n elements.
  * Faults: 7 LengthMismatch where the lengths do not add up to n.
- * In place: no.
+ * In place: a may be out.
  * a = true false true false true, lengths = 2 0 3: out = false true false true true
  */
 CVL_CHECKED static inline CvlStatus ior_seb(const bool *a, const int32_t *lengths, size_t segments, bool *out, size_t n) {
@@ -1992,7 +2091,7 @@ CVL_CHECKED static inline CvlStatus ior_seb(const bool *a, const int32_t *length
  * ior_reb: Of the booleans of each segment, whether any is true; false where it is empty. a has n elements, out one for each
  * segment.
  * Faults: 7 LengthMismatch where the lengths do not add up to n.
- * In place: no.
+ * In place: no, 102 Overlap.
  * a = true false true false true, lengths = 2 0 3: out = true false true
  */
 CVL_CHECKED static inline CvlStatus ior_reb(const bool *a, size_t n, const int32_t *lengths, size_t segments, bool *out) {
@@ -2003,7 +2102,7 @@ CVL_CHECKED static inline CvlStatus ior_reb(const bool *a, size_t n, const int32
  * xor_seb: For each boolean, of those before it in its segment, whether an odd number is true; false where a segment starts. a and out
  * have n elements.
  * Faults: 7 LengthMismatch where the lengths do not add up to n.
- * In place: no.
+ * In place: a may be out.
  * a = true false true false true, lengths = 2 0 3: out = false true false true true
  */
 CVL_CHECKED static inline CvlStatus xor_seb(const bool *a, const int32_t *lengths, size_t segments, bool *out, size_t n) {
@@ -2014,7 +2113,7 @@ CVL_CHECKED static inline CvlStatus xor_seb(const bool *a, const int32_t *length
  * xor_reb: Of the booleans of each segment, whether an odd number is true; false where it is empty. a has n elements, out one for each
  * segment.
  * Faults: 7 LengthMismatch where the lengths do not add up to n.
- * In place: no.
+ * In place: no, 102 Overlap.
  * a = true false true false true, lengths = 2 0 3: out = true false false
  */
 CVL_CHECKED static inline CvlStatus xor_reb(const bool *a, size_t n, const int32_t *lengths, size_t segments, bool *out) {
@@ -2027,7 +2126,7 @@ CVL_CHECKED static inline CvlStatus xor_reb(const bool *a, size_t n, const int32
  * pck_luz: The values whose flag is true, in their order. values and flags have n elements, out has room for so many; room for n
  * is always enough. *count is how many they are, also where there is not room for them.
  * Faults: 13 TooLong; 7 LengthMismatch where there is not room.
- * In place: no.
+ * In place: no, 102 Overlap.
  * values = 1 2 3 4 5, flags = false true true false true: out = 2 3 5, *count = 3
  */
 CVL_CHECKED static inline CvlStatus pck_luz(
@@ -2039,7 +2138,7 @@ CVL_CHECKED static inline CvlStatus pck_luz(
  * pck_lub: The values whose flag is true, in their order. values and flags have n elements, out has room for so many; room for n
  * is always enough. *count is how many they are, also where there is not room for them.
  * Faults: 13 TooLong; 7 LengthMismatch where there is not room.
- * In place: no.
+ * In place: no, 102 Overlap.
  * values = true false true, flags = false true true: out = false true, *count = 2
  */
 CVL_CHECKED static inline CvlStatus pck_lub(const bool *values, const bool *flags, size_t n, bool *out, size_t room, size_t *count) {
@@ -2051,7 +2150,7 @@ CVL_CHECKED static inline CvlStatus pck_lub(const bool *values, const bool *flag
  * of these segments. values and flags have n elements, out has room for so many; room for n is always enough. *count is how many
  * they are, also where there is not room for them.
  * Faults: 7 LengthMismatch where the lengths do not add up to n, with *count as it was, and where there is not room.
- * In place: no.
+ * In place: no, 102 Overlap.
  * values = 1 2 3 4 5, flags = false true true false true, lengths = 2 0 3: out = 2 3 5, *count = 3
  */
 CVL_CHECKED static inline CvlStatus pck_lez(
@@ -2065,7 +2164,7 @@ CVL_CHECKED static inline CvlStatus pck_lez(
  * of these segments. values and flags have n elements, out has room for so many; room for n is always enough. *count is how many
  * they are, also where there is not room for them.
  * Faults: 7 LengthMismatch where the lengths do not add up to n, with *count as it was, and where there is not room.
- * In place: no.
+ * In place: no, 102 Overlap.
  * values = true false true, flags = false true true, lengths = 1 2: out = false true, *count = 2
  */
 CVL_CHECKED static inline CvlStatus pck_leb(
@@ -2078,7 +2177,7 @@ CVL_CHECKED static inline CvlStatus pck_leb(
  * pck_fov: The lengths of the segments of what a pack keeps, or a select permute, 0 for a segment of which nothing is kept. flags
  * has n elements, out one for each segment.
  * Faults: 7 LengthMismatch where the lengths do not add up to n.
- * In place: no.
+ * In place: no, 102 Overlap.
  * flags = false true true false true, lengths = 2 0 3: out = 1 0 2
  */
 CVL_CHECKED static inline CvlStatus pck_fov(const bool *flags, size_t n, const int32_t *lengths, size_t segments, int32_t *out) {
@@ -2088,7 +2187,7 @@ CVL_CHECKED static inline CvlStatus pck_fov(const bool *flags, size_t n, const i
 /*
  * cnt_leb: The number of true flags of each segment. flags has n elements, out one for each segment.
  * Faults: 7 LengthMismatch where the lengths do not add up to n.
- * In place: no.
+ * In place: no, 102 Overlap.
  * flags = false false true false true, lengths = 2 0 3: out = 0 0 2
  */
 CVL_CHECKED static inline CvlStatus cnt_leb(const bool *flags, size_t n, const int32_t *lengths, size_t segments, int32_t *out) {
@@ -2105,7 +2204,7 @@ CVL_CHECKED static inline CvlStatus cnt_leb(const bool *flags, size_t n, const i
  * smp_puz: Each element of the source at its index. source, index and out have n elements.
  * Faults: 13 TooLong; at the first bad index 10 IndexOutOfRange where it is below 0, or n or more, else 11 IndexRepeated
  * where an earlier one is the same.
- * In place: no.
+ * In place: no, 102 Overlap.
  * source = 10 20 30, index = 2 0 1: out = 20 30 10
  */
 CVL_CHECKED static inline CvlStatus smp_puz(const int32_t *source, const int32_t *index, int32_t *out, size_t n) {
@@ -2116,7 +2215,7 @@ CVL_CHECKED static inline CvlStatus smp_puz(const int32_t *source, const int32_t
  * smp_pub: Each element of the source at its index. source, index and out have n elements.
  * Faults: 13 TooLong; at the first bad index 10 IndexOutOfRange where it is below 0, or n or more, else 11 IndexRepeated
  * where an earlier one is the same.
- * In place: no.
+ * In place: no, 102 Overlap.
  * source = true false false, index = 2 0 1: out = false false true
  */
 CVL_CHECKED static inline CvlStatus smp_pub(const bool *source, const int32_t *index, bool *out, size_t n) {
@@ -2128,7 +2227,7 @@ CVL_CHECKED static inline CvlStatus smp_pub(const bool *source, const int32_t *i
  * the number of true flags, else 7 LengthMismatch. An index whose flag is false is not looked at.
  * Faults: 13 TooLong; at the first bad index 10 IndexOutOfRange where it is below 0, or the number of true flags or more,
  * else 11 IndexRepeated where an earlier one is the same.
- * In place: no.
+ * In place: no, 102 Overlap.
  * source = 1 2 3 4, index = 1 9 0 9, flags = true false true false: out = 3 1
  */
 CVL_CHECKED static inline CvlStatus sel_puz(
@@ -2141,7 +2240,7 @@ CVL_CHECKED static inline CvlStatus sel_puz(
  * the number of true flags, else 7 LengthMismatch. An index whose flag is false is not looked at.
  * Faults: 13 TooLong; at the first bad index 10 IndexOutOfRange where it is below 0, or the number of true flags or more,
  * else 11 IndexRepeated where an earlier one is the same.
- * In place: no.
+ * In place: no, 102 Overlap.
  * source = true true false true, index = 1 9 0 9, flags = true false true false: out = false true
  */
 CVL_CHECKED static inline CvlStatus sel_pub(
@@ -2154,7 +2253,7 @@ CVL_CHECKED static inline CvlStatus sel_pub(
  * elements, defaults and out m, which may be any number.
  * Faults: 13 TooLong; at the first bad index 10 IndexOutOfRange where it is below 0, or m or more, else 11 IndexRepeated
  * where an earlier one is the same.
- * In place: no.
+ * In place: no, 102 Overlap.
  * source = 7 8, index = 3 1, defaults = 0 0 0 0 0: out = 0 8 0 7 0
  */
 CVL_CHECKED static inline CvlStatus def_puz(
@@ -2167,7 +2266,7 @@ CVL_CHECKED static inline CvlStatus def_puz(
  * elements, defaults and out m, which may be any number.
  * Faults: 13 TooLong; at the first bad index 10 IndexOutOfRange where it is below 0, or m or more, else 11 IndexRepeated
  * where an earlier one is the same.
- * In place: no.
+ * In place: no, 102 Overlap.
  * source = true false, index = 3 1, defaults = false true true false: out = false false true true
  */
 CVL_CHECKED static inline CvlStatus def_pub(
@@ -2179,7 +2278,7 @@ CVL_CHECKED static inline CvlStatus def_pub(
  * bck_puz: At each place the element of the source at the place's index, which may repeat. The source has n elements, which
  * may be any number; index and out have m.
  * Faults: 13 TooLong; 10 IndexOutOfRange at the first index below 0, or n or more.
- * In place: no.
+ * In place: no, 102 Overlap.
  * source = 10 20 30, index = 2 2 0 0: out = 30 30 10 10
  */
 CVL_CHECKED static inline CvlStatus bck_puz(const int32_t *source, size_t n, const int32_t *index, int32_t *out, size_t m) {
@@ -2190,7 +2289,7 @@ CVL_CHECKED static inline CvlStatus bck_puz(const int32_t *source, size_t n, con
  * bck_pub: At each place the element of the source at the place's index, which may repeat. The source has n elements, which
  * may be any number; index and out have m.
  * Faults: 13 TooLong; 10 IndexOutOfRange at the first index below 0, or n or more.
- * In place: no.
+ * In place: no, 102 Overlap.
  * source = true false false, index = 2 2 0 0: out = false false true true
  */
 CVL_CHECKED static inline CvlStatus bck_pub(const bool *source, size_t n, const int32_t *index, bool *out, size_t m) {
@@ -2208,7 +2307,7 @@ CVL_CHECKED static inline CvlStatus bck_pub(const bool *source, size_t n, const 
  * elements.
  * Faults: 13 TooLong; 7 LengthMismatch where the lengths do not add up to n; at the first bad index 10 IndexOutOfRange where
  * it is no place of its segment, else 11 IndexRepeated where an earlier one of its segment is the same.
- * In place: no.
+ * In place: no, 102 Overlap.
  * source = 1 2 3 4 5, index = 1 0 2 0 1, lengths = 2 0 3: out = 2 1 4 5 3
  */
 CVL_CHECKED static inline CvlStatus smp_pez(
@@ -2221,7 +2320,7 @@ CVL_CHECKED static inline CvlStatus smp_pez(
  * elements.
  * Faults: 13 TooLong; 7 LengthMismatch where the lengths do not add up to n; at the first bad index 10 IndexOutOfRange where
  * it is no place of its segment, else 11 IndexRepeated where an earlier one of its segment is the same.
- * In place: no.
+ * In place: no, 102 Overlap.
  * source = true false false false true, index = 1 0 2 0 1, lengths = 2 0 3: out = false true false true false
  */
 CVL_CHECKED static inline CvlStatus smp_peb(
@@ -2235,7 +2334,7 @@ CVL_CHECKED static inline CvlStatus smp_peb(
  * LengthMismatch. An index whose flag is false is not looked at.
  * Faults: 13 TooLong; 7 LengthMismatch where the lengths do not add up to n; at the first bad index 10 IndexOutOfRange where
  * it is no place of its segment of the result, else 11 IndexRepeated where an earlier one of its segment is the same.
- * In place: no.
+ * In place: no, 102 Overlap.
  * source = 1 2 3 4 5, index = 9 0 1 9 0, flags = false true true false true, lengths = 2 0 3: out = 2 5 3
  */
 CVL_CHECKED static inline CvlStatus sel_pez(
@@ -2250,7 +2349,7 @@ CVL_CHECKED static inline CvlStatus sel_pez(
  * LengthMismatch. An index whose flag is false is not looked at.
  * Faults: 13 TooLong; 7 LengthMismatch where the lengths do not add up to n; at the first bad index 10 IndexOutOfRange where
  * it is no place of its segment of the result, else 11 IndexRepeated where an earlier one of its segment is the same.
- * In place: no.
+ * In place: no, 102 Overlap.
  * source = true false true true false, index = 9 0 1 9 0, flags = false true true false true, lengths = 2 0 3:
  * out = false false true
  */
@@ -2267,7 +2366,7 @@ CVL_CHECKED static inline CvlStatus sel_peb(
  * Faults: 13 TooLong; 7 LengthMismatch where the lengths do not add up to n or the default lengths to m; at the first bad
  * index 10 IndexOutOfRange where it is no place of its segment of the defaults, else 11 IndexRepeated where an earlier one
  * of its segment is the same.
- * In place: no.
+ * In place: no, 102 Overlap.
  * source = 1 2 3 4 5, index = 2 0 0 1 2, defaults = 0 0 0 9 0 0 0, lengths = 2 0 3, default_lengths = 3 1 3:
  * out = 2 0 1 9 3 4 5
  */
@@ -2284,7 +2383,7 @@ CVL_CHECKED static inline CvlStatus def_pez(
  * Faults: 13 TooLong; 7 LengthMismatch where the lengths do not add up to n or the default lengths to m; at the first bad
  * index 10 IndexOutOfRange where it is no place of its segment of the defaults, else 11 IndexRepeated where an earlier one
  * of its segment is the same.
- * In place: no.
+ * In place: no, 102 Overlap.
  * source = true false, index = 1 0, defaults = false false true true, lengths = 1 1, default_lengths = 2 2:
  * out = false true false true
  */
@@ -2299,7 +2398,7 @@ CVL_CHECKED static inline CvlStatus def_peb(
  * has n elements in segments with the lengths; index and out have m, in as many segments with the index lengths.
  * Faults: 13 TooLong; 7 LengthMismatch where the lengths do not add up to n or the index lengths to m; 10 IndexOutOfRange at
  * the first index that is no place of its segment of the source.
- * In place: no.
+ * In place: no, 102 Overlap.
  * source = 1 2 3 4 5, index = 1 1 1 2, lengths = 2 0 3, index_lengths = 3 0 1: out = 2 2 2 5
  */
 CVL_CHECKED static inline CvlStatus bck_pez(
@@ -2313,7 +2412,7 @@ CVL_CHECKED static inline CvlStatus bck_pez(
  * has n elements in segments with the lengths; index and out have m, in as many segments with the index lengths.
  * Faults: 13 TooLong; 7 LengthMismatch where the lengths do not add up to n or the index lengths to m; 10 IndexOutOfRange at
  * the first index that is no place of its segment of the source.
- * In place: no.
+ * In place: no, 102 Overlap.
  * source = true false false false true, index = 1 1 1 2, lengths = 2 0 3, index_lengths = 3 0 1:
  * out = false false false true
  */
@@ -2352,10 +2451,7 @@ typedef struct CvlSegments {
 
 /* What a call without a descriptor answers. */
 CVL_CHECKED static inline CvlStatus cvl_no_descriptor(void) {
-    CvlStatus status;
-    status.number = CVL_NO_DESCRIPTOR;
-    status.place = -1;
-    return status;
+    return cvl_without_place(CVL_NO_DESCRIPTOR);
 }
 
 /* Whether there is a descriptor. */

@@ -16,14 +16,13 @@ Parameter = collections.namedtuple("Parameter", "type name use size")
 # words.
 Call = collections.namedtuple("Call", "name parameters purpose faults in_place values")
 
-BYTES = r"(?:bool|uint8_t)"
 USES = (
     (r"const int32_t \*", "ints"),
-    (rf"const {BYTES} \*", "flags"),
+    (r"const bool \*", "flags"),
     (r"int32_t ", "int"),
-    (rf"{BYTES} ", "flag"),
+    (r"bool ", "flag"),
     (r"size_t ", "size"),
-    (rf"(?:int32_t|{BYTES}) \*", "out"),
+    (r"(?:int32_t|bool) \*", "out"),
     (r"size_t \*", "told"),
     (r"(?:const )?CvlSegments \*", "held"),
 )
@@ -81,7 +80,7 @@ def _comment(text, name):
         raise ValueError(f"the comment before {name} is that of {said[:8]}")
     purpose, _, faults = said[len(name) + 2 :].partition(" Faults: ")
     given, _, gives = " ".join(lines[first:]).rpartition(": ")
-    return purpose, faults, "" if in_place == "no." else in_place, {**_words(given), **_words(gives)}
+    return purpose, faults, "" if in_place.startswith("no,") else in_place, {**_words(given), **_words(gives)}
 
 
 def read(text):
@@ -116,8 +115,3 @@ def version(text):
     if found != numbers:
         raise ValueError(f"the version {found} has the numbers {numbers}")
     return found
-
-
-def takes_bytes(text):
-    """Whether each byte of an array of booleans that isn't 0 is true."""
-    return "const uint8_t *flags" in text

@@ -1,7 +1,7 @@
 /*
  * Calls every function of cvl.h as a careless program would: with each two of its arrays overlapping, whole or by one element
- * at either end; in place; with null for arrays without elements; with arrays that end or begin at a page that must not be
- * touched; and without a descriptor. It prints what is not as the header promises, and its status is then 1.
+ * at either end; in place; with booleans that are any bytes; with null for arrays without elements; with arrays that end or begin
+ * at a page that must not be touched; and without a descriptor. It prints what is not as the header promises, and its status is then 1.
  * `examples/c/run careless` builds and runs it under sanitizers and without. A new function of the header is one more row.
  */
 #define _DEFAULT_SOURCE
@@ -19,17 +19,18 @@ static size_t n, segments, trues, text_length, text_room;
 
 /*
  * The functions, a row for each: its name; a letter for each of its arrays, as `array_of` reads it; which inputs may be the
- * room, by their numbers; and its arguments, where p[k] is array k. X is given each row.
+ * room, by their numbers, with a stroke between those that may not be it at once; and its arguments, where p[k] is array k. X is
+ * given each row.
  */
 #define PAIRS(X, name) X(name, "iiI", "01", (p[0], p[1], p[2], n))
 #define SCAN(X, name) X(name, "iI", "0", (p[0], p[1], n))
 #define REDUCE(X, name) X(name, "io", "", (p[0], n, p[1]))
 #define SEGMENT_SCAN(X, name) X(name, "ilI", "0", (p[0], p[1], segments, p[2], n))
 #define SEGMENT_REDUCE(X, name) X(name, "ilS", "", (p[0], n, p[1], segments, p[2]))
-#define FLAG_PAIRS(X, name) X(name, "ffF", "", (p[0], p[1], p[2], n))
-#define FLAG_SCAN(X, name) X(name, "fF", "", (p[0], p[1], n))
+#define FLAG_PAIRS(X, name) X(name, "ffF", "01", (p[0], p[1], p[2], n))
+#define FLAG_SCAN(X, name) X(name, "fF", "0", (p[0], p[1], n))
 #define FLAG_REDUCE(X, name) X(name, "fp", "", (p[0], n, p[1]))
-#define FLAG_SEGMENT_SCAN(X, name) X(name, "flF", "", (p[0], p[1], segments, p[2], n))
+#define FLAG_SEGMENT_SCAN(X, name) X(name, "flF", "0", (p[0], p[1], segments, p[2], n))
 #define FLAG_SEGMENT_REDUCE(X, name) X(name, "flG", "", (p[0], n, p[1], segments, p[2]))
 #define COMPARISON(X, name) X(name, "iiF", "", (p[0], p[1], p[2], n))
 
@@ -59,8 +60,8 @@ static size_t n, segments, trues, text_length, text_room;
     FLAG_PAIRS(X, and_wub)                                                                                                     \
     FLAG_PAIRS(X, ior_wub)                                                                                                     \
     FLAG_PAIRS(X, xor_wub)                                                                                                     \
-    X(sel_wuz, "fiiI", "", (p[0], p[1], p[2], p[3], n))                                                                        \
-    X(sel_wub, "fffF", "", (p[0], p[1], p[2], p[3], n))                                                                        \
+    X(sel_wuz, "fiiI", "1/2", (p[0], p[1], p[2], p[3], n))                                                                     \
+    X(sel_wub, "fffF", "1/2", (p[0], p[1], p[2], p[3], n))                                                                     \
     X(int_wub, "fI", "", (p[0], p[1], n))                                                                                      \
     X(boo_wuz, "iF", "", (p[0], p[1], n))                                                                                      \
     SCAN(X, add_suz)                                                                                                           \
@@ -151,15 +152,15 @@ static size_t n, segments, trues, text_length, text_room;
     X(cvl_int2, "iiI", "01", (CVL_SUB, p[0], n, p[1], n, p[2], n))                                                             \
     X(cvl_int1, "iI", "0", (CVL_NOT, p[0], n, p[1], n))                                                                        \
     X(cvl_compare, "iiF", "", (CVL_LES, p[0], n, p[1], n, p[2], n))                                                            \
-    X(cvl_bool2, "ffF", "", (CVL_XOR, p[0], n, p[1], n, p[2], n))                                                              \
-    X(cvl_bool1, "fF", "", (CVL_NOT, p[0], n, p[1], n))                                                                        \
+    X(cvl_bool2, "ffF", "01", (CVL_XOR, p[0], n, p[1], n, p[2], n))                                                            \
+    X(cvl_bool1, "fF", "0", (CVL_NOT, p[0], n, p[1], n))                                                                       \
     X(cvl_int_from_bool, "fI", "", (p[0], n, p[1], n))                                                                         \
     X(cvl_bool_from_int, "iF", "", (p[0], n, p[1], n))                                                                         \
-    X(cvl_select_int, "fiiI", "", (p[0], n, p[1], n, p[2], n, p[3], n))                                                        \
-    X(cvl_select_bool, "fffF", "", (p[0], n, p[1], n, p[2], n, p[3], n))                                                       \
+    X(cvl_select_int, "fiiI", "1/2", (p[0], n, p[1], n, p[2], n, p[3], n))                                                     \
+    X(cvl_select_bool, "fffF", "1/2", (p[0], n, p[1], n, p[2], n, p[3], n))                                                    \
     X(cvl_int_scan, "iI", "0", (CVL_ADD, p[0], n, p[1], n))                                                                    \
     X(cvl_int_reduce, "io", "", (CVL_ADD, p[0], n, p[1]))                                                                      \
-    X(cvl_bool_scan, "fF", "", (CVL_XOR, p[0], n, p[1], n))                                                                    \
+    X(cvl_bool_scan, "fF", "0", (CVL_XOR, p[0], n, p[1], n))                                                                   \
     X(cvl_bool_reduce, "fp", "", (CVL_XOR, p[0], n, p[1]))                                                                     \
     X(cvl_checked_scan, "iI", "0", (p[0], n, p[1], n))                                                                         \
     X(cvl_checked_reduce, "io", "", (p[0], n, p[1]))                                                                           \
@@ -183,7 +184,7 @@ static size_t n, segments, trues, text_length, text_room;
     X(cvl_seg_index, "sslI", "", (p[0], segments, p[1], segments, p[2], segments, p[3], n))                                    \
     X(cvl_seg_int_scan, "ilI", "0", (CVL_ADD, p[0], n, p[1], segments, p[2], n))                                               \
     X(cvl_seg_int_reduce, "ilS", "", (CVL_ADD, p[0], n, p[1], segments, p[2], segments))                                       \
-    X(cvl_seg_bool_scan, "flF", "", (CVL_XOR, p[0], n, p[1], segments, p[2], n))                                               \
+    X(cvl_seg_bool_scan, "flF", "0", (CVL_XOR, p[0], n, p[1], segments, p[2], n))                                              \
     X(cvl_seg_bool_reduce, "flG", "", (CVL_XOR, p[0], n, p[1], segments, p[2], segments))                                      \
     X(cvl_pack_int, "ifIc", "", (p[0], n, p[1], n, p[2], n, p[3]))                                                             \
     X(cvl_pack_bool, "ffFc", "", (p[0], n, p[1], n, p[2], n, p[3]))                                                            \
@@ -214,7 +215,7 @@ static size_t n, segments, trues, text_length, text_room;
     X(cvl_seg_write_ints, "ilXc", "", (p[0], n, p[1], segments, p[2], text_room, p[3]))                                        \
     X(cvl_seg_write_bools, "flXc", "", (p[0], n, p[1], segments, p[2], text_room, p[3]))                                       \
     X(cvl_int_scan_after, "iI", "0", (CVL_ADD, 5, p[0], n, p[1], n))                                                           \
-    X(cvl_bool_scan_after, "fF", "", (CVL_XOR, true, p[0], n, p[1], n))                                                        \
+    X(cvl_bool_scan_after, "fF", "0", (CVL_XOR, true, p[0], n, p[1], n))                                                       \
     X(cvl_segments_free, "h", "", (p[0]))                                                                                      \
     X(cvl_segments_new, "lh", "", (p[0], segments, p[1]))                                                                      \
     X(cvl_segments_total, "dc", "", (p[0], p[1]))                                                                              \
@@ -222,7 +223,7 @@ static size_t n, segments, trues, text_length, text_room;
     X(cvl_segments_checked_reduce, "idS", "", (p[0], n, p[1], p[2], segments))                                                 \
     X(cvl_segments_int_scan, "idI", "0", (CVL_ADD, p[0], n, p[1], p[2], n))                                                    \
     X(cvl_segments_int_reduce, "idS", "", (CVL_ADD, p[0], n, p[1], p[2], segments))                                            \
-    X(cvl_segments_bool_scan, "fdF", "", (CVL_XOR, p[0], n, p[1], p[2], n))                                                    \
+    X(cvl_segments_bool_scan, "fdF", "0", (CVL_XOR, p[0], n, p[1], p[2], n))                                                   \
     X(cvl_segments_bool_reduce, "fdG", "", (CVL_XOR, p[0], n, p[1], p[2], segments))                                           \
     X(cvl_segments_pack_int, "ifdIc", "", (p[0], n, p[1], n, p[2], p[3], n, p[4]))                                             \
     X(cvl_segments_pack_bool, "ffdFc", "", (p[0], n, p[1], n, p[2], p[3], n, p[4]))                                            \
@@ -331,6 +332,12 @@ static int32_t int_at(size_t k, bool any) {
     return !any ? (int32_t)(k % 7 + 1) : next_random() % 4 == 0 ? odd[next_random() % 8] : (int32_t)next_random();
 }
 
+/* A byte for a boolean: 0, 1 or any. */
+static unsigned char any_byte(void) {
+    const uint32_t random = next_random();
+    return (unsigned char)(random % 2 == 0 ? random >> 1 & 1 : random >> 8);
+}
+
 static int32_t index_at(char letter, size_t k) {
     size_t start, end;
     segment_of(k, &start, &end);
@@ -371,7 +378,7 @@ static void fill(char letter, unsigned char *at, bool any) {
     for (size_t k = 0; k < array.count; k++) {
         switch (letter) {
         case 'i': case 's': ints[k] = int_at(k, any); break;
-        case 'f': case 'g': at[k] = any ? next_random() % 2 : flag_at(k); break;
+        case 'f': case 'g': at[k] = any ? any_byte() : flag_at(k); break;
         case 'l': ints[k] = length_at(k); break;
         case 'e': ints[k] = 0; break;
         case 't': at[k] = (unsigned char)"3 1 4 1"[k]; break;
@@ -509,15 +516,83 @@ static void compare_in_place(const Row *row, unsigned inputs, bool any) {
     if (!is_as(wanted)) fail(row, "in place", "another result than apart", status);
 }
 
+/* The call with several inputs in the place of its room, of which only one may be it, is refused with nothing written. */
+static void refuse_in_place(const Row *row, unsigned inputs) {
+    unsigned char *at[MOST_ARRAYS];
+    const size_t room = arrays_of(row) - 1;
+    if (bytes_of(row->arrays[room]) == 0) return;
+    apart(row, at, true);
+    for (size_t k = 0; k < room; k++) {
+        if (inputs >> k & 1) at[k] = at[room];
+    }
+    remember(before);
+    const CvlStatus status = call_at(row, at);
+    if (status.number != CVL_OVERLAP || status.place != -1) fail(row, "several inputs in place", "the overlap is not told", status);
+    if (!is_as(before)) fail(row, "several inputs in place", "something was written", status);
+}
+
 static void in_place(const Row *row) {
     static const size_t sizes[] = {0, 1, 2, 3, 4, 5, 7, 8, 9, 15, 16, 17, 31, 33, 63, 64, 65, 100, 1000, 4096, 4097, LONGEST};
     slot = LONG_SLOT;
     for (size_t s = 0; s < sizeof sizes / sizeof *sizes; s++) {
         set_size(sizes[s]);
         for (unsigned inputs = 1; inputs < 1u << (arrays_of(row) - 1); inputs++) {
+            const bool several = (inputs & (inputs - 1)) != 0, one_alone = strchr(row->in_place, '/') != NULL;
             bool may = true;
             for (size_t k = 0; k < arrays_of(row) - 1; k++) may = may && ((inputs >> k & 1) == 0 || may_be_in_place(row, k, arrays_of(row) - 1));
-            for (int round = 0; may && round < 4; round++) compare_in_place(row, inputs, round > 0);
+            if (may && several && one_alone) refuse_in_place(row, inputs);
+            for (int round = 0; may && !(several && one_alone) && round < 4; round++) compare_in_place(row, inputs, round > 0);
+        }
+    }
+}
+
+/* ---- booleans that are neither 0 nor 1 */
+
+enum { WHOLE, ONE, EACH_TRUE, ANY, WAYS };
+
+/* What a way of writing booleans puts at place k of an array of them, with this byte. */
+static unsigned char odd_byte(int way, unsigned char byte, size_t k) {
+    switch (way) {
+    case WHOLE: return byte;
+    case ONE: return k == n / 2 ? byte : flag_at(k);
+    case EACH_TRUE: return flag_at(k) ? byte : 0;
+    default: return any_byte();
+    }
+}
+
+/* The call on booleans of these bytes tells and writes what it does on 1 for each byte that isn't 0. */
+static void compare_bytes(const Row *row, int way, unsigned char byte) {
+    static unsigned char odd[MOST_ARRAYS][LONG_SLOT];
+    unsigned char *at[MOST_ARRAYS];
+    apart(row, at, false);
+    for (size_t j = 0; j < arrays_of(row); j++) {
+        if (strchr("fg", row->arrays[j]) == NULL) continue;
+        for (size_t k = 0; k < bytes_of(row->arrays[j]); k++) {
+            odd[j][k] = odd_byte(way, byte, k);
+            at[j][k] = odd[j][k] != 0;
+        }
+    }
+    const CvlStatus plain = call_at(row, at);
+    remember(wanted);
+    apart(row, at, false);
+    for (size_t j = 0; j < arrays_of(row); j++) {
+        if (strchr("fg", row->arrays[j]) == NULL) continue;
+        memcpy(at[j], odd[j], bytes_of(row->arrays[j]));
+        memcpy(wanted + (at[j] - arena), odd[j], bytes_of(row->arrays[j]));
+    }
+    const CvlStatus status = call_at(row, at);
+    if (status.number != plain.number || status.place != plain.place) fail(row, "bytes", "another status than on 0 and 1", status);
+    if (!is_as(wanted)) fail(row, "bytes", "another result than on 0 and 1", status);
+}
+
+static void odd_booleans(const Row *row) {
+    static const size_t sizes[] = {1, 3, FEW, 17, 100};
+    if (strpbrk(row->arrays, "fg") == NULL) return;
+    slot = SHORT_SLOT;
+    for (size_t s = 0; s < sizeof sizes / sizeof *sizes; s++) {
+        set_size(sizes[s]);
+        for (int byte = 0; byte < 256; byte++) {
+            for (int way = 0; way < WAYS; way++) compare_bytes(row, way, (unsigned char)byte);
         }
     }
 }
@@ -608,6 +683,7 @@ int main(void) {
         overlaps(&rows[k]);
         shared_inputs(&rows[k]);
         in_place(&rows[k]);
+        odd_booleans(&rows[k]);
         nulls(&rows[k]);
         guards(&rows[k]);
     }

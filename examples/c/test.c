@@ -21,12 +21,12 @@ static bool too_many_bools[CVL_MOST_ELEMENTS + 1];
 
 static int failed;
 static int calls;
-static int refusing;
+static int refusing, spared;
 
-/* The linker puts these in the place of malloc and realloc (--wrap), so that a test can refuse memory. */
+/* The linker puts these in the place of malloc and realloc (--wrap), so that a test can refuse memory, after some that it spares. */
 void *__real_malloc(size_t size);
 void *__wrap_malloc(size_t size);
-void *__wrap_malloc(size_t size) { return refusing ? NULL : __real_malloc(size); }
+void *__wrap_malloc(size_t size) { return refusing && spared-- <= 0 ? NULL : __real_malloc(size); }
 
 static void fail(const char *call, const char *why) {
     printf("%s: %s\n", call, why);
@@ -173,8 +173,36 @@ static void holds_bools(const char *call, const bool *wanted, size_t count) {
         counts(#call, call, CVL_DONE, sizeof((const bool[]){__VA_ARGS__}) / sizeof(bool));                                      \
     } while (0)
 
+/* The call takes so many copies of booleans that are neither 0 nor 1, and where one is refused it says so. */
+#define COPIES(call, copies)                                                                                                    \
+    do {                                                                                                                        \
+        for (int granted = 0; granted < (copies); granted++) {                                                                  \
+            CvlStatus status;                                                                                                   \
+            reset();                                                                                                            \
+            spared = granted;                                                                                                   \
+            refusing = 1;                                                                                                       \
+            status = call;                                                                                                      \
+            refusing = spared = 0;                                                                                              \
+            tells(#call, status, CVL_NO_RESOURCES, -1);                                                                         \
+            leaves(#call, 0, 0);                                                                                                \
+            leaves_bytes(#call, 0);                                                                                             \
+            if (total != UNTOUCHED) fail(#call, "the total was written");                                                       \
+        }                                                                                                                       \
+    } while (0)
+#define INTS_OF_COPIES(copies, call, ...)                                                                                       \
+    do {                                                                                                                        \
+        INTS(call, __VA_ARGS__);                                                                                                \
+        COPIES(call, copies);                                                                                                   \
+    } while (0)
+#define BOOLS_OF_COPIES(copies, call, ...)                                                                                      \
+    do {                                                                                                                        \
+        BOOLS(call, __VA_ARGS__);                                                                                               \
+        COPIES(call, copies);                                                                                                   \
+    } while (0)
+
 #define I(...) ((const int32_t[]){__VA_ARGS__})
 #define B(...) ((const bool[]){__VA_ARGS__})
+#define O(...) ((const bool *)(const unsigned char[]){__VA_ARGS__})
 
 static void place_by_place(void) {
     const int32_t *a = I(12, -7, 2147483647), *b = I(10, 2, 1);
@@ -1152,6 +1180,66 @@ static void long_rows(void) {
     long_texts();
 }
 
+/* Booleans of any bytes, where they lie. */
+static void odd_booleans(void) {
+    const bool *f = O(2, 255, 0, 0), *g = O(128, 0, 1, 0), *flags = O(0, 2, 255, 0, 128);
+    const int32_t *lengths = I(2, 0, 3);
+    unsigned char made[] = {0, 1, 2, 255};
+    BOOLS(and_wub(f, g, bools, 4), true, false, false, false);
+    BOOLS(ior_wub(f, g, bools, 4), true, true, true, false);
+    BOOLS(xor_wub(f, g, bools, 4), false, true, true, false);
+    BOOLS(not_wub(O(0, 3, 255), bools, 3), true, false, false);
+    BOOLS(cpy_wub(O(0, 3, 255), bools, 3), false, true, true);
+    INTS(int_wub(O(0, 3, 255), ints, 3), 0, 1, 1);
+    INTS(sel_wuz(O(2, 0, 0), I(5, 0, 5), I(1, 1, 1), ints, 3), 5, 1, 1);
+    BOOLS(sel_wub(O(4, 0, 8), O(16, 0, 0), O(0, 0, 32), bools, 3), true, false, false);
+    BOOLS(and_rub(O(1, 2, 4), 3, bools), true);
+    BOOLS(xor_rub(O(1, 2, 4), 3, bools), true);
+    INTS(cnt_lub(flags, 5, ints), 3);
+    BOOLS(ext_vub(O(0, 64), 2, 1, bools), true);
+    BOOLS(ext_veb(O(0, 2, 4), 3, I(0, 1), I(1, 2), 2, bools), false, true);
+    BOOLS(ior_reb(flags, 5, lengths, 3, bools), true, false, true);
+    INTS(cnt_leb(flags, 5, lengths, 3, ints), 1, 0, 2);
+    INTS(pck_fov(flags, 5, lengths, 3, ints), 1, 0, 2);
+    if (!cvl_are_flags(B(true, false), 2) || !cvl_are_flags(NULL, 0) || cvl_are_flags(O(1, 0, 2), 3)) fail("cvl_are_flags", "another answer");
+    cvl_make_flags((bool *)made, 4);
+    if (memcmp(made, B(false, true, true, true), 4) != 0) fail("cvl_make_flags", "other booleans");
+}
+
+/* Booleans of any bytes, of which a copy is taken. */
+static void copied_booleans(void) {
+    const bool *f = O(0, 2, 255, 0, 128), *values = O(3, 0, 5, 0, 0);
+    const int32_t *a = I(1, 2, 3, 4, 5), *lengths = I(2, 0, 3), *back = I(4, 3, 2, 1, 0), *each = I(1, 0, 2, 1, 0);
+    BOOLS_OF_COPIES(1, and_sub(O(2, 0, 2), bools, 3), true, true, false);
+    BOOLS_OF_COPIES(1, cvl_bool_scan_after(CVL_XOR, true, O(2, 0, 2), 3, bools, 3), true, false, false);
+    BOOLS_OF_COPIES(1, ior_seb(f, lengths, 3, bools, 5), false, false, false, true, true);
+    BOOLS_OF_COPIES(1, rep_vub(values, 1, true, bools, 5), true, true, true, false, false);
+    BOOLS_OF_COPIES(2, rep_veb(values, 5, I(0, 1), O(0, 9), I(2, 3), 2, bools), false, false, true, true, false);
+    BOOLS_OF_COPIES(1, dis_veb(O(0, 9), I(1, 2), 2, bools, 3), false, true, true);
+    COUNTED_INTS(pck_luz(a, f, 5, ints, ROOM, &total), 2, 3, 5);
+    COPIES(pck_luz(a, f, 5, ints, ROOM, &total), 1);
+    COUNTED_BOOLS(pck_lub(values, f, 5, bools, ROOM, &total), false, true, false);
+    COPIES(pck_lub(values, f, 5, bools, ROOM, &total), 2);
+    COUNTED_INTS(pck_lez(a, f, 5, lengths, 3, ints, ROOM, &total), 2, 3, 5);
+    COPIES(pck_lez(a, f, 5, lengths, 3, ints, ROOM, &total), 1);
+    COUNTED_BOOLS(pck_leb(values, f, 5, lengths, 3, bools, ROOM, &total), false, true, false);
+    COPIES(pck_leb(values, f, 5, lengths, 3, bools, ROOM, &total), 2);
+    BOOLS_OF_COPIES(1, smp_pub(values, back, bools, 5), false, false, true, false, true);
+    INTS_OF_COPIES(1, sel_puz(a, I(9, 2, 1, 9, 0), f, 5, ints, 3), 5, 3, 2);
+    BOOLS_OF_COPIES(2, sel_pub(values, I(9, 2, 1, 9, 0), f, 5, bools, 3), false, true, false);
+    BOOLS_OF_COPIES(2, def_pub(O(2, 0), I(3, 1), 2, O(0, 3, 3, 0), bools, 4), false, false, true, true);
+    BOOLS_OF_COPIES(1, bck_pub(values, 5, I(2, 1, 0), bools, 3), true, false, true);
+    BOOLS_OF_COPIES(1, smp_peb(values, each, lengths, 3, bools, 5), false, true, false, false, true);
+    INTS_OF_COPIES(1, sel_pez(a, I(9, 0, 1, 9, 0), f, 5, lengths, 3, ints, 3), 2, 5, 3);
+    BOOLS_OF_COPIES(2, sel_peb(values, I(9, 0, 1, 9, 0), f, 5, lengths, 3, bools, 3), false, false, true);
+    BOOLS_OF_COPIES(2, def_peb(O(2, 0), I(1, 0), 2, O(0, 0, 3, 3), I(1, 1), I(2, 2), 2, bools, 4), false, true, false, true);
+    BOOLS_OF_COPIES(1, bck_peb(values, 5, I(1, 0, 0), lengths, I(2, 0, 1), 3, bools, 3), false, true, true);
+    TEXT(cvl_write_bools(O(2, 0), 2, bytes, TEXT_ROOM, &total), "[T F]");
+    COPIES(cvl_write_bools(O(2, 0), 2, bytes, TEXT_ROOM, &total), 1);
+    TEXT(cvl_seg_write_bools(O(2, 0), 2, I(1, 1), 2, bytes, TEXT_ROOM, &total), "[[T] [F]]");
+    COPIES(cvl_seg_write_bools(O(2, 0), 2, I(1, 1), 2, bytes, TEXT_ROOM, &total), 1);
+}
+
 int main(void) {
     place_by_place();
     place_by_place_faults();
@@ -1174,6 +1262,8 @@ int main(void) {
     made_descriptors();
     nested_texts();
     long_rows();
+    odd_booleans();
+    copied_booleans();
     if (failed) return EXIT_FAILURE;
     printf("%d calls as they should be\n", calls);
     return EXIT_SUCCESS;

@@ -302,6 +302,8 @@ def not_wub(a, *, out=None):
 
     Faults: 13 TooLong.
 
+    In place: a may be out.
+
     >>> import cvl, numpy
     >>> a = numpy.array([False, True], dtype=bool)
     >>> cvl.not_wub(a).tolist()
@@ -337,6 +339,8 @@ def cpy_wub(a, *, out=None):
     """Each boolean copied. a and out have n elements.
 
     Faults: 13 TooLong.
+
+    In place: a may be out.
 
     >>> import cvl, numpy
     >>> a = numpy.array([True, False], dtype=bool)
@@ -469,6 +473,8 @@ def and_wub(a, b, *, out=None):
 
     Faults: 13 TooLong.
 
+    In place: a, b or both may be out.
+
     >>> import cvl, numpy
     >>> a = numpy.array([True, True, False, False], dtype=bool)
     >>> b = numpy.array([True, False, True, False], dtype=bool)
@@ -487,6 +493,8 @@ def ior_wub(a, b, *, out=None):
     """Whether at least one is true. a, b and out have n elements.
 
     Faults: 13 TooLong.
+
+    In place: a, b or both may be out.
 
     >>> import cvl, numpy
     >>> a = numpy.array([True, True, False, False], dtype=bool)
@@ -507,6 +515,8 @@ def xor_wub(a, b, *, out=None):
 
     Faults: 13 TooLong.
 
+    In place: a, b or both may be out.
+
     >>> import cvl, numpy
     >>> a = numpy.array([True, True, False, False], dtype=bool)
     >>> b = numpy.array([True, False, True, False], dtype=bool)
@@ -525,6 +535,8 @@ def sel_wuz(flags, a, b, *, out=None):
     """The element of a where the flag is true, else that of b. flags, a, b and out have m elements.
 
     Faults: 13 TooLong.
+
+    In place: a or b may be out, but not both.
 
     >>> import cvl, numpy
     >>> flags = numpy.array([True, False, False], dtype=bool)
@@ -546,6 +558,8 @@ def sel_wub(flags, a, b, *, out=None):
     """The element of a where the flag is true, else that of b. flags, a, b and out have m elements.
 
     Faults: 13 TooLong.
+
+    In place: a or b may be out, but not both.
 
     >>> import cvl, numpy
     >>> flags = numpy.array([True, False], dtype=bool)
@@ -854,6 +868,8 @@ def and_sub(a, *, out=None):
 
     Faults: 13 TooLong.
 
+    In place: a may be out.
+
     >>> import cvl, numpy
     >>> a = numpy.array([True, False, True], dtype=bool)
     >>> cvl.and_sub(a).tolist()
@@ -888,6 +904,8 @@ def ior_sub(a, *, out=None):
 
     Faults: 13 TooLong.
 
+    In place: a may be out.
+
     >>> import cvl, numpy
     >>> a = numpy.array([True, False, True], dtype=bool)
     >>> cvl.ior_sub(a).tolist()
@@ -921,6 +939,8 @@ def xor_sub(a, *, out=None):
     """For each boolean, of those before it, whether an odd number is true; false at place 0. a and out have n elements.
 
     Faults: 13 TooLong.
+
+    In place: a may be out.
 
     >>> import cvl, numpy
     >>> a = numpy.array([True, False, True], dtype=bool)
@@ -1657,6 +1677,8 @@ def and_seb(a, segments, *, out=None):
 
     Faults: 7 LengthMismatch where the lengths do not add up to n.
 
+    In place: a may be out.
+
     >>> import cvl, numpy
     >>> a = numpy.array([True, False, True, False, True], dtype=bool)
     >>> segments = cvl.Segments([2, 0, 3])
@@ -1699,6 +1721,8 @@ def ior_seb(a, segments, *, out=None):
 
     Faults: 7 LengthMismatch where the lengths do not add up to n.
 
+    In place: a may be out.
+
     >>> import cvl, numpy
     >>> a = numpy.array([True, False, True, False, True], dtype=bool)
     >>> segments = cvl.Segments([2, 0, 3])
@@ -1740,6 +1764,8 @@ def xor_seb(a, segments, *, out=None):
     a and out have n elements.
 
     Faults: 7 LengthMismatch where the lengths do not add up to n.
+
+    In place: a may be out.
 
     >>> import cvl, numpy
     >>> a = numpy.array([True, False, True, False, True], dtype=bool)

@@ -486,6 +486,20 @@ pub fn not_wub_into(a: &[bool], out: &mut [bool]) -> Result<(), Fault> {
     told(unsafe { symbols::cvl_not_wub(a.as_ptr().cast(), out.as_mut_ptr().cast(), n) })
 }
 
+/// [`not_wub`] in the place of `a`; a fault leaves it as it was.
+///
+/// ```
+/// let mut a = [false, true];
+/// cvl::not_wub_in(&mut a)?;
+/// assert_eq!(a, [true, false]);
+/// # Ok::<(), cvl::Fault>(())
+/// ```
+pub fn not_wub_in(a: &mut [bool]) -> Result<(), Fault> {
+    let n = same(&[a.len()])?;
+    let out = a.as_mut_ptr().cast();
+    told(unsafe { symbols::cvl_not_wub(out, out, n) })
+}
+
 /// Each integer copied. a and out have n elements.
 ///
 /// Faults: 13 TooLong.
@@ -540,6 +554,20 @@ pub fn cpy_wub_into(a: &[bool], out: &mut [bool]) -> Result<(), Fault> {
     let n = same(&[a.len()])?;
     as_long(out, a.len())?;
     told(unsafe { symbols::cvl_cpy_wub(a.as_ptr().cast(), out.as_mut_ptr().cast(), n) })
+}
+
+/// [`cpy_wub`] in the place of `a`; a fault leaves it as it was.
+///
+/// ```
+/// let mut a = [true, false];
+/// cvl::cpy_wub_in(&mut a)?;
+/// assert_eq!(a, [true, false]);
+/// # Ok::<(), cvl::Fault>(())
+/// ```
+pub fn cpy_wub_in(a: &mut [bool]) -> Result<(), Fault> {
+    let n = same(&[a.len()])?;
+    let out = a.as_mut_ptr().cast();
+    told(unsafe { symbols::cvl_cpy_wub(out, out, n) })
 }
 
 /// True where a is greater. a, b and out have n elements.
@@ -689,6 +717,20 @@ pub fn and_wub_into(a: &[bool], b: &[bool], out: &mut [bool]) -> Result<(), Faul
     told(unsafe { symbols::cvl_and_wub(a.as_ptr().cast(), b.as_ptr().cast(), out.as_mut_ptr().cast(), n) })
 }
 
+/// [`and_wub`] in the place of `a`; a fault leaves it as it was.
+///
+/// ```
+/// let mut a = [true, true, false, false];
+/// cvl::and_wub_in(&mut a, &[true, false, true, false])?;
+/// assert_eq!(a, [true, false, false, false]);
+/// # Ok::<(), cvl::Fault>(())
+/// ```
+pub fn and_wub_in(a: &mut [bool], b: &[bool]) -> Result<(), Fault> {
+    let n = same(&[a.len(), b.len()])?;
+    let out = a.as_mut_ptr().cast();
+    told(unsafe { symbols::cvl_and_wub(out, b.as_ptr().cast(), out, n) })
+}
+
 /// Whether at least one is true. a, b and out have n elements.
 ///
 /// Faults: 13 TooLong.
@@ -708,6 +750,20 @@ pub fn ior_wub_into(a: &[bool], b: &[bool], out: &mut [bool]) -> Result<(), Faul
     let n = same(&[a.len(), b.len()])?;
     as_long(out, a.len())?;
     told(unsafe { symbols::cvl_ior_wub(a.as_ptr().cast(), b.as_ptr().cast(), out.as_mut_ptr().cast(), n) })
+}
+
+/// [`ior_wub`] in the place of `a`; a fault leaves it as it was.
+///
+/// ```
+/// let mut a = [true, true, false, false];
+/// cvl::ior_wub_in(&mut a, &[true, false, true, false])?;
+/// assert_eq!(a, [true, true, true, false]);
+/// # Ok::<(), cvl::Fault>(())
+/// ```
+pub fn ior_wub_in(a: &mut [bool], b: &[bool]) -> Result<(), Fault> {
+    let n = same(&[a.len(), b.len()])?;
+    let out = a.as_mut_ptr().cast();
+    told(unsafe { symbols::cvl_ior_wub(out, b.as_ptr().cast(), out, n) })
 }
 
 /// Whether exactly one is true. a, b and out have n elements.
@@ -731,6 +787,20 @@ pub fn xor_wub_into(a: &[bool], b: &[bool], out: &mut [bool]) -> Result<(), Faul
     told(unsafe { symbols::cvl_xor_wub(a.as_ptr().cast(), b.as_ptr().cast(), out.as_mut_ptr().cast(), n) })
 }
 
+/// [`xor_wub`] in the place of `a`; a fault leaves it as it was.
+///
+/// ```
+/// let mut a = [true, true, false, false];
+/// cvl::xor_wub_in(&mut a, &[true, false, true, false])?;
+/// assert_eq!(a, [false, true, true, false]);
+/// # Ok::<(), cvl::Fault>(())
+/// ```
+pub fn xor_wub_in(a: &mut [bool], b: &[bool]) -> Result<(), Fault> {
+    let n = same(&[a.len(), b.len()])?;
+    let out = a.as_mut_ptr().cast();
+    told(unsafe { symbols::cvl_xor_wub(out, b.as_ptr().cast(), out, n) })
+}
+
 /// The element of a where the flag is true, else that of b. flags, a, b and out have m elements.
 ///
 /// Faults: 13 TooLong.
@@ -752,6 +822,20 @@ pub fn sel_wuz_into(flags: &[bool], a: &[i32], b: &[i32], out: &mut [i32]) -> Re
     told(unsafe { symbols::cvl_sel_wuz(flags.as_ptr().cast(), a.as_ptr(), b.as_ptr(), out.as_mut_ptr(), m) })
 }
 
+/// [`sel_wuz`] in the place of `a`; a fault leaves it as it was.
+///
+/// ```
+/// let mut a = [5, 0, 5];
+/// cvl::sel_wuz_in(&[true, false, false], &mut a, &[1, 1, 1])?;
+/// assert_eq!(a, [5, 1, 1]);
+/// # Ok::<(), cvl::Fault>(())
+/// ```
+pub fn sel_wuz_in(flags: &[bool], a: &mut [i32], b: &[i32]) -> Result<(), Fault> {
+    let m = same(&[flags.len(), a.len(), b.len()])?;
+    let out = a.as_mut_ptr();
+    told(unsafe { symbols::cvl_sel_wuz(flags.as_ptr().cast(), out, b.as_ptr(), out, m) })
+}
+
 /// The element of a where the flag is true, else that of b. flags, a, b and out have m elements.
 ///
 /// Faults: 13 TooLong.
@@ -771,6 +855,20 @@ pub fn sel_wub_into(flags: &[bool], a: &[bool], b: &[bool], out: &mut [bool]) ->
     let m = same(&[flags.len(), a.len(), b.len()])?;
     as_long(out, flags.len())?;
     told(unsafe { symbols::cvl_sel_wub(flags.as_ptr().cast(), a.as_ptr().cast(), b.as_ptr().cast(), out.as_mut_ptr().cast(), m) })
+}
+
+/// [`sel_wub`] in the place of `a`; a fault leaves it as it was.
+///
+/// ```
+/// let mut a = [true, true];
+/// cvl::sel_wub_in(&[true, false], &mut a, &[false, false])?;
+/// assert_eq!(a, [true, false]);
+/// # Ok::<(), cvl::Fault>(())
+/// ```
+pub fn sel_wub_in(flags: &[bool], a: &mut [bool], b: &[bool]) -> Result<(), Fault> {
+    let m = same(&[flags.len(), a.len(), b.len()])?;
+    let out = a.as_mut_ptr().cast();
+    told(unsafe { symbols::cvl_sel_wub(flags.as_ptr().cast(), out, b.as_ptr().cast(), out, m) })
 }
 
 /// 1 for true and 0 for false. a and out have n elements.
@@ -1191,6 +1289,20 @@ pub fn and_sub_into(a: &[bool], out: &mut [bool]) -> Result<(), Fault> {
     told(unsafe { symbols::cvl_and_sub(a.as_ptr().cast(), out.as_mut_ptr().cast(), n) })
 }
 
+/// [`and_sub`] in the place of `a`; a fault leaves it as it was.
+///
+/// ```
+/// let mut a = [true, false, true];
+/// cvl::and_sub_in(&mut a)?;
+/// assert_eq!(a, [true, true, false]);
+/// # Ok::<(), cvl::Fault>(())
+/// ```
+pub fn and_sub_in(a: &mut [bool]) -> Result<(), Fault> {
+    let n = same(&[a.len()])?;
+    let out = a.as_mut_ptr().cast();
+    told(unsafe { symbols::cvl_and_sub(out, out, n) })
+}
+
 /// Of the n booleans, whether all are true; true where there are none.
 ///
 /// Faults: 13 TooLong.
@@ -1228,6 +1340,20 @@ pub fn ior_sub_into(a: &[bool], out: &mut [bool]) -> Result<(), Fault> {
     told(unsafe { symbols::cvl_ior_sub(a.as_ptr().cast(), out.as_mut_ptr().cast(), n) })
 }
 
+/// [`ior_sub`] in the place of `a`; a fault leaves it as it was.
+///
+/// ```
+/// let mut a = [true, false, true];
+/// cvl::ior_sub_in(&mut a)?;
+/// assert_eq!(a, [false, true, true]);
+/// # Ok::<(), cvl::Fault>(())
+/// ```
+pub fn ior_sub_in(a: &mut [bool]) -> Result<(), Fault> {
+    let n = same(&[a.len()])?;
+    let out = a.as_mut_ptr().cast();
+    told(unsafe { symbols::cvl_ior_sub(out, out, n) })
+}
+
 /// Of the n booleans, whether any is true; false where there are none.
 ///
 /// Faults: 13 TooLong.
@@ -1263,6 +1389,20 @@ pub fn xor_sub_into(a: &[bool], out: &mut [bool]) -> Result<(), Fault> {
     let n = same(&[a.len()])?;
     as_long(out, a.len())?;
     told(unsafe { symbols::cvl_xor_sub(a.as_ptr().cast(), out.as_mut_ptr().cast(), n) })
+}
+
+/// [`xor_sub`] in the place of `a`; a fault leaves it as it was.
+///
+/// ```
+/// let mut a = [true, false, true];
+/// cvl::xor_sub_in(&mut a)?;
+/// assert_eq!(a, [false, true, true]);
+/// # Ok::<(), cvl::Fault>(())
+/// ```
+pub fn xor_sub_in(a: &mut [bool]) -> Result<(), Fault> {
+    let n = same(&[a.len()])?;
+    let out = a.as_mut_ptr().cast();
+    told(unsafe { symbols::cvl_xor_sub(out, out, n) })
 }
 
 /// Of the n booleans, whether an odd number is true; false where there are none.
@@ -2189,6 +2329,22 @@ pub fn and_seb_into(a: &[bool], segments: &Segments, out: &mut [bool]) -> Result
     told(unsafe { symbols::cvl_and_seb(a.as_ptr().cast(), segments.lengths().as_ptr(), k, out.as_mut_ptr().cast(), n) })
 }
 
+/// [`and_seb`] in the place of `a`; a fault leaves it as it was.
+///
+/// ```
+/// let segments = cvl::Segments::new(&[2, 0, 3])?;
+/// let mut a = [true, false, true, false, true];
+/// cvl::and_seb_in(&mut a, &segments)?;
+/// assert_eq!(a, [true, true, true, true, false]);
+/// # Ok::<(), cvl::Fault>(())
+/// ```
+pub fn and_seb_in(a: &mut [bool], segments: &Segments) -> Result<(), Fault> {
+    let k = same(&[segments.len()])?;
+    let n = same(&[a.len()])?;
+    let out = a.as_mut_ptr().cast();
+    told(unsafe { symbols::cvl_and_seb(out, segments.lengths().as_ptr(), k, out, n) })
+}
+
 /// Of the booleans of each segment, whether all are true; true where it is empty. a has n
 /// elements, out one for each segment.
 ///
@@ -2237,6 +2393,22 @@ pub fn ior_seb_into(a: &[bool], segments: &Segments, out: &mut [bool]) -> Result
     told(unsafe { symbols::cvl_ior_seb(a.as_ptr().cast(), segments.lengths().as_ptr(), k, out.as_mut_ptr().cast(), n) })
 }
 
+/// [`ior_seb`] in the place of `a`; a fault leaves it as it was.
+///
+/// ```
+/// let segments = cvl::Segments::new(&[2, 0, 3])?;
+/// let mut a = [true, false, true, false, true];
+/// cvl::ior_seb_in(&mut a, &segments)?;
+/// assert_eq!(a, [false, true, false, true, true]);
+/// # Ok::<(), cvl::Fault>(())
+/// ```
+pub fn ior_seb_in(a: &mut [bool], segments: &Segments) -> Result<(), Fault> {
+    let k = same(&[segments.len()])?;
+    let n = same(&[a.len()])?;
+    let out = a.as_mut_ptr().cast();
+    told(unsafe { symbols::cvl_ior_seb(out, segments.lengths().as_ptr(), k, out, n) })
+}
+
 /// Of the booleans of each segment, whether any is true; false where it is empty. a has n
 /// elements, out one for each segment.
 ///
@@ -2283,6 +2455,22 @@ pub fn xor_seb_into(a: &[bool], segments: &Segments, out: &mut [bool]) -> Result
     let n = same(&[a.len()])?;
     as_long(out, a.len())?;
     told(unsafe { symbols::cvl_xor_seb(a.as_ptr().cast(), segments.lengths().as_ptr(), k, out.as_mut_ptr().cast(), n) })
+}
+
+/// [`xor_seb`] in the place of `a`; a fault leaves it as it was.
+///
+/// ```
+/// let segments = cvl::Segments::new(&[2, 0, 3])?;
+/// let mut a = [true, false, true, false, true];
+/// cvl::xor_seb_in(&mut a, &segments)?;
+/// assert_eq!(a, [false, true, false, true, true]);
+/// # Ok::<(), cvl::Fault>(())
+/// ```
+pub fn xor_seb_in(a: &mut [bool], segments: &Segments) -> Result<(), Fault> {
+    let k = same(&[segments.len()])?;
+    let n = same(&[a.len()])?;
+    let out = a.as_mut_ptr().cast();
+    told(unsafe { symbols::cvl_xor_seb(out, segments.lengths().as_ptr(), k, out, n) })
 }
 
 /// Of the booleans of each segment, whether an odd number is true; false where it is empty. a has

@@ -1,1 +1,3 @@
 pub mod Afters
+pub mod Limits
+pub mod OnBytes

@@ -1,4 +1,5 @@
 pub mod Calls
+pub mod Flags
 pub mod Fronts
 pub mod NestedTexts
 pub mod Numbers

@@ -61,7 +61,7 @@ pub fn int1(op: u32, a: &mut [i32]) -> Result<(), Fault>
 }
 
 /// The scan from the unit on, over the elements.
-fn scan<M: Monoid>(a: &mut [M::Item])
+pub(crate) fn scan<M: Monoid>(a: &mut [M::Item])
     requires items { AllPass M.is_item a.old }
     ensures { a.new ≡ scan_of M.join M.unit a.old }
 {

@@ -5,14 +5,16 @@ ghost use Rattle.cvl_base.specs.Rooms.{Overwrites};
 ghost use Rattle.cvl_base.specs.Scans.{bool_join_of, bool_unit_of, int_join_of, int_unit_of};
 ghost use Rattle.cvl_base.specs.SegmentedCalls.{seg_reduce_of, seg_scan_of};
 ghost use Rattle.c_calls.specs.Calls.{by_operator, by_segments};
+ghost use Rattle.c_calls.specs.Flags.{flags_of};
 ghost use Rattle.c_calls.specs.Numbers.{bool_binary, int_monoid};
 ghost use Rattle.c_calls.specs.Told.{in_room};
 
 use crate::checks::segments;
+use crate::flags::TrueByte;
 use crate::numbers::{bool_binary, int_monoid};
 use cvl_base::monoids::{Add, And, BoolAnd, BoolIor, BoolXor, Ior, Max, Min, Mul, Xor};
 use cvl_base::{BoolBinary, Fault, IntMonoid};
-use scan_walks::{know_numbers, seg_reduce_over, seg_scan_over};
+use scan_walks::{know_numbers, seg_reduce_over, seg_reduce_readings_over, seg_scan_over};
 use segdes::SegLengths;
 
 /// The scan of each segment of integers by an operator.
@@ -58,14 +60,14 @@ fn bool_scan_by(op: BoolBinary, a: &[bool], d: &SegLengths, out: &mut [bool]) ->
     }
 }
 
-/// The reduce of each segment of booleans by an operator.
-fn bool_reduce_by(op: BoolBinary, a: &[bool], d: &SegLengths, out: &mut [bool]) -> Result<(), Fault>
-    ensures { Overwrites (in_room (length out.old) (seg_reduce_of (bool_join_of op) (bool_unit_of op) a.now d.now)) result out.old out.new }
+/// The reduce of each segment of flags by an operator.
+fn bool_reduce_by(op: BoolBinary, a: &[u8], d: &SegLengths, out: &mut [bool]) -> Result<(), Fault>
+    ensures { Overwrites (in_room (length out.old) (seg_reduce_of (bool_join_of op) (bool_unit_of op) (flags_of a.now) d.now)) result out.old out.new }
 {
     match op {
-        BoolBinary::And => seg_reduce_over::<BoolAnd>(a, d, out),
-        BoolBinary::Ior => seg_reduce_over::<BoolIor>(a, d, out),
-        BoolBinary::Xor => seg_reduce_over::<BoolXor>(a, d, out),
+        BoolBinary::And => seg_reduce_readings_over::<BoolAnd, u8, TrueByte>(a, d, out),
+        BoolBinary::Ior => seg_reduce_readings_over::<BoolIor, u8, TrueByte>(a, d, out),
+        BoolBinary::Xor => seg_reduce_readings_over::<BoolXor, u8, TrueByte>(a, d, out),
     }
 }
 
@@ -99,10 +101,10 @@ pub fn bool_scan(op: u32, a: &[bool], lengths: &[i32], out: &mut [bool]) -> Resu
     bool_scan_by(op, a, &d, out)
 }
 
-/// The reduce of each segment of booleans by the operator of a number.
-pub fn bool_reduce(op: u32, a: &[bool], lengths: &[i32], out: &mut [bool]) -> Result<(), Fault>
+/// The reduce of each segment of flags by the operator of a number.
+pub fn bool_reduce(op: u32, a: &[u8], lengths: &[i32], out: &mut [bool]) -> Result<(), Fault>
     ensures { Overwrites (in_room (length out.old) (by_operator (bool_binary op)
-        (λ o. by_segments lengths.now (seg_reduce_of (bool_join_of o) (bool_unit_of o) a.now)))) result out.old out.new }
+        (λ o. by_segments lengths.now (seg_reduce_of (bool_join_of o) (bool_unit_of o) (flags_of a.now))))) result out.old out.new }
 {
     let op = bool_binary(op)?;
     let d = segments(lengths)?;

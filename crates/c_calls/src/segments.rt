@@ -5,8 +5,10 @@ ghost use Rattle.cvl_base.specs.Gives.{Gives};
 ghost use Rattle.cvl_base.specs.Rooms.{OverwritesOr};
 ghost use Rattle.cvl_base.specs.SegmentedCalls.{seg_distribute_of, seg_extract_of, seg_index_of, seg_replace_of};
 ghost use Rattle.c_calls.specs.Calls.{by_segments};
+ghost use Rattle.c_calls.specs.Flags.{made_flags};
 ghost use Rattle.c_calls.specs.Told.{in_room};
 
+use crate::byte_walks::make_flags;
 use crate::checks::{descriptor, segments};
 use cvl_base::Refused;
 use pack_dist::{seg_distribute_over, seg_extract, seg_index_over, seg_replace};
@@ -23,6 +25,20 @@ pub fn extract_each<T: Copy>(
 {
     let d = segments(lengths)?;
     seg_extract(alloc, vector, index, &d)
+}
+
+/// For each segment the byte at the place that its index names, 1 where it is true and 0 where it is false.
+pub fn extract_each_flag(
+    alloc: Global,
+    vector: &[u8],
+    index: &[i32],
+    lengths: &[i32],
+) -> Result<Vec<u8, Global>, Refused>
+    ensures { Gives (λ v. v.items) result (made_flags (by_segments lengths.now (seg_extract_of vector.now index.now))) }
+{
+    let mut bytes = extract_each(alloc, vector, index, lengths)?;
+    make_flags(&mut bytes);
+    Ok(bytes)
 }
 
 /// The vector with, in each segment, the segment's value at the place that its index names.

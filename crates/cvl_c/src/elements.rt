@@ -5,17 +5,18 @@ ghost use Rattle.cvl_base.specs.Distributes.{distribute_of, index_of};
 ghost use Rattle.cvl_base.specs.Extracts.{extract_of, replace_of};
 ghost use Rattle.cvl_base.specs.Packs.{count_of};
 ghost use Rattle.c_calls.specs.Calls.{in_limit};
+ghost use Rattle.c_calls.specs.Flags.{extract_flag_of, flags_of};
 ghost use Rattle.c_calls.specs.Told.{Told, ToldOr, in_room};
 
-use c_calls::elements::count;
+use c_calls::elements::{count, extract_flag};
 use c_calls::status::{CvlStatus, told, told_one, told_over};
 use pack_dist::{distribute_over, extract, index_over, replace};
 use std::alloc::Global;
 
 /// The number of true flags: `cnt_lub`.
 #[unsafe(no_mangle)]
-pub extern "C" fn cvl_count(flags: &[bool], out: &mut i32) -> CvlStatus
-    ensures { Told (in_limit flags.now (Ok (pos (count_of flags.now)))) result out.old out.new }
+pub extern "C" fn cvl_count(flags: &[u8], out: &mut i32) -> CvlStatus
+    ensures { Told (in_limit flags.now (Ok (pos (count_of (flags_of flags.now))))) result out.old out.new }
 {
     told_one(count(flags), out)
 }
@@ -28,12 +29,12 @@ pub extern "C" fn cvl_extract_int(vector: &[i32], index: i32, out: &mut i32) -> 
     told_one(extract(vector, index), out)
 }
 
-/// The boolean at the place that an index names: `ext_vub`.
+/// The flag at the place that an index names: `ext_vub`.
 #[unsafe(no_mangle)]
-pub extern "C" fn cvl_extract_bool(vector: &[bool], index: i32, out: &mut bool) -> CvlStatus
-    ensures { Told (extract_of vector.now index) result out.old out.new }
+pub extern "C" fn cvl_extract_bool(vector: &[u8], index: i32, out: &mut bool) -> CvlStatus
+    ensures { Told (extract_flag_of vector.now index) result out.old out.new }
 {
-    told_one(extract(vector, index), out)
+    told_one(extract_flag(vector, index), out)
 }
 
 /// The integers with another one at the place that an index names: `rep_vuz`.

@@ -8,6 +8,8 @@
 mod checked_sums;
 mod descriptors;
 mod elements;
+mod flags;
+mod flags_in_place;
 mod flat_permutes;
 mod in_place;
 mod nested_texts;

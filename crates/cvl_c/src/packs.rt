@@ -4,6 +4,7 @@ ghost use Rattle.std.specs.Prelude.{length};
 ghost use Rattle.cvl_base.specs.Packs.{pack_of};
 ghost use Rattle.cvl_base.specs.SegmentedCalls.{seg_pack_of};
 ghost use Rattle.c_calls.specs.Calls.{by_segments, counts_of, in_limit};
+ghost use Rattle.c_calls.specs.Flags.{flags_of};
 ghost use Rattle.c_calls.specs.Told.{FrontTold, Told, in_room};
 
 use c_calls::packs::{count_each, pack, pack_each};
@@ -65,16 +66,16 @@ pub extern "C" fn cvl_seg_pack_bool(
 
 /// The lengths of the segments of what a pack of segments keeps, empty ones included: `pck_fov`.
 #[unsafe(no_mangle)]
-pub extern "C" fn cvl_packed_lengths(flags: &[bool], lengths: &[i32], out: &mut [i32]) -> CvlStatus
-    ensures { Told (in_room (length out.old) (by_segments lengths.now (counts_of flags.now))) result out.old out.new }
+pub extern "C" fn cvl_packed_lengths(flags: &[u8], lengths: &[i32], out: &mut [i32]) -> CvlStatus
+    ensures { Told (in_room (length out.old) (by_segments lengths.now (counts_of (flags_of flags.now)))) result out.old out.new }
 {
     told_over::<i32>(count_each(flags, lengths, out))
 }
 
 /// The number of true flags of each segment: `cnt_leb`.
 #[unsafe(no_mangle)]
-pub extern "C" fn cvl_seg_count(flags: &[bool], lengths: &[i32], out: &mut [i32]) -> CvlStatus
-    ensures { Told (in_room (length out.old) (by_segments lengths.now (counts_of flags.now))) result out.old out.new }
+pub extern "C" fn cvl_seg_count(flags: &[u8], lengths: &[i32], out: &mut [i32]) -> CvlStatus
+    ensures { Told (in_room (length out.old) (by_segments lengths.now (counts_of (flags_of flags.now)))) result out.old out.new }
 {
     told_over::<i32>(count_each(flags, lengths, out))
 }

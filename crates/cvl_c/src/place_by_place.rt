@@ -3,11 +3,12 @@
 ghost use Rattle.std.specs.Prelude.{Ok, length};
 ghost use Rattle.cvl_base.specs.Elementwise.{bools1_of, bools2_of, bools_from_ints, choose_of, compare_of, ints1_of, ints2_of, ints_from_bools};
 ghost use Rattle.c_calls.specs.Calls.{by_operator, in_limit};
+ghost use Rattle.c_calls.specs.Flags.{as_bytes, flags_of};
 ghost use Rattle.c_calls.specs.Numbers.{bool_binary, comparison, int_binary, unary};
 ghost use Rattle.c_calls.specs.Told.{Told, in_room};
 
 use c_calls::place_by_place::{
-    bool_from_int, bool1, bool2, compare, int_from_bool, int1, int2, select,
+    bool_from_int, bool1, bool2, compare, int_from_bool, int1, int2, select_bool, select_int,
 };
 use c_calls::status::{CvlStatus, told_over};
 
@@ -35,26 +36,28 @@ pub extern "C" fn cvl_compare(op: u32, a: &[i32], b: &[i32], out: &mut [bool]) -
     told_over::<bool>(compare(op, a, b, out))
 }
 
-/// The operator on each two booleans at the same place: `and_wub` and its like.
+/// The operator on each two flags at the same place: `and_wub` and its like.
 #[unsafe(no_mangle)]
-pub extern "C" fn cvl_bool2(op: u32, a: &[bool], b: &[bool], out: &mut [bool]) -> CvlStatus
-    ensures { Told (in_room (length out.old) (by_operator (bool_binary op) (λ o. in_limit a.now (bools2_of o a.now b.now)))) result out.old out.new }
+pub extern "C" fn cvl_bool2(op: u32, a: &[u8], b: &[u8], out: &mut [u8]) -> CvlStatus
+    ensures { Told (in_room (length out.old) (as_bytes (by_operator (bool_binary op)
+        (λ o. in_limit a.now (bools2_of o (flags_of a.now) (flags_of b.now)))))) result out.old out.new }
 {
-    told_over::<bool>(bool2(op, a, b, out))
+    told_over::<u8>(bool2(op, a, b, out))
 }
 
-/// The operator on each boolean: `not_wub` and `cpy_wub`.
+/// The operator on each flag: `not_wub` and `cpy_wub`.
 #[unsafe(no_mangle)]
-pub extern "C" fn cvl_bool1(op: u32, a: &[bool], out: &mut [bool]) -> CvlStatus
-    ensures { Told (in_room (length out.old) (by_operator (unary op) (λ o. in_limit a.now (Ok (bools1_of o a.now))))) result out.old out.new }
+pub extern "C" fn cvl_bool1(op: u32, a: &[u8], out: &mut [u8]) -> CvlStatus
+    ensures { Told (in_room (length out.old) (as_bytes (by_operator (unary op)
+        (λ o. in_limit a.now (Ok (bools1_of o (flags_of a.now))))))) result out.old out.new }
 {
-    told_over::<bool>(bool1(op, a, out))
+    told_over::<u8>(bool1(op, a, out))
 }
 
-/// 1 for each true boolean, and 0 for each false one: `int_wub`.
+/// 1 for each true flag, and 0 for each false one: `int_wub`.
 #[unsafe(no_mangle)]
-pub extern "C" fn cvl_int_from_bool(a: &[bool], out: &mut [i32]) -> CvlStatus
-    ensures { Told (in_room (length out.old) (in_limit a.now (Ok (ints_from_bools a.now)))) result out.old out.new }
+pub extern "C" fn cvl_int_from_bool(a: &[u8], out: &mut [i32]) -> CvlStatus
+    ensures { Told (in_room (length out.old) (in_limit a.now (Ok (ints_from_bools (flags_of a.now))))) result out.old out.new }
 {
     told_over::<i32>(int_from_bool(a, out))
 }
@@ -69,21 +72,17 @@ pub extern "C" fn cvl_bool_from_int(a: &[i32], out: &mut [bool]) -> CvlStatus
 
 /// At each place the integer of `a` where the flag is true, else that of `b`: `sel_wuz`.
 #[unsafe(no_mangle)]
-pub extern "C" fn cvl_select_int(flags: &[bool], a: &[i32], b: &[i32], out: &mut [i32]) -> CvlStatus
-    ensures { Told (in_room (length out.old) (in_limit flags.now (choose_of flags.now a.now b.now))) result out.old out.new }
+pub extern "C" fn cvl_select_int(flags: &[u8], a: &[i32], b: &[i32], out: &mut [i32]) -> CvlStatus
+    ensures { Told (in_room (length out.old) (in_limit flags.now (choose_of (flags_of flags.now) a.now b.now))) result out.old out.new }
 {
-    told_over::<i32>(select(flags, a, b, out))
+    told_over::<i32>(select_int(flags, a, b, out))
 }
 
-/// At each place the boolean of `a` where the flag is true, else that of `b`: `sel_wub`.
+/// At each place the flag of `a` where that of `flags` is true, else that of `b`: `sel_wub`.
 #[unsafe(no_mangle)]
-pub extern "C" fn cvl_select_bool(
-    flags: &[bool],
-    a: &[bool],
-    b: &[bool],
-    out: &mut [bool],
-) -> CvlStatus
-    ensures { Told (in_room (length out.old) (in_limit flags.now (choose_of flags.now a.now b.now))) result out.old out.new }
+pub extern "C" fn cvl_select_bool(flags: &[u8], a: &[u8], b: &[u8], out: &mut [u8]) -> CvlStatus
+    ensures { Told (in_room (length out.old) (as_bytes (in_limit flags.now
+        (choose_of (flags_of flags.now) (flags_of a.now) (flags_of b.now))))) result out.old out.new }
 {
-    told_over::<bool>(select(flags, a, b, out))
+    told_over::<u8>(select_bool(flags, a, b, out))
 }

@@ -3,6 +3,7 @@
 ghost use Rattle.std.specs.Prelude.{Ok, length};
 ghost use Rattle.cvl_base.specs.Scans.{bool_reduce_of, bool_scan_of, int_reduce_of, int_scan_of};
 ghost use Rattle.c_calls.specs.Calls.{by_operator, in_limit};
+ghost use Rattle.c_calls.specs.Flags.{flags_of};
 ghost use Rattle.c_calls.specs.Numbers.{bool_binary, int_monoid};
 ghost use Rattle.c_calls.specs.Told.{Told, in_room};
 
@@ -33,10 +34,10 @@ pub extern "C" fn cvl_bool_scan(op: u32, a: &[bool], out: &mut [bool]) -> CvlSta
     told_over::<bool>(bool_scan(op, a, out))
 }
 
-/// The booleans joined by the operator: `and_rub` and its like.
+/// The flags joined by the operator: `and_rub` and its like.
 #[unsafe(no_mangle)]
-pub extern "C" fn cvl_bool_reduce(op: u32, a: &[bool], out: &mut bool) -> CvlStatus
-    ensures { Told (by_operator (bool_binary op) (λ o. in_limit a.now (Ok (bool_reduce_of o a.now)))) result out.old out.new }
+pub extern "C" fn cvl_bool_reduce(op: u32, a: &[u8], out: &mut bool) -> CvlStatus
+    ensures { Told (by_operator (bool_binary op) (λ o. in_limit a.now (Ok (bool_reduce_of o (flags_of a.now))))) result out.old out.new }
 {
     told_one(bool_reduce(op, a), out)
 }

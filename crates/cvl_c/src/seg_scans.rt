@@ -4,6 +4,7 @@ ghost use Rattle.std.specs.Prelude.{length};
 ghost use Rattle.cvl_base.specs.Scans.{bool_join_of, bool_unit_of, int_join_of, int_unit_of};
 ghost use Rattle.cvl_base.specs.SegmentedCalls.{seg_reduce_of, seg_scan_of};
 ghost use Rattle.c_calls.specs.Calls.{by_operator, by_segments};
+ghost use Rattle.c_calls.specs.Flags.{flags_of};
 ghost use Rattle.c_calls.specs.Numbers.{bool_binary, int_monoid};
 ghost use Rattle.c_calls.specs.Told.{Told, in_room};
 
@@ -52,16 +53,16 @@ pub extern "C" fn cvl_seg_bool_scan(
     told_over::<bool>(bool_scan(op, a, lengths, out))
 }
 
-/// The booleans of each segment joined by the operator: `and_reb` and its like.
+/// The flags of each segment joined by the operator: `and_reb` and its like.
 #[unsafe(no_mangle)]
 pub extern "C" fn cvl_seg_bool_reduce(
     op: u32,
-    a: &[bool],
+    a: &[u8],
     lengths: &[i32],
     out: &mut [bool],
 ) -> CvlStatus
     ensures { Told (in_room (length out.old) (by_operator (bool_binary op)
-        (λ o. by_segments lengths.now (seg_reduce_of (bool_join_of o) (bool_unit_of o) a.now)))) result out.old out.new }
+        (λ o. by_segments lengths.now (seg_reduce_of (bool_join_of o) (bool_unit_of o) (flags_of a.now))))) result out.old out.new }
 {
     told_over::<bool>(bool_reduce(op, a, lengths, out))
 }

@@ -3,9 +3,12 @@
 ghost use Rattle.std.specs.Prelude.{length};
 ghost use Rattle.cvl_base.specs.SegmentedCalls.{seg_distribute_of, seg_extract_of, seg_index_of, seg_replace_of};
 ghost use Rattle.c_calls.specs.Calls.{by_segments};
+ghost use Rattle.c_calls.specs.Flags.{made_flags};
 ghost use Rattle.c_calls.specs.Told.{ToldOr, in_room};
 
-use c_calls::segments::{distribute_each, extract_each, index_each, replace_each};
+use c_calls::segments::{
+    distribute_each, extract_each, extract_each_flag, index_each, replace_each,
+};
 use c_calls::status::{CvlStatus, told, told_over_or};
 use std::alloc::Global;
 
@@ -23,18 +26,18 @@ pub extern "C" fn cvl_seg_extract_int(
     told(extract_each(alloc, vector, index, lengths), out)
 }
 
-/// For each segment the boolean at the place that its index names: `ext_veb`.
+/// For each segment the flag at the place that its index names: `ext_veb`.
 #[unsafe(no_mangle)]
 pub extern "C" fn cvl_seg_extract_bool(
     alloc: Global,
-    vector: &[bool],
+    vector: &[u8],
     index: &[i32],
     lengths: &[i32],
-    out: &mut [bool],
+    out: &mut [u8],
 ) -> CvlStatus
-    ensures { ToldOr (in_room (length out.old) (by_segments lengths.now (seg_extract_of vector.now index.now))) result out.old out.new }
+    ensures { ToldOr (in_room (length out.old) (made_flags (by_segments lengths.now (seg_extract_of vector.now index.now)))) result out.old out.new }
 {
-    told(extract_each(alloc, vector, index, lengths), out)
+    told(extract_each_flag(alloc, vector, index, lengths), out)
 }
 
 /// The integers with, in each segment, the segment's value at the place that its index names: `rep_vez`.

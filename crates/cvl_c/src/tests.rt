@@ -3,6 +3,7 @@
 
 mod booleans;
 mod bytes;
+mod flags;
 mod in_place;
 mod integers;
 mod nested;

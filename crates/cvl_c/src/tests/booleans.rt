@@ -18,21 +18,17 @@ use std::test::Fail;
 /// A call of such an export.
 enum BoolCall {
     Compare(u32, Ints, Ints),
-    Bool2(u32, Flags, Flags),
-    Bool1(u32, Flags),
     FromInt(Ints),
-    Select(Flags, Flags, Flags),
     Scan(u32, Flags),
-    Reduce(u32, Flags),
+    Reduce(u32, Bytes),
     ScanAfter(u32, bool, Flags),
-    Extract(Flags, i32),
+    Extract(Bytes, i32),
     Replace(Flags, i32, bool),
     Distribute(bool, i32),
-    SegExtract(Flags, Ints, Ints),
     SegReplace(Flags, Ints, Flags, Ints),
     SegDistribute(Flags, Ints),
     SegScan(u32, Flags, Ints),
-    SegReduce(u32, Flags, Ints),
+    SegReduce(u32, Bytes, Ints),
     Permute(Flags, Ints),
     SelectPermute(Flags, Ints, Flags),
     DefaultPermute(Flags, Ints, Flags),
@@ -49,17 +45,13 @@ impl Call<bool> for BoolCall {
     fn answer(&self, alloc: Global, room: &mut [bool], count: &mut usize) -> CvlStatus {
         match self {
             Compare(op, a, b) => cvl_compare(*op, a, b, room),
-            Bool2(op, a, b) => cvl_bool2(*op, a, b, room),
-            Bool1(op, a) => cvl_bool1(*op, a, room),
             FromInt(a) => cvl_bool_from_int(a, room),
-            Select(flags, a, b) => cvl_select_bool(flags, a, b, room),
             Scan(op, a) => cvl_bool_scan(*op, a, room),
             Reduce(op, a) => in_one!(room, one => cvl_bool_reduce(*op, a, one)),
             ScanAfter(op, before, a) => cvl_bool_scan_after(*op, *before, a, room),
             Extract(a, index) => in_one!(room, one => cvl_extract_bool(a, *index, one)),
             Replace(a, index, value) => cvl_replace_bool(alloc, a, *index, *value, room),
             Distribute(value, length) => cvl_distribute_bool(*value, *length, room),
-            SegExtract(a, index, d) => cvl_seg_extract_bool(alloc, a, index, d, room),
             SegReplace(a, index, b, d) => cvl_seg_replace_bool(alloc, a, index, b, d, room),
             SegDistribute(a, d) => cvl_seg_distribute_bool(alloc, a, d, room),
             SegScan(op, a, d) => cvl_seg_bool_scan(*op, a, d, room),
@@ -90,6 +82,8 @@ const G: Flags = &[true, false, true, false];
 
 const T: Flags = &[true, false, true, false, true];
 
+const BYTES: Bytes = &[2, 0, 1, 128, 255];
+
 const ENDS: Flags = &[true, false, false, false, true];
 
 const ALL: Flags = &[true, true, true, true, true];
@@ -103,36 +97,28 @@ const BELOW: Ints = &[5, -1, -2];
 const ROWS: &[Row<BoolCall, bool>] = rows! {
     Compare(GRT, &[1, 2, 3], &[2, 2, 2]), 3 => Ok(&[false, false, true]);
     Compare(NOT, LENGTHS, LENGTHS), 3 => Err((UNKNOWN_CALL, -1));
-    Bool2(XOR, F, G), 4 => Ok(&[false, true, true, false]);
-    Bool2(SUB, F, G), 4 => Err((UNKNOWN_CALL, -1));
-    Bool1(NOT, LAST), 3 => Ok(&[true, false, false]);
-    Bool1(NO_OPERATOR, F), 4 => Err((UNKNOWN_CALL, -1));
     FromInt(&[0, -3, 7]), 3 => Ok(&[false, true, true]);
     FromInt(LENGTHS), 4 => Err((LENGTH_MISMATCH, -1));
-    Select(G, F, &[false, false, false, true]), 4 => Ok(&[true, false, false, true]);
-    Select(F, F, G), 2 => Err((LENGTH_MISMATCH, -1));
     Scan(AND, &[true, false, true]), 3 => Ok(&[true, true, false]);
     Scan(ADD, F), 4 => Err((UNKNOWN_CALL, -1));
-    Reduce(AND, G), 1 => Ok(&[false]);
-    Reduce(SUB, F), 1 => Err((UNKNOWN_CALL, -1));
+    Reduce(AND, &[1, 2, 4]), 1 => Ok(&[true]);
+    Reduce(SUB, &[]), 1 => Err((UNKNOWN_CALL, -1));
     ScanAfter(XOR, true, &[true, false, true]), 3 => Ok(&[true, false, false]);
     ScanAfter(MAX, false, F), 4 => Err((UNKNOWN_CALL, -1));
-    Extract(LAST, 0), 1 => Ok(&[false]);
+    Extract(&[0, 2], 1), 1 => Ok(&[true]);
     Extract(&[], 0), 1 => Err((OUT_OF_RANGE, 0));
     Replace(&[true, true, true], 2, false), 3 => Ok(&[true, true, false]);
     Replace(LAST, -1, false), 3 => Err((OUT_OF_RANGE, 0));
     Distribute(false, 2), 2 => Ok(&[false, false]);
     Distribute(false, 4_194_305), 2 => Err((TOO_LONG, -1));
-    SegExtract(LAST, &[0, 1], &[1, 2]), 2 => Ok(&[false, true]);
-    SegExtract(LAST, &[0, -1], &[1, 2]), 2 => Err((OUT_OF_RANGE, 1));
     SegReplace(LAST, &[0, 1], &[true, false], &[1, 2]), 3 => Ok(&[true, true, false]);
     SegReplace(LAST, &[0, 1], &[true, false], &[1, -2]), 3 => Err((NEGATIVE_LENGTH, 1));
     SegDistribute(&[false, true], &[1, 2]), 3 => Ok(&[false, true, true]);
     SegDistribute(LAST, &[1, -1, 0]), 2 => Err((NEGATIVE_LENGTH, 1));
     SegScan(IOR, ALL, LENGTHS), 5 => Ok(&[false, true, false, true, true]);
     SegScan(AND, T, BELOW), 5 => Err((NEGATIVE_LENGTH, 1));
-    SegReduce(AND, T, LENGTHS), 3 => Ok(&[false, true, false]);
-    SegReduce(SUB, T, BELOW), 3 => Err((UNKNOWN_CALL, -1));
+    SegReduce(AND, BYTES, LENGTHS), 3 => Ok(&[false, true, true]);
+    SegReduce(SUB, BYTES, BELOW), 3 => Err((UNKNOWN_CALL, -1));
     Permute(&[true, false, false], &[2, 0, 1]), 3 => Ok(&[false, false, true]);
     Permute(LAST, &[0, 2, 0]), 3 => Err((REPEATED, 2));
     SelectPermute(&[true, true, false, true], &[1, 9, 0, 9], G), 2 => Ok(&[false, true]);

@@ -1,5 +1,6 @@
 //! Exports that write integers over a vector that they read.
 
+use crate::flags_in_place::*;
 use crate::in_place::*;
 use crate::tests::in_place::InPlace::*;
 use crate::tests::told::*;
@@ -17,10 +18,11 @@ enum InPlace {
     CheckedScan,
     SegScan(u32, Ints),
     SegCheckedScan(Ints),
+    ChosenFirst(Bytes, Ints),
+    ChosenSecond(Bytes, Ints),
 }
 
-impl InPlace {
-    /// What the export answers, over a vector.
+impl CallIn<i32> for InPlace {
     fn answer(&self, over: &mut [i32]) -> CvlStatus {
         match self {
             First(op, b) => cvl_int2_in_first(*op, over, b),
@@ -32,6 +34,8 @@ impl InPlace {
             CheckedScan => cvl_checked_scan_in(over),
             SegScan(op, d) => cvl_seg_int_scan_in(*op, over, d),
             SegCheckedScan(d) => cvl_seg_checked_scan_in(over, d),
+            ChosenFirst(flags, b) => cvl_select_int_in_first(flags, over, b),
+            ChosenSecond(flags, a) => cvl_select_int_in_second(flags, a, over),
         }
     }
 }
@@ -40,8 +44,7 @@ const PI: Ints = &[3, 1, 4, 1, 5];
 
 const HIGH: Ints = &[1, i32::MAX, 1, 1];
 
-/// A call, the vector before it, and what it answers: what the vector holds then, or a fault that leaves it as it was.
-const ROWS: &[(InPlace, Ints, Answer<i32>)] = &[
+const ROWS: &[RowIn<InPlace, i32>] = &[
     (First(SUB, &[1, 2, 3]), &[7, 7, 7], Ok(&[6, 5, 4])),
     (First(DIV, &[1, 2, 0]), &[7, 7, 7], Err((DIVIDE_BY_ZERO, 2))),
     (Second(SUB, &[1, 2, 3]), &[7, 7, 7], Ok(&[-6, -5, -4])),
@@ -65,19 +68,31 @@ const ROWS: &[(InPlace, Ints, Answer<i32>)] = &[
     (SegScan(ADD, &[5, 1]), PI, Err((LENGTH_MISMATCH, -1))),
     (SegCheckedScan(LENGTHS), PI, Ok(&[0, 3, 0, 4, 5])),
     (SegCheckedScan(&[1, 3]), HIGH, Err((OVERFLOW, 3))),
+    (
+        ChosenFirst(&[0, 2, 1], &[1, 2, 3]),
+        &[7, 8, 9],
+        Ok(&[1, 8, 9]),
+    ),
+    (
+        ChosenFirst(&[0, 2, 1], &[1, 2]),
+        &[7, 8, 9],
+        Err((LENGTH_MISMATCH, -1)),
+    ),
+    (
+        ChosenSecond(&[0, 2, 1], &[1, 2, 3]),
+        &[7, 8, 9],
+        Ok(&[7, 2, 3]),
+    ),
+    (
+        ChosenSecond(&[0, 2], &[1, 2, 3]),
+        &[7, 8, 9],
+        Err((LENGTH_MISMATCH, -1)),
+    ),
 ];
 
 #[test]
 fn exports_in_place(rt: HostRuntime) -> Result<(), Fail> {
-    for (call, before, answer) in ROWS {
-        let mut over = Vec::from_slice(rt.alloc(), before)?;
-        let status = call.answer(&mut over);
-        let (wanted, number, place) = match answer {
-            Ok(after) => (*after, 0, -1),
-            Err((number, place)) => (*before, *number, *place),
-        };
-        assert!(rt; status == (CvlStatus { number, place }), "{status:?}");
-        assert!(rt; over.as_slice() == wanted, "{status:?}");
-    }
+    let wrong = first_wrong_in(rt.alloc(), ROWS)?;
+    assert!(rt; wrong.is_none(), "row {wrong:?}");
     Ok(())
 }

@@ -22,8 +22,8 @@ use std::test::Fail;
 enum IntCall {
     Int2(u32, Ints, Ints),
     Int1(u32, Ints),
-    FromBool(Flags),
-    Select(Flags, Ints, Ints),
+    FromBool(Bytes),
+    Select(Bytes, Ints, Ints),
     Scan(u32, Ints),
     Reduce(u32, Ints),
     ScanAfter(u32, i32, Ints),
@@ -31,7 +31,7 @@ enum IntCall {
     CheckedReduce(Ints),
     SegCheckedScan(Ints, Ints),
     SegCheckedReduce(Ints, Ints),
-    Counts(Flags),
+    Counts(Bytes),
     Extract(Ints, i32),
     Replace(Ints, i32, i32),
     Distribute(i32, i32),
@@ -42,8 +42,8 @@ enum IntCall {
     SegIndex(Ints, Ints, Ints),
     SegScan(u32, Ints, Ints),
     SegReduce(u32, Ints, Ints),
-    PackedLengths(Flags, Ints),
-    SegCounts(Flags, Ints),
+    PackedLengths(Bytes, Ints),
+    SegCounts(Bytes, Ints),
     Permute(Ints, Ints),
     SelectPermute(Ints, Ints, Flags),
     DefaultPermute(Ints, Ints, Ints),
@@ -107,6 +107,8 @@ impl Call<i32> for IntCall {
 
 const FLAGS: Flags = &[false, true, true, false, true];
 
+const BYTES: Bytes = &[0, 2, 255, 0, 128];
+
 const SOME: Flags = &[true, false, true, false];
 
 const A: Ints = &[12, -7, i32::MAX];
@@ -134,10 +136,10 @@ const ROWS: &[Row<IntCall, i32>] = rows! {
     Int2(DIV, A, &[1, 0, 0]), 3 => Err((DIVIDE_BY_ZERO, 1));
     Int1(NOT, &[0, 5, -1]), 3 => Ok(&[-1, -6, 0]);
     Int1(ADD, A), 3 => Err((UNKNOWN_CALL, -1));
-    FromBool(&[false, true, true]), 3 => Ok(&[0, 1, 1]);
-    FromBool(FLAGS), 2 => Err((LENGTH_MISMATCH, -1));
-    Select(&[true, false, false], &[5, 0, 5], &[1, 1, 1]), 3 => Ok(&[5, 1, 1]);
-    Select(SOME, &[1, 2], &[1, 2, 3, 4]), 4 => Err((LENGTH_MISMATCH, -1));
+    FromBool(&[0, 2, 1]), 3 => Ok(&[0, 1, 1]);
+    FromBool(BYTES), 2 => Err((LENGTH_MISMATCH, -1));
+    Select(&[2, 0, 0], &[5, 0, 5], &[1, 1, 1]), 3 => Ok(&[5, 1, 1]);
+    Select(&[1, 0, 1, 0], &[1, 2], &[1, 2, 3, 4]), 4 => Err((LENGTH_MISMATCH, -1));
     Scan(ADD, &[3, 1, 4]), 3 => Ok(&[0, 3, 4]);
     Scan(SUB, A), 3 => Err((UNKNOWN_CALL, -1));
     Reduce(MUL, &[3, 1, 4]), 1 => Ok(&[12]);
@@ -152,7 +154,7 @@ const ROWS: &[Row<IntCall, i32>] = rows! {
     SegCheckedScan(HIGH, &[1, 3]), 4 => Err((OVERFLOW, 3));
     SegCheckedReduce(PI, LENGTHS), 3 => Ok(&[4, 0, 10]);
     SegCheckedReduce(HIGH, &[1, 3]), 2 => Err((OVERFLOW, 1));
-    Counts(FLAGS), 1 => Ok(&[3]);
+    Counts(BYTES), 1 => Ok(&[3]);
     Extract(UP, 2), 1 => Ok(&[3]);
     Extract(UP, -1), 1 => Err((OUT_OF_RANGE, 0));
     Replace(&[4, 5, 6], 1, 9), 3 => Ok(&[4, 9, 6]);
@@ -173,10 +175,10 @@ const ROWS: &[Row<IntCall, i32>] = rows! {
     SegScan(ADD, PI, BELOW), 5 => Err((NEGATIVE_LENGTH, 1));
     SegReduce(MAX, PI, LENGTHS), 3 => Ok(&[3, i32::MIN, 5]);
     SegReduce(SUB, PI, BELOW), 3 => Err((UNKNOWN_CALL, -1));
-    PackedLengths(FLAGS, LENGTHS), 3 => Ok(&[1, 0, 2]);
-    PackedLengths(FLAGS, BELOW), 3 => Err((NEGATIVE_LENGTH, 1));
-    SegCounts(FLAGS, FULL), 2 => Ok(&[1, 2]);
-    SegCounts(FLAGS, &[2, 0]), 2 => Err((LENGTH_MISMATCH, -1));
+    PackedLengths(BYTES, LENGTHS), 3 => Ok(&[1, 0, 2]);
+    PackedLengths(BYTES, BELOW), 3 => Err((NEGATIVE_LENGTH, 1));
+    SegCounts(BYTES, FULL), 2 => Ok(&[1, 2]);
+    SegCounts(BYTES, &[2, 0]), 2 => Err((LENGTH_MISMATCH, -1));
     Permute(TENS, &[2, 0, 1]), 3 => Ok(&[20, 30, 10]);
     Permute(TENS, &[1, 1, 3]), 3 => Err((REPEATED, 1));
     SelectPermute(&[1, 2, 3, 4], &[1, 9, 0, 9], SOME), 2 => Ok(&[3, 1]);

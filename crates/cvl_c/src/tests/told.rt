@@ -7,6 +7,9 @@ pub type Ints = &'static [i32];
 
 pub type Flags = &'static [bool];
 
+/// Booleans as they come from elsewhere: any byte but 0 is true.
+pub type Bytes = &'static [u8];
+
 // the numbers of faults
 pub const UNKNOWN_CALL: u32 = 2;
 
@@ -46,6 +49,8 @@ pub const DIV: u32 = 8;
 pub const GRT: u32 = 12;
 
 pub const NOT: u32 = 18;
+
+pub const CPY: u32 = 19;
 
 pub const NO_OPERATOR: u32 = 20;
 
@@ -95,6 +100,34 @@ pub fn first_wrong<T: Copy + PartialEq, C: Call<T>>(
         let mut count = COUNT;
         let status = call.answer(alloc, &mut room, &mut count);
         if !is_told(answer, status, &room, before) || count != *counted {
+            return Ok(Some(k));
+        }
+    }
+    Ok(None)
+}
+
+/// A call of an export in place.
+pub trait CallIn<T> {
+    /// What the export answers, over a vector.
+    fn answer(&self, over: &mut [T]) -> CvlStatus;
+}
+
+/// A call in place, the vector before it, and what it answers: what the vector holds then, or a fault that leaves it as it was.
+pub type RowIn<C, T> = (C, &'static [T], Answer<T>);
+
+/// The first row that is told wrongly.
+pub fn first_wrong_in<T: Copy + PartialEq, C: CallIn<T>>(
+    alloc: Global,
+    rows: &[RowIn<C, T>],
+) -> Result<Option<usize>, AllocError> {
+    for (k, (call, before, answer)) in rows.iter().enumerate() {
+        let mut over = Vec::from_slice(alloc, before)?;
+        let status = call.answer(&mut over);
+        let (wanted, number, place) = match answer {
+            Ok(after) => (*after, 0, -1),
+            Err((number, place)) => (*before, *number, *place),
+        };
+        if status != (CvlStatus { number, place }) || over.as_slice() != wanted {
             return Ok(Some(k));
         }
     }

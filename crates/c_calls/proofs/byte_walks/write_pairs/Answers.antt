@@ -1,0 +1,25 @@
+use Rattle.std.proofs.Common.{◌≡◌, ◌<◌, arith, get_or, length, map}
+use Rattle.std.specs.List.{zip}
+use Rattle.std.proofs.lemmas.List.{get_or_default, length-map}
+use Rattle.std.proofs.lemmas.Slice.Zip.{length-zip}
+use Rattle.elementwise.proofs.InPlace.{begins, ends, step, value_pair}
+use Rattle.c_calls.proofs.byte_walks.write_pairs.Goals as goal
+
+pub loop-place-init : goal.loop-place-init
+loop-place-init g c = begins _ c.args.a.now
+
+pub loop-place-preserved : goal.loop-place-preserved
+loop-place-preserved g c =
+    let a = c.args.a.now in let b = c.args.b.now in let f = g.O.Binary.value in let place = c.loop-place.place in
+    let within : place < length a = omega (arith, c.loop-place-test.true) in
+    let x = get_or c.loop-place.a place 0 in let y = get_or b place 0 in
+    step (map (λ p. f p.0 p.1) (zip a b)) a c.loop-place.a place c.loop-place.invariant c.apply.result (omega (arith, within))
+    (value_pair f a b c.loop-place.a place c.loop-place.invariant x y c.apply.result
+    within (omega (arith, within, c.requires)) (get_or_default c.loop-place.a place 0 x (omega (arith, within)))
+    (get_or_default b place 0 y (omega (arith, within, c.requires))) c.apply.ensures)
+
+pub returns : goal.returns
+returns g c =
+    let a = c.args.a.now in let b = c.args.b.now in let whole = map (λ p. g.O.Binary.value p.0 p.1) (zip a b) in
+    let long : length whole ≡ length a = omega (arith, length-map (zip a b) (λ p. g.O.Binary.value p.0 p.1), length-zip a b, c.requires) in
+    ends whole a c.loop-place.a c.loop-place.place c.loop-place.invariant (omega (arith, long)) (omega (arith, long, c.loop-place-test.false))

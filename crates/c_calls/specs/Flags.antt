@@ -1,0 +1,44 @@
+-- Flags that come as bytes: a byte that isn't 0 is true, and results are 0 and 1.
+-- Source: the conversion to bool of C.
+use Rattle.std.specs.Prelude.{ℕ, ℤ, ◌==◌, nat_lt, Bool, true, false, not, List, map, Result, Ok}
+use Rattle.std.specs.List.{zip}
+use Rattle.cvl_base.specs.declared.fault.Fault.{Fault}
+use Rattle.cvl_base.specs.Elementwise.{chosen, if_as_long}
+use Rattle.cvl_base.specs.Extracts.{extract_of}
+use Rattle.cvl_base.specs.Gives.{◌>>=◌}
+
+-- whether a byte is 0 or 1
+abbrev pub is_flag : ℕ → Bool
+is_flag byte = nat_lt byte 2
+
+-- whether a byte is true
+abbrev pub flag_of : ℕ → Bool
+flag_of byte = not (byte == 0)
+
+abbrev pub flags_of : List ℕ → List Bool
+flags_of bytes = map flag_of bytes
+
+abbrev pub byte_of : Bool → ℕ
+byte_of true = 1
+byte_of false = 0
+
+-- the byte 1 for each that is true, and 0 for each other
+abbrev pub as_flag : ℕ → ℕ
+as_flag byte = byte_of (flag_of byte)
+
+-- booleans, as bytes
+abbrev pub as_bytes : Result (List Bool) Fault → Result (List ℕ) Fault
+as_bytes meaning = meaning >>= λ flags. Ok (map byte_of flags)
+
+-- bytes, each 1 where it is true and 0 where it is not
+abbrev pub made_flags : Result (List ℕ) Fault → Result (List ℕ) Fault
+made_flags meaning = meaning >>= λ bytes. Ok (map as_flag bytes)
+
+-- the flag of the byte at an index
+abbrev pub extract_flag_of : List ℕ → ℤ → Result Bool Fault
+extract_flag_of bytes index = extract_of bytes index >>= λ byte. Ok (flag_of byte)
+
+-- at each place the first of two elements where the byte is true, else the second, through an operator
+abbrev pub choose_by : {X : Type 0} → (X → X) → List ℕ → List X → List X → Result (List X) Fault
+choose_by operator bytes xs ys =
+    if_as_long bytes xs (if_as_long bytes ys (Ok (map (λ p. operator (chosen (flag_of p.0) p.1)) (zip bytes (zip xs ys)))))

@@ -1,0 +1,199 @@
+//! The calls on booleans and the choices in place, which check what the same calls over a room check, in the same order.
+
+ghost use Rattle.std.specs.Prelude.{◌≡◌, Ok};
+ghost use Rattle.cvl_base.specs.Elementwise.{bools1_of, bools2_of, choose_of};
+ghost use Rattle.cvl_base.specs.Rooms.{Overwrites};
+ghost use Rattle.cvl_base.specs.Scans.{bool_join_of, bool_scan_of, bool_unit_of};
+ghost use Rattle.cvl_base.specs.SegmentedCalls.{seg_scan_of};
+ghost use Rattle.c_calls.specs.Calls.{by_operator, by_segments, in_limit};
+ghost use Rattle.c_calls.specs.Flags.{as_bytes, flags_of};
+ghost use Rattle.c_calls.specs.Numbers.{bool_binary, unary};
+ghost use Rattle.c_calls.specs.Tiles.{bool_scan_after};
+
+use crate::byte_walks::{pairs_in_both, pairs_in_first, pairs_in_second, write_each};
+use crate::checks::{check_limit, segments};
+use crate::choice::{choose_in_first, choose_in_second};
+use crate::flags::{Both, Differ, Either, Not, OnBytes, Same};
+use crate::in_place::scan;
+use crate::numbers::{bool_binary, unary};
+use cvl_base::monoids::{BoolAnd, BoolIor, BoolXor};
+use cvl_base::{BoolBinary, Fault, Unary};
+use scan_walks::{scan_in, seg_scan_in};
+use segdes::SegLengths;
+
+fn bool2_first_by(op: BoolBinary, a: &mut [u8], b: &[u8]) -> Result<(), Fault>
+    ensures { Overwrites (as_bytes (bools2_of op (flags_of a.old) (flags_of b.now))) result a.old a.new }
+{
+    match op {
+        BoolBinary::And => pairs_in_first::<Both>(a, b),
+        BoolBinary::Ior => pairs_in_first::<Either>(a, b),
+        BoolBinary::Xor => pairs_in_first::<Differ>(a, b),
+    }
+}
+
+/// The operator on each two flags at the same place, over the first.
+pub fn bool2_first(op: u32, a: &mut [u8], b: &[u8]) -> Result<(), Fault>
+    ensures { Overwrites (as_bytes (by_operator (bool_binary op)
+        (λ o. in_limit a.old (bools2_of o (flags_of a.old) (flags_of b.now))))) result a.old a.new }
+{
+    let op = bool_binary(op)?;
+    check_limit(a)?;
+    bool2_first_by(op, a, b)
+}
+
+fn bool2_second_by(op: BoolBinary, a: &[u8], b: &mut [u8]) -> Result<(), Fault>
+    ensures { Overwrites (as_bytes (bools2_of op (flags_of a.now) (flags_of b.old))) result b.old b.new }
+{
+    match op {
+        BoolBinary::And => pairs_in_second::<Both>(a, b),
+        BoolBinary::Ior => pairs_in_second::<Either>(a, b),
+        BoolBinary::Xor => pairs_in_second::<Differ>(a, b),
+    }
+}
+
+/// The operator on each two flags at the same place, over the second.
+pub fn bool2_second(op: u32, a: &[u8], b: &mut [u8]) -> Result<(), Fault>
+    ensures { Overwrites (as_bytes (by_operator (bool_binary op)
+        (λ o. in_limit a.now (bools2_of o (flags_of a.now) (flags_of b.old))))) result b.old b.new }
+{
+    let op = bool_binary(op)?;
+    check_limit(a)?;
+    bool2_second_by(op, a, b)
+}
+
+fn bool2_both_by(op: BoolBinary, a: &mut [u8]) -> Result<(), Fault>
+    ensures { Overwrites (as_bytes (bools2_of op (flags_of a.old) (flags_of a.old))) result a.old a.new }
+{
+    match op {
+        BoolBinary::And => pairs_in_both::<Both>(a),
+        BoolBinary::Ior => pairs_in_both::<Either>(a),
+        BoolBinary::Xor => pairs_in_both::<Differ>(a),
+    }
+}
+
+/// The operator on each flag and itself, over the flags.
+pub fn bool2_both(op: u32, a: &mut [u8]) -> Result<(), Fault>
+    ensures { Overwrites (as_bytes (by_operator (bool_binary op)
+        (λ o. in_limit a.old (bools2_of o (flags_of a.old) (flags_of a.old))))) result a.old a.new }
+{
+    let op = bool_binary(op)?;
+    check_limit(a)?;
+    bool2_both_by(op, a)
+}
+
+fn bool1_by(op: Unary, a: &mut [u8]) -> Result<(), Fault>
+    ensures { Overwrites (as_bytes (Ok (bools1_of op (flags_of a.old)))) result a.old a.new }
+{
+    match op {
+        Unary::Not => write_each::<OnBytes<Not>>(a),
+        Unary::Copy => write_each::<OnBytes<Same>>(a),
+    }
+    Ok(())
+}
+
+/// The operator on each flag, over the flags.
+pub fn bool1(op: u32, a: &mut [u8]) -> Result<(), Fault>
+    ensures { Overwrites (as_bytes (by_operator (unary op)
+        (λ o. in_limit a.old (Ok (bools1_of o (flags_of a.old)))))) result a.old a.new }
+{
+    let op = unary(op)?;
+    check_limit(a)?;
+    bool1_by(op, a)
+}
+
+/// At each place the integer of `a` where the flag is true, else that of `b`, over `a`.
+pub fn select_int_first(flags: &[u8], a: &mut [i32], b: &[i32]) -> Result<(), Fault>
+    ensures { Overwrites (in_limit flags.now (choose_of (flags_of flags.now) a.old b.now)) result a.old a.new }
+{
+    check_limit(flags)?;
+    choose_in_first::<Same, i32>(flags, a, b)
+}
+
+/// The same over `b`.
+pub fn select_int_second(flags: &[u8], a: &[i32], b: &mut [i32]) -> Result<(), Fault>
+    ensures { Overwrites (in_limit flags.now (choose_of (flags_of flags.now) a.now b.old)) result b.old b.new }
+{
+    check_limit(flags)?;
+    choose_in_second::<Same, i32>(flags, a, b)
+}
+
+/// At each place the flag of `a` where that of `flags` is true, else that of `b`, over `a`.
+pub fn select_bool_first(flags: &[u8], a: &mut [u8], b: &[u8]) -> Result<(), Fault>
+    ensures { Overwrites (as_bytes (in_limit flags.now
+        (choose_of (flags_of flags.now) (flags_of a.old) (flags_of b.now)))) result a.old a.new }
+{
+    check_limit(flags)?;
+    choose_in_first::<OnBytes<Same>, u8>(flags, a, b)
+}
+
+/// The same over `b`.
+pub fn select_bool_second(flags: &[u8], a: &[u8], b: &mut [u8]) -> Result<(), Fault>
+    ensures { Overwrites (as_bytes (in_limit flags.now
+        (choose_of (flags_of flags.now) (flags_of a.now) (flags_of b.old)))) result b.old b.new }
+{
+    check_limit(flags)?;
+    choose_in_second::<OnBytes<Same>, u8>(flags, a, b)
+}
+
+/// The scan of booleans by an operator, over the booleans.
+fn bool_scan_by(op: BoolBinary, a: &mut [bool])
+    ensures { a.new ≡ bool_scan_of op a.old }
+{
+    match op {
+        BoolBinary::And => scan::<BoolAnd>(a),
+        BoolBinary::Ior => scan::<BoolIor>(a),
+        BoolBinary::Xor => scan::<BoolXor>(a),
+    }
+}
+
+/// The scan of booleans by the operator of a number, over the booleans.
+pub fn bool_scan(op: u32, a: &mut [bool]) -> Result<(), Fault>
+    ensures { Overwrites (by_operator (bool_binary op) (λ o. in_limit a.old (Ok (bool_scan_of o a.old)))) result a.old a.new }
+{
+    let op = bool_binary(op)?;
+    check_limit(a)?;
+    bool_scan_by(op, a);
+    Ok(())
+}
+
+/// The scan of booleans by an operator, after a boolean, over the booleans.
+fn bool_scan_after_by(op: BoolBinary, before: bool, a: &mut [bool])
+    ensures { a.new ≡ bool_scan_after op before a.old }
+{
+    match op {
+        BoolBinary::And => scan_in::<BoolAnd>(before, a),
+        BoolBinary::Ior => scan_in::<BoolIor>(before, a),
+        BoolBinary::Xor => scan_in::<BoolXor>(before, a),
+    }
+}
+
+/// The scan of booleans by the operator of a number, after a boolean, over the booleans.
+pub fn bool_scan_from(op: u32, before: bool, a: &mut [bool]) -> Result<(), Fault>
+    ensures { Overwrites (by_operator (bool_binary op) (λ o. in_limit a.old (Ok (bool_scan_after o before a.old)))) result a.old a.new }
+{
+    let op = bool_binary(op)?;
+    check_limit(a)?;
+    bool_scan_after_by(op, before, a);
+    Ok(())
+}
+
+/// The scan of each segment of booleans by an operator, over the booleans.
+fn bool_scan_of_segments(op: BoolBinary, a: &mut [bool], d: &SegLengths) -> Result<(), Fault>
+    ensures { Overwrites (seg_scan_of (bool_join_of op) (bool_unit_of op) a.old d.now) result a.old a.new }
+{
+    match op {
+        BoolBinary::And => seg_scan_in::<BoolAnd>(a, d),
+        BoolBinary::Ior => seg_scan_in::<BoolIor>(a, d),
+        BoolBinary::Xor => seg_scan_in::<BoolXor>(a, d),
+    }
+}
+
+/// The scan of each segment of booleans by the operator of a number, over the booleans.
+pub fn seg_bool_scan(op: u32, a: &mut [bool], lengths: &[i32]) -> Result<(), Fault>
+    ensures { Overwrites (by_operator (bool_binary op)
+        (λ o. by_segments lengths.now (seg_scan_of (bool_join_of o) (bool_unit_of o) a.old))) result a.old a.new }
+{
+    let op = bool_binary(op)?;
+    let d = segments(lengths)?;
+    bool_scan_of_segments(op, a, &d)
+}

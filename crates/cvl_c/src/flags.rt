@@ -1,0 +1,24 @@
+//! Flags that are neither 0 nor 1, for the calls that take only these.
+
+ghost use Rattle.std.specs.Prelude.{◌≡◌, map};
+ghost use Rattle.std.specs.List.{list_all};
+ghost use Rattle.c_calls.specs.Flags.{as_flag, is_flag};
+
+use c_calls::byte_walks::make_flags;
+use c_calls::flags::are_flags;
+
+/// Whether each byte is 0 or 1.
+#[unsafe(no_mangle)]
+pub extern "C" fn cvl_are_flags(bytes: &[u8]) -> bool
+    ensures { result ≡ list_all is_flag bytes.now }
+{
+    are_flags(bytes)
+}
+
+/// Makes each byte that is not 0 a 1.
+#[unsafe(no_mangle)]
+pub extern "C" fn cvl_make_flags(bytes: &mut [u8])
+    ensures { bytes.new ≡ map as_flag bytes.old }
+{
+    make_flags(bytes)
+}

@@ -1,0 +1,112 @@
+//! The calls on booleans, and the choices, in place: the result is written over a vector that the call reads.
+
+ghost use Rattle.std.specs.Prelude.{Ok};
+ghost use Rattle.cvl_base.specs.Elementwise.{bools1_of, bools2_of, choose_of};
+ghost use Rattle.cvl_base.specs.Scans.{bool_join_of, bool_scan_of, bool_unit_of};
+ghost use Rattle.cvl_base.specs.SegmentedCalls.{seg_scan_of};
+ghost use Rattle.c_calls.specs.Calls.{by_operator, by_segments, in_limit};
+ghost use Rattle.c_calls.specs.Flags.{as_bytes, flags_of};
+ghost use Rattle.c_calls.specs.Numbers.{bool_binary, unary};
+ghost use Rattle.c_calls.specs.Tiles.{bool_scan_after};
+ghost use Rattle.c_calls.specs.Told.{Told};
+
+use c_calls::flags_in_place::{
+    bool_scan, bool_scan_from, bool1, bool2_both, bool2_first, bool2_second, seg_bool_scan,
+    select_bool_first, select_bool_second, select_int_first, select_int_second,
+};
+use c_calls::status::{CvlStatus, told_over};
+
+/// `cvl_bool2` over `a`.
+#[unsafe(no_mangle)]
+pub extern "C" fn cvl_bool2_in_first(op: u32, a: &mut [u8], b: &[u8]) -> CvlStatus
+    ensures { Told (as_bytes (by_operator (bool_binary op)
+        (λ o. in_limit a.old (bools2_of o (flags_of a.old) (flags_of b.now))))) result a.old a.new }
+{
+    told_over::<u8>(bool2_first(op, a, b))
+}
+
+/// `cvl_bool2` over `b`.
+#[unsafe(no_mangle)]
+pub extern "C" fn cvl_bool2_in_second(op: u32, a: &[u8], b: &mut [u8]) -> CvlStatus
+    ensures { Told (as_bytes (by_operator (bool_binary op)
+        (λ o. in_limit a.now (bools2_of o (flags_of a.now) (flags_of b.old))))) result b.old b.new }
+{
+    told_over::<u8>(bool2_second(op, a, b))
+}
+
+/// `cvl_bool2` of `a` and itself, over `a`.
+#[unsafe(no_mangle)]
+pub extern "C" fn cvl_bool2_in_both(op: u32, a: &mut [u8]) -> CvlStatus
+    ensures { Told (as_bytes (by_operator (bool_binary op)
+        (λ o. in_limit a.old (bools2_of o (flags_of a.old) (flags_of a.old))))) result a.old a.new }
+{
+    told_over::<u8>(bool2_both(op, a))
+}
+
+/// `cvl_bool1` over `a`.
+#[unsafe(no_mangle)]
+pub extern "C" fn cvl_bool1_in(op: u32, a: &mut [u8]) -> CvlStatus
+    ensures { Told (as_bytes (by_operator (unary op)
+        (λ o. in_limit a.old (Ok (bools1_of o (flags_of a.old)))))) result a.old a.new }
+{
+    told_over::<u8>(bool1(op, a))
+}
+
+/// `cvl_select_int` over `a`.
+#[unsafe(no_mangle)]
+pub extern "C" fn cvl_select_int_in_first(flags: &[u8], a: &mut [i32], b: &[i32]) -> CvlStatus
+    ensures { Told (in_limit flags.now (choose_of (flags_of flags.now) a.old b.now)) result a.old a.new }
+{
+    told_over::<i32>(select_int_first(flags, a, b))
+}
+
+/// `cvl_select_int` over `b`.
+#[unsafe(no_mangle)]
+pub extern "C" fn cvl_select_int_in_second(flags: &[u8], a: &[i32], b: &mut [i32]) -> CvlStatus
+    ensures { Told (in_limit flags.now (choose_of (flags_of flags.now) a.now b.old)) result b.old b.new }
+{
+    told_over::<i32>(select_int_second(flags, a, b))
+}
+
+/// `cvl_select_bool` over `a`.
+#[unsafe(no_mangle)]
+pub extern "C" fn cvl_select_bool_in_first(flags: &[u8], a: &mut [u8], b: &[u8]) -> CvlStatus
+    ensures { Told (as_bytes (in_limit flags.now
+        (choose_of (flags_of flags.now) (flags_of a.old) (flags_of b.now)))) result a.old a.new }
+{
+    told_over::<u8>(select_bool_first(flags, a, b))
+}
+
+/// `cvl_select_bool` over `b`.
+#[unsafe(no_mangle)]
+pub extern "C" fn cvl_select_bool_in_second(flags: &[u8], a: &[u8], b: &mut [u8]) -> CvlStatus
+    ensures { Told (as_bytes (in_limit flags.now
+        (choose_of (flags_of flags.now) (flags_of a.now) (flags_of b.old)))) result b.old b.new }
+{
+    told_over::<u8>(select_bool_second(flags, a, b))
+}
+
+/// `cvl_bool_scan` over `a`.
+#[unsafe(no_mangle)]
+pub extern "C" fn cvl_bool_scan_in(op: u32, a: &mut [bool]) -> CvlStatus
+    ensures { Told (by_operator (bool_binary op) (λ o. in_limit a.old (Ok (bool_scan_of o a.old)))) result a.old a.new }
+{
+    told_over::<bool>(bool_scan(op, a))
+}
+
+/// `cvl_bool_scan_after` over `a`.
+#[unsafe(no_mangle)]
+pub extern "C" fn cvl_bool_scan_after_in(op: u32, before: bool, a: &mut [bool]) -> CvlStatus
+    ensures { Told (by_operator (bool_binary op) (λ o. in_limit a.old (Ok (bool_scan_after o before a.old)))) result a.old a.new }
+{
+    told_over::<bool>(bool_scan_from(op, before, a))
+}
+
+/// `cvl_seg_bool_scan` over `a`.
+#[unsafe(no_mangle)]
+pub extern "C" fn cvl_seg_bool_scan_in(op: u32, a: &mut [bool], lengths: &[i32]) -> CvlStatus
+    ensures { Told (by_operator (bool_binary op)
+        (λ o. by_segments lengths.now (seg_scan_of (bool_join_of o) (bool_unit_of o) a.old))) result a.old a.new }
+{
+    told_over::<bool>(seg_bool_scan(op, a, lengths))
+}
