@@ -19,7 +19,5 @@ mod scans;
 mod seg_scans;
 mod segment_permutes;
 mod segments;
-#[cfg(test)]
-mod tests;
 mod texts;
 mod tiles;
