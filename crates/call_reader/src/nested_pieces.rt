@@ -28,10 +28,7 @@ pub(crate) struct ReadLists<'a, A: Allocator> {
 
 /// Reads the inner lists with which the bytes begin. None where a token can't stand in one of them, and where there are too
 /// many lists or numbers.
-fn lists_alone<A: Memory>(
-    alloc: A,
-    bytes: &[u8],
-) -> Result<Option<ReadLists<'_, A>>, NoResources>
+fn lists_alone<A: Memory>(alloc: A, bytes: &[u8]) -> Result<Option<ReadLists<'_, A>>, NoResources>
     ensures read { IfOk result (λ o. IfSome o (λ l. AreListsRead bytes.now l.rest.now l.numbers.items l.lengths.items)) }
     ensures few { IfOk result (λ o. IfSome o (λ l. (vec_len l.numbers ≤ most_elements) × (vec_len l.lengths ≤ most_elements))) }
 {

@@ -27,7 +27,13 @@ pub extern "C" fn cvl_seg_read_ints(
     ensures { FrontsToldOr (with_lengths (nested_of text.now)) result
         (out.old, lengths.old) (out.new, lengths.new) (count.old, segments.old) (count.new, segments.new) }
 {
-    told_nest(read_nested_alone(alloc, text), out, count, lengths, segments)
+    told_nest(
+        read_nested_alone(alloc, text),
+        out,
+        count,
+        lengths,
+        segments,
+    )
 }
 
 /// The text of the integers, cut into segments, in brackets.

@@ -41,7 +41,10 @@ impl<A: Memory> Session<A> {
     {
         match self.input_asked_for(operands) {
             Some(input) => {
-                bound_nest(self.alloc, nest_of_input(rt, self.alloc, self.config, input))
+                bound_nest(
+                    self.alloc,
+                    nest_of_input(rt, self.alloc, self.config, input),
+                )
             }
             None => Err(Refused::Fault(Fault::new(FaultNo::NoSuchInput))),
         }
