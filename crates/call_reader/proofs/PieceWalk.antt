@@ -1,11 +1,11 @@
 -- An input in pieces: its tokens are those of the pieces, and the first wrong one of all is the first of the pieces' first ones.
-use Rattle.std.proofs.Common.{◌-◌, ◌^◌, min, ◌≡◌, ℕ, ◌+◌, ◌<◌, ◌≤◌, false, List, [], ◌∷◌, ◌++◌, length, map, take, drop, refl, ap, sym, ◌∙◌, arith, Option, Some, None, Ok, Err, ℤ, sum, append_assoc, length-append}
+use Rattle.std.proofs.Common.{◌-◌, ◌^◌, min, ◌≡◌, ℕ, ◌+◌, ◌<◌, ◌≤◌, false, List, [], ◌∷◌, ◌++◌, length, map, refl, ap, sym, ◌∙◌, arith, Option, Some, None, Ok, Err, ℤ, append_assoc}
 use Rattle.std.specs.Prelude.{Result, nat_lt}
 use Rattle.std.proofs.lemmas.Bool.Decides.{nat_tests}
 use Rattle.std.specs.List.{flat_map}
 use Rattle.cvl_base.specs.Limits.{most_elements}
 use Rattle.std.specs.Option.{option_or}
-use Rattle.std.proofs.lemmas.List.{append-nil, length-map, map-append, take-append-drop, take-map, drop-map}
+use Rattle.std.proofs.lemmas.List.{append-nil, length-map, map-append}
 use Rattle.std.proofs.lemmas.Grind.{flat_map-append}
 use Rattle.cvl_base.specs.declared.fault.Fault.{Fault}
 use Rattle.cvl_base.specs.declared.fault.FaultNo.TheVariants.{BadInput, TooLong}

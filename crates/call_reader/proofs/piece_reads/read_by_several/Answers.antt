@@ -1,4 +1,4 @@
-use Rattle.std.proofs.Common.{◌≡◌, ◌≤◌, length, map, ap, sym, ◌∙◌, arith, Ok, Err, Option, ℕ}
+use Rattle.std.proofs.Common.{◌≤◌, map, ap, sym, ◌∙◌, arith, Ok, Err, Option, ℕ}
 use Rattle.std.proofs.lemmas.List.{length-map}
 use Rattle.std.proofs.Math.Facts.{Fits-below}
 use Rattle.cvl_base.specs.Limits.{most_elements}
