@@ -21,5 +21,5 @@ pub use elements::{
 };
 pub use owners::permuted_shared;
 pub use places::element_of;
-pub use scatters::{is_permutation, scatter_over};
+pub use scatters::{is_permutation, is_permutation_by, scatter_over};
 pub use sends::{NOBODY, send_places};

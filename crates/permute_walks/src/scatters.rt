@@ -50,6 +50,16 @@ pub fn is_permutation<A: Memory>(alloc: A, index: &[i32]) -> Result<bool, NoReso
     Ok(are_apart(&mut marks, index))
 }
 
+/// The same by marks of the caller's, one for each index. It does not matter what they hold.
+pub fn is_permutation_by(marks: &mut [bool], index: &[i32]) -> bool
+    requires as_long { length marks.old ≡ length index.now }
+    requires in_limit { length index.now ≤ most_elements }
+    ensures { IsTrue result ↔ None ≡ first_fault 0 (wrongs (length index.now) (all_destinations index.now)) }
+{
+    marks.fill(false);
+    are_apart(marks, index)
+}
+
 /// The second walk: writes the element of each place to its index, where the indices are a permutation of their own places.
 #[inline(never)]
 pub fn scatter_over<T: Copy>(source: &[T], index: &[i32], out: &mut [T])

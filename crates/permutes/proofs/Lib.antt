@@ -9,6 +9,7 @@ pub mod Listed
 pub mod Ranges
 pub mod Roomed
 pub mod Runs
+pub mod Scatters
 pub mod Shared
 pub mod Through
 pub mod Walked

@@ -11,8 +11,8 @@
 //! asked for, also for that of segments, whose indices are then counted from the start of the whole result first.
 //!
 //! Each call has a form without a runtime too, `.._over`: both walks by the thread that calls, the second over a room of the
-//! caller's. Nothing is written before it is known that there is no fault. A flat simple permute looks for senders there only
-//! where there is a fault: its first walk marks each index, and its second writes each element to its index.
+//! caller's. Nothing is written before it is known that there is no fault. A simple permute looks for senders there only where
+//! there is a fault: its first walk marks each index, and its second writes each element to its index.
 #![tactic(auto)]
 
 mod back_segments;
@@ -21,6 +21,7 @@ mod defaults;
 mod looks;
 mod over;
 mod segment_races;
+mod segment_scatters;
 mod segment_walks;
 mod segments;
 mod selects;

@@ -1,8 +1,8 @@
 //! The permutes over a room of the caller's, by the thread that calls, for code that has no runtime.
 //!
 //! Each tells the faults of the permute first, and then `LengthMismatch`, without a place, where the room isn't as long as the
-//! result. Only then the room is written. A back permute asks for no memory. A flat simple permute asks for a byte a place, and
-//! for the senders only to find its first fault; the others ask for the senders, 4 bytes a place.
+//! result. Only then the room is written. A back permute asks for no memory. A simple permute asks for a byte for each place of its
+//! longest segment, and for the senders only to find its first fault; the others ask for the senders, 4 bytes a place.
 
 ghost use Rattle.std.specs.Prelude.{◌≤◌, length};
 ghost use Rattle.cvl_base.specs.Limits.{most_elements};
@@ -12,6 +12,7 @@ ghost use Rattle.cvl_base.specs.SegmentedCalls.{seg_back_of, seg_default_of, seg
 
 use crate::back_segments::{check_segments, segments_at_over};
 use crate::looks::ByCaller;
+use crate::segment_scatters::{are_permutations, scatter_segments_over};
 use crate::sent_alone::{flagged_segment_senders_alone, segment_senders_alone, senders_alone};
 use crate::taken_over::{take_or_default_over, take_over};
 use cvl_base::{Fault, Memory, Refused, check_agree, true_count};
@@ -100,6 +101,11 @@ pub fn seg_simple_over<T: Copy, A: Memory>(
 {
     check_total(source, d)?;
     check_total(index, d)?;
+    if are_permutations(alloc, index, d)? {
+        check_agree(index.len(), out.len())?;
+        scatter_segments_over(source, index, d, out);
+        return Ok(());
+    }
     let senders = segment_senders_alone(alloc, index, d, d)?;
     take_over(source, &senders, out)
 }

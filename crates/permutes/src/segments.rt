@@ -57,7 +57,7 @@ pub(crate) trait Parts {
 }
 
 /// The length of the longest segment.
-fn longest<A: Allocator>(d: &SegDes<A>) -> usize
+pub(crate) fn longest<A: Allocator>(d: &SegDes<A>) -> usize
     ensures { (s : ℕ) → s < length d.now → slice_index d.now s ≤ result }
 {
     let mut longest = 0;
