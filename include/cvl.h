@@ -1173,6 +1173,42 @@ CVL_CHECKED static inline CvlStatus cvl_seg_write_bools_apart(
 }
 #define cvl_seg_write_bools cvl_seg_write_bools_apart
 
+/* ---- calls in parts: exports, and their arrays that overlap ---- */
+
+/*
+ * A caller with threads or machines of its own makes a call in parts, each a range of the vector. Most calls need nothing more
+ * than themselves for that, and the functions here are what a part needs where the whole does not. docs/parallel.md tells for each
+ * call how it is cut, what its parts tell one another and what gives the whole; cvl_parallel.h does it for threads.
+ */
+
+/*
+ * cvl_exact_sum: The sum of the integers in 64 bits, where it always fits: what a part of a checked sum tells to the next.
+ * Faults: 13 TooLong.
+ * a = 2147483647 1: out = 2147483648
+ */
+CVL_CHECKED CvlStatus cvl_exact_sum(const int32_t *a, size_t a_len, int64_t *out);
+
+/*
+ * cvl_checked_scan_after: For each integer `before` and those in front of it, added up: a part of cvl_checked_scan after the exact sum of
+ * the parts in front of it. Where the part does not begin at place 0, neither does the place of a fault.
+ * Faults: 13 TooLong; 18 Overflow at the first place whose sum does not fit 32 bits.
+ * before = 10, a = 3 1 4: out = 10 13 14
+ */
+CVL_CHECKED CvlStatus cvl_checked_scan_after(int64_t before, const int32_t *a, size_t a_len, int32_t *out, size_t out_len);
+
+CVL_CHECKED static inline CvlStatus cvl_exact_sum_apart(const int32_t *a, size_t a_len, int64_t *out) {
+    if (CVL_MEET(out, 1, a, a_len)) return cvl_overlap();
+    return cvl_exact_sum(a, a_len, out);
+}
+#define cvl_exact_sum cvl_exact_sum_apart
+
+CVL_CHECKED static inline CvlStatus cvl_checked_scan_after_apart(
+    int64_t before, const int32_t *a, size_t a_len, int32_t *out, size_t out_len) {
+    if (CVL_MEET(out, out_len, a, a_len)) return cvl_overlap();
+    return cvl_checked_scan_after(before, a, a_len, out, out_len);
+}
+#define cvl_checked_scan_after cvl_checked_scan_after_apart
+
 /* ---- each call of the table, by its name ---- */
 
 /*

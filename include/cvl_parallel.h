@@ -108,6 +108,9 @@ typedef struct CvlWork {
     CvlItem sums[CVL_MOST_PARTS];     /* what each part joins to, or, of one with segments, its last, cut segment */
     CvlItem heads[CVL_MOST_PARTS];    /* what those elements of each part join to that belong to a segment of an earlier part */
     CvlItem before[CVL_MOST_PARTS];   /* what stands before each part */
+    int64_t totals[CVL_MOST_PARTS];   /* the same as sums that never wrap */
+    int64_t head_totals[CVL_MOST_PARTS];
+    int64_t reached[CVL_MOST_PARTS];
     size_t counts[CVL_MOST_PARTS]; /* how many elements each part gives */
     char *kept;                    /* what stood in the room before, where it may have to be put back */
     /* the arguments, of which each call has some */
@@ -1263,29 +1266,114 @@ CVL_CHECKED static inline CvlStatus cvl_seg_back_permute_bool_on(
     return cvl_end_kept(&w, out_len, cvl_in_parts(pool, &w, cvl_seg_back_part, w.start));
 }
 
-/* ---- sums that never wrap, which are not cut: what a part comes to may not fit where the whole does ---- */
+/* ---- sums that never wrap: each part's exact sum is told, all parts are looked at, and then the scan that wraps is the same ---- */
+
+static inline CvlStatus cvl_total_part(CvlWork *w, size_t k) {
+    const size_t from = w->from[k];
+    return cvl_exact_sum(CVL_INTS(w->a, from), w->from[k + 1] - from, &w->totals[k]);
+}
+
+static inline bool cvl_fits(int64_t sum) { return sum >= INT32_MIN && sum <= INT32_MAX; }
 
 CVL_CHECKED static inline CvlStatus cvl_checked_reduce_on(const CvlPool *pool, const int32_t *a, size_t a_len, int32_t *out) {
-    (void)pool;
-    return cvl_checked_reduce(a, a_len, out);
+    CvlWork w;
+    int64_t sum = 0;
+    if (CVL_MEET(out, 1, a, a_len) || !cvl_cut(pool, &w, a_len)) return cvl_checked_reduce(a, a_len, out);
+    w.a = a;
+    const CvlStatus status = cvl_in_parts(pool, &w, cvl_total_part, w.from);
+    if (status.number != CVL_DONE) return status;
+    for (size_t k = 0; k < w.parts; k++) sum += w.totals[k];
+    if (!cvl_fits(sum)) return cvl_status(CVL_OVERFLOW, 0);
+    *out = (int32_t)sum;
+    return status;
+}
+
+static inline CvlStatus cvl_checked_look(CvlWork *w, size_t k) {
+    const size_t from = w->from[k];
+    return cvl_looked(cvl_checked_scan_after(w->reached[k], CVL_INTS(w->a, from), w->from[k + 1] - from, NULL, 0));
 }
 
 CVL_CHECKED static inline CvlStatus cvl_checked_scan_on(
     const CvlPool *pool, const int32_t *a, size_t a_len, int32_t *out, size_t out_len) {
-    (void)pool;
-    return cvl_checked_scan(a, a_len, out, out_len);
+    CvlWork w;
+    if (a_len != out_len || CVL_ASKEW(out, out_len, a, a_len) || !cvl_cut(pool, &w, a_len)) {
+        return cvl_checked_scan(a, a_len, out, out_len);
+    }
+    w.op = CVL_ADD, w.a = a, w.out = out;
+    CvlStatus status = cvl_in_parts(pool, &w, cvl_total_part, w.from);
+    for (size_t k = 0; k + 1 < w.parts; k++) w.reached[k + 1] = w.reached[k] + w.totals[k];
+    if (status.number == CVL_DONE) status = cvl_in_parts(pool, &w, cvl_checked_look, w.from);
+    for (size_t k = 0; k < w.parts; k++) w.before[k].number = cvl_fits(w.reached[k]) ? (int32_t)w.reached[k] : 0;
+    return status.number == CVL_DONE ? cvl_in_parts(pool, &w, cvl_scan_part, w.from) : status;
+}
+
+/* The same as cvl_since_part. */
+static inline CvlStatus cvl_seg_total_part(CvlWork *w, size_t k) {
+    const CvlPiece p = cvl_piece(w, k);
+    const size_t from = p.starts ? p.tail : p.from;
+    return cvl_exact_sum(CVL_INTS(w->a, from), p.to - from, &w->totals[k]);
+}
+
+static inline CvlStatus cvl_seg_checked_look(CvlWork *w, size_t k) {
+    const CvlPiece p = cvl_piece(w, k);
+    const int32_t *a = CVL_INTS(w->a, 0), *lengths = w->lengths + p.first;
+    return cvl_first_of(
+        cvl_moved(cvl_looked(cvl_checked_scan_after(w->reached[k], a + p.from, p.head - p.from, NULL, 0)), p.from),
+        cvl_moved(cvl_looked(cvl_seg_checked_scan(a + p.head, p.tail - p.head, lengths, p.count, NULL, 0)), p.head),
+        cvl_moved(cvl_looked(cvl_checked_scan(a + p.tail, p.to - p.tail, NULL, 0)), p.tail));
 }
 
 CVL_CHECKED static inline CvlStatus cvl_seg_checked_scan_on(
     const CvlPool *pool, const int32_t *a, size_t a_len, const int32_t *lengths, size_t segments, int32_t *out, size_t out_len) {
-    (void)pool;
-    return cvl_seg_checked_scan(a, a_len, lengths, segments, out, out_len);
+    CvlWork w;
+    if (a_len != out_len || CVL_ASKEW(out, out_len, a, a_len) || CVL_MEET(out, out_len, lengths, segments) ||
+        !cvl_cut_segments(pool, &w, a_len, lengths, segments)) {
+        return cvl_seg_checked_scan(a, a_len, lengths, segments, out, out_len);
+    }
+    w.op = CVL_ADD, w.a = a, w.out = out;
+    CvlStatus status = cvl_in_parts(pool, &w, cvl_seg_total_part, NULL);
+    for (size_t k = 0; k + 1 < w.parts; k++) w.reached[k + 1] = w.totals[k] + (cvl_piece(&w, k).starts ? 0 : w.reached[k]);
+    if (status.number == CVL_DONE) status = cvl_in_parts(pool, &w, cvl_seg_checked_look, NULL);
+    return status.number == CVL_DONE ? cvl_seg_scan_parts(pool, &w) : status;
+}
+
+/* The sums of the part's whole segments are looked at, and those of its pieces of others are told. */
+static inline CvlStatus cvl_seg_checked_sums_look(CvlWork *w, size_t k) {
+    const CvlPiece p = cvl_piece(w, k);
+    const int32_t *a = CVL_INTS(w->a, 0), *lengths = w->lengths + p.first;
+    return cvl_first_of(
+        cvl_exact_sum(a + p.from, p.head - p.from, &w->head_totals[k]), cvl_exact_sum(a + p.tail, p.to - p.tail, &w->totals[k]),
+        cvl_looked(cvl_seg_checked_reduce(a + p.head, p.tail - p.head, lengths, p.count, NULL, 0)));
+}
+
+/* The fault of a part whose whole segments have none. */
+static inline CvlStatus cvl_seg_checked_sum_of(const CvlWork *w, size_t k, int64_t *so_far) {
+    const CvlPiece p = cvl_piece(w, k);
+    const bool ends = p.head > p.from && w->start[k] <= p.to;
+    if (p.head > p.from) *so_far += w->head_totals[k];
+    if (ends && !cvl_fits(*so_far)) return cvl_status(CVL_OVERFLOW, (int64_t)p.first - 1);
+    if (p.cut) *so_far = w->totals[k];
+    return cvl_status(CVL_DONE, -1);
 }
 
 CVL_CHECKED static inline CvlStatus cvl_seg_checked_reduce_on(
     const CvlPool *pool, const int32_t *a, size_t a_len, const int32_t *lengths, size_t segments, int32_t *out, size_t out_len) {
-    (void)pool;
-    return cvl_seg_checked_reduce(a, a_len, lengths, segments, out, out_len);
+    CvlWork w;
+    CvlStep step;
+    int64_t so_far = 0;
+    if (segments != out_len || CVL_MEET(out, out_len, a, a_len) || CVL_MEET(out, out_len, lengths, segments) ||
+        !cvl_cut_segments(pool, &w, a_len, lengths, segments)) {
+        return cvl_seg_checked_reduce(a, a_len, lengths, segments, out, out_len);
+    }
+    w.op = CVL_ADD, w.a = a, w.out = out;
+    step.work = &w, step.part = cvl_seg_checked_sums_look;
+    pool->run(pool->state, cvl_run_step, &step, w.parts);
+    for (size_t k = 0; k < w.parts; k++) {
+        const CvlStatus earlier = cvl_seg_checked_sum_of(&w, k, &so_far);
+        if (earlier.number != CVL_DONE) return earlier;
+        if (step.told[k].number != CVL_DONE) return cvl_moved(step.told[k], w.first[k]);
+    }
+    return cvl_seg_reduce_parts(pool, &w);
 }
 
 /* ---- permutes, which are not cut: any element may go to any place ---- */

@@ -274,12 +274,12 @@ CVL_CHECKED static inline CvlStatus xor_rub_on(const CvlPool *pool, const bool *
     return cvl_bool_reduce_on(pool, CVL_XOR, a, n, out);
 }
 
-/* tot_suz in parts: not cut. */
+/* tot_suz in parts: cut at places; each part goes on from the exact sums before it. */
 CVL_CHECKED static inline CvlStatus tot_suz_on(const CvlPool *pool, const int32_t *a, int32_t *out, size_t n) {
     return cvl_checked_scan_on(pool, a, n, out, n);
 }
 
-/* tot_ruz in parts: not cut. */
+/* tot_ruz in parts: cut at places; the parts' exact sums are added. */
 CVL_CHECKED static inline CvlStatus tot_ruz_on(const CvlPool *pool, const int32_t *a, size_t n, int32_t *out) {
     return cvl_checked_reduce_on(pool, a, n, out);
 }
@@ -335,13 +335,13 @@ CVL_CHECKED static inline CvlStatus mke_fov_on(const CvlPool *pool, const int32_
     return cvl_make_descriptor_on(pool, lengths, segments, total);
 }
 
-/* tot_sez in parts: not cut. */
+/* tot_sez in parts: cut inside segments; each part goes on from what stands before it in its segment. */
 CVL_CHECKED static inline CvlStatus tot_sez_on(const CvlPool *pool, const int32_t *a, const int32_t *lengths,
     size_t segments, int32_t *out, size_t n) {
     return cvl_seg_checked_scan_on(pool, a, n, lengths, segments, out, n);
 }
 
-/* tot_rez in parts: not cut. */
+/* tot_rez in parts: cut inside segments; the pieces of a cut segment are joined. */
 CVL_CHECKED static inline CvlStatus tot_rez_on(const CvlPool *pool, const int32_t *a, size_t n, const int32_t *lengths,
     size_t segments, int32_t *out) {
     return cvl_seg_checked_reduce_on(pool, a, n, lengths, segments, out, segments);

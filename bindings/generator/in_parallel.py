@@ -12,14 +12,16 @@ CUTS = {
     "cut at places": "int2 int1 compare bool2 bool1 int_from_bool bool_from_int select_int select_bool distribute_int distribute_bool index",
     "cut at places; the parts' reduces are joined": "int_reduce bool_reduce",
     "cut at places; each part goes on from the reduces before it": "int_scan bool_scan",
+    "cut at places; the parts' exact sums are added": "checked_reduce",
+    "cut at places; each part goes on from the exact sums before it": "checked_scan",
     "cut at places; the parts' counts are added": "count",
     "cut at places; each part's elements go behind those of the parts before": "pack_int pack_bool seg_pack_int seg_pack_bool",
-    "not cut": "extract_int extract_bool checked_scan checked_reduce seg_checked_scan seg_checked_reduce "
-    "permute_int permute_bool select_permute_int select_permute_bool default_permute_int default_permute_bool",
+    "not cut": "extract_int extract_bool permute_int permute_bool select_permute_int select_permute_bool default_permute_int "
+    "default_permute_bool",
     "the copy is cut at places": "replace_int replace_bool",
     "the lengths are cut; the parts' totals are added": "make_descriptor",
-    "cut inside segments; each part goes on from what stands before it in its segment": "seg_int_scan seg_bool_scan",
-    "cut inside segments; the pieces of a cut segment are joined": "seg_int_reduce seg_bool_reduce packed_lengths seg_count",
+    "cut inside segments; each part goes on from what stands before it in its segment": "seg_int_scan seg_bool_scan seg_checked_scan",
+    "cut inside segments; the pieces of a cut segment are joined": "seg_int_reduce seg_bool_reduce seg_checked_reduce packed_lengths seg_count",
     "cut inside segments": "seg_distribute_int seg_distribute_bool seg_index",
     "cut between segments": "seg_extract_int seg_extract_bool seg_replace_int seg_replace_bool seg_permute_int seg_permute_bool "
     "seg_select_permute_int seg_select_permute_bool seg_default_permute_int seg_default_permute_bool seg_back_permute_int seg_back_permute_bool",

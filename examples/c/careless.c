@@ -216,6 +216,8 @@ static size_t n, segments, trues, text_length, text_room;
     X(cvl_seg_write_bools, "flXc", "", (p[0], n, p[1], segments, p[2], text_room, p[3]))                                       \
     X(cvl_int_scan_after, "iI", "0", (CVL_ADD, 5, p[0], n, p[1], n))                                                           \
     X(cvl_bool_scan_after, "fF", "0", (CVL_XOR, true, p[0], n, p[1], n))                                                       \
+    X(cvl_exact_sum, "iq", "", (p[0], n, p[1]))                                                                                \
+    X(cvl_checked_scan_after, "iI", "", (5, p[0], n, p[1], n))                                                                 \
     X(cvl_segments_free, "h", "", (p[0]))                                                                                      \
     X(cvl_segments_new, "lh", "", (p[0], segments, p[1]))                                                                      \
     X(cvl_segments_total, "dc", "", (p[0], p[1]))                                                                              \
@@ -281,8 +283,8 @@ static void fail(const Row *row, const char *test, const char *why, CvlStatus st
     }
 }
 
-/* What the letter of an array means: integers, flags, lengths, indices, texts, a descriptor, and in upper case and by o, p, c and
- * h the rooms. */
+/* What the letter of an array means: integers, flags, lengths, indices, texts, a descriptor, and in upper case and by o, p, q, c
+ * and h the rooms. */
 static Array array_of(char letter) {
     const size_t of_int = sizeof(int32_t);
     switch (letter) {
@@ -301,6 +303,7 @@ static Array array_of(char letter) {
     case 'X': return (Array){1, text_room, true};
     case 'o': return (Array){of_int, 1, true};
     case 'p': return (Array){1, 1, true};
+    case 'q': return (Array){sizeof(int64_t), 1, true};
     case 'c': return (Array){sizeof(size_t), 1, true};
     case 'h': return (Array){sizeof(CvlSegments), 1, true};
     default: abort();

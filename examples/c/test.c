@@ -343,6 +343,24 @@ static void scans_in_parts(void) {
     FAULT(cvl_bool_scan_after(CVL_IOR, false, too_many_bools, many, bools, 4), CVL_TOO_LONG, -1);
 }
 
+static void parts_of_calls(void) {
+    const int32_t *a = I(3, 1, 4);
+    const size_t many = CVL_MOST_ELEMENTS + 1;
+    int64_t sum = UNTOUCHED;
+    tells("cvl_exact_sum", cvl_exact_sum(too_many_ints, many, &sum), CVL_TOO_LONG, -1);
+    if (sum != UNTOUCHED) fail("cvl_exact_sum", "the sum was written");
+    tells("cvl_exact_sum", cvl_exact_sum(I(2147483647, 1, -3, 2147483647), 4, &sum), CVL_DONE, -1);
+    if (sum != 4294967292) fail("cvl_exact_sum", "another sum");
+    INTS(cvl_checked_scan_after(10, a, 3, ints, 3), 10, 13, 14);
+    INTS(cvl_checked_scan_after(2147483643, a, 3, ints, 3), 2147483643, 2147483646, 2147483647);
+    FAULT(cvl_checked_scan_after(2147483644, a, 3, ints, 3), CVL_OVERFLOW, 2);
+    FAULT(cvl_checked_scan_after(-2147483649, a, 3, ints, 3), CVL_OVERFLOW, 0);
+    FAULT(cvl_checked_scan_after(INT64_MAX, a, 3, ints, 3), CVL_OVERFLOW, 0);
+    tells("cvl_checked_scan_after", cvl_checked_scan_after(INT64_MIN, a, 0, ints, 0), CVL_DONE, -1);
+    FAULT(cvl_checked_scan_after(0, a, 3, ints, 2), CVL_LENGTH_MISMATCH, -1);
+    FAULT(cvl_checked_scan_after(0, too_many_ints, many, ints, 2), CVL_TOO_LONG, -1);
+}
+
 static void checked_sums(void) {
     const int32_t *a = I(3, 1, 4, 1, 5), *lengths = I(2, 0, 3), *high = I(2147483647, 1, -1);
     const size_t many = CVL_MOST_ELEMENTS + 1;
@@ -1245,6 +1263,7 @@ int main(void) {
     place_by_place_faults();
     scans();
     scans_in_parts();
+    parts_of_calls();
     checked_sums();
     elements();
     descriptors();

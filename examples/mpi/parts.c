@@ -67,8 +67,11 @@ static void scan(const int32_t *a, size_t from, size_t n) {
 
 /* The sum of all, which never wraps: each rank has its own in 64 bits. */
 static void total(const char *what, const int32_t *a, size_t n) {
-    int64_t sum = 0;
-    for (size_t k = 0; k < n; k++) sum += a[k];
+    int64_t sum = 0, part;
+    for (size_t k = 0; k < n; k += piece(n - k)) {
+        must(cvl_exact_sum(a + k, piece(n - k), &part));
+        sum += part;
+    }
     sum = (int64_t)sum_of_all((uint64_t)sum);
     const bool fits = sum == (int32_t)sum;
     tell_once(what, fits ? 0 : CVL_OVERFLOW, fits ? (uint64_t)sum : 0);

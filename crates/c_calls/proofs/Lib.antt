@@ -1,3 +1,4 @@
 pub mod Afters
+pub mod Carried
 pub mod Limits
 pub mod OnBytes

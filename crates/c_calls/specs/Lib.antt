@@ -3,5 +3,6 @@ pub mod Flags
 pub mod Fronts
 pub mod NestedTexts
 pub mod Numbers
+pub mod Parts
 pub mod Tiles
 pub mod Told

@@ -4,6 +4,7 @@
 #![tactic(auto)]
 
 pub mod byte_walks;
+pub mod carries;
 pub mod checked_sums;
 mod checks;
 mod choice;

@@ -14,6 +14,7 @@ mod flat_permutes;
 mod in_place;
 mod nested_texts;
 mod packs;
+mod parts;
 mod place_by_place;
 mod scans;
 mod seg_scans;

@@ -1,0 +1,64 @@
+-- Checked scans after a number, where it is known how many results fit from the first one on.
+-- Source: what the definitions of CheckedSums and Parts imply.
+use Rattle.std.proofs.Common.{◌≡◌, ◌∙◌, refl, sym, ap, subst, ℕ, suc, ◌+◌, ◌<◌, ◌≤◌, Bool, true, false, cond, ℤ, pos, ◌+ℤ◌, List, [], ◌∷◌, length, map, arith, Some, None, Ok, Err}
+use Rattle.std.specs.Prelude.{if◌then◌else◌, unwrap_or}
+use Rattle.operators.proofs.FoldLaws.{length-scan_of, scan_of-cons}
+use Rattle.operators.specs.NumberLaws.{number_words}
+use Rattle.cvl_base.specs.CheckedSums.{fitting}
+use Rattle.cvl_base.specs.declared.fault.FaultNo.TheVariants.{Overflow}
+use Rattle.cvl_base.specs.Faults.{fault_at}
+use Rattle.cvl_base.specs.Folds.{fold_of, fronts, scan_of}
+use Rattle.cvl_base.specs.Integers.{sum_of, wrap}
+use Rattle.cvl_base.specs.ItemWords.{is_number}
+use Rattle.scan_walks.specs.Fronts.{fitting_front}
+use Rattle.scan_walks.proofs.Fitted.{all_fit, overflows}
+use Rattle.c_calls.specs.Parts.{checked_scan_after}
+
+-- the number that a scan starts from where its first result fits
+start_at : (b : Bool) (before : ℤ) (others : ℕ) → is_number before ≡ b → 0 < cond b (1 + others) 0 → unwrap_or (if b then Some before else None) (pos 0) ≡ before
+start_at true before others number some = refl
+start_at false before others number some = absurd (omega (arith, some))
+
+rest_at : (b : Bool) (others count : ℕ) → suc count ≤ cond b (1 + others) 0 → count ≤ others
+rest_at true others count all = omega (arith, all)
+rest_at false others count all = absurd (omega (arith, all))
+
+number_at : (b : Bool) (z : ℤ) (others : ℕ) → is_number z ≡ b → 0 < cond b (1 + others) 0 → wrap z ≡ z
+number_at true z others number some = number_words.inverse z number
+number_at false z others number some = absurd (omega (arith, some))
+
+-- where all results fit, the scan that wraps does not wrap
+unwrapped : (before : ℤ) (xs : List ℤ) → length xs ≤ fitting_front (scan_of ◌+ℤ◌ before xs) → scan_of sum_of before xs ≡ scan_of ◌+ℤ◌ before xs
+unwrapped before [] all = refl
+unwrapped before (x ∷ []) all = refl
+unwrapped before (x ∷ y ∷ ys) all =
+    let next = before +ℤ x in
+    let tail = fitting_front (scan_of ◌+ℤ◌ next (y ∷ ys)) in
+    let whole : length (x ∷ y ∷ ys) ≤ cond (is_number before) (1 + tail) 0 =
+    subst (λ zs. length (x ∷ y ∷ ys) ≤ fitting_front zs) (scan_of-cons ◌+ℤ◌ before x (y ∷ ys)) all in
+    let rest : length (y ∷ ys) ≤ tail = rest_at (is_number before) tail (length (y ∷ ys)) whole in
+    let fits : wrap next ≡ next = number_at (is_number next) next (fitting_front (map (fold_of ◌+ℤ◌ next) (map (λ front. y ∷ front) (fronts ys)))) refl (omega (arith, rest)) in
+    scan_of-cons sum_of before x (y ∷ ys)
+    ∙ ap (λ z. before ∷ scan_of sum_of z (y ∷ ys)) fits
+    ∙ ap (λ zs. before ∷ zs) (unwrapped next (y ∷ ys) rest)
+    ∙ sym (scan_of-cons ◌+ℤ◌ before x (y ∷ ys))
+
+-- and starts from the number itself
+started : (before : ℤ) (xs : List ℤ) → length xs ≤ fitting_front (scan_of ◌+ℤ◌ before xs)
+    → scan_of sum_of (unwrap_or (fitting before) (pos 0)) xs ≡ scan_of ◌+ℤ◌ before xs
+started before [] all = refl
+started before (x ∷ xs) all =
+    ap (λ z. scan_of sum_of z (x ∷ xs))
+    (start_at (is_number before) before (fitting_front (map (fold_of ◌+ℤ◌ before) (map (λ front. x ∷ front) (fronts xs)))) refl (omega (arith, all)))
+    ∙ unwrapped before (x ∷ xs) all
+
+module _ (n : ℕ) (before : ℤ) (xs : List ℤ) (is : n ≡ fitting_front (scan_of ◌+ℤ◌ before xs)) where
+  pub after_overflows : n < length xs → checked_scan_after before xs ≡ Err (fault_at Overflow n)
+  after_overflows lt =
+      let zs = scan_of ◌+ℤ◌ before xs in
+      overflows 0 zs (omega (arith, is, lt, length-scan_of ◌+ℤ◌ before xs)) ∙ ap (λ p. Err (fault_at Overflow p)) (omega (arith, is))
+
+  pub after_fits : length xs ≤ n → checked_scan_after before xs ≡ Ok (scan_of sum_of (unwrap_or (fitting before) (pos 0)) xs)
+  after_fits ge =
+      let zs = scan_of ◌+ℤ◌ before xs in
+      all_fit 0 zs (omega (arith, is, ge, length-scan_of ◌+ℤ◌ before xs)) ∙ ap Ok (sym (started before xs (omega (arith, is, ge))))
