@@ -1,7 +1,8 @@
 /*
  * cvl.h: the vector calls of CVL, the C Vector Library, on a caller's own memory.
  *
- * Link with libcvl_c.a and the parts in C of the kit that built it; docs/embedding.md shows how. C99, and usable from C++.
+ * Link with libcvl_c.a, bindings/c/calls.c and the parts in C of the kit that built them; docs/embedding.md shows how. What
+ * ./install puts there has all of it in one archive and in one shared object. C99, and usable from C++.
  *
  * Every call answers a CvlStatus: number 0 where all is done, the number of a fault, with its place or -1, 100 where memory
  * ran out, 101 where there is no descriptor, or 102 where arrays overlap. Where all is done the result is in the caller's room,
