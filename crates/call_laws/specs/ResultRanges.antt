@@ -1,4 +1,5 @@
--- Permutes by ranges of their result: who owns a range reads all indices, writes the elements of the range, and counts its places that are sent something.
+-- Permutes by ranges of their result: who owns a range reads all indices, writes the elements of the range, and counts its places
+-- that are sent something.
 -- Source: CVL's permute, d[i[k]] = s[k]; the ranges are this library's.
 use Rattle.std.specs.Prelude.{ℕ, ℤ, List, length, Option}
 use Rattle.permute_walks.specs.Senders.{count_sent, last_senders, written_over}
