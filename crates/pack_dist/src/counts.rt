@@ -6,16 +6,14 @@ ghost use Rattle.cvl_base.specs.Descriptors.{AreLengths};
 ghost use Rattle.cvl_base.specs.Gives.{Gives};
 ghost use Rattle.cvl_base.specs.Limits.{most_elements};
 ghost use Rattle.cvl_base.specs.Packs.{count_of};
-ghost use Rattle.cvl_base.specs.Rooms.{Overwrites, in_room};
 ghost use Rattle.cvl_base.specs.SegmentedCalls.{seg_count_of};
-ghost use Rattle.pack_dist.specs.Counts.{counts_of};
 ghost use Rattle.pack_dist.specs.Kept.{ArePlaces};
 
 use crew::{Gate, OpenGate};
 use cvl_base::monoids::Add;
-use cvl_base::{Config, Fault, Memory, NoResources, Refused, true_count};
-use scan_walks::{Reading, seg_reduce_readings_over};
-use segdes::{SegDes, SegLengths};
+use cvl_base::{Config, Memory, NoResources, Refused, true_count};
+use scan_walks::Reading;
+use segdes::SegDes;
 use std::thread::Threads;
 use tile_scans::{scan_readings_gated, seg_reduce_readings_gated};
 
@@ -93,14 +91,4 @@ pub fn seg_count_gated<R: Threads + Sync, A: Memory, G: Gate>(
     // its contract names the limits of a descriptor's lengths
     let _lengths = d.lengths();
     seg_reduce_readings_gated::<R, A, Add, bool, Ones, G>(rt, alloc, config, flags, d, gate)
-}
-
-/// The same as [`seg_count`], over a room of the caller's, by the thread that calls: LengthMismatch, without a place, where the
-/// room hasn't one place for each segment, which is checked last. It asks for no memory.
-pub fn seg_count_over(flags: &[bool], d: &SegLengths, out: &mut [i32]) -> Result<(), Fault>
-    ensures { Overwrites (in_room (length out.old) (counts_of flags.now d.now)) result out.old out.new }
-{
-    // its contract names the limits of a descriptor's lengths
-    let _lengths = d.lengths();
-    seg_reduce_readings_over::<Add, bool, Ones>(flags, d, out)
 }

@@ -16,7 +16,7 @@ mod places;
 mod replaces;
 mod segment_packs;
 
-pub use counts::{count_true, seg_count, seg_count_gated, seg_count_over};
+pub use counts::{count_true, seg_count, seg_count_gated};
 pub use distributes::{distribute, distribute_over, seg_distribute, seg_distribute_over};
 pub use extracts::{extract, seg_extract};
 pub use indexes::{index, index_over, seg_index, seg_index_over};
