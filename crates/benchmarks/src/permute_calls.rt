@@ -6,9 +6,8 @@ use crate::timing::measure_cases;
 use crate::vectors::{Shape, Vectors};
 use cvl_base::Config;
 use cvl_base::limits::MOST_ELEMENTS;
-use permutes::{
-    back, default_into, seg_back, seg_default_into, seg_select, seg_simple, select, simple,
-};
+use permutes::{back, default_into, select, simple};
+use segmented_permutes::{seg_back, seg_default_into, seg_select, seg_simple};
 use std::alloc::Global;
 use std::io;
 use std::rt::Clock;

@@ -8,7 +8,7 @@ ghost use Rattle.c_calls.specs.Told.{in_room};
 
 use crate::checks::{check_limit, descriptor};
 use cvl_base::Refused;
-use permutes::{seg_back_over, seg_default_into_over, seg_select_over, seg_simple_over};
+use segmented_permutes::{seg_back_over, seg_default_into_over, seg_select_over, seg_simple_over};
 use std::alloc::Global;
 
 /// Each element at its index in its segment.

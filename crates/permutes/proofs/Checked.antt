@@ -1,5 +1,5 @@
 -- What follows of a check, which gives nothing or a fault.
-use Rattle.std.proofs.Common.{◌≡◌, ℕ, List, ap, length, refl, sym, Option, Some, None, Ok, Err}
+use Rattle.std.proofs.Common.{◌≡◌, refl, Option, Some, None, Ok, Err}
 use Rattle.cvl_base.specs.declared.fault.Fault.{Fault}
 use Rattle.cvl_base.specs.declared.refused.Refused.{Refused}
 use Rattle.cvl_base.specs.declared.refused.Refused.TheVariants as refused
@@ -16,8 +16,3 @@ pub refusal_stays : {V W X Y : Type 0} (view : V → X) (see : W → Y) (fault :
 refusal_stays view see (Some f) x y (refused.Fault g) given = cc
 refusal_stays view see None x y (refused.Fault g) given = absurd (cc)
 refusal_stays view see fault x y refused.NoResources given = tt
-
--- what was found is as long as what was meant
-pub found_long : (fault : Option Fault) (senders found : List ℕ) → unless fault (Ok senders) ≡ Ok found → length found ≡ length senders
-found_long None senders found same = let are : senders ≡ found = cc in ap length (sym are)
-found_long (Some f) senders found same = absurd (cc)

@@ -1,16 +1,5 @@
-pub mod Backed
 pub mod Called
 pub mod Checked
 pub mod Flat
-pub mod FlatIndices
-pub mod Flattened
-pub mod Joined
-pub mod Listed
-pub mod Ranges
 pub mod Roomed
-pub mod Runs
-pub mod Scatters
-pub mod Shared
-pub mod Through
 pub mod Walked
-pub mod Whole

@@ -1,18 +1,15 @@
 -- What the calls over a room give, told by what their two walks give.
-use Rattle.std.proofs.Common.{◌≡◌, ◌≢◌, ◌∙◌, ℕ, ◌<◌, ◌≤◌, List, length, filter_map, refl, sym, ap, subst, arith, ℤ, slice_get, Option, Some, None, Result, Ok, Err}
-use Rattle.std.specs.List.{All}
+use Rattle.std.proofs.Common.{◌≡◌, ◌≢◌, ◌∙◌, ℕ, ◌≤◌, List, length, filter_map, refl, sym, ap, subst, arith, ℤ, slice_get, Option, Some, None, Result, Ok, Err}
 use Rattle.std.specs.Result.{IsErrAnd}
 use Rattle.cvl_base.specs.declared.fault.Fault.{Fault}
 use Rattle.cvl_base.specs.declared.fault.FaultNo.TheVariants.{LengthMismatch}
 use Rattle.cvl_base.specs.declared.refused.Refused.{Refused}
-use Rattle.cvl_base.specs.declared.refused.Refused.TheVariants as refused
 use Rattle.cvl_base.specs.Faults.{fault}
-use Rattle.cvl_base.specs.Gives.{Gives, unless}
+use Rattle.cvl_base.specs.Gives.{unless}
 use Rattle.cvl_base.specs.Limits.{most_elements}
 use Rattle.cvl_base.specs.Permutes.{all_destinations, first_fault, simple_of, wrongs}
 use Rattle.cvl_base.specs.Rooms.{OverwritesOr, in_room}
 use Rattle.cvl_base.proofs.Rooms.{differs, fits}
-use Rattle.permutes.specs.Walks.{AreAllSent}
 use Rattle.permute_walks.specs.Senders.{senders_of}
 use Rattle.permute_walks.proofs.Sent.{length-senders_of}
 use Rattle.permute_walks.proofs.Taken.{length-taken}
@@ -25,13 +22,6 @@ pub told_or : {X : Type 0} (meaning : Result (List X) Fault) (answer : Result (U
     → OverwritesOr meaning answer before before
 told_or meaning (Ok done) e before is given = absurd is
 told_or meaning (Err y) e before is given = subst (λ z. OverwritesOr meaning (Err z) before before) (sym is) given
-
--- a refusal of the first walk is that of the call
-refusal_in_room : {V W X : Type 0} (view : V → W) (see : Unit {0} → List X) (room : ℕ) (first : Option Fault) (w : W) (xs : List X) (e : Refused) → Gives view (Err e) (unless first (Ok w))
-    → Gives see (Err e) (in_room room (unless first (Ok xs)))
-refusal_in_room view see room (Some f) w xs (refused.Fault g) given = let same : f ≡ g = cc in ap Err same
-refusal_in_room view see room None w xs (refused.Fault g) given = absurd (cc)
-refusal_in_room view see room first w xs refused.NoResources given = tt
 
 -- the definition is the first fault, or else the items
 module _ {X : Type 0} (room : ℕ) (meaning : Result (List X) Fault) (first : Option Fault) (xs : List X) (is : meaning ≡ unless first (Ok xs)) where
@@ -47,30 +37,21 @@ module _ {X : Type 0} (room : ℕ) (meaning : Result (List X) Fault) (first : Op
   pub fits_in_room : None ≡ first → length xs ≡ room → in_room room meaning ≡ Ok xs
   fits_in_room none long = no_fault none ∙ fits room xs long
 
-  pub refused_in_room : {V W : Type 0} (view : V → W) (w : W) (e : Refused) (before : List X) → Gives view (Err e) (unless first (Ok w))
-      → OverwritesOr (in_room room meaning) (Err e) before before
-  refused_in_room view w e before given =
-      (subst (λ m. Gives (λ (u : Unit {0}). before) (Err e) (in_room room m)) (sym is) (refusal_in_room view (λ (u : Unit {0}). before) room first w xs e given), refl)
-
 -- what was found is what was meant
 found_are : (first : Option Fault) (senders found : List ℕ) → unless first (Ok senders) ≡ Ok found → (first ≡ None) × (found ≡ senders)
 found_are None senders found same = let are : senders ≡ found = cc in (refl, sym are)
 found_are (Some f) senders found same = absurd (cc)
 
--- the first walk found senders, which the second was shown as a slice
-module _ (first : Option Fault) (senders found shown : List ℕ) (gave : unless first (Ok senders) ≡ Ok found) (shows : shown ≡ found) where
-  pub shown_sent : (n : ℕ) → AreAllSent first n senders → All (λ s. s < n) shown
-  shown_sent n sent =
-      let are = found_are first senders found gave in
-      subst (All (λ s. s < n)) (sym (shows ∙ are.1)) (sent are.0)
+-- ---- the second walk over a room
 
-  -- the second walk is over the room
-  pub taken_in_room : {X : Type 0} (take_from : List ℕ → List X) (room : ℕ) (meaning : Result (List X) Fault) → meaning ≡ unless first (Ok (take_from senders))
-      → (answer : Result (Unit {0}) Refused) (before now : List X) → OverwritesOr (in_room room (Ok (take_from shown))) answer before now
-      → OverwritesOr (in_room room meaning) answer before now
-  taken_in_room take_from room meaning is answer before now =
-      let given = taken_ok take_from first senders found (take_from shown) gave (λ none same. ap take_from (shows ∙ same)) in
-      subst (λ m. OverwritesOr (in_room room m) answer before now) (sym (is ∙ given))
+-- what `taken` makes of the senders that the first walk found, or its fault
+module _ {X : Type 0} (taken : List ℕ → List X) (room : ℕ) (first : Option Fault) (senders : List ℕ) where
+  pub found_taken : (found : List ℕ) → unless first (Ok senders) ≡ Ok found → (answer : Result (Unit {0}) Refused) (before now : List X)
+      → (first ≡ None → found ≡ senders → OverwritesOr (in_room room (Ok (taken found))) answer before now)
+      → OverwritesOr (in_room room (unless first (Ok (taken senders)))) answer before now
+  found_taken found gave answer before now given =
+      let are = found_are first senders found gave in
+      subst (λ m. OverwritesOr (in_room room m) answer before now) (sym (taken_ok taken first senders found (taken found) gave (λ none same. ap taken same))) (given are.0 are.1)
 
 -- ---- a simple permute whose indices are a permutation of their places: the room is as long as they are, or not
 

@@ -5,6 +5,7 @@ use Rattle.std.specs.List.{All}
 use Rattle.cvl_base.specs.declared.fault.Fault.{Fault}
 use Rattle.cvl_base.specs.declared.refused.Refused.{Refused}
 use Rattle.cvl_base.specs.Gives.{Gives, unless}
+use Rattle.cvl_base.specs.Rooms.{OverwritesOr, in_room}
 use Rattle.permute_walks.specs.Senders.{fault_told}
 
 -- what the walk may give and leave: it tells that fault, or leaves those senders
@@ -18,6 +19,21 @@ abbrev pub IsFound : {V : Type 0} → (Result (Unit {0}) Fault → List ℕ → 
 IsFound leaves view places found = IfOk found (λ v. length (view v) ≡ places)
     × ((fault : Option Fault) (senders : List ℕ) → length senders ≡ places
     → Sends leaves fault senders → Gives view found (unless fault (Ok senders)))
+
+-- What a second walk gives, whatever fault or senders the first one found: the fault, or the elements that are taken from the
+-- senders, where these fit.
+abbrev pub IsTaken : {V W X : Type 0} → (V → List ℕ) → (W → List X) → Result V Refused → (List ℕ → Type 0) → (List ℕ → List X)
+    → Result W Refused → Type 0
+IsTaken view see found Fit taken given = (fault : Option Fault) (senders : List ℕ)
+    → Gives view found (unless fault (Ok senders)) → (fault ≡ None → Fit senders)
+    → Gives see given (unless fault (Ok (taken senders)))
+
+-- the same over a room
+abbrev pub IsTakenOver : {V X : Type 0} → (V → List ℕ) → Result V Refused → (List ℕ → Type 0) → (List ℕ → List X)
+    → Result (Unit {0}) Refused → List X → List X → Type 0
+IsTakenOver view found Fit taken answer before now = (fault : Option Fault) (senders : List ℕ)
+    → Gives view found (unless fault (Ok senders)) → (fault ≡ None → Fit senders)
+    → OverwritesOr (in_room (length before) (unless fault (Ok (taken senders)))) answer before now
 
 -- where there is no fault, each sender is one of so many elements
 abbrev pub AreAllSent : Option Fault → ℕ → List ℕ → Type 0

@@ -1,40 +1,38 @@
-//! Permutes: simple, back, select and default permutes, flat and by segments.
+//! Flat permutes: simple, back, select and default permutes. Those of segments are `segmented_permutes`.
 //!
 //! Most go in two walks. The first walk of a simple, select or default permute finds for each place of the result its
 //! sender, the place whose element goes there; that of a back permute looks at all indices. The second writes the elements,
-//! by several threads where the result is long. They share the look at a long segment of a back permute, too. A long flat
-//! simple, select or default permute they make in one walk: each owns a range of the result, writes the elements that are
-//! sent there over what stood there before, and counts the places that it wrote. A permute by segments is one walk too: each
-//! thread, or the only one, takes whole segments, and a buffer holds the senders of one segment at a time.
+//! by several threads where the result is long. A long simple, select or default permute they make in one walk: each owns a range
+//! of the result, writes the elements that are sent there over what stood there before, and counts the places that it wrote.
 //!
 //! Each call has a gated form with the same contract for every gate. Workers race for the first walk where short tiles are
-//! asked for, also for that of segments, whose indices are then counted from the start of the whole result first.
+//! asked for.
 //!
 //! Each call has a form without a runtime too, `.._over`: both walks by the thread that calls, the second over a room of the
 //! caller's. Nothing is written before it is known that there is no fault. A simple permute looks for senders there only where
 //! there is a fault: its first walk marks each index, and its second writes each element to its index.
+//!
+//! What the permutes of segments do in the same way stands here too, under its own name: the senders that one thread finds, the
+//! second walk, also over a room, and how many threads look at indices.
 #![tactic(auto)]
 
-mod back_segments;
 mod backs;
 mod defaults;
 mod looks;
 mod over;
-mod segment_races;
-mod segment_scatters;
-mod segment_walks;
-mod segments;
 mod selects;
 mod sent;
 mod sent_alone;
 mod simples;
+mod taken;
 mod taken_over;
 
-pub use backs::{back, back_gated, seg_back, seg_back_gated};
-pub use defaults::{default_into, default_into_gated, seg_default_into, seg_default_into_gated};
-pub use over::{
-    back_over, default_into_over, seg_back_over, seg_default_into_over, seg_select_over,
-    seg_simple_over, select_over, simple_over,
-};
-pub use selects::{seg_select, seg_select_gated, select, select_gated};
-pub use simples::{seg_simple, seg_simple_gated, simple, simple_gated};
+pub use backs::{back, back_gated};
+pub use defaults::{default_into, default_into_gated};
+pub use looks::threads_looking;
+pub use over::{back_over, default_into_over, select_over, simple_over};
+pub use selects::{select, select_gated};
+pub use sent_alone::senders_found;
+pub use simples::{simple, simple_gated};
+pub use taken::{elements_found, elements_or_defaults_found};
+pub use taken_over::{take_or_default_over, take_over};

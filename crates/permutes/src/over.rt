@@ -2,26 +2,20 @@
 //!
 //! Each tells the faults of the permute first, and then `LengthMismatch`, without a place, where the room isn't as long as the
 //! result. Only then the room is written. A back permute asks for no memory. A simple permute asks for a byte for each place of its
-//! longest segment, and for the senders only to find its first fault; the others ask for the senders, 4 bytes a place.
+//! result, and for the senders only to find its first fault; the others ask for the senders, 4 bytes a place.
 
 ghost use Rattle.std.specs.Prelude.{◌≤◌, length};
 ghost use Rattle.cvl_base.specs.Limits.{most_elements};
 ghost use Rattle.cvl_base.specs.Permutes.{back_of, default_of, select_of, simple_of};
 ghost use Rattle.cvl_base.specs.Rooms.{Overwrites, OverwritesOr, in_room};
-ghost use Rattle.cvl_base.specs.SegmentedCalls.{seg_back_of, seg_default_of, seg_select_of, seg_simple_of};
 
-use crate::back_segments::{check_segments, segments_at_over};
-use crate::looks::ByCaller;
-use crate::segment_scatters::{are_permutations, scatter_segments_over};
-use crate::sent_alone::{flagged_segment_senders_alone, segment_senders_alone, senders_alone};
+use crate::sent_alone::senders_alone;
 use crate::taken_over::{take_or_default_over, take_over};
 use cvl_base::{Fault, Memory, Refused, check_agree, true_count};
 use permute_walks::{
     AllDestinations, FlaggedDestinations, check_places_alone, elements_at_over, is_permutation,
     scatter_over,
 };
-use segdes::{SegDes, check_total};
-use std::alloc::Allocator;
 
 /// The same as [`simple`](crate::simple), over a room.
 pub fn simple_over<T: Copy, A: Memory>(
@@ -39,8 +33,8 @@ pub fn simple_over<T: Copy, A: Memory>(
         scatter_over(source, index, out);
         return Ok(());
     }
-    let senders = senders_alone(alloc, index.len(), &AllDestinations { index })?;
-    take_over(source, &senders, out)
+    let found = senders_alone(alloc, index.len(), &AllDestinations { index });
+    take_over(source, found, out)
 }
 
 /// The same as [`select`](crate::select), over a room.
@@ -57,8 +51,8 @@ pub fn select_over<T: Copy, A: Memory>(
     check_agree(source.len(), index.len())?;
     check_agree(index.len(), flags.len())?;
     let places = true_count(flags);
-    let senders = senders_alone(alloc, places, &FlaggedDestinations { index, flags })?;
-    take_over(source, &senders, out)
+    let found = senders_alone(alloc, places, &FlaggedDestinations { index, flags });
+    take_over(source, found, out)
 }
 
 /// The same as [`default_into`](crate::default_into), over a room.
@@ -73,8 +67,8 @@ pub fn default_into_over<T: Copy, A: Memory>(
     ensures { OverwritesOr (in_room (length out.old) (default_of source.now index.now defaults.now)) result out.old out.new }
 {
     check_agree(source.len(), index.len())?;
-    let senders = senders_alone(alloc, defaults.len(), &AllDestinations { index })?;
-    take_or_default_over(source, &senders, defaults, out)
+    let found = senders_alone(alloc, defaults.len(), &AllDestinations { index });
+    take_or_default_over(source, found, defaults, out)
 }
 
 /// The same as [`back`](crate::back), over a room.
@@ -85,89 +79,5 @@ pub fn back_over<T: Copy>(source: &[T], index: &[i32], out: &mut [T]) -> Result<
     check_places_alone(index, source.len(), 0)?;
     check_agree(index.len(), out.len())?;
     elements_at_over(source, index, out);
-    Ok(())
-}
-
-/// The same as [`seg_simple`](crate::seg_simple), over a room.
-pub fn seg_simple_over<T: Copy, A: Memory>(
-    alloc: A,
-    source: &[T],
-    index: &[i32],
-    d: &SegDes<A>,
-    out: &mut [T],
-) -> Result<(), Refused>
-    requires in_limit { length index.now ≤ most_elements }
-    ensures { OverwritesOr (in_room (length out.old) (seg_simple_of source.now index.now d.now)) result out.old out.new }
-{
-    check_total(source, d)?;
-    check_total(index, d)?;
-    if are_permutations(alloc, index, d)? {
-        check_agree(index.len(), out.len())?;
-        scatter_segments_over(source, index, d, out);
-        return Ok(());
-    }
-    let senders = segment_senders_alone(alloc, index, d, d)?;
-    take_over(source, &senders, out)
-}
-
-/// The same as [`seg_select`](crate::seg_select), over a room.
-pub fn seg_select_over<T: Copy, A: Memory>(
-    alloc: A,
-    source: &[T],
-    index: &[i32],
-    flags: &[bool],
-    d: &SegDes<A>,
-    out: &mut [T],
-) -> Result<(), Refused>
-    requires in_limit { length index.now ≤ most_elements }
-    ensures { OverwritesOr (in_room (length out.old) (seg_select_of source.now index.now flags.now d.now)) result out.old out.new }
-{
-    check_total(source, d)?;
-    check_total(index, d)?;
-    check_total(flags, d)?;
-    let places = true_count(flags);
-    let senders = flagged_segment_senders_alone(alloc, index, flags, d, places)?;
-    take_over(source, &senders, out)
-}
-
-/// The same as [`seg_default_into`](crate::seg_default_into), over a room.
-pub fn seg_default_into_over<T: Copy, A: Memory>(
-    alloc: A,
-    source: &[T],
-    index: &[i32],
-    defaults: &[T],
-    source_d: &SegDes<A>,
-    default_d: &SegDes<A>,
-    out: &mut [T],
-) -> Result<(), Refused>
-    requires in_limit { length index.now ≤ most_elements }
-    ensures { OverwritesOr (in_room (length out.old) (seg_default_of source.now index.now defaults.now source_d.now default_d.now))
-        result out.old out.new }
-{
-    check_total(source, source_d)?;
-    check_total(index, source_d)?;
-    check_total(defaults, default_d)?;
-    check_agree(source_d.count(), default_d.count())?;
-    let senders = segment_senders_alone(alloc, index, source_d, default_d)?;
-    take_or_default_over(source, &senders, defaults, out)
-}
-
-/// The same as [`seg_back`](crate::seg_back), over a room.
-pub fn seg_back_over<T: Copy, A: Allocator>(
-    source: &[T],
-    index: &[i32],
-    source_d: &SegDes<A>,
-    index_d: &SegDes<A>,
-    out: &mut [T],
-) -> Result<(), Fault>
-    requires in_limit { length index.now ≤ most_elements }
-    ensures { Overwrites (in_room (length out.old) (seg_back_of source.now index.now source_d.now index_d.now)) result out.old out.new }
-{
-    check_total(source, source_d)?;
-    check_total(index, index_d)?;
-    check_agree(source_d.count(), index_d.count())?;
-    check_segments(&ByCaller, index, source_d, index_d)?;
-    check_agree(index.len(), out.len())?;
-    segments_at_over(source, index, source_d, index_d, out);
     Ok(())
 }

@@ -1,27 +1,22 @@
-//! The elements of a permute: of a long flat result, and of one by segments, in one walk that several threads share, else in two, of
-//! which they share the second where the result is long.
+//! The elements of a permute: of a long result in one walk that several threads share, else in two, of which they share the second
+//! where the result is long.
 
-ghost use Rattle.std.specs.Prelude.{◌≡◌, ◌≤◌, IfOk, IfSome, None, Ok, filter_map, length, slice_get, sum, vec_len};
+ghost use Rattle.std.specs.Prelude.{◌≡◌, ◌≤◌, IfOk, IfSome, None, Ok, filter_map, length, slice_get, vec_len};
 ghost use Rattle.cvl_base.specs.Gives.{Gives, unless};
 ghost use Rattle.cvl_base.specs.Limits.{most_elements};
 ghost use Rattle.cvl_base.specs.Permutes.{first_fault, wrongs};
-ghost use Rattle.permutes.specs.Parts.{destinations_in, fault_from, flagged_parts, parts_of, places_in, senders_from};
-ghost use Rattle.permutes.specs.Shares.{permuted};
 ghost use Rattle.permutes.specs.Walks.{AreAllSent};
 ghost use Rattle.permute_walks.specs.Senders.{senders_of, written_over};
 
-use crate::segment_races::{flagged_segments_raced, segments_raced};
-use crate::segment_walks::permuted_by_segments;
-use crate::segments::Parts;
-use crate::sent_alone::{flagged_segment_senders_alone, segment_senders_alone, senders_alone};
+use crate::sent_alone::senders_alone;
+use crate::taken::{elements_found, elements_or_defaults_found};
 use crew::Gate;
-use cvl_base::{Config, Memory, NoResources, Refused, true_count};
+use cvl_base::{Config, Memory, NoResources, Refused};
 use element_walks::Copied;
 use fresh::{Copies, Writer};
 use permute_races::{permute_pace, senders_raced};
-use permute_walks::{Destinations, elements_of, elements_or_defaults, permuted_shared};
-use segdes::SegDes;
-use sharing::{LEAST_SEARCHED, Pace, race_pace, threads_sending, threads_writing};
+use permute_walks::{Destinations, permuted_shared};
+use sharing::{LEAST_SEARCHED, Pace, race_pace, threads_sending};
 use std::thread::Threads;
 
 /// The tiles and the workers of the race for the senders of a flat result, or none where one thread walks: what is asked for, and
@@ -85,85 +80,6 @@ where
     permuted_shared(rt, alloc, threads, source, destinations, places, before)
 }
 
-/// What threads write over what stands before in a result by segments, each in whole segments. None where workers race, one segment
-/// is longer than a thread's share, or a place is bad.
-pub(crate) fn permuted_segments<T, R, A, P>(
-    rt: &R,
-    alloc: A,
-    config: Config,
-    source: &[T],
-    before: &[T],
-    parts: &P,
-) -> Result<Option<Vec<T, A>>, NoResources>
-where
-    T: Copy + Send + Sync,
-    R: Threads + Sync,
-    A: Memory,
-    P: Parts + Sync,
-    requires cut { P.AreCut parts.now }
-    requires few { destinations_in (P.parts parts.now) ≤ most_elements }
-    requires as_long { places_in (P.parts parts.now) ≡ length before.now }
-    ensures right { IfOk result (λ found. IfSome found (λ _. None ≡ fault_from 0 (P.parts parts.now))) }
-    ensures written { IfOk result (λ found. IfSome found (λ v. v.items ≡ permuted source.now (P.parts parts.now) before.now)) }
-{
-    let places = before.len();
-    let threads = threads_writing(config, places);
-    let widest = parts.widest();
-    let raced = permute_pace(config, source.len(), places).is_some();
-    if raced || widest > places / threads.get() {
-        return Ok(None);
-    }
-    permuted_by_segments(rt, alloc, threads, source, before, parts, widest)
-}
-
-/// For each place of a result with segments of its own lengths its sender, for which workers race or one thread walks the
-/// segments. Each place takes part.
-pub(crate) fn segment_senders<R: Threads + Sync, A: Memory, G: Gate>(
-    rt: &R,
-    alloc: A,
-    config: Config,
-    index: &[i32],
-    d: &SegDes<A>,
-    result_d: &SegDes<A>,
-    gate: &G,
-) -> Result<Vec<u32, A>, Refused>
-    requires total { sum d.now ≡ length index.now }
-    requires count { length d.now ≡ length result_d.now }
-    requires in_limit { length index.now ≤ most_elements }
-    ensures { Gives (λ v. v.items) result (unless (fault_from 0 (parts_of d.now result_d.now index.now))
-        (Ok (senders_from 0 (parts_of d.now result_d.now index.now)))) }
-{
-    let places = result_d.total();
-    match permute_pace(config, index.len(), places) {
-        Some(pace) => segments_raced(rt, alloc, pace, index, d, result_d, gate),
-        None => segment_senders_alone(alloc, index, d, result_d),
-    }
-}
-
-/// The same where the places whose flag is true take part, and each segment of the result has as many places as the segment
-/// has true flags.
-pub(crate) fn flagged_segment_senders<R: Threads + Sync, A: Memory, G: Gate>(
-    rt: &R,
-    alloc: A,
-    config: Config,
-    index: &[i32],
-    flags: &[bool],
-    d: &SegDes<A>,
-    gate: &G,
-) -> Result<Vec<u32, A>, Refused>
-    requires total { sum d.now ≡ length index.now }
-    requires as_long { length index.now ≡ length flags.now }
-    requires in_limit { length index.now ≤ most_elements }
-    ensures { Gives (λ v. v.items) result (unless (fault_from 0 (flagged_parts d.now index.now flags.now))
-        (Ok (senders_from 0 (flagged_parts d.now index.now flags.now)))) }
-{
-    let places = true_count(flags);
-    match permute_pace(config, index.len(), places) {
-        Some(pace) => flagged_segments_raced(rt, alloc, pace, index, flags, d, places, gate),
-        None => flagged_segment_senders_alone(alloc, index, flags, d, places),
-    }
-}
-
 /// The elements of a flat result, each place of which has a sender.
 pub(crate) fn elements_to<
     T: Copy + Send + Sync,
@@ -205,9 +121,8 @@ pub(crate) fn elements_to<
             return Ok(elements);
         }
     }
-    let senders = senders_to(rt, alloc, config, places, destinations, gate)?;
-    let threads = threads_writing(config, places);
-    Ok(elements_of(rt, alloc, threads, source, &senders)?)
+    let found = senders_to(rt, alloc, config, places, destinations, gate);
+    elements_found(rt, alloc, config, source, found)
 }
 
 /// The elements of a flat result, or the default of a place that has no sender.
@@ -246,7 +161,6 @@ pub(crate) fn elements_to_over<
     )? {
         return Ok(elements);
     }
-    let senders = senders_to(rt, alloc, config, places, destinations, gate)?;
-    let threads = threads_writing(config, places);
-    Ok(elements_or_defaults(rt, alloc, threads, source, &senders, defaults)?)
+    let found = senders_to(rt, alloc, config, places, destinations, gate);
+    elements_or_defaults_found(rt, alloc, config, source, found, defaults)
 }

@@ -2,12 +2,10 @@
 
 use cvl_base::monoids::Add;
 use cvl_base::{Config, Memory, Refused};
-use permutes::{
-    back, default_into, seg_back, seg_default_into, seg_select, seg_simple, select, simple,
-    simple_over,
-};
+use permutes::{back, default_into, select, simple, simple_over};
 use scan_ops::{reduce, scan, seg_reduce, seg_scan};
 use segdes::SegDes;
+use segmented_permutes::{seg_back, seg_default_into, seg_select, seg_simple};
 use std::thread::Threads;
 
 /// Whether a vector is the right one. It is let go here, so that no other call is made beside it.

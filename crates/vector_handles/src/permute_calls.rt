@@ -14,9 +14,9 @@ use crate::session::Session;
 use bound_names::{Bound, Operands};
 use crew::Gate;
 use cvl_base::{Cut, Element, Form, Memory, Refused};
-use permutes::{
-    back_gated, default_into_gated, seg_back_gated, seg_default_into_gated, seg_select_gated,
-    seg_simple_gated, select_gated, simple_gated,
+use permutes::{back_gated, default_into_gated, select_gated, simple_gated};
+use segmented_permutes::{
+    seg_back_gated, seg_default_into_gated, seg_select_gated, seg_simple_gated,
 };
 use std::thread::Threads;
 

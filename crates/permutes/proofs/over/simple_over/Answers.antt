@@ -1,10 +1,11 @@
-use Rattle.std.proofs.Common.{Vec, ◌∙◌, ap, arith, filter_map, length, refl, slice_get, sym, Err, Ok}
+use Rattle.std.proofs.Common.{◌∙◌, ap, arith, length, refl, subst, sym, Err, Ok}
 use Rattle.cvl_base.specs.declared.refused.Refused.TheVariants as refused
-use Rattle.cvl_base.specs.Permutes.{all_destinations, first_fault, simple_of, wrongs}
+use Rattle.cvl_base.specs.Permutes.{all_destinations, first_fault, wrongs}
+use Rattle.cvl_base.specs.Rooms.{OverwritesOr, in_room}
 use Rattle.permute_walks.specs.Senders.{senders_of}
 use Rattle.permute_walks.proofs.Sent.{length-all_destinations}
 use Rattle.permutes.proofs.Flat.{simple-meaning}
-use Rattle.permutes.proofs.Roomed.{permuted_differs, permuted_fits, refused_in_room, shown_sent, taken_in_room, told_or}
+use Rattle.permutes.proofs.Roomed.{permuted_differs, permuted_fits, told_or}
 use Rattle.permutes.proofs.Walked.{simple_sent}
 use Rattle.permutes.proofs.over.simple_over.Goals as goal
 
@@ -19,25 +20,12 @@ returns-then-branch g c =
     let none = c.in_ok-is_permutation.ensures.0 c.if-branch.true in
     (permuted_fits c.args.source.now c.args.index.now c.in_ok-check_agree.ensures c.requires.in_limit none _ c.in_ok-check_agree-2.ensures ∙ ap Ok (sym c.scatter_over.ensures), tt)
 
-pub senders_alone-requires-clause-few : goal.senders_alone-requires-clause-few
-senders_alone-requires-clause-few g c κs within = omega (arith, length-all_destinations c.args.index.now, c.requires.in_limit)
-
-pub returns-in_err-senders : goal.returns-in_err-senders
-returns-in_err-senders g c =
-    let source = c.args.source.now in let index = c.args.index.now in let ts = all_destinations index in let places = length index in
-    let first = first_fault 0 (wrongs places ts) in let senders = senders_of 0 ts places in
-    told_or _ c.from_residual-in_err-senders.result c.in_err-senders.field-0.0 c.args.out.now c.from_residual-in_err-senders.ensures.1
-    (refused_in_room (length c.args.out.now) (simple_of source index) first (filter_map (slice_get source) senders)
-    (simple-meaning source index c.in_ok-check_agree.ensures c.requires.in_limit)
-    (λ (v : Vec _ g.row.A.Denot). v.items) senders c.in_err-senders.field-0.0 c.args.out.now c.in_err-senders.ensures)
+pub senders_alone-found-requires-clause-few : goal.senders_alone-found-requires-clause-few
+senders_alone-found-requires-clause-few g c κs within = omega (arith, length-all_destinations c.args.index.now, c.requires.in_limit)
 
 pub returns : goal.returns
 returns g c =
     let source = c.args.source.now in let index = c.args.index.now in let ts = all_destinations index in let places = length index in
-    let first = first_fault 0 (wrongs places ts) in let senders = senders_of 0 ts places in
-    let found = c.in_ok-senders.senders.items in let gave = c.in_ok-senders.ensures in let shows = c.deref.ensures.value in
-    taken_in_room first senders found _ gave shows (filter_map (slice_get source)) (length c.args.out.now) (simple_of source index)
-    (simple-meaning source index c.in_ok-check_agree.ensures c.requires.in_limit)
-    c.take_over.result _ _
-    (c.take_over.ensures (shown_sent first senders found _ gave shows (length source)
-    (simple_sent index (length source) c.in_ok-check_agree.ensures (omega (arith, c.requires.in_limit)))))
+    subst (λ m. OverwritesOr (in_room (length c.args.out.now) m) c.take_over.result c.args.out.now c.take_over.new.out) (sym (simple-meaning source index c.in_ok-check_agree.ensures c.requires.in_limit))
+    (c.take_over.ensures (first_fault 0 (wrongs places ts)) (senders_of 0 ts places) c.senders_alone-found.ensures
+    (simple_sent index (length source) c.in_ok-check_agree.ensures (omega (arith, c.requires.in_limit))))

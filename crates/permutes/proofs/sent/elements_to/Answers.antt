@@ -1,39 +1,22 @@
-use Rattle.std.proofs.Common.{◌≡◌, ◌∙◌, ℕ, Vec, ap, arith, filter_map, length, replicate, slice_get, sym}
+use Rattle.std.proofs.Common.{◌≡◌, ◌∙◌, ap, arith, length, replicate, sym, vec_len}
 use Rattle.std.proofs.lemmas.List.{length-replicate}
-use Rattle.std.proofs.lemmas.Result.{err_from_is_err_and}
 use Rattle.cvl_base.specs.Permutes.{first_fault, wrongs}
 use Rattle.permute_walks.specs.Senders.{senders_of, written_over}
 use Rattle.permute_walks.proofs.Sent.{length-senders_of}
 use Rattle.permute_walks.proofs.Taken.{length-over}
-use Rattle.permutes.proofs.Called.{elements_taken, found_gives, taken_within, written_sent}
-use Rattle.permutes.proofs.Checked.{refusal_stays}
+use Rattle.permutes.proofs.Called.{found_gives, shorter, written_sent}
 use Rattle.permutes.proofs.sent.elements_to.Goals as goal
-
-pub returns-in_err-senders-clause-values : goal.returns-in_err-senders-clause-values
-returns-in_err-senders-clause-values g c sent =
-    let p = err_from_is_err_and c.from_residual-in_err-senders.result c.from_residual-in_err-senders.ensures.1 in
-    let ts = g.D.Destinations.destinations c.args.destinations.now in
-    let senders = senders_of 0 ts c.args.places in
-    rw (p.1, p.2)
-    (refusal_stays (λ (v : Vec ℕ g.row.A.Denot). v.items) (λ (v : Vec g.row.T.Denot g.row.A.Denot). v.items) (first_fault 0 (wrongs c.args.places ts)) senders
-    (filter_map (slice_get c.args.source.now) senders) c.in_err-senders.field-0.0 c.in_err-senders.ensures)
 
 pub returns-clause-values : goal.returns-clause-values
 returns-clause-values g c sent =
     let ts = g.D.Destinations.destinations c.args.destinations.now in
-    let places = c.args.places in
-    elements_taken c.args.source.now (first_fault 0 (wrongs places ts)) (senders_of 0 ts places) c.in_ok-senders.senders.items _ _ c.in_ok-senders.ensures c.deref.ensures.value
-    c.in_ok-elements_of.ensures.values sent
+    c.elements_found.ensures.values (first_fault 0 (wrongs c.args.places ts)) (senders_of 0 ts c.args.places) c.senders_to-found.ensures sent
 
 pub returns-clause-in_length : goal.returns-clause-in_length
 returns-clause-in_length g c =
     let ts = g.D.Destinations.destinations c.args.destinations.now in
-    let places = c.args.places in
-    omega (
-      arith,
-      taken_within (first_fault 0 (wrongs places ts)) (senders_of 0 ts places) c.in_ok-senders.senders.items _ _ c.in_ok-senders.ensures c.deref.ensures.value c.in_ok-elements_of.ensures.in_length,
-      length-senders_of 0 ts places,
-    )
+    shorter (λ v. vec_len v) c.elements_found.result (omega (arith, length-senders_of 0 ts c.args.places))
+    (c.elements_found.ensures.in_length (first_fault 0 (wrongs c.args.places ts)) (senders_of 0 ts c.args.places) c.senders_to-found.ensures)
 
 pub returns-in-Some-2-clause-values : goal.returns-in-Some-2-clause-values
 returns-in-Some-2-clause-values g c sent =

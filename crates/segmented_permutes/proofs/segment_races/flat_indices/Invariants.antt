@@ -1,0 +1,10 @@
+use Rattle.std.proofs.Common.{◌≡◌, ◌+◌, length, vec_capacity, vec_len}
+use Rattle.segmented_permutes.proofs.FlatIndices.{IsFlatThrough}
+use Rattle.segmented_permutes.proofs.segment_races.flat_indices.Given as goal
+
+abbrev pub invariant-loop-s : goal.invariant-loop-s
+invariant-loop-s g l = record {
+  through : IsFlatThrough (g.P.Parts.parts l.parts) l.index l.start l.s l.flat.items l.rest;
+  as_long : vec_len l.flat + length l.rest ≡ length l.index;
+  capacity : vec_capacity l.flat ≡ length l.index;
+}

@@ -1,0 +1,89 @@
+//! The back permute of each segment.
+
+ghost use Rattle.std.specs.Prelude.{◌≡◌, ◌≤◌, IfOk, length, sum, Ok, vec_len};
+ghost use Rattle.cvl_base.specs.Gives.{Gives, unless};
+ghost use Rattle.cvl_base.specs.Limits.{most_elements};
+ghost use Rattle.cvl_base.specs.SegmentedCalls.{seg_back_of};
+ghost use Rattle.segmented_permutes.specs.Backs.{outside_from};
+
+use crate::back_segments::{check_segments, segments_at};
+use crate::looks::ByThreads;
+use crate::segment_races::check_segments_raced;
+use crew::{Gate, OpenGate};
+use cvl_base::{Config, Memory, Refused, check_agree};
+use permute_races::permute_pace;
+use segdes::{SegDes, check_total};
+use sharing::threads_writing;
+use std::thread::Threads;
+
+/// `IndexOutOfRange` at the first place whose index is no place of its segment of the source, for which workers race, or one
+/// or several threads look.
+fn check_segment_indices<R: Threads + Sync, A: Memory, G: Gate>(
+    rt: &R,
+    alloc: A,
+    config: Config,
+    index: &[i32],
+    source_d: &SegDes<A>,
+    index_d: &SegDes<A>,
+    gate: &G,
+) -> Result<(), Refused>
+    requires total { sum index_d.now ≡ length index.now }
+    requires count { length source_d.now ≡ length index_d.now }
+    requires in_limit { length index.now ≤ most_elements }
+    ensures { Gives (λ u. u) result (unless (outside_from 0 source_d.now index_d.now index.now) (Ok tt)) }
+{
+    match permute_pace(config, index.len(), source_d.total()) {
+        Some(pace) => check_segments_raced(rt, alloc, pace, index, source_d, index_d, gate),
+        None => Ok(check_segments(&ByThreads { rt, config }, index, source_d, index_d)?),
+    }
+}
+
+/// The back permute of each segment: `bck_pez` and `bck_peb`.
+///
+/// The source has as many elements as the segments of `source_d` in all, the index as many as those of `index_d`, and the
+/// descriptors have equally many segments, else `LengthMismatch`, without a place. The result is as long as the index. An
+/// index counts from the start of the segment of the source, and one that is no place of it is `IndexOutOfRange` at its
+/// place in the whole index; an index may repeat. Source: CVL's segmented back permute.
+pub fn seg_back<T: Copy + Send + Sync, R: Threads + Sync, A: Memory>(
+    rt: &R,
+    alloc: A,
+    config: Config,
+    source: &[T],
+    index: &[i32],
+    source_d: &SegDes<A>,
+    index_d: &SegDes<A>,
+) -> Result<Vec<T, A>, Refused>
+    requires in_limit { length index.now ≤ most_elements }
+    ensures values { Gives (λ v. v.items) result
+        (seg_back_of source.now index.now source_d.now index_d.now) }
+    ensures as_long { IfOk result (λ v. vec_len v ≡ length index.now) }
+{
+    seg_back_gated(
+        rt, alloc, config, source, index, source_d, index_d, &OpenGate,
+    )
+}
+
+/// `seg_back` with a gate for workers who race for the least index outside. Each passes it at `Claimed` and `Finished` of each
+/// of its tiles.
+pub fn seg_back_gated<T: Copy + Send + Sync, R: Threads + Sync, A: Memory, G: Gate>(
+    rt: &R,
+    alloc: A,
+    config: Config,
+    source: &[T],
+    index: &[i32],
+    source_d: &SegDes<A>,
+    index_d: &SegDes<A>,
+    gate: &G,
+) -> Result<Vec<T, A>, Refused>
+    requires in_limit { length index.now ≤ most_elements }
+    ensures values { Gives (λ v. v.items) result
+        (seg_back_of source.now index.now source_d.now index_d.now) }
+    ensures as_long { IfOk result (λ v. vec_len v ≡ length index.now) }
+{
+    check_total(source, source_d)?;
+    check_total(index, index_d)?;
+    check_agree(source_d.count(), index_d.count())?;
+    check_segment_indices(rt, alloc, config, index, source_d, index_d, gate)?;
+    let threads = threads_writing(config, index.len());
+    Ok(segments_at(rt, alloc, threads, source, index, source_d, index_d)?)
+}

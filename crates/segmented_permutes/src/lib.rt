@@ -1,0 +1,35 @@
+//! Permutes of each segment: simple, back, select and default permutes, as in `permutes`, where an index counts from the start of
+//! its segment.
+//!
+//! A simple, select or default permute is one walk: each thread, or the only one, takes whole segments, and a buffer holds the
+//! senders of one segment at a time. Where a place is bad, or one segment is longer than a thread's share, the senders of the whole
+//! result are found first. A back permute looks at all indices, those of a long segment by several threads, and then takes the
+//! elements.
+//!
+//! Each call has a gated form with the same contract for every gate. Workers race for the first walk where short tiles are asked
+//! for: the race is that of a flat permute, whose indices are counted from the start of the whole result first.
+//!
+//! Each call has a form without a runtime too, `.._over`: both walks by the thread that calls, the second over a room of the
+//! caller's. Nothing is written before it is known that there is no fault. A simple permute looks for senders there only where
+//! there is a fault: its first walk marks each index, and its second writes each element to its index.
+#![tactic(auto)]
+
+mod back_segments;
+mod backs;
+mod defaults;
+mod looks;
+mod over;
+mod segment_races;
+mod segment_scatters;
+mod segment_walks;
+mod segments;
+mod selects;
+mod sent;
+mod sent_alone;
+mod simples;
+
+pub use backs::{seg_back, seg_back_gated};
+pub use defaults::{seg_default_into, seg_default_into_gated};
+pub use over::{seg_back_over, seg_default_into_over, seg_select_over, seg_simple_over};
+pub use selects::{seg_select, seg_select_gated};
+pub use simples::{seg_simple, seg_simple_gated};

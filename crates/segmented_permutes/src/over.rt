@@ -1,0 +1,115 @@
+//! The permutes of segments over a room of the caller's, by the thread that calls, for code that has no runtime.
+//!
+//! Each tells the faults of the permute first, and then `LengthMismatch`, without a place, where the room isn't as long as the
+//! result. Only then the room is written. A back permute asks for no memory. A simple permute asks for a byte for each place of its
+//! longest segment, and for the senders only to find its first fault; the others ask for the senders, 4 bytes a place.
+
+ghost use Rattle.std.specs.Prelude.{◌≤◌, length};
+ghost use Rattle.cvl_base.specs.Limits.{most_elements};
+ghost use Rattle.cvl_base.specs.Rooms.{Overwrites, OverwritesOr, in_room};
+ghost use Rattle.cvl_base.specs.SegmentedCalls.{seg_back_of, seg_default_of, seg_select_of, seg_simple_of};
+
+use crate::back_segments::{check_segments, segments_at_over};
+use crate::looks::ByCaller;
+use crate::segment_scatters::{are_permutations, scatter_segments_over};
+use crate::segments::{AllParts, FlaggedParts};
+use crate::sent_alone::segment_senders_alone;
+use cvl_base::{Fault, Memory, Refused, check_agree, true_count};
+use permutes::{take_or_default_over, take_over};
+use segdes::{SegDes, check_total};
+use std::alloc::Allocator;
+
+/// The same as [`seg_simple`](crate::seg_simple), over a room.
+pub fn seg_simple_over<T: Copy, A: Memory>(
+    alloc: A,
+    source: &[T],
+    index: &[i32],
+    d: &SegDes<A>,
+    out: &mut [T],
+) -> Result<(), Refused>
+    requires in_limit { length index.now ≤ most_elements }
+    ensures { OverwritesOr (in_room (length out.old) (seg_simple_of source.now index.now d.now)) result out.old out.new }
+{
+    check_total(source, d)?;
+    check_total(index, d)?;
+    if are_permutations(alloc, index, d)? {
+        check_agree(index.len(), out.len())?;
+        scatter_segments_over(source, index, d, out);
+        return Ok(());
+    }
+    let parts = AllParts {
+        index,
+        d,
+        result_d: d,
+    };
+    let found = segment_senders_alone(alloc, index.len(), &parts);
+    take_over(source, found, out)
+}
+
+/// The same as [`seg_select`](crate::seg_select), over a room.
+pub fn seg_select_over<T: Copy, A: Memory>(
+    alloc: A,
+    source: &[T],
+    index: &[i32],
+    flags: &[bool],
+    d: &SegDes<A>,
+    out: &mut [T],
+) -> Result<(), Refused>
+    requires in_limit { length index.now ≤ most_elements }
+    ensures { OverwritesOr (in_room (length out.old) (seg_select_of source.now index.now flags.now d.now)) result out.old out.new }
+{
+    check_total(source, d)?;
+    check_total(index, d)?;
+    check_total(flags, d)?;
+    let places = true_count(flags);
+    let parts = FlaggedParts { index, flags, d };
+    let found = segment_senders_alone(alloc, places, &parts);
+    take_over(source, found, out)
+}
+
+/// The same as [`seg_default_into`](crate::seg_default_into), over a room.
+pub fn seg_default_into_over<T: Copy, A: Memory>(
+    alloc: A,
+    source: &[T],
+    index: &[i32],
+    defaults: &[T],
+    source_d: &SegDes<A>,
+    default_d: &SegDes<A>,
+    out: &mut [T],
+) -> Result<(), Refused>
+    requires in_limit { length index.now ≤ most_elements }
+    ensures { OverwritesOr (in_room (length out.old) (seg_default_of source.now index.now defaults.now source_d.now default_d.now))
+        result out.old out.new }
+{
+    check_total(source, source_d)?;
+    check_total(index, source_d)?;
+    check_total(defaults, default_d)?;
+    check_agree(source_d.count(), default_d.count())?;
+    let parts = AllParts {
+        index,
+        d: source_d,
+        result_d: default_d,
+    };
+    let found = segment_senders_alone(alloc, defaults.len(), &parts);
+    take_or_default_over(source, found, defaults, out)
+}
+
+/// The same as [`seg_back`](crate::seg_back), over a room.
+pub fn seg_back_over<T: Copy, A: Allocator>(
+    source: &[T],
+    index: &[i32],
+    source_d: &SegDes<A>,
+    index_d: &SegDes<A>,
+    out: &mut [T],
+) -> Result<(), Fault>
+    requires in_limit { length index.now ≤ most_elements }
+    ensures { Overwrites (in_room (length out.old) (seg_back_of source.now index.now source_d.now index_d.now)) result out.old out.new }
+{
+    check_total(source, source_d)?;
+    check_total(index, index_d)?;
+    check_agree(source_d.count(), index_d.count())?;
+    check_segments(&ByCaller, index, source_d, index_d)?;
+    check_agree(index.len(), out.len())?;
+    segments_at_over(source, index, source_d, index_d, out);
+    Ok(())
+}
