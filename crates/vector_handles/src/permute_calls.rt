@@ -67,85 +67,43 @@ impl<A: Memory> Session<A> {
             (held_at operands.now)) }
         ensures in_limit { IfOk result (λ v. vec_len v ≤ most_elements) }
     {
+        let (alloc, config) = (self.alloc, self.config);
+        let index = operands.second.integers_if_any();
         match cut {
-            Cut::Flat => self.permuted_whole(rt, form, source, defaults, operands, gate),
-            Cut::Segmented => self.permuted_by_segments(rt, form, source, defaults, operands, gate),
-        }
-    }
-
-    /// The elements of a source, permuted whole.
-    fn permuted_whole<T: Copy + Send + Sync, R: Threads + Sync, G: Gate>(
-        &self,
-        rt: &R,
-        form: Form,
-        source: &[T],
-        defaults: &[T],
-        operands: &Operands<'_, A>,
-        gate: &G,
-    ) -> Result<Vec<T, A>, Refused>
-        requires kinds { (element : Element) × AreTaken (op.Permute form Cut.Flat element) operands.now }
-        requires source { length source.now ≤ most_elements }
-        requires defaults { length defaults.now ≤ most_elements }
-        ensures values { Gives (λ v. v.items) result
-            (permuted form Cut.Flat source.now (integers_in (held operands.now.second)) defaults.now
-            (held_at operands.now)) }
-        ensures in_limit { IfOk result (λ v. vec_len v ≤ most_elements) }
-    {
-        let (alloc, config) = (self.alloc, self.config);
-        let index = operands.second.integers();
-        match form {
-            Form::Simple => simple_gated(rt, alloc, config, source, index, gate),
-            Form::Back => back_gated(rt, alloc, config, source, index, gate),
-            Form::Select => {
-                let flags = operands.third.booleans();
-                select_gated(rt, alloc, config, source, index, flags, gate)
-            }
-            Form::Default => default_into_gated(rt, alloc, config, source, index, defaults, gate),
-        }
-    }
-
-    /// The elements of each segment of a source, permuted.
-    fn permuted_by_segments<T: Copy + Send + Sync, R: Threads + Sync, G: Gate>(
-        &self,
-        rt: &R,
-        form: Form,
-        source: &[T],
-        defaults: &[T],
-        operands: &Operands<'_, A>,
-        gate: &G,
-    ) -> Result<Vec<T, A>, Refused>
-        requires kinds { (element : Element) × AreTaken (op.Permute form Cut.Segmented element) operands.now }
-        requires source { length source.now ≤ most_elements }
-        requires defaults { length defaults.now ≤ most_elements }
-        ensures values { Gives (λ v. v.items) result
-            (permuted form Cut.Segmented source.now (integers_in (held operands.now.second)) defaults.now
-            (held_at operands.now)) }
-        ensures in_limit { IfOk result (λ v. vec_len v ≤ most_elements) }
-    {
-        let (alloc, config) = (self.alloc, self.config);
-        let index = operands.second.integers();
-        match form {
-            Form::Simple => {
-                let d = operands.third.descriptor();
-                seg_simple_gated(rt, alloc, config, source, index, d, gate)
-            }
-            Form::Back => {
-                let source_d = operands.third.descriptor();
-                let index_d = operands.fourth.descriptor();
-                seg_back_gated(rt, alloc, config, source, index, source_d, index_d, gate)
-            }
-            Form::Select => {
-                let flags = operands.third.booleans();
-                let d = operands.fourth.descriptor();
-                seg_select_gated(rt, alloc, config, source, index, flags, d, gate)
-            }
-            Form::Default => {
-                let source_d = operands.fourth.descriptor();
-                let default_d = operands.fifth.descriptor();
-                seg_default_into_gated(
-                    rt, alloc, config, source, index, defaults, source_d, default_d, gate,
-                )
-            }
+            Cut::Flat => match form {
+                Form::Simple => simple_gated(rt, alloc, config, source, index, gate),
+                Form::Back => back_gated(rt, alloc, config, source, index, gate),
+                Form::Select => {
+                    let flags = operands.third.booleans();
+                    select_gated(rt, alloc, config, source, index, flags, gate)
+                }
+                Form::Default => {
+                    default_into_gated(rt, alloc, config, source, index, defaults, gate)
+                }
+            },
+            Cut::Segmented => match form {
+                Form::Simple => {
+                    let d = operands.third.descriptor();
+                    seg_simple_gated(rt, alloc, config, source, index, d, gate)
+                }
+                Form::Back => {
+                    let source_d = operands.third.descriptor();
+                    let index_d = operands.fourth.descriptor();
+                    seg_back_gated(rt, alloc, config, source, index, source_d, index_d, gate)
+                }
+                Form::Select => {
+                    let flags = operands.third.booleans();
+                    let d = operands.fourth.descriptor();
+                    seg_select_gated(rt, alloc, config, source, index, flags, d, gate)
+                }
+                Form::Default => {
+                    let source_d = operands.fourth.descriptor();
+                    let default_d = operands.fifth.descriptor();
+                    seg_default_into_gated(
+                        rt, alloc, config, source, index, defaults, source_d, default_d, gate,
+                    )
+                }
+            },
         }
     }
 }

@@ -31,53 +31,31 @@ impl<A: Memory> Session<A> {
         ensures { IsTableValue self.now.inputs (op.Distribute cut element) operands.now result }
     {
         match cut {
-            Cut::Flat => self.distributed(rt, element, operands),
-            Cut::Segmented => self.distributed_by_segments(rt, element, operands),
-        }
-    }
-
-    /// Copies of one value.
-    fn distributed<R: Threads + Sync>(
-        &self,
-        rt: &R,
-        element: Element,
-        operands: &Operands<'_, A>,
-    ) -> Result<Bound<A>, Refused>
-        requires kinds { AreTaken (op.Distribute Cut.Flat element) operands.now }
-        ensures { IsTableValue self.now.inputs (op.Distribute Cut.Flat element) operands.now result }
-    {
-        let count = operands.second.integer();
-        match element {
-            Element::Integer => {
-                let value = operands.first.integer();
-                bound_integers(distribute(rt, self.alloc, self.config, value, count))
+            Cut::Flat => {
+                let count = operands.second.integer();
+                match element {
+                    Element::Integer => {
+                        let value = operands.first.integer();
+                        bound_integers(distribute(rt, self.alloc, self.config, value, count))
+                    }
+                    Element::Boolean => {
+                        let value = operands.first.boolean();
+                        bound_booleans(distribute(rt, self.alloc, self.config, value, count))
+                    }
+                }
             }
-            Element::Boolean => {
-                let value = operands.first.boolean();
-                bound_booleans(distribute(rt, self.alloc, self.config, value, count))
-            }
-        }
-    }
-
-    /// Copies of one value for each segment.
-    fn distributed_by_segments<R: Threads + Sync>(
-        &self,
-        rt: &R,
-        element: Element,
-        operands: &Operands<'_, A>,
-    ) -> Result<Bound<A>, Refused>
-        requires kinds { AreTaken (op.Distribute Cut.Segmented element) operands.now }
-        ensures { IsTableValue self.now.inputs (op.Distribute Cut.Segmented element) operands.now result }
-    {
-        let d = operands.second.descriptor();
-        match element {
-            Element::Integer => {
-                let values = operands.first.integers();
-                bound_integers(seg_distribute(rt, self.alloc, self.config, values, d))
-            }
-            Element::Boolean => {
-                let values = operands.first.booleans();
-                bound_booleans(seg_distribute(rt, self.alloc, self.config, values, d))
+            Cut::Segmented => {
+                let d = operands.second.descriptor();
+                match element {
+                    Element::Integer => {
+                        let values = operands.first.integers();
+                        bound_integers(seg_distribute(rt, self.alloc, self.config, values, d))
+                    }
+                    Element::Boolean => {
+                        let values = operands.first.booleans();
+                        bound_booleans(seg_distribute(rt, self.alloc, self.config, values, d))
+                    }
+                }
             }
         }
     }
@@ -119,48 +97,32 @@ impl<A: Memory> Session<A> {
         ensures { IsTableValue self.now.inputs (op.Extract cut element) operands.now result }
     {
         match cut {
-            Cut::Flat => self.extracted(element, operands),
-            Cut::Segmented => self.extracted_by_segments(element, operands),
-        }
-    }
-
-    /// The element at an index.
-    fn extracted(&self, element: Element, operands: &Operands<'_, A>) -> Result<Bound<A>, Refused>
-        requires kinds { AreTaken (op.Extract Cut.Flat element) operands.now }
-        ensures { IsTableValue self.now.inputs (op.Extract Cut.Flat element) operands.now result }
-    {
-        let place = operands.second.integer();
-        match element {
-            Element::Integer => {
-                let vector = operands.first.integers();
-                bound_integer(extract(vector, place))
+            Cut::Flat => {
+                let place = operands.second.integer();
+                match element {
+                    Element::Integer => {
+                        let vector = operands.first.integers();
+                        bound_integer(extract(vector, place))
+                    }
+                    Element::Boolean => {
+                        let vector = operands.first.booleans();
+                        bound_boolean(extract(vector, place))
+                    }
+                }
             }
-            Element::Boolean => {
-                let vector = operands.first.booleans();
-                bound_boolean(extract(vector, place))
-            }
-        }
-    }
-
-    /// The element at the index of each segment.
-    fn extracted_by_segments(
-        &self,
-        element: Element,
-        operands: &Operands<'_, A>,
-    ) -> Result<Bound<A>, Refused>
-        requires kinds { AreTaken (op.Extract Cut.Segmented element) operands.now }
-        ensures { IsTableValue self.now.inputs (op.Extract Cut.Segmented element) operands.now result }
-    {
-        let places = operands.second.integers();
-        let d = operands.third.descriptor();
-        match element {
-            Element::Integer => {
-                let vector = operands.first.integers();
-                bound_integers(seg_extract(self.alloc, vector, places, &d.as_lengths()))
-            }
-            Element::Boolean => {
-                let vector = operands.first.booleans();
-                bound_booleans(seg_extract(self.alloc, vector, places, &d.as_lengths()))
+            Cut::Segmented => {
+                let places = operands.second.integers();
+                let d = operands.third.descriptor();
+                match element {
+                    Element::Integer => {
+                        let vector = operands.first.integers();
+                        bound_integers(seg_extract(self.alloc, vector, places, &d.as_lengths()))
+                    }
+                    Element::Boolean => {
+                        let vector = operands.first.booleans();
+                        bound_booleans(seg_extract(self.alloc, vector, places, &d.as_lengths()))
+                    }
+                }
             }
         }
     }
@@ -176,51 +138,33 @@ impl<A: Memory> Session<A> {
         ensures { IsTableValue self.now.inputs (op.Replace cut element) operands.now result }
     {
         match cut {
-            Cut::Flat => self.replaced(element, operands),
-            Cut::Segmented => self.replaced_by_segments(element, operands),
-        }
-    }
-
-    /// A vector with the element at an index changed.
-    fn replaced(&self, element: Element, operands: &Operands<'_, A>) -> Result<Bound<A>, Refused>
-        requires kinds { AreTaken (op.Replace Cut.Flat element) operands.now }
-        ensures { IsTableValue self.now.inputs (op.Replace Cut.Flat element) operands.now result }
-    {
-        let place = operands.second.integer();
-        match element {
-            Element::Integer => {
-                let vector = operands.first.integers();
-                let value = operands.third.integer();
-                bound_integers(replace(self.alloc, vector, place, value))
+            Cut::Flat => {
+                let place = operands.second.integer();
+                match element {
+                    Element::Integer => {
+                        let vector = operands.first.integers();
+                        let value = operands.third.integer();
+                        bound_integers(replace(self.alloc, vector, place, value))
+                    }
+                    Element::Boolean => {
+                        let vector = operands.first.booleans();
+                        let value = operands.third.boolean();
+                        bound_booleans(replace(self.alloc, vector, place, value))
+                    }
+                }
             }
-            Element::Boolean => {
-                let vector = operands.first.booleans();
-                let value = operands.third.boolean();
-                bound_booleans(replace(self.alloc, vector, place, value))
-            }
-        }
-    }
-
-    /// A vector with the element at the index of each segment changed.
-    fn replaced_by_segments(
-        &self,
-        element: Element,
-        operands: &Operands<'_, A>,
-    ) -> Result<Bound<A>, Refused>
-        requires kinds { AreTaken (op.Replace Cut.Segmented element) operands.now }
-        ensures { IsTableValue self.now.inputs (op.Replace Cut.Segmented element) operands.now result }
-    {
-        match element {
-            Element::Integer => {
-                let vector = operands.first.integers();
-                let values = operands.third.integers();
-                bound_integers(self.with_values(vector, values, operands))
-            }
-            Element::Boolean => {
-                let vector = operands.first.booleans();
-                let values = operands.third.booleans();
-                bound_booleans(self.with_values(vector, values, operands))
-            }
+            Cut::Segmented => match element {
+                Element::Integer => {
+                    let vector = operands.first.integers();
+                    let values = operands.third.integers();
+                    bound_integers(self.with_values(vector, values, operands))
+                }
+                Element::Boolean => {
+                    let vector = operands.first.booleans();
+                    let values = operands.third.booleans();
+                    bound_booleans(self.with_values(vector, values, operands))
+                }
+            },
         }
     }
 

@@ -28,23 +28,16 @@ impl<A: Memory> Session<A> {
         requires kinds { AreTaken (op.Scan operator cut) operands.now }
         ensures { IsTableValue self.now.inputs (op.Scan operator cut) operands.now result }
     {
+        let (alloc, config) = (self.alloc, self.config);
         let a = operands.first.integers();
         match cut {
             Cut::Flat => {
-                let sums = int_scan_gated(rt, self.alloc, self.config, operator, a, gate)?;
+                let sums = int_scan_gated(rt, alloc, config, operator, a, gate)?;
                 Ok(Bound::from_integers(sums))
             }
             Cut::Segmented => {
                 let d = operands.second.descriptor();
-                bound_integers(seg_int_scan_gated(
-                    rt,
-                    self.alloc,
-                    self.config,
-                    operator,
-                    a,
-                    d,
-                    gate,
-                ))
+                bound_integers(seg_int_scan_gated(rt, alloc, config, operator, a, d, gate))
             }
         }
     }
@@ -61,23 +54,16 @@ impl<A: Memory> Session<A> {
         requires kinds { AreTaken (op.Reduce operator cut) operands.now }
         ensures { IsTableValue self.now.inputs (op.Reduce operator cut) operands.now result }
     {
+        let (alloc, config) = (self.alloc, self.config);
         let a = operands.first.integers();
         match cut {
             Cut::Flat => {
-                let sum = int_reduce_gated(rt, self.alloc, self.config, operator, a, gate)?;
+                let sum = int_reduce_gated(rt, alloc, config, operator, a, gate)?;
                 Ok(Bound::of_value(Value::Integer(sum)))
             }
             Cut::Segmented => {
                 let d = operands.second.descriptor();
-                bound_integers(seg_int_reduce_gated(
-                    rt,
-                    self.alloc,
-                    self.config,
-                    operator,
-                    a,
-                    d,
-                    gate,
-                ))
+                bound_integers(seg_int_reduce_gated(rt, alloc, config, operator, a, d, gate))
             }
         }
     }
@@ -94,23 +80,16 @@ impl<A: Memory> Session<A> {
         requires kinds { AreTaken (op.BoolScan operator cut) operands.now }
         ensures { IsTableValue self.now.inputs (op.BoolScan operator cut) operands.now result }
     {
+        let (alloc, config) = (self.alloc, self.config);
         let a = operands.first.booleans();
         match cut {
             Cut::Flat => {
-                let sums = bool_scan_gated(rt, self.alloc, self.config, operator, a, gate)?;
+                let sums = bool_scan_gated(rt, alloc, config, operator, a, gate)?;
                 Ok(Bound::from_booleans(sums))
             }
             Cut::Segmented => {
                 let d = operands.second.descriptor();
-                bound_booleans(seg_bool_scan_gated(
-                    rt,
-                    self.alloc,
-                    self.config,
-                    operator,
-                    a,
-                    d,
-                    gate,
-                ))
+                bound_booleans(seg_bool_scan_gated(rt, alloc, config, operator, a, d, gate))
             }
         }
     }
@@ -127,23 +106,16 @@ impl<A: Memory> Session<A> {
         requires kinds { AreTaken (op.BoolReduce operator cut) operands.now }
         ensures { IsTableValue self.now.inputs (op.BoolReduce operator cut) operands.now result }
     {
+        let (alloc, config) = (self.alloc, self.config);
         let a = operands.first.booleans();
         match cut {
             Cut::Flat => {
-                let sum = bool_reduce_gated(rt, self.alloc, self.config, operator, a, gate)?;
+                let sum = bool_reduce_gated(rt, alloc, config, operator, a, gate)?;
                 Ok(Bound::of_value(Value::Boolean(sum)))
             }
             Cut::Segmented => {
                 let d = operands.second.descriptor();
-                bound_booleans(seg_bool_reduce_gated(
-                    rt,
-                    self.alloc,
-                    self.config,
-                    operator,
-                    a,
-                    d,
-                    gate,
-                ))
+                bound_booleans(seg_bool_reduce_gated(rt, alloc, config, operator, a, d, gate))
             }
         }
     }
