@@ -1,7 +1,6 @@
 -- Permutes by ranges of their result.
-use Rattle.std.proofs.Common.{◌≡◌, ℕ, ◌+◌, ◌<◌, ◌≤◌, Bool, List, [], ◌∷◌, ◌++◌, length, map, filter_map, refl, sym, ap, ◌∙◌, subst, arith, length-append, ℤ, slice_get, unwrap_or, Option, None, Ok}
-use Rattle.std.specs.List.{All, cons_option, enumerate_from, range_with_len}
-use Rattle.std.proofs.lemmas.List.Elements.{All-head, All-tail}
+use Rattle.std.proofs.Common.{◌≡◌, ℕ, ◌+◌, ◌<◌, ◌≤◌, Bool, List, ◌++◌, length, map, filter_map, sym, ap, ◌∙◌, subst, arith, length-append, ℤ, unwrap_or, Option, None, Ok}
+use Rattle.std.specs.List.{All, enumerate_from, range_with_len}
 use Rattle.cvl_base.specs.declared.fault.Fault.{Fault}
 use Rattle.cvl_base.specs.Elementwise.{if_as_long}
 use Rattle.cvl_base.specs.Gives.{unless}
@@ -13,8 +12,9 @@ use Rattle.cvl_base.proofs.Permutes.{length-all_destinations}
 use Rattle.permute_walks.specs.Senders.{count_destinations, count_sent, last_senders, senders_of, written_over}
 use Rattle.permute_walks.proofs.EachSent.{all_take_part, each_sent, flagged_take_part}
 use Rattle.permute_walks.proofs.LastSent.{lasts_both, lasts_stored, length-last_senders}
+use Rattle.permute_walks.proofs.Scattered.{written_all}
 use Rattle.permute_walks.proofs.Sent.{length-flagged_destinations, length-senders_of}
-use Rattle.permute_walks.proofs.Taken.{read_at, taken_flat, taken_over_flat}
+use Rattle.permute_walks.proofs.Taken.{taken_flat, taken_over_flat}
 use Rattle.permute_walks.proofs.Written.{count_both, written_both}
 use Rattle.call_laws.specs.ResultRanges.{count_of_range, room_of_range}
 use Rattle.call_laws.proofs.Sending.{if_as_long-Ok, unless-Ok}
@@ -32,17 +32,6 @@ pub count-cut : (ts : List (Option ℤ)) (low n m : ℕ) → count_of_range ts l
 count-cut ts low n m = sym (count_both 0 ts low n m)
 
 -- ---- the whole result
-
--- where each place has a sender, what the room held before is gone
-written-all : {X : Type 0} (source : List X) (senders : List ℕ) (room : List X) → length senders ≡ length room → All (λ s. s < length source) senders
-    → written_over source senders room ≡ filter_map (slice_get source) senders
-written-all source [] [] long each = refl
-written-all source [] (x ∷ room) long each = absurd (omega arith)
-written-all source (s ∷ senders) [] long each = absurd (omega arith)
-written-all source (s ∷ senders) (x ∷ room) long each =
-    let some = (read_at source s (All-head (λ s. s < length source) s senders each)).1 in
-    let rest = written-all source senders room (omega arith) (All-tail (λ s. s < length source) s senders each) in
-    (λ i. unwrap_or (some i) x ∷ rest i) ∙ ap (λ o. cons_option o (filter_map (slice_get source) senders)) (sym some)
 
 module _ {X : Type 0} (source : List X) (ts : List (Option ℤ)) (room : List X) (long : length source ≡ length ts) (few : length ts ≤ most_elements) where
   abbrev pub lasts : List ℕ
@@ -70,7 +59,7 @@ module _ {X : Type 0} (source : List X) (ts : List (Option ℤ)) (room : List X)
       let within : All (λ s. s < length source) (senders_of 0 ts (length room)) = subst (λ n. All (λ s. s < n) (senders_of 0 ts (length room))) (omega (arith, long)) sent in
       ap filled (none_bad all)
       ∙ sym (ap (λ senders. Ok (written_over source senders room)) (firsts all)
-      ∙ ap Ok (written-all source (senders_of 0 ts (length room)) room (length-senders_of 0 ts (length room)) within
+      ∙ ap Ok (written_all source (senders_of 0 ts (length room)) room (length-senders_of 0 ts (length room)) within
       ∙ taken_flat source ts (length room) long (omega (arith, long, few))))
 
   pub over-counted : (result : List X) → sent_over source ts room ≡ Ok result → count_sent lasts ≡ count_destinations ts

@@ -90,19 +90,19 @@ module _ {X : Type 0} where
       ∙ ap (λ rest. take k xs ∷ (cut_of lengths (drop k xs) ++ (rest ++ take n ys) ∷ cut_of more (drop n ys)))
       (drop-drop (sum lengths) k xs ∙ ap (λ d. drop d xs) (omega (arith, sum-cons k lengths)))
 
-  module _ (lengths : List ℕ) (m n : ℕ) (more : List ℕ) (xs ys : List X) (total : sum lengths + m ≡ length xs) (also_total : n + sum more ≡ length ys) where
-    pub nest-first : nest (lengths ++ m ∷ []) xs ≡ Ok (cut_of lengths xs ++ drop (sum lengths) xs ∷ [])
-    nest-first =
-        nest-fits (lengths ++ m ∷ []) xs (omega (arith, total, sum_by-append (λ (k : ℕ). k) lengths (m ∷ []), sum-cons m [])) ∙ ap Ok (cut-first lengths m xs total)
+  pub nest-first : (lengths : List ℕ) (m : ℕ) (xs : List X) → sum lengths + m ≡ length xs → nest (lengths ++ m ∷ []) xs ≡ Ok (cut_of lengths xs ++ drop (sum lengths) xs ∷ [])
+  nest-first lengths m xs total =
+      nest-fits (lengths ++ m ∷ []) xs (omega (arith, total, sum_by-append (λ (k : ℕ). k) lengths (m ∷ []), sum-cons m [])) ∙ ap Ok (cut-first lengths m xs total)
 
-    pub nest-second : nest (n ∷ more) ys ≡ Ok (take n ys ∷ cut_of more (drop n ys))
-    nest-second = nest-fits (n ∷ more) ys (omega (arith, also_total, sum-cons n more))
+  pub nest-second : (n : ℕ) (more : List ℕ) (ys : List X) → n + sum more ≡ length ys → nest (n ∷ more) ys ≡ Ok (take n ys ∷ cut_of more (drop n ys))
+  nest-second n more ys also_total = nest-fits (n ∷ more) ys (omega (arith, also_total, sum-cons n more))
 
-    pub nest-inside : nest (lengths ++ (m + n) ∷ more) (xs ++ ys) ≡ Ok (cut_of lengths xs ++ (drop (sum lengths) xs ++ take n ys) ∷ cut_of more (drop n ys))
-    nest-inside =
-        nest-fits (lengths ++ (m + n) ∷ more) (xs ++ ys)
-        (omega (arith, total, also_total, sum_by-append (λ (k : ℕ). k) lengths ((m + n) ∷ more), sum-cons (m + n) more, length-append xs ys))
-        ∙ ap Ok (cut-inside lengths m n more xs ys total)
+  pub nest-inside : (lengths : List ℕ) (m n : ℕ) (more : List ℕ) (xs ys : List X) → sum lengths + m ≡ length xs → n + sum more ≡ length ys
+      → nest (lengths ++ (m + n) ∷ more) (xs ++ ys) ≡ Ok (cut_of lengths xs ++ (drop (sum lengths) xs ++ take n ys) ∷ cut_of more (drop n ys))
+  nest-inside lengths m n more xs ys total also_total =
+      nest-fits (lengths ++ (m + n) ∷ more) (xs ++ ys)
+      (omega (arith, total, also_total, sum_by-append (λ (k : ℕ). k) lengths ((m + n) ∷ more), sum-cons (m + n) more, length-append xs ys))
+      ∙ ap Ok (cut-inside lengths m n more xs ys total)
 
 -- ---- cut inside a segment: the segments before it, its two parts, and the segments behind it
 
@@ -143,16 +143,10 @@ module _ {Item : Type 0} (join : Item → Item → Item) (unit carry : Item) (be
 module _ {Item : Type 0} (join : Item → Item → Item) (unit carry : Item) (lengths : List ℕ) (m n : ℕ) (more : List ℕ) (xs ys closed : List Item) (out : Item)
     (total : sum lengths + m ≡ length xs) (also_total : n + sum more ≡ length ys)
     (reduced : seg_reduce_after join unit carry xs (lengths ++ m ∷ []) ≡ Ok (closed ++ out ∷ [])) where
-  at_first : nest (lengths ++ m ∷ []) xs ≡ Ok (cut_of lengths xs ++ drop (sum lengths) xs ∷ [])
-  at_first = nest-first lengths m n more xs ys total also_total
-
-  at_second : nest (n ∷ more) ys ≡ Ok (take n ys ∷ cut_of more (drop n ys))
-  at_second = nest-second lengths m n more xs ys total also_total
-
   first_reduces : each_after (fold_of join) unit carry (cut_of lengths xs ++ drop (sum lengths) xs ∷ []) ≡ closed ++ out ∷ []
   first_reduces =
       let found : Ok (each_after (fold_of join) unit carry (cut_of lengths xs ++ drop (sum lengths) xs ∷ [])) ≡ Ok (closed ++ out ∷ []) =
-      sym (ap (λ r. r >>= λ segments. Ok (each_after (fold_of join) unit carry segments)) at_first) ∙ reduced in
+      sym (ap (λ r. r >>= λ segments. Ok (each_after (fold_of join) unit carry segments)) (nest-first lengths m xs total)) ∙ reduced in
       cc
 
   pub scan-inside : seg_scan_after join unit carry (xs ++ ys) (lengths ++ (m + n) ∷ more)
@@ -160,14 +154,14 @@ module _ {Item : Type 0} (join : Item → Item → Item) (unit carry : Item) (le
   scan-inside =
       ap (λ r. r >>= λ segments. Ok (joined (each_after (scan_of join) unit carry segments))) (nest-inside lengths m n more xs ys total also_total)
       ∙ ap Ok (scans-inside join unit carry (cut_of lengths xs) (drop (sum lengths) xs) (take n ys) (cut_of more (drop n ys)) closed out first_reduces)
-      ∙ (λ i. in_two (length xs) (sym at_first i >>= λ segments. Ok (joined (each_after (scan_of join) unit carry segments)))
-      (sym at_second i >>= λ segments. Ok (joined (each_after (scan_of join) unit out segments))))
+      ∙ (λ i. in_two (length xs) (sym (nest-first lengths m xs total) i >>= λ segments. Ok (joined (each_after (scan_of join) unit carry segments)))
+      (sym (nest-second n more ys also_total) i >>= λ segments. Ok (joined (each_after (scan_of join) unit out segments))))
 
   pub reduce-inside : seg_reduce_after join unit carry (xs ++ ys) (lengths ++ (m + n) ∷ more) ≡ after closed (seg_reduce_after join unit out ys (n ∷ more))
   reduce-inside =
       ap (λ r. r >>= λ segments. Ok (each_after (fold_of join) unit carry segments)) (nest-inside lengths m n more xs ys total also_total)
       ∙ ap Ok (reduces-inside join unit carry (cut_of lengths xs) (drop (sum lengths) xs) (take n ys) (cut_of more (drop n ys)) closed out first_reduces)
-      ∙ (λ i. after closed (sym at_second i >>= λ segments. Ok (each_after (fold_of join) unit out segments)))
+      ∙ (λ i. after closed (sym (nest-second n more ys also_total) i >>= λ segments. Ok (each_after (fold_of join) unit out segments)))
 
 -- ---- cut between segments, of which the first part has one at least
 

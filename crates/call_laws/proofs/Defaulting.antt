@@ -4,6 +4,7 @@ use Rattle.std.proofs.Common.{Option, zip, ltb-true}
 use Rattle.std.specs.Prelude.{◌↔◌, unwrap_or}
 use Rattle.std.specs.List.{list_any, enumerate_from}
 use Rattle.std.proofs.lemmas.Bool.{both_ways, or_parts, cond-false, cases_Bool, false_from_ne_true}
+use Rattle.std.proofs.lemmas.Iterator.Adapters.{option_map_id}
 use Rattle.std.proofs.lemmas.List.{length-map}
 use Rattle.std.proofs.lemmas.List.FromFn.{length-enumerate_from}
 use Rattle.std.proofs.lemmas.Option.{slice_get_within}
@@ -45,16 +46,12 @@ at-laid_over values n [] d = refl
 at-laid_over values n (x ∷ defaults) zero = ap (λ k. Some (unwrap_or (values k) x)) (omega arith)
 at-laid_over values n (x ∷ defaults) (suc d) = at-laid_over values (n + 1) defaults d ∙ ap (λ k. option_map (λ x. unwrap_or (values k) x) (slice_get defaults d)) (omega arith)
 
-option-same : {X : Type 0} (o : Option X) → option_map (λ x. x) o ≡ o
-option-same None = refl
-option-same (Some x) = refl
-
 at-none : {X : Type 0} (values : ℕ → Option X) (defaults : List X) (d : ℕ) → values d ≡ None → slice_get (laid_over values 0 defaults) d ≡ slice_get defaults d
 at-none values defaults d none =
     at-laid_over values 0 defaults d
     ∙ ap (λ k. option_map (λ x. unwrap_or (values k) x) (slice_get defaults d)) (omega arith)
     ∙ ap (λ o. option_map (λ x. unwrap_or o x) (slice_get defaults d)) none
-    ∙ option-same (slice_get defaults d)
+    ∙ option_map_id (slice_get defaults d)
 
 at-some : {X : Type 0} (values : ℕ → Option X) (defaults : List X) (d : ℕ) (x : X) → d < length defaults → values d ≡ Some x → slice_get (laid_over values 0 defaults) d ≡ Some x
 at-some values defaults d x within some =

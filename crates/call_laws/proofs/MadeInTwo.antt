@@ -4,7 +4,7 @@ use Rattle.std.specs.Prelude.{sum}
 use Rattle.std.specs.List.{range_with_len}
 use Rattle.std.proofs.Math.IntN.{+ℤ_assoc, +ℤ_idr, suc_ℤ-*ℤ, zero-*ℤ}
 use Rattle.std.proofs.lemmas.Int.{int_wrap-add_left}
-use Rattle.std.proofs.lemmas.List.{map-append, same_from_push}
+use Rattle.std.proofs.lemmas.List.{map-append, replicate-append-replicate, same_from_push}
 use Rattle.std.proofs.lemmas.List.Elements.{filter-append}
 use Rattle.std.proofs.lemmas.List.Sums.{sum_by-append}
 use Rattle.cvl_base.specs.Distributes.{distribute_of, index_of}
@@ -47,11 +47,11 @@ module _ (flags more_flags : List Bool) (lengths more closed rest : List ℕ) (m
       let back = take n more_flags in
       let behind = cut_of more (drop n more_flags) in
       let found : Ok (map count_of (before ++ front ∷ [])) ≡ Ok (closed ++ a ∷ []) =
-      sym (counts-of (lengths ++ m ∷ []) flags (before ++ front ∷ []) (nest-first lengths m n more flags more_flags total also_total)) ∙ first in
+      sym (counts-of (lengths ++ m ∷ []) flags (before ++ front ∷ []) (nest-first lengths m flags total)) ∙ first in
       let listed : map count_of (before ++ front ∷ []) ≡ closed ++ a ∷ [] = cc in
       let parts = same_from_push (map count_of before) closed (count_of front) a (sym (map-append count_of before (front ∷ [])) ∙ listed) in
       let also_found : Ok (count_of back ∷ map count_of behind) ≡ Ok (b ∷ rest) =
-      sym (counts-of (n ∷ more) more_flags (back ∷ behind) (nest-second lengths m n more flags more_flags total also_total)) ∙ second in
+      sym (counts-of (n ∷ more) more_flags (back ∷ behind) (nest-second n more more_flags also_total)) ∙ second in
       let is_b : count_of back ≡ b = cc in
       let is_rest : map count_of behind ≡ rest = cc in
       counts-of (lengths ++ (m + n) ∷ more) (flags ++ more_flags) (before ++ (front ++ back) ∷ behind) (nest-inside lengths m n more flags more_flags total also_total)
@@ -60,10 +60,6 @@ module _ (flags more_flags : List Bool) (lengths more closed rest : List ℕ) (m
       ∙ (λ i. Ok (parts.0 i ++ (parts.1 i + is_b i) ∷ is_rest i))
 
 -- ---- copies, and numbers by a stride
-
-replicate-two : {X : Type 0} (x : X) (m n : ℕ) → replicate (m + n) x ≡ replicate m x ++ replicate n x
-replicate-two x zero n = ap (λ k. replicate k x) (omega arith)
-replicate-two x (suc m) n = let next : suc m + n ≡ suc (m + n) = omega arith in ap (λ k. replicate k x) next ∙ ap (λ xs. x ∷ xs) (replicate-two x m n)
 
 range-two : (a m n : ℕ) → range_with_len a (m + n) ≡ range_with_len a m ++ range_with_len (a + m) n
 range-two a zero n = let all : 0 + n ≡ n = omega arith in let same : a ≡ a + 0 = omega arith in λ i. range_with_len (same i) (all i)
@@ -85,7 +81,7 @@ module _ (m n : ℕ) (few : m + n ≤ most_elements) where
   pub distribute-two : {X : Type 0} (value : X) → distribute_of value (pos (m + n)) ≡ in_two m (distribute_of value (pos m)) (distribute_of value (pos n))
   distribute-two value =
       ap (λ r. r >>= λ k. Ok (replicate k value)) (as_length-fits (m + n) few)
-      ∙ ap Ok (replicate-two value m n)
+      ∙ ap Ok (sym (replicate-append-replicate m n value))
       ∙ (λ i. in_two m (sym (as_length-fits m (omega (arith, few))) i >>= λ k. Ok (replicate k value)) (sym (as_length-fits n (omega (arith, few))) i >>= λ k. Ok (replicate k value)))
 
   -- k steps on from the place m

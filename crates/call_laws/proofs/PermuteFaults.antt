@@ -13,11 +13,11 @@ use Rattle.cvl_base.specs.Extracts.{element_at}
 use Rattle.cvl_base.specs.Faults.{fault, fault_at}
 use Rattle.cvl_base.specs.Gives.{◌>>=◌, unless}
 use Rattle.cvl_base.specs.Packs.{count_of}
-use Rattle.cvl_base.specs.Permutes.{all_destinations, back_of, default_of, first_fault, flagged_destinations, is_place, select_of, sent_over, sent_to, sent_to_all, simple_of, wrongs}
+use Rattle.cvl_base.specs.Permutes.{all_destinations, default_of, first_fault, flagged_destinations, is_place, select_of, sent_over, sent_to, sent_to_all, simple_of, wrongs}
 use Rattle.call_laws.specs.Permuted.{AreOnce, AreOnceFlagged, AreWithin, AreWithinFlagged, IsGoodBefore}
 use Rattle.call_laws.proofs.FirstBadPlaces.{fault-again, fault-outside}
 use Rattle.cvl_base.proofs.Lists.{element}
-use Rattle.call_laws.proofs.Selecting.{flagged-here, here-flagged}
+use Rattle.call_laws.proofs.Selecting.{here-flagged}
 use Rattle.cvl_base.proofs.Elementwise.{if_as_long-fits, if_as_long-misfits}
 use Rattle.call_laws.proofs.Sending.{index-here, destination-here}
 
@@ -29,11 +29,11 @@ all_good m index k within once = record {
   once = λ h j i before below first second. once h j i before below (index-here index h i first) (index-here index j i second);
 }
 
-all-outside : (m : ℕ) (index : List ℤ) (k : ℕ) (i : ℤ) → AreWithin m index k → AreOnce index k → slice_get index k ≡ Some i → is_place m i ≡ false → first_fault 0 (wrongs m (all_destinations index))
+pub all-outside : (m : ℕ) (index : List ℤ) (k : ℕ) (i : ℤ) → AreWithin m index k → AreOnce index k → slice_get index k ≡ Some i → is_place m i ≡ false → first_fault 0 (wrongs m (all_destinations index))
     ≡ Some (fault_at IndexOutOfRange k)
 all-outside m index k i within once here out = fault-outside m (all_destinations index) k i (all_good m index k within once) (destination-here index k i here) out
 
-all-again : (m : ℕ) (index : List ℤ) (g k : ℕ) (i : ℤ) → AreWithin m index k → AreOnce index k → g < k → slice_get index g ≡ Some i → slice_get index k ≡ Some i
+pub all-again : (m : ℕ) (index : List ℤ) (g k : ℕ) (i : ℤ) → AreWithin m index k → AreOnce index k → g < k → slice_get index g ≡ Some i → slice_get index k ≡ Some i
     → first_fault 0 (wrongs m (all_destinations index)) ≡ Some (fault_at IndexRepeated k)
 all-again m index g k i within once below first here =
     fault-again m (all_destinations index) g k i (all_good m index k within once) below (destination-here index g i first) (destination-here index k i here) (within g i below first)
@@ -43,28 +43,15 @@ all-again m index g k i within once below first here =
 sent_to_all-fault : {X : Type 0} (source : List X) (ts : List (Option ℤ)) (m : ℕ) (f : Fault) → first_fault 0 (wrongs m ts) ≡ Some f → sent_to_all source ts m ≡ Err f
 sent_to_all-fault source ts m f bad = ap (λ o. unless o (Ok (filter_map (sent_to source ts) (range_with_len 0 m)))) bad
 
-simple-fault : {X : Type 0} (source : List X) (index : List ℤ) (f : Fault) → length source ≡ length index → first_fault 0 (wrongs (length index) (all_destinations index)) ≡ Some f
+pub simple-fault : {X : Type 0} (source : List X) (index : List ℤ) (f : Fault) → length source ≡ length index → first_fault 0 (wrongs (length index) (all_destinations index)) ≡ Some f
     → simple_of source index ≡ Err f
 simple-fault source index f long bad =
     if_as_long-fits source index (sent_to_all source (all_destinations index) (length index)) long
     ∙ sent_to_all-fault source (all_destinations index) (length index) f bad
 
-pub simple-mismatch : {X : Type 0} (source : List X) (index : List ℤ) → length source ≢ length index → simple_of source index ≡ Err (fault LengthMismatch)
-simple-mismatch source index differ = if_as_long-misfits source index (sent_to_all source (all_destinations index) (length index)) differ
-
-pub simple-outside : {X : Type 0} (source : List X) (index : List ℤ) (k : ℕ) (i : ℤ) → length source ≡ length index → AreWithin (length index) index k → AreOnce index k → slice_get index k ≡ Some i
-    → is_place (length index) i ≡ false → simple_of source index ≡ Err (fault_at IndexOutOfRange k)
-simple-outside source index k i long within once here out =
-    simple-fault source index (fault_at IndexOutOfRange k) long (all-outside (length index) index k i within once here out)
-
-pub simple-again : {X : Type 0} (source : List X) (index : List ℤ) (g k : ℕ) (i : ℤ) → length source ≡ length index → AreWithin (length index) index k → AreOnce index k → g < k
-    → slice_get index g ≡ Some i → slice_get index k ≡ Some i → simple_of source index ≡ Err (fault_at IndexRepeated k)
-simple-again source index g k i long within once below first here =
-    simple-fault source index (fault_at IndexRepeated k) long (all-again (length index) index g k i within once below first here)
-
 -- ---- the select permute
 
-flagged_good : (m : ℕ) (index : List ℤ) (flags : List Bool) (k : ℕ) → AreWithinFlagged m index flags k → AreOnceFlagged index flags k → IsGoodBefore m (flagged_destinations index flags) k
+pub flagged_good : (m : ℕ) (index : List ℤ) (flags : List Bool) (k : ℕ) → AreWithinFlagged m index flags k → AreOnceFlagged index flags k → IsGoodBefore m (flagged_destinations index flags) k
 flagged_good m index flags k within once = record {
   within = λ j i below here. let p = here-flagged index flags j i here in within j i below p.0 p.1;
   once = λ h j i before below first second.
@@ -73,7 +60,7 @@ flagged_good m index flags k within once = record {
       once h j i before below p.0 q.0 p.1 q.1;
 }
 
-select-fault : {X : Type 0} (source : List X) (index : List ℤ) (flags : List Bool) (f : Fault) → length source ≡ length index → length index ≡ length flags
+pub select-fault : {X : Type 0} (source : List X) (index : List ℤ) (flags : List Bool) (f : Fault) → length source ≡ length index → length index ≡ length flags
     → first_fault 0 (wrongs (count_of flags) (flagged_destinations index flags)) ≡ Some f → select_of source index flags ≡ Err f
 select-fault source index flags f long flagged bad =
     let sends = sent_to_all source (flagged_destinations index flags) (count_of flags) in
@@ -93,41 +80,13 @@ select-flag_mismatch source index flags differ =
       | inr other ↦ select-index_mismatch source index flags other.1
     ]
 
-pub select-outside : {X : Type 0} (source : List X) (index : List ℤ) (flags : List Bool) (k : ℕ) (i : ℤ) → length source ≡ length index → length index ≡ length flags
-    → AreWithinFlagged (count_of flags) index flags k → AreOnceFlagged index flags k → slice_get flags k ≡ Some true → slice_get index k ≡ Some i → is_place (count_of flags) i ≡ false
-    → select_of source index flags ≡ Err (fault_at IndexOutOfRange k)
-select-outside source index flags k i long flagged within once flag here out =
-    select-fault source index flags (fault_at IndexOutOfRange k) long flagged
-    (fault-outside (count_of flags) (flagged_destinations index flags) k i (flagged_good (count_of flags) index flags k within once) (flagged-here index flags k i flag here) out)
-
-pub select-again : {X : Type 0} (source : List X) (index : List ℤ) (flags : List Bool) (g k : ℕ) (i : ℤ) → length source ≡ length index → length index ≡ length flags
-    → AreWithinFlagged (count_of flags) index flags k → AreOnceFlagged index flags k → g < k → slice_get flags g ≡ Some true → slice_get flags k ≡ Some true → slice_get index g ≡ Some i
-    → slice_get index k ≡ Some i → select_of source index flags ≡ Err (fault_at IndexRepeated k)
-select-again source index flags g k i long flagged within once below first_flag flag first here =
-    select-fault source index flags (fault_at IndexRepeated k) long flagged
-    (fault-again (count_of flags) (flagged_destinations index flags) g k i (flagged_good (count_of flags) index flags k within once) below
-    (flagged-here index flags g i first_flag first) (flagged-here index flags k i flag here) (within g i below first_flag first))
-
 -- ---- the default permute
 
-default-fault : {X : Type 0} (source : List X) (index : List ℤ) (defaults : List X) (f : Fault) → length source ≡ length index → first_fault 0 (wrongs (length defaults) (all_destinations index)) ≡ Some f
+pub default-fault : {X : Type 0} (source : List X) (index : List ℤ) (defaults : List X) (f : Fault) → length source ≡ length index → first_fault 0 (wrongs (length defaults) (all_destinations index)) ≡ Some f
     → default_of source index defaults ≡ Err f
 default-fault source index defaults f long bad =
     if_as_long-fits source index (sent_over source (all_destinations index) defaults) long
     ∙ ap (λ o. unless o (Ok (map (λ p. unwrap_or (sent_to source (all_destinations index) p.0) p.1) (enumerate_from 0 defaults)))) bad
-
-pub default-mismatch : {X : Type 0} (source : List X) (index : List ℤ) (defaults : List X) → length source ≢ length index → default_of source index defaults ≡ Err (fault LengthMismatch)
-default-mismatch source index defaults differ = if_as_long-misfits source index (sent_over source (all_destinations index) defaults) differ
-
-pub default-outside : {X : Type 0} (source : List X) (index : List ℤ) (defaults : List X) (k : ℕ) (i : ℤ) → length source ≡ length index → AreWithin (length defaults) index k → AreOnce index k
-    → slice_get index k ≡ Some i → is_place (length defaults) i ≡ false → default_of source index defaults ≡ Err (fault_at IndexOutOfRange k)
-default-outside source index defaults k i long within once here out =
-    default-fault source index defaults (fault_at IndexOutOfRange k) long (all-outside (length defaults) index k i within once here out)
-
-pub default-again : {X : Type 0} (source : List X) (index : List ℤ) (defaults : List X) (g k : ℕ) (i : ℤ) → length source ≡ length index → AreWithin (length defaults) index k → AreOnce index k → g < k
-    → slice_get index g ≡ Some i → slice_get index k ≡ Some i → default_of source index defaults ≡ Err (fault_at IndexRepeated k)
-default-again source index defaults g k i long within once below first here =
-    default-fault source index defaults (fault_at IndexRepeated k) long (all-again (length defaults) index g k i within once below first here)
 
 -- ---- the back permute
 
@@ -140,7 +99,7 @@ element-outside source (pos d) out = slice_get_past source d (ltb-false d (lengt
 element-outside source (negsuc d) out = refl
 
 -- the fault of a list of values is at the first that is missing
-missing_at : {X : Type 0} (source : List X) (place : ℕ) (index : List ℤ) (k : ℕ) (i : ℤ) → AreWithin (length source) index k → slice_get index k ≡ Some i → is_place (length source) i ≡ false
+pub missing_at : {X : Type 0} (source : List X) (place : ℕ) (index : List ℤ) (k : ℕ) (i : ℤ) → AreWithin (length source) index k → slice_get index k ≡ Some i → is_place (length source) i ≡ false
     → values_from IndexOutOfRange place (map (element_at source) index) ≡ Err (fault_at IndexOutOfRange (place + k))
 missing_at source place [] k i within here out = absurd (none-some i here)
 missing_at source place (e ∷ index) zero i within here out =
@@ -151,7 +110,3 @@ missing_at source place (e ∷ index) (suc k) i within here out =
     ap (λ v. values_from IndexOutOfRange place (v ∷ map (element_at source) index)) first.1
     ∙ ap (λ r. r >>= λ ys. Ok (first.0 ∷ ys)) (missing_at source (place + 1) index k i (λ j e below there. within (suc j) e (omega arith) there) here out)
     ∙ ap (λ n. Err (fault_at IndexOutOfRange n)) (omega arith)
-
-pub back-outside : {X : Type 0} (source : List X) (index : List ℤ) (k : ℕ) (i : ℤ) → AreWithin (length source) index k → slice_get index k ≡ Some i → is_place (length source) i ≡ false
-    → back_of source index ≡ Err (fault_at IndexOutOfRange k)
-back-outside source index k i within here out = missing_at source 0 index k i within here out ∙ ap (λ n. Err (fault_at IndexOutOfRange n)) (omega arith)

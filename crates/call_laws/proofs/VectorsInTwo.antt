@@ -1,15 +1,13 @@
 -- Segmented calls of several vectors that are cut between the same two segments.
-use Rattle.std.proofs.Common.{◌≡◌, ℕ, Bool, List, ◌++◌, length, refl, sym, ap, ◌∙◌, arith, length-append, ℤ, pos, zip, Ok, Result}
+use Rattle.std.proofs.Common.{◌≡◌, ℕ, List, ◌++◌, length, refl, sym, ap, ◌∙◌, arith, length-append, ℤ, pos, zip, Ok, Result}
 use Rattle.std.specs.Prelude.{sum}
 use Rattle.std.proofs.lemmas.Slice.Zip.{length-zip}
 use Rattle.cvl_base.specs.declared.fault.Fault.{Fault}
 use Rattle.cvl_base.specs.Distributes.{distribute_of, index_of}
 use Rattle.cvl_base.specs.Extracts.{extract_of, replace_of}
 use Rattle.cvl_base.specs.Nests.{nest, cut_of}
-use Rattle.cvl_base.specs.Packs.{pack_of}
-use Rattle.cvl_base.specs.Permutes.{back_of, default_of, select_of, simple_of}
 use Rattle.cvl_base.specs.Segmented.{at_segment, beside, end_to_end, in_vector, of_three, of_two, one_each}
-use Rattle.cvl_base.specs.SegmentedCalls.{seg_back_of, seg_default_of, seg_distribute_of, seg_extract_of, seg_index_of, seg_pack_of, seg_replace_of, seg_select_of, seg_simple_of}
+use Rattle.cvl_base.specs.SegmentedCalls.{seg_distribute_of, seg_extract_of, seg_index_of, seg_replace_of}
 use Rattle.cvl_base.proofs.Nests.{length-cut, nest-fits}
 use Rattle.cvl_base.proofs.Segmented.{beside-fits}
 use Rattle.call_laws.specs.InParts.{in_two}
@@ -64,29 +62,20 @@ zip-long firsts seconds n long also_long = omega (arith, length-zip firsts secon
 
 -- ---- permutes and packs
 
-module _ {X : Type 0} (source more : List X) (index others : List ℤ) where
-  pub simple-between : (lengths later : List ℕ) → sum lengths ≡ length source → sum lengths ≡ length index → sum later ≡ length more → sum later ≡ length others
-      → seg_simple_of (source ++ more) (index ++ others) (lengths ++ later) ≡ in_two (sum lengths) (seg_simple_of source index lengths) (seg_simple_of more others later)
-  simple-between lengths later p q r s =
-      in_order (of_two simple_of)
-      (both (cut lengths later source more p r) (cut lengths later index others q s)
-      (length-cut lengths source ∙ sym (length-cut lengths index)) (length-cut later more ∙ sym (length-cut later others)))
-      lengths later (zip-long (cut_of lengths source) (cut_of lengths index) (length lengths) (length-cut lengths source) (length-cut lengths index))
-
-  pub back-between : (lengths later index_lengths index_later : List ℕ) → sum lengths ≡ length source → sum index_lengths ≡ length index → sum later ≡ length more
-      → sum index_later ≡ length others → length lengths ≡ length index_lengths → length later ≡ length index_later
-      → seg_back_of (source ++ more) (index ++ others) (lengths ++ later) (index_lengths ++ index_later)
-      ≡ in_two (sum index_lengths) (seg_back_of source index lengths index_lengths) (seg_back_of more others later index_later)
-  back-between lengths later index_lengths index_later p q r s many also_many =
-      in_order (of_two back_of)
-      (both (cut lengths later source more p r) (cut index_lengths index_later index others q s)
-      (length-cut lengths source ∙ many ∙ sym (length-cut index_lengths index)) (length-cut later more ∙ also_many ∙ sym (length-cut index_later others)))
-      index_lengths index_later
-      (zip-long (cut_of lengths source) (cut_of index_lengths index) (length index_lengths) (length-cut lengths source ∙ many) (length-cut index_lengths index))
+module _ {X Y W : Type 0} (call : List X → List Y → Result (List W) Fault) (xs xs2 : List X) (ys ys2 : List Y) (lengths later second second_later : List ℕ) where
+  pub two-between : sum lengths ≡ length xs → sum second ≡ length ys → sum later ≡ length xs2 → sum second_later ≡ length ys2 → length lengths ≡ length second → length later ≡ length second_later
+      → end_to_end (in_vector (second ++ second_later)) (of_two call) (beside (nest (lengths ++ later) (xs ++ xs2)) (nest (second ++ second_later) (ys ++ ys2)))
+      ≡ in_two (sum second) (end_to_end (in_vector second) (of_two call) (beside (nest lengths xs) (nest second ys)))
+      (end_to_end (in_vector second_later) (of_two call) (beside (nest later xs2) (nest second_later ys2)))
+  two-between p q r s many also_many =
+      in_order (of_two call)
+      (both (cut lengths later xs xs2 p r) (cut second second_later ys ys2 q s)
+      (length-cut lengths xs ∙ many ∙ sym (length-cut second ys)) (length-cut later xs2 ∙ also_many ∙ sym (length-cut second_later ys2)))
+      second second_later (zip-long (cut_of lengths xs) (cut_of second ys) (length second) (length-cut lengths xs ∙ many) (length-cut second ys))
 
 module _ {X Y Z W : Type 0} (call : List X → List Y → List Z → Result (List W) Fault) (xs xs2 : List X) (ys ys2 : List Y) (zs zs2 : List Z)
     (lengths later third third_later : List ℕ) where
-  three-between : sum lengths ≡ length xs → sum later ≡ length xs2 → sum lengths ≡ length ys → sum later ≡ length ys2 → sum third ≡ length zs → sum third_later ≡ length zs2
+  pub three-between : sum lengths ≡ length xs → sum later ≡ length xs2 → sum lengths ≡ length ys → sum later ≡ length ys2 → sum third ≡ length zs → sum third_later ≡ length zs2
       → length lengths ≡ length third → length later ≡ length third_later → (place place2 : List ℕ) → length lengths ≡ length place
       → end_to_end (in_vector (place ++ place2)) (of_three call)
       (beside (beside (nest (lengths ++ later) (xs ++ xs2)) (nest (lengths ++ later) (ys ++ ys2))) (nest (third ++ third_later) (zs ++ zs2)))
@@ -101,30 +90,6 @@ module _ {X Y Z W : Type 0} (call : List X → List Y → List Z → Result (Lis
       (both pairs (cut third third_later zs zs2 r r2) (long ∙ many ∙ sym (length-cut third zs)) (long2 ∙ also_many ∙ sym (length-cut third_later zs2)))
       place place2
       (zip-long (zip (cut_of lengths xs) (cut_of lengths ys)) (cut_of third zs) (length place) (long ∙ placed) (length-cut third zs ∙ sym many ∙ placed))
-
-module _ {X : Type 0} (source more : List X) (index others : List ℤ) (lengths later : List ℕ) (p : sum lengths ≡ length source) (q : sum lengths ≡ length index)
-    (r : sum later ≡ length more) (s : sum later ≡ length others) where
-  pub select-between : (flags more_flags : List Bool) → sum lengths ≡ length flags → sum later ≡ length more_flags
-      → seg_select_of (source ++ more) (index ++ others) (flags ++ more_flags) (lengths ++ later)
-      ≡ in_two (sum lengths) (seg_select_of source index flags lengths) (seg_select_of more others more_flags later)
-  select-between flags more_flags t u =
-      three-between select_of source more index others flags more_flags lengths later lengths later p r q s t u refl refl lengths later refl
-
-  pub default-between : (defaults more_defaults : List X) (default_lengths default_later : List ℕ) → sum default_lengths ≡ length defaults → sum default_later ≡ length more_defaults
-      → length lengths ≡ length default_lengths → length later ≡ length default_later
-      → seg_default_of (source ++ more) (index ++ others) (defaults ++ more_defaults) (lengths ++ later) (default_lengths ++ default_later)
-      ≡ in_two (sum lengths) (seg_default_of source index defaults lengths default_lengths) (seg_default_of more others more_defaults later default_later)
-  default-between defaults more_defaults default_lengths default_later t u many also_many =
-      three-between default_of source more index others defaults more_defaults lengths later default_lengths default_later p r q s t u many also_many lengths later refl
-
-pub pack-between : {X : Type 0} (xs more : List X) (flags more_flags : List Bool) (lengths later : List ℕ) → sum lengths ≡ length xs → sum lengths ≡ length flags
-    → sum later ≡ length more → sum later ≡ length more_flags
-    → seg_pack_of (xs ++ more) (flags ++ more_flags) (lengths ++ later) ≡ in_two (sum lengths) (seg_pack_of xs flags lengths) (seg_pack_of more more_flags later)
-pack-between xs more flags more_flags lengths later p q r s =
-    in_order (of_two pack_of)
-    (both (cut lengths later xs more p r) (cut lengths later flags more_flags q s)
-    (length-cut lengths xs ∙ sym (length-cut lengths flags)) (length-cut later more ∙ sym (length-cut later more_flags)))
-    lengths later (zip-long (cut_of lengths xs) (cut_of lengths flags) (length lengths) (length-cut lengths xs) (length-cut lengths flags))
 
 -- ---- one value or index for each segment
 

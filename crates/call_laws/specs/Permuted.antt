@@ -18,10 +18,12 @@ pub record IsSelectPermute {X : Type 0} (source : List X) (index : List ℤ) (fl
   pub one_index_each : length source ≡ length index
   pub one_flag_each : length index ≡ length flags
   pub as_long : length result ≡ count_of flags
-  pub within : (k : ℕ) (i : ℤ) → slice_get flags k ≡ Some true → slice_get index k ≡ Some i → IsTrue (is_place (count_of flags) i)
+  pub within : (k : ℕ) (i : ℤ) → slice_get flags k ≡ Some true → slice_get index k ≡ Some i
+      → IsTrue (is_place (count_of flags) i)
   pub once : (j k : ℕ) (i : ℤ) → slice_get flags j ≡ Some true → slice_get flags k ≡ Some true → slice_get index j ≡ Some i
       → slice_get index k ≡ Some i → j ≡ k
-  pub sent : (k d : ℕ) → slice_get flags k ≡ Some true → slice_get index k ≡ Some (pos d) → slice_get result d ≡ slice_get source k
+  pub sent : (k d : ℕ) → slice_get flags k ≡ Some true → slice_get index k ≡ Some (pos d)
+      → slice_get result d ≡ slice_get source k
 
 -- each element goes to its index, and a place to which none goes keeps its default
 pub record IsDefaultPermute {X : Type 0} (source : List X) (index : List ℤ) (defaults result : List X) : Type 0 where
@@ -40,7 +42,8 @@ pub record IsBackPermute {X : Type 0} (source : List X) (index : List ℤ) (resu
 -- no place before k is bad: each that takes part has its destination in the result, and no two have the same
 pub record IsGoodBefore (m : ℕ) (destinations : List (Option ℤ)) (k : ℕ) : Type 0 where
   pub within : (j : ℕ) (i : ℤ) → j < k → slice_get destinations j ≡ Some (Some i) → IsTrue (is_place m i)
-  pub once : (h j : ℕ) (i : ℤ) → h < j → j < k → slice_get destinations h ≡ Some (Some i) → slice_get destinations j ≢ Some (Some i)
+  pub once : (h j : ℕ) (i : ℤ) → h < j → j < k → slice_get destinations h ≡ Some (Some i)
+      → slice_get destinations j ≢ Some (Some i)
 
 -- the indices before place k are places of a result of m elements
 abbrev pub AreWithin : ℕ → List ℤ → ℕ → Type 0

@@ -6,11 +6,9 @@ use Rattle.cvl_base.specs.Faults.{fault_at}
 use Rattle.call_laws.proofs.CheckedInTwo.{checked-two, total-two}
 use Rattle.call_laws.proofs.checked_sums.checked_sums_in_parts.Goals as goal
 
-pub returns-clause-scan : goal.returns-clause-scan
-returns-clause-scan c = checked-two
-
-pub returns-clause-scan_call : goal.returns-clause-scan_call
-returns-clause-scan_call c = λ xs. refl
-
-pub returns-clause-reduce : goal.returns-clause-reduce
-returns-clause-reduce c = λ xs ys. ap (λ z. ok_or (fitting z) (fault_at no.Overflow 0)) (total-two xs ys)
+pub returns : goal.returns
+returns c = record {
+  scan = checked-two;
+  scan_call = λ xs. refl;
+  reduce = λ xs ys. ap (λ z. ok_or (fitting z) (fault_at no.Overflow 0)) (total-two xs ys);
+}

@@ -1,11 +1,6 @@
+use Rattle.std.proofs.Common.{refl}
 use Rattle.call_laws.proofs.ElementPlaces.{extract-meaning, extract-exists, extract-past}
 use Rattle.call_laws.proofs.extracts.extract_law.Goals as goal
 
-pub returns-clause-meaning : goal.returns-clause-meaning
-returns-clause-meaning g c = extract-meaning
-
-pub returns-clause-exists : goal.returns-clause-exists
-returns-clause-exists g c = extract-exists
-
-pub returns-clause-past_end : goal.returns-clause-past_end
-returns-clause-past_end g c = extract-past
+pub returns : goal.returns
+returns g c = record { meaning = extract-meaning; exists = extract-exists; past_end = extract-past; negative = λ xs k. refl }

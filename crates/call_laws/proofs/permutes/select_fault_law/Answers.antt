@@ -1,14 +1,19 @@
-use Rattle.call_laws.proofs.PermuteFaults.{select-again, select-flag_mismatch, select-index_mismatch, select-outside}
+use Rattle.cvl_base.specs.Packs.{count_of}
+use Rattle.cvl_base.specs.Permutes.{flagged_destinations}
+use Rattle.call_laws.proofs.FirstBadPlaces.{fault-again, fault-outside}
+use Rattle.call_laws.proofs.PermuteFaults.{flagged_good, select-fault, select-flag_mismatch, select-index_mismatch}
+use Rattle.call_laws.proofs.Selecting.{flagged-here}
 use Rattle.call_laws.proofs.permutes.select_fault_law.Goals as goal
 
-pub returns-clause-index_mismatch : goal.returns-clause-index_mismatch
-returns-clause-index_mismatch g c = select-index_mismatch
-
-pub returns-clause-flag_mismatch : goal.returns-clause-flag_mismatch
-returns-clause-flag_mismatch g c = select-flag_mismatch
-
-pub returns-clause-outside : goal.returns-clause-outside
-returns-clause-outside g c = select-outside
-
-pub returns-clause-again : goal.returns-clause-again
-returns-clause-again g c = select-again
+pub returns : goal.returns
+returns g c = record {
+  index_mismatch = select-index_mismatch;
+  flag_mismatch = select-flag_mismatch;
+  outside = λ source index flags k i long flagged within once flag here out.
+      select-fault source index flags _ long flagged
+      (fault-outside (count_of flags) (flagged_destinations index flags) k i (flagged_good (count_of flags) index flags k within once) (flagged-here index flags k i flag here) out);
+  again = λ source index flags h k i long flagged within once below first_flag flag first here.
+      select-fault source index flags _ long flagged
+      (fault-again (count_of flags) (flagged_destinations index flags) h k i (flagged_good (count_of flags) index flags k within once) below
+      (flagged-here index flags h i first_flag first) (flagged-here index flags k i flag here) (within h i below first_flag first));
+}

@@ -1,8 +1,5 @@
 use Rattle.call_laws.proofs.Segments.{distribute-again, index-again}
 use Rattle.call_laws.proofs.segmented.one_segment_made.Goals as goal
 
-pub returns-clause-distribute : goal.returns-clause-distribute
-returns-clause-distribute g c = distribute-again
-
-pub returns-clause-index : goal.returns-clause-index
-returns-clause-index g c = index-again
+pub returns : goal.returns
+returns g c = record { distribute = distribute-again; index = index-again }
