@@ -16,7 +16,7 @@ use cvl_base::{Fault, IntBinary, Unary, check_agree};
 use element_walks::{Binary, OrZero, PartialBinary, Single};
 
 /// Writes the operator's value over each element.
-fn write_each<O: Single<X, X>, X: Copy>(a: &mut [X])
+pub fn on_each_in<O: Single<X, X>, X: Copy>(a: &mut [X])
     ensures { a.new ≡ map O.value a.old }
 {
     for place in 0..a.len() {
@@ -35,7 +35,7 @@ fn write_pairs<O: Binary<X, X>, X: Copy>(a: &mut [X], b: &[X])
 }
 
 /// Writes the operator's values on the pairs of elements over the first vector, or tells `LengthMismatch` where one is longer.
-fn on_pairs_in_first<O: Binary<X, X>, X: Copy>(a: &mut [X], b: &[X]) -> Result<(), Fault>
+pub fn on_pairs_in_first<O: Binary<X, X>, X: Copy>(a: &mut [X], b: &[X]) -> Result<(), Fault>
     ensures { Overwrites (on_pairs O.value a.old b.now) result a.old a.new }
 {
     check_agree(a.len(), b.len())?;
@@ -44,7 +44,7 @@ fn on_pairs_in_first<O: Binary<X, X>, X: Copy>(a: &mut [X], b: &[X]) -> Result<(
 }
 
 /// The same over the second vector.
-fn on_pairs_in_second<O: Binary<X, X>, X: Copy>(a: &[X], b: &mut [X]) -> Result<(), Fault>
+pub fn on_pairs_in_second<O: Binary<X, X>, X: Copy>(a: &[X], b: &mut [X]) -> Result<(), Fault>
     ensures { Overwrites (on_pairs O.value a.now b.old) result b.old b.new }
 {
     check_agree(a.len(), b.len())?;
@@ -53,10 +53,10 @@ fn on_pairs_in_second<O: Binary<X, X>, X: Copy>(a: &[X], b: &mut [X]) -> Result<
 }
 
 /// The same of a vector and itself.
-fn on_pairs_in_both<O: Binary<X, X>, X: Copy>(a: &mut [X]) -> Result<(), Fault>
+pub fn on_pairs_in_both<O: Binary<X, X>, X: Copy>(a: &mut [X]) -> Result<(), Fault>
     ensures { Overwrites (on_pairs O.value a.old a.old) result a.old a.new }
 {
-    write_each::<Twice<O>, X>(a);
+    on_each_in::<Twice<O>, X>(a);
     Ok(())
 }
 
@@ -95,7 +95,7 @@ fn on_pairs_or_in_both<O: PartialBinary>(a: &mut [i32]) -> Result<(), Fault>
     if let Some(place) = first_without::<O>(a, a) {
         return Err(Fault::at(O::fault(), place));
     }
-    write_each::<Twice<OrZero<O>>, i32>(a);
+    on_each_in::<Twice<OrZero<O>>, i32>(a);
     Ok(())
 }
 
@@ -167,7 +167,7 @@ pub fn int1_in(op: Unary, a: &mut [i32])
     ensures { a.new ≡ ints1_of op a.old }
 {
     match op {
-        Unary::Not => write_each::<NotInt, i32>(a),
+        Unary::Not => on_each_in::<NotInt, i32>(a),
         Unary::Copy => {}
     }
 }

@@ -26,9 +26,13 @@ mod truths;
 
 pub use bools::{bool_from_int, bool1, bool2, compare};
 pub use choice::select;
-pub use in_place::{int1_in, int2_in_both, int2_in_first, int2_in_second};
+pub use in_place::{
+    int1_in, int2_in_both, int2_in_first, int2_in_second, on_each_in, on_pairs_in_both,
+    on_pairs_in_first, on_pairs_in_second,
+};
 pub use ints::{int_from_bool, int1, int2, int2_gated};
 pub use over::{
-    bool_from_int_over, bool1_over, bool2_over, compare_over, int_from_bool_over, int1_over,
-    int2_over, select_over,
+    bool_from_int_over, compare_over, int1_over, int2_over, on_each_over, on_pairs_over,
 };
+pub use singles::NotBool;
+pub use truths::{Both, Differ, Either};

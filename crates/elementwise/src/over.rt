@@ -1,23 +1,22 @@
 //! The calls over a room of the caller's, by the thread that calls, for code that has no runtime. They ask for no memory.
 
 ghost use Rattle.std.specs.Prelude.{◌≡◌, ◌≤◌, Ok, length, map};
-ghost use Rattle.cvl_base.specs.Elementwise.{bools1_of, bools2_of, bools_from_ints, choose_of, compare_of, ints1_of, ints2_of, ints_from_bools, on_pairs, on_pairs_or};
+ghost use Rattle.cvl_base.specs.Elementwise.{bools_from_ints, compare_of, ints1_of, ints2_of, on_pairs, on_pairs_or};
 ghost use Rattle.cvl_base.specs.Limits.{most_elements};
 ghost use Rattle.cvl_base.specs.Rooms.{Overwrites, in_room};
 
 use crate::comparisons::{AtLeast, AtMost, Equal, Greater, Less, Unequal};
 use crate::looks::first_without;
 use crate::partials::{Div, Lsh, Mod, Rsh};
-use crate::singles::{BoolOfInt, IntOfBool, NotBool, NotInt};
+use crate::singles::{BoolOfInt, NotInt};
 use crate::total_operators::{Add, And, Ior, Max, Min, Mul, Sub, Xor};
-use crate::truths::{Both, Differ, Either};
-use cvl_base::{BoolBinary, Comparison, Fault, IntBinary, Unary, check_agree};
-use element_walks::{Binary, Chosen, Copied, OnEach, OnPairs, OrZero, PartialBinary, Single};
+use cvl_base::{Comparison, Fault, IntBinary, Unary, check_agree};
+use element_walks::{Binary, Copied, OnEach, OnPairs, OrZero, PartialBinary, Single};
 use fresh::write_over;
 
 /// Writes the operator's values on the pairs of elements of two vectors, or tells `LengthMismatch` where the vectors and the
 /// room aren't equally long.
-fn on_pairs_over<O: Binary<X, Z>, X: Copy, Z: Copy>(
+pub fn on_pairs_over<O: Binary<X, Z>, X: Copy, Z: Copy>(
     a: &[X],
     b: &[X],
     out: &mut [Z],
@@ -47,7 +46,7 @@ fn on_pairs_or_over<O: PartialBinary>(a: &[i32], b: &[i32], out: &mut [i32]) -> 
 }
 
 /// Writes the operator's values on the elements, or tells `LengthMismatch` where the room isn't as long.
-fn on_each_over<O: Single<X, Z>, X: Copy, Z: Copy>(a: &[X], out: &mut [Z]) -> Result<(), Fault>
+pub fn on_each_over<O: Single<X, Z>, X: Copy, Z: Copy>(a: &[X], out: &mut [Z]) -> Result<(), Fault>
     requires { length a.now ≤ most_elements }
     ensures { Overwrites (in_room (length out.old) (Ok (map O.value a.now))) result out.old out.new }
 {
@@ -113,58 +112,10 @@ pub fn compare_over(op: Comparison, a: &[i32], b: &[i32], out: &mut [bool]) -> R
     }
 }
 
-/// The same as [`bool2`](crate::bool2), over a room.
-pub fn bool2_over(op: BoolBinary, a: &[bool], b: &[bool], out: &mut [bool]) -> Result<(), Fault>
-    requires { length a.now ≤ most_elements }
-    ensures { Overwrites (in_room (length out.old) (bools2_of op a.now b.now)) result out.old out.new }
-{
-    match op {
-        BoolBinary::And => on_pairs_over::<Both, bool, bool>(a, b, out),
-        BoolBinary::Ior => on_pairs_over::<Either, bool, bool>(a, b, out),
-        BoolBinary::Xor => on_pairs_over::<Differ, bool, bool>(a, b, out),
-    }
-}
-
-/// The same as [`bool1`](crate::bool1), over a room.
-pub fn bool1_over(op: Unary, a: &[bool], out: &mut [bool]) -> Result<(), Fault>
-    requires { length a.now ≤ most_elements }
-    ensures { Overwrites (in_room (length out.old) (Ok (bools1_of op a.now))) result out.old out.new }
-{
-    match op {
-        Unary::Not => on_each_over::<NotBool, bool, bool>(a, out),
-        Unary::Copy => copy_over(a, out),
-    }
-}
-
-/// The same as [`int_from_bool`](crate::int_from_bool), over a room.
-pub fn int_from_bool_over(a: &[bool], out: &mut [i32]) -> Result<(), Fault>
-    requires { length a.now ≤ most_elements }
-    ensures { Overwrites (in_room (length out.old) (Ok (ints_from_bools a.now))) result out.old out.new }
-{
-    on_each_over::<IntOfBool, bool, i32>(a, out)
-}
-
 /// The same as [`bool_from_int`](crate::bool_from_int), over a room.
 pub fn bool_from_int_over(a: &[i32], out: &mut [bool]) -> Result<(), Fault>
     requires { length a.now ≤ most_elements }
     ensures { Overwrites (in_room (length out.old) (Ok (bools_from_ints a.now))) result out.old out.new }
 {
     on_each_over::<BoolOfInt, i32, bool>(a, out)
-}
-
-/// The same as [`select`](crate::select), over a room.
-pub fn select_over<T: Copy>(flags: &[bool], a: &[T], b: &[T], out: &mut [T]) -> Result<(), Fault>
-    requires { length flags.now ≤ most_elements }
-    ensures { Overwrites (in_room (length out.old) (choose_of flags.now a.now b.now)) result out.old out.new }
-{
-    check_agree(flags.len(), a.len())?;
-    check_agree(flags.len(), b.len())?;
-    check_agree(flags.len(), out.len())?;
-    let chosen = Chosen {
-        flags,
-        first: a,
-        second: b,
-    };
-    write_over(out, &chosen);
-    Ok(())
 }

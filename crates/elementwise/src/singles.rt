@@ -19,7 +19,7 @@ impl Single<i32, i32> for NotInt {
 }
 
 /// True where the boolean is false.
-pub(crate) struct NotBool;
+pub struct NotBool;
 
 impl Single<bool, bool> for NotBool {
     ghost value = { not };

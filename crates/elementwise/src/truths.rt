@@ -6,7 +6,7 @@ use cvl_base::boolean;
 use element_walks::Binary;
 
 /// Both are true.
-pub(crate) struct Both;
+pub struct Both;
 
 impl Binary<bool, bool> for Both {
     ghost value = { both };
@@ -17,7 +17,7 @@ impl Binary<bool, bool> for Both {
 }
 
 /// At least one is true.
-pub(crate) struct Either;
+pub struct Either;
 
 impl Binary<bool, bool> for Either {
     ghost value = { either };
@@ -28,7 +28,7 @@ impl Binary<bool, bool> for Either {
 }
 
 /// Exactly one is true.
-pub(crate) struct Differ;
+pub struct Differ;
 
 impl Binary<bool, bool> for Differ {
     ghost value = { differ };

@@ -20,4 +20,4 @@ returns g c =
     let a = c.args.a.now in
     if_as_long-fits a a _ refl
     ∙ succeeds g.O.PartialBinary.fault (λ p. g.O.PartialBinary.value p.0 p.1) (pos 0) (zip a a) 0 (sym c.first_without.ensures ∙ c.in_default.is)
-    ∙ ap Ok (sym (c.write_each.ensures ∙ twice (λ x y. unwrap_or (g.O.PartialBinary.value x y) (pos 0)) a))
+    ∙ ap Ok (sym (c.on_each_in.ensures ∙ twice (λ x y. unwrap_or (g.O.PartialBinary.value x y) (pos 0)) a))

@@ -1,7 +1,7 @@
 use Rattle.std.proofs.Common.{◌<◌, arith, length, map}
 use Rattle.std.proofs.lemmas.List.{length-map}
 use Rattle.elementwise.proofs.InPlace.{begins, ends, step, value_each}
-use Rattle.elementwise.proofs.in_place.write_each.Goals as goal
+use Rattle.elementwise.proofs.in_place.on_each_in.Goals as goal
 
 pub loop-place-init : goal.loop-place-init
 loop-place-init g c = begins _ c.args.a.now
