@@ -1,4 +1,2 @@
 pub mod Afters
 pub mod Carried
-pub mod Limits
-pub mod OnBytes

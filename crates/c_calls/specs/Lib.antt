@@ -1,5 +1,4 @@
 pub mod Calls
-pub mod Flags
 pub mod Fronts
 pub mod NestedTexts
 pub mod Numbers

@@ -1,32 +1,21 @@
 //! Counts and single elements of whole vectors of flags.
 
-ghost use Rattle.std.specs.Prelude.{◌≡◌, ◌≤◌, Ok, length, pos};
-ghost use Rattle.cvl_base.specs.Limits.{most_elements};
+ghost use Rattle.std.specs.Prelude.{◌≡◌, Ok, pos};
 ghost use Rattle.cvl_base.specs.Packs.{count_of};
 ghost use Rattle.c_calls.specs.Calls.{in_limit};
-ghost use Rattle.c_calls.specs.Flags.{extract_flag_of, flags_of};
+ghost use Rattle.flag_calls.specs.Flags.{extract_flag_of, flags_of};
 
 use crate::checks::check_limit;
-use crate::flags::{OneForTrue, flag_of};
 use cvl_base::Fault;
-use cvl_base::monoids::Add;
+use flag_calls::flag_of;
 use pack_dist::extract;
-use scan_walks::sum_from;
-
-/// The number of bytes that are true.
-fn true_bytes(flags: &[u8]) -> i32
-    requires few { length flags.now ≤ most_elements }
-    ensures { result ≡ pos (count_of (flags_of flags.now)) }
-{
-    sum_from::<Add, u8, OneForTrue>(0, flags)
-}
 
 /// The number of true flags, of which there are at most 4,194,304, else TooLong, without a place.
 pub fn count(flags: &[u8]) -> Result<i32, Fault>
     ensures { result ≡ in_limit flags.now (Ok (pos (count_of (flags_of flags.now)))) }
 {
     check_limit(flags)?;
-    Ok(true_bytes(flags))
+    Ok(flag_calls::count(flags))
 }
 
 /// The flag at the place that an index names.

@@ -6,30 +6,21 @@ ghost use Rattle.cvl_base.specs.Rooms.{Overwrites};
 ghost use Rattle.cvl_base.specs.Scans.{bool_join_of, bool_scan_of, bool_unit_of};
 ghost use Rattle.cvl_base.specs.SegmentedCalls.{seg_scan_of};
 ghost use Rattle.c_calls.specs.Calls.{by_operator, by_segments, in_limit};
-ghost use Rattle.c_calls.specs.Flags.{as_bytes, flags_of};
+ghost use Rattle.flag_calls.specs.Flags.{as_bytes, flags_of};
 ghost use Rattle.c_calls.specs.Numbers.{bool_binary, unary};
 ghost use Rattle.c_calls.specs.Tiles.{bool_scan_after};
 
-use crate::byte_walks::{pairs_in_both, pairs_in_first, pairs_in_second, write_each};
 use crate::checks::{check_limit, segments};
-use crate::choice::{choose_in_first, choose_in_second};
-use crate::flags::{Both, Differ, Either, Not, OnBytes, Same};
 use crate::in_place::scan;
 use crate::numbers::{bool_binary, unary};
 use cvl_base::monoids::{BoolAnd, BoolIor, BoolXor};
-use cvl_base::{BoolBinary, Fault, Unary};
+use cvl_base::{BoolBinary, Fault};
+use flag_calls::{
+    bool1_in, bool2_in_both, bool2_in_first, bool2_in_second, select_flags_in_first,
+    select_flags_in_second, select_in_first, select_in_second,
+};
 use scan_walks::{scan_in, seg_scan_in};
 use segdes::SegLengths;
-
-fn bool2_first_by(op: BoolBinary, a: &mut [u8], b: &[u8]) -> Result<(), Fault>
-    ensures { Overwrites (as_bytes (bools2_of op (flags_of a.old) (flags_of b.now))) result a.old a.new }
-{
-    match op {
-        BoolBinary::And => pairs_in_first::<Both>(a, b),
-        BoolBinary::Ior => pairs_in_first::<Either>(a, b),
-        BoolBinary::Xor => pairs_in_first::<Differ>(a, b),
-    }
-}
 
 /// The operator on each two flags at the same place, over the first.
 pub fn bool2_first(op: u32, a: &mut [u8], b: &[u8]) -> Result<(), Fault>
@@ -38,17 +29,7 @@ pub fn bool2_first(op: u32, a: &mut [u8], b: &[u8]) -> Result<(), Fault>
 {
     let op = bool_binary(op)?;
     check_limit(a)?;
-    bool2_first_by(op, a, b)
-}
-
-fn bool2_second_by(op: BoolBinary, a: &[u8], b: &mut [u8]) -> Result<(), Fault>
-    ensures { Overwrites (as_bytes (bools2_of op (flags_of a.now) (flags_of b.old))) result b.old b.new }
-{
-    match op {
-        BoolBinary::And => pairs_in_second::<Both>(a, b),
-        BoolBinary::Ior => pairs_in_second::<Either>(a, b),
-        BoolBinary::Xor => pairs_in_second::<Differ>(a, b),
-    }
+    bool2_in_first(op, a, b)
 }
 
 /// The operator on each two flags at the same place, over the second.
@@ -58,17 +39,7 @@ pub fn bool2_second(op: u32, a: &[u8], b: &mut [u8]) -> Result<(), Fault>
 {
     let op = bool_binary(op)?;
     check_limit(a)?;
-    bool2_second_by(op, a, b)
-}
-
-fn bool2_both_by(op: BoolBinary, a: &mut [u8]) -> Result<(), Fault>
-    ensures { Overwrites (as_bytes (bools2_of op (flags_of a.old) (flags_of a.old))) result a.old a.new }
-{
-    match op {
-        BoolBinary::And => pairs_in_both::<Both>(a),
-        BoolBinary::Ior => pairs_in_both::<Either>(a),
-        BoolBinary::Xor => pairs_in_both::<Differ>(a),
-    }
+    bool2_in_second(op, a, b)
 }
 
 /// The operator on each flag and itself, over the flags.
@@ -78,17 +49,7 @@ pub fn bool2_both(op: u32, a: &mut [u8]) -> Result<(), Fault>
 {
     let op = bool_binary(op)?;
     check_limit(a)?;
-    bool2_both_by(op, a)
-}
-
-fn bool1_by(op: Unary, a: &mut [u8]) -> Result<(), Fault>
-    ensures { Overwrites (as_bytes (Ok (bools1_of op (flags_of a.old)))) result a.old a.new }
-{
-    match op {
-        Unary::Not => write_each::<OnBytes<Not>>(a),
-        Unary::Copy => write_each::<OnBytes<Same>>(a),
-    }
-    Ok(())
+    bool2_in_both(op, a)
 }
 
 /// The operator on each flag, over the flags.
@@ -98,7 +59,7 @@ pub fn bool1(op: u32, a: &mut [u8]) -> Result<(), Fault>
 {
     let op = unary(op)?;
     check_limit(a)?;
-    bool1_by(op, a)
+    bool1_in(op, a)
 }
 
 /// At each place the integer of `a` where the flag is true, else that of `b`, over `a`.
@@ -106,7 +67,7 @@ pub fn select_int_first(flags: &[u8], a: &mut [i32], b: &[i32]) -> Result<(), Fa
     ensures { Overwrites (in_limit flags.now (choose_of (flags_of flags.now) a.old b.now)) result a.old a.new }
 {
     check_limit(flags)?;
-    choose_in_first::<Same, i32>(flags, a, b)
+    select_in_first(flags, a, b)
 }
 
 /// The same over `b`.
@@ -114,7 +75,7 @@ pub fn select_int_second(flags: &[u8], a: &[i32], b: &mut [i32]) -> Result<(), F
     ensures { Overwrites (in_limit flags.now (choose_of (flags_of flags.now) a.now b.old)) result b.old b.new }
 {
     check_limit(flags)?;
-    choose_in_second::<Same, i32>(flags, a, b)
+    select_in_second(flags, a, b)
 }
 
 /// At each place the flag of `a` where that of `flags` is true, else that of `b`, over `a`.
@@ -123,7 +84,7 @@ pub fn select_bool_first(flags: &[u8], a: &mut [u8], b: &[u8]) -> Result<(), Fau
         (choose_of (flags_of flags.now) (flags_of a.old) (flags_of b.now)))) result a.old a.new }
 {
     check_limit(flags)?;
-    choose_in_first::<OnBytes<Same>, u8>(flags, a, b)
+    select_flags_in_first(flags, a, b)
 }
 
 /// The same over `b`.
@@ -132,7 +93,7 @@ pub fn select_bool_second(flags: &[u8], a: &[u8], b: &mut [u8]) -> Result<(), Fa
         (choose_of (flags_of flags.now) (flags_of a.now) (flags_of b.old)))) result b.old b.new }
 {
     check_limit(flags)?;
-    choose_in_second::<OnBytes<Same>, u8>(flags, a, b)
+    select_flags_in_second(flags, a, b)
 }
 
 /// The scan of booleans by an operator, over the booleans.

@@ -3,14 +3,11 @@
 //! answer as two numbers.
 #![tactic(auto)]
 
-pub mod byte_walks;
 pub mod carries;
 pub mod checked_sums;
 mod checks;
-mod choice;
 pub mod descriptors;
 pub mod elements;
-pub mod flags;
 pub mod flags_in_place;
 pub mod flat_permutes;
 pub mod in_place;

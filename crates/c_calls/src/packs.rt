@@ -5,16 +5,13 @@ ghost use Rattle.cvl_base.specs.Packs.{pack_of};
 ghost use Rattle.cvl_base.specs.Rooms.{Overwrites, OverwritesFront};
 ghost use Rattle.cvl_base.specs.SegmentedCalls.{seg_pack_of};
 ghost use Rattle.c_calls.specs.Calls.{by_segments, counts_of, in_limit};
-ghost use Rattle.c_calls.specs.Flags.{flags_of};
+ghost use Rattle.flag_calls.specs.Flags.{flags_of};
 ghost use Rattle.c_calls.specs.Told.{in_room};
 
 use crate::checks::{check_limit, segments};
-use crate::flags::OneForTrue;
 use cvl_base::Fault;
-use cvl_base::monoids::Add;
+use flag_calls::seg_count_over;
 use pack_dist::{pack_over, seg_pack_values_over};
-use scan_walks::seg_reduce_readings_over;
-use segdes::SegLengths;
 
 /// Writes the elements whose flag is true, in order, at the front of a room, and counts them.
 pub fn pack<T: Copy>(
@@ -49,13 +46,5 @@ pub fn count_each(flags: &[u8], lengths: &[i32], out: &mut [i32]) -> Result<(), 
     ensures { Overwrites (in_room (length out.old) (by_segments lengths.now (counts_of (flags_of flags.now)))) result out.old out.new }
 {
     let d = segments(lengths)?;
-    count_segments(flags, &d, out)
-}
-
-fn count_segments(flags: &[u8], d: &SegLengths, out: &mut [i32]) -> Result<(), Fault>
-    ensures { Overwrites (in_room (length out.old) (counts_of (flags_of flags.now) d.now)) result out.old out.new }
-{
-    // its contract names the limits of a descriptor's lengths
-    let _lengths = d.lengths();
-    seg_reduce_readings_over::<Add, u8, OneForTrue>(flags, d, out)
+    seg_count_over(flags, &d, out)
 }

@@ -1,21 +1,18 @@
 //! The calls that work place by place, on vectors of at most 4,194,304 elements.
 
-ghost use Rattle.std.specs.Prelude.{◌≤◌, Ok, length};
+ghost use Rattle.std.specs.Prelude.{Ok, length};
 ghost use Rattle.cvl_base.specs.Elementwise.{bools1_of, bools2_of, bools_from_ints, choose_of, compare_of, ints1_of, ints2_of, ints_from_bools};
-ghost use Rattle.cvl_base.specs.Limits.{most_elements};
 ghost use Rattle.cvl_base.specs.Rooms.{Overwrites};
 ghost use Rattle.c_calls.specs.Calls.{by_operator, in_limit};
-ghost use Rattle.c_calls.specs.Flags.{as_bytes, flags_of};
+ghost use Rattle.flag_calls.specs.Flags.{as_bytes, flags_of};
 ghost use Rattle.c_calls.specs.Numbers.{bool_binary, comparison, int_binary, unary};
 ghost use Rattle.c_calls.specs.Told.{in_room};
 
-use crate::byte_walks::{each_over, pairs_over};
 use crate::checks::check_limit;
-use crate::choice::choose_over;
-use crate::flags::{Both, Differ, Either, Not, OnBytes, OneForTrue, Same};
 use crate::numbers::{bool_binary, comparison, int_binary, unary};
-use cvl_base::{BoolBinary, Fault, Unary};
+use cvl_base::Fault;
 use elementwise::{bool_from_int_over, compare_over, int1_over, int2_over};
+use flag_calls::{bool1_over, bool2_over, int_from_bool_over, select_flags_over, select_over};
 
 /// The operator on each two integers at the same place.
 pub fn int2(op: u32, a: &[i32], b: &[i32], out: &mut [i32]) -> Result<(), Fault>
@@ -45,46 +42,23 @@ pub fn compare(op: u32, a: &[i32], b: &[i32], out: &mut [bool]) -> Result<(), Fa
 }
 
 /// The operator on each two flags at the same place.
-fn bool2_by(op: BoolBinary, a: &[u8], b: &[u8], out: &mut [u8]) -> Result<(), Fault>
-    requires { length a.now ≤ most_elements }
-    ensures { Overwrites (in_room (length out.old) (as_bytes (bools2_of op (flags_of a.now) (flags_of b.now)))) result out.old out.new }
-{
-    match op {
-        BoolBinary::And => pairs_over::<Both>(a, b, out),
-        BoolBinary::Ior => pairs_over::<Either>(a, b, out),
-        BoolBinary::Xor => pairs_over::<Differ>(a, b, out),
-    }
-}
-
-/// The operator of a number on each two flags at the same place.
 pub fn bool2(op: u32, a: &[u8], b: &[u8], out: &mut [u8]) -> Result<(), Fault>
     ensures { Overwrites (in_room (length out.old) (as_bytes (by_operator (bool_binary op)
         (λ o. in_limit a.now (bools2_of o (flags_of a.now) (flags_of b.now)))))) result out.old out.new }
 {
     let op = bool_binary(op)?;
     check_limit(a)?;
-    bool2_by(op, a, b, out)
+    bool2_over(op, a, b, out)
 }
 
 /// The operator on each flag.
-fn bool1_by(op: Unary, a: &[u8], out: &mut [u8]) -> Result<(), Fault>
-    requires { length a.now ≤ most_elements }
-    ensures { Overwrites (in_room (length out.old) (as_bytes (Ok (bools1_of op (flags_of a.now))))) result out.old out.new }
-{
-    match op {
-        Unary::Not => each_over::<OnBytes<Not>, u8>(a, out),
-        Unary::Copy => each_over::<OnBytes<Same>, u8>(a, out),
-    }
-}
-
-/// The operator of a number on each flag.
 pub fn bool1(op: u32, a: &[u8], out: &mut [u8]) -> Result<(), Fault>
     ensures { Overwrites (in_room (length out.old) (as_bytes (by_operator (unary op)
         (λ o. in_limit a.now (Ok (bools1_of o (flags_of a.now))))))) result out.old out.new }
 {
     let op = unary(op)?;
     check_limit(a)?;
-    bool1_by(op, a, out)
+    bool1_over(op, a, out)
 }
 
 /// 1 for each true flag, and 0 for each false one.
@@ -92,7 +66,7 @@ pub fn int_from_bool(a: &[u8], out: &mut [i32]) -> Result<(), Fault>
     ensures { Overwrites (in_room (length out.old) (in_limit a.now (Ok (ints_from_bools (flags_of a.now))))) result out.old out.new }
 {
     check_limit(a)?;
-    each_over::<OneForTrue, i32>(a, out)
+    int_from_bool_over(a, out)
 }
 
 /// True for each integer that isn't 0.
@@ -108,7 +82,7 @@ pub fn select_int(flags: &[u8], a: &[i32], b: &[i32], out: &mut [i32]) -> Result
     ensures { Overwrites (in_room (length out.old) (in_limit flags.now (choose_of (flags_of flags.now) a.now b.now))) result out.old out.new }
 {
     check_limit(flags)?;
-    choose_over::<Same, i32>(flags, a, b, out)
+    select_over(flags, a, b, out)
 }
 
 /// At each place the flag of `a` where that of `flags` is true, else that of `b`.
@@ -117,5 +91,5 @@ pub fn select_bool(flags: &[u8], a: &[u8], b: &[u8], out: &mut [u8]) -> Result<(
         (choose_of (flags_of flags.now) (flags_of a.now) (flags_of b.now))))) result out.old out.new }
 {
     check_limit(flags)?;
-    choose_over::<OnBytes<Same>, u8>(flags, a, b, out)
+    select_flags_over(flags, a, b, out)
 }

@@ -7,12 +7,11 @@ ghost use Rattle.cvl_base.specs.Limits.{most_elements};
 ghost use Rattle.cvl_base.specs.Rooms.{Overwrites};
 ghost use Rattle.cvl_base.specs.Scans.{bool_reduce_of, bool_scan_of, int_reduce_of, int_scan_of};
 ghost use Rattle.c_calls.specs.Calls.{by_operator, in_limit};
-ghost use Rattle.c_calls.specs.Flags.{flags_of};
+ghost use Rattle.flag_calls.specs.Flags.{flags_of};
 ghost use Rattle.c_calls.specs.Numbers.{bool_binary, int_monoid};
 ghost use Rattle.c_calls.specs.Told.{in_room};
 
 use crate::checks::check_limit;
-use crate::flags::TrueByte;
 use crate::numbers::{bool_binary, int_monoid};
 use cvl_base::monoid::know_laws;
 use cvl_base::monoids::{Add, And, BoolAnd, BoolIor, BoolXor, Ior, Max, Min, Mul, Xor};
@@ -83,17 +82,6 @@ fn bool_scan_by(op: BoolBinary, a: &[bool], out: &mut [bool]) -> Result<(), Faul
     }
 }
 
-/// The reduce of flags by an operator.
-fn bool_reduce_by(op: BoolBinary, a: &[u8]) -> bool
-    ensures { result ≡ bool_reduce_of op (flags_of a.now) }
-{
-    match op {
-        BoolBinary::And => sum_from::<BoolAnd, u8, TrueByte>(true, a),
-        BoolBinary::Ior => sum_from::<BoolIor, u8, TrueByte>(false, a),
-        BoolBinary::Xor => sum_from::<BoolXor, u8, TrueByte>(false, a),
-    }
-}
-
 /// The scan of integers by the operator of a number.
 pub fn int_scan(op: u32, a: &[i32], out: &mut [i32]) -> Result<(), Fault>
     ensures { Overwrites (in_room (length out.old) (by_operator (int_monoid op) (λ o. in_limit a.now (Ok (int_scan_of o a.now))))) result out.old out.new }
@@ -127,5 +115,5 @@ pub fn bool_reduce(op: u32, a: &[u8]) -> Result<bool, Fault>
 {
     let op = bool_binary(op)?;
     check_limit(a)?;
-    Ok(bool_reduce_by(op, a))
+    Ok(flag_calls::bool_reduce(op, a))
 }

@@ -5,16 +5,16 @@ ghost use Rattle.cvl_base.specs.Rooms.{Overwrites};
 ghost use Rattle.cvl_base.specs.Scans.{bool_join_of, bool_unit_of, int_join_of, int_unit_of};
 ghost use Rattle.cvl_base.specs.SegmentedCalls.{seg_reduce_of, seg_scan_of};
 ghost use Rattle.c_calls.specs.Calls.{by_operator, by_segments};
-ghost use Rattle.c_calls.specs.Flags.{flags_of};
+ghost use Rattle.flag_calls.specs.Flags.{flags_of};
 ghost use Rattle.c_calls.specs.Numbers.{bool_binary, int_monoid};
 ghost use Rattle.c_calls.specs.Told.{in_room};
 
 use crate::checks::segments;
-use crate::flags::TrueByte;
 use crate::numbers::{bool_binary, int_monoid};
 use cvl_base::monoids::{Add, And, BoolAnd, BoolIor, BoolXor, Ior, Max, Min, Mul, Xor};
 use cvl_base::{BoolBinary, Fault, IntMonoid};
-use scan_walks::{know_numbers, seg_reduce_over, seg_reduce_readings_over, seg_scan_over};
+use flag_calls::seg_bool_reduce_over;
+use scan_walks::{know_numbers, seg_reduce_over, seg_scan_over};
 use segdes::SegLengths;
 
 /// The scan of each segment of integers by an operator.
@@ -60,17 +60,6 @@ fn bool_scan_by(op: BoolBinary, a: &[bool], d: &SegLengths, out: &mut [bool]) ->
     }
 }
 
-/// The reduce of each segment of flags by an operator.
-fn bool_reduce_by(op: BoolBinary, a: &[u8], d: &SegLengths, out: &mut [bool]) -> Result<(), Fault>
-    ensures { Overwrites (in_room (length out.old) (seg_reduce_of (bool_join_of op) (bool_unit_of op) (flags_of a.now) d.now)) result out.old out.new }
-{
-    match op {
-        BoolBinary::And => seg_reduce_readings_over::<BoolAnd, u8, TrueByte>(a, d, out),
-        BoolBinary::Ior => seg_reduce_readings_over::<BoolIor, u8, TrueByte>(a, d, out),
-        BoolBinary::Xor => seg_reduce_readings_over::<BoolXor, u8, TrueByte>(a, d, out),
-    }
-}
-
 /// The scan of each segment of integers by the operator of a number.
 pub fn int_scan(op: u32, a: &[i32], lengths: &[i32], out: &mut [i32]) -> Result<(), Fault>
     ensures { Overwrites (in_room (length out.old) (by_operator (int_monoid op)
@@ -108,5 +97,5 @@ pub fn bool_reduce(op: u32, a: &[u8], lengths: &[i32], out: &mut [bool]) -> Resu
 {
     let op = bool_binary(op)?;
     let d = segments(lengths)?;
-    bool_reduce_by(op, a, &d, out)
+    seg_bool_reduce_over(op, a, &d, out)
 }

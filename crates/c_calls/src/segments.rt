@@ -5,12 +5,12 @@ ghost use Rattle.cvl_base.specs.Gives.{Gives};
 ghost use Rattle.cvl_base.specs.Rooms.{OverwritesOr};
 ghost use Rattle.cvl_base.specs.SegmentedCalls.{seg_distribute_of, seg_extract_of, seg_index_of, seg_replace_of};
 ghost use Rattle.c_calls.specs.Calls.{by_segments};
-ghost use Rattle.c_calls.specs.Flags.{made_flags};
+ghost use Rattle.flag_calls.specs.Flags.{made_flags};
 ghost use Rattle.c_calls.specs.Told.{in_room};
 
-use crate::byte_walks::make_flags;
 use crate::checks::{descriptor, segments};
 use cvl_base::Refused;
+use flag_calls::make_flags;
 use pack_dist::{seg_distribute_over, seg_extract, seg_index_over, seg_replace};
 use std::alloc::Global;
 

@@ -5,7 +5,7 @@ ghost use Rattle.cvl_base.specs.Distributes.{distribute_of, index_of};
 ghost use Rattle.cvl_base.specs.Extracts.{extract_of, replace_of};
 ghost use Rattle.cvl_base.specs.Packs.{count_of};
 ghost use Rattle.c_calls.specs.Calls.{in_limit};
-ghost use Rattle.c_calls.specs.Flags.{extract_flag_of, flags_of};
+ghost use Rattle.flag_calls.specs.Flags.{extract_flag_of, flags_of};
 ghost use Rattle.c_calls.specs.Told.{Told, ToldOr, in_room};
 
 use c_calls::elements::{count, extract_flag};

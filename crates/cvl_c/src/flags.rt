@@ -2,10 +2,9 @@
 
 ghost use Rattle.std.specs.Prelude.{◌≡◌, map};
 ghost use Rattle.std.specs.List.{list_all};
-ghost use Rattle.c_calls.specs.Flags.{as_flag, is_flag};
+ghost use Rattle.flag_calls.specs.Flags.{as_flag, is_flag};
 
-use c_calls::byte_walks::make_flags;
-use c_calls::flags::are_flags;
+use flag_calls::{are_flags, make_flags};
 
 /// Whether each byte is 0 or 1.
 #[unsafe(no_mangle)]

@@ -5,7 +5,7 @@ ghost use Rattle.cvl_base.specs.Elementwise.{bools1_of, bools2_of, choose_of};
 ghost use Rattle.cvl_base.specs.Scans.{bool_join_of, bool_scan_of, bool_unit_of};
 ghost use Rattle.cvl_base.specs.SegmentedCalls.{seg_scan_of};
 ghost use Rattle.c_calls.specs.Calls.{by_operator, by_segments, in_limit};
-ghost use Rattle.c_calls.specs.Flags.{as_bytes, flags_of};
+ghost use Rattle.flag_calls.specs.Flags.{as_bytes, flags_of};
 ghost use Rattle.c_calls.specs.Numbers.{bool_binary, unary};
 ghost use Rattle.c_calls.specs.Tiles.{bool_scan_after};
 ghost use Rattle.c_calls.specs.Told.{Told};

@@ -4,7 +4,7 @@ ghost use Rattle.std.specs.Prelude.{length};
 ghost use Rattle.cvl_base.specs.Packs.{pack_of};
 ghost use Rattle.cvl_base.specs.SegmentedCalls.{seg_pack_of};
 ghost use Rattle.c_calls.specs.Calls.{by_segments, counts_of, in_limit};
-ghost use Rattle.c_calls.specs.Flags.{flags_of};
+ghost use Rattle.flag_calls.specs.Flags.{flags_of};
 ghost use Rattle.c_calls.specs.Told.{FrontTold, Told, in_room};
 
 use c_calls::packs::{count_each, pack, pack_each};

@@ -3,7 +3,7 @@
 ghost use Rattle.std.specs.Prelude.{Ok, length};
 ghost use Rattle.cvl_base.specs.Elementwise.{bools1_of, bools2_of, bools_from_ints, choose_of, compare_of, ints1_of, ints2_of, ints_from_bools};
 ghost use Rattle.c_calls.specs.Calls.{by_operator, in_limit};
-ghost use Rattle.c_calls.specs.Flags.{as_bytes, flags_of};
+ghost use Rattle.flag_calls.specs.Flags.{as_bytes, flags_of};
 ghost use Rattle.c_calls.specs.Numbers.{bool_binary, comparison, int_binary, unary};
 ghost use Rattle.c_calls.specs.Told.{Told, in_room};
 

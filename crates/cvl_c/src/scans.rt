@@ -3,7 +3,7 @@
 ghost use Rattle.std.specs.Prelude.{Ok, length};
 ghost use Rattle.cvl_base.specs.Scans.{bool_reduce_of, bool_scan_of, int_reduce_of, int_scan_of};
 ghost use Rattle.c_calls.specs.Calls.{by_operator, in_limit};
-ghost use Rattle.c_calls.specs.Flags.{flags_of};
+ghost use Rattle.flag_calls.specs.Flags.{flags_of};
 ghost use Rattle.c_calls.specs.Numbers.{bool_binary, int_monoid};
 ghost use Rattle.c_calls.specs.Told.{Told, in_room};
 

@@ -3,7 +3,7 @@
 ghost use Rattle.std.specs.Prelude.{length};
 ghost use Rattle.cvl_base.specs.SegmentedCalls.{seg_distribute_of, seg_extract_of, seg_index_of, seg_replace_of};
 ghost use Rattle.c_calls.specs.Calls.{by_segments};
-ghost use Rattle.c_calls.specs.Flags.{made_flags};
+ghost use Rattle.flag_calls.specs.Flags.{made_flags};
 ghost use Rattle.c_calls.specs.Told.{ToldOr, in_room};
 
 use c_calls::segments::{

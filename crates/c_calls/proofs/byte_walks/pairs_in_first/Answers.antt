@@ -1,9 +1,0 @@
-use Rattle.std.proofs.Common.{◌∙◌, Ok, ap, arith, sym}
-use Rattle.cvl_base.proofs.Elementwise.{if_as_long-fits}
-use Rattle.c_calls.proofs.OnBytes.{on_bytes}
-use Rattle.c_calls.proofs.byte_walks.pairs_in_first.Goals as goal
-
-pub returns : goal.returns
-returns g c =
-    let a = c.args.a.now in let b = c.args.b.now in
-    on_bytes g.O.Binary.value a b ∙ if_as_long-fits a b _ (omega (arith, c.in_ok-check_agree.ensures)) ∙ ap Ok (sym c.write_pairs.ensures)

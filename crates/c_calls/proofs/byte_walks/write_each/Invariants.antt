@@ -1,6 +1,0 @@
-use Rattle.std.proofs.Common.{map}
-use Rattle.elementwise.proofs.InPlace.{IsWritten}
-use Rattle.c_calls.proofs.byte_walks.write_each.Given as goal
-
-abbrev pub invariant-loop-place : goal.invariant-loop-place
-invariant-loop-place g l = IsWritten (map g.O.Single.value l.fn.a) l.fn.a l.a l.place

@@ -1,7 +1,0 @@
-use Rattle.std.proofs.Common.{◌≡◌, take}
-use Rattle.std.specs.List.{list_all}
-use Rattle.c_calls.specs.Flags.{is_flag}
-use Rattle.c_calls.proofs.flags.are_flags.Given as goal
-
-abbrev pub invariant-loop-byte : goal.invariant-loop-byte
-invariant-loop-byte l = l.all ≡ list_all is_flag (take l.byte-index l.bytes)

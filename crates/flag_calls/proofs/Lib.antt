@@ -1,0 +1,3 @@
+pub mod Counted
+pub mod InSegments
+pub mod OnBytes

@@ -1,0 +1,11 @@
+use Rattle.std.proofs.Common.{◌∙◌, Ok, ap, not, sym}
+use Rattle.std.proofs.lemmas.Simd.{map-map}
+use Rattle.flag_calls.specs.Flags.{byte_of, flag_of}
+use Rattle.flag_calls.proofs.OnBytes.{mapped}
+use Rattle.flag_calls.proofs.bools.bool1_in.Goals as goal
+
+pub returns-in-Not : goal.returns-in-Not
+returns-in-Not c = rw c.in-Not.is (ap Ok (mapped not c.args.a.now ∙ sym c.on_each_in.ensures))
+
+pub returns-in-Copy : goal.returns-in-Copy
+returns-in-Copy c = rw c.in-Copy.is (ap Ok (map-map byte_of flag_of c.args.a.now ∙ sym c.on_each_in-in-Copy.ensures))

@@ -1,0 +1,9 @@
+use Rattle.std.proofs.Common.{subst, sym}
+use Rattle.cvl_base.specs.Rooms.{Overwrites}
+use Rattle.flag_calls.proofs.OnBytes.{chosen_elements}
+use Rattle.flag_calls.proofs.choice.select_in_second.Goals as goal
+
+pub returns : goal.returns
+returns g c =
+    let over = c.args.b.now in let call = c.choose_in_second in
+    subst (λ m. Overwrites m call.result over call.new.b) (sym (chosen_elements c.args.flags.now c.args.a.now c.args.b.now)) call.ensures

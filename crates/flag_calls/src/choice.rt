@@ -1,0 +1,162 @@
+//! The choice between two vectors by flags that come as bytes: over a room, and over one of the two.
+
+ghost use Rattle.std.specs.Prelude.{◌≡◌, ◌+◌, ◌≤◌, ◌<◌, [], length, map, slice_index_or};
+ghost use Rattle.std.specs.List.{zip};
+ghost use Rattle.cvl_base.specs.Elementwise.{choose_of, chosen};
+ghost use Rattle.cvl_base.specs.Limits.{most_elements};
+ghost use Rattle.cvl_base.specs.Rooms.{Overwrites, in_room};
+ghost use Rattle.fresh.specs.Parts.{part};
+ghost use Rattle.fresh.specs.Places.{stretch};
+ghost use Rattle.flag_calls.specs.Flags.{as_bytes, choose_by, flag_of, flags_of};
+
+use crate::flags::{FalseByte, OnBytes, Same, TrueByte, flag_of};
+use cvl_base::{Fault, check_agree};
+use element_walks::Single;
+use fresh::{Run, Writer, write_over};
+use std::marker::PhantomData;
+
+/// `a` where the flag is true, else `b`.
+#[inline]
+fn choose<T: Copy>(flag: bool, a: T, b: T) -> T
+    ensures { result ≡ chosen flag (a, b) }
+{
+    if flag { a } else { b }
+}
+
+/// Writes at each place the element of the first vector where the byte is true, else that of the second, through an operator.
+#[derive(Drop)]
+struct ChosenByBytes<'a, O, T> {
+    bytes: &'a [u8],
+    first: &'a [T],
+    second: &'a [T],
+    operator: PhantomData<O>,
+}
+
+impl<'a, O: Single<T, T>, T: Copy> Writer<T> for ChosenByBytes<'a, O, T> {
+    ghost whole = { λ w. map (λ p. O.value (chosen (flag_of p.0) p.1)) (zip w.bytes.now (zip w.first.now w.second.now)) };
+
+    fn write(&self, run: Run<T>) -> Run<T>
+        requires empty { run.items ≡ [] }
+        requires within { run.first + run.room ≤ length (map (λ p. O.value (chosen (flag_of p.0) p.1)) (zip self.now.bytes.now (zip self.now.first.now self.now.second.now))) }
+        ensures { result ≡ stretch run.block run.first (part (map (λ p. O.value (chosen (flag_of p.0) p.1)) (zip self.now.bytes.now (zip self.now.first.now self.now.second.now))) run.first run.room) 0 }
+    {
+        let (bytes, xs, ys) = (self.bytes, self.first, self.second);
+        run.fill(
+            move |place: usize| -> T
+                requires { (place < length bytes.now) × (place < length xs.now) × (place < length ys.now) }
+                ensures { (z : T) → result ≡ slice_index_or (map (λ p. O.value (chosen (flag_of p.0) p.1)) (zip bytes.entry.now (zip xs.entry.now ys.entry.now))) place z }
+            { O::apply(choose(flag_of(bytes[place]), xs[place], ys[place])) },
+        )
+    }
+}
+
+/// The choice over a room, whose length is checked last.
+fn choose_over<O: Single<T, T>, T: Copy>(
+    bytes: &[u8],
+    a: &[T],
+    b: &[T],
+    out: &mut [T],
+) -> Result<(), Fault>
+    requires { length bytes.now ≤ most_elements }
+    ensures { Overwrites (in_room (length out.old) (choose_by O.value bytes.now a.now b.now)) result out.old out.new }
+{
+    check_agree(bytes.len(), a.len())?;
+    check_agree(bytes.len(), b.len())?;
+    check_agree(bytes.len(), out.len())?;
+    let chosen = ChosenByBytes::<O, T> {
+        bytes,
+        first: a,
+        second: b,
+        operator: PhantomData,
+    };
+    write_over(out, &chosen);
+    Ok(())
+}
+
+/// Writes over each element what it or the other one at its place is chosen for: its own where the test on the byte holds.
+fn write_chosen<F: Single<u8, bool>, O: Single<T, T>, T: Copy>(
+    bytes: &[u8],
+    over: &mut [T],
+    others: &[T],
+)
+    requires in_bytes { length over.old ≡ length bytes.now }
+    requires in_others { length over.old ≡ length others.now }
+    ensures { over.new ≡ map (λ p. O.value (chosen (F.value p.0) p.1)) (zip bytes.now (zip over.old others.now)) }
+{
+    for place in 0..over.len() {
+        over[place] = O::apply(choose(F::apply(bytes[place]), over[place], others[place]));
+    }
+}
+
+/// The choice over the first of the two vectors.
+fn choose_in_first<O: Single<T, T>, T: Copy>(
+    bytes: &[u8],
+    a: &mut [T],
+    b: &[T],
+) -> Result<(), Fault>
+    ensures { Overwrites (choose_by O.value bytes.now a.old b.now) result a.old a.new }
+{
+    check_agree(bytes.len(), a.len())?;
+    check_agree(bytes.len(), b.len())?;
+    write_chosen::<TrueByte, O, T>(bytes, a, b);
+    Ok(())
+}
+
+/// The choice over the second of the two vectors.
+fn choose_in_second<O: Single<T, T>, T: Copy>(
+    bytes: &[u8],
+    a: &[T],
+    b: &mut [T],
+) -> Result<(), Fault>
+    ensures { Overwrites (choose_by O.value bytes.now a.now b.old) result b.old b.new }
+{
+    check_agree(bytes.len(), a.len())?;
+    check_agree(bytes.len(), b.len())?;
+    write_chosen::<FalseByte, O, T>(bytes, b, a);
+    Ok(())
+}
+
+/// At each place the element of `a` where the flag is true, else that of `b`: `sel_wuz` and its like. `LengthMismatch`, without a
+/// place, where the vectors and the room aren't equally long; the room is looked at last.
+pub fn select_over<T: Copy>(flags: &[u8], a: &[T], b: &[T], out: &mut [T]) -> Result<(), Fault>
+    requires { length flags.now ≤ most_elements }
+    ensures { Overwrites (in_room (length out.old) (choose_of (flags_of flags.now) a.now b.now)) result out.old out.new }
+{
+    choose_over::<Same, T>(flags, a, b, out)
+}
+
+/// The same as [`select_over`], over `a`.
+pub fn select_in_first<T: Copy>(flags: &[u8], a: &mut [T], b: &[T]) -> Result<(), Fault>
+    ensures { Overwrites (choose_of (flags_of flags.now) a.old b.now) result a.old a.new }
+{
+    choose_in_first::<Same, T>(flags, a, b)
+}
+
+/// The same as [`select_over`], over `b`.
+pub fn select_in_second<T: Copy>(flags: &[u8], a: &[T], b: &mut [T]) -> Result<(), Fault>
+    ensures { Overwrites (choose_of (flags_of flags.now) a.now b.old) result b.old b.new }
+{
+    choose_in_second::<Same, T>(flags, a, b)
+}
+
+/// The same as [`select_over`], between flags: `sel_wub`.
+pub fn select_flags_over(flags: &[u8], a: &[u8], b: &[u8], out: &mut [u8]) -> Result<(), Fault>
+    requires { length flags.now ≤ most_elements }
+    ensures { Overwrites (in_room (length out.old) (as_bytes (choose_of (flags_of flags.now) (flags_of a.now) (flags_of b.now)))) result out.old out.new }
+{
+    choose_over::<OnBytes<Same>, u8>(flags, a, b, out)
+}
+
+/// The same as [`select_flags_over`], over `a`.
+pub fn select_flags_in_first(flags: &[u8], a: &mut [u8], b: &[u8]) -> Result<(), Fault>
+    ensures { Overwrites (as_bytes (choose_of (flags_of flags.now) (flags_of a.old) (flags_of b.now))) result a.old a.new }
+{
+    choose_in_first::<OnBytes<Same>, u8>(flags, a, b)
+}
+
+/// The same as [`select_flags_over`], over `b`.
+pub fn select_flags_in_second(flags: &[u8], a: &[u8], b: &mut [u8]) -> Result<(), Fault>
+    ensures { Overwrites (as_bytes (choose_of (flags_of flags.now) (flags_of a.now) (flags_of b.old))) result b.old b.new }
+{
+    choose_in_second::<OnBytes<Same>, u8>(flags, a, b)
+}

@@ -1,0 +1,71 @@
+//! How many flags are true: of all, and of each segment.
+
+ghost use Rattle.std.specs.Prelude.{◌≡◌, ◌≤◌, count_by, length, pos};
+ghost use Rattle.cvl_base.specs.Limits.{most_elements};
+ghost use Rattle.cvl_base.specs.Packs.{count_of};
+ghost use Rattle.cvl_base.specs.Rooms.{Overwrites, in_room};
+ghost use Rattle.flag_calls.specs.Flags.{flag_of, flags_of};
+ghost use Rattle.pack_dist.specs.Counts.{counts_of};
+
+use crate::flags::{byte_of, flag_of};
+use crate::segments::{Reduce, reduces_over};
+use cvl_base::Fault;
+use segdes::SegLengths;
+
+/// The most bytes of a block. So many are counted in a byte.
+const BLOCK: usize = 128;
+
+/// How many bytes of a block are true.
+// They are counted in a byte, so that the compiler takes sixteen at a time.
+fn true_in_block(block: &[u8]) -> u8
+    requires { length block.now ≤ 128 }
+    ensures { result ≡ count_by flag_of block.now }
+{
+    let mut count = 0;
+    for byte in block {
+        count += byte_of(flag_of(*byte));
+    }
+    count
+}
+
+/// How many of at most 4,194,304 bytes are true.
+fn true_count(bytes: &[u8]) -> usize
+    requires few { length bytes.now ≤ most_elements }
+    ensures value { result ≡ count_of (flags_of bytes.now) }
+    ensures in_length { result ≤ length bytes.now }
+{
+    let (mut count, mut rest) = (0, bytes);
+    while !rest.is_empty() {
+        let (block, others) = rest.split_at(rest.len().min(BLOCK));
+        count += usize::from(true_in_block(block));
+        rest = others;
+    }
+    count
+}
+
+/// The number of true flags, of which there are at most 4,194,304: `cnt_lub`.
+pub fn count(flags: &[u8]) -> i32
+    requires few { length flags.now ≤ most_elements }
+    ensures { result ≡ pos (count_of (flags_of flags.now)) }
+{
+    true_count(flags) as i32
+}
+
+/// Bytes are reduced to the number of those that are true.
+struct TrueBytes;
+
+impl Reduce<i32> for TrueBytes {
+    ghost value = { λ bytes. pos (count_of (flags_of bytes)) };
+
+    fn reduce(bytes: &[u8]) -> i32 {
+        count(bytes)
+    }
+}
+
+/// The number of true flags of each segment, over a room: `cnt_leb`. `LengthMismatch`, without a place, where the segments' total
+/// is not the number of flags, or the room hasn't one place for each segment.
+pub fn seg_count_over(flags: &[u8], d: &SegLengths, out: &mut [i32]) -> Result<(), Fault>
+    ensures { Overwrites (in_room (length out.old) (counts_of (flags_of flags.now) d.now)) result out.old out.new }
+{
+    reduces_over::<TrueBytes, i32>(flags, d, out)
+}
