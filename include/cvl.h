@@ -21,9 +21,9 @@
  *
  * A boolean is a byte, and any byte but 0 is true, as in C. That is so for each array of booleans that a function reads, its
  * parameters of the type const bool *; an array of another type of bytes may be passed by a cast, since no function reads it as
- * bool. Booleans that are results are 0 and 1. Packs, permutes, scans, replaces, distributes and texts read booleans where they lie
- * if each is 0 or 1, and else take memory for a copy, one byte an element; without it the status is 100 NoResources, and the room is
- * as it was. All other functions read any bytes where they lie.
+ * bool. Booleans that are results are 0 and 1. Packs, permutes, scans, texts, and replaces and distributes in segments read booleans
+ * where they lie if each is 0 or 1, and else take memory for a copy, one byte an element; without it the status is 100 NoResources,
+ * and the room is as it was. All other functions read any bytes where they lie.
  *
  * What a caller owes, and what it costs where it isn't so:
  *   - A pointer leads to as many elements as is said, aligned for their type, which may be read and in a room written. Else the
@@ -34,8 +34,8 @@
  *   - The lengths of a descriptor live as long as calls take it. Else the call may crash or read other memory.
  *   - Code of other languages that calls the export of a family, as cvl_int2, gives no room that shares memory with another argument.
  *     Else the results are any, and the call may crash or write other memory. The same is so of a boolean that is neither 0 nor 1 in
- *     an array of a pack, a permute, a scan, a replace, a distribute or a text: cvl_make_flags makes it one. A call under its own
- *     name, as cvl_add_wuz, tells overlaps to every language, and takes any byte.
+ *     an array of a pack, a permute, a scan, a text, or a replace or a distribute in segments: cvl_make_flags makes it one. A call
+ *     under its own name, as cvl_add_wuz, tells overlaps to every language, and takes any byte.
  * All else is checked: whatever lengths, indices, operators and rooms are given, a call ends with a status. It runs on the thread
  * that calls. Several threads may call at once.
  *
@@ -746,7 +746,7 @@ CVL_CHECKED static inline CvlStatus cvl_replace_int_apart(
 CVL_CHECKED static inline CvlStatus cvl_replace_bool_apart(
     const bool *vector, size_t vector_len, int32_t index, bool value, bool *out, size_t out_len) {
     if (CVL_MEET(out, out_len, vector, vector_len)) return cvl_overlap();
-    CVL_WITH_FLAGS(vector, vector_len, cvl_replace_bool(vector, vector_len, index, value, out, out_len));
+    return cvl_replace_bool(vector, vector_len, index, value, out, out_len);
 }
 #define cvl_replace_bool cvl_replace_bool_apart
 

@@ -1216,6 +1216,8 @@ static void odd_booleans(void) {
     INTS(cnt_lub(flags, 5, ints), 3);
     BOOLS(ext_vub(O(0, 64), 2, 1, bools), true);
     BOOLS(ext_veb(O(0, 2, 4), 3, I(0, 1), I(1, 2), 2, bools), false, true);
+    BOOLS(rep_vub(O(3, 0, 5, 0, 0), 1, true, bools, 5), true, true, true, false, false);
+    BOOLS(rep_vub(O(3, 0, 5), 2, false, bools, 3), true, false, false);
     BOOLS(ior_reb(flags, 5, lengths, 3, bools), true, false, true);
     INTS(cnt_leb(flags, 5, lengths, 3, ints), 1, 0, 2);
     INTS(pck_fov(flags, 5, lengths, 3, ints), 1, 0, 2);
@@ -1231,7 +1233,6 @@ static void copied_booleans(void) {
     BOOLS_OF_COPIES(1, and_sub(O(2, 0, 2), bools, 3), true, true, false);
     BOOLS_OF_COPIES(1, cvl_bool_scan_after(CVL_XOR, true, O(2, 0, 2), 3, bools, 3), true, false, false);
     BOOLS_OF_COPIES(1, ior_seb(f, lengths, 3, bools, 5), false, false, false, true, true);
-    BOOLS_OF_COPIES(1, rep_vub(values, 1, true, bools, 5), true, true, true, false, false);
     BOOLS_OF_COPIES(2, rep_veb(values, 5, I(0, 1), O(0, 9), I(2, 3), 2, bools), false, false, true, true, false);
     BOOLS_OF_COPIES(1, dis_veb(O(0, 9), I(1, 2), 2, bools, 3), false, true, true);
     COUNTED_INTS(pck_luz(a, f, 5, ints, ROOM, &total), 2, 3, 5);

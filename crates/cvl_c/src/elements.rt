@@ -5,11 +5,12 @@ ghost use Rattle.cvl_base.specs.Distributes.{distribute_of, index_of};
 ghost use Rattle.cvl_base.specs.Extracts.{extract_of, replace_of};
 ghost use Rattle.cvl_base.specs.Packs.{count_of};
 ghost use Rattle.c_calls.specs.Calls.{in_limit};
-ghost use Rattle.flag_calls.specs.Flags.{extract_flag_of, flags_of};
+ghost use Rattle.flag_calls.specs.Flags.{as_bytes, extract_flag_of, flags_of};
 ghost use Rattle.c_calls.specs.Told.{Told, ToldOr, in_room};
 
 use c_calls::elements::{count, extract_flag};
 use c_calls::status::{CvlStatus, told, told_one, told_over};
+use flag_calls::replace_over;
 use pack_dist::{distribute_over, extract, index_over, replace};
 use std::alloc::Global;
 
@@ -51,18 +52,17 @@ pub extern "C" fn cvl_replace_int(
     told(replace(alloc, vector, index, value), out)
 }
 
-/// The booleans with another one at the place that an index names: `rep_vub`.
+/// The flags with another one at the place that an index names: `rep_vub`.
 #[unsafe(no_mangle)]
 pub extern "C" fn cvl_replace_bool(
-    alloc: Global,
-    vector: &[bool],
+    vector: &[u8],
     index: i32,
     value: bool,
-    out: &mut [bool],
+    out: &mut [u8],
 ) -> CvlStatus
-    ensures { ToldOr (in_room (length out.old) (replace_of vector.now index value)) result out.old out.new }
+    ensures { Told (in_room (length out.old) (as_bytes (replace_of (flags_of vector.now) index value))) result out.old out.new }
 {
-    told(replace(alloc, vector, index, value), out)
+    told_over::<u8>(replace_over(vector, index, value, out))
 }
 
 /// So many copies of an integer: `dis_vuz`.

@@ -1,3 +1,4 @@
 pub mod Counted
 pub mod InSegments
 pub mod OnBytes
+pub mod Replaced

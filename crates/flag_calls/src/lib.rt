@@ -7,6 +7,7 @@ mod choice;
 mod counts;
 mod flags;
 mod reduces;
+mod replaces;
 mod segments;
 
 pub use bools::{
@@ -20,3 +21,4 @@ pub use choice::{
 pub use counts::{count, seg_count_over};
 pub use flags::{are_flags, flag_of, make_flags};
 pub use reduces::{bool_reduce, seg_bool_reduce_over};
+pub use replaces::replace_over;
