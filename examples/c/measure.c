@@ -14,13 +14,30 @@ enum { MOST = CVL_MOST_ELEMENTS, SHORT = 1000, SHORT_ROUNDS = 20000, LONG_ROUNDS
 
 /* `small` has elements whose sums fit, `shifts` numbers from 0 to 31, and `shuffled` each index once, at random for its length. */
 static int32_t a[MOST], b[MOST], small[MOST], shifts[MOST], in_order[MOST], shuffled[MOST], lengths[SEGMENTS], out[MOST];
-static bool flags[MOST], taken[MOST];
+static bool flags[MOST], others[MOST], taken[MOST];
 
 #define LOOP __attribute__((noinline)) static void
 
 LOOP loop_add(size_t n) { for (size_t k = 0; k < n; k++) out[k] = (int32_t)((uint32_t)a[k] + (uint32_t)b[k]); }
 LOOP loop_less(size_t n) { for (size_t k = 0; k < n; k++) ((bool *)out)[k] = a[k] < b[k]; }
 LOOP loop_select(size_t n) { for (size_t k = 0; k < n; k++) out[k] = flags[k] ? a[k] : b[k]; }
+
+LOOP loop_xor(size_t n) { for (size_t k = 0; k < n; k++) ((bool *)out)[k] = flags[k] != others[k]; }
+LOOP loop_replace(size_t n) { memcpy(out, flags, n), ((bool *)out)[n / 2] = true; }
+
+LOOP loop_count(size_t n) {
+    int32_t count = 0;
+    for (size_t k = 0; k < n; k++) count += flags[k];
+    out[0] = count;
+}
+
+LOOP loop_scan_all(size_t n) {
+    bool all = true;
+    for (size_t k = 0; k < n; k++) {
+        ((bool *)out)[k] = all;
+        all &= others[k];
+    }
+}
 
 LOOP loop_divide(size_t n) {
     for (size_t k = 0; k < n; k++) {
@@ -86,6 +103,22 @@ LOOP loop_segmented_reduce(size_t n) {
     }
 }
 
+LOOP loop_segmented_count(size_t n) {
+    for (size_t s = 0, k = 0; k < n; s++) {
+        int32_t count = 0;
+        for (size_t end = k + (size_t)lengths[s]; k < end; k++) count += flags[k];
+        out[s] = count;
+    }
+}
+
+LOOP loop_segmented_all(size_t n) {
+    for (size_t s = 0, k = 0; k < n; s++) {
+        bool all = true;
+        for (size_t end = k + (size_t)lengths[s]; k < end; k++) all &= others[k];
+        ((bool *)out)[s] = all;
+    }
+}
+
 static void gather(const int32_t *index, size_t n) {
     for (size_t k = 0; k < n; k++) {
         if (index[k] < 0 || (size_t)index[k] >= n) return;
@@ -112,6 +145,13 @@ LOOP loop_pack(size_t n) {
     size_t kept = 0;
     for (size_t k = 0; k < n; k++) {
         if (flags[k]) out[kept++] = a[k];
+    }
+}
+
+LOOP loop_pack_flags(size_t n) {
+    size_t kept = 0;
+    for (size_t k = 0; k < n; k++) {
+        if (flags[k]) ((bool *)out)[kept++] = others[k];
     }
 }
 
@@ -148,6 +188,12 @@ static void shuffle(size_t n) {
 static void call_add(size_t n) { must(add_wuz(a, b, out, n)); }
 static void call_less(size_t n) { must(les_wuz(a, b, (bool *)out, n)); }
 static void call_select(size_t n) { must(sel_wuz(flags, a, b, out, n)); }
+static void call_xor(size_t n) { must(xor_wub(flags, others, (bool *)out, n)); }
+static void call_replace(size_t n) { must(rep_vub(flags, (int32_t)(n / 2), true, (bool *)out, n)); }
+static void call_count(size_t n) { must(cnt_lub(flags, n, out)); }
+static void call_scan_all(size_t n) { must(and_sub(others, (bool *)out, n)); }
+static void call_segmented_count(size_t n) { must(cnt_leb(flags, n, lengths, segments_of(n), out)); }
+static void call_segmented_all(size_t n) { must(and_reb(others, n, lengths, segments_of(n), (bool *)out)); }
 static void call_divide(size_t n) { must(div_wuz(a, b, out, n)); }
 static void call_scan(size_t n) { must(add_suz(a, out, n)); }
 static void call_reduce(size_t n) { must(add_ruz(a, n, out)); }
@@ -166,6 +212,11 @@ static void call_index(size_t n) { must(ind_luz(5, 3, (int32_t)n, out)); }
 static void call_pack(size_t n) {
     size_t kept;
     must(pck_luz(a, flags, n, out, n, &kept));
+}
+
+static void call_pack_flags(size_t n) {
+    size_t kept;
+    must(pck_lub(others, flags, n, (bool *)out, n, &kept));
 }
 
 static double now(void) {
@@ -205,25 +256,33 @@ int main(void) {
         small[k] = (int32_t)(state >> 24) - 128;
         shifts[k] = (int32_t)(state >> 27);
         flags[k] = (state >> 13 & 1) != 0;
+        others[k] = state >> 14 != 0;
         in_order[k] = (int32_t)k;
     }
     printf("%-24s %8s %8s %10s %10s %6s\n", "", "1000", "loop", "4194304", "loop", "ratio");
     measure("add_wuz", call_add, loop_add);
     measure("les_wuz", call_less, loop_less);
     measure("sel_wuz", call_select, loop_select);
+    measure("xor_wub", call_xor, loop_xor);
     measure("div_wuz", call_divide, loop_divide);
     measure("lsh_wuz", call_shift, loop_shift);
     measure("add_suz", call_scan, loop_scan);
     measure("add_ruz", call_reduce, loop_reduce);
+    measure("and_sub", call_scan_all, loop_scan_all);
     measure("tot_suz", call_checked_scan, loop_checked_scan);
     measure("tot_ruz", call_checked_reduce, loop_checked_reduce);
     measure("add_sez, of 1000", call_segmented_scan, loop_segmented_scan);
     measure("add_rez, of 1000", call_segmented_reduce, loop_segmented_reduce);
+    measure("and_reb, of 1000", call_segmented_all, loop_segmented_all);
+    measure("cnt_lub", call_count, loop_count);
+    measure("cnt_leb, of 1000", call_segmented_count, loop_segmented_count);
     measure("smp_puz, in order", call_scatter, loop_scatter);
     measure("smp_puz, at random", call_scatter_shuffled, loop_scatter_shuffled);
     measure("bck_puz, in order", call_gather, loop_gather);
     measure("bck_puz, at random", call_gather_shuffled, loop_gather_shuffled);
     measure("pck_luz, of a half", call_pack, loop_pack);
+    measure("pck_lub, of a half", call_pack_flags, loop_pack_flags);
+    measure("rep_vub", call_replace, loop_replace);
     measure("dis_vuz", call_distribute, loop_distribute);
     measure("ind_luz", call_index, loop_index);
     return EXIT_SUCCESS;
