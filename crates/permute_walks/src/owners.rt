@@ -30,11 +30,12 @@ fn count_destinations<D: Destinations>(destinations: &D) -> usize
 }
 
 /// Writes the element of each place that takes part at its index, and marks it there, where that is a place of one range of the
-/// result. The range begins at place `lowest`, and no place of it is marked to begin with.
+/// result. The range begins at place `lowest`, and no place of it is marked to begin with. Of several elements that are sent to one
+/// place the last stays.
 // Without its sign an index below 0 is beyond the longest vector. A place that is sent elsewhere writes the element and the mark
 // before it once more, so that the machine code has no branch on where it is sent.
 #[inline(never)]
-pub(crate) fn write_range<T: Copy, D: Destinations>(
+pub fn write_range<T: Copy, D: Destinations>(
     source: &[T],
     destinations: &D,
     lowest: usize,
