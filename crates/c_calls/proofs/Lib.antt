@@ -1,2 +1,1 @@
 pub mod Afters
-pub mod Carried

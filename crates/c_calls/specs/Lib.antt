@@ -2,6 +2,5 @@ pub mod Calls
 pub mod Fronts
 pub mod NestedTexts
 pub mod Numbers
-pub mod Parts
 pub mod Tiles
 pub mod Told

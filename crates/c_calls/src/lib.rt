@@ -3,7 +3,6 @@
 //! answer as two numbers.
 #![tactic(auto)]
 
-pub mod carries;
 pub mod checked_sums;
 mod checks;
 pub mod descriptors;

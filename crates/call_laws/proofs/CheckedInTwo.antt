@@ -27,8 +27,9 @@ use Rattle.cvl_base.proofs.Nests.{joined-cut, length-cut, lengths-cut, nest-fits
 use Rattle.operators.proofs.FoldLaws.{length-scan_of, scan_of-append}
 use Rattle.operators.specs.NumberLaws.{fits-is_number}
 use Rattle.call_laws.specs.Carried.{each_after, seg_scan_after, seg_reduce_after}
-use Rattle.call_laws.specs.CheckedParts.{all_fitting, checked_scan_after, checked_seg_scan_after, checked_seg_reduce_after}
+use Rattle.call_laws.specs.CheckedParts.{checked_seg_scan_after, checked_seg_reduce_after}
 use Rattle.call_laws.specs.InParts.{in_two}
+use Rattle.part_calls.specs.Sums.{all_fitting, checked_scan_after}
 use Rattle.call_laws.proofs.Carries.{each-plain, reduce-between, reduce-inside, reduce-plain, scan-between, scan-inside, scan-plain}
 use Rattle.call_laws.proofs.Segments.{flat-again}
 use Rattle.call_laws.proofs.SegmentsInTwo.{lists-between}

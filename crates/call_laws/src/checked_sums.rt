@@ -5,7 +5,7 @@ ghost use Rattle.std.specs.Int.{w64};
 ghost use Rattle.std.specs.List.{AllPass};
 ghost use Rattle.std.specs.Option.{ok_or};
 ghost use Rattle.call_laws.specs.Carried.{seg_reduce_after};
-ghost use Rattle.call_laws.specs.CheckedParts.{all_fitting, checked_scan_after, checked_seg_reduce_after, checked_seg_scan_after};
+ghost use Rattle.call_laws.specs.CheckedParts.{checked_seg_reduce_after, checked_seg_scan_after};
 ghost use Rattle.call_laws.specs.InParts.{in_two};
 ghost use Rattle.cvl_base.specs.CheckedSums.{checked_reduce_of, checked_scan_of, checked_seg_reduce_of, checked_seg_scan_of, fitting};
 ghost use Rattle.cvl_base.specs.declared.fault.FaultNo.TheVariants as no;
@@ -13,6 +13,7 @@ ghost use Rattle.cvl_base.specs.Exact.{total_of};
 ghost use Rattle.cvl_base.specs.Faults.{fault_at};
 ghost use Rattle.cvl_base.specs.Folds.{fold_of};
 ghost use Rattle.cvl_base.specs.ItemWords.{is_number};
+ghost use Rattle.part_calls.specs.Sums.{all_fitting, checked_scan_after};
 
 /// A checked scan in two parts: the second goes on from what the first adds up to, which need not fit 32 bits. A checked reduce
 /// adds the parts' sums up and then looks whether the whole fits.

@@ -2,17 +2,17 @@
 
 ghost use Rattle.std.specs.Prelude.{Ok, length};
 ghost use Rattle.cvl_base.specs.Exact.{total_of};
-ghost use Rattle.c_calls.specs.Calls.{in_limit};
-ghost use Rattle.c_calls.specs.Parts.{checked_scan_after};
 ghost use Rattle.c_calls.specs.Told.{Told, in_room};
+ghost use Rattle.part_calls.specs.Limits.{few_enough};
+ghost use Rattle.part_calls.specs.Sums.{checked_scan_after};
 
-use c_calls::carries::{checked_scan_from, exact_sum};
 use c_calls::status::{CvlStatus, told_one, told_over};
+use part_calls::carries::{checked_scan_from, exact_sum};
 
 /// What the integers add up to, in 64 bits, where it always fits: what a part of a checked sum tells to the next.
 #[unsafe(no_mangle)]
 pub extern "C" fn cvl_exact_sum(a: &[i32], out: &mut i64) -> CvlStatus
-    ensures { Told (in_limit a.now (Ok (total_of a.now))) result out.old out.new }
+    ensures { Told (few_enough (length a.now) (Ok (total_of a.now))) result out.old out.new }
 {
     told_one(exact_sum(a), out)
 }
@@ -20,7 +20,7 @@ pub extern "C" fn cvl_exact_sum(a: &[i32], out: &mut i64) -> CvlStatus
 /// For each integer `before` and those before it, added up, which never wraps.
 #[unsafe(no_mangle)]
 pub extern "C" fn cvl_checked_scan_after(before: i64, a: &[i32], out: &mut [i32]) -> CvlStatus
-    ensures { Told (in_room (length out.old) (in_limit a.now (checked_scan_after before a.now))) result out.old out.new }
+    ensures { Told (in_room (length out.old) (few_enough (length a.now) (checked_scan_after before a.now))) result out.old out.new }
 {
     told_over::<i32>(checked_scan_from(&before, a, out))
 }

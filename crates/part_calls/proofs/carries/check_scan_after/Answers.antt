@@ -3,8 +3,8 @@ use Rattle.std.proofs.lemmas.Int.{to_z-of_z}
 use mir.Val.{SFits}
 use Rattle.cvl_base.specs.Folds.{scan_of}
 use Rattle.scan_walks.specs.Fronts.{fitting_front}
-use Rattle.c_calls.proofs.Carried.{after_fits, after_overflows}
-use Rattle.c_calls.proofs.carries.check_scan_after.Goals as goal
+use Rattle.part_calls.proofs.Carried.{after_fits, after_overflows}
+use Rattle.part_calls.proofs.carries.check_scan_after.Goals as goal
 
 pub returns-then-fitting-a : goal.returns-then-fitting-a
 returns-then-fitting-a c =

@@ -1,5 +1,5 @@
 -- Checked scans after a number, where it is known how many results fit from the first one on.
--- Source: what the definitions of CheckedSums and Parts imply.
+-- Source: what the definitions of CheckedSums and Sums imply.
 use Rattle.std.proofs.Common.{◌≡◌, ◌∙◌, refl, sym, ap, subst, ℕ, suc, ◌+◌, ◌<◌, ◌≤◌, Bool, true, false, cond, ℤ, pos, ◌+ℤ◌, List, [], ◌∷◌, length, map, arith, Some, None, Ok, Err}
 use Rattle.std.specs.Prelude.{if◌then◌else◌, unwrap_or}
 use Rattle.operators.proofs.FoldLaws.{length-scan_of, scan_of-cons}
@@ -12,7 +12,7 @@ use Rattle.cvl_base.specs.Integers.{sum_of, wrap}
 use Rattle.cvl_base.specs.ItemWords.{is_number}
 use Rattle.scan_walks.specs.Fronts.{fitting_front}
 use Rattle.scan_walks.proofs.Fitted.{all_fit, overflows}
-use Rattle.c_calls.specs.Parts.{checked_scan_after}
+use Rattle.part_calls.specs.Sums.{checked_scan_after}
 
 -- the number that a scan starts from where its first result fits
 start_at : (b : Bool) (before : ℤ) (others : ℕ) → is_number before ≡ b → 0 < cond b (1 + others) 0 → unwrap_or (if b then Some before else None) (pos 0) ≡ before

@@ -6,21 +6,20 @@ ghost use Rattle.cvl_base.specs.Exact.{total_of};
 ghost use Rattle.cvl_base.specs.Folds.{scan_of};
 ghost use Rattle.cvl_base.specs.Integers.{sum_of};
 ghost use Rattle.cvl_base.specs.Limits.{most_elements};
-ghost use Rattle.cvl_base.specs.Rooms.{Overwrites};
-ghost use Rattle.c_calls.specs.Calls.{in_limit};
-ghost use Rattle.c_calls.specs.Parts.{checked_scan_after};
-ghost use Rattle.c_calls.specs.Told.{in_room};
+ghost use Rattle.cvl_base.specs.Rooms.{Overwrites, in_room};
+ghost use Rattle.part_calls.specs.Limits.{few_enough};
+ghost use Rattle.part_calls.specs.Sums.{checked_scan_after};
 
-use crate::checks::check_limit;
+use crate::limits::check_few;
 use cvl_base::monoids::Add;
 use cvl_base::{Fault, FaultNo};
 use scan_walks::{fitting, fitting_of_scan, know_numbers, scan_over, total};
 
 /// What the integers add up to. It fits 54 bits.
 pub fn exact_sum(a: &[i32]) -> Result<i64, Fault>
-    ensures { result ≡ in_limit a.now (Ok (total_of a.now)) }
+    ensures { result ≡ few_enough (length a.now) (Ok (total_of a.now)) }
 {
-    check_limit(a)?;
+    check_few(a.len())?;
     Ok(total(a))
 }
 
@@ -53,8 +52,9 @@ fn checked_scan_after_over(before: &i64, a: &[i32], out: &mut [i32]) -> Result<(
 
 /// For each integer the number before all of them and those before it, added up.
 pub fn checked_scan_from(before: &i64, a: &[i32], out: &mut [i32]) -> Result<(), Fault>
-    ensures { Overwrites (in_room (length out.old) (in_limit a.now (checked_scan_after before.now a.now))) result out.old out.new }
+    ensures { Overwrites (in_room (length out.old) (few_enough (length a.now) (checked_scan_after before.now a.now)))
+        result out.old out.new }
 {
-    check_limit(a)?;
+    check_few(a.len())?;
     checked_scan_after_over(before, a, out)
 }

@@ -1,0 +1,6 @@
+//! What one part of a call does where the whole needs no more than one call: sums that go on from what stands before the part. The
+//! laws of `call_laws` say how the parts make the whole.
+#![tactic(auto)]
+
+pub mod carries;
+mod limits;

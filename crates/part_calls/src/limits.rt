@@ -1,0 +1,19 @@
+//! That a part lies within the longest vector.
+
+ghost use Rattle.std.specs.Prelude.{◌≡◌, ◌≤◌, ◌<◌, MatchResult};
+ghost use Rattle.cvl_base.specs.declared.fault.FaultNo.TheVariants as no;
+ghost use Rattle.cvl_base.specs.Faults.{fault};
+ghost use Rattle.cvl_base.specs.Limits.{most_elements};
+
+use cvl_base::limits::MOST_ELEMENTS;
+use cvl_base::{Fault, FaultNo};
+
+/// Checks that there are at most 4,194,304, else TooLong, without a place.
+pub(crate) fn check_few(count: usize) -> Result<(), Fault>
+    ensures { MatchResult result (λ _. count ≤ most_elements) (λ f. (f ≡ fault no.TooLong) × (most_elements < count)) }
+{
+    if count > MOST_ELEMENTS {
+        return Err(Fault::new(FaultNo::TooLong));
+    }
+    Ok(())
+}
