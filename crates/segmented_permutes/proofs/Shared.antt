@@ -347,22 +347,6 @@ module _ {X : Type 0} (source : List X) (parts : List (ℕ × List (Option ℤ))
   }
 
   module _ (count : ℕ) (all : count ≡ length parts) (written : Stretch X) (right : Bool) (told : IsWritten source parts before 0 count old written right) where
-    pub whole_room : (site : Site) → old.block ≡ site.block → site.places ≡ length before → IsAllOf site written
-    whole_room site there places = (
-      ap (λ (r : Stretch X). r.block) told.full.2 ∙ there,
-      ap (λ (r : Stretch X). r.first) told.full.2 ∙ ap (λ (r : Stretch X). r.first) is,
-      omega (
-        arith,
-        ap (λ (r : Stretch X). r.first) told.full.2,
-        ap (λ (r : Stretch X). length r.items) told.full.2,
-        ap (λ (r : Stretch X). r.room) told.full.2,
-        told.full.1,
-        ap (λ (r : Stretch X). r.first) is,
-        ap (λ (r : Stretch X). r.room) is,
-        places,
-      ),
-    )
-
     pub whole_right : right ≡ true → None ≡ fault_from 0 parts
     whole_right is_right =
         all_right 0 parts (λ s lt. told.no_fault is_right s (omega arith) (omega (arith, lt, all)) ∙ ap (λ p. first_fault p (wrongs (part_at parts s).0 (part_at parts s).1)) (omega arith))

@@ -38,7 +38,8 @@ pub record IsShare (parts : List (ℕ × List (Option ℤ))) (places widest begi
 
 -- What was written of a share, whose run was empty: all its places, and where it is told to be right, no segment has a bad place,
 -- and the places hold their part of the result.
-pub record IsWritten {X : Type 0} (source : List X) (parts : List (ℕ × List (Option ℤ))) (before : List X) (begin end : ℕ) (run written : Stretch X) (right : Bool) : Type 0 where
+pub record IsWritten {X : Type 0} (source : List X) (parts : List (ℕ × List (Option ℤ))) (before : List X) (begin end : ℕ)
+    (run written : Stretch X) (right : Bool) : Type 0 where
   pub full : (items : List X) × (length items ≡ run.room) × (written ≡ stretch run.block run.first items 0)
   pub no_fault : right ≡ true → AreRight parts begin end
   pub items : right ≡ true → written ≡ stretch run.block run.first (part (permuted source parts before) run.first run.room) 0

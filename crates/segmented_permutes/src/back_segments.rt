@@ -83,7 +83,8 @@ impl<'a, T: Copy, A: Allocator> Segments for SegmentsAt<'a, T, A> {
             ≤ length (slice_index_or (lists_at self.now.source_d.now self.now.source.now self.now.index_d.now self.now.index.now) s []) }
         requires room { count ≤ run.room }
         ensures { result ≡ stretch run.block run.first
-            (run.items ++ part (slice_index_or (lists_at self.now.source_d.now self.now.source.now self.now.index_d.now self.now.index.now) s []) from count)
+            (run.items ++ part
+            (slice_index_or (lists_at self.now.source_d.now self.now.source.now self.now.index_d.now self.now.index.now) s []) from count)
             (run.room - count) }
     {
         let start = self.source_d.start(s);

@@ -241,14 +241,18 @@ fn write_both<T: Copy + Send, R: Threads + Sync, A: Memory, S: Sides<T> + Sync, 
     ensures back { IsWritten (S.source sides.now) (P.parts parts.now) (S.before sides.now) middle end back result.1.0 result.1.1 }
 {
     let write_front = move || -> (Run<T>, bool)
-        requires { IsSync R.row × IsSend T.row × IsSend A.row × Frees A.Allocator A.dealloc_token × IsSync S.row × IsSync P.row × IsSend P.Part.row × IsSend P.A.row × IsSync P.A.row × (1 ≤ fewer) × P.AreCut parts.now
+        requires { IsSync R.row × IsSend T.row × IsSend A.row × Frees A.Allocator A.dealloc_token × IsSync S.row × IsSync P.row
+            × IsSend P.Part.row × IsSend P.A.row × IsSync P.A.row × (1 ≤ fewer) × P.AreCut parts.now
             × IsShare (P.parts parts.now) (length (S.before sides.now)) widest begin middle front.first front.room × (front.items ≡ []) }
-        ensures { IsWritten (S.source sides.entry.now) (P.parts parts.entry.now) (S.before sides.entry.now) begin middle front result.0 result.1 }
+        ensures { IsWritten (S.source sides.entry.now) (P.parts parts.entry.now) (S.before sides.entry.now)
+            begin middle front result.0 result.1 }
     { write_shared(rt, alloc, sides, parts, fewer, begin, middle, widest, front) };
     let write_back = move || -> (Run<T>, bool)
-        requires { IsSync R.row × IsSend T.row × IsSend A.row × Frees A.Allocator A.dealloc_token × IsSync S.row × IsSync P.row × IsSend P.Part.row × IsSend P.A.row × IsSync P.A.row × (1 ≤ others) × P.AreCut parts.now
+        requires { IsSync R.row × IsSend T.row × IsSend A.row × Frees A.Allocator A.dealloc_token × IsSync S.row × IsSync P.row
+            × IsSend P.Part.row × IsSend P.A.row × IsSync P.A.row × (1 ≤ others) × P.AreCut parts.now
             × IsShare (P.parts parts.now) (length (S.before sides.now)) widest middle end back.first back.room × (back.items ≡ []) }
-        ensures { IsWritten (S.source sides.entry.now) (P.parts parts.entry.now) (S.before sides.entry.now) middle end back result.0 result.1 }
+        ensures { IsWritten (S.source sides.entry.now) (P.parts parts.entry.now) (S.before sides.entry.now)
+            middle end back result.0 result.1 }
     { write_shared(rt, alloc, sides, parts, others, middle, end, widest, back) };
     join(rt, write_front, write_back)
 }
