@@ -1,6 +1,6 @@
 -- Flags of which one is replaced, as bytes.
 -- Source: what the definitions of map and set imply.
-use Rattle.std.proofs.Common.{◌≡◌, ◌∙◌, ℕ, zero, suc, ◌<◌, ℤ, pos, Bool, List, [], ◌∷◌, length, map, set, refl, sym, ap, Ok, arith}
+use Rattle.std.proofs.Common.{◌≡◌, ◌∙◌, ℕ, zero, suc, ◌<◌, ℤ, pos, Bool, List, [], ◌∷◌, length, map, set, refl, ap, Ok, arith}
 use Rattle.std.proofs.lemmas.List.{length-map}
 use Rattle.std.proofs.lemmas.Simd.{map-map}
 use Rattle.cvl_base.specs.Extracts.{replace_of}

@@ -15,6 +15,9 @@ use segdes::SegLengths;
 /// The most bytes of a block. So many are counted in a byte.
 const BLOCK: usize = 128;
 
+/// Fewer bytes than so many are counted one by one.
+const SHORT: usize = 32;
+
 /// How many bytes of a block are true.
 // They are counted in a byte, so that the compiler takes sixteen at a time.
 fn true_in_block(block: &[u8]) -> u8
@@ -28,6 +31,18 @@ fn true_in_block(block: &[u8]) -> u8
     count
 }
 
+/// The same of any number of bytes up to 4,194,304, one by one.
+fn true_one_by_one(bytes: &[u8]) -> u32
+    requires { length bytes.now ≤ most_elements }
+    ensures { result ≡ count_by flag_of bytes.now }
+{
+    let mut count = 0;
+    for byte in bytes {
+        count += u32::from(byte_of(flag_of(*byte)));
+    }
+    count
+}
+
 /// How many of at most 4,194,304 bytes are true.
 fn true_count(bytes: &[u8]) -> usize
     requires few { length bytes.now ≤ most_elements }
@@ -35,12 +50,12 @@ fn true_count(bytes: &[u8]) -> usize
     ensures in_length { result ≤ length bytes.now }
 {
     let (mut count, mut rest) = (0, bytes);
-    while !rest.is_empty() {
+    while rest.len() >= SHORT {
         let (block, others) = rest.split_at(rest.len().min(BLOCK));
         count += usize::from(true_in_block(block));
         rest = others;
     }
-    count
+    count + true_one_by_one(rest) as usize
 }
 
 /// The number of true flags, of which there are at most 4,194,304: `cnt_lub`.

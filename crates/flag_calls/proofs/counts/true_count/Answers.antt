@@ -1,4 +1,4 @@
-use Rattle.std.proofs.Common.{◌∙◌, ap, arith, cond, eqb-true, length, sym}
+use Rattle.std.proofs.Common.{◌∙◌, ap, arith, cond}
 use Rattle.std.specs.Prelude.{count_by}
 use Rattle.std.proofs.lemmas.List.Sums.{count_by-le-length, sum_by-take-drop}
 use Rattle.flag_calls.specs.Flags.{flag_of}
@@ -29,9 +29,7 @@ loop-rest-preserved c =
     )
 
 pub returns-clause-value : goal.returns-clause-value
-returns-clause-value c =
-    let none = eqb-true (length c.loop-rest.rest.now) 0 (sym c.loop-rest-test.ensures) in
-    omega (arith, none, c.loop-rest.invariant, counted_flags c.args.bytes.now, count_by-le-length flag_of c.loop-rest.rest.now)
+returns-clause-value c = omega (arith, c.loop-rest.invariant, c.true_one_by_one.ensures, counted_flags c.args.bytes.now)
 
 pub returns-clause-in_length : goal.returns-clause-in_length
-returns-clause-in_length c = omega (arith, c.loop-rest.invariant, count_by-le-length flag_of c.args.bytes.now)
+returns-clause-in_length c = omega (arith, c.loop-rest.invariant, c.true_one_by_one.ensures, count_by-le-length flag_of c.args.bytes.now)
