@@ -77,6 +77,11 @@ static inline CvlPool cvl_pool_openmp(void) {
 #define CVL_LEAST_EACH 131072
 #endif
 
+/* From how many places of its result on a permute does, whose parts all read all indices; each has a range of CVL_LEAST_EACH at least. */
+#ifndef CVL_LEAST_SENT
+#define CVL_LEAST_SENT 524288
+#endif
+
 /* The same for the bytes of a text that is read. */
 #ifndef CVL_LEAST_READ
 #define CVL_LEAST_READ 131072
@@ -1376,48 +1381,140 @@ CVL_CHECKED static inline CvlStatus cvl_seg_checked_reduce_on(
     return cvl_seg_reduce_parts(pool, &w);
 }
 
-/* ---- permutes, which are not cut: any element may go to any place ---- */
+/* ---- permutes: the result is cut, and each part reads all indices and writes the elements that go to its own range ---- */
+
+/* The part's range of the result, over its defaults where there are any, by its range of the marks, which stand behind what is kept. */
+static inline CvlStatus cvl_range_part(CvlWork *w, size_t k) {
+    const size_t from = w->from[k], n = w->from[k + 1] - from, len = w->a_len;
+    bool *marks = CVL_BOOL_ROOM(w->kept, w->from[w->parts] * w->size + from);
+    if (w->of_bools && w->flags != NULL) {
+        return cvl_select_permute_bool_range(
+            CVL_BOOLS(w->a, 0), len, w->index, len, w->flags, len, from, CVL_BOOL_ROOM(w->out, from), n, marks, n, &w->counts[k]);
+    }
+    if (w->of_bools) {
+        return cvl_permute_bool_range(
+            CVL_BOOLS(w->a, 0), len, w->index, len, from, CVL_BOOL_ROOM(w->out, from), n, marks, n, &w->counts[k]);
+    }
+    if (w->flags != NULL) {
+        return cvl_select_permute_int_range(
+            CVL_INTS(w->a, 0), len, w->index, len, w->flags, len, from, CVL_INT_ROOM(w->out, from), n, marks, n, &w->counts[k]);
+    }
+    return cvl_permute_int_range(
+        CVL_INTS(w->a, 0), len, w->index, len, from, CVL_INT_ROOM(w->out, from), n, marks, n, &w->counts[k]);
+}
+
+/* Of the flags of a select permute each part counts another share. */
+static inline CvlStatus cvl_permute_part(CvlWork *w, size_t k) {
+    const size_t from = w->from[k], n = w->from[k + 1] - from;
+    const size_t share = w->a_len * k / w->parts, end = w->a_len * (k + 1) / w->parts;
+    cvl_keep_part(w, w->from, k);
+    if (w->b != NULL) memcpy((char *)w->out + from * w->size, CVL_TEXT(w->b, from * w->size), n * w->size);
+    if (w->b != NULL && w->of_bools) cvl_make_flags(CVL_BOOL_ROOM(w->out, from), n);
+    if (w->flags != NULL) {
+        const CvlStatus counted = cvl_count(w->flags + share, end - share, &w->sums[k].number);
+        if (counted.number != CVL_DONE) return counted;
+    }
+    return cvl_range_part(w, k);
+}
+
+/*
+ * Whether the parts wrote as many places as take part, so that no index is out of range or repeated and the room holds the permute. Else
+ * the room is as it was, and the plain call tells the fault.
+ */
+static inline bool cvl_is_permuted(const CvlPool *pool, CvlWork *w) {
+    const size_t room = w->from[w->parts];
+    size_t written = 0, trues = 0;
+    if (!cvl_keep(w, room * (w->size + 1))) return false;
+    CvlStatus status = cvl_in_parts(pool, w, cvl_permute_part, NULL);
+    for (size_t k = 0; k < w->parts; k++) written += w->counts[k], trues += (size_t)w->sums[k].number;
+    if (written != (w->flags == NULL ? w->a_len : trues) || (w->flags != NULL && trues != room)) status.number = CVL_INDEX_REPEATED;
+    return cvl_end_kept(w, room, status).number == CVL_DONE;
+}
 
 CVL_CHECKED static inline CvlStatus cvl_permute_int_on(
     const CvlPool *pool, const int32_t *source, size_t source_len, const int32_t *index, size_t index_len, int32_t *out,
     size_t out_len) {
-    (void)pool;
-    return cvl_permute_int(source, source_len, index, index_len, out, out_len);
-}
-
-CVL_CHECKED static inline CvlStatus cvl_select_permute_int_on(
-    const CvlPool *pool, const int32_t *source, size_t source_len, const int32_t *index, size_t index_len, const bool *flags,
-    size_t flags_len, int32_t *out, size_t out_len) {
-    (void)pool;
-    return cvl_select_permute_int(source, source_len, index, index_len, flags, flags_len, out, out_len);
-}
-
-CVL_CHECKED static inline CvlStatus cvl_default_permute_int_on(
-    const CvlPool *pool, const int32_t *source, size_t source_len, const int32_t *index, size_t index_len, const int32_t *defaults,
-    size_t defaults_len, int32_t *out, size_t out_len) {
-    (void)pool;
-    return cvl_default_permute_int(source, source_len, index, index_len, defaults, defaults_len, out, out_len);
+    CvlWork w;
+    bool parts = source_len == index_len && index_len == out_len && !CVL_MEET(out, out_len, source, source_len) &&
+        !CVL_MEET(out, out_len, index, index_len) && cvl_cut_by(pool, &w, out_len, CVL_LEAST_SENT, CVL_LEAST_EACH);
+    if (parts) {
+        w.a = source, w.a_len = source_len, w.index = index, w.out = out, w.size = sizeof *out;
+        parts = cvl_is_permuted(pool, &w);
+    }
+    return parts ? cvl_status(CVL_DONE, -1) : cvl_permute_int(source, source_len, index, index_len, out, out_len);
 }
 
 CVL_CHECKED static inline CvlStatus cvl_permute_bool_on(
     const CvlPool *pool, const bool *source, size_t source_len, const int32_t *index, size_t index_len, bool *out,
     size_t out_len) {
-    (void)pool;
-    return cvl_permute_bool(source, source_len, index, index_len, out, out_len);
+    CvlWork w;
+    bool parts = source_len == index_len && index_len == out_len && !CVL_MEET(out, out_len, source, source_len) &&
+        !CVL_MEET(out, out_len, index, index_len) && cvl_cut_by(pool, &w, out_len, CVL_LEAST_SENT, CVL_LEAST_EACH);
+    if (parts) {
+        w.a = source, w.a_len = source_len, w.index = index, w.out = out, w.size = sizeof *out, w.of_bools = true;
+        parts = cvl_is_permuted(pool, &w);
+    }
+    return parts ? cvl_status(CVL_DONE, -1) : cvl_permute_bool(source, source_len, index, index_len, out, out_len);
+}
+
+CVL_CHECKED static inline CvlStatus cvl_select_permute_int_on(
+    const CvlPool *pool, const int32_t *source, size_t source_len, const int32_t *index, size_t index_len, const bool *flags,
+    size_t flags_len, int32_t *out, size_t out_len) {
+    CvlWork w;
+    bool parts = source_len == index_len && index_len == flags_len && index_len <= CVL_MOST_ELEMENTS &&
+        !CVL_MEET(out, out_len, source, source_len) && !CVL_MEET(out, out_len, index, index_len) &&
+        !CVL_MEET(out, out_len, flags, flags_len) && cvl_cut_by(pool, &w, out_len, CVL_LEAST_SENT, CVL_LEAST_EACH);
+    if (parts) {
+        w.a = source, w.a_len = source_len, w.index = index, w.flags = flags, w.out = out, w.size = sizeof *out;
+        parts = cvl_is_permuted(pool, &w);
+    }
+    return parts ? cvl_status(CVL_DONE, -1)
+                 : cvl_select_permute_int(source, source_len, index, index_len, flags, flags_len, out, out_len);
 }
 
 CVL_CHECKED static inline CvlStatus cvl_select_permute_bool_on(
     const CvlPool *pool, const bool *source, size_t source_len, const int32_t *index, size_t index_len, const bool *flags,
     size_t flags_len, bool *out, size_t out_len) {
-    (void)pool;
-    return cvl_select_permute_bool(source, source_len, index, index_len, flags, flags_len, out, out_len);
+    CvlWork w;
+    bool parts = source_len == index_len && index_len == flags_len && index_len <= CVL_MOST_ELEMENTS &&
+        !CVL_MEET(out, out_len, source, source_len) && !CVL_MEET(out, out_len, index, index_len) &&
+        !CVL_MEET(out, out_len, flags, flags_len) && cvl_cut_by(pool, &w, out_len, CVL_LEAST_SENT, CVL_LEAST_EACH);
+    if (parts) {
+        w.a = source, w.a_len = source_len, w.index = index, w.flags = flags, w.out = out, w.size = sizeof *out, w.of_bools = true;
+        parts = cvl_is_permuted(pool, &w);
+    }
+    return parts ? cvl_status(CVL_DONE, -1)
+                 : cvl_select_permute_bool(source, source_len, index, index_len, flags, flags_len, out, out_len);
+}
+
+CVL_CHECKED static inline CvlStatus cvl_default_permute_int_on(
+    const CvlPool *pool, const int32_t *source, size_t source_len, const int32_t *index, size_t index_len, const int32_t *defaults,
+    size_t defaults_len, int32_t *out, size_t out_len) {
+    CvlWork w;
+    bool parts = source_len == index_len && defaults_len == out_len && index_len <= CVL_MOST_ELEMENTS &&
+        !CVL_MEET(out, out_len, source, source_len) && !CVL_MEET(out, out_len, index, index_len) &&
+        !CVL_MEET(out, out_len, defaults, defaults_len) && cvl_cut_by(pool, &w, out_len, CVL_LEAST_SENT, CVL_LEAST_EACH);
+    if (parts) {
+        w.a = source, w.a_len = source_len, w.index = index, w.b = defaults, w.out = out, w.size = sizeof *out;
+        parts = cvl_is_permuted(pool, &w);
+    }
+    return parts ? cvl_status(CVL_DONE, -1)
+                 : cvl_default_permute_int(source, source_len, index, index_len, defaults, defaults_len, out, out_len);
 }
 
 CVL_CHECKED static inline CvlStatus cvl_default_permute_bool_on(
     const CvlPool *pool, const bool *source, size_t source_len, const int32_t *index, size_t index_len, const bool *defaults,
     size_t defaults_len, bool *out, size_t out_len) {
-    (void)pool;
-    return cvl_default_permute_bool(source, source_len, index, index_len, defaults, defaults_len, out, out_len);
+    CvlWork w;
+    bool parts = source_len == index_len && defaults_len == out_len && index_len <= CVL_MOST_ELEMENTS &&
+        !CVL_MEET(out, out_len, source, source_len) && !CVL_MEET(out, out_len, index, index_len) &&
+        !CVL_MEET(out, out_len, defaults, defaults_len) && cvl_cut_by(pool, &w, out_len, CVL_LEAST_SENT, CVL_LEAST_EACH);
+    if (parts) {
+        w.a = source, w.a_len = source_len, w.index = index, w.b = defaults, w.out = out, w.size = sizeof *out, w.of_bools = true;
+        parts = cvl_is_permuted(pool, &w);
+    }
+    return parts ? cvl_status(CVL_DONE, -1)
+                 : cvl_default_permute_bool(source, source_len, index, index_len, defaults, defaults_len, out, out_len);
 }
 
 /* ---- texts: each part has a text of its own, and then they are put one after another ---- */

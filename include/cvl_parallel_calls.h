@@ -545,37 +545,37 @@ CVL_CHECKED static inline CvlStatus cnt_leb_on(const CvlPool *pool, const bool *
     return cvl_seg_count_on(pool, flags, n, lengths, segments, out, segments);
 }
 
-/* smp_puz in parts: not cut. */
+/* smp_puz in parts: the result is cut; each part reads all indices. */
 CVL_CHECKED static inline CvlStatus smp_puz_on(const CvlPool *pool, const int32_t *source, const int32_t *index,
     int32_t *out, size_t n) {
     return cvl_permute_int_on(pool, source, n, index, n, out, n);
 }
 
-/* smp_pub in parts: not cut. */
+/* smp_pub in parts: the result is cut; each part reads all indices. */
 CVL_CHECKED static inline CvlStatus smp_pub_on(const CvlPool *pool, const bool *source, const int32_t *index, bool *out,
     size_t n) {
     return cvl_permute_bool_on(pool, source, n, index, n, out, n);
 }
 
-/* sel_puz in parts: not cut. */
+/* sel_puz in parts: the result is cut; each part reads all indices. */
 CVL_CHECKED static inline CvlStatus sel_puz_on(const CvlPool *pool, const int32_t *source, const int32_t *index,
     const bool *flags, size_t n, int32_t *out, size_t m) {
     return cvl_select_permute_int_on(pool, source, n, index, n, flags, n, out, m);
 }
 
-/* sel_pub in parts: not cut. */
+/* sel_pub in parts: the result is cut; each part reads all indices. */
 CVL_CHECKED static inline CvlStatus sel_pub_on(const CvlPool *pool, const bool *source, const int32_t *index,
     const bool *flags, size_t n, bool *out, size_t m) {
     return cvl_select_permute_bool_on(pool, source, n, index, n, flags, n, out, m);
 }
 
-/* def_puz in parts: not cut. */
+/* def_puz in parts: the result is cut; each part reads all indices. */
 CVL_CHECKED static inline CvlStatus def_puz_on(const CvlPool *pool, const int32_t *source, const int32_t *index, size_t n,
     const int32_t *defaults, int32_t *out, size_t m) {
     return cvl_default_permute_int_on(pool, source, n, index, n, defaults, m, out, m);
 }
 
-/* def_pub in parts: not cut. */
+/* def_pub in parts: the result is cut; each part reads all indices. */
 CVL_CHECKED static inline CvlStatus def_pub_on(const CvlPool *pool, const bool *source, const int32_t *index, size_t n,
     const bool *defaults, bool *out, size_t m) {
     return cvl_default_permute_bool_on(pool, source, n, index, n, defaults, m, out, m);

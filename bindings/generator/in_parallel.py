@@ -16,7 +16,8 @@ CUTS = {
     "cut at places; each part goes on from the exact sums before it": "checked_scan",
     "cut at places; the parts' counts are added": "count",
     "cut at places; each part's elements go behind those of the parts before": "pack_int pack_bool seg_pack_int seg_pack_bool",
-    "not cut": "extract_int extract_bool permute_int permute_bool select_permute_int select_permute_bool default_permute_int "
+    "not cut": "extract_int extract_bool",
+    "the result is cut; each part reads all indices": "permute_int permute_bool select_permute_int select_permute_bool default_permute_int "
     "default_permute_bool",
     "the copy is cut at places": "replace_int replace_bool",
     "the lengths are cut; the parts' totals are added": "make_descriptor",

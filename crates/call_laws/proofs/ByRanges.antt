@@ -16,7 +16,7 @@ use Rattle.permute_walks.proofs.Scattered.{written_all}
 use Rattle.permute_walks.proofs.Sent.{length-flagged_destinations, length-senders_of}
 use Rattle.permute_walks.proofs.Taken.{taken_flat, taken_over_flat}
 use Rattle.permute_walks.proofs.Written.{count_both, written_both}
-use Rattle.call_laws.specs.ResultRanges.{count_of_range, room_of_range}
+use Rattle.part_calls.specs.Ranges.{count_of_range, room_of_range}
 use Rattle.call_laws.proofs.Sending.{if_as_long-Ok, unless-Ok}
 
 -- ---- two ranges side by side are one

@@ -3,4 +3,3 @@ pub mod CheckedParts
 pub mod CutAgain
 pub mod InParts
 pub mod Permuted
-pub mod ResultRanges

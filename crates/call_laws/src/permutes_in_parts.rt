@@ -2,10 +2,10 @@
 
 ghost use Rattle.std.specs.Prelude.{◌≡◌, ◌+◌, ◌≤◌, ℕ, ℤ, Bool, Option, List, ◌++◌, length};
 ghost use Rattle.call_laws.specs.InParts.{in_two};
-ghost use Rattle.call_laws.specs.ResultRanges.{count_of_range, room_of_range};
 ghost use Rattle.cvl_base.specs.Limits.{most_elements};
 ghost use Rattle.cvl_base.specs.Packs.{count_of};
 ghost use Rattle.cvl_base.specs.Permutes.{all_destinations, back_of, default_of, flagged_destinations, select_of, simple_of};
+ghost use Rattle.part_calls.specs.Ranges.{count_of_range, room_of_range};
 
 /// A back permute by an index that is cut in two is the back permutes by the two parts, each from the whole source.
 pub fn back_permute_in_parts<T>()

@@ -1,13 +1,16 @@
-//! What one part of a call needs where the whole doesn't: sums that go on from what stands before the part.
+//! What one part of a call needs where the whole doesn't: sums that go on from what stands before the part, and one range of a
+//! permute's result.
 
 ghost use Rattle.std.specs.Prelude.{Ok, length};
 ghost use Rattle.cvl_base.specs.Exact.{total_of};
 ghost use Rattle.c_calls.specs.Told.{Told, in_room};
 ghost use Rattle.part_calls.specs.Limits.{few_enough};
+ghost use Rattle.part_calls.specs.Ranges.{select_range_of, simple_range_of};
 ghost use Rattle.part_calls.specs.Sums.{checked_scan_after};
 
 use c_calls::status::{CvlStatus, told_one, told_over};
 use part_calls::carries::{checked_scan_from, exact_sum};
+use part_calls::permute_ranges::{select_range, simple_range};
 
 /// What the integers add up to, in 64 bits, where it always fits: what a part of a checked sum tells to the next.
 #[unsafe(no_mangle)]
@@ -23,4 +26,76 @@ pub extern "C" fn cvl_checked_scan_after(before: i64, a: &[i32], out: &mut [i32]
     ensures { Told (in_room (length out.old) (few_enough (length a.now) (checked_scan_after before a.now))) result out.old out.new }
 {
     told_over::<i32>(checked_scan_from(&before, a, out))
+}
+
+/// The integers that go to one range of a simple permute's result, from place `lowest` on, by a mark for each place of it.
+#[unsafe(no_mangle)]
+pub extern "C" fn cvl_permute_int_range(
+    source: &[i32],
+    index: &[i32],
+    lowest: usize,
+    out: &mut [i32],
+    marks: &mut [bool],
+    written: &mut usize,
+) -> CvlStatus
+    ensures { Told (simple_range_of source.now index.now lowest out.old marks.old)
+        result (out.old, marks.old, written.old) (out.new, marks.new, written.new) }
+{
+    told_one(simple_range(source, index, lowest, out, marks), written)
+}
+
+/// The same of booleans, whose bytes are moved as they are.
+#[unsafe(no_mangle)]
+pub extern "C" fn cvl_permute_bool_range(
+    source: &[u8],
+    index: &[i32],
+    lowest: usize,
+    out: &mut [u8],
+    marks: &mut [bool],
+    written: &mut usize,
+) -> CvlStatus
+    ensures { Told (simple_range_of source.now index.now lowest out.old marks.old)
+        result (out.old, marks.old, written.old) (out.new, marks.new, written.new) }
+{
+    told_one(simple_range(source, index, lowest, out, marks), written)
+}
+
+/// The integers that go to one range of a select permute's result, from place `lowest` on, by a mark for each place of it.
+#[unsafe(no_mangle)]
+pub extern "C" fn cvl_select_permute_int_range(
+    source: &[i32],
+    index: &[i32],
+    flags: &[bool],
+    lowest: usize,
+    out: &mut [i32],
+    marks: &mut [bool],
+    written: &mut usize,
+) -> CvlStatus
+    ensures { Told (select_range_of source.now index.now flags.now lowest out.old marks.old)
+        result (out.old, marks.old, written.old) (out.new, marks.new, written.new) }
+{
+    told_one(
+        select_range(source, index, flags, lowest, out, marks),
+        written,
+    )
+}
+
+/// The same of booleans, whose bytes are moved as they are.
+#[unsafe(no_mangle)]
+pub extern "C" fn cvl_select_permute_bool_range(
+    source: &[u8],
+    index: &[i32],
+    flags: &[bool],
+    lowest: usize,
+    out: &mut [u8],
+    marks: &mut [bool],
+    written: &mut usize,
+) -> CvlStatus
+    ensures { Told (select_range_of source.now index.now flags.now lowest out.old marks.old)
+        result (out.old, marks.old, written.old) (out.new, marks.new, written.new) }
+{
+    told_one(
+        select_range(source, index, flags, lowest, out, marks),
+        written,
+    )
 }

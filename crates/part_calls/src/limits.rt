@@ -1,6 +1,6 @@
 //! That a part lies within the longest vector.
 
-ghost use Rattle.std.specs.Prelude.{◌≡◌, ◌≤◌, ◌<◌, MatchResult};
+ghost use Rattle.std.specs.Prelude.{◌≡◌, ◌≤◌, ◌<◌, ◌+◌, MatchResult};
 ghost use Rattle.cvl_base.specs.declared.fault.FaultNo.TheVariants as no;
 ghost use Rattle.cvl_base.specs.Faults.{fault};
 ghost use Rattle.cvl_base.specs.Limits.{most_elements};
@@ -13,6 +13,17 @@ pub(crate) fn check_few(count: usize) -> Result<(), Fault>
     ensures { MatchResult result (λ _. count ≤ most_elements) (λ f. (f ≡ fault no.TooLong) × (most_elements < count)) }
 {
     if count > MOST_ELEMENTS {
+        return Err(Fault::new(FaultNo::TooLong));
+    }
+    Ok(())
+}
+
+/// Checks that so many places from place `lowest` on are among the first 4,194,304, else TooLong, without a place.
+pub(crate) fn check_end(lowest: usize, count: usize) -> Result<(), Fault>
+    ensures { MatchResult result (λ _. lowest + count ≤ most_elements) (λ f. (f ≡ fault no.TooLong) × (most_elements < lowest + count)) }
+{
+    check_few(lowest)?;
+    if count > MOST_ELEMENTS - lowest {
         return Err(Fault::new(FaultNo::TooLong));
     }
     Ok(())

@@ -1,0 +1,83 @@
+//! Permutes by ranges of their result, each written by a caller of its own, who reads all indices. Where the counts of all ranges add up
+//! to as many as take part, no place is bad, and the ranges, one after another, are the permute. Else the permute has a fault, which the
+//! plain call tells.
+//!
+//! A default permute's range is that of a simple permute, over a room that holds the defaults.
+
+ghost use Rattle.std.specs.Prelude.{◌≡◌, ◌+◌, ◌≤◌, length};
+ghost use Rattle.cvl_base.specs.Limits.{most_elements};
+ghost use Rattle.part_calls.specs.Ranges.{WritesRange, count_of_range, marks_of_range, room_of_range, select_range_of, simple_range_of};
+
+use crate::limits::{check_end, check_few};
+use cvl_base::{Fault, check_agree, true_count};
+use permute_walks::{AllDestinations, Destinations, FlaggedDestinations, write_range};
+
+/// Writes and marks the places of one range, whatever its marks hold before, and tells how many are marked.
+fn write_counted<T: Copy, D: Destinations>(
+    source: &[T],
+    destinations: &D,
+    lowest: usize,
+    out: &mut [T],
+    marks: &mut [bool],
+) -> usize
+    requires sourced { length source.now ≡ length (D.destinations destinations.now) }
+    requires few { length (D.destinations destinations.now) ≤ most_elements }
+    requires within { lowest + length out.old ≤ most_elements }
+    requires as_long { length out.old ≡ length marks.old }
+    ensures written { out.new ≡ room_of_range source.now (D.destinations destinations.now) lowest out.old }
+    ensures marked { marks.new ≡ marks_of_range (D.destinations destinations.now) lowest (length out.old) }
+    ensures counted { result ≡ count_of_range (D.destinations destinations.now) lowest (length out.old) }
+{
+    marks.fill(false);
+    write_range(source, destinations, lowest, out, marks);
+    true_count(marks)
+}
+
+/// One range of a simple permute, from place `lowest` of the result on: writes each element that goes to a place of it, marks these
+/// places, and tells how many they are. The room and the marks have the range's length; it does not matter what the marks hold before.
+///
+/// TooLong, without a place, where there are more than 4,194,304 indices or the range ends behind as many places; LengthMismatch, without
+/// a place, where source and index, or room and marks, differ in length.
+pub fn simple_range<T: Copy>(
+    source: &[T],
+    index: &[i32],
+    lowest: usize,
+    out: &mut [T],
+    marks: &mut [bool],
+) -> Result<usize, Fault>
+    ensures { WritesRange (simple_range_of source.now index.now lowest out.old marks.old)
+        result (out.old, marks.old) (out.new, marks.new) }
+{
+    check_few(index.len())?;
+    check_end(lowest, out.len())?;
+    check_agree(source.len(), index.len())?;
+    check_agree(out.len(), marks.len())?;
+    Ok(write_counted(source, &AllDestinations { index }, lowest, out, marks))
+}
+
+/// One range of a select permute, the same way: the elements alone whose flag is true go anywhere. LengthMismatch too where index and
+/// flags differ in length.
+pub fn select_range<T: Copy>(
+    source: &[T],
+    index: &[i32],
+    flags: &[bool],
+    lowest: usize,
+    out: &mut [T],
+    marks: &mut [bool],
+) -> Result<usize, Fault>
+    ensures { WritesRange (select_range_of source.now index.now flags.now lowest out.old marks.old)
+        result (out.old, marks.old) (out.new, marks.new) }
+{
+    check_few(index.len())?;
+    check_end(lowest, out.len())?;
+    check_agree(source.len(), index.len())?;
+    check_agree(index.len(), flags.len())?;
+    check_agree(out.len(), marks.len())?;
+    Ok(write_counted(
+        source,
+        &FlaggedDestinations { index, flags },
+        lowest,
+        out,
+        marks,
+    ))
+}
