@@ -1251,6 +1251,16 @@ CVL_CHECKED CvlStatus cvl_select_permute_bool_range(
     const bool *source, size_t source_len, const int32_t *index, size_t index_len, const bool *flags, size_t flags_len,
     size_t lowest, bool *out, size_t out_len, bool *marks, size_t marks_len, size_t *written);
 
+/*
+ * cvl_read_ints_after: The integers of one piece of a text that is cut at white space, as cvl_read_ints reads them. `before` is how many
+ * words the pieces before it have, so that a fault's place is that in the whole text.
+ * Faults: 13 TooLong, without a place, where `before` is more than 4194304 or the piece itself has more words; else 15 BadInput at the
+ * first word of the piece that is no integer. That all pieces together have at most 4194304 words is the caller's to see.
+ * before = 3, text = "9 10": out = 9 10, count = 2; text = "9 x": BadInput at 4
+ */
+CVL_CHECKED CvlStatus cvl_read_ints_after(
+    size_t before, const char *text, size_t text_len, int32_t *out, size_t out_len, size_t *count);
+
 /* Whether an array shares memory with one of a part's three rooms, and whether two of these do. */
 #define CVL_MEETS_RANGE(a, a_len)                                                                                              \
     (CVL_MEET(out, out_len, a, a_len) || CVL_MEET(marks, marks_len, a, a_len) || CVL_MEET(written, 1, a, a_len))
@@ -1299,6 +1309,15 @@ CVL_CHECKED static inline CvlStatus cvl_select_permute_bool_range_apart(
         marks_len, written));
 }
 #define cvl_select_permute_bool_range cvl_select_permute_bool_range_apart
+
+CVL_CHECKED static inline CvlStatus cvl_read_ints_after_apart(
+    size_t before, const char *text, size_t text_len, int32_t *out, size_t out_len, size_t *count) {
+    if (CVL_MEET(out, out_len, text, text_len) || CVL_MEET(out, out_len, count, 1) || CVL_MEET(count, 1, text, text_len)) {
+        return cvl_overlap();
+    }
+    return cvl_read_ints_after(before, text, text_len, out, out_len, count);
+}
+#define cvl_read_ints_after cvl_read_ints_after_apart
 
 /* ---- each call of the table, by its name ---- */
 

@@ -222,6 +222,7 @@ static size_t n, segments, trues, text_length, text_room;
     X(cvl_permute_bool_range, "fxFFc", "", (p[0], n, p[1], n, 0, p[2], n, p[3], n, p[4]))                                      \
     X(cvl_select_permute_int_range, "izfMNc", "", (p[0], n, p[1], n, p[2], n, 0, p[3], trues, p[4], trues, p[5]))              \
     X(cvl_select_permute_bool_range, "fzfNNc", "", (p[0], n, p[1], n, p[2], n, 0, p[3], trues, p[4], trues, p[5]))             \
+    X(cvl_read_ints_after, "tIc", "", (2, p[0], text_length, p[1], n, p[2]))                                                   \
     X(cvl_segments_free, "h", "", (p[0]))                                                                                      \
     X(cvl_segments_new, "lh", "", (p[0], segments, p[1]))                                                                      \
     X(cvl_segments_total, "dc", "", (p[0], p[1]))                                                                              \

@@ -123,6 +123,7 @@ static CvlPool pool;
 /* The functions that have no call of the table, and calls that a caller gets wrong: overlaps, lengths that differ, no operator. */
 #define OTHERS(X)                                                                                                              \
     X(read_ints, cvl_read_ints, in.text, in.text_length, r->ints, in.room, &r->count)                                          \
+    X(pieces, read_pieces, in.text, in.text_length, r->ints, in.room, &r->count)                                               \
     X(write_ints, cvl_write_ints, in.a, in.n, r->text, in.text_room, &r->count)                                                \
     X(write_bools, cvl_write_bools, in.p, in.n, r->text, in.text_room, &r->count)                                              \
     X(seg_read_ints, cvl_seg_read_ints, in.nested, in.nested_length, r->ints, in.n, &r->count, r->lengths, in.segments, &r->segments) \
@@ -139,6 +140,12 @@ static CvlPool pool;
     X(no_seg_reduce, cvl_seg_bool_reduce, CVL_ADD, in.p, in.n, in.lengths, in.segments, r->bools, in.segments)                 \
     X(few_values, cvl_seg_distribute_int, in.values, in.segments / 2, in.lengths, in.segments, r->ints, in.n)                  \
     X(copies_below_none, cvl_distribute_int, 7, -1, r->ints, in.n)
+
+/* A text that is read in pieces of any lengths, cut at white space, each after the words of those before it. */
+static CvlStatus read_pieces(const char *text, size_t text_len, int32_t *out, size_t out_len, size_t *count) {
+    return cvl_read_ints(text, text_len, out, out_len, count);
+}
+static CvlStatus read_pieces_on(const CvlPool *pieces, const char *text, size_t text_len, int32_t *out, size_t out_len, size_t *count);
 
 #define DEFINED(name, function, ...)                                                                                           \
     static CvlStatus plain_##name(Room *r) { return (void)r, function(__VA_ARGS__); }                                         \
@@ -166,6 +173,25 @@ static void *room_for(size_t count, size_t size) {
     void *room = malloc(count == 0 ? 1 : count * size);
     if (room == NULL) abort();
     return room;
+}
+
+static CvlStatus read_pieces_on(const CvlPool *pieces, const char *text, size_t text_len, int32_t *out, size_t out_len, size_t *count) {
+    int32_t *read = (int32_t *)room_for(text_len, sizeof *read);
+    CvlStatus status = cvl_status(CVL_DONE, -1);
+    size_t words = 0, more = 0;
+    for (size_t from = 0, to = 0; from < text_len && status.number == CVL_DONE; from = to, words += more) {
+        to = from + text_len / pieces->parts + 1;
+        if (to > text_len) to = text_len;
+        while (to < text_len && !cvl_is_white(text[to])) to++;
+        status = cvl_read_ints_after(words, text + from, to - from, read + words, text_len - words, &more);
+    }
+    if (status.number == CVL_DONE) {
+        *count = words;
+        if (words > out_len) status = cvl_status(CVL_LENGTH_MISMATCH, -1);
+        else memcpy(out, read, words * sizeof *read);
+    }
+    free(read);
+    return status;
 }
 
 static int32_t *random_ints(size_t count, uint32_t spread) {

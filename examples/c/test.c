@@ -405,6 +405,17 @@ static void ranges_of_permutes(void) {
     FAULT(cvl_select_permute_bool_range(p, 3, some, 3, f, 3, 0, bools, 2, marks, 1, &total), CVL_LENGTH_MISMATCH, -1);
 }
 
+static void pieces_of_texts(void) {
+    const size_t most = CVL_MOST_ELEMENTS;
+    FRONT_INTS(cvl_read_ints_after(3, "9 10", 4, ints, ROOM, &total), 9, 10);
+    TOO_SHORT(cvl_read_ints_after(most, " 9 10 11 ", 9, ints, 2, &total), 3);
+    FAULT(cvl_read_ints_after(0, "9 x", 3, ints, ROOM, &total), CVL_BAD_INPUT, 1);
+    FAULT(cvl_read_ints_after(3, "9 x", 3, ints, ROOM, &total), CVL_BAD_INPUT, 4);
+    FAULT(cvl_read_ints_after(most, "x", 1, ints, ROOM, &total), CVL_BAD_INPUT, CVL_MOST_ELEMENTS);
+    FAULT(cvl_read_ints_after(most + 1, "9", 1, ints, ROOM, &total), CVL_TOO_LONG, -1);
+    FAULT(cvl_read_ints_after(SIZE_MAX, "x", 1, ints, ROOM, &total), CVL_TOO_LONG, -1);
+}
+
 static void checked_sums(void) {
     const int32_t *a = I(3, 1, 4, 1, 5), *lengths = I(2, 0, 3), *high = I(2147483647, 1, -1);
     const size_t many = CVL_MOST_ELEMENTS + 1;
@@ -1310,6 +1321,7 @@ int main(void) {
     scans_in_parts();
     parts_of_calls();
     ranges_of_permutes();
+    pieces_of_texts();
     checked_sums();
     elements();
     descriptors();

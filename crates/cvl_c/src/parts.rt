@@ -1,16 +1,19 @@
-//! What one part of a call needs where the whole doesn't: sums that go on from what stands before the part, and one range of a
-//! permute's result.
+//! What one part of a call needs where the whole doesn't: sums that go on from what stands before the part, one range of a permute's
+//! result, and one piece of a text.
 
 ghost use Rattle.std.specs.Prelude.{Ok, length};
 ghost use Rattle.cvl_base.specs.Exact.{total_of};
-ghost use Rattle.c_calls.specs.Told.{Told, in_room};
+ghost use Rattle.c_calls.specs.Told.{FrontToldOr, Told, in_room};
 ghost use Rattle.part_calls.specs.Limits.{few_enough};
+ghost use Rattle.part_calls.specs.Pieces.{piece_of};
 ghost use Rattle.part_calls.specs.Ranges.{select_range_of, simple_range_of};
 ghost use Rattle.part_calls.specs.Sums.{checked_scan_after};
 
-use c_calls::status::{CvlStatus, told_one, told_over};
+use c_calls::status::{CvlStatus, told_in_front, told_one, told_over};
 use part_calls::carries::{checked_scan_from, exact_sum};
 use part_calls::permute_ranges::{select_range, simple_range};
+use part_calls::text_pieces::read_piece;
+use std::alloc::Global;
 
 /// What the integers add up to, in 64 bits, where it always fits: what a part of a checked sum tells to the next.
 #[unsafe(no_mangle)]
@@ -98,4 +101,18 @@ pub extern "C" fn cvl_select_permute_bool_range(
         select_range(source, index, flags, lowest, out, marks),
         written,
     )
+}
+
+/// The integers of a piece of a text, whose fault stands at its place in the whole, where the pieces before it have so many words.
+#[unsafe(no_mangle)]
+pub extern "C" fn cvl_read_ints_after(
+    alloc: Global,
+    before: usize,
+    text: &[u8],
+    out: &mut [i32],
+    count: &mut usize,
+) -> CvlStatus
+    ensures { FrontToldOr (piece_of before text.now) result out.old out.new count.old count.new }
+{
+    told_in_front(read_piece(alloc, before, text), out, count)
 }

@@ -1,3 +1,4 @@
 pub mod Limits
+pub mod Pieces
 pub mod Ranges
 pub mod Sums
