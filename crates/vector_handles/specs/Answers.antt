@@ -1,6 +1,6 @@
 -- How the answers of a session's calls stand to their definitions.
 -- Source: this library.
-use Rattle.std.specs.Prelude.{ℕ, ℤ, List, Option, Some, None, Result}
+use Rattle.std.specs.Prelude.{ℕ, ℤ, List, Option, Result}
 use Rattle.cvl_base.specs.declared.call.Call.{Call}
 use Rattle.cvl_base.specs.declared.fault.Fault.{Fault}
 use Rattle.cvl_base.specs.declared.operation.Op.{Op}

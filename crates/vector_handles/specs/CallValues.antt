@@ -1,7 +1,7 @@
 -- The value that each call of the table gives, from its arguments: one line for each family and type of elements; and the
 -- two values of a call that gives two.
 -- Source: CVL's calls, in this library's profile.
-use Rattle.std.specs.Prelude.{◌≡◌, ℕ, ◌-◌, ◌==◌, List, [], ◌∷◌, map, slice_get, Option, Some, None, Result, Ok, Err, IfOk, ℤ, pos, negsuc, if◌then◌else◌}
+use Rattle.std.specs.Prelude.{◌≡◌, ℕ, ◌-◌, ◌==◌, List, [], ◌∷◌, map, slice_get, Option, None, Result, Ok, Err, IfOk, ℤ, pos, negsuc, if◌then◌else◌}
 use Rattle.std.specs.Option.{ok_or}
 use Rattle.cvl_base.specs.declared.value.Value.{Value}
 use Rattle.cvl_base.specs.declared.value.Value.TheVariants as value
