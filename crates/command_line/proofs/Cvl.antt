@@ -4,6 +4,7 @@ use Rattle.std.proofs.Common.{IsSome}
 use Rattle.std.specs.List.{slice_index_or}
 use Rattle.std.proofs.lemmas.List.{length-map}
 use Rattle.std.specs.Str.{bytes_eq}
+use Rattle.std.proofs.lemmas.Bool.{not-true}
 use Rattle.clap.specs.Built.{IsAuto, IsParsedFrom, IsPlain}
 use Rattle.clap.specs.Facts.{args_of, unwrap_or_range}
 use Rattle.clap.specs.Texts.{items_of}
@@ -31,7 +32,7 @@ use Rattle.command_line.specs.declared.fault.WordsFault.{WordsFault}
 use Rattle.command_line.specs.declared.fault.WordsFault.TheVariants as fault
 use Rattle.command_line.proofs.Accepted.{accepted}
 use Rattle.command_line.proofs.Present.{IsAlone, default_has_value}
-use Rattle.command_line.proofs.Rules.{IsBare, all_plain, bare, empty_list, not_true, rule_at}
+use Rattle.command_line.proofs.Rules.{IsBare, all_plain, bare, empty_list, rule_at}
 
 abbrev rules : List Rule
 rules = tile_rule ∷ workers_rule ∷ script_rule ∷ inputs_rule ∷ []
@@ -62,7 +63,7 @@ unfolding cvl
 no_globals c e =
     let fields = both _ _ (ap (λ (a : App). a.top.is_plain) e) in
     let external = both _ _ fields.1 in
-    not_true _ (both _ _ external.1).0
+    not-true _ (both _ _ external.1).0
 
 no_negates : (c : Command) → app_of c ≡ cvl → (out-Command c).subcommand_negates_reqs ≡ false
 unfolding cvl

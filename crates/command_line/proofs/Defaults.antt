@@ -4,23 +4,19 @@ use Rattle.std.specs.Prelude.{find, option_and_then}
 use Rattle.std.specs.List.{fold}
 use Rattle.std.specs.Str.{bytes_eq}
 use Rattle.std.specs.Str.Parse.{digits_value, without_leading_plus}
+use Rattle.std.proofs.lemmas.Bool.{not-true, or_parts}
 use Rattle.clap.specs.Walk.{Row, Rule, Text, at_row, has_row, one_of, reading_by, row_text, with_default}
 use Rattle.clap.specs.Simple.{argument_words, built, filled, help_rule, with_index}
 use Rattle.clap.specs.Values.{read_as}
 use Rattle.clap.specs.declared.parser.matches.ValueSource.TheVariants.{DefaultValue}
 use Rattle.command_line.specs.Command.{cvl, inputs_rule, script_rule, tile_rule, workers_rule}
-use Rattle.command_line.proofs.Rules.{not_true}
 use Rattle.command_line.specs.Reads.{is_left_out, number_given, number_in, uses_of}
-
-neither : (a b : Bool) → (a || b) ≡ false → (a ≡ false) × (b ≡ false)
-neither false b e = (refl, e)
-neither true b e = cc
 
 at_missing : (id : Text) (change : Row → List Row) (missing rows : List Row) → has_row id rows ≡ false
     → at_row id change missing rows ≡ rows ++ missing
 at_missing id change missing [] e = refl
 at_missing id change missing (r ∷ rows) e =
-    let parts = neither (bytes_eq r.id id) (has_row id rows) e in
+    let parts = or_parts (bytes_eq r.id id) (has_row id rows) e in
     rw parts.0 (ap (λ more. r ∷ more) (at_missing id change missing rows parts.1))
 
 found_before : (p : Row → Bool) (xs : List Row) (y : Row) → p y ≡ false → find p (xs ++ y ∷ []) ≡ find p xs
@@ -31,7 +27,7 @@ found_last : (id : Text) (xs : List Row) (y : Row) → has_row id xs ≡ false �
     → find (λ r. bytes_eq r.id id) (xs ++ y ∷ []) ≡ Some y
 found_last id [] y none e = rw e refl
 found_last id (x ∷ xs) y none e =
-    let parts = neither (bytes_eq x.id id) (has_row id xs) none in
+    let parts = or_parts (bytes_eq x.id id) (has_row id xs) none in
     rw parts.0 (found_last id xs y parts.1 e)
 
 -- the row that a default makes
@@ -138,13 +134,13 @@ pub tile_by_default : (words : List Text) → is_left_out (codes "tile") words �
 tile_by_default words out =
     let rows = uses_of (built cvl) (argument_words cvl words) in
     ap (λ rules. number_in (codes "tile") (fold with_default rows rules)) rules_built
-    ∙ (ap (option_map number_of_text) (tile_of rows (not_true _ out)) ∙ ap Some value_4096)
+    ∙ (ap (option_map number_of_text) (tile_of rows (not-true _ out)) ∙ ap Some value_4096)
 
 pub workers_by_default : (words : List Text) → is_left_out (codes "workers") words ≡ true → number_given (codes "workers") words ≡ Some 4
 workers_by_default words out =
     let rows = uses_of (built cvl) (argument_words cvl words) in
     ap (λ rules. number_in (codes "workers") (fold with_default rows rules)) rules_built
-    ∙ (ap (option_map number_of_text) (workers_of rows (not_true _ out)) ∙ ap Some value_4)
+    ∙ (ap (option_map number_of_text) (workers_of rows (not-true _ out)) ∙ ap Some value_4)
 
 pub same_number : (o : Option ℕ) (n default : ℕ) → o ≡ Some n → o ≡ Some default → n ≡ default
 same_number o n default is by = cc

@@ -1,6 +1,7 @@
 -- What the rule of an argument says of the argument.
-use Rattle.std.proofs.Common.{◌≡◌, ℕ, zero, suc, ◌<◌, ◌==◌, ◌&&◌, Bool, true, false, not, List, [], ◌∷◌, length, map, Option, Some, None, is_some, refl, arith}
+use Rattle.std.proofs.Common.{◌≡◌, ℕ, zero, suc, ◌<◌, ◌==◌, ◌&&◌, Bool, true, not, List, [], ◌∷◌, length, map, Option, Some, None, is_some, refl, arith}
 use Rattle.std.specs.List.{All, list_all, slice_index_or}
+use Rattle.std.proofs.lemmas.Bool.{not-true}
 use Rattle.clap.specs.declared.builder.arg.Arg.{Arg}
 use Rattle.clap.specs.Built.{IsPlainArg}
 use Rattle.clap.specs.Walk.{Rule, is_free_arg, is_simple_arg, rule_of}
@@ -9,10 +10,6 @@ use Rattle.clap.proofs.WalkLemmas.{both}
 pub empty_list : {X : Type 0} (xs : List X) → (length xs == 0) ≡ true → xs ≡ []
 empty_list [] e = refl
 empty_list (x ∷ xs) e = absurd (grind arith)
-
-pub not_true : (b : Bool) → not b ≡ true → b ≡ false
-not_true true e = cc
-not_true false e = refl
 
 none_of : {X : Type 0} (o : Option X) → not (is_some o) ≡ true → o ≡ None
 none_of None e = refl
@@ -33,7 +30,7 @@ bare a simple free =
     let f0 = both _ _ free in
     let f1 = both _ _ f0.1 in
     record {
-      plain = (not_true _ f0.0, empty_list _ f1.0, empty_list _ s0.0, empty_list _ s2.0);
+      plain = (not-true _ f0.0, empty_list _ f1.0, empty_list _ s0.0, empty_list _ s2.0);
       ifs = empty_list _ s1.0;
       delimiter = none_of _ s3.0;
     }
