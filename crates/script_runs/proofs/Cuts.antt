@@ -3,13 +3,10 @@ use Rattle.std.proofs.Common.{◌≡◌, ℕ, ◌+◌, ◌<◌, ◌≤◌, ◌==
 use Rattle.std.specs.List.{slice_split, position_or_len, onto_first}
 use Rattle.std.specs.Str.Lines.{strip_carriage_return}
 use Rattle.std.proofs.lemmas.Bool.{ltb-true, ltb-false}
+use Rattle.std.proofs.lemmas.Option.{cond_some}
 use Rattle.std.proofs.lemmas.List.Splits.{slice_split_first}
 use Rattle.cvl_base.proofs.Lists.{not_found}
 use Rattle.script_runs.specs.Meaning.{lines_of}
-
-found : (b : Bool) (n at : ℕ) → cond b (Some n) None ≡ Some at → (b ≡ true) × (n ≡ at)
-found true n at e = (refl, cc)
-found false n at e = cc
 
 one_part_more : {X : Type 0} (b : Bool) (x : X) (xs : List X) (parts : List (List X)) (n : ℕ) → length (x ∷ xs) ≤ cond (not b) (1 + n) 0 → (length xs ≤ n → parts ≡ xs ∷ []) → cond b ([] ∷ parts) (onto_first x parts) ≡ (x ∷ xs) ∷ []
 one_part_more true x xs parts n h one = absurd (omega arith)
@@ -29,6 +26,6 @@ last_line script e =
 pub first_line : (script : List ℕ) (at : ℕ) → position (λ b. b == 10) script ≡ Some at → lines_of script ≡ strip_carriage_return (take at script) ∷ lines_of (drop (at + 1) script)
 first_line script at e =
     let p : ℕ → Bool = λ b. b == 10 in
-    let w : (nat_lt (position_or_len p script) (length script) ≡ true) × (position_or_len p script ≡ at) = found _ _ at e in
+    let w : (nat_lt (position_or_len p script) (length script) ≡ true) × (position_or_len p script ≡ at) = cond_some _ _ at e in
     let within : position_or_len p script < length script = ltb-true _ _ w.0 in
     ap (map strip_carriage_return) (rw w.1 at (slice_split_first p script 0 within))

@@ -41,145 +41,67 @@ empty_both true (x ∷ xs) ys = refl
 
 -- ---- all that a host shows
 
-pub shows_same : (s : Seen) → Shows s s
-shows_same s = record {
-  output = told_same s.output;
-  failed_puts = refl;
-  sent = refl;
-  failed_flushes = refl;
-  errors = told_same s.errors;
-  told_sent = refl;
-  lost = refl;
-  reads = told_same s.reads;
+shows_each : {a b : Seen} → IsTold a.output b.output → b.failed_puts ≡ a.failed_puts → b.sent ≡ a.sent → b.failed_flushes ≡ a.failed_flushes → IsTold a.errors b.errors
+    → b.told_sent ≡ a.told_sent → b.lost ≡ a.lost → IsTold a.reads b.reads → Shows a b
+shows_each output failed_puts sent failed_flushes errors told_sent lost reads = record {
+  output = output;
+  failed_puts = failed_puts;
+  sent = sent;
+  failed_flushes = failed_flushes;
+  errors = errors;
+  told_sent = told_sent;
+  lost = lost;
+  reads = reads;
 }
+
+pub shows_same : (s : Seen) → Shows s s
+shows_same s = shows_each (told_same s.output) refl refl refl (told_same s.errors) refl refl (told_same s.reads)
 
 pub shows_on : (a b c : Seen) → Shows a b → Shows b c → Shows a c
-shows_on a b c first then = record {
-  output = told_on a.output b.output c.output first.output then.output;
-  failed_puts = then.failed_puts ∙ first.failed_puts;
-  sent = then.sent ∙ first.sent;
-  failed_flushes = then.failed_flushes ∙ first.failed_flushes;
-  errors = told_on a.errors b.errors c.errors first.errors then.errors;
-  told_sent = then.told_sent ∙ first.told_sent;
-  lost = then.lost ∙ first.lost;
-  reads = told_on a.reads b.reads c.reads first.reads then.reads;
-}
+shows_on a b c first then =
+    shows_each (told_on a.output b.output c.output first.output then.output) (then.failed_puts ∙ first.failed_puts)
+    (then.sent ∙ first.sent) (then.failed_flushes ∙ first.failed_flushes) (told_on a.errors b.errors c.errors first.errors then.errors)
+    (then.told_sent ∙ first.told_sent) (then.lost ∙ first.lost) (told_on a.reads b.reads c.reads first.reads then.reads)
 
 pub shows_nothing_put : (s : Seen) → Shows (with_output [] s) s
-shows_nothing_put s = record {
-  output = told_nothing s.output;
-  failed_puts = refl;
-  sent = sym (and_true s.sent);
-  failed_flushes = refl;
-  errors = told_same s.errors;
-  told_sent = refl;
-  lost = refl;
-  reads = told_same s.reads;
-}
+shows_nothing_put s =
+    shows_each (told_nothing s.output) refl (sym (and_true s.sent)) refl (told_same s.errors) refl refl (told_same s.reads)
 
 pub shows_nothing_read : (s : Seen) → Shows (with_reads [] s) s
-shows_nothing_read s = record {
-  output = told_same s.output;
-  failed_puts = refl;
-  sent = refl;
-  failed_flushes = refl;
-  errors = told_same s.errors;
-  told_sent = refl;
-  lost = refl;
-  reads = told_nothing s.reads;
-}
+shows_nothing_read s = shows_each (told_same s.output) refl refl refl (told_same s.errors) refl refl (told_nothing s.reads)
 
 pub shows_output : (written : List ℕ) (a b : Seen) → Shows a b → Shows (with_output written a) (with_output written b)
-shows_output written a b h = record {
-  output = told_more written a.output b.output h.output;
-  failed_puts = h.failed_puts;
-  sent = ap (λ sent. sent && is_empty written) h.sent;
-  failed_flushes = h.failed_flushes;
-  errors = h.errors;
-  told_sent = h.told_sent;
-  lost = h.lost;
-  reads = h.reads;
-}
+shows_output written a b h =
+    shows_each (told_more written a.output b.output h.output) h.failed_puts (ap (λ sent. sent && is_empty written) h.sent)
+    h.failed_flushes h.errors h.told_sent h.lost h.reads
 
 pub shows_failures : (puts : ℕ) (a b : Seen) → Shows a b → Shows (with_failures puts a) (with_failures puts b)
-shows_failures puts a b h = record {
-  output = h.output;
-  failed_puts = ap (λ n. n + puts) h.failed_puts;
-  sent = h.sent;
-  failed_flushes = h.failed_flushes;
-  errors = h.errors;
-  told_sent = h.told_sent;
-  lost = h.lost;
-  reads = h.reads;
-}
+shows_failures puts a b h =
+    shows_each h.output (ap (λ n. n + puts) h.failed_puts) h.sent h.failed_flushes h.errors h.told_sent h.lost h.reads
 
 pub shows_answer : (written : List ℕ) (answer : Result (Unit {0}) Stop) (a b : Seen) → Shows a b → Shows (with_answer written answer a) (with_answer written answer b)
 shows_answer written answer a b h = shows_failures (failures_in answer) _ _ (shows_output written a b h)
 
 pub shows_flush : (flushed : Bool) (a b : Seen) → Shows a b → Shows (with_flush flushed a) (with_flush flushed b)
-shows_flush true a b h = record {
-  output = h.output;
-  failed_puts = h.failed_puts;
-  sent = refl;
-  failed_flushes = h.failed_flushes;
-  errors = h.errors;
-  told_sent = h.told_sent;
-  lost = h.lost;
-  reads = h.reads;
-}
-shows_flush false a b h = record {
-  output = h.output;
-  failed_puts = h.failed_puts;
-  sent = h.sent;
-  failed_flushes = ap (λ n. n + 1) h.failed_flushes;
-  errors = h.errors;
-  told_sent = h.told_sent;
-  lost = h.lost;
-  reads = h.reads;
-}
+shows_flush true a b h = shows_each h.output h.failed_puts refl h.failed_flushes h.errors h.told_sent h.lost h.reads
+shows_flush false a b h = shows_each h.output h.failed_puts h.sent (ap (λ n. n + 1) h.failed_flushes) h.errors h.told_sent h.lost h.reads
 
 pub shows_reads : (reads : List Read) (a b : Seen) → Shows a b → Shows (with_reads reads a) (with_reads reads b)
-shows_reads reads a b h = record {
-  output = h.output;
-  failed_puts = h.failed_puts;
-  sent = h.sent;
-  failed_flushes = h.failed_flushes;
-  errors = h.errors;
-  told_sent = h.told_sent;
-  lost = h.lost;
-  reads = told_more reads a.reads b.reads h.reads;
-}
+shows_reads reads a b h =
+    shows_each h.output h.failed_puts h.sent h.failed_flushes h.errors h.told_sent h.lost (told_more reads a.reads b.reads h.reads)
 
 -- reads, and then more of them
 pub reads_both : (xs ys : List Read) (a b c : Seen) → Shows (with_reads xs a) b → Shows (with_reads ys b) c → Shows (with_reads (xs ++ ys) a) c
 reads_both xs ys a b c first then =
     let both : Shows (with_reads (xs ++ ys) a) (with_reads ys (with_reads xs a)) =
-    record {
-      output = told_same a.output;
-      failed_puts = refl;
-      sent = refl;
-      failed_flushes = refl;
-      errors = told_same a.errors;
-      told_sent = refl;
-      lost = refl;
-      reads = told_both xs ys a.reads;
-    } in
+    shows_each (told_same a.output) refl refl refl (told_same a.errors) refl refl (told_both xs ys a.reads) in
     shows_on _ _ _ both (shows_on _ _ _ (shows_reads ys (with_reads xs a) b first) then)
 
 -- a text, and then another
 pub output_both : (xs ys : List ℕ) (a b c : Seen) → Shows (with_output xs a) b → Shows (with_output ys b) c → Shows (with_output (xs ++ ys) a) c
 output_both xs ys a b c first then =
     let both : Shows (with_output (xs ++ ys) a) (with_output ys (with_output xs a)) =
-    record {
-      output = told_both xs ys a.output;
-      failed_puts = refl;
-      sent = empty_both a.sent xs ys;
-      failed_flushes = refl;
-      errors = told_same a.errors;
-      told_sent = refl;
-      lost = refl;
-      reads = told_same a.reads;
-    } in
+    shows_each (told_both xs ys a.output) refl (empty_both a.sent xs ys) refl (told_same a.errors) refl refl (told_same a.reads) in
     shows_on _ _ _ both (shows_on _ _ _ (shows_output ys (with_output xs a) b first) then)
 
 -- likewise, and an answer
@@ -188,41 +110,16 @@ answer_both xs ys answer a b c first then =
     shows_on _ _ _ (shows_failures (failures_in answer) _ _ (output_both xs ys a b (with_output ys b) first (shows_same _))) then
 
 pub answer_ok : (written : List ℕ) (a b : Seen) → Shows (with_output written a) b → Shows (with_answer written (Ok tt) a) b
-answer_ok written a b h = record {
-  output = h.output;
-  failed_puts = omega (arith, h.failed_puts);
-  sent = h.sent;
-  failed_flushes = h.failed_flushes;
-  errors = h.errors;
-  told_sent = h.told_sent;
-  lost = h.lost;
-  reads = h.reads;
-}
+answer_ok written a b h = shows_each h.output (omega (arith, h.failed_puts)) h.sent h.failed_flushes h.errors h.told_sent h.lost h.reads
 
 -- nothing is put, and nothing fails
 pub nothing_answered : (answer : Result (Unit {0}) Stop) (s : Seen) → failures_in answer ≡ 0 → Shows (with_answer [] answer s) s
-nothing_answered answer s none = record {
-  output = told_nothing s.output;
-  failed_puts = omega (arith, none);
-  sent = sym (and_true s.sent);
-  failed_flushes = refl;
-  errors = told_same s.errors;
-  told_sent = refl;
-  lost = refl;
-  reads = told_same s.reads;
-}
+nothing_answered answer s none =
+    shows_each (told_nothing s.output) (omega (arith, none)) (sym (and_true s.sent)) refl (told_same s.errors) refl refl
+    (told_same s.reads)
 
 pub output_ok : (written : List ℕ) (a b : Seen) → Shows (with_answer written (Ok tt) a) b → Shows (with_output written a) b
-output_ok written a b h = record {
-  output = h.output;
-  failed_puts = omega (arith, h.failed_puts);
-  sent = h.sent;
-  failed_flushes = h.failed_flushes;
-  errors = h.errors;
-  told_sent = h.told_sent;
-  lost = h.lost;
-  reads = h.reads;
-}
+output_ok written a b h = shows_each h.output (omega (arith, h.failed_puts)) h.sent h.failed_flushes h.errors h.told_sent h.lost h.reads
 
 -- a front of what is left after the front that was taken
 pub front_taken : (bytes : List ℕ) (n m : ℕ) (a b c : Seen) → Shows (with_output (take n bytes) a) b → Shows (with_output (take m (drop n bytes)) b) c → Shows (with_output (take (n + m) bytes) a) c
@@ -232,16 +129,9 @@ front_taken bytes n m a b c first then =
     rw e at both
 
 shows_message : (bytes : List ℕ) (lost : Bool) (a b : Seen) → Shows a b → Shows (with_message bytes lost a) (with_message bytes lost b)
-shows_message bytes lost a b h = record {
-  output = h.output;
-  failed_puts = h.failed_puts;
-  sent = h.sent;
-  failed_flushes = h.failed_flushes;
-  errors = told_more bytes a.errors b.errors h.errors;
-  told_sent = h.sent;
-  lost = ap (λ l. l || lost) h.lost;
-  reads = h.reads;
-}
+shows_message bytes lost a b h =
+    shows_each h.output h.failed_puts h.sent h.failed_flushes (told_more bytes a.errors b.errors h.errors) h.sent
+    (ap (λ l. l || lost) h.lost) h.reads
 
 pub tells_after : (told : Option (List ℕ)) (a b c : Seen) → Shows a b → Tells told b c → Tells told a c
 tells_after None a b c first then = shows_on a b c first then
