@@ -1,10 +1,10 @@
 -- The greatest of several numbers: it is less than a number where each of them is.
-use Rattle.std.proofs.Common.{◌≡◌, refl, sym, ap, ◌∙◌, Bool, true, false, List, [], ◌∷◌, ℤ, arith}
+use Rattle.std.proofs.Common.{◌≡◌, sym, ap, ◌∙◌, true, false, List, [], ◌∷◌, ℤ, arith}
 use Rattle.std.specs.Prelude.{int_lt, ◌≤ℤ◌, ◌<ℤ◌, ◌&&◌}
 use Rattle.std.specs.Int.{int_max}
 use Rattle.std.specs.List.{fold, list_all}
 use Rattle.std.proofs.lemmas.Int.{ints, clamps, by_lt_z}
-use Rattle.std.proofs.Math.Bool.{and-true}
+use Rattle.std.proofs.Math.Bool.{and-true, and_assoc}
 
 pub less_true : (a b : ℤ) → a <ℤ b → int_lt a b ≡ true
 less_true a b h = grind (arith, ints)
@@ -19,10 +19,6 @@ max_less a b y =
     (λ second. less_true (int_max a b) y (omega (arith, ints, clamps)) ∙ sym (λ i. less_true a y first i && less_true b y second i))
     (λ second. less_false (int_max a b) y (omega (arith, ints, clamps)) ∙ sym (λ i. less_true a y first i && less_false b y second i)))
     (λ first. less_false (int_max a b) y (omega (arith, ints, clamps)) ∙ sym (ap (λ t. t && int_lt b y) (less_false a y first)))
-
-and_assoc : (a b c : Bool) → ((a && b) && c) ≡ (a && (b && c))
-and_assoc true b c = refl
-and_assoc false b c = refl
 
 -- the greatest of a and xs is less than y where each of them is
 pub greatest_less : (a y : ℤ) (xs : List ℤ) → int_lt (fold int_max a xs) y ≡ (int_lt a y && list_all (λ x. int_lt x y) xs)

@@ -1,13 +1,14 @@
 -- The calls of the sparse product's script, on a matrix: each has the value that the product asks for.
-use Rattle.std.proofs.Common.{◌≡◌, ℕ, suc, ◌+◌, ◌≤◌, true, not, List, [], ◌∷◌, length, take, drop, map, sum, unsigned_abs, ℤ, pos, negsuc, ◌+ℤ◌, refl, sym, ap, ◌∙◌, eq-eqb, arith, Some, None, Ok}
-use Rattle.std.specs.Prelude.{unwrap_or, position, cond, nat_lt, option_map, ok_or}
+use Rattle.std.proofs.Common.{◌≡◌, ℕ, ◌+◌, ◌≤◌, true, not, List, [], ◌∷◌, length, take, drop, map, sum, unsigned_abs, ℤ, pos, negsuc, ◌+ℤ◌, refl, sym, ap, ◌∙◌, eq-eqb, arith, Some, Ok}
+use Rattle.std.specs.Prelude.{unwrap_or, position, nat_lt, option_map, ok_or}
 use Rattle.std.specs.Int.{w32, is_negative, int_wrap}
-use Rattle.std.specs.List.{AllPass, fold, position_or_len, zip}
+use Rattle.std.specs.List.{AllPass, fold, zip}
 use Rattle.std.proofs.lemmas.Bool.{false≢true, le-ltb, ltb-true}
 use Rattle.std.proofs.lemmas.Int.{int_wrap-add_left, int_wrap-add_right}
 use Rattle.std.proofs.lemmas.List.{length-map, take-map, drop-map}
 use Rattle.std.proofs.lemmas.List.Elements.{All-head, All-tail}
 use Rattle.std.proofs.lemmas.Option.{slice_get-get_or}
+use Rattle.std.proofs.lemmas.Slice.Zip.{length-zip}
 use Rattle.cvl_base.specs.declared.fault.FaultNo.TheVariants as no
 use Rattle.cvl_base.specs.declared.families.IntBinary.TheVariants.{Mul}
 use Rattle.cvl_base.specs.Descriptors.{descriptor_of}
@@ -18,8 +19,10 @@ use Rattle.cvl_base.specs.Folds.{fold_of}
 use Rattle.cvl_base.specs.Gives.{◌>>=◌, unless, fault_if}
 use Rattle.cvl_base.specs.Integers.{sum_of, product_of, wrap}
 use Rattle.cvl_base.specs.Limits.{most_elements}
-use Rattle.cvl_base.specs.Nests.{cut_of, nest}
+use Rattle.cvl_base.specs.Nests.{cut_of}
+use Rattle.cvl_base.proofs.Descriptors.{position-lengths}
 use Rattle.cvl_base.proofs.Nests.{nest-fits}
+use Rattle.cvl_base.proofs.Segmented.{results-ok}
 use Rattle.cvl_base.specs.Permutes.{back_of, is_place}
 use Rattle.cvl_base.specs.Segmented.{results_from, in_vector}
 use Rattle.cvl_base.specs.SegmentedCalls.{seg_reduce_of}
@@ -27,20 +30,10 @@ use Rattle.recipes.specs.Products.{at_column, term, row_product}
 
 -- ---- the lengths
 
-found_at_end : (sizes : List ℕ) → position_or_len is_negative (map pos sizes) ≡ length (map pos sizes)
-found_at_end [] = refl
-found_at_end (n ∷ ns) = (λ i. cond (not (le-ltb n 0 (omega arith) i)) (1 + position_or_len is_negative (map pos ns)) 0) ∙ ap (λ k. 1 + k) (found_at_end ns) ∙ omega arith
-
-none_found : (sizes : List ℕ) → position is_negative (map pos sizes) ≡ None
-none_found sizes =
-    let all = map pos sizes in
-    (λ i. cond (nat_lt (found_at_end sizes i) (length all)) (Some (found_at_end sizes i)) None)
-    ∙ ap (λ b. cond b (Some (length all)) None) (le-ltb (length all) (length all) (omega arith))
-
 pub lengths_made : (numbers : List ℤ) → numbers ≡ map pos (map unsigned_abs numbers) → sum (map unsigned_abs numbers) ≤ most_elements → descriptor_of numbers ≡ Ok (map unsigned_abs numbers)
 lengths_made numbers natural small =
     let sizes = map unsigned_abs numbers in
-    let place = ap (position is_negative) natural ∙ none_found sizes in
+    let place = ap (position is_negative) natural ∙ position-lengths sizes in
     (λ i. unless (option_map (fault_at no.NegativeLength) (place i)) (fault_if (nat_lt most_elements (sum sizes)) (fault no.TooLong) (Ok sizes)))
     ∙ ap (λ b. fault_if b (fault no.TooLong) (Ok sizes)) (le-ltb most_elements (sum sizes) small)
 
@@ -81,10 +74,7 @@ terms_made x columns values as_many =
     ∙ ap Ok (each_term x columns values)
 
 pub length-terms : (x columns values : List ℤ) → length values ≡ length columns → length (map (wrapped_term x) (zip columns values)) ≡ length columns
-length-terms x [] [] as_many = refl
-length-terms x [] (v ∷ values) as_many = refl
-length-terms x (c ∷ columns) [] as_many = absurd (omega arith)
-length-terms x (c ∷ columns) (v ∷ values) as_many = ap suc (length-terms x columns values (omega arith))
+length-terms x columns values as_many = omega (arith, length-map (zip columns values) (wrapped_term x), length-zip columns values)
 
 -- ---- the sums of the rows
 
@@ -105,14 +95,9 @@ row_sums x (n ∷ lengths) entries =
     (λ i. fold_of sum_of (pos 0) (take-map (wrapped_term x) n entries i) ∷ map (fold_of sum_of (pos 0)) (cut_of lengths (drop-map (wrapped_term x) n entries i)))
     ∙ (λ i. row_sum x (take n entries) i ∷ row_sums x lengths (drop n entries) i)
 
-each_fold : {Item : Type 0} (join : Item → Item → Item) (unit : Item) (place : ℕ → ℕ → ℕ) (s : ℕ) (lists : List (List Item)) → results_from place (λ ys. Ok (fold_of join unit ys)) s lists
-    ≡ Ok (map (fold_of join unit) lists)
-each_fold join unit place s [] = refl
-each_fold join unit place s (ys ∷ lists) = ap (λ r. r >>= λ others. Ok (fold_of join unit ys ∷ others)) (each_fold join unit place (s + 1) lists)
-
 pub rows_summed : (x : List ℤ) (lengths : List ℕ) (entries : List (ℤ × ℤ)) → sum lengths ≡ length (map (wrapped_term x) entries) → seg_reduce_of sum_of (pos 0) (map (wrapped_term x) entries) lengths
     ≡ Ok (map (row_product x) (cut_of lengths entries))
 rows_summed x lengths entries fits =
     ap (λ r. r >>= λ lists. results_from (in_vector lengths) (λ ys. Ok (fold_of sum_of (pos 0) ys)) 0 lists) (nest-fits lengths (map (wrapped_term x) entries) fits)
-    ∙ each_fold sum_of (pos 0) (in_vector lengths) 0 (cut_of lengths (map (wrapped_term x) entries))
+    ∙ results-ok (in_vector lengths) (fold_of sum_of (pos 0)) 0 (cut_of lengths (map (wrapped_term x) entries))
     ∙ ap Ok (row_sums x lengths entries)

@@ -19,7 +19,7 @@ use Rattle.recipes.specs.Recipes.{HasBooleans, bound_by, names_bound}
 use Rattle.recipes.specs.Visibility.{AreExact, is_altitude, is_steeper, is_visible, visible_of, rise}
 use Rattle.recipes.proofs.Fractions.{floors_as_fractions}
 use Rattle.recipes.proofs.Greatest.{greatest_less, less_true}
-use Rattle.recipes.proofs.SightScript.{least, n20, nothing_seen, seen}
+use Rattle.recipes.proofs.SightScript.{bound, least, nothing_seen, seen}
 use Rattle.recipes.proofs.SightValues.{flags, height, sight_is, slope_at, slopes, values}
 use Rattle.recipes.proofs.Slopes.{slope_is_floor}
 use Rattle.recipes.proofs.Tables.{after_first, same_map, same_tests, table}
@@ -90,5 +90,5 @@ module _ {A : Type 0} where
   binds_booleans [] few names is = let none = nothing_seen {A = A} in cc
   binds_booleans (h ∷ hs) few names is =
       let w = values (h ∷ hs) (omega arith) few in
-      let all : n20 (h ∷ hs) w ≡ names = let run = seen {A = A} (h ∷ hs) w in cc in
+      let all : bound (h ∷ hs) w 20 ≡ names = let run = seen {A = A} (h ∷ hs) w in cc in
       (w.v, sym (ap (λ ns. value_at ns (codes "v")) all))

@@ -1,5 +1,6 @@
 -- What the script of line of sight means: its calls, one after the other, where each has a value.
-use Rattle.std.proofs.Common.{◌≡◌, ℕ, List, [], ◌∷◌, codes, map, drop, length, pos, negsuc, ℤ, Bool, true, refl, ◌∙◌, Ok, Err}
+use Rattle.std.proofs.Common.{◌≡◌, ℕ, List, [], ◌∷◌, codes, map, drop, take, length, pos, negsuc, ℤ, Bool, true, refl, ◌∙◌, Ok, Err}
+use Rattle.std.specs.List.{fold}
 use Rattle.cvl_base.specs.declared.fault.FaultNo.TheVariants.{IndexOutOfRange}
 use Rattle.cvl_base.specs.declared.call.Arg.{Arg}
 use Rattle.cvl_base.specs.declared.call.Arg.TheVariants as arg
@@ -11,6 +12,7 @@ use Rattle.cvl_base.specs.declared.families.Element.TheVariants as of
 use Rattle.cvl_base.specs.declared.families.IntBinary.TheVariants as int
 use Rattle.cvl_base.specs.declared.families.IntMonoid.TheVariants as monoid
 use Rattle.cvl_base.specs.declared.operation.Op.TheVariants as op
+use Rattle.cvl_base.specs.declared.value.Value.{Value}
 use Rattle.cvl_base.specs.declared.value.Value.TheVariants as value
 use Rattle.cvl_base.specs.Distributes.{distribute_of, index_of}
 use Rattle.cvl_base.specs.Elementwise.{ints2_of, compare_of, ints_from_bools}
@@ -115,82 +117,56 @@ module _ {A : Type 0} (a : List ℤ) (w : Values a) where
   abbrev pub inputs : List (Input A)
   inputs = input.Vector a ∷ []
 
-  abbrev binds_ints : Entries A → List ℕ → List ℤ → Entries A
-  binds_ints names target xs = bind names target (value.Integers xs)
+  -- what the calls bind, in their order
+  abbrev bindings : List (List ℕ × Value A)
+  bindings =
+      (codes "a", value.Integers a)
+      ∷ (codes "n", value.Integer (pos (length a)))
+      ∷ (codes "a0", value.Integer w.a0)
+      ∷ (codes "b", value.Integers w.b)
+      ∷ (codes "d", value.Integers w.d)
+      ∷ (codes "i", value.Integers w.i)
+      ∷ (codes "one", value.Integers w.one)
+      ∷ (codes "j", value.Integers w.j)
+      ∷ (codes "k", value.Integers w.k)
+      ∷ (codes "p", value.Integers w.p)
+      ∷ (codes "q", value.Integers w.q)
+      ∷ (codes "r", value.Integers w.r)
+      ∷ (codes "z", value.Integers w.z)
+      ∷ (codes "neg", value.Booleans w.neg)
+      ∷ (codes "c", value.Integers (ints_from_bools w.neg))
+      ∷ (codes "s0", value.Integers w.s0)
+      ∷ (codes "s", value.Integers w.s)
+      ∷ (codes "m", value.Integers (scan_of greater_of least w.s))
+      ∷ (codes "v0", value.Booleans w.v0)
+      ∷ (codes "v", value.Booleans w.v)
+      ∷ []
 
   -- the names after so many calls
-  abbrev n2 : Entries A
-  n2 = bind (binds_ints [] (codes "a") a) (codes "n") (value.Integer (pos (length a)))
+  abbrev pub bound : ℕ → Entries A
+  bound k = fold (λ names b. bind names b.0 b.1) [] (take k bindings)
 
-  abbrev n3 : Entries A
-  n3 = bind n2 (codes "a0") (value.Integer w.a0)
-
-  abbrev n4 : Entries A
-  n4 = binds_ints n3 (codes "b") w.b
-
-  abbrev n5 : Entries A
-  n5 = binds_ints n4 (codes "d") w.d
-
-  abbrev n6 : Entries A
-  n6 = binds_ints n5 (codes "i") w.i
-
-  abbrev n7 : Entries A
-  n7 = binds_ints n6 (codes "one") w.one
-
-  abbrev n8 : Entries A
-  n8 = binds_ints n7 (codes "j") w.j
-
-  abbrev n9 : Entries A
-  n9 = binds_ints n8 (codes "k") w.k
-
-  abbrev n10 : Entries A
-  n10 = binds_ints n9 (codes "p") w.p
-
-  abbrev n11 : Entries A
-  n11 = binds_ints n10 (codes "q") w.q
-
-  abbrev n12 : Entries A
-  n12 = binds_ints n11 (codes "r") w.r
-
-  abbrev n13 : Entries A
-  n13 = binds_ints n12 (codes "z") w.z
-
-  abbrev n15 : Entries A
-  n15 = binds_ints (bind n13 (codes "neg") (value.Booleans w.neg)) (codes "c") (ints_from_bools w.neg)
-
-  abbrev n16 : Entries A
-  n16 = binds_ints n15 (codes "s0") w.s0
-
-  abbrev n18 : Entries A
-  n18 = binds_ints (binds_ints n16 (codes "s") w.s) (codes "m") (scan_of greater_of least w.s)
-
-  abbrev n19 : Entries A
-  n19 = bind n18 (codes "v0") (value.Booleans w.v0)
-
-  abbrev pub n20 : Entries A
-  n20 = bind n19 (codes "v") (value.Booleans w.v)
-
-  to_slopes : names_after_calls n2 inputs (after 2) ≡ names_after_calls n13 inputs (after 13)
+  to_slopes : names_after_calls (bound 2) inputs (after 2) ≡ names_after_calls (bound 13) inputs (after 13)
   to_slopes =
-      goes_on (extract_of a (pos 0)) w.a0 (λ x. value.Integer x) (bind n2 (codes "a0")) inputs (after 3) w.a0_is
-      ∙ goes_on (distribute_of w.a0 (pos (length a))) w.b (λ x. value.Integers x) (bind n3 (codes "b")) inputs (after 4) w.b_is
-      ∙ goes_on (ints2_of int.Sub a w.b) w.d (λ x. value.Integers x) (bind n4 (codes "d")) inputs (after 5) w.d_is
-      ∙ goes_on (index_of (pos 0) (pos 1) (pos (length a))) w.i (λ x. value.Integers x) (bind n5 (codes "i")) inputs (after 6) w.i_is
-      ∙ goes_on (distribute_of (pos 1) (pos (length a))) w.one (λ x. value.Integers x) (bind n6 (codes "one")) inputs (after 7) w.one_is
-      ∙ goes_on (ints2_of int.Max w.i w.one) w.j (λ x. value.Integers x) (bind n7 (codes "j")) inputs (after 8) w.j_is
-      ∙ goes_on (distribute_of (pos 65536) (pos (length a))) w.k (λ x. value.Integers x) (bind n8 (codes "k")) inputs (after 9) w.k_is
-      ∙ goes_on (ints2_of int.Mul w.d w.k) w.p (λ x. value.Integers x) (bind n9 (codes "p")) inputs (after 10) w.p_is
-      ∙ goes_on (ints2_of int.Div w.p w.j) w.q (λ x. value.Integers x) (bind n10 (codes "q")) inputs (after 11) w.q_is
-      ∙ goes_on (ints2_of int.Mod w.p w.j) w.r (λ x. value.Integers x) (bind n11 (codes "r")) inputs (after 12) w.r_is
-      ∙ goes_on (distribute_of (pos 0) (pos (length a))) w.z (λ x. value.Integers x) (bind n12 (codes "z")) inputs (after 13) w.z_is
+      goes_on (extract_of a (pos 0)) w.a0 (λ x. value.Integer x) (bind (bound 2) (codes "a0")) inputs (after 3) w.a0_is
+      ∙ goes_on (distribute_of w.a0 (pos (length a))) w.b (λ x. value.Integers x) (bind (bound 3) (codes "b")) inputs (after 4) w.b_is
+      ∙ goes_on (ints2_of int.Sub a w.b) w.d (λ x. value.Integers x) (bind (bound 4) (codes "d")) inputs (after 5) w.d_is
+      ∙ goes_on (index_of (pos 0) (pos 1) (pos (length a))) w.i (λ x. value.Integers x) (bind (bound 5) (codes "i")) inputs (after 6) w.i_is
+      ∙ goes_on (distribute_of (pos 1) (pos (length a))) w.one (λ x. value.Integers x) (bind (bound 6) (codes "one")) inputs (after 7) w.one_is
+      ∙ goes_on (ints2_of int.Max w.i w.one) w.j (λ x. value.Integers x) (bind (bound 7) (codes "j")) inputs (after 8) w.j_is
+      ∙ goes_on (distribute_of (pos 65536) (pos (length a))) w.k (λ x. value.Integers x) (bind (bound 8) (codes "k")) inputs (after 9) w.k_is
+      ∙ goes_on (ints2_of int.Mul w.d w.k) w.p (λ x. value.Integers x) (bind (bound 9) (codes "p")) inputs (after 10) w.p_is
+      ∙ goes_on (ints2_of int.Div w.p w.j) w.q (λ x. value.Integers x) (bind (bound 10) (codes "q")) inputs (after 11) w.q_is
+      ∙ goes_on (ints2_of int.Mod w.p w.j) w.r (λ x. value.Integers x) (bind (bound 11) (codes "r")) inputs (after 12) w.r_is
+      ∙ goes_on (distribute_of (pos 0) (pos (length a))) w.z (λ x. value.Integers x) (bind (bound 12) (codes "z")) inputs (after 13) w.z_is
 
-  to_sight : names_after_calls n13 inputs (after 13) ≡ Ok n20
+  to_sight : names_after_calls (bound 13) inputs (after 13) ≡ Ok (bound 20)
   to_sight =
-      goes_on (compare_of compare.Less w.r w.z) w.neg (λ x. value.Booleans x) (bind n13 (codes "neg")) inputs (after 14) w.neg_is
-      ∙ goes_on (ints2_of int.Sub w.q (ints_from_bools w.neg)) w.s0 (λ x. value.Integers x) (bind n15 (codes "s0")) inputs (after 16) w.s0_is
-      ∙ goes_on (replace_of w.s0 (pos 0) least) w.s (λ x. value.Integers x) (bind n16 (codes "s")) inputs (after 17) w.s_is
-      ∙ goes_on (compare_of compare.Greater w.s (scan_of greater_of least w.s)) w.v0 (λ x. value.Booleans x) (bind n18 (codes "v0")) inputs (after 19) w.v0_is
-      ∙ goes_on (replace_of w.v0 (pos 0) true) w.v (λ x. value.Booleans x) (bind n19 (codes "v")) inputs (after 20) w.v_is
+      goes_on (compare_of compare.Less w.r w.z) w.neg (λ x. value.Booleans x) (bind (bound 13) (codes "neg")) inputs (after 14) w.neg_is
+      ∙ goes_on (ints2_of int.Sub w.q (ints_from_bools w.neg)) w.s0 (λ x. value.Integers x) (bind (bound 15) (codes "s0")) inputs (after 16) w.s0_is
+      ∙ goes_on (replace_of w.s0 (pos 0) least) w.s (λ x. value.Integers x) (bind (bound 16) (codes "s")) inputs (after 17) w.s_is
+      ∙ goes_on (compare_of compare.Greater w.s (scan_of greater_of least w.s)) w.v0 (λ x. value.Booleans x) (bind (bound 18) (codes "v0")) inputs (after 19) w.v0_is
+      ∙ goes_on (replace_of w.v0 (pos 0) true) w.v (λ x. value.Booleans x) (bind (bound 19) (codes "v")) inputs (after 20) w.v_is
 
-  pub seen : names_bound LINE_OF_SIGHT.now inputs ≡ Ok n20
+  pub seen : names_bound LINE_OF_SIGHT.now inputs ≡ Ok (bound 20)
   seen = by_calls 1 [] inputs (lines_of LINE_OF_SIGHT.now) calls read ∙ to_slopes ∙ to_sight

@@ -3,6 +3,7 @@ use Rattle.std.proofs.Common.{◌≡◌, refl, sym, ap, ◌∙◌, ℕ, ◌+◌,
 use Rattle.std.specs.Prelude.{ok_or, unwrap_or}
 use Rattle.std.specs.List.{range_with_len}
 use Rattle.std.proofs.lemmas.Option.{slice_get-get_or}
+use Rattle.std.proofs.lemmas.Simd.{map-map}
 use Rattle.cvl_base.specs.declared.families.Comparison.TheVariants as compare
 use Rattle.cvl_base.specs.declared.families.IntBinary.TheVariants as int
 use Rattle.cvl_base.specs.declared.fault.FaultNo.TheVariants as no
@@ -14,7 +15,7 @@ use Rattle.cvl_base.specs.Integers.{difference_of, product_of, greater_of, is_le
 use Rattle.cvl_base.specs.Limits.{most_elements}
 use Rattle.recipes.proofs.SightScript.{Values, least}
 use Rattle.recipes.proofs.Slopes.{place, scaled_rise, quotient, remainder, slope, quotient_is, remainder_is}
-use Rattle.recipes.proofs.Tables.{table, tabulated, mapped, pairs, pairs_or, distributed, indexed, with_first, first_replaced, scanned}
+use Rattle.recipes.proofs.Tables.{table, tabulated, pairs, pairs_or, distributed, indexed, with_first, first_replaced, scanned}
 
 module _ (a : List ℤ) where
   abbrev pub height : ℕ → ℤ
@@ -81,7 +82,7 @@ module _ (a : List ℤ) where
         z_is = distributed (pos 0) n few;
         neg_is = pairs is_less (λ k. remainder (height k) (height 0) k) (λ _. pos 0) ks;
         s0_is =
-            ap (λ cs. ints2_of int.Sub (table (λ k. quotient (height k) (height 0) k) n) cs) (mapped integer_of is_below ks)
+            ap (λ cs. ints2_of int.Sub (table (λ k. quotient (height k) (height 0) k) n) cs) (map-map integer_of is_below ks)
             ∙ pairs difference_of (λ k. quotient (height k) (height 0) k) (λ k. integer_of (is_below k)) ks;
         s_is = first_replaced least slope_at n some;
         v0_is =

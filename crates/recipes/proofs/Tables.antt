@@ -2,7 +2,7 @@
 use Rattle.std.proofs.Common.{◌≡◌, ℕ, zero, suc, ◌+◌, ◌<◌, ◌≤◌, Bool, not, List, [], ◌∷◌, ◌++◌, length, map, ℤ, pos, ◌+ℤ◌, ◌*ℤ◌, refl, sym, ap, ◌∙◌, eq-eqb, arith, Option, Some, Ok, slice_get, None}
 use Rattle.std.specs.Prelude.{◌&&◌, ok_or, replicate, slice_set, if◌then◌else◌}
 use Rattle.std.specs.List.{list_all, range_with_len, zip}
-use Rattle.std.proofs.lemmas.Bool.{lt-ltb, le-ltb}
+use Rattle.std.proofs.lemmas.Bool.{lt-ltb}
 use Rattle.std.proofs.lemmas.List.{length-map}
 use Rattle.std.proofs.lemmas.List.FromFn.{map-range_with_len_more}
 use Rattle.std.proofs.lemmas.Option.{same_Some}
@@ -10,7 +10,7 @@ use Rattle.operators.proofs.FoldLaws.{scan_of_push}
 use Rattle.cvl_base.specs.declared.fault.FaultNo.{FaultNo}
 use Rattle.cvl_base.specs.declared.fault.FaultNo.TheVariants as no
 use Rattle.cvl_base.proofs.Distributes.{as_length-fits}
-use Rattle.cvl_base.specs.Distributes.{as_length, distribute_of, index_of}
+use Rattle.cvl_base.specs.Distributes.{distribute_of, index_of}
 use Rattle.cvl_base.specs.Elementwise.{on_pairs, on_pairs_or, values_from}
 use Rattle.cvl_base.specs.Extracts.{replace_of}
 use Rattle.cvl_base.specs.Faults.{fault, fault_at}
@@ -74,11 +74,6 @@ pairs_or number op f g h ks is =
     ap (λ b. fault_if (not b) (fault no.LengthMismatch) (values_from number 0 (map (λ p. op p.0 p.1) (zip (map f ks) (map g ks))))) (eq-eqb _ _ (as_long f g ks))
     ∙ ap (values_from number 0) (zipped op f g ks)
     ∙ all_values number h (λ k. op (f k) (g k)) 0 ks is
-
--- an operator with one operand
-pub mapped : {X Y : Type 0} (op : X → Y) (f : ℕ → X) (ks : List ℕ) → map op (map f ks) ≡ map (λ k. op (f k)) ks
-mapped op f [] = refl
-mapped op f (k ∷ ks) = ap (λ others. op (f k) ∷ others) (mapped op f ks)
 
 -- ---- calls that make a vector
 

@@ -2,6 +2,7 @@ use Rattle.std.proofs.Common.{◌≡◌, ℕ, zero, suc, ◌+◌, ◌-◌, ◌<�
 use Rattle.std.specs.Prelude.{◌≢◌, ◌<ℤ◌, int_lt, ◌&&◌}
 use Rattle.std.specs.List.{list_all, range_with_len}
 use Rattle.std.proofs.lemmas.Int.{ints}
+use Rattle.std.proofs.lemmas.Bool.{and_parts}
 use Rattle.std.proofs.lemmas.Bool.Decides.{eqb_tells}
 use Rattle.recipes.specs.Visibility.{is_steeper}
 use Rattle.recipes.proofs.Greatest.{less_true}
@@ -10,13 +11,10 @@ use Rattle.recipes.proofs.laws.visibility_law.Goals as goal
 true_less : (a b : ℤ) → int_lt a b ≡ true → a <ℤ b
 true_less a b h = grind (arith, ints)
 
-both_true : (p q : Bool) → (p && q) ≡ true → (p ≡ true) × (q ≡ true)
-both_true p q h = grind arith
-
 each_passes : (p : ℕ → Bool) (s n : ℕ) → list_all p (range_with_len s n) ≡ true → (j : ℕ) → s ≤ j → j < s + n → p j ≡ true
 each_passes p s zero all j above below = absurd (omega arith)
 each_passes p s (suc n) all j above below =
-    let parts = both_true (p s) (list_all p (range_with_len (s + 1) n)) all in
+    let parts = and_parts (p s) (list_all p (range_with_len (s + 1) n)) all in
     elim (eqb_tells j s) [
       | inl t ↦ ap p t.1 ∙ parts.0
       | inr t ↦ let differ : j ≢ s = t.1 in each_passes p (s + 1) n parts.1 j (omega arith) (omega arith)
