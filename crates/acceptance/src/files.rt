@@ -1,54 +1,12 @@
-//! Files that are longer or shorter than they were expected to be, and files that are read a few bytes at a time.
-use crate::hosts::{Files, are_told, status_of, text_of};
-use crate::narrow_writer::NarrowWriter;
-use crate::table_files::TableFiles;
+//! Files that are read whole: longer or shorter than they were expected to be, a few bytes at a time, and by reads that fail.
+
 use cvl_base::{Config, Memory};
 use refusing_memory::Refusing;
-use shell::{FileRoom, StreamHost};
+use shell::FileRoom;
 use std::alloc::{AllocError, Global};
 use std::io::{Error, ErrorKind, Read, Result as IoResult};
 use std::test::Fail;
 use std::thread::Threads;
-
-/// How many sevens the input has, of two bytes each.
-const SEVENS: usize = 600_000;
-
-/// The bytes that are expected: none; the most for which no room is made; the fewest for which one is; one fewer than the input
-/// has; as many; one more, and many more.
-const EXPECTED: &[usize] = &[
-    0, 1_048_575, 1_048_576, 1_199_999, 1_200_000, 1_200_001, 3_000_000,
-];
-
-/// The script of the sevens.
-const SCRIPT: &str = "a = input 1\nb = add_ruz a\nwrite b\nn = len_luz a\nwrite n\n";
-
-/// Whether the program reads the whole of the input.
-fn reads_all<R: Threads + Sync + AllocGlobal>(
-    rt: &R,
-    files: Files<'_>,
-    expected: usize,
-) -> Result<bool, AllocError> {
-    let heap = Refusing::none(rt.alloc());
-    let files = TableFiles {
-        files,
-        expected: Some(expected),
-    };
-    let output = NarrowWriter::new(rt.alloc(), 0, u64::MAX);
-    let errors = NarrowWriter::new(rt.alloc(), usize::MAX, 1);
-    let mut host = StreamHost::new(files, output, errors);
-    let status = status_of(rt, &heap, "cvl --workers 3 script sevens", &mut host)?;
-    Ok(status == 0 && are_told(&host, "b = 4200000\nn = 600000\n", ""))
-}
-
-#[test]
-fn files_of_other_lengths_than_expected(rt: HostRuntime) -> Result<(), Fail> {
-    let sevens = text_of(rt.alloc(), "", " 7", SEVENS, "")?;
-    let files = [("script", SCRIPT), ("sevens", sevens.as_str())];
-    for expected in EXPECTED {
-        assert!(rt; reads_all(&rt, &files, *expected)?, "{expected}");
-    }
-    Ok(())
-}
 
 /// A reader of a few bytes a read, of which one read fails.
 #[derive(Drop)]
@@ -76,37 +34,56 @@ impl Read for Narrow<'_> {
     }
 }
 
-/// How many bytes the file has: two steps of a mebibyte, and some more.
+/// How many bytes the longest file has: two steps of a mebibyte, and some more.
 const LONG: usize = 2_200_000;
 
-/// The bytes of a read, how many bytes are expected, the read that fails and how, and whether the whole file is read.
-type Row = (usize, usize, Option<(usize, ErrorKind)>, bool);
+/// How many bytes a file has, those of a read, how many are expected, the read that fails and how, whether the whole file is read,
+/// and how many bytes of memory are asked for at most.
+type Row = (usize, usize, usize, Option<(usize, ErrorKind)>, bool, u64);
+
+const ANY: u64 = u64::MAX;
+
+/// All bytes in a read, as far as there is room.
+const ALL: usize = usize::MAX;
+
+const INTERRUPTED: ErrorKind = ErrorKind::Interrupted;
+
+const DENIED: ErrorKind = ErrorKind::PermissionDenied;
 
 const ROWS: &[Row] = &[
-    (usize::MAX, 0, None, true),
-    (100_000, 1_048_576, None, true),
-    (100_000, LONG - 1, None, true),
-    (100_000, LONG, None, true),
-    (100_000, LONG + 1, None, true),
-    (100_000, 7_000_000, None, true),
-    (100_000, usize::MAX, None, true),
+    (LONG, ALL, 0, None, true, ANY),
+    (LONG, 100_000, 1_048_576, None, true, ANY),
+    (LONG, 100_000, LONG - 1, None, true, ANY),
+    (LONG, 100_000, LONG, None, true, ANY),
+    (LONG, 100_000, LONG + 1, None, true, ANY),
+    (LONG, 100_000, 7_000_000, None, true, ANY),
+    (LONG, 100_000, usize::MAX, None, true, ANY),
+    // nothing is expected; the most for which no room is made; the fewest for which one is; one fewer than there are; as many; one
+    // more, and many more
+    (1_200_000, ALL, 0, None, true, ANY),
+    (1_200_000, ALL, 1_048_575, None, true, ANY),
+    (1_200_000, ALL, 1_048_576, None, true, ANY),
+    (1_200_000, ALL, 1_199_999, None, true, ANY),
+    (1_200_000, ALL, 1_200_000, None, true, ANY),
+    (1_200_000, ALL, 1_200_001, None, true, ANY),
+    (1_200_000, ALL, 3_000_000, None, true, ANY),
+    // a file that is said to be long and isn't takes a mebibyte at most
+    (0, ALL, 2_000_000_000, None, true, 1_048_576),
+    (5, ALL, 2_000_000_000, None, true, 1_048_576),
+    (1_000_000, ALL, 2_000_000_000, None, true, 1_048_576),
+    (1_048_575, ALL, 2_000_000_000, None, true, 1_048_576),
     // a read that was interrupted is made again, in a step, in a later one, and after all of them
-    (700_000, LONG, Some((1, ErrorKind::Interrupted)), true),
-    (700_000, LONG, Some((4, ErrorKind::Interrupted)), true),
-    (700_000, 1_048_576, Some((4, ErrorKind::Interrupted)), true),
+    (LONG, 700_000, LONG, Some((1, INTERRUPTED)), true, ANY),
+    (LONG, 700_000, LONG, Some((4, INTERRUPTED)), true, ANY),
+    (LONG, 700_000, 1_048_576, Some((4, INTERRUPTED)), true, ANY),
     // one that fails is not
-    (700_000, LONG, Some((1, ErrorKind::PermissionDenied)), false),
-    (700_000, LONG, Some((4, ErrorKind::PermissionDenied)), false),
-    (700_000, 0, Some((2, ErrorKind::PermissionDenied)), false),
-    (
-        700_000,
-        1_048_576,
-        Some((4, ErrorKind::PermissionDenied)),
-        false,
-    ),
+    (LONG, 700_000, LONG, Some((1, DENIED)), false, ANY),
+    (LONG, 700_000, LONG, Some((4, DENIED)), false, ANY),
+    (LONG, 700_000, 0, Some((2, DENIED)), false, ANY),
+    (LONG, 700_000, 1_048_576, Some((4, DENIED)), false, ANY),
 ];
 
-/// The bytes of the file, of which no two thousands that follow one another are the same.
+/// The bytes of the longest file, of which no two thousands that follow one another are the same.
 fn long_file(alloc: Global) -> Result<Vec<u8>, AllocError> {
     let mut bytes = Vec::with_capacity(alloc, LONG)?;
     for place in 0..LONG {
@@ -115,9 +92,10 @@ fn long_file(alloc: Global) -> Result<Vec<u8>, AllocError> {
     Ok(bytes)
 }
 
-/// Whether the file is read whole.
-fn is_read<R: Threads + Sync, A: Memory>(rt: &R, heap: A, file: &[u8], row: Row) -> bool {
-    let (a_read, expected, fails, _) = row;
+/// Whether the whole of a file is read that begins like this one and is as long as the row says.
+fn is_read<R: Threads + Sync, A: Memory>(rt: &R, heap: A, longest: &[u8], row: &Row) -> bool {
+    let (length, a_read, expected, fails, _, _) = *row;
+    let (file, _) = longest.split_at(length.min(longest.len()));
     let mut reader = Narrow {
         left: file,
         a_read,
@@ -132,32 +110,18 @@ fn is_read<R: Threads + Sync, A: Memory>(rt: &R, heap: A, file: &[u8], row: Row)
 }
 
 #[test]
-fn readers_of_few_bytes(rt: HostRuntime) -> Result<(), Fail> {
-    let file = long_file(rt.alloc())?;
-    let heap = Refusing::none(rt.alloc());
+fn read_whole(rt: HostRuntime) -> Result<(), Fail> {
+    let longest = long_file(rt.alloc())?;
     for row in ROWS {
-        assert!(rt;
-            is_read(&rt, &heap, &file, *row) == row.3,
-            "{} {}",
-            row.0,
-            row.1
-        );
-    }
-    Ok(())
-}
-
-/// How many bytes a file has that is said to have two thousand million. No more than a mebibyte is asked for.
-const SAID_LONG: &[usize] = &[0, 5, 1_000_000, 1_048_575];
-
-#[test]
-fn files_that_are_said_to_be_long(rt: HostRuntime) -> Result<(), Fail> {
-    let file = long_file(rt.alloc())?;
-    for bytes in SAID_LONG {
         let heap = Refusing::none(rt.alloc());
-        let (front, _) = file.as_slice().split_at((*bytes).min(file.len()));
-        let row = (usize::MAX, 2_000_000_000, None, true);
-        assert!(rt; is_read(&rt, &heap, front, row), "{bytes}");
-        assert!(rt; heap.bytes() <= 1_048_576, "{bytes} {}", heap.bytes());
+        let is_right = is_read(&rt, &heap, &longest, row) == row.4;
+        assert!(rt;
+            is_right && heap.bytes() <= row.5,
+            "{} {} {}",
+            row.0,
+            row.1,
+            row.2
+        );
     }
     Ok(())
 }

@@ -1,30 +1,122 @@
-//! The host in memory that the program is run on, and what comes of a run.
+//! The host in memory that the program is run on.
 
 ghost use Rattle.std.specs.Prelude.{◌≡◌};
 
-use crate::narrow_writer::{NarrowWriter, Then};
-use crate::table_files::TableFiles;
 use cvl_base::{Memory, NoResources};
-use shell::{StreamHost, program};
+use shell::{FileRoom, ReadFiles, StreamHost};
 use std::alloc::{AllocError, Global};
+use std::io::{Error, ErrorKind, Result as IoResult, Write};
 use std::thread::Threads;
 use vector_handles::Input;
-
-/// A host over files in memory, of which standard output takes a byte a write.
-pub type Host<'a> = StreamHost<TableFiles<'a>, NarrowWriter, NarrowWriter>;
 
 /// Names of files, each with its bytes.
 pub type Files<'a> = &'a [(&'a str, &'a str)];
 
-/// What fails on the host.
+/// Files in memory, which claim nothing of what was read.
+#[derive(Drop)]
+pub struct TableFiles<'a> {
+    files: Files<'a>,
+}
+
+/// The bytes of the file of this name.
+fn file_of<'a>(files: Files<'a>, name: &str) -> Option<&'a str> {
+    for (file, bytes) in files {
+        if *file == name {
+            return Some(*bytes);
+        }
+    }
+    None
+}
+
+impl ReadFiles for TableFiles<'_> {
+    ghost use Rattle.std.specs.Prelude.{None};
+
+    ghost reads = { λ _. None };
+
+    fn read_file<R: Threads + Sync, A: Memory>(
+        &mut self,
+        name: &str,
+        room: FileRoom<'_, R, A>,
+    ) -> Option<Vec<u8, A>> {
+        let text = file_of(self.files, name)?;
+        room.read_whole(&mut text.as_bytes(), text.len())
+    }
+}
+
+/// A writer in memory that takes few bytes a write, and once it has taken so many writes it fails, or is full.
+#[derive(Drop)]
+pub struct NarrowWriter {
+    /// The bytes taken so far.
+    pub taken: Vec<u8>,
+    /// How many bytes it takes a write, beside the first.
+    more_a_write: usize,
+    /// How many writes it takes.
+    writes_left: u64,
+    /// Whether it takes no byte then, and doesn't fail.
+    is_full: bool,
+    /// Whether a flush succeeds.
+    flushes: bool,
+    /// How many bytes a flush has sent on.
+    pub sent: usize,
+}
+
+impl NarrowWriter {
+    /// A writer that takes so many bytes a write beside the first, so many times, and then fails.
+    fn new(alloc: Global, more_a_write: usize, writes_left: u64) -> NarrowWriter {
+        NarrowWriter {
+            taken: Vec::new(alloc),
+            more_a_write,
+            writes_left,
+            is_full: false,
+            flushes: true,
+            sent: 0,
+        }
+    }
+}
+
+impl Write for NarrowWriter {
+    ghost use Rattle.std.specs.Prelude.{Some};
+
+    ghost contents = { λ w. Some w.taken.items };
+
+    fn write(&mut self, buf: &[u8]) -> IoResult<usize> {
+        if buf.is_empty() {
+            return Ok(0);
+        }
+        let count = self.more_a_write.min(buf.len() - 1) + 1;
+        let (front, _) = buf.split_at(count);
+        if self.writes_left > 0 && self.taken.extend_from_slice(front).is_ok() {
+            self.writes_left -= 1;
+            return Ok(count);
+        }
+        if self.is_full {
+            Ok(0)
+        } else {
+            Err(Error::from(ErrorKind::BrokenPipe))
+        }
+    }
+
+    fn flush(&mut self) -> IoResult<()> {
+        if self.flushes {
+            self.sent = self.taken.len();
+            Ok(())
+        } else {
+            Err(Error::from(ErrorKind::BrokenPipe))
+        }
+    }
+}
+
+/// A host over files in memory.
+pub type Host<'a> = StreamHost<TableFiles<'a>, NarrowWriter, NarrowWriter>;
+
+/// What fails on a host, whose standard output takes a byte a write where nothing else is said.
 #[derive(Clone, Copy)]
 pub enum Failing {
-    /// Nothing.
     Nothing,
     /// The flush.
     Flush,
-    /// Each write of standard output after so many, of a byte each.
-    Writes(u64),
+    /// Each write of standard output after so many, of so many bytes each beside the first.
+    Writes(usize, u64),
     /// Standard output, which is full after so many bytes.
     Room(u64),
     /// Each write of standard error after so many, of a byte each.
@@ -42,48 +134,20 @@ pub fn host_with<'a>(alloc: Global, files: Files<'a>, failing: Failing) -> Host<
     match failing {
         Failing::Nothing => {}
         Failing::Flush => output.flushes = false,
-        Failing::Writes(writes) => output.writes_left = writes,
+        Failing::Writes(more, writes) => {
+            output.more_a_write = more;
+            output.writes_left = writes;
+        }
         Failing::Room(bytes) => {
             output.writes_left = bytes;
-            output.then = Then::TakeNone;
+            output.is_full = true;
         }
         Failing::Errors(writes) => {
             errors.more_a_write = 0;
             errors.writes_left = writes;
         }
     }
-    StreamHost::new(TableFiles::new(files), output, errors)
-}
-
-/// The words of a command line, between which there are spaces.
-pub fn words_of<'a>(alloc: Global, line: &'a str) -> Result<Vec<&'a str>, AllocError> {
-    let mut words = Vec::new(alloc);
-    for word in line.split(' ') {
-        if !word.is_empty() {
-            words.push(word)?;
-        }
-    }
-    Ok(words)
-}
-
-/// Runs the program on a command line, and answers its status.
-pub fn status_of<R: Threads + Sync + AllocGlobal, A: Memory>(
-    rt: &R,
-    heap: A,
-    line: &str,
-    host: &mut Host<'_>,
-) -> Result<u8, AllocError>
-    requires puts { host.old.failed_puts ≡ 0 }
-    requires flushes { host.old.failed_flushes ≡ 0 }
-{
-    let words = words_of(rt.alloc(), line)?;
-    Ok(program(rt, heap, words.as_slice(), host))
-}
-
-/// Whether this is what came of a run: standard output, standard error and the status.
-pub fn are_told(host: &Host<'_>, output: &str, errors: &str) -> bool {
-    host.output.taken.as_slice() == output.as_bytes()
-        && host.errors.taken.as_slice() == errors.as_bytes()
+    StreamHost::new(TableFiles { files }, output, errors)
 }
 
 /// The inputs with these texts.

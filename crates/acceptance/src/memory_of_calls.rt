@@ -1,9 +1,9 @@
 //! How much memory one call of each family asks for: how many requests it makes, and for how many bytes in all.
 
 use crate::hosts::{inputs_of, text_of};
-use crate::sessions::apply_line;
+use crate::sessions::call_line;
 use call_reader::read_line;
-use cvl_base::{Config, Refused};
+use cvl_base::{Config, Memory, Refused};
 use refusing_memory::Refusing;
 use std::alloc::Global;
 use std::test::Fail;
@@ -92,15 +92,15 @@ const ROWS: &[Row] = &[
 ];
 
 /// A session on which the names of the table are bound.
-fn session_before<'a, R: Threads + Sync>(
+fn session_before<R: Threads + Sync, A: Memory>(
     rt: &R,
-    heap: &'a Refusing<Global>,
+    heap: A,
     config: Config,
     inputs: &[&str],
-) -> Result<Session<&'a Refusing<Global>>, Refused> {
+) -> Result<Session<A>, Refused> {
     let mut session = Session::new(heap, config, inputs_of(heap, inputs)?)?;
     for before in BEFORE.split('\n') {
-        apply_line(rt, heap, &mut session, before)?;
+        call_line(rt, heap, &mut session, before)?;
     }
     Ok(session)
 }
@@ -132,10 +132,12 @@ fn memory_of_each_family(rt: HostRuntime) -> Result<(), Fail> {
     let mut alone = session_before(&rt, &heap, Config::new(65_536, 1).unwrap(), &inputs)?;
     let mut raced = session_before(&rt, &heap, Config::new(100, 4).unwrap(), &inputs)?;
     for (line, one, four) in ROWS {
-        let found = asked_by(&rt, &heap, &mut alone, line)?;
-        assert!(rt; found == *one, "{line}: {found:?}");
-        let found = asked_by(&rt, &heap, &mut raced, line)?;
-        assert!(rt; found == *four, "{line}: {found:?}");
+        let by_one = asked_by(&rt, &heap, &mut alone, line)?;
+        let by_four = asked_by(&rt, &heap, &mut raced, line)?;
+        assert!(rt;
+            by_one == *one && by_four == *four,
+            "{line}: {by_one:?} {by_four:?}"
+        );
     }
     Ok(())
 }

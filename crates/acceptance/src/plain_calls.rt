@@ -1,109 +1,234 @@
-//! The calls that race, without a gate, each once. No script makes them: a session hands each call its gate.
+//! The calls that race, without a gate, and others that no script makes as they stand: a session hands each call its gate. Each
+//! with ample memory, and with each of its requests refused in turn.
 
+use cvl_base::monoids::Add;
 use cvl_base::{BoolBinary, Config, IntBinary, IntMonoid, Memory, Refused};
-use elementwise::int2;
+use elementwise::{int_from_bool, int2};
 use pack_dist::{pack, packed_descriptor, seg_count, seg_pack, seg_pack_values};
-use refusing_memory::Refusing;
+use permutes::{back, default_into, select, simple, simple_over};
+use refusing_memory::withstands_refusals;
 use scan_ops::{
-    bool_reduce, bool_scan, int_reduce, int_scan, seg_bool_reduce, seg_bool_scan, seg_int_reduce,
-    seg_int_scan,
+    bool_reduce, bool_scan, int_reduce, int_scan, reduce, scan, seg_bool_reduce, seg_bool_scan,
+    seg_int_reduce, seg_int_scan, seg_reduce, seg_scan,
 };
 use segdes::SegDes;
+use segmented_permutes::{seg_back, seg_default_into, seg_select, seg_simple};
 use std::test::Fail;
 use std::thread::Threads;
 
-/// The numbers that are added up, divided and packed.
+/// The calls: quotients; scans and reduces by the table, and by the monoid itself; those of flags; packs; and permutes.
+enum Call {
+    Quotient,
+    Scan,
+    Reduce,
+    SegScan,
+    SegReduce,
+    ScanByAdd,
+    ReduceByAdd,
+    SegScanByAdd,
+    SegReduceByAdd,
+    ScanOfFlags,
+    ReduceOfFlags,
+    SegScanOfFlags,
+    SegReduceOfFlags,
+    Pack,
+    SegPack,
+    SegPackValues,
+    SegCount,
+    PackedDescriptor,
+    Simple,
+    SimpleOver,
+    Back,
+    DefaultInto,
+    Select,
+    SegSimple,
+    SegBack,
+    SegDefaultInto,
+    SegSelect,
+}
+
+/// The calls, and what each gives.
+const ROWS: &[(Call, &[i32])] = &[
+    (Call::Quotient, &[1, 0, 3, 0, 2]),
+    (Call::Scan, &[0, 3, 4, 11, 11]),
+    (Call::Reduce, &[15]),
+    (Call::SegScan, &[0, 3, 0, 7, 7]),
+    (Call::SegReduce, &[4, 0, 11]),
+    (Call::ScanByAdd, &[0, 3, 4, 11, 11]),
+    (Call::ReduceByAdd, &[15]),
+    (Call::SegScanByAdd, &[0, 3, 0, 7, 7]),
+    (Call::SegReduceByAdd, &[4, 0, 11]),
+    (Call::ScanOfFlags, &[0, 1, 1, 0, 1]),
+    (Call::ReduceOfFlags, &[1]),
+    (Call::SegScanOfFlags, &[0, 1, 0, 1, 0]),
+    (Call::SegReduceOfFlags, &[1, 0, 0]),
+    (Call::Pack, &[3, 7, 0]),
+    (Call::SegPack, &[3, 7, 0, 1, 0, 2]),
+    (Call::SegPackValues, &[3, 7, 0]),
+    (Call::SegCount, &[1, 0, 2]),
+    (Call::PackedDescriptor, &[1, 0, 2]),
+    (Call::Simple, &[20, 30, 10]),
+    (Call::SimpleOver, &[20, 30, 10]),
+    (Call::Back, &[30, 30, 10, 10]),
+    (Call::DefaultInto, &[0, 8, 0, 7, 0]),
+    (Call::Select, &[3, 1]),
+    (Call::SegSimple, &[2, 1, 4, 5, 3]),
+    (Call::SegBack, &[2, 2, 2, 5]),
+    (Call::SegDefaultInto, &[2, 0, 1, 9, 3, 4, 5]),
+    (Call::SegSelect, &[2, 5, 3]),
+];
+
+/// The numbers that are packed, and their flags.
 const NUMBERS: &[i32] = &[3, 1, 7, 0, 4];
 
-/// The flags of the elements that are packed.
 const FLAGS: &[bool] = &[true, false, true, true, false];
 
-/// The lengths of the segments.
-const LENGTHS: &[i32] = &[2, 0, 3];
-
-/// Whether a vector of integers is the right one. It is let go here, so that no other call is made beside it.
-fn ints<A: Memory>(made: Vec<i32, A>, right: &[i32]) -> bool {
-    made.as_slice() == right
+/// Tiles of one element, and three workers.
+fn config() -> Config {
+    Config::new(1, 3).unwrap()
 }
 
-/// Whether a vector of booleans is the right one.
-fn bools<A: Memory>(made: Vec<bool, A>, right: &[bool]) -> bool {
-    made.as_slice() == right
-}
-
-/// Whether scans and reduces of integers in tiles of one element, and quotients, are right.
-fn numbers_are_right<R: Threads + Sync, A: Memory>(
+/// What a call gives on three segments, where it is cut: one that divides or adds up, or another. A number is told as a vector
+/// of it.
+fn made<R: Threads + Sync, A: Memory>(
     rt: &R,
     heap: A,
+    call: &Call,
     d: &SegDes<A>,
-) -> Result<bool, Refused> {
-    let (config, add) = (Config::new(1, 3).unwrap(), IntMonoid::Add);
-    let halves = int2(rt, heap, config, IntBinary::Div, NUMBERS, &[2, 2, 2, 2, 2])?;
-    Ok(
-        ints(halves, &[1, 0, 3, 0, 2])
-            && int_reduce(rt, heap, config, add, NUMBERS)? == 15
-            && ints(
-                int_scan(rt, heap, config, add, NUMBERS)?,
-                &[0, 3, 4, 11, 11],
-            )
-            && ints(
-                seg_int_scan(rt, heap, config, add, NUMBERS, d)?,
-                &[0, 3, 0, 7, 7],
-            )
-            && ints(
-                seg_int_reduce(rt, heap, config, add, NUMBERS, d)?,
-                &[4, 0, 11],
-            ),
-    )
+) -> Result<Vec<i32, A>, Refused> {
+    let (config, add, xs) = (config(), IntMonoid::Add, &[3, 1, 7, 0, 4]);
+    match call {
+        Call::Quotient => int2(rt, heap, config, IntBinary::Div, xs, &[2, 2, 2, 2, 2]),
+        Call::Scan => Ok(int_scan(rt, heap, config, add, xs)?),
+        Call::Reduce => Ok(vec![in heap; int_reduce(rt, heap, config, add, xs)?]?),
+        Call::SegScan => seg_int_scan(rt, heap, config, add, xs, d),
+        Call::SegReduce => seg_int_reduce(rt, heap, config, add, xs, d),
+        Call::ScanByAdd => Ok(scan::<R, A, Add>(rt, heap, config, xs)?),
+        Call::ReduceByAdd => Ok(vec![in heap; reduce::<R, A, Add>(rt, heap, config, xs)?]?),
+        Call::SegScanByAdd => seg_scan::<R, A, Add>(rt, heap, config, xs, d),
+        Call::SegReduceByAdd => seg_reduce::<R, A, Add>(rt, heap, config, xs, d),
+        _ => packed(rt, heap, call, d),
+    }
 }
 
-/// Whether scans and reduces of booleans in tiles of one element are right.
-fn flags_are_right<R: Threads + Sync, A: Memory>(
+/// What a pack or a count gives, lengths behind values, or another call.
+fn packed<R: Threads + Sync, A: Memory>(
     rt: &R,
     heap: A,
+    call: &Call,
     d: &SegDes<A>,
-) -> Result<bool, Refused> {
-    let (config, xor) = (Config::new(1, 3).unwrap(), BoolBinary::Xor);
-    let parity = bool_scan(rt, heap, config, xor, FLAGS)?;
-    Ok(
-        bools(parity, &[false, true, true, false, true])
-            && bool_reduce(rt, heap, config, xor, FLAGS)?
-            && bools(
-                seg_bool_scan(rt, heap, config, xor, FLAGS, d)?,
-                &[false, true, false, true, false],
-            )
-            && bools(
-                seg_bool_reduce(rt, heap, config, xor, FLAGS, d)?,
-                &[true, false, false],
-            ),
-    )
+) -> Result<Vec<i32, A>, Refused> {
+    let config = config();
+    match call {
+        Call::Pack => pack(rt, heap, config, NUMBERS, FLAGS),
+        Call::SegPack => {
+            let (mut values, lengths) = seg_pack(rt, heap, config, NUMBERS, FLAGS, d)?;
+            values.extend_from_slice(lengths.lengths())?;
+            Ok(values)
+        }
+        Call::SegPackValues => seg_pack_values(rt, heap, config, NUMBERS, FLAGS, d),
+        Call::SegCount => seg_count(rt, heap, config, FLAGS, d),
+        Call::PackedDescriptor => {
+            let lengths = packed_descriptor(rt, heap, config, FLAGS, d)?;
+            Ok(Vec::from_slice(heap, lengths.lengths())?)
+        }
+        _ => permuted(rt, heap, call, d),
+    }
 }
 
-/// Whether packs and counts by segments are right.
-fn packs_are_right<R: Threads + Sync, A: Memory>(
+/// What a flat permute gives, or another call.
+fn permuted<R: Threads + Sync, A: Memory>(
     rt: &R,
     heap: A,
+    call: &Call,
     d: &SegDes<A>,
+) -> Result<Vec<i32, A>, Refused> {
+    let (config, source) = (config(), &[10, 20, 30]);
+    match call {
+        Call::Simple => simple(rt, heap, config, source, &[2, 0, 1]),
+        Call::SimpleOver => {
+            let mut room = vec![in heap; -7; 3]?;
+            simple_over(heap, source, &[2, 0, 1], &mut room)?;
+            Ok(room)
+        }
+        Call::Back => back(rt, heap, config, source, &[2, 2, 0, 0]),
+        Call::DefaultInto => default_into(rt, heap, config, &[7, 8], &[3, 1], &[0, 0, 0, 0, 0]),
+        Call::Select => {
+            let flags = &[true, false, true, false];
+            select(rt, heap, config, &[1, 2, 3, 4], &[1, 9, 0, 9], flags)
+        }
+        _ => permuted_in_segments(rt, heap, call, d),
+    }
+}
+
+/// What a permute by segments gives, or a call on flags.
+fn permuted_in_segments<R: Threads + Sync, A: Memory>(
+    rt: &R,
+    heap: A,
+    call: &Call,
+    d: &SegDes<A>,
+) -> Result<Vec<i32, A>, Refused> {
+    let (config, source) = (config(), &[1, 2, 3, 4, 5]);
+    match call {
+        Call::SegSimple => seg_simple(rt, heap, config, source, &[1, 0, 2, 0, 1], d),
+        Call::SegBack => {
+            let taken = SegDes::from_lengths(heap, &[3, 0, 1])?;
+            seg_back(rt, heap, config, source, &[1, 1, 1, 2], d, &taken)
+        }
+        Call::SegDefaultInto => {
+            let over = SegDes::from_lengths(heap, &[3, 1, 3])?;
+            let (index, defaults) = (&[2, 0, 0, 1, 2], &[0, 0, 0, 9, 0, 0, 0]);
+            seg_default_into(rt, heap, config, source, index, defaults, d, &over)
+        }
+        Call::SegSelect => {
+            let flags = &[false, true, true, false, true];
+            seg_select(rt, heap, config, source, &[9, 0, 1, 9, 0], flags, d)
+        }
+        _ => {
+            let flags = flags_made(rt, heap, call, d)?;
+            Ok(int_from_bool(rt, heap, config, flags.as_slice())?)
+        }
+    }
+}
+
+/// What a call on flags gives. A flag is told as a vector of it.
+fn flags_made<R: Threads + Sync, A: Memory>(
+    rt: &R,
+    heap: A,
+    call: &Call,
+    d: &SegDes<A>,
+) -> Result<Vec<bool, A>, Refused> {
+    let (config, xor) = (config(), BoolBinary::Xor);
+    match call {
+        Call::ScanOfFlags => Ok(bool_scan(rt, heap, config, xor, FLAGS)?),
+        Call::ReduceOfFlags => Ok(vec![in heap; bool_reduce(rt, heap, config, xor, FLAGS)?]?),
+        Call::SegScanOfFlags => seg_bool_scan(rt, heap, config, xor, FLAGS, d),
+        _ => seg_bool_reduce(rt, heap, config, xor, FLAGS, d),
+    }
+}
+
+/// Whether a call gives this.
+fn gives<R: Threads + Sync, A: Memory>(
+    rt: &R,
+    heap: A,
+    call: &Call,
+    right: &[i32],
 ) -> Result<bool, Refused> {
-    let config = Config::new(1, 3).unwrap();
-    let (right, counted) = (&[3, 7, 0], &[1, 0, 2]);
-    let (values, lengths) = seg_pack(rt, heap, config, NUMBERS, FLAGS, d)?;
-    Ok(
-        ints(values, right)
-            && lengths.lengths() == counted.as_slice()
-            && ints(pack(rt, heap, config, NUMBERS, FLAGS)?, right)
-            && ints(seg_pack_values(rt, heap, config, NUMBERS, FLAGS, d)?, right)
-            && ints(seg_count(rt, heap, config, FLAGS, d)?, counted)
-            && packed_descriptor(rt, heap, config, FLAGS, d)?.lengths() == counted.as_slice(),
-    )
+    let d = SegDes::from_lengths(heap, &[2, 0, 3])?;
+    Ok(made(rt, heap, call, &d)?.as_slice() == right)
 }
 
 #[test]
-fn each_once(rt: HostRuntime) -> Result<(), Fail> {
-    let heap = Refusing::none(rt.alloc());
-    let d = SegDes::from_lengths(&heap, LENGTHS)?;
-    assert_eq!(rt; numbers_are_right(&rt, &heap, &d), Ok(true));
-    assert_eq!(rt; flags_are_right(&rt, &heap, &d), Ok(true));
-    assert_eq!(rt; packs_are_right(&rt, &heap, &d), Ok(true));
+fn each_call(rt: HostRuntime) -> Result<(), Fail> {
+    for (call, right) in ROWS {
+        let requests = withstands_refusals(
+            rt.alloc(),
+            |heap| gives(&rt, heap, call, right),
+            Ok(true),
+            Err(Refused::NoResources),
+        )?;
+        // those of the descriptor, and of the call
+        assert!(rt; requests > 3, "{requests} for {right:?}");
+    }
     Ok(())
 }

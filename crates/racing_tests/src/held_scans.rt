@@ -1,17 +1,21 @@
 //! Scans whose workers are held at a gate until others have passed it.
 
 use crew::Point;
-use cvl_base::monoids::Add;
-use cvl_base::{Config, NoResources};
+use cvl_base::{Config, IntMonoid, NoResources};
 use refusing_memory::Refusing;
-use scan_ops::scan_gated;
+use scan_ops::int_scan_gated;
 use std::alloc::Global;
 use std::test::Fail;
 use std::thread::Threads;
 use watching_gate::{Holds, Race, Watch};
 
-/// Whether a scan of eight numbers, or of the first four where the tiles have four in all, is right, and its gate sees every point
-/// of every tile and nobody who waits in vain, while two workers are held so.
+const NUMBERS: &[i32] = &[3, 1, 7, 0, 4, 1, 6, 3];
+
+/// The sums of the numbers before each.
+const SUMS: &[i32] = &[0, 3, 4, 11, 11, 15, 16, 22];
+
+/// Whether the scan of the first numbers, in so many tiles, is right, and its gate sees every point of every tile and nobody who
+/// waits in vain, while two workers are held so.
 fn comes_out<R: Threads + Sync>(
     rt: &R,
     alloc: Global,
@@ -24,15 +28,11 @@ fn comes_out<R: Threads + Sync>(
     let Ok(config) = Config::new(tile, 2) else {
         return Ok(false);
     };
-    let right = if tile.wrapping_mul(tiles) == 4 {
-        let sums = scan_gated::<_, _, Add, _>(rt, &heap, config, &[3, 1, 7, 0], &gate)?;
-        sums.as_slice() == [0, 3, 4, 11].as_slice()
-    } else {
-        let numbers = [3, 1, 7, 0, 4, 1, 6, 3];
-        let sums = scan_gated::<_, _, Add, _>(rt, &heap, config, &numbers, &gate)?;
-        sums.as_slice() == [0, 3, 4, 11, 11, 15, 16, 22].as_slice()
-    };
-    Ok(right && gate.saw_all())
+    let length = tile.wrapping_mul(tiles) as usize;
+    let (numbers, _) = NUMBERS.split_at(length.min(NUMBERS.len()));
+    let (right, _) = SUMS.split_at(length.min(SUMS.len()));
+    let sums = int_scan_gated(rt, &heap, config, IntMonoid::Add, numbers, &gate)?;
+    Ok(sums.as_slice() == right && gate.saw_all())
 }
 
 /// Two workers are at work at one moment: each of them is held at its first tile until both have one; and the one at tile 0 until

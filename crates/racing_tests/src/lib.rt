@@ -1,10 +1,10 @@
 //! Tests of what workers share, and of workers who are held at a gate.
 //!
-//! Of what they share: the scan board and the least board, by hand and by two threads of the test's own; the world of workers;
-//! and a list gathered from pieces. Of the calls that race: scans whose workers are held at each point of each tile; how often
-//! elements were read before each point; each call in scripts in short tiles and about the lengths from which on workers race,
-//! at a gate that sees each point of each tile, and the program; and the calls that no script reaches, with each request for
-//! memory refused in turn.
+//! Of what they share: the scan board and the least board, by hand; the world of workers; and a list gathered from pieces; each
+//! also with each request for memory refused in turn. The scan board by two threads of the test's own, beside a third worker.
+//! Of the calls that race: scans whose workers are held at each point of each tile; how often elements were read before each
+//! point; and each call in scripts in short tiles and about the lengths from which on workers race, at a gate that sees each
+//! point of each tile, and the program.
 //!
 //! Whatever races runs on one type of memory, the test allocator, and nearly all of it at one gate, since each type of either
 //! has all calls compiled anew. What a call answers is shown by the cases of `script_cases`.
@@ -18,8 +18,6 @@ mod least_boards;
 mod long_scripts;
 #[cfg(test)]
 mod pieces;
-#[cfg(test)]
-mod plain_calls;
 #[cfg(test)]
 mod program;
 #[cfg(test)]

@@ -1,8 +1,10 @@
 //! Scripts over long vectors: which lengths workers race for, in how many tiles, and workers that are held there.
 
 use crate::scripts::{ONE, SCAN, Script, TWO, comes_out};
-use cvl_base::Config;
+use cvl_base::NoResources;
+use std::alloc::Global;
 use std::test::Fail;
+use std::thread::Threads;
 use watching_gate::{Holds, Race};
 
 /// The first lines of each script. Its first input is how many elements there are and the last place, and its second one the
@@ -25,7 +27,9 @@ const COUNT: &str = "m = cnt_lub e\nwrite m\n";
 
 /// Lines that bind a call's value to `v`, the vector that is the same, or the call's fault, which is at the last place, what its
 /// workers race for, and from how many elements on.
-const CALLS: &[(&str, &str, Race, u32)] = &[
+type Call = (&'static str, &'static str, Race, u32);
+
+const CALLS: &[Call] = &[
     ("v = add_suz o", "i", SCAN, 262_144),
     ("v = add_sez o d", "j", SCAN, 262_144),
     ("r = add_ruz o\nv = dis_vuz r c", "t", SCAN, 262_144),
@@ -52,60 +56,80 @@ const CALLS: &[(&str, &str, Race, u32)] = &[
     ),
 ];
 
-/// How many elements there are, the tile and the workers that are asked for, the tile of the race, and how many workers are
-/// held, each in turn, at its first tile, until the others have finished all other tiles.
-const RACES: &[(u32, u32, u32, u32, u32)] = &[
-    (262_143, 4_096, 4, 4_096, 0),
-    (262_144, 4_096, 4, 8_192, 0),
-    (262_145, 65_536, 3, 65_536, 0),
-    (524_287, 4_096, 4, 10_922, 0),
-    (524_288, 4_096, 4, 8_192, 4),
+/// How many elements there are and the last place, the former as a number, the tile and the workers that are asked for, the tile of
+/// the race, and how many workers are held, each in turn, at its first tile, until the others have finished all other tiles.
+type Length = (&'static str, u32, u32, u32, u32, u32);
+
+const LENGTHS: &[Length] = &[
+    ("262143 262142", 262_143, 4_096, 4, 4_096, 0),
+    ("262144 262143", 262_144, 4_096, 4, 8_192, 0),
+    ("262145 262144", 262_145, 65_536, 3, 65_536, 0),
+    ("524287 524286", 524_287, 4_096, 4, 10_922, 0),
+    ("524288 524287", 524_288, 4_096, 4, 8_192, 4),
 ];
 
-/// Whom a run holds: each of the workers in turn, and then nobody.
-fn holds_of(run: u32, held: u32) -> Holds {
-    if run < held {
-        Holds::Worker(run)
-    } else {
-        Holds::Nobody
+/// Whether a script comes out while each of so many workers is held, and then nobody.
+fn in_each_run<R: Threads + Sync>(
+    rt: &R,
+    alloc: Global,
+    script: &Script<'_>,
+    length: &Length,
+    tiles: u32,
+) -> Result<bool, NoResources> {
+    let (_, _, tile, workers, _, held) = *length;
+    let mut right = true;
+    for run in 0..=held {
+        let holds = if run < held {
+            Holds::Worker(run)
+        } else {
+            Holds::Nobody
+        };
+        right &= comes_out(rt, alloc, script, (tile, workers, tiles, holds))?;
     }
+    Ok(right)
+}
+
+/// Whether a call on so many elements comes out, in as many tiles as it should, in each of its runs.
+fn is_raced<R: Threads + Sync>(
+    rt: &R,
+    alloc: Global,
+    length: &Length,
+    call: &Call,
+) -> Result<bool, NoResources> {
+    let (numbers, elements, _, _, raced, _) = *length;
+    let (call, told, race, least) = *call;
+    let is_fault = told.starts_with("fault");
+    let same = if is_fault { "v" } else { told };
+    let lines = format!(in alloc; "{BINDINGS}{call}\ne = eql_wuz v {same}\n{COUNT}")?;
+    let outcome = if is_fault {
+        let last = elements.saturating_sub(1);
+        format!(in alloc; "line 13: {told} at {last}\n")?
+    } else {
+        format!(in alloc; "m = {elements}\n")?
+    };
+    let rest = elements.saturating_sub(170_001);
+    let lengths = format!(in alloc; "1 0 170000 {rest}")?;
+    let inputs = [numbers, lengths.as_str(), "0 0 0 0", "1 1 1 1"];
+    let script = Script {
+        lines: lines.as_str(),
+        inputs: &inputs,
+        outcome: outcome.as_str(),
+        race,
+    };
+    let tiles = if elements >= least {
+        elements.div_ceil(raced.max(1))
+    } else {
+        0
+    };
+    in_each_run(rt, alloc, &script, length, tiles)
 }
 
 #[test]
 fn about_each_least_length(rt: HostRuntime) -> Result<(), Fail> {
-    for (elements, tile, workers, raced, held) in RACES {
-        let (last, rest) = (elements.saturating_sub(1), elements.saturating_sub(170_001));
-        let numbers = format!(in rt.alloc(); "{elements} {last}")?;
-        let lengths = format!(in rt.alloc(); "1 0 170000 {rest}")?;
-        let inputs = [numbers.as_str(), lengths.as_str(), "0 0 0 0", "1 1 1 1"];
-        let config = Config::new(*tile, *workers)?;
-        for (call, told, race, least) in CALLS {
-            let (same, outcome) = if told.starts_with("fault") {
-                ("v", format!(in rt.alloc(); "line 13: {told} at {last}\n")?)
-            } else {
-                (*told, format!(in rt.alloc(); "m = {elements}\n")?)
-            };
-            let lines = format!(in rt.alloc(); "{BINDINGS}{call}\ne = eql_wuz v {same}\n{COUNT}")?;
-            let script = Script {
-                lines: lines.as_str(),
-                inputs: &inputs,
-                outcome: outcome.as_str(),
-                race: *race,
-            };
-            let is_raced = elements >= least;
-            let tiles = if is_raced {
-                elements.div_ceil((*raced).max(1))
-            } else {
-                0
-            };
-            for run in 0..=*held {
-                let holds = holds_of(run, *held);
-                let right = comes_out(&rt, rt.alloc(), config, tiles, &script, holds)?;
-                assert!(rt;
-                    right,
-                    "{elements} elements in tiles of {tile}, run {run}: {call}"
-                );
-            }
+    for length in LENGTHS {
+        for call in CALLS {
+            let right = is_raced(&rt, rt.alloc(), length, call)?;
+            assert!(rt; right, "{} elements: {}", length.1, call.0);
         }
     }
     Ok(())

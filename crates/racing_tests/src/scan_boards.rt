@@ -1,9 +1,7 @@
 //! Scan boards: seats whose workers take their steps in turn, two threads of the caller's own, and a worker that stands still.
 
-ghost use Rattle.std.specs.Prelude.{◌≡◌, ◌≤◌, vec_len};
-ghost use Rattle.std.specs.List.{All};
+ghost use Rattle.std.specs.Prelude.{◌≤◌, length};
 ghost use Rattle.boards.specs.Boards.{IsSeatOf};
-ghost use Rattle.cvl_base.specs.Limits.{most_workers};
 
 use crate::tiles::{CountedTiles, Counter};
 use boards::{Back, Claim, ScanBoard, ScanSeat};
@@ -20,8 +18,32 @@ fn is_back(back: Back<i32>, sum: i32, looks: u32) -> bool {
     back.before == (false, sum) && back.looks == looks
 }
 
-/// Whether each answer is the one that is worked out by hand: what one worker tells, the other one sees, no prefix is
-/// taken back, and a tile of which something is told is not added up.
+/// Whether what one worker tells of tile 2, the other one sees, and no prefix is taken back.
+fn sees_what_is_told<A: Memory>(
+    board: &ScanBoard<CountedTiles<'_>, A>,
+    first: &mut ScanSeat<Add>,
+    second: &mut ScanSeat<Add>,
+) -> bool
+    requires first { IsSeatOf board.now first.old }
+    requires second { IsSeatOf board.now second.old }
+    requires tiles { 4 ≤ length board.now.sums }
+    ensures first { IsSeatOf board.now first.new }
+    ensures second { IsSeatOf board.now second.new }
+{
+    let back = board.look_back(first, 2);
+    board.tell_prefix(first, 2, back.before);
+    let told = board.look(first, 2);
+    board.tell_sum(second, 2);
+    let kept = board.look(first, 2);
+    let sum = board.look(second, 0);
+    is_back(back, 4, 2)
+        && told == Status::Prefix(false, 11)
+        && kept == Status::Prefix(false, 11)
+        && sum == Status::Sum(false, 3)
+}
+
+/// Whether each answer of two workers over tiles of 3, 1, 7 and 0 is the one that is worked out by hand. A tile of which something
+/// is told is not added up.
 pub fn answers_by_hand<A: Memory>(alloc: A) -> Result<bool, NoResources> {
     let counter = Counter::new(0);
     let tiles = CountedTiles::new(&[3, 1, 7, 0], &counter);
@@ -29,17 +51,11 @@ pub fn answers_by_hand<A: Memory>(alloc: A) -> Result<bool, NoResources> {
     let (Some(mut second), Some(mut first)) = (seats.pop(), seats.pop()) else {
         return Ok(false);
     };
-    let mut right = is_back(board.look_back(&mut first, 2), 4, 2);
-    board.tell_prefix(&mut first, 2, (false, 4));
-    right &= board.look(&mut first, 2) == Status::Prefix(false, 11);
-    board.tell_sum(&mut second, 2);
-    right &= board.look(&mut first, 2) == Status::Prefix(false, 11);
-    right &= board.look(&mut second, 0) == Status::Sum(false, 3);
+    let is_seen = sees_what_is_told(&board, &mut first, &mut second);
     let before = counter.count();
-    right &= is_back(board.look_back(&mut second, 3), 11, 1);
-    right &= is_back(board.look_back(&mut second, 2), 4, 2);
-    right &= counter.count() == before;
-    Ok(right)
+    let onward = board.look_back(&mut second, 3);
+    let again = board.look_back(&mut second, 2);
+    Ok(is_seen && is_back(onward, 11, 1) && is_back(again, 4, 2) && counter.count() == before)
 }
 
 /// How many tiles there are for threads.
@@ -162,41 +178,12 @@ fn stop<A: Memory>(board: &ScanBoard<CountedTiles<'_>, A>, seat: &mut ScanSeat<A
     let _claim = board.claim(seat);
 }
 
-/// Whether each of these seats is told that no tile is left.
-fn are_done<A: Memory>(
-    board: &ScanBoard<CountedTiles<'_>, A>,
-    seats: &mut Vec<ScanSeat<Add>, A>,
-) -> bool
-    requires { All (IsSeatOf board.now) seats.old.items }
-    ensures seats { All (IsSeatOf board.now) seats.new.items }
-    ensures as_many { vec_len seats.new ≡ vec_len seats.old }
-{
-    let mut done = true;
-    for k in 0..seats.len() {
-        done &= take_tile(board, &[], &mut seats[k]).is_none();
-    }
-    done
-}
-
-/// How many tiles so many seats are given where there is none, and whether each is told so.
-fn of_no_tiles<A: Memory>(alloc: A, workers: u32) -> Result<(u32, bool), NoResources>
-    requires some { 1 ≤ workers }
-    requires few { workers ≤ most_workers }
-{
-    let counter = Counter::new(0);
-    let tiles = CountedTiles::new(&[], &counter);
-    let (board, mut seats) = ScanBoard::new(alloc, tiles, workers)?;
-    let done = are_done(&board, &mut seats);
-    Ok((board.close(seats).given, done))
-}
-
 /// Beside a worker that has stopped and beside one that never claims, twenty times each; and once where a worker stands still
 /// inside a call of the board. That one holds up no other: the other one is given all other tiles, each of which is added up once
 /// for its sum and once for its prefix.
 #[test]
 fn workers_in_threads(rt: HostRuntime) -> Result<(), Fail> {
     let heap = Refusing::none(rt.alloc());
-    assert_eq!(rt; of_no_tiles(&heap, 64), Ok((0, true)));
     for stops in [true, false] {
         for _ in 0..20 {
             let told = by_two_threads(&rt, &heap, &Counter::new(0), stops);

@@ -35,19 +35,22 @@ fn inputs_of<A: Memory>(alloc: A, texts: &[&str]) -> Result<Vec<Input<A>, A>, No
     Ok(inputs)
 }
 
-/// Whether what comes of a script is right while workers are held so, and its gate sees every point of so many tiles and nobody who
-/// waits in vain.
+/// The tile and the workers that are asked for, how many tiles the gate is to see, and who is held.
+pub type Run = (u32, u32, u32, Holds);
+
+/// Whether what comes of a script is right in a run, and its gate sees every point of each tile and nobody who waits in vain.
 pub fn comes_out<R: Threads + Sync>(
     rt: &R,
     alloc: Global,
-    config: Config,
-    tiles: u32,
     script: &Script<'_>,
-    holds: Holds,
+    run: Run,
 ) -> Result<bool, NoResources> {
+    let (tile, workers, tiles, holds) = run;
+    let Ok(config) = Config::new(tile, workers) else {
+        return Ok(false);
+    };
     let heap = Refusing::none(alloc);
-    let workers = config.workers().min(tiles);
-    let gate = Watch::new(alloc, script.race, tiles, workers, holds)?;
+    let gate = Watch::new(alloc, script.race, tiles, workers.min(tiles), holds)?;
     let inputs = inputs_of(&heap, script.inputs)?;
     let mut sink = MemSink::new(alloc);
     let lines = script.lines.as_bytes();

@@ -1,9 +1,8 @@
 //! Scripts whose workers race in short tiles: each call, by one worker and by many, who are held there or not, and the least of
 //! several faults again and again.
 
-use crate::scripts::{ONE, SCAN, Script, TWO, comes_out};
+use crate::scripts::{ONE, Run, SCAN, Script, TWO, comes_out};
 use crew::Point;
-use cvl_base::Config;
 use std::test::Fail;
 use watching_gate::{Holds, Race};
 
@@ -38,83 +37,73 @@ f = boo_wuz a
 t = add_wuz o o
 ";
 
-/// A call on four places, what its workers race for, and the value of the call, or its fault.
+/// A call on four places, what its workers race for, and what is written of its value, or its fault.
 const CALLS: &[(&str, Race, &str)] = &[
-    ("add_suz a", SCAN, "[0 3 4 11]"),
-    ("add_sez a d", SCAN, "[0 0 1 8]"),
-    ("add_ruz a", SCAN, "11"),
-    ("add_rez a d", SCAN, "[3 0 8]"),
-    ("xor_sub f", SCAN, "[F T F T]"),
-    ("xor_seb f d", SCAN, "[F F T F]"),
-    ("xor_rub f", SCAN, "T"),
-    ("xor_reb f d", SCAN, "[T F F]"),
-    ("div_wuz a o", ONE, "[3 1 7 0]"),
-    ("div_wuz o a", ONE, "fault 8 DivideByZero at 3"),
-    ("mod_wuz a t", ONE, "[1 1 1 0]"),
-    ("lsh_wuz a i", ONE, "[24 4 14 0]"),
-    ("rsh_wuz a i", ONE, "[0 0 3 0]"),
-    ("smp_puz a i", TWO, "[0 7 1 3]"),
-    ("smp_puz a o", TWO, "fault 11 IndexRepeated at 1"),
-    ("smp_pez a p d", TWO, "[3 7 0 1]"),
-    ("smp_pub f j", TWO, "[F T T T]"),
-    ("bck_puz a j", ONE, "[1 7 0 3]"),
-    ("bck_puz a k", ONE, "fault 10 IndexOutOfRange at 3"),
-    ("bck_pez a p d d", ONE, "[3 0 1 7]"),
-    ("sel_puz a k f", TWO, "[1 7 3]"),
-    ("sel_pez a q f d", TWO, "[3 7 1]"),
-    ("def_puz a j n", TWO, "[0 3 1 7 9]"),
-    ("def_pez a p n d e", TWO, "[3 9 7 0 1]"),
-    ("cnt_leb f d", SCAN, "[1 0 2]"),
-    ("pck_luz a f", SCAN, "[3 1 7]"),
-    ("pck_lez a f d", SCAN, "[3 1 7]"),
-    ("pck_lub f f", SCAN, "[T T T]"),
-    ("pck_fov f d", SCAN, "[1 0 2]"),
+    ("add_suz a", SCAN, "b = [0 3 4 11]\n"),
+    ("add_sez a d", SCAN, "b = [0 0 1 8]\n"),
+    ("add_ruz a", SCAN, "b = 11\n"),
+    ("add_rez a d", SCAN, "b = [3 0 8]\n"),
+    ("xor_sub f", SCAN, "b = [F T F T]\n"),
+    ("xor_seb f d", SCAN, "b = [F F T F]\n"),
+    ("xor_rub f", SCAN, "b = T\n"),
+    ("xor_reb f d", SCAN, "b = [T F F]\n"),
+    ("div_wuz a o", ONE, "b = [3 1 7 0]\n"),
+    ("div_wuz o a", ONE, "line 15: fault 8 DivideByZero at 3\n"),
+    ("mod_wuz a t", ONE, "b = [1 1 1 0]\n"),
+    ("lsh_wuz a i", ONE, "b = [24 4 14 0]\n"),
+    ("rsh_wuz a i", ONE, "b = [0 0 3 0]\n"),
+    ("smp_puz a i", TWO, "b = [0 7 1 3]\n"),
+    ("smp_puz a o", TWO, "line 15: fault 11 IndexRepeated at 1\n"),
+    ("smp_pez a p d", TWO, "b = [3 7 0 1]\n"),
+    ("smp_pub f j", TWO, "b = [F T T T]\n"),
+    ("bck_puz a j", ONE, "b = [1 7 0 3]\n"),
+    (
+        "bck_puz a k",
+        ONE,
+        "line 15: fault 10 IndexOutOfRange at 3\n",
+    ),
+    ("bck_pez a p d d", ONE, "b = [3 0 1 7]\n"),
+    ("sel_puz a k f", TWO, "b = [1 7 3]\n"),
+    ("sel_pez a q f d", TWO, "b = [3 7 1]\n"),
+    ("def_puz a j n", TWO, "b = [0 3 1 7 9]\n"),
+    ("def_pez a p n d e", TWO, "b = [3 9 7 0 1]\n"),
+    ("cnt_leb f d", SCAN, "b = [1 0 2]\n"),
+    ("pck_luz a f", SCAN, "b = [3 1 7]\n"),
+    ("pck_lez a f d", SCAN, "b = [3 1 7]\n"),
+    ("pck_lub f f", SCAN, "b = [T T T]\n"),
+    ("pck_fov f d", SCAN, "b = [1 0 2]\n"),
 ];
 
-/// How many tiles of one element there are.
-const TILES: u32 = 4;
-
-/// The lengths of tiles and the numbers of workers that are asked for where nobody is held.
-const CREWS: [(u32, u32); 8] = [
-    (1, 1),
-    (1, 3),
-    (1, 64),
-    (2, 2),
-    (2, 3),
-    (3, 2),
-    (4, 7),
-    (1023, 64),
+/// The runs of each call on four elements. Of two workers the one that first claims a tile is held until the other has finished the
+/// three other tiles, for each tile in turn. In each cut into tiles, by one worker and by many, the gate sees each tile.
+const RUNS: &[Run] = &[
+    (1, 2, 4, Holds::UntilOthers(Point::Claimed(0))),
+    (1, 2, 4, Holds::UntilOthers(Point::Claimed(1))),
+    (1, 2, 4, Holds::UntilOthers(Point::Claimed(2))),
+    (1, 2, 4, Holds::UntilOthers(Point::Claimed(3))),
+    (1, 1, 4, Holds::Nobody),
+    (1, 3, 4, Holds::Nobody),
+    (1, 64, 4, Holds::Nobody),
+    (2, 2, 2, Holds::Nobody),
+    (2, 3, 2, Holds::Nobody),
+    (3, 2, 2, Holds::Nobody),
+    (4, 7, 1, Holds::Nobody),
+    (1023, 64, 1, Holds::Nobody),
 ];
 
-/// Of two workers the one that first claims a tile is held until the other has finished the three other tiles, for each tile
-/// in turn. In each cut into tiles, by one worker and by many, the gate sees each tile.
 #[test]
 fn each_call_held_and_seen(rt: HostRuntime) -> Result<(), Fail> {
-    for (call, race, told) in CALLS {
+    for (call, race, outcome) in CALLS {
         let lines = format!(in rt.alloc(); "{BINDINGS}b = {call}\nwrite b\n")?;
-        let before = if told.starts_with("fault") {
-            "line 15:"
-        } else {
-            "b ="
-        };
-        let outcome = format!(in rt.alloc(); "{before} {told}\n")?;
         let script = Script {
             lines: lines.as_str(),
             inputs: INPUTS,
-            outcome: outcome.as_str(),
+            outcome,
             race: *race,
         };
-        let two = Config::new(1, 2)?;
-        for tile in 0..TILES {
-            let holds = Holds::UntilOthers(Point::Claimed(tile));
-            let right = comes_out(&rt, rt.alloc(), two, TILES, &script, holds)?;
-            assert!(rt; right, "tile {tile} held in {call}");
-        }
-        for (tile, workers) in CREWS {
-            let config = Config::new(tile, workers)?;
-            let tiles = TILES.div_ceil(config.tile());
-            let right = comes_out(&rt, rt.alloc(), config, tiles, &script, Holds::Nobody)?;
-            assert!(rt; right, "{call} in tiles of {tile} by {workers}");
+        for run in RUNS {
+            let right = comes_out(&rt, rt.alloc(), &script, *run)?;
+            assert!(rt; right, "{call} in tiles of {} by {}", run.0, run.1);
         }
     }
     Ok(())
@@ -146,10 +135,9 @@ p = smp_pez i i d\n",
 /// The same comes of a script every time, since each run may race another way.
 #[test]
 fn least_fault_every_time(rt: HostRuntime) -> Result<(), Fail> {
-    let config = Config::new(16, 8)?;
     for script in &FAULTS {
         for _ in 0..100 {
-            let right = comes_out(&rt, rt.alloc(), config, 63, script, Holds::Nobody)?;
+            let right = comes_out(&rt, rt.alloc(), script, (16, 8, 63, Holds::Nobody))?;
             assert!(rt; right, "{}", script.lines);
         }
     }

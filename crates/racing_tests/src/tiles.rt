@@ -1,12 +1,13 @@
 //! Tiles for tests.
 
 ghost use Rattle.std.specs.Prelude.{◌≡◌, ◌≤◌, false, true, length, map};
-ghost use Rattle.std.specs.List.{AllPass, list_all};
+ghost use Rattle.std.specs.List.{list_all};
 ghost use Rattle.cvl_base.specs.ItemWords.{is_number};
 ghost use Rattle.cvl_base.specs.Limits.{most_elements};
 
 use boards::Tiles;
 use cvl_base::monoids::Add;
+use scan_walks::know_numbers;
 use std::sync::atomic::{AtomicBool, AtomicU64, Ordering};
 
 /// How often a worker that is held looks whether it may go on, at most. One turn reads one word.
@@ -83,19 +84,4 @@ impl Tiles for CountedTiles<'_> {
         self.counter.add();
         (false, self.numbers[t as usize])
     }
-}
-
-/// Each number fits 32 bits, so that it is an item. The contract names the fact.
-fn know_numbers(numbers: &[i32])
-    ensures { AllPass is_number numbers.now }
-{
-    for number in numbers {
-        know_number(number);
-    }
-}
-
-fn know_number(number: &i32)
-    ensures { is_number number.now ≡ true }
-{
-    let _value = *number;
 }

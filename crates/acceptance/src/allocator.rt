@@ -1,13 +1,14 @@
 //! The allocator for tests: how many requests and frees it counts, which requests it refuses, and what it finds wrong.
+
 use cvl_base::Memory;
 use refusing_memory::{Flaw, Refusal, Refusing, withstands_refusals};
 use std::alloc::{AllocError, Global};
 use std::{mem, thread};
 
-/// Three requests, and three frees where none is refused.
-fn three_boxes<A: Memory>(alloc: A) -> Result<u64, AllocError> {
+/// Requests for the numbers from 1 up to another, which is not counted in, of which each is given back at once; their sum.
+fn boxes<A: Memory>(alloc: A, end: u64) -> Result<u64, AllocError> {
     let mut sum = 0u64;
-    for n in 1..4u64 {
+    for n in 1..end {
         let boxed = Box::new(alloc, n)?;
         sum = sum.wrapping_add(*boxed);
     }
@@ -23,20 +24,6 @@ fn refused_of_1000<A: Memory>(alloc: A) -> usize {
         }
     }
     refused
-}
-
-/// Keeps a block for good.
-fn leaked<A: Memory>(alloc: A) -> Result<u64, AllocError> {
-    mem::forget(Box::new(alloc, 1u64)?);
-    Ok(6)
-}
-
-/// Requests without end, but for a refusal.
-fn until_refused<A: Memory>(alloc: A) -> Result<u64, AllocError> {
-    for n in 0..u64::MAX {
-        Box::new(alloc, n)?;
-    }
-    Ok(u64::MAX)
 }
 
 /// What an allocator has counted: requests, refusals, frees, and blocks that are held.
@@ -67,7 +54,7 @@ const ROWS: &[Row] = &[
 fn counts_and_refusals(rt: HostRuntime) {
     for (rule, first, second, counts) in ROWS {
         let heap = Refusing::new(*rule, rt.alloc());
-        assert!(rt; three_boxes(&heap) == *first && three_boxes(&heap) == *second);
+        assert!(rt; boxes(&heap, 4) == *first && boxes(&heap, 4) == *second);
         assert!(rt; heap.rule() == *rule && counts_of(&heap) == *counts);
     }
     let heap = Refusing::none(rt.alloc());
@@ -86,34 +73,33 @@ fn counts_across_threads(rt: HostRuntime) {
 }
 
 /// What is run on the allocator.
-#[derive(Clone, Copy)]
 enum Work {
-    /// Three requests.
-    Three,
+    /// Requests for the numbers from 1 up to this one.
+    Boxes(u64),
     /// Three requests whose refusal is not told.
     Silent,
     /// A request whose block is kept for good.
     Leaking,
-    /// Requests without end.
-    Endless,
 }
 
 /// The answer of the work.
-fn answer_of<A: Memory>(alloc: A, work: Work) -> Result<u64, AllocError> {
+fn answer_of<A: Memory>(alloc: A, work: &Work) -> Result<u64, AllocError> {
     match work {
-        Work::Three => three_boxes(alloc),
-        Work::Silent => Ok(three_boxes(alloc).unwrap_or(0)),
-        Work::Leaking => leaked(alloc),
-        Work::Endless => until_refused(alloc),
+        Work::Boxes(end) => boxes(alloc, *end),
+        Work::Silent => Ok(boxes(alloc, 4).unwrap_or(0)),
+        Work::Leaking => {
+            mem::forget(Box::new(alloc, 1u64)?);
+            Ok(6)
+        }
     }
 }
 
 /// The work, its right answer, and how many requests it makes, or what is wrong with it.
 const WORKS: &[(Work, u64, Result<u64, Flaw>)] = &[
-    (Work::Three, 6, Ok(3)),
+    (Work::Boxes(4), 6, Ok(3)),
     (Work::Silent, 6, Err(Flaw::WrongAnswer(0))),
     (Work::Leaking, 6, Err(Flaw::Leak(1))),
-    (Work::Endless, 0, Err(Flaw::NoEnd)),
+    (Work::Boxes(u64::MAX), 0, Err(Flaw::NoEnd)),
 ];
 
 #[test]
@@ -121,7 +107,7 @@ fn requests_and_flaws(rt: HostRuntime) {
     for (work, right, found) in WORKS {
         let requests = withstands_refusals(
             rt.alloc(),
-            |heap| answer_of(heap, *work),
+            |heap| answer_of(heap, work),
             Ok(*right),
             Err(AllocError),
         );
