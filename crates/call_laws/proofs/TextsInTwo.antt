@@ -8,11 +8,11 @@ use Rattle.cvl_base.specs.Elementwise.{values_from}
 use Rattle.cvl_base.specs.Faults.{fault}
 use Rattle.cvl_base.specs.Gives.{fault_if}
 use Rattle.cvl_base.specs.Limits.{most_elements}
-use Rattle.call_reader.specs.declared.token.ByteClass.TheVariants.{Blank, Part}
+use Rattle.line_reader.specs.declared.token.ByteClass.TheVariants.{Blank, Part}
 use Rattle.call_reader.specs.Inputs.{input_class, input_of, is_white_space}
-use Rattle.call_reader.specs.Numbers.{written_number}
-use Rattle.call_reader.specs.Tokens.{tokens_by}
-use Rattle.call_reader.proofs.TokenWalk.{cut_at_blank}
+use Rattle.line_reader.specs.Numbers.{written_number}
+use Rattle.line_reader.specs.Tokens.{tokens_by}
+use Rattle.line_reader.proofs.TokenWalk.{cut_at_blank}
 use Rattle.value_texts.specs.Texts.{vector_text}
 use Rattle.call_laws.specs.InParts.{in_two}
 use Rattle.call_laws.proofs.TwoParts.{values-two}

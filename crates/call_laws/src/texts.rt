@@ -4,7 +4,7 @@ ghost use Rattle.std.specs.Prelude.{◌≡◌, ◌<◌, ◌≤◌, ℕ, IsTrue, 
 ghost use Rattle.std.specs.List.{join_with_byte};
 ghost use Rattle.call_laws.specs.InParts.{in_two};
 ghost use Rattle.call_reader.specs.Inputs.{input_class, input_of, is_white_space};
-ghost use Rattle.call_reader.specs.Tokens.{tokens_by};
+ghost use Rattle.line_reader.specs.Tokens.{tokens_by};
 ghost use Rattle.cvl_base.specs.Limits.{most_elements};
 ghost use Rattle.value_texts.specs.Texts.{vector_text};
 

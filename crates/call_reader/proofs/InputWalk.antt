@@ -11,15 +11,15 @@ use Rattle.cvl_base.specs.declared.fault.Fault.{Fault}
 use Rattle.cvl_base.specs.declared.fault.FaultNo.TheVariants.{BadInput}
 use Rattle.cvl_base.specs.Elementwise.{values_from}
 use Rattle.cvl_base.specs.Gives.{◌>>=◌}
-use Rattle.call_reader.specs.declared.token.ByteClass.{ByteClass}
-use Rattle.call_reader.specs.declared.token.ByteClass.TheVariants.{Blank, Part}
-use Rattle.call_reader.specs.Tokens.{tokens_by, with_byte, is_part, begins_with_part}
-use Rattle.call_reader.specs.Numbers.{positive_of, negative_of, with_sign, written_number}
+use Rattle.line_reader.specs.declared.token.ByteClass.{ByteClass}
+use Rattle.line_reader.specs.declared.token.ByteClass.TheVariants.{Blank, Part}
+use Rattle.line_reader.specs.Tokens.{tokens_by, with_byte, is_part, begins_with_part}
+use Rattle.line_reader.specs.Numbers.{positive_of, negative_of, with_sign, written_number}
 use Rattle.call_reader.specs.Inputs.{is_white_space, input_class}
 use Rattle.call_reader.specs.Pieces.{goes_on}
-use Rattle.call_reader.proofs.TokenWalk.{run_first, some_tokens}
+use Rattle.line_reader.proofs.TokenWalk.{run_first, some_tokens}
 use Rattle.std.proofs.lemmas.Bool.{and_parts}
-use Rattle.call_reader.proofs.NumberWalk.{magnitude_digits}
+use Rattle.line_reader.proofs.NumberWalk.{magnitude_digits}
 
 pub at_most_one : (one : ℕ) (b : Bool) → one ≡ from_bool b → one ≤ 1
 at_most_one one true e = omega arith

@@ -1,12 +1,7 @@
-pub mod Arguments
-pub mod Comments
-pub mod DigitLanes
 pub mod InputWalk
 pub mod NestedBack
 pub mod NestedMarks
 pub mod NestedPieces
 pub mod NestedTokens
-pub mod NumberWalk
 pub mod PieceWalk
 pub mod ReadBack
-pub mod TokenWalk

@@ -10,10 +10,10 @@ use Rattle.cvl_base.specs.Limits.{most_elements}
 use Rattle.cvl_base.specs.Nests.{cut_of}
 use Rattle.cvl_base.proofs.Nests.{nest-fits}
 use Rattle.value_texts.specs.Texts.{vector_text, nest_text}
-use Rattle.call_reader.specs.Tokens.{begins_with_part}
-use Rattle.call_reader.specs.Numbers.{written_number}
+use Rattle.line_reader.specs.Tokens.{begins_with_part}
+use Rattle.line_reader.specs.Numbers.{written_number}
 use Rattle.call_reader.specs.NestedTexts.{nested_class, Mark, opening, closing, number, mark_of, marks_of, list_marks, nest_marks, nested_of, IsWithin32, IsNestedText, read_again}
-use Rattle.call_reader.proofs.TokenWalk.{cut_at_blank, cut_at_lone}
+use Rattle.line_reader.proofs.TokenWalk.{cut_at_blank, cut_at_lone}
 use Rattle.call_reader.proofs.ReadBack.{read_back}
 use Rattle.call_reader.proofs.NestedTokens.{number_first}
 use Rattle.call_reader.proofs.NestedMarks.{text-read}

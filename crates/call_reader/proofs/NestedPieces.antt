@@ -4,10 +4,10 @@ use Rattle.std.proofs.Common.{◌≡◌, ℕ, true, false, List, [], ◌∷◌, 
 use Rattle.std.specs.Prelude.{flat_map}
 use Rattle.std.proofs.lemmas.List.{append-nil, map-append}
 use Rattle.std.proofs.lemmas.Grind.{flat_map-append}
-use Rattle.call_reader.specs.Tokens.{tokens_by, begins_with_part}
+use Rattle.line_reader.specs.Tokens.{tokens_by, begins_with_part}
 use Rattle.call_reader.specs.NestedTexts.{Mark, nested_class, mark_of, marks_of, list_marks}
 use Rattle.call_reader.specs.NestedReads.{AreListsRead, is_no_mark}
-use Rattle.call_reader.proofs.TokenWalk.{cut_before}
+use Rattle.line_reader.proofs.TokenWalk.{cut_before}
 
 none_left : (ms : List Mark) → is_no_mark ms ≡ true → ms ≡ []
 none_left [] e = refl

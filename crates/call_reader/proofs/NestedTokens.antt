@@ -6,10 +6,10 @@ use Rattle.std.specs.Char.{is_ascii_digit}
 use Rattle.std.proofs.lemmas.Bool.{and_parts}
 use Rattle.std.proofs.lemmas.Bool.Decides.{nat_tests}
 use Rattle.std.proofs.lemmas.List.Sums.{count_by-le-length}
-use Rattle.call_reader.specs.declared.token.ByteClass.{ByteClass}
-use Rattle.call_reader.specs.declared.token.ByteClass.TheVariants.{Blank, Alone, Part}
-use Rattle.call_reader.specs.Tokens.{tokens_by, with_byte, is_part, begins_with_part, IsFirstToken}
-use Rattle.call_reader.specs.Numbers.{written_number}
+use Rattle.line_reader.specs.declared.token.ByteClass.{ByteClass}
+use Rattle.line_reader.specs.declared.token.ByteClass.TheVariants.{Blank, Alone, Part}
+use Rattle.line_reader.specs.Tokens.{tokens_by, with_byte, is_part, begins_with_part, IsFirstToken}
+use Rattle.line_reader.specs.Numbers.{written_number}
 use Rattle.call_reader.specs.NestedTexts.{nested_class, Mark, opening, closing, number, stray, number_or, mark_of, marks_of, is_opening, is_no_bracket}
 use Rattle.call_reader.specs.NestedReads.{is_closing}
 use Rattle.call_reader.proofs.InputWalk.{number_leads}

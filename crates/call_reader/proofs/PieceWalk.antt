@@ -12,12 +12,12 @@ use Rattle.cvl_base.specs.declared.fault.FaultNo.TheVariants.{BadInput, TooLong}
 use Rattle.cvl_base.specs.Elementwise.{values_from}
 use Rattle.cvl_base.specs.Faults.{fault, fault_at}
 use Rattle.cvl_base.specs.Gives.{◌>>=◌, fault_if}
-use Rattle.call_reader.specs.Tokens.{tokens_by, begins_with_part}
-use Rattle.call_reader.specs.Numbers.{written_number}
+use Rattle.line_reader.specs.Tokens.{tokens_by, begins_with_part}
+use Rattle.line_reader.specs.Numbers.{written_number}
 use Rattle.call_reader.specs.Inputs.{input_class}
 use Rattle.call_reader.specs.Pieces.{numbers_of, or_zero}
 use Rattle.call_reader.proofs.InputWalk.{count_of}
-use Rattle.call_reader.proofs.TokenWalk.{cut_before}
+use Rattle.line_reader.proofs.TokenWalk.{cut_before}
 use Rattle.fresh.specs.Counted.{found_in}
 use Rattle.fresh.specs.Found.{first_without}
 use Rattle.fresh.proofs.FirstWithout.{first_of_both}

@@ -7,8 +7,8 @@ use Rattle.std.specs.List.{list_all}
 use Rattle.std.specs.Str.Parse.{AllDigits}
 use Rattle.std.proofs.lemmas.Bool.Decides.{nat_tests}
 use Rattle.std.proofs.lemmas.Fmt.{decimal_is_IsNumeral}
-use Rattle.call_reader.specs.Numbers.{with_sign, written_number}
-use Rattle.call_reader.proofs.NumberWalk.{fit, sign_read}
+use Rattle.line_reader.specs.Numbers.{with_sign, written_number}
+use Rattle.line_reader.proofs.NumberWalk.{fit, sign_read}
 
 digit_is : (d : ℕ) → digit_value d < 10 → is_ascii_digit d ≡ true
 digit_is d h = grind (arith, nat_tests)

@@ -7,10 +7,10 @@ use Rattle.cvl_base.specs.Elementwise.{values_from}
 use Rattle.cvl_base.specs.Faults.{fault}
 use Rattle.cvl_base.specs.Gives.{fault_if}
 use Rattle.cvl_base.specs.Limits.{most_elements}
-use Rattle.call_reader.specs.declared.token.ByteClass.{ByteClass}
-use Rattle.call_reader.specs.declared.token.ByteClass.TheVariants.{Blank, Part}
-use Rattle.call_reader.specs.Tokens.{tokens_by}
-use Rattle.call_reader.specs.Numbers.{written_number}
+use Rattle.line_reader.specs.declared.token.ByteClass.{ByteClass}
+use Rattle.line_reader.specs.declared.token.ByteClass.TheVariants.{Blank, Part}
+use Rattle.line_reader.specs.Tokens.{tokens_by}
+use Rattle.line_reader.specs.Numbers.{written_number}
 
 -- space, tab, line feed and carriage return are white space
 abbrev pub is_white_space : ℕ → Bool

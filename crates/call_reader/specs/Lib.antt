@@ -1,8 +1,8 @@
 pub mod Inputs
-pub mod Lines
 pub mod NestedReads
 pub mod NestedTexts
-pub mod Numbers
 pub mod Pieces
 pub use Rattle.value_texts.specs.Texts
-pub mod Tokens
+pub use Rattle.line_reader.specs.Lines
+pub use Rattle.line_reader.specs.Numbers
+pub use Rattle.line_reader.specs.Tokens

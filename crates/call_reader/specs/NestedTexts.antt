@@ -15,10 +15,10 @@ use Rattle.cvl_base.specs.Gives.{◌>>=◌, fault_if}
 use Rattle.cvl_base.specs.Limits.{most_elements}
 use Rattle.cvl_base.specs.Nests.{cut_of, nest}
 use Rattle.value_texts.specs.Texts.{nest_text}
-use Rattle.call_reader.specs.declared.token.ByteClass.{ByteClass}
-use Rattle.call_reader.specs.declared.token.ByteClass.TheVariants.{Blank, Alone, Part}
-use Rattle.call_reader.specs.Tokens.{tokens_by}
-use Rattle.call_reader.specs.Numbers.{written_number}
+use Rattle.line_reader.specs.declared.token.ByteClass.{ByteClass}
+use Rattle.line_reader.specs.declared.token.ByteClass.TheVariants.{Blank, Alone, Part}
+use Rattle.line_reader.specs.Tokens.{tokens_by}
+use Rattle.line_reader.specs.Numbers.{written_number}
 use Rattle.call_reader.specs.Inputs.{is_white_space}
 
 -- white space stands between tokens, and `[` (91) and `]` (93) are tokens of their own

@@ -1,8 +1,8 @@
 -- An input that is read in pieces, each by a thread of its own.
 -- Source: the grammar of an input.
 use Rattle.std.specs.Prelude.{ℕ, Bool, not, ◌&&◌, List, map, Option, unwrap_or, ℤ, pos}
-use Rattle.call_reader.specs.Tokens.{tokens_by, begins_with_part}
-use Rattle.call_reader.specs.Numbers.{written_number}
+use Rattle.line_reader.specs.Tokens.{tokens_by, begins_with_part}
+use Rattle.line_reader.specs.Numbers.{written_number}
 use Rattle.call_reader.specs.Inputs.{input_class}
 
 -- what the tokens write, and none for a token that is no number

@@ -5,14 +5,14 @@ ghost use Rattle.cvl_base.specs.declared.fault.FaultNo.TheVariants.{TooLong, Bad
 ghost use Rattle.cvl_base.specs.Faults.{fault, fault_at};
 ghost use Rattle.cvl_base.specs.Gives.{Gives};
 ghost use Rattle.cvl_base.specs.Limits.{most_elements};
-ghost use Rattle.call_reader.specs.Tokens.{tokens_by, IsFirstToken, begins_with_part};
-ghost use Rattle.call_reader.specs.Numbers.{written_number};
+ghost use Rattle.line_reader.specs.Tokens.{tokens_by, IsFirstToken, begins_with_part};
+ghost use Rattle.line_reader.specs.Numbers.{written_number};
 ghost use Rattle.call_reader.specs.Inputs.{is_white_space, input_class, input_of};
 ghost use Rattle.call_reader.specs.Pieces.{goes_on};
 ghost use Rattle.std.specs.Int.{from_bool};
 
-use crate::number::{leading_number, number};
-use crate::token::{ByteClass, Classes, blanks, first_token};
+use line_reader::number::{leading_number, number};
+use line_reader::token::{ByteClass, Classes, blanks, first_token};
 use cvl_base::limits::MOST_ELEMENTS;
 use cvl_base::{Fault, FaultNo, Memory, Refused};
 

@@ -2,7 +2,7 @@
 
 ghost use Rattle.std.specs.Prelude.{◌≡◌, ◌≤◌, ◌++◌, false, true, length, drop, IfOk, IfSome, vec_len};
 ghost use Rattle.cvl_base.specs.Limits.{most_elements};
-ghost use Rattle.call_reader.specs.Tokens.{begins_with_part};
+ghost use Rattle.line_reader.specs.Tokens.{begins_with_part};
 ghost use Rattle.call_reader.specs.NestedTexts.{marks_of, nested_class};
 ghost use Rattle.call_reader.specs.NestedReads.{AreListsRead, is_no_mark};
 ghost use denote.Param.Send.{IsSync, IsSend, Frees};

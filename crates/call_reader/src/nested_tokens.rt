@@ -1,13 +1,13 @@
 //! The tokens of a nested text.
 
 ghost use Rattle.std.specs.Prelude.{◌≡◌, ◌<◌, [], ◌∷◌, length, false, MatchOption, IfSome, count_by};
-ghost use Rattle.call_reader.specs.Tokens.{tokens_by, begins_with_part};
+ghost use Rattle.line_reader.specs.Tokens.{tokens_by, begins_with_part};
 ghost use Rattle.call_reader.specs.NestedTexts.{nested_class, mark_of, marks_of, number, opening, closing, is_opening, is_no_bracket, are_too_many};
 ghost use Rattle.call_reader.specs.NestedReads.{is_closing, is_number, is_no_mark, begin_with};
 
 use crate::inputs::is_white_space;
-use crate::number::{leading_number, number};
-use crate::token::{ByteClass, Classes, blanks, first_token};
+use line_reader::number::{leading_number, number};
+use line_reader::token::{ByteClass, Classes, blanks, first_token};
 use cvl_base::limits::MOST_ELEMENTS;
 
 /// The classes of a nested text's bytes: white space is blank, and brackets are tokens of their own.

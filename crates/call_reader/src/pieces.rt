@@ -2,14 +2,14 @@
 
 ghost use Rattle.std.specs.Prelude.{◌≡◌, ◌<◌, ◌≤◌, ◌++◌, [], false, length, map, IfOk};
 ghost use Rattle.std.specs.List.{flat_map};
-ghost use Rattle.call_reader.specs.Tokens.{tokens_by, begins_with_part};
+ghost use Rattle.line_reader.specs.Tokens.{tokens_by, begins_with_part};
 ghost use Rattle.call_reader.specs.Inputs.{input_class};
 ghost use Rattle.call_reader.specs.Pieces.{numbers_of, or_zero};
 ghost use Rattle.fresh.specs.Found.{first_without};
 ghost use Rattle.fresh.specs.Places.{stretch};
 
 use crate::inputs::{InputBytes, first_number, token_count};
-use crate::token::run_length;
+use line_reader::token::run_length;
 use cvl_base::{Memory, NoResources};
 use fresh::{Part, Run, first_found};
 use sharing::ThreadCount;

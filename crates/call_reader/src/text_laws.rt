@@ -2,7 +2,7 @@
 
 ghost use Rattle.std.specs.Prelude.{◌≡◌, true, false, [], ◌∷◌, codes, pos, negsuc, Some, None, Ok};
 ghost use Rattle.cvl_base.specs.declared.value.Value.TheVariants as value;
-ghost use Rattle.call_reader.specs.Numbers.{written_number};
+ghost use Rattle.line_reader.specs.Numbers.{written_number};
 ghost use Rattle.value_texts.specs.Texts.{text_of, value_text};
 
 use std::alloc::Allocator;

@@ -10,9 +10,9 @@ use Rattle.cvl_base.specs.Faults.{fault}
 use Rattle.cvl_base.specs.Gives.{fault_if}
 use Rattle.cvl_base.specs.Limits.{most_elements}
 use Rattle.call_reader.specs.Inputs.{input_class, input_of}
-use Rattle.call_reader.specs.Numbers.{written_number}
+use Rattle.line_reader.specs.Numbers.{written_number}
 use Rattle.call_reader.specs.Pieces.{numbers_of, or_zero}
-use Rattle.call_reader.specs.Tokens.{tokens_by}
+use Rattle.line_reader.specs.Tokens.{tokens_by}
 use Rattle.call_reader.proofs.PieceWalk.{answer_of, answered, wrong_within}
 use Rattle.fresh.specs.Found.{first_without}
 

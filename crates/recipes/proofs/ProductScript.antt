@@ -19,7 +19,7 @@ use Rattle.cvl_base.specs.Integers.{sum_of}
 use Rattle.cvl_base.specs.Permutes.{back_of}
 use Rattle.cvl_base.specs.SegmentedCalls.{seg_reduce_of}
 use Rattle.cvl_base.specs.Spellings.{op_of, int_binaries, unaries, comparisons, bool_binaries, int_monoids, forms, elements}
-use Rattle.call_reader.specs.Lines.{call_of}
+use Rattle.line_reader.specs.Lines.{call_of}
 use Rattle.vector_handles.specs.declared.input.Input.{Input}
 use Rattle.vector_handles.specs.declared.input.Input.TheVariants as input
 use Rattle.vector_handles.specs.Names.{Entries, bind, value_at}

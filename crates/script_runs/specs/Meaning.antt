@@ -10,7 +10,7 @@ use Rattle.cvl_base.specs.declared.fault.FaultNo.TheVariants.{ScriptTooLong}
 use Rattle.cvl_base.specs.Faults.{fault}
 use Rattle.cvl_base.specs.Gives.{◌>>=◌}
 use Rattle.cvl_base.specs.Limits.{most_script_bytes}
-use Rattle.call_reader.specs.Lines.{call_of}
+use Rattle.line_reader.specs.Lines.{call_of}
 use Rattle.vector_handles.specs.declared.input.Input.{Input}
 use Rattle.vector_handles.specs.Names.{Entries}
 use Rattle.vector_handles.specs.Steps.{Stepped, step}

@@ -12,7 +12,7 @@ use crate::lines::next_line;
 use crate::puts::put_all;
 use crate::sink::Sink;
 use crate::stop::Stop;
-use call_reader::read_line;
+use line_reader::read_line;
 use crew::{Gate, OpenGate};
 use cvl_base::limits::MOST_SCRIPT_BYTES;
 use cvl_base::{Config, Fault, FaultNo, Memory, Refused};

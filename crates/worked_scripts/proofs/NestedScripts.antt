@@ -17,8 +17,8 @@ use Rattle.cvl_base.proofs.Descriptors.{abs_pos, position-lengths}
 use Rattle.cvl_base.proofs.Nests.{nest-fits}
 use Rattle.call_reader.specs.NestedTexts.{are_too_many, before, flat_nest, lists_from, mark_of, nested_class, nested_of, read_again}
 use Rattle.call_reader.specs.Texts.{nest_text}
-use Rattle.call_reader.specs.Tokens.{tokens_by}
-use Rattle.call_reader.proofs.TokenWalk.{cut_at_blank}
+use Rattle.line_reader.specs.Tokens.{tokens_by}
+use Rattle.line_reader.proofs.TokenWalk.{cut_at_blank}
 use Rattle.vector_handles.specs.Names.{Entries, bind, bind_both}
 use Rattle.vector_handles.specs.declared.input.Input.{Input}
 use Rattle.vector_handles.specs.declared.input.Input.TheVariants.{Bytes, Vector}

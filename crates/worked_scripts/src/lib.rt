@@ -8,6 +8,7 @@
 
 pub mod elements;
 pub mod fault_order;
+pub mod lines;
 pub mod nested_scripts;
 pub mod packs;
 pub mod permute_calls;

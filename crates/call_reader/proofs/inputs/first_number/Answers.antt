@@ -1,6 +1,6 @@
 use Rattle.std.proofs.Common.{◌≡◌, drop, false, sym, ap, ◌∙◌}
-use Rattle.call_reader.specs.Tokens.{begins_with_part}
-use Rattle.call_reader.specs.Numbers.{written_number}
+use Rattle.line_reader.specs.Tokens.{begins_with_part}
+use Rattle.line_reader.specs.Numbers.{written_number}
 use Rattle.call_reader.specs.Inputs.{input_class}
 use Rattle.call_reader.proofs.InputWalk.{number_first}
 use Rattle.call_reader.proofs.inputs.first_number.Goals as goal

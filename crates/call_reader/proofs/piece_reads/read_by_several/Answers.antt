@@ -2,9 +2,9 @@ use Rattle.std.proofs.Common.{◌≤◌, map, ap, sym, ◌∙◌, arith, Ok, Err
 use Rattle.std.proofs.lemmas.List.{length-map}
 use Rattle.std.proofs.Math.Facts.{Fits-below}
 use Rattle.cvl_base.specs.Limits.{most_elements}
-use Rattle.call_reader.specs.Tokens.{tokens_by}
+use Rattle.line_reader.specs.Tokens.{tokens_by}
 use Rattle.call_reader.specs.Inputs.{input_class}
-use Rattle.call_reader.specs.Numbers.{written_number}
+use Rattle.line_reader.specs.Numbers.{written_number}
 use Rattle.call_reader.specs.Pieces.{numbers_of, or_zero}
 use Rattle.call_reader.proofs.InputWalk.{count_of, numbers_from}
 use Rattle.call_reader.proofs.PieceWalk.{answer_of, answered, as_many, few_enough, found_is, items_are, too_many, wrong_within}

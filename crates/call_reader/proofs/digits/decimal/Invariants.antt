@@ -1,6 +1,0 @@
-use Rattle.std.proofs.Common.{◌≡◌, take}
-use Rattle.std.specs.Int.Digits.{number_from_digits}
-use Rattle.call_reader.proofs.digits.decimal.Given as goal
-
-abbrev pub invariant-loop-digit : goal.invariant-loop-digit
-invariant-loop-digit l = l.value ≡ number_from_digits 10 (take l.digit-index l.fn.digits)

@@ -1,0 +1,5 @@
+pub mod Arguments
+pub mod Comments
+pub mod DigitLanes
+pub mod NumberWalk
+pub mod TokenWalk

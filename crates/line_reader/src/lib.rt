@@ -1,0 +1,11 @@
+//! The lines of a script, and what lines and inputs are made of: tokens, and the numbers that tokens write.
+#![tactic(auto)]
+
+mod args;
+mod digits;
+mod line_tokens;
+mod lines;
+pub mod number;
+pub mod token;
+
+pub use lines::read_line;
