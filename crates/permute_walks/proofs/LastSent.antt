@@ -1,19 +1,20 @@
 -- The last senders of a range of the result, of which each thread finds those of its own range; and that all of them are what
 -- one walk of stores leaves.
 use Rattle.std.proofs.Common.{◌≡◌, ◌∙◌, ℕ, zero, suc, ◌+◌, ◌<◌, ◌≤◌, Bool, true, false, ◌&&◌, if◌then◌else◌, List, [], ◌∷◌, ◌++◌, length, take, get_or, set, refl, sym, ap, subst}
-use Rattle.std.proofs.Common.{arith, inl, inr, leb, ltb, w32, to_z, of_z, FitsSigned, ℤ, pos, negsuc, unsigned_abs, is_some, Option, Some, None}
+use Rattle.std.proofs.Common.{arith, inl, inr, leb, ltb, w32, to_z, of_z, FitsSigned, ℤ, pos, negsuc, unsigned_abs, unwrap_or, is_some, Option, Some, None}
 use Rattle.std.specs.Ordering.{int_eq}
 use Rattle.std.specs.Cmp.Derive.{both_true}
-use Rattle.std.proofs.lemmas.Bool.{and_parts, le-leb, leb-true, lt-ltb, ltb-true, false_from_ne_true, false≢true}
+use Rattle.std.proofs.lemmas.Bool.{and_parts, and_right, le-leb, leb-true, lt-ltb, ltb-true, false_from_ne_true, false≢true}
 use Rattle.std.proofs.lemmas.Bool.Decides.{eqb_tells, Decides-int_eq}
 use Rattle.std.proofs.lemmas.List.{ext_get_or, get_or-set_same, get_or-set_other, length-set, length-take, take_more, take_all}
 use Rattle.std.proofs.lemmas.List.FromFn.{length-map-range_with_len, get_or-map-range_with_len}
 use Rattle.std.proofs.lemmas.List.Sums.{count_by_more_no, count_by_more_yes}
-use Rattle.std.proofs.lemmas.Int.{to_z-of_z}
+use Rattle.std.proofs.lemmas.Int.{ints, to_z-of_z}
+use Rattle.std.proofs.lemmas.Option.{none-some}
 use Rattle.cvl_base.specs.Limits.{most_elements}
 use Rattle.cvl_base.specs.declared.fault.Fault.{Fault}
 use Rattle.cvl_base.specs.Permutes.{first_fault, is_destination, destination_if, wrongs}
-use Rattle.permute_walks.specs.Senders.{IsStored, count_sent, count_destinations, last_sender_from, last_senders, nobody, senders_of}
+use Rattle.permute_walks.specs.Senders.{IsStored, count_sent, count_destinations, is_between, last_sender_from, last_senders, nobody, senders_of}
 use Rattle.permute_walks.proofs.Sent.{nobody_sent}
 use Rattle.permute_walks.proofs.Stored.{IsStoredTo, index_is, stored_none, stored_more, stored_outside, stored_skip, stored_all}
 
@@ -135,31 +136,41 @@ module _ (place : ℕ) (ts : List (Option ℤ)) (m : ℕ) (small : place + lengt
       subst (λ us. IsStored place ts (count_destinations us) m (last_senders place us 0 m)) (take_all (length ts) ts (omega arith))
       (stored_all place ts m (length ts) (count_destinations (take (length ts) ts)) (last_senders place (take (length ts) ts) 0 m) (reached (length ts) (omega arith)) (omega arith))
 
--- ---- whether an index lies in the range, as the code asks it
+-- ---- whether a destination lies in the range
 
-abbrev pub is_in_range : Bool → ℕ → ℕ → ℕ → Bool
-is_in_range takes_part lowest n named = (takes_part && leb lowest named) && ltb named (lowest + n)
+-- as the code asks it
+pub between_asked : (i : ℤ) (takes_part : Bool) (lowest end named : ℕ) → FitsSigned w32 i → named ≡ of_z w32 (to_z w32 (of_z w32 i)) → end ≤ most_elements
+    → is_between lowest end (destination_if i takes_part) ≡ ((takes_part && leb lowest named) && ltb named end)
+between_asked i false lowest end named fits cast within = refl
+between_asked (pos a) true lowest end named fits cast within = ap (λ d. leb lowest d && ltb d end) (sym (cast ∙ ap (of_z w32) (to_z-of_z w32 (pos a) fits)))
+between_asked (negsuc a) true lowest end named fits cast within =
+    sym (and_right (leb lowest named) (ltb named end) (false_from_ne_true (ltb named end) (λ yes.
+    let is = index_is (negsuc a) named fits cast (omega (arith, ltb-true named end yes)) in negative is)))
+  where
+    negative : negsuc a ≡ pos named → ⊥
+    negative is = omega (arith, ints, is)
 
-module _ (i : ℤ) (takes_part : Bool) (lowest n named : ℕ) (fits : FitsSigned w32 i) (cast : named ≡ of_z w32 (to_z w32 (of_z w32 i))) (within : lowest + n ≤ most_elements) where
-  pub index_in : is_in_range takes_part lowest n named ≡ true → (destination_if i takes_part ≡ Some (pos named)) × ((lowest ≤ named) × (named < lowest + n))
-  index_in inside =
-      let ends = and_parts (takes_part && leb lowest named) (ltb named (lowest + n)) inside in
-      let starts = and_parts takes_part (leb lowest named) ends.0 in
-      let below : named < lowest + n = ltb-true named (lowest + n) ends.1 in
-      (ap (destination_if i) starts.0 ∙ ap (λ j. Some j) (index_is i named fits cast (omega arith)), (leb-true lowest named starts.1, below))
+pub between_in : (lowest end : ℕ) (t : Option ℤ) → is_between lowest end t ≡ true → (d : ℕ) × (t ≡ Some (pos d)) × (lowest ≤ d) × (d < end)
+between_in lowest end None is = absurd (false≢true is)
+between_in lowest end (Some (pos d)) is =
+    let both = and_parts (leb lowest d) (ltb d end) is in
+    (d, refl, leb-true lowest d both.0, ltb-true d end both.1)
+between_in lowest end (Some (negsuc d)) is = absurd (false≢true is)
 
-  pub index_out : is_in_range takes_part lowest n named ≡ false → (d : ℕ) → lowest ≤ d → d < lowest + n → is_destination (pos d) (destination_if i takes_part) ≡ false
-  index_out outside d from below = other takes_part outside i cast fits
-    where
-      other : (b : Bool) → is_in_range b lowest n named ≡ false → (j : ℤ) → named ≡ of_z w32 (to_z w32 (of_z w32 j)) → FitsSigned w32 j → is_destination (pos d) (destination_if j b) ≡ false
-      other false out j cast fits = refl
-      other true out (negsuc a) cast fits = refl
-      other true out (pos a) cast fits = false_from_ne_true (int_eq (pos a) (pos d)) (λ yes.
-          let same_int : pos a ≡ pos d = (Decides-int_eq (pos a) (pos d)).0 yes in
-          let same : a ≡ d = ap unsigned_abs same_int in
-          let is : named ≡ a = cast ∙ ap (of_z w32) (to_z-of_z w32 (pos a) fits) in
-          let inside : is_in_range true lowest n named ≡ true = both_true (le-leb lowest named (omega arith)) (lt-ltb named (lowest + n) (omega arith)) in
-          false≢true (sym out ∙ inside))
+-- where an index that is a place is read without its sign
+pub named_is : (i : ℤ) (takes_part : Bool) (d named : ℕ) → destination_if i takes_part ≡ Some (pos d) → FitsSigned w32 i → named ≡ of_z w32 (to_z w32 (of_z w32 i)) → named ≡ d
+named_is i false d named is fits cast = absurd (none-some (pos d) is)
+named_is i true d named is fits cast =
+    let same : i ≡ pos d = ap (λ o. unwrap_or o i) is in
+    cast ∙ ap (λ j. of_z w32 (to_z w32 (of_z w32 j))) same ∙ ap (of_z w32) (to_z-of_z w32 (pos d) (subst (FitsSigned w32) same fits))
+
+pub between_out : (lowest end : ℕ) (t : Option ℤ) → is_between lowest end t ≡ false → (d : ℕ) → lowest ≤ d → d < end → is_destination (pos d) t ≡ false
+between_out lowest end None out d from below = refl
+between_out lowest end (Some (negsuc a)) out d from below = refl
+between_out lowest end (Some (pos a)) out d from below = false_from_ne_true (int_eq (pos a) (pos d)) (λ yes.
+    let same_int : pos a ≡ pos d = (Decides-int_eq (pos a) (pos d)).0 yes in
+    let same : a ≡ d = ap unsigned_abs same_int in
+    false≢true (sym out ∙ both_true (le-leb lowest a (omega arith)) (lt-ltb a end (omega arith))))
 
 -- ---- what the number of senders tells
 

@@ -1,5 +1,6 @@
 pub mod EachSent
 pub mod LastSent
+pub mod Listed
 pub mod Outside
 pub mod Scattered
 pub mod Sent

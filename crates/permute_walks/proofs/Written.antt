@@ -1,71 +1,64 @@
 -- The walk that writes and marks one range of a permute's result: what it leaves, and that two ranges side by side are one.
-use Rattle.std.proofs.Common.{◌≡◌, ◌∙◌, ℕ, ◌+◌, ◌-◌, ◌<◌, ◌≤◌, Bool, true, false, not, List, [], ◌∷◌, ◌++◌, ◌==◌, length, take, drop, get_or, set, replicate, refl, sym, ap, arith}
+use Rattle.std.proofs.Common.{◌≡◌, ◌∙◌, ℕ, ◌+◌, ◌-◌, ◌<◌, ◌≤◌, Bool, true, false, not, List, [], ◌∷◌, ◌++◌, ◌==◌, length, take, drop, get_or, set, replicate, refl, sym, ap, arith, subst}
 use Rattle.std.proofs.Common.{ℤ, pos, slice_get, unwrap_or, Option, Some, None}
-use Rattle.std.proofs.lemmas.List.{drop-replicate, get_or-replicate, get_or-set_same, length-map, set-get_or, take-replicate}
+use Rattle.std.proofs.lemmas.List.{drop_all, drop_more, drop-replicate, take-replicate}
 use Rattle.std.proofs.lemmas.List.Sums.{count_by-le-length, sum_by-append}
 use Rattle.cvl_base.specs.Limits.{most_elements}
-use Rattle.cvl_base.specs.Permutes.{is_destination}
-use Rattle.permute_walks.specs.Senders.{count_sent, last_senders, nobody, sent_marks, written_over}
-use Rattle.permute_walks.proofs.LastSent.{lasts_both, lasts_other, lasts_set, length-last_senders}
+use Rattle.permute_walks.specs.Senders.{IsWrittenTo, count_sent, is_between, last_senders, nobody, sent_marks, written_over}
+use Rattle.permute_walks.proofs.LastSent.{between_out, lasts_both, lasts_other, lasts_set, length-last_senders}
+use Rattle.permute_walks.proofs.Listed.{IsNext, IsRest, at_end, at_next}
 use Rattle.permute_walks.proofs.Scattered.{marked_set, none_marked, written_none, written_set}
 use Rattle.permute_walks.proofs.Sent.{nobody_sent}
 use Rattle.permute_walks.proofs.Stored.{is_sent}
-use Rattle.permute_walks.proofs.Taken.{length-over}
 
--- what the walk leaves after the first k places, where it wrote an element and a mark last at place j of the range
-pub record IsWrittenIn {X : Type 0} (source : List X) (ts : List (Option ℤ)) (lowest : ℕ) (old : List X) (k j : ℕ) (element : X) (marked : Bool) (out : List X) (marks : List Bool) : Type 0 where
-  pub written : out ≡ written_over source (last_senders 0 (take k ts) lowest (length old)) old
-  pub sent : marks ≡ sent_marks (last_senders 0 (take k ts) lowest (length old))
-  pub inside : j < length old
-  pub element_stands : get_or out j element ≡ element
-  pub mark_stands : get_or marks j false ≡ marked
-
-module _ {X : Type 0} (source : List X) (ts : List (Option ℤ)) (long : length source ≡ length ts) (few : length ts ≤ most_elements) (lowest : ℕ) (old : List X) where
-  abbrev pub lasts : ℕ → List ℕ
-  lasts k = last_senders 0 (take k ts) lowest (length old)
-
-  pub range_none : (element : X) (marks : List Bool) → element ≡ get_or old 0 element → marks ≡ replicate (length old) false → 0 < length old
-      → IsWrittenIn source ts lowest old 0 0 element false old marks
-  range_none element marks is unmarked some = record {
-    written = sym (ap (λ ss. written_over source ss old) (nobody_sent lowest (length old)) ∙ written_none source old (omega (arith, long, few)));
-    sent = unmarked ∙ sym (ap sent_marks (nobody_sent lowest (length old)) ∙ none_marked (length old));
-    inside = some;
-    element_stands = sym is;
-    mark_stands = ap (λ (bs : List Bool). get_or bs 0 false) unmarked ∙ get_or-replicate (length old) 0 false false some;
+module _ {X : Type 0} (source : List X) (ts : List (Option ℤ)) (lowest : ℕ) where
+  pub range_none : length source ≤ nobody → (old : List X) (marks : List Bool) → marks ≡ replicate (length old) false → IsWrittenTo source ts lowest old 0 old marks
+  range_none few old marks unmarked = record {
+    written = sym (ap (λ ss. written_over source ss old) (nobody_sent lowest (length old)) ∙ written_none source old few);
+    marked = unmarked ∙ sym (ap sent_marks (nobody_sent lowest (length old)) ∙ none_marked (length old));
   }
 
-  module _ (k j : ℕ) (element : X) (marked : Bool) (out : List X) (marks : List Bool) (to : IsWrittenIn source ts lowest old k j element marked out marks) (lt : k < length ts) where
-    out_long : length out ≡ length old
-    out_long = ap length to.written ∙ length-over source (lasts k) old (length-last_senders 0 (take k ts) lowest (length old))
+  -- what the places from `first` on make of a room of n places and its marks
+  module _ (n first : ℕ) (room₀ : List X) (marks₀ : List Bool) where
+    abbrev pub Leaves : ℕ → List X → List Bool → Type 0
+    Leaves k room marks = (old : List X) → length old ≡ n → IsWrittenTo source ts lowest old first room₀ marks₀ → IsWrittenTo source ts lowest old k room marks
 
-    marks_long : length marks ≡ length old
-    marks_long = ap length to.sent ∙ length-map (lasts k) _ ∙ length-last_senders 0 (take k ts) lowest (length old)
+    module _ (k : ℕ) (room : List X) (marks : List Bool) (lt : k < length ts) (leaves : Leaves k room marks) where
+      pub leaves_more : length ts ≤ most_elements → (d : ℕ) (x : X) → get_or ts k None ≡ Some (pos (lowest + d)) → d < n → slice_get source k ≡ Some x
+          → Leaves (k + 1) (set room d x) (set marks d true)
+      leaves_more few d x is inside reads old same given =
+          let to = leaves old same given in
+          let lasts = last_senders 0 (take k ts) lowest (length old) in
+          let sets : last_senders 0 (take (k + 1) ts) lowest (length old) ≡ set lasts d k =
+          lasts_set 0 ts lowest (length old) k lt d (lowest + d) (omega (arith, same, inside)) refl is ∙ ap (set lasts d) (omega arith) in
+          record {
+            written = ap (λ xs. set xs d x) to.written ∙ sym (written_set source lasts old d k x reads) ∙ ap (λ ss. written_over source ss old) (sym sets);
+            marked = ap (λ bs. set bs d true) to.marked ∙ sym (marked_set lasts d k (λ all. omega (arith, all, few))) ∙ ap sent_marks (sym sets);
+          }
 
-    pub range_more : (d : ℕ) (x : X) → get_or ts k None ≡ Some (pos d) → lowest ≤ d → d < lowest + length old → slice_get source k ≡ Some x
-        → IsWrittenIn source ts lowest old (k + 1) (d - lowest) x true (set out (d - lowest) x) (set marks (d - lowest) true)
-    range_more d x is from below reads =
-        let sets : lasts (k + 1) ≡ set (lasts k) (d - lowest) k = lasts_set 0 ts lowest (length old) k lt (d - lowest) d (omega arith) (omega arith) is ∙ ap (set (lasts k) (d - lowest)) (omega arith) in
-        record {
-          written = ap (λ xs. set xs (d - lowest) x) to.written ∙ sym (written_set source (lasts k) old (d - lowest) k x reads) ∙ ap (λ ss. written_over source ss old) (sym sets);
-          sent = ap (λ bs. set bs (d - lowest) true) to.sent ∙ sym (marked_set (lasts k) (d - lowest) k (λ same. omega (arith, same, few))) ∙ ap sent_marks (sym sets);
-          inside = omega arith;
-          element_stands = get_or-set_same out (d - lowest) x x (omega (arith, out_long));
-          mark_stands = get_or-set_same marks (d - lowest) true false (omega (arith, marks_long));
-        }
+      pub leaves_other : is_between lowest (lowest + n) (get_or ts k None) ≡ false → Leaves (k + 1) room marks
+      leaves_other out_of old same given =
+          let to = leaves old same given in
+          let as_before = sym (lasts_other 0 ts lowest (length old) k lt (λ d from below. between_out lowest (lowest + n) (get_or ts k None) out_of d from (omega (arith, same, below)))) in
+          record {
+            written = to.written ∙ ap (λ ss. written_over source ss old) as_before;
+            marked = to.marked ∙ ap sent_marks as_before;
+          }
 
-    pub range_other : ((d : ℕ) → lowest ≤ d → d < lowest + length old → is_destination (pos d) (get_or ts k None) ≡ false)
-        → IsWrittenIn source ts lowest old (k + 1) j element marked (set out j element) (set marks j marked)
-    range_other other =
-        let same : set out j element ≡ out = ap (set out j) (sym to.element_stands) ∙ set-get_or out j element in
-        let same_marks : set marks j marked ≡ marks = ap (set marks j) (sym to.mark_stands) ∙ set-get_or marks j false in
-        let lasts_are : lasts k ≡ lasts (k + 1) = sym (lasts_other 0 ts lowest (length old) k lt other) in
-        record {
-          written = same ∙ to.written ∙ ap (λ ss. written_over source ss old) lasts_are;
-          sent = same_marks ∙ to.sent ∙ ap sent_marks lasts_are;
-          inside = to.inside;
-          element_stands = ap (λ xs. get_or xs j element) same ∙ to.element_stands;
-          mark_stands = ap (λ bs. get_or bs j false) same_marks ∙ to.mark_stands;
-        }
+    abbrev pub is_own : ℕ → Bool
+    is_own k = is_between lowest (lowest + n) (get_or ts k None)
+
+    -- a walk over a list of places that are sent to the range, up to place q of the list
+    module _ (end : ℕ) (within : end ≤ length ts) (room : List X) (marks : List Bool) (own : List ℕ) (q : ℕ) (left : IsRest is_own (λ k. Leaves k room marks) (drop q own) end) where
+      pub leaves_next : q < length own → IsNext is_own (λ k. Leaves k room marks) end (get_or own q 0) (drop (q + 1) own)
+      leaves_next lt =
+          at_next is_own (λ k. Leaves k room marks) end (λ k lt out leaves. leaves_other k room marks (omega arith) leaves out) (get_or own q 0) (drop (q + 1) own)
+          (subst (λ ns. IsRest is_own (λ k. Leaves k room marks) ns end) (drop_more own q 0 lt) left)
+
+      pub leaves_end : length own ≤ q → Leaves end room marks
+      leaves_end ge =
+          at_end is_own (λ k. Leaves k room marks) end (λ k lt out leaves. leaves_other k room marks (omega arith) leaves out)
+          (subst (λ ns. IsRest is_own (λ k. Leaves k room marks) ns end) (drop_all q own ge) left)
 
 -- ---- two ranges side by side are one
 

@@ -1,8 +1,8 @@
 -- Senders: for each place of a permute's result, the place whose element goes there.
 -- Source: CVL's permute, d[i[k]] = s[k], in which k is the sender of its index.
-use Rattle.std.specs.Prelude.{◌≡◌, ℕ, ◌+◌, ◌≤◌, ◌==◌, ℤ, pos, Bool, not, if◌then◌else◌, unsigned_abs, List, [], ◌∷◌, count_by, length, map}
+use Rattle.std.specs.Prelude.{◌≡◌, ℕ, ◌+◌, ◌≤◌, ◌==◌, ℤ, pos, negsuc, Bool, false, not, ◌&&◌, nat_le, nat_lt, get_or, take, if◌then◌else◌, unsigned_abs, List, [], ◌∷◌, count_by, length, map}
 use Rattle.std.specs.Prelude.{is_some, slice_get, slice_index, Option, Some, None, unwrap_or, Result, Ok, Err}
-use Rattle.std.specs.List.{range_with_len, zip}
+use Rattle.std.specs.List.{filter, range_with_len, zip}
 use Rattle.cvl_base.specs.declared.fault.Fault.{Fault}
 use Rattle.cvl_base.specs.declared.fault.FaultNo.{FaultNo}
 use Rattle.cvl_base.specs.declared.fault.FaultNo.TheVariants.{IndexOutOfRange, IndexRepeated}
@@ -68,3 +68,19 @@ written_over source senders values = map (λ p. unwrap_or (slice_get source p.0)
 -- the element of each sender, or another one for nobody, who has none
 abbrev pub elements_or : {X : Type 0} → List X → X → List ℕ → List X
 elements_or source other senders = map (λ s. unwrap_or (slice_get source s) other) senders
+
+-- whether a destination is one of the places from `lowest` on and before `end`
+abbrev pub is_between : ℕ → ℕ → Option ℤ → Bool
+is_between lowest end None = false
+is_between lowest end (Some (pos d)) = nat_le lowest d && nat_lt d end
+is_between lowest end (Some (negsuc d)) = false
+
+-- which of so many places from `first` on are sent there
+abbrev pub places_between : List (Option ℤ) → ℕ → ℕ → ℕ → ℕ → List ℕ
+places_between destinations lowest end first many = filter (λ k. is_between lowest end (get_or destinations k None)) (range_with_len first many)
+
+-- What the first k places leave in the range of the result from `lowest` on, over what stood there: the element of the last sender of each
+-- place, and a mark at each that has one.
+pub record IsWrittenTo {X : Type 0} (source : List X) (destinations : List (Option ℤ)) (lowest : ℕ) (before : List X) (k : ℕ) (room : List X) (marks : List Bool) : Type 0 where
+  pub written : room ≡ written_over source (last_senders 0 (take k destinations) lowest (length before)) before
+  pub marked : marks ≡ sent_marks (last_senders 0 (take k destinations) lowest (length before))

@@ -8,6 +8,7 @@ pub mod elements;
 mod index_counts;
 mod owners;
 pub mod places;
+mod ranges;
 mod scatters;
 pub mod sends;
 mod stores;
@@ -19,7 +20,8 @@ pub use destinations::{AllDestinations, Destinations, FlaggedDestinations};
 pub use elements::{
     elements_of, elements_of_over, elements_or_defaults, elements_or_defaults_over,
 };
-pub use owners::{permuted_shared, write_range};
+pub use owners::permuted_shared;
 pub use places::element_of;
+pub use ranges::write_range;
 pub use scatters::{is_permutation, is_permutation_by, scatter_over};
 pub use sends::{NOBODY, send_places};

@@ -6,9 +6,10 @@ ghost use Rattle.std.specs.Prelude.{◌≡◌, ◌+◌, ◌≤◌, List, false, 
 ghost use Rattle.std.specs.Thread.{IsSend, IsSync};
 ghost use Rattle.cvl_base.specs.Limits.{most_elements};
 ghost use Rattle.cvl_base.specs.Permutes.{first_fault, wrongs};
-ghost use Rattle.permute_walks.specs.Senders.{count_sent, count_destinations, last_senders, senders_of, sent_marks, written_over};
+ghost use Rattle.permute_walks.specs.Senders.{count_sent, count_destinations, last_senders, senders_of, written_over};
 
 use crate::destinations::Destinations;
+use crate::ranges::write_range;
 use cvl_base::{Memory, NoResources, true_count};
 use fresh::{Copies, Writer, write_in_runs};
 use sharing::ThreadCount;
@@ -27,47 +28,6 @@ fn count_destinations<D: Destinations>(destinations: &D) -> usize
         }
     }
     count
-}
-
-/// Writes the element of each place that takes part at its index, and marks it there, where that is a place of one range of the
-/// result. The range begins at place `lowest`, and no place of it is marked to begin with. Of several elements that are sent to one
-/// place the last stays.
-// Without its sign an index below 0 is beyond the longest vector. A place that is sent elsewhere writes the element and the mark
-// before it once more, so that the machine code has no branch on where it is sent.
-#[inline(never)]
-pub fn write_range<T: Copy, D: Destinations>(
-    source: &[T],
-    destinations: &D,
-    lowest: usize,
-    out: &mut [T],
-    marks: &mut [bool],
-)
-    requires sourced { length source.now ≡ length (D.destinations destinations.now) }
-    requires unmarked { marks.old ≡ replicate (length out.old) false }
-    requires within { lowest + length out.old ≤ most_elements }
-    requires in_limit { length (D.destinations destinations.now) ≤ most_elements }
-    ensures written { out.new ≡ written_over source.now (last_senders 0 (D.destinations destinations.now) lowest (length out.old)) out.old }
-    ensures marked { marks.new ≡ sent_marks (last_senders 0 (D.destinations destinations.now) lowest (length out.old)) }
-{
-    if out.is_empty() {
-        return;
-    }
-    let end = lowest + out.len();
-    let mut destination = 0;
-    let mut element = out[0];
-    let mut marked = false;
-    for k in 0..destinations.count() {
-        let (index, takes_part) = destinations.at(k);
-        let named = index.cast_unsigned() as usize;
-        let sent = source[k];
-        if takes_part & (named >= lowest) & (named < end) {
-            destination = named - lowest;
-            element = sent;
-            marked = true;
-        }
-        out[destination] = element;
-        marks[destination] = marked;
-    }
 }
 
 /// The elements of the places.

@@ -1,0 +1,133 @@
+//! The walk of a permute by the owner of one range of the result: it reads all indices, and writes and marks the places of the range
+//! to which one sends. It lists the places of a block of indices that are sent there, and then writes their elements. Each of the two
+//! loops has no branch on where a place is sent, which a processor guesses wrongly where the indices are in no order.
+
+ghost use Rattle.std.specs.Prelude.{◌≡◌, ◌+◌, ◌<◌, ◌≤◌, pos, List, false, true, length, replicate, slice_get, slice_index_or, take, Some, None};
+ghost use Rattle.cvl_base.specs.Limits.{most_elements};
+ghost use Rattle.permute_walks.specs.Senders.{IsWrittenTo, is_between, last_senders, places_between, sent_marks, written_over};
+
+use crate::destinations::Destinations;
+
+/// So many places are listed at a time; their list stays in the nearest memory of a processor.
+const BLOCK: usize = 1024;
+
+/// Lists the places of a block that are sent to a place of the result from `lowest` on and before `end`, and tells how many they are.
+/// The block begins at place `first`, and has as many places as the list has room for.
+// Without its sign an index below 0 is beyond the longest vector. Each place is written behind the list, and stays where it counts.
+#[inline(never)]
+fn list_block<D: Destinations>(
+    destinations: &D,
+    first: usize,
+    lowest: usize,
+    end: usize,
+    list: &mut [u32],
+) -> usize
+    requires block { first + length list.old ≤ length (D.destinations destinations.now) }
+    requires within { end ≤ most_elements }
+    requires in_limit { length (D.destinations destinations.now) ≤ most_elements }
+    ensures listed { take result list.new ≡ places_between (D.destinations destinations.now) lowest end first (length list.old) }
+    ensures in_length { result ≤ length list.new }
+{
+    let mut count = 0;
+    for k in 0..list.len() {
+        let (index, takes_part) = destinations.at(first + k);
+        let named = index.cast_unsigned() as usize;
+        list[count] = (first + k) as u32;
+        if takes_part & (named >= lowest) & (named < end) {
+            count += 1;
+        }
+    }
+    count
+}
+
+/// The place of a range to which place `k` is sent, where that is a place of it, counted from its first, and the element.
+#[inline]
+fn sent_from<T: Copy, D: Destinations>(
+    source: &[T],
+    destinations: &D,
+    k: usize,
+    lowest: usize,
+    places: usize,
+) -> (usize, T)
+    requires sourced { length source.now ≡ length (D.destinations destinations.now) }
+    requires inside { k < length (D.destinations destinations.now) }
+    requires within { lowest + places ≤ most_elements }
+    requires sent { is_between lowest (lowest + places) (slice_index_or (D.destinations destinations.now) k None) ≡ true }
+    ensures place { slice_index_or (D.destinations destinations.now) k None ≡ Some (pos (lowest + result.0)) }
+    ensures inside { result.0 < places }
+    ensures element { slice_get source.now k ≡ Some result.1 }
+{
+    let (index, _) = destinations.at(k);
+    (index.cast_unsigned() as usize - lowest, source[k])
+}
+
+/// `write_range` for the places of one block, which begins at place `first` and has as many places as the list has room for.
+#[inline(never)]
+fn write_block<T: Copy, D: Destinations>(
+    source: &[T],
+    destinations: &D,
+    first: usize,
+    list: &mut [u32],
+    lowest: usize,
+    out: &mut [T],
+    marks: &mut [bool],
+)
+    requires sourced { length source.now ≡ length (D.destinations destinations.now) }
+    requires block { first + length list.old ≤ length (D.destinations destinations.now) }
+    requires as_long { length marks.old ≡ length out.old }
+    requires within { lowest + length out.old ≤ most_elements }
+    requires in_limit { length (D.destinations destinations.now) ≤ most_elements }
+    ensures written { (old : List T) → length old ≡ length out.old
+        → IsWrittenTo source.now (D.destinations destinations.now) lowest old first out.old marks.old
+        → IsWrittenTo source.now (D.destinations destinations.now) lowest old (first + length list.old) out.new marks.new }
+{
+    let places = out.len();
+    let count = list_block(destinations, first, lowest, lowest + places, list);
+    let (own, _) = list.split_at(count);
+    for place in own {
+        let (destination, element) = sent_from(
+            source,
+            destinations,
+            *place as usize,
+            lowest,
+            places,
+        );
+        out[destination] = element;
+        marks[destination] = true;
+    }
+}
+
+/// Writes the element of each place that takes part at its index, and marks it there, where that is a place of one range of the
+/// result. The range begins at place `lowest`, and no place of it is marked to begin with. Of several elements that are sent to one
+/// place the last stays.
+pub fn write_range<T: Copy, D: Destinations>(
+    source: &[T],
+    destinations: &D,
+    lowest: usize,
+    out: &mut [T],
+    marks: &mut [bool],
+)
+    requires sourced { length source.now ≡ length (D.destinations destinations.now) }
+    requires unmarked { marks.old ≡ replicate (length out.old) false }
+    requires within { lowest + length out.old ≤ most_elements }
+    requires in_limit { length (D.destinations destinations.now) ≤ most_elements }
+    ensures written { out.new ≡ written_over source.now (last_senders 0 (D.destinations destinations.now) lowest (length out.old)) out.old }
+    ensures marked { marks.new ≡ sent_marks (last_senders 0 (D.destinations destinations.now) lowest (length out.old)) }
+{
+    let mut list = [0; BLOCK];
+    let places = destinations.count();
+    let mut first = 0;
+    while first < places {
+        let many = BLOCK.min(places - first);
+        write_block(
+            source,
+            destinations,
+            first,
+            &mut list[..many],
+            lowest,
+            out,
+            marks,
+        );
+        first += many;
+    }
+}
