@@ -1,6 +1,7 @@
 pub mod EachSent
 pub mod LastSent
 pub mod Listed
+pub mod MarkWords
 pub mod Outside
 pub mod Scattered
 pub mod Sent

@@ -1,39 +1,42 @@
 -- The walk that writes and marks one range of a permute's result: what it leaves, and that two ranges side by side are one.
-use Rattle.std.proofs.Common.{◌≡◌, ◌∙◌, ℕ, ◌+◌, ◌-◌, ◌<◌, ◌≤◌, Bool, true, false, not, List, [], ◌∷◌, ◌++◌, ◌==◌, length, take, drop, get_or, set, replicate, refl, sym, ap, arith, subst}
+use Rattle.std.proofs.Common.{◌≡◌, ◌∙◌, ℕ, ◌+◌, ◌*◌, ◌<◌, ◌≤◌, Bool, true, false, not, List, [], ◌∷◌, ◌++◌, ◌==◌, length, take, drop, get_or, set, replicate, refl, sym, ap, arith, subst}
 use Rattle.std.proofs.Common.{ℤ, pos, slice_get, unwrap_or, Option, Some, None}
-use Rattle.std.proofs.lemmas.List.{drop_all, drop_more, drop-replicate, take-replicate}
+use Rattle.std.proofs.lemmas.List.{drop_all, drop_more, drop-replicate, length-map, take-replicate}
 use Rattle.std.proofs.lemmas.List.Sums.{count_by-le-length, sum_by-append}
 use Rattle.cvl_base.specs.Limits.{most_elements}
+use Rattle.permute_walks.specs.Marks.{mark_words, words_for}
 use Rattle.permute_walks.specs.Senders.{IsWrittenTo, count_sent, is_between, last_senders, nobody, sent_marks, written_over}
 use Rattle.permute_walks.proofs.LastSent.{between_out, lasts_both, lasts_other, lasts_set, length-last_senders}
 use Rattle.permute_walks.proofs.Listed.{IsNext, IsRest, at_end, at_next}
+use Rattle.permute_walks.proofs.MarkWords.{no_marks}
 use Rattle.permute_walks.proofs.Scattered.{marked_set, none_marked, written_none, written_set}
 use Rattle.permute_walks.proofs.Sent.{nobody_sent}
 use Rattle.permute_walks.proofs.Stored.{is_sent}
 
 module _ {X : Type 0} (source : List X) (ts : List (Option ℤ)) (lowest : ℕ) where
-  pub range_none : length source ≤ nobody → (old : List X) (marks : List Bool) → marks ≡ replicate (length old) false → IsWrittenTo source ts lowest old 0 old marks
+  pub range_none : length source ≤ nobody → (old : List X) (marks : List ℕ) → marks ≡ replicate (words_for (length old)) 0 → IsWrittenTo source ts lowest old 0 old marks
   range_none few old marks unmarked = record {
     written = sym (ap (λ ss. written_over source ss old) (nobody_sent lowest (length old)) ∙ written_none source old few);
-    marked = unmarked ∙ sym (ap sent_marks (nobody_sent lowest (length old)) ∙ none_marked (length old));
+    marked = unmarked ∙ sym (ap mark_words (ap sent_marks (nobody_sent lowest (length old)) ∙ none_marked (length old)) ∙ no_marks (length old));
   }
 
   -- what the places from `first` on make of a room of n places and its marks
-  module _ (n first : ℕ) (room₀ : List X) (marks₀ : List Bool) where
-    abbrev pub Leaves : ℕ → List X → List Bool → Type 0
+  module _ (n first : ℕ) (room₀ : List X) (marks₀ : List ℕ) where
+    abbrev pub Leaves : ℕ → List X → List ℕ → Type 0
     Leaves k room marks = (old : List X) → length old ≡ n → IsWrittenTo source ts lowest old first room₀ marks₀ → IsWrittenTo source ts lowest old k room marks
 
-    module _ (k : ℕ) (room : List X) (marks : List Bool) (lt : k < length ts) (leaves : Leaves k room marks) where
+    module _ (k : ℕ) (room : List X) (marks : List ℕ) (lt : k < length ts) (leaves : Leaves k room marks) where
       pub leaves_more : length ts ≤ most_elements → (d : ℕ) (x : X) → get_or ts k None ≡ Some (pos (lowest + d)) → d < n → slice_get source k ≡ Some x
-          → Leaves (k + 1) (set room d x) (set marks d true)
-      leaves_more few d x is inside reads old same given =
+          → (marks₁ : List ℕ) → ((flags : List Bool) → d < length flags → marks ≡ mark_words flags → marks₁ ≡ mark_words (set flags d true)) → Leaves (k + 1) (set room d x) marks₁
+      leaves_more few d x is inside reads marks₁ mark old same given =
           let to = leaves old same given in
           let lasts = last_senders 0 (take k ts) lowest (length old) in
           let sets : last_senders 0 (take (k + 1) ts) lowest (length old) ≡ set lasts d k =
           lasts_set 0 ts lowest (length old) k lt d (lowest + d) (omega (arith, same, inside)) refl is ∙ ap (set lasts d) (omega arith) in
           record {
             written = ap (λ xs. set xs d x) to.written ∙ sym (written_set source lasts old d k x reads) ∙ ap (λ ss. written_over source ss old) (sym sets);
-            marked = ap (λ bs. set bs d true) to.marked ∙ sym (marked_set lasts d k (λ all. omega (arith, all, few))) ∙ ap sent_marks (sym sets);
+            marked = mark (sent_marks lasts) (omega (arith, length-map lasts (λ s. not (s == nobody)), length-last_senders 0 (take k ts) lowest (length old), same, inside)) to.marked
+                ∙ ap mark_words (sym (marked_set lasts d k (λ all. omega (arith, all, few))) ∙ ap sent_marks (sym sets));
           }
 
       pub leaves_other : is_between lowest (lowest + n) (get_or ts k None) ≡ false → Leaves (k + 1) room marks
@@ -42,14 +45,14 @@ module _ {X : Type 0} (source : List X) (ts : List (Option ℤ)) (lowest : ℕ) 
           let as_before = sym (lasts_other 0 ts lowest (length old) k lt (λ d from below. between_out lowest (lowest + n) (get_or ts k None) out_of d from (omega (arith, same, below)))) in
           record {
             written = to.written ∙ ap (λ ss. written_over source ss old) as_before;
-            marked = to.marked ∙ ap sent_marks as_before;
+            marked = to.marked ∙ ap (λ ss. mark_words (sent_marks ss)) as_before;
           }
 
     abbrev pub is_own : ℕ → Bool
     is_own k = is_between lowest (lowest + n) (get_or ts k None)
 
     -- a walk over a list of places that are sent to the range, up to place q of the list
-    module _ (end : ℕ) (within : end ≤ length ts) (room : List X) (marks : List Bool) (own : List ℕ) (q : ℕ) (left : IsRest is_own (λ k. Leaves k room marks) (drop q own) end) where
+    module _ (end : ℕ) (within : end ≤ length ts) (room : List X) (marks : List ℕ) (own : List ℕ) (q : ℕ) (left : IsRest is_own (λ k. Leaves k room marks) (drop q own) end) where
       pub leaves_next : q < length own → IsNext is_own (λ k. Leaves k room marks) end (get_or own q 0) (drop (q + 1) own)
       leaves_next lt =
           at_next is_own (λ k. Leaves k room marks) end (λ k lt out leaves. leaves_other k room marks (omega arith) leaves out) (get_or own q 0) (drop (q + 1) own)
@@ -69,11 +72,12 @@ written_both source [] others (v ∷ values) rest long = absurd (omega (arith, l
 written_both source (s ∷ senders) others [] rest long = absurd (omega (arith, long))
 written_both source (s ∷ senders) others (v ∷ values) rest long = ap (λ more. unwrap_or (slice_get source s) v ∷ more) (written_both source senders others values rest (omega (arith, long)))
 
-pub unmarked_both : (n m k : ℕ) (marks low high : List Bool) → marks ≡ replicate n false → low ≡ take m marks → high ≡ drop m marks → m ≤ n → k ≡ n - m
-    → (low ≡ replicate m false) × (high ≡ replicate k false)
-unmarked_both n m k marks low high unmarked front back within rest = (
-  front ∙ ap (take m) unmarked ∙ take-replicate m n false within,
-  back ∙ ap (drop m) unmarked ∙ drop-replicate m n false ∙ ap (λ j. replicate j false) (sym rest),
+-- where the seam lies between two words
+pub unmarked_both : (n m k w : ℕ) (marks low high : List ℕ) → marks ≡ replicate (words_for n) 0 → low ≡ take w marks → high ≡ drop w marks → w * 32 ≡ m → m + k ≡ n
+    → (low ≡ replicate (words_for m) 0) × (high ≡ replicate (words_for k) 0)
+unmarked_both n m k w marks low high unmarked front back seam all = (
+  front ∙ ap (take w) unmarked ∙ take-replicate w (words_for n) 0 (omega (arith, seam, all)) ∙ ap (λ j. replicate j 0) (omega (arith, seam)),
+  back ∙ ap (drop w) unmarked ∙ drop-replicate w (words_for n) 0 ∙ ap (λ j. replicate j 0) (omega (arith, seam, all)),
 )
 
 pub count_both : (place : ℕ) (ts : List (Option ℤ)) (lowest n m : ℕ)

@@ -1,4 +1,5 @@
 pub mod Indices
+pub mod Marks
 pub mod Senders
 pub use Rattle.cvl_base.specs.Limits
 pub use Rattle.cvl_base.specs.Permutes

@@ -6,6 +6,7 @@ use Rattle.std.specs.List.{filter, range_with_len, zip}
 use Rattle.cvl_base.specs.declared.fault.Fault.{Fault}
 use Rattle.cvl_base.specs.declared.fault.FaultNo.{FaultNo}
 use Rattle.cvl_base.specs.declared.fault.FaultNo.TheVariants.{IndexOutOfRange, IndexRepeated}
+use Rattle.permute_walks.specs.Marks.{mark_words}
 use Rattle.cvl_base.specs.Permutes.{first_fault, is_place, is_destination, wrongs}
 
 -- stands where no element goes: the greatest number of 32 bits, which is no place
@@ -81,6 +82,6 @@ places_between destinations lowest end first many = filter (λ k. is_between low
 
 -- What the first k places leave in the range of the result from `lowest` on, over what stood there: the element of the last sender of each
 -- place, and a mark at each that has one.
-pub record IsWrittenTo {X : Type 0} (source : List X) (destinations : List (Option ℤ)) (lowest : ℕ) (before : List X) (k : ℕ) (room : List X) (marks : List Bool) : Type 0 where
+pub record IsWrittenTo {X : Type 0} (source : List X) (destinations : List (Option ℤ)) (lowest : ℕ) (before : List X) (k : ℕ) (room : List X) (marks : List ℕ) : Type 0 where
   pub written : room ≡ written_over source (last_senders 0 (take k destinations) lowest (length before)) before
-  pub marked : marks ≡ sent_marks (last_senders 0 (take k destinations) lowest (length before))
+  pub marked : marks ≡ mark_words (sent_marks (last_senders 0 (take k destinations) lowest (length before)))

@@ -6,6 +6,7 @@ pub mod backs;
 pub mod destinations;
 pub mod elements;
 mod index_counts;
+pub mod marks;
 mod owners;
 pub mod places;
 mod ranges;
@@ -20,6 +21,7 @@ pub use destinations::{AllDestinations, Destinations, FlaggedDestinations};
 pub use elements::{
     elements_of, elements_of_over, elements_or_defaults, elements_or_defaults_over,
 };
+pub use marks::{count_marks, words_for};
 pub use owners::permuted_shared;
 pub use places::element_of;
 pub use ranges::write_range;

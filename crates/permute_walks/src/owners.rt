@@ -1,16 +1,18 @@
-//! A permute in one walk by several threads, each of which owns a range of the result and a mark for each place of it. Each reads
-//! all indices, writes and marks the places of its range to which an index sends, and counts its marks. So no two threads write
-//! one place, no place is waited for, and each thread's writes lie close together.
+//! A permute in one walk by several threads, each of which owns a range of the result and a mark for each place of it, a bit. Each
+//! reads all indices, writes and marks the places of its range to which an index sends, and counts its marks. So no two threads
+//! write one place, no place is waited for, and each thread's writes lie close together.
 
-ghost use Rattle.std.specs.Prelude.{◌≡◌, ◌+◌, ◌≤◌, List, false, length, replicate, IfOk, IfSome, is_none, is_some};
+ghost use Rattle.std.specs.Prelude.{◌≡◌, ◌+◌, ◌≤◌, List, length, replicate, IfOk, IfSome, is_none, is_some};
 ghost use Rattle.std.specs.Thread.{IsSend, IsSync};
 ghost use Rattle.cvl_base.specs.Limits.{most_elements};
 ghost use Rattle.cvl_base.specs.Permutes.{first_fault, wrongs};
+ghost use Rattle.permute_walks.specs.Marks.{words_for};
 ghost use Rattle.permute_walks.specs.Senders.{count_sent, count_destinations, last_senders, senders_of, written_over};
 
 use crate::destinations::Destinations;
+use crate::marks::{WORD_BITS, count_marks, words_for};
 use crate::ranges::write_range;
-use cvl_base::{Memory, NoResources, true_count};
+use cvl_base::{Memory, NoResources};
 use fresh::{Copies, Writer, write_in_runs};
 use sharing::ThreadCount;
 use std::thread::{Threads, join_mut};
@@ -53,7 +55,8 @@ impl<'a, T> Elements<T> for AllElements<'a, T> {
     }
 }
 
-/// Writes and marks the places of one range, which at most so many threads share, and tells how many are marked.
+/// Writes and marks the places of one range, which at most so many threads share, and tells how many are marked. No two threads
+/// share a word of marks.
 #[cycle(ranges)]
 fn write_ranges<T: Copy + Send, R: Threads + Sync, S: Elements<T> + Sync, D: Destinations + Sync>(
     rt: &R,
@@ -62,10 +65,10 @@ fn write_ranges<T: Copy + Send, R: Threads + Sync, S: Elements<T> + Sync, D: Des
     threads: ThreadCount,
     lowest: usize,
     out: &mut [T],
-    marks: &mut [bool],
+    marks: &mut [u32],
 ) -> usize
     requires sourced { length (S.elements source.now) ≡ length (D.destinations destinations.now) }
-    requires unmarked { marks.old ≡ replicate (length out.old) false }
+    requires unmarked { marks.old ≡ replicate (words_for (length out.old)) 0 }
     requires within { lowest + length out.old ≤ most_elements }
     requires in_limit { length (D.destinations destinations.now) ≤ most_elements }
     ensures written { out.new ≡ written_over (S.elements source.now) (last_senders 0 (D.destinations destinations.now) lowest (length out.old)) out.old }
@@ -73,12 +76,13 @@ fn write_ranges<T: Copy + Send, R: Threads + Sync, S: Elements<T> + Sync, D: Des
 {
     if threads.get() < 2 {
         write_range(source.elements(), destinations, lowest, out, marks);
-        return true_count(marks);
+        return count_marks(marks);
     }
     let (fewer, others) = threads.halves();
-    let middle = out.len() / threads.get() * fewer.get();
+    let words = out.len() / threads.get() * fewer.get() / WORD_BITS;
+    let middle = words * WORD_BITS;
     let (low, high) = out.split_at_mut(middle);
-    let (low_marks, high_marks) = marks.split_at_mut(middle);
+    let (low_marks, high_marks) = marks.split_at_mut(words);
     write_both(
         rt,
         source,
@@ -103,15 +107,15 @@ fn write_both<T: Copy + Send, R: Threads + Sync, S: Elements<T> + Sync, D: Desti
     fewer: ThreadCount,
     lowest: usize,
     low: &mut [T],
-    low_marks: &mut [bool],
+    low_marks: &mut [u32],
     others: ThreadCount,
     middle: usize,
     high: &mut [T],
-    high_marks: &mut [bool],
+    high_marks: &mut [u32],
 ) -> usize
     requires some { (1 ≤ fewer) × (1 ≤ others) }
     requires sourced { length (S.elements source.now) ≡ length (D.destinations destinations.now) }
-    requires unmarked { (low_marks.old ≡ replicate (length low.old) false) × (high_marks.old ≡ replicate (length high.old) false) }
+    requires unmarked { (low_marks.old ≡ replicate (words_for (length low.old)) 0) × (high_marks.old ≡ replicate (words_for (length high.old)) 0) }
     requires within { (lowest + length low.old ≤ most_elements) × (middle + length high.old ≤ most_elements) }
     requires in_limit { length (D.destinations destinations.now) ≤ most_elements }
     ensures low { low.new ≡ written_over (S.elements source.now) (last_senders 0 (D.destinations destinations.now) lowest (length low.old)) low.old }
@@ -121,14 +125,14 @@ fn write_both<T: Copy + Send, R: Threads + Sync, S: Elements<T> + Sync, D: Desti
 {
     let mut write_low = || -> usize
         requires { IsSync R.row × IsSend T.row × IsSync S.row × IsSync D.row × (1 ≤ fewer) × (length (S.elements source.now) ≡ length (D.destinations destinations.now))
-            × (low_marks.now ≡ replicate (length low.now) false)
+            × (low_marks.now ≡ replicate (words_for (length low.now)) 0)
             × (lowest + length low.now ≤ most_elements) × (length (D.destinations destinations.now) ≤ most_elements) }
         ensures { (low.exit.now ≡ written_over (S.elements source.entry.now) (last_senders 0 (D.destinations destinations.entry.now) lowest (length low.entry.now)) low.entry.now)
             × (result ≡ count_sent (last_senders 0 (D.destinations destinations.entry.now) lowest (length low.entry.now))) }
     { write_ranges(rt, source, destinations, fewer, lowest, low, low_marks) };
     let mut write_high = || -> usize
         requires { IsSync R.row × IsSend T.row × IsSync S.row × IsSync D.row × (1 ≤ others) × (length (S.elements source.now) ≡ length (D.destinations destinations.now))
-            × (high_marks.now ≡ replicate (length high.now) false)
+            × (high_marks.now ≡ replicate (words_for (length high.now)) 0)
             × (middle + length high.now ≤ most_elements) × (length (D.destinations destinations.now) ≤ most_elements) }
         ensures { (high.exit.now ≡ written_over (S.elements source.entry.now) (last_senders 0 (D.destinations destinations.entry.now) middle (length high.entry.now)) high.entry.now)
             × (result ≡ count_sent (last_senders 0 (D.destinations destinations.entry.now) middle (length high.entry.now))) }
@@ -164,11 +168,12 @@ where
     ensures bad { IfOk result (λ found. is_none found ≡ is_some (first_fault 0 (wrongs places (D.destinations destinations.now)))) }
 {
     let mut out = write_in_runs(rt, alloc, threads, before, places)?;
+    let words = words_for(places);
     let unmarked = Copies {
-        item: false,
-        count: places,
+        item: 0,
+        count: words,
     };
-    let mut marks = write_in_runs(rt, alloc, threads, &unmarked, places)?;
+    let mut marks = write_in_runs(rt, alloc, threads, &unmarked, words)?;
     let sent = write_ranges(
         rt,
         &AllElements { elements: source },

@@ -4,9 +4,11 @@
 
 ghost use Rattle.std.specs.Prelude.{◌≡◌, ◌+◌, ◌<◌, ◌≤◌, pos, List, false, true, length, replicate, slice_get, slice_index_or, take, Some, None};
 ghost use Rattle.cvl_base.specs.Limits.{most_elements};
+ghost use Rattle.permute_walks.specs.Marks.{mark_words, words_for};
 ghost use Rattle.permute_walks.specs.Senders.{IsWrittenTo, is_between, last_senders, places_between, sent_marks, written_over};
 
 use crate::destinations::Destinations;
+use crate::marks::mark;
 
 /// So many places are listed at a time; their list stays in the nearest memory of a processor.
 const BLOCK: usize = 1024;
@@ -70,11 +72,11 @@ fn write_block<T: Copy, D: Destinations>(
     list: &mut [u32],
     lowest: usize,
     out: &mut [T],
-    marks: &mut [bool],
+    marks: &mut [u32],
 )
     requires sourced { length source.now ≡ length (D.destinations destinations.now) }
     requires block { first + length list.old ≤ length (D.destinations destinations.now) }
-    requires as_long { length marks.old ≡ length out.old }
+    requires as_long { length marks.old ≡ words_for (length out.old) }
     requires within { lowest + length out.old ≤ most_elements }
     requires in_limit { length (D.destinations destinations.now) ≤ most_elements }
     ensures written { (old : List T) → length old ≡ length out.old
@@ -93,7 +95,7 @@ fn write_block<T: Copy, D: Destinations>(
             places,
         );
         out[destination] = element;
-        marks[destination] = true;
+        mark(marks, destination);
     }
 }
 
@@ -105,14 +107,14 @@ pub fn write_range<T: Copy, D: Destinations>(
     destinations: &D,
     lowest: usize,
     out: &mut [T],
-    marks: &mut [bool],
+    marks: &mut [u32],
 )
     requires sourced { length source.now ≡ length (D.destinations destinations.now) }
-    requires unmarked { marks.old ≡ replicate (length out.old) false }
+    requires unmarked { marks.old ≡ replicate (words_for (length out.old)) 0 }
     requires within { lowest + length out.old ≤ most_elements }
     requires in_limit { length (D.destinations destinations.now) ≤ most_elements }
     ensures written { out.new ≡ written_over source.now (last_senders 0 (D.destinations destinations.now) lowest (length out.old)) out.old }
-    ensures marked { marks.new ≡ sent_marks (last_senders 0 (D.destinations destinations.now) lowest (length out.old)) }
+    ensures marked { marks.new ≡ mark_words (sent_marks (last_senders 0 (D.destinations destinations.now) lowest (length out.old))) }
 {
     let mut list = [0; BLOCK];
     let places = destinations.count();

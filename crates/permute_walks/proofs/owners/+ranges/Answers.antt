@@ -1,6 +1,8 @@
-use Rattle.std.proofs.Common.{rules, ◌≡◌, ◌+◌, ◌++◌, ◌∙◌, ap, length, arith}
-use Rattle.permute_walks.specs.Senders.{count_sent, last_senders, written_over}
+use Rattle.std.proofs.Common.{rules, ◌≡◌, ◌+◌, ◌++◌, ◌∙◌, ap, count_ones, length, sum_by, sym, arith}
+use Rattle.permute_walks.specs.Senders.{count_sent, last_senders, sent_marks, written_over}
 use Rattle.permute_walks.proofs.LastSent.{lasts_both, length-last_senders}
+use Rattle.permute_walks.proofs.MarkWords.{marks_count}
+use Rattle.permute_walks.proofs.Scattered.{count_marked}
 use Rattle.permute_walks.proofs.Written.{count_both, count_within, unmarked_both, written_both}
 use Rattle.permute_walks.proofs.owners.+ranges.Goals as goal
 
@@ -19,8 +21,13 @@ write_ranges-write_both-requires-clause-unmarked g t c κs within =
     let m = length cut.result.0.now in
     let n = length cut.result.1.now in
     let all : m + n ≡ length c.args.out.now = search rules in
-    unmarked_both (length c.args.out.now) m n c.args.marks.now c.split_at_mut-low_marks.result.0.now c.split_at_mut-low_marks.result.1.now c.requires.unmarked
-    (search rules) (search rules) (omega (arith, all)) (omega (arith, all))
+    let marks = c.split_at_mut-low_marks in
+    unmarked_both (length c.args.out.now) m n _ c.args.marks.now marks.result.0.now marks.result.1.now c.requires.unmarked marks.ensures.front marks.ensures.back (sym cut.ensures.front_len) all
+
+pub write_ranges-returns-then-get-lt2-clause-count : goal.write_ranges-returns-then-get-lt2-clause-count
+write_ranges-returns-then-get-lt2-clause-count g t c =
+    let lasts = last_senders 0 (g.D.Destinations.destinations c.args.destinations.now) c.args.lowest (length c.args.out.now) in
+    c.count_marks.ensures ∙ ap (sum_by count_ones) c.write_range.ensures.marked ∙ marks_count (sent_marks lasts) ∙ count_marked lasts
 
 pub write_ranges-returns-clause-written : goal.write_ranges-returns-clause-written
 write_ranges-returns-clause-written g t c =

@@ -40,7 +40,7 @@ loop-place-preserved g c =
       ends = next.ends;
       listed = next.listed;
       holds = leaves_more c.args.source.now ds c.args.lowest n c.args.first c.args.out.now c.args.marks.now k l.out l.marks (omega (arith, next.ends, c.requires.block)) next.holds c.requires.in_limit
-          told.result.0 told.result.1 told.ensures.place (omega (arith, told.ensures.inside)) told.ensures.element;
+          told.result.0 told.result.1 told.ensures.place (omega (arith, told.ensures.inside)) told.ensures.element _ c.mark.ensures;
     }
 
 pub returns : goal.returns

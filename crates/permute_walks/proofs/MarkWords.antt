@@ -1,0 +1,97 @@
+-- Marks in words: one more, none, and how many are set.
+use Rattle.std.proofs.Common.{◌≡◌, ◌∙◌, ℕ, zero, suc, ◌+◌, ◌-◌, ◌*◌, ◌/◌, ◌%◌, ◌^◌, ◌<◌, ◌≤◌, Bool, true, false, cond, List, [], ◌∷◌, drop, get_or, length, replicate, set, take}
+use Rattle.std.proofs.Common.{refl, sym, ap, arith, inl, inr, bit_or, count_ones, w32}
+use Rattle.std.specs.Int.{bit_at}
+use Rattle.std.specs.List.{sum_by}
+use Rattle.std.specs.Simd.Lanes.{mask_l}
+use Rattle.std.proofs.Math.Seq.{take-set-lt}
+use Rattle.std.proofs.lemmas.Bool.{cases_eq, cases_lt}
+use Rattle.std.proofs.lemmas.List.{drop-replicate, drop-set-add, drop-set-lt, get_or-set_other, get_or-set_same, length-drop, length-replicate, length-set, length-take, map-id, take-set-le}
+use Rattle.std.proofs.lemmas.List.Sums.{sum_by-cons, sum_by-take-drop}
+use Rattle.std.proofs.lemmas.Nat.Bits.{bit_at_set_other, bit_at_set_same, same_from_bits}
+use Rattle.std.proofs.lemmas.Simd.{bit_mask_l, ones-mask_l}
+use Rattle.cvl_base.specs.Packs.{count_of}
+use Rattle.permute_walks.specs.Marks.{mark_words, words_for, words_of}
+
+-- ---- one more mark
+
+-- a word with one more bit
+abbrev pub with_bit : ℕ → ℕ → ℕ
+with_bit word b = bit_or word (1 * 2 ^ b % 4294967296)
+
+abbrev pub with_mark : List ℕ → ℕ → List ℕ
+with_mark words d = set words (d / 32) (with_bit (get_or words (d / 32) 0) (d % 32))
+
+mask_set : (ms : List Bool) (b : ℕ) → b < length ms → b < 32 → mask_l (set ms b true) ≡ with_bit (mask_l ms) b
+mask_set ms b within below = same_from_bits (mask_l (set ms b true)) (with_bit (mask_l ms) b) (λ i. bit_mask_l (set ms b true) i ∙ elim (cases_eq i b) [
+  | inl same ↦
+      ap (λ j. cond (get_or (set ms b true) j false) 1 0) same ∙ ap (λ m. cond m 1 0) (get_or-set_same ms b true false within)
+      ∙ sym (ap (bit_at (with_bit (mask_l ms) b)) same ∙ bit_at_set_same w32 (mask_l ms) b below)
+  | inr other ↦
+      ap (λ m. cond m 1 0) (get_or-set_other ms b i true false other) ∙ sym (bit_mask_l ms i) ∙ sym (bit_at_set_other w32 (mask_l ms) b below i other)
+])
+
+-- in the first word
+set_here : (n : ℕ) (marks : List Bool) (d : ℕ) → d < length marks → d < 32 → words_of (suc n) (set marks d true) ≡ with_mark (words_of (suc n) marks) d
+set_here n marks d within below =
+    let first : d / 32 ≡ 0 = omega arith in
+    let bit : d % 32 ≡ d = omega arith in
+    (λ i. mask_l (take-set-lt 32 marks d true below i) ∷ words_of n (drop-set-lt 32 marks d true below i))
+    ∙ ap (λ w. w ∷ words_of n (drop 32 marks)) (mask_set (take 32 marks) d (omega (arith, length-take 32 marks, below, within)) below)
+    ∙ sym (λ i. set (words_of (suc n) marks) (first i) (with_bit (get_or (words_of (suc n) marks) (first i) 0) (bit i)))
+
+-- in a later one
+set_there : (n : ℕ) (marks : List Bool) (e d : ℕ) → 32 + e ≡ d → words_of n (set (drop 32 marks) e true) ≡ with_mark (words_of n (drop 32 marks)) e
+    → words_of (suc n) (set marks d true) ≡ with_mark (words_of (suc n) marks) d
+set_there n marks e d is rest =
+    let next : suc (e / 32) ≡ d / 32 = omega (arith, is) in
+    let bit : e % 32 ≡ d % 32 = omega (arith, is) in
+    (λ i. mask_l (take-set-le 32 marks d true (omega (arith, is)) i) ∷ words_of n (drop 32 (set marks (sym is i) true)))
+    ∙ ap (λ ms. mask_l (take 32 marks) ∷ words_of n ms) (drop-set-add 32 marks e true)
+    ∙ ap (λ ws. mask_l (take 32 marks) ∷ ws) rest
+    ∙ (λ i. set (words_of (suc n) marks) (next i) (with_bit (get_or (words_of (suc n) marks) (next i) 0) (bit i)))
+
+words_set : (n : ℕ) (marks : List Bool) (d : ℕ) → d < length marks → length marks ≤ 32 * n → words_of n (set marks d true) ≡ with_mark (words_of n marks) d
+words_set zero marks d within all = absurd (omega (arith, within, all))
+words_set (suc n) marks d within all = elim (cases_lt d 32) [
+  | inl below ↦ set_here n marks d within below
+  | inr above ↦
+      set_there n marks (d - 32) d (omega (arith, above))
+      (words_set n (drop 32 marks) (d - 32) (omega (arith, length-drop 32 marks, above, within)) (omega (arith, length-drop 32 marks, all)))
+]
+
+pub marked_one : (marks : List Bool) (d : ℕ) → d < length marks → mark_words (set marks d true) ≡ with_mark (mark_words marks) d
+marked_one marks d within =
+    ap (λ n. words_of (words_for n) (set marks d true)) (length-set marks d true) ∙ words_set (words_for (length marks)) marks d within (omega arith)
+
+-- ---- no mark
+
+mask_none : (n m : ℕ) → mask_l (take n (replicate m false)) ≡ 0
+mask_none zero m = refl
+mask_none (suc n) zero = refl
+mask_none (suc n) (suc m) = omega (arith, mask_none n m)
+
+words_none : (n m : ℕ) → words_of n (replicate m false) ≡ replicate n 0
+words_none zero m = refl
+words_none (suc n) m = (λ i. mask_none 32 m i ∷ words_of n (drop-replicate 32 m false i)) ∙ ap (λ ws. 0 ∷ ws) (words_none n (m - 32))
+
+pub no_marks : (m : ℕ) → mark_words (replicate m false) ≡ replicate (words_for m) 0
+no_marks m = ap (λ n. words_of (words_for n) (replicate m false)) (length-replicate m false) ∙ words_none (words_for m) m
+
+-- ---- how many are set
+
+words_count : (n : ℕ) (marks : List Bool) → length marks ≤ 32 * n → sum_by count_ones (words_of n marks) ≡ count_of marks
+words_count zero [] all = refl
+words_count zero (m ∷ marks) all = absurd (omega (arith, all))
+words_count (suc n) marks all =
+    let first : count_ones (mask_l (take 32 marks)) ≡ count_of (take 32 marks) = ap (λ ms. count_ones (mask_l ms)) (sym (map-id (take 32 marks))) ∙ ones-mask_l (λ m. m) (take 32 marks) in
+    omega (
+      arith,
+      sum_by-cons count_ones (mask_l (take 32 marks)) (words_of n (drop 32 marks)),
+      first,
+      words_count n (drop 32 marks) (omega (arith, length-drop 32 marks, all)),
+      sum_by-take-drop (λ m. cond m 1 0) marks 32,
+    )
+
+pub marks_count : (marks : List Bool) → sum_by count_ones (mark_words marks) ≡ count_of marks
+marks_count marks = words_count (words_for (length marks)) marks (omega arith)
