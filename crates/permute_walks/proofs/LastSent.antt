@@ -1,10 +1,10 @@
 -- The last senders of a range of the result, of which each thread finds those of its own range; and that all of them are what
 -- one walk of stores leaves.
-use Rattle.std.proofs.Common.{◌≡◌, ◌∙◌, ℕ, zero, suc, ◌+◌, ◌<◌, ◌≤◌, Bool, true, false, ◌&&◌, if◌then◌else◌, List, [], ◌∷◌, ◌++◌, length, take, get_or, set, refl, sym, ap, subst}
+use Rattle.std.proofs.Common.{◌≡◌, ◌∙◌, ℕ, zero, suc, ◌+◌, ◌-◌, ◌%◌, ◌<◌, ◌≤◌, Bool, true, false, ◌&&◌, if◌then◌else◌, List, [], ◌∷◌, ◌++◌, length, take, get_or, set, refl, sym, ap, subst}
 use Rattle.std.proofs.Common.{arith, inl, inr, leb, ltb, w32, to_z, of_z, FitsSigned, ℤ, pos, negsuc, unsigned_abs, unwrap_or, is_some, Option, Some, None}
 use Rattle.std.specs.Ordering.{int_eq}
 use Rattle.std.specs.Cmp.Derive.{both_true}
-use Rattle.std.proofs.lemmas.Bool.{and_parts, and_right, le-leb, leb-true, lt-ltb, ltb-true, false_from_ne_true, false≢true}
+use Rattle.std.proofs.lemmas.Bool.{and_parts, and_right, cases_lt, le-leb, le-ltb, lt-leb, leb-true, lt-ltb, ltb-true, false_from_ne_true, false≢true}
 use Rattle.std.proofs.lemmas.Bool.Decides.{eqb_tells, Decides-int_eq}
 use Rattle.std.proofs.lemmas.List.{ext_get_or, get_or-set_same, get_or-set_other, length-set, length-take, take_more, take_all}
 use Rattle.std.proofs.lemmas.List.FromFn.{length-map-range_with_len, get_or-map-range_with_len}
@@ -138,14 +138,29 @@ module _ (place : ℕ) (ts : List (Option ℤ)) (m : ℕ) (small : place + lengt
 
 -- ---- whether a destination lies in the range
 
--- as the code asks it
-pub between_asked : (i : ℤ) (takes_part : Bool) (lowest end named : ℕ) → FitsSigned w32 i → named ≡ of_z w32 (to_z w32 (of_z w32 i)) → end ≤ most_elements
-    → is_between lowest end (destination_if i takes_part) ≡ ((takes_part && leb lowest named) && ltb named end)
-between_asked i false lowest end named fits cast within = refl
-between_asked (pos a) true lowest end named fits cast within = ap (λ d. leb lowest d && ltb d end) (sym (cast ∙ ap (of_z w32) (to_z-of_z w32 (pos a) fits)))
-between_asked (negsuc a) true lowest end named fits cast within =
-    sym (and_right (leb lowest named) (ltb named end) (false_from_ne_true (ltb named end) (λ yes.
-    let is = index_is (negsuc a) named fits cast (omega (arith, ltb-true named end yes)) in negative is)))
+-- as the code asks it, by one comparison
+offset_asked : (lowest places named : ℕ) → named < 4294967296 → lowest + places ≤ most_elements
+    → (leb lowest named && ltb named (lowest + places)) ≡ ltb ((named + (4294967296 - lowest)) % 4294967296) places
+offset_asked lowest places named fits within =
+    let offset = (named + (4294967296 - lowest)) % 4294967296 in
+    elim (cases_lt named lowest) [
+      | inl before ↦ ap (λ b. b && ltb named (lowest + places)) (lt-leb lowest named before) ∙ sym (le-ltb offset places (omega (arith, before, fits, within)))
+      | inr from ↦
+          ap (λ b. b && ltb named (lowest + places)) (le-leb lowest named from)
+          ∙ elim (cases_lt named (lowest + places)) [
+            | inl inside ↦ lt-ltb named (lowest + places) inside ∙ sym (lt-ltb offset places (omega (arith, from, inside, fits, within)))
+            | inr behind ↦ le-ltb named (lowest + places) behind ∙ sym (le-ltb offset places (omega (arith, from, behind, fits, within)))
+          ]
+    ]
+
+pub between_asked : (i : ℤ) (takes_part : Bool) (lowest places named : ℕ) → FitsSigned w32 i → named ≡ of_z w32 (to_z w32 (of_z w32 i)) → named < 4294967296 → lowest + places ≤ most_elements
+    → is_between lowest (lowest + places) (destination_if i takes_part) ≡ (takes_part && ltb ((named + (4294967296 - lowest)) % 4294967296) places)
+between_asked i false lowest places named fits cast small within = refl
+between_asked (pos a) true lowest places named fits cast small within =
+    ap (λ d. leb lowest d && ltb d (lowest + places)) (sym (cast ∙ ap (of_z w32) (to_z-of_z w32 (pos a) fits))) ∙ offset_asked lowest places named small within
+between_asked (negsuc a) true lowest places named fits cast small within =
+    sym (sym (offset_asked lowest places named small within) ∙ and_right (leb lowest named) (ltb named (lowest + places)) (false_from_ne_true (ltb named (lowest + places)) (λ yes.
+    let is = index_is (negsuc a) named fits cast (omega (arith, ltb-true named (lowest + places) yes, within)) in negative is)))
   where
     negative : negsuc a ≡ pos named → ⊥
     negative is = omega (arith, ints, is)

@@ -10,6 +10,10 @@ listed_more p first k b is =
     sym (ap (filter p) (map-id (range_with_len first (k + 1)))) ∙ filter_of_map_range_with_len_more p (λ n. n) first k (first + k) refl
     ∙ (λ i. filter p (map-id (range_with_len first k) i) ++ cond (is i) ((first + k) ∷ []) [])
 
+pub none_listed : {X : Type 0} (xs : List X) → length xs ≡ 0 → [] ≡ xs
+none_listed [] none = refl
+none_listed (x ∷ xs) none = absurd (omega (arith, none))
+
 -- the rest of a list is that of the numbers from `from` on and before `end`, up to which P holds
 pub record IsRest (p : ℕ → Bool) (P : ℕ → Type 0) (rest : List ℕ) (end : ℕ) : Type 0 where
   pub from : ℕ

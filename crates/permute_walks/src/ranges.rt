@@ -4,6 +4,7 @@
 
 ghost use Rattle.std.specs.Prelude.{◌≡◌, ◌+◌, ◌<◌, ◌≤◌, pos, List, false, true, length, replicate, slice_get, slice_index_or, take, Some, None};
 ghost use Rattle.cvl_base.specs.Limits.{most_elements};
+ghost use Rattle.cvl_base.specs.Permutes.{destination_if};
 ghost use Rattle.permute_walks.specs.Marks.{mark_words, words_for};
 ghost use Rattle.permute_walks.specs.Senders.{IsWrittenTo, is_between, last_senders, places_between, sent_marks, written_over};
 
@@ -13,29 +14,66 @@ use crate::marks::mark;
 /// So many places are listed at a time; their list stays in the nearest memory of a processor.
 const BLOCK: usize = 1024;
 
-/// Lists the places of a block that are sent to a place of the result from `lowest` on and before `end`, and tells how many they are.
-/// The block begins at place `first`, and has as many places as the list has room for.
-// Without its sign an index below 0 is beyond the longest vector. Each place is written behind the list, and stays where it counts.
+/// Whether a place takes part and is sent to one of so many places from `lowest` on.
+// Without its sign an index below 0, or one below `lowest`, is beyond the longest vector, so that one comparison is enough.
+#[inline]
+fn is_sent_between(index: &i32, takes_part: bool, lowest: u32, places: u32) -> bool
+    requires within { lowest + places ≤ most_elements }
+    ensures { result ≡ is_between lowest (lowest + places) (destination_if index.now takes_part) }
+{
+    takes_part & (index.cast_unsigned().wrapping_sub(lowest) < places)
+}
+
+/// How many places of a block are sent to one of so many places from `lowest` on. It begins at place `first`, and has so many places.
+// Vector code takes several at once.
+#[inline(never)]
+fn count_block<D: Destinations>(
+    destinations: &D,
+    first: usize,
+    many: usize,
+    lowest: u32,
+    places: u32,
+) -> u32
+    requires block { first + many ≤ length (D.destinations destinations.now) }
+    requires within { lowest + places ≤ most_elements }
+    requires in_limit { length (D.destinations destinations.now) ≤ most_elements }
+    ensures { result ≡ length (places_between (D.destinations destinations.now) lowest (lowest + places) first many) }
+{
+    let mut count = 0;
+    for k in 0..many {
+        let (index, takes_part) = destinations.at(first + k);
+        if is_sent_between(index, takes_part, lowest, places) {
+            count += 1;
+        }
+    }
+    count
+}
+
+/// Lists the places of a block that are sent to one of so many places from `lowest` on, and tells how many they are. The block
+/// begins at place `first`, and has as many places as the list has room for.
+// Each place is written behind the list, and stays where it counts, so that the machine code has no branch on it.
 #[inline(never)]
 fn list_block<D: Destinations>(
     destinations: &D,
     first: usize,
-    lowest: usize,
-    end: usize,
+    lowest: u32,
+    places: u32,
     list: &mut [u32],
 ) -> usize
     requires block { first + length list.old ≤ length (D.destinations destinations.now) }
-    requires within { end ≤ most_elements }
+    requires within { lowest + places ≤ most_elements }
     requires in_limit { length (D.destinations destinations.now) ≤ most_elements }
-    ensures listed { take result list.new ≡ places_between (D.destinations destinations.now) lowest end first (length list.old) }
+    ensures listed { take result list.new ≡ places_between (D.destinations destinations.now) lowest (lowest + places) first (length list.old) }
     ensures in_length { result ≤ length list.new }
 {
+    if count_block(destinations, first, list.len(), lowest, places) == 0 {
+        return 0;
+    }
     let mut count = 0;
     for k in 0..list.len() {
         let (index, takes_part) = destinations.at(first + k);
-        let named = index.cast_unsigned() as usize;
         list[count] = (first + k) as u32;
-        if takes_part & (named >= lowest) & (named < end) {
+        if is_sent_between(index, takes_part, lowest, places) {
             count += 1;
         }
     }
@@ -84,7 +122,7 @@ fn write_block<T: Copy, D: Destinations>(
         → IsWrittenTo source.now (D.destinations destinations.now) lowest old (first + length list.old) out.new marks.new }
 {
     let places = out.len();
-    let count = list_block(destinations, first, lowest, lowest + places, list);
+    let count = list_block(destinations, first, lowest as u32, places as u32, list);
     let (own, _) = list.split_at(count);
     for place in own {
         let (destination, element) = sent_from(
