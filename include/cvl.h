@@ -1212,44 +1212,45 @@ CVL_CHECKED static inline CvlStatus cvl_checked_scan_after_apart(
 
 /*
  * cvl_permute_int_range: One range of the result of smp_puz, its out_len places from place `lowest` on: each element whose index is one
- * of them is written there, the last where there are several, and the place is marked true. marks are as many as the range has places,
- * and it does not matter what they hold before; written is how many are true. Each part has another range, its own marks, and all of source
+ * of them is written there, the last where there are several, and the place is marked by a bit. marks are (out_len + 31) / 32 words: bit b
+ * of word w, of the value 1 << b, is set where place 32 * w + b of the range is written, and the bits behind the last place are not. It
+ * does not matter what they hold before; written is how many bits are set. Each part has another range, its own marks, and all of source
  * and index. Where all parts together wrote index_len places, the ranges, one after another, are the permute. Else an index is out of
  * range or repeated: cvl_permute_int tells which. A place that nothing is sent to stays as it was, so that over ranges that hold the
  * defaults before the parts are def_puz.
- * Faults: 13 TooLong, by the index, and where the range ends behind place 4194304; 7 LengthMismatch, where source and index, or out and
- * marks, are not equally long. At a fault all rooms are as they were.
- * source = 5 6 7, index = 2 0 1, lowest = 1, out_len = 2: out = 7 5, marks = true true, written = 2
+ * Faults: 13 TooLong, by the index, and where the range ends behind place 4194304; 7 LengthMismatch, where source and index are not
+ * equally long, or marks_len is not (out_len + 31) / 32. At a fault all rooms are as they were.
+ * source = 5 6 7, index = 2 0 1, lowest = 1, out_len = 2: out = 7 5, marks = 3, written = 2
  */
 CVL_CHECKED CvlStatus cvl_permute_int_range(
     const int32_t *source, size_t source_len, const int32_t *index, size_t index_len, size_t lowest, int32_t *out, size_t out_len,
-    bool *marks, size_t marks_len, size_t *written);
+    uint32_t *marks, size_t marks_len, size_t *written);
 
 /*
  * cvl_permute_bool_range: The same of booleans: smp_pub, and def_pub over ranges that hold the defaults before, each 0 or 1.
- * source = true false true, index = 2 0 1, lowest = 1, out_len = 2: out = true true, marks = true true, written = 2
+ * source = true false true, index = 2 0 1, lowest = 1, out_len = 2: out = true true, marks = 3, written = 2
  */
 CVL_CHECKED CvlStatus cvl_permute_bool_range(
     const bool *source, size_t source_len, const int32_t *index, size_t index_len, size_t lowest, bool *out, size_t out_len,
-    bool *marks, size_t marks_len, size_t *written);
+    uint32_t *marks, size_t marks_len, size_t *written);
 
 /*
  * cvl_select_permute_int_range: One range of the result of sel_puz, the same way: the elements alone go anywhere whose flag is true. Where
  * the result has as many places as there are true flags, and all parts together wrote as many, the ranges are the permute.
  * Faults: those of cvl_permute_int_range; 7 LengthMismatch also where index and flags are not equally long.
- * source = 5 6 7, index = 1 9 0, flags = true false true, lowest = 0, out_len = 1: out = 7, marks = true, written = 1
+ * source = 5 6 7, index = 1 9 0, flags = true false true, lowest = 0, out_len = 1: out = 7, marks = 1, written = 1
  */
 CVL_CHECKED CvlStatus cvl_select_permute_int_range(
     const int32_t *source, size_t source_len, const int32_t *index, size_t index_len, const bool *flags, size_t flags_len,
-    size_t lowest, int32_t *out, size_t out_len, bool *marks, size_t marks_len, size_t *written);
+    size_t lowest, int32_t *out, size_t out_len, uint32_t *marks, size_t marks_len, size_t *written);
 
 /*
  * cvl_select_permute_bool_range: The same of booleans: sel_pub.
- * source = true false false, index = 1 9 0, flags = true false true, lowest = 0, out_len = 1: out = false, marks = true, written = 1
+ * source = true false false, index = 1 9 0, flags = true false true, lowest = 0, out_len = 1: out = false, marks = 1, written = 1
  */
 CVL_CHECKED CvlStatus cvl_select_permute_bool_range(
     const bool *source, size_t source_len, const int32_t *index, size_t index_len, const bool *flags, size_t flags_len,
-    size_t lowest, bool *out, size_t out_len, bool *marks, size_t marks_len, size_t *written);
+    size_t lowest, bool *out, size_t out_len, uint32_t *marks, size_t marks_len, size_t *written);
 
 /*
  * cvl_read_ints_after: The integers of one piece of a text that is cut at white space, as cvl_read_ints reads them. `before` is how many
@@ -1269,7 +1270,7 @@ CVL_CHECKED CvlStatus cvl_read_ints_after(
 
 CVL_CHECKED static inline CvlStatus cvl_permute_int_range_apart(
     const int32_t *source, size_t source_len, const int32_t *index, size_t index_len, size_t lowest, int32_t *out, size_t out_len,
-    bool *marks, size_t marks_len, size_t *written) {
+    uint32_t *marks, size_t marks_len, size_t *written) {
     if (CVL_MEETS_RANGE(source, source_len) || CVL_MEETS_RANGE(index, index_len) || CVL_ROOMS_MEET()) return cvl_overlap();
     return cvl_permute_int_range(source, source_len, index, index_len, lowest, out, out_len, marks, marks_len, written);
 }
@@ -1277,7 +1278,7 @@ CVL_CHECKED static inline CvlStatus cvl_permute_int_range_apart(
 
 CVL_CHECKED static inline CvlStatus cvl_permute_bool_range_apart(
     const bool *source, size_t source_len, const int32_t *index, size_t index_len, size_t lowest, bool *out, size_t out_len,
-    bool *marks, size_t marks_len, size_t *written) {
+    uint32_t *marks, size_t marks_len, size_t *written) {
     if (CVL_MEETS_RANGE(source, source_len) || CVL_MEETS_RANGE(index, index_len) || CVL_ROOMS_MEET()) return cvl_overlap();
     CVL_WITH_FLAGS(source, source_len,
         cvl_permute_bool_range(source, source_len, index, index_len, lowest, out, out_len, marks, marks_len, written));
@@ -1286,7 +1287,7 @@ CVL_CHECKED static inline CvlStatus cvl_permute_bool_range_apart(
 
 CVL_CHECKED static inline CvlStatus cvl_select_permute_int_range_apart(
     const int32_t *source, size_t source_len, const int32_t *index, size_t index_len, const bool *flags, size_t flags_len,
-    size_t lowest, int32_t *out, size_t out_len, bool *marks, size_t marks_len, size_t *written) {
+    size_t lowest, int32_t *out, size_t out_len, uint32_t *marks, size_t marks_len, size_t *written) {
     if (CVL_MEETS_RANGE(source, source_len) || CVL_MEETS_RANGE(index, index_len) || CVL_MEETS_RANGE(flags, flags_len) ||
         CVL_ROOMS_MEET()) {
         return cvl_overlap();
@@ -1299,7 +1300,7 @@ CVL_CHECKED static inline CvlStatus cvl_select_permute_int_range_apart(
 
 CVL_CHECKED static inline CvlStatus cvl_select_permute_bool_range_apart(
     const bool *source, size_t source_len, const int32_t *index, size_t index_len, const bool *flags, size_t flags_len,
-    size_t lowest, bool *out, size_t out_len, bool *marks, size_t marks_len, size_t *written) {
+    size_t lowest, bool *out, size_t out_len, uint32_t *marks, size_t marks_len, size_t *written) {
     if (CVL_MEETS_RANGE(source, source_len) || CVL_MEETS_RANGE(index, index_len) || CVL_MEETS_RANGE(flags, flags_len) ||
         CVL_ROOMS_MEET()) {
         return cvl_overlap();

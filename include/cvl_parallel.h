@@ -1383,24 +1383,27 @@ CVL_CHECKED static inline CvlStatus cvl_seg_checked_reduce_on(
 
 /* ---- permutes: the result is cut, and each part reads all indices and writes the elements that go to its own range ---- */
 
-/* The part's range of the result, over its defaults where there are any, by its range of the marks, which stand behind what is kept. */
+/* How many bytes are kept of a room, up to whole words. The marks stand behind them, a bit a place, and each part has words of its own. */
+static inline size_t cvl_kept_bytes(const CvlWork *w) { return (w->from[w->parts] * w->size + 3) / 4 * 4; }
+
+/* The part's range of the result, over its defaults where there are any, by its own marks. */
 static inline CvlStatus cvl_range_part(CvlWork *w, size_t k) {
-    const size_t from = w->from[k], n = w->from[k + 1] - from, len = w->a_len;
-    bool *marks = CVL_BOOL_ROOM(w->kept, w->from[w->parts] * w->size + from);
+    const size_t from = w->from[k], n = w->from[k + 1] - from, len = w->a_len, words = (n + 31) / 32;
+    uint32_t *marks = (uint32_t *)(void *)(w->kept + cvl_kept_bytes(w)) + from / 32 + k;
     if (w->of_bools && w->flags != NULL) {
         return cvl_select_permute_bool_range(
-            CVL_BOOLS(w->a, 0), len, w->index, len, w->flags, len, from, CVL_BOOL_ROOM(w->out, from), n, marks, n, &w->counts[k]);
+            CVL_BOOLS(w->a, 0), len, w->index, len, w->flags, len, from, CVL_BOOL_ROOM(w->out, from), n, marks, words, &w->counts[k]);
     }
     if (w->of_bools) {
         return cvl_permute_bool_range(
-            CVL_BOOLS(w->a, 0), len, w->index, len, from, CVL_BOOL_ROOM(w->out, from), n, marks, n, &w->counts[k]);
+            CVL_BOOLS(w->a, 0), len, w->index, len, from, CVL_BOOL_ROOM(w->out, from), n, marks, words, &w->counts[k]);
     }
     if (w->flags != NULL) {
         return cvl_select_permute_int_range(
-            CVL_INTS(w->a, 0), len, w->index, len, w->flags, len, from, CVL_INT_ROOM(w->out, from), n, marks, n, &w->counts[k]);
+            CVL_INTS(w->a, 0), len, w->index, len, w->flags, len, from, CVL_INT_ROOM(w->out, from), n, marks, words, &w->counts[k]);
     }
     return cvl_permute_int_range(
-        CVL_INTS(w->a, 0), len, w->index, len, from, CVL_INT_ROOM(w->out, from), n, marks, n, &w->counts[k]);
+        CVL_INTS(w->a, 0), len, w->index, len, from, CVL_INT_ROOM(w->out, from), n, marks, words, &w->counts[k]);
 }
 
 /* Of the flags of a select permute each part counts another share. */
@@ -1424,7 +1427,7 @@ static inline CvlStatus cvl_permute_part(CvlWork *w, size_t k) {
 static inline bool cvl_is_permuted(const CvlPool *pool, CvlWork *w) {
     const size_t room = w->from[w->parts];
     size_t written = 0, trues = 0;
-    if (!cvl_keep(w, room * (w->size + 1))) return false;
+    if (!cvl_keep(w, cvl_kept_bytes(w) + (room / 32 + w->parts) * sizeof(uint32_t))) return false;
     CvlStatus status = cvl_in_parts(pool, w, cvl_permute_part, NULL);
     for (size_t k = 0; k < w->parts; k++) written += w->counts[k], trues += (size_t)w->sums[k].number;
     if (written != (w->flags == NULL ? w->a_len : trues) || (w->flags != NULL && trues != room)) status.number = CVL_INDEX_REPEATED;

@@ -17,6 +17,9 @@ enum { MOST_ARRAYS = 8, FEW = 6, LONGEST = 5000, SHORT_SLOT = 1 << 12, LONG_SLOT
 /* How many elements, segments and true flags a call has, and how long its texts and the rooms for them are. */
 static size_t n, segments, trues, text_length, text_room;
 
+/* How many words the marks of so many places take. */
+static size_t words_of(size_t places) { return (places + 31) / 32; }
+
 /*
  * The functions, a row for each: its name; a letter for each of its arrays, as `array_of` reads it; which inputs may be the
  * room, by their numbers, with a stroke between those that may not be it at once; and its arguments, where p[k] is array k. X is
@@ -218,10 +221,10 @@ static size_t n, segments, trues, text_length, text_room;
     X(cvl_bool_scan_after, "fF", "0", (CVL_XOR, true, p[0], n, p[1], n))                                                       \
     X(cvl_exact_sum, "iq", "", (p[0], n, p[1]))                                                                                \
     X(cvl_checked_scan_after, "iI", "", (5, p[0], n, p[1], n))                                                                 \
-    X(cvl_permute_int_range, "ixIFc", "", (p[0], n, p[1], n, 0, p[2], n, p[3], n, p[4]))                                       \
-    X(cvl_permute_bool_range, "fxFFc", "", (p[0], n, p[1], n, 0, p[2], n, p[3], n, p[4]))                                      \
-    X(cvl_select_permute_int_range, "izfMNc", "", (p[0], n, p[1], n, p[2], n, 0, p[3], trues, p[4], trues, p[5]))              \
-    X(cvl_select_permute_bool_range, "fzfNNc", "", (p[0], n, p[1], n, p[2], n, 0, p[3], trues, p[4], trues, p[5]))             \
+    X(cvl_permute_int_range, "ixIKc", "", (p[0], n, p[1], n, 0, p[2], n, p[3], words_of(n), p[4]))                             \
+    X(cvl_permute_bool_range, "fxFKc", "", (p[0], n, p[1], n, 0, p[2], n, p[3], words_of(n), p[4]))                            \
+    X(cvl_select_permute_int_range, "izfMLc", "", (p[0], n, p[1], n, p[2], n, 0, p[3], trues, p[4], words_of(trues), p[5]))    \
+    X(cvl_select_permute_bool_range, "fzfNLc", "", (p[0], n, p[1], n, p[2], n, 0, p[3], trues, p[4], words_of(trues), p[5]))   \
     X(cvl_read_ints_after, "tIc", "", (2, p[0], text_length, p[1], n, p[2]))                                                   \
     X(cvl_segments_free, "h", "", (p[0]))                                                                                      \
     X(cvl_segments_new, "lh", "", (p[0], segments, p[1]))                                                                      \
@@ -288,7 +291,7 @@ static void fail(const Row *row, const char *test, const char *why, CvlStatus st
     }
 }
 
-/* What the letter of an array means: integers, flags, lengths, indices, texts, a descriptor, and in upper case and by o, p, q, c
+/* What the letter of an array means: integers, flags, lengths, indices, texts, a descriptor, words of marks, and in upper case and by o, p, q, c
  * and h the rooms. */
 static Array array_of(char letter) {
     const size_t of_int = sizeof(int32_t);
@@ -305,6 +308,8 @@ static Array array_of(char letter) {
     case 'G': return (Array){1, segments, true};
     case 'M': return (Array){of_int, trues, true};
     case 'N': return (Array){1, trues, true};
+    case 'K': return (Array){sizeof(uint32_t), words_of(n), true};
+    case 'L': return (Array){sizeof(uint32_t), words_of(trues), true};
     case 'X': return (Array){1, text_room, true};
     case 'o': return (Array){of_int, 1, true};
     case 'p': return (Array){1, 1, true};

@@ -361,48 +361,59 @@ static void parts_of_calls(void) {
     FAULT(cvl_checked_scan_after(0, too_many_ints, many, ints, 2), CVL_TOO_LONG, -1);
 }
 
-static bool marks[ROOM];
+static uint32_t marks[2];
 
-/* The call told that so many places were written, and marked them. */
-static void marked(const char *call, const bool *wanted, size_t places, size_t written) {
+/* The call told that so many places were written, and set these bits of the first word. */
+static void marked(const char *call, uint32_t wanted, size_t written) {
     if (total != written) fail(call, "another number of places");
-    if (memcmp(marks, wanted, places) != 0) fail(call, "other marks");
+    if (marks[0] != wanted) fail(call, "other marks");
+}
+
+/* A range of 40 places has two words of marks, and its places 0, 31, 32 and 39 are written. */
+static void marks_of_two_words(void) {
+    static int32_t room[40];
+    marks[0] = marks[1] = UINT32_MAX;
+    tells("cvl_permute_int_range", cvl_permute_int_range(I(1, 2, 3, 4, 5), 5, I(10, 41, 42, 49, 50), 5, 10, room, 40, marks, 2, &total), CVL_DONE, -1);
+    marked("cvl_permute_int_range", 0x80000001, 4);
+    if (marks[1] != 0x81) fail("cvl_permute_int_range", "other marks");
+    if (room[0] != 1 || room[31] != 2 || room[32] != 3 || room[39] != 4) fail("cvl_permute_int_range", "other elements");
 }
 
 static void ranges_of_permutes(void) {
     const int32_t *source = I(5, 6, 7), *index = I(2, 0, 1), *twice = I(1, 9, 1), *some = I(1, 9, 0);
     const bool *p = B(true, false, true), *f = B(true, false, true);
     const size_t most = CVL_MOST_ELEMENTS;
-    COUNTED_INTS(cvl_permute_int_range(source, 3, index, 3, 0, ints, 3, marks, 3, &total), 6, 7, 5);
-    COUNTED_INTS(cvl_permute_int_range(source, 3, index, 3, 1, ints, 2, marks, 2, &total), 7, 5);
+    COUNTED_INTS(cvl_permute_int_range(source, 3, index, 3, 0, ints, 3, marks, 1, &total), 6, 7, 5);
+    COUNTED_INTS(cvl_permute_int_range(source, 3, index, 3, 1, ints, 2, marks, 1, &total), 7, 5);
     /* of several elements that are sent to one place the last stays, and the place counts once; other places are as they were */
-    INTS(cvl_permute_int_range(source, 3, twice, 3, 0, ints, 3, marks, 3, &total), UNTOUCHED, 7, UNTOUCHED);
-    marked("cvl_permute_int_range", B(false, true, false), 3, 1);
+    INTS(cvl_permute_int_range(source, 3, twice, 3, 0, ints, 3, marks, 1, &total), UNTOUCHED, 7, UNTOUCHED);
+    marked("cvl_permute_int_range", 2, 1);
     INTS(cvl_permute_int_range(source, 3, twice, 3, 1, ints, 1, marks, 1, &total), 7);
-    marked("cvl_permute_int_range", B(true), 1, 1);
-    INTS(cvl_permute_int_range(source, 3, I(-1, 3, INT32_MIN), 3, 1, ints, 2, marks, 2, &total), UNTOUCHED, UNTOUCHED);
-    marked("cvl_permute_int_range", B(false, false), 2, 0);
+    marked("cvl_permute_int_range", 1, 1);
+    INTS(cvl_permute_int_range(source, 3, I(-1, 3, INT32_MIN), 3, 1, ints, 2, marks, 1, &total), UNTOUCHED, UNTOUCHED);
+    marked("cvl_permute_int_range", 0, 0);
     INTS(cvl_permute_int_range(source, 3, I(4194303, 0, -1), 3, most - 1, ints, 1, marks, 1, &total), 5);
-    marked("cvl_permute_int_range", B(true), 1, 1);
-    COUNTED_BOOLS(cvl_permute_bool_range(p, 3, index, 3, 0, bools, 3, marks, 3, &total), false, true, true);
-    BOOLS(cvl_permute_bool_range(p, 3, twice, 3, 0, bools, 3, marks, 3, &total), true, true, true);
-    marked("cvl_permute_bool_range", B(false, true, false), 3, 1);
-    BOOLS_OF_COPIES(1, cvl_permute_bool_range(O(2, 0, 2), 3, index, 3, 1, bools, 2, marks, 2, &total), true, true);
-    COUNTED_INTS(cvl_select_permute_int_range(source, 3, some, 3, f, 3, 0, ints, 2, marks, 2, &total), 7, 5);
+    marked("cvl_permute_int_range", 1, 1);
+    COUNTED_BOOLS(cvl_permute_bool_range(p, 3, index, 3, 0, bools, 3, marks, 1, &total), false, true, true);
+    BOOLS(cvl_permute_bool_range(p, 3, twice, 3, 0, bools, 3, marks, 1, &total), true, true, true);
+    marked("cvl_permute_bool_range", 2, 1);
+    BOOLS_OF_COPIES(1, cvl_permute_bool_range(O(2, 0, 2), 3, index, 3, 1, bools, 2, marks, 1, &total), true, true);
+    COUNTED_INTS(cvl_select_permute_int_range(source, 3, some, 3, f, 3, 0, ints, 2, marks, 1, &total), 7, 5);
     COUNTED_INTS(cvl_select_permute_int_range(source, 3, some, 3, f, 3, 1, ints, 1, marks, 1, &total), 5);
     INTS_OF_COPIES(1, cvl_select_permute_int_range(source, 3, some, 3, O(2, 0, 9), 3, 0, ints, 1, marks, 1, &total), 7);
-    COUNTED_BOOLS(cvl_select_permute_bool_range(p, 3, some, 3, f, 3, 0, bools, 2, marks, 2, &total), true, true);
-    BOOLS_OF_COPIES(2, cvl_select_permute_bool_range(O(7, 0, 0), 3, some, 3, O(2, 0, 9), 3, 0, bools, 2, marks, 2, &total), false, true);
-    FAULT(cvl_permute_int_range(too_many_ints, most + 1, too_many_ints, most + 1, 0, ints, 3, marks, 3, &total), CVL_TOO_LONG, -1);
+    COUNTED_BOOLS(cvl_select_permute_bool_range(p, 3, some, 3, f, 3, 0, bools, 2, marks, 1, &total), true, true);
+    BOOLS_OF_COPIES(2, cvl_select_permute_bool_range(O(7, 0, 0), 3, some, 3, O(2, 0, 9), 3, 0, bools, 2, marks, 1, &total), false, true);
+    FAULT(cvl_permute_int_range(too_many_ints, most + 1, too_many_ints, most + 1, 0, ints, 3, marks, 1, &total), CVL_TOO_LONG, -1);
     FAULT(cvl_permute_int_range(source, 2, index, 3, most, ints, 1, marks, 1, &total), CVL_TOO_LONG, -1);
     FAULT(cvl_permute_int_range(source, 3, index, 3, SIZE_MAX, ints, 1, marks, 1, &total), CVL_TOO_LONG, -1);
-    FAULT(cvl_permute_int_range(source, 2, index, 3, 0, ints, 3, marks, 3, &total), CVL_LENGTH_MISMATCH, -1);
+    FAULT(cvl_permute_int_range(source, 2, index, 3, 0, ints, 3, marks, 1, &total), CVL_LENGTH_MISMATCH, -1);
     FAULT(cvl_permute_int_range(source, 3, index, 3, 0, ints, 3, marks, 2, &total), CVL_LENGTH_MISMATCH, -1);
-    FAULT(cvl_permute_bool_range(p, 3, index, 3, most - 1, bools, 2, marks, 2, &total), CVL_TOO_LONG, -1);
-    FAULT(cvl_permute_bool_range(p, 3, index, 2, 0, bools, 3, marks, 3, &total), CVL_LENGTH_MISMATCH, -1);
-    FAULT(cvl_select_permute_int_range(source, 3, some, 3, f, 2, 0, ints, 2, marks, 2, &total), CVL_LENGTH_MISMATCH, -1);
-    FAULT(cvl_select_permute_int_range(source, 3, some, 3, f, 3, most, ints, 2, marks, 2, &total), CVL_TOO_LONG, -1);
-    FAULT(cvl_select_permute_bool_range(p, 3, some, 3, f, 3, 0, bools, 2, marks, 1, &total), CVL_LENGTH_MISMATCH, -1);
+    FAULT(cvl_permute_bool_range(p, 3, index, 3, most - 1, bools, 2, marks, 1, &total), CVL_TOO_LONG, -1);
+    FAULT(cvl_permute_bool_range(p, 3, index, 2, 0, bools, 3, marks, 1, &total), CVL_LENGTH_MISMATCH, -1);
+    FAULT(cvl_select_permute_int_range(source, 3, some, 3, f, 2, 0, ints, 2, marks, 1, &total), CVL_LENGTH_MISMATCH, -1);
+    FAULT(cvl_select_permute_int_range(source, 3, some, 3, f, 3, most, ints, 2, marks, 1, &total), CVL_TOO_LONG, -1);
+    FAULT(cvl_select_permute_bool_range(p, 3, some, 3, f, 3, 0, bools, 2, marks, 0, &total), CVL_LENGTH_MISMATCH, -1);
+    marks_of_two_words();
 }
 
 static void pieces_of_texts(void) {

@@ -31,14 +31,14 @@ pub extern "C" fn cvl_checked_scan_after(before: i64, a: &[i32], out: &mut [i32]
     told_over::<i32>(checked_scan_from(&before, a, out))
 }
 
-/// The integers that go to one range of a simple permute's result, from place `lowest` on, by a mark for each place of it.
+/// The integers that go to one range of a simple permute's result, from place `lowest` on, by a bit for each place of it.
 #[unsafe(no_mangle)]
 pub extern "C" fn cvl_permute_int_range(
     source: &[i32],
     index: &[i32],
     lowest: usize,
     out: &mut [i32],
-    marks: &mut [bool],
+    marks: &mut [u32],
     written: &mut usize,
 ) -> CvlStatus
     ensures { Told (simple_range_of source.now index.now lowest out.old marks.old)
@@ -54,7 +54,7 @@ pub extern "C" fn cvl_permute_bool_range(
     index: &[i32],
     lowest: usize,
     out: &mut [u8],
-    marks: &mut [bool],
+    marks: &mut [u32],
     written: &mut usize,
 ) -> CvlStatus
     ensures { Told (simple_range_of source.now index.now lowest out.old marks.old)
@@ -63,7 +63,7 @@ pub extern "C" fn cvl_permute_bool_range(
     told_one(simple_range(source, index, lowest, out, marks), written)
 }
 
-/// The integers that go to one range of a select permute's result, from place `lowest` on, by a mark for each place of it.
+/// The integers that go to one range of a select permute's result, from place `lowest` on, by a bit for each place of it.
 #[unsafe(no_mangle)]
 pub extern "C" fn cvl_select_permute_int_range(
     source: &[i32],
@@ -71,7 +71,7 @@ pub extern "C" fn cvl_select_permute_int_range(
     flags: &[bool],
     lowest: usize,
     out: &mut [i32],
-    marks: &mut [bool],
+    marks: &mut [u32],
     written: &mut usize,
 ) -> CvlStatus
     ensures { Told (select_range_of source.now index.now flags.now lowest out.old marks.old)
@@ -91,7 +91,7 @@ pub extern "C" fn cvl_select_permute_bool_range(
     flags: &[bool],
     lowest: usize,
     out: &mut [u8],
-    marks: &mut [bool],
+    marks: &mut [u32],
     written: &mut usize,
 ) -> CvlStatus
     ensures { Told (select_range_of source.now index.now flags.now lowest out.old marks.old)

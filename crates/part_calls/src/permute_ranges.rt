@@ -6,11 +6,14 @@
 
 ghost use Rattle.std.specs.Prelude.{◌≡◌, ◌+◌, ◌≤◌, length};
 ghost use Rattle.cvl_base.specs.Limits.{most_elements};
+ghost use Rattle.permute_walks.specs.Marks.{words_for};
 ghost use Rattle.part_calls.specs.Ranges.{WritesRange, count_of_range, marks_of_range, room_of_range, select_range_of, simple_range_of};
 
 use crate::limits::{check_end, check_few};
-use cvl_base::{Fault, check_agree, true_count};
-use permute_walks::{AllDestinations, Destinations, FlaggedDestinations, write_range};
+use cvl_base::{Fault, check_agree};
+use permute_walks::{
+    AllDestinations, Destinations, FlaggedDestinations, count_marks, words_for, write_range,
+};
 
 /// Writes and marks the places of one range, whatever its marks hold before, and tells how many are marked.
 fn write_counted<T: Copy, D: Destinations>(
@@ -18,32 +21,33 @@ fn write_counted<T: Copy, D: Destinations>(
     destinations: &D,
     lowest: usize,
     out: &mut [T],
-    marks: &mut [bool],
+    marks: &mut [u32],
 ) -> usize
     requires sourced { length source.now ≡ length (D.destinations destinations.now) }
     requires few { length (D.destinations destinations.now) ≤ most_elements }
     requires within { lowest + length out.old ≤ most_elements }
-    requires as_long { length out.old ≡ length marks.old }
+    requires as_long { words_for (length out.old) ≡ length marks.old }
     ensures written { out.new ≡ room_of_range source.now (D.destinations destinations.now) lowest out.old }
     ensures marked { marks.new ≡ marks_of_range (D.destinations destinations.now) lowest (length out.old) }
     ensures counted { result ≡ count_of_range (D.destinations destinations.now) lowest (length out.old) }
 {
-    marks.fill(false);
+    marks.fill(0);
     write_range(source, destinations, lowest, out, marks);
-    true_count(marks)
+    count_marks(marks)
 }
 
 /// One range of a simple permute, from place `lowest` of the result on: writes each element that goes to a place of it, marks these
-/// places, and tells how many they are. The room and the marks have the range's length; it does not matter what the marks hold before.
+/// places, and tells how many they are. The room has the range's length, and the marks have a bit for each place of it, 32 in a word, the
+/// lowest first; it does not matter what they hold before, and the bits behind the last place become 0.
 ///
 /// TooLong, without a place, where there are more than 4,194,304 indices or the range ends behind as many places; LengthMismatch, without
-/// a place, where source and index, or room and marks, differ in length.
+/// a place, where source and index differ in length, or there are not just as many words of marks as the room's places take.
 pub fn simple_range<T: Copy>(
     source: &[T],
     index: &[i32],
     lowest: usize,
     out: &mut [T],
-    marks: &mut [bool],
+    marks: &mut [u32],
 ) -> Result<usize, Fault>
     ensures { WritesRange (simple_range_of source.now index.now lowest out.old marks.old)
         result (out.old, marks.old) (out.new, marks.new) }
@@ -51,7 +55,7 @@ pub fn simple_range<T: Copy>(
     check_few(index.len())?;
     check_end(lowest, out.len())?;
     check_agree(source.len(), index.len())?;
-    check_agree(out.len(), marks.len())?;
+    check_agree(words_for(out.len()), marks.len())?;
     Ok(write_counted(source, &AllDestinations { index }, lowest, out, marks))
 }
 
@@ -63,7 +67,7 @@ pub fn select_range<T: Copy>(
     flags: &[bool],
     lowest: usize,
     out: &mut [T],
-    marks: &mut [bool],
+    marks: &mut [u32],
 ) -> Result<usize, Fault>
     ensures { WritesRange (select_range_of source.now index.now flags.now lowest out.old marks.old)
         result (out.old, marks.old) (out.new, marks.new) }
@@ -72,7 +76,7 @@ pub fn select_range<T: Copy>(
     check_end(lowest, out.len())?;
     check_agree(source.len(), index.len())?;
     check_agree(index.len(), flags.len())?;
-    check_agree(out.len(), marks.len())?;
+    check_agree(words_for(out.len()), marks.len())?;
     Ok(write_counted(
         source,
         &FlaggedDestinations { index, flags },

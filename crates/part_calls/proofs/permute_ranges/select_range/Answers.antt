@@ -15,5 +15,5 @@ pub returns : goal.returns
 returns g c =
     let told = c.write_counted.ensures in
     select_written c.args.source.now c.args.index.now c.args.lowest c.args.out.now c.args.marks.now c.in_ok-check_few.ensures c.in_ok-check_end.ensures
-    c.in_ok-check_agree.ensures c.in_ok-check_agree-3.ensures c.args.flags.now c.in_ok-check_agree-2.ensures
+    c.in_ok-check_agree.ensures (sym c.words_for.ensures ∙ c.in_ok-check_agree-3.ensures) c.args.flags.now c.in_ok-check_agree-2.ensures
     ∙ (λ i. Ok (sym told.written i, sym told.marked i, sym told.counted i))
