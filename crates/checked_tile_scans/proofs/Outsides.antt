@@ -16,7 +16,7 @@ use Rattle.scan_walks.specs.Fronts.{fitting_front}
 use Rattle.scan_walks.specs.Ranges.{range_scan_of}
 use Rattle.scan_walks.proofs.Fitted.{overflows}
 use Rattle.scan_walks.proofs.FrontLaws.{front_past, front_within}
-use Rattle.scan_walks.proofs.RangePushed.{length-range_scan_of}
+use Rattle.scan_walks.proofs.RangeParts.{length-range_scan_of}
 use Rattle.tile_plan.specs.Ranges.{range_of, tile_count}
 use Rattle.tile_plan.proofs.Numbers.{ends_at, starts_past, starts_within}
 use Rattle.tile_scans.specs.TiledSums.{tile_of}

@@ -23,7 +23,8 @@ use Rattle.cvl_base.specs.SegmentMonoid.{is_seg_item}
 use Rattle.scan_walks.specs.Fronts.{fitting_front}
 use Rattle.scan_walks.specs.Ranges.{continued, range_scan_of, scans_of, with_starts}
 use Rattle.scan_walks.proofs.Cut.{segments_scanned}
-use Rattle.scan_walks.proofs.Fitted.{length-scans_of, scan_fits, scans_fit}
+use Rattle.scan_walks.proofs.Fitted.{scan_fits, scans_fit}
+use Rattle.scan_walks.proofs.Segments.{length-scans_of}
 use Rattle.scan_walks.proofs.WholeSums.{all_whole, whole_laws}
 use Rattle.tile_plan.specs.Ranges.{range_of, tile_count}
 use Rattle.tile_scans.specs.TiledSums.{tile_of}
@@ -92,7 +93,7 @@ pub segmented_scan_meant : (lengths : List ℕ) (xs ys : List ℤ) → sum lengt
 segmented_scan_meant lengths xs ys total fit is =
     let zs = scans_of ◌+ℤ◌ (pos 0) lengths xs in
     let ge = none_outside zs None (sym fit ∙ ap first_outside (segments_scanned whole_laws lengths xs (pos 0) (all_whole xs))) refl in
-    scans_fit (fitting_front zs) lengths xs total refl (omega (arith, ge, length-scans_of ◌+ℤ◌ (pos 0) lengths xs total)) ∙ ap Ok (sym is)
+    scans_fit (fitting_front zs) lengths xs total refl (omega (arith, ge, length-scans_of ◌+ℤ◌ (pos 0) lengths xs (omega (arith, total)))) ∙ ap Ok (sym is)
 
 -- a refusal is handed on
 pub refused_on : {X Y Z : Type 0} (view : X → Y) (other : Z → Y) (e : Refused) (m n : Result Y Fault) → m ≡ n → Gives other (Err e) m → Gives view (Err e) n

@@ -1,9 +1,9 @@
 -- A run of a segmented vector is what continues the segment that it begins in, and then the segments that start in it.
-use Rattle.std.proofs.Common.{◌≡◌, ℕ, zero, suc, ◌+◌, ◌-◌, min, ◌<◌, ◌≤◌, Bool, false, true, inl, inr, List, [], ◌∷◌, ◌++◌, length, take, drop, refl, sym, ap, subst, ◌∙◌, arith}
+use Rattle.std.proofs.Common.{◌≡◌, ℕ, zero, suc, ◌+◌, ◌-◌, ◌<◌, ◌≤◌, Bool, false, true, inl, inr, List, [], ◌∷◌, ◌++◌, length, take, drop, refl, sym, ap, ◌∙◌, arith}
 use Rattle.std.specs.Prelude.{sum}
 use Rattle.std.specs.List.{AllPass}
 use Rattle.std.proofs.lemmas.Bool.Decides.{leb_tells}
-use Rattle.std.proofs.lemmas.List.{length-map, length-take, length-take-le, length-drop, take_all, take_min, drop_min, drop-append-le, drop-take, drop-drop, drop-map, drop_at}
+use Rattle.std.proofs.lemmas.List.{length-map, length-take, length-take-le, length-drop, take_all, drop-append-le, drop-take, drop-drop, drop-map, drop_at}
 use Rattle.std.proofs.lemmas.List.Elements.{All-head, All-take, All-drop}
 use Rattle.cvl_base.specs.Folds.{fold_of, scan_of}
 use Rattle.cvl_base.specs.Monoid.{MonoidLaws}
@@ -110,38 +110,14 @@ module _ {Item : Type 0} {is_item : Item → Bool} {unit : Item} {join : Item �
       (All-take (λ x. is_item x ≡ true) n xs items)
       (λ b. segments_scanned ls (drop n xs) b (All-drop (λ x. is_item x ≡ true) n xs items))
 
-  -- what a walk over the run gives, where `rest` are the run's elements
-  pub range_scanned : (lengths : List ℕ) (xs rest : List Item) (before : Item) (from m k first : ℕ) → first ≤ length lengths → from + m ≤ length xs
-      → from + k ≡ start_of lengths first → ((s : ℕ) → s < first → start_of lengths s < from) → AllPass is_item xs → rest ≡ take m (drop from xs)
-      → range_scan_of join unit before (range_between lengths xs from (from + m)) ≡ scan_of join before (take k rest) ++ scans_of join unit (drop first lengths) (drop k rest)
-  range_scanned lengths xs rest before from m k first le within is earlier items is_rest =
-      let parts = range_cut lengths (take (from + m) xs) from k first le (omega (arith, length-take (from + m) xs)) is earlier in
-      let same : drop from (take (from + m) xs) ≡ rest = drop-take from m xs ∙ sym is_rest in
-      ap (range_scan_of join unit before) (parts ∙ ap (λ ys. continued (take k ys) ++ with_starts (drop first lengths) (drop k ys)) same)
-      ∙ continued_scanned join unit before (take k rest) (with_starts (drop first lengths) (drop k rest))
-      ∙ ap (λ sums. scan_of join before (take k rest) ++ sums)
-      (segments_scanned (drop first lengths) (drop k rest) (fold_of join before (take k rest))
-      (All-drop (λ x. is_item x ≡ true) k rest (subst (AllPass is_item) (sym is_rest) (All-take (λ x. is_item x ≡ true) m (drop from xs) (All-drop (λ x. is_item x ≡ true) from xs items)))))
+  -- what continues the segment before a range, and then segments
+  pub parts_scanned : (lengths : List ℕ) (before : Item) (front others : List Item) → AllPass is_item others
+      → range_scan_of join unit before (continued front ++ with_starts lengths others) ≡ scan_of join before front ++ scans_of join unit lengths others
+  parts_scanned lengths before front others items =
+      continued_scanned join unit before front (with_starts lengths others)
+      ∙ ap (λ sums. scan_of join before front ++ sums) (segments_scanned lengths others (fold_of join before front) items)
 
   -- the whole vector is a run
   pub whole_scanned : (lengths : List ℕ) (xs : List Item) (before : Item) → AllPass is_item xs → range_scan_of join unit before (range_between lengths xs 0 (length xs)) ≡ scans_of join unit lengths xs
   whole_scanned lengths xs before items =
       ap (λ ys. range_scan_of join unit before (with_starts lengths ys)) (take_all (length xs) xs (omega arith)) ∙ segments_scanned lengths xs before items
-
-  -- what the walk over a run pushes: it splits the run's elements at the first start, or at the end of the run
-  pub range_walked : (lengths : List ℕ) (xs rest front others : List Item) (before : Item) (from to first start j : ℕ)
-      → sum lengths ≡ length xs → from ≤ to → to ≤ length xs → first ≤ length lengths
-      → ((s : ℕ) → s < first → start_of lengths s < from) → ((s : ℕ) → first ≤ s → s < length lengths → from ≤ start_of lengths s)
-      → AllPass is_item xs → rest ≡ take (to - from) (drop from xs) → start ≡ start_of lengths first → j ≡ min start to - from → front ≡ take j rest → others ≡ drop j rest
-      → range_scan_of join unit before (range_between lengths xs from to) ≡ scan_of join before front ++ scans_of join unit (drop first lengths) others
-  range_walked lengths xs rest front others before from to first start j total in_order within le earlier later items is_rest is_start is_j is_front is_others =
-      let begins : from ≤ start_of lengths first = begins_by lengths from first (omega (arith, total)) later in
-      let m : ℕ = to - from in
-      let k : ℕ = start_of lengths first - from in
-      let end : from + m ≡ to = omega (arith, in_order) in
-      let long : length rest ≡ m = ap length is_rest ∙ omega (arith, length-take m (drop from xs), length-drop from xs) in
-      let split : min k (length rest) ≡ j = omega (arith, long, is_j, is_start, begins) in
-      ap (λ t. range_scan_of join unit before (range_between lengths xs from t)) (sym end)
-      ∙ range_scanned lengths xs rest before from m k first le (omega (arith, end)) (omega (arith, begins)) earlier items is_rest
-      ∙ ap (λ ys. scan_of join before ys ++ scans_of join unit (drop first lengths) (drop k rest)) (sym (take_min k rest) ∙ ap (λ i. take i rest) split ∙ sym is_front)
-      ∙ ap (λ ys. scan_of join before front ++ scans_of join unit (drop first lengths) ys) (sym (drop_min k rest) ∙ ap (λ i. drop i rest) split ∙ sym is_others)

@@ -4,7 +4,7 @@
 use Rattle.std.proofs.Common.{◌≡◌, ◌∙◌, refl, sym, ap, ℕ, ◌+◌, ◌<◌, ◌≤◌, Bool, true, false, cond, ℤ, pos, ◌+ℤ◌, w32, List, [], ◌∷◌, ◌++◌, length, map, take, drop, arith, Some, None, Ok, Err}
 use Rattle.std.specs.Prelude.{if◌then◌else◌, sum}
 use Rattle.std.proofs.lemmas.Int.{int_wrap-add_left}
-use Rattle.std.proofs.lemmas.List.{length-append, length-drop, length-take, map-append}
+use Rattle.std.proofs.lemmas.List.{map-append}
 use Rattle.operators.proofs.FoldLaws.{length-scan_of}
 use Rattle.operators.specs.NumberLaws.{number_words}
 use Rattle.cvl_base.specs.CheckedSums.{checked_scan_of, checked_seg_scan_of, fitting}
@@ -15,10 +15,10 @@ use Rattle.cvl_base.specs.Folds.{scan_of}
 use Rattle.cvl_base.specs.Gives.{◌>>=◌}
 use Rattle.cvl_base.specs.Integers.{sum_of, wrap}
 use Rattle.cvl_base.specs.ItemWords.{is_number}
-use Rattle.cvl_base.proofs.Lists.{sum-cons}
 use Rattle.scan_walks.specs.Fronts.{fitting_front}
 use Rattle.scan_walks.specs.Ranges.{scans_of}
 use Rattle.operators.proofs.FoldLaws.{scan_of-cons}
+use Rattle.scan_walks.proofs.Segments.{length-scans_of}
 use Rattle.scan_walks.proofs.Valued.{scans_valued}
 
 fails_at : (b : Bool) (n : ℕ) (z : ℤ) (zs : List ℤ) → cond b (1 + fitting_front zs) 0 < 1 + length zs
@@ -78,16 +78,6 @@ wrapped_scans (n ∷ ls) xs =
     ∙ ap (λ zs. map wrap first ++ zs) (wrapped_scans ls (drop n xs))
     ∙ sym (map-append wrap first (scans_of ◌+ℤ◌ (pos 0) ls (drop n xs)))
 
--- ---- scans of segments are as long as the elements
-
-pub length-scans_of : {Item : Type 0} (join : Item → Item → Item) (unit : Item) (lengths : List ℕ) (xs : List Item) → sum lengths ≡ length xs → length (scans_of join unit lengths xs) ≡ length xs
-length-scans_of join unit [] xs total = omega (arith, total)
-length-scans_of join unit (n ∷ ls) xs total =
-    let front = take n xs in
-    let whole : n + sum ls ≡ length xs = omega (arith, total, sum-cons n ls) in
-    let rest = length-scans_of join unit ls (drop n xs) (omega (arith, whole, length-drop n xs)) in
-    omega (arith, length-append (scan_of join unit front) (scans_of join unit ls (drop n xs)), length-scan_of join unit front, length-take n xs, length-drop n xs, rest, whole)
-
 -- ---- checked scans, where it is known how many results fit from the first one on
 
 module _ (n : ℕ) (zs : List ℤ) (is : n ≡ fitting_front zs) where
@@ -108,7 +98,7 @@ module _ (n : ℕ) (xs : List ℤ) (is : n ≡ fitting_front (scan_of ◌+ℤ◌
 -- and of a segmented one
 module _ (n : ℕ) (lengths : List ℕ) (xs : List ℤ) (total : sum lengths ≡ length xs) (is : n ≡ fitting_front (scans_of ◌+ℤ◌ (pos 0) lengths xs)) where
   pub scans_overflow : n < length xs → checked_seg_scan_of xs lengths ≡ Err (fault_at Overflow n)
-  scans_overflow lt = scans_valued lengths xs total ∙ one_overflows n (scans_of ◌+ℤ◌ (pos 0) lengths xs) is (omega (arith, lt, length-scans_of ◌+ℤ◌ (pos 0) lengths xs total))
+  scans_overflow lt = scans_valued lengths xs total ∙ one_overflows n (scans_of ◌+ℤ◌ (pos 0) lengths xs) is (omega (arith, lt, length-scans_of ◌+ℤ◌ (pos 0) lengths xs (omega (arith, total))))
 
   pub scans_fit : length xs ≤ n → checked_seg_scan_of xs lengths ≡ Ok (scans_of sum_of (pos 0) lengths xs)
-  scans_fit ge = scans_valued lengths xs total ∙ none_overflows n (scans_of ◌+ℤ◌ (pos 0) lengths xs) is _ (omega (arith, ge, length-scans_of ◌+ℤ◌ (pos 0) lengths xs total)) (wrapped_scans lengths xs)
+  scans_fit ge = scans_valued lengths xs total ∙ none_overflows n (scans_of ◌+ℤ◌ (pos 0) lengths xs) is _ (omega (arith, ge, length-scans_of ◌+ℤ◌ (pos 0) lengths xs (omega (arith, total)))) (wrapped_scans lengths xs)

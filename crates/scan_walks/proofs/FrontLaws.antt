@@ -1,17 +1,17 @@
 -- How many numbers of a list fit 32 bits, from the first one on: of scans, and of lists one after another.
-use Rattle.std.proofs.Common.{◌≡◌, ◌∙◌, refl, sym, ap, ℕ, ◌+◌, ◌-◌, ◌<◌, ◌≤◌, min, Bool, true, false, cond, ℤ, pos, ◌+ℤ◌, List, [], ◌∷◌, ◌++◌, length, take, drop, get_or, arith, Some, None}
+use Rattle.std.proofs.Common.{◌≡◌, ◌∙◌, refl, sym, ap, ℕ, ◌+◌, ◌<◌, ◌≤◌, min, Bool, true, false, cond, ℤ, pos, ◌+ℤ◌, List, [], ◌∷◌, ◌++◌, length, take, drop, get_or, arith, Some, None}
 use Rattle.std.specs.Prelude.{if◌then◌else◌, sum}
-use Rattle.std.proofs.lemmas.List.{drop_more, drop_all, take-append-drop}
+use Rattle.std.specs.Option.{is_some}
+use Rattle.std.proofs.lemmas.List.{drop_more, drop_all, drop-drop, length-take, take-append-drop}
 use Rattle.operators.proofs.FoldLaws.{length-scan_of}
 use Rattle.cvl_base.specs.CheckedSums.{fitting}
 use Rattle.cvl_base.specs.Folds.{fold_of, scan_of}
 use Rattle.cvl_base.specs.ItemWords.{is_number}
 use Rattle.scan_walks.specs.Fronts.{fitting_front}
-use Rattle.segdes.specs.Starts.{start_of}
-use Rattle.scan_walks.specs.Ranges.{range_between, range_scan_of, scans_of}
-use Rattle.scan_walks.proofs.RangePushed.{range_pushed}
+use Rattle.scan_walks.specs.Ranges.{continued, range_scan_of, scans_of, with_starts}
+use Rattle.scan_walks.proofs.Cut.{parts_scanned}
 use Rattle.operators.proofs.FoldLaws.{scan_of-append, scan_of-cons}
-use Rattle.scan_walks.proofs.Segments.{scans_more_min}
+use Rattle.scan_walks.proofs.Segments.{length-scans_of, scans_parted}
 use Rattle.scan_walks.proofs.WholeSums.{all_whole, whole_laws}
 
 passed : (z y : ℤ) (b : Bool) → (if b then Some z else None) ≡ Some y → b ≡ true
@@ -21,6 +21,13 @@ passed z y false is = cc
 failed : (z : ℤ) (b : Bool) → (if b then Some z else None) ≡ None → b ≡ false
 failed z true is = cc
 failed z false is = refl
+
+some_passed : (z : ℤ) (b : Bool) → is_some (if b then Some z else None) ≡ true → b ≡ true
+some_passed z true is = refl
+some_passed z false is = cc
+
+pub some-fits : (z w : ℤ) → w ≡ z → is_some (fitting w) ≡ true → is_number z ≡ true
+some-fits z w same is = some_passed z (is_number z) (ap (λ v. is_some (fitting v)) (sym same) ∙ is)
 
 pub fitting-passes : (z y : ℤ) → fitting z ≡ Some y → is_number z ≡ true
 fitting-passes z y is = passed z y (is_number z) is
@@ -77,7 +84,7 @@ scan_within before xs ys n is lt =
     let zs = scan_of ◌+ℤ◌ before xs in
     is ∙ sym (front_within zs ys (omega (arith, is, lt, length-scan_of ◌+ℤ◌ before xs)))
 
-scan_past : (before : ℤ) (xs ys : List ℤ) (n : ℕ) → n ≡ fitting_front (scan_of ◌+ℤ◌ before xs) → length xs ≤ n → fitting_front (scan_of ◌+ℤ◌ before xs ++ ys) ≡ length xs + fitting_front ys
+pub scan_past : (before : ℤ) (xs ys : List ℤ) (n : ℕ) → n ≡ fitting_front (scan_of ◌+ℤ◌ before xs) → length xs ≤ n → fitting_front (scan_of ◌+ℤ◌ before xs ++ ys) ≡ length xs + fitting_front ys
 scan_past before xs ys n is ge =
     let zs = scan_of ◌+ℤ◌ before xs in
     let long = length-scan_of ◌+ℤ◌ before xs in
@@ -111,47 +118,43 @@ pub segments_end : (whole done s : ℕ) (lengths : List ℕ) (rest : List ℤ) �
 segments_end whole done s lengths rest is past =
     let none = is ∙ ap (λ ls. done + fitting_front (scans_of ◌+ℤ◌ (pos 0) ls rest)) (drop_all s lengths past) in omega (arith, none)
 
-module _ (whole done s n cut : ℕ) (lengths : List ℕ) (rest segment others : List ℤ) (lt : s < length lengths) (is_n : n ≡ get_or lengths s 0)
-    (is_cut : cut ≡ min n (length rest)) (is_segment : segment ≡ take cut rest) (is_others : others ≡ drop cut rest)
+-- the step takes k segments, the last of them cut short by the end of the numbers
+module _ (whole done s k n cut later : ℕ) (lengths : List ℕ) (rest group others : List ℤ) (is_later : later ≡ s + k) (is_n : n ≡ sum (take k (drop s lengths)))
+    (is_cut : cut ≡ min n (length rest)) (is_group : group ≡ take cut rest) (is_others : others ≡ drop cut rest)
     (is : whole ≡ done + fitting_front (scans_of ◌+ℤ◌ (pos 0) (drop s lengths) rest)) where
-  cut_off : whole ≡ done + fitting_front (scan_of ◌+ℤ◌ (pos 0) segment ++ scans_of ◌+ℤ◌ (pos 0) (drop (s + 1) lengths) others)
+  cut_off : whole ≡ done + fitting_front (scans_of ◌+ℤ◌ (pos 0) (take k (drop s lengths)) group ++ scans_of ◌+ℤ◌ (pos 0) (drop later lengths) others)
   cut_off =
       is
-      ∙ ap (λ zs. done + fitting_front zs) (scans_more_min ◌+ℤ◌ (pos 0) lengths s n rest lt is_n)
-      ∙ ap (λ k. done + fitting_front (scan_of ◌+ℤ◌ (pos 0) (take k rest) ++ scans_of ◌+ℤ◌ (pos 0) (drop (s + 1) lengths) (drop k rest))) (sym is_cut)
-      ∙ ap (λ ys. done + fitting_front (scan_of ◌+ℤ◌ (pos 0) ys ++ scans_of ◌+ℤ◌ (pos 0) (drop (s + 1) lengths) (drop cut rest))) (sym is_segment)
-      ∙ ap (λ ys. done + fitting_front (scan_of ◌+ℤ◌ (pos 0) segment ++ scans_of ◌+ℤ◌ (pos 0) (drop (s + 1) lengths) ys)) (sym is_others)
+      ∙ ap (λ zs. done + fitting_front zs) (scans_parted ◌+ℤ◌ (pos 0) k n cut (drop s lengths) rest is_n is_cut)
+      ∙ ap (λ ys. done + fitting_front (scans_of ◌+ℤ◌ (pos 0) (take k (drop s lengths)) ys ++ scans_of ◌+ℤ◌ (pos 0) (drop k (drop s lengths)) (drop cut rest))) (sym is_group)
+      ∙ ap (λ ys. done + fitting_front (scans_of ◌+ℤ◌ (pos 0) (take k (drop s lengths)) group ++ scans_of ◌+ℤ◌ (pos 0) (drop k (drop s lengths)) ys)) (sym is_others)
+      ∙ ap (λ ls. done + fitting_front (scans_of ◌+ℤ◌ (pos 0) (take k (drop s lengths)) group ++ scans_of ◌+ℤ◌ (pos 0) ls others)) (drop-drop k s lengths ∙ ap (λ j. drop j lengths) (sym is_later))
 
-  pub segments_stop : (fitting : ℕ) → fitting ≡ fitting_front (scan_of ◌+ℤ◌ (pos 0) segment) → fitting < length segment → done + fitting ≡ whole
-  segments_stop fitting met lt =
-      ap (λ k. done + k) (scan_within (pos 0) segment (scans_of ◌+ℤ◌ (pos 0) (drop (s + 1) lengths) others) fitting met lt) ∙ sym cut_off
+  long : length (scans_of ◌+ℤ◌ (pos 0) (take k (drop s lengths)) group) ≡ length group
+  long = length-scans_of ◌+ℤ◌ (pos 0) (take k (drop s lengths)) group (omega (arith, ap length is_group, length-take cut rest, is_n, is_cut))
 
-  pub segments_go_on : (fitting next : ℕ) → fitting ≡ fitting_front (scan_of ◌+ℤ◌ (pos 0) segment) → length segment ≤ fitting → next ≡ done + length segment
-      → whole ≡ next + fitting_front (scans_of ◌+ℤ◌ (pos 0) (drop (s + 1) lengths) others)
-  segments_go_on fitting next met ge is_next =
-      let ys = scans_of ◌+ℤ◌ (pos 0) (drop (s + 1) lengths) others in
-      omega (arith, cut_off, scan_past (pos 0) segment ys fitting met ge, is_next)
+  module _ (fitting : ℕ) (met : fitting ≡ fitting_front (scans_of ◌+ℤ◌ (pos 0) (take k (drop s lengths)) group)) where
+    pub segments_stop : fitting < length group → done + fitting ≡ whole
+    segments_stop lt =
+        let within = front_within (scans_of ◌+ℤ◌ (pos 0) (take k (drop s lengths)) group) (scans_of ◌+ℤ◌ (pos 0) (drop later lengths) others) (omega (arith, met, lt, long)) in
+        omega (arith, cut_off, within, met)
 
--- ---- a walk over a run: what continues its first segment, and then the segments that start in it
+    pub segments_go_on : (next : ℕ) → length group ≤ fitting → next ≡ done + length group → whole ≡ next + fitting_front (scans_of ◌+ℤ◌ (pos 0) (drop later lengths) others)
+    segments_go_on next ge is_next =
+        let past = front_past (scans_of ◌+ℤ◌ (pos 0) (take k (drop s lengths)) group) (scans_of ◌+ℤ◌ (pos 0) (drop later lengths) others) (omega (arith, met, ge, long)) in
+        omega (arith, cut_off, past, long, is_next)
 
-module _ (d : List ℕ) (xs rest front others : List ℤ) (before : ℤ) (from to first next start j : ℕ)
-    (total : sum d ≡ length xs) (in_order : from ≤ to) (within : to ≤ length xs) (few : first ≤ length d)
-    (earlier : (s : ℕ) → s < first → start_of d s < from) (at_or_after : (s : ℕ) → first ≤ s → s < length d → from ≤ start_of d s)
-    (past : (s : ℕ) → next ≤ s → s < length d → to ≤ start_of d s)
-    (is_rest : rest ≡ take (to - from) (drop from xs)) (is_start : start ≡ start_of d first) (is_j : j ≡ min start to - from)
-    (is_front : front ≡ take j rest) (is_others : others ≡ drop j rest) where
-  walked : scan_of ◌+ℤ◌ before front ++ scans_of ◌+ℤ◌ (pos 0) (take (next - first) (drop first d)) others ≡ range_scan_of ◌+ℤ◌ (pos 0) before (range_between d xs from to)
-  walked =
-      range_pushed whole_laws d xs rest front others [] (scan_of ◌+ℤ◌ before front)
-      (scan_of ◌+ℤ◌ before front ++ scans_of ◌+ℤ◌ (pos 0) (take (next - first) (drop first d)) others)
-      before from to first next start j total in_order within few earlier at_or_after past (all_whole xs) is_rest is_start is_j is_front is_others refl refl
+-- ---- a walk over a range: what continues the segment before it, and then the segments that start in it
 
-  pub range_stops : (n : ℕ) → n ≡ fitting_front (scan_of ◌+ℤ◌ before front) → n < length front → n ≡ fitting_front (range_scan_of ◌+ℤ◌ (pos 0) before (range_between d xs from to))
-  range_stops n is lt = scan_within before front (scans_of ◌+ℤ◌ (pos 0) (take (next - first) (drop first d)) others) n is lt ∙ ap fitting_front walked
+module _ (lengths : List ℕ) (before : ℤ) (front others : List ℤ) (range : List (Bool × ℤ)) (is : range ≡ continued front ++ with_starts lengths others) where
+  walked : range_scan_of ◌+ℤ◌ (pos 0) before range ≡ scan_of ◌+ℤ◌ before front ++ scans_of ◌+ℤ◌ (pos 0) lengths others
+  walked = ap (range_scan_of ◌+ℤ◌ (pos 0) before) is ∙ parts_scanned whole_laws lengths before front others (all_whole others)
 
-  pub range_goes_on : (n m : ℕ) → n ≡ fitting_front (scan_of ◌+ℤ◌ before front) → n ≡ length front → m ≡ fitting_front (scans_of ◌+ℤ◌ (pos 0) (take (next - first) (drop first d)) others)
-      → n + m ≡ fitting_front (range_scan_of ◌+ℤ◌ (pos 0) before (range_between d xs from to))
+  pub range_stops : (n : ℕ) → n ≡ fitting_front (scan_of ◌+ℤ◌ before front) → n < length front → n ≡ fitting_front (range_scan_of ◌+ℤ◌ (pos 0) before range)
+  range_stops n is lt = scan_within before front (scans_of ◌+ℤ◌ (pos 0) lengths others) n is lt ∙ ap fitting_front (sym walked)
+
+  pub range_goes_on : (n m : ℕ) → n ≡ fitting_front (scan_of ◌+ℤ◌ before front) → n ≡ length front → m ≡ fitting_front (scans_of ◌+ℤ◌ (pos 0) lengths others)
+      → n + m ≡ fitting_front (range_scan_of ◌+ℤ◌ (pos 0) before range)
   range_goes_on n m is all later =
-      let ys = scans_of ◌+ℤ◌ (pos 0) (take (next - first) (drop first d)) others in
       let same = ap fitting_front walked in
-      omega (arith, scan_past before front ys n is (omega (arith, all)), all, later, same)
+      omega (arith, scan_past before front (scans_of ◌+ℤ◌ (pos 0) lengths others) n is (omega (arith, all)), all, later, same)

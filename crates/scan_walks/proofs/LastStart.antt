@@ -1,8 +1,9 @@
 -- What the elements of a run join to since the last start in it.
-use Rattle.std.proofs.Common.{◌≡◌, ℕ, zero, suc, ◌+◌, ◌-◌, ◌<◌, ◌≤◌, Bool, false, true, List, [], ◌∷◌, ◌++◌, length, take, drop, get_or, refl, sym, ap, ◌∙◌, arith, append_assoc, append-nil}
+use Rattle.std.proofs.Common.{◌≡◌, ℕ, ◌+◌, ◌-◌, ◌<◌, ◌≤◌, Bool, false, true, List, [], ◌∷◌, ◌++◌, length, take, drop, get_or, refl, sym, ap, ◌∙◌, arith, append-nil}
 use Rattle.std.specs.Prelude.{sum}
-use Rattle.std.specs.List.{AllPass}
-use Rattle.std.proofs.lemmas.List.{length-take, length-drop, length-append, take_all, drop_all, drop_more, drop-append-le, drop-take, drop-drop, take-take}
+use Rattle.std.specs.List.{AllPass, flat_map}
+use Rattle.std.proofs.lemmas.Grind.{flat_map-append}
+use Rattle.std.proofs.lemmas.List.{length-take, length-drop, length-append, take_all, drop_all, drop_more, drop-append-le, drop-take}
 use Rattle.std.proofs.lemmas.List.Elements.{All-head, All-take, All-drop}
 use Rattle.std.proofs.lemmas.List.Sums.{fold-append, sum_by_more}
 use Rattle.cvl_base.specs.Booleans.{either}
@@ -12,10 +13,12 @@ use Rattle.cvl_base.specs.SegmentMonoid.{seg_join}
 use Rattle.segdes.specs.Starts.{start_of}
 use Rattle.scan_walks.specs.Ranges.{continued, started, with_starts, range_between}
 use Rattle.cvl_base.proofs.Lists.{sum-cons}
+use Rattle.cvl_base.specs.Nests.{cut_of}
 use Rattle.scan_walks.proofs.Cut.{range_cut, length-started}
+use Rattle.scan_walks.proofs.Segments.{cut_parted}
 
 module _ {Item : Type 0} where
-  with_starts-none : (lengths : List ℕ) → with_starts {Item = Item} lengths [] ≡ []
+  pub with_starts-none : (lengths : List ℕ) → with_starts {Item = Item} lengths [] ≡ []
   with_starts-none [] = refl
   with_starts-none (n ∷ ls) =
       ap (λ front. started front ++ with_starts ls (drop n [])) (take_all n [] (omega arith))
@@ -23,19 +26,11 @@ module _ {Item : Type 0} where
       ∙ with_starts-none ls
 
   -- a vector is its segments before s and those from s on
-  split_at_start : (lengths : List ℕ) (xs : List Item) (s : ℕ) → s ≤ length lengths
+  pub split_at_start : (lengths : List ℕ) (xs : List Item) (s : ℕ)
       → with_starts lengths xs ≡ with_starts (take s lengths) (take (start_of lengths s) xs) ++ with_starts (drop s lengths) (drop (start_of lengths s) xs)
-  split_at_start lengths xs zero le = refl
-  split_at_start [] xs (suc s) le = absurd (omega arith)
-  split_at_start (n ∷ ls) xs (suc s) le =
-      let p : ℕ = start_of ls s in
-      let begins : n + p ≡ start_of (n ∷ ls) (suc s) = omega (arith, sum-cons n (take s ls)) in
-      ap (λ rest. started (take n xs) ++ rest) (split_at_start ls (drop n xs) s (omega arith))
-      ∙ sym (append_assoc (started (take n xs)) (with_starts (take s ls) (take p (drop n xs))) (with_starts (drop s ls) (drop p (drop n xs))))
-      ∙ ap (λ ys. (started ys ++ with_starts (take s ls) (take p (drop n xs))) ++ with_starts (drop s ls) (drop p (drop n xs))) (sym (take-take n (n + p) xs (omega arith)))
-      ∙ ap (λ ys. (started (take n (take (n + p) xs)) ++ with_starts (take s ls) ys) ++ with_starts (drop s ls) (drop p (drop n xs))) (sym (drop-take n p xs))
-      ∙ ap (λ ys. with_starts (n ∷ take s ls) (take (n + p) xs) ++ with_starts (drop s ls) ys) (drop-drop p n xs)
-      ∙ ap (λ q. with_starts (n ∷ take s ls) (take q xs) ++ with_starts (drop s ls) (drop q xs)) begins
+  split_at_start lengths xs s =
+      ap (flat_map started) (cut_parted s lengths xs)
+      ∙ flat_map-append started (cut_of (take s lengths) (take (start_of lengths s) xs)) (cut_of (drop s lengths) (drop (start_of lengths s) xs))
 
   pub length-with_starts : (lengths : List ℕ) (xs : List Item) → length xs ≤ sum lengths → length (with_starts lengths xs) ≡ length xs
   length-with_starts [] xs covered = omega (arith, covered)
@@ -80,7 +75,7 @@ module _ {Item : Type 0} where
       let long : length front ≡ length (take p (take to xs)) = length-with_starts (take s lengths) (take p (take to xs)) (omega (arith, length-take p (take to xs))) in
       let end : p + m ≡ to = omega (arith, before) in
       let whole : with_starts lengths (take to xs) ≡ front ++ started ys =
-      split_at_start lengths (take to xs) s (omega (arith, lt))
+      split_at_start lengths (take to xs) s
       ∙ ap (λ ls. front ++ with_starts ls ys) (drop_more lengths s 0 lt)
       ∙ ap (λ zs. front ++ (started zs ++ with_starts (drop (s + 1) lengths) (drop n ys))) (take_all n ys short)
       ∙ ap (λ zs. front ++ (started ys ++ with_starts (drop (s + 1) lengths) zs)) (drop_all n ys short)

@@ -5,7 +5,7 @@ pub mod Fitted
 pub mod FrontLaws
 pub mod InPlace
 pub mod LastStart
-pub mod RangePushed
+pub mod RangeParts
 pub mod Scanned
 pub mod SegmentReduces
 pub mod Segmented

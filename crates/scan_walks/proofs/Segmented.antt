@@ -1,12 +1,12 @@
 -- The scans and reduces of segments, where the lengths fit the elements and where they don't.
-use Rattle.std.proofs.Common.{◌≡◌, ℕ, ◌+◌, List, [], ◌∷◌, length, map, refl, ap, ◌∙◌, Ok, Err}
+use Rattle.std.proofs.Common.{◌≡◌, ℕ, List, length, ap, ◌∙◌, Ok, Err}
 use Rattle.std.specs.Prelude.{sum}
 use Rattle.cvl_base.specs.declared.fault.Fault.{Fault}
 use Rattle.cvl_base.specs.Folds.{fold_of, scan_of}
 use Rattle.cvl_base.specs.Gives.{◌>>=◌}
 use Rattle.cvl_base.specs.Lists.{joined}
 use Rattle.cvl_base.specs.Nests.{cut_of, nest}
-use Rattle.cvl_base.specs.Segmented.{in_vector, results_from, one_each, end_to_end}
+use Rattle.cvl_base.specs.Segmented.{in_vector, one_each, end_to_end}
 use Rattle.cvl_base.proofs.Nests.{nest-fits}
 use Rattle.cvl_base.proofs.Segmented.{results-ok}
 use Rattle.cvl_base.specs.SegmentedCalls.{seg_scan_of, seg_reduce_of}

@@ -2,12 +2,16 @@
 use Rattle.std.proofs.Common.{◌≡◌, ℕ, zero, suc, ◌-◌, ℤ, pos, to_z, of_z, w32, w64, Fits, ◌+◌, ◌<◌, ◌≤◌, min, List, [], ◌∷◌, ◌++◌, length, take, drop, map, get_or, refl, sym, ap, ◌∙◌, arith}
 use Rattle.std.specs.Prelude.{sum, unsigned_abs}
 use Rattle.std.proofs.Math.Facts.{Fits-below}
-use Rattle.std.proofs.lemmas.List.{length-take, drop-map, take-map, drop-take, take-take, nil_from_length, length-drop, drop_more, take_all, drop_all, take_min, drop_min}
+use Rattle.std.proofs.lemmas.List.{length-take, drop-map, take-map, drop-take, take-take, length-drop, drop_more, take_all, drop-drop, take_min, drop_min, append-nil, length-append, map-append}
+use Rattle.std.proofs.lemmas.Grind.{flat_map-append}
 use Rattle.std.proofs.lemmas.List.Sums.{sum_by-take-drop}
 use Rattle.std.specs.Int.{IsNonNegative}
 use Rattle.cvl_base.specs.Descriptors.{AreLengths}
 use Rattle.cvl_base.specs.Limits.{most_elements}
 use Rattle.cvl_base.specs.Folds.{fold_of, scan_of}
+use Rattle.cvl_base.specs.Lists.{joined}
+use Rattle.cvl_base.specs.Nests.{cut_of}
+use Rattle.operators.proofs.FoldLaws.{length-scan_of}
 use Rattle.cvl_base.proofs.Descriptors.{abs_pos}
 use Rattle.cvl_base.proofs.Lists.{sum-cons}
 use Rattle.segdes.proofs.Sums.{cast_fits, length_at}
@@ -38,24 +42,57 @@ module _ {Item : Type 0} (join : Item → Item → Item) (unit : Item) (lengths 
       ap (λ ls. reduces_of join unit ls rest) (drop_more lengths s 0 lt)
       ∙ ap (λ m. fold_of join unit (take m rest) ∷ reduces_of join unit (drop (s + 1) lengths) (drop m rest)) (sym is)
 
-pub scans-none : {Item : Type 0} (join : Item → Item → Item) (unit : Item) (lengths : List ℕ) → scans_of join unit lengths [] ≡ []
-scans-none join unit [] = refl
-scans-none join unit (n ∷ ls) =
-    ap (λ front. scan_of join unit front ++ scans_of join unit ls (drop n [])) (take_all n [] (omega arith))
-    ∙ ap (λ others. scans_of join unit ls others) (drop_all n [] (omega arith))
-    ∙ scans-none join unit ls
+-- k segments, and those after them
+pub cut_parted : {Item : Type 0} (k : ℕ) (lengths : List ℕ) (xs : List Item)
+    → cut_of lengths xs ≡ cut_of (take k lengths) (take (start_of lengths k) xs) ++ cut_of (drop k lengths) (drop (start_of lengths k) xs)
+cut_parted zero lengths xs = refl
+cut_parted (suc k) [] xs = refl
+cut_parted (suc k) (n ∷ ls) xs =
+    let p : ℕ = start_of ls k in
+    let begins : n + p ≡ start_of (n ∷ ls) (suc k) = omega (arith, sum-cons n (take k ls)) in
+    ap (λ rest. take n xs ∷ rest) (cut_parted k ls (drop n xs))
+    ∙ ap (λ ys. take n xs ∷ cut_of (take k ls) ys ++ cut_of (drop k ls) (drop p (drop n xs))) (sym (drop-take n p xs))
+    ∙ ap (λ ys. ys ∷ cut_of (take k ls) (drop n (take (n + p) xs)) ++ cut_of (drop k ls) (drop p (drop n xs))) (sym (take-take n (n + p) xs (omega arith)))
+    ∙ ap (λ ys. cut_of (n ∷ take k ls) (take (n + p) xs) ++ cut_of (drop k ls) ys) (drop-drop p n xs)
+    ∙ ap (λ q. cut_of (n ∷ take k ls) (take q xs) ++ cut_of (drop k ls) (drop q xs)) begins
 
--- segments that start after the elements' end change nothing
-pub scans_cut : {Item : Type 0} (join : Item → Item → Item) (unit : Item) (m : ℕ) (lengths : List ℕ) (xs : List Item) → length xs ≤ sum (take m lengths)
-    → scans_of join unit (take m lengths) xs ≡ scans_of join unit lengths xs
-scans_cut join unit zero lengths xs covered =
-    ap (λ ys. scans_of join unit [] ys) (nil_from_length xs (omega (arith, covered)))
-    ∙ sym (scans-none join unit lengths)
-    ∙ ap (λ ys. scans_of join unit lengths ys) (sym (nil_from_length xs (omega (arith, covered))))
-scans_cut join unit (suc m) [] xs covered = refl
-scans_cut join unit (suc m) (n ∷ ls) xs covered =
-    ap (λ sums. scan_of join unit (take n xs) ++ sums)
-    (scans_cut join unit m ls (drop n xs) (omega (arith, covered, sum-cons n (take m ls), length-drop n xs)))
+module _ {Item : Type 0} (join : Item → Item → Item) (unit : Item) where
+  scans_after : (k : ℕ) (lengths : List ℕ) (xs : List Item)
+      → scans_of join unit lengths xs ≡ scans_of join unit (take k lengths) (take (start_of lengths k) xs) ++ scans_of join unit (drop k lengths) (drop (start_of lengths k) xs)
+  scans_after k lengths xs =
+      let first = cut_of (take k lengths) (take (start_of lengths k) xs) in
+      let others = cut_of (drop k lengths) (drop (start_of lengths k) xs) in
+      ap (λ lists. joined (map (scan_of join unit) lists)) (cut_parted k lengths xs)
+      ∙ ap joined (map-append (scan_of join unit) first others)
+      ∙ flat_map-append (λ ys. ys) (map (scan_of join unit) first) (map (scan_of join unit) others)
+
+  -- where the last of the k is cut short
+  pub scans_parted : (k n cut : ℕ) (lengths : List ℕ) (xs : List Item) → n ≡ start_of lengths k → cut ≡ min n (length xs)
+      → scans_of join unit lengths xs ≡ scans_of join unit (take k lengths) (take cut xs) ++ scans_of join unit (drop k lengths) (drop cut xs)
+  scans_parted k n cut lengths xs is is_cut =
+      scans_after k lengths xs
+      ∙ ap (λ m. scans_of join unit (take k lengths) (take m xs) ++ scans_of join unit (drop k lengths) (drop m xs)) (sym is)
+      ∙ ap (λ ys. scans_of join unit (take k lengths) ys ++ scans_of join unit (drop k lengths) (drop n xs)) (sym (take_min n xs) ∙ ap (λ m. take m xs) (sym is_cut))
+      ∙ ap (λ ys. scans_of join unit (take k lengths) (take cut xs) ++ scans_of join unit (drop k lengths) ys) (sym (drop_min n xs) ∙ ap (λ m. drop m xs) (sym is_cut))
+
+  -- scans of segments are as long as the elements
+  pub length-scans_of : (lengths : List ℕ) (xs : List Item) → length xs ≤ sum lengths → length (scans_of join unit lengths xs) ≡ length xs
+  length-scans_of [] xs covered = omega (arith, covered)
+  length-scans_of (n ∷ ls) xs covered =
+      let front = take n xs in
+      let rest = length-scans_of ls (drop n xs) (omega (arith, covered, sum-cons n ls, length-drop n xs)) in
+      omega (arith, length-append (scan_of join unit front) (scans_of join unit ls (drop n xs)), length-scan_of join unit front, length-take n xs, length-drop n xs, rest)
+
+  -- one segment, and its scan
+  pub one_scanned : (lengths : List ℕ) (s n : ℕ) (xs : List Item) → s < length lengths → n ≡ get_or lengths s 0 → length xs ≤ n
+      → scan_of join unit xs ≡ scans_of join unit (take 1 (drop s lengths)) xs
+  one_scanned lengths s n xs lt is few =
+      sym (ap (λ ls. scans_of join unit (take 1 ls) xs) (drop_more lengths s 0 lt)
+      ∙ append-nil (scan_of join unit (take (get_or lengths s 0) xs))
+      ∙ ap (scan_of join unit) (take_all (get_or lengths s 0) xs (omega (arith, is, few))))
+
+pub one_long : (lengths : List ℕ) (s n : ℕ) → s < length lengths → n ≡ get_or lengths s 0 → n ≡ sum (take 1 (drop s lengths))
+one_long lengths s n lt is = omega (arith, is, ap (λ ls. sum (take 1 ls)) (drop_more lengths s 0 lt), sum-cons (get_or lengths s 0) [])
 
 -- ---- the loops over the segments
 
@@ -90,6 +127,11 @@ range_lengths row lengths k m is are =
       few = omega (arith, are.few, length-take m (drop k row), length-drop k row);
       in_limit = omega (arith, ap sum read, small row lengths is are, sum_by-take-drop (λ x. x) lengths k, sum_by-take-drop (λ x. x) (drop k lengths) m);
     }
+
+-- k segments from s on, and what is left of them
+pub range_left : (lengths : List ℕ) (s k later : ℕ) → later ≡ s + k → sum (take k (drop s lengths)) + sum (drop later lengths) ≡ sum (drop s lengths)
+range_left lengths s k later is =
+    ap (λ ls. sum (take k (drop s lengths)) + sum ls) (ap (λ j. drop j lengths) is ∙ sym (drop-drop k s lengths)) ∙ sum_by-take-drop (λ x. x) (drop s lengths) k
 
 -- the segments from `first` on to the one before `next` have the elements between their starts
 pub range_sum : (lengths : List ℕ) (first next : ℕ) → first ≤ next → start_of lengths first + sum (take (next - first) (drop first lengths)) ≡ start_of lengths next

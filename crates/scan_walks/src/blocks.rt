@@ -1,8 +1,9 @@
 //! What integers add up to, as long as the sum before each of them fits 32 bits: one by one, or a block at a time.
 
-ghost use Rattle.std.specs.Prelude.{◌≡◌, ◌+ℤ◌, ◌*ℤ◌, ◌≤◌, IfSome, Ok, length, pos};
+ghost use Rattle.std.specs.Prelude.{◌≡◌, ◌+ℤ◌, ◌*ℤ◌, ◌≤◌, true, IfSome, IsTrue, Ok, length, pos};
 ghost use Rattle.cvl_base.specs.Folds.{fold_of};
 ghost use Rattle.cvl_base.specs.Integers.{greater_of, lesser_of, sum_of};
+ghost use Rattle.cvl_base.specs.ItemWords.{is_number};
 ghost use Rattle.scan_walks.specs.Fronts.{IsWalked, most_of_block};
 
 use crate::whole_sums::{fitting, plus};
@@ -11,20 +12,20 @@ use operators::integer::{add, max, min};
 /// The most elements of a block.
 pub(crate) const BLOCK: usize = 512;
 
-/// What is seen of a block at once.
+/// What is seen at once of elements that stand one after another.
 #[derive(Drop)]
-struct Look {
-    /// The least of its elements and 0.
+pub(crate) struct Look {
+    /// The least of them and 0.
     least: i32,
-    /// The greatest of its elements and 0.
+    /// The greatest of them and 0.
     greatest: i32,
-    /// Its sum, wrapped to 32 bits.
+    /// Their sum, wrapped to 32 bits.
     sum: i32,
 }
 
 /// The look at a block. `before` stands before it.
 // the loop has no way out before its end, so that the compiler takes several elements at a time
-fn look_at(before: &i32, block: &[i32]) -> Look
+pub(crate) fn look_at(before: &i32, block: &[i32]) -> Look
     ensures least { result.least ≡ fold_of lesser_of (pos 0) block.now }
     ensures greatest { result.greatest ≡ fold_of greater_of (pos 0) block.now }
     ensures sum { result.sum ≡ fold_of sum_of before.now block.now }
@@ -42,11 +43,22 @@ fn look_at(before: &i32, block: &[i32]) -> Look
     }
 }
 
-/// Where as many steps lead as a block has elements at most, from a number on.
-fn reach(from: &i32, step: &i32) -> i64
-    ensures { result ≡ from.now +ℤ (pos most_of_block *ℤ step.now) }
+/// Where so many steps lead from a number on.
+fn reach(from: i32, steps: i32, step: i32) -> i64
+    ensures { result ≡ from +ℤ (steps *ℤ step) }
 {
-    i64::from(*from) + BLOCK as i64 * i64::from(*step)
+    i64::from(from) + i64::from(steps) * i64::from(step)
+}
+
+impl Look {
+    /// Whether so many steps from a number on, each of them the least or each of them the greatest element, lead to one of 32 bits.
+    pub(crate) fn leads_within(&self, from: i32, steps: i32) -> bool
+        ensures { IsTrue result → (is_number (from +ℤ (steps *ℤ self.now.least)) ≡ true)
+            × (is_number (from +ℤ (steps *ℤ self.now.greatest)) ≡ true) }
+    {
+        fitting(&reach(from, steps, self.least)).is_some()
+            && fitting(&reach(from, steps, self.greatest)).is_some()
+    }
 }
 
 /// What a block adds up to, where its least and its greatest element show that this and the sum before each element fit 32 bits.
@@ -56,9 +68,10 @@ fn sum_within(before: &i32, block: &[i32]) -> Option<i32>
     ensures { IfSome result (λ sum. IsWalked before.now block.now (Ok sum)) }
 {
     let look = look_at(before, block);
-    let _lowest = fitting(&reach(before, &look.least))?;
-    let _highest = fitting(&reach(before, &look.greatest))?;
-    Some(look.sum)
+    if look.leads_within(*before, BLOCK as i32) {
+        return Some(look.sum);
+    }
+    None
 }
 
 /// What the integers add up to, or the place of the first one before which the sum does not fit 32 bits. `before` stands before

@@ -1,17 +1,18 @@
 //! How many results of a checked scan fit 32 bits, from the first one on.
 
-ghost use Rattle.std.specs.Prelude.{◌≡◌, ◌+ℤ◌, ◌≤◌, length, map, pos, sum, unsigned_abs};
-ghost use Rattle.cvl_base.specs.Descriptors.{AreLengths};
+ghost use Rattle.std.specs.Prelude.{◌≡◌, ◌+ℤ◌, ◌≤◌, length, pos, sum};
 ghost use Rattle.cvl_base.specs.Folds.{scan_of};
 ghost use Rattle.scan_walks.specs.Fronts.{fitting_front};
-ghost use Rattle.scan_walks.specs.Ranges.{range_between, range_scan_of, scans_of};
+ghost use Rattle.scan_walks.specs.Ranges.{range_between, range_scan_of};
 
 use crate::blocks::{BLOCK, sum_of_block, sum_one_by_one};
+use crate::range_parts::parts_of_range;
+use crate::segment_fronts::fitting_of_scans;
 use segdes::SegDes;
 use std::alloc::Allocator;
 
 /// Fewer elements than so many are looked at one by one.
-const SHORT: usize = 64;
+pub(crate) const SHORT: usize = 64;
 
 /// How many of the sums before each of the integers fit 32 bits, from the first one on. `before` stands before the integers.
 ///
@@ -38,28 +39,6 @@ pub fn fitting_of_scan(before: i64, xs: &[i32]) -> usize
     }
 }
 
-/// The same of the scans of the segments with these lengths, one after another. The segments have all of the integers, and
-/// the last may be cut short by the end of the integers.
-pub(crate) fn fitting_of_scans(lengths: &[i32], xs: &[i32]) -> usize
-    requires lengths { AreLengths lengths.now }
-    requires covered { length xs.now ≤ sum (map unsigned_abs lengths.now) }
-    ensures front { result ≡ fitting_front (scans_of ◌+ℤ◌ (pos 0) (map unsigned_abs lengths.now) xs.now) }
-    ensures within { result ≤ length xs.now }
-{
-    let mut done = 0;
-    let mut rest = xs;
-    for length in lengths {
-        let (segment, others) = rest.split_at((*length as usize).min(rest.len()));
-        let fitting = fitting_of_scan(0, segment);
-        if fitting < segment.len() {
-            return done + fitting;
-        }
-        done += segment.len();
-        rest = others;
-    }
-    done
-}
-
 /// How many results of the checked scan of the range from place `from` to the one before place `to` fit 32 bits, from the
 /// first one on. `before` is what the elements of the first segment that stand before the range add up to.
 ///
@@ -76,13 +55,10 @@ pub fn fitting_of_range<A: Allocator>(
     requires within { to ≤ length a.now }
     ensures { result ≡ fitting_front (range_scan_of ◌+ℤ◌ (pos 0) before (range_between d.now a.now from to)) }
 {
-    let first = d.starts_before(from);
-    let next = d.starts_before(to);
-    let start = d.start_or_total(first);
-    let (front, rest) = a[from..to].split_at(start.min(to) - from);
+    let (front, lengths, others) = parts_of_range(a, d, from, to);
     let fitting = fitting_of_scan(before, front);
     if fitting < front.len() {
         return fitting;
     }
-    fitting + fitting_of_scans(&d.lengths()[first..next], rest)
+    fitting + fitting_of_scans(lengths, others)
 }

@@ -11,8 +11,10 @@ pub mod fronts;
 pub mod in_place;
 pub mod over;
 pub mod plain;
+mod range_parts;
 pub mod ranges;
 pub mod readings;
+mod segment_fronts;
 pub mod vectors;
 pub mod whole_sums;
 

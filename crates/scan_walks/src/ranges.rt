@@ -12,6 +12,7 @@ ghost use Rattle.scan_walks.specs.Ranges.{IsOpenAt, reduces_of, range_between, r
 ghost use Rattle.fresh.specs.Places.{with_items};
 
 use crate::plain::{scan_into, sum_from};
+use crate::range_parts::parts_of_range;
 use crate::readings::{Itself, Reading};
 use cvl_base::monoid::know_laws;
 use cvl_base::{Monoid, NoResources};
@@ -159,12 +160,9 @@ pub fn scan_range_into<M: Monoid, X: Copy, E: Reading<X, M::Item>, A: Allocator>
     ensures { result ≡ with_items run (range_scan_of M.join M.unit before (range_between d.now (map E.item a.now) from to)) }
 {
     know_laws::<M>();
-    let first = d.starts_before(from);
-    let next = d.starts_before(to);
-    let start = d.start_or_total(first);
-    let (front, rest) = a[from..to].split_at(start.min(to) - from);
+    let (front, lengths, others) = parts_of_range(a, d, from, to);
     let run = scan_into::<M, X, E>(run, before, front);
-    scans_into::<M, X, E>(run, &d.lengths()[first..next], rest)
+    scans_into::<M, X, E>(run, lengths, others)
 }
 
 /// The scan of the range from place `from` to the one before place `to`: for each of its elements, what the elements

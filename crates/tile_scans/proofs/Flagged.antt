@@ -9,7 +9,7 @@ use Rattle.cvl_base.specs.Folds.{fold_of, scan_of}
 use Rattle.cvl_base.specs.SegmentMonoid.{is_seg_item, seg_join}
 use Rattle.scan_walks.specs.Ranges.{range_between, range_scan_of}
 use Rattle.scan_walks.proofs.LastStart.{continued_summed, length-with_starts}
-use Rattle.scan_walks.proofs.RangePushed.{length-range_scan_of}
+use Rattle.scan_walks.proofs.RangeParts.{length-range_scan_of}
 use Rattle.tile_scans.specs.TiledSums.{elements_of, flagged}
 use Rattle.tile_scans.proofs.RangeScans.{continued_passes, continued_range_scan, continued_slice, range_is_slice, with_starts_passes}
 

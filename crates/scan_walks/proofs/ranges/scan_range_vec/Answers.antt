@@ -1,7 +1,7 @@
 use Rattle.std.proofs.Common.{◌≡◌, length, map, arith, ap, ◌∙◌}
 use Rattle.std.proofs.lemmas.List.{length-map, map-id}
 use Rattle.scan_walks.specs.Ranges.{range_between, range_scan_of}
-use Rattle.scan_walks.proofs.RangePushed.{length-range_scan}
+use Rattle.scan_walks.proofs.RangeParts.{length-range_scan}
 use Rattle.fresh.proofs.Written.{all_written}
 use Rattle.scan_walks.proofs.ranges.scan_range_vec.Goals as goal
 

@@ -2,7 +2,7 @@ use Rattle.std.proofs.Common.{◌≡◌, Ok, arith, length, map, sym, ap, ◌∙
 use Rattle.std.proofs.lemmas.List.{map-id}
 use Rattle.scan_walks.specs.Ranges.{range_scan_of, scans_of, with_starts}
 use Rattle.scan_walks.proofs.Cut.{segments_scanned}
-use Rattle.scan_walks.proofs.Fitted.{length-scans_of}
+use Rattle.scan_walks.proofs.Segments.{length-scans_of}
 use Rattle.scan_walks.proofs.Segmented.{seg_scan-fits}
 use Rattle.tile_scans.specs.TiledSums.{flagged}
 use Rattle.tile_scans.proofs.scans.seg_scan_gated.Goals as goal
@@ -30,4 +30,4 @@ returns-clause-as_long g c =
     ∙ ap (λ s. range_scan_of m.join m.unit m.unit (flagged s (map (λ x. x) v.elements.now))) c.new-vector.ensures.segments
     ∙ ap (λ xs. range_scan_of m.join m.unit m.unit (with_starts d xs)) (map-id v.elements.now ∙ c.new-vector.ensures.elements)
     ∙ segments_scanned c.know_laws.ensures d a m.unit c.requires.items in
-    omega (arith, c.in_ok-sums.sums.ok, ap length values, length-scans_of m.join m.unit d a c.in_ok-check_total.ensures.agrees)
+    omega (arith, c.in_ok-sums.sums.ok, ap length values, length-scans_of m.join m.unit d a (omega (arith, c.in_ok-check_total.ensures.agrees)))
