@@ -1,8 +1,10 @@
 -- How many numbers of a list fit 32 bits, from the first one on: of scans, and of lists one after another.
-use Rattle.std.proofs.Common.{◌≡◌, ◌∙◌, refl, sym, ap, ℕ, ◌+◌, ◌<◌, ◌≤◌, min, Bool, true, false, cond, ℤ, pos, ◌+ℤ◌, List, [], ◌∷◌, ◌++◌, length, take, drop, get_or, arith, Some, None}
+use Rattle.std.proofs.Common.{◌≡◌, ◌∙◌, refl, sym, ap, ℕ, ◌+◌, ◌<◌, ◌≤◌, min, Bool, true, false, cond, ℤ, pos, ◌+ℤ◌, List, ◌++◌, length, take, drop, get_or, arith, Some, None}
 use Rattle.std.specs.Prelude.{if◌then◌else◌, sum}
 use Rattle.std.specs.Option.{is_some}
 use Rattle.std.proofs.lemmas.List.{drop_more, drop_all, drop-drop, length-take, take-append-drop}
+use Rattle.std.proofs.lemmas.List.Folds.{prefix_len-append}
+use Rattle.std.proofs.lemmas.List.Sums.{prefix_len-le-length}
 use Rattle.operators.proofs.FoldLaws.{length-scan_of}
 use Rattle.cvl_base.specs.CheckedSums.{fitting}
 use Rattle.cvl_base.specs.Folds.{fold_of, scan_of}
@@ -58,25 +60,13 @@ module _ (n i : ℕ) (so_far : ℤ) (xs : List ℤ) (is : n ≡ i + fitting_fron
 
 -- ---- lists one after another
 
-within_front : (b : Bool) (zs ys : List ℤ) (n : ℕ) → cond b (1 + fitting_front zs) 0 < 1 + n → (fitting_front zs < n → fitting_front (zs ++ ys) ≡ fitting_front zs)
-    → cond b (1 + fitting_front (zs ++ ys)) 0 ≡ cond b (1 + fitting_front zs) 0
-within_front true zs ys n lt others = ap (λ k. 1 + k) (others (omega (arith, lt)))
-within_front false zs ys n lt others = refl
-
 -- where one of the first doesn't fit
 pub front_within : (zs ys : List ℤ) → fitting_front zs < length zs → fitting_front (zs ++ ys) ≡ fitting_front zs
-front_within [] ys lt = absurd (omega (arith, lt))
-front_within (z ∷ zs) ys lt = within_front (is_number z) zs ys (length zs) (omega (arith, lt)) (front_within zs ys)
-
-past_front : (b : Bool) (zs ys : List ℤ) (n : ℕ) → 1 + n ≤ cond b (1 + fitting_front zs) 0 → (n ≤ fitting_front zs → fitting_front (zs ++ ys) ≡ n + fitting_front ys)
-    → cond b (1 + fitting_front (zs ++ ys)) 0 ≡ 1 + n + fitting_front ys
-past_front true zs ys n ge others = let rest = others (omega (arith, ge)) in omega (arith, rest)
-past_front false zs ys n ge others = absurd (omega (arith, ge))
+front_within zs ys lt = grind (arith, prefix_len-append is_number zs ys)
 
 -- where all of the first fit
 pub front_past : (zs ys : List ℤ) → length zs ≤ fitting_front zs → fitting_front (zs ++ ys) ≡ length zs + fitting_front ys
-front_past [] ys ge = omega arith
-front_past (z ∷ zs) ys ge = omega (arith, past_front (is_number z) zs ys (length zs) (omega (arith, ge)) (front_past zs ys))
+front_past zs ys ge = grind (arith, prefix_len-append is_number zs ys, prefix_len-le-length is_number zs)
 
 -- of a scan and what follows it
 scan_within : (before : ℤ) (xs ys : List ℤ) (n : ℕ) → n ≡ fitting_front (scan_of ◌+ℤ◌ before xs) → n < length xs → n ≡ fitting_front (scan_of ◌+ℤ◌ before xs ++ ys)

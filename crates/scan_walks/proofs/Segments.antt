@@ -2,7 +2,7 @@
 use Rattle.std.proofs.Common.{◌≡◌, ℕ, zero, suc, ◌-◌, ℤ, pos, to_z, of_z, w32, w64, Fits, ◌+◌, ◌<◌, ◌≤◌, min, List, [], ◌∷◌, ◌++◌, length, take, drop, map, get_or, refl, sym, ap, ◌∙◌, arith}
 use Rattle.std.specs.Prelude.{sum, unsigned_abs}
 use Rattle.std.proofs.Math.Facts.{Fits-below}
-use Rattle.std.proofs.lemmas.List.{length-take, drop-map, take-map, drop-take, take-take, length-drop, drop_more, take_all, drop-drop, take_min, drop_min, append-nil, length-append, map-append}
+use Rattle.std.proofs.lemmas.List.{length-map, length-take, drop-map, take-map, drop-take, take-take, length-drop, drop_more, take_all, drop-drop, take_min, drop_min, append-nil, length-append, map-append}
 use Rattle.std.proofs.lemmas.Grind.{flat_map-append}
 use Rattle.std.proofs.lemmas.List.Sums.{sum_by-take-drop}
 use Rattle.std.specs.Int.{IsNonNegative}
@@ -105,8 +105,8 @@ module _ (row : List ℤ) (lengths : List ℕ) (is : row ≡ map pos lengths) (a
   small = let kept : map unsigned_abs row ≡ lengths = ap (map unsigned_abs) is ∙ abs_pos lengths in omega (arith, are.in_limit, ap sum kept)
 
   -- it is the length of segment s
-  pub length_read : (s : ℕ) → s < length row → read_at row s ≡ get_or lengths s 0
-  length_read s lt = ap unsigned_abs (length_at row s lengths is small lt)
+  pub segment_read : (s : ℕ) → s < length row → (s < length lengths) × (read_at row s ≡ get_or lengths s 0)
+  segment_read s lt = (omega (arith, lt, ap length is, length-map lengths pos), ap unsigned_abs (length_at row s lengths is small lt))
 
   pub length_fits : (s : ℕ) → s < length row → IsNonNegative (to_z w32 (of_z w32 (get_or row s (pos 0)))) × Fits w64 (read_at row s)
   length_fits s lt = cast_fits w64 row s lengths is small lt (λ n le. Fits-below tt le)

@@ -1,9 +1,9 @@
-use Rattle.std.proofs.Common.{◌≡◌, ◌+◌, ◌-◌, ◌<◌, ◌≤◌, ℕ, true, arith, drop, get_or, length, map, rules, subst, sym, take, unsigned_abs}
+use Rattle.std.proofs.Common.{◌≡◌, ◌+◌, ◌-◌, ◌≤◌, ℕ, true, arith, drop, length, map, rules, subst, sym, take, unsigned_abs}
 use Rattle.std.specs.List.{AllPass}
 use Rattle.std.proofs.lemmas.List.{length-map}
 use Rattle.std.proofs.lemmas.List.Elements.{All-drop, All-take}
 use Rattle.scan_walks.proofs.InPlace.{left_more, segment_fits, segments_ended, total_more, whole_more}
-use Rattle.scan_walks.proofs.Segments.{length_fits, length_read, read_at}
+use Rattle.scan_walks.proofs.Segments.{length_fits, segment_read, read_at}
 use Rattle.scan_walks.proofs.in_place.scans_in.Goals as goal
 
 pub overflow_cast-end : goal.overflow_cast-end
@@ -14,10 +14,9 @@ overflow_cast-end g c =
 pub slice_bounds-scan_in-end : goal.slice_bounds-scan_in-end
 slice_bounds-scan_in-end g c =
     let m = g.M.Monoid in let row = c.args.lengths.now in let s = c.loop-length.length-index in let turn = c.loop-length in
-    let lt : s < length (map unsigned_abs row) = omega (arith, c.loop-length-test.true, length-map row unsigned_abs) in
-    let is_length : read_at row s ≡ get_or (map unsigned_abs row) s 0 = length_read row (map unsigned_abs row) c.requires.lengths.none_negative c.requires.lengths s c.loop-length-test.true in
+    let read = segment_read row (map unsigned_abs row) c.requires.lengths.none_negative c.requires.lengths s c.loop-length-test.true in
     let fits : turn.start + read_at row s ≤ length turn.a =
-    segment_fits m.join m.unit (map unsigned_abs row) c.args.a.now turn.a turn.start s (read_at row s) lt is_length turn.invariant.total (omega arith) turn.invariant.left in
+    segment_fits m.join m.unit (map unsigned_abs row) c.args.a.now turn.a turn.start s (read_at row s) read.0 read.1 turn.invariant.total (omega arith) turn.invariant.left in
     search (rules, fits)
 
 pub scan_in-requires-clause-items : goal.scan_in-requires-clause-items
@@ -34,13 +33,12 @@ loop-length-preserved g c =
     let k : ℕ = turn.start + n - turn.start in
     let is_k : k ≡ n = omega arith in
     let long : length turn.a ≡ length a = omega arith in
-    let lt : s < length lengths = omega (arith, c.loop-length-test.true, length-map row unsigned_abs) in
-    let is_length : n ≡ get_or lengths s 0 = length_read row lengths c.requires.lengths.none_negative c.requires.lengths s c.loop-length-test.true in
+    let read = segment_read row lengths c.requires.lengths.none_negative c.requires.lengths s c.loop-length-test.true in
     record {
-      total = total_more m.join m.unit lengths a turn.a turn.start s n lt is_length turn.invariant.total long turn.invariant.left;
-      whole = whole_more m.join m.unit lengths a turn.a turn.start s n lt is_length turn.invariant.total long turn.invariant.left
+      total = total_more m.join m.unit lengths a turn.a turn.start s n read.0 read.1 turn.invariant.total long turn.invariant.left;
+      whole = whole_more m.join m.unit lengths a turn.a turn.start s n read.0 read.1 turn.invariant.total long turn.invariant.left
           k is_k c.unit.result c.unit.ensures c.scan_in.new.a c.scan_in.ensures _ turn.invariant.whole;
-      left = left_more m.join m.unit lengths a turn.a turn.start s n lt is_length turn.invariant.total long turn.invariant.left
+      left = left_more m.join m.unit lengths a turn.a turn.start s n read.0 read.1 turn.invariant.total long turn.invariant.left
           k is_k c.unit.result c.unit.ensures c.scan_in.new.a c.scan_in.ensures;
     }
 

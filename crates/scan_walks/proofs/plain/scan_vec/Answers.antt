@@ -21,8 +21,5 @@ returns-clause-values g c =
 
 pub returns-clause-as_long : goal.returns-clause-as_long
 returns-clause-as_long g c =
-    let m = g.M.Monoid in
     let items = map g.E.Reading.item c.args.xs.now in
-    let long : length (scan_of m.join c.args.before items) ≤ length c.args.xs.now = omega (arith, length-scan_of m.join c.args.before items, length-map c.args.xs.now g.E.Reading.item) in
-    let same = ap length (all_written c.in_ok-room.room c.in_ok-room.run' c.scan_into.result _ _ c.in_ok-room.ensures.room c.in_ok-room.ensures.run c.scan_into.ensures long).1 in
-    omega (arith, c.into_vec.ensures.len, same, length-scan_of m.join c.args.before items, length-map c.args.xs.now g.E.Reading.item)
+    omega (arith, c.into_vec.ensures.len, ap length (returns-clause-values g c), length-scan_of g.M.Monoid.join c.args.before items, length-map c.args.xs.now g.E.Reading.item)

@@ -1,9 +1,9 @@
-use Rattle.std.proofs.Common.{◌≡◌, ◌-◌, ◌<◌, true, get_or, length, map, unsigned_abs, sym, subst, ap, ◌∙◌, arith}
+use Rattle.std.proofs.Common.{◌≡◌, ◌-◌, true, map, unsigned_abs, sym, subst, ap, ◌∙◌, arith}
 use Rattle.std.specs.List.{AllPass}
 use Rattle.std.proofs.lemmas.List.{drop-map, length-map, take-map}
 use Rattle.std.proofs.lemmas.List.Elements.{All-drop, All-take}
 use Rattle.std.proofs.lemmas.List.Sums.{sum_by-drop_more}
-use Rattle.scan_walks.proofs.Segments.{length_fits, length_read, read_at}
+use Rattle.scan_walks.proofs.Segments.{length_fits, segment_read, read_at}
 use Rattle.scan_walks.proofs.Written.{reduces_ended, reduces_written}
 use Rattle.scan_walks.proofs.ranges.reduces_into.Goals as goal
 
@@ -17,9 +17,8 @@ split_at-requires g c =
     let row = c.args.lengths.now in
     let lengths = map unsigned_abs row in
     let s = c.loop-length.length-index in
-    let lt : s < length lengths = omega (arith, c.loop-length-test.true, length-map row unsigned_abs) in
-    let is_length : read_at row s ≡ get_or lengths s 0 = length_read row lengths c.requires.lengths.none_negative c.requires.lengths s c.loop-length-test.true in
-    omega (arith, is_length, c.loop-length.invariant.covered, sum_by-drop_more (λ x. x) lengths s 0 lt)
+    let read = segment_read row lengths c.requires.lengths.none_negative c.requires.lengths s c.loop-length-test.true in
+    omega (arith, read.1, c.loop-length.invariant.covered, sum_by-drop_more (λ x. x) lengths s 0 read.0)
 
 pub sum_from-requires-clause-items : goal.sum_from-requires-clause-items
 sum_from-requires-clause-items g c =
@@ -36,15 +35,14 @@ loop-length-preserved g c =
     let lengths = map unsigned_abs row in
     let s = c.loop-length.length-index in
     let rest = c.loop-length.rest.now in
-    let lt : s < length lengths = omega (arith, c.loop-length-test.true, length-map row unsigned_abs) in
-    let is_length : read_at row s ≡ get_or lengths s 0 = length_read row lengths c.requires.lengths.none_negative c.requires.lengths s c.loop-length-test.true in
+    let read = segment_read row lengths c.requires.lengths.none_negative c.requires.lengths s c.loop-length-test.true in
     let n = read_at row s in
     let left : c.push.new.self.room ≡ c.loop-length.run.room - 1 = ap (λ r. r.room) c.push.ensures in
     record {
-      whole = reduces_written m.join m.unit lengths c.loop-length.run c.push.new.self _ (map item rest) _ _ c.unit.result c.sum_from.result s n lt is_length
+      whole = reduces_written m.join m.unit lengths c.loop-length.run c.push.new.self _ (map item rest) _ _ c.unit.result c.sum_from.result s n read.0 read.1
           (ap (map item) c.split_at.ensures.front ∙ sym (take-map item n rest)) (ap (map item) c.split_at.ensures.back ∙ sym (drop-map item n rest)) c.unit.ensures c.sum_from.ensures
           c.push.ensures c.loop-length.invariant.whole;
-      covered = omega (arith, is_length, c.split_at.ensures.back_len, c.loop-length.invariant.covered, sum_by-drop_more (λ x. x) lengths s 0 lt);
+      covered = omega (arith, read.1, c.split_at.ensures.back_len, c.loop-length.invariant.covered, sum_by-drop_more (λ x. x) lengths s 0 read.0);
       room = omega (arith, left, c.loop-length.invariant.room, c.loop-length-test.true);
       items = subst (λ xs. AllPass (λ x. m.is_item (item x)) xs) (sym c.split_at.ensures.back) (All-drop (λ x. m.is_item (item x) ≡ true) n rest c.loop-length.invariant.items);
     }

@@ -23,11 +23,11 @@ scans_into-requires-clause-room g c =
     let parts = c.parts_of_range in
     let front = map g.E.Reading.item parts.result.0.now in
     let range = slice_range c.args.a.now c.args.from c.args.to in
-    let left : c.scan_into-run.result.room ≡ c.args.run.room - length (scan_of g.M.Monoid.join c.args.before front) = ap (λ r. r.room) c.scan_into-run.ensures in
-    omega (
+    let left = ap (λ r. r.room) c.scan_into-run.ensures in
+    grind (
       arith,
       left,
-      length-scan_of g.M.Monoid.join c.args.before front,
+      length-scan_of,
       length-map parts.result.0.now g.E.Reading.item,
       ap length parts.ensures.others,
       length-drop (length parts.result.0.now) range,

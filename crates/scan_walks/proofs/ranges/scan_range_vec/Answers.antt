@@ -26,8 +26,5 @@ returns-clause-values g c =
 pub returns-clause-as_long : goal.returns-clause-as_long
 returns-clause-as_long g c =
     let m = g.M.Monoid in
-    let xs = map (λ x. x) c.args.a.now in
-    let same : length xs ≡ length c.args.a.now = length-map c.args.a.now (λ x. x) in
-    let long = length-range_scan m.join m.unit c.args.d.now xs c.args.from c.args.to c.args.before (c.requires.total ∙ omega (arith, same)) c.requires.in_order (omega (arith, same, c.requires.within)) in
-    let items = ap length (all_written c.in_ok-room.room c.in_ok-room.run' c.scan_range_into.result _ _ c.in_ok-room.ensures.room c.in_ok-room.ensures.run c.scan_range_into.ensures (omega (arith, long))).1 in
-    omega (arith, c.into_vec.ensures.len, items, long)
+    let long = length-range_scan m.join m.unit c.args.d.now c.args.a.now c.args.from c.args.to c.args.before c.requires.total c.requires.in_order c.requires.within in
+    omega (arith, c.into_vec.ensures.len, ap length (returns-clause-values g c), long)

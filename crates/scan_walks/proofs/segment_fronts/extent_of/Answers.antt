@@ -1,8 +1,7 @@
-use Rattle.std.proofs.Common.{◌≡◌, ◌<◌, get_or, length, map, unsigned_abs, arith}
+use Rattle.std.proofs.Common.{map, unsigned_abs, arith}
 use Rattle.std.proofs.lemmas.Int.{to_z-of_z}
-use Rattle.std.proofs.lemmas.List.{length-map}
 use Rattle.std.proofs.lemmas.List.Sums.{fold_more, sum_by_more, sum_by_more_le}
-use Rattle.scan_walks.proofs.Segments.{length_fits, length_read, read_at}
+use Rattle.scan_walks.proofs.Segments.{length_fits, segment_read}
 use Rattle.scan_walks.proofs.segment_fronts.extent_of.Goals as goal
 
 pub overflow_cast-total : goal.overflow_cast-total
@@ -15,18 +14,16 @@ overflow_add-total c =
     let row = c.args.lengths.now in
     let lengths = map unsigned_abs row in
     let s = c.loop-length.length-index in
-    let lt : s < length lengths = omega (arith, c.loop-length-test.true, length-map row unsigned_abs) in
-    let is_length : read_at row s ≡ get_or lengths s 0 = length_read row lengths c.requires.none_negative c.requires s c.loop-length-test.true in
-    omega (arith, is_length, c.loop-length.invariant.total, sum_by_more_le (λ x. x) lengths s 0 lt, c.requires.in_limit)
+    let read = segment_read row lengths c.requires.none_negative c.requires s c.loop-length-test.true in
+    omega (arith, read.1, c.loop-length.invariant.total, sum_by_more_le (λ x. x) lengths s 0 read.0, c.requires.in_limit)
 
 pub loop-length-preserved : goal.loop-length-preserved
 loop-length-preserved c =
     let row = c.args.lengths.now in
     let lengths = map unsigned_abs row in
     let s = c.loop-length.length-index in
-    let lt : s < length lengths = omega (arith, c.loop-length-test.true, length-map row unsigned_abs) in
-    let is_length : read_at row s ≡ get_or lengths s 0 = length_read row lengths c.requires.none_negative c.requires s c.loop-length-test.true in
+    let read = segment_read row lengths c.requires.none_negative c.requires s c.loop-length-test.true in
     record {
-      total = omega (arith, is_length, c.loop-length.invariant.total, sum_by_more (λ x. x) lengths s 0 lt);
+      total = omega (arith, read.1, c.loop-length.invariant.total, sum_by_more (λ x. x) lengths s 0 read.0);
       longest = grind (arith, to_z-of_z, fold_more);
     }
