@@ -105,8 +105,11 @@ module _ (row : List ℤ) (lengths : List ℕ) (is : row ≡ map pos lengths) (a
   small = let kept : map unsigned_abs row ≡ lengths = ap (map unsigned_abs) is ∙ abs_pos lengths in omega (arith, are.in_limit, ap sum kept)
 
   -- it is the length of segment s
+  pub length_read : (s : ℕ) → s < length row → read_at row s ≡ get_or lengths s 0
+  length_read s lt = ap unsigned_abs (length_at row s lengths is small lt)
+
   pub segment_read : (s : ℕ) → s < length row → (s < length lengths) × (read_at row s ≡ get_or lengths s 0)
-  segment_read s lt = (omega (arith, lt, ap length is, length-map lengths pos), ap unsigned_abs (length_at row s lengths is small lt))
+  segment_read s lt = (omega (arith, lt, ap length is, length-map lengths pos), length_read s lt)
 
   pub length_fits : (s : ℕ) → s < length row → IsNonNegative (to_z w32 (of_z w32 (get_or row s (pos 0)))) × Fits w64 (read_at row s)
   length_fits s lt = cast_fits w64 row s lengths is small lt (λ n le. Fits-below tt le)
