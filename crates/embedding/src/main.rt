@@ -2,6 +2,7 @@
 #![tactic(auto)]
 
 mod gates;
+mod in_parts;
 mod kernels;
 mod memory;
 mod own_threads;
@@ -30,5 +31,6 @@ fn main(rt: HostRuntime) -> io::Result<()> {
         "first negative: {:?}",
         own_threads::first_negative(&rt, alloc, &[5, 0, 2, -7, 1, -3])
     )?;
-    println!(rt; "refused: {}", memory::is_refused(&rt, alloc, config))
+    println!(rt; "refused: {}", memory::is_refused(&rt, alloc, config))?;
+    in_parts::cut_all(&mut rt.stdout(), alloc)
 }
