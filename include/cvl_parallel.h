@@ -77,11 +77,6 @@ static inline CvlPool cvl_pool_openmp(void) {
 #define CVL_LEAST_EACH 131072
 #endif
 
-/* From how many places of its result on a permute does, whose parts all read all indices; each has a range of CVL_LEAST_EACH at least. */
-#ifndef CVL_LEAST_SENT
-#define CVL_LEAST_SENT 524288
-#endif
-
 /* The same for the bytes of a text that is read. */
 #ifndef CVL_LEAST_READ
 #define CVL_LEAST_READ 131072
@@ -1439,7 +1434,7 @@ CVL_CHECKED static inline CvlStatus cvl_permute_int_on(
     size_t out_len) {
     CvlWork w;
     bool parts = source_len == index_len && index_len == out_len && !CVL_MEET(out, out_len, source, source_len) &&
-        !CVL_MEET(out, out_len, index, index_len) && cvl_cut_by(pool, &w, out_len, CVL_LEAST_SENT, CVL_LEAST_EACH);
+        !CVL_MEET(out, out_len, index, index_len) && cvl_cut(pool, &w, out_len);
     if (parts) {
         w.a = source, w.a_len = source_len, w.index = index, w.out = out, w.size = sizeof *out;
         parts = cvl_is_permuted(pool, &w);
@@ -1452,7 +1447,7 @@ CVL_CHECKED static inline CvlStatus cvl_permute_bool_on(
     size_t out_len) {
     CvlWork w;
     bool parts = source_len == index_len && index_len == out_len && !CVL_MEET(out, out_len, source, source_len) &&
-        !CVL_MEET(out, out_len, index, index_len) && cvl_cut_by(pool, &w, out_len, CVL_LEAST_SENT, CVL_LEAST_EACH);
+        !CVL_MEET(out, out_len, index, index_len) && cvl_cut(pool, &w, out_len);
     if (parts) {
         w.a = source, w.a_len = source_len, w.index = index, w.out = out, w.size = sizeof *out, w.of_bools = true;
         parts = cvl_is_permuted(pool, &w);
@@ -1466,7 +1461,7 @@ CVL_CHECKED static inline CvlStatus cvl_select_permute_int_on(
     CvlWork w;
     bool parts = source_len == index_len && index_len == flags_len && index_len <= CVL_MOST_ELEMENTS &&
         !CVL_MEET(out, out_len, source, source_len) && !CVL_MEET(out, out_len, index, index_len) &&
-        !CVL_MEET(out, out_len, flags, flags_len) && cvl_cut_by(pool, &w, out_len, CVL_LEAST_SENT, CVL_LEAST_EACH);
+        !CVL_MEET(out, out_len, flags, flags_len) && cvl_cut(pool, &w, out_len);
     if (parts) {
         w.a = source, w.a_len = source_len, w.index = index, w.flags = flags, w.out = out, w.size = sizeof *out;
         parts = cvl_is_permuted(pool, &w);
@@ -1481,7 +1476,7 @@ CVL_CHECKED static inline CvlStatus cvl_select_permute_bool_on(
     CvlWork w;
     bool parts = source_len == index_len && index_len == flags_len && index_len <= CVL_MOST_ELEMENTS &&
         !CVL_MEET(out, out_len, source, source_len) && !CVL_MEET(out, out_len, index, index_len) &&
-        !CVL_MEET(out, out_len, flags, flags_len) && cvl_cut_by(pool, &w, out_len, CVL_LEAST_SENT, CVL_LEAST_EACH);
+        !CVL_MEET(out, out_len, flags, flags_len) && cvl_cut(pool, &w, out_len);
     if (parts) {
         w.a = source, w.a_len = source_len, w.index = index, w.flags = flags, w.out = out, w.size = sizeof *out, w.of_bools = true;
         parts = cvl_is_permuted(pool, &w);
@@ -1496,7 +1491,7 @@ CVL_CHECKED static inline CvlStatus cvl_default_permute_int_on(
     CvlWork w;
     bool parts = source_len == index_len && defaults_len == out_len && index_len <= CVL_MOST_ELEMENTS &&
         !CVL_MEET(out, out_len, source, source_len) && !CVL_MEET(out, out_len, index, index_len) &&
-        !CVL_MEET(out, out_len, defaults, defaults_len) && cvl_cut_by(pool, &w, out_len, CVL_LEAST_SENT, CVL_LEAST_EACH);
+        !CVL_MEET(out, out_len, defaults, defaults_len) && cvl_cut(pool, &w, out_len);
     if (parts) {
         w.a = source, w.a_len = source_len, w.index = index, w.b = defaults, w.out = out, w.size = sizeof *out;
         parts = cvl_is_permuted(pool, &w);
@@ -1511,7 +1506,7 @@ CVL_CHECKED static inline CvlStatus cvl_default_permute_bool_on(
     CvlWork w;
     bool parts = source_len == index_len && defaults_len == out_len && index_len <= CVL_MOST_ELEMENTS &&
         !CVL_MEET(out, out_len, source, source_len) && !CVL_MEET(out, out_len, index, index_len) &&
-        !CVL_MEET(out, out_len, defaults, defaults_len) && cvl_cut_by(pool, &w, out_len, CVL_LEAST_SENT, CVL_LEAST_EACH);
+        !CVL_MEET(out, out_len, defaults, defaults_len) && cvl_cut(pool, &w, out_len);
     if (parts) {
         w.a = source, w.a_len = source_len, w.index = index, w.b = defaults, w.out = out, w.size = sizeof *out, w.of_bools = true;
         parts = cvl_is_permuted(pool, &w);

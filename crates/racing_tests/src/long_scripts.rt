@@ -52,7 +52,7 @@ const CALLS: &[Call] = &[
         "b = rep_vuz i k 5\nv = smp_puz i b",
         "fault 11 IndexRepeated",
         TWO,
-        524_288,
+        262_144,
     ),
 ];
 

@@ -4,8 +4,7 @@
 //! What forks takes a [`ThreadCount`], or a [`Pace`] of a race. Both are made here alone, of a configuration, and neither has more
 //! threads than the configuration has workers.
 //!
-//! All thresholds of the library stand here. They come from a machine with four processors, where most of them were measured
-//! and that of long flat permutes follows from a model of an older walk, which stored senders.
+//! All thresholds of the library stand here. They were measured on a machine with four processors.
 #![tactic(auto)]
 
 mod pace;
@@ -45,10 +44,6 @@ pub const LEAST_RACED: u32 = 131_072;
 /// How many tiles there are for each worker at least where tiles are made longer than is asked for. A worker that starts
 /// late, or is held up, then leaves some of its tiles to the others.
 pub const TILES_EACH: u32 = 16;
-
-/// From how many places of a result on several threads share a flat permute, in one walk. Each of them reads all indices, so
-/// that shorter results are walked sooner by one.
-pub const LEAST_SENT: usize = 524_288;
 
 /// From how many bytes on several threads pay where an input is read. They walk the bytes twice: they count the tokens before
 /// they read them, which takes far less time.

@@ -5,8 +5,8 @@ ghost use Rattle.cvl_base.specs.Limits.{most_elements};
 
 use crate::thread_count::ThreadCount;
 use crate::{
-    LEAST_CLEARED, LEAST_CLEARED_EACH, LEAST_EACH, LEAST_READ, LEAST_READ_EACH, LEAST_SENT,
-    LEAST_SHARED, LEAST_WRITTEN, LEAST_WRITTEN_EACH,
+    LEAST_CLEARED, LEAST_CLEARED_EACH, LEAST_EACH, LEAST_READ, LEAST_READ_EACH, LEAST_SHARED,
+    LEAST_WRITTEN, LEAST_WRITTEN_EACH,
 };
 use cvl_base::Config;
 use cvl_base::limits::MOST_ELEMENTS;
@@ -67,7 +67,7 @@ pub fn threads_sending(config: Config, places: usize) -> ThreadCount
     ensures greatest { result ≤ config.1 }
     ensures in_limit { 2 ≤ result → places ≤ most_elements }
 {
-    if places < LEAST_SENT || places > MOST_ELEMENTS {
+    if places > MOST_ELEMENTS {
         return ThreadCount::one();
     }
     threads_writing(config, places)
