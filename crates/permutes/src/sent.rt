@@ -1,7 +1,6 @@
-//! The elements of a permute: of a long result in one walk that several threads share, else in two, of which they share the second
-//! where the result is long.
+//! The elements of a permute: of a long result in one walk, which threads share, else in two, of which the first finds the senders.
 
-ghost use Rattle.std.specs.Prelude.{◌≡◌, ◌≤◌, IfOk, IfSome, None, Ok, filter_map, length, slice_get, vec_len};
+ghost use Rattle.std.specs.Prelude.{◌≡◌, ◌≤◌, IfOk, IfSome, IsTrue, None, Ok, filter_map, length, slice_get, vec_len};
 ghost use Rattle.cvl_base.specs.Gives.{Gives, unless};
 ghost use Rattle.cvl_base.specs.Limits.{most_elements};
 ghost use Rattle.cvl_base.specs.Permutes.{first_fault, wrongs};
@@ -11,20 +10,28 @@ ghost use Rattle.permute_walks.specs.Senders.{senders_of, written_over};
 use crate::sent_alone::senders_alone;
 use crate::taken::{elements_found, elements_or_defaults_found};
 use crew::Gate;
+use cvl_base::limits::MOST_ELEMENTS;
 use cvl_base::{Config, Memory, NoResources, Refused};
 use element_walks::Copied;
 use fresh::{Copies, Writer};
 use permute_races::{permute_pace, senders_raced};
 use permute_walks::{Destinations, permuted_shared};
-use sharing::{LEAST_SEARCHED, Pace, race_pace, threads_sending};
+use sharing::{LEAST_SEARCHED, LEAST_SHARED, Pace, race_pace, threads_writing};
 use std::thread::Threads;
 
+/// Whether a result has so many places that one walk makes it sooner than two, by whatever number of threads.
+fn is_long(places: usize) -> bool
+    ensures in_limit { IsTrue result → places ≤ most_elements }
+{
+    places >= LEAST_SHARED && places <= MOST_ELEMENTS
+}
+
 /// The tiles and the workers of the race for the senders of a flat result, or none where one thread walks: what is asked for, and
-/// where several threads found that a place is bad, what the search for the first one pays for.
+/// where the one walk of a long result found that a place is bad, what the search for the first one pays for.
 fn senders_pace(config: Config, indices: usize, places: usize) -> Option<Pace>
     ensures { IfSome result (λ _. places ≤ most_elements) }
 {
-    if threads_sending(config, places).get() < 2 {
+    if !is_long(places) {
         return permute_pace(config, indices, places);
     }
     race_pace(indices >= LEAST_SEARCHED, config, indices)
@@ -49,7 +56,8 @@ fn senders_to<R: Threads + Sync, A: Memory, D: Destinations + Sync, G: Gate>(
     }
 }
 
-/// What several threads write over what stands before in a flat result. None where one thread is to walk, or a place is bad.
+/// What one walk of a flat result writes over what stands before in it. None where the result is not long, where workers are to race
+/// for the senders, or where a place is bad.
 fn permuted_long<T, R, A, D, W>(
     rt: &R,
     alloc: A,
@@ -72,11 +80,11 @@ where
     ensures written { IfOk result (λ found. IfSome found (λ v.
         v.items ≡ written_over source.now (senders_of 0 (D.destinations destinations.now) places) (W.whole before.now))) }
 {
-    let threads = threads_sending(config, places);
     let raced = permute_pace(config, destinations.count(), places).is_some();
-    if threads.get() < 2 || raced {
+    if !is_long(places) || raced {
         return Ok(None);
     }
+    let threads = threads_writing(config, places);
     permuted_shared(rt, alloc, threads, source, destinations, places, before)
 }
 

@@ -60,19 +60,6 @@ pub fn threads_among(most: u32, elements: usize) -> u32
     share_of(most, elements, LEAST_SHARED, LEAST_EACH)
 }
 
-/// How many threads share the one walk of a flat permute, each of which owns a range of a result of so many places: at most as
-/// many as the configuration has workers, and one where a second doesn't pay, or the result is longer than the longest vector.
-pub fn threads_sending(config: Config, places: usize) -> ThreadCount
-    ensures least { 1 ≤ result }
-    ensures greatest { result ≤ config.1 }
-    ensures in_limit { 2 ≤ result → places ≤ most_elements }
-{
-    if places > MOST_ELEMENTS {
-        return ThreadCount::one();
-    }
-    threads_writing(config, places)
-}
-
 /// How many threads share the reading of an input of so many bytes: at most as many as the configuration has workers, and one
 /// where a second doesn't pay.
 pub fn threads_reading(config: Config, bytes: usize) -> ThreadCount
