@@ -11,10 +11,10 @@ ghost use Rattle.call_reader.specs.Inputs.{is_white_space, input_class, input_of
 ghost use Rattle.call_reader.specs.Pieces.{goes_on};
 ghost use Rattle.std.specs.Int.{from_bool};
 
-use line_reader::number::{leading_number, number};
-use line_reader::token::{ByteClass, Classes, blanks, first_token};
 use cvl_base::limits::MOST_ELEMENTS;
 use cvl_base::{Fault, FaultNo, Memory, Refused};
+use line_reader::number::{leading_number, number};
+use line_reader::token::{ByteClass, Classes, blanks, first_token};
 
 /// Whether a byte is white space: a space, a tab, a line feed or a carriage return.
 #[inline(always)]

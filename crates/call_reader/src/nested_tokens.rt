@@ -6,9 +6,9 @@ ghost use Rattle.call_reader.specs.NestedTexts.{nested_class, mark_of, marks_of,
 ghost use Rattle.call_reader.specs.NestedReads.{is_closing, is_number, is_no_mark, begin_with};
 
 use crate::inputs::is_white_space;
+use cvl_base::limits::MOST_ELEMENTS;
 use line_reader::number::{leading_number, number};
 use line_reader::token::{ByteClass, Classes, blanks, first_token};
-use cvl_base::limits::MOST_ELEMENTS;
 
 /// The classes of a nested text's bytes: white space is blank, and brackets are tokens of their own.
 pub(crate) enum NestedBytes {}

@@ -9,9 +9,9 @@ ghost use Rattle.fresh.specs.Found.{first_without};
 ghost use Rattle.fresh.specs.Places.{stretch};
 
 use crate::inputs::{InputBytes, first_number, token_count};
-use line_reader::token::run_length;
 use cvl_base::{Memory, NoResources};
 use fresh::{Part, Run, first_found};
+use line_reader::token::run_length;
 use sharing::ThreadCount;
 
 /// A piece of an input, of which no token goes on in another.

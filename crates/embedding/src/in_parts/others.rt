@@ -40,7 +40,8 @@ pub enum Permute {
 impl Permute {
     /// Writes one range over what stands in it, and tells to how many places of it something is sent.
     fn send(&self, alloc: Global, lowest: usize, out: &mut [i32]) -> Result<usize, Refused> {
-        let mut marks = vec![in alloc; false; out.len()]?;
+        // a bit for each place, 32 in a word
+        let mut marks = vec![in alloc; 0; out.len().div_ceil(32)]?;
         let (Permute::Simple(index) | Permute::Select(index) | Permute::Default(index)) = self;
         if let Permute::Select(_) = self {
             return Ok(select_range(&NUMBERS, index, &FLAGS, lowest, out, &mut marks)?);
