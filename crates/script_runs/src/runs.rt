@@ -12,10 +12,10 @@ use crate::lines::next_line;
 use crate::puts::put_all;
 use crate::sink::Sink;
 use crate::stop::Stop;
-use line_reader::read_line;
 use crew::{Gate, OpenGate};
 use cvl_base::limits::MOST_SCRIPT_BYTES;
 use cvl_base::{Config, Fault, FaultNo, Memory, Refused};
+use line_reader::read_line;
 use std::thread::Threads;
 use vector_handles::{Input, Session, Shown};
 
