@@ -57,6 +57,7 @@ pub(crate) fn join_seats<T: Tiles, A: Allocator>(
     let Some(first) = seats.pop() else {
         unreachable!()
     };
+    // by all of its fields, so that no other one can stand beside the words
     let ScanSeat {
         seat: mut whole,
         done: _,

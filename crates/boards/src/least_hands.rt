@@ -58,6 +58,7 @@ pub(crate) fn join_least_seats<T: Targets, A: Allocator>(
     let Some(first) = seats.pop() else {
         unreachable!()
     };
+    // by all of its fields, so that no other one can stand beside the words
     let LeastSeat {
         seat: mut whole,
         done: _,

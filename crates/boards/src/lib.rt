@@ -16,8 +16,6 @@ mod rule;
 pub mod seat;
 pub mod targets;
 pub mod tiles;
-#[cfg(test)]
-mod two_fields;
 mod words;
 
 pub use board::{Ended, ScanBoard};
