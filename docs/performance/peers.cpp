@@ -81,7 +81,15 @@ void by_thrust(const Vectors &v) {
     measure("Thrust, add reduce, segments of 1,000",
             [&] { thrust::reduce_by_key(segment.begin(), segment.end(), a.begin(), keys.begin(), out.begin()); });
     measure("Thrust, gather", [&] { thrust::gather(index.begin(), index.end(), a.begin(), out.begin()); });
+    measure("Thrust, gather, fresh", [&] {
+        Numbers fresh(COUNT);
+        thrust::gather(index.begin(), index.end(), a.begin(), fresh.begin());
+    });
     measure("Thrust, scatter", [&] { thrust::scatter(a.begin(), a.end(), index.begin(), out.begin()); });
+    measure("Thrust, scatter, fresh", [&] {
+        Numbers fresh(COUNT);
+        thrust::scatter(a.begin(), a.end(), index.begin(), fresh.begin());
+    });
     measure("Thrust, pack",
             [&] { thrust::copy_if(a.begin(), a.end(), flags.begin(), out.begin(), [](uint32_t flag) { return flag != 0; }); });
 }
