@@ -1,5 +1,5 @@
 //! Tests that cross crates: of the program on a host in memory, with its texts, messages and statuses; of files that are read
-//! whole; of each request for memory refused in turn, over the program, sessions, the recipes and the calls that race; of
+//! whole; of each request for memory refused in turn, over the program, sessions, the recipes and what no script calls; of
 //! sinks that take little or fail; of how much memory calls ask for, and of what takes none; and of the test allocator's counts.
 //!
 //! Whatever reaches a session or a kernel runs on one type of memory, the test allocator, and the program on one type of host,
@@ -11,17 +11,13 @@ mod allocator;
 #[cfg(test)]
 mod files;
 #[cfg(test)]
-mod hosts;
-#[cfg(test)]
-mod kept_texts;
-#[cfg(test)]
 mod memory_of_calls;
-#[cfg(test)]
-mod plain_calls;
 #[cfg(test)]
 mod programs;
 #[cfg(test)]
 mod recipe_calls;
+#[cfg(test)]
+mod requests;
 #[cfg(test)]
 mod sessions;
 #[cfg(test)]

@@ -1,30 +1,12 @@
 //! How much memory one call of each family asks for: how many requests it makes, and for how many bytes in all.
 
-use crate::hosts::{inputs_of, text_of};
-use crate::sessions::call_line;
-use call_reader::read_line;
-use cvl_base::{Config, Memory, Refused};
+use cvl_base::{Config, Refused};
 use refusing_memory::Refusing;
 use std::alloc::Global;
 use std::test::Fail;
 use std::thread::Threads;
-use vector_handles::Session;
-
-/// What is bound before a call: 1,000 integers, numbers to divide by, booleans, and ten segments of 100 with the places in them.
-const BEFORE: &str = "i = ind_luz 0 1 1000
-t = dis_vuz 2 1000
-m = mod_wuz i t
-h = div_wuz i t
-f = boo_wuz m
-l = dis_vuz 100 10
-d = mke_fov l
-o = dis_vuz 0 10
-p = dis_vuz 1 10
-b = boo_wuz p
-x = ind_lez o p d
-k = div_wuz x t
-r = cpy_wuz i
-e = mke_fov l";
+use tested_runs::hosts::text_of;
+use tested_runs::memory_of_calls::{asked_by, session_before};
 
 /// A call, and the requests and the bytes that it asks for: by one worker in one tile, and by four in tiles of 100 elements.
 type Row = (&'static str, (u64, u64), (u64, u64));
@@ -91,53 +73,34 @@ const ROWS: &[Row] = &[
     ("write d", (3, 140), (3, 140)),
 ];
 
-/// A session on which the names of the table are bound.
-fn session_before<R: Threads + Sync, A: Memory>(
+/// The first call that asks for another amount of memory than its row says, by one worker in one tile or by four, with what it
+/// asks for.
+fn first_other<R: Threads + Sync>(
     rt: &R,
-    heap: A,
-    config: Config,
-    inputs: &[&str],
-) -> Result<Session<A>, Refused> {
-    let mut session = Session::new(heap, config, inputs_of(heap, inputs)?)?;
-    for before in BEFORE.split('\n') {
-        call_line(rt, heap, &mut session, before)?;
+    alloc: Global,
+    by_four: bool,
+) -> Result<Option<(&'static str, (u64, u64))>, Refused> {
+    let numbers = text_of(alloc, "7", " 7", 999, "")?;
+    let lists = text_of(alloc, "[[7]", " [7]", 999, "]")?;
+    let heap = Refusing::none(alloc);
+    let (tile, workers) = if by_four { (100, 4) } else { (65_536, 1) };
+    let config = Config::new(tile, workers).unwrap();
+    let inputs = [numbers.as_str(), lists.as_str()];
+    let mut session = session_before(rt, &heap, config, &inputs)?;
+    for (line, one, four) in ROWS {
+        let asked = asked_by(rt, &heap, &mut session, line)?;
+        if asked != if by_four { *four } else { *one } {
+            return Ok(Some((*line, asked)));
+        }
     }
-    Ok(session)
-}
-
-/// What the call of a line asks for. Its names are bound already, so that no node of the names is made.
-fn asked_by<'a, R: Threads + Sync>(
-    rt: &R,
-    heap: &'a Refusing<Global>,
-    session: &mut Session<&'a Refusing<Global>>,
-    line: &str,
-) -> Result<(u64, u64), Refused> {
-    let Some(call) = read_line(heap, line.as_bytes())? else {
-        return Ok((0, 0));
-    };
-    let (requests, bytes) = (heap.requests(), heap.bytes());
-    session.apply(rt, &call)?;
-    Ok((
-        heap.requests().wrapping_sub(requests),
-        heap.bytes().wrapping_sub(bytes),
-    ))
+    Ok(None)
 }
 
 #[test]
 fn memory_of_each_family(rt: HostRuntime) -> Result<(), Fail> {
-    let numbers = text_of(rt.alloc(), "7", " 7", 999, "")?;
-    let lists = text_of(rt.alloc(), "[[7]", " [7]", 999, "]")?;
-    let inputs = [numbers.as_str(), lists.as_str()];
-    let heap = Refusing::none(rt.alloc());
-    let mut alone = session_before(&rt, &heap, Config::new(65_536, 1).unwrap(), &inputs)?;
-    let mut raced = session_before(&rt, &heap, Config::new(100, 4).unwrap(), &inputs)?;
-    for (line, one, four) in ROWS {
-        let by_one = asked_by(&rt, &heap, &mut alone, line)?;
-        let by_four = asked_by(&rt, &heap, &mut raced, line)?;
-        assert!(rt;
-            by_one == *one && by_four == *four,
-            "{line}: {by_one:?} {by_four:?}"
-        );
+    for by_four in [false, true] {
+        let other = first_other(&rt, rt.alloc(), by_four);
+        assert!(rt; other == Ok(None), "{other:?}");
     }
     Ok(())
 }

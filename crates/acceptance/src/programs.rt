@@ -1,13 +1,11 @@
-//! The program's texts, messages and statuses, on a host in memory that may fail, also where it is refused memory.
+//! The program's texts, messages and statuses, on a host in memory that may fail.
 
-use crate::hosts::Failing::{self, Errors, Flush, Nothing, Room, Writes};
-use crate::hosts::{Files, Host, host_with, text_of};
-use cvl_base::{Memory, NoResources};
 use recipes::{LINE_OF_SIGHT, SPARSE_MATVEC};
-use refusing_memory::{Flaw, Refusing, withstands_refusals};
-use shell::program;
+use refusing_memory::Refusing;
 use std::test::Fail;
-use std::thread::Threads;
+use tested_runs::hosts::Failing::{Errors, Flush, Nothing, Room, Writes};
+use tested_runs::hosts::Files;
+use tested_runs::programs::{REFUSED, Row, ends_as};
 
 /// A script that sums up a vector segment by segment. Its lines 4, 6 and 8 write 29, 30 and 17 bytes.
 const SEGMENTS: &str = "l = input 1
@@ -20,7 +18,7 @@ r = add_rez v d
 write r
 ";
 
-const FILES: Files = &[
+pub const FILES: Files = &[
     ("empty", ""),
     ("scan", "a = input 1\nb = add_suz a\nwrite b\n"),
     ("last", "a = input 198\nb = add_suz a\nwrite b\n"),
@@ -45,12 +43,6 @@ const FILES: Files = &[
     ("segment_lengths", "0 2 0 3 0"),
     ("segment_values", "5 1 7 7 1"),
 ];
-
-/// What fails on the host, a command line, and what comes of it: standard output, standard error and the status.
-type Row<'a> = (Failing, &'a str, &'a str, &'a str, u8);
-
-/// What standard error begins with where a command line is refused.
-const REFUSED: &str = "error: ";
 
 /// What a tile without elements is answered.
 const NO_TILE: &str = "error: invalid value '0' for '--tile <N>': 0 is not in 1..=65536
@@ -82,7 +74,7 @@ Each call is described in docs/calls.md, and scripts, inputs and faults in docs/
 ";
 
 /// What the scan of the numbers writes.
-const SCANNED: &str = "b = [0 3 4 11 11]\n";
+pub const SCANNED: &str = "b = [0 3 4 11 11]\n";
 
 /// What the script with a late fault writes, and its message.
 const GIVEN: &str = "a = [3 1 7 0 4]\n";
@@ -90,9 +82,9 @@ const GIVEN: &str = "a = [3 1 7 0 4]\n";
 const LATE: &str = "line 3: fault 2 UnknownCall\n";
 
 /// The sums segment by segment, and what they write in all.
-const SUMS: &str = "cvl --tile 2 --workers 3 segments segment_lengths segment_values";
+pub const SUMS: &str = "cvl --tile 2 --workers 3 segments segment_lengths segment_values";
 
-const SUMMED: &str =
+pub const SUMMED: &str =
     "v = [[] [5 1] [] [7 7 1] []]\ns = [[] [0 5] [] [0 7 14] []]\nr = [0 6 0 15 0]\n";
 
 /// So many of the first bytes of what they write.
@@ -120,7 +112,7 @@ const AT_6: &str = "line 6: write failed\n";
 
 const AT_8: &str = "line 8: write failed\n";
 
-const NO_FILE: &str = "cannot read nofile\n";
+pub const NO_FILE: &str = "cannot read nofile\n";
 
 const ROWS: &[Row] = &[
     (Nothing, "cvl empty", "", "", 0),
@@ -215,118 +207,11 @@ const ROWS: &[Row] = &[
     (Writes(100, 1), SUMS, FIRST_29, AT_6, 3),
 ];
 
-/// Rows of which each request for memory is refused in turn, and the least number of these.
-const STARVED: &[(Row, u64)] = &[
-    (
-        (
-            Nothing,
-            "cvl --tile 2 --workers 3 scan numbers",
-            SCANNED,
-            "",
-            0,
-        ),
-        5,
-    ),
-    (
-        (
-            Nothing,
-            "cvl --tile 2 --workers 3 later numbers",
-            SCANNED,
-            "line 4: fault 2 UnknownCall\n",
-            1,
-        ),
-        5,
-    ),
-    ((Nothing, "cvl late numbers nofile", "", NO_FILE, 3), 3),
-    ((Nothing, SUMS, SUMMED, "", 0), 10),
-];
-
-/// Whether this came of a run: standard output, all of which was sent on where the status is 0, standard error and the status.
-fn came(host: &Host<'_>, status: u8, row: &Row<'_>) -> bool {
-    let (_, _, output, errors, wanted) = row;
-    let (taken, told) = (host.output.taken.as_slice(), host.errors.taken.as_slice());
-    let is_told = told == errors.as_bytes()
-        || *errors == REFUSED && told.starts_with(REFUSED.as_bytes());
-    let is_sent = status != 0 || host.output.sent == taken.len();
-    status == *wanted && taken == output.as_bytes() && is_told && is_sent
-}
-
-/// Whether a run ended so for want of memory: it says so, and has written a beginning of the text.
-fn is_starved(host: &Host<'_>, status: u8, row: &Row<'_>) -> bool {
-    let told = host.errors.taken.as_slice();
-    let is_told = told.starts_with(b"cannot read ") || told.ends_with(b": no resources\n");
-    status == 3 && is_told && row.2.as_bytes().starts_with(&host.output.taken)
-}
-
-/// Whether the program ends as the row says, on this memory and on a host that has its own for what it writes.
-fn ends_as<R: Threads + Sync + AllocGlobal, A: Memory>(
-    rt: &R,
-    heap: A,
-    files: Files<'_>,
-    row: &Row<'_>,
-) -> Result<bool, NoResources> {
-    let mut host = host_with(rt.alloc(), files, row.0);
-    let words: Vec<&str> = row.1.split_whitespace().collect(rt.alloc())?;
-    let status = program(rt, heap, words.as_slice(), &mut host);
-    if came(&host, status, row) {
-        Ok(true)
-    } else if is_starved(&host, status, row) {
-        Err(NoResources)
-    } else {
-        Ok(false)
-    }
-}
-
-/// How many requests the program makes, each of which is refused in turn.
-fn requests_of<R: Threads + Sync + AllocGlobal>(
-    rt: &R,
-    files: Files<'_>,
-    row: &Row<'_>,
-) -> Result<u64, Flaw> {
-    withstands_refusals(
-        rt.alloc(),
-        |heap| ends_as(rt, heap, files, row),
-        Ok(true),
-        Err(NoResources),
-    )
-}
-
 #[test]
 fn texts_messages_and_statuses(rt: HostRuntime) -> Result<(), Fail> {
     let heap = Refusing::none(rt.alloc());
     for row in ROWS {
         assert!(rt; ends_as(&rt, &heap, FILES, row)?, "{}", row.1);
     }
-    Ok(())
-}
-
-#[test]
-fn each_growth_refused(rt: HostRuntime) -> Result<(), Fail> {
-    for (row, least) in STARVED {
-        let requests = requests_of(&rt, FILES, row)?;
-        assert!(rt; requests >= *least, "{}: {requests}", row.1);
-    }
-    Ok(())
-}
-
-/// A script that reads input 198, which is the last; and a file that is so long that threads write the memory for it before it
-/// is read, of which each request is refused in turn.
-#[test]
-fn many_words_and_a_long_file(rt: HostRuntime) -> Result<(), Fail> {
-    let line = text_of(rt.alloc(), "cvl last", " empty", 197, " numbers")?;
-    let row = (Nothing, line.as_str(), SCANNED, "", 0);
-    let heap = Refusing::none(rt.alloc());
-    assert!(rt; ends_as(&rt, &heap, FILES, &row)?);
-    let numbers = text_of(rt.alloc(), "3 1 7 0 4", " ", 1_100_000, "")?;
-    let files = [FILES[1], ("numbers", numbers.as_str())];
-    let row = (
-        Nothing,
-        "cvl --tile 2 --workers 3 scan numbers",
-        SCANNED,
-        "",
-        0,
-    );
-    // the room for the file, beside those for the inputs, for a line and for the script
-    assert!(rt; requests_of(&rt, &files, &row)? > 5);
     Ok(())
 }

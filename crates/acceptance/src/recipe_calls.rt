@@ -1,125 +1,31 @@
-//! The recipes as functions: each request for memory refused in turn, and vectors that are so long that threads share them.
+//! The recipes as functions on vectors that are so long that threads share them.
 
-ghost use Rattle.std.specs.Prelude.{◌≤◌, IfOk, vec_len};
-ghost use Rattle.cvl_base.specs.Limits.{most_elements};
-
-use cvl_base::limits::MOST_ELEMENTS;
-use cvl_base::{Config, Fault, FaultNo, Memory, NoResources, Refused};
-use recipes::{line_of_sight, sparse_matvec};
-use refusing_memory::{Refusing, withstands_refusals};
+use cvl_base::Refused;
+use refusing_memory::Refusing;
+use std::alloc::Global;
 use std::test::Fail;
 use std::thread::Threads;
+use tested_runs::recipe_calls::{has_product, is_seen};
 
-/// The lengths of a matrix's rows, its columns and its values, and a vector.
-type Matrix<'a> = [&'a [i32]; 4];
-
-/// The elements, up to as many as a vector may have.
-fn vector_of<A: Memory>(heap: A, elements: &[i32]) -> Result<Vec<i32, A>, NoResources>
-    ensures { IfOk result (λ v. vec_len v ≤ most_elements) }
-{
-    let (front, _) = elements.split_at(elements.len().min(MOST_ELEMENTS));
-    Ok(Vec::from_slice(heap, front)?)
-}
-
-/// Whether a matrix has this product with a vector.
-fn has_product<R: Threads + Sync, A: Memory>(
-    rt: &R,
-    heap: A,
-    matrix: Matrix<'_>,
-    product: &[i32],
-) -> Result<bool, Refused> {
-    let [lens, cols, vals, x] = matrix;
-    let lens = vector_of(heap, lens)?;
-    let cols = vector_of(heap, cols)?;
-    let vals = vector_of(heap, vals)?;
-    let x = vector_of(heap, x)?;
-    let config = Config::new(2, 3).unwrap();
-    let found = sparse_matvec(rt, heap, config, lens, cols, vals, x)?;
-    Ok(found.as_slice() == product)
-}
-
-/// Whether a line of altitudes is as long as these flags, which tell of the first places whether they are visible.
-fn is_seen<R: Threads + Sync, A: Memory>(
-    rt: &R,
-    heap: A,
-    altitudes: &[i32],
-    visible: &[bool],
-) -> Result<bool, Refused> {
-    let config = Config::new(2, 3).unwrap();
-    let found = line_of_sight(rt, heap, config, vector_of(heap, altitudes)?)?;
-    Ok(found.len() == altitudes.len() && found.starts_with(visible))
-}
-
-/// Matrices with a vector each, and their products. What others give are cases of the scripts.
-const PRODUCTS: &[(Matrix, &[i32], Result<bool, Refused>)] = &[
-    (
-        [&[2, 0, 2], &[0, 2, 1, 2], &[2, 1, 3, 4], &[1, 2, 3]],
-        &[5, 0, 18],
-        Ok(true),
-    ),
-    // columns, values and lengths are at fault too
-    (
-        [&[3, -2], &[5], &[], &[1]],
-        &[],
-        Err(Refused::Fault(Fault {
-            number: FaultNo::NegativeLength,
-            place: Some(1),
-        })),
-    ),
-];
-
-/// Altitudes, and which of them are visible.
-const LINES: &[(&[i32], &[bool], Result<bool, Refused>)] = &[
-    (
-        &[0, 1, 1, 6, 2],
-        &[true, true, false, true, false],
-        Ok(true),
-    ),
-    (
-        &[],
-        &[],
-        Err(Refused::Fault(Fault {
-            number: FaultNo::IndexOutOfRange,
-            place: Some(0),
-        })),
-    ),
-];
-
-#[test]
-fn each_growth_of_the_recipes(rt: HostRuntime) -> Result<(), Fail> {
-    for (matrix, product, right) in PRODUCTS {
-        withstands_refusals(
-            rt.alloc(),
-            |heap| has_product(&rt, heap, *matrix, product),
-            *right,
-            Err(Refused::NoResources),
-        )?;
-    }
-    for (altitudes, visible, right) in LINES {
-        withstands_refusals(
-            rt.alloc(),
-            |heap| is_seen(&rt, heap, altitudes, visible),
-            *right,
-            Err(Refused::NoResources),
-        )?;
-    }
-    Ok(())
-}
-
-/// How many elements the long vectors have.
+/// How many elements the vectors have.
 const MANY: usize = 1_500_000;
+
+/// Whether rows of one entry, 3, each in the column of 7, have the right product, and on a plain the observer sees its own place
+/// and the next.
+fn are_right<R: Threads + Sync>(rt: &R, alloc: Global) -> Result<bool, Refused> {
+    let heap = Refusing::none(alloc);
+    let threes = vec![in alloc; 3; MANY]?;
+    let (lens, cols) = (vec![in alloc; 1; MANY]?, vec![in alloc; 0; MANY]?);
+    let product = vec![in alloc; 21; MANY]?;
+    let matrix = [lens.as_slice(), cols.as_slice(), threes.as_slice(), &[7]];
+    Ok(
+        has_product(rt, &heap, matrix, &product)?
+            && is_seen(rt, &heap, &threes, &[true, true, false])?,
+    )
+}
 
 #[test]
 fn long_products_and_lines(rt: HostRuntime) -> Result<(), Fail> {
-    let heap = Refusing::none(rt.alloc());
-    // rows of one entry, 3, each in the column of 7
-    let lens = vec![in rt.alloc(); 1; MANY]?;
-    let cols = vec![in rt.alloc(); 0; MANY]?;
-    let vals = vec![in rt.alloc(); 3; MANY]?;
-    let product = vec![in rt.alloc(); 21; MANY]?;
-    let matrix = [lens.as_slice(), cols.as_slice(), vals.as_slice(), &[7]];
-    assert_eq!(rt; has_product(&rt, &heap, matrix, &product), Ok(true));
-    // a plain: the observer sees its own place and the next
-    assert_eq!(rt; is_seen(&rt, &heap, &vals, &[true, true, false]), Ok(true));
+    assert!(rt; are_right(&rt, rt.alloc()) == Ok(true));
     Ok(())
 }

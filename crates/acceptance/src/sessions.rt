@@ -1,78 +1,11 @@
 //! Sessions by their calls: what a call that was refused memory gives when it is made again, and that one with a fault changes
 //! nothing.
 
-use crate::hosts::inputs_of;
-use call_reader::read_line;
-use cvl_base::{Config, Ints, Memory, NoResources, Refused};
 use refusing_memory::{Flaw, Refusal, refuse_each};
-use shell::{Stop, put_stop};
 use std::alloc::Global;
 use std::test::Fail;
 use std::thread::Threads;
-use vector_handles::{Input, Session, Shown};
-
-/// The texts of the first inputs of a session.
-const INPUTS: &[&str] = &["[[1 2] [] [3]]", "8", "0 2 0 3 0", "5 1 7 7 1"];
-
-/// A session on these inputs and a fifth one, which is a vector and no text.
-fn session_on<A: Memory>(heap: A) -> Result<Session<A>, NoResources> {
-    let mut inputs = inputs_of(heap, INPUTS)?;
-    let fifth = Ints::from_vec(vec![in heap; 1, 0]?);
-    inputs.push(Input::Vector(fifth))?;
-    Session::new(heap, Config::new(2, 3).unwrap(), inputs)
-}
-
-/// Makes the call of a line.
-pub fn call_line<R: Threads + Sync, A: Memory>(
-    rt: &R,
-    heap: A,
-    session: &mut Session<A>,
-    line: &str,
-) -> Result<Shown<A>, Refused> {
-    match read_line(heap, line.as_bytes())? {
-        Some(call) => session.apply(rt, &call),
-        None => Ok(Shown::Nothing),
-    }
-}
-
-/// Appends what the call of a line shows, or its fault as that of line 0. It is made once more where memory is refused.
-fn put_line<R: Threads + Sync, A: Memory>(
-    rt: &R,
-    heap: A,
-    session: &mut Session<A>,
-    line: &str,
-    text: &mut Vec<u8>,
-) -> Result<(), Refused> {
-    let shown = match call_line(rt, heap, session, line) {
-        Err(Refused::NoResources) => call_line(rt, heap, session, line),
-        shown => shown,
-    };
-    match shown {
-        Ok(Shown::Nothing) => Ok(()),
-        Ok(Shown::Text(shown)) => Ok(text.extend_from_slice(shown.as_slice())?),
-        Err(Refused::Fault(fault)) => Ok(put_stop(&Stop::Script { line: 0, fault }, text)?),
-        Err(Refused::NoResources) => Err(Refused::NoResources),
-    }
-}
-
-/// Whether the calls of these lines show this text on memory of which one request may be refused.
-fn show<R: Threads + Sync, A: Memory>(
-    rt: &R,
-    heap: A,
-    alloc: Global,
-    lines: &str,
-    right: &str,
-) -> Result<bool, Refused> {
-    let mut session = match session_on(heap) {
-        Ok(session) => session,
-        Err(NoResources) => session_on(heap)?,
-    };
-    let mut text = Vec::new(alloc);
-    for line in lines.split('\n') {
-        put_line(rt, heap, &mut session, line, &mut text)?;
-    }
-    Ok(text.as_slice() == right.as_bytes())
-}
+use tested_runs::sessions::show;
 
 /// How many requests these lines make, each of which is refused in turn.
 fn requests_of<R: Threads + Sync + AllocGlobal>(

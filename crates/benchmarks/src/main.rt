@@ -4,40 +4,14 @@
 //! loops in C++ beside the calls, `docs/performance/loops.cpp`, which print the same lines.
 #![tactic(auto)]
 
-mod cases;
-mod element_calls;
-mod numbers;
-mod pack_calls;
-mod permute_calls;
-mod recipe_calls;
-mod scan_calls;
-mod texts;
-mod timing;
-mod vectors;
-
 use cvl_base::Config;
-use std::alloc::Global;
-use std::rt::Clock;
-use std::thread::Threads;
+use measured_calls::{Subject, measure};
 use std::{env, io};
 
 /// How many elements a tile has.
 const TILE: u32 = 4096;
 
-/// The vectors' lengths.
-const LENGTHS: [usize; 3] = [4_194_304, 65_536, 1_000];
-
-/// What is measured.
-enum Subject {
-    Text,
-    Elementwise,
-    Scans,
-    Permutes,
-    Packs,
-    Recipes,
-}
-
-/// The words for it.
+/// What is measured, with the word for it.
 const SUBJECTS: &[(&str, Subject)] = &[
     ("text", Subject::Text),
     ("elementwise", Subject::Elementwise),
@@ -46,23 +20,6 @@ const SUBJECTS: &[(&str, Subject)] = &[
     ("packs", Subject::Packs),
     ("recipes", Subject::Recipes),
 ];
-
-/// Measures one subject.
-fn measure<R: Print + Clock + Threads + Sync>(
-    rt: &R,
-    alloc: Global,
-    config: Config,
-    subject: &Subject,
-) -> io::Result<()> {
-    match subject {
-        Subject::Text => texts::measure(rt, alloc, config),
-        Subject::Elementwise => element_calls::measure(rt, alloc, config),
-        Subject::Scans => scan_calls::measure(rt, alloc, config),
-        Subject::Permutes => permute_calls::measure(rt, alloc, config),
-        Subject::Packs => pack_calls::measure(rt, alloc, config),
-        Subject::Recipes => recipe_calls::measure(rt, alloc, config),
-    }
-}
 
 fn main(rt: HostRuntime) -> io::Result<()> {
     let mut arguments = env::args(&rt)?;

@@ -2,12 +2,12 @@
 #![tactic(auto)]
 
 mod gates;
-mod in_parts;
 mod kernels;
 mod memory;
 mod own_threads;
 mod sessions;
 
+use calls_in_parts::cut_all;
 use cvl_base::Config;
 use std::io;
 use std::str::from_utf8;
@@ -32,5 +32,5 @@ fn main(rt: HostRuntime) -> io::Result<()> {
         own_threads::first_negative(&rt, alloc, &[5, 0, 2, -7, 1, -3])
     )?;
     println!(rt; "refused: {}", memory::is_refused(&rt, alloc, config))?;
-    in_parts::cut_all(&mut rt.stdout(), alloc)
+    cut_all(&mut rt.stdout(), alloc)
 }

@@ -1,9 +1,9 @@
 //! Scripts whose workers race in short tiles: each call, by one worker and by many, who are held there or not, and the least of
 //! several faults again and again.
 
-use crate::scripts::{ONE, Run, SCAN, Script, TWO, comes_out};
 use crew::Point;
 use std::test::Fail;
+use tested_runs::scripts::{ONE, Run, SCAN, Script, TWO, comes_out};
 use watching_gate::{Holds, Race};
 
 const INPUTS: &[&str] = &[

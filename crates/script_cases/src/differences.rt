@@ -1,8 +1,7 @@
 //! What is told of a run that differs.
 
-use crate::cases::Case;
 use crate::outcomes::Outcome;
-use crate::single_runs::SingleRun;
+use case_files::{Case, SingleRun};
 use cvl_base::Config;
 use refusing_memory::Flaw;
 use std::io;

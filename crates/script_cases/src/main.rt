@@ -7,18 +7,12 @@
 //! Every run is on the memory that tests refuse, so that the calls are compiled for one type of memory.
 #![tactic(auto)]
 
-mod cases;
 mod differences;
 mod outcomes;
-mod sections;
-mod single_runs;
-mod trouble;
 
-use crate::cases::{Case, cases_of};
 use crate::differences::{tell_difference, tell_flaw};
 use crate::outcomes::{comes_out, outcome_of};
-use crate::single_runs::{SingleRun, runs_of};
-use crate::trouble::Trouble;
+use case_files::{Case, SingleRun, Trouble, cases_of, runs_of};
 use cvl_base::{Config, NoResources};
 use refusing_memory::{Refusing, withstands_refusals};
 use std::io::Write;

@@ -1,6 +1,6 @@
 //! What comes of a run.
 
-use crate::single_runs::SingleRun;
+use case_files::SingleRun;
 use cvl_base::{Config, Memory, NoResources};
 use script_runs::{MemSink, Stop, put_stop, run};
 use std::alloc::Global;

@@ -1,5 +1,0 @@
-use Rattle.boards.specs.LeastBoards.{IsLeastSeatOf}
-use Rattle.racing_tests.proofs.least_boards.Shared.lower_each.Given as goal
-
-abbrev pub invariant-loop-place : goal.invariant-loop-place
-invariant-loop-place g l = IsLeastSeatOf l.self.board.now l.seat

@@ -1,0 +1,84 @@
+//! The doubles of numbers, written by several threads, and what may be done with such a vector afterwards.
+
+ghost use Rattle.std.specs.Prelude.{◌≡◌, ◌+◌, ◌≤◌, [], length, map};
+ghost use Rattle.fresh.specs.Parts.{part};
+ghost use Rattle.fresh.specs.Places.{stretch};
+ghost use Rattle.shared_tests.specs.Doubles.{double};
+
+use cvl_base::{Config, Memory, NoResources};
+use fresh::{Run, Writer, write_in_runs, write_over};
+use refusing_memory::Refusing;
+use sharing::{ThreadCount, all_workers};
+use std::test::Fail;
+use std::thread::Threads;
+
+/// Writes the doubles of numbers.
+#[derive(Drop)]
+struct Doubles<'a> {
+    numbers: &'a [u32],
+}
+
+impl<'a> Writer<u64> for Doubles<'a> {
+    ghost whole = { λ d. map double d.numbers.now };
+
+    fn write(&self, run: Run<u64>) -> Run<u64>
+        requires empty { run.items ≡ [] }
+        requires within { run.first + run.room ≤ length (map double self.now.numbers.now) }
+        ensures { result ≡ stretch run.block run.first (part (map double self.now.numbers.now) run.first run.room) 0 }
+    {
+        run.fill_by(
+            self.numbers,
+            |x: u32| -> u64
+                ensures { result ≡ double x }
+            { 2 * u64::from(x) },
+        )
+    }
+}
+
+/// Whether the first values are the doubles of the numbers.
+fn are_doubles(values: &[u64], numbers: &[u32]) -> bool {
+    values.len() >= numbers.len()
+        && values.iter().zip(numbers).all(|(value, number)| value / 2 == u64::from(*number)
+            && value % 2 == 0)
+}
+
+/// Whether the doubles of so many numbers are right, also once the vector was pushed to, shrunk and cloned.
+pub fn are_written<R: Threads + Sync, A: Memory>(
+    rt: &R,
+    heap: A,
+    threads: ThreadCount,
+    length: usize,
+) -> Result<bool, NoResources> {
+    let numbers: Vec<u32, A> = (0..length).map(|k| (k % 1_000) as u32).collect(heap)?;
+    let numbers = numbers.as_slice();
+    let mut doubles = write_in_runs(rt, heap, threads, &Doubles { numbers }, numbers.len())?;
+    let as_long = doubles.len() == numbers.len() && doubles.capacity() == numbers.len();
+    doubles.push(1)?;
+    doubles.shrink_to_fit();
+    let copy = doubles.clone()?;
+    Ok(
+        as_long
+            && copy == doubles
+            && copy.len() == numbers.len() + 1
+            && copy.last() == Some(&1)
+            && are_doubles(copy.as_slice(), numbers),
+    )
+}
+
+/// The length from which on threads share a vector.
+#[test]
+fn a_shared_length(rt: HostRuntime) -> Result<(), Fail> {
+    let heap = Refusing::none(rt.alloc());
+    let threads = all_workers(Config::new(1, 8)?);
+    assert!(rt; are_written(&rt, &heap, threads, 262_145) == Ok(true));
+    Ok(())
+}
+
+#[test]
+fn a_slice_that_is_written_over(rt: HostRuntime) -> Result<(), Fail> {
+    let numbers = [3, 1, 4, 1, 5];
+    let mut values = vec![in rt.alloc(); 7; numbers.len()]?;
+    write_over(&mut values, &Doubles { numbers: &numbers });
+    assert!(rt; are_doubles(&values, &numbers));
+    Ok(())
+}

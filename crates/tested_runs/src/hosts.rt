@@ -1,0 +1,177 @@
+//! The host in memory that the program is run on, and its texts.
+
+ghost use Rattle.std.specs.Prelude.{◌≡◌};
+
+use cvl_base::{Memory, NoResources};
+use shell::{FileRoom, ReadFiles, StreamHost};
+use std::alloc::{AllocError, Global};
+use std::io::{Error, ErrorKind, Result as IoResult, Write};
+use std::thread::Threads;
+use vector_handles::Input;
+
+/// Names of files, each with its bytes.
+pub type Files<'a> = &'a [(&'a str, &'a str)];
+
+/// Files in memory, which claim nothing of what was read.
+#[derive(Drop)]
+pub struct TableFiles<'a> {
+    files: Files<'a>,
+}
+
+/// The bytes of the file of this name.
+fn file_of<'a>(files: Files<'a>, name: &str) -> Option<&'a str> {
+    for (file, bytes) in files {
+        if *file == name {
+            return Some(*bytes);
+        }
+    }
+    None
+}
+
+impl ReadFiles for TableFiles<'_> {
+    ghost use Rattle.std.specs.Prelude.{None};
+
+    ghost reads = { λ _. None };
+
+    fn read_file<R: Threads + Sync, A: Memory>(
+        &mut self,
+        name: &str,
+        room: FileRoom<'_, R, A>,
+    ) -> Option<Vec<u8, A>> {
+        let text = file_of(self.files, name)?;
+        room.read_whole(&mut text.as_bytes(), text.len())
+    }
+}
+
+/// A writer in memory that takes few bytes a write, and once it has taken so many writes it fails, or is full.
+#[derive(Drop)]
+pub struct NarrowWriter {
+    /// The bytes taken so far.
+    pub taken: Vec<u8>,
+    /// How many bytes it takes a write, beside the first.
+    more_a_write: usize,
+    /// How many writes it takes.
+    writes_left: u64,
+    /// Whether it takes no byte then, and doesn't fail.
+    is_full: bool,
+    /// Whether a flush succeeds.
+    flushes: bool,
+    /// How many bytes a flush has sent on.
+    pub sent: usize,
+}
+
+impl NarrowWriter {
+    /// A writer that takes so many bytes a write beside the first, so many times, and then fails.
+    fn new(alloc: Global, more_a_write: usize, writes_left: u64) -> NarrowWriter {
+        NarrowWriter {
+            taken: Vec::new(alloc),
+            more_a_write,
+            writes_left,
+            is_full: false,
+            flushes: true,
+            sent: 0,
+        }
+    }
+}
+
+impl Write for NarrowWriter {
+    ghost use Rattle.std.specs.Prelude.{Some};
+
+    ghost contents = { λ w. Some w.taken.items };
+
+    fn write(&mut self, buf: &[u8]) -> IoResult<usize> {
+        if buf.is_empty() {
+            return Ok(0);
+        }
+        let count = self.more_a_write.min(buf.len() - 1) + 1;
+        let (front, _) = buf.split_at(count);
+        if self.writes_left > 0 && self.taken.extend_from_slice(front).is_ok() {
+            self.writes_left -= 1;
+            return Ok(count);
+        }
+        if self.is_full {
+            Ok(0)
+        } else {
+            Err(Error::from(ErrorKind::BrokenPipe))
+        }
+    }
+
+    fn flush(&mut self) -> IoResult<()> {
+        if self.flushes {
+            self.sent = self.taken.len();
+            Ok(())
+        } else {
+            Err(Error::from(ErrorKind::BrokenPipe))
+        }
+    }
+}
+
+/// A host over files in memory.
+pub type Host<'a> = StreamHost<TableFiles<'a>, NarrowWriter, NarrowWriter>;
+
+/// What fails on a host, whose standard output takes a byte a write where nothing else is said.
+#[derive(Clone, Copy)]
+pub enum Failing {
+    Nothing,
+    /// The flush.
+    Flush,
+    /// Each write of standard output after so many, of so many bytes each beside the first.
+    Writes(usize, u64),
+    /// Standard output, which is full after so many bytes.
+    Room(u64),
+    /// Each write of standard error after so many, of a byte each.
+    Errors(u64),
+}
+
+/// A host with these files, on which this fails.
+pub fn host_with<'a>(alloc: Global, files: Files<'a>, failing: Failing) -> Host<'a>
+    ensures puts { result.failed_puts ≡ 0 }
+    ensures flushes { result.failed_flushes ≡ 0 }
+{
+    let mut output = NarrowWriter::new(alloc, 0, u64::MAX);
+    // a message is one write, so that the messages of two programs don't mix
+    let mut errors = NarrowWriter::new(alloc, usize::MAX, 1);
+    match failing {
+        Failing::Nothing => {}
+        Failing::Flush => output.flushes = false,
+        Failing::Writes(more, writes) => {
+            output.more_a_write = more;
+            output.writes_left = writes;
+        }
+        Failing::Room(bytes) => {
+            output.writes_left = bytes;
+            output.is_full = true;
+        }
+        Failing::Errors(writes) => {
+            errors.more_a_write = 0;
+            errors.writes_left = writes;
+        }
+    }
+    StreamHost::new(TableFiles { files }, output, errors)
+}
+
+/// The inputs with these texts.
+pub fn inputs_of<A: Memory>(alloc: A, texts: &[&str]) -> Result<Vec<Input<A>, A>, NoResources> {
+    let mut inputs = Vec::with_capacity(alloc, texts.len())?;
+    for text in texts {
+        let bytes = Vec::from_slice(alloc, text.as_bytes())?;
+        inputs.push(Input::Bytes(bytes))?;
+    }
+    Ok(inputs)
+}
+
+/// A text of one piece so many times, between two others.
+pub fn text_of(
+    alloc: Global,
+    first: &str,
+    piece: &str,
+    times: usize,
+    last: &str,
+) -> Result<String, AllocError> {
+    let mut text = String::from_str(alloc, first)?;
+    for _ in 0..times {
+        text.push_str(piece)?;
+    }
+    text.push_str(last)?;
+    Ok(text)
+}

@@ -1,0 +1,59 @@
+//! The calls that no script makes as they stand: scans and reduces by the monoid itself, a permute over a room, and a pack that
+//! gives its lengths too.
+
+use cvl_base::monoids::Add;
+use cvl_base::{Config, Memory, Refused};
+use pack_dist::seg_pack;
+use permutes::simple_over;
+use scan_ops::{reduce, scan, seg_reduce, seg_scan};
+use segdes::SegDes;
+use std::thread::Threads;
+
+/// A call.
+#[derive(Drop)]
+pub enum Call {
+    Scan,
+    Reduce,
+    SegScan,
+    SegReduce,
+    SimpleOver,
+    SegPack,
+}
+
+/// What a call gives on five numbers in three segments, by three workers in tiles of one element. A number is told as a vector
+/// of it, and lengths stand behind values.
+fn made<R: Threads + Sync, A: Memory>(
+    rt: &R,
+    heap: A,
+    call: &Call,
+) -> Result<Vec<i32, A>, Refused> {
+    let (config, xs) = (Config::new(1, 3).unwrap(), &[3, 1, 7, 0, 4]);
+    let d = SegDes::from_lengths(heap, &[2, 0, 3])?;
+    match call {
+        Call::Scan => Ok(scan::<R, A, Add>(rt, heap, config, xs)?),
+        Call::Reduce => Ok(vec![in heap; reduce::<R, A, Add>(rt, heap, config, xs)?]?),
+        Call::SegScan => seg_scan::<R, A, Add>(rt, heap, config, xs, &d),
+        Call::SegReduce => seg_reduce::<R, A, Add>(rt, heap, config, xs, &d),
+        Call::SimpleOver => {
+            let mut room = vec![in heap; -7; 3]?;
+            simple_over(heap, &[10, 20, 30], &[2, 0, 1], &mut room)?;
+            Ok(room)
+        }
+        Call::SegPack => {
+            let flags = &[true, false, true, true, false];
+            let (mut values, lengths) = seg_pack(rt, heap, config, xs, flags, &d)?;
+            values.extend_from_slice(lengths.lengths())?;
+            Ok(values)
+        }
+    }
+}
+
+/// Whether a call gives this.
+pub fn gives<R: Threads + Sync, A: Memory>(
+    rt: &R,
+    heap: A,
+    call: &Call,
+    right: &[i32],
+) -> Result<bool, Refused> {
+    Ok(made(rt, heap, call)?.as_slice() == right)
+}

@@ -1,0 +1,48 @@
+//! Runs of the program on a host in memory, and whether they end as a row says.
+
+use crate::hosts::{Failing, Files, Host, host_with};
+use cvl_base::{Memory, NoResources};
+use shell::program;
+use std::thread::Threads;
+
+/// What fails on the host, a command line, and what comes of it: standard output, standard error and the status.
+pub type Row<'a> = (Failing, &'a str, &'a str, &'a str, u8);
+
+/// What standard error begins with where a command line is refused.
+pub const REFUSED: &str = "error: ";
+
+/// Whether this came of a run: standard output, all of which was sent on where the status is 0, standard error and the status.
+fn came(host: &Host<'_>, status: u8, row: &Row<'_>) -> bool {
+    let (_, _, output, errors, wanted) = row;
+    let (taken, told) = (host.output.taken.as_slice(), host.errors.taken.as_slice());
+    let is_told = told == errors.as_bytes()
+        || *errors == REFUSED && told.starts_with(REFUSED.as_bytes());
+    let is_sent = status != 0 || host.output.sent == taken.len();
+    status == *wanted && taken == output.as_bytes() && is_told && is_sent
+}
+
+/// Whether a run ended so for want of memory: it says so, and has written a beginning of the text.
+fn is_starved(host: &Host<'_>, status: u8, row: &Row<'_>) -> bool {
+    let told = host.errors.taken.as_slice();
+    let is_told = told.starts_with(b"cannot read ") || told.ends_with(b": no resources\n");
+    status == 3 && is_told && row.2.as_bytes().starts_with(&host.output.taken)
+}
+
+/// Whether the program ends as the row says, on this memory and on a host that has its own for what it writes.
+pub fn ends_as<R: Threads + Sync + AllocGlobal, A: Memory>(
+    rt: &R,
+    heap: A,
+    files: Files<'_>,
+    row: &Row<'_>,
+) -> Result<bool, NoResources> {
+    let mut host = host_with(rt.alloc(), files, row.0);
+    let words: Vec<&str> = row.1.split_whitespace().collect(rt.alloc())?;
+    let status = program(rt, heap, words.as_slice(), &mut host);
+    if came(&host, status, row) {
+        Ok(true)
+    } else if is_starved(&host, status, row) {
+        Err(NoResources)
+    } else {
+        Ok(false)
+    }
+}
