@@ -13,8 +13,8 @@ use Rattle.cvl_base.specs.Folds.{fold_of, scan_of}
 use Rattle.cvl_base.specs.Integers.{greater_of, lesser_of, sum_of, wrap}
 use Rattle.cvl_base.specs.ItemWords.{is_number}
 use Rattle.cvl_base.proofs.Lists.{sum-cons}
+use Rattle.range_walks.specs.Ranges.{scans_of}
 use Rattle.scan_walks.specs.Fronts.{fitting_front}
-use Rattle.scan_walks.specs.Ranges.{scans_of}
 use Rattle.operators.proofs.FoldLaws.{scan_of-cons}
 use Rattle.scan_walks.proofs.FrontLaws.{scan_past}
 

@@ -15,10 +15,10 @@ use Rattle.cvl_base.specs.Folds.{scan_of}
 use Rattle.cvl_base.specs.Gives.{◌>>=◌}
 use Rattle.cvl_base.specs.Integers.{sum_of, wrap}
 use Rattle.cvl_base.specs.ItemWords.{is_number}
+use Rattle.range_walks.specs.Ranges.{scans_of}
 use Rattle.scan_walks.specs.Fronts.{fitting_front}
-use Rattle.scan_walks.specs.Ranges.{scans_of}
 use Rattle.operators.proofs.FoldLaws.{scan_of-cons}
-use Rattle.scan_walks.proofs.Segments.{length-scans_of}
+use Rattle.range_walks.proofs.Segments.{length-scans_of}
 use Rattle.scan_walks.proofs.Valued.{scans_valued}
 
 fails_at : (b : Bool) (n : ℕ) (z : ℤ) (zs : List ℤ) → cond b (1 + fitting_front zs) 0 < 1 + length zs

@@ -9,11 +9,11 @@ use Rattle.operators.proofs.FoldLaws.{length-scan_of}
 use Rattle.cvl_base.specs.CheckedSums.{fitting}
 use Rattle.cvl_base.specs.Folds.{fold_of, scan_of}
 use Rattle.cvl_base.specs.ItemWords.{is_number}
+use Rattle.range_walks.specs.Ranges.{continued, range_scan_of, scans_of, with_starts}
+use Rattle.range_walks.proofs.Cut.{parts_scanned}
 use Rattle.scan_walks.specs.Fronts.{fitting_front}
-use Rattle.scan_walks.specs.Ranges.{continued, range_scan_of, scans_of, with_starts}
-use Rattle.scan_walks.proofs.Cut.{parts_scanned}
 use Rattle.operators.proofs.FoldLaws.{scan_of-append, scan_of-cons}
-use Rattle.scan_walks.proofs.Segments.{length-scans_of, scans_parted}
+use Rattle.range_walks.proofs.Segments.{length-scans_of, scans_parted}
 use Rattle.scan_walks.proofs.WholeSums.{all_whole, whole_laws}
 
 passed : (z y : ℤ) (b : Bool) → (if b then Some z else None) ≡ Some y → b ≡ true

@@ -8,8 +8,8 @@ use Rattle.std.proofs.lemmas.Slice.{drop-put_mid, take-put_mid}
 use borrow.Rule.Slice.PartMut.{put_mid}
 use Rattle.operators.proofs.FoldLaws.{length-scan_of}
 use Rattle.cvl_base.specs.Folds.{scan_of}
-use Rattle.scan_walks.specs.Ranges.{scans_of}
-use Rattle.scan_walks.proofs.Segments.{scans_more}
+use Rattle.range_walks.specs.Ranges.{scans_of}
+use Rattle.range_walks.proofs.Segments.{scans_more}
 
 module _ {X : Type 0} (now before : List X) (i : ℕ) (left : drop i now ≡ drop i before) where
   -- what stands at the place

@@ -10,7 +10,7 @@ use Rattle.cvl_base.specs.Segmented.{in_vector, one_each, end_to_end}
 use Rattle.cvl_base.proofs.Nests.{nest-fits}
 use Rattle.cvl_base.proofs.Segmented.{results-ok}
 use Rattle.cvl_base.specs.SegmentedCalls.{seg_scan_of, seg_reduce_of}
-use Rattle.scan_walks.specs.Ranges.{scans_of, reduces_of}
+use Rattle.range_walks.specs.Ranges.{scans_of, reduces_of}
 
 module _ {Item : Type 0} (join : Item → Item → Item) (unit : Item) (xs : List Item) (lengths : List ℕ) where
   pub seg_scan-fits : sum lengths ≡ length xs → seg_scan_of join unit xs lengths ≡ Ok (scans_of join unit lengths xs)

@@ -19,7 +19,7 @@ use Rattle.cvl_base.specs.Segmented.{end_to_end, in_vector, moved, results_from}
 use Rattle.cvl_base.proofs.Gives.{after-none}
 use Rattle.cvl_base.proofs.Lists.{sum-cons}
 use Rattle.cvl_base.proofs.Nests.{nest-fits}
-use Rattle.scan_walks.specs.Ranges.{reduces_of, scans_of}
+use Rattle.range_walks.specs.Ranges.{reduces_of, scans_of}
 use Rattle.scan_walks.proofs.Continued.{sums_meant}
 
 module _ {Y : Type 0} where

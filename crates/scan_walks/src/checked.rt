@@ -15,13 +15,12 @@ ghost use Rattle.cvl_base.specs.SegmentedCalls.{seg_scan_of};
 
 use crate::fronts::fitting_of_scan;
 use crate::over::{scan_over, seg_scan_over};
-use crate::plain::scan_vec;
-use crate::readings::Itself;
 use crate::segment_fronts::fitting_of_scans;
 use crate::vectors::seg_scan_vec;
 use crate::whole_sums::{fitting, know_numbers, total};
 use cvl_base::monoids::Add;
 use cvl_base::{Fault, FaultNo, Refused};
+use range_walks::{Itself, scan_vec};
 use segdes::{SegDes, SegLengths};
 use std::alloc::Allocator;
 

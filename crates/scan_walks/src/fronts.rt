@@ -2,12 +2,12 @@
 
 ghost use Rattle.std.specs.Prelude.{◌≡◌, ◌+ℤ◌, ◌≤◌, length, pos, sum};
 ghost use Rattle.cvl_base.specs.Folds.{scan_of};
+ghost use Rattle.range_walks.specs.Ranges.{range_between, range_scan_of};
 ghost use Rattle.scan_walks.specs.Fronts.{fitting_front};
-ghost use Rattle.scan_walks.specs.Ranges.{range_between, range_scan_of};
 
 use crate::blocks::{BLOCK, sum_of_block, sum_one_by_one};
-use crate::range_parts::parts_of_range;
 use crate::segment_fronts::fitting_of_scans;
+use range_walks::parts_of_range;
 use segdes::SegDes;
 use std::alloc::Allocator;
 

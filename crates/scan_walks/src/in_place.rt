@@ -8,7 +8,7 @@ ghost use Rattle.cvl_base.specs.Folds.{scan_of};
 ghost use Rattle.cvl_base.specs.Limits.{most_elements};
 ghost use Rattle.cvl_base.specs.Rooms.{Overwrites};
 ghost use Rattle.cvl_base.specs.SegmentedCalls.{seg_scan_of};
-ghost use Rattle.scan_walks.specs.Ranges.{scans_of};
+ghost use Rattle.range_walks.specs.Ranges.{scans_of};
 
 use crate::checked::{check_scan, check_seg_scan};
 use crate::whole_sums::know_numbers;

@@ -1,8 +1,9 @@
-//! The walks of scans and reduces, flat, by segments, and over a range of the places of a segmented vector: from segment to
-//! segment, with a plain loop over the elements of each. The elements are read as items of a monoid.
+//! The walks of scans and reduces over whole vectors, flat and by segments, by the thread that calls; and sums over whole
+//! numbers, of ranges too, by which a checked scan finds the first result that does not fit before anything is written.
 //!
-//! A walk is named by what it gives: one that ends in `_into` writes a run of fresh memory, one in `_over` a room of the
-//! caller's, one in `_in` the vector that it reads, one in `_vec` gives a vector, and one with no such ending a value.
+//! A walk is named by what it gives: one that ends in `_over` writes a room of the caller's, one in `_in` the vector that it
+//! reads, one in `_vec` gives a vector, and one with no such ending a value. The walks over a range of the places stand in
+//! the crate `range_walks`, and are handed on here; there one that ends in `_into` writes a run of fresh memory.
 #![tactic(auto)]
 
 mod blocks;
@@ -10,10 +11,6 @@ pub mod checked;
 pub mod fronts;
 pub mod in_place;
 pub mod over;
-pub mod plain;
-mod range_parts;
-pub mod ranges;
-pub mod readings;
 mod segment_fronts;
 pub mod vectors;
 pub mod whole_sums;
@@ -25,8 +22,9 @@ pub use checked::{
 pub use fronts::{fitting_of_range, fitting_of_scan};
 pub use in_place::{checked_scan_in, checked_seg_scan_in, scan_in, seg_scan_in};
 pub use over::{scan_over, seg_reduce_over, seg_reduce_readings_over, seg_scan_over};
-pub use plain::{scan_into, scan_vec, sum_from};
-pub use ranges::{scan_range_into, scan_range_vec, seg_reduces_into, sum_of_range};
-pub use readings::{Itself, Reading};
+pub use range_walks::{
+    Itself, Reading, plain, ranges, readings, scan_into, scan_range_into, scan_range_vec, scan_vec,
+    seg_reduces_into, sum_from, sum_of_range,
+};
 pub use vectors::{seg_reduce_vec, seg_scan_vec};
 pub use whole_sums::{fitting, know_numbers, total, total_of_range};

@@ -8,14 +8,12 @@ ghost use Rattle.cvl_base.specs.Limits.{most_elements};
 ghost use Rattle.cvl_base.specs.Rooms.{Overwrites, in_room};
 ghost use Rattle.cvl_base.specs.SegmentedCalls.{seg_reduce_of, seg_scan_of};
 ghost use Rattle.fresh.specs.Places.{with_items};
-ghost use Rattle.scan_walks.specs.Ranges.{reduces_of, scans_of};
+ghost use Rattle.range_walks.specs.Ranges.{reduces_of, scans_of};
 
-use crate::plain::scan_into;
-use crate::ranges::{reduces_into, scans_into};
-use crate::readings::{Itself, Reading};
 use cvl_base::monoid::know_laws;
 use cvl_base::{Fault, Monoid, check_agree};
 use fresh::{Run, fill_slice};
+use range_walks::{Itself, Reading, reduces_into, scan_into, scans_into};
 use segdes::SegLengths;
 
 /// Writes the exclusive scan over a room: for each element `before`, joined from left to right with those in front of it.

@@ -5,8 +5,8 @@ ghost use Rattle.std.specs.Prelude.{◌≡◌, ◌+ℤ◌, ◌≤◌, length, ma
 ghost use Rattle.cvl_base.specs.Descriptors.{AreLengths};
 ghost use Rattle.cvl_base.specs.Folds.{fold_of, scan_of};
 ghost use Rattle.cvl_base.specs.Integers.{greater_of};
+ghost use Rattle.range_walks.specs.Ranges.{scans_of};
 ghost use Rattle.scan_walks.specs.Fronts.{fitting_front};
-ghost use Rattle.scan_walks.specs.Ranges.{scans_of};
 
 use crate::blocks::look_at;
 use crate::fronts::{SHORT, fitting_of_scan};

@@ -5,11 +5,10 @@ ghost use Rattle.std.specs.List.{AllPass};
 ghost use Rattle.cvl_base.specs.Gives.{Gives};
 ghost use Rattle.cvl_base.specs.SegmentedCalls.{seg_reduce_of, seg_scan_of};
 
-use crate::ranges::{scan_range_vec, seg_reduces_into};
-use crate::readings::Reading;
 use cvl_base::monoid::know_laws;
 use cvl_base::{Monoid, Refused};
 use fresh::Room;
+use range_walks::{Reading, scan_range_vec, seg_reduces_into};
 use segdes::{SegDes, check_total};
 use std::alloc::Allocator;
 

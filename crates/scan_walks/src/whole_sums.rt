@@ -8,7 +8,7 @@ ghost use Rattle.cvl_base.specs.Folds.{fold_of};
 ghost use Rattle.cvl_base.specs.ItemWords.{is_number};
 ghost use Rattle.cvl_base.specs.Limits.{most_elements};
 ghost use Rattle.cvl_base.specs.SegmentMonoid.{seg_join, seg_unit};
-ghost use Rattle.scan_walks.specs.Ranges.{range_between};
+ghost use Rattle.range_walks.specs.Ranges.{range_between};
 
 use segdes::SegDes;
 use std::alloc::Allocator;

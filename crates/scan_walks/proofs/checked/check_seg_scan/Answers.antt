@@ -1,8 +1,8 @@
 use Rattle.std.proofs.Common.{◌≡◌, ◌∙◌, ◌+ℤ◌, ap, Err, map, pos, sym, unsigned_abs}
 use Rattle.cvl_base.specs.Integers.{sum_of}
 use Rattle.cvl_base.proofs.Descriptors.{abs_pos}
+use Rattle.range_walks.specs.Ranges.{scans_of}
 use Rattle.scan_walks.specs.Fronts.{fitting_front}
-use Rattle.scan_walks.specs.Ranges.{scans_of}
 use Rattle.scan_walks.proofs.Fitted.{scans_fit, scans_overflow}
 use Rattle.scan_walks.proofs.Segmented.{seg_scan-fits}
 use Rattle.scan_walks.proofs.checked.check_seg_scan.Goals as goal

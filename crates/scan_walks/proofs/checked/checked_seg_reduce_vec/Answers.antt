@@ -4,8 +4,8 @@ use Rattle.std.proofs.lemmas.List.{length-map}
 use Rattle.std.proofs.lemmas.List.Sums.{sum_by-drop_more, sum_by-take-drop}
 use Rattle.cvl_base.specs.Faults.{fault_at}
 use Rattle.cvl_base.specs.declared.fault.FaultNo.TheVariants.{Overflow}
+use Rattle.range_walks.proofs.Segments.{length_fits, segment_read}
 use Rattle.scan_walks.proofs.Continued.{segment_overflows, segment_summed, sums_end, sums_meant}
-use Rattle.scan_walks.proofs.Segments.{length_fits, segment_read}
 use Rattle.scan_walks.proofs.checked.checked_seg_reduce_vec.Goals as goal
 
 pub overflow_cast-length : goal.overflow_cast-length

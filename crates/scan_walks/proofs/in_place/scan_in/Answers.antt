@@ -3,8 +3,8 @@ use Rattle.std.proofs.lemmas.List.{take_all, take_more_set}
 use Rattle.std.proofs.lemmas.List.Elements.{All-get_or}
 use Rattle.operators.proofs.FoldLaws.{scan_of_more}
 use Rattle.cvl_base.specs.Folds.{scan_of}
+use Rattle.range_walks.proofs.Scanned.{joined_more}
 use Rattle.scan_walks.proofs.InPlace.{still_at, still_behind}
-use Rattle.scan_walks.proofs.Scanned.{joined_more}
 use Rattle.scan_walks.proofs.in_place.scan_in.Goals as goal
 
 pub join-so_far-requires-clause-second : goal.join-so_far-requires-clause-second

@@ -2,8 +2,8 @@ use Rattle.std.proofs.Common.{◌≡◌, ◌+◌, ◌-◌, ◌≤◌, ℕ, true,
 use Rattle.std.specs.List.{AllPass}
 use Rattle.std.proofs.lemmas.List.{length-map}
 use Rattle.std.proofs.lemmas.List.Elements.{All-drop, All-take}
+use Rattle.range_walks.proofs.Segments.{length_fits, segment_read, read_at}
 use Rattle.scan_walks.proofs.InPlace.{left_more, segment_fits, segments_ended, total_more, whole_more}
-use Rattle.scan_walks.proofs.Segments.{length_fits, segment_read, read_at}
 use Rattle.scan_walks.proofs.in_place.scans_in.Goals as goal
 
 pub overflow_cast-end : goal.overflow_cast-end

@@ -1,6 +1,6 @@
 use Rattle.std.proofs.Common.{◌≡◌, ◌+◌, ◌++◌, drop, length, map, take, unsigned_abs}
 use Rattle.std.specs.Prelude.{sum}
-use Rattle.scan_walks.specs.Ranges.{scans_of}
+use Rattle.range_walks.specs.Ranges.{scans_of}
 use Rattle.scan_walks.proofs.in_place.scans_in.Given as goal
 
 -- what is written, with the scans of the segments left, is the whole

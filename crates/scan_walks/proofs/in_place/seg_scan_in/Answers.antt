@@ -1,6 +1,6 @@
 use Rattle.std.proofs.Common.{◌∙◌, Ok, ap, map, sym, unsigned_abs}
 use Rattle.cvl_base.proofs.Descriptors.{abs_pos}
-use Rattle.scan_walks.specs.Ranges.{scans_of}
+use Rattle.range_walks.specs.Ranges.{scans_of}
 use Rattle.scan_walks.proofs.Segmented.{seg_scan-fits}
 use Rattle.scan_walks.proofs.in_place.seg_scan_in.Goals as goal
 

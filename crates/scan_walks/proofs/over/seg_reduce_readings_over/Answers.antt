@@ -6,7 +6,7 @@ use Rattle.cvl_base.specs.Rooms.{in_room}
 use Rattle.cvl_base.proofs.Descriptors.{abs_pos}
 use Rattle.cvl_base.proofs.Nests.{length-cut}
 use Rattle.cvl_base.proofs.Rooms.{differs, fits, told}
-use Rattle.scan_walks.specs.Ranges.{reduces_of}
+use Rattle.range_walks.specs.Ranges.{reduces_of}
 use Rattle.scan_walks.proofs.Segmented.{seg_reduce-fits}
 use Rattle.scan_walks.proofs.over.seg_reduce_readings_over.Goals as goal
 

@@ -1,9 +1,9 @@
 use Rattle.std.proofs.Common.{◌≡◌, ◌∙◌, ◌+◌, min, ◌+ℤ◌, pos, length, map, unsigned_abs, refl, ap, arith}
 use Rattle.std.proofs.lemmas.List.{length-map}
 use Rattle.std.proofs.lemmas.List.Sums.{sum_by-drop_more}
+use Rattle.range_walks.proofs.Segments.{length_fits, segment_read, one_long, one_scanned, read_at}
 use Rattle.scan_walks.specs.Fronts.{fitting_front}
 use Rattle.scan_walks.proofs.FrontLaws.{segments_end, segments_go_on, segments_stop}
-use Rattle.scan_walks.proofs.Segments.{length_fits, segment_read, one_long, one_scanned, read_at}
 use Rattle.scan_walks.proofs.segment_fronts.fitting_of_each.Goals as goal
 
 pub overflow_cast-length : goal.overflow_cast-length

@@ -1,9 +1,9 @@
 use Rattle.std.proofs.Common.{◌≡◌, ◌∙◌, ◌+◌, ◌-◌, ◌+ℤ◌, pos, map, take, drop, unsigned_abs, ap, arith}
 use Rattle.std.specs.Prelude.{sum}
+use Rattle.range_walks.specs.Ranges.{scans_of}
+use Rattle.range_walks.proofs.Segments.{range_left, range_lengths, range_read}
 use Rattle.scan_walks.specs.Fronts.{fitting_front}
-use Rattle.scan_walks.specs.Ranges.{scans_of}
 use Rattle.scan_walks.proofs.FrontLaws.{segments_go_on, segments_stop}
-use Rattle.scan_walks.proofs.Segments.{range_left, range_lengths, range_read}
 use Rattle.scan_walks.proofs.segment_fronts.fitting_of_scans.Goals as goal
 
 pub extent_of-total-requires : goal.extent_of-total-requires

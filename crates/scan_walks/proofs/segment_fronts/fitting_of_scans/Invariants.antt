@@ -1,7 +1,7 @@
 use Rattle.std.proofs.Common.{◌≡◌, ◌+◌, ◌-◌, ◌≤◌, ◌+ℤ◌, pos, length, drop, map, unsigned_abs}
 use Rattle.std.specs.Prelude.{sum}
+use Rattle.range_walks.specs.Ranges.{scans_of}
 use Rattle.scan_walks.specs.Fronts.{fitting_front}
-use Rattle.scan_walks.specs.Ranges.{scans_of}
 use Rattle.scan_walks.proofs.segment_fronts.fitting_of_scans.Given as goal
 
 abbrev pub invariant-loop-first : goal.invariant-loop-first

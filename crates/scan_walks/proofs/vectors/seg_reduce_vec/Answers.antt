@@ -4,7 +4,7 @@ use Rattle.cvl_base.specs.Folds.{fold_of}
 use Rattle.cvl_base.specs.Nests.{cut_of}
 use Rattle.cvl_base.proofs.Nests.{length-cut}
 use Rattle.fresh.proofs.Written.{all_written}
-use Rattle.scan_walks.specs.Ranges.{reduces_of}
+use Rattle.range_walks.specs.Ranges.{reduces_of}
 use Rattle.scan_walks.proofs.Segmented.{seg_reduce-fits}
 use Rattle.scan_walks.proofs.vectors.seg_reduce_vec.Goals as goal
 

@@ -3,8 +3,8 @@ use Rattle.std.specs.Prelude.{sum}
 use Rattle.std.proofs.lemmas.Int.{to_z-of_z}
 use Rattle.cvl_base.specs.Exact.{total_of}
 use Rattle.segdes.specs.Starts.{start_of}
-use Rattle.scan_walks.proofs.Cut.{begins_by}
-use Rattle.scan_walks.proofs.LastStart.{range_summed, started_range_summed}
+use Rattle.range_walks.proofs.Cut.{begins_by}
+use Rattle.range_walks.proofs.LastStart.{range_summed, started_range_summed}
 use Rattle.scan_walks.proofs.WholeSums.{all_whole, whole_laws}
 use Rattle.scan_walks.proofs.whole_sums.total_of_range.Goals as goal
 

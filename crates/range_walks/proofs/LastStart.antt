@@ -1,0 +1,133 @@
+-- What the elements of a run join to since the last start in it.
+use Rattle.std.proofs.Common.{◌≡◌, ℕ, ◌+◌, ◌-◌, ◌<◌, ◌≤◌, Bool, false, true, List, [], ◌∷◌, ◌++◌, length, take, drop, get_or, refl, sym, ap, ◌∙◌, arith, append-nil}
+use Rattle.std.specs.Prelude.{sum}
+use Rattle.std.specs.List.{AllPass, flat_map}
+use Rattle.std.proofs.lemmas.Grind.{flat_map-append}
+use Rattle.std.proofs.lemmas.List.{length-take, length-drop, length-append, take_all, drop_all, drop_more, drop-append-le, drop-take}
+use Rattle.std.proofs.lemmas.List.Elements.{All-head, All-take, All-drop}
+use Rattle.std.proofs.lemmas.List.Sums.{fold-append, sum_by_more}
+use Rattle.cvl_base.specs.Booleans.{either}
+use Rattle.cvl_base.specs.Folds.{fold_of}
+use Rattle.cvl_base.specs.Monoid.{MonoidLaws}
+use Rattle.cvl_base.specs.SegmentMonoid.{seg_join}
+use Rattle.segdes.specs.Starts.{start_of}
+use Rattle.range_walks.specs.Ranges.{continued, started, with_starts, range_between}
+use Rattle.cvl_base.proofs.Lists.{sum-cons}
+use Rattle.cvl_base.specs.Nests.{cut_of}
+use Rattle.range_walks.proofs.Cut.{range_cut, length-started}
+use Rattle.range_walks.proofs.Segments.{cut_parted}
+
+module _ {Item : Type 0} where
+  pub with_starts-none : (lengths : List ℕ) → with_starts {Item = Item} lengths [] ≡ []
+  with_starts-none [] = refl
+  with_starts-none (n ∷ ls) =
+      ap (λ front. started front ++ with_starts ls (drop n [])) (take_all n [] (omega arith))
+      ∙ ap (λ others. with_starts ls others) (drop_all n [] (omega arith))
+      ∙ with_starts-none ls
+
+  -- a vector is its segments before s and those from s on
+  pub split_at_start : (lengths : List ℕ) (xs : List Item) (s : ℕ)
+      → with_starts lengths xs ≡ with_starts (take s lengths) (take (start_of lengths s) xs) ++ with_starts (drop s lengths) (drop (start_of lengths s) xs)
+  split_at_start lengths xs s =
+      ap (flat_map started) (cut_parted s lengths xs)
+      ∙ flat_map-append started (cut_of (take s lengths) (take (start_of lengths s) xs)) (cut_of (drop s lengths) (drop (start_of lengths s) xs))
+
+  pub length-with_starts : (lengths : List ℕ) (xs : List Item) → length xs ≤ sum lengths → length (with_starts lengths xs) ≡ length xs
+  length-with_starts [] xs covered = omega (arith, covered)
+  length-with_starts (n ∷ ls) xs covered =
+      omega (
+        arith,
+        length-append (started (take n xs)) (with_starts ls (drop n xs)),
+        length-started (take n xs),
+        length-take n xs,
+        length-drop n xs,
+        length-with_starts ls (drop n xs) (omega (arith, covered, sum-cons n ls, length-drop n xs)),
+      )
+
+  -- a run at whose elements no segment starts
+  pub range_continued : (lengths : List ℕ) (xs : List Item) (from to k first : ℕ) → from ≤ to → to ≤ length xs → first ≤ length lengths
+      → from + k ≡ start_of lengths first → to ≤ from + k → ((s : ℕ) → s < first → start_of lengths s < from)
+      → range_between lengths xs from to ≡ continued (take (to - from) (drop from xs))
+  range_continued lengths xs from to k first in_order within le is past earlier =
+      let m : ℕ = to - from in
+      let end : from + m ≡ to = omega (arith, in_order) in
+      let ys = drop from (take to xs) in
+      let few : length ys ≤ k = omega (arith, length-drop from (take to xs), length-take to xs, past) in
+      range_cut lengths (take to xs) from k first le (omega (arith, length-take to xs)) is earlier
+      ∙ ap (λ zs. continued zs ++ with_starts (drop first lengths) (drop k ys)) (take_all k ys few)
+      ∙ ap (λ zs. continued ys ++ with_starts (drop first lengths) zs) (drop_all k ys few)
+      ∙ ap (λ zs. continued ys ++ zs) (with_starts-none (drop first lengths))
+      ∙ append-nil (continued ys)
+      ∙ ap (λ t. continued (drop from (take t xs))) (sym end)
+      ∙ ap continued (drop-take from m xs)
+
+  -- a run in which segment s is the last that starts
+  pub range_started : (lengths : List ℕ) (xs : List Item) (from to s : ℕ) → to ≤ length xs → s < length lengths
+      → from ≤ start_of lengths s → start_of lengths s < to → to ≤ start_of lengths (s + 1)
+      → (front : List (Bool × Item)) × (range_between lengths xs from to ≡ front ++ started (take (to - start_of lengths s) (drop (start_of lengths s) xs)))
+  range_started lengths xs from to s within lt le before last =
+      let p : ℕ = start_of lengths s in
+      let n : ℕ = get_or lengths s 0 in
+      let m : ℕ = to - p in
+      let front = with_starts (take s lengths) (take p (take to xs)) in
+      let ys = drop p (take to xs) in
+      let short : length ys ≤ n = omega (arith, length-drop p (take to xs), length-take to xs, sum_by_more (λ x. x) lengths s 0 lt, last) in
+      let long : length front ≡ length (take p (take to xs)) = length-with_starts (take s lengths) (take p (take to xs)) (omega (arith, length-take p (take to xs))) in
+      let end : p + m ≡ to = omega (arith, before) in
+      let whole : with_starts lengths (take to xs) ≡ front ++ started ys =
+      split_at_start lengths (take to xs) s
+      ∙ ap (λ ls. front ++ with_starts ls ys) (drop_more lengths s 0 lt)
+      ∙ ap (λ zs. front ++ (started zs ++ with_starts (drop (s + 1) lengths) (drop n ys))) (take_all n ys short)
+      ∙ ap (λ zs. front ++ (started ys ++ with_starts (drop (s + 1) lengths) zs)) (drop_all n ys short)
+      ∙ ap (λ zs. front ++ (started ys ++ zs)) (with_starts-none (drop (s + 1) lengths))
+      ∙ ap (λ zs. front ++ zs) (append-nil (started ys)) in (
+        drop from front,
+        ap (drop from) whole
+            ∙ drop-append-le from front (started ys) (omega (arith, long, length-take p (take to xs), length-take to xs, le, before, within))
+            ∙ ap (λ t. drop from front ++ started (drop p (take t xs))) (sym end)
+            ∙ ap (λ zs. drop from front ++ started zs) (drop-take p m xs),
+      )
+
+-- ---- the sum of a run
+
+flag_stays : (f : Bool) → either f false ≡ f
+flag_stays true = refl
+flag_stays false = refl
+
+flag_set : (f : Bool) → either f true ≡ true
+flag_set true = refl
+flag_set false = refl
+
+module _ {Item : Type 0} (join : Item → Item → Item) where
+  pub continued_summed : (f : Bool) (before : Item) (ys : List Item) → fold_of (seg_join join) (f, before) (continued ys) ≡ (f, fold_of join before ys)
+  continued_summed f before [] = refl
+  continued_summed f before (y ∷ ys) =
+      ap (λ g. fold_of (seg_join join) (g, join before y) (continued ys)) (flag_stays f) ∙ continued_summed f (join before y) ys
+
+  pub range_summed : (lengths : List ℕ) (xs : List Item) (f : Bool) (before : Item) (from to k first : ℕ) → from ≤ to → to ≤ length xs → first ≤ length lengths
+      → from + k ≡ start_of lengths first → to ≤ from + k → ((s : ℕ) → s < first → start_of lengths s < from)
+      → fold_of (seg_join join) (f, before) (range_between lengths xs from to) ≡ (f, fold_of join before (take (to - from) (drop from xs)))
+  range_summed lengths xs f before from to k first in_order within le is past earlier =
+      ap (fold_of (seg_join join) (f, before)) (range_continued lengths xs from to k first in_order within le is past earlier)
+      ∙ continued_summed f before (take (to - from) (drop from xs))
+
+module _ {Item : Type 0} {is_item : Item → Bool} {unit : Item} {join : Item → Item → Item} (laws : MonoidLaws is_item unit join) where
+  started_summed : (before : Bool × Item) (ys : List Item) → 0 < length ys → AllPass is_item ys → fold_of (seg_join join) before (started ys) ≡ (true, fold_of join unit ys)
+  started_summed before [] some items = absurd (omega (arith, some))
+  started_summed before (y ∷ ys) some items =
+      ap (λ f. fold_of (seg_join join) (f, y) (continued ys)) (flag_set before.0)
+      ∙ continued_summed join true y ys
+      ∙ ap (λ b. (true, fold_of join b ys)) (sym (laws.left_unit y (All-head (λ x. is_item x ≡ true) y ys items)))
+
+  pub started_range_summed : (lengths : List ℕ) (xs : List Item) (before : Bool × Item) (from to s : ℕ) → to ≤ length xs → s < length lengths
+      → from ≤ start_of lengths s → start_of lengths s < to → to ≤ start_of lengths (s + 1) → AllPass is_item xs
+      → fold_of (seg_join join) before (range_between lengths xs from to) ≡ (true, fold_of join unit (take (to - start_of lengths s) (drop (start_of lengths s) xs)))
+  started_range_summed lengths xs before from to s within lt le ends last items =
+      let p : ℕ = start_of lengths s in
+      let ys = take (to - p) (drop p xs) in
+      let is_one : Item → Type 0 = λ x. is_item x ≡ true in
+      let parts = range_started lengths xs from to s within lt le ends last in
+      ap (fold_of (seg_join join) before) parts.1
+      ∙ fold-append (seg_join join) before parts.0 (started ys)
+      ∙ started_summed (fold_of (seg_join join) before parts.0) ys (omega (arith, length-take (to - p) (drop p xs), length-drop p xs, ends, within))
+      (All-take is_one (to - p) (drop p xs) (All-drop is_one p xs items))

@@ -1,0 +1,44 @@
+use Rattle.std.proofs.Common.{◌≡◌, ◌-◌, min, true, length, map, unsigned_abs, sym, subst, ap, ◌∙◌, arith}
+use Rattle.std.specs.List.{AllPass}
+use Rattle.std.proofs.lemmas.List.{drop-map, length-map, take-map}
+use Rattle.std.proofs.lemmas.List.Elements.{All-drop}
+use Rattle.std.proofs.lemmas.List.Sums.{sum_by-drop_more}
+use Rattle.cvl_base.proofs.FoldLaws.{length-scan_of}
+use Rattle.cvl_base.specs.Folds.{scan_of}
+use Rattle.range_walks.proofs.Segments.{length_fits, segment_read, read_at}
+use Rattle.range_walks.proofs.Written.{scans_ended, scans_written}
+use Rattle.range_walks.proofs.ranges.scans_into.Goals as goal
+
+pub overflow_cast-length : goal.overflow_cast-length
+overflow_cast-length g c =
+    let row = c.args.lengths.now in
+    length_fits row (map unsigned_abs row) c.requires.lengths.none_negative c.requires.lengths c.loop-length.length-index c.loop-length-test.true
+
+pub loop-length-preserved : goal.loop-length-preserved
+loop-length-preserved g c =
+    let m = g.M.Monoid in
+    let item = g.E.Reading.item in
+    let row = c.args.lengths.now in
+    let lengths = map unsigned_abs row in
+    let s = c.loop-length.length-index in
+    let rest = c.loop-length.rest.now in
+    let read = segment_read row lengths c.requires.lengths.none_negative c.requires.lengths s c.loop-length-test.true in
+    let cut : c.min.result ≡ min (read_at row s) (length rest) = c.min.ensures in
+    let front = map item c.split_at.result.0.now in
+    let left : c.scan_into-run.result.room ≡ c.loop-length.run.room - length (scan_of m.join c.unit.result front) = ap (λ r. r.room) c.scan_into-run.ensures in
+    let long : length (scan_of m.join c.unit.result front) ≡ length c.split_at.result.0.now = length-scan_of m.join c.unit.result front ∙ length-map c.split_at.result.0.now item in
+    let cut_read : c.min.result ≡ min (read_at row s) (length (map item rest)) = omega (arith, cut, length-map rest item) in
+    record {
+      whole = scans_written m.join m.unit lengths c.loop-length.run c.scan_into-run.result _ (map item rest) _ _ c.unit.result s (read_at row s) c.min.result read.0 read.1 cut_read
+          (ap (map item) c.split_at.ensures.front ∙ sym (take-map item c.min.result rest))
+          (ap (map item) c.split_at.ensures.back ∙ sym (drop-map item c.min.result rest)) c.unit.ensures c.scan_into-run.ensures c.loop-length.invariant.whole;
+      covered = omega (arith, read.1, cut, c.split_at.ensures.back_len, c.loop-length.invariant.covered, sum_by-drop_more (λ x. x) lengths s 0 read.0);
+      room = omega (arith, left, long, cut, c.split_at.ensures.back_len, c.split_at.ensures.front_len, c.loop-length.invariant.room);
+      items = subst (λ xs. AllPass (λ x. m.is_item (item x)) xs) (sym c.split_at.ensures.back) (All-drop (λ x. m.is_item (item x) ≡ true) c.min.result rest c.loop-length.invariant.items);
+    }
+
+pub returns : goal.returns
+returns g c =
+    let m = g.M.Monoid in
+    let lengths = map unsigned_abs c.args.lengths.now in
+    scans_ended m.join m.unit lengths c.loop-length.run _ _ c.loop-length.length-index (omega (arith, c.loop-length-test.false, length-map c.args.lengths.now unsigned_abs)) c.loop-length.invariant.whole
