@@ -30,8 +30,7 @@ module _ {Item : Type 0} where
       let rest = with_starts ls (drop (from + k) xs) in
       drop-append-le from (started front) rest (omega (arith, length-started front, length-take (from + k) xs))
       ∙ ap (λ ys. ys ++ rest) (drop-started from front begins)
-      ∙ ap (λ ys. continued ys ++ rest) (drop-take from k xs)
-      ∙ ap (λ ys. continued (take k (drop from xs)) ++ with_starts ls ys) (sym (drop-drop k from xs))
+      ∙ (λ i. continued (drop-take from k xs i) ++ with_starts ls (sym (drop-drop k from xs) i))
 
   -- the run begins after the first segment
   cut_later : (n m : ℕ) (ls : List ℕ) (xs : List Item) → n ≤ length xs → drop (n + m) (with_starts (n ∷ ls) xs) ≡ drop m (with_starts ls (drop n xs))
@@ -60,8 +59,7 @@ module _ {Item : Type 0} where
       ∙ cut_later n m ls xs (omega (arith, split))
       ∙ range_cut ls (drop n xs) m k (suc first) (omega arith) (omega (arith, split, length-drop n xs)) (omega (arith, is, split, sum-cons n (take (suc first) ls)))
       (λ s lt. omega (arith, earlier (suc s) (omega arith), split, sum-cons n (take s ls)))
-      ∙ ap (λ ys. continued (take k ys) ++ with_starts (drop (suc first) ls) (drop k ys)) (drop-drop m n xs)
-      ∙ ap (λ j. continued (take k (drop j xs)) ++ with_starts (drop (suc first) ls) (drop k (drop j xs))) split
+      ∙ ap (λ ys. continued (take k ys) ++ with_starts (drop (suc first) ls) (drop k ys)) (drop-drop m n xs ∙ ap (λ j. drop j xs) split)
 
 pub start_of_all : (lengths : List ℕ) (s : ℕ) → length lengths ≤ s → start_of lengths s ≡ sum lengths
 start_of_all lengths s ge = ap sum (take_all s lengths ge)

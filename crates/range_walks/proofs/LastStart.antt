@@ -18,12 +18,15 @@ use Rattle.range_walks.proofs.Cut.{range_cut, length-started}
 use Rattle.range_walks.proofs.Segments.{cut_parted}
 
 module _ {Item : Type 0} where
+  -- of the first elements those from a place on
+  pub part_between : (from to : ℕ) (xs : List Item) → from ≤ to → drop from (take to xs) ≡ take (to - from) (drop from xs)
+  part_between from to xs in_order =
+      let end : from + (to - from) ≡ to = omega (arith, in_order) in ap (λ t. drop from (take t xs)) (sym end) ∙ drop-take from (to - from) xs
+
   pub with_starts-none : (lengths : List ℕ) → with_starts {Item = Item} lengths [] ≡ []
   with_starts-none [] = refl
   with_starts-none (n ∷ ls) =
-      ap (λ front. started front ++ with_starts ls (drop n [])) (take_all n [] (omega arith))
-      ∙ ap (λ others. with_starts ls others) (drop_all n [] (omega arith))
-      ∙ with_starts-none ls
+      (λ i. started (take_all n [] (omega arith) i) ++ with_starts ls (drop_all n [] (omega arith) i)) ∙ with_starts-none ls
 
   -- a vector is its segments before s and those from s on
   pub split_at_start : (lengths : List ℕ) (xs : List Item) (s : ℕ)
@@ -49,17 +52,13 @@ module _ {Item : Type 0} where
       → from + k ≡ start_of lengths first → to ≤ from + k → ((s : ℕ) → s < first → start_of lengths s < from)
       → range_between lengths xs from to ≡ continued (take (to - from) (drop from xs))
   range_continued lengths xs from to k first in_order within le is past earlier =
-      let m : ℕ = to - from in
-      let end : from + m ≡ to = omega (arith, in_order) in
       let ys = drop from (take to xs) in
       let few : length ys ≤ k = omega (arith, length-drop from (take to xs), length-take to xs, past) in
       range_cut lengths (take to xs) from k first le (omega (arith, length-take to xs)) is earlier
-      ∙ ap (λ zs. continued zs ++ with_starts (drop first lengths) (drop k ys)) (take_all k ys few)
-      ∙ ap (λ zs. continued ys ++ with_starts (drop first lengths) zs) (drop_all k ys few)
+      ∙ (λ i. continued (take_all k ys few i) ++ with_starts (drop first lengths) (drop_all k ys few i))
       ∙ ap (λ zs. continued ys ++ zs) (with_starts-none (drop first lengths))
       ∙ append-nil (continued ys)
-      ∙ ap (λ t. continued (drop from (take t xs))) (sym end)
-      ∙ ap continued (drop-take from m xs)
+      ∙ ap continued (part_between from to xs in_order)
 
   -- a run in which segment s is the last that starts
   pub range_started : (lengths : List ℕ) (xs : List Item) (from to s : ℕ) → to ≤ length xs → s < length lengths
@@ -68,24 +67,19 @@ module _ {Item : Type 0} where
   range_started lengths xs from to s within lt le before last =
       let p : ℕ = start_of lengths s in
       let n : ℕ = get_or lengths s 0 in
-      let m : ℕ = to - p in
       let front = with_starts (take s lengths) (take p (take to xs)) in
       let ys = drop p (take to xs) in
       let short : length ys ≤ n = omega (arith, length-drop p (take to xs), length-take to xs, sum_by_more (λ x. x) lengths s 0 lt, last) in
       let long : length front ≡ length (take p (take to xs)) = length-with_starts (take s lengths) (take p (take to xs)) (omega (arith, length-take p (take to xs))) in
-      let end : p + m ≡ to = omega (arith, before) in
-      let whole : with_starts lengths (take to xs) ≡ front ++ started ys =
-      split_at_start lengths (take to xs) s
-      ∙ ap (λ ls. front ++ with_starts ls ys) (drop_more lengths s 0 lt)
-      ∙ ap (λ zs. front ++ (started zs ++ with_starts (drop (s + 1) lengths) (drop n ys))) (take_all n ys short)
-      ∙ ap (λ zs. front ++ (started ys ++ with_starts (drop (s + 1) lengths) zs)) (drop_all n ys short)
-      ∙ ap (λ zs. front ++ (started ys ++ zs)) (with_starts-none (drop (s + 1) lengths))
-      ∙ ap (λ zs. front ++ zs) (append-nil (started ys)) in (
+      let behind : with_starts (drop s lengths) ys ≡ started ys =
+      ap (λ ls. with_starts ls ys) (drop_more lengths s 0 lt)
+      ∙ (λ i. started (take_all n ys short i) ++ with_starts (drop (s + 1) lengths) (drop_all n ys short i))
+      ∙ ap (λ zs. started ys ++ zs) (with_starts-none (drop (s + 1) lengths))
+      ∙ append-nil (started ys) in (
         drop from front,
-        ap (drop from) whole
+        ap (drop from) (split_at_start lengths (take to xs) s ∙ ap (λ zs. front ++ zs) behind)
             ∙ drop-append-le from front (started ys) (omega (arith, long, length-take p (take to xs), length-take to xs, le, before, within))
-            ∙ ap (λ t. drop from front ++ started (drop p (take t xs))) (sym end)
-            ∙ ap (λ zs. drop from front ++ started zs) (drop-take p m xs),
+            ∙ ap (λ zs. drop from front ++ started zs) (part_between p to xs (omega (arith, before))),
       )
 
 -- ---- the sum of a run

@@ -1,12 +1,12 @@
 -- The parts of a range: what continues the segment before it, and the segments that start in it.
-use Rattle.std.proofs.Common.{◌≡◌, ℕ, suc, ◌+◌, ◌-◌, ◌<◌, ◌≤◌, min, Bool, false, true, List, [], ◌∷◌, ◌++◌, refl, length, map, take, drop, sym, ap, ◌∙◌, arith, append-nil}
+use Rattle.std.proofs.Common.{◌≡◌, ℕ, suc, ◌-◌, ◌<◌, ◌≤◌, min, Bool, false, true, List, [], ◌∷◌, ◌++◌, refl, length, map, take, drop, sym, ap, ◌∙◌, arith, append-nil}
 use Rattle.std.specs.Prelude.{sum, if◌then◌else◌}
-use Rattle.std.proofs.lemmas.List.{drop-map, drop-take, drop_all, drop_min, length-drop, length-take, map-append, take-map, take_all, take_min}
+use Rattle.std.proofs.lemmas.List.{drop-map, drop_all, drop_min, length-drop, length-take, map-append, take-map, take_all, take_min}
 use Rattle.std.proofs.lemmas.Simd.{map-map}
 use Rattle.segdes.specs.Starts.{start_of}
 use Rattle.range_walks.specs.Ranges.{continued, range_between, range_scan_of, started, with_starts}
 use Rattle.range_walks.proofs.Cut.{begins_by, range_cut, starts_in_order}
-use Rattle.range_walks.proofs.LastStart.{length-with_starts, split_at_start, with_starts-none}
+use Rattle.range_walks.proofs.LastStart.{length-with_starts, part_between, split_at_start, with_starts-none}
 use Rattle.range_walks.proofs.Segments.{range_sum}
 
 module _ {Item : Type 0} (join : Item → Item → Item) (unit : Item) where
@@ -36,8 +36,7 @@ starts_cut : {Item : Type 0} (k : ℕ) (lengths : List ℕ) (xs : List Item) →
 starts_cut k lengths xs covered =
     let front = with_starts (take k lengths) in
     sym (split_at_start lengths xs k
-    ∙ ap (λ ys. front ys ++ with_starts (drop k lengths) (drop (start_of lengths k) xs)) (take_all (start_of lengths k) xs covered)
-    ∙ ap (λ ys. front xs ++ with_starts (drop k lengths) ys) (drop_all (start_of lengths k) xs covered)
+    ∙ (λ i. front (take_all (start_of lengths k) xs covered i) ++ with_starts (drop k lengths) (drop_all (start_of lengths k) xs covered i))
     ∙ ap (λ zs. front xs ++ zs) (with_starts-none (drop k lengths))
     ∙ append-nil (front xs))
 
@@ -52,8 +51,7 @@ range_parted d xs rest front others from to first next start j total in_order wi
     let begins : from ≤ start_of d first = begins_by d from first (omega (arith, in_order, within, total)) later in
     let m : ℕ = to - from in
     let k : ℕ = start_of d first - from in
-    let end : from + m ≡ to = omega (arith, in_order) in
-    let same : drop from (take to xs) ≡ rest = ap (λ t. drop from (take t xs)) (sym end) ∙ drop-take from m xs ∙ sym is_rest in
+    let same : drop from (take to xs) ≡ rest = part_between from to xs in_order ∙ sym is_rest in
     let long : length rest ≡ m = ap length is_rest ∙ omega (arith, length-take m (drop from xs), length-drop from xs, within) in
     let split : min k (length rest) ≡ j = omega (arith, long, is_j, is_start, begins) in
     range_cut d (take to xs) from k first few (omega (arith, length-take to xs, in_order, within)) (omega (arith, begins)) earlier
@@ -78,19 +76,15 @@ module _ {X Item : Type 0} (item : X → Item) where
   with_starts-map : (lengths : List ℕ) (xs : List X) → with_starts lengths (map item xs) ≡ map read (with_starts lengths xs)
   with_starts-map [] xs = refl
   with_starts-map (n ∷ ls) xs =
-      ap (λ ys. started ys ++ with_starts ls (drop n (map item xs))) (take-map item n xs)
-      ∙ ap (λ ys. started (map item (take n xs)) ++ with_starts ls ys) (drop-map item n xs)
-      ∙ ap (λ zs. zs ++ with_starts ls (map item (drop n xs))) (started-map (take n xs))
-      ∙ ap (λ zs. map read (started (take n xs)) ++ zs) (with_starts-map ls (drop n xs))
+      (λ i. started (take-map item n xs i) ++ with_starts ls (drop-map item n xs i))
+      ∙ (λ i. started-map (take n xs) i ++ with_starts-map ls (drop n xs) i)
       ∙ sym (map-append read (started (take n xs)) (with_starts ls (drop n xs)))
 
   pub parts_read : (d lengths : List ℕ) (xs front others : List X) (from to : ℕ) → range_between d xs from to ≡ continued front ++ with_starts lengths others
       → range_between d (map item xs) from to ≡ continued (map item front) ++ with_starts lengths (map item others)
   parts_read d lengths xs front others from to is =
-      ap (λ ys. drop from (with_starts d ys)) (take-map item to xs)
-      ∙ ap (drop from) (with_starts-map d (take to xs))
+      ap (drop from) (ap (with_starts d) (take-map item to xs) ∙ with_starts-map d (take to xs))
       ∙ drop-map read from (with_starts d (take to xs))
       ∙ ap (map read) is
       ∙ map-append read (continued front) (with_starts lengths others)
-      ∙ ap (λ zs. zs ++ map read (with_starts lengths others)) (sym (continued-map front))
-      ∙ ap (λ zs. continued (map item front) ++ zs) (sym (with_starts-map lengths others))
+      ∙ (λ i. sym (continued-map front) i ++ sym (with_starts-map lengths others) i)

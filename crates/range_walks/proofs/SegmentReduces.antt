@@ -19,8 +19,7 @@ module _ {Item : Type 0} (join : Item → Item → Item) (unit : Item) where
   reduces-drop (k ∷ ls) xs (suc s) le =
       let begins : k + start_of ls s ≡ start_of (k ∷ ls) (suc s) = omega (arith, sum-cons k (take s ls)) in
       reduces-drop ls (drop k xs) s (omega arith)
-      ∙ ap (reduces_of join unit (drop s ls)) (drop-drop (start_of ls s) k xs)
-      ∙ ap (λ p. reduces_of join unit (drop s ls) (drop p xs)) begins
+      ∙ ap (reduces_of join unit (drop s ls)) (drop-drop (start_of ls s) k xs ∙ ap (λ p. drop p xs) begins)
 
   -- what a walk over the segments from `first` to the one before `next` pushes, where `end` is the end of the first
   pub reduces_walked : (lengths : List ℕ) (xs : List Item) (first next from end : ℕ) (before : Item) → first < next → next ≤ length lengths
@@ -39,15 +38,13 @@ module _ {Item : Type 0} (join : Item → Item → Item) (unit : Item) where
       let front : p + j ≡ from = omega (arith, begun.begun) in
       let parts : n ≡ j + rest = omega (arith, ends, front, begun.not_past, is_end) in
       let behind : from + rest ≡ p + n = omega (arith, ends, begun.not_past, is_end) in
-      ap (take (next - first)) (reduces-drop lengths xs first (omega (arith, lt)))
-      ∙ ap (λ k. take k (reduces_of join unit (drop first lengths) (drop p xs))) count
-      ∙ ap (λ ls. take (suc m) (reduces_of join unit ls (drop p xs))) (drop_more lengths first 0 lt)
-      ∙ ap (λ sums. fold_of join unit (take n (drop p xs)) ∷ sums) (reduces-take (drop (first + 1) lengths) (drop n (drop p xs)) m)
-      ∙ ap (λ ys. fold_of join unit (take n (drop p xs)) ∷ reduces_of join unit (take m (drop (first + 1) lengths)) ys)
-      (drop-drop n p xs ∙ ap (λ k. drop k xs) (sym behind) ∙ sym (drop-drop rest from xs))
-      ∙ ap (λ sum. sum ∷ reduces_of join unit (take m (drop (first + 1) lengths)) (drop rest (drop from xs)))
-      (ap (λ k. fold_of join unit (take k (drop p xs))) parts
+      let others : drop n (drop p xs) ≡ drop rest (drop from xs) = drop-drop n p xs ∙ ap (λ k. drop k xs) (sym behind) ∙ sym (drop-drop rest from xs) in
+      let sum : fold_of join unit (take n (drop p xs)) ≡ fold_of join before (take rest (drop from xs)) =
+      ap (λ k. fold_of join unit (take k (drop p xs))) parts
       ∙ ap (fold_of join unit) (take-add j rest (drop p xs))
       ∙ fold-append join unit (take j (drop p xs)) (take rest (drop j (drop p xs)))
-      ∙ ap (λ b. fold_of join b (take rest (drop j (drop p xs)))) (sym begun.before_is)
-      ∙ ap (λ ys. fold_of join before (take rest ys)) (drop-drop j p xs ∙ ap (λ k. drop k xs) front))
+      ∙ (λ i. fold_of join (sym begun.before_is i) (take rest ((drop-drop j p xs ∙ ap (λ k. drop k xs) front) i))) in
+      ap (take (next - first)) (reduces-drop lengths xs first (omega (arith, lt)))
+      ∙ (λ i. take (count i) (reduces_of join unit (drop_more lengths first 0 lt i) (drop p xs)))
+      ∙ ap (λ sums. fold_of join unit (take n (drop p xs)) ∷ sums) (reduces-take (drop (first + 1) lengths) (drop n (drop p xs)) m)
+      ∙ (λ i. sum i ∷ reduces_of join unit (take m (drop (first + 1) lengths)) (others i))

@@ -1,10 +1,10 @@
 -- Loops over segments: what the next segment adds to the scans or reduces of those before it.
-use Rattle.std.proofs.Common.{◌≡◌, ℕ, zero, suc, ◌-◌, ℤ, pos, to_z, of_z, w32, w64, Fits, ◌+◌, ◌<◌, ◌≤◌, min, List, [], ◌∷◌, ◌++◌, length, take, drop, map, get_or, refl, sym, ap, ◌∙◌, arith}
+use Rattle.std.proofs.Common.{◌≡◌, ℕ, zero, suc, ◌-◌, ℤ, pos, to_z, of_z, w32, w64, Fits, ◌+◌, ◌<◌, ◌≤◌, min, List, [], ◌∷◌, ◌++◌, length, take, drop, map, get_or, refl, sym, ap, ◌∙◌, arith, take-add}
 use Rattle.std.specs.Prelude.{sum, unsigned_abs}
 use Rattle.std.proofs.Math.Facts.{Fits-below}
-use Rattle.std.proofs.lemmas.List.{length-map, length-take, drop-map, take-map, drop-take, take-take, length-drop, drop_more, take_all, drop-drop, take_min, drop_min, append-nil, length-append, map-append}
+use Rattle.std.proofs.lemmas.List.{length-map, length-take, drop-take, take-take, length-drop, drop_more, take_all, drop-drop, take_min, drop_min, append-nil, length-append, map-append}
 use Rattle.std.proofs.lemmas.Grind.{flat_map-append}
-use Rattle.std.proofs.lemmas.List.Sums.{sum_by-take-drop}
+use Rattle.std.proofs.lemmas.List.Sums.{sum_by-append, sum_by-take-drop}
 use Rattle.std.specs.Int.{IsNonNegative}
 use Rattle.cvl_base.specs.Descriptors.{AreLengths}
 use Rattle.cvl_base.specs.Limits.{most_elements}
@@ -17,6 +17,7 @@ use Rattle.cvl_base.proofs.Lists.{sum-cons}
 use Rattle.segdes.proofs.Sums.{cast_fits, length_at}
 use Rattle.segdes.specs.Starts.{start_of}
 use Rattle.range_walks.specs.Ranges.{scans_of, reduces_of}
+use Rattle.range_walks.proofs.Scanned.{part_read}
 
 -- ---- the step of a loop over the segments, which has scanned or reduced those before s and has `rest` left
 
@@ -33,8 +34,7 @@ module _ {Item : Type 0} (join : Item → Item → Item) (unit : Item) (lengths 
       ≡ scan_of join unit (take (min n (length rest)) rest) ++ scans_of join unit (drop (s + 1) lengths) (drop (min n (length rest)) rest)
   scans_more_min s n rest lt is =
       scans_more s n rest lt is
-      ∙ ap (λ front. scan_of join unit front ++ scans_of join unit (drop (s + 1) lengths) (drop n rest)) (sym (take_min n rest))
-      ∙ ap (λ others. scan_of join unit (take (min n (length rest)) rest) ++ scans_of join unit (drop (s + 1) lengths) others) (sym (drop_min n rest))
+      ∙ (λ i. scan_of join unit (sym (take_min n rest) i) ++ scans_of join unit (drop (s + 1) lengths) (sym (drop_min n rest) i))
 
   pub reduces_more : (s n : ℕ) (rest : List Item) → s < length lengths → n ≡ get_or lengths s 0
       → reduces_of join unit (drop s lengths) rest ≡ fold_of join unit (take n rest) ∷ reduces_of join unit (drop (s + 1) lengths) (drop n rest)
@@ -51,9 +51,7 @@ cut_parted (suc k) (n ∷ ls) xs =
     let p : ℕ = start_of ls k in
     let begins : n + p ≡ start_of (n ∷ ls) (suc k) = omega (arith, sum-cons n (take k ls)) in
     ap (λ rest. take n xs ∷ rest) (cut_parted k ls (drop n xs))
-    ∙ ap (λ ys. take n xs ∷ cut_of (take k ls) ys ++ cut_of (drop k ls) (drop p (drop n xs))) (sym (drop-take n p xs))
-    ∙ ap (λ ys. ys ∷ cut_of (take k ls) (drop n (take (n + p) xs)) ++ cut_of (drop k ls) (drop p (drop n xs))) (sym (take-take n (n + p) xs (omega arith)))
-    ∙ ap (λ ys. cut_of (n ∷ take k ls) (take (n + p) xs) ++ cut_of (drop k ls) ys) (drop-drop p n xs)
+    ∙ (λ i. sym (take-take n (n + p) xs (omega arith)) i ∷ cut_of (take k ls) (sym (drop-take n p xs) i) ++ cut_of (drop k ls) (drop-drop p n xs i))
     ∙ ap (λ q. cut_of (n ∷ take k ls) (take q xs) ++ cut_of (drop k ls) (drop q xs)) begins
 
 module _ {Item : Type 0} (join : Item → Item → Item) (unit : Item) where
@@ -70,10 +68,11 @@ module _ {Item : Type 0} (join : Item → Item → Item) (unit : Item) where
   pub scans_parted : (k n cut : ℕ) (lengths : List ℕ) (xs : List Item) → n ≡ start_of lengths k → cut ≡ min n (length xs)
       → scans_of join unit lengths xs ≡ scans_of join unit (take k lengths) (take cut xs) ++ scans_of join unit (drop k lengths) (drop cut xs)
   scans_parted k n cut lengths xs is is_cut =
+      let at = λ (m : ℕ). scans_of join unit (take k lengths) (take m xs) ++ scans_of join unit (drop k lengths) (drop m xs) in
       scans_after k lengths xs
-      ∙ ap (λ m. scans_of join unit (take k lengths) (take m xs) ++ scans_of join unit (drop k lengths) (drop m xs)) (sym is)
-      ∙ ap (λ ys. scans_of join unit (take k lengths) ys ++ scans_of join unit (drop k lengths) (drop n xs)) (sym (take_min n xs) ∙ ap (λ m. take m xs) (sym is_cut))
-      ∙ ap (λ ys. scans_of join unit (take k lengths) (take cut xs) ++ scans_of join unit (drop k lengths) ys) (sym (drop_min n xs) ∙ ap (λ m. drop m xs) (sym is_cut))
+      ∙ ap at (sym is)
+      ∙ (λ i. scans_of join unit (take k lengths) (sym (take_min n xs) i) ++ scans_of join unit (drop k lengths) (sym (drop_min n xs) i))
+      ∙ ap at (sym is_cut)
 
   -- scans of segments are as long as the elements
   pub length-scans_of : (lengths : List ℕ) (xs : List Item) → length xs ≤ sum lengths → length (scans_of join unit lengths xs) ≡ length xs
@@ -115,18 +114,17 @@ module _ (row : List ℤ) (lengths : List ℕ) (is : row ≡ map pos lengths) (a
   length_fits s lt = cast_fits w64 row s lengths is small lt (λ n le. Fits-below tt le)
 
 -- a range of a descriptor's row is one of lengths
+range_of : (row : List ℤ) (lengths : List ℕ) (k m : ℕ) → row ≡ map pos lengths → take m (drop k row) ≡ map pos (take m (drop k lengths))
+range_of row lengths k m is = ap (λ ns. take m (drop k ns)) is ∙ sym (part_read pos m k lengths)
+
 pub range_read : (row : List ℤ) (lengths : List ℕ) (k m : ℕ) → row ≡ map pos lengths → map unsigned_abs (take m (drop k row)) ≡ take m (drop k lengths)
-range_read row lengths k m is =
-    ap (λ ns. map unsigned_abs (take m (drop k ns))) is
-    ∙ ap (map unsigned_abs) (ap (take m) (drop-map pos k lengths) ∙ take-map pos m (drop k lengths))
-    ∙ abs_pos (take m (drop k lengths))
+range_read row lengths k m is = ap (map unsigned_abs) (range_of row lengths k m is) ∙ abs_pos (take m (drop k lengths))
 
 pub range_lengths : (row : List ℤ) (lengths : List ℕ) (k m : ℕ) → row ≡ map pos lengths → AreLengths row → AreLengths (take m (drop k row))
 range_lengths row lengths k m is are =
-    let ns = take m (drop k lengths) in
     let read = range_read row lengths k m is in
     record {
-      none_negative = ap (λ ks. take m (drop k ks)) is ∙ ap (take m) (drop-map pos k lengths) ∙ take-map pos m (drop k lengths) ∙ ap (map pos) (sym read);
+      none_negative = range_of row lengths k m is ∙ ap (map pos) (sym read);
       few = omega (arith, are.few, length-take m (drop k row), length-drop k row);
       in_limit = omega (arith, ap sum read, small row lengths is are, sum_by-take-drop (λ x. x) lengths k, sum_by-take-drop (λ x. x) (drop k lengths) m);
     }
@@ -141,7 +139,4 @@ pub range_sum : (lengths : List ℕ) (first next : ℕ) → first ≤ next → s
 range_sum lengths first next le =
     let m : ℕ = next - first in
     let end : first + m ≡ next = omega (arith, le) in
-    ap (λ ns. sum (take first lengths) + sum ns) (sym (drop-take first m lengths))
-    ∙ ap (λ ns. sum ns + sum (drop first (take (first + m) lengths))) (sym (take-take first (first + m) lengths (omega arith)))
-    ∙ sum_by-take-drop (λ x. x) (take (first + m) lengths) first
-    ∙ ap (start_of lengths) end
+    sym (sum_by-append (λ x. x) (take first lengths) (take m (drop first lengths))) ∙ ap sum (sym (take-add first m lengths)) ∙ ap (start_of lengths) end

@@ -27,9 +27,7 @@ module _ {Item : Type 0} (join : Item → Item → Item) (unit : Item) (lengths 
       let later : List Item → List Item = λ ys. scans_of join unit (drop (s + 1) lengths) ys in
       ap (λ (r : Stretch Item). with_items r (later others)) is_next
       ∙ written_twice run (scan_of join start front) (later others)
-      ∙ ap (λ u. with_items run (scan_of join u front ++ later others)) is_start
-      ∙ ap (λ f. with_items run (scan_of join unit f ++ later others)) is_front
-      ∙ ap (λ o. with_items run (scan_of join unit (take m rest) ++ later o)) is_others
+      ∙ (λ i. with_items run (scan_of join (is_start i) (is_front i) ++ later (is_others i)))
       ∙ ap (λ j. with_items run (scan_of join unit (take j rest) ++ later (drop j rest))) is_m
       ∙ ap (with_items run) (sym (scans_more_min join unit lengths s n rest lt is_n))
       ∙ is_whole
@@ -48,9 +46,7 @@ module _ {Item : Type 0} (join : Item → Item → Item) (unit : Item) (lengths 
       ap (λ (r : Stretch Item). with_items r (later others)) is_next
       ∙ written_twice run (sum ∷ []) (later others)
       ∙ ap (λ x. with_items run (x ∷ later others)) is_sum
-      ∙ ap (λ u. with_items run (fold_of join u front ∷ later others)) is_start
-      ∙ ap (λ f. with_items run (fold_of join unit f ∷ later others)) is_front
-      ∙ ap (λ o. with_items run (fold_of join unit (take n rest) ∷ later o)) is_others
+      ∙ (λ i. with_items run (fold_of join (is_start i) (is_front i) ∷ later (is_others i)))
       ∙ ap (with_items run) (sym (reduces_more join unit lengths s n rest lt is_n))
       ∙ is_whole
 

@@ -1,4 +1,4 @@
-use Rattle.std.proofs.Common.{◌-◌, ◌≤◌, ◌∙◌, ◌++◌, length, refl, sym, ap, arith, rules}
+use Rattle.std.proofs.Common.{◌-◌, ◌≤◌, ◌∙◌, ◌++◌, length, take, drop, refl, sym, ap, arith, rules}
 use Rattle.std.specs.Prelude.{sum}
 use Rattle.range_walks.specs.Ranges.{continued, with_starts}
 use Rattle.range_walks.proofs.Cut.{starts_in_order}
@@ -43,10 +43,9 @@ returns-clause-starts g c =
     let next = c.starts_before-next in
     let front = c.split_at.result.0.now in
     let others = c.split_at.result.1.now in
-    let covered = segments_cover d c.args.from c.args.to first.result next.result c.start_or_total-start.result (c.min.result - c.args.from) (length others)
-    c.requires.in_order (omega (arith, c.requires.within, c.requires.total)) first.ensures.in_count first.ensures.before next.ensures.others c.start_or_total-start.ensures
-    (ap (λ k. k - c.args.from) c.min.ensures) (omega (arith, c.split_at.ensures.back_len, c.requires.within, c.requires.in_order)) in
+    let read = range_read c.lengths.result.now d first.result (next.result - first.result) c.lengths.ensures.value in
+    let covered : length others ≤ sum (take (next.result - first.result) (drop first.result d)) = omega (arith, returns-clause-covered g c, ap sum read) in
     range_parted d c.args.a.now _ front others c.args.from c.args.to first.result next.result c.start_or_total-start.result (c.min.result - c.args.from)
     c.requires.total c.requires.in_order c.requires.within first.ensures.in_count first.ensures.before first.ensures.others covered
     refl c.start_or_total-start.ensures (ap (λ j. j - c.args.from) c.min.ensures) c.split_at.ensures.front c.split_at.ensures.back
-    ∙ ap (λ ls. continued front ++ with_starts ls others) (sym (range_read c.lengths.result.now d first.result (next.result - first.result) c.lengths.ensures.value))
+    ∙ ap (λ ls. continued front ++ with_starts ls others) (sym read)
