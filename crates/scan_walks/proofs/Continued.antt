@@ -54,17 +54,14 @@ module _ (done : List ℤ) (whole : Result (List ℤ) Fault) (lengths : List ℕ
         is
         ∙ ap (λ ls. after done (sums_from n ls rest)) (drop_more lengths s 0 lt)
         ∙ ap (λ j. after done (values_from Overflow n (map sum_fitting (take j rest ∷ cut_of (drop (s + 1) lengths) (drop j rest))))) (sym is_k)
-        ∙ ap (λ ys. after done (values_from Overflow n (sum_fitting ys ∷ map sum_fitting (cut_of (drop (s + 1) lengths) (drop k rest))))) (sym is_segment)
-        ∙ ap (λ w. after done (values_from Overflow n (w ∷ map sum_fitting (cut_of (drop (s + 1) lengths) (drop k rest))))) met
+        ∙ ap (λ w. after done (values_from Overflow n (w ∷ map sum_fitting (cut_of (drop (s + 1) lengths) (drop k rest))))) (ap sum_fitting (sym is_segment) ∙ met)
 
     pub segment_summed : (y appended : ℤ) (now others : List ℤ) (m : ℕ) → fitting (total_of segment) ≡ Some y → now ≡ done ++ appended ∷ [] → appended ≡ y
         → others ≡ drop k rest → m ≡ n + 1 → whole ≡ after now (sums_from m (drop (s + 1) lengths) others)
     segment_summed y appended now others m met grown same is_others one =
         cut_off (Some y) met
         ∙ after-one done y (sums_from (n + 1) (drop (s + 1) lengths) (drop k rest))
-        ∙ ap (λ ys. after ys (sums_from (n + 1) (drop (s + 1) lengths) (drop k rest))) (sym (grown ∙ ap (λ z. done ++ z ∷ []) same))
-        ∙ ap (λ j. after now (sums_from j (drop (s + 1) lengths) (drop k rest))) (sym one)
-        ∙ ap (λ ys. after now (sums_from m (drop (s + 1) lengths) ys)) (sym is_others)
+        ∙ (λ i. after (sym (grown ∙ ap (λ z. done ++ z ∷ []) same) i) (sums_from (sym one i) (drop (s + 1) lengths) (sym is_others i)))
 
     pub segment_overflows : fitting (total_of segment) ≡ None → whole ≡ Err (fault_at Overflow n)
     segment_overflows met = cut_off None met

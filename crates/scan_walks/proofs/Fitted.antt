@@ -46,7 +46,7 @@ all_fit n (z ∷ zs) ge = fits_at (is_number z) n z zs (omega (arith, ge)) (all_
 
 wrapped_at : (b : Bool) (z : ℤ) (zs : List ℤ) → is_number z ≡ b → 1 + length zs ≤ cond b (1 + fitting_front zs) 0 → (length zs ≤ fitting_front zs → map wrap zs ≡ zs)
     → map wrap (z ∷ zs) ≡ z ∷ zs
-wrapped_at true z zs number ge others = ap (λ y. y ∷ map wrap zs) (number_words.inverse z number) ∙ ap (λ ys. z ∷ ys) (others (omega (arith, ge)))
+wrapped_at true z zs number ge others = λ i. number_words.inverse z number i ∷ others (omega (arith, ge)) i
 wrapped_at false z zs number ge others = absurd (omega (arith, ge))
 
 -- and to wrap them changes nothing
@@ -74,8 +74,7 @@ wrapped_scans : (lengths : List ℕ) (xs : List ℤ) → scans_of sum_of (pos 0)
 wrapped_scans [] xs = refl
 wrapped_scans (n ∷ ls) xs =
     let first = scan_of ◌+ℤ◌ (pos 0) (take n xs) in
-    ap (λ zs. zs ++ scans_of sum_of (pos 0) ls (drop n xs)) (wrapped_scan (take n xs))
-    ∙ ap (λ zs. map wrap first ++ zs) (wrapped_scans ls (drop n xs))
+    (λ i. wrapped_scan (take n xs) i ++ wrapped_scans ls (drop n xs) i)
     ∙ sym (map-append wrap first (scans_of ◌+ℤ◌ (pos 0) ls (drop n xs)))
 
 -- ---- checked scans, where it is known how many results fit from the first one on

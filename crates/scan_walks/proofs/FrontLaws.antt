@@ -87,9 +87,7 @@ module _ (whole done k : ℕ) (so_far : ℤ) (rest block others : List ℤ) (is_
   parted : whole ≡ done + fitting_front (scan_of ◌+ℤ◌ so_far block ++ scan_of ◌+ℤ◌ (fold_of ◌+ℤ◌ so_far block) others)
   parted =
       is
-      ∙ ap (λ ys. done + fitting_front (scan_of ◌+ℤ◌ so_far ys)) (sym (take-append-drop k rest))
-      ∙ ap (λ ys. done + fitting_front (scan_of ◌+ℤ◌ so_far (ys ++ drop k rest))) (sym is_block)
-      ∙ ap (λ ys. done + fitting_front (scan_of ◌+ℤ◌ so_far (block ++ ys))) (sym is_others)
+      ∙ ap (λ ys. done + fitting_front (scan_of ◌+ℤ◌ so_far ys)) (sym (take-append-drop k rest) ∙ (λ i. sym is_block i ++ sym is_others i))
       ∙ ap (λ zs. done + fitting_front zs) (scan_of-append ◌+ℤ◌ so_far block others)
 
   pub block_stops : (place : ℕ) → place ≡ fitting_front (scan_of ◌+ℤ◌ so_far block) → place < length block → done + place ≡ whole
@@ -114,11 +112,10 @@ module _ (whole done s k n cut later : ℕ) (lengths : List ℕ) (rest group oth
     (is : whole ≡ done + fitting_front (scans_of ◌+ℤ◌ (pos 0) (drop s lengths) rest)) where
   cut_off : whole ≡ done + fitting_front (scans_of ◌+ℤ◌ (pos 0) (take k (drop s lengths)) group ++ scans_of ◌+ℤ◌ (pos 0) (drop later lengths) others)
   cut_off =
+      let behind : drop k (drop s lengths) ≡ drop later lengths = drop-drop k s lengths ∙ ap (λ j. drop j lengths) (sym is_later) in
       is
       ∙ ap (λ zs. done + fitting_front zs) (scans_parted ◌+ℤ◌ (pos 0) k n cut (drop s lengths) rest is_n is_cut)
-      ∙ ap (λ ys. done + fitting_front (scans_of ◌+ℤ◌ (pos 0) (take k (drop s lengths)) ys ++ scans_of ◌+ℤ◌ (pos 0) (drop k (drop s lengths)) (drop cut rest))) (sym is_group)
-      ∙ ap (λ ys. done + fitting_front (scans_of ◌+ℤ◌ (pos 0) (take k (drop s lengths)) group ++ scans_of ◌+ℤ◌ (pos 0) (drop k (drop s lengths)) ys)) (sym is_others)
-      ∙ ap (λ ls. done + fitting_front (scans_of ◌+ℤ◌ (pos 0) (take k (drop s lengths)) group ++ scans_of ◌+ℤ◌ (pos 0) ls others)) (drop-drop k s lengths ∙ ap (λ j. drop j lengths) (sym is_later))
+      ∙ (λ i. done + fitting_front (scans_of ◌+ℤ◌ (pos 0) (take k (drop s lengths)) (sym is_group i) ++ scans_of ◌+ℤ◌ (pos 0) (behind i) (sym is_others i)))
 
   long : length (scans_of ◌+ℤ◌ (pos 0) (take k (drop s lengths)) group) ≡ length group
   long = length-scans_of ◌+ℤ◌ (pos 0) (take k (drop s lengths)) group (omega (arith, ap length is_group, length-take cut rest, is_n, is_cut))

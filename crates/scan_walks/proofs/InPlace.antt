@@ -50,14 +50,11 @@ module _ {Item : Type 0} (join : Item → Item → Item) (unit : Item) (lengths 
     whole_more whole so_far =
         let fits = segment_fits in
         let others = scans_of join unit (drop (s + 1) lengths) (drop (start + n) before) in
-        let as_scanned : segment ≡ scan_of join unit (take n (drop start before)) =
-        is ∙ ap (λ v. scan_of join v (take k (drop start now))) is_u ∙ ap (λ m. scan_of join unit (take m (drop start now))) is_k
-        ∙ ap (λ xs. scan_of join unit (take n xs)) left in
+        let as_scanned : segment ≡ scan_of join unit (take n (drop start before)) = is ∙ (λ i. scan_of join (is_u i) (take (is_k i) (left i))) in
         ap (λ xs. xs ++ others) (take-put_mid start k now segment (start + n) (omega (arith, length_segment)) (omega (arith, fits)))
         ∙ append_assoc (take start now) segment others
         ∙ ap (λ xs. take start now ++ xs)
-        (ap (λ xs. xs ++ others) as_scanned
-        ∙ ap (λ xs. scan_of join unit (take n (drop start before)) ++ scans_of join unit (drop (s + 1) lengths) xs) (sym (drop-drop n start before))
+        ((λ i. as_scanned i ++ scans_of join unit (drop (s + 1) lengths) (sym (drop-drop n start before) i))
         ∙ sym (scans_more join unit lengths s n (drop start before) lt is_n))
         ∙ so_far
 

@@ -77,10 +77,9 @@ scans_are all s n (k ∷ lengths) xs rest start total =
     let long : length vs ≡ k = length-map (totals_of front) fitting ∙ length-scan_of ◌+ℤ◌ (pos 0) front ∙ length-take-le k xs (omega (arith, whole)) in
     let first : moved (in_vector all s) (values_from Overflow 0 vs) ≡ values_from Overflow n vs =
     moved_on Overflow (sum (take s all)) 0 vs ∙ ap (λ p. values_from Overflow p vs) (omega (arith, start)) in
+    let behind = scans_are all (s + 1) (n + k) lengths (drop k xs) same.1 next (omega (arith, whole, length-drop k xs)) ∙ ap (λ m. values_from Overflow (n + m) others) (sym long) in
     chained (moved (in_vector all s) (values_from Overflow 0 vs)) (results_from (in_vector all) checked_scan_of (s + 1) (cut_of lengths (drop k xs)))
-    ∙ ap (λ r. r >>= λ ys. after ys (results_from (in_vector all) checked_scan_of (s + 1) (cut_of lengths (drop k xs)) >>= λ lists. Ok (joined lists))) first
-    ∙ ap (λ r. values_from Overflow n vs >>= λ ys. after ys r) (scans_are all (s + 1) (n + k) lengths (drop k xs) same.1 next (omega (arith, whole, length-drop k xs)))
-    ∙ ap (λ m. values_from Overflow n vs >>= λ ys. after ys (values_from Overflow (n + m) others)) (sym long)
+    ∙ (λ i. first i >>= λ ys. after ys (behind i))
     ∙ sym (values-append Overflow n vs others)
     ∙ ap (values_from Overflow n) (sym (map-append fitting (totals_of front) (scans_of ◌+ℤ◌ (pos 0) lengths (drop k xs))))
 
