@@ -1,8 +1,3 @@
-pub mod Lowest
-pub mod LeastSteps
-pub mod LeastMoves
-pub mod LeastEnding
-pub mod Claiming
 pub mod Moves
 pub mod Telling
 pub mod Dealing

@@ -9,7 +9,7 @@ use Rattle.status_word.specs.declared.pass.Pass.{Pass}
 use Rattle.status_word.specs.Codings.{Coding, code}
 use Rattle.boards.specs.Boards.{on_hand}
 use Rattle.boards.specs.Rules.{PassOf, IsRuled, LookGives, TellGives}
-use Rattle.boards.proofs.Claiming.{AllowsClaims}
+use Rattle.least_boards.proofs.Claiming.{AllowsClaims}
 use Rattle.status_word.specs.Passes.{IsRuleKept, highest, passes_joined, looked, spent_pass, split_left, split_right, told_at, told_state}
 use Rattle.status_word.specs.RuleSteps.{AreRaised, AreSame, Ascends, ClaimKeeps, DoneKeeps, FewClaimed, JoinKeeps, LookKeeps, SplitKeeps, TellKeeps}
 

@@ -6,7 +6,7 @@ use Rattle.std.specs.List.{Any, sum_by}
 use Rattle.status_word.specs.declared.pass.Pass.{Pass}
 use Rattle.status_word.specs.Passes.{WasTold, highest, known_at, seen_at, told_at}
 use Rattle.boards.specs.Boards.{Board, Seated, new_seat}
-use Rattle.boards.specs.Claims.{AreGivenOnce}
+use Rattle.least_boards.specs.Claims.{AreGivenOnce}
 
 -- a new board over tiles with these sums, and its seats
 pub record IsNew {Item : Type 0} (sums : List (Bool × Item)) (workers : ℕ)

@@ -1,26 +1,17 @@
--- A scan board, and a seat at any board, as plain data.
+-- A scan board and a seat at it, as plain data.
 -- Source: the claim word and the status words of Merrill and Garland, Single-pass Parallel Prefix Scan with Decoupled Look-back, 2016.
 use Rattle.std.specs.Prelude.{◌≡◌, ℕ, Bool, false, List}
 use Rattle.atomic_table.specs.Seated.{TableId}
 use Rattle.status_word.specs.declared.pass.Hand.{Hand}
 use Rattle.status_word.specs.declared.pass.Pass.{Pass}
 use Rattle.status_word.specs.Passes.{new_pass}
+pub use Rattle.least_boards.specs.Seats.{Seated, with_pass}
 
 -- which board it is, the sum of each tile, and for how many workers it was made
 pub record Board (Item : Type 0) : Type 0 where
   pub id : TableId
   pub sums : List (Bool × Item)
   pub workers : ℕ
-
--- at which board the seat is, what its worker did, and whether it was told that no tile is left
-pub record Seated (P : Type 0) : Type 0 where
-  pub id : TableId
-  pub pass : P
-  pub is_done : Bool
-
--- the seat whose worker took a step
-abbrev pub with_pass : {P : Type 0} → Seated P → P → Seated P
-with_pass seat pass = record { id = seat.id; pass = pass; is_done = seat.is_done }
 
 -- a pass of a scan board of which the hand alone changes
 abbrev pub on_hand : {Item : Type 0} → (Hand → Hand) → Pass Item → Pass Item

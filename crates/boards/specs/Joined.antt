@@ -1,33 +1,13 @@
--- What one pass that stands for several seats has of them, and what is left.
+-- What one pass that stands for several seats of a scan board has of them, and what is left.
 -- Source: the bookkeeping behind Merrill and Garland's decoupled look-back, 2016.
-use Rattle.std.specs.Prelude.{◌≡◌, ℕ, ◌+◌, max, min, List, length}
-use Rattle.std.specs.List.{count_by, sum_by}
-use Rattle.status_word.specs.declared.pass.Hand.{Hand}
+use Rattle.std.specs.Prelude.{◌≡◌, ℕ, max, List}
 use Rattle.status_word.specs.declared.pass.Pass.{Pass}
-use Rattle.status_word.specs.Hands.{times}
 use Rattle.status_word.specs.Passes.{highest, seen_at, told_at}
-use Rattle.boards.specs.declared.least_pass.LeastPass.{LeastPass}
-use Rattle.boards.specs.Boards.{Seated}
-use Rattle.boards.specs.LeastPasses.{lowered_in, lowest_of, seen_in}
-
--- this hand and those of the seats that are left have what all seats were given
-pub record AreHandsJoined {P : Type 0} (hand : P → Hand) (whole : P) (rest all : List (Seated P)) : Type 0 where
-  pub given : (t : ℕ) → times t (hand whole).given + sum_by (λ s. times t (hand s.pass).given) rest
-      ≡ sum_by (λ s. times t (hand s.pass).given) all
-  pub count : length (hand whole).given + sum_by (λ s. length (hand s.pass).given) rest ≡ sum_by (λ s. length (hand s.pass).given) all
-  pub done : (hand whole).done + count_by (λ s. s.is_done) rest ≡ count_by (λ s. s.is_done) all
-  pub shares : (hand whole).share + length rest ≡ length all
+use Rattle.least_boards.specs.Joined.{AreHandsJoined}
+use Rattle.least_boards.specs.Seats.{Seated}
 
 -- this pass and the seats that are left have done what all seats of a scan board did
 pub record AreJoined {Item : Type 0} (whole : Pass Item) (rest all : List (Seated (Pass Item))) : Type 0 where
   pub hands : AreHandsJoined (λ p. p.hand) whole rest all
   pub told : (t : ℕ) → max (told_at t whole) (highest (λ s. told_at t s.pass) rest) ≡ highest (λ s. told_at t s.pass) all
   pub seen : (t : ℕ) → max (seen_at t whole) (highest (λ s. seen_at t s.pass) rest) ≡ highest (λ s. seen_at t s.pass) all
-
--- the same of a least board
-pub record AreLeastsJoined (whole : LeastPass) (rest all : List (Seated LeastPass)) : Type 0 where
-  pub hands : AreHandsJoined (λ p. p.hand) whole rest all
-  pub lowered : (s : ℕ) → min (lowered_in s whole) (lowest_of (λ seat. lowered_in s seat.pass) rest)
-      ≡ lowest_of (λ seat. lowered_in s seat.pass) all
-  pub seen : (s : ℕ) → min (seen_in s whole) (lowest_of (λ seat. seen_in s seat.pass) rest)
-      ≡ lowest_of (λ seat. seen_in s seat.pass) all

@@ -1,13 +1,12 @@
 pub mod Answers
 pub mod Boards
-pub mod Claims
 pub mod Joined
-pub mod LeastBoards
-pub mod LeastPasses
-pub mod LeastRules
 pub mod Rules
-pub mod Slots
 pub mod Walks
+pub use Rattle.least_boards.specs.Claims
+pub use Rattle.least_boards.specs.LeastBoards
+pub use Rattle.least_boards.specs.LeastPasses
+pub use Rattle.least_boards.specs.Slots
 pub use Rattle.status_word.specs.Codings
 pub use Rattle.status_word.specs.Passes
 pub use Rattle.status_word.specs.Hands

@@ -5,15 +5,15 @@ ghost use Rattle.std.specs.List.{All};
 ghost use Rattle.cvl_base.specs.Limits.{most_workers};
 ghost use Rattle.boards.specs.Answers.{IsEnd, IsNew};
 ghost use Rattle.boards.specs.Boards.{IsSeatOf, on_hand};
-ghost use Rattle.boards.specs.Claims.{IsClaim, after_answer};
+ghost use Rattle.least_boards.specs.Claims.{IsClaim, after_answer};
 
-use crate::claim::Claim;
 use crate::hands::{deal, join_seats};
 use crate::rule::{ClaimStep, Counted, PassOf, ScanRule};
 use crate::seat::ScanSeat;
 use crate::tiles::Tiles;
 use atomic_table::Table;
 use cvl_base::{Memory, Monoid, NoResources};
+use least_boards::Claim;
 use status_word::{code_law, rule_law};
 use std::alloc::Allocator;
 use std::marker::Model;

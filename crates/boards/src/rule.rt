@@ -6,7 +6,8 @@ ghost use Rattle.cvl_base.specs.Limits.{most_elements, most_workers};
 ghost use Rattle.cvl_base.specs.SegmentMonoid.{is_seg_item};
 ghost use Rattle.status_word.specs.Codings.{coding};
 ghost use Rattle.boards.specs.Boards.{on_hand};
-ghost use Rattle.boards.specs.Rules.{ClaimGives, IsRuled, LookGives, TellGives};
+ghost use Rattle.boards.specs.Rules.{IsRuled, LookGives, TellGives};
+ghost use Rattle.least_boards.specs.ClaimSteps.{ClaimGives};
 ghost use Rattle.status_word.specs.Passes.{first_pass, passes_joined, spent_pass, split_left, split_right};
 
 use crate::tiles::Tiles;

@@ -3,14 +3,14 @@
 use Rattle.std.proofs.Common.{◌≡◌, refl, sym, ap, ◌∙◌, ℕ, ◌+◌, ◌<◌, ◌≤◌, Bool, true, false, cond, arith, inl, inr, [], ◌∷◌, ◌++◌, append_assoc}
 use Rattle.std.proofs.lemmas.List.{length-append}
 use Rattle.std.proofs.lemmas.List.Elements.{All-append, All-cons, All-nil, All-weaker}
-use Rattle.boards.specs.Boards.{Seated, with_pass}
-use Rattle.boards.specs.Claims.{after_answer}
-use Rattle.boards.specs.LeastBoards.{LeastView}
-use Rattle.boards.specs.LeastPasses.{lowered_in, lowest, on_least_hand, place_lowered, seen_in}
-use Rattle.boards.specs.declared.claim.Claim.{Claim}
-use Rattle.boards.specs.declared.claim.Claim.TheVariants.{Done, Tile}
-use Rattle.boards.specs.declared.least_pass.LeastPass.{LeastPass}
-use Rattle.boards.specs.declared.least_pass.Low.{Low}
+use Rattle.least_boards.specs.Seats.{Seated, with_pass}
+use Rattle.least_boards.specs.Claims.{after_answer}
+use Rattle.least_boards.specs.LeastBoards.{LeastView}
+use Rattle.least_boards.specs.LeastPasses.{lowered_in, lowest, on_least_hand, place_lowered, seen_in}
+use Rattle.least_boards.specs.declared.claim.Claim.{Claim}
+use Rattle.least_boards.specs.declared.claim.Claim.TheVariants.{Done, Tile}
+use Rattle.least_boards.specs.declared.least_pass.LeastPass.{LeastPass}
+use Rattle.least_boards.specs.declared.least_pass.Low.{Low}
 use Rattle.least_races.specs.Facts.{HasAnswered, HasLowered}
 
 -- what was answered stays so where no less is lowered and seen

@@ -12,12 +12,12 @@ use Rattle.std.proofs.lemmas.List.Folds.{Any-from_list_any}
 use Rattle.std.proofs.lemmas.List.FromFn.{get_or-map-range_with_len, length-map-range_with_len}
 use Rattle.std.proofs.lemmas.List.Sums.{sum_by-cons}
 use Rattle.std.proofs.lemmas.Option.{none-some}
-use Rattle.boards.specs.Boards.{Seated}
-use Rattle.boards.specs.LeastBoards.{IsLeastEnd, LeastView}
-use Rattle.boards.specs.LeastPasses.{lowered_in, lowest_of, no_place, seen_in, word_of_place}
-use Rattle.boards.specs.Passes.{times}
-use Rattle.boards.specs.Slots.{is_slot, least_from, leasts_of}
-use Rattle.boards.specs.declared.least_pass.LeastPass.{LeastPass}
+use Rattle.least_boards.specs.Seats.{Seated}
+use Rattle.least_boards.specs.LeastBoards.{IsLeastEnd, LeastView}
+use Rattle.least_boards.specs.LeastPasses.{lowered_in, lowest_of, no_place, seen_in, word_of_place}
+use Rattle.least_boards.specs.Hands.{times}
+use Rattle.least_boards.specs.Slots.{is_slot, least_from, leasts_of}
+use Rattle.least_boards.specs.declared.least_pass.LeastPass.{LeastPass}
 use Rattle.crew.specs.Facts.{HasFacts}
 use Rattle.cvl_base.specs.Limits.{most_elements}
 use Rattle.tile_plan.specs.Ranges.{range_of, tile_count}

@@ -3,11 +3,11 @@
 use Rattle.std.specs.Prelude.{◌≡◌, ℕ, ◌+◌, ◌<◌, ◌≤◌, ◌⊎◌, List, ◌++◌, slice_index_or, length, Option, Some, None}
 use Rattle.std.specs.List.{All}
 use Rattle.tile_plan.specs.Ranges.{range_of, tile_count}
-use Rattle.boards.specs.declared.least_pass.LeastPass.{LeastPass}
-use Rattle.boards.specs.declared.least_pass.Low.{Low}
-use Rattle.boards.specs.Boards.{Seated}
-use Rattle.boards.specs.LeastBoards.{LeastView}
-use Rattle.boards.specs.LeastPasses.{lowered_in, seen_in}
+use Rattle.least_boards.specs.declared.least_pass.LeastPass.{LeastPass}
+use Rattle.least_boards.specs.declared.least_pass.Low.{Low}
+use Rattle.least_boards.specs.Seats.{Seated}
+use Rattle.least_boards.specs.LeastBoards.{LeastView}
+use Rattle.least_boards.specs.LeastPasses.{lowered_in, seen_in}
 
 -- the board's places are cut into tiles by this plan
 pub record IsCutInto (board : LeastView) (plan : ℕ × ℕ) : Type 0 where

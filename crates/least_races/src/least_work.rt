@@ -1,14 +1,14 @@
 //! What each worker does who races for the least places.
 
 ghost use Rattle.std.specs.Prelude.{◌≡◌, ◌+◌, ◌<◌, ◌≤◌, ℕ, IfSome, IsTrue, None, Some, length, slice_index_or};
-ghost use Rattle.boards.specs.LeastBoards.{IsLeastSeatOf};
-ghost use Rattle.boards.specs.LeastPasses.{lowered_in, seen_in};
+ghost use Rattle.least_boards.specs.LeastBoards.{IsLeastSeatOf};
+ghost use Rattle.least_boards.specs.LeastPasses.{lowered_in, seen_in};
 ghost use Rattle.least_races.specs.Facts.{HasAnswered, HasGoneOn, HasLowered, IsCutInto, IsOver};
 ghost use Rattle.tile_plan.specs.Ranges.{range_of, tile_count};
 
-use boards::{Claim, LeastBoard, LeastSeat, Targets};
 use crew::{Gate, Work};
 use cvl_base::{Memory, NoResources};
+use least_boards::{Claim, LeastBoard, LeastSeat, Targets};
 use std::alloc::Allocator;
 use tile_plan::Plan;
 

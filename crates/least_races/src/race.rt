@@ -1,12 +1,12 @@
 //! Workers race for the tiles of a vector, and lower the places that have a slot.
 
 ghost use Rattle.std.specs.Prelude.{◌≡◌, IfOk};
-ghost use Rattle.boards.specs.Slots.{least_from, leasts_of};
+ghost use Rattle.least_boards.specs.Slots.{least_from, leasts_of};
 
 use crate::least_work::{LeastWork, LentTargets};
-use boards::{LeastBoard, Leasts, Targets};
 use crew::{Gate, run_crew_for_facts};
 use cvl_base::{Memory, NoResources};
+use least_boards::{LeastBoard, Leasts, Targets};
 use sharing::Pace;
 use std::thread::Threads;
 use tile_plan::Plan;

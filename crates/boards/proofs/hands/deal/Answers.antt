@@ -1,6 +1,6 @@
 use Rattle.std.proofs.Common.{◌≡◌, sym, ap, ◌∙◌, arith}
 use Rattle.status_word.specs.Passes.{first_pass, new_pass}
-use Rattle.boards.proofs.Dealing.{last_dealt}
+use Rattle.least_boards.proofs.Dealing.{last_dealt}
 use Rattle.boards.proofs.Moves.{split_allowed}
 use Rattle.boards.proofs.hands.deal.Goals as goal
 

@@ -2,7 +2,8 @@ use Rattle.std.proofs.Common.{sym, ap, ◌∙◌, subst, cond, arith, Some}
 use Rattle.std.proofs.lemmas.List.Elements.{All-pop}
 use Rattle.boards.specs.Boards.{IsSeatOf}
 use Rattle.boards.specs.Joined.{AreJoined}
-use Rattle.boards.proofs.Dealing.{joined_first, joined_more, none_left}
+use Rattle.least_boards.proofs.Dealing.{none_left}
+use Rattle.boards.proofs.Dealing.{joined_first, joined_more}
 use Rattle.boards.proofs.Moves.{join_allowed}
 use Rattle.boards.proofs.hands.join_seats.Goals as goal
 

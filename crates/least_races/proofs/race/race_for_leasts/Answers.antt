@@ -1,6 +1,6 @@
 use Rattle.std.proofs.Common.{◌≡◌, ◌≤◌, sym, ap, ◌∙◌, length, arith}
 use Rattle.std.proofs.lemmas.List.{length-replicate}
-use Rattle.boards.specs.LeastBoards.{new_least_seat}
+use Rattle.least_boards.specs.LeastBoards.{new_least_seat}
 use Rattle.least_races.proofs.Leasts.{leasts_are}
 use Rattle.least_races.proofs.race.race_for_leasts.Goals as goal
 

@@ -3,9 +3,10 @@ use mathlib.Core.Option.{none}
 use Rattle.atomic_table.specs.Table.{Allows, step}
 use Rattle.status_word.specs.Codings.{coding_of}
 use Rattle.boards.specs.Boards.{on_hand}
-use Rattle.boards.specs.Claims.{IsClaim}
-use Rattle.boards.specs.Rules.{IsRuled, ClaimGives}
-use Rattle.boards.proofs.Claiming.{claim_allowed, claim_answered, claim_marks, claim_seat}
+use Rattle.boards.specs.Rules.{IsRuled}
+use Rattle.least_boards.specs.ClaimSteps.{ClaimGives}
+use Rattle.least_boards.specs.Claims.{IsClaim}
+use Rattle.least_boards.proofs.Claiming.{claim_allowed, claim_answered, claim_marks, claim_seat}
 use Rattle.boards.proofs.Moves.{allows_claims}
 use Rattle.boards.proofs.board.ScanBoard.claim.Goals as goal
 

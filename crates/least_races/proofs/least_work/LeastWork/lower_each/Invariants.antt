@@ -1,7 +1,7 @@
 use Rattle.std.specs.Prelude.{None, Some, IfSome, slice_index_or}
 use Rattle.std.proofs.Common.{◌≡◌, ◌<◌, ◌≤◌, ℕ}
-use Rattle.boards.specs.LeastBoards.{IsLeastSeatOf}
-use Rattle.boards.specs.LeastPasses.{lowered_in}
+use Rattle.least_boards.specs.LeastBoards.{IsLeastSeatOf}
+use Rattle.least_boards.specs.LeastPasses.{lowered_in}
 use Rattle.least_races.specs.Facts.{HasGoneOn, HasLowered}
 use Rattle.least_races.proofs.least_work.LeastWork.lower_each.Given as goal
 

@@ -1,0 +1,74 @@
+-- What the words of a closed least board tell, from the rule and from the one pass that stands for all seats.
+-- Source: the laws of the crate `status_word` on the hand that stands for all workers.
+use Rattle.std.proofs.Common.{◌≡◌, sym, ap, ◌∙◌, ℕ, zero, suc, ◌+◌, ◌<◌, ◌≤◌, true, false, cond, ltb, List, [], ◌∷◌, length, map, take, get_or, Option, Some, None, arith, ⊎_elim}
+use Rattle.std.proofs.lemmas.Bool.Decides.{leb_tells}
+use Rattle.std.proofs.lemmas.List.{get_or-map, get_or-take, length-map, length-take, length-take-le}
+use Rattle.std.proofs.lemmas.List.Elements.{All-weaker}
+use Rattle.std.proofs.lemmas.Option.{none-some, same_Some}
+use mathlib.Core.Option.{some}
+use lib.ListN.{get_elem?}
+use Rattle.atomic_table.specs.Table.{State}
+use Rattle.cvl_base.specs.Limits.{most_elements}
+use Rattle.status_word.specs.RuleSteps.{WholeDeals}
+use Rattle.least_boards.specs.declared.least_pass.LeastPass.{LeastPass}
+use Rattle.least_boards.specs.Seats.{Seated}
+use Rattle.least_boards.specs.Joined.{AreLeastsJoined}
+use Rattle.least_boards.specs.LeastBoards.{IsLeastEnd, LeastView}
+use Rattle.least_boards.specs.LeastPasses.{lowered_in, lowest, lowest_of, no_place, place_of_word, seen_in, word_of_place}
+use Rattle.least_boards.specs.LeastRules.{IsLeastFair, IsLeastRuled, IsOfSlot}
+use Rattle.least_boards.proofs.Ending.{given_once}
+use Rattle.least_boards.proofs.LeastSteps.{least_of_slot}
+use Rattle.least_boards.proofs.Lowest.{lowest_alone, lowest_at, lowest_most}
+
+-- a place that has a slot is one of the places
+target_within : (targets : List (Option ℕ)) (place slot : ℕ) → get_or targets place None ≡ Some slot → place < length targets
+target_within [] place slot is = absurd (none-some slot is)
+target_within (target ∷ targets) zero slot is = omega arith
+target_within (target ∷ targets) (suc place) slot is = let rest = target_within targets place slot is in omega arith
+
+-- a word that is a place of its slot, or no place, is told as such
+pub told_back : (targets : List (Option ℕ)) (slot word : ℕ) → length targets ≤ most_elements → IsOfSlot targets slot word → word_of_place (place_of_word word) ≡ word
+told_back targets slot word few is = ⊎_elim (λ (below : (ltb word 4294967296 ≡ true) × (suc word ≤ 4294967296)). ap (λ b. word_of_place (cond b (Some word) None)) below.0)
+    (λ (past : (ltb word 4294967296 ≡ false) × (4294967296 < suc word)). ap (λ b. word_of_place (cond b (Some word) None)) past.0 ∙ sym (none_past past.1))
+    (leb_tells (suc word) 4294967296)
+  where
+    none_past : 4294967296 < suc word → word ≡ no_place
+    none_past past = ⊎_elim (λ none. none) (λ target. let within = target_within targets word slot target in absurd (omega arith)) is
+
+-- and where that is a place, it is one of the slot
+pub told_slot : (targets : List (Option ℕ)) (slot word place : ℕ) → IsOfSlot targets slot word → place_of_word word ≡ Some place → get_or targets place None ≡ Some slot
+told_slot targets slot word place is told = ⊎_elim (λ (below : (ltb word 4294967296 ≡ true) × (suc word ≤ 4294967296)).
+    let same : word ≡ place = same_Some word place (ap (λ b. cond b (Some word) None) (sym below.0) ∙ told) in
+    ⊎_elim (λ none. absurd (omega arith)) (λ target. ap (λ n. get_or targets n None) (sym same) ∙ target) is)
+    (λ (past : (ltb word 4294967296 ≡ false) × (4294967296 < suc word)). absurd (none-some place (ap (λ b. cond b (Some word) None) (sym past.0) ∙ told)))
+    (leb_tells (suc word) 4294967296)
+
+-- what is told of a slot is what its word stands for
+pub told_at_slot : (words : List ℕ) (slots s : ℕ) → s < slots → slots < length words → get_or (map place_of_word (take slots words)) s None ≡ place_of_word (get_or words s 0)
+told_at_slot words slots s below within = get_or-map place_of_word (take slots words) s 0 None (omega (arith, length-take slots words)) ∙ ap place_of_word (get_or-take slots words s 0 below)
+
+-- what its seats did in all, and the least places that its words tell
+pub least_ended : WholeDeals {P = LeastPass} (λ p. p.hand) → (board : LeastView) (id : ℕ) (s : State (Unit {0}) LeastPass) (words : List ℕ) (p : LeastPass) (seats : List (Seated LeastPass))
+    → length board.targets ≤ most_elements → length seats ≡ board.workers → IsLeastRuled board.targets board.slots board.tiles board.workers s → get_elem? s.views id ≡ some p
+    → s.words ≡ words → AreLeastsJoined p [] seats → IsLeastEnd board seats (map place_of_word (take board.slots words))
+least_ended whole board id s words p seats few as_many ruled at same_words joined =
+    let kept = ruled.kept in
+    let share : p.hand.share ≡ board.workers = omega (arith, joined.hands.shares) in
+    let hand = whole board.tiles board.workers (get_or s.words board.slots 0) s.views id p kept.dealt at share in
+    let long : length words ≡ board.slots + 1 = ap length (sym same_words) ∙ ruled.long in
+    let told : (t : ℕ) → t < board.slots → get_or (map place_of_word (take board.slots words)) t None ≡ place_of_word (lowest_of (lowered_in t) s.views) = λ t below.
+    told_at_slot words board.slots t below (omega arith) ∙ ap (λ ws. place_of_word (get_or ws t 0)) (sym same_words) ∙ ap place_of_word (kept.words t below) in
+    let placed : (t : ℕ) → IsOfSlot board.targets t (lowest_of (lowered_in t) s.views) = λ t. least_of_slot board.targets board.tiles t s.views kept.fair in
+    let least : (t : ℕ) → t < board.slots → word_of_place (get_or (map place_of_word (take board.slots words)) t None) ≡ lowest_of (lowered_in t) s.views = λ t below.
+    ap word_of_place (told t below) ∙ told_back board.targets t (lowest_of (lowered_in t) s.views) few (placed t) in
+    record {
+      given = given_once (λ q. q.hand) board.tiles (get_or s.words board.slots 0) p seats hand joined.hands;
+      as_many = length-map (take board.slots words) place_of_word ∙ length-take-le board.slots words (omega arith);
+      least = λ t below. least t below
+          ∙ lowest_alone (lowered_in t) (λ q. q.hand.share) s.views id p
+          (All-weaker (IsLeastFair board.targets board.tiles) (λ q. q.hand.share ≡ 0 → lowered_in t q ≡ no_place) (λ q fair none. ap (lowest t) (fair.empty none).0) s.views kept.fair) at
+          (kept.dealt.shares ∙ sym share)
+          ∙ joined.lowered t;
+      of_slot = λ t place below is. told_slot board.targets t (lowest_of (lowered_in t) s.views) place (placed t) (sym (told t below) ∙ is);
+      seen = λ t below. let saw = lowest_at (seen_in t) s.views id p at in let most = lowest_most (lowered_in t) s.views in omega (arith, least t below, kept.seen t, joined.seen t);
+    }

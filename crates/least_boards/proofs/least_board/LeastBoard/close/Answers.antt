@@ -1,0 +1,23 @@
+use Rattle.std.proofs.Common.{sym, ap, ◌∙◌, subst, arith}
+use Rattle.std.specs.Slots.{slots_items}
+use Rattle.least_boards.specs.LeastBoards.{IsLeastEnd, LeastView}
+use Rattle.least_boards.specs.LeastRules.{IsLeastRuled}
+use Rattle.least_boards.proofs.LeastEnding.{least_ended}
+use Rattle.least_boards.proofs.least_board.LeastBoard.close.Goals as goal
+
+pub join_least_seats-whole-requires-clause-some : goal.join_least_seats-whole-requires-clause-some
+join_least_seats-whole-requires-clause-some g c = omega (arith, c.requires.every, c.self.inside.slotted.some_workers, ap (λ b. b.workers) c.self.view_is)
+
+pub returns : goal.returns
+returns g c =
+    let here = c.self.inside in
+    let slotted = here.slotted in
+    let board : LeastView = record { id = here.table.shared.table_id; targets = g.T.Targets.targets slotted.targets; slots = slotted.slots; tiles = slotted.tiles; workers = slotted.workers } in
+    let last = c.close_with.ensures.values.2 in
+    let whole = c.join_least_seats-whole.result in
+    let words = slots_items c.close_with.result.words in
+    let ruled : IsLeastRuled board.targets board.slots board.tiles board.workers last.0 =
+    subst (λ k. IsLeastRuled (g.T.Targets.targets k.targets) k.slots k.tiles k.workers last.0) c.self.invariant.0 last.1.0 in
+    let ended = least_ended (c.hand_law.ensures.whole (λ p. p.hand)) board whole.id last.0 words whole.me.0 c.args.seats.items slotted.few_places
+    (c.requires.every ∙ sym (ap (λ b. b.workers) c.self.view_is)) ruled last.1.1 last.2 c.join_least_seats-whole.ensures.passes in
+    subst (λ b. IsLeastEnd b c.args.seats.items c.of.result) c.self.view_is (subst (IsLeastEnd board c.args.seats.items) (sym c.of.ensures) ended)

@@ -1,0 +1,25 @@
+use Rattle.std.proofs.Common.{◌≡◌, sym, ap, ◌∙◌, arith}
+use Rattle.least_boards.specs.LeastPasses.{first_least_pass, new_least_pass}
+use Rattle.least_boards.proofs.Dealing.{last_dealt}
+use Rattle.least_boards.proofs.LeastMoves.{split_allowed}
+use Rattle.least_boards.proofs.least_hands.deal_least_seats.Goals as goal
+
+pub split_seat-seat-requires : goal.split_seat-seat-requires
+split_seat-seat-requires g c =
+    let here = c.board.inside in
+    let key = here.table.shared.key in
+    let whole = c.loop-left.whole in
+    let share = ap (λ v. v.0.hand.share) c.loop-left.invariant.4 in
+    let done = ap (λ v. v.0.hand.done) c.loop-left.invariant.4 in (
+      c.loop-left.invariant.3 ∙ sym (ap (λ b. b.id) c.board.view_is),
+      omega (arith, c.board.invariant.1),
+      split_allowed (g.T.Targets.targets key.targets) key.slots key.tiles key.workers (c.hand_law.ensures.split (λ p. p.hand)) whole.id whole.me.0 (omega arith) (omega arith),
+    )
+
+pub returns : goal.returns
+returns g c =
+    let board = c.args.board.now in
+    let inv = c.loop-left.invariant in
+    let one : c.loop-left.left ≡ 1 = omega (arith, inv.0, c.loop-left-test.false) in
+    c.in_ok-push-2.ensures.items ∙ last_dealt board.workers c.loop-left.left c.loop-left.seats.items c.loop-left.whole.table_id board.id c.loop-left.whole.me.0
+    (new_least_pass board.targets board.tiles) c.loop-left-test.false inv.0 inv.1 inv.2 inv.3 (ap (λ v. v.0) inv.4 ∙ ap (first_least_pass board.targets board.tiles) one)

@@ -1,0 +1,9 @@
+pub mod ClaimSteps
+pub mod Claims
+pub mod Joined
+pub mod LeastBoards
+pub mod LeastPasses
+pub mod LeastRules
+pub mod Seats
+pub mod Slots
+pub use Rattle.status_word.specs.Hands
