@@ -11,11 +11,7 @@ use Rattle.least_boards.specs.declared.least_pass.LeastPass.{LeastPass}
 use Rattle.least_boards.specs.Joined.{AreHandsJoined, AreLeastsJoined}
 use Rattle.least_boards.specs.LeastPasses.{least_passes_joined, lowered_in, seen_in}
 use Rattle.least_boards.specs.Seats.{Seated}
-use Rattle.least_boards.proofs.Lowest.{lowest-append, lows-append, lows_most}
-
-pub none_left : {X : Type 0} (xs : List X) → length xs ≡ 0 → xs ≡ []
-none_left [] none = refl
-none_left (x ∷ xs) none = absurd (omega arith)
+use Rattle.least_boards.proofs.Lowest.{lowest_push, lows-append}
 
 -- ---- the passes of any board
 
@@ -77,8 +73,8 @@ pub leasts_first : (seats rest : List (Seated LeastPass)) (first : Seated LeastP
     → AreLeastsJoined p rest seats
 leasts_first seats rest first p taken is = subst (AreLeastsJoined p rest) (sym taken) record {
   hands = hands_first (λ q. q.hand) rest first p is;
-  lowered = λ s. omega (arith, lowest-append (λ seat. lowered_in s seat.pass) rest (first ∷ []), lows_most s first.pass.lowered, ap (lowered_in s) is.0);
-  seen = λ s. omega (arith, lowest-append (λ seat. seen_in s seat.pass) rest (first ∷ []), lows_most s first.pass.seen, ap (seen_in s) is.0);
+  lowered = λ s. omega (arith, lowest_push (λ seat. lowered_in s seat.pass) rest first, ap (lowered_in s) is.0);
+  seen = λ s. omega (arith, lowest_push (λ seat. seen_in s seat.pass) rest first, ap (seen_in s) is.0);
 }
 
 pub leasts_more : (seats rest all : List (Seated LeastPass)) (next : Seated LeastPass) (p whole now : LeastPass) → seats ≡ rest ++ next ∷ [] → IsSeatPass (λ q. q.hand) next p
@@ -87,8 +83,6 @@ leasts_more seats rest all next p whole now taken is both all_of =
     let so_far = subst (λ xs. AreLeastsJoined whole xs all) taken all_of in
     subst (λ q. AreLeastsJoined q rest all) (sym both) record {
       hands = hands_more (λ q. q.hand) rest all next p whole (least_passes_joined whole p) is refl so_far.hands;
-      lowered = λ s. omega
-          (arith, lowest-append (λ seat. lowered_in s seat.pass) rest (next ∷ []), lows_most s next.pass.lowered, ap (lowered_in s) is.0, lows-append s whole.lowered p.lowered, so_far.lowered s);
-      seen = λ s. omega
-          (arith, lowest-append (λ seat. seen_in s seat.pass) rest (next ∷ []), lows_most s next.pass.seen, ap (seen_in s) is.0, lows-append s whole.seen p.seen, so_far.seen s);
+      lowered = λ s. omega (arith, lowest_push (λ seat. lowered_in s seat.pass) rest next, ap (lowered_in s) is.0, lows-append s whole.lowered p.lowered, so_far.lowered s);
+      seen = λ s. omega (arith, lowest_push (λ seat. seen_in s seat.pass) rest next, ap (seen_in s) is.0, lows-append s whole.seen p.seen, so_far.seen s);
     }

@@ -13,7 +13,7 @@ use Rattle.least_boards.specs.declared.least_pass.LeastPass.{LeastPass}
 use Rattle.least_boards.specs.declared.least_pass.Low.{Low}
 use Rattle.least_boards.specs.LeastPasses.{first_least_pass, known_in, least_passes_joined, lowered_in, lowest, lowest_of, no_place, on_least_hand, place_lowered, place_seen, seen_in, spent_least_pass, split_least_left, split_least_right}
 use Rattle.least_boards.specs.LeastRules.{IsLeastFair, IsLeastKept, IsOfSlot, IsPlaced}
-use Rattle.least_boards.proofs.Lowest.{element_at, lowest_at, lowest-append, lowest_joined, lowest_most, lowest_same, lowest_set, lows-append}
+use Rattle.least_boards.proofs.Lowest.{element_at, lowest_at, lowest_joined, lowest_most, lowest_push, lowest_same, lowest_set, lows-append}
 use Rattle.status_word.proofs.Places.{set_else}
 
 module _ (targets : List (Option ℕ)) (slots tiles workers : ℕ) where
@@ -119,13 +119,13 @@ module _ (targets : List (Option ℕ)) (slots tiles workers : ℕ) where
       let was = element_at (IsLeastFair targets tiles) passes id p kept.fair here in
       let same = was.board (omega arith) in
       let least : (s : ℕ) → lowest_of (lowered_in s) (set passes id left ++ right ∷ []) ≡ lowest_of (lowered_in s) passes = λ s. let stays =
-      lowest_same (lowered_in s) passes id p left here refl in let more = lowest-append (lowered_in s) (set passes id left) (right ∷ []) in let most = lowest_most (lowered_in s) passes in omega arith in
+      lowest_same (lowered_in s) passes id p left here refl in let more = lowest_push (lowered_in s) (set passes id left) right in let most = lowest_most (lowered_in s) passes in omega arith in
       record {
         words = λ s below. kept.words s below ∙ sym (least s);
         seen = λ s.
             let lowered = least s in
             let stays = lowest_same (seen_in s) passes id p left here refl in
-            let more = lowest-append (seen_in s) (set passes id left) (right ∷ []) in
+            let more = lowest_push (seen_in s) (set passes id left) right in
             let most = lowest_most (seen_in s) passes in
             let before = kept.seen s in
             omega arith;

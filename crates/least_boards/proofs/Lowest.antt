@@ -6,7 +6,7 @@ use Rattle.std.proofs.lemmas.List.Elements.{All-head, All-tail}
 use Rattle.std.proofs.lemmas.List.Sums.{sum_by-cons}
 use mathlib.Core.Option.{some, some-injective, some-ne-none}
 use lib.ListN.{get_elem?}
-use Rattle.status_word.proofs.Places.{set_else, set_here}
+use Rattle.status_word.proofs.Places.{set_else, set_here, sum_at}
 use Rattle.least_boards.specs.declared.least_pass.Low.{Low}
 use Rattle.least_boards.specs.LeastPasses.{lowest, lowest_of, no_place}
 
@@ -47,9 +47,9 @@ module _ {X : Type 0} where
   pub lowest_same : (f : X → ℕ) (xs : List X) (i : ℕ) (x y : X) → get_elem? xs i ≡ some x → f y ≡ f x → lowest_of f (set xs i y) ≡ lowest_of f xs
   lowest_same f xs i x y here same = let change = lowest_set f xs i x y (f x) here (omega arith) in let had = lowest_at f xs i x here in omega arith
 
-  pub lowest-append : (f : X → ℕ) (xs ys : List X) → lowest_of f (xs ++ ys) ≡ min (lowest_of f xs) (lowest_of f ys)
-  lowest-append f [] ys = let most = lowest_most f ys in omega arith
-  lowest-append f (x ∷ xs) ys = let rest = lowest-append f xs ys in omega arith
+  pub lowest_push : (f : X → ℕ) (xs : List X) (y : X) → lowest_of f (xs ++ y ∷ []) ≡ min (lowest_of f xs) (f y)
+  lowest_push f [] y = omega arith
+  lowest_push f (x ∷ xs) y = let rest = lowest_push f xs y in omega arith
 
   -- an element whose measure is no place may stand there in the place of another
   lowest_out : (f : X → ℕ) (xs : List X) (i : ℕ) (x y : X) → get_elem? xs i ≡ some x → f y ≡ no_place → lowest_of f xs ≡ min (f x) (lowest_of f (set xs i y))
@@ -70,11 +70,6 @@ module _ {X : Type 0} where
 
   -- ---- one element has all shares, and the others nothing
 
-  share_at : (g : X → ℕ) (xs : List X) (i : ℕ) (x : X) → get_elem? xs i ≡ some x → g x ≤ sum_by g xs
-  share_at g [] i x here = absurd (some-ne-none x (sym here))
-  share_at g (z ∷ xs) zero x here = let same = ap g (some-injective z x here) in let whole = sum_by-cons g z xs in omega arith
-  share_at g (z ∷ xs) (suc i) x here = let rest = share_at g xs i x here in let whole = sum_by-cons g z xs in omega arith
-
   lowest_none : (f g : X → ℕ) (xs : List X) → All (λ z. g z ≡ 0 → f z ≡ no_place) xs → sum_by g xs ≡ 0 → lowest_of f xs ≡ no_place
   lowest_none f g [] each none = refl
   lowest_none f g (x ∷ xs) each none =
@@ -94,7 +89,7 @@ module _ {X : Type 0} where
       omega arith
   lowest_alone f g (z ∷ xs) (suc i) x each here all =
       let whole = sum_by-cons g z xs in
-      let had = share_at g xs i x here in
+      let had = sum_at g xs i x here in
       let none = All-head (λ w. g w ≡ 0 → f w ≡ no_place) z xs each (omega arith) in
       let rest = lowest_alone f g xs i x (All-tail (λ w. g w ≡ 0 → f w ≡ no_place) z xs each) here (omega arith) in
       omega arith

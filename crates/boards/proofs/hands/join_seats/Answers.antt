@@ -1,8 +1,8 @@
 use Rattle.std.proofs.Common.{sym, ap, ◌∙◌, subst, cond, arith, Some}
+use Rattle.std.proofs.lemmas.List.{nil_from_length}
 use Rattle.std.proofs.lemmas.List.Elements.{All-pop}
 use Rattle.boards.specs.Boards.{IsSeatOf}
 use Rattle.boards.specs.Joined.{AreJoined}
-use Rattle.least_boards.proofs.Dealing.{none_left}
 use Rattle.boards.proofs.Dealing.{joined_first, joined_more}
 use Rattle.boards.proofs.Moves.{join_allowed}
 use Rattle.boards.proofs.hands.join_seats.Goals as goal
@@ -52,4 +52,4 @@ loop-next-preserved g c =
 pub returns-clause-passes : goal.returns-clause-passes
 returns-clause-passes g c =
     subst (λ rest. AreJoined c.loop-next.whole.me.0 rest c.args.seats.items)
-    (none_left c.loop-next.seats.items (omega (arith, c.loop-next.seats.ok, c.in_default-pop.ensures.cases.0))) c.loop-next.invariant.4
+    (nil_from_length c.loop-next.seats.items (omega (arith, c.loop-next.seats.ok, c.in_default-pop.ensures.cases.0))) c.loop-next.invariant.4

@@ -1,8 +1,9 @@
 use Rattle.std.proofs.Common.{sym, ap, ◌∙◌, subst, cond, arith, Some}
+use Rattle.std.proofs.lemmas.List.{nil_from_length}
 use Rattle.std.proofs.lemmas.List.Elements.{All-pop}
 use Rattle.least_boards.specs.LeastBoards.{IsLeastSeatOf}
 use Rattle.least_boards.specs.Joined.{AreLeastsJoined}
-use Rattle.least_boards.proofs.Dealing.{leasts_first, leasts_more, none_left}
+use Rattle.least_boards.proofs.Dealing.{leasts_first, leasts_more}
 use Rattle.least_boards.proofs.LeastMoves.{join_allowed}
 use Rattle.least_boards.proofs.least_hands.join_least_seats.Goals as goal
 
@@ -51,4 +52,4 @@ loop-next-preserved g c =
 pub returns-clause-passes : goal.returns-clause-passes
 returns-clause-passes g c =
     subst (λ rest. AreLeastsJoined c.loop-next.whole.me.0 rest c.args.seats.items)
-    (none_left c.loop-next.seats.items (omega (arith, c.loop-next.seats.ok, c.in_default-pop.ensures.cases.0))) c.loop-next.invariant.4
+    (nil_from_length c.loop-next.seats.items (omega (arith, c.loop-next.seats.ok, c.in_default-pop.ensures.cases.0))) c.loop-next.invariant.4
