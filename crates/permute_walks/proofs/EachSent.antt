@@ -9,8 +9,8 @@ use Rattle.cvl_base.specs.Packs.{count_of}
 use Rattle.cvl_base.specs.Permutes.{all_destinations, first_fault, flagged_destinations, is_destination, wrongs}
 use Rattle.permute_walks.specs.Senders.{last_senders, nobody, sender_from, senders_of}
 use Rattle.permute_walks.proofs.LastSent.{lasts_stored}
-use Rattle.permute_walks.proofs.Sent.{length-senders_of, sender_at}
-use Rattle.permute_walks.proofs.Stored.{is_sent}
+use Rattle.sent_places.proofs.Sent.{length-senders_of, sender_at}
+use Rattle.sent_places.proofs.Stored.{is_sent}
 
 -- 1 where a place takes part
 abbrev pub takes_part : Option ℤ → ℕ

@@ -15,8 +15,8 @@ use Rattle.cvl_base.specs.Limits.{most_elements}
 use Rattle.cvl_base.specs.declared.fault.Fault.{Fault}
 use Rattle.cvl_base.specs.Permutes.{first_fault, is_destination, destination_if, wrongs}
 use Rattle.permute_walks.specs.Senders.{IsStored, count_sent, count_destinations, is_between, last_sender_from, last_senders, nobody, senders_of}
-use Rattle.permute_walks.proofs.Sent.{nobody_sent}
-use Rattle.permute_walks.proofs.Stored.{IsStoredTo, index_is, stored_none, stored_more, stored_outside, stored_skip, stored_all}
+use Rattle.sent_places.proofs.Sent.{nobody_sent}
+use Rattle.sent_places.proofs.Stored.{IsStoredTo, index_is, stored_none, stored_more, stored_outside, stored_skip, stored_all}
 
 pub length-last_senders : (place : ℕ) (ts : List (Option ℤ)) (lowest n : ℕ) → length (last_senders place ts lowest n) ≡ n
 length-last_senders place ts lowest n = length-map-range_with_len (last_sender_from nobody place ts) lowest n

@@ -4,7 +4,6 @@ pub mod Listed
 pub mod MarkWords
 pub mod Outside
 pub mod Scattered
-pub mod Sent
-pub mod Stored
 pub mod Taken
 pub mod Written
+pub use Rattle.sent_places.proofs.Sent

@@ -20,7 +20,7 @@ use Rattle.cvl_base.specs.Extracts.{element_at}
 use Rattle.cvl_base.specs.Faults.{fault_at}
 use Rattle.cvl_base.specs.Gives.{◌>>=◌, unless}
 use Rattle.cvl_base.specs.Permutes.{first_fault, is_place, place_among}
-use Rattle.permute_walks.proofs.Sent.{uncons}
+use Rattle.sent_places.proofs.Sent.{uncons}
 use Rattle.permute_walks.specs.Indices.{AreInside, count_outside, elements_at, first_outside}
 
 -- ---- the first of some indices, and whether it is inside

@@ -10,8 +10,8 @@ use Rattle.permute_walks.proofs.LastSent.{between_out, lasts_both, lasts_other, 
 use Rattle.permute_walks.proofs.Listed.{IsNext, IsRest, at_end, at_next}
 use Rattle.permute_walks.proofs.MarkWords.{no_marks}
 use Rattle.permute_walks.proofs.Scattered.{marked_set, none_marked, written_none, written_set}
-use Rattle.permute_walks.proofs.Sent.{nobody_sent}
-use Rattle.permute_walks.proofs.Stored.{is_sent}
+use Rattle.sent_places.proofs.Sent.{nobody_sent}
+use Rattle.sent_places.proofs.Stored.{is_sent}
 
 module _ {X : Type 0} (source : List X) (ts : List (Option ℤ)) (lowest : ℕ) where
   pub range_none : length source ≤ nobody → (old : List X) (marks : List ℕ) → marks ≡ replicate (words_for (length old)) 0 → IsWrittenTo source ts lowest old 0 old marks

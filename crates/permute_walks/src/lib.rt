@@ -1,9 +1,11 @@
-//! The walks of a permute over one range: which element is sent to which place, or whether each index is a place, and the
-//! elements.
+//! The walks of a permute over one range. The first, which finds the sender of each place of the result, is that of
+//! `sent_places`, which is handed on. `elements` has the second, which writes the elements of the senders. `owners` has both in
+//! one, by threads each of which owns a range of the result, with `ranges` for one range and `marks` for the places that are
+//! written. `backs` has the walks of a back permute, the first of which counts indices by `index_counts`, and `scatters` those
+//! of a simple permute straight into a room.
 #![tactic(auto)]
 
 pub mod backs;
-pub mod destinations;
 pub mod elements;
 mod index_counts;
 pub mod marks;
@@ -11,13 +13,10 @@ mod owners;
 pub mod places;
 mod ranges;
 mod scatters;
-pub mod sends;
-mod stores;
 
 pub use backs::{
     check_places, check_places_alone, elements_at, elements_at_over, write_elements_at,
 };
-pub use destinations::{AllDestinations, Destinations, FlaggedDestinations};
 pub use elements::{
     elements_of, elements_of_over, elements_or_defaults, elements_or_defaults_over,
 };
@@ -26,4 +25,4 @@ pub use owners::permuted_shared;
 pub use places::element_of;
 pub use ranges::write_range;
 pub use scatters::{is_permutation, is_permutation_by, scatter_over};
-pub use sends::{NOBODY, send_places};
+pub use sent_places::{AllDestinations, Destinations, FlaggedDestinations, NOBODY, send_places};

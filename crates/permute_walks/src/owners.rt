@@ -9,11 +9,11 @@ ghost use Rattle.cvl_base.specs.Permutes.{first_fault, wrongs};
 ghost use Rattle.permute_walks.specs.Marks.{words_for};
 ghost use Rattle.permute_walks.specs.Senders.{count_sent, count_destinations, last_senders, senders_of, written_over};
 
-use crate::destinations::Destinations;
 use crate::marks::{WORD_BITS, count_marks, words_for};
 use crate::ranges::write_range;
 use cvl_base::{Memory, NoResources};
 use fresh::{Copies, Writer, write_in_runs};
+use sent_places::Destinations;
 use sharing::ThreadCount;
 use std::thread::{Threads, join_mut};
 

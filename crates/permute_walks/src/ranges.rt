@@ -9,8 +9,8 @@ ghost use Rattle.cvl_base.specs.Permutes.{destination_if};
 ghost use Rattle.permute_walks.specs.Marks.{mark_words, words_for};
 ghost use Rattle.permute_walks.specs.Senders.{IsWrittenTo, is_between, last_senders, places_between, sent_marks, written_over};
 
-use crate::destinations::Destinations;
 use crate::marks::mark;
+use sent_places::Destinations;
 
 /// So many places are listed at a time; their list stays in the nearest memory of a processor.
 const BLOCK: usize = 1024;

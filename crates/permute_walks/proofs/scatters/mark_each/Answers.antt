@@ -1,7 +1,7 @@
 use Rattle.std.proofs.Common.{rules, ◌∙◌, ◌<◌, ◌≤◌, length, get_or, pos, w32, FitsSigned, arith}
 use Rattle.permute_walks.specs.Senders.{nobody}
 use Rattle.permute_walks.proofs.Scattered.{marks_all, marks_more, marks_none, named_below, right_inside}
-use Rattle.permute_walks.proofs.Stored.{index_is}
+use Rattle.sent_places.proofs.Stored.{index_is}
 use Rattle.permute_walks.proofs.scatters.mark_each.Goals as goal
 
 pub loop-i-init : goal.loop-i-init

@@ -1,9 +1,9 @@
 use Rattle.std.proofs.Common.{ℕ, List, ◌≤◌, ◌<◌, ◌+◌, ◌∙◌, ap, sym, subst, length, arith}
 use Rattle.cvl_base.specs.Permutes.{destination_if}
-use Rattle.permute_walks.specs.Senders.{nobody}
-use Rattle.permute_walks.proofs.Sent.{IsSentTo, sent_none, sent_more, skip_more, sent_fails, sent_all, right_told, told_again}
-use Rattle.permute_walks.proofs.sends.send_each.Goals as goal
-use Rattle.permute_walks.proofs.sends.send_each.Goals.{then-takes_part+in_ok-send_one, else-takes_part}
+use Rattle.sent_places.specs.Senders.{nobody}
+use Rattle.sent_places.proofs.Sent.{IsSentTo, sent_none, sent_more, skip_more, sent_fails, sent_all, right_told, told_again}
+use Rattle.sent_places.proofs.sends.send_each.Goals as goal
+use Rattle.sent_places.proofs.sends.send_each.Goals.{then-takes_part+in_ok-send_one, else-takes_part}
 
 pub loop-k-init : goal.loop-k-init
 loop-k-init g c = sent_none c.args.first (g.T.Destinations.destinations c.args.destinations.now) _ c.args.senders.now c.requires.fresh

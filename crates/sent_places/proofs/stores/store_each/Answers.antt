@@ -1,10 +1,10 @@
 use Rattle.std.proofs.Common.{◌≤◌, ◌+◌, ◌<◌, ℕ, List, get_or, set, length, w32, FitsSigned, Some, ◌∙◌, ap, sym, arith, rules}
 use Rattle.std.proofs.lemmas.List.{get_or-replicate, get_or-set_same, set-get_or}
 use Rattle.cvl_base.specs.Permutes.{destination_if}
-use Rattle.permute_walks.specs.Senders.{nobody}
-use Rattle.permute_walks.proofs.Stored.{index_is, stored_none, stored_more, stored_skip, stored_all}
-use Rattle.permute_walks.proofs.stores.store_each.Goals as goal
-use Rattle.permute_walks.proofs.stores.store_each.Goals.{then-takes_part, else-takes_part}
+use Rattle.sent_places.specs.Senders.{nobody}
+use Rattle.sent_places.proofs.Stored.{index_is, stored_none, stored_more, stored_skip, stored_all}
+use Rattle.sent_places.proofs.stores.store_each.Goals as goal
+use Rattle.sent_places.proofs.stores.store_each.Goals.{then-takes_part, else-takes_part}
 
 pub loop-k-init : goal.loop-k-init
 loop-k-init g c = record {

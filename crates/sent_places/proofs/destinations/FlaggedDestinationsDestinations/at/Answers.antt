@@ -1,6 +1,6 @@
 use Rattle.std.proofs.Common.{◌<◌, length, arith, rules}
-use Rattle.permute_walks.proofs.Sent.{count-flagged_destinations, flagged-destination}
-use Rattle.permute_walks.proofs.destinations.FlaggedDestinationsDestinations.at.Goals as goal
+use Rattle.sent_places.proofs.Sent.{count-flagged_destinations, flagged-destination}
+use Rattle.sent_places.proofs.destinations.FlaggedDestinationsDestinations.at.Goals as goal
 
 pub offset_bounds-self-k : goal.offset_bounds-self-k
 offset_bounds-self-k c =

@@ -4,7 +4,7 @@
 
 ghost use Rattle.std.specs.Prelude.{◌≡◌, ◌+◌, ◌≤◌, ◌↔◌, length, replicate, IfSome, IsTrue, Some};
 ghost use Rattle.cvl_base.specs.Limits.{most_elements};
-ghost use Rattle.permute_walks.specs.Senders.{IsStored, count_sent, nobody};
+ghost use Rattle.sent_places.specs.Senders.{IsStored, count_sent, nobody};
 
 use crate::destinations::Destinations;
 use crate::sends::NOBODY;

@@ -13,8 +13,8 @@ use Rattle.cvl_base.specs.declared.fault.FaultNo.TheVariants.{IndexOutOfRange, I
 use Rattle.cvl_base.specs.Faults.{fault_at}
 use Rattle.cvl_base.specs.Limits.{most_elements}
 use Rattle.cvl_base.specs.Permutes.{first_fault, is_place, wrongs}
-use Rattle.permute_walks.specs.Senders.{IsStored, count_sent, nobody, wrong_with}
-use Rattle.permute_walks.proofs.Sent.{IsSentTo, sent_none, sent_more, skip_more, sent_all, found_here, length-wrongs, right_tests, uncons}
+use Rattle.sent_places.specs.Senders.{IsStored, count_sent, nobody, wrong_with}
+use Rattle.sent_places.proofs.Sent.{IsSentTo, sent_none, sent_more, skip_more, sent_all, found_here, length-wrongs, right_tests, uncons}
 
 -- 1 where somebody is the sender
 abbrev pub is_sent : ℕ → ℕ

@@ -5,7 +5,7 @@ ghost use Rattle.std.specs.Prelude.{◌≡◌, ◌+◌, ◌≤◌, unsigned_abs,
 ghost use Rattle.cvl_base.specs.Faults.{fault_at};
 ghost use Rattle.cvl_base.specs.Limits.{most_elements};
 ghost use Rattle.cvl_base.specs.Permutes.{first_fault, wrongs};
-ghost use Rattle.permute_walks.specs.Senders.{nobody, senders_of, fault_told, wrong_with};
+ghost use Rattle.sent_places.specs.Senders.{nobody, senders_of, fault_told, wrong_with};
 
 use crate::destinations::Destinations;
 use crate::stores::{are_apart, store_each};

@@ -1,6 +1,6 @@
 use Rattle.std.proofs.Common.{◌≡◌, ◌<◌, ◌≤◌, get_or, length}
-use Rattle.permute_walks.proofs.Stored.{IsStoredTo}
-use Rattle.permute_walks.proofs.stores.store_each.Given as goal
+use Rattle.sent_places.proofs.Stored.{IsStoredTo}
+use Rattle.sent_places.proofs.stores.store_each.Given as goal
 
 abbrev pub invariant-loop-k : goal.invariant-loop-k
 invariant-loop-k g l = record {

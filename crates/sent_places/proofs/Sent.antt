@@ -18,7 +18,7 @@ use Rattle.cvl_base.specs.declared.fault.FaultNo.TheVariants.{IndexOutOfRange, I
 use Rattle.cvl_base.specs.Faults.{fault_at}
 use Rattle.cvl_base.specs.Folds.{fronts}
 use Rattle.cvl_base.specs.Permutes.{all_destinations, first_fault, flagged_destinations, is_destination, destination_if, wrong_at, wrongs}
-use Rattle.permute_walks.specs.Senders.{nobody, sender_from, senders_of, fault_told, wrong_with}
+use Rattle.sent_places.specs.Senders.{nobody, sender_from, senders_of, fault_told, wrong_with}
 
 -- ---- what is wrong with a place
 
