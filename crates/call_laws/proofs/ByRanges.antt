@@ -8,12 +8,12 @@ use Rattle.cvl_base.specs.Limits.{most_elements}
 use Rattle.cvl_base.specs.Packs.{count_of}
 use Rattle.cvl_base.specs.Permutes.{all_destinations, default_of, first_fault, flagged_destinations, select_of, sent_over, sent_to, sent_to_all, simple_of, wrongs}
 use Rattle.cvl_base.proofs.Elementwise.{if_as_long-fits}
-use Rattle.cvl_base.proofs.Permutes.{length-all_destinations}
+use Rattle.cvl_base.proofs.Permutes.{length-all_destinations, length-flagged_destinations}
 use Rattle.permute_walks.specs.Senders.{count_destinations, count_sent, last_senders, senders_of, written_over}
 use Rattle.permute_walks.proofs.EachSent.{all_take_part, each_sent, flagged_take_part}
 use Rattle.permute_walks.proofs.LastSent.{lasts_both, lasts_stored, length-last_senders}
 use Rattle.permute_walks.proofs.Scattered.{written_all}
-use Rattle.permute_walks.proofs.Sent.{length-flagged_destinations, length-senders_of}
+use Rattle.permute_walks.proofs.Sent.{length-senders_of}
 use Rattle.permute_walks.proofs.Taken.{taken_flat, taken_over_flat}
 use Rattle.permute_walks.proofs.Written.{count_both, written_both}
 use Rattle.part_calls.specs.Ranges.{count_of_range, room_of_range}

@@ -4,7 +4,7 @@ use Rattle.std.proofs.Common.{arith, eqb, ℤ, pos, is_some, Option, Some, None}
 use Rattle.std.specs.List.{All, sum_by}
 use Rattle.std.proofs.lemmas.Bool.{false≢true}
 use Rattle.std.proofs.lemmas.List.Elements.{All-from_get_or}
-use Rattle.std.proofs.lemmas.List.Sums.{sum_by-cons}
+use Rattle.std.proofs.lemmas.List.Sums.{count_by-le-length, sum_by-cons}
 use Rattle.cvl_base.specs.Packs.{count_of}
 use Rattle.cvl_base.specs.Permutes.{all_destinations, first_fault, flagged_destinations, is_destination, wrongs}
 use Rattle.permute_walks.specs.Senders.{last_senders, nobody, sender_from, senders_of}
@@ -27,8 +27,7 @@ is_one true some = absurd (omega arith)
 is_one false some = refl
 
 most_sent : (senders : List ℕ) → sum_by is_sent senders ≤ length senders
-most_sent [] = let none : sum_by is_sent [] ≡ 0 = refl in omega (arith, none)
-most_sent (s ∷ senders) = omega (arith, sum_by-cons is_sent s senders, at_most_one (eqb s nobody), most_sent senders)
+most_sent senders = count_by-le-length (λ s. not (eqb s nobody)) senders
 
 all_sent : (senders : List ℕ) (d : ℕ) → sum_by is_sent senders ≡ length senders → d < length senders → eqb (get_or senders d 0) nobody ≡ false
 all_sent [] d total lt = absurd (omega arith)

@@ -1,12 +1,13 @@
 -- The last senders of a range of the result, of which each thread finds those of its own range; and that all of them are what
 -- one walk of stores leaves.
-use Rattle.std.proofs.Common.{◌≡◌, ◌∙◌, ℕ, zero, suc, ◌+◌, ◌-◌, ◌%◌, ◌<◌, ◌≤◌, Bool, true, false, ◌&&◌, if◌then◌else◌, List, [], ◌∷◌, ◌++◌, length, take, get_or, set, refl, sym, ap, subst}
+use Rattle.std.proofs.Common.{◌≡◌, ◌∙◌, ℕ, zero, suc, ◌+◌, ◌-◌, ◌%◌, ◌<◌, ◌≤◌, Bool, true, false, ◌&&◌, if◌then◌else◌, List, [], ◌∷◌, ◌++◌, length, map, take, get_or, set, refl, sym, ap, subst}
 use Rattle.std.proofs.Common.{arith, inl, inr, leb, ltb, w32, to_z, of_z, FitsSigned, ℤ, pos, negsuc, unsigned_abs, unwrap_or, is_some, Option, Some, None}
+use Rattle.std.specs.List.{range_with_len}
 use Rattle.std.specs.Ordering.{int_eq}
 use Rattle.std.specs.Cmp.Derive.{both_true}
 use Rattle.std.proofs.lemmas.Bool.{and_parts, and_right, cases_lt, le-leb, le-ltb, lt-leb, leb-true, lt-ltb, ltb-true, false_from_ne_true, false≢true}
 use Rattle.std.proofs.lemmas.Bool.Decides.{eqb_tells, Decides-int_eq}
-use Rattle.std.proofs.lemmas.List.{ext_get_or, get_or-set_same, get_or-set_other, length-set, length-take, take_more, take_all}
+use Rattle.std.proofs.lemmas.List.{ext_get_or, get_or-set_same, get_or-set_other, length-set, length-take, map-append, take_more, take_all}
 use Rattle.std.proofs.lemmas.List.FromFn.{length-map-range_with_len, get_or-map-range_with_len}
 use Rattle.std.proofs.lemmas.List.Sums.{count_by_more_no, count_by_more_yes}
 use Rattle.std.proofs.lemmas.Int.{ints, to_z-of_z}
@@ -15,6 +16,7 @@ use Rattle.cvl_base.specs.Limits.{most_elements}
 use Rattle.cvl_base.specs.declared.fault.Fault.{Fault}
 use Rattle.cvl_base.specs.Permutes.{first_fault, is_destination, destination_if, wrongs}
 use Rattle.permute_walks.specs.Senders.{IsStored, count_sent, count_destinations, is_between, last_sender_from, last_senders, nobody, senders_of}
+use Rattle.permute_walks.proofs.Listed.{range_both}
 use Rattle.sent_places.proofs.Sent.{nobody_sent}
 use Rattle.sent_places.proofs.Stored.{IsStoredTo, index_is, stored_none, stored_more, stored_outside, stored_skip, stored_all}
 
@@ -81,16 +83,9 @@ module _ (place : ℕ) (ts : List (Option ℤ)) (lowest n k : ℕ) (lt : k < len
 -- ---- two ranges side by side are one
 
 pub lasts_both : (place : ℕ) (ts : List (Option ℤ)) (lowest n m : ℕ) → last_senders place ts lowest n ++ last_senders place ts (lowest + n) m ≡ last_senders place ts lowest (n + m)
-lasts_both place ts lowest zero m =
-    let start : lowest + 0 ≡ lowest = omega arith in
-    let all : m ≡ 0 + m = omega arith in
-    ap (λ l. last_senders place ts l m) start ∙ ap (last_senders place ts lowest) all
-lasts_both place ts lowest (suc n) m =
-    let next : lowest + suc n ≡ lowest + 1 + n = omega arith in
-    let all : suc (n + m) ≡ suc n + m = omega arith in
-    ap (λ rest. last_sender_from nobody place ts lowest ∷ rest)
-    (ap (λ l. last_senders place ts (lowest + 1) n ++ last_senders place ts l m) next ∙ lasts_both place ts (lowest + 1) n m)
-    ∙ ap (last_senders place ts lowest) all
+lasts_both place ts lowest n m =
+    let last = last_sender_from nobody place ts in
+    sym (ap (map last) (range_both lowest n m) ∙ map-append last (range_with_len lowest n) (range_with_len (lowest + n) m))
 
 -- ---- the whole result
 

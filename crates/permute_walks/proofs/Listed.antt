@@ -1,18 +1,22 @@
--- The numbers of a range that a test lists, one after another: what holds up to each of them, where the others change nothing.
+-- The numbers of a range, and those that a test lists, one after another: what holds up to each of them, where the others change nothing.
 use Rattle.std.proofs.Common.{◌≡◌, ◌∙◌, ℕ, zero, suc, ◌+◌, ◌<◌, Bool, true, false, cond, List, [], ◌∷◌, ◌++◌, drop, get_or, length, refl, sym, ap, arith, subst}
 use Rattle.std.specs.List.{filter, range_with_len}
 use Rattle.std.proofs.lemmas.List.{map-id}
 use Rattle.std.proofs.lemmas.List.FromFn.{filter_of_map_range_with_len_more}
+
+-- two ranges, one behind the other
+pub range_both : (a n m : ℕ) → range_with_len a (n + m) ≡ range_with_len a n ++ range_with_len (a + n) m
+range_both a zero m = let all : 0 + m ≡ m = omega arith in let same : a ≡ a + 0 = omega arith in λ i. range_with_len (same i) (all i)
+range_both a (suc n) m =
+    let next : suc n + m ≡ suc (n + m) = omega arith in
+    let same : a + 1 + n ≡ a + suc n = omega arith in
+    ap (range_with_len a) next ∙ ap (λ ns. a ∷ ns) (range_both (a + 1) n m) ∙ ap (λ b. range_with_len a (suc n) ++ range_with_len b m) same
 
 -- one number more
 pub listed_more : (p : ℕ → Bool) (first k : ℕ) (b : Bool) → p (first + k) ≡ b → filter p (range_with_len first (k + 1)) ≡ filter p (range_with_len first k) ++ cond b ((first + k) ∷ []) []
 listed_more p first k b is =
     sym (ap (filter p) (map-id (range_with_len first (k + 1)))) ∙ filter_of_map_range_with_len_more p (λ n. n) first k (first + k) refl
     ∙ (λ i. filter p (map-id (range_with_len first k) i) ++ cond (is i) ((first + k) ∷ []) [])
-
-pub none_listed : {X : Type 0} (xs : List X) → length xs ≡ 0 → [] ≡ xs
-none_listed [] none = refl
-none_listed (x ∷ xs) none = absurd (omega (arith, none))
 
 -- the rest of a list is that of the numbers from `from` on and before `end`, up to which P holds
 pub record IsRest (p : ℕ → Bool) (P : ℕ → Type 0) (rest : List ℕ) (end : ℕ) : Type 0 where

@@ -6,7 +6,7 @@ use Rattle.std.specs.Option.{ok_or}
 use Rattle.std.proofs.lemmas.Bool.{lt-ltb, le-ltb, ltb-true, false≢true}
 use Rattle.std.specs.Int.Signed.{non_neg}
 use Rattle.std.proofs.lemmas.Int.{ints, to_z-of_z}
-use Rattle.std.proofs.lemmas.List.{length-take-le, take_more}
+use Rattle.std.proofs.lemmas.List.{at_drop_more, length-take-le, take_more}
 use Rattle.std.proofs.lemmas.List.Elements.{All-cons, All-drop, All-head, All-nil, All-tail, All-take, filter_map-append}
 use Rattle.std.proofs.lemmas.List.Sums.{sum_by-cons}
 use Rattle.std.proofs.lemmas.Option.{none-some, slice_get_cases, slice_get_read}
@@ -20,7 +20,6 @@ use Rattle.cvl_base.specs.Extracts.{element_at}
 use Rattle.cvl_base.specs.Faults.{fault_at}
 use Rattle.cvl_base.specs.Gives.{◌>>=◌, unless}
 use Rattle.cvl_base.specs.Permutes.{first_fault, is_place, place_among}
-use Rattle.sent_places.proofs.Sent.{uncons}
 use Rattle.permute_walks.specs.Indices.{AreInside, count_outside, elements_at, first_outside}
 
 -- ---- the first of some indices, and whether it is inside
@@ -61,7 +60,7 @@ module _ (first places : ℕ) (index : List ℤ) (k : ℕ) (so_far : first_outsi
   this = get_or index k (pos 0)
 
   next : k < length index → first_outside first places index ≡ first_outside (first + k) places (this ∷ drop (k + 1) index)
-  next lt = so_far ∙ ap (first_outside (first + k) places) (uncons index k (pos 0) lt)
+  next lt = so_far ∙ at_drop_more (first_outside (first + k) places) index k (pos 0) lt
 
   pub checked_more : (p : ℕ) → k < length index → place_among places this ≡ Some p → first_outside first places index ≡ first_outside (first + (k + 1)) places (drop (k + 1) index)
   checked_more p lt inside =

@@ -13,7 +13,8 @@ use Rattle.cvl_base.specs.Permutes.{all_destinations, first_fault, is_place, wro
 use Rattle.permute_walks.specs.Senders.{count_sent, count_destinations, last_senders, nobody, senders_of, sent_marks, written_over}
 use Rattle.permute_walks.proofs.EachSent.{all_take_part, each_sent}
 use Rattle.permute_walks.proofs.LastSent.{lasts_set, lasts_stored, reached}
-use Rattle.sent_places.proofs.Sent.{length-all_destinations, length-senders_of, nobody_sent}
+use Rattle.cvl_base.proofs.Permutes.{length-all_destinations}
+use Rattle.sent_places.proofs.Sent.{length-senders_of, nobody_sent}
 use Rattle.sent_places.proofs.Stored.{inside_where_right, is_sent, right_now}
 use Rattle.permute_walks.proofs.Taken.{read_at}
 

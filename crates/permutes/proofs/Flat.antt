@@ -11,7 +11,7 @@ use Rattle.cvl_base.specs.Limits.{most_elements}
 use Rattle.cvl_base.specs.Packs.{count_of}
 use Rattle.cvl_base.specs.Permutes.{all_destinations, default_of, first_fault, flagged_destinations, select_of, sent_over, sent_to_all, simple_of, wrongs}
 use Rattle.permute_walks.specs.Senders.{senders_of, written_over}
-use Rattle.permute_walks.proofs.Sent.{length-all_destinations, length-flagged_destinations}
+use Rattle.cvl_base.proofs.Permutes.{length-all_destinations, length-flagged_destinations}
 use Rattle.permute_walks.proofs.Taken.{taken_flat, taken_over_flat}
 
 pub if_as_long-fits : {X Y Z : Type 0} (xs : List X) (ys : List Y) (rest : Result Z Fault) → length xs ≡ length ys → if_as_long xs ys rest ≡ rest

@@ -9,7 +9,7 @@ use Rattle.cvl_base.specs.Permutes.{all_destinations, first_fault, flagged_desti
 use Rattle.permutes.specs.Walks.{AreAllSent}
 use Rattle.permute_walks.specs.Senders.{nobody, senders_of, fault_told}
 use Rattle.permute_walks.proofs.EachSent.{each_sent, all_take_part, flagged_take_part}
-use Rattle.permute_walks.proofs.Sent.{length-all_destinations, length-flagged_destinations}
+use Rattle.cvl_base.proofs.Permutes.{length-all_destinations, length-flagged_destinations}
 
 -- ---- a fault or senders
 

@@ -11,7 +11,8 @@ use Rattle.cvl_base.specs.Permutes.{all_destinations, first_fault, flagged_desti
 use Rattle.permute_walks.specs.Senders.{nobody, senders_of}
 use Rattle.cvl_base.proofs.Lists.{sum-cons}
 use Rattle.permute_walks.proofs.EachSent.{takes_part, each_sent, all_take_part, flagged_take_part}
-use Rattle.permute_walks.proofs.Sent.{length-senders_of, length-all_destinations, length-flagged_destinations}
+use Rattle.cvl_base.proofs.Permutes.{length-all_destinations, length-flagged_destinations}
+use Rattle.permute_walks.proofs.Sent.{length-senders_of}
 use Rattle.permutes.specs.Walks.{AreAllSent}
 use Rattle.segmented_permutes.proofs.Through.{places-parts}
 use Rattle.segmented_permutes.specs.Parts.{fault_from, flagged_parts, parts_of, places_in, senders_from}

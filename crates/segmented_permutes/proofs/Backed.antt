@@ -3,7 +3,6 @@ use Rattle.std.proofs.Common.{◌≡◌, ◌∙◌, ℕ, ◌+◌, ◌≤◌, Lis
 use Rattle.std.specs.List.{zip}
 use Rattle.std.specs.Option.{option_or}
 use Rattle.std.proofs.lemmas.List.{length-take-le}
-use Rattle.std.proofs.lemmas.Option.{none-some}
 use Rattle.cvl_base.specs.declared.fault.Fault.{Fault}
 use Rattle.cvl_base.specs.declared.fault.FaultNo.{FaultNo}
 use Rattle.cvl_base.specs.declared.fault.FaultNo.TheVariants.{IndexOutOfRange}
@@ -20,6 +19,7 @@ use Rattle.permute_walks.specs.Indices.{AreInside, elements_at, first_outside}
 use Rattle.permute_walks.proofs.Outside.{values_unless, all_inside}
 use Rattle.segmented_permutes.specs.Backs.{outside_from, segments_at}
 use Rattle.cvl_base.proofs.Lists.{sum-cons}
+use Rattle.segmented_permutes.proofs.AllSent.{neither}
 use Rattle.segmented_permutes.proofs.Whole.{beside-fits, left_more}
 
 -- ---- the definition
@@ -86,13 +86,9 @@ seg_back_taken source index widths lengths items total index_total count none ar
 
 -- ---- where no index is outside
 
-neither : (o others : Option Fault) → None ≡ option_or o others → (None ≡ o) × (None ≡ others)
-neither None others none = (refl, none)
-neither (Some f) others none = absurd (none-some f none)
-
 -- the first segment's indices are inside, and those of the others
 pub inside_first : (place m : ℕ) (lengths : List ℕ) (n : ℕ) (index_lengths : List ℕ) (index : List ℤ) → None ≡ outside_from place (m ∷ lengths) (n ∷ index_lengths) index
     → AreInside m (take n index) × (None ≡ outside_from (place + n) lengths index_lengths (drop n index))
 inside_first place m lengths n index_lengths index none =
-    let both = neither (first_outside place m (take n index)) (outside_from (place + n) lengths index_lengths (drop n index)) none in
-    (all_inside place m (take n index) both.0, both.1)
+    let both = neither (first_outside place m (take n index)) (outside_from (place + n) lengths index_lengths (drop n index)) (sym none) in
+    (all_inside place m (take n index) (sym both.0), sym both.1)

@@ -11,7 +11,7 @@ use Rattle.cvl_base.specs.Packs.{count_of}
 use Rattle.cvl_base.specs.Permutes.{all_destinations, flagged_destinations, first_fault, destination_if, wrongs}
 use Rattle.permute_walks.specs.Indices.{first_outside, outside}
 use Rattle.permute_walks.specs.Senders.{senders_of}
-use Rattle.permute_walks.proofs.Sent.{length-all_destinations, length-flagged_destinations}
+use Rattle.cvl_base.proofs.Permutes.{length-all_destinations, length-flagged_destinations}
 use Rattle.segmented_permutes.specs.Backs.{outside_from}
 use Rattle.segmented_permutes.specs.FlatIndices.{flat_index, flat_indices}
 use Rattle.segmented_permutes.specs.Parts.{fault_from, flagged_parts, parts_of, places_in, senders_from, destinations_in}

@@ -15,7 +15,8 @@ use Rattle.cvl_base.specs.Permutes.{first_fault, is_destination, wrong_at, wrong
 use Rattle.segmented_permutes.specs.FlatIndices.{flat_index}
 use Rattle.segmented_permutes.specs.Parts.{fault_from, places_in, senders_from}
 use Rattle.permute_walks.specs.Senders.{nobody, sender_from, senders_of}
-use Rattle.permute_walks.proofs.Sent.{length-wrongs, wrong_here}
+use Rattle.permute_walks.proofs.Listed.{range_both}
+use Rattle.permute_walks.proofs.Sent.{length-wrongs, sender_after, wrong_here}
 use Rattle.cvl_base.proofs.Lists.{sum-cons}
 
 -- ---- the flat destinations
@@ -173,16 +174,7 @@ fault_flat parts whole same =
 
 -- ---- the senders
 
--- the first list has no destination there
-sender_after : (place d : ℕ) (ts us : List (Option ℤ)) → list_any (is_destination (pos d)) ts ≡ false → sender_from place (ts ++ us) d ≡ sender_from (place + length ts) us d
-sender_after place d [] us none = ap (λ p. sender_from p us d) (omega arith)
-sender_after place d (t ∷ ts) us none =
-    let both = or_parts (is_destination (pos d) t) (list_any (is_destination (pos d)) ts) none in
-    ap (λ b. if b then place else sender_from (place + 1) (ts ++ us) d) both.0
-    ∙ sender_after (place + 1) d ts us both.1
-    ∙ ap (λ p. sender_from p us d) (omega arith)
-
--- the second has none
+-- none of them is a destination there
 sender_none : (place d : ℕ) (us : List (Option ℤ)) → list_any (is_destination (pos d)) us ≡ false → sender_from place us d ≡ nobody
 sender_none place d [] none = refl
 sender_none place d (u ∷ us) none =
@@ -202,18 +194,6 @@ range_same f g a b n each =
     let within : e < n = omega (arith, lt, length-map-range_with_len f a n) in
     get_or-map-range_with_len f a n e (a + e) 0 within refl ∙ each e within ∙ sym (get_or-map-range_with_len g b n e (b + e) 0 within refl))
 
-range_split : (a n k : ℕ) → range_with_len a (n + k) ≡ range_with_len a n ++ range_with_len (a + n) k
-range_split a zero k =
-    let none : 0 + k ≡ k = omega arith in
-    let same : a ≡ a + 0 = omega arith in
-    ap (range_with_len a) none ∙ ap (λ b. range_with_len b k) same
-range_split a (suc n) k =
-    let more : suc n + k ≡ suc (n + k) = omega arith in
-    let same : a + 1 + n ≡ a + suc n = omega arith in
-    ap (range_with_len a) more
-    ∙ ap (λ rest. a ∷ rest) (range_split (a + 1) n k)
-    ∙ ap (λ b. range_with_len a (suc n) ++ range_with_len b k) same
-
 senders_on : (place start : ℕ) (parts : List (ℕ × List (Option ℤ))) → map (sender_from place (flat_destinations start parts)) (range_with_len start (places_in parts)) ≡ senders_from place parts
 senders_on place start [] = refl
 senders_on place start ((m, ts) ∷ parts) =
@@ -222,7 +202,7 @@ senders_on place start ((m, ts) ∷ parts) =
     let send = sender_from place (flat ++ others) in
     let from_0 = λ (e : ℕ). (let same : 0 + e ≡ e = omega arith in same) in
     ap (λ n. map send (range_with_len start n)) (sum-cons m (map (λ (p : ℕ × List (Option ℤ)). p.0) parts))
-    ∙ ap (map send) (range_split start m (places_in parts))
+    ∙ ap (map send) (range_both start m (places_in parts))
     ∙ map-append send (range_with_len start m) (range_with_len (start + m) (places_in parts))
     ∙ (λ i. range_same send (sender_from place ts) start 0 m (λ e lt.
     sender_in start m e others place ts lt (before_parts (start + m) (start + e) parts (omega (arith, lt))) ∙ ap (sender_from place ts) (sym (from_0 e))) i

@@ -3,7 +3,6 @@ use Rattle.std.proofs.Common.{◌≡◌, ◌∙◌, ℕ, ◌+◌, ◌≤◌, Lis
 use Rattle.std.proofs.Common.{None, Result, Ok, Err}
 use Rattle.std.specs.List.{zip, range_with_len, enumerate_from}
 use Rattle.std.specs.Option.{option_or}
-use Rattle.std.proofs.lemmas.List.{map-append}
 use Rattle.std.proofs.lemmas.List.Elements.{filter_map-append}
 use Rattle.cvl_base.specs.declared.fault.Fault.{Fault}
 use Rattle.cvl_base.specs.declared.fault.FaultNo.{FaultNo}
@@ -16,6 +15,7 @@ use Rattle.segmented_permutes.specs.Parts.{fault_from, senders_from}
 use Rattle.permute_walks.specs.Senders.{nobody, senders_of}
 use Rattle.permute_walks.proofs.Sent.{length-senders_of}
 use Rattle.permute_walks.proofs.Taken.{taken_sent, taken_over}
+use Rattle.permute_walks.proofs.Written.{written_both}
 
 -- ---- faults at their places in the whole
 
@@ -39,12 +39,6 @@ in_front to None None r later (Ok rs) is = let same : joined rs ≡ later = cc i
 in_front to None None r later (Err e) is = cc
 in_front to None (Some f) r later (Ok rs) is = cc
 in_front to None (Some f) r later (Err e) is = is
-
-zip-joined : {A B : Type 0} (xs us : List A) (ys vs : List B) → length xs ≡ length ys → zip (xs ++ us) (ys ++ vs) ≡ zip xs ys ++ zip us vs
-zip-joined [] us [] vs same = refl
-zip-joined [] us (y ∷ ys) vs same = absurd (omega arith)
-zip-joined (x ∷ xs) us [] vs same = absurd (omega arith)
-zip-joined (x ∷ xs) us (y ∷ ys) vs same = ap (λ rest. (x, y) ∷ rest) (zip-joined xs us ys vs (omega arith))
 
 -- ---- a segment's elements are ys, after `before` and in front of `behind`
 
@@ -93,5 +87,4 @@ module _ {X : Type 0} (lengths : List ℕ) (s start n : ℕ) (result : Result (L
       ∙ ap (λ xs. map (read whole) (zip (senders_of start ts (length first_defaults)) first_defaults) ++ map (read xs) (zip (senders_from (start + n) parts) other_defaults)) again
       ∙ ap (λ k. map (read whole) (zip (senders_of start ts (length first_defaults)) first_defaults) ++ map (read whole) (zip (senders_from (start + k) parts) other_defaults)) (sym as_long)
       ∙ ap (λ w. map (read whole) (zip (senders_of start ts w) first_defaults) ++ map (read whole) (zip (senders_from (start + length ts) parts) other_defaults)) (sym wide)
-      ∙ sym (map-append (read whole) (zip (senders_of start ts m) first_defaults) (zip (senders_from (start + length ts) parts) other_defaults))
-      ∙ ap (map (read whole)) (sym (zip-joined (senders_of start ts m) (senders_from (start + length ts) parts) first_defaults other_defaults (length-senders_of start ts m ∙ wide))))
+      ∙ written_both whole (senders_of start ts m) (senders_from (start + length ts) parts) first_defaults other_defaults (length-senders_of start ts m ∙ wide))

@@ -19,7 +19,8 @@ use Rattle.segdes.specs.Starts.{start_of}
 use Rattle.permute_walks.specs.Senders.{senders_of, written_over}
 use Rattle.permute_walks.proofs.EachSent.{all_take_part, each_sent}
 use Rattle.permute_walks.proofs.Scattered.{written_all}
-use Rattle.permute_walks.proofs.Sent.{length-all_destinations, length-senders_of}
+use Rattle.cvl_base.proofs.Permutes.{length-all_destinations}
+use Rattle.permute_walks.proofs.Sent.{length-senders_of}
 use Rattle.permute_walks.proofs.Taken.{taken_flat, taken_sent}
 use Rattle.segmented_permutes.specs.Parts.{destinations_in, fault_from, parts_of, places_in, senders_from}
 use Rattle.segmented_permutes.specs.Shares.{AreRight, part_at, permuted}

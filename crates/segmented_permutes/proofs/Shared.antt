@@ -13,7 +13,7 @@ use Rattle.cvl_base.specs.Limits.{most_elements}
 use Rattle.cvl_base.specs.Permutes.{first_fault, wrongs}
 use Rattle.cvl_base.proofs.Lists.{sum-cons}
 use Rattle.fresh.specs.Parts.{part, length_part}
-use Rattle.fresh.specs.Places.{IsAllOf, Site, Stretch, stretch, with_items}
+use Rattle.fresh.specs.Places.{Stretch, stretch, with_items}
 use Rattle.fresh.proofs.Halves.{part_map, parts_both}
 use Rattle.fresh.proofs.Zips.{part_zip}
 use Rattle.permute_walks.specs.Senders.{senders_of, written_over}

@@ -17,7 +17,8 @@ use Rattle.segmented_permutes.specs.Parts.{fault_from, flagged_parts, parts_of, 
 use Rattle.permute_walks.specs.Senders.{nobody, senders_of}
 use Rattle.cvl_base.proofs.Nests.{cut_at, length-cut}
 use Rattle.cvl_base.proofs.Lists.{sum-cons}
-use Rattle.permute_walks.proofs.Sent.{length-senders_of, length-all_destinations, count-flagged_destinations}
+use Rattle.cvl_base.proofs.Permutes.{length-all_destinations}
+use Rattle.permute_walks.proofs.Sent.{length-senders_of, count-flagged_destinations}
 
 -- the first s parts are done: their destinations end at the place given, and their part of the result at `start`
 pub record IsSentThrough (parts : List (ℕ × List (Option ℤ))) (place start s : ℕ) (senders : List ℕ) : Type 0 where

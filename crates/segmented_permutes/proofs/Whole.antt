@@ -24,7 +24,7 @@ use Rattle.cvl_base.proofs.Nests.{length-cut, nest-fits}
 use Rattle.cvl_base.proofs.Lists.{sum-cons}
 use Rattle.permutes.proofs.Flat.{if_as_long-fits}
 use Rattle.segmented_permutes.proofs.Joined.{front_taken, front_over}
-use Rattle.permute_walks.proofs.Sent.{length-all_destinations, length-flagged_destinations}
+use Rattle.cvl_base.proofs.Permutes.{length-all_destinations, length-flagged_destinations}
 
 -- the lengths that are left, after one more
 pub left_more : (lengths : List ℕ) (s n : ℕ) (others : List ℕ) → drop s lengths ≡ n ∷ others → (drop (s + 1) lengths ≡ others) × (sum (take (s + 1) lengths) ≡ sum (take s lengths) + n)

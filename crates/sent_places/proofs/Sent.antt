@@ -1,38 +1,26 @@
 -- The walk that sends places to their destinations: what it has found after the first places, and after all.
 use Rattle.std.proofs.Common.{◌≡◌, ◌∙◌, ℕ, zero, suc, ◌+◌, ◌<◌, ◌≤◌, Bool, true, false, not, ◌||◌, if◌then◌else◌, List, [], ◌∷◌, ◌++◌, length, map, take, drop, get_or, min, set, replicate, refl, sym}
-use Rattle.std.proofs.Common.{ap, add-one, arith, inl, inr, eqb, ltb, ℤ, pos, negsuc, unsigned_abs, option_map, Option, Some, None, Result}
+use Rattle.std.proofs.Common.{ap, arith, inl, inr, eqb, ltb, ℤ, pos, negsuc, unsigned_abs, option_map, Option, Some, None, Result}
 use Rattle.std.specs.List.{zip, list_any, range_with_len}
 use Rattle.std.specs.Ordering.{int_eq}
 use Rattle.std.proofs.lemmas.Bool.{ltb-true, eqb-true, or_parts, false_from_ne_true}
 use Rattle.std.proofs.lemmas.Bool.Decides.{eqb_tells, Decides-int_eq}
-use Rattle.std.proofs.lemmas.List.{ext_get_or, get_or-map, get_or-set_same, get_or-set_other, length-map, length-set, length-take, take_more, take_all, drop_all}
+use Rattle.std.proofs.lemmas.List.{ext_get_or, get_or-map, get_or-set_same, get_or-set_other, length-map, length-set, length-take, take_more, take_all, at_drop_more, drop_all}
 use Rattle.std.proofs.lemmas.List.FromFn.{length-map-range_with_len, get_or-map-range_with_len}
 use Rattle.std.proofs.lemmas.Slice.Zip.{get_or-zip, length-zip}
-use Rattle.std.proofs.lemmas.Option.{none-some}
+use Rattle.std.proofs.lemmas.Option.{get_or_from_slice_get, none-some}
 use Rattle.std.proofs.lemmas.Result.{err_from_is_err_and}
 use Rattle.std.specs.Result.{IsErrAnd}
-use Rattle.std.proofs.Math.Seq.{drop-cons}
 use Rattle.cvl_base.specs.declared.fault.Fault.{Fault}
 use Rattle.cvl_base.specs.declared.fault.FaultNo.{FaultNo}
 use Rattle.cvl_base.specs.declared.fault.FaultNo.TheVariants.{IndexOutOfRange, IndexRepeated}
 use Rattle.cvl_base.specs.Faults.{fault_at}
 use Rattle.cvl_base.specs.Folds.{fronts}
-use Rattle.cvl_base.specs.Permutes.{all_destinations, first_fault, flagged_destinations, is_destination, destination_if, wrong_at, wrongs}
+use Rattle.cvl_base.proofs.FoldLaws.{length-fronts, slice_get-fronts}
+use Rattle.cvl_base.specs.Permutes.{first_fault, flagged_destinations, is_destination, destination_if, wrong_at, wrongs}
 use Rattle.sent_places.specs.Senders.{nobody, sender_from, senders_of, fault_told, wrong_with}
 
 -- ---- what is wrong with a place
-
-pub length-fronts : {X : Type 0} (xs : List X) → length (fronts xs) ≡ length xs
-length-fronts [] = refl
-length-fronts (x ∷ xs) = let rest = length-fronts xs in omega (arith, length-map (fronts xs) (λ front. x ∷ front))
-
-get_or-fronts : {X : Type 0} (xs : List X) (k : ℕ) → k < length xs → get_or (fronts xs) k [] ≡ take k xs
-get_or-fronts [] k lt = absurd (omega arith)
-get_or-fronts (x ∷ xs) zero lt = refl
-get_or-fronts (x ∷ xs) (suc k) lt =
-    let below : k < length xs = omega arith in
-    get_or-map (λ front. x ∷ front) (fronts xs) k [] [] (omega (arith, length-fronts xs))
-    ∙ ap (λ front. x ∷ front) (get_or-fronts xs k below)
 
 pub length-wrongs : (m : ℕ) (ts : List (Option ℤ)) → length (wrongs m ts) ≡ length ts
 length-wrongs m ts =
@@ -43,23 +31,20 @@ wrong_here m ts k lt =
     let long : length (fronts ts) ≡ length ts = length-fronts ts in
     get_or-map (λ (p : List (Option ℤ) × Option ℤ). wrong_at m p.0 p.1) (zip (fronts ts) ts) k ([], None) None (omega (arith, length-zip (fronts ts) ts))
     ∙ ap (λ (p : List (Option ℤ) × Option ℤ). wrong_at m p.0 p.1) (get_or-zip (fronts ts) ts k ([], None) (omega arith) lt)
-    ∙ ap (λ front. wrong_at m front (get_or ts k None)) (get_or-fronts ts k lt)
+    ∙ ap (λ front. wrong_at m front (get_or ts k None)) (get_or_from_slice_get (fronts ts) k (take k ts) [] (slice_get-fronts ts k lt))
 
 -- ---- the first fault, where no place before k is bad
 
-pub uncons : {X : Type 0} (xs : List X) (k : ℕ) (x : X) → k < length xs → drop k xs ≡ get_or xs k x ∷ drop (k + 1) xs
-uncons xs k x lt = rw (add-one) (drop-cons xs k x lt)
-
 first_fault-past : (place : ℕ) (ws : List (Option FaultNo)) (k : ℕ) → k < length ws → get_or ws k None ≡ None → first_fault (place + k) (drop k ws) ≡ first_fault (place + (k + 1)) (drop (k + 1) ws)
 first_fault-past place ws k lt none =
-    ap (first_fault (place + k)) (uncons ws k None lt)
+    at_drop_more (first_fault (place + k)) ws k None lt
     ∙ ap (λ w. first_fault (place + k) (w ∷ drop (k + 1) ws)) none
     ∙ ap (λ p. first_fault p (drop (k + 1) ws)) (omega arith)
 
 first_fault-here : (place : ℕ) (ws : List (Option FaultNo)) (k : ℕ) (number : FaultNo) → k < length ws → get_or ws k None ≡ Some number → first_fault (place + k) (drop k ws)
     ≡ Some (fault_at number (place + k))
 first_fault-here place ws k number lt some =
-    ap (first_fault (place + k)) (uncons ws k None lt) ∙ ap (λ w. first_fault (place + k) (w ∷ drop (k + 1) ws)) some
+    at_drop_more (first_fault (place + k)) ws k None lt ∙ ap (λ w. first_fault (place + k) (w ∷ drop (k + 1) ws)) some
 
 -- ---- senders
 
@@ -78,12 +63,16 @@ sender-other : (place : ℕ) (ts : List (Option ℤ)) (t : Option ℤ) (d : ℕ)
 sender-other place [] t d other = ap (λ b. if b then place else nobody) other
 sender-other place (u ∷ ts) t d other = ap (λ rest. if is_destination (pos d) u then place else rest) (sender-other (place + 1) ts t d other)
 
+-- none of the first destinations is d
+pub sender_after : (place d : ℕ) (ts us : List (Option ℤ)) → list_any (is_destination (pos d)) ts ≡ false → sender_from place (ts ++ us) d ≡ sender_from (place + length ts) us d
+sender_after place d [] us none = ap (λ p. sender_from p us d) (omega arith)
+sender_after place d (t ∷ ts) us none =
+    let both = or_parts (is_destination (pos d) t) (list_any (is_destination (pos d)) ts) none in
+    ap (λ b. if b then place else sender_from (place + 1) (ts ++ us) d) both.0 ∙ sender_after (place + 1) d ts us both.1 ∙ ap (λ p. sender_from p us d) (omega arith)
+
 -- one more destination, that is d where none was before
 sender-found : (place : ℕ) (ts : List (Option ℤ)) (t : Option ℤ) (d : ℕ) → list_any (is_destination (pos d)) ts ≡ false → is_destination (pos d) t ≡ true → sender_from place (ts ++ t ∷ []) d ≡ place + length ts
-sender-found place [] t d none found = ap (λ b. if b then place else nobody) found ∙ omega arith
-sender-found place (u ∷ ts) t d none found =
-    let parts = or_parts (is_destination (pos d) u) (list_any (is_destination (pos d)) ts) none in
-    ap (λ b. if b then place else sender_from (place + 1) (ts ++ t ∷ []) d) parts.0 ∙ sender-found (place + 1) ts t d parts.1 found ∙ omega arith
+sender-found place ts t d none found = sender_after place d ts (t ∷ []) none ∙ ap (λ b. if b then place + length ts else nobody) found
 
 pub length-senders_of : (place : ℕ) (ts : List (Option ℤ)) (m : ℕ) → length (senders_of place ts m) ≡ m
 length-senders_of place ts m = length-map-range_with_len (sender_from place ts) 0 m
@@ -216,9 +205,6 @@ sent_all place ts m k senders to ge = (
 
 -- ---- the destinations of the indices
 
-pub length-all_destinations : (index : List ℤ) → length (all_destinations index) ≡ length index
-length-all_destinations index = length-map index (λ i. Some i)
-
 -- where there are fewer flags than indices, or more, the places that have both
 pub count-flagged_destinations : (index : List ℤ) (flags : List Bool) → length (flagged_destinations index flags) ≡ min (length index) (length flags)
 count-flagged_destinations index flags =
@@ -229,9 +215,6 @@ pub flagged-destination : (index : List ℤ) (flags : List Bool) (k : ℕ) → k
 flagged-destination index flags k lt flagged =
     get_or-map (λ (p : ℤ × Bool). destination_if p.0 p.1) (zip index flags) k (pos 0, false) None (omega (arith, length-zip index flags))
     ∙ ap (λ (p : ℤ × Bool). destination_if p.0 p.1) (get_or-zip index flags k (pos 0, false) lt flagged)
-
-pub length-flagged_destinations : (index : List ℤ) (flags : List Bool) → length index ≡ length flags → length (flagged_destinations index flags) ≡ length index
-length-flagged_destinations index flags long = omega (arith, count-flagged_destinations index flags)
 
 -- the fault of a `?` is told again
 pub told_again : {T : Type 0} (r : Result T Fault) (f : Fault) → IsErrAnd r (λ y. y ≡ f) → fault_told r ≡ Some f

@@ -1,12 +1,13 @@
 -- The walk that stores places at their destinations: how many places then have a sender tells whether a destination was bad.
-use Rattle.std.proofs.Common.{◌≡◌, ◌∙◌, ℕ, zero, suc, ◌+◌, ◌<◌, ◌≤◌, Bool, true, false, not, if◌then◌else◌, cond, List, ◌∷◌, drop, length, get_or, set, replicate}
+use Rattle.std.proofs.Common.{◌≡◌, ◌∙◌, ℕ, ◌+◌, ◌<◌, ◌≤◌, Bool, true, false, not, if◌then◌else◌, cond, List, ◌∷◌, drop, length, get_or, set, replicate}
 use Rattle.std.proofs.Common.{refl, sym, ap, subst, arith, eqb, ltb, ℤ, pos, negsuc, w32}
 use Rattle.std.proofs.Common.{to_z, of_z, FitsSigned, Option, Some, None}
 use Rattle.std.specs.List.{sum_by}
 use Rattle.std.proofs.lemmas.Bool.{lt-ltb, ne_eqb, false≢true}
 use Rattle.std.proofs.lemmas.Int.{ints, to_z-of_z}
-use Rattle.std.proofs.lemmas.List.{length-set, length-replicate}
-use Rattle.std.proofs.lemmas.List.Sums.{sum_by-cons, sum_by-set}
+use Rattle.std.proofs.lemmas.List.{at_drop_more, length-set, length-replicate}
+use Rattle.std.proofs.lemmas.List.Folds.{sum_by-replicate}
+use Rattle.std.proofs.lemmas.List.Sums.{sum_by-set}
 use Rattle.std.proofs.lemmas.Option.{none-some}
 use Rattle.cvl_base.specs.declared.fault.FaultNo.{FaultNo}
 use Rattle.cvl_base.specs.declared.fault.FaultNo.TheVariants.{IndexOutOfRange, IndexRepeated}
@@ -14,15 +15,14 @@ use Rattle.cvl_base.specs.Faults.{fault_at}
 use Rattle.cvl_base.specs.Limits.{most_elements}
 use Rattle.cvl_base.specs.Permutes.{first_fault, is_place, wrongs}
 use Rattle.sent_places.specs.Senders.{IsStored, count_sent, nobody, wrong_with}
-use Rattle.sent_places.proofs.Sent.{IsSentTo, sent_none, sent_more, skip_more, sent_all, found_here, length-wrongs, right_tests, uncons}
+use Rattle.sent_places.proofs.Sent.{IsSentTo, sent_none, sent_more, skip_more, sent_all, found_here, length-wrongs, right_tests}
 
 -- 1 where somebody is the sender
 abbrev pub is_sent : ℕ → ℕ
 is_sent s = cond (not (eqb s nobody)) 1 0
 
 pub none_sent : (m : ℕ) → sum_by is_sent (replicate m nobody) ≡ 0
-none_sent zero = refl
-none_sent (suc m) = omega (arith, sum_by-cons is_sent nobody (replicate m nobody), none_sent m)
+none_sent m = omega (arith, sum_by-replicate is_sent m nobody)
 
 first_right : (place : ℕ) (w : Option FaultNo) (ws : List (Option FaultNo)) → None ≡ first_fault place (w ∷ ws) → w ≡ None
 first_right place None ws right = refl
@@ -33,7 +33,7 @@ right_here : (place : ℕ) (ts : List (Option ℤ)) (m k : ℕ) (senders : List 
     → IsSentTo place ts m k senders → k < length ts → get_or (wrongs m ts) k None ≡ None
 right_here place ts m k senders right to lt =
     first_right (place + k) (get_or (wrongs m ts) k None) (drop (k + 1) (wrongs m ts))
-    (right ∙ to.fault_is ∙ ap (first_fault (place + k)) (uncons (wrongs m ts) k None (omega (arith, length-wrongs m ts))))
+    (right ∙ to.fault_is ∙ at_drop_more (first_fault (place + k)) (wrongs m ts) k None (omega (arith, length-wrongs m ts)))
 
 -- what the walk leaves after the first k places, where so many were sent
 pub record IsStoredTo (place : ℕ) (ts : List (Option ℤ)) (m k sent : ℕ) (senders : List ℕ) : Type 0 where

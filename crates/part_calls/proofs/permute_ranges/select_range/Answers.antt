@@ -1,5 +1,5 @@
 use Rattle.std.proofs.Common.{◌∙◌, Ok, arith, sym}
-use Rattle.permute_walks.proofs.Sent.{length-flagged_destinations}
+use Rattle.cvl_base.proofs.Permutes.{length-flagged_destinations}
 use Rattle.part_calls.proofs.Ranged.{select_written}
 use Rattle.part_calls.proofs.permute_ranges.select_range.Goals as goal
 

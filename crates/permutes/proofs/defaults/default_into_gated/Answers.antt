@@ -1,6 +1,6 @@
 use Rattle.std.proofs.Common.{arith, subst, sym}
 use Rattle.cvl_base.specs.Gives.{Gives}
-use Rattle.permute_walks.proofs.Sent.{length-all_destinations}
+use Rattle.cvl_base.proofs.Permutes.{length-all_destinations}
 use Rattle.permutes.proofs.Flat.{default-meaning}
 use Rattle.permutes.proofs.defaults.default_into_gated.Goals as goal
 

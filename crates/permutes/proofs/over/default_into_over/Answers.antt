@@ -2,7 +2,8 @@ use Rattle.std.proofs.Common.{Vec, arith, length, subst, sym, vec_len}
 use Rattle.cvl_base.specs.Permutes.{all_destinations, first_fault, wrongs}
 use Rattle.cvl_base.specs.Rooms.{OverwritesOr, in_room}
 use Rattle.permute_walks.specs.Senders.{senders_of}
-use Rattle.permute_walks.proofs.Sent.{length-all_destinations, length-senders_of}
+use Rattle.cvl_base.proofs.Permutes.{length-all_destinations}
+use Rattle.permute_walks.proofs.Sent.{length-senders_of}
 use Rattle.permutes.proofs.Flat.{default-meaning}
 use Rattle.permutes.proofs.Walked.{length_given}
 use Rattle.permutes.proofs.over.default_into_over.Goals as goal

@@ -3,7 +3,7 @@ use Rattle.cvl_base.specs.declared.refused.Refused.TheVariants as refused
 use Rattle.cvl_base.specs.Permutes.{all_destinations, first_fault, wrongs}
 use Rattle.cvl_base.specs.Rooms.{OverwritesOr, in_room}
 use Rattle.permute_walks.specs.Senders.{senders_of}
-use Rattle.permute_walks.proofs.Sent.{length-all_destinations}
+use Rattle.cvl_base.proofs.Permutes.{length-all_destinations}
 use Rattle.permutes.proofs.Flat.{simple-meaning}
 use Rattle.permutes.proofs.Roomed.{permuted_differs, permuted_fits, told_or}
 use Rattle.permutes.proofs.Walked.{simple_sent}

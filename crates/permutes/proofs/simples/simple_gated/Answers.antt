@@ -1,5 +1,5 @@
 use Rattle.std.proofs.Common.{arith, vec_len}
-use Rattle.permute_walks.proofs.Sent.{length-all_destinations}
+use Rattle.cvl_base.proofs.Permutes.{length-all_destinations}
 use Rattle.permutes.proofs.Called.{simple_gives, simple_long}
 use Rattle.permutes.proofs.simples.simple_gated.Goals as goal
 

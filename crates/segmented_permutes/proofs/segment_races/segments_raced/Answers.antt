@@ -1,7 +1,7 @@
 use Rattle.std.proofs.Common.{◌∙◌, ap, subst, sym, arith, length}
 use Rattle.cvl_base.specs.Gives.{Gives}
 use Rattle.cvl_base.specs.Permutes.{all_destinations}
-use Rattle.permute_walks.proofs.Sent.{length-all_destinations}
+use Rattle.cvl_base.proofs.Permutes.{length-all_destinations}
 use Rattle.segmented_permutes.specs.Parts.{parts_of}
 use Rattle.segmented_permutes.proofs.FlatIndices.{length-flat_indices, raced_flat, destinations_all}
 use Rattle.segmented_permutes.proofs.Through.{destinations-parts, places-parts}
