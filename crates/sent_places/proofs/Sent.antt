@@ -216,6 +216,8 @@ flagged-destination index flags k lt flagged =
     get_or-map (λ (p : ℤ × Bool). destination_if p.0 p.1) (zip index flags) k (pos 0, false) None (omega (arith, length-zip index flags))
     ∙ ap (λ (p : ℤ × Bool). destination_if p.0 p.1) (get_or-zip index flags k (pos 0, false) lt flagged)
 
+pub ruleset flagged = (count-flagged_destinations, flagged-destination)
+
 -- the fault of a `?` is told again
 pub told_again : {T : Type 0} (r : Result T Fault) (f : Fault) → IsErrAnd r (λ y. y ≡ f) → fault_told r ≡ Some f
 told_again r f is = let p = err_from_is_err_and r is in ap fault_told p.1 ∙ ap (λ y. Some y) p.2

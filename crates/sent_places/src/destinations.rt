@@ -56,11 +56,13 @@ impl<'a> Destinations for FlaggedDestinations<'a> {
     ghost destinations = { λ t. flagged_destinations t.index.now t.flags.now };
 
     #[inline]
+    #[tactic(auto, using(crate::proofs::Sent::flagged))]
     fn count(&self) -> usize {
         self.index.len().min(self.flags.len())
     }
 
     #[inline]
+    #[tactic(auto, using(crate::proofs::Sent::flagged))]
     fn at(&self, k: usize) -> (&i32, bool) {
         (&self.index[k], self.flags[k])
     }
