@@ -125,11 +125,11 @@ module _ (lengths : List ℕ) (index : List ℤ) (total : sum lengths ≡ length
       pub ys_long : length ys ≡ n
       ys_long = length-take-le (last - first) (drop first source) (omega (arith, width, room_within, is, sourced, length-drop first source)) ∙ width
 
-      pub js_long : length js ≡ n
-      js_long = length-take-le (last - first) (drop first index) (omega (arith, width, room_within, is, length-drop first index)) ∙ width
-
       js_are : js ≡ take (first + n - first) (drop first index)
       js_are = ap (λ k. take (k - first) (drop first index)) is
+
+      pub js_long : length js ≡ n
+      js_long = ap length js_are ∙ segment_long s lt first n there refl
 
       told : part_at parts s ≡ (n, all_destinations js)
       told = segment_is s lt first n there refl ∙ ap (λ xs. (n, all_destinations xs)) (sym js_are)
@@ -145,8 +145,7 @@ module _ (lengths : List ℕ) (index : List ℤ) (total : sum lengths ≡ length
 
       pub segment_right : None ≡ first_fault 0 (wrongs (length js) (all_destinations js))
       segment_right =
-          no_fault_at (0 + destinations_in (take s parts)) 0 (wrongs (part_at parts s).0 (part_at parts s).1) (each_right 0 parts right s in_parts)
-          ∙ (λ i. first_fault 0 (wrongs (told i).0 (told i).1)) ∙ ap (λ k. first_fault 0 (wrongs k (all_destinations js))) (sym js_long)
+          right_here s lt first n there refl right ∙ ap (λ xs. first_fault 0 (wrongs (length xs) (all_destinations xs))) (sym js_are)
 
       -- what it is sent
       sent : filter_map (slice_get ys) (senders_of 0 (all_destinations js) n) ≡ filter_map (slice_get source) (senders_of first (all_destinations js) n)

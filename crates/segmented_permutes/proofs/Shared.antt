@@ -2,11 +2,11 @@
 -- are one.
 use Rattle.std.proofs.Common.{◌≡◌, ◌∙◌, ℕ, zero, suc, ◌+◌, ◌-◌, ◌<◌, ◌≤◌, true, false, Bool, ◌&&◌, List, [], ◌∷◌, ◌++◌, length, map, sum, take, refl, sym, ap, arith, inl, inr, ℤ}
 use Rattle.std.proofs.Common.{slice_get, unwrap_or, length-append, Option, None}
-use Rattle.std.specs.List.{zip}
+use Rattle.std.specs.List.{sum_by, zip}
 use Rattle.std.specs.Option.{option_or}
 use Rattle.std.proofs.lemmas.Bool.{and_parts, false≢true}
 use Rattle.std.proofs.lemmas.Bool.Decides.{leb_tells}
-use Rattle.std.proofs.lemmas.List.{take-append-le, take_all}
+use Rattle.std.proofs.lemmas.List.{take-append-le, take_all, take-take}
 use Rattle.std.proofs.lemmas.List.Sums.{sum-map, sum_by_more, sum_by_more_le, sum_by-take-le}
 use Rattle.std.proofs.Math.Seq.{drop-append-add}
 use Rattle.cvl_base.specs.Limits.{most_elements}
@@ -38,13 +38,8 @@ module _ (f : ℕ × List (Option ℤ) → ℕ) (parts : List (ℕ × List (Opti
 
 -- an earlier segment does not stand behind a later one
 pub ahead_order : (f : ℕ × List (Option ℤ) → ℕ) (parts : List (ℕ × List (Option ℤ))) (a b : ℕ) → a ≤ b → sum (map f (take a parts)) ≤ sum (map f (take b parts))
-ahead_order f [] zero b le = omega arith
-ahead_order f [] (suc a) zero le = absurd (omega arith)
-ahead_order f [] (suc a) (suc b) le = omega arith
-ahead_order f (p ∷ parts) zero b le = omega arith
-ahead_order f (p ∷ parts) (suc a) zero le = absurd (omega arith)
-ahead_order f (p ∷ parts) (suc a) (suc b) le =
-    omega (arith, sum-cons (f p) (map f (take a parts)), sum-cons (f p) (map f (take b parts)), ahead_order f parts a b (omega arith))
+ahead_order f parts a b le =
+    omega (arith, sum-map f (take a parts), sum-map f (take b parts), ap (sum_by f) (take-take a b parts le), sum_by-take-le f (take b parts) a)
 
 -- the senders of a segment stand at its places
 senders_at : (place : ℕ) (parts : List (ℕ × List (Option ℤ))) (s : ℕ) → s < length parts
