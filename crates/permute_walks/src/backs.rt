@@ -33,6 +33,7 @@ fn check_each(index: &[i32], places: usize, first: usize) -> Result<(), Fault>
 
 /// The first walk, by at most `threads` threads: `IndexOutOfRange` at the first place whose index is none of so many places of
 /// the source. The first index stands at place `first`.
+#[tactic(auto, using(crate::proofs::Outside::none_outside))]
 pub fn check_places<R: Threads + Sync>(
     rt: &R,
     threads: ThreadCount,
@@ -53,6 +54,7 @@ pub fn check_places<R: Threads + Sync>(
 }
 
 /// The same as [`check_places`], by the thread that calls.
+#[tactic(auto, using(crate::proofs::Outside::none_outside))]
 pub fn check_places_alone(index: &[i32], places: usize, first: usize) -> Result<(), Fault>
     requires { first + length index.now ≤ most_elements }
     ensures { fault_told result ≡ first_outside first places index.now }

@@ -44,6 +44,7 @@ impl<'a, T: Copy> Writer<T> for ElementsOf<'a, T> {
 
 /// The element of each sender, in the order of the senders, where each is a place of the source. At most `threads` threads
 /// write them.
+#[tactic(auto, using(crate::proofs::Taken::taken_or))]
 pub fn elements_of<T: Copy + Send + Sync, R: Threads + Sync, A: Memory>(
     rt: &R,
     alloc: A,
@@ -67,6 +68,7 @@ pub fn elements_of<T: Copy + Send + Sync, R: Threads + Sync, A: Memory>(
 }
 
 /// The same as [`elements_of`], over a room of as many places, by the thread that calls.
+#[tactic(auto, using(crate::proofs::Taken::taken_or))]
 pub fn elements_of_over<T: Copy>(source: &[T], senders: &[u32], out: &mut [T])
     requires as_long { length out.old ≡ length senders.now }
     ensures { All (λ s. s < length source.now) senders.now → out.new ≡ filter_map (slice_get source.now) senders.now }
