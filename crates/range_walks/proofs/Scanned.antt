@@ -2,7 +2,8 @@
 use Rattle.std.proofs.Common.{◌≡◌, ℕ, ◌+◌, ◌<◌, ◌≤◌, List, length, take, drop, map, get_or, sym, ap, ◌∙◌, arith}
 use Rattle.std.proofs.lemmas.List.{drop-map, get_or-map, length-map, take-map, take_all}
 use Rattle.std.proofs.lemmas.List.Sums.{fold_more}
-use Rattle.cvl_base.specs.Folds.{fold_of}
+use Rattle.cvl_base.specs.Folds.{fold_of, scan_of}
+use Rattle.cvl_base.proofs.FoldLaws.{length-scan_of}
 
 module _ {Item : Type 0} (join : Item → Item → Item) where
   -- the step of the sum itself
@@ -25,6 +26,10 @@ pub joined_reading : {X Item : Type 0} (join : Item → Item → Item) (item : X
     → sum ≡ fold_of join before (take i (map item xs)) → next ≡ join sum (item x) → next ≡ fold_of join before (take (i + 1) (map item xs))
 joined_reading join item before sum next x xs i within is_x is_sum is_next =
     joined_more join before sum (item x) next (map item xs) i (length-read item xs i within) (ap item is_x ∙ sym (get_or-map item xs i x (item x) within)) is_sum is_next
+
+-- the scan of what they are read as
+pub length-scan_read : {X Item : Type 0} (join : Item → Item → Item) (item : X → Item) (before : Item) (xs : List X) → length (scan_of join before (map item xs)) ≡ length xs
+length-scan_read join item before xs = length-scan_of join before (map item xs) ∙ length-map xs item
 
 -- a part of them, read
 pub part_read : {X Item : Type 0} (item : X → Item) (n from : ℕ) (xs : List X) → map item (take n (drop from xs)) ≡ take n (drop from (map item xs))

@@ -3,8 +3,8 @@ use Rattle.std.specs.List.{AllPass}
 use Rattle.std.proofs.lemmas.List.{drop-map, length-map, take-map}
 use Rattle.std.proofs.lemmas.List.Elements.{All-drop}
 use Rattle.std.proofs.lemmas.List.Sums.{sum_by-drop_more}
-use Rattle.cvl_base.proofs.FoldLaws.{length-scan_of}
 use Rattle.cvl_base.specs.Folds.{scan_of}
+use Rattle.range_walks.proofs.Scanned.{length-scan_read}
 use Rattle.range_walks.proofs.Segments.{length_fits, segment_read, read_at}
 use Rattle.range_walks.proofs.Written.{scans_ended, scans_written}
 use Rattle.range_walks.proofs.ranges.scans_into.Goals as goal
@@ -26,7 +26,7 @@ loop-length-preserved g c =
     let cut : c.min.result ≡ min (read_at row s) (length rest) = c.min.ensures in
     let front = map item c.split_at.result.0.now in
     let left : c.scan_into-run.result.room ≡ c.loop-length.run.room - length (scan_of m.join c.unit.result front) = ap (λ r. r.room) c.scan_into-run.ensures in
-    let long : length (scan_of m.join c.unit.result front) ≡ length c.split_at.result.0.now = length-scan_of m.join c.unit.result front ∙ length-map c.split_at.result.0.now item in
+    let long : length (scan_of m.join c.unit.result front) ≡ length c.split_at.result.0.now = length-scan_read m.join item c.unit.result c.split_at.result.0.now in
     let cut_read : c.min.result ≡ min (read_at row s) (length (map item rest)) = omega (arith, cut, length-map rest item) in
     record {
       whole = scans_written m.join m.unit lengths c.loop-length.run c.scan_into-run.result _ (map item rest) _ _ c.unit.result s (read_at row s) c.min.result read.0 read.1 cut_read
