@@ -1,13 +1,14 @@
 -- The scans and reduces of segments, where the lengths fit the elements and where they don't.
 use Rattle.std.proofs.Common.{◌≡◌, ℕ, List, length, ap, ◌∙◌, Ok, Err}
 use Rattle.std.specs.Prelude.{sum}
+use Rattle.std.proofs.lemmas.List.{length-map}
 use Rattle.cvl_base.specs.declared.fault.Fault.{Fault}
 use Rattle.cvl_base.specs.Folds.{fold_of, scan_of}
 use Rattle.cvl_base.specs.Gives.{◌>>=◌}
 use Rattle.cvl_base.specs.Lists.{joined}
 use Rattle.cvl_base.specs.Nests.{cut_of, nest}
 use Rattle.cvl_base.specs.Segmented.{in_vector, one_each, end_to_end}
-use Rattle.cvl_base.proofs.Nests.{nest-fits}
+use Rattle.cvl_base.proofs.Nests.{length-cut, nest-fits}
 use Rattle.cvl_base.proofs.Segmented.{results-ok}
 use Rattle.cvl_base.specs.SegmentedCalls.{seg_scan_of, seg_reduce_of}
 use Rattle.range_walks.specs.Ranges.{scans_of, reduces_of}
@@ -22,6 +23,9 @@ module _ {Item : Type 0} (join : Item → Item → Item) (unit : Item) (xs : Lis
   seg_reduce-fits fits =
       ap (one_each (in_vector lengths) (λ ys. Ok (fold_of join unit ys))) (nest-fits lengths xs fits)
       ∙ results-ok (in_vector lengths) (fold_of join unit) 0 (cut_of lengths xs)
+
+  pub length-reduces_of : length (reduces_of join unit lengths xs) ≡ length lengths
+  length-reduces_of = length-map (cut_of lengths xs) (fold_of join unit) ∙ length-cut lengths xs
 
   pub seg_reduce-misfits : (f : Fault) → nest lengths xs ≡ Err f → seg_reduce_of join unit xs lengths ≡ Err f
   seg_reduce-misfits f misfits = ap (one_each (in_vector lengths) (λ ys. Ok (fold_of join unit ys))) misfits

@@ -1,11 +1,8 @@
-use Rattle.std.proofs.Common.{◌≡◌, ◌-◌, Ok, arith, drop, length, map, sym, ap, ◌∙◌}
+use Rattle.std.proofs.Common.{◌-◌, Ok, arith, drop, length, map, sym, ap, ◌∙◌}
 use Rattle.std.proofs.lemmas.List.{length-map, length-take, take_all}
-use Rattle.cvl_base.specs.Folds.{fold_of}
-use Rattle.cvl_base.specs.Nests.{cut_of}
-use Rattle.cvl_base.proofs.Nests.{length-cut}
 use Rattle.fresh.proofs.Written.{all_written}
 use Rattle.range_walks.specs.Ranges.{reduces_of}
-use Rattle.scan_walks.proofs.Segmented.{seg_reduce-fits}
+use Rattle.scan_walks.proofs.Segmented.{length-reduces_of, seg_reduce-fits}
 use Rattle.scan_walks.proofs.vectors.seg_reduce_vec.Goals as goal
 
 pub into_vec-requires : goal.into_vec-requires
@@ -21,7 +18,7 @@ returns-clause-values g c =
     let d = c.args.d.now in
     let xs = map g.E.Reading.item c.args.a.now in
     let whole = reduces_of m.join m.unit d xs in
-    let long : length whole ≡ length d = length-map (cut_of d xs) (fold_of m.join m.unit) ∙ length-cut d xs in
+    let long = length-reduces_of m.join m.unit xs d in
     let short = length-take (c.count-count.result - 0) (drop 0 whole) in
     seg_reduce-fits m.join m.unit xs d (c.in_ok-check_total.ensures.agrees ∙ sym (length-map c.args.a.now g.E.Reading.item))
     ∙ ap (λ sums. Ok sums) (sym (c.into_vec.ensures.items
@@ -34,7 +31,7 @@ returns-clause-one_each g c =
     let d = c.args.d.now in
     let xs = map g.E.Reading.item c.args.a.now in
     let whole = reduces_of m.join m.unit d xs in
-    let long : length whole ≡ length d = length-map (cut_of d xs) (fold_of m.join m.unit) ∙ length-cut d xs in
+    let long = length-reduces_of m.join m.unit xs d in
     let short = length-take (c.count-count.result - 0) (drop 0 whole) in
     let items = ap length ((all_written c.in_ok-room.room c.in_ok-room.run' c.seg_reduces_into.result _ _ c.in_ok-room.ensures.room c.in_ok-room.ensures.run c.seg_reduces_into.ensures (omega (arith, short))).1
     ∙ take_all (c.count-count.result - 0) whole (omega (arith, long, c.count-count.ensures.value))) in
