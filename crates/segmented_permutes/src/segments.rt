@@ -95,6 +95,7 @@ impl<'a, A: Memory> Parts for AllParts<'a, A> {
 
     ghost AreCut = { λ p. (sum p.d.now ≡ length p.index.now) × (length p.d.now ≡ length p.result_d.now) };
 
+    #[tactic(auto, using(crate::proofs::Through::each_long))]
     fn descriptor(&self) -> &SegDes<A> {
         self.d
     }
@@ -105,6 +106,7 @@ impl<'a, A: Memory> Parts for AllParts<'a, A> {
         (self.result_d.length(s), AllDestinations { index })
     }
 
+    #[tactic(auto, using(crate::proofs::Through::places_ahead))]
     fn places_before(&self, s: usize) -> usize {
         self.result_d.start_or_total(s)
     }
@@ -136,6 +138,7 @@ impl<'a, A: Memory> Parts for FlaggedParts<'a, A> {
     ghost AreCut = { λ p. (sum p.d.now ≡ length p.index.now) × (sum p.d.now ≡ length p.flags.now)
         × (length p.flags.now ≤ most_elements) };
 
+    #[tactic(auto, using(crate::proofs::Through::flagged_long))]
     fn descriptor(&self) -> &SegDes<A> {
         self.d
     }
@@ -148,6 +151,7 @@ impl<'a, A: Memory> Parts for FlaggedParts<'a, A> {
         (true_count(flags), FlaggedDestinations { index, flags })
     }
 
+    #[tactic(auto, using(crate::proofs::Through::start_within, crate::proofs::Through::flagged_places_ahead))]
     fn places_before(&self, s: usize) -> usize {
         let (flags, _) = self.flags.split_at(self.d.start_or_total(s));
         true_count(flags)
