@@ -11,7 +11,7 @@ ghost use Rattle.least_boards.specs.ClaimSteps.{ClaimGives};
 ghost use Rattle.status_word.specs.Passes.{first_pass, passes_joined, spent_pass, split_left, split_right};
 
 use crate::tiles::Tiles;
-use atomic_table::{Join, Play, Seat, Split, Table, TableRule};
+use atomic_table::{Join, Play, Split, TableRule};
 use cvl_base::{Monoid, Packed};
 use status_word::Pass;
 use std::marker::PhantomData;

@@ -12,7 +12,7 @@ use Rattle.least_boards.specs.LeastPasses.{lowest, lowest_of, no_place}
 
 -- ---- the places of one slot
 
-pub lows_most : (slot : ℕ) (xs : List Low) → lowest slot xs ≤ no_place
+lows_most : (slot : ℕ) (xs : List Low) → lowest slot xs ≤ no_place
 lows_most slot [] = omega arith
 lows_most slot (x ∷ xs) = let rest = lows_most slot xs in omega arith
 
