@@ -1,11 +1,10 @@
 use Rattle.std.proofs.Common.{◌∙◌, ◌≡◌, ◌+◌, ◌-◌, ◌++◌, ◌<◌, ℕ, Bool, true, false, cond, length, take, get_or, set, refl, sym, ap, arith, take_all}
-use Rattle.std.proofs.lemmas.List.{length-drop, length-set, length-take, take_more}
+use Rattle.std.proofs.lemmas.List.{length-drop, length-set, length-take}
 use Rattle.std.proofs.lemmas.List.Sums.{count_by-le-length}
 use Rattle.cvl_base.specs.Packs.{count_of}
 use Rattle.fresh.specs.Places.{stretch}
 use Rattle.pack_dist.specs.Kept.{kept_of}
 use Rattle.pack_dist.proofs.Packing.{block_more, count-split, counted, stored}
-use Rattle.pack_dist.proofs.Pushed.{pushed}
 use Rattle.pack_dist.proofs.kept_blocks.push_kept.Goals as goal
 use mir.Val.{bool_byte}
 
@@ -61,25 +60,6 @@ push-requires g c =
       c.loop-values.invariant.room,
       c.requires.room,
     )
-
-pub loop-place-preserved : goal.loop-place-preserved
-loop-place-preserved g c =
-    let place = c.loop-place.place in
-    let buffer = c.loop-k.buffer in
-    let x = c.index-buffer-place.result in
-    let some = c.split_at-in-loop-values.result.0.now in
-    let within : place < length buffer =
-    omega (
-      arith,
-      c.loop-place-test.true,
-      c.min-block.ensures,
-      c.split_at-in-loop-values.ensures.front_len,
-      c.loop-k.invariant.long,
-      c.loop-k.invariant.count,
-      count_by-le-length (λ flag. flag) (take c.loop-k.k some),
-      length-take c.loop-k.k some,
-    ) in
-    pushed c.loop-values.run c.loop-place.run c.push.new.self _ _ place (get_or buffer place x) c.loop-place.invariant c.push.ensures (take_more buffer place x within)
 
 pub loop-values-preserved : goal.loop-values-preserved
 loop-values-preserved g c =

@@ -1,6 +1,5 @@
-use Rattle.std.proofs.Common.{◌≡◌, ◌∙◌, ◌++◌, ◌-◌, [], ap, arith, length, sym}
-use Rattle.std.proofs.lemmas.List.Sums.{count_by-le-length}
-use Rattle.fresh.specs.Places.{Stretch, stretch, with_items}
+use Rattle.std.proofs.Common.{◌≡◌, ◌∙◌, ◌++◌, ◌-◌, ap, arith, length, sym}
+use Rattle.fresh.specs.Places.{stretch, with_items}
 use Rattle.fresh.proofs.Written.{all_written}
 use Rattle.cvl_base.specs.Packs.{count_of}
 use Rattle.pack_dist.specs.Kept.{kept_of}
@@ -15,12 +14,3 @@ into_vec-requires g c =
     let all = c.push_kept-run.result in
     let written : all ≡ with_items old kept = c.push_kept-run.ensures ∙ ap (λ n. stretch old.block old.first (old.items ++ kept) (old.room - n)) (sym long) in
     (all_written c.in_ok-room.room old all kept c.true_count.result c.in_ok-room.ensures.room c.in_ok-room.ensures.run written (omega (arith, long, c.true_count.ensures.value))).0
-
-pub returns-clause-no_longer : goal.returns-clause-no_longer
-returns-clause-no_longer g c =
-    let flags = c.args.flags.now in
-    let kept = kept_of c.args.values.now flags in
-    let old = c.in_ok-room.run' in
-    let none : old.items ≡ [] = ap (λ (r : Stretch _). r.items) c.in_ok-room.ensures.run in
-    let items : length c.push_kept-run.result.items ≡ length kept = ap (λ (r : Stretch _). length r.items) c.push_kept-run.ensures ∙ ap (λ xs. length (xs ++ kept)) none in
-    omega (arith, c.into_vec.ensures.len, items, length-kept c.args.values.now flags c.requires.as_long, count_by-le-length (λ flag. flag) flags, c.requires.as_long)

@@ -1,5 +1,5 @@
-use Rattle.std.proofs.Common.{◌≡◌, ◌∙◌, ◌++◌, Err, Ok, ap, arith, drop, length, refl, sym}
-use Rattle.cvl_base.proofs.Rooms.{at_front-fits, at_front-short}
+use Rattle.std.proofs.Common.{◌≡◌, ◌∙◌, Err, ap, arith, length, refl, sym}
+use Rattle.cvl_base.proofs.Rooms.{at_front-short}
 use Rattle.pack_dist.specs.Kept.{kept_of}
 use Rattle.pack_dist.proofs.Packing.{length-kept}
 use Rattle.pack_dist.proofs.packs.kept_over.Goals as goal
@@ -10,13 +10,3 @@ returns-then-kept-out g c =
     let count : c.true_count-kept.result ≡ length xs =
     c.true_count-kept.ensures.value ∙ sym (length-kept c.args.values.now c.args.flags.now c.requires.as_long) in
     ((at_front-short c.args.out.now xs (omega (arith, count, c.if-kept-out.true)) ∙ ap Err (sym c.new.ensures), refl), count)
-
-pub returns : goal.returns
-returns g c =
-    let room = c.args.out.now in
-    let xs = kept_of c.args.values.now c.args.flags.now in
-    let count : c.true_count-kept.result ≡ length xs =
-    c.true_count-kept.ensures.value ∙ sym (length-kept c.args.values.now c.args.flags.now c.requires.as_long) in
-    let front : xs ≡ c.write_kept.new.out = sym c.write_kept.ensures in
-    let rest : drop (length xs) room ≡ c.split_at_mut-front.result.1.now = ap (λ n. drop n room) (sym count) ∙ sym c.split_at_mut-front.ensures.back in
-    (at_front-fits room xs (omega (arith, count, c.if-kept-out.false)) ∙ (λ i. Ok (front i ++ rest i)), count)

@@ -1,11 +1,7 @@
 use Rattle.std.proofs.Common.{◌≡◌, ◌∙◌, ap, arith, length, sym}
-use Rattle.std.proofs.lemmas.List.Sums.{count_by-le-length}
 use Rattle.pack_dist.specs.Kept.{kept_of}
 use Rattle.pack_dist.proofs.Packing.{length-kept}
 use Rattle.pack_dist.proofs.packs.write_kept.Goals as goal
-
-pub fill_slice-requires-clause-fits : goal.fill_slice-requires-clause-fits
-fill_slice-requires-clause-fits g c = omega (arith, c.requires.fits, c.requires.few, count_by-le-length (λ flag. flag) c.args.flags.now)
 
 pub fill_slice-requires-clause-full : goal.fill_slice-requires-clause-full
 fill_slice-requires-clause-full g c = λ block run done.
