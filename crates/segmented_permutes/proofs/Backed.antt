@@ -19,7 +19,7 @@ use Rattle.permute_walks.specs.Indices.{AreInside, elements_at, first_outside}
 use Rattle.permute_walks.proofs.Outside.{values_unless, all_inside}
 use Rattle.segmented_permutes.specs.Backs.{outside_from, segments_at}
 use Rattle.cvl_base.proofs.Lists.{sum-cons}
-use Rattle.segmented_permutes.proofs.AllSent.{neither}
+use Rattle.segment_sends.proofs.AllSent.{neither}
 use Rattle.segmented_permutes.proofs.Whole.{beside-fits, left_more}
 
 -- ---- the definition

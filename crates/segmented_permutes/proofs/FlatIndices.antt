@@ -14,7 +14,7 @@ use Rattle.permute_walks.specs.Senders.{senders_of}
 use Rattle.cvl_base.proofs.Permutes.{length-all_destinations, length-flagged_destinations}
 use Rattle.segmented_permutes.specs.Backs.{outside_from}
 use Rattle.segmented_permutes.specs.FlatIndices.{flat_index, flat_indices}
-use Rattle.segmented_permutes.specs.Parts.{fault_from, flagged_parts, parts_of, places_in, senders_from, destinations_in}
+use Rattle.segment_sends.specs.Parts.{fault_from, flagged_parts, parts_of, places_in, senders_from, destinations_in}
 use Rattle.cvl_base.proofs.Lists.{sum-cons}
 use Rattle.segmented_permutes.proofs.Flattened.{fault_flat, first_fault-append, flat_destination, flat_destinations, senders_flat}
 

@@ -13,7 +13,7 @@ use Rattle.cvl_base.specs.declared.fault.FaultNo.{FaultNo}
 use Rattle.cvl_base.specs.declared.fault.FaultNo.TheVariants.{IndexOutOfRange, IndexRepeated}
 use Rattle.cvl_base.specs.Permutes.{first_fault, is_destination, wrong_at, wrongs}
 use Rattle.segmented_permutes.specs.FlatIndices.{flat_index}
-use Rattle.segmented_permutes.specs.Parts.{fault_from, places_in, senders_from}
+use Rattle.segment_sends.specs.Parts.{fault_from, places_in, senders_from}
 use Rattle.permute_walks.specs.Senders.{nobody, sender_from, senders_of}
 use Rattle.permute_walks.proofs.Listed.{range_both}
 use Rattle.permute_walks.proofs.Sent.{length-wrongs, sender_after, wrong_here}

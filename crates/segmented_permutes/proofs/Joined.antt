@@ -11,7 +11,7 @@ use Rattle.cvl_base.specs.Gives.{◌>>=◌, unless}
 use Rattle.cvl_base.specs.Lists.{joined}
 use Rattle.cvl_base.specs.Permutes.{first_fault, sent_to, wrongs}
 use Rattle.cvl_base.specs.Segmented.{in_vector, moved}
-use Rattle.segmented_permutes.specs.Parts.{fault_from, senders_from}
+use Rattle.segment_sends.specs.Parts.{fault_from, senders_from}
 use Rattle.permute_walks.specs.Senders.{nobody, senders_of}
 use Rattle.permute_walks.proofs.Sent.{length-senders_of}
 use Rattle.permute_walks.proofs.Taken.{taken_sent, taken_over}

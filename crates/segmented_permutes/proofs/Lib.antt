@@ -1,12 +1,7 @@
-pub mod AllSent
 pub mod Backed
 pub mod FlatIndices
 pub mod Flattened
 pub mod Joined
 pub mod Listed
-pub mod Ranges
 pub mod Runs
-pub mod Scatters
-pub mod Shared
-pub mod Through
 pub mod Whole

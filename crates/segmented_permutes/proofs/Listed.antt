@@ -9,7 +9,7 @@ use Rattle.permute_walks.proofs.Outside.{length-elements_at, part_at, part_insid
 use Rattle.segmented_permutes.specs.Backs.{IsSegmentedBack, lists_at, outside_from, segments_at}
 use Rattle.segmented_permutes.proofs.Backed.{inside_first}
 use Rattle.cvl_base.proofs.Lists.{sum-cons}
-use Rattle.segmented_permutes.proofs.Ranges.{length-range, range_is}
+use Rattle.segment_sends.proofs.Ranges.{length-range, range_is}
 
 part_of_front : {X : Type 0} (xs : List X) (n p k : ℕ) → p + k ≤ n → part (take n xs) p k ≡ part xs p k
 part_of_front xs n p k within =

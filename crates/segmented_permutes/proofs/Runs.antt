@@ -6,8 +6,8 @@ use Rattle.segdes.specs.Starts.{start_of}
 use Rattle.cvl_base.specs.declared.fault.Fault.{Fault}
 use Rattle.permute_walks.specs.Indices.{first_outside}
 use Rattle.segmented_permutes.specs.Backs.{outside_from}
-use Rattle.segmented_permutes.proofs.Ranges.{range_is}
-use Rattle.segmented_permutes.proofs.Through.{start_more}
+use Rattle.segment_sends.proofs.Ranges.{range_is}
+use Rattle.segment_sends.proofs.Through.{start_more}
 
 -- one more segment is looked at
 module _ (widths lengths : List ℕ) (index : List ℤ) (total : sum lengths ≡ length index) (count : length widths ≡ length lengths)

@@ -18,7 +18,7 @@ use Rattle.cvl_base.specs.Packs.{count_of}
 use Rattle.cvl_base.specs.Permutes.{all_destinations, back_of, default_of, first_fault, flagged_destinations, select_of, sent_over, sent_to, sent_to_all, simple_of, wrongs}
 use Rattle.cvl_base.specs.Segmented.{beside, end_to_end, in_vector, of_two, of_three, results_from}
 use Rattle.cvl_base.specs.SegmentedCalls.{seg_back_of, seg_default_of, seg_select_of, seg_simple_of}
-use Rattle.segmented_permutes.specs.Parts.{fault_from, flagged_parts, parts_of, senders_from}
+use Rattle.segment_sends.specs.Parts.{fault_from, flagged_parts, parts_of, senders_from}
 use Rattle.permute_walks.specs.Senders.{nobody}
 use Rattle.cvl_base.proofs.Nests.{length-cut, nest-fits}
 use Rattle.cvl_base.proofs.Lists.{sum-cons}

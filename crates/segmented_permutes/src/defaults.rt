@@ -5,12 +5,12 @@ ghost use Rattle.cvl_base.specs.Gives.{Gives};
 ghost use Rattle.cvl_base.specs.Limits.{most_elements};
 ghost use Rattle.cvl_base.specs.SegmentedCalls.{seg_default_of};
 
-use crate::segments::AllParts;
 use crate::sent::{permuted_segments, segment_senders};
 use crew::{Gate, OpenGate};
 use cvl_base::{Config, Memory, Refused, check_agree};
 use permutes::elements_or_defaults_found;
 use segdes::{SegDes, check_total};
+use segment_sends::AllParts;
 use std::thread::Threads;
 
 /// The default permute of each segment: `def_pez` and `def_peb`.

@@ -11,12 +11,12 @@ ghost use Rattle.cvl_base.specs.SegmentedCalls.{seg_back_of, seg_default_of, seg
 
 use crate::back_segments::{check_segments, segments_at_over};
 use crate::looks::ByCaller;
-use crate::segment_scatters::{are_permutations, scatter_segments_over};
-use crate::segments::{AllParts, FlaggedParts};
-use crate::sent_alone::segment_senders_alone;
 use cvl_base::{Fault, Memory, Refused, check_agree, true_count};
 use permutes::{take_or_default_over, take_over};
 use segdes::{SegDes, check_total};
+use segment_sends::{
+    AllParts, FlaggedParts, are_permutations, scatter_segments_over, segment_senders_alone,
+};
 use std::alloc::Allocator;
 
 /// The same as [`seg_simple`](crate::seg_simple), over a room.

@@ -7,14 +7,14 @@ ghost use Rattle.cvl_base.specs.Limits.{most_elements};
 ghost use Rattle.cvl_base.specs.Packs.{count_of};
 ghost use Rattle.segmented_permutes.specs.Backs.{outside_from};
 ghost use Rattle.segmented_permutes.specs.FlatIndices.{flat_index, flat_indices};
-ghost use Rattle.segmented_permutes.specs.Parts.{fault_from, flagged_parts, parts_of, places_in, senders_from, destinations_in};
+ghost use Rattle.segment_sends.specs.Parts.{fault_from, flagged_parts, parts_of, places_in, senders_from, destinations_in};
 
-use crate::segments::{AllParts, FlaggedParts, Parts, segment_count};
 use crew::Gate;
 use cvl_base::{Memory, NoResources, Refused, place_among};
 use permute_races::{check_indices_raced, senders_raced};
 use permute_walks::{AllDestinations, Destinations, FlaggedDestinations};
 use segdes::SegDes;
+use segment_sends::{AllParts, FlaggedParts, Parts, segment_count};
 use sharing::Pace;
 use std::alloc::Allocator;
 use std::thread::Threads;

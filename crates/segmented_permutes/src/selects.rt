@@ -5,12 +5,12 @@ ghost use Rattle.cvl_base.specs.Gives.{Gives};
 ghost use Rattle.cvl_base.specs.Limits.{most_elements};
 ghost use Rattle.cvl_base.specs.SegmentedCalls.{seg_select_of};
 
-use crate::segments::FlaggedParts;
 use crate::sent::{flagged_segment_senders, permuted_segments};
 use crew::{Gate, OpenGate};
 use cvl_base::{Config, Memory, Refused, true_count};
 use permutes::elements_found;
 use segdes::{SegDes, check_total};
+use segment_sends::FlaggedParts;
 use std::thread::Threads;
 
 /// The select permute of each segment: `sel_pez` and `sel_peb`.

@@ -3,17 +3,15 @@
 ghost use Rattle.std.specs.Prelude.{◌≡◌, ◌≤◌, IfOk, IfSome, None, Ok, length, sum, vec_len};
 ghost use Rattle.cvl_base.specs.Gives.{Gives, unless};
 ghost use Rattle.cvl_base.specs.Limits.{most_elements};
-ghost use Rattle.segmented_permutes.specs.Parts.{destinations_in, fault_from, flagged_parts, parts_of, places_in, senders_from};
-ghost use Rattle.segmented_permutes.specs.Shares.{permuted};
+ghost use Rattle.segment_sends.specs.Parts.{destinations_in, fault_from, flagged_parts, parts_of, places_in, senders_from};
+ghost use Rattle.segment_sends.specs.Shares.{permuted};
 
 use crate::segment_races::{flagged_segments_raced, segments_raced};
-use crate::segment_walks::permuted_by_segments;
-use crate::segments::{AllParts, FlaggedParts, Parts};
-use crate::sent_alone::segment_senders_alone;
 use crew::Gate;
 use cvl_base::{Config, Memory, NoResources, Refused, true_count};
 use permute_races::permute_pace;
 use segdes::SegDes;
+use segment_sends::{AllParts, FlaggedParts, Parts, permuted_by_segments, segment_senders_alone};
 use sharing::threads_writing;
 use std::thread::Threads;
 

@@ -5,12 +5,12 @@ ghost use Rattle.cvl_base.specs.Gives.{Gives};
 ghost use Rattle.cvl_base.specs.Limits.{most_elements};
 ghost use Rattle.cvl_base.specs.SegmentedCalls.{seg_simple_of};
 
-use crate::segments::AllParts;
 use crate::sent::{permuted_segments, segment_senders};
 use crew::{Gate, OpenGate};
 use cvl_base::{Config, Memory, Refused};
 use permutes::elements_found;
 use segdes::{SegDes, check_total};
+use segment_sends::AllParts;
 use std::thread::Threads;
 
 /// The simple permute of each segment: `smp_pez` and `smp_peb`.

@@ -3,10 +3,10 @@ use Rattle.std.proofs.lemmas.Result.{err_from_is_err_and}
 use Rattle.cvl_base.specs.Gives.{Gives, unless}
 use Rattle.permutes.proofs.Called.{found_gives}
 use Rattle.permutes.proofs.Walked.{length_given}
-use Rattle.segmented_permutes.specs.Parts.{fault_from, parts_of, senders_from}
-use Rattle.segmented_permutes.specs.Shares.{permuted}
-use Rattle.segmented_permutes.proofs.Through.{destinations-parts, places-parts}
-use Rattle.segmented_permutes.proofs.AllSent.{length-senders}
+use Rattle.segment_sends.specs.Parts.{fault_from, parts_of, senders_from}
+use Rattle.segment_sends.specs.Shares.{permuted}
+use Rattle.segment_sends.proofs.Through.{destinations-parts, places-parts}
+use Rattle.segment_sends.proofs.AllSent.{length-senders}
 use Rattle.segmented_permutes.proofs.Whole.{seg_default-meaning, seg_default-differ}
 use Rattle.segmented_permutes.proofs.defaults.seg_default_into_gated.Goals as goal
 

@@ -3,9 +3,9 @@ use Rattle.cvl_base.specs.declared.refused.Refused.TheVariants as refused
 use Rattle.cvl_base.specs.Rooms.{OverwritesOr, in_room}
 use Rattle.permutes.proofs.Roomed.{told_or}
 use Rattle.permutes.proofs.Walked.{length_given}
-use Rattle.segmented_permutes.specs.Parts.{fault_from, parts_of, senders_from}
-use Rattle.segmented_permutes.proofs.AllSent.{length-senders}
-use Rattle.segmented_permutes.proofs.Through.{destinations-parts, places-parts}
+use Rattle.segment_sends.specs.Parts.{fault_from, parts_of, senders_from}
+use Rattle.segment_sends.proofs.AllSent.{length-senders}
+use Rattle.segment_sends.proofs.Through.{destinations-parts, places-parts}
 use Rattle.segmented_permutes.proofs.Whole.{seg_default-differ, seg_default-meaning}
 use Rattle.segmented_permutes.proofs.over.seg_default_into_over.Goals as goal
 

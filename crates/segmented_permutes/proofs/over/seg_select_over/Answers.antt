@@ -1,8 +1,8 @@
 use Rattle.std.proofs.Common.{◌∙◌, arith, length, subst, sym}
 use Rattle.cvl_base.specs.Rooms.{OverwritesOr, in_room}
-use Rattle.segmented_permutes.specs.Parts.{fault_from, flagged_parts, senders_from}
-use Rattle.segmented_permutes.proofs.AllSent.{flagged_segments_sent}
-use Rattle.segmented_permutes.proofs.Through.{destinations-flagged_parts, places-flagged_parts}
+use Rattle.segment_sends.specs.Parts.{fault_from, flagged_parts, senders_from}
+use Rattle.segment_sends.proofs.AllSent.{flagged_segments_sent}
+use Rattle.segment_sends.proofs.Through.{destinations-flagged_parts, places-flagged_parts}
 use Rattle.segmented_permutes.proofs.Whole.{seg_select-meaning}
 use Rattle.segmented_permutes.proofs.over.seg_select_over.Goals as goal
 

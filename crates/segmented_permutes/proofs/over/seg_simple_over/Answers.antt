@@ -4,10 +4,10 @@ use Rattle.permute_walks.specs.Senders.{nobody}
 use Rattle.permute_walks.proofs.Taken.{length-taken}
 use Rattle.cvl_base.specs.Rooms.{OverwritesOr, in_room}
 use Rattle.cvl_base.specs.SegmentedCalls.{seg_simple_of}
-use Rattle.segmented_permutes.specs.Parts.{fault_from, parts_of, senders_from}
+use Rattle.segment_sends.specs.Parts.{fault_from, parts_of, senders_from}
 use Rattle.permutes.proofs.Roomed.{differs_in_room, fits_in_room, told_or}
-use Rattle.segmented_permutes.proofs.Through.{destinations-parts, places-parts}
-use Rattle.segmented_permutes.proofs.AllSent.{length-senders_from, segments_sent}
+use Rattle.segment_sends.proofs.Through.{destinations-parts, places-parts}
+use Rattle.segment_sends.proofs.AllSent.{length-senders_from, segments_sent}
 use Rattle.segmented_permutes.proofs.Whole.{seg_simple-meaning}
 use Rattle.segmented_permutes.proofs.over.seg_simple_over.Goals as goal
 

@@ -1,9 +1,9 @@
 use Rattle.std.proofs.Common.{◌∙◌, ap, subst, sym, arith, length, Ok}
 use Rattle.cvl_base.specs.Gives.{Gives, unless}
 use Rattle.permute_walks.specs.Indices.{first_outside}
-use Rattle.segmented_permutes.specs.Parts.{parts_of}
+use Rattle.segment_sends.specs.Parts.{parts_of}
 use Rattle.segmented_permutes.proofs.FlatIndices.{length-flat_indices, outside_flat}
-use Rattle.segmented_permutes.proofs.Through.{destinations-parts, places-parts}
+use Rattle.segment_sends.proofs.Through.{destinations-parts, places-parts}
 use Rattle.segmented_permutes.proofs.segment_races.check_segments_raced.Goals as goal
 
 pub flat_indices-requires-clause-as_long : goal.flat_indices-requires-clause-as_long

@@ -2,9 +2,9 @@ use Rattle.std.proofs.Common.{◌∙◌, ap, subst, sym, arith}
 use Rattle.cvl_base.specs.Gives.{Gives}
 use Rattle.cvl_base.specs.Permutes.{flagged_destinations}
 use Rattle.permute_walks.proofs.Sent.{count-flagged_destinations}
-use Rattle.segmented_permutes.specs.Parts.{flagged_parts}
+use Rattle.segment_sends.specs.Parts.{flagged_parts}
 use Rattle.segmented_permutes.proofs.FlatIndices.{raced_flat, destinations_flagged}
-use Rattle.segmented_permutes.proofs.Through.{destinations-flagged_parts, places-flagged_parts}
+use Rattle.segment_sends.proofs.Through.{destinations-flagged_parts, places-flagged_parts}
 use Rattle.segmented_permutes.proofs.segment_races.flagged_segments_raced.Goals as goal
 
 pub flat_indices-requires-clause-as_long : goal.flat_indices-requires-clause-as_long

@@ -2,9 +2,9 @@ use Rattle.std.proofs.Common.{◌∙◌, ap, subst, sym, arith, length}
 use Rattle.cvl_base.specs.Gives.{Gives}
 use Rattle.cvl_base.specs.Permutes.{all_destinations}
 use Rattle.cvl_base.proofs.Permutes.{length-all_destinations}
-use Rattle.segmented_permutes.specs.Parts.{parts_of}
+use Rattle.segment_sends.specs.Parts.{parts_of}
 use Rattle.segmented_permutes.proofs.FlatIndices.{length-flat_indices, raced_flat, destinations_all}
-use Rattle.segmented_permutes.proofs.Through.{destinations-parts, places-parts}
+use Rattle.segment_sends.proofs.Through.{destinations-parts, places-parts}
 use Rattle.segmented_permutes.proofs.segment_races.segments_raced.Goals as goal
 
 pub flat_indices-requires-clause-as_long : goal.flat_indices-requires-clause-as_long

@@ -2,9 +2,9 @@ use Rattle.std.proofs.Common.{◌∙◌, Bool, arith, length, subst, sym, vec_le
 use Rattle.std.proofs.lemmas.List.Sums.{count_by-le-length}
 use Rattle.cvl_base.specs.Gives.{Gives}
 use Rattle.permutes.proofs.Called.{found_gives, shorter, written_sent}
-use Rattle.segmented_permutes.specs.Parts.{fault_from, flagged_parts, senders_from}
-use Rattle.segmented_permutes.proofs.AllSent.{flagged_segments_sent, length-senders_from}
-use Rattle.segmented_permutes.proofs.Through.{destinations-flagged_parts, places-flagged_parts}
+use Rattle.segment_sends.specs.Parts.{fault_from, flagged_parts, senders_from}
+use Rattle.segment_sends.proofs.AllSent.{flagged_segments_sent, length-senders_from}
+use Rattle.segment_sends.proofs.Through.{destinations-flagged_parts, places-flagged_parts}
 use Rattle.segmented_permutes.proofs.Whole.{seg_select-meaning}
 use Rattle.segmented_permutes.proofs.selects.seg_select_gated.Goals as goal
 

@@ -1,5 +1,5 @@
 use Rattle.std.proofs.Common.{◌∙◌, arith, sym}
-use Rattle.segmented_permutes.proofs.Through.{destinations-flagged_parts, places-flagged_parts}
+use Rattle.segment_sends.proofs.Through.{destinations-flagged_parts, places-flagged_parts}
 use Rattle.segmented_permutes.proofs.sent.flagged_segment_senders.Goals as goal
 
 pub segment_senders_alone-requires-clause-few : goal.segment_senders_alone-requires-clause-few

@@ -1,5 +1,5 @@
 use Rattle.std.proofs.Common.{◌∙◌, arith, sym}
-use Rattle.segmented_permutes.proofs.Through.{destinations-parts, places-parts}
+use Rattle.segment_sends.proofs.Through.{destinations-parts, places-parts}
 use Rattle.segmented_permutes.proofs.sent.segment_senders.Goals as goal
 
 pub segment_senders_alone-requires-clause-few : goal.segment_senders_alone-requires-clause-few

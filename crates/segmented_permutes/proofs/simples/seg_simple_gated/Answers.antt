@@ -1,9 +1,9 @@
 use Rattle.std.proofs.Common.{◌∙◌, arith, length, refl, subst, sym, vec_len}
 use Rattle.cvl_base.specs.Gives.{Gives}
 use Rattle.permutes.proofs.Called.{found_gives, shorter, written_sent}
-use Rattle.segmented_permutes.specs.Parts.{fault_from, parts_of, senders_from}
-use Rattle.segmented_permutes.proofs.AllSent.{length-senders_from, segments_sent}
-use Rattle.segmented_permutes.proofs.Through.{destinations-parts, places-parts}
+use Rattle.segment_sends.specs.Parts.{fault_from, parts_of, senders_from}
+use Rattle.segment_sends.proofs.AllSent.{length-senders_from, segments_sent}
+use Rattle.segment_sends.proofs.Through.{destinations-parts, places-parts}
 use Rattle.segmented_permutes.proofs.Whole.{seg_simple-meaning}
 use Rattle.segmented_permutes.proofs.simples.seg_simple_gated.Goals as goal
 

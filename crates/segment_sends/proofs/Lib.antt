@@ -1,0 +1,5 @@
+pub mod AllSent
+pub mod Ranges
+pub mod Scatters
+pub mod Shared
+pub mod Through

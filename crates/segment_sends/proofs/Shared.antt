@@ -1,0 +1,355 @@
+-- The walk over a share of the segments: what it has written after the first of them, and after all; and that two shares side by side
+-- are one.
+use Rattle.std.proofs.Common.{◌≡◌, ◌∙◌, ℕ, zero, suc, ◌+◌, ◌-◌, ◌<◌, ◌≤◌, true, false, Bool, ◌&&◌, List, [], ◌∷◌, ◌++◌, length, map, sum, take, refl, sym, ap, arith, inl, inr, ℤ}
+use Rattle.std.proofs.Common.{slice_get, unwrap_or, length-append, Option, None}
+use Rattle.std.specs.List.{sum_by, zip}
+use Rattle.std.specs.Option.{option_or}
+use Rattle.std.proofs.lemmas.Bool.{and_parts, false≢true}
+use Rattle.std.proofs.lemmas.Bool.Decides.{leb_tells}
+use Rattle.std.proofs.lemmas.List.{take-append-le, take_all, take-take}
+use Rattle.std.proofs.lemmas.List.Sums.{sum-map, sum_by_more, sum_by_more_le, sum_by-take-le}
+use Rattle.std.proofs.Math.Seq.{drop-append-add}
+use Rattle.cvl_base.specs.Limits.{most_elements}
+use Rattle.cvl_base.specs.Permutes.{first_fault, wrongs}
+use Rattle.cvl_base.proofs.Lists.{sum-cons}
+use Rattle.fresh.specs.Parts.{part, length_part}
+use Rattle.fresh.specs.Places.{Stretch, stretch, with_items}
+use Rattle.fresh.proofs.Halves.{part_map, parts_both}
+use Rattle.fresh.proofs.Zips.{part_zip}
+use Rattle.permute_walks.specs.Senders.{senders_of, written_over}
+use Rattle.permute_walks.proofs.Sent.{length-senders_of}
+use Rattle.permute_walks.proofs.Taken.{length-over}
+use Rattle.segment_sends.specs.Parts.{destinations_in, fault_from, places_in, senders_from}
+use Rattle.segment_sends.specs.Shares.{AreRight, AreWithin, IsShare, IsWritten, part_at, permuted}
+use Rattle.segment_sends.proofs.AllSent.{length-senders_from}
+
+-- ---- the places of a segment
+
+module _ (f : ℕ × List (Option ℤ) → ℕ) (parts : List (ℕ × List (Option ℤ))) where
+  -- what stands before the segment after s
+  pub ahead_more : (s : ℕ) → s < length parts → sum (map f (take (s + 1) parts)) ≡ sum (map f (take s parts)) + f (part_at parts s)
+  ahead_more s lt = omega (arith, sum-map f (take (s + 1) parts), sum-map f (take s parts), sum_by_more f parts s (0, []) lt)
+
+  pub ahead_within : (s : ℕ) → s < length parts → sum (map f (take s parts)) + f (part_at parts s) ≤ sum (map f parts)
+  ahead_within s lt = omega (arith, sum-map f (take s parts), sum-map f parts, sum_by_more_le f parts s (0, []) lt)
+
+  pub ahead_all : (s : ℕ) → sum (map f (take s parts)) ≤ sum (map f parts)
+  ahead_all s = omega (arith, sum-map f (take s parts), sum-map f parts, sum_by-take-le f parts s)
+
+-- an earlier segment does not stand behind a later one
+pub ahead_order : (f : ℕ × List (Option ℤ) → ℕ) (parts : List (ℕ × List (Option ℤ))) (a b : ℕ) → a ≤ b → sum (map f (take a parts)) ≤ sum (map f (take b parts))
+ahead_order f parts a b le =
+    omega (arith, sum-map f (take a parts), sum-map f (take b parts), ap (sum_by f) (take-take a b parts le), sum_by-take-le f (take b parts) a)
+
+-- the senders of a segment stand at its places
+senders_at : (place : ℕ) (parts : List (ℕ × List (Option ℤ))) (s : ℕ) → s < length parts
+    → part (senders_from place parts) (places_in (take s parts)) (part_at parts s).0 ≡ senders_of (place + destinations_in (take s parts)) (part_at parts s).1 (part_at parts s).0
+senders_at place [] s lt = absurd (omega arith)
+senders_at place ((m, ts) ∷ parts) zero lt =
+    let long = length-senders_of place ts m in
+    take-append-le m (senders_of place ts m) (senders_from (place + length ts) parts) (omega (arith, long))
+    ∙ take_all m (senders_of place ts m) (omega (arith, long))
+    ∙ ap (λ p. senders_of p ts m) (omega arith)
+senders_at place ((m, ts) ∷ parts) (suc s) lt =
+    let front = senders_of place ts m in
+    let others = senders_from (place + length ts) parts in
+    let n = (part_at parts s).0 in
+    let past : places_in (take (suc s) ((m, ts) ∷ parts)) ≡ length front + places_in (take s parts) =
+    omega (arith, sum-cons m (map (λ (p : ℕ × List (Option ℤ)). p.0) (take s parts)), length-senders_of place ts m) in
+    let place_past : place + length ts + destinations_in (take s parts) ≡ place + destinations_in (take (suc s) ((m, ts) ∷ parts)) =
+    omega (arith, sum-cons (length ts) (map (λ (p : ℕ × List (Option ℤ)). length p.1) (take s parts))) in
+    ap (λ k. part (front ++ others) k n) past
+    ∙ ap (take n) (drop-append-add front others (places_in (take s parts)))
+    ∙ senders_at (place + length ts) parts s (omega arith)
+    ∙ ap (λ p. senders_of p (part_at parts s).1 n) place_past
+
+module _ {X : Type 0} (source : List X) (parts : List (ℕ × List (Option ℤ))) (before : List X) where
+  -- what stands there
+  pub permuted_at : (s : ℕ) → s < length parts
+      → part (permuted source parts before) (places_in (take s parts)) (part_at parts s).0
+      ≡ written_over source (senders_of (destinations_in (take s parts)) (part_at parts s).1 (part_at parts s).0) (part before (places_in (take s parts)) (part_at parts s).0)
+  permuted_at s lt =
+      let start = places_in (take s parts) in
+      let n = (part_at parts s).0 in
+      let senders = senders_from 0 parts in
+      let read = λ (p : ℕ × X). unwrap_or (slice_get source p.0) p.1 in
+      sym (part_map read (zip senders before) start n)
+      ∙ ap (map read) (sym (part_zip senders before start n))
+      ∙ ap (λ ss. written_over source ss (part before start n)) (senders_at 0 parts s lt)
+      ∙ ap (λ p. written_over source (senders_of p (part_at parts s).1 n) (part before start n)) (omega arith)
+
+  pub length-permuted : places_in parts ≡ length before → length (permuted source parts before) ≡ length before
+  length-permuted long = length-over source (senders_from 0 parts) before (length-senders_from 0 parts ∙ long)
+
+-- ---- the walk
+
+-- the next n places are written
+stretch_more : {X : Type 0} (whole items : List X) (old run new : Stretch X) (done n last : ℕ) → old.first ≤ done → done + n ≤ length whole
+    → run ≡ stretch old.block old.first (part whole old.first (done - old.first)) (last - done) → items ≡ part whole done n → new ≡ with_items run items
+    → new ≡ stretch old.block old.first (part whole old.first (done + n - old.first)) (last - (done + n))
+stretch_more whole items old run new done n last begun within is are written =
+    let first = old.first in
+    let width : n ≡ done + n - first - (done - first) = omega arith in
+    let there : first + (done - first) ≡ done = omega arith in
+    let long : length items ≡ n = ap length are ∙ length_part whole done n within in
+    let room : last - done - length items ≡ last - (done + n) = omega (arith, long) in
+    let joined : part whole first (done - first) ++ items ≡ part whole first (done + n - first) =
+    ap (λ xs. part whole first (done - first) ++ xs) are
+    ∙ (λ i. part whole first (done - first) ++ part whole (sym there i) (width i))
+    ∙ sym (parts_both whole first (done - first) (done + n - first) (omega arith)) in
+    written ∙ ap (λ s. with_items s items) is ∙ (λ i. stretch old.block first (joined i) (room i))
+
+-- the segments up to before s are done, and the destinations of the next one begin at `place`
+pub record IsWalked {X : Type 0} (source : List X) (parts : List (ℕ × List (Option ℤ))) (before : List X) (begin end s : ℕ) (old : Stretch X) (place : ℕ) (run : Stretch X) : Type 0 where
+  pub there : place ≡ destinations_in (take s parts)
+  pub no_fault : AreRight parts begin s
+  pub is : run ≡ stretch old.block old.first (part (permuted source parts before) old.first (places_in (take s parts) - old.first)) (places_in (take end parts) - places_in (take s parts))
+
+module _ {X : Type 0} (source : List X) (parts : List (ℕ × List (Option ℤ))) (before : List X) (widest begin end : ℕ) (old : Stretch X)
+    (share : IsShare parts (length before) widest begin end old.first old.room) (empty : old.items ≡ []) where
+  abbrev whole : List X
+  whole = permuted source parts before
+
+  whole_long : length whole ≡ length before
+  whole_long = length-permuted source parts before share.as_long
+
+  pub walked_none : (place : ℕ) → place ≡ destinations_in (take begin parts) → IsWalked source parts before begin end begin old place old
+  walked_none place there =
+      let none : places_in (take begin parts) - old.first ≡ 0 = omega (arith, share.starts) in
+      let room : old.room ≡ places_in (take end parts) - places_in (take begin parts) = omega (arith, share.starts, share.ends) in
+      record {
+        there = there;
+        no_fault = λ s from below. absurd (omega (arith, from, below));
+        is = (λ i. stretch old.block old.first (empty i) (room i)) ∙ ap (λ k. stretch old.block old.first (part whole old.first k) (places_in (take end parts) - places_in (take begin parts))) (sym none);
+      }
+
+  module _ (s place : ℕ) (run : Stretch X) (from : begin ≤ s) (upto : s ≤ end) (to : IsWalked source parts before begin end s old place run) where
+    starts_before : old.first ≤ places_in (take s parts)
+    starts_before = omega (arith, share.starts, ahead_order (λ p. p.0) parts begin s from)
+
+    ends_here : places_in (take s parts) ≤ places_in (take end parts)
+    ends_here = ahead_order (λ p. p.0) parts s end upto
+
+    ends_last : places_in (take end parts) ≤ length before
+    ends_last = omega (arith, share.as_long, ahead_all (λ p. p.0) parts end)
+
+    done_long : length (part whole old.first (places_in (take s parts) - old.first)) ≡ places_in (take s parts) - old.first
+    done_long = length_part whole old.first (places_in (take s parts) - old.first) (omega (arith, starts_before, ends_here, ends_last, whole_long))
+
+    run_end : run.first + length run.items ≡ places_in (take s parts)
+    run_end = omega (arith, ap (λ (r : Stretch X). r.first) to.is, ap (λ (r : Stretch X). length r.items) to.is, done_long, starts_before)
+
+    run_room : run.room ≡ places_in (take end parts) - places_in (take s parts)
+    run_room = ap (λ (r : Stretch X). r.room) to.is
+
+    -- where the walk stops, what stands before fills the rest
+    pub walked_rest_within : run.first + length run.items + run.room ≤ length before
+    walked_rest_within = omega (arith, run_end, run_room, ends_here, ends_last)
+
+    pub walked_bad : (new : Stretch X) → new ≡ with_items run (part before (run.first + length run.items) run.room) → IsWritten source parts before begin end old new false
+    walked_bad new filled = record {
+      full = filled_full;
+      no_fault = λ same. absurd (false≢true same);
+      items = λ same. absurd (false≢true same);
+    }
+      where
+        rest : List X
+        rest = part before (run.first + length run.items) run.room
+
+        filled_full : (items : List X) × (length items ≡ old.room) × (new ≡ stretch old.block old.first items 0)
+        filled_full =
+            let rest_long : length rest ≡ run.room = length_part before (run.first + length run.items) run.room walked_rest_within in
+            let none : run.room - length rest ≡ 0 = omega (arith, rest_long) in
+            let long : length (run.items ++ rest) ≡ old.room =
+            omega (arith, length-append run.items rest, rest_long, run_room, run_end, ap (λ (r : Stretch X). r.first) to.is, share.starts, share.ends, starts_before, ends_here) in
+            (run.items ++ rest, long, filled ∙ (λ i. stretch (ap (λ (r : Stretch X). r.block) to.is i) (ap (λ (r : Stretch X). r.first) to.is i) (run.items ++ rest) (none i)))
+
+    module _ (m n : ℕ) (ts : List (Option ℤ)) (below : s < end) (is : part_at parts s ≡ (m, ts)) (wide : n ≡ m) where
+      lt : s < length parts
+      lt = omega (arith, below, share.in_parts)
+
+      ends_before : places_in (take s parts) + (part_at parts s).0 ≤ places_in (take end parts)
+      ends_before = omega (arith, ahead_more (λ p. p.0) parts s lt, ahead_order (λ p. p.0) parts (s + 1) end (omega (arith, below)))
+
+      width : (part_at parts s).0 ≡ n
+      width = ap (λ p. p.0) is ∙ sym wide
+
+      pub walked_within : m ≤ widest
+      walked_within = omega (arith, ap (λ (p : ℕ × List (Option ℤ)). p.0) is, share.within s lt)
+
+      pub walked_room : n ≤ run.room
+      walked_room = omega (arith, width, run_room, ends_before)
+
+      pub walked_before : run.first + length run.items + n ≤ length before
+      walked_before = omega (arith, width, run_end, ends_before, ends_last)
+
+      pub walked_limit : place + length ts ≤ destinations_in parts
+      walked_limit = omega (arith, to.there, ahead_within (λ p. length p.1) parts s lt, ap (λ (p : ℕ × List (Option ℤ)). length p.1) is)
+
+      pub walked_more : (new : Stretch X) → None ≡ first_fault place (wrongs n ts)
+          → new ≡ with_items run (written_over source (senders_of place ts n) (part before (run.first + length run.items) n))
+          → (next : ℕ) → next ≡ place + length ts → IsWalked source parts before begin end (s + 1) old next new
+      walked_more new right pushed next onward =
+          let start = places_in (take s parts) in
+          let told = ap (λ (p : ℕ × List (Option ℤ)). p.1) is in
+          let more : start + n ≡ places_in (take (s + 1) parts) = omega (arith, width, ahead_more (λ p. p.0) parts s lt) in
+          let are : written_over source (senders_of place ts n) (part before (run.first + length run.items) n) ≡ part whole start n =
+          (λ i. written_over source (senders_of (to.there i) (sym told i) (sym width i)) (part before (run_end i) (sym width i)))
+          ∙ sym (permuted_at source parts before s lt) ∙ ap (part whole start) width in
+          record {
+            there = omega (arith, onward, to.there, ahead_more (λ p. length p.1) parts s lt, ap (λ (p : ℕ × List (Option ℤ)). length p.1) is);
+            no_fault = λ r after earlier. elim (leb_tells (suc r) s) [
+              | inl done ↦ to.no_fault r after (omega (arith, done.1))
+              | inr now ↦
+                  let same : s ≡ r = omega (arith, now.1, earlier) in
+                  (right ∙ (λ i. first_fault (to.there i) (wrongs (sym width i) (sym told i)))) ∙ ap (λ k. first_fault (destinations_in (take k parts)) (wrongs (part_at parts k).0 (part_at parts k).1)) same
+            ];
+            is = stretch_more whole (written_over source (senders_of place ts n) (part before (run.first + length run.items) n)) old run new start n (places_in (take end parts)) starts_before
+                (omega (arith, width, ends_before, ends_last, whole_long)) to.is are pushed
+                ∙ ap (λ k. stretch old.block old.first (part whole old.first (k - old.first)) (places_in (take end parts) - k)) more;
+          }
+
+  pub walked_all : (s place : ℕ) (run : Stretch X) → IsWalked source parts before begin end s old place run → end ≤ s → s ≤ end → IsWritten source parts before begin end old run true
+  walked_all s place run to past within =
+      let same : s ≡ end = omega (arith, past, within) in
+      let last = places_in (take end parts) in
+      let width : last - old.first ≡ old.room = omega (arith, share.ends) in
+      let none : last - last ≡ 0 = omega arith in
+      let is : run ≡ stretch old.block old.first (part whole old.first old.room) 0 =
+      to.is ∙ ap (λ k. stretch old.block old.first (part whole old.first (places_in (take k parts) - old.first)) (last - places_in (take k parts))) same
+      ∙ (λ i. stretch old.block old.first (part whole old.first (width i)) (none i)) in
+      record {
+        full = (part whole old.first old.room, length_part whole old.first old.room (omega (arith, share.ends, whole_long, share.as_long, ahead_all (λ p. p.0) parts end)), is);
+        no_fault = λ told r after earlier. to.no_fault r after (omega (arith, same, earlier));
+        items = λ told. is;
+      }
+
+  -- nothing was walked
+  pub unwalked_within : old.first + length old.items + old.room ≤ length before
+  unwalked_within = walked_rest_within begin (destinations_in (take begin parts)) old (omega arith) share.in_order (walked_none (destinations_in (take begin parts)) refl)
+
+  pub unwalked : (new : Stretch X) → new ≡ with_items old (part before (old.first + length old.items) old.room) → IsWritten source parts before begin end old new false
+  unwalked new filled = walked_bad begin (destinations_in (take begin parts)) old (omega arith) share.in_order (walked_none (destinations_in (take begin parts)) refl) new filled
+
+  -- ---- two shares side by side are one
+
+  module _ (middle k : ℕ) (from : begin ≤ middle) (to : middle ≤ end) (is : k ≡ places_in (take middle parts) - old.first) where
+    pub middle_first : old.first ≤ places_in (take middle parts)
+    middle_first = omega (arith, share.starts, ahead_order (λ p. p.0) parts begin middle from)
+
+    pub middle_room : k ≤ old.room
+    middle_room = omega (arith, is, share.ends, ahead_order (λ p. p.0) parts middle end to)
+
+    pub front_share : (front : Stretch X) → front ≡ stretch old.block old.first old.items (k - length old.items) → IsShare parts (length before) widest begin middle front.first front.room
+    front_share front cut = record {
+      few = share.few;
+      as_long = share.as_long;
+      within = share.within;
+      in_order = from;
+      in_parts = omega (arith, to, share.in_parts);
+      starts = ap (λ (r : Stretch X). r.first) cut ∙ share.starts;
+      ends = omega (arith, ap (λ (r : Stretch X). r.first) cut, ap (λ (r : Stretch X). r.room) cut, ap length empty, is, middle_first);
+    }
+
+    pub back_share : (back : Stretch X) → back ≡ stretch old.block (old.first + k) [] (length old.items + old.room - k) → IsShare parts (length before) widest middle end back.first back.room
+    back_share back cut = record {
+      few = share.few;
+      as_long = share.as_long;
+      within = share.within;
+      in_order = to;
+      in_parts = share.in_parts;
+      starts = omega (arith, ap (λ (r : Stretch X). r.first) cut, is, middle_first);
+      ends = omega (arith, ap (λ (r : Stretch X). r.first) cut, ap (λ (r : Stretch X). r.room) cut, ap length empty, is, middle_first, middle_room, share.ends);
+    }
+
+    module _ (front back written rest : Stretch X) (front_right back_right : Bool) (front_cut : front ≡ stretch old.block old.first old.items (k - length old.items))
+        (back_cut : back ≡ stretch old.block (old.first + k) [] (length old.items + old.room - k))
+        (in_front : IsWritten source parts before begin middle front written front_right) (in_back : IsWritten source parts before middle end back rest back_right) where
+      abbrev front_items : List X
+      front_items = in_front.full.0
+
+      abbrev back_items : List X
+      back_items = in_back.full.0
+
+      front_long : length front_items ≡ k
+      front_long = omega (arith, in_front.full.1, ap (λ (r : Stretch X). r.room) front_cut, ap length empty)
+
+      back_long : length back_items ≡ old.room - k
+      back_long = omega (arith, in_back.full.1, ap (λ (r : Stretch X). r.room) back_cut, ap length empty)
+
+      front_is : written ≡ stretch old.block old.first front_items 0
+      front_is = in_front.full.2 ∙ (λ i. stretch (ap (λ (r : Stretch X). r.block) front_cut i) (ap (λ (r : Stretch X). r.first) front_cut i) front_items 0)
+
+      back_is : rest ≡ stretch old.block (old.first + k) back_items 0
+      back_is = in_back.full.2 ∙ (λ i. stretch (ap (λ (r : Stretch X). r.block) back_cut i) (ap (λ (r : Stretch X). r.first) back_cut i) back_items 0)
+
+      pub shares_both : (joined : Stretch X) → joined ≡ stretch written.block written.first (written.items ++ rest.items) (written.room + rest.room)
+          → IsWritten source parts before begin end old joined (front_right && back_right)
+      shares_both joined are =
+          let is : joined ≡ stretch old.block old.first (front_items ++ back_items) 0 =
+          are ∙ (λ i. let w = front_is i in let r = back_is i in stretch w.block w.first (w.items ++ r.items) (w.room + r.room)) in
+          record {
+            full = (front_items ++ back_items, omega (arith, length-append front_items back_items, front_long, back_long, middle_room), is);
+            no_fault = λ told r after earlier.
+                let both = and_parts front_right back_right told in
+                elim (leb_tells (suc r) middle) [
+                  | inl first ↦ in_front.no_fault both.0 r after (omega (arith, first.1))
+                  | inr later ↦ in_back.no_fault both.1 r (omega (arith, later.1)) earlier
+                ];
+            items = λ told.
+                let both = and_parts front_right back_right told in
+                let front_whole : front_items ≡ part whole old.first k =
+                sym (ap (λ (r : Stretch X). r.items) front_is) ∙ ap (λ (r : Stretch X). r.items) (in_front.items both.0)
+                ∙ (λ i. part whole (ap (λ (r : Stretch X). r.first) front_cut i) (front_width i)) in
+                let back_whole : back_items ≡ part whole (old.first + k) (old.room - k) =
+                sym (ap (λ (r : Stretch X). r.items) back_is) ∙ ap (λ (r : Stretch X). r.items) (in_back.items both.1)
+                ∙ (λ i. part whole (ap (λ (r : Stretch X). r.first) back_cut i) (back_width i)) in
+                is ∙ ap (λ xs. stretch old.block old.first xs 0) ((λ i. front_whole i ++ back_whole i) ∙ sym (parts_both whole old.first k old.room middle_room));
+          }
+        where
+          front_width : front.room ≡ k
+          front_width = omega (arith, ap (λ (r : Stretch X). r.room) front_cut, ap length empty)
+
+          back_width : back.room ≡ old.room - k
+          back_width = omega (arith, ap (λ (r : Stretch X). r.room) back_cut, ap length empty)
+
+-- ---- all segments
+
+-- where no segment has a bad place, there is no fault
+pub all_right : (place : ℕ) (parts : List (ℕ × List (Option ℤ)))
+    → ((s : ℕ) → s < length parts → None ≡ first_fault (place + destinations_in (take s parts)) (wrongs (part_at parts s).0 (part_at parts s).1))
+    → None ≡ fault_from place parts
+all_right place [] right = refl
+all_right place ((m, ts) ∷ parts) right =
+    let here : None ≡ first_fault place (wrongs m ts) = right 0 (omega arith) ∙ ap (λ p. first_fault p (wrongs m ts)) (omega arith) in
+    let others = all_right (place + length ts) parts (λ s lt.
+    let past : place + destinations_in (take (suc s) ((m, ts) ∷ parts)) ≡ place + length ts + destinations_in (take s parts) =
+    omega (arith, sum-cons (length ts) (map (λ (p : ℕ × List (Option ℤ)). length p.1) (take s parts))) in
+    right (suc s) (omega (arith, lt)) ∙ ap (λ p. first_fault p (wrongs (part_at parts s).0 (part_at parts s).1)) past) in
+    others ∙ ap (λ o. option_or o (fault_from (place + length ts) parts)) here
+
+module _ {X : Type 0} (source : List X) (parts : List (ℕ × List (Option ℤ))) (before : List X) (widest : ℕ) (old : Stretch X) (few : destinations_in parts ≤ most_elements)
+    (long : places_in parts ≡ length before) (within : AreWithin widest parts) (is : old ≡ stretch old.block 0 [] (length before)) where
+  pub whole_share : (count : ℕ) → count ≡ length parts → IsShare parts (length before) widest 0 count old.first old.room
+  whole_share count all = record {
+    few = few;
+    as_long = long;
+    within = within;
+    in_order = omega arith;
+    in_parts = omega (arith, all);
+    starts = ap (λ (r : Stretch X). r.first) is;
+    ends = omega (arith, ap (λ (r : Stretch X). r.first) is, ap (λ (r : Stretch X). r.room) is, long, ap places_in (take_all count parts (omega (arith, all))));
+  }
+
+  module _ (count : ℕ) (all : count ≡ length parts) (written : Stretch X) (right : Bool) (told : IsWritten source parts before 0 count old written right) where
+    pub whole_right : right ≡ true → None ≡ fault_from 0 parts
+    whole_right is_right =
+        all_right 0 parts (λ s lt. told.no_fault is_right s (omega arith) (omega (arith, lt, all)) ∙ ap (λ p. first_fault p (wrongs (part_at parts s).0 (part_at parts s).1)) (omega arith))
+
+    pub whole_items : right ≡ true → written.items ≡ permuted source parts before
+    whole_items is_right =
+        let whole = permuted source parts before in
+        let width : old.room ≡ length whole = ap (λ (r : Stretch X). r.room) is ∙ sym (length-permuted source parts before long) in
+        ap (λ (r : Stretch X). r.items) (told.items is_right)
+        ∙ (λ i. part whole (ap (λ (r : Stretch X). r.first) is i) (width i))
+        ∙ take_all (length whole) whole (omega arith)

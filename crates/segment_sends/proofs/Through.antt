@@ -1,0 +1,274 @@
+-- The first walk through the segments: what it has found after the first segments, and after all.
+use Rattle.std.proofs.Common.{◌≡◌, ◌∙◌, cond, subst, ℕ, zero, suc, ◌+◌, ◌-◌, ◌<◌, ◌≤◌, Bool, List, [], ◌∷◌, ◌++◌, length, map, sum, take, drop, get_or, replicate, refl, sym, ap, append_assoc, append-nil}
+use Rattle.std.proofs.Common.{length-append, length-drop, arith, ℤ, Option, Some, None}
+use Rattle.std.specs.List.{zip}
+use Rattle.std.specs.Option.{option_or}
+use Rattle.std.proofs.lemmas.List.{drop_more, drop_all, take_all, take-map, take-replicate, drop-replicate, drop-drop, get_or-map, length-map, length-take, length-take-le}
+use Rattle.std.proofs.lemmas.List.Sums.{count_by-le-length, sum_by-append, sum_by-take-drop, sum_by-take-le, sum_by_more_le, sum_by_more}
+use Rattle.std.proofs.Math.Seq.{take-add}
+use Rattle.std.proofs.lemmas.Slice.{take-put_mid, drop-put_mid}
+use Rattle.std.proofs.lemmas.Slice.Zip.{firsts-zip, get_or-zip, length-zip}
+use borrow.Rule.Slice.PartMut.{put_mid}
+use Rattle.cvl_base.specs.declared.fault.Fault.{Fault}
+use Rattle.cvl_base.specs.Nests.{cut_of}
+use Rattle.cvl_base.specs.Packs.{count_of}
+use Rattle.cvl_base.specs.Permutes.{all_destinations, first_fault, flagged_destinations, wrongs}
+use Rattle.segment_sends.specs.Parts.{fault_from, flagged_parts, parts_of, places_in, senders_from, destinations_in}
+use Rattle.permute_walks.specs.Senders.{nobody, senders_of}
+use Rattle.cvl_base.proofs.Nests.{cut_at, length-cut}
+use Rattle.cvl_base.proofs.Lists.{sum-cons}
+use Rattle.cvl_base.proofs.Permutes.{length-all_destinations}
+use Rattle.permute_walks.proofs.Sent.{length-senders_of, count-flagged_destinations}
+
+-- the first s parts are done: their destinations end at the place given, and their part of the result at `start`
+pub record IsSentThrough (parts : List (ℕ × List (Option ℤ))) (place start s : ℕ) (senders : List ℕ) : Type 0 where
+  pub fault_is : fault_from 0 parts ≡ fault_from place (drop s parts)
+  pub senders_are : take start senders ++ senders_from place (drop s parts) ≡ senders_from 0 parts
+  pub rest_is : drop start senders ≡ replicate (length senders - start) nobody
+  pub room_is : start + places_in (drop s parts) ≡ length senders
+  pub left_is : place + destinations_in (drop s parts) ≡ destinations_in parts
+
+pub through_none : (parts : List (ℕ × List (Option ℤ))) (senders : List ℕ) → senders ≡ replicate (length senders) nobody → places_in parts ≡ length senders → IsSentThrough parts 0 0 0 senders
+through_none parts senders fresh room = record {
+  fault_is = refl;
+  senders_are = refl;
+  rest_is = fresh ∙ ap (λ n. replicate n nobody) (omega arith);
+  room_is = omega (arith, room);
+  left_is = omega arith;
+}
+
+-- a write to a range of a list keeps its length
+pub put_length : {X : Type 0} (start k : ℕ) (xs ys : List X) → start + k ≤ length xs → length ys ≡ k → length (put_mid start k xs ys) ≡ length xs
+put_length start k xs ys within long =
+    omega (
+      arith,
+      length-append (take start xs) (ys ++ drop k (drop start xs)),
+      length-append ys (drop k (drop start xs)),
+      length-take-le start xs (omega arith),
+      length-drop k (drop start xs),
+      length-drop start xs,
+    )
+
+module _ (parts : List (ℕ × List (Option ℤ))) (place start s : ℕ) (senders : List ℕ) (m : ℕ) (ts : List (Option ℤ)) (to : IsSentThrough parts place start s senders) (lt : s < length parts)
+    (is : get_or parts s (0, []) ≡ (m, ts)) where
+  split : drop s parts ≡ (m, ts) ∷ drop (s + 1) parts
+  split = drop_more parts s (0, []) lt ∙ ap (λ p. p ∷ drop (s + 1) parts) is
+
+  room_more : start + m + places_in (drop (s + 1) parts) ≡ length senders
+  room_more = omega (arith, to.room_is, ap places_in split, sum-cons m (map (λ (p : ℕ × List (Option ℤ)). p.0) (drop (s + 1) parts)))
+
+  left_more : place + length ts + destinations_in (drop (s + 1) parts) ≡ destinations_in parts
+  left_more = omega (arith, to.left_is, ap destinations_in split, sum-cons (length ts) (map (λ (p : ℕ × List (Option ℤ)). length p.1) (drop (s + 1) parts)))
+
+  pub through_left : place + length ts ≤ destinations_in parts
+  through_left = omega (arith, left_more)
+
+  pub through_room : start + m ≤ length senders
+  through_room = omega (arith, room_more)
+
+  pub through_fresh : take m (drop start senders) ≡ replicate m nobody
+  through_fresh = ap (take m) to.rest_is ∙ take-replicate m (length senders - start) nobody (omega (arith, room_more))
+
+  first_of_part : fault_from 0 parts ≡ option_or (first_fault place (wrongs m ts)) (fault_from (place + length ts) (drop (s + 1) parts))
+  first_of_part = to.fault_is ∙ ap (fault_from place) split
+
+  pub through_fails : (f : Fault) → Some f ≡ first_fault place (wrongs m ts) → Some f ≡ fault_from 0 parts
+  through_fails f bad = sym (first_of_part ∙ ap (λ o. option_or o (fault_from (place + length ts) (drop (s + 1) parts))) (sym bad))
+
+  pub through_more : (k : ℕ) (sent new : List ℕ) → k ≡ m → None ≡ first_fault place (wrongs m ts) → sent ≡ senders_of place ts m → new ≡ put_mid start k senders sent
+      → IsSentThrough parts (place + length ts) (start + m) (s + 1) new
+  through_more k sent new width right are put =
+      let within : start + m ≤ length senders = through_room in
+      let long : length sent ≡ m = ap length are ∙ length-senders_of place ts m in
+      let as_long : length new ≡ length senders = ap length put ∙ put_length start k senders sent (omega arith) (omega arith) in
+      record {
+        fault_is = first_of_part ∙ ap (λ o. option_or o (fault_from (place + length ts) (drop (s + 1) parts))) (sym right);
+        senders_are = ap (λ xs. take (start + m) xs ++ senders_from (place + length ts) (drop (s + 1) parts)) put
+            ∙ ap (λ xs. xs ++ senders_from (place + length ts) (drop (s + 1) parts))
+            (take-put_mid start k senders sent (start + m) (omega arith) (omega arith) ∙ ap (λ xs. take start senders ++ xs) are)
+            ∙ append_assoc (take start senders) (senders_of place ts m) (senders_from (place + length ts) (drop (s + 1) parts))
+            ∙ ap (λ ps. take start senders ++ senders_from place ps) (sym split)
+            ∙ to.senders_are;
+        rest_is = ap (drop (start + m)) put
+            ∙ drop-put_mid start k senders sent (start + m) (omega arith) (omega arith) (omega arith)
+            ∙ sym (drop-drop m start senders)
+            ∙ ap (drop m) to.rest_is
+            ∙ drop-replicate m (length senders - start) nobody
+            ∙ ap (λ n. replicate n nobody) (omega arith);
+        room_is = omega (arith, room_more);
+        left_is = left_more;
+      }
+
+-- the same as the code reads and writes it, by a range of the senders
+module _ (parts : List (ℕ × List (Option ℤ))) (place start s : ℕ) (senders : List ℕ) (m : ℕ) (ts : List (Option ℤ)) (to : IsSentThrough parts place start s senders) (lt : s < length parts)
+    (is : get_or parts s (0, []) ≡ (m, ts)) where
+  range_wide : start + m - start ≡ m
+  range_wide = omega arith
+
+  range_long : length (take (start + m - start) (drop start senders)) ≡ m
+  range_long = ap (λ k. length (take k (drop start senders))) range_wide
+      ∙ length-take-le m (drop start senders) (omega (arith, length-drop start senders, through_room parts place start s senders m ts to lt is))
+
+  pub range_fresh : take (start + m - start) (drop start senders) ≡ replicate (length (take (start + m - start) (drop start senders))) nobody
+  range_fresh =
+      ap (λ k. take k (drop start senders)) range_wide
+      ∙ through_fresh parts place start s senders m ts to lt is
+      ∙ ap (λ n. replicate n nobody) (sym range_long)
+
+  pub range_fails : (f : Fault) → Some f ≡ first_fault place (wrongs (length (take (start + m - start) (drop start senders))) ts) → Some f ≡ fault_from 0 parts
+  range_fails f bad = through_fails parts place start s senders m ts to lt is f (bad ∙ ap (λ n. first_fault place (wrongs n ts)) range_long)
+
+  pub range_more : (sent new : List ℕ) → None ≡ first_fault place (wrongs (length (take (start + m - start) (drop start senders))) ts)
+      → sent ≡ senders_of place ts (length (take (start + m - start) (drop start senders))) → new ≡ put_mid start (start + m - start) senders sent
+      → IsSentThrough parts (place + length ts) (start + m) (s + 1) new
+  range_more sent new right are put =
+      through_more parts place start s senders m ts to lt is (start + m - start) sent new range_wide (right ∙ ap (λ n. first_fault place (wrongs n ts)) range_long)
+      (are ∙ ap (senders_of place ts) range_long) put
+
+pub moved_on : (parts : List (ℕ × List (Option ℤ))) (place now start then s : ℕ) (senders : List ℕ) → place ≡ now → start ≡ then → IsSentThrough parts place start s senders
+    → IsSentThrough parts now then s senders
+moved_on parts place now start then s senders there here to = subst (λ (p : ℕ). IsSentThrough parts p then s senders) there (subst (λ (q : ℕ). IsSentThrough parts place q s senders) here to)
+
+pub through_all : (parts : List (ℕ × List (Option ℤ))) (place start s : ℕ) (senders : List ℕ) → IsSentThrough parts place start s senders → length parts ≤ s → (None ≡ fault_from 0 parts)
+    × (senders ≡ senders_from 0 parts)
+through_all parts place start s senders to past =
+    let none = drop_all s parts past in
+    let full : start ≡ length senders = omega (arith, to.room_is, ap places_in none) in (
+      sym (to.fault_is ∙ ap (fault_from place) none),
+      sym (sym to.senders_are ∙ ap (λ ps. take start senders ++ senders_from place ps) none ∙ append-nil (take start senders) ∙ take_all start senders (omega arith)),
+    )
+
+-- ---- the parts where each place takes part
+
+module _ (lengths result_lengths : List ℕ) (index : List ℤ) (count : length lengths ≡ length result_lengths) where
+  pub length-parts : length (parts_of lengths result_lengths index) ≡ length lengths
+  length-parts = omega (arith, length-zip result_lengths (map all_destinations (cut_of lengths index)), length-map (cut_of lengths index) all_destinations, length-cut lengths index)
+
+  pub part_at : (s : ℕ) → s < length lengths → get_or (parts_of lengths result_lengths index) s (0, [])
+      ≡ (get_or result_lengths s 0, all_destinations (take (get_or lengths s 0) (drop (sum (take s lengths)) index)))
+  part_at s lt =
+      let long = length-cut lengths index in
+      get_or-zip result_lengths (map all_destinations (cut_of lengths index)) s (0, []) (omega arith) (omega (arith, length-map (cut_of lengths index) all_destinations))
+      ∙ ap (λ ts. (get_or result_lengths s 0, ts)) (get_or-map all_destinations (cut_of lengths index) s [] [] (omega arith) ∙ ap all_destinations (cut_at lengths index s lt))
+
+  pub places-parts : places_in (parts_of lengths result_lengths index) ≡ sum result_lengths
+  places-parts = ap sum (firsts-zip result_lengths (map all_destinations (cut_of lengths index)) (omega (arith, length-map (cut_of lengths index) all_destinations, length-cut lengths index)))
+
+-- ---- a segment lies in the vector
+
+module _ {X : Type 0} (lengths : List ℕ) (xs : List X) (total : sum lengths ≡ length xs) (s : ℕ) (lt : s < length lengths) where
+  pub segment_within : sum (take s lengths) + get_or lengths s 0 ≤ length xs
+  segment_within = omega (arith, total, sum_by_more_le (λ x. x) lengths s 0 lt)
+
+  pub length-segment : length (take (get_or lengths s 0) (drop (sum (take s lengths)) xs)) ≡ get_or lengths s 0
+  length-segment = length-take-le (get_or lengths s 0) (drop (sum (take s lengths)) xs) (omega (arith, segment_within, length-drop (sum (take s lengths)) xs))
+
+pub start_more : (lengths : List ℕ) (s : ℕ) → s < length lengths → sum (take (s + 1) lengths) ≡ sum (take s lengths) + get_or lengths s 0
+start_more lengths s lt = sum_by_more (λ x. x) lengths s 0 lt
+
+-- ---- the parts of flagged places
+
+abbrev flagged_part : List ℤ × List Bool → ℕ × List (Option ℤ)
+flagged_part p = (count_of p.1, flagged_destinations p.0 p.1)
+
+counted : (lengths : List ℕ) (index : List ℤ) (flags : List Bool) → sum lengths ≡ length flags → places_in (flagged_parts lengths index flags) ≡ count_of flags
+counted [] index [] total = refl
+counted [] index (f ∷ flags) total = absurd (omega arith)
+counted (n ∷ ns) index flags total =
+    omega (
+      arith,
+      sum-cons (count_of (take n flags)) (map (λ (p : ℕ × List (Option ℤ)). p.0) (flagged_parts ns (drop n index) (drop n flags))),
+      counted ns (drop n index) (drop n flags) (omega (arith, sum-cons n ns, length-drop n flags)),
+      sum_by-take-drop (λ (f : Bool). cond f 1 0) flags n,
+    )
+
+module _ (lengths : List ℕ) (index : List ℤ) (flags : List Bool) where
+  pub length-flagged_parts : length (flagged_parts lengths index flags) ≡ length lengths
+  length-flagged_parts =
+      omega (
+        arith,
+        length-map (zip (cut_of lengths index) (cut_of lengths flags)) flagged_part,
+        length-zip (cut_of lengths index) (cut_of lengths flags),
+        length-cut lengths index,
+        length-cut lengths flags,
+      )
+
+  pub flagged_part_at : (s : ℕ) → s < length lengths
+      → get_or (flagged_parts lengths index flags) s (0, [])
+      ≡ (
+        count_of (take (get_or lengths s 0) (drop (sum (take s lengths)) flags)),
+        flagged_destinations (take (get_or lengths s 0) (drop (sum (take s lengths)) index))
+            (take (get_or lengths s 0) (drop (sum (take s lengths)) flags)),
+      )
+  flagged_part_at s lt =
+      let long = length-cut lengths index in
+      let flag_long = length-cut lengths flags in
+      get_or-map flagged_part (zip (cut_of lengths index) (cut_of lengths flags)) s ([], []) (0, []) (omega (arith, length-zip (cut_of lengths index) (cut_of lengths flags)))
+      ∙ ap flagged_part (get_or-zip (cut_of lengths index) (cut_of lengths flags) s ([], []) (omega arith) (omega arith))
+      ∙ (λ i. (count_of (cut_at lengths flags s lt i), flagged_destinations (cut_at lengths index s lt i) (cut_at lengths flags s lt i)))
+
+  pub places-flagged_parts : sum lengths ≡ length flags → places_in (flagged_parts lengths index flags) ≡ count_of flags
+  places-flagged_parts total = counted lengths index flags total
+
+-- ---- how many places and destinations the parts before a segment have
+
+pub each_long : (lengths widths : List ℕ) (index : List ℤ) → sum lengths ≤ length index → length lengths ≡ length widths → map (λ p. length p.1) (parts_of lengths widths index) ≡ lengths
+each_long [] [] index total count = refl
+each_long [] (m ∷ ms) index total count = absurd (omega (arith, count))
+each_long (n ∷ ns) [] index total count = absurd (omega (arith, count))
+each_long (n ∷ ns) (m ∷ ms) index total count =
+    let all = sum-cons n ns in
+    let here : length (all_destinations (take n index)) ≡ n = length-all_destinations (take n index) ∙ length-take-le n index (omega (arith, all, total)) in
+    let rest = each_long ns ms (drop n index) (omega (arith, all, total, length-drop n index)) (omega (arith, count)) in
+    λ i. here i ∷ rest i
+
+pub destinations-parts : (lengths widths : List ℕ) (index : List ℤ) → sum lengths ≡ length index → length lengths ≡ length widths → destinations_in (parts_of lengths widths index) ≡ length index
+destinations-parts lengths widths index total count = ap sum (each_long lengths widths index (omega (arith, total)) count) ∙ total
+
+module _ (lengths widths : List ℕ) (index : List ℤ) (count : length lengths ≡ length widths) (s : ℕ) where
+  pub places_ahead : places_in (take s (parts_of lengths widths index)) ≡ sum (take s widths)
+  places_ahead =
+      ap sum (sym (take-map (λ (p : ℕ × List (Option ℤ)). p.0) s (parts_of lengths widths index))
+      ∙ ap (take s) (firsts-zip widths (map all_destinations (cut_of lengths index)) (omega (arith, length-map (cut_of lengths index) all_destinations, length-cut lengths index, count))))
+
+  pub destinations_ahead : sum lengths ≡ length index → destinations_in (take s (parts_of lengths widths index)) ≡ sum (take s lengths)
+  destinations_ahead total =
+      ap sum (sym (take-map (λ (p : ℕ × List (Option ℤ)). length p.1) s (parts_of lengths widths index)) ∙ ap (take s) (each_long lengths widths index (omega (arith, total)) count))
+
+pub flagged_long : (lengths : List ℕ) (index : List ℤ) (flags : List Bool) → sum lengths ≤ length index → sum lengths ≤ length flags → map (λ p. length p.1) (flagged_parts lengths index flags) ≡ lengths
+flagged_long [] index flags total flag_total = refl
+flagged_long (n ∷ ns) index flags total flag_total =
+    let all = sum-cons n ns in
+    let index_long : length (take n index) ≡ n = length-take-le n index (omega (arith, all, total)) in
+    let flags_long : length (take n flags) ≡ n = length-take-le n flags (omega (arith, all, flag_total)) in
+    let here : length (flagged_destinations (take n index) (take n flags)) ≡ n = omega (arith, count-flagged_destinations (take n index) (take n flags), index_long, flags_long) in
+    let rest = flagged_long ns (drop n index) (drop n flags) (omega (arith, all, total, length-drop n index)) (omega (arith, all, flag_total, length-drop n flags)) in
+    λ i. here i ∷ rest i
+
+pub destinations-flagged_parts : (lengths : List ℕ) (index : List ℤ) (flags : List Bool) → sum lengths ≡ length index → sum lengths ≡ length flags
+    → destinations_in (flagged_parts lengths index flags) ≡ length index
+destinations-flagged_parts lengths index flags total flag_total = ap sum (flagged_long lengths index flags (omega (arith, total)) (omega (arith, flag_total))) ∙ total
+
+pub flagged_places_ahead : (lengths : List ℕ) (index : List ℤ) (flags : List Bool) (s : ℕ) → places_in (take s (flagged_parts lengths index flags)) ≡ count_of (take (sum (take s lengths)) flags)
+flagged_places_ahead [] index flags zero = refl
+flagged_places_ahead [] index flags (suc s) = refl
+flagged_places_ahead (n ∷ ns) index flags zero = refl
+flagged_places_ahead (n ∷ ns) index flags (suc s) =
+    let k = sum (take s ns) in
+    let cut : take (sum (take (suc s) (n ∷ ns))) flags ≡ take n flags ++ take k (drop n flags) = ap (λ j. take j flags) (sum-cons n (take s ns)) ∙ take-add n k flags in
+    omega (
+      arith,
+      sum-cons (count_of (take n flags)) (map (λ (p : ℕ × List (Option ℤ)). p.0) (take s (flagged_parts ns (drop n index) (drop n flags)))),
+      flagged_places_ahead ns (drop n index) (drop n flags) s,
+      ap count_of cut,
+      sum_by-append (λ (f : Bool). cond f 1 0) (take n flags) (take k (drop n flags)),
+    )
+
+pub start_within : (lengths : List ℕ) (s n : ℕ) → sum lengths ≡ n → sum (take s lengths) ≤ n
+start_within lengths s n total = omega (arith, total, sum_by-take-le (λ x. x) lengths s)
+
+-- of a segment's flags no more are true
+pub flagged_width : (lengths : List ℕ) (index : List ℤ) (flags : List Bool) (s : ℕ) → s < length lengths → (get_or (flagged_parts lengths index flags) s (0, [])).0 ≤ get_or lengths s 0
+flagged_width lengths index flags s lt =
+    let fs = take (get_or lengths s 0) (drop (sum (take s lengths)) flags) in
+    omega (arith, ap (λ (p : ℕ × List (Option ℤ)). p.0) (flagged_part_at lengths index flags s lt), count_by-le-length (λ (flag : Bool). flag) fs, length-take (get_or lengths s 0) (drop (sum (take s lengths)) flags))

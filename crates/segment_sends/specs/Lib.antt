@@ -1,0 +1,3 @@
+pub mod Parts
+pub mod Shares
+pub use Rattle.permute_walks.specs.Senders

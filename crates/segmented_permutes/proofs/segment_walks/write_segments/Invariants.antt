@@ -1,5 +1,0 @@
-use Rattle.segmented_permutes.proofs.Shared.{IsWalked}
-use Rattle.segmented_permutes.proofs.segment_walks.write_segments.Given as goal
-
-abbrev pub invariant-loop-s : goal.invariant-loop-s
-invariant-loop-s g l = IsWalked l.source (g.P.Parts.parts l.parts) l.before l.begin l.end l.s l.fn.run l.first l.run

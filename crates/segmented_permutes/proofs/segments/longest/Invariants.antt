@@ -1,5 +1,0 @@
-use Rattle.std.proofs.Common.{◌<◌, ◌≤◌, ℕ, slice_index}
-use Rattle.segmented_permutes.proofs.segments.longest.Given as goal
-
-abbrev pub invariant-loop-s : goal.invariant-loop-s
-invariant-loop-s g l = (s : ℕ) → s < l.s → slice_index l.d s ≤ l.longest
