@@ -7,7 +7,7 @@ use Rattle.cvl_base.specs.Elementwise.{values_from}
 use Rattle.cvl_base.specs.Integers.{sum_of}
 use Rattle.cvl_base.specs.ItemWords.{is_number}
 use Rattle.scan_walks.specs.Ranges.{continued, range_scan_of}
-use Rattle.tile_scans.specs.TiledSums.{elements_of, flagged, sums_of}
+use Rattle.tile_scans.specs.TiledSums.{flagged, sums_of}
 use Rattle.tile_scans.specs.Written.{befores_of}
 use Rattle.tile_scans.proofs.Flagged.{flagged_passes, length-flagged}
 use Rattle.tile_scans.proofs.RangeScans.{continued_range_scan}
@@ -26,9 +26,6 @@ scan_after_befores-requires-clause-before g c κs within =
     let plan = c.new-totals.ensures.plan ∙ ap (λ tile. (length a, tile)) c.tile.ensures.value in
     wrapped_befores v.plan (flagged segments v.elements.now) v.some v.few (length-flagged segments v.elements.now v.agrees ∙ sym v.whole) numbers c.deref.result.now known
     ∙ (λ i. befores_of sum_of (pos 0) (sums_of sum_of (pos 0) (plan i).0 (plan i).1 (flagged segments (c.new-totals.ensures.elements i))))
-
-pub scan_after_befores-requires-clause-agrees : goal.scan_after_befores-requires-clause-agrees
-scan_after_befores-requires-clause-agrees g c κs within = ap (λ s. elements_of s (length c.args.a.now)) c.new-totals.ensures.segments
 
 pub returns-clause-values : goal.returns-clause-values
 returns-clause-values g c =

@@ -30,15 +30,6 @@ bounds-before-t g c =
     let long = ap length c.requires ∙ length-map-range_with_len (λ t. (total_since (take (range_of v.plan.0 v.plan.1 t).0 ws)).1) 0 n in
     omega (arith, least.below, long)
 
-pub fitting-requires : goal.fitting-requires
-fitting-requires g c =
-    let v = c.args.vector.now in
-    let xs = v.elements.now in
-    let ws = flagged (option_copied v.segments) xs in
-    let n = tile_count v.plan.0 v.plan.1 in
-    let least = first_passes (λ t. has_outside (tile_of v.plan.0 v.plan.1 (total_scan ws) t)) 0 n c.in-Some.t (sym c.in_ok-t.ensures ∙ c.in-Some.is) in
-    omega (arith, least.below)
-
 pub overflow_cast-result : goal.overflow_cast-result
 overflow_cast-result g c =
     let v = c.args.vector.now in

@@ -1,8 +1,7 @@
-use Rattle.std.proofs.Common.{◌≡◌, ◌∙◌, ◌<◌, [], ◌∷◌, ◌++◌, IsTrue, ap, arith, true, get_or, length, rules, subst, sym}
-use Rattle.std.proofs.lemmas.List.{take_all, take_more_set}
+use Rattle.std.proofs.Common.{◌≡◌, ◌∙◌, ◌<◌, [], ◌∷◌, ◌++◌, IsTrue, arith, true, get_or, length, rules, subst, sym}
+use Rattle.std.proofs.lemmas.List.{take_more_set}
 use Rattle.std.proofs.lemmas.List.Elements.{All-get_or}
 use Rattle.operators.proofs.FoldLaws.{scan_of_more}
-use Rattle.cvl_base.specs.Folds.{scan_of}
 use Rattle.range_walks.proofs.Scanned.{joined_more}
 use Rattle.scan_walks.proofs.InPlace.{still_at, still_behind}
 use Rattle.scan_walks.proofs.in_place.scan_in.Goals as goal
@@ -27,9 +26,3 @@ loop-place-preserved g c =
           ∙ (λ t. before.scanned t ++ before.sum t ∷ []) ∙ sym (scan_of_more m.join c.args.before a i within);
       left = still_behind c.loop-place.a a i before.left c.loop-place.so_far;
     }
-
-pub returns : goal.returns
-returns g c =
-    let a = c.args.a.now in let i = c.loop-place.place in
-    sym (take_all i c.loop-place.a (omega arith)) ∙ c.loop-place.invariant.scanned
-    ∙ ap (scan_of g.M.Monoid.join c.args.before) (take_all i a (omega arith))

@@ -1,9 +1,8 @@
 use Rattle.std.proofs.Common.{◌≡◌, ◌+◌, ◌-◌, ◌≤◌, ℕ, true, arith, drop, length, map, rules, subst, sym, take, unsigned_abs}
 use Rattle.std.specs.List.{AllPass}
-use Rattle.std.proofs.lemmas.List.{length-map}
 use Rattle.std.proofs.lemmas.List.Elements.{All-drop, All-take}
 use Rattle.range_walks.proofs.Segments.{length_fits, segment_read, read_at}
-use Rattle.scan_walks.proofs.InPlace.{left_more, segment_fits, segments_ended, total_more, whole_more}
+use Rattle.scan_walks.proofs.InPlace.{left_more, segment_fits, total_more, whole_more}
 use Rattle.scan_walks.proofs.in_place.scans_in.Goals as goal
 
 pub overflow_cast-end : goal.overflow_cast-end
@@ -41,9 +40,3 @@ loop-length-preserved g c =
       left = left_more m.join m.unit lengths a turn.a turn.start s n read.0 read.1 turn.invariant.total long turn.invariant.left
           k is_k c.unit.result c.unit.ensures c.scan_in.new.a c.scan_in.ensures;
     }
-
-pub returns : goal.returns
-returns g c =
-    let m = g.M.Monoid in let lengths = map unsigned_abs c.args.lengths.now in let turn = c.loop-length in
-    segments_ended m.join m.unit lengths c.args.a.now turn.a _ turn.start turn.length-index
-    (omega (arith, c.loop-length-test.false, length-map c.args.lengths.now unsigned_abs)) turn.invariant.total (omega arith) turn.invariant.whole

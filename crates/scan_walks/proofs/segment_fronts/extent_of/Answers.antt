@@ -1,6 +1,6 @@
 use Rattle.std.proofs.Common.{map, unsigned_abs, arith}
 use Rattle.std.proofs.lemmas.Int.{to_z-of_z}
-use Rattle.std.proofs.lemmas.List.Sums.{fold_more, sum_by_more, sum_by_more_le}
+use Rattle.std.proofs.lemmas.List.Sums.{fold_more, sum_by_more}
 use Rattle.range_walks.proofs.Segments.{length_fits, segment_read}
 use Rattle.scan_walks.proofs.segment_fronts.extent_of.Goals as goal
 
@@ -8,14 +8,6 @@ pub overflow_cast-total : goal.overflow_cast-total
 overflow_cast-total c =
     let row = c.args.lengths.now in
     length_fits row (map unsigned_abs row) c.requires.none_negative c.requires c.loop-length.length-index c.loop-length-test.true
-
-pub overflow_add-total : goal.overflow_add-total
-overflow_add-total c =
-    let row = c.args.lengths.now in
-    let lengths = map unsigned_abs row in
-    let s = c.loop-length.length-index in
-    let read = segment_read row lengths c.requires.none_negative c.requires s c.loop-length-test.true in
-    omega (arith, read.1, c.loop-length.invariant.total, sum_by_more_le (λ x. x) lengths s 0 read.0, c.requires.in_limit)
 
 pub loop-length-preserved : goal.loop-length-preserved
 loop-length-preserved c =

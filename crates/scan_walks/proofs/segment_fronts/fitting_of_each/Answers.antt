@@ -1,9 +1,8 @@
 use Rattle.std.proofs.Common.{◌≡◌, ◌∙◌, ◌+◌, min, ◌+ℤ◌, pos, length, map, unsigned_abs, refl, ap, arith}
-use Rattle.std.proofs.lemmas.List.{length-map}
 use Rattle.std.proofs.lemmas.List.Sums.{sum_by-drop_more}
 use Rattle.range_walks.proofs.Segments.{length_fits, segment_read, one_long, one_scanned, read_at}
 use Rattle.scan_walks.specs.Fronts.{fitting_front}
-use Rattle.scan_walks.proofs.FrontLaws.{segments_end, segments_go_on, segments_stop}
+use Rattle.scan_walks.proofs.FrontLaws.{segments_go_on, segments_stop}
 use Rattle.scan_walks.proofs.segment_fronts.fitting_of_each.Goals as goal
 
 pub overflow_cast-length : goal.overflow_cast-length
@@ -38,8 +37,3 @@ loop-length-preserved c =
       parts = omega (arith, cut, c.split_at.ensures.back_len, c.split_at.ensures.front_len, c.loop-length.invariant.parts);
       covered = omega (arith, read.1, cut, c.split_at.ensures.back_len, c.loop-length.invariant.covered, sum_by-drop_more (λ x. x) lengths s 0 read.0);
     }
-
-pub returns-clause-front : goal.returns-clause-front
-returns-clause-front c =
-    let row = c.args.lengths.now in
-    segments_end _ c.loop-length.done c.loop-length.length-index (map unsigned_abs row) c.loop-length.rest.now c.loop-length.invariant.front (omega (arith, c.loop-length-test.false, length-map row unsigned_abs))

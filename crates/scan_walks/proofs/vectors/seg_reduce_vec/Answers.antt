@@ -5,13 +5,6 @@ use Rattle.range_walks.specs.Ranges.{reduces_of}
 use Rattle.scan_walks.proofs.Segmented.{length-reduces_of, seg_reduce-fits}
 use Rattle.scan_walks.proofs.vectors.seg_reduce_vec.Goals as goal
 
-pub into_vec-requires : goal.into_vec-requires
-into_vec-requires g c =
-    let m = g.M.Monoid in
-    let whole = reduces_of m.join m.unit c.args.d.now (map g.E.Reading.item c.args.a.now) in
-    let short = length-take (c.count-count.result - 0) (drop 0 whole) in
-    (all_written c.in_ok-room.room c.in_ok-room.run' c.seg_reduces_into.result _ _ c.in_ok-room.ensures.room c.in_ok-room.ensures.run c.seg_reduces_into.ensures (omega (arith, short))).0
-
 pub returns-clause-values : goal.returns-clause-values
 returns-clause-values g c =
     let m = g.M.Monoid in

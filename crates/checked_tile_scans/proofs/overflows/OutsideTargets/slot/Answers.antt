@@ -15,11 +15,6 @@ range-from-requires g c =
     let v = c.args.self.now.vector.now in
     omega (arith, c.requires, length-map-range_with_len (slot_of_tile v.plan (flagged (option_copied v.segments) v.elements.now)) 0 (tile_count v.plan.0 v.plan.1))
 
-pub fitting-requires : goal.fitting-requires
-fitting-requires g c =
-    let v = c.args.self.now.vector.now in
-    omega (arith, c.requires, length-map-range_with_len (slot_of_tile v.plan (flagged (option_copied v.segments) v.elements.now)) 0 (tile_count v.plan.0 v.plan.1))
-
 pub returns-then-fitting-to-clause-value : goal.returns-then-fitting-to-clause-value
 returns-then-fitting-to-clause-value g c =
     let o = c.args.self.now in

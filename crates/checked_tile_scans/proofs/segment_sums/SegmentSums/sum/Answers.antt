@@ -6,11 +6,6 @@ use Rattle.tile_scans.proofs.Flagged.{total_agrees}
 use Rattle.checked_tile_scans.proofs.SegmentTotals.{segment_open, segment_ranged}
 use Rattle.checked_tile_scans.proofs.segment_sums.SegmentSums.sum.Goals as goal
 
-pub total_between-requires-clause-within : goal.total_between-requires-clause-within
-total_between-requires-clause-within g c =
-    let v = c.args.self.now.vector.now in
-    omega (arith, c.start-start.ensures.within, c.length.ensures, total_agrees (option_copied v.segments) c.args.self.now.segments.now (length v.elements.now) c.args.self.now.cut v.agrees)
-
 pub total_between-requires-clause-open : goal.total_between-requires-clause-open
 total_between-requires-clause-open g c =
     let sums = c.args.self.now in

@@ -5,23 +5,12 @@ use Rattle.std.proofs.lemmas.List.{get_or-map, length-map}
 use Rattle.cvl_base.specs.CheckedSums.{fitting}
 use Rattle.cvl_base.specs.Integers.{wrap}
 use Rattle.fresh.specs.Found.{first_without}
-use Rattle.fresh.specs.Parts.{part}
 use Rattle.tile_scans.specs.Written.{next_of}
-use Rattle.tile_scans.proofs.WrittenParts.{next_is, nothing_yet}
+use Rattle.tile_scans.proofs.WrittenParts.{next_is}
 use Rattle.checked_tile_scans.specs.Checked.{segment_totals}
-use Rattle.checked_tile_scans.proofs.FirstWithout.{found_all, goes_on, one_more_written}
+use Rattle.checked_tile_scans.proofs.FirstWithout.{goes_on, one_more_written}
 use Rattle.checked_tile_scans.proofs.SegmentTotals.{length-segment_totals}
 use Rattle.checked_tile_scans.proofs.segment_sums.SegmentSumsCheckedWriterI32.write.Goals as goal
-
-pub loop-run-init : goal.loop-run-init
-loop-run-init g c =
-    let sums = c.args.self.now in
-    let totals = segment_totals sums.segments.now sums.vector.now.elements.now in
-    let at : next_of c.args.run ≡ c.args.run.first = omega (arith, ap length c.requires.empty) in
-    record {
-      written = nothing_yet (map wrap totals) c.args.run c.requires.within c.requires.empty;
-      outside = ap (λ p. first_without p (part (map fitting totals) p c.args.run.room)) at;
-    }
 
 pub sum-sum-requires : goal.sum-sum-requires
 sum-sum-requires g c =
@@ -63,15 +52,3 @@ loop-run-preserved g c =
           (c.fitting.ensures ∙ ap fitting sum ∙ sym (get_or-map fitting totals (next_of run) (pos 0) None inside))
           (c.first_found-outside.ensures ∙ ap (λ p. option_or c.loop-run.outside (first_without p (c.fitting.result ∷ []))) place);
     }
-
-pub loop-run-smaller : goal.loop-run-smaller
-loop-run-smaller g c =
-    let left = ap (λ r. r.room) c.push.ensures in
-    omega (arith, left, c.loop-run-test.true, c.room.ensures)
-
-pub returns-clause-found : goal.returns-clause-found
-returns-clause-found g c =
-    let sums = c.args.self.now in
-    let totals = segment_totals sums.segments.now sums.vector.now.elements.now in
-    let run = c.loop-run.run in
-    found_all (map fitting totals) c.loop-run.outside _ (next_of run) run.room c.loop-run.invariant.outside (omega (arith, c.loop-run-test.false, c.room.ensures))

@@ -1,11 +1,11 @@
-use Rattle.std.proofs.Common.{◌≡◌, ◌∙◌, ◌≤◌, pos, ◌+ℤ◌, to_z, of_z, w64, slice_range, length, ap, arith}
+use Rattle.std.proofs.Common.{◌≡◌, ◌∙◌, ◌≤◌, pos, ◌+ℤ◌, to_z, of_z, w64, slice_range, ap, arith}
 use Rattle.std.specs.Option.{option_copied}
 use Rattle.std.proofs.lemmas.Int.{to_z-of_z}
 use Rattle.cvl_base.specs.Folds.{scan_of}
 use Rattle.scan_walks.specs.Fronts.{fitting_front}
 use Rattle.scan_walks.specs.Ranges.{range_between, range_scan_of}
 use Rattle.tile_scans.specs.TiledSums.{flagged}
-use Rattle.tile_scans.proofs.Flagged.{cut_scanned, flat_scanned, total_agrees}
+use Rattle.tile_scans.proofs.Flagged.{cut_scanned, flat_scanned}
 use Rattle.checked_tile_scans.proofs.tile_totals.Totals.fitting.Goals as goal
 
 pub returns-in-None : goal.returns-in-None
@@ -19,11 +19,6 @@ returns-in-None g c =
     ∙ ap (λ z. fitting_front (scan_of ◌+ℤ◌ z (slice_range xs range.0 range.1))) back
     ∙ ap fitting_front (flat_scanned ◌+ℤ◌ (option_copied v.segments) xs range.0 range.1 before (pos 0) (ap option_copied c.in-None.is))
     ∙ ap (λ r. fitting_front (range_scan_of ◌+ℤ◌ (pos 0) before (slice_range (flagged (option_copied v.segments) xs) r.0 r.1))) c.range-from.ensures.value
-
-pub fitting_of_range-requires-clause-total : goal.fitting_of_range-requires-clause-total
-fitting_of_range-requires-clause-total g c =
-    let v = c.args.self.now in
-    total_agrees (option_copied v.segments) c.in-Some.d.now (length v.elements.now) (ap option_copied c.in-Some.is) v.agrees
 
 pub returns-in-Some : goal.returns-in-Some
 returns-in-Some g c =

@@ -1,8 +1,8 @@
-use Rattle.std.proofs.Common.{◌≡◌, ◌∙◌, ◌≤◌, pos, ◌+ℤ◌, to_z, of_z, w64, slice_range, length, ap, arith}
+use Rattle.std.proofs.Common.{◌≡◌, ◌∙◌, ◌≤◌, pos, ◌+ℤ◌, to_z, of_z, w64, slice_range, ap, arith}
 use Rattle.std.specs.Option.{option_copied}
 use Rattle.std.proofs.lemmas.Int.{to_z-of_z}
 use Rattle.tile_scans.specs.TiledSums.{flagged}
-use Rattle.tile_scans.proofs.Flagged.{cut_summed, flat_summed, total_agrees}
+use Rattle.tile_scans.proofs.Flagged.{cut_summed, flat_summed}
 use Rattle.checked_tile_scans.specs.Checked.{total_since}
 use Rattle.checked_tile_scans.proofs.tile_totals.Totals.total.Goals as goal
 
@@ -14,11 +14,6 @@ returns-in-None g c =
     let back : to_z w64 (of_z w64 c.total.result) ≡ c.total.result = grind (arith, to_z-of_z) in
     flat_summed ◌+ℤ◌ (option_copied v.segments) xs range.0 range.1 (pos 0) _ (ap option_copied c.in-None.is) (back ∙ c.total.ensures)
     ∙ ap (λ r. total_since (slice_range (flagged (option_copied v.segments) xs) r.0 r.1)) c.range-from.ensures.value
-
-pub total_of_range-requires-clause-total : goal.total_of_range-requires-clause-total
-total_of_range-requires-clause-total g c =
-    let v = c.args.self.now in
-    total_agrees (option_copied v.segments) c.in-Some.d.now (length v.elements.now) (ap option_copied c.in-Some.is) v.agrees
 
 pub returns-in-Some : goal.returns-in-Some
 returns-in-Some g c =

@@ -1,18 +1,12 @@
-use Rattle.std.proofs.Common.{◌≡◌, ◌∙◌, sym, ℕ, ◌-◌, ◌≤◌, pos, length, drop, take, get_or, ap, arith}
+use Rattle.std.proofs.Common.{◌∙◌, sym, ℕ, ◌-◌, ◌≤◌, pos, length, take, get_or, ap, arith}
 use Rattle.std.specs.Option.{option_copied}
 use Rattle.std.proofs.lemmas.List.Sums.{AllPass-from_list_all}
-use Rattle.operators.specs.Exact.{total_of}
 use Rattle.cvl_base.specs.ItemWords.{is_number}
 use Rattle.cvl_base.specs.Limits.{most_elements}
 use Rattle.tile_scans.specs.TiledSums.{flagged}
 use Rattle.checked_tile_scans.specs.Checked.{total_since}
-use Rattle.checked_tile_scans.proofs.SegmentTotals.{before_there, length-totals_before, parts_fit, parts_summed, range_read_back}
+use Rattle.checked_tile_scans.proofs.SegmentTotals.{before_there, length-totals_before, parts_fit, parts_summed}
 use Rattle.checked_tile_scans.proofs.tile_totals.Totals.total_between.Goals as goal
-
-pub returns-then-start-end : goal.returns-then-start-end
-returns-then-start-end g c =
-    let none : 0 ≡ c.args.end - c.args.start = omega (arith, c.if-start-end.true) in
-    ap (λ n. total_of (take n (drop c.args.start c.args.self.now.elements.now))) none
 
 pub bounds-before-t : goal.bounds-before-t
 bounds-before-t g c =
@@ -48,9 +42,3 @@ returns-then-start-from g c =
     ∙ c.requires.open place c.if-start-from.true ends in
     parts_summed xs few (AllPass-from_list_all is_number xs v.numbers) c.args.start place c.args.end (get_or c.args.before.now t (pos 0)) c.total.result
     (omega (arith, c.if-start-from.true)) ends before c.total.ensures
-
-pub returns : goal.returns
-returns g c =
-    let v = c.args.self.now in
-    let xs = v.elements.now in
-    range_read_back xs c.args.start c.args.end c.total-2.result (omega (arith, v.few, v.whole)) (AllPass-from_list_all is_number xs v.numbers) c.total-2.ensures
