@@ -1,8 +1,7 @@
 -- The sum of a range over whole numbers, from what stands before the tile that holds its last element, and its elements in the tile.
 -- Source: what the definitions of Checked and Exact imply.
-use Rattle.std.proofs.Common.{◌≡◌, ◌∙◌, sym, ap, subst, ℕ, ◌+◌, ◌-◌, ◌*◌, ◌<◌, ◌≤◌, Bool, true, false, ℤ, pos, ◌+ℤ◌, w64, FitsSigned, to_z, of_z, List, [], ◌∷◌, ◌++◌, map, length, take, drop, get_or, slice_range, arith, take-add, Option, Some, None}
-use Rattle.std.specs.List.{AllPass, range_with_len}
-use Rattle.std.proofs.lemmas.Int.{to_z-of_z}
+use Rattle.std.proofs.Common.{◌≡◌, ◌∙◌, sym, ap, subst, ℕ, ◌+◌, ◌-◌, ◌<◌, ◌≤◌, Bool, true, false, ℤ, pos, ◌+ℤ◌, w64, FitsSigned, to_z, of_z, List, [], ◌++◌, length, take, drop, get_or, slice_range, arith, take-add, Option, Some, None}
+use Rattle.std.specs.List.{AllPass}
 use Rattle.std.proofs.lemmas.List.{drop-drop, get_or-map, length-drop, length-take}
 use Rattle.std.proofs.lemmas.List.Elements.{All-drop, All-take}
 use Rattle.std.proofs.lemmas.List.FromFn.{get_or-map-range_with_len, length-map-range_with_len}
@@ -24,20 +23,13 @@ use Rattle.tile_scans.specs.TiledSums.{flagged}
 use Rattle.tile_scans.proofs.OpenSegments.{length-reduces_of, since_start}
 use Rattle.tile_scans.proofs.RangeScans.{continued_slice}
 use Rattle.checked_tile_scans.specs.Checked.{segment_totals, total_since, totals_before}
-use Rattle.checked_tile_scans.proofs.WideSums.{fits_wide, wide_fits, wide_sum}
+use Rattle.checked_tile_scans.proofs.WideSums.{wide_fits, wide_sum}
 
 pub length-segment_totals : (lengths : List ℕ) (xs : List ℤ) → length (segment_totals lengths xs) ≡ length lengths
 length-segment_totals lengths xs = length-reduces_of ◌+ℤ◌ (pos 0) lengths xs
 
 pub length-totals_before : (plan : ℕ × ℕ) (ws : List (Bool × ℤ)) → length (totals_before plan ws) ≡ tile_count plan.0 plan.1
 length-totals_before plan ws = length-map-range_with_len (λ t. (total_since (take (range_of plan.0 plan.1 t).0 ws)).1) 0 (tile_count plan.0 plan.1)
-
--- nothing stands before the one tile
-pub before_one : (plan : ℕ × ℕ) (ws : List (Bool × ℤ)) → tile_count plan.0 plan.1 ≡ 1 → totals_before plan ws ≡ pos 0 ∷ []
-before_one plan ws one =
-    let start : 0 * plan.1 ≡ 0 = omega arith in
-    ap (λ n. map (λ t. (total_since (take (range_of plan.0 plan.1 t).0 ws)).1) (range_with_len 0 n)) one
-    ∙ ap (λ k. (total_since (take k ws)).1 ∷ []) start
 
 module _ (lengths : List ℕ) (xs : List ℤ) (s : ℕ) (lt : s < length lengths) where
   pub segment_at : get_or (segment_totals lengths xs) s (pos 0) ≡ total_of (take (get_or lengths s 0) (drop (start_of lengths s) xs))
@@ -94,13 +86,6 @@ module _ (xs : List ℤ) (few : length xs ≤ most_elements) (numbers : AllPass 
 
   pub parts_summed : to_z w64 (of_z w64 (to_z w64 (of_z w64 before) +ℤ to_z w64 (of_z w64 own))) ≡ total_of (slice_range xs start end)
   parts_summed = wide_sum before own before_in_words own_in_words ∙ parts_joined
-
--- a sum that is read back from 64 bits
-pub range_read_back : (xs : List ℤ) (from to : ℕ) (z : ℤ) → length xs ≤ most_elements → AllPass is_number xs → z ≡ total_of (slice_range xs from to)
-    → to_z w64 (of_z w64 z) ≡ total_of (slice_range xs from to)
-range_read_back xs from to z few numbers is =
-    let fits : FitsSigned w64 z = fits_wide z (subst InWords (sym is) (range_in_words xs from to few numbers)) in
-    to_z-of_z w64 z fits ∙ is
 
 -- ---- ranges in which no segment starts but the first
 

@@ -1,14 +1,11 @@
 -- How the facts of the tiles given to a worker are kept while more are given.
 -- Source: what the definitions of Facts imply.
-use Rattle.std.proofs.Common.{◌≡◌, ap, subst, ◌∙◌, ℕ, ◌+◌, cond, List, [], ◌∷◌, arith, inl, inr}
+use Rattle.std.proofs.Common.{◌≡◌, ap, subst, ◌∙◌, ℕ, ◌+◌, cond, List, ◌∷◌, arith, inl, inr}
 use Rattle.std.proofs.lemmas.Bool.Decides.{eqb_tells}
 use Rattle.boards.specs.Passes.{times}
 use Rattle.crew.specs.Facts.{HasFacts}
 
 module _ {Seat : Type 0} (HasFact : Seat → ℕ → Type 0) (given : Seat → List ℕ) where
-  -- no tile, no fact
-  pub no_facts : (seat : Seat) → given seat ≡ [] → HasFacts HasFact given seat
-  no_facts seat none t some = let is : times t (given seat) ≡ 0 = ap (times t) none in absurd (omega (arith, is, some))
 
   -- one tile more, with its fact, where those of the others are kept
   pub one_fact_more : (old new : Seat) (t : ℕ) → given new ≡ t ∷ given old → HasFact new t → ((k : ℕ) → HasFact old k → HasFact new k)

@@ -1,6 +1,6 @@
 -- How the pieces of tiles come together: one by one, and those of two crews.
 -- Source: what the definitions of Pieces imply.
-use Rattle.std.proofs.Common.{◌≡◌, refl, sym, ap, ◌∙◌, subst, ℕ, ◌+◌, ◌<◌, cond, eqb, List, [], ◌∷◌, ◌++◌, map, arith}
+use Rattle.std.proofs.Common.{◌≡◌, sym, ap, ◌∙◌, subst, ℕ, ◌+◌, ◌<◌, cond, eqb, List, [], ◌∷◌, ◌++◌, map, arith}
 use Rattle.std.proofs.lemmas.List.{map-append}
 use Rattle.std.proofs.lemmas.List.Elements.{All-nil, All-cons, All-append}
 use Rattle.std.proofs.lemmas.List.Sums.{sum_by-append}
@@ -25,10 +25,6 @@ module _ {Item : Type 0} (count : ℕ) (items : ℕ → List Item) where
   -- the same tiles, counted in another way
   pub given_as : (f g : ℕ → ℕ) (ps : List (ℕ × List Item)) → ((t : ℕ) → f t ≡ g t) → ArePiecesOf count items f ps → ArePiecesOf count items g ps
   given_as f g ps same pieces = record { one_each = λ t. pieces.one_each t ∙ same t; of_work = pieces.of_work; as_meant = pieces.as_meant }
-
-  -- no tile, no piece
-  pub no_pieces : ArePiecesOf count items (λ t. times t []) []
-  no_pieces = record { one_each = λ t. refl; of_work = All-nil (λ p. p.0 < count); as_meant = All-nil (λ p. p.1 ≡ items p.0) }
 
   -- one tile more, and its piece
   pub one_more : (given after : List ℕ) (t : ℕ) (made : List Item) (ps all : List (ℕ × List Item)) → after ≡ t ∷ given → t < count → made ≡ items t → all ≡ ps ++ (t, made) ∷ []

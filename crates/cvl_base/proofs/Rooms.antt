@@ -1,8 +1,8 @@
 -- A list for a room: it fills it, or their lengths differ; or it stands at its front, or is too long.
 use Rattle.std.specs.Prelude.{Ok, Err}
 use Rattle.std.specs.Result.{IsErrAnd}
-use Rattle.std.proofs.Common.{◌≡◌, ◌≢◌, ◌∙◌, ◌<◌, ◌≤◌, ◌++◌, Result, refl, sym, ap, ℕ, not, List, drop, length, eq-eqb}
-use Rattle.std.proofs.lemmas.Bool.{le-ltb, lt-ltb, ne_eqb}
+use Rattle.std.proofs.Common.{◌≡◌, ◌≢◌, ◌∙◌, ◌<◌, ◌++◌, Result, refl, sym, ap, ℕ, not, List, drop, length, eq-eqb}
+use Rattle.std.proofs.lemmas.Bool.{lt-ltb, ne_eqb}
 use Rattle.cvl_base.specs.declared.fault.Fault.{Fault}
 use Rattle.cvl_base.specs.declared.fault.FaultNo.TheVariants.{LengthMismatch}
 use Rattle.cvl_base.specs.Faults.{fault}
@@ -17,8 +17,6 @@ module _ {X : Type 0} (room : ℕ) (xs : List X) where
   differs is = ap (λ b. fault_if (not b) (fault LengthMismatch) (Ok xs)) (ne_eqb (length xs) room is)
 
 module _ {X : Type 0} (room xs : List X) where
-  pub at_front-fits : length xs ≤ length room → at_front room xs ≡ Ok (xs ++ drop (length xs) room)
-  at_front-fits is = ap (λ b. fault_if b (fault LengthMismatch) (Ok (xs ++ drop (length xs) room))) (le-ltb (length room) (length xs) is)
 
   pub at_front-short : length room < length xs → at_front room xs ≡ Err (fault LengthMismatch)
   at_front-short is = ap (λ b. fault_if b (fault LengthMismatch) (Ok (xs ++ drop (length xs) room))) (lt-ltb (length room) (length xs) is)

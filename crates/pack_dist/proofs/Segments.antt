@@ -12,7 +12,7 @@ use Rattle.cvl_base.specs.Conversions.{integer_of}
 use Rattle.cvl_base.specs.Descriptors.{AreLengths}
 use Rattle.cvl_base.specs.Faults.{fault}
 use Rattle.cvl_base.specs.Folds.{fold_of}
-use Rattle.cvl_base.specs.Gives.{◌>>=◌, after, Gives}
+use Rattle.cvl_base.specs.Gives.{after, Gives}
 use Rattle.cvl_base.specs.Integers.{sum_of}
 use Rattle.cvl_base.specs.Limits.{most_elements}
 use Rattle.cvl_base.specs.Nests.{cut_of, nest}
@@ -26,7 +26,6 @@ use Rattle.cvl_base.proofs.Nests.{length-cut, nest-fits, nest-misfits}
 use Rattle.cvl_base.proofs.Segmented.{beside-fits, results-ok}
 use Rattle.scan_walks.proofs.Segmented.{seg_reduce-fits, seg_reduce-misfits}
 use Rattle.scan_walks.specs.Ranges.{reduces_of}
-use Rattle.pack_dist.specs.Counts.{counts_of}
 use Rattle.pack_dist.specs.Kept.{kept_of}
 use Rattle.pack_dist.proofs.Ones.{ones_counted}
 use Rattle.pack_dist.proofs.Packing.{kept-split}
@@ -53,18 +52,6 @@ ones-misfit : (flags : List Bool) (lengths : List ℕ) → sum lengths ≢ lengt
 ones-misfit flags lengths misfits =
     seg_reduce-misfits sum_of (pos 0) (map integer_of flags) lengths (fault no.LengthMismatch)
     (nest-misfits lengths (map integer_of flags) (λ fits. misfits (fits ∙ length-map flags integer_of)))
-
--- a reduce of the flags, read as 1 and 0, is the counts as integers
-pub counts_reduced : (flags : List Bool) (lengths : List ℕ) → sum lengths ≤ most_elements → seg_reduce_of sum_of (pos 0) (map integer_of flags) lengths ≡ counts_of flags lengths
-counts_reduced flags lengths small =
-    let as_integers : Result (List ℕ) Fault → Result (List ℤ) Fault = λ counted. counted >>= λ counts. Ok (map pos counts) in
-    elim (eqb_tells (sum lengths) (length flags)) [
-      | inl t ↦
-          seg_reduce-fits sum_of (pos 0) (map integer_of flags) lengths (t.1 ∙ sym (length-map flags integer_of))
-          ∙ ap (λ zs. Ok zs) (ones_by_segment lengths flags (omega (arith, t.1, small)))
-          ∙ ap as_integers (sym (seg_count-fits flags lengths t.1))
-      | inr t ↦ ones-misfit flags lengths t.1 ∙ ap as_integers (sym (seg_count-misfits flags lengths t.1))
-    ]
 
 sum-counts : (lengths : List ℕ) (flags : List Bool) → sum (map count_of (cut_of lengths flags)) ≤ length flags
 sum-counts [] flags = omega arith

@@ -2,7 +2,7 @@
 use Rattle.std.proofs.Common.{◌≡◌, ◌∙◌, refl, sym, ap, ℕ, ◌+◌, ◌<◌, ◌≤◌, min, Bool, true, false, cond, ℤ, pos, ◌+ℤ◌, List, ◌++◌, length, take, drop, get_or, arith, Some, None}
 use Rattle.std.specs.Prelude.{if◌then◌else◌, sum}
 use Rattle.std.specs.Option.{is_some}
-use Rattle.std.proofs.lemmas.List.{drop_more, drop_all, drop-drop, length-take, take-append-drop}
+use Rattle.std.proofs.lemmas.List.{drop_more, drop-drop, length-take, take-append-drop}
 use Rattle.std.proofs.lemmas.List.Folds.{prefix_len-append}
 use Rattle.std.proofs.lemmas.List.Sums.{prefix_len-le-length}
 use Rattle.operators.proofs.FoldLaws.{length-scan_of}
@@ -101,10 +101,6 @@ module _ (whole done k : ℕ) (so_far : ℤ) (rest block others : List ℤ) (is_
       omega (arith, parted, past, same, is_next)
 
 -- ---- a walk over segments, of whose scans the first ones, `done` in all, were seen to fit
-
-pub segments_end : (whole done s : ℕ) (lengths : List ℕ) (rest : List ℤ) → whole ≡ done + fitting_front (scans_of ◌+ℤ◌ (pos 0) (drop s lengths) rest) → length lengths ≤ s → done ≡ whole
-segments_end whole done s lengths rest is past =
-    let none = is ∙ ap (λ ls. done + fitting_front (scans_of ◌+ℤ◌ (pos 0) ls rest)) (drop_all s lengths past) in omega (arith, none)
 
 -- the step takes k segments, the last of them cut short by the end of the numbers
 module _ (whole done s k n cut later : ℕ) (lengths : List ℕ) (rest group others : List ℤ) (is_later : later ≡ s + k) (is_n : n ≡ sum (take k (drop s lengths)))

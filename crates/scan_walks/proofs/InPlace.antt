@@ -1,8 +1,8 @@
 -- A list that is written over from its front on: from the place that is next on it is as before.
 -- Source: what the definitions of take, drop and set imply.
-use Rattle.std.proofs.Common.{◌≡◌, ◌∙◌, ℕ, ◌+◌, ◌<◌, ◌≤◌, List, [], ◌++◌, drop, get_or, length, set, take, sym, ap, arith}
+use Rattle.std.proofs.Common.{◌≡◌, ◌∙◌, ℕ, ◌+◌, ◌<◌, ◌≤◌, List, ◌++◌, drop, get_or, length, set, take, sym, ap, arith}
 use Rattle.std.specs.Prelude.{sum}
-use Rattle.std.proofs.lemmas.List.{append-nil, append_assoc, drop-drop, drop-set-lt, drop_all, get_or-drop, length-drop, length-take, take_all}
+use Rattle.std.proofs.lemmas.List.{append_assoc, drop-drop, drop-set-lt, get_or-drop, length-drop, length-take}
 use Rattle.std.proofs.lemmas.List.Sums.{sum_by-drop_more}
 use Rattle.std.proofs.lemmas.Slice.{drop-put_mid, take-put_mid}
 use borrow.Rule.Slice.PartMut.{put_mid}
@@ -57,12 +57,3 @@ module _ {Item : Type 0} (join : Item → Item → Item) (unit : Item) (lengths 
         ((λ i. as_scanned i ++ scans_of join unit (drop (s + 1) lengths) (sym (drop-drop n start before) i))
         ∙ sym (scans_more join unit lengths s n (drop start before) lt is_n))
         ∙ so_far
-
--- no segment is left
-pub segments_ended : {Item : Type 0} (join : Item → Item → Item) (unit : Item) (lengths : List ℕ) (before now whole : List Item) (start s : ℕ)
-    → length lengths ≤ s → start + sum (drop s lengths) ≡ length before → length now ≡ length before
-    → take start now ++ scans_of join unit (drop s lengths) (drop start before) ≡ whole → now ≡ whole
-segments_ended join unit lengths before now whole start s past total long is_whole =
-    let none : drop s lengths ≡ [] = drop_all s lengths past in
-    sym (take_all start now (omega (arith, total, long, ap sum none))) ∙ sym (append-nil (take start now))
-    ∙ ap (λ ls. take start now ++ scans_of join unit ls (drop start before)) (sym none) ∙ is_whole
