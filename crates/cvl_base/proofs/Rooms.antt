@@ -17,7 +17,6 @@ module _ {X : Type 0} (room : ℕ) (xs : List X) where
   differs is = ap (λ b. fault_if (not b) (fault LengthMismatch) (Ok xs)) (ne_eqb (length xs) room is)
 
 module _ {X : Type 0} (room xs : List X) where
-
   pub at_front-short : length room < length xs → at_front room xs ≡ Err (fault LengthMismatch)
   at_front-short is = ap (λ b. fault_if b (fault LengthMismatch) (Ok (xs ++ drop (length xs) room))) (lt-ltb (length room) (length xs) is)
 
