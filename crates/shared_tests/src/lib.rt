@@ -9,7 +9,7 @@ mod doubles;
 #[cfg(test)]
 mod early;
 #[cfg(test)]
-mod least_boards;
+mod lowered_places;
 #[cfg(test)]
 mod meeting;
 #[cfg(test)]

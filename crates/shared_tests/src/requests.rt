@@ -1,6 +1,6 @@
 //! What threads share, with ample memory and with each of its requests refused in turn.
 
-use crate::{doubles, early, least_boards, pieces, scan_boards, worlds};
+use crate::{doubles, early, lowered_places, pieces, scan_boards, worlds};
 use cvl_base::{Config, Memory, NoResources};
 use refusing_memory::withstands_refusals;
 use sharing::all_workers;
@@ -57,7 +57,7 @@ fn is_right<R: Threads + Sync, A: Memory>(
     let threads = all_workers(config);
     match made {
         Made::ScanBoard => scan_boards::answers_by_hand(heap),
-        Made::LeastBoard => least_boards::answers_by_hand(heap),
+        Made::LeastBoard => lowered_places::answers_by_hand(heap),
         Made::World => worlds::answers_by_hand(heap),
         Made::List => pieces::is_in_order(rt, heap, threads),
         Made::Doubles(length) => doubles::are_written(rt, heap, threads, *length),
