@@ -2,11 +2,8 @@ use Rattle.std.proofs.Common.{◌≡◌, ◌<◌, arith, length, map}
 use Rattle.std.specs.List.{zip}
 use Rattle.std.proofs.lemmas.List.{length-map}
 use Rattle.std.proofs.lemmas.Slice.Zip.{length-zip}
-use Rattle.elementwise.proofs.InPlace.{begins, ends, step, value_pair}
+use Rattle.elementwise.proofs.InPlace.{ends, step, value_pair}
 use Rattle.elementwise.proofs.in_place.write_pairs.Goals as goal
-
-pub loop-place-init : goal.loop-place-init
-loop-place-init g c = begins _ c.args.a.now
 
 pub loop-place-preserved : goal.loop-place-preserved
 loop-place-preserved g c =

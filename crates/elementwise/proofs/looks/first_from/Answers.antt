@@ -1,4 +1,4 @@
-use Rattle.std.proofs.Common.{◌≡◌, ◌∙◌, ◌<◌, ℤ, arith, length, map, pos, refl, sym}
+use Rattle.std.proofs.Common.{◌∙◌, ◌<◌, ℤ, arith, length, map, pos, sym}
 use Rattle.std.specs.List.{zip}
 use Rattle.std.proofs.lemmas.List.{length-map}
 use Rattle.std.proofs.lemmas.Slice.Zip.{length-zip}
@@ -6,9 +6,6 @@ use Rattle.elementwise.specs.Valueless.{slot_without}
 use Rattle.elementwise.proofs.FirstWithout.{found, none_left, passed}
 use Rattle.elementwise.proofs.LeastFaults.{in_slot, no_slot, slot_at}
 use Rattle.elementwise.proofs.looks.first_from.Goals as goal
-
-pub loop-place-init : goal.loop-place-init
-loop-place-init g c = refl
 
 pub loop-place-preserved : goal.loop-place-preserved
 loop-place-preserved g c =

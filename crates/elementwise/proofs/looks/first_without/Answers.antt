@@ -1,16 +1,10 @@
-use Rattle.std.proofs.Common.{◌≡◌, ◌∙◌, ◌≤◌, ℤ, arith, length, map, refl, sym}
+use Rattle.std.proofs.Common.{◌∙◌, ◌≤◌, ℤ, arith, length, map, sym}
 use Rattle.std.specs.List.{zip}
 use Rattle.std.proofs.lemmas.List.{length-map}
 use Rattle.std.proofs.lemmas.Slice.Zip.{length-zip}
 use Rattle.elementwise.specs.Valueless.{slot_without}
 use Rattle.elementwise.proofs.FirstWithout.{none_left, passed_up_to}
 use Rattle.elementwise.proofs.looks.first_without.Goals as goal
-
-pub loop-start-init : goal.loop-start-init
-loop-start-init g c = record { within = omega arith; least = refl }
-
-pub returns-then-not-all_have_values : goal.returns-then-not-all_have_values
-returns-then-not-all_have_values g c = c.first_from.ensures ∙ sym c.loop-start.invariant.least
 
 pub loop-start-preserved : goal.loop-start-preserved
 loop-start-preserved g c =

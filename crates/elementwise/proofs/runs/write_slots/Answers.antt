@@ -1,10 +1,7 @@
-use Rattle.std.proofs.Common.{◌∙◌, ap, sym, subst}
-use Rattle.elementwise.specs.Slots.{IsToWrite, written}
+use Rattle.std.proofs.Common.{◌∙◌, ap, sym}
+use Rattle.elementwise.specs.Slots.{written}
 use Rattle.elementwise.proofs.Slots.{each_written}
 use Rattle.elementwise.proofs.runs.write_slots.Goals as goal
-
-pub par_for_each_mut-requires-after_bounds : goal.par_for_each_mut-requires-after_bounds
-par_for_each_mut-requires-after_bounds g c κs within = λ i p lt is. subst (IsToWrite (g.W.Writer.whole c.args.writer.now)) (sym is) (c.requires i p.now lt)
 
 pub returns : goal.returns
 returns g c =

@@ -2,8 +2,7 @@ use Rattle.std.proofs.Common.{◌≡◌, ◌-◌, length, map, take, rules, arit
 use Rattle.std.proofs.lemmas.List.{length-take}
 use Rattle.cvl_base.proofs.FoldLaws.{length-scan_of}
 use Rattle.cvl_base.specs.Folds.{scan_of}
-use Rattle.fresh.specs.Places.{with_items}
-use Rattle.range_walks.proofs.Scanned.{all_read, joined_reading, length-read}
+use Rattle.range_walks.proofs.Scanned.{joined_reading, length-read}
 use Rattle.range_walks.proofs.Written.{scan_written}
 use Rattle.range_walks.proofs.plain.scan_into.Goals as goal
 
@@ -26,8 +25,3 @@ loop-x-preserved g c =
       written = scan_written m.join c.args.run c.loop-x.run c.push.new.self c.args.before c.loop-x.so_far _ _ (length-read item c.args.xs.now _ c.loop-x-test.true) c.loop-x.invariant.written
           c.loop-x.invariant.sum c.push.ensures;
     }
-
-pub returns : goal.returns
-returns g c =
-    c.loop-x.invariant.written
-    ∙ ap (λ items. with_items c.args.run (scan_of g.M.Monoid.join c.args.before items)) (all_read g.E.Reading.item c.args.xs.now _ (omega arith))

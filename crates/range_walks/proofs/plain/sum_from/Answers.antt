@@ -1,6 +1,5 @@
-use Rattle.std.proofs.Common.{rules, arith, ap, ◌∙◌}
-use Rattle.cvl_base.specs.Folds.{fold_of}
-use Rattle.range_walks.proofs.Scanned.{all_read, joined_reading}
+use Rattle.std.proofs.Common.{rules, ap, ◌∙◌}
+use Rattle.range_walks.proofs.Scanned.{joined_reading}
 use Rattle.range_walks.proofs.plain.sum_from.Goals as goal
 
 pub loop-x-preserved : goal.loop-x-preserved
@@ -11,8 +10,3 @@ loop-x-preserved g c =
       sum = joined_reading m.join g.E.Reading.item c.args.before c.loop-x.sum _ c.x-item.result c.args.xs.now _ c.loop-x-test.true c.x-item.is c.loop-x.invariant.sum
           (c.join-sum.ensures ∙ ap (m.join c.loop-x.sum) c.item.ensures);
     }
-
-pub returns : goal.returns
-returns g c =
-    c.loop-x.invariant.sum
-    ∙ ap (fold_of g.M.Monoid.join c.args.before) (all_read g.E.Reading.item c.args.xs.now _ (omega arith))

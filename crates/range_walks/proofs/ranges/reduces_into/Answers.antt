@@ -1,10 +1,10 @@
 use Rattle.std.proofs.Common.{◌≡◌, ◌-◌, true, map, unsigned_abs, sym, subst, ap, ◌∙◌, arith}
 use Rattle.std.specs.List.{AllPass}
-use Rattle.std.proofs.lemmas.List.{drop-map, length-map, take-map}
-use Rattle.std.proofs.lemmas.List.Elements.{All-drop, All-take}
+use Rattle.std.proofs.lemmas.List.{drop-map, take-map}
+use Rattle.std.proofs.lemmas.List.Elements.{All-drop}
 use Rattle.std.proofs.lemmas.List.Sums.{sum_by-drop_more}
 use Rattle.range_walks.proofs.Segments.{length_fits, segment_read, read_at}
-use Rattle.range_walks.proofs.Written.{reduces_ended, reduces_written}
+use Rattle.range_walks.proofs.Written.{reduces_written}
 use Rattle.range_walks.proofs.ranges.reduces_into.Goals as goal
 
 pub overflow_cast-length : goal.overflow_cast-length
@@ -19,13 +19,6 @@ split_at-requires g c =
     let s = c.loop-length.length-index in
     let read = segment_read row lengths c.requires.lengths.none_negative c.requires.lengths s c.loop-length-test.true in
     omega (arith, read.1, c.loop-length.invariant.covered, sum_by-drop_more (λ x. x) lengths s 0 read.0)
-
-pub sum_from-requires-clause-items : goal.sum_from-requires-clause-items
-sum_from-requires-clause-items g c =
-    let m = g.M.Monoid in
-    let item = g.E.Reading.item in
-    subst (λ xs. AllPass (λ x. m.is_item (item x)) xs) (sym c.split_at.ensures.front)
-    (All-take (λ x. m.is_item (item x) ≡ true) (read_at c.args.lengths.now c.loop-length.length-index) c.loop-length.rest.now c.loop-length.invariant.items)
 
 pub loop-length-preserved : goal.loop-length-preserved
 loop-length-preserved g c =
@@ -46,9 +39,3 @@ loop-length-preserved g c =
       room = omega (arith, left, c.loop-length.invariant.room, c.loop-length-test.true);
       items = subst (λ xs. AllPass (λ x. m.is_item (item x)) xs) (sym c.split_at.ensures.back) (All-drop (λ x. m.is_item (item x) ≡ true) n rest c.loop-length.invariant.items);
     }
-
-pub returns : goal.returns
-returns g c =
-    let m = g.M.Monoid in
-    let lengths = map unsigned_abs c.args.lengths.now in
-    reduces_ended m.join m.unit lengths c.loop-length.run _ _ c.loop-length.length-index (omega (arith, c.loop-length-test.false, length-map c.args.lengths.now unsigned_abs)) c.loop-length.invariant.whole

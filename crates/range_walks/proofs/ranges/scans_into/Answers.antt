@@ -6,7 +6,7 @@ use Rattle.std.proofs.lemmas.List.Sums.{sum_by-drop_more}
 use Rattle.cvl_base.specs.Folds.{scan_of}
 use Rattle.range_walks.proofs.Scanned.{length-scan_read}
 use Rattle.range_walks.proofs.Segments.{length_fits, segment_read, read_at}
-use Rattle.range_walks.proofs.Written.{scans_ended, scans_written}
+use Rattle.range_walks.proofs.Written.{scans_written}
 use Rattle.range_walks.proofs.ranges.scans_into.Goals as goal
 
 pub overflow_cast-length : goal.overflow_cast-length
@@ -36,9 +36,3 @@ loop-length-preserved g c =
       room = omega (arith, left, long, cut, c.split_at.ensures.back_len, c.split_at.ensures.front_len, c.loop-length.invariant.room);
       items = subst (λ xs. AllPass (λ x. m.is_item (item x)) xs) (sym c.split_at.ensures.back) (All-drop (λ x. m.is_item (item x) ≡ true) c.min.result rest c.loop-length.invariant.items);
     }
-
-pub returns : goal.returns
-returns g c =
-    let m = g.M.Monoid in
-    let lengths = map unsigned_abs c.args.lengths.now in
-    scans_ended m.join m.unit lengths c.loop-length.run _ _ c.loop-length.length-index (omega (arith, c.loop-length-test.false, length-map c.args.lengths.now unsigned_abs)) c.loop-length.invariant.whole

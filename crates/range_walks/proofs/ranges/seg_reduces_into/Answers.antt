@@ -1,26 +1,16 @@
-use Rattle.std.proofs.Common.{◌≡◌, ℕ, ◌+◌, ◌-◌, ◌<◌, ◌∷◌, [], true, get_or, map, take, drop, unsigned_abs, sym, subst, ap, ◌∙◌, arith}
+use Rattle.std.proofs.Common.{◌≡◌, ℕ, ◌+◌, ◌-◌, ◌<◌, ◌∷◌, [], get_or, map, take, drop, unsigned_abs, sym, ap, ◌∙◌, arith}
 use Rattle.std.specs.Prelude.{sum}
-use Rattle.std.specs.List.{AllPass}
-use Rattle.std.proofs.lemmas.List.{drop-map, length-drop, length-take}
-use Rattle.std.proofs.lemmas.List.Elements.{All-drop, All-take}
+use Rattle.std.proofs.lemmas.List.{drop-map, length-drop}
 use Rattle.std.proofs.lemmas.List.Sums.{sum_by_more, sum_by-take-drop}
 use Rattle.cvl_base.specs.Folds.{fold_of}
 use Rattle.fresh.specs.Places.{with_items}
-use Rattle.fresh.proofs.Written.{nothing_written, written_twice}
+use Rattle.fresh.proofs.Written.{written_twice}
 use Rattle.segdes.specs.Starts.{start_of}
 use Rattle.range_walks.specs.Ranges.{reduces_of}
 use Rattle.range_walks.proofs.Scanned.{part_read}
 use Rattle.range_walks.proofs.Segments.{range_lengths, range_read, range_sum}
 use Rattle.range_walks.proofs.SegmentReduces.{reduces_walked}
 use Rattle.range_walks.proofs.ranges.seg_reduces_into.Goals as goal
-
-pub sum_from-requires-clause-items : goal.sum_from-requires-clause-items
-sum_from-requires-clause-items g c =
-    let item = g.E.Reading.item in
-    let is_item : g.row.X.Denot → Type 0 = λ x. g.M.Monoid.is_item (item x) ≡ true in
-    let k : ℕ = c.start.result + c.length.result - c.args.from in
-    subst (λ xs. AllPass (λ x. g.M.Monoid.is_item (item x)) xs) (sym (c.split_at-2.ensures.front ∙ ap (take k) c.split_at.ensures.back))
-    (All-take is_item k (drop c.args.from c.args.a.now) (All-drop is_item c.args.from c.args.a.now c.requires.items))
 
 pub reduces_into-requires-clause-lengths : goal.reduces_into-requires-clause-lengths
 reduces_into-requires-clause-lengths g c =
@@ -52,27 +42,6 @@ reduces_into-requires-clause-covered g c =
       c.split_at.ensures.back_len,
       length-drop c.args.from c.args.a.now,
     )
-
-pub reduces_into-requires-clause-items : goal.reduces_into-requires-clause-items
-reduces_into-requires-clause-items g c =
-    let m = g.M.Monoid in
-    let item = g.E.Reading.item in
-    subst (λ xs. AllPass (λ x. m.is_item (item x)) xs) (sym (c.split_at-2.ensures.back ∙ ap (drop (c.start.result + c.length.result - c.args.from)) c.split_at.ensures.back))
-    (All-drop (λ x. m.is_item (item x) ≡ true) (c.start.result + c.length.result - c.args.from) (drop c.args.from c.args.a.now)
-    (All-drop (λ x. m.is_item (item x) ≡ true) c.args.from c.args.a.now c.requires.items))
-
-pub reduces_into-requires-clause-room : goal.reduces_into-requires-clause-room
-reduces_into-requires-clause-room g c =
-    let left : c.push.new.self.room ≡ c.args.run.room - 1 = ap (λ r. r.room) c.push.ensures in
-    omega (arith, left, c.requires.room, length-take (c.args.next - (c.args.first + 1)) (drop (c.args.first + 1) c.lengths.result.now))
-
-pub returns-then-first-next : goal.returns-then-first-next
-returns-then-first-next g c =
-    let m = g.M.Monoid in
-    let run = c.args.run in
-    let whole = reduces_of m.join m.unit c.args.d.now (map g.E.Reading.item c.args.a.now) in
-    let none : c.args.next - c.args.first ≡ 0 = omega (arith, c.if-first-next.true) in
-    sym (nothing_written run) ∙ ap (λ n. with_items run (take n (drop c.args.first whole))) (sym none)
 
 pub returns : goal.returns
 returns g c =
