@@ -15,6 +15,12 @@ write_checked_in_runs-requires-clause-items g c κs within =
     let xs = c.args.vector.now.elements.now in
     omega (arith, c.count.ensures.value, length-segment_totals d xs, length-map (segment_totals d xs) wrap)
 
+pub write_checked_in_runs-requires-clause-values : goal.write_checked_in_runs-requires-clause-values
+write_checked_in_runs-requires-clause-values g c κs within =
+    let d = c.args.segments.now in
+    let xs = c.args.vector.now.elements.now in
+    omega (arith, c.count.ensures.value, length-segment_totals d xs, length-map (segment_totals d xs) fitting)
+
 pub overflow_cast-place : goal.overflow_cast-place
 overflow_cast-place g c =
     let d = c.args.segments.now in

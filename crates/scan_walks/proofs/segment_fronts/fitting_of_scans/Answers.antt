@@ -11,6 +11,11 @@ extent_of-total-requires c =
     let row = c.args.lengths.now in
     range_lengths row (map unsigned_abs row) c.loop-first.first (c.min-next.result - c.loop-first.first) c.requires.lengths.none_negative c.requires.lengths
 
+pub fitting_of_group-fitting-requires-clause-lengths : goal.fitting_of_group-fitting-requires-clause-lengths
+fitting_of_group-fitting-requires-clause-lengths c =
+    let row = c.args.lengths.now in
+    range_lengths row (map unsigned_abs row) c.loop-first.first (c.min-next.result - c.loop-first.first) c.requires.lengths.none_negative c.requires.lengths
+
 pub returns-then-fitting-elements-clause-front : goal.returns-then-fitting-elements-clause-front
 returns-then-fitting-elements-clause-front c =
     let row = c.args.lengths.now in
