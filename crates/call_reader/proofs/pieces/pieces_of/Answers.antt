@@ -1,6 +1,6 @@
 use Rattle.std.proofs.Common.{ap, ◌∙◌, ◌++◌, arith, length, length-append}
 use Rattle.call_reader.specs.Pieces.{numbers_of}
-use Rattle.call_reader.proofs.PieceWalk.{last_piece, numbers_in, one_piece_more}
+use Rattle.call_reader.proofs.PieceWalk.{numbers_in, one_piece_more}
 use Rattle.call_reader.proofs.pieces.pieces_of.Goals as goal
 
 pub loop-left-preserved : goal.loop-left-preserved
@@ -12,7 +12,3 @@ loop-left-preserved g c =
       as_many = omega (arith, ap length c.in_ok-push.ensures.items ∙ length-append c.loop-left.pieces.items _, c.loop-left.invariant.as_many);
       some = omega arith;
     }
-
-pub returns-clause-whole : goal.returns-clause-whole
-returns-clause-whole g c =
-    ap (numbers_in (λ p. p.bytes.now)) c.in_ok-push-2.ensures.items ∙ last_piece (λ p. p.bytes.now) c.loop-left.pieces.items _ ∙ c.loop-left.invariant.whole

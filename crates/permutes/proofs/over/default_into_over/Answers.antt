@@ -2,14 +2,10 @@ use Rattle.std.proofs.Common.{Vec, arith, length, subst, sym, vec_len}
 use Rattle.cvl_base.specs.Permutes.{all_destinations, first_fault, wrongs}
 use Rattle.cvl_base.specs.Rooms.{OverwritesOr, in_room}
 use Rattle.permute_walks.specs.Senders.{senders_of}
-use Rattle.cvl_base.proofs.Permutes.{length-all_destinations}
 use Rattle.permute_walks.proofs.Sent.{length-senders_of}
 use Rattle.permutes.proofs.Flat.{default-meaning}
 use Rattle.permutes.proofs.Walked.{length_given}
 use Rattle.permutes.proofs.over.default_into_over.Goals as goal
-
-pub senders_alone-found-requires-clause-few : goal.senders_alone-found-requires-clause-few
-senders_alone-found-requires-clause-few g c κs within = omega (arith, length-all_destinations c.args.index.now, c.requires.in_limit)
 
 pub take_or_default_over-requires-clause-as_long : goal.take_or_default_over-requires-clause-as_long
 take_or_default_over-requires-clause-as_long g c κs within =

@@ -1,7 +1,6 @@
 use Rattle.std.proofs.Common.{◌≡◌, length, map, sym, ap, ◌∙◌, arith}
 use Rattle.std.specs.Option.{option_copied}
 use Rattle.std.proofs.lemmas.List.{map-id}
-use Rattle.scan_walks.specs.Ranges.{range_scan_of}
 use Rattle.tile_scans.specs.TiledSums.{flagged, sums_of}
 use Rattle.tile_scans.specs.Written.{befores_of}
 use Rattle.tile_scans.proofs.Flagged.{length-scanned}
@@ -15,14 +14,6 @@ invariant_of-known g c = record {
       let elements : map (λ x. x) v.elements.now ≡ c.args.a.now = map-id v.elements.now ∙ c.new-vector.ensures.elements in
       c.requires.before ∙ sym (λ i. befores_of m.join m.unit (sums_of m.join m.unit (plan i).0 (plan i).1 (flagged (c.new-vector.ensures.segments i) (elements i))));
 }
-
-pub returns-clause-values : goal.returns-clause-values
-returns-clause-values g c =
-    let m = g.M.Monoid in
-    let v = c.new-vector.result in
-    c.in_ok-sums.ensures
-    ∙ ap (λ s. range_scan_of m.join m.unit m.unit (flagged s (map (λ x. x) v.elements.now))) c.new-vector.ensures.segments
-    ∙ ap (λ xs. range_scan_of m.join m.unit m.unit (flagged (option_copied c.args.segments) xs)) (map-id v.elements.now ∙ c.new-vector.ensures.elements)
 
 pub returns-clause-as_long : goal.returns-clause-as_long
 returns-clause-as_long g c =

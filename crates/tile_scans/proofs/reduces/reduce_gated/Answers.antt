@@ -1,34 +1,12 @@
-use Rattle.std.proofs.Common.{◌-◌, ◌<◌, ◌≤◌, false, arith, length, map, take, refl, ap, ◌∙◌, None}
+use Rattle.std.proofs.Common.{◌-◌, ◌≤◌, false, arith, length, map, take, refl, ap, ◌∙◌, None}
 use Rattle.std.proofs.lemmas.List.{length-map, map-id, take_all}
 use Rattle.cvl_base.specs.Folds.{fold_of}
 use Rattle.cvl_base.specs.SegmentMonoid.{seg_join, seg_unit}
 use Rattle.scan_walks.specs.Ranges.{continued}
 use Rattle.scan_walks.proofs.LastStart.{continued_summed}
-use Rattle.tile_plan.specs.Ranges.{tile_count}
-use Rattle.tile_plan.proofs.Numbers.{starts_within}
 use Rattle.tile_scans.specs.TiledSums.{flagged}
 use Rattle.tile_scans.proofs.Flagged.{length-flagged}
-use Rattle.tile_scans.proofs.SumsOfTiles.{some_tile}
 use Rattle.tile_scans.proofs.reduces.reduce_gated.Goals as goal
-
-pub overflow_sub-last : goal.overflow_sub-last
-overflow_sub-last g c =
-    let v = c.new-vector.result in
-    let filled : 0 < v.plan.0 = omega (arith, c.in-Some.ensures.some, v.whole, ap length c.new-vector.ensures.elements) in
-    omega (arith, some_tile v.plan.0 v.plan.1 v.some filled, c.count-last.ensures.value)
-
-pub before_place-requires-clause-tile : goal.before_place-requires-clause-tile
-before_place-requires-clause-tile g c =
-    let v = c.new-vector.result in
-    let filled : 0 < v.plan.0 = omega (arith, c.in-Some.ensures.some, v.whole, ap length c.new-vector.ensures.elements) in
-    omega (arith, some_tile v.plan.0 v.plan.1 v.some filled, c.count-last.ensures.value)
-
-pub before_place-requires-clause-begun : goal.before_place-requires-clause-begun
-before_place-requires-clause-begun g c =
-    let v = c.new-vector.result in
-    let filled : 0 < v.plan.0 = omega (arith, c.in-Some.ensures.some, v.whole, ap length c.new-vector.ensures.elements) in
-    let below : c.count-last.result - 1 < tile_count v.plan.0 v.plan.1 = omega (arith, some_tile v.plan.0 v.plan.1 v.some filled, c.count-last.ensures.value) in
-    omega (arith, starts_within v.plan.0 v.plan.1 (c.count-last.result - 1) v.some below, v.whole, ap length c.new-vector.ensures.elements)
 
 pub returns : goal.returns
 returns g c =

@@ -5,10 +5,6 @@ use Rattle.scan_walks.proofs.Segmented.{seg_reduce-fits}
 use Rattle.tile_scans.proofs.OpenSegments.{length-reduces_of}
 use Rattle.tile_scans.proofs.reduces.seg_reduce_readings_gated.Goals as goal
 
-pub reduces_known-requires-clause-filled : goal.reduces_known-requires-clause-filled
-reduces_known-requires-clause-filled g c κs within =
-    omega (arith, c.in-Some.ensures.some, c.new-vector.result.whole, ap length c.new-vector.ensures.elements)
-
 pub returns-clause-values : goal.returns-clause-values
 returns-clause-values g c =
     let m = g.M.Monoid in

@@ -5,7 +5,7 @@ use Rattle.cvl_base.specs.Folds.{fold_of}
 use Rattle.cvl_base.specs.SegmentMonoid.{seg_join, seg_unit}
 use Rattle.tile_scans.specs.TiledSums.{flagged}
 use Rattle.tile_scans.proofs.Flagged.{items_read}
-use Rattle.tile_scans.proofs.OpenSegments.{is_open, length-reduces_of, open_at_start}
+use Rattle.tile_scans.proofs.OpenSegments.{is_open, length-reduces_of}
 use Rattle.tile_scans.proofs.known_reduces.KnownReducesStepsItem.write_on.Goals as goal
 
 pub start-start-requires : goal.start-start-requires
@@ -41,23 +41,8 @@ seg_reduces_into-requires-clause-begun g c =
     (omega (arith, c.if-start-from.true, c.start-start.ensures.value))
     (omega (arith, tile, c.max.ensures, c.if-start-from.true, c.start-start.ensures.value, c.length.ensures, next)) stands
 
-pub seg_reduces_into-requires-clause-within : goal.seg_reduces_into-requires-clause-within
-seg_reduces_into-requires-clause-within g c =
-    let m = g.M.Monoid in
-    let long = length-reduces_of m.join m.unit c.args.self.now.segments.now (map g.E.Reading.item c.args.self.now.known.now.vector.now.elements.now) in
-    omega (arith, c.next_place-first.ensures.place, c.min-next.ensures, c.room.ensures, c.requires.within, long)
-
 pub seg_reduces_into-requires-2-clause-within : goal.seg_reduces_into-requires-2-clause-within
 seg_reduces_into-requires-2-clause-within g c =
     let m = g.M.Monoid in
     let long = length-reduces_of m.join m.unit c.args.self.now.segments.now (map g.E.Reading.item c.args.self.now.known.now.vector.now.elements.now) in
     omega (arith, c.next_place-first.ensures.place, c.min-next.ensures, c.room.ensures, c.requires.within, long)
-
-pub seg_reduces_into-requires-2-clause-begun : goal.seg_reduces_into-requires-2-clause-begun
-seg_reduces_into-requires-2-clause-begun g c =
-    let m = g.M.Monoid in
-    let d = c.args.self.now.segments.now in
-    let xs = map g.E.Reading.item c.args.self.now.known.now.vector.now.elements.now in
-    let long = length-reduces_of m.join m.unit d xs in
-    let lt : c.next_place-first.result < length d = omega (arith, c.next_place-first.ensures.place, c.requires.some, c.requires.within, long) in
-    λ _. open_at_start m.join m.unit d xs c.next_place-first.result c.start-start.result c.unit.result lt c.start-start.ensures.value c.unit.ensures

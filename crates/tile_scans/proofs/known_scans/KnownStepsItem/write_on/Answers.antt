@@ -23,27 +23,6 @@ tile_at-t-requires g c =
     let long = length-scanned m.join m.unit g.E.Reading.item (option_copied v.segments) v.elements.now v.agrees in
     omega (arith, c.next_place-at.ensures.place, c.requires.some, c.requires.within, long, v.whole)
 
-pub before_place-before-requires-clause-within : goal.before_place-before-requires-clause-within
-before_place-before-requires-clause-within g c =
-    let m = g.M.Monoid in
-    let v = c.args.self.now.vector.now in
-    let long = length-scanned m.join m.unit g.E.Reading.item (option_copied v.segments) v.elements.now v.agrees in
-    omega (arith, c.next_place-at.ensures.place, c.requires.within, long)
-
-pub scan_between-requires-clause-in_order : goal.scan_between-requires-clause-in_order
-scan_between-requires-clause-in_order g c =
-    omega (arith, c.min-end.ensures, c.room.ensures, c.tile_at-t.ensures.not_past, ap (λ r. r.1) c.range-end.ensures.value)
-
-pub scan_between-requires-clause-within : goal.scan_between-requires-clause-within
-scan_between-requires-clause-within g c =
-    let m = g.M.Monoid in
-    let v = c.args.self.now.vector.now in
-    let long = length-scanned m.join m.unit g.E.Reading.item (option_copied v.segments) v.elements.now v.agrees in
-    omega (arith, c.min-end.ensures, c.room.ensures, c.next_place-at.ensures.place, c.requires.within, long)
-
-pub scan_between-requires-clause-room : goal.scan_between-requires-clause-room
-scan_between-requires-clause-room g c = omega (arith, c.min-end.ensures, c.room.ensures)
-
 pub returns : goal.returns
 returns g c =
     let m = g.M.Monoid in

@@ -1,9 +1,9 @@
-use Rattle.std.proofs.Common.{◌-◌, ap, length, map, ◌∙◌}
+use Rattle.std.proofs.Common.{◌-◌, ap, map, ◌∙◌}
 use Rattle.std.specs.Option.{option_copied}
 use Rattle.cvl_base.specs.Folds.{scan_of}
 use Rattle.fresh.specs.Places.{with_items}
 use Rattle.scan_walks.proofs.Scanned.{part_read}
-use Rattle.tile_scans.proofs.Flagged.{all_read_pass, cut_scanned, flat_scanned, total_agrees}
+use Rattle.tile_scans.proofs.Flagged.{cut_scanned, flat_scanned}
 use Rattle.tile_scans.proofs.tiled.Tiled.scan_between.Goals as goal
 
 pub returns-in-None : goal.returns-in-None
@@ -14,14 +14,6 @@ returns-in-None g c =
     c.scan_into.ensures
     ∙ ap (λ ys. with_items c.args.run (scan_of m.join c.args.before ys)) (part_read item (c.args.to - c.args.from) c.args.from v.elements.now)
     ∙ ap (with_items c.args.run) (flat_scanned m.join (option_copied v.segments) (map item v.elements.now) c.args.from c.args.to c.args.before m.unit (ap option_copied c.in-None.is))
-
-pub scan_range_into-requires-clause-total : goal.scan_range_into-requires-clause-total
-scan_range_into-requires-clause-total g c =
-    let v = c.args.self.now in
-    total_agrees (option_copied v.segments) c.in-Some.d.now (length v.elements.now) (ap option_copied c.in-Some.is) v.agrees
-
-pub scan_range_into-requires-clause-items : goal.scan_range_into-requires-clause-items
-scan_range_into-requires-clause-items g c = all_read_pass g.M.Monoid.is_item g.E.Reading.item c.args.self.now.elements.now c.args.self.now.items
 
 pub returns-in-Some : goal.returns-in-Some
 returns-in-Some g c =

@@ -1,8 +1,8 @@
-use Rattle.std.proofs.Common.{◌-◌, ap, length, map, ◌∙◌}
+use Rattle.std.proofs.Common.{◌-◌, ap, map, ◌∙◌}
 use Rattle.std.specs.Option.{option_copied}
 use Rattle.cvl_base.specs.Folds.{fold_of}
 use Rattle.scan_walks.proofs.Scanned.{part_read}
-use Rattle.tile_scans.proofs.Flagged.{all_read_pass, cut_summed, flat_summed, total_agrees}
+use Rattle.tile_scans.proofs.Flagged.{cut_summed, flat_summed}
 use Rattle.tile_scans.proofs.tiled.Tiled.sum_between.Goals as goal
 
 pub returns-in-None : goal.returns-in-None
@@ -12,14 +12,6 @@ returns-in-None g c =
     let item = g.E.Reading.item in
     flat_summed m.join (option_copied v.segments) (map item v.elements.now) c.args.from c.args.to c.args.before c.sum_from.result (ap option_copied c.in-None.is)
     (c.sum_from.ensures ∙ ap (fold_of m.join c.args.before) (part_read item (c.args.to - c.args.from) c.args.from v.elements.now))
-
-pub sum_of_range-requires-clause-total : goal.sum_of_range-requires-clause-total
-sum_of_range-requires-clause-total g c =
-    let v = c.args.self.now in
-    total_agrees (option_copied v.segments) c.in-Some.d.now (length v.elements.now) (ap option_copied c.in-Some.is) v.agrees
-
-pub sum_of_range-requires-clause-items : goal.sum_of_range-requires-clause-items
-sum_of_range-requires-clause-items g c = all_read_pass g.M.Monoid.is_item g.E.Reading.item c.args.self.now.elements.now c.args.self.now.items
 
 pub returns-in-Some : goal.returns-in-Some
 returns-in-Some g c =
