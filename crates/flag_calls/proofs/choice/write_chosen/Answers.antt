@@ -4,11 +4,8 @@ use Rattle.std.proofs.lemmas.List.{get_or_default, length-map}
 use Rattle.std.proofs.lemmas.Slice.Zip.{length-zip}
 use Rattle.cvl_base.specs.Elementwise.{chosen}
 use Rattle.element_walks.proofs.Places.{value_on_triple}
-use Rattle.elementwise.proofs.InPlace.{begins, ends, step}
+use Rattle.elementwise.proofs.InPlace.{ends, step}
 use Rattle.flag_calls.proofs.choice.write_chosen.Goals as goal
-
-pub loop-place-init : goal.loop-place-init
-loop-place-init g c = begins _ c.args.over.now
 
 pub loop-place-preserved : goal.loop-place-preserved
 loop-place-preserved g c =

@@ -2,7 +2,7 @@ use Rattle.std.proofs.Common.{◌≡◌, ◌-◌, ◌<◌, get_or, length, map, 
 use Rattle.std.proofs.lemmas.List.{length-map}
 use Rattle.std.proofs.lemmas.List.Sums.{sum_by-drop_more}
 use Rattle.scan_walks.proofs.Segments.{length_fits, length_read, read_at}
-use Rattle.flag_calls.proofs.InSegments.{all_written, more_written}
+use Rattle.flag_calls.proofs.InSegments.{more_written}
 use Rattle.flag_calls.proofs.segments.reduces_into.Goals as goal
 
 pub overflow_cast-length : goal.overflow_cast-length
@@ -30,8 +30,3 @@ loop-length-preserved g c =
       room = omega (arith, left, c.loop-length.invariant.room, c.loop-length-test.true);
       few = omega (arith, c.split_at.ensures.back_len, c.loop-length.invariant.few);
     }
-
-pub returns : goal.returns
-returns g c =
-    let row = c.args.lengths.now in
-    all_written g.R.Reduce.value (map unsigned_abs row) c.loop-length.run _ _ c.loop-length.length-index (omega (arith, c.loop-length-test.false, length-map row unsigned_abs)) c.loop-length.invariant.whole
