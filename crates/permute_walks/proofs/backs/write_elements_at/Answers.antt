@@ -6,28 +6,6 @@ use Rattle.permute_walks.specs.Indices.{elements_at}
 use Rattle.permute_walks.proofs.Outside.{read_index, at_more}
 use Rattle.permute_walks.proofs.backs.write_elements_at.Goals as goal
 
-pub overflow_cast-i : goal.overflow_cast-i
-overflow_cast-i g c =
-    let n = length c.args.source.now in
-    let i = get_or c.args.index.now c.loop-i.i-index (pos 0) in
-    let fits : FitsSigned w32 i = search rules in
-    (read_index n i fits (All-get_or (λ j. is_place n j ≡ true) c.args.index.now c.loop-i.i-index (pos 0) c.loop-i-test.true c.requires.inside)).0
-
-pub offset_bounds-source-i : goal.offset_bounds-source-i
-offset_bounds-source-i g c =
-    let n = length c.args.source.now in
-    let i = get_or c.args.index.now c.loop-i.i-index (pos 0) in
-    let fits : FitsSigned w32 i = search rules in
-    let within = (read_index n i fits (All-get_or (λ j. is_place n j ≡ true) c.args.index.now c.loop-i.i-index (pos 0) c.loop-i-test.true c.requires.inside)).1.0 in
-    omega arith
-
-pub bounds-source-i : goal.bounds-source-i
-bounds-source-i g c =
-    let n = length c.args.source.now in
-    let i = get_or c.args.index.now c.loop-i.i-index (pos 0) in
-    let fits : FitsSigned w32 i = search rules in
-    (read_index n i fits (All-get_or (λ j. is_place n j ≡ true) c.args.index.now c.loop-i.i-index (pos 0) c.loop-i-test.true c.requires.inside)).1.0
-
 pub loop-i-preserved : goal.loop-i-preserved
 loop-i-preserved g c =
     let source = c.args.source.now in

@@ -1,12 +1,9 @@
 use Rattle.std.proofs.Common.{◌≡◌, ◌+◌, ◌<◌, ◌∙◌, ◌++◌, ◌∷◌, [], None, ap, length, get_or, set, take, sym, arith}
-use Rattle.std.proofs.lemmas.List.{append-nil, nil_from_length, take-set, take_more_set}
+use Rattle.std.proofs.lemmas.List.{append-nil, take-set, take_more_set}
 use Rattle.permute_walks.specs.Senders.{is_between}
 use Rattle.permute_walks.proofs.Listed.{listed_more}
 use Rattle.permute_walks.proofs.ranges.list_block.Goals as goal
 use Rattle.permute_walks.proofs.ranges.list_block.Goals.{then-is_sent_between, else-is_sent_between}
-
-pub returns-then-count_block-eq0-clause-listed : goal.returns-then-count_block-eq0-clause-listed
-returns-then-count_block-eq0-clause-listed g c = sym (nil_from_length _ (sym c.count_block.ensures ∙ c.if-count_block-eq0.true))
 
 pub loop-k-preserved : goal.loop-k-preserved
 loop-k-preserved g c =

@@ -1,15 +1,6 @@
-use Rattle.std.proofs.Common.{◌+◌, ◌∙◌, get_or, length, arith, refl}
+use Rattle.std.proofs.Common.{◌+◌, get_or, length, arith}
 use Rattle.permute_walks.proofs.Written.{leaves_end, leaves_more, leaves_next}
 use Rattle.permute_walks.proofs.ranges.write_block.Goals as goal
-
-pub loop-place-init : goal.loop-place-init
-loop-place-init g c = record {
-  from = c.args.first;
-  many = length c.args.list.now;
-  ends = refl;
-  listed = c.split_at.ensures.front ∙ c.list_block-count.ensures.listed;
-  holds = λ old same given. given;
-}
 
 pub sent_from-destination-requires-clause-inside : goal.sent_from-destination-requires-clause-inside
 sent_from-destination-requires-clause-inside g c =

@@ -1,6 +1,6 @@
 use Rattle.std.proofs.Common.{rules, ◌∙◌, ◌<◌, ◌≤◌, length, get_or, pos, w32, FitsSigned, arith}
 use Rattle.permute_walks.specs.Senders.{nobody}
-use Rattle.permute_walks.proofs.Scattered.{marks_all, marks_more, marks_none, named_below, right_inside}
+use Rattle.permute_walks.proofs.Scattered.{marks_more, marks_none, named_below, right_inside}
 use Rattle.sent_places.proofs.Stored.{index_is}
 use Rattle.permute_walks.proofs.scatters.mark_each.Goals as goal
 
@@ -31,8 +31,3 @@ loop-i-preserved c =
     let below : d < m = omega (arith, c.if-named-places.false) in
     let names = index_is i d fits c.cast_unsigned-named.ensures (omega (arith, below, c.requires.in_limit.1)) in
     marks_more index m few k c.loop-i-test.true d names below c.loop-i.marks c.loop-i.invariant
-
-pub returns-clause-marked : goal.returns-clause-marked
-returns-clause-marked c = λ is.
-    let few : length c.args.index.now ≤ nobody = omega (arith, c.requires.in_limit.0) in
-    c.loop-i.invariant ∙ marks_all c.args.index.now (length c.args.marks.now) few c.loop-i.i-index (omega (arith, c.loop-i-test.false))

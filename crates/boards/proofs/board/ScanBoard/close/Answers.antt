@@ -6,9 +6,6 @@ use Rattle.boards.specs.Answers.{IsEnd}
 use Rattle.boards.proofs.Ending.{all_ended}
 use Rattle.boards.proofs.board.ScanBoard.close.Goals as goal
 
-pub join_seats-whole-requires-clause-some : goal.join_seats-whole-requires-clause-some
-join_seats-whole-requires-clause-some g c = omega (arith, c.requires.every, c.self.inside.counted.some_workers, ap (λ b. b.workers) c.self.view_is)
-
 pub returns : goal.returns
 returns g c =
     let here = c.self.inside in

@@ -1,11 +1,8 @@
 use Rattle.std.proofs.Common.{◌≡◌, refl, sym, ap, ◌∙◌, subst, ◌+◌, ◌-◌, arith, IsTrue}
 use Rattle.cvl_base.specs.SegmentMonoid.{is_seg_item, seg_join}
 use Rattle.cvl_base.specs.TileSums.{between_tiles, own_sum}
-use Rattle.boards.proofs.Walking.{walk_done, walk_met, walk_more, walk_start}
+use Rattle.boards.proofs.Walking.{walk_met, walk_more}
 use Rattle.boards.proofs.board.ScanBoard.look_back.Goals as goal
-
-pub loop-at-init : goal.loop-at-init
-loop-at-init g c = (omega arith, c.requires.seat, refl, c.unit-after.ensures ∙ sym (c.know_sums.ensures.none_between c.args.t), walk_start c.args.t c.args.seat.now.pass)
 
 pub join-after-requires-clause-second : goal.join-after-requires-clause-second
 join-after-requires-clause-second g c =
@@ -34,6 +31,3 @@ returns-in-Prefix-clause-looks g c =
     let at = c.loop-at.at in
     let next : at ≡ at - 1 + 1 = omega arith in
     walk_met t at (at - 1) (t - (at - 1)) c.args.seat.now.pass c.loop-at.seat.pass c.find.new.seat.pass next c.loop-at.invariant.0 refl c.loop-at.invariant.4 c.in-Prefix.ensures.step
-
-pub returns-clause-looks : goal.returns-clause-looks
-returns-clause-looks g c = walk_done c.args.t c.loop-at.at c.args.seat.now.pass c.loop-at.seat.pass (omega arith) c.loop-at.invariant.4

@@ -1,38 +1,10 @@
-use Rattle.std.proofs.Common.{◌≡◌, ◌+◌, sym, ap, ◌∙◌, subst, arith, length, IsTrue}
-use Rattle.cvl_base.specs.SegmentMonoid.{is_seg_item, seg_join}
+use Rattle.std.proofs.Common.{◌≡◌, ◌+◌, sym, ap, ◌∙◌, arith, length}
+use Rattle.cvl_base.specs.SegmentMonoid.{seg_join}
 use Rattle.status_word.specs.declared.status.Status.TheVariants.{Prefix}
 use Rattle.cvl_base.specs.TileSums.{before_tile, own_sum}
 use Rattle.status_word.specs.Codings.{coding_of}
 use Rattle.boards.proofs.Moves.{tell_allowed}
 use Rattle.boards.proofs.board.ScanBoard.tell_known_prefix.Goals as goal
-
-pub join-prefix-requires-clause-first : goal.join-prefix-requires-clause-first
-join-prefix-requires-clause-first g c =
-    let here = c.self.inside in
-    let sums = g.T.Tiles.sums here.counted.tiles in
-    let told : c.args.before ≡ before_tile g.T.M.Monoid.join g.T.M.Monoid.unit sums c.args.t = c.requires.before
-    ∙ sym (ap (λ b. before_tile g.T.M.Monoid.join g.T.M.Monoid.unit b.sums c.args.t) c.self.view_is) in
-    subst (λ s. IsTrue (is_seg_item g.T.M.Monoid.is_item s)) (sym told) ((c.know_sums.ensures sums here.counted.items).exclusive c.args.t)
-
-pub join-prefix-requires-clause-second : goal.join-prefix-requires-clause-second
-join-prefix-requires-clause-second g c =
-    let here = c.self.inside in
-    let sums = g.T.Tiles.sums here.counted.tiles in
-    let told : c.args.sum ≡ own_sum g.T.M.Monoid.unit sums c.args.t = c.requires.sum ∙ sym (ap (λ b. own_sum g.T.M.Monoid.unit b.sums c.args.t) c.self.view_is) in
-    subst (λ s. IsTrue (is_seg_item g.T.M.Monoid.is_item s)) (sym told) ((c.know_sums.ensures sums here.counted.items).own c.args.t)
-
-pub pack_status-word-requires : goal.pack_status-word-requires
-pack_status-word-requires g c =
-    let here = c.self.inside in
-    let sums = g.T.Tiles.sums here.counted.tiles in
-    let laws = c.know_sums.ensures sums here.counted.items in
-    let of_view = ap (λ b. b.sums) c.self.view_is in
-    let prefix : c.join-prefix.result ≡ before_tile g.T.M.Monoid.join g.T.M.Monoid.unit sums (c.args.t + 1) =
-    c.join-prefix.ensures
-    ∙ ap (λ s. seg_join g.T.M.Monoid.join s c.args.sum) (c.requires.before ∙ sym (ap (λ ss. before_tile g.T.M.Monoid.join g.T.M.Monoid.unit ss c.args.t) of_view))
-    ∙ ap (seg_join g.T.M.Monoid.join (before_tile g.T.M.Monoid.join g.T.M.Monoid.unit sums c.args.t)) (c.requires.sum ∙ sym (ap (λ ss. own_sum g.T.M.Monoid.unit ss c.args.t) of_view))
-    ∙ sym (laws.before_next c.args.t (omega (arith, ap length of_view, c.requires.tile))) in
-    subst (λ s. IsTrue (is_seg_item g.T.M.Monoid.is_item s)) (sym prefix) (laws.exclusive (c.args.t + 1))
 
 pub fetch_max-requires : goal.fetch_max-requires
 fetch_max-requires g c =

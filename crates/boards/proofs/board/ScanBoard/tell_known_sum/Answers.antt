@@ -1,17 +1,9 @@
-use Rattle.std.proofs.Common.{◌≡◌, sym, ap, ◌∙◌, subst, arith, length, IsTrue}
-use Rattle.cvl_base.specs.SegmentMonoid.{is_seg_item}
+use Rattle.std.proofs.Common.{◌≡◌, sym, ap, ◌∙◌, arith, length}
 use Rattle.status_word.specs.declared.status.Status.TheVariants.{Sum}
 use Rattle.cvl_base.specs.TileSums.{own_sum}
 use Rattle.status_word.specs.Codings.{coding_of}
 use Rattle.boards.proofs.Moves.{tell_allowed}
 use Rattle.boards.proofs.board.ScanBoard.tell_known_sum.Goals as goal
-
-pub pack_status-word-requires : goal.pack_status-word-requires
-pack_status-word-requires g c =
-    let here = c.self.inside in
-    let sums = g.T.Tiles.sums here.counted.tiles in
-    let told : c.args.sum ≡ own_sum g.T.M.Monoid.unit sums c.args.t = c.requires.sum ∙ sym (ap (λ b. own_sum g.T.M.Monoid.unit b.sums c.args.t) c.self.view_is) in
-    subst (λ s. IsTrue (is_seg_item g.T.M.Monoid.is_item s)) (sym told) ((c.code_law.ensures sums here.counted.items).items c.args.t 1)
 
 pub fetch_max-requires : goal.fetch_max-requires
 fetch_max-requires g c =

@@ -1,6 +1,5 @@
-use Rattle.std.proofs.Common.{◌∙◌, ap, sym, subst, arith, length, take, length-drop}
-use Rattle.permute_walks.specs.Indices.{AreInside}
-use Rattle.permute_walks.proofs.Outside.{length-elements_at, part_inside, run_found}
+use Rattle.std.proofs.Common.{◌∙◌, ap, arith, length, take, length-drop}
+use Rattle.permute_walks.proofs.Outside.{length-elements_at, run_found}
 use Rattle.permute_walks.proofs.backs.ElementsAtWriter.write.Goals as goal
 
 pub split_at-requires : goal.split_at-requires
@@ -19,12 +18,6 @@ split_at-requires-2 g c =
       ap length c.split_at.ensures.back,
       length-drop c.next_place.result w.index.now,
     )
-
-pub write_elements_at-requires-clause-inside : goal.write_elements_at-requires-clause-inside
-write_elements_at-requires-clause-inside g c =
-    let w = c.args.self.now in
-    subst (AreInside (length w.source.now)) (sym (c.split_at-2.ensures.front ∙ ap (take c.room.result) c.split_at.ensures.back))
-    (part_inside (length w.source.now) w.index.now _ _ w.inside)
 
 pub returns : goal.returns
 returns g c =
