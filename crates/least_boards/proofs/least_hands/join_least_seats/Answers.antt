@@ -1,8 +1,6 @@
-use Rattle.std.proofs.Common.{sym, ap, ◌∙◌, subst, cond, arith, Some}
-use Rattle.std.proofs.lemmas.List.{nil_from_length}
+use Rattle.std.proofs.Common.{sym, ap, ◌∙◌, cond, arith, Some}
 use Rattle.std.proofs.lemmas.List.Elements.{All-pop}
 use Rattle.least_boards.specs.LeastBoards.{IsLeastSeatOf}
-use Rattle.least_boards.specs.Joined.{AreLeastsJoined}
 use Rattle.least_boards.proofs.Dealing.{leasts_first, leasts_more}
 use Rattle.least_boards.proofs.LeastMoves.{join_allowed}
 use Rattle.least_boards.proofs.least_hands.join_least_seats.Goals as goal
@@ -48,8 +46,3 @@ loop-next-preserved g c =
       leasts_more c.loop-next.seats.items c.pop-in-loop-next.new.self.items c.args.seats.items c.in-Some-pop.next next.me.0 whole.me.0 c.join_seat.new.seat.me.0 c.in-Some-pop.ensures.items
           (ap (λ s. s.pass) c.next.view_is, c.next.invariant.2, c.next.invariant.1 ∙ ap (λ s. cond s.is_done 1 0) c.next.view_is) both inv.4,
     )
-
-pub returns-clause-passes : goal.returns-clause-passes
-returns-clause-passes g c =
-    subst (λ rest. AreLeastsJoined c.loop-next.whole.me.0 rest c.args.seats.items)
-    (nil_from_length c.loop-next.seats.items (omega (arith, c.loop-next.seats.ok, c.in_default-pop.ensures.cases.0))) c.loop-next.invariant.4

@@ -17,14 +17,6 @@ returns-in_err-check_agree-clause-values g c =
     (λ same. differ.1 (c.count.ensures.value ∙ same ∙ sym c.count-2.ensures.value))
     ∙ ap (λ f. Err f) (sym differ.0))
 
-pub segments_at-requires-clause-fits : goal.segments_at-requires-clause-fits
-segments_at-requires-clause-fits g c κs within = record {
-  source_total = c.in_ok-check_total.ensures.agrees;
-  total = c.in_ok-check_total-2.ensures.agrees;
-  count = omega (arith, c.in_ok-check_agree.ensures);
-  inside = none_told (outside_from 0 c.args.source_d.now c.args.index_d.now c.args.index.now) c.in_ok-check_segment_indices.ensures;
-}
-
 pub returns-in_err-check_segment_indices-clause-values : goal.returns-in_err-check_segment_indices-clause-values
 returns-in_err-check_segment_indices-clause-values g c =
     let p = err_from_is_err_and c.from_residual-in_err-check_segment_indices.result c.from_residual-in_err-check_segment_indices.ensures.1 in

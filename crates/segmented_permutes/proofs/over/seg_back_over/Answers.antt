@@ -39,14 +39,6 @@ returns-in_err-check_agree-2 g c =
     (λ same. c.in_err-check_agree-2.ensures.1 (omega (arith, long, total, same)))
     ∙ ap Err (sym c.in_err-check_agree-2.ensures.0))
 
-pub segments_at_over-requires-clause-fits : goal.segments_at_over-requires-clause-fits
-segments_at_over-requires-clause-fits g c = record {
-  source_total = c.in_ok-check_total.ensures.agrees;
-  total = c.in_ok-check_total-2.ensures.agrees;
-  count = omega (arith, c.in_ok-check_agree.ensures);
-  inside = c.in_ok-check_segments.ensures;
-}
-
 pub returns : goal.returns
 returns g c =
     let source = c.args.source.now in let index = c.args.index.now in let widths = c.args.source_d.now in let lengths = c.args.index_d.now in

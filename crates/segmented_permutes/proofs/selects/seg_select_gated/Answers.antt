@@ -27,17 +27,6 @@ returns-in-Some-clause-values g c =
     (found_gives _ c.in_ok-elements.field-0 c.in-Some.elements c.in-Some.is c.in_ok-elements.ensures.written)
     (flagged_segments_sent (length source) (omega (arith, total, index_total, c.requires.in_limit)) 0 d index flags index_total (sym index_total ∙ flag_total) (omega (arith, total, index_total)))
 
-pub returns-in-Some-clause-in_length : goal.returns-in-Some-clause-in_length
-returns-in-Some-clause-in_length g c =
-    omega (
-      arith,
-      found_gives _ c.in_ok-elements.field-0 c.in-Some.elements c.in-Some.is c.in_ok-elements.ensures.as_long,
-      c.split_at.ensures.front_len,
-      c.true_count.ensures.in_length,
-      c.in_ok-check_total-2.ensures.agrees,
-      c.in_ok-check_total-3.ensures.agrees,
-    )
-
 pub returns-clause-values : goal.returns-clause-values
 returns-clause-values g c =
     let source = c.args.source.now in let index = c.args.index.now in let flags = c.args.flags.now in let d = c.args.d.now in let parts = flagged_parts d index flags in

@@ -24,15 +24,6 @@ returns-in-Some-clause-values g c =
     (found_gives _ c.in_ok-elements.field-0 c.in-Some.elements c.in-Some.is c.in_ok-elements.ensures.written)
     (segments_sent (length source) (omega (arith, total, index_total, c.requires.in_limit)) 0 d index index_total (omega (arith, total, index_total)))
 
-pub returns-in-Some-clause-in_length : goal.returns-in-Some-clause-in_length
-returns-in-Some-clause-in_length g c =
-    omega (
-      arith,
-      found_gives _ c.in_ok-elements.field-0 c.in-Some.elements c.in-Some.is c.in_ok-elements.ensures.as_long,
-      c.in_ok-check_total.ensures.agrees,
-      c.in_ok-check_total-2.ensures.agrees,
-    )
-
 pub returns-clause-values : goal.returns-clause-values
 returns-clause-values g c =
     let source = c.args.source.now in let index = c.args.index.now in let d = c.args.d.now in let parts = parts_of d d index in

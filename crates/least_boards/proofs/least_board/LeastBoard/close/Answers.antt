@@ -1,12 +1,9 @@
-use Rattle.std.proofs.Common.{sym, ap, ◌∙◌, subst, arith}
+use Rattle.std.proofs.Common.{sym, ap, ◌∙◌, subst}
 use Rattle.std.specs.Slots.{slots_items}
 use Rattle.least_boards.specs.LeastBoards.{IsLeastEnd, LeastView}
 use Rattle.least_boards.specs.LeastRules.{IsLeastRuled}
 use Rattle.least_boards.proofs.LeastEnding.{least_ended}
 use Rattle.least_boards.proofs.least_board.LeastBoard.close.Goals as goal
-
-pub join_least_seats-whole-requires-clause-some : goal.join_least_seats-whole-requires-clause-some
-join_least_seats-whole-requires-clause-some g c = omega (arith, c.requires.every, c.self.inside.slotted.some_workers, ap (λ b. b.workers) c.self.view_is)
 
 pub returns : goal.returns
 returns g c =
