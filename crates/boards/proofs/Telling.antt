@@ -3,7 +3,6 @@
 use Rattle.std.proofs.Common.{◌≡◌, sym, ap, ◌∙◌, ℕ, ◌≤◌, Bool, List}
 use Rattle.atomic_table.specs.Seated.{TableId}
 use Rattle.status_word.specs.declared.status.Status.{Status}
-use Rattle.status_word.specs.declared.status.Status.TheVariants.{Silent, Sum, Prefix}
 use Rattle.status_word.specs.Codings.{CodeLaws, Coding, code, told_of}
 use Rattle.status_word.specs.Words.{state_of}
 use Rattle.boards.specs.Boards.{Seated, with_pass}
@@ -18,12 +17,6 @@ seat_after {P} change id now_id p now_p done old is same_id changed =
     stepped ∙ ap (λ (s : Seated P). with_pass s (change s.pass)) is
 
 module _ {Item : Type 0} where
-  -- what a status tells of its tile, or this where it tells nothing
-  abbrev pub pair_or : Bool × Item → Status Item → Bool × Item
-  pair_or none Silent = none
-  pair_or none (Sum starts value) = (starts, value)
-  pair_or none (Prefix starts value) = (starts, value)
-
   -- a status that was read is lawful at its tile, and has the state of its word
   pub look_told : {is_item : Item → Bool} (m : Coding Item) (sums : List (Bool × Item)) → CodeLaws is_item m sums → (t rank found : ℕ) (result : Status Item)
       → result ≡ m.read found → found ≡ code m sums t rank → rank ≤ 2 → (result ≡ told_of m.join m.unit sums t (state_of result)) × (state_of result ≡ rank)

@@ -19,21 +19,6 @@ mark_elsewhere t x rank looks marks differ =
     ap (λ b. max (cond b rank 0) (highest_mark x marks)) other ∙ omega arith
 
 module _ {Item : Type 0} where
-  -- a look that found this state, which isn't below what was known
-  pub find_told : (at rank : ℕ) (old now : Pass Item) → now ≡ looked old at rank → known_at at old ≤ rank → IsOneLook at rank old now
-  find_told at rank old now is risen =
-      let seen = mark_here at rank old.looks old.seen in
-      subst (IsOneLook at rank old) (sym is) record {
-        looks = refl;
-        known = omega arith;
-        told = (omega arith, omega arith);
-        seen = omega arith;
-        others = λ x differ. (refl, mark_elsewhere at x rank old.looks old.seen differ);
-        kept = λ x rank when there. there;
-        hand = refl;
-        sums = refl;
-      }
-
   -- a look at a tile of which nothing was told, and then its sum was
   pub find_silent : (at : ℕ) (old now : Pass Item) → now ≡ told_state (looked old at 0) at 1 → known_at at old ≤ 0 → IsOneLook at 1 old now
   find_silent at old now is risen =
@@ -49,18 +34,6 @@ module _ {Item : Type 0} where
         hand = refl;
         sums = refl;
       }
-
-  pub walk_start : (t : ℕ) (p : Pass Item) → IsWalk t t p p
-  walk_start t p = record {
-    looks = refl;
-    known = λ x from to. absurd (omega arith);
-    told = λ x. (omega arith, omega arith);
-    seen = λ x. omega arith;
-    others = λ x outside. (refl, refl);
-    kept = λ x rank when there. there;
-    hand = refl;
-    sums = refl;
-  }
 
   -- of each tile that was passed the same is known after a look at another
   known_still : (t at next rank : ℕ) (old mid now : Pass Item) → at ≡ next + 1 → IsWalk t at old mid → IsOneLook next rank mid now → (x : ℕ) → next < x → x < t → known_at x now ≡ 1
@@ -122,25 +95,4 @@ module _ {Item : Type 0} where
         seen_outside = λ x outside. (others_still t at next 2 old mid now one within walk found x (⊎_elim (λ (low : x < t - looks). inl (omega arith)) (λ (high : t ≤ x). inr high) outside)).1;
         hand = found.hand ∙ walk.hand;
         sums = found.sums ∙ walk.sums;
-      }
-
-  -- so does the first tile
-  pub walk_done : (t at : ℕ) (old new : Pass Item) → at ≡ 0 → IsWalk t at old new → IsLookBack t t old new
-  walk_done t at old new first walk =
-      let outside : (x : ℕ) → (x < t - t) ⊎ (t ≤ x) → (told_at x new ≡ told_at x old) × (seen_at x new ≡ seen_at x old) =
-      λ x out. walk.others x (⊎_elim (λ (low : x < t - t). absurd (omega arith)) (λ (high : t ≤ x). inr high) out) in
-      record {
-        at_most = omega arith;
-        at_least = λ some. some;
-        counted = omega (arith, walk.looks);
-        known = λ x from to. let here = walk.known x (omega arith) to in omega arith;
-        met = λ fewer. absurd (omega arith);
-        passed = λ x from to. let here = walk.known x (omega arith) to in omega arith;
-        told = walk.told;
-        told_outside = λ x out. (outside x out).0;
-        kept = walk.kept;
-        seen = walk.seen;
-        seen_outside = λ x out. (outside x out).1;
-        hand = walk.hand;
-        sums = walk.sums;
       }

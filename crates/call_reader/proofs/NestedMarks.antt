@@ -3,7 +3,7 @@ use Rattle.std.proofs.Common.{◌≡◌, ℕ, ◌+◌, ◌-◌, ◌*◌, ◌≤�
 use Rattle.std.specs.Prelude.{Result, unsigned_abs, sum, count_by, flat_map, nat_lt, ◌||◌}
 use Rattle.std.proofs.Math.Seq.{take-append_seam, drop-append_seam}
 use Rattle.std.proofs.lemmas.Bool.Decides.{nat_tests}
-use Rattle.std.proofs.lemmas.List.{append-nil, map-append}
+use Rattle.std.proofs.lemmas.List.{append-nil}
 use Rattle.std.proofs.lemmas.Grind.{flat_map-append}
 use Rattle.std.proofs.lemmas.List.Sums.{sum_by-cons, sum_by-append}
 use Rattle.cvl_base.specs.declared.fault.Fault.{Fault}
@@ -288,16 +288,6 @@ read-text bytes xs lengths e =
 
 pub none_pushed : (bytes : List ℕ) (old : List ℤ) → ArePushed bytes bytes old old
 none_pushed bytes old = record { pushed = []; numbers = sym (append-nil old); marks = refl }
-
--- one number more
-pub pushed_more : (bytes rest others : List ℕ) (old now new : List ℤ) (n : ℤ) → ArePushed bytes rest old now → marks_of rest ≡ number n ∷ marks_of others → new ≡ now ++ (n ∷ [])
-    → ArePushed bytes others old new
-pushed_more bytes rest others old now new n is first more = record {
-  pushed = is.pushed ++ (n ∷ []);
-  numbers = more ∙ ap (λ (xs : List ℤ). xs ++ (n ∷ [])) is.numbers ∙ append_assoc old is.pushed (n ∷ []);
-  marks = is.marks ∙ ap (λ (ms : List Mark). map number is.pushed ++ ms) first ∙ sym (append_assoc (map number is.pushed) (number n ∷ []) (marks_of others))
-      ∙ ap (λ (ms : List Mark). ms ++ marks_of others) (sym (map-append number is.pushed (n ∷ [])));
-}
 
 joined-more : (lists : List (List ℤ)) (xs : List ℤ) → joined (lists ++ (xs ∷ [])) ≡ joined lists ++ xs
 joined-more lists xs = flat_map-append (λ (ys : List ℤ). ys) lists (xs ∷ []) ∙ ap (λ (ys : List ℤ). joined lists ++ ys) (append-nil xs)

@@ -66,9 +66,6 @@ module _ {A : Type 0} (bytes_of : A → List ℕ) where
       ∙ ap (λ l. numbers_in pieces ++ l) (sym (numbers_of_both (bytes_of piece) others ends) ∙ ap numbers_of whole)
       ∙ so_far
 
-  pub last_piece : (pieces : List A) (piece : A) → numbers_in (pieces ++ piece ∷ []) ≡ numbers_in pieces ++ numbers_of (bytes_of piece)
-  last_piece pieces piece = flat_map-append (λ p. numbers_of (bytes_of p)) pieces (piece ∷ []) ∙ ap (λ l. numbers_in pieces ++ l) (append-nil (numbers_of (bytes_of piece)))
-
   -- what is written for each piece
   abbrev pub written_of : A → List ℤ
   written_of piece = map or_zero (numbers_of (bytes_of piece))

@@ -26,12 +26,6 @@ module _ {X : Type 0} (whole before now : List X) (place : ℕ) (written : IsWri
   pub ends : length now ≡ length whole → length whole ≤ place → now ≡ whole
   ends long past = all_same now whole long (λ d k lt. written.done d k (omega (arith, lt, past, long)))
 
--- the operator's value on what is read at the place is that of the result
-pub value_each : {X : Type 0} (f : X → X) (before now : List X) (place : ℕ) → IsWritten (map f before) before now place
-    → (x v : X) → place < length before → x ≡ get_or now place x → v ≡ f x → (d : X) → v ≡ get_or (map f before) place d
-value_each f before now place written x v within is_x is_v d =
-    is_v ∙ ap f (is_x ∙ written.left x place (omega arith)) ∙ sym (get_or-map f before place x d within)
-
 pub value_pair : {X : Type 0} (f : X → X → X) (before ys now : List X) (place : ℕ) → IsWritten (map (λ (p : X × X). f p.0 p.1) (zip before ys)) before now place
     → (x y v : X) → place < length before → place < length ys → x ≡ get_or now place x → y ≡ get_or ys place y → v ≡ f x y
     → (d : X) → v ≡ get_or (map (λ (p : X × X). f p.0 p.1) (zip before ys)) place d

@@ -27,9 +27,3 @@ module _ {X : Type 0} where
       let ws = drop first vs in let all : room ≡ n + (room - n) = omega arith in
       ap (λ k. first_without first (take k ws)) all ∙ ap (first_without first) (take-add n (room - n) ws) ∙ first_of_both first (take n ws) (take (room - n) (drop n ws))
       ∙ ap (option_or (first_without first (take n ws))) (behind first n (room - n) ws ∙ ap (λ l. first_without (first + n) (take (room - n) l)) (drop-drop n first vs))
-
-pub nothing_found : (X : Type 0) (first n : ℕ) → None ≡ first_without {X = X} first (part [] first n)
-nothing_found X zero zero = refl
-nothing_found X zero (suc n) = refl
-nothing_found X (suc first) zero = refl
-nothing_found X (suc first) (suc n) = refl

@@ -1,24 +1,22 @@
 -- The last senders of a range of the result, of which each thread finds those of its own range; and that all of them are what
 -- one walk of stores leaves.
-use Rattle.std.proofs.Common.{◌≡◌, ◌∙◌, ℕ, zero, suc, ◌+◌, ◌-◌, ◌%◌, ◌<◌, ◌≤◌, Bool, true, false, ◌&&◌, if◌then◌else◌, List, [], ◌∷◌, ◌++◌, length, map, take, get_or, set, refl, sym, ap, subst}
-use Rattle.std.proofs.Common.{arith, inl, inr, leb, ltb, w32, to_z, of_z, FitsSigned, ℤ, pos, negsuc, unsigned_abs, unwrap_or, is_some, Option, Some, None}
+use Rattle.std.proofs.Common.{◌≡◌, ◌∙◌, ℕ, zero, suc, ◌+◌, ◌-◌, ◌<◌, ◌≤◌, Bool, true, false, if◌then◌else◌, List, [], ◌∷◌, ◌++◌, length, map, take, get_or, set, refl, sym, ap, subst}
+use Rattle.std.proofs.Common.{arith, inl, inr, ltb, ℤ, pos, negsuc, unsigned_abs, is_some, Option, Some, None}
 use Rattle.std.specs.List.{range_with_len}
 use Rattle.std.specs.Ordering.{int_eq}
 use Rattle.std.specs.Cmp.Derive.{both_true}
-use Rattle.std.proofs.lemmas.Bool.{and_parts, and_right, cases_lt, le-leb, le-ltb, lt-leb, leb-true, lt-ltb, ltb-true, false_from_ne_true, false≢true}
+use Rattle.std.proofs.lemmas.Bool.{le-leb, lt-ltb, ltb-true, false_from_ne_true, false≢true}
 use Rattle.std.proofs.lemmas.Bool.Decides.{eqb_tells, Decides-int_eq}
 use Rattle.std.proofs.lemmas.List.{ext_get_or, get_or-set_same, get_or-set_other, length-set, length-take, map-append, take_more, take_all}
 use Rattle.std.proofs.lemmas.List.FromFn.{length-map-range_with_len, get_or-map-range_with_len}
 use Rattle.std.proofs.lemmas.List.Sums.{count_by_more_no, count_by_more_yes}
-use Rattle.std.proofs.lemmas.Int.{ints, to_z-of_z}
-use Rattle.std.proofs.lemmas.Option.{none-some}
 use Rattle.cvl_base.specs.Limits.{most_elements}
 use Rattle.cvl_base.specs.declared.fault.Fault.{Fault}
-use Rattle.cvl_base.specs.Permutes.{first_fault, is_destination, destination_if, wrongs}
+use Rattle.cvl_base.specs.Permutes.{first_fault, is_destination, wrongs}
 use Rattle.permute_walks.specs.Senders.{IsStored, count_sent, count_destinations, is_between, last_sender_from, last_senders, nobody, senders_of}
 use Rattle.permute_walks.proofs.Listed.{range_both}
 use Rattle.sent_places.proofs.Sent.{nobody_sent}
-use Rattle.sent_places.proofs.Stored.{IsStoredTo, index_is, stored_none, stored_more, stored_outside, stored_skip, stored_all}
+use Rattle.sent_places.proofs.Stored.{IsStoredTo, stored_none, stored_more, stored_outside, stored_skip, stored_all}
 
 pub length-last_senders : (place : ℕ) (ts : List (Option ℤ)) (lowest n : ℕ) → length (last_senders place ts lowest n) ≡ n
 length-last_senders place ts lowest n = length-map-range_with_len (last_sender_from nobody place ts) lowest n
@@ -132,47 +130,6 @@ module _ (place : ℕ) (ts : List (Option ℤ)) (m : ℕ) (small : place + lengt
       (stored_all place ts m (length ts) (count_destinations (take (length ts) ts)) (last_senders place (take (length ts) ts) 0 m) (reached (length ts) (omega arith)) (omega arith))
 
 -- ---- whether a destination lies in the range
-
--- as the code asks it, by one comparison
-offset_asked : (lowest places named : ℕ) → named < 4294967296 → lowest + places ≤ most_elements
-    → (leb lowest named && ltb named (lowest + places)) ≡ ltb ((named + (4294967296 - lowest)) % 4294967296) places
-offset_asked lowest places named fits within =
-    let offset = (named + (4294967296 - lowest)) % 4294967296 in
-    elim (cases_lt named lowest) [
-      | inl before ↦ ap (λ b. b && ltb named (lowest + places)) (lt-leb lowest named before) ∙ sym (le-ltb offset places (omega (arith, before, fits, within)))
-      | inr from ↦
-          ap (λ b. b && ltb named (lowest + places)) (le-leb lowest named from)
-          ∙ elim (cases_lt named (lowest + places)) [
-            | inl inside ↦ lt-ltb named (lowest + places) inside ∙ sym (lt-ltb offset places (omega (arith, from, inside, fits, within)))
-            | inr behind ↦ le-ltb named (lowest + places) behind ∙ sym (le-ltb offset places (omega (arith, from, behind, fits, within)))
-          ]
-    ]
-
-pub between_asked : (i : ℤ) (takes_part : Bool) (lowest places named : ℕ) → FitsSigned w32 i → named ≡ of_z w32 (to_z w32 (of_z w32 i)) → named < 4294967296 → lowest + places ≤ most_elements
-    → is_between lowest (lowest + places) (destination_if i takes_part) ≡ (takes_part && ltb ((named + (4294967296 - lowest)) % 4294967296) places)
-between_asked i false lowest places named fits cast small within = refl
-between_asked (pos a) true lowest places named fits cast small within =
-    ap (λ d. leb lowest d && ltb d (lowest + places)) (sym (cast ∙ ap (of_z w32) (to_z-of_z w32 (pos a) fits))) ∙ offset_asked lowest places named small within
-between_asked (negsuc a) true lowest places named fits cast small within =
-    sym (sym (offset_asked lowest places named small within) ∙ and_right (leb lowest named) (ltb named (lowest + places)) (false_from_ne_true (ltb named (lowest + places)) (λ yes.
-    let is = index_is (negsuc a) named fits cast (omega (arith, ltb-true named (lowest + places) yes, within)) in negative is)))
-  where
-    negative : negsuc a ≡ pos named → ⊥
-    negative is = omega (arith, ints, is)
-
-pub between_in : (lowest end : ℕ) (t : Option ℤ) → is_between lowest end t ≡ true → (d : ℕ) × (t ≡ Some (pos d)) × (lowest ≤ d) × (d < end)
-between_in lowest end None is = absurd (false≢true is)
-between_in lowest end (Some (pos d)) is =
-    let both = and_parts (leb lowest d) (ltb d end) is in
-    (d, refl, leb-true lowest d both.0, ltb-true d end both.1)
-between_in lowest end (Some (negsuc d)) is = absurd (false≢true is)
-
--- where an index that is a place is read without its sign
-pub named_is : (i : ℤ) (takes_part : Bool) (d named : ℕ) → destination_if i takes_part ≡ Some (pos d) → FitsSigned w32 i → named ≡ of_z w32 (to_z w32 (of_z w32 i)) → named ≡ d
-named_is i false d named is fits cast = absurd (none-some (pos d) is)
-named_is i true d named is fits cast =
-    let same : i ≡ pos d = ap (λ o. unwrap_or o i) is in
-    cast ∙ ap (λ j. of_z w32 (to_z w32 (of_z w32 j))) same ∙ ap (of_z w32) (to_z-of_z w32 (pos d) (subst (FitsSigned w32) same fits))
 
 pub between_out : (lowest end : ℕ) (t : Option ℤ) → is_between lowest end t ≡ false → (d : ℕ) → lowest ≤ d → d < end → is_destination (pos d) t ≡ false
 between_out lowest end None out d from below = refl

@@ -118,9 +118,6 @@ module _ (index : List ℤ) (m : ℕ) (few : length index ≤ nobody) where
           ∙ sym (written_set source (lasts k) old d k x is)
           ∙ ap (λ ss. written_over source ss old) (sym sets)
 
-  pub marks_all : (k : ℕ) → length index ≤ k → sent_marks (lasts k) ≡ sent_marks (last_senders 0 (all_destinations index) 0 m)
-  marks_all k ge = ap sent_marks (all_lasts k ge)
-
   -- the marks are as many as the indices exactly where no place is bad
   pub marks_tell : count_of (sent_marks (last_senders 0 (all_destinations index) 0 m)) ≡ length index → None ≡ first_fault 0 (wrongs m (all_destinations index))
   marks_tell all =

@@ -1,11 +1,10 @@
 -- What a run of fresh memory holds while scans or reduces are written into it.
 -- Source: what the definitions of folds and of runs imply.
-use Rattle.std.proofs.Common.{◌≡◌, ℕ, ◌+◌, ◌-◌, ◌<◌, ◌≤◌, min, List, [], ◌∷◌, ◌++◌, length, take, drop, get_or, sym, ap, ◌∙◌}
-use Rattle.std.proofs.lemmas.List.{drop_all}
+use Rattle.std.proofs.Common.{◌≡◌, ℕ, ◌+◌, ◌-◌, ◌<◌, min, List, [], ◌∷◌, ◌++◌, length, take, drop, get_or, sym, ap, ◌∙◌}
 use Rattle.cvl_base.specs.Folds.{fold_of, scan_of}
 use Rattle.fresh.specs.Places.{Stretch, stretch, with_items}
 use Rattle.range_walks.specs.Ranges.{reduces_of, scans_of}
-use Rattle.fresh.proofs.Written.{nothing_written, one_written, written_twice}
+use Rattle.fresh.proofs.Written.{one_written, written_twice}
 use Rattle.cvl_base.proofs.FoldLaws.{scan_of_more}
 use Rattle.range_walks.proofs.Segments.{reduces_more, scans_more_min}
 
@@ -32,11 +31,6 @@ module _ {Item : Type 0} (join : Item → Item → Item) (unit : Item) (lengths 
       ∙ ap (with_items run) (sym (scans_more_min join unit lengths s n rest lt is_n))
       ∙ is_whole
 
-  -- no segment is left
-  pub scans_ended : (run whole : Stretch Item) (rest : List Item) (s : ℕ) → length lengths ≤ s → with_items run (scans_of join unit (drop s lengths) rest) ≡ whole → run ≡ whole
-  scans_ended run whole rest s past is_whole =
-      sym (nothing_written run) ∙ ap (λ ls. with_items run (scans_of join unit ls rest)) (sym (drop_all s lengths past)) ∙ is_whole
-
   -- the same of a walk that writes the reduces of the segments
   pub reduces_written : (run next whole : Stretch Item) (rest front others : List Item) (start sum : Item) (s n : ℕ) → s < length lengths → n ≡ get_or lengths s 0
       → front ≡ take n rest → others ≡ drop n rest → start ≡ unit → sum ≡ fold_of join start front → next ≡ stretch run.block run.first (run.items ++ sum ∷ []) (run.room - 1)
@@ -49,7 +43,3 @@ module _ {Item : Type 0} (join : Item → Item → Item) (unit : Item) (lengths 
       ∙ (λ i. with_items run (fold_of join (is_start i) (is_front i) ∷ later (is_others i)))
       ∙ ap (with_items run) (sym (reduces_more join unit lengths s n rest lt is_n))
       ∙ is_whole
-
-  pub reduces_ended : (run whole : Stretch Item) (rest : List Item) (s : ℕ) → length lengths ≤ s → with_items run (reduces_of join unit (drop s lengths) rest) ≡ whole → run ≡ whole
-  reduces_ended run whole rest s past is_whole =
-      sym (nothing_written run) ∙ ap (λ ls. with_items run (reduces_of join unit ls rest)) (sym (drop_all s lengths past)) ∙ is_whole

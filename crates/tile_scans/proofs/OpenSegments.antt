@@ -1,7 +1,6 @@
 -- Which segments are open at a place of a segmented vector, and what stands before the place then.
 use Rattle.std.proofs.Common.{◌≡◌, ℕ, suc, ◌+◌, ◌-◌, ◌<◌, ◌≤◌, Bool, List, [], ◌∷◌, length, take, drop, slice_range, refl, ap, ◌∙◌, arith}
 use Rattle.std.specs.List.{AllPass}
-use Rattle.std.proofs.lemmas.List.Sums.{sum_by_more}
 use Rattle.cvl_base.specs.Folds.{fold_of}
 use Rattle.cvl_base.specs.Monoid.{MonoidLaws}
 use Rattle.cvl_base.specs.SegmentMonoid.{seg_unit, seg_join}
@@ -30,13 +29,3 @@ module _ {Item : Type 0} {is_item : Item → Bool} {unit : Item} {join : Item �
     not_past = ends;
     before_is = is ∙ since_start place s within lt begins ends;
   }
-
--- each segment is open where it starts
-pub open_at_start : {Item : Type 0} (join : Item → Item → Item) (unit : Item) (lengths : List ℕ) (xs : List Item) (s p : ℕ) (u : Item) → s < length lengths → p ≡ start_of lengths s → u ≡ unit
-    → IsOpenAt join unit lengths xs s p u
-open_at_start join unit lengths xs s p u lt is is_unit =
-    record {
-      begun = omega (arith, is);
-      not_past = omega (arith, is, sum_by_more (λ x. x) lengths s 0 lt);
-      before_is = is_unit ∙ (let none : 0 ≡ p - start_of lengths s = omega (arith, is) in ap (λ n. fold_of join unit (take n (drop (start_of lengths s) xs))) none);
-    }

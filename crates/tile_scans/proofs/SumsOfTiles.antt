@@ -1,8 +1,6 @@
 -- What each tile of a list sums up to, and what the tiles before a tile do.
 use Rattle.std.specs.Prelude.{if◌then◌else◌}
 use Rattle.std.proofs.Common.{◌≡◌, ℕ, zero, suc, ◌+◌, ◌-◌, ◌*◌, ◌<◌, ◌≤◌, min, Bool, false, true, IsTrue, List, [], ◌∷◌, ◌++◌, length, take, get_or, slice_range, refl, sym, subst, ap, ◌∙◌, arith, take-add}
-use Rattle.std.proofs.Common.{inl, inr}
-use Rattle.std.proofs.lemmas.Bool.Decides.{leb_tells}
 use Rattle.std.specs.List.{AllPass, range_with_len}
 use Rattle.std.proofs.lemmas.List.Elements.{All-from_get_or, All-map, All-take, All-drop}
 use Rattle.std.proofs.lemmas.List.FromFn.{get_or-map-range_with_len, length-map-range_with_len}
@@ -14,7 +12,7 @@ use Rattle.cvl_base.specs.Folds.{fold_of}
 use Rattle.cvl_base.specs.Monoid.{MonoidLaws}
 use Rattle.cvl_base.specs.SegmentMonoid.{is_seg_item, seg_unit, seg_join}
 use Rattle.tile_plan.specs.Ranges.{tile_count, range_of}
-use Rattle.tile_plan.proofs.Numbers.{starts_within, starts_past, ends_at}
+use Rattle.tile_plan.proofs.Numbers.{starts_within, ends_at}
 use Rattle.tile_scans.specs.TiledSums.{tile_of, sums_of}
 
 module _ {X : Type 0} where
@@ -108,14 +106,3 @@ module _ {Item : Type 0} {is_item : Item → Bool} {unit : Item} {join : Item �
   since_is_item t p before below begun is =
       subst (λ x. IsTrue (is_item x)) (sym (since_tile t p before below begun is))
       (fold_of_is_item (seg_laws laws) (take p run) (All-take (λ w. is_seg_item is_item w ≡ true) p run items))
-
--- a list that isn't empty has a tile
-pub some_tile : (len tile : ℕ) → 1 ≤ tile → 0 < len → 0 < tile_count len tile
-some_tile len tile some filled =
-    elim (leb_tells 1 (tile_count len tile)) [
-      | inl e ↦ e.1
-      | inr e ↦
-          let none : tile_count len tile ≡ 0 = omega (arith, e.1) in
-          let product : tile_count len tile * tile ≡ 0 * tile = ap (λ n. n * tile) none in
-          absurd (omega (arith, starts_past len tile some, product, filled))
-    ]

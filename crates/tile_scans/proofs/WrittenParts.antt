@@ -1,6 +1,6 @@
 -- A scan of which it is known what stands before each tile, while it is written.
 -- Source: what the definitions of Written imply.
-use Rattle.std.proofs.Common.{◌≡◌, ℕ, ◌+◌, ◌-◌, ◌<◌, ◌≤◌, Bool, List, [], ◌++◌, length, take, drop, get_or, sym, ap, ◌∙◌, arith, take-add}
+use Rattle.std.proofs.Common.{◌≡◌, ℕ, ◌+◌, ◌-◌, ◌<◌, ◌≤◌, Bool, List, ◌++◌, length, take, drop, get_or, sym, ap, ◌∙◌, arith, take-add}
 use Rattle.std.proofs.lemmas.List.{drop-drop, length-drop, length-take}
 use Rattle.std.proofs.lemmas.List.FromFn.{get_or-map-range_with_len, length-map-range_with_len}
 use Rattle.cvl_base.specs.TileSums.{before_tile}
@@ -22,12 +22,6 @@ module _ {X : Type 0} (whole : List X) (old : Stretch X) (within : old.first + o
       let first : now.first ≡ old.first = ap (λ s. s.first) so_far.is in
       let long : length now.items ≡ old.room - now.room = ap (λ s. length s.items) so_far.is ∙ part_long old.first (old.room - now.room) (omega (arith, within)) in
       omega (arith, first, long)
-
-  pub nothing_yet : old.items ≡ [] → IsWrittenPart whole old old
-  nothing_yet empty = record {
-    left = omega arith;
-    is = let none : 0 ≡ old.room - old.room = omega arith in λ i. stretch old.block old.first ((empty ∙ ap (part whole old.first) none) i) old.room;
-  }
 
   pub more_written : (now next : Stretch X) (n : ℕ) → n ≤ now.room → IsWrittenPart whole old now → next ≡ written_on whole n now → (next.room ≡ now.room - n) × IsWrittenPart whole old next
   more_written now next n fits so_far more =
