@@ -6,7 +6,6 @@ use Rattle.boards.specs.Passes.{times}
 use Rattle.crew.specs.Facts.{HasFacts}
 
 module _ {Seat : Type 0} (HasFact : Seat → ℕ → Type 0) (given : Seat → List ℕ) where
-
   -- one tile more, with its fact, where those of the others are kept
   pub one_fact_more : (old new : Seat) (t : ℕ) → given new ≡ t ∷ given old → HasFact new t → ((k : ℕ) → HasFact old k → HasFact new k)
       → HasFacts HasFact given old → HasFacts HasFact given new
