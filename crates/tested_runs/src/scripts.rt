@@ -1,13 +1,14 @@
 //! A script that is run at a gate.
 
-use cvl_base::{Config, Memory, NoResources};
+use crate::hosts::inputs_of;
+use cvl_base::{Config, NoResources};
 use refusing_memory::Refusing;
 use shell::{MemSink, put_stop, run_gated};
 use std::alloc::Global;
 use std::thread::Threads;
-use vector_handles::Input;
 use watching_gate::{Holds, Race, Watch};
 
+/// A race on the scan board.
 pub const SCAN: Race = Race::Scan;
 
 /// A race on one board, or on two boards one after the other.
@@ -23,16 +24,6 @@ pub struct Script<'a> {
     pub outcome: &'a str,
     /// What its workers race for.
     pub race: Race,
-}
-
-/// The inputs with these texts.
-fn inputs_of<A: Memory>(alloc: A, texts: &[&str]) -> Result<Vec<Input<A>, A>, NoResources> {
-    let mut inputs = Vec::with_capacity(alloc, texts.len())?;
-    for text in texts {
-        let bytes = Vec::from_slice(alloc, text.as_bytes())?;
-        inputs.push(Input::Bytes(bytes))?;
-    }
-    Ok(inputs)
 }
 
 /// The tile and the workers that are asked for, how many tiles the gate is to see, and who is held.
