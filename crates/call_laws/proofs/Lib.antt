@@ -2,17 +2,12 @@ mod Cuts
 pub mod BackPermutes
 pub mod ByRanges
 pub mod Carries
-pub mod CheckedInTwo
 pub mod CutResults
-pub mod Defaulting
 pub mod ElementPlaces
 pub mod FirstBadPlaces
-pub mod FirstNegatives
 pub mod InParts
 pub mod LeastFaults
-pub mod MadeInTwo
 pub mod Packing
-pub mod PermuteFaults
 pub mod PlaceByPlace
 pub mod Places
 pub mod Segments
@@ -20,6 +15,4 @@ pub mod SegmentsInTwo
 pub mod Selecting
 pub mod Sending
 pub mod Destinations
-pub mod TextsInTwo
 pub mod TwoParts
-pub mod VectorsInTwo

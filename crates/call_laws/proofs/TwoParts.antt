@@ -1,16 +1,23 @@
 -- What two parts give together, and the results on segments and on more segments behind them.
-use Rattle.std.proofs.Common.{◌≡◌, ℕ, ◌+◌, ◌<◌, List, [], ◌∷◌, ◌++◌, length, append_assoc, refl, sym, ap, ◌∙◌, arith, option_map, Option, Some, None, Ok, Err, Result}
+use Rattle.std.proofs.Common.{◌≡◌, ℕ, ◌+◌, ◌<◌, List, [], ◌∷◌, ◌++◌, length, map, append_assoc, length-append, refl, sym, ap, ◌∙◌, arith, option_map, zip, Option, Some, None, Ok, Err, Result}
 use Rattle.std.specs.Option.{ok_or}
 use Rattle.std.proofs.lemmas.Grind.{flat_map-append}
+use Rattle.std.proofs.lemmas.Slice.Zip.{length-zip}
 use Rattle.cvl_base.specs.declared.fault.Fault.{Fault}
 use Rattle.cvl_base.specs.declared.fault.FaultNo.{FaultNo}
 use Rattle.cvl_base.specs.Elementwise.{values_from}
 use Rattle.cvl_base.specs.Faults.{fault_at}
 use Rattle.cvl_base.specs.Gives.{◌>>=◌, after}
 use Rattle.cvl_base.specs.Lists.{joined}
-use Rattle.cvl_base.specs.Segmented.{moved, results_from, one_each, end_to_end, at_segment}
+use Rattle.cvl_base.specs.Segmented.{at_segment, beside, end_to_end, moved, one_each, results_from}
 use Rattle.cvl_base.proofs.Gives.{after-none}
+use Rattle.cvl_base.proofs.Segmented.{beside-fits}
 use Rattle.call_laws.specs.InParts.{in_two}
+
+-- what is done with a result was done with a value, where something came of it
+pub from_value : {X Y : Type 0} (r : Result X Fault) (next : X → Result Y Fault) (y : Y) → (r >>= next) ≡ Ok y → (x : X) × (r ≡ Ok x) × (next x ≡ Ok y)
+from_value (Ok x) next y p = (x, refl, p)
+from_value (Err f) next y p = cc
 
 -- ---- places that are moved
 
@@ -26,7 +33,7 @@ place-stays : (f : ℕ → ℕ) → ((p : ℕ) → f p ≡ p) → (o : Option �
 place-stays f same None = refl
 place-stays f same (Some p) = ap Some (same p)
 
-moved-stays : {X : Type 0} (f : ℕ → ℕ) → ((p : ℕ) → f p ≡ p) → (r : Result X Fault) → moved f r ≡ r
+pub moved-stays : {X : Type 0} (f : ℕ → ℕ) → ((p : ℕ) → f p ≡ p) → (r : Result X Fault) → moved f r ≡ r
 moved-stays f same (Ok x) = refl
 moved-stays f same (Err e) = λ i. Err (record { number = e.number; place = place-stays f same e.place i })
 
@@ -62,10 +69,51 @@ onto-after (Ok r) (Err e) c = refl
 onto-after (Ok r) (Ok rs) (Err e) = refl
 onto-after (Ok r) (Ok rs) (Ok others) = refl
 
+-- ---- results without a fault: of two parts, of which the first has k and the second l
+
+pub record AreTwo {S : Type 0} (whole first second : Result (List S) Fault) (k l : ℕ) : Type 0 where
+  pub before : List S
+  pub others : List S
+  pub together : whole ≡ Ok (before ++ others)
+  pub one : first ≡ Ok before
+  pub other : second ≡ Ok others
+  pub many : length before ≡ k
+  pub also_many : length others ≡ l
+
+pub listed : {S : Type 0} (before others : List S) {k l : ℕ} → length before ≡ k → length others ≡ l → AreTwo (Ok (before ++ others)) (Ok before) (Ok others) k l
+listed before others many also_many = record { before = before; others = others; together = refl; one = refl; other = refl; many = many; also_many = also_many }
+
+pub two-parts : {S : Type 0} {whole first second : Result (List S) Fault} {k l : ℕ} → AreTwo whole first second k l → (n : ℕ) → whole ≡ in_two n first second
+two-parts two n = rw (two.together, two.one, two.other)
+
+-- lists that are equally long in both parts, beside one another
+pub zip-append : {A B : Type 0} (xs : List A) (ys : List B) (more : List A) (others : List B) → length xs ≡ length ys → zip (xs ++ more) (ys ++ others) ≡ zip xs ys ++ zip more others
+zip-append [] [] more others same = refl
+zip-append [] (y ∷ ys) more others same = absurd (omega arith)
+zip-append (x ∷ xs) [] more others same = absurd (omega arith)
+zip-append (x ∷ xs) (y ∷ ys) more others same = ap (λ ps. (x, y) ∷ ps) (zip-append xs ys more others (omega arith))
+
+module _ {A B : Type 0} {whole first second : Result (List A) Fault} {whole2 first2 second2 : Result (List B) Fault} {k l : ℕ} where
+  pub both : AreTwo whole first second k l → AreTwo whole2 first2 second2 k l → AreTwo (beside whole whole2) (beside first first2) (beside second second2) k l
+  both p q =
+      let long : length p.before ≡ length q.before = p.many ∙ sym q.many in
+      let also_long : length p.others ≡ length q.others = p.also_many ∙ sym q.also_many in
+      record {
+        before = zip p.before q.before;
+        others = zip p.others q.others;
+        together = (λ i. beside (p.together i) (q.together i))
+            ∙ beside-fits (p.before ++ p.others) (q.before ++ q.others) (omega (arith, length-append p.before p.others, length-append q.before q.others))
+            ∙ ap Ok (zip-append p.before q.before p.others q.others long);
+        one = (λ i. beside (p.one i) (q.one i)) ∙ beside-fits p.before q.before long;
+        other = (λ i. beside (p.other i) (q.other i)) ∙ beside-fits p.others q.others also_long;
+        many = omega (arith, length-zip p.before q.before, p.many);
+        also_many = omega (arith, length-zip p.others q.others, p.also_many);
+      }
+
 -- ---- the results on segments
 
 module _ {S R : Type 0} (call : S → Result R Fault) where
-  results-append : (place : ℕ → ℕ → ℕ) (s : ℕ) (xs ys : List S)
+  pub results-append : (place : ℕ → ℕ → ℕ) (s : ℕ) (xs ys : List S)
       → results_from place call s (xs ++ ys) ≡ (results_from place call s xs >>= λ rs. after rs (results_from place call (s + length xs) ys))
   results-append place s [] ys =
       ap (λ n. results_from place call n ys) (omega arith) ∙ sym (after-none (results_from place call (s + length {A = S} []) ys))
@@ -105,19 +153,20 @@ module _ {S R : Type 0} (call : S → Result R Fault) where
 pub at_segment-lists : {S X : Type 0} (call : S → Result (List X) Fault) (before others : List S)
     → end_to_end at_segment call (Ok (before ++ others)) ≡ in_two (length before) (end_to_end at_segment call (Ok before)) (end_to_end at_segment call (Ok others))
 at_segment-lists call before others =
-    ap (λ r. r >>= λ lists. Ok (joined lists)) (at_segment-two call before others)
-    ∙ joined-two (length before) (one_each at_segment call (Ok before)) (one_each at_segment call (Ok others))
+    rw (at_segment-two call before others) (joined-two (length before) (one_each at_segment call (Ok before)) (one_each at_segment call (Ok others)))
 
 -- ---- values some of which may be missing
 
--- each value is a segment of its own
-pub values-each : {Y : Type 0} (number : FaultNo) (place : ℕ) (vs : List (Option Y)) → values_from number place vs ≡ results_from at_segment (λ v. ok_or v (fault_at number 0)) place vs
-values-each number place [] = refl
-values-each number place (None ∷ vs) = refl
-values-each number place (Some y ∷ vs) = ap (λ r. r >>= λ ys. Ok (y ∷ ys)) (values-each number (place + 1) vs)
+-- a missing value's fault stands at its place
+pub at_its_place : {Y : Type 0} (number : FaultNo) (place : ℕ) (v : Option Y) → moved (at_segment place) (ok_or v (fault_at number 0)) ≡ ok_or v (fault_at number place)
+at_its_place number place None = refl
+at_its_place number place (Some y) = refl
 
-pub values-two : {Y : Type 0} (number : FaultNo) (vs ws : List (Option Y)) → values_from number 0 (vs ++ ws) ≡ in_two (length vs) (values_from number 0 vs) (values_from number 0 ws)
-values-two number vs ws =
-    values-each number 0 (vs ++ ws)
-    ∙ at_segment-two (λ v. ok_or v (fault_at number 0)) vs ws
-    ∙ (λ i. in_two (length vs) (sym (values-each number 0 vs) i) (sym (values-each number 0 ws) i))
+module _ {A Y : Type 0} (number : FaultNo) (f : A → Option Y) where
+  -- each value is a segment of its own
+  pub values-each : (place : ℕ) (xs : List A) → values_from number place (map f xs) ≡ results_from at_segment (λ x. ok_or (f x) (fault_at number 0)) place xs
+  values-each place [] = refl
+  values-each place (x ∷ xs) = λ i. sym (at_its_place number place (f x)) i >>= λ y. values-each (place + 1) xs i >>= λ ys. Ok (y ∷ ys)
+
+  pub values-two : (xs ys : List A) → values_from number 0 (map f (xs ++ ys)) ≡ in_two (length xs) (values_from number 0 (map f xs)) (values_from number 0 (map f ys))
+  values-two xs ys = rw (values-each 0 (xs ++ ys), values-each 0 xs, values-each 0 ys) (at_segment-two (λ x. ok_or (f x) (fault_at number 0)) xs ys)

@@ -1,14 +1,22 @@
-use Rattle.std.proofs.Common.{refl, ap}
-use Rattle.std.specs.Option.{ok_or}
-use Rattle.cvl_base.specs.declared.fault.FaultNo.TheVariants as no
+use Rattle.std.proofs.Common.{◌≡◌, List, [], ◌∷◌, refl, sym, ℤ, pos, ◌+ℤ◌}
+use Rattle.std.specs.List.{fold}
+use Rattle.std.proofs.Math.IntN.{+ℤ_assoc, +ℤ_idl, +ℤ_idr}
+use Rattle.std.proofs.lemmas.List.Sums.{fold-append}
+use Rattle.cvl_base.specs.declared.fault.FaultNo.TheVariants.{Overflow}
 use Rattle.cvl_base.specs.CheckedSums.{fitting}
-use Rattle.cvl_base.specs.Faults.{fault_at}
-use Rattle.call_laws.proofs.CheckedInTwo.{checked-two, total-two}
+use Rattle.cvl_base.specs.Exact.{total_of}
+use Rattle.cvl_base.specs.Folds.{fold_of, scan_of}
+use Rattle.operators.proofs.FoldLaws.{length-scan_of, scan_of-append}
+use Rattle.call_laws.proofs.TwoParts.{values-two}
 use Rattle.call_laws.proofs.checked_sums.checked_sums_in_parts.Goals as goal
+
+total-from : (a : ℤ) (xs : List ℤ) → fold ◌+ℤ◌ a xs ≡ a +ℤ total_of xs
+total-from a [] = sym (+ℤ_idr a)
+total-from a (x ∷ xs) = rw (+ℤ_idl x, total-from (a +ℤ x) xs, total-from x xs) (+ℤ_assoc a x (total_of xs))
 
 pub returns : goal.returns
 returns c = record {
-  scan = checked-two;
+  scan = λ carry xs ys. rw (scan_of-append ◌+ℤ◌ carry xs ys, ← length-scan_of ◌+ℤ◌ carry xs) (values-two Overflow fitting (scan_of ◌+ℤ◌ carry xs) (scan_of ◌+ℤ◌ (fold_of ◌+ℤ◌ carry xs) ys));
   scan_call = λ xs. refl;
-  reduce = λ xs ys. ap (λ z. ok_or (fitting z) (fault_at no.Overflow 0)) (total-two xs ys);
+  reduce = λ xs ys. rw (fold-append ◌+ℤ◌ (pos 0) xs ys, total-from (total_of xs) ys);
 }

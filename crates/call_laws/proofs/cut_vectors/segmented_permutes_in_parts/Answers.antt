@@ -1,16 +1,24 @@
-use Rattle.std.proofs.Common.{refl}
+use Rattle.std.proofs.Common.{refl, sym}
 use Rattle.cvl_base.specs.Packs.{pack_of}
 use Rattle.cvl_base.specs.Permutes.{back_of, default_of, select_of, simple_of}
-use Rattle.call_laws.proofs.VectorsInTwo.{three-between, two-between}
+use Rattle.cvl_base.specs.Segmented.{of_three, of_two}
+use Rattle.call_laws.proofs.SegmentsInTwo.{cut, in_order}
+use Rattle.call_laws.proofs.TwoParts.{both}
 use Rattle.call_laws.proofs.cut_vectors.segmented_permutes_in_parts.Goals as goal
 
 pub returns : goal.returns
 returns g c = record {
-  simple = λ source more index others lengths later p q r s. two-between simple_of source more index others lengths later lengths later p q r s refl refl;
-  back = λ source more index others lengths later index_lengths index_later. two-between back_of source more index others lengths later index_lengths index_later;
+  simple = λ source more index others lengths later p q r s.
+      in_order (both (cut lengths later source more p r refl refl) (cut lengths later index others q s refl refl)) (of_two simple_of) lengths later refl;
+  back = λ source more index others lengths later index_lengths index_later p q r s many also_many.
+      in_order (both (cut lengths later source more p r many also_many) (cut index_lengths index_later index others q s refl refl)) (of_two back_of) index_lengths index_later refl;
   select = λ source more index others lengths later p q r s flags more_flags t u.
-      three-between select_of source more index others flags more_flags lengths later lengths later p r q s t u refl refl lengths later refl;
+      in_order (both (both (cut lengths later source more p r refl refl) (cut lengths later index others q s refl refl)) (cut lengths later flags more_flags t u refl refl))
+      (of_three select_of) lengths later refl;
   default_into = λ source more index others lengths later p q r s defaults more_defaults default_lengths default_later t u many also_many.
-      three-between default_of source more index others defaults more_defaults lengths later default_lengths default_later p r q s t u many also_many lengths later refl;
-  pack = λ xs more flags more_flags lengths later p q r s. two-between pack_of xs more flags more_flags lengths later lengths later p q r s refl refl;
+      in_order (both (both (cut lengths later source more p r refl refl) (cut lengths later index others q s refl refl))
+      (cut default_lengths default_later defaults more_defaults t u (sym many) (sym also_many)))
+      (of_three default_of) lengths later refl;
+  pack = λ xs more flags more_flags lengths later p q r s.
+      in_order (both (cut lengths later xs more p r refl refl) (cut lengths later flags more_flags q s refl refl)) (of_two pack_of) lengths later refl;
 }

@@ -1,8 +1,29 @@
-use Rattle.call_laws.proofs.MadeInTwo.{distribute-two, index-two}
+use Rattle.std.proofs.Common.{◌≡◌, ℕ, ℤ, ◌+◌, ◌+ℤ◌, ◌*ℤ◌, map, pos, sym, ap, ◌∙◌, arith, w32, Ok}
+use Rattle.std.specs.List.{range_with_len}
+use Rattle.std.proofs.lemmas.Int.{int_wrap-add_left, ints}
+use Rattle.std.proofs.lemmas.List.{map-append, replicate-append-replicate}
+use Rattle.std.proofs.lemmas.List.FromFn.{fill_by_all, get_or-map-range_with_len, length-map-range_with_len}
+use Rattle.cvl_base.specs.Integers.{wrap}
+use Rattle.cvl_base.proofs.Distributes.{as_length-fits}
+use Rattle.permute_walks.proofs.Listed.{range_both}
 use Rattle.call_laws.proofs.distributes.distribute_in_parts.Goals as goal
+
+-- k steps on from the place m
+steps-on : (init stride : ℤ) (m k : ℕ) → init +ℤ pos (m + k) *ℤ stride ≡ (init +ℤ pos m *ℤ stride) +ℤ pos k *ℤ stride
+steps-on init stride m k = omega (arith, ints)
 
 pub returns : goal.returns
 returns g c = record {
-  copies = λ value m n few. distribute-two m n few value;
-  steps = λ init stride m n few. index-two m n few init stride;
+  copies = λ value m n few.
+      rw (as_length-fits (m + n) few, as_length-fits m (omega (arith, few)), as_length-fits n (omega (arith, few))) (ap Ok (sym (replicate-append-replicate m n value)));
+  steps = λ init stride m n few.
+      let number = λ (k : ℕ). wrap (init +ℤ pos k *ℤ stride) in
+      let later = λ (k : ℕ). wrap (wrap (init +ℤ pos m *ℤ stride) +ℤ pos k *ℤ stride) in
+      let on : (k : ℕ) → number (m + k) ≡ later k =
+      λ k. ap wrap (steps-on init stride m k) ∙ sym (int_wrap-add_left w32 (init +ℤ pos m *ℤ stride) (pos k *ℤ stride)) in
+      let second : map number (range_with_len (0 + m) n) ≡ map later (range_with_len 0 n) =
+      fill_by_all later (map number (range_with_len (0 + m) n)) n init (length-map-range_with_len number (0 + m) n)
+      (λ k within. get_or-map-range_with_len number (0 + m) n k (m + k) init within (omega arith) ∙ on k) in
+      rw (as_length-fits (m + n) few, as_length-fits m (omega (arith, few)), as_length-fits n (omega (arith, few)), range_both 0 m n)
+      (ap Ok (map-append number (range_with_len 0 m) (range_with_len (0 + m) n) ∙ rw second));
 }

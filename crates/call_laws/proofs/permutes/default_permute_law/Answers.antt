@@ -1,4 +1,4 @@
-use Rattle.call_laws.proofs.Defaulting.{default-meaning}
+use Rattle.call_laws.proofs.Sending.{default-meaning}
 use Rattle.call_laws.proofs.permutes.default_permute_law.Goals as goal
 
 pub returns : goal.returns

@@ -1,12 +1,18 @@
 use Rattle.std.proofs.Common.{length}
-use Rattle.cvl_base.proofs.Elementwise.{if_as_long-misfits}
-use Rattle.call_laws.proofs.PermuteFaults.{all-again, all-outside, simple-fault}
+use Rattle.cvl_base.specs.Permutes.{all_destinations}
+use Rattle.cvl_base.proofs.Elementwise.{if_as_long-fits, if_as_long-misfits}
+use Rattle.call_laws.proofs.FirstBadPlaces.{fault-again, fault-outside}
+use Rattle.call_laws.proofs.Sending.{all_good, destination-here}
 use Rattle.call_laws.proofs.permutes.simple_fault_law.Goals as goal
 
 pub returns : goal.returns
 returns g c = record {
   mismatch = λ source index differ. if_as_long-misfits source index _ differ;
-  outside = λ source index k i long within once here out. simple-fault source index _ long (all-outside (length index) index k i within once here out);
+  outside = λ source index k i long within once here out.
+      let good = all_good (length index) index k within once in
+      rw (if_as_long-fits source index _ long, fault-outside (length index) (all_destinations index) k i good (destination-here index k i here) out);
   again = λ source index h k i long within once below first here.
-      simple-fault source index _ long (all-again (length index) index h k i within once below first here);
+      let good = all_good (length index) index k within once in
+      let bad = fault-again (length index) (all_destinations index) h k i good below (destination-here index h i first) (destination-here index k i here) (within h i below first) in
+      rw (if_as_long-fits source index _ long, bad);
 }

@@ -1,5 +1,7 @@
-use Rattle.call_laws.proofs.PlaceByPlace.{back-two}
+use Rattle.cvl_base.specs.declared.fault.FaultNo.TheVariants.{IndexOutOfRange}
+use Rattle.cvl_base.specs.Extracts.{element_at}
+use Rattle.call_laws.proofs.TwoParts.{values-two}
 use Rattle.call_laws.proofs.permutes_in_parts.back_permute_in_parts.Goals as goal
 
 pub returns : goal.returns
-returns g c = back-two
+returns g c = λ source. values-two IndexOutOfRange (element_at source)

@@ -1,8 +1,17 @@
-use Rattle.call_laws.proofs.ByRanges.{default-ranges, default-counted}
+use Rattle.std.proofs.Common.{length, sym, ◌∙◌}
+use Rattle.cvl_base.specs.Permutes.{all_destinations}
+use Rattle.cvl_base.proofs.Elementwise.{if_as_long-fits}
+use Rattle.cvl_base.proofs.Permutes.{length-all_destinations}
+use Rattle.permute_walks.proofs.EachSent.{all_take_part}
+use Rattle.call_laws.proofs.ByRanges.{over-counted, over-written}
+use Rattle.call_laws.proofs.Sending.{if_as_long-Ok}
 use Rattle.call_laws.proofs.permutes_in_parts.default_permute_by_ranges.Goals as goal
 
 pub returns : goal.returns
 returns g c = record {
-  written = λ source defaults index long few. default-ranges source index long few defaults;
-  counted = λ source defaults result index long few. default-counted source index long few defaults result;
+  written = λ source defaults index long few all.
+      rw (if_as_long-fits source index _ long)
+      (over-written source (all_destinations index) (length index) long (length-all_destinations index) few defaults (all ∙ sym (all_take_part index)));
+  counted = λ source defaults result index long few p.
+      over-counted source (all_destinations index) (length index) long (length-all_destinations index) few defaults result (if_as_long-Ok source index _ result p).1 ∙ all_take_part index;
 }

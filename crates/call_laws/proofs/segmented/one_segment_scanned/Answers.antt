@@ -1,5 +1,10 @@
-use Rattle.call_laws.proofs.Segments.{scan-again, reduce-again}
+use Rattle.std.proofs.Common.{length, [], ◌∷◌, Ok}
+use Rattle.cvl_base.specs.Folds.{scan_of}
+use Rattle.call_laws.proofs.Segments.{flat-again, nest_one}
 use Rattle.call_laws.proofs.segmented.one_segment_scanned.Goals as goal
 
 pub returns : goal.returns
-returns g c = record { scan = scan-again g.M.Monoid.join g.M.Monoid.unit; reduce = reduce-again g.M.Monoid.join g.M.Monoid.unit }
+returns g c = record {
+  scan = λ xs. rw (nest_one xs) (flat-again (length xs ∷ []) (λ ys. Ok (scan_of g.M.Monoid.join g.M.Monoid.unit ys)) xs);
+  reduce = λ xs. rw (nest_one xs);
+}

@@ -4,9 +4,8 @@ use Rattle.cvl_base.specs.Permutes.{simple_of, back_of, select_of, default_of}
 use Rattle.cvl_base.specs.Segmented.{in_vector, of_two, of_three}
 use Rattle.call_laws.proofs.BackPermutes.{back-meaning}
 use Rattle.call_laws.proofs.CutResults.{counts-given, cut-three, cut-two, has-lengths, map-seconds}
-use Rattle.call_laws.proofs.Defaulting.{default-meaning}
 use Rattle.call_laws.proofs.Selecting.{select-meaning}
-use Rattle.call_laws.proofs.Sending.{simple-meaning}
+use Rattle.call_laws.proofs.Sending.{default-meaning, simple-meaning}
 use Rattle.call_laws.proofs.segmented.permute_cut_again.Goals as goal
 
 pub returns : goal.returns

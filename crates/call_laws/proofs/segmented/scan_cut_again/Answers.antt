@@ -1,5 +1,14 @@
-use Rattle.call_laws.proofs.CutResults.{scan-cut}
+use Rattle.std.proofs.Common.{◌≡◌, length, map, sym, ◌∙◌, Ok}
+use mathlib.Core.List.{map-map}
+use Rattle.cvl_base.specs.Folds.{scan_of}
+use Rattle.cvl_base.specs.Segmented.{in_vector}
+use Rattle.operators.proofs.FoldLaws.{length-scan_of}
+use Rattle.call_laws.proofs.CutResults.{cut-again, has-lengths}
 use Rattle.call_laws.proofs.segmented.scan_cut_again.Goals as goal
 
 pub returns : goal.returns
-returns g c = scan-cut g.M.Monoid.join g.M.Monoid.unit
+returns g c = λ xs ys lengths lists cut.
+    let scan = scan_of g.M.Monoid.join g.M.Monoid.unit in
+    let same : map length (map scan lists) ≡ map length lists = simp (map-map, length-scan_of g.M.Monoid.join g.M.Monoid.unit) in
+    rw (cut, ← (same ∙ has-lengths lengths xs lists cut))
+    (cut-again (in_vector (map length (map scan lists))) (λ xs. Ok (scan xs)) lists (map scan lists) ys (sym (map-map (λ r. Ok r) scan lists)))
