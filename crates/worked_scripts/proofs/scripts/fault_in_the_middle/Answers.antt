@@ -4,10 +4,10 @@ use Rattle.std.specs.Int.{int_wrap}
 use Rattle.cvl_base.specs.Spellings.{op_of, int_binaries, unaries, comparisons, bool_binaries, int_monoids, forms, elements}
 use Rattle.worked_scripts.proofs.scripts.fault_in_the_middle.Goals as goal
 
-pub returns-clause-unknown_call : goal.returns-clause-unknown_call
+pub returns : goal.returns
 unfolding op_of int_binaries unaries comparisons bool_binaries int_monoids forms elements digits int_wrap
-returns-clause-unknown_call c = refl
-
-pub returns-clause-place_of_an_element : goal.returns-clause-place_of_an_element
-unfolding op_of int_binaries unaries comparisons bool_binaries int_monoids forms elements digits int_wrap
-returns-clause-place_of_an_element c = refl
+returns c = record {
+  unknown_call = refl;
+  place_of_an_element = refl;
+  first_of_two_faults = refl;
+}

@@ -4,10 +4,9 @@ use Rattle.std.specs.Int.{int_wrap}
 use Rattle.cvl_base.specs.Spellings.{op_of, int_binaries, unaries, comparisons, bool_binaries, int_monoids, forms, elements}
 use Rattle.worked_scripts.proofs.scripts.scanned.Goals as goal
 
-pub returns-clause-elements : goal.returns-clause-elements
+pub returns : goal.returns
 unfolding op_of int_binaries unaries comparisons bool_binaries int_monoids forms elements digits int_wrap
-returns-clause-elements c = refl
-
-pub returns-clause-no_elements : goal.returns-clause-no_elements
-unfolding op_of int_binaries unaries comparisons bool_binaries int_monoids forms elements digits int_wrap
-returns-clause-no_elements c = refl
+returns c = record {
+  elements = refl;
+  no_elements = refl;
+}
