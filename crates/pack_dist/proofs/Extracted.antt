@@ -1,21 +1,19 @@
 -- The segments of an extract, and of a replace before its values: each has its elements and an index.
-use Rattle.std.proofs.Common.{◌≡◌, ◌≢◌, ◌∙◌, ℕ, ◌+◌, ◌<◌, ◌≤◌, ℤ, pos, List, [], length, take, drop, get_or, ◌++◌, ◌∷◌, refl, sym, ap, arith, Result, Ok, Err}
+use Rattle.std.proofs.Common.{◌≡◌, ◌≢◌, ◌∙◌, ℕ, ◌+◌, ◌<◌, ◌≤◌, ℤ, pos, List, [], length, take, drop, get_or, ◌++◌, ◌∷◌, refl, sym, ap, arith, Ok, Err}
 use Rattle.std.specs.Prelude.{sum}
 use Rattle.std.specs.List.{zip}
 use Rattle.std.proofs.lemmas.Slice.Zip.{length-zip}
-use Rattle.cvl_base.specs.declared.fault.Fault.{Fault}
 use Rattle.cvl_base.specs.declared.fault.FaultNo.TheVariants as no
 use Rattle.cvl_base.specs.Extracts.{extract_of}
 use Rattle.cvl_base.specs.Faults.{fault, fault_at}
-use Rattle.cvl_base.specs.Gives.{after}
 use Rattle.cvl_base.specs.Nests.{cut_of, nest}
 use Rattle.cvl_base.specs.Segmented.{beside, of_two, at_segment, one_each}
 use Rattle.cvl_base.specs.SegmentedCalls.{seg_extract_of}
 use Rattle.cvl_base.proofs.Nests.{length-cut, nest-fits}
 use Rattle.cvl_base.proofs.Segmented.{beside-fits, beside-misfits}
-use Rattle.pack_dist.proofs.Named.{NamesNone, extract_some, extract_none}
-use Rattle.pack_dist.proofs.Parts.{StandsAt, both, part, part_read, part_long, part_short, stands}
-use Rattle.pack_dist.proofs.Walk.{all_done, fails, left, none_yet, one_more, single, singles}
+use Rattle.pack_dist.proofs.Named.{Names, NamesNone, extract_some, extract_none}
+use Rattle.pack_dist.proofs.Parts.{IsSegment, StandsAt, both, part, part_read, part_long, part_short, stands}
+use Rattle.pack_dist.proofs.Walk.{Walked, all_done, begins, fails, one_more, single, singles}
 
 module _ {X : Type 0} (xs : List X) (index : List ℤ) (lengths : List ℕ) where
   -- the elements of each segment and its index
@@ -33,47 +31,39 @@ module _ {X : Type 0} (xs : List X) (index : List ℤ) (lengths : List ℕ) wher
   pub length-indexed : length lengths ≡ length index → length indexed ≡ length lengths
   length-indexed same = omega (arith, same, length-cut lengths xs, length-zip (cut_of lengths xs) index)
 
-  pub indexed-at : (s start n : ℕ) → start ≡ sum (take s lengths) → s < length lengths → s < length index → n ≡ get_or lengths s 0
-      → StandsAt indexed s (take n (drop start xs), get_or index s (pos 0))
-  indexed-at s start n starts lt in_index is =
-      both (cut_of lengths xs) index s (take n (drop start xs)) (get_or index s (pos 0)) (part lengths s start n starts xs lt is)
-      (stands index s (get_or index s (pos 0)) (pos 0) in_index refl)
+  pub indexed-at : (s start n : ℕ) → IsSegment lengths s start n → s < length index → StandsAt indexed s (take n (drop start xs), get_or index s (pos 0))
+  indexed-at s start n here in_index = both (part here xs) (stands index s (get_or index s (pos 0)) (pos 0) in_index refl)
 
   -- ---- extracts
 
-  -- what the segments from s on give
-  abbrev pub elements_left : ℕ → Result (List X) Fault
-  elements_left s = left single at_segment (of_two extract_of) indexed s
+  -- these elements are done when an extract comes to segment s
+  abbrev pub Extracting : ℕ → List X → Type 0
+  Extracting s done = Walked single at_segment (of_two extract_of) indexed s done (seg_extract_of xs index lengths)
 
   pub extract-misfits : sum lengths ≡ length xs → length lengths ≢ length index → seg_extract_of xs index lengths ≡ Err (fault no.LengthMismatch)
   extract-misfits fits unlike = ap (one_each at_segment (of_two extract_of)) (indexed-misfits fits unlike)
 
-  pub extract-begins : (done : List X) → sum lengths ≡ length xs → length lengths ≡ length index → done ≡ [] → seg_extract_of xs index lengths ≡ after done (elements_left 0)
+  pub extract-begins : (done : List X) → sum lengths ≡ length xs → length lengths ≡ length index → done ≡ [] → Extracting 0 done
   extract-begins done fits same none =
-      ap (one_each at_segment (of_two extract_of)) (indexed-fits fits same)
-      ∙ singles _
-      ∙ none_yet single at_segment (of_two extract_of) indexed done none
+      begins done (seg_extract_of xs index lengths) none (ap (one_each at_segment (of_two extract_of)) (indexed-fits fits same) ∙ singles _)
 
-  pub extract-ends : (s : ℕ) (done : List X) (whole : Result (List X) Fault) → length lengths ≤ s → whole ≡ after done (elements_left s) → whole ≡ Ok done
-  extract-ends s done whole ge so_far =
-      all_done single at_segment (of_two extract_of) indexed s done whole (omega (arith, ge, length-cut lengths xs, length-zip (cut_of lengths xs) index)) so_far
+  module _ (s : ℕ) (done : List X) (walked : Extracting s done) where
+    pub extract-ends : length lengths ≤ s → seg_extract_of xs index lengths ≡ Ok done
+    extract-ends ge = all_done walked (omega (arith, ge, length-cut lengths xs, length-zip (cut_of lengths xs) index))
 
-  -- the next segment
-  module _ (s start n : ℕ) (starts : start ≡ sum (take s lengths)) (lt : s < length lengths) (in_index : s < length index) (is : n ≡ get_or lengths s 0)
-      (done : List X) (whole : Result (List X) Fault) (so_far : whole ≡ after done (elements_left s)) where
-    abbrev elements : List X
-    elements = take n (drop start xs)
+    -- the next segment
+    module _ (start n : ℕ) (here : IsSegment lengths s start n) (in_index : s < length index) where
+      abbrev elements : List X
+      elements = take n (drop start xs)
 
-    at : StandsAt indexed s (elements, get_or index s (pos 0))
-    at = indexed-at s start n starts lt in_index is
+      pub extract-more : (place : ℕ) (x : X) (now : List X) → sum lengths ≡ length xs → Names n (get_or index s (pos 0)) start place → x ≡ get_or xs place x → now ≡ done ++ x ∷ []
+          → Extracting (s + 1) now
+      extract-more place x now fits named read grown =
+          one_more walked (indexed-at s start n here in_index) x now
+          (extract_some elements (get_or index s (pos 0)) named.0 x named.2 (omega (arith, named.1, part_long here xs fits))
+          (part_read xs start n named.0 x named.1 (read ∙ ap (λ (p : ℕ). get_or xs p x) named.3))) grown
 
-    pub extract-more : (k : ℕ) (x : X) (now : List X) → start + n ≤ length xs → get_or index s (pos 0) ≡ pos k → k < n → x ≡ get_or xs (start + k) x → now ≡ done ++ x ∷ []
-        → whole ≡ after now (elements_left (s + 1))
-    extract-more k x now covered names within read grown =
-        one_more single at_segment (of_two extract_of) indexed s (elements, get_or index s (pos 0)) at.within at.here done whole so_far x now
-        (extract_some elements (get_or index s (pos 0)) k x names (omega (arith, within, part_long xs start n covered)) (part_read xs start n k x within read)) grown
-
-    pub extract-fails : NamesNone n (get_or index s (pos 0)) → whole ≡ Err (fault_at no.IndexOutOfRange s)
-    extract-fails none =
-        fails single at_segment (of_two extract_of) indexed s (elements, get_or index s (pos 0)) at.within at.here done whole so_far (fault_at no.IndexOutOfRange 0)
-        (extract_none elements (get_or index s (pos 0)) (λ k named. omega (arith, none k named, part_short xs start n)))
+      pub extract-fails : NamesNone n (get_or index s (pos 0)) → seg_extract_of xs index lengths ≡ Err (fault_at no.IndexOutOfRange s)
+      extract-fails none =
+          fails walked (indexed-at s start n here in_index) (fault_at no.IndexOutOfRange 0)
+          (extract_none elements (get_or index s (pos 0)) (λ k named. omega (arith, none k named, part_short xs start n)))

@@ -1,5 +1,5 @@
 -- The place that an index names in a list, or that it names none.
-use Rattle.std.proofs.Common.{◌≡◌, ◌∙◌, ℕ, ◌<◌, ◌≤◌, ℤ, pos, negsuc, List, length, get_or, set, refl, ap, Some, None, Ok, Err}
+use Rattle.std.proofs.Common.{◌≡◌, ◌∙◌, ℕ, ◌+◌, ◌<◌, ◌≤◌, ℤ, pos, negsuc, List, length, get_or, set, refl, ap, Some, None, Ok, Err}
 use Rattle.std.specs.Prelude.{if◌then◌else◌}
 use Rattle.std.specs.Option.{ok_or}
 use Rattle.std.proofs.lemmas.Bool.{lt-ltb, le-ltb}
@@ -8,7 +8,11 @@ use Rattle.cvl_base.specs.declared.fault.FaultNo.TheVariants as no
 use Rattle.cvl_base.specs.Extracts.{extract_of, replace_of}
 use Rattle.cvl_base.specs.Faults.{fault_at}
 
--- an index that names none of so many places
+-- an index that names one of so many places, which stand from `start` on
+abbrev pub Names : ℕ → ℤ → ℕ → ℕ → Type 0
+Names count index start place = (k : ℕ) × (k < count) × (index ≡ pos k) × (place ≡ start + k)
+
+-- an index that names none of them
 abbrev pub NamesNone : ℕ → ℤ → Type 0
 NamesNone count index = (k : ℕ) → index ≡ pos k → count ≤ k
 

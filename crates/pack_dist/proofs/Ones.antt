@@ -1,12 +1,8 @@
 -- The sum of flags that are read as 1 and 0 is the number of true ones.
-use Rattle.std.proofs.Common.{◌≡◌, ℕ, ◌+◌, ◌<◌, ◌≤◌, ℤ, pos, to_z, of_z, w32, w64, Fits, Bool, true, false, cond, List, [], ◌∷◌, length, take, map, get_or, sym, ap, ◌∙◌, arith, FitsSigned, subst}
+use Rattle.std.proofs.Common.{◌≡◌, ℕ, ◌+◌, ◌≤◌, ℤ, pos, w32, Bool, true, false, cond, List, [], ◌∷◌, length, take, map, get_or, ap, ◌∙◌, arith}
 use Rattle.std.proofs.Common.{slice_get, Some}
-use Rattle.std.specs.Prelude.{unsigned_abs}
-use Rattle.std.specs.Int.{IsNonNegative}
-use Rattle.std.proofs.Math.Facts.{Fits-below}
-use Rattle.std.proofs.lemmas.Int.{int_wrap_fits, fits_signed_from_abs, to_z-of_z}
-use Rattle.std.proofs.lemmas.List.{get_or_default, length-map, length-take, take-map}
-use Rattle.std.proofs.lemmas.List.Sums.{count_by-le-length}
+use Rattle.std.proofs.lemmas.Int.{int_wrap_fits, fits_signed_from_abs}
+use Rattle.std.proofs.lemmas.List.{length-map, length-take, take-map}
 use Rattle.std.proofs.lemmas.Option.{get_or_from_slice_get}
 use Rattle.cvl_base.specs.Conversions.{integer_of}
 use Rattle.cvl_base.specs.Folds.{fold_of, scan_of}

@@ -1,8 +1,9 @@
 -- What a pack keeps of the first elements, of one more, and of those that a run is made of.
-use Rattle.std.proofs.Common.{◌≡◌, ℕ, ◌+◌, ◌<◌, ◌≤◌, Bool, true, false, cond, List, [], ◌∷◌, ◌++◌, length, take, drop, get_or, set, refl, sym, ap, ◌∙◌, arith, append-nil, append_assoc}
+use Rattle.std.proofs.Common.{◌≡◌, ℕ, ◌+◌, ◌<◌, ◌≤◌, Bool, true, false, cond, List, [], ◌∷◌, ◌++◌, length, take, drop, get_or, set, refl, sym, ap, ◌∙◌, arith, append-nil, append_assoc, inl, inr}
 use Rattle.std.proofs.Math.Seq.{drop-append_seam, take-append_seam}
+use Rattle.std.proofs.lemmas.Bool.{cases_lt}
 use Rattle.std.proofs.lemmas.List.{length-append, length-take, take-append-drop, take-take, take_more, take_more_set, take-set}
-use Rattle.std.proofs.lemmas.List.Sums.{count_by_more_yes, count_by_more_no, sum_by-take-drop, sum_by_more}
+use Rattle.std.proofs.lemmas.List.Sums.{sum_by-take-drop, sum_by_more}
 use Rattle.cvl_base.specs.Packs.{count_of}
 use Rattle.fresh.specs.Parts.{part}
 use Rattle.pack_dist.specs.Kept.{kept_of}
@@ -11,10 +12,6 @@ use Rattle.cvl_base.proofs.Packs.{count-cons}
 -- the true flags in front, and the others
 pub count-split : (flags : List Bool) (n : ℕ) → count_of (take n flags) + count_of (drop n flags) ≡ count_of flags
 count-split flags n = sum_by-take-drop (λ (f : Bool). cond f 1 0) flags n
-
--- those from one on and before another
-pub count-section : (flags : List Bool) (from to first n : ℕ) → from ≤ to → count_of (take from flags) ≡ first → count_of (take to flags) ≡ first + n → count_of (drop from (take to flags)) ≡ n
-count-section flags from to first n le before upto = omega (arith, count-split (take to flags) from, ap count_of (take-take from to flags le), before, upto)
 
 module _ {X : Type 0} where
   pub kept-append : (xs ys : List X) (flags others : List Bool) → length xs ≡ length flags → kept_of (xs ++ ys) (flags ++ others) ≡ kept_of xs flags ++ kept_of ys others
@@ -52,55 +49,55 @@ module _ {X : Type 0} where
 
   -- ---- the loop that stores each element at the number of true flags before it
 
-  stored_by : (flag : Bool) (xs packed : List X) (flags : List Bool) (k p : ℕ) (x : X) → length xs ≡ length flags → k < length flags → get_or flags k false ≡ flag
-      → p ≡ count_of (take k flags) → p < length packed → x ≡ get_or xs k x → take p packed ≡ kept_of (take k xs) (take k flags)
-      → take (count_of (take (k + 1) flags)) (set packed p x) ≡ kept_of (take (k + 1) xs) (take (k + 1) flags)
-  stored_by true xs packed flags k p x long within is_flag is_place room is_x so_far =
-      ap (λ n. take n (set packed p x)) (count_by_more_yes (λ f. f) flags k false within is_flag ∙ ap (λ n. n + 1) (sym is_place))
-      ∙ take_more_set packed p x room
-      ∙ ap (λ kept. kept ++ x ∷ []) so_far
-      ∙ ap (λ y. kept_of (take k xs) (take k flags) ++ y ∷ []) is_x
-      ∙ ap (λ f. kept_of (take k xs) (take k flags) ++ cond f (get_or xs k x ∷ []) []) (sym is_flag)
-      ∙ sym (kept_more xs flags k x long within)
-  stored_by false xs packed flags k p x long within is_flag is_place room is_x so_far =
-      ap (λ n. take n (set packed p x)) (count_by_more_no (λ f. f) flags k false within is_flag ∙ sym is_place)
-      ∙ take-set packed p x
-      ∙ so_far
-      ∙ sym (append-nil (kept_of (take k xs) (take k flags)))
-      ∙ ap (λ f. kept_of (take k xs) (take k flags) ++ cond f (get_or xs k x ∷ []) []) (sym is_flag)
-      ∙ sym (kept_more xs flags k x long within)
+  -- behind the first p of them, where the next one is put over it if its flag is false
+  put : (flag : Bool) (packed : List X) (p : ℕ) (x : X) → p < length packed → take (p + cond flag 1 0) (set packed p x) ≡ take p packed ++ cond flag (x ∷ []) []
+  put true packed p x room = take_more_set packed p x room
+  put false packed p x room =
+      let same : p + 0 ≡ p = omega arith in ap (λ n. take n (set packed p x)) same ∙ take-set packed p x ∙ sym (append-nil (take p packed))
 
-  pub stored : (xs packed : List X) (flags : List Bool) (k p : ℕ) (x : X) → length xs ≡ length flags → k < length flags
-      → p ≡ count_of (take k flags) → p < length packed → x ≡ get_or xs k x → take (count_of (take k flags)) packed ≡ kept_of (take k xs) (take k flags)
-      → take (count_of (take (k + 1) flags)) (set packed p x) ≡ kept_of (take (k + 1) xs) (take (k + 1) flags)
-  stored xs packed flags k p x long within is_place room is_x so_far =
-      stored_by (get_or flags k false) xs packed flags k p x long within refl is_place room is_x (ap (λ n. take n packed) is_place ∙ so_far)
+  pub stored : (xs packed : List X) (flags : List Bool) (k p more : ℕ) (x : X) → length xs ≡ length flags → k < length flags → more ≡ cond (get_or flags k false) 1 0
+      → p < length packed → x ≡ get_or xs k x → take p packed ≡ kept_of (take k xs) (take k flags)
+      → take (p + more) (set packed p x) ≡ kept_of (take (k + 1) xs) (take (k + 1) flags)
+  stored xs packed flags k p more x long within one room is_x so_far =
+      ap (λ n. take (p + n) (set packed p x)) one
+      ∙ put (get_or flags k false) packed p x room
+      ∙ (λ i. so_far i ++ cond (get_or flags k false) (is_x i ∷ []) [])
+      ∙ sym (kept_more xs flags k x long within)
 
   -- ---- runs of what is kept
 
-  -- what is kept of the elements from one on and before another: the places that they fill
-  pub kept_section : (xs : List X) (flags : List Bool) (from to first n : ℕ) → length xs ≡ length flags → from ≤ to → to ≤ length flags
-      → count_of (take from flags) ≡ first → count_of (take to flags) ≡ first + n → kept_of (drop from (take to xs)) (drop from (take to flags)) ≡ part (kept_of xs flags) first n
-  kept_section xs flags from to first n long le within before upto =
-      let front = kept_of (take from (take to xs)) (take from (take to flags)) in
-      let here = kept_of (drop from (take to xs)) (drop from (take to flags)) in
-      let others = kept_of (drop to xs) (drop to flags) in
-      let some_long : length (take to xs) ≡ length (take to flags) = omega (arith, long, length-take to xs, length-take to flags) in
-      let whole : kept_of xs flags ≡ front ++ (here ++ others) =
-      kept-split xs flags to long ∙ ap (λ kept. kept ++ others) (kept-split (take to xs) (take to flags) from some_long) ∙ append_assoc front here others in
-      let front_long : length front ≡ first =
-      length-kept (take from (take to xs)) (take from (take to flags)) (omega (arith, some_long, length-take from (take to xs), length-take from (take to flags)))
-      ∙ ap count_of (take-take from to flags le)
-      ∙ before in
-      let both_long : length (front ++ here) ≡ first + n =
-      ap length (sym (kept-split (take to xs) (take to flags) from some_long)) ∙ length-kept (take to xs) (take to flags) some_long ∙ upto in
-      let here_long : length here ≡ n = omega (arith, both_long, front_long, length-append front here) in
-      sym
-      (ap (λ kept. part kept first n) whole
-      ∙ ap (λ k. take n (drop k (front ++ (here ++ others)))) (sym front_long)
-      ∙ ap (take n) (drop-append_seam front (here ++ others))
-      ∙ ap (λ k. take k (here ++ others)) (sym here_long)
-      ∙ take-append_seam here others)
+  -- the elements from one on and before another, where n flags are true: what is kept of them fills n places
+  module _ (xs : List X) (flags : List Bool) (from to first n : ℕ) (long : length xs ≡ length flags) (within : to ≤ length flags) (before : count_of (take from flags) ≡ first)
+      (upto : count_of (take to flags) ≡ first + n) (fewest : (k : ℕ) → k < from → count_of (take k flags) < first) where
+    in_order : from ≤ to
+    in_order =
+        elim (cases_lt to from) [
+          | inl lt ↦ absurd (omega (arith, fewest to lt, upto))
+          | inr le ↦ le
+        ]
+
+    pub section-count : (here : List Bool) → here ≡ drop from (take to flags) → count_of here ≡ n
+    section-count here is = omega (arith, ap count_of is, count-split (take to flags) from, ap count_of (take-take from to flags in_order), before, upto)
+
+    pub section-kept : (ys : List X) (here : List Bool) → ys ≡ drop from (take to xs) → here ≡ drop from (take to flags) → kept_of ys here ≡ part (kept_of xs flags) first n
+    section-kept ys here are is =
+        let front = kept_of (take from (take to xs)) (take from (take to flags)) in
+        let kept = kept_of ys here in
+        let others = kept_of (drop to xs) (drop to flags) in
+        let some_long : length (take to xs) ≡ length (take to flags) = omega (arith, long, length-take to xs, length-take to flags) in
+        let both : kept_of (take to xs) (take to flags) ≡ front ++ kept = kept-split (take to xs) (take to flags) from some_long ∙ sym (λ i. front ++ kept_of (are i) (is i)) in
+        let front_long : length front ≡ first =
+        length-kept (take from (take to xs)) (take from (take to flags)) (omega (arith, some_long, length-take from (take to xs), length-take from (take to flags)))
+        ∙ ap count_of (take-take from to flags in_order)
+        ∙ before in
+        let here_long : length kept ≡ n =
+        omega (arith, ap length both, length-kept (take to xs) (take to flags) some_long, upto, front_long, length-append front kept) in
+        sym
+        (ap (λ ys. part ys first n) (kept-split xs flags to long ∙ ap (λ ys. ys ++ others) both ∙ append_assoc front kept others)
+        ∙ ap (λ k. take n (drop k (front ++ (kept ++ others)))) (sym front_long)
+        ∙ ap (take n) (drop-append_seam front (kept ++ others))
+        ∙ ap (λ k. take k (kept ++ others)) (sym here_long)
+        ∙ take-append_seam kept others)
 
 -- ---- blocks
 

@@ -1,8 +1,8 @@
 -- The arguments of a segment, which starts where those before it end.
-use Rattle.std.proofs.Common.{◌≡◌, ◌∙◌, ℕ, ◌+◌, ◌<◌, ◌≤◌, List, [], length, take, drop, get_or, sym, ap, arith}
+use Rattle.std.proofs.Common.{◌≡◌, ◌∙◌, ℕ, ◌+◌, ◌<◌, ◌≤◌, List, [], length, take, drop, get_or, sym, arith}
 use Rattle.std.specs.Prelude.{sum}
 use Rattle.std.specs.List.{zip}
-use Rattle.std.proofs.lemmas.List.{get_or_default, get_or-take, get_or-drop, length-take, length-drop, take_all}
+use Rattle.std.proofs.lemmas.List.{get_or_default, get_or-take, get_or-drop, length-take, length-drop}
 use Rattle.std.proofs.lemmas.List.Sums.{sum_by_more, sum_by_more_le}
 use Rattle.std.proofs.lemmas.Option.{get_or_from_slice_get}
 use Rattle.std.proofs.lemmas.Slice.Zip.{get_or-zip, length-zip}
@@ -26,34 +26,38 @@ there xs s lt =
     (found.0, record { within = lt; here = sym (get_or_from_slice_get xs s found.0 found.0 found.1) })
 
 -- two arguments of a segment
-pub both : {X Y : Type 0} (xs : List X) (ys : List Y) (s : ℕ) (x : X) (y : Y) → StandsAt xs s x → StandsAt ys s y → StandsAt (zip xs ys) s (x, y)
-both xs ys s x y first second = record {
+pub both : {X Y : Type 0} {xs : List X} {ys : List Y} {s : ℕ} {x : X} {y : Y} → StandsAt xs s x → StandsAt ys s y → StandsAt (zip xs ys) s (x, y)
+both {xs = xs} {ys = ys} {s = s} {x = x} {y = y} first second = record {
   within = omega (arith, first.within, second.within, length-zip xs ys);
   here = (λ i. (first.here i, second.here i)) ∙ sym (get_or-zip xs ys s (x, y) first.within second.within);
 }
 
--- where all segments end
-pub starts_all : (lengths : List ℕ) (s start : ℕ) → start ≡ sum (take s lengths) → length lengths ≤ s → start ≡ sum lengths
-starts_all lengths s start starts ge = starts ∙ ap sum (take_all s lengths ge)
+-- a segment ends where all do at the latest
+pub ends_within : (lengths : List ℕ) (s : ℕ) → s < length lengths → sum (take s lengths) + get_or lengths s 0 ≤ sum lengths
+ends_within lengths s lt = sum_by_more_le (λ x. x) lengths s 0 lt
 
--- where the segment starts, and where the next one does
-module _ (lengths : List ℕ) (s start n : ℕ) (starts : start ≡ sum (take s lengths)) where
-  pub starts_more : s < length lengths → n ≡ get_or lengths s 0 → start + n ≡ sum (take (s + 1) lengths)
-  starts_more lt is = omega (arith, starts, is, sum_by_more (λ x. x) lengths s 0 lt)
+-- segment s starts at `start` and has n elements
+pub record IsSegment (lengths : List ℕ) (s start n : ℕ) : Type 0 where
+  pub within : s < length lengths
+  pub starts : start ≡ sum (take s lengths)
+  pub long : n ≡ get_or lengths s 0
 
-  pub ends_within : s < length lengths → n ≡ get_or lengths s 0 → start + n ≤ sum lengths
-  ends_within lt is = omega (arith, starts, is, sum_by_more_le (λ x. x) lengths s 0 lt)
+module _ {lengths : List ℕ} {s start n : ℕ} (here : IsSegment lengths s start n) where
+  -- where the next one starts
+  pub starts_more : start + n ≡ sum (take (s + 1) lengths)
+  starts_more = omega (arith, here.starts, here.long, sum_by_more (λ x. x) lengths s 0 here.within)
 
-  -- the elements of the segment
-  pub part : {X : Type 0} (xs : List X) → s < length lengths → n ≡ get_or lengths s 0 → StandsAt (cut_of lengths xs) s (take n (drop start xs))
-  part xs lt is =
-      stands (cut_of lengths xs) s (take n (drop start xs)) [] (omega (arith, lt, length-cut lengths xs))
-      ((λ i. take (is i) (drop (starts i) xs)) ∙ sym (cut_at lengths xs s lt))
+  module _ {X : Type 0} (xs : List X) where
+    -- the elements of the segment
+    pub part : StandsAt (cut_of lengths xs) s (take n (drop start xs))
+    part =
+        stands (cut_of lengths xs) s (take n (drop start xs)) [] (omega (arith, here.within, length-cut lengths xs))
+        ((λ i. take (here.long i) (drop (here.starts i) xs)) ∙ sym (cut_at lengths xs s here.within))
+
+    pub part_long : sum lengths ≡ length xs → length (take n (drop start xs)) ≡ n
+    part_long fits = omega (arith, fits, here.starts, here.long, ends_within lengths s here.within, length-take n (drop start xs), length-drop start xs)
 
 module _ {X : Type 0} (xs : List X) (start n : ℕ) where
-  pub part_long : start + n ≤ length xs → length (take n (drop start xs)) ≡ n
-  part_long covered = omega (arith, covered, length-take n (drop start xs), length-drop start xs)
-
   pub part_short : length (take n (drop start xs)) ≤ n
   part_short = omega (arith, length-take n (drop start xs))
 

@@ -1,5 +1,5 @@
 -- Counts and packs of segments, one segment after another.
-use Rattle.std.proofs.Common.{◌≡◌, ◌≢◌, ℕ, ◌+◌, ◌≤◌, ℤ, pos, Bool, List, [], ◌∷◌, length, take, drop, map, zip, refl, sym, ap, ◌∙◌, arith, inl, inr, Result, Ok, Err, IfOk}
+use Rattle.std.proofs.Common.{◌≡◌, ◌≢◌, ℕ, ◌+◌, ◌≤◌, ℤ, pos, Bool, List, [], ◌∷◌, length, take, drop, map, zip, refl, subst, sym, ap, ◌∙◌, arith, inl, inr, Result, Ok, Err, IfOk}
 use Rattle.std.specs.Prelude.{sum, unsigned_abs}
 use Rattle.std.proofs.lemmas.Bool.Decides.{eqb_tells}
 use Rattle.std.proofs.lemmas.List.{drop-map, length-drop, length-map, length-take, nil_from_length, take-map}
@@ -12,7 +12,7 @@ use Rattle.cvl_base.specs.Conversions.{integer_of}
 use Rattle.cvl_base.specs.Descriptors.{AreLengths}
 use Rattle.cvl_base.specs.Faults.{fault}
 use Rattle.cvl_base.specs.Folds.{fold_of}
-use Rattle.cvl_base.specs.Gives.{after, Gives}
+use Rattle.cvl_base.specs.Gives.{◌>>=◌, after, Gives}
 use Rattle.cvl_base.specs.Integers.{sum_of}
 use Rattle.cvl_base.specs.Limits.{most_elements}
 use Rattle.cvl_base.specs.Nests.{cut_of, nest}
@@ -26,6 +26,7 @@ use Rattle.cvl_base.proofs.Nests.{length-cut, nest-fits, nest-misfits}
 use Rattle.cvl_base.proofs.Segmented.{beside-fits, results-ok}
 use Rattle.scan_walks.proofs.Segmented.{seg_reduce-fits, seg_reduce-misfits}
 use Rattle.scan_walks.specs.Ranges.{reduces_of}
+use Rattle.pack_dist.specs.Counts.{counts_of}
 use Rattle.pack_dist.specs.Kept.{kept_of}
 use Rattle.pack_dist.proofs.Ones.{ones_counted}
 use Rattle.pack_dist.proofs.Packing.{kept-split}
@@ -76,58 +77,52 @@ are_counts lengths flags numbers few small is =
       in_limit = omega (arith, small, ap sum read, sum-counts lengths flags);
     }
 
--- the limits of a descriptor's lengths
-pub descriptor-few : (lengths : List ℕ) (row : List ℤ) → row ≡ map pos lengths → AreLengths row → length lengths ≤ most_elements
-descriptor-few lengths row is are = omega (arith, are.few, ap length is, length-map lengths pos)
+-- the sums of the segments' flags, read as 1 and 0, are their counts
+ones-reduced : (flags : List Bool) (lengths : List ℕ) → sum lengths ≤ most_elements → seg_reduce_of sum_of (pos 0) (map integer_of flags) lengths ≡ counts_of flags lengths
+ones-reduced flags lengths small =
+    elim (eqb_tells (sum lengths) (length flags)) [
+      | inl t ↦
+          seg_reduce-fits sum_of (pos 0) (map integer_of flags) lengths (t.1 ∙ sym (length-map flags integer_of))
+          ∙ ap Ok (ones_by_segment lengths flags (omega (arith, t.1, small)))
+          ∙ sym (ap (λ r. r >>= λ counts. Ok (map pos counts)) (seg_count-fits flags lengths t.1))
+      | inr t ↦ ones-misfit flags lengths t.1 ∙ sym (ap (λ r. r >>= λ counts. Ok (map pos counts)) (seg_count-misfits flags lengths t.1))
+    ]
 
-pub descriptor-small : (lengths : List ℕ) (row : List ℤ) → row ≡ map pos lengths → AreLengths row → sum lengths ≤ most_elements
-descriptor-small lengths row is are = omega (arith, are.in_limit, ap sum (ap (map unsigned_abs) is ∙ abs_pos lengths))
+module _ {V : Type 0} (view : V → List ℤ) where
+  -- what gives them as integers gives them
+  counts-given : (counts : Result (List ℕ) Fault) (r : Result V Refused) → Gives view r (counts >>= λ ns. Ok (map pos ns)) → Gives (λ v. map unsigned_abs (view v)) r counts
+  counts-given (Ok ns) (Ok v) given = let same : map pos ns ≡ view v = cc given in ap Ok (sym (abs_pos ns) ∙ ap (map unsigned_abs) same)
+  counts-given (Err e) (Ok v) given = cc given
+  counts-given (Ok ns) (Err (refused.Fault f)) given = cc given
+  counts-given (Err e) (Err (refused.Fault f)) given = cc given
+  counts-given counts (Err refused.NoResources) given = tt
 
-module _ (flags : List Bool) (lengths : List ℕ) (few : length lengths ≤ most_elements) (small : sum lengths ≤ most_elements) {V : Type 0} (view : V → List ℤ) where
-  -- a reduce of the flags, read as 1 and 0, is the count of each segment
-  reduced_fits : sum lengths ≡ length flags → (r : Result V Refused) → Gives view r (seg_reduce_of sum_of (pos 0) (map integer_of flags) lengths)
-      → Gives (λ v. map unsigned_abs (view v)) r (seg_count_of flags lengths) × IfOk r (λ v. AreLengths (view v))
-  reduced_fits fits (Ok v) given =
-      let counts = map count_of (cut_of lengths flags) in
-      let reduces = reduces_of sum_of (pos 0) lengths (map integer_of flags) in
-      let both : ◌≡◌ {A = Result (List ℤ) Fault} (Ok reduces) (Ok (view v)) = sym (seg_reduce-fits sum_of (pos 0) (map integer_of flags) lengths (fits ∙ sym (length-map flags integer_of))) ∙ given in
-      let same : reduces ≡ view v = cc both in
-      let is : view v ≡ map pos counts = sym same ∙ ones_by_segment lengths flags (omega (arith, fits, small)) in (
-        seg_count-fits flags lengths fits ∙ ap Ok (sym (ap (map unsigned_abs) is ∙ abs_pos counts)),
-        are_counts lengths flags (view v) few (omega (arith, fits, small)) is,
-      )
-  reduced_fits fits (Err (refused.Fault f)) given =
-      let reduces = reduces_of sum_of (pos 0) lengths (map integer_of flags) in
-      let both : ◌≡◌ {A = Result (List ℤ) Fault} (Ok reduces) (Err f) = sym (seg_reduce-fits sum_of (pos 0) (map integer_of flags) lengths (fits ∙ sym (length-map flags integer_of))) ∙ given in
-      (cc both, tt)
-  reduced_fits fits (Err refused.NoResources) given = (tt, tt)
+  module _ (flags : List Bool) (lengths : List ℕ) (few : length lengths ≤ most_elements) (small : sum lengths ≤ most_elements) where
+    -- and they are the lengths of a descriptor
+    counts-lengths : (r : Result V Refused) → Gives view r (counts_of flags lengths) → IfOk r (λ v. AreLengths (view v))
+    counts-lengths (Err e) given = tt
+    counts-lengths (Ok v) given =
+        elim (eqb_tells (sum lengths) (length flags)) [
+          | inl t ↦
+              let both : ◌≡◌ {A = Result (List ℤ) Fault} (Ok (map pos (map count_of (cut_of lengths flags)))) (Ok (view v)) =
+              sym (ap (λ r. r >>= λ counts. Ok (map pos counts)) (seg_count-fits flags lengths t.1)) ∙ given in
+              are_counts lengths flags (view v) few (omega (arith, t.1, small)) (cc both)
+          | inr t ↦
+              let both : ◌≡◌ {A = Result (List ℤ) Fault} (Err (fault no.LengthMismatch)) (Ok (view v)) =
+              sym (ap (λ r. r >>= λ counts. Ok (map pos counts)) (seg_count-misfits flags lengths t.1)) ∙ given in
+              let none : ◌≡◌ {A = ℕ} 0 1 = cc both in
+              absurd (omega (arith, none))
+        ]
 
-  reduced_misfits : sum lengths ≢ length flags → (r : Result V Refused) → Gives view r (seg_reduce_of sum_of (pos 0) (map integer_of flags) lengths)
-      → Gives (λ v. map unsigned_abs (view v)) r (seg_count_of flags lengths) × IfOk r (λ v. AreLengths (view v))
-  reduced_misfits misfits (Ok v) given =
-      let both : ◌≡◌ {A = Result (List ℤ) Fault} (Err (fault no.LengthMismatch)) (Ok (view v)) = sym (ones-misfit flags lengths misfits) ∙ given in
-      let none : ◌≡◌ {A = ℕ} 0 1 = cc both in
-      absurd (omega (arith, none))
-  reduced_misfits misfits (Err (refused.Fault f)) given =
-      let both : ◌≡◌ {A = Result (List ℤ) Fault} (Err (fault no.LengthMismatch)) (Err f) = sym (ones-misfit flags lengths misfits) ∙ given in
-      let same : fault no.LengthMismatch ≡ f = cc both in
-      (seg_count-misfits flags lengths misfits ∙ ap Err same, tt)
-  reduced_misfits misfits (Err refused.NoResources) given = (tt, tt)
-
-  pub reduced : (r : Result V Refused) → Gives view r (seg_reduce_of sum_of (pos 0) (map integer_of flags) lengths)
-      → Gives (λ v. map unsigned_abs (view v)) r (seg_count_of flags lengths) × IfOk r (λ v. AreLengths (view v))
-  reduced r given =
-      elim (eqb_tells (sum lengths) (length flags)) [
-        | inl t ↦ reduced_fits t.1 r given
-        | inr t ↦ reduced_misfits t.1 r given
-      ]
+    -- a reduce of the flags, read as 1 and 0, is the count of each segment
+    pub reduced : (r : Result V Refused) → Gives view r (seg_reduce_of sum_of (pos 0) (map integer_of flags) lengths)
+        → Gives (λ v. map unsigned_abs (view v)) r (seg_count_of flags lengths) × IfOk r (λ v. AreLengths (view v))
+    reduced r given =
+        let counted = subst (Gives view r) (ones-reduced flags lengths small) given in (counts-given (seg_count_of flags lengths) r counted, counts-lengths r counted)
 
 -- ---- packs
 
 module _ {X : Type 0} where
-  pack-fits : (xs : List X) (flags : List Bool) → length xs ≡ length flags → pack_of xs flags ≡ Ok (kept_of xs flags)
-  pack-fits xs flags long = if_as_long-fits xs flags (Ok (kept_of xs flags)) long
-
   -- the packs of the segments, one after another, are the pack of the whole
   packed : (place : ℕ → ℕ → ℕ) (s : ℕ) (lengths : List ℕ) (xs : List X) (flags : List Bool) → length xs ≡ length flags → sum lengths ≡ length xs
       → given itself place (of_two pack_of) s (zip (cut_of lengths xs) (cut_of lengths flags)) ≡ Ok (kept_of xs flags)
@@ -135,7 +130,7 @@ module _ {X : Type 0} where
   packed place s (n ∷ lengths) xs flags long fits =
       let first = kept_of (take n xs) (take n flags) in
       given-more itself place (of_two pack_of) s (take n xs, take n flags) (zip (cut_of lengths (drop n xs)) (cut_of lengths (drop n flags))) first
-      (pack-fits (take n xs) (take n flags) (omega (arith, long, length-take n xs, length-take n flags)))
+      (if_as_long-fits (take n xs) (take n flags) (Ok first) (omega (arith, long, length-take n xs, length-take n flags)))
       ∙ ap (after first)
       (packed place (s + 1) lengths (drop n xs) (drop n flags)
       (omega (arith, long, length-drop n xs, length-drop n flags)) (omega (arith, fits, sum-cons n lengths, length-drop n xs)))

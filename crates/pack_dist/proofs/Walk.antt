@@ -1,5 +1,5 @@
 -- A segmented call, segment by segment: the results so far, and after them what the segments left give.
-use Rattle.std.proofs.Common.{◌≡◌, ◌∙◌, ℕ, ◌+◌, ◌<◌, ◌≤◌, List, [], ◌∷◌, ◌++◌, length, drop, get_or, refl, sym, ap, Result, Ok, Err}
+use Rattle.std.proofs.Common.{◌≡◌, ◌∙◌, ℕ, ◌+◌, ◌≤◌, List, [], ◌∷◌, ◌++◌, length, drop, refl, sym, ap, Result, Ok, Err}
 use Rattle.std.specs.Prelude.{option_map}
 use Rattle.std.specs.List.{flat_map}
 use Rattle.std.proofs.lemmas.List.{drop_all, map-id}
@@ -9,6 +9,7 @@ use Rattle.cvl_base.specs.Gives.{◌>>=◌, after}
 use Rattle.cvl_base.specs.Segmented.{moved, results_from}
 use Rattle.cvl_base.proofs.Gives.{after-after, after-none, after-end}
 use Rattle.cvl_base.proofs.Lists.{uncons}
+use Rattle.pack_dist.proofs.Parts.{StandsAt}
 
 -- how a result stands for some elements: it is one, or is the list of them
 abbrev pub single : {X : Type 0} → X → List X
@@ -32,40 +33,41 @@ module _ {S R X : Type 0} (elements : R → List X) (place : ℕ → ℕ → ℕ
   regroup r (Ok rs) = refl
   regroup r (Err e) = refl
 
+  -- the first segment, with a fault or without
+  first_of : (s : ℕ) (x : S) (xs : List S) (r : Result R Fault) → call x ≡ r
+      → given elements place call s (x ∷ xs) ≡ ((moved (place s) r >>= λ y. results_from place call (s + 1) xs >>= λ rs. Ok (y ∷ rs)) >>= λ rs. Ok (flat_map elements rs))
+  first_of s x xs r has = ap (λ c. (moved (place s) c >>= λ y. results_from place call (s + 1) xs >>= λ rs. Ok (y ∷ rs)) >>= λ rs. Ok (flat_map elements rs)) has
+
   -- a segment without a fault
   pub given-more : (s : ℕ) (x : S) (xs : List S) (r : R) → call x ≡ Ok r → given elements place call s (x ∷ xs) ≡ after (elements r) (given elements place call (s + 1) xs)
-  given-more s x xs r has =
-      ap (λ c. (moved (place s) c >>= λ first. results_from place call (s + 1) xs >>= λ rs. Ok (first ∷ rs)) >>= λ rs. Ok (flat_map elements rs)) has
-      ∙ regroup r (results_from place call (s + 1) xs)
+  given-more s x xs r has = first_of s x xs (Ok r) has ∙ regroup r (results_from place call (s + 1) xs)
 
-  -- the first segment with a fault
-  given-fault : (s : ℕ) (x : S) (xs : List S) (f : Fault) → call x ≡ Err f → given elements place call s (x ∷ xs) ≡ Err (record { number = f.number; place = option_map (place s) f.place })
-  given-fault s x xs f has =
-      ap (λ c. (moved (place s) c >>= λ first. results_from place call (s + 1) xs >>= λ rs. Ok (first ∷ rs)) >>= λ rs. Ok (flat_map elements rs)) has
+-- what is done when a walk through the segments comes to segment s: the whole is this, and after it what the segments left give
+pub record Walked {S R X : Type 0} (elements : R → List X) (place : ℕ → ℕ → ℕ) (call : S → Result R Fault) (segments : List S) (s : ℕ) (done : List X) (whole : Result (List X) Fault) : Type 0 where
+  pub so_far : whole ≡ after done (given elements place call s (drop s segments))
 
-  -- ---- the walk through the segments
+module _ {S R X : Type 0} {elements : R → List X} {place : ℕ → ℕ → ℕ} {call : S → Result R Fault} {segments : List S} where
+  pub begins : (done : List X) (whole : Result (List X) Fault) → done ≡ [] → whole ≡ given elements place call 0 segments → Walked elements place call segments 0 done whole
+  begins done whole none is =
+      let others = given elements place call 0 segments in record { so_far = is ∙ sym (ap (λ d. after d others) none ∙ after-none others) }
 
-  module _ (segments : List S) where
-    -- what the segments from s on give
-    abbrev pub left : ℕ → Result (List X) Fault
-    left s = given elements place call s (drop s segments)
+  module _ {s : ℕ} {done : List X} {whole : Result (List X) Fault} (walked : Walked elements place call segments s done whole) where
+    module _ {x : S} (at : StandsAt segments s x) where
+      here : whole ≡ after done (given elements place call s (x ∷ drop (s + 1) segments))
+      here = walked.so_far ∙ ap (λ xs. after done (given elements place call s xs)) (uncons segments s x at.within at.here)
 
-    pub none_yet : (done : List X) → done ≡ [] → left 0 ≡ after done (left 0)
-    none_yet done none = sym (ap (λ d. after d (left 0)) none ∙ after-none (left 0))
-
-    module _ (s : ℕ) (x : S) (within : s < length segments) (here : x ≡ get_or segments s x) (done : List X) (whole : Result (List X) Fault) (so_far : whole ≡ after done (left s)) where
-      first : whole ≡ after done (given elements place call s (x ∷ drop (s + 1) segments))
-      first = so_far ∙ ap (λ xs. after done (given elements place call s xs)) (uncons segments s x within here)
-
-      pub one_more : (r : R) (now : List X) → call x ≡ Ok r → now ≡ done ++ elements r → whole ≡ after now (left (s + 1))
+      pub one_more : (r : R) (now : List X) → call x ≡ Ok r → now ≡ done ++ elements r → Walked elements place call segments (s + 1) now whole
       one_more r now has grown =
-          first
-          ∙ ap (after done) (given-more s x (drop (s + 1) segments) r has)
-          ∙ after-after done (elements r) (left (s + 1))
-          ∙ ap (λ d. after d (left (s + 1))) (sym grown)
+          let others = given elements place call (s + 1) (drop (s + 1) segments) in
+          record {
+            so_far = here
+                ∙ ap (after done) (given-more elements place call s x (drop (s + 1) segments) r has)
+                ∙ after-after done (elements r) others
+                ∙ ap (λ d. after d others) (sym grown);
+          }
 
       pub fails : (f : Fault) → call x ≡ Err f → whole ≡ Err (record { number = f.number; place = option_map (place s) f.place })
-      fails f has = first ∙ ap (after done) (given-fault s x (drop (s + 1) segments) f has)
+      fails f has = here ∙ ap (after done) (first_of elements place call s x (drop (s + 1) segments) (Err f) has)
 
-    pub all_done : (s : ℕ) (done : List X) (whole : Result (List X) Fault) → length segments ≤ s → whole ≡ after done (left s) → whole ≡ Ok done
-    all_done s done whole ge so_far = so_far ∙ ap (λ xs. after done (given elements place call s xs)) (drop_all s segments ge) ∙ after-end done
+    pub all_done : length segments ≤ s → whole ≡ Ok done
+    all_done ge = walked.so_far ∙ ap (λ xs. after done (given elements place call s xs)) (drop_all s segments ge) ∙ after-end done

@@ -1,11 +1,13 @@
-//! The length that a count asks for.
+//! The length that a count asks for, and the place that the index of a segment names.
 
-ghost use Rattle.std.specs.Prelude.{◌≡◌, ◌≤◌, IfOk};
+ghost use Rattle.std.specs.Prelude.{◌≡◌, ℕ, ◌+◌, ◌<◌, ◌≤◌, pos, IfOk, MatchResult};
 ghost use Rattle.cvl_base.specs.Distributes.{as_length};
+ghost use Rattle.cvl_base.specs.Faults.{fault_at};
 ghost use Rattle.cvl_base.specs.Limits.{most_elements};
+ghost use Rattle.cvl_base.specs.declared.fault.FaultNo.TheVariants as no;
 
 use cvl_base::limits::MOST_ELEMENTS;
-use cvl_base::{Fault, FaultNo};
+use cvl_base::{Fault, FaultNo, place_among};
 
 /// The length that a count asks for: NegativeLength where it is negative, TooLong where it is above 4,194,304.
 pub(crate) fn length_for(count: &i32) -> Result<usize, Fault>
@@ -20,4 +22,25 @@ pub(crate) fn length_for(count: &i32) -> Result<usize, Fault>
         return Err(Fault::new(FaultNo::TooLong));
     }
     Ok(length)
+}
+
+/// The place in the vector that the index of segment `s` names, where the segment has `length` elements from `start` on:
+/// IndexOutOfRange at the number of the segment where it has no such place.
+pub(crate) fn place_in_segment(
+    s: usize,
+    start: usize,
+    length: usize,
+    index: &i32,
+) -> Result<usize, Fault>
+    requires few { s < most_elements }
+    requires in_limit { start + length ≤ most_elements }
+    ensures within { IfOk result (λ place. place < start + length) }
+    ensures named { MatchResult result
+        (λ place. (k : ℕ) × (k < length) × (index.now ≡ pos k) × (place ≡ start + k))
+        (λ f. (f ≡ fault_at no.IndexOutOfRange s) × ((k : ℕ) → index.now ≡ pos k → length ≤ k)) }
+{
+    match place_among(length, index) {
+        Some(place) => Ok(start + place),
+        None => Err(Fault::at(FaultNo::IndexOutOfRange, s as u32)),
+    }
 }

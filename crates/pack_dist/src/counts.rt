@@ -88,7 +88,7 @@ pub fn seg_count_gated<R: Threads + Sync, A: Memory, G: Gate>(
     ensures lengths { IfOk result (λ counts. AreLengths counts.items) }
     ensures one_each { IfOk result (λ counts. vec_len counts ≡ length d.now) }
 {
-    // its contract names the limits of a descriptor's lengths
-    let _lengths = d.lengths();
+    // their contracts name the limits of a descriptor
+    let _limits = (d.count(), d.total());
     seg_reduce_readings_gated::<R, A, Add, bool, Ones, G>(rt, alloc, config, flags, d, gate)
 }

@@ -9,10 +9,10 @@ ghost use Rattle.cvl_base.specs.SegmentedCalls.{seg_distribute_of};
 ghost use Rattle.fresh.specs.Places.{stretch};
 
 use crate::checks::length_for;
+use crate::writes::{write_room, write_vector};
 use cvl_base::{Config, Fault, Memory, Refused, check_agree};
-use fresh::{Copies, Run, write_in_runs, write_over};
+use fresh::{Copies, Run};
 use segdes::{EndToEnd, SegDes, Segments};
-use sharing::threads_writing;
 use std::alloc::{AllocError, Allocator};
 use std::thread::Threads;
 
@@ -35,8 +35,7 @@ pub fn distribute<T: Copy + Send + Sync, R: Threads + Sync, A: Memory>(
         item: value,
         count: length,
     };
-    let threads = threads_writing(config, length);
-    Ok(write_in_runs(rt, alloc, threads, &copies, length)?)
+    Ok(write_vector(rt, alloc, config, &copies, length, length)?)
 }
 
 /// The same as [`distribute`], over a room of the caller's, by the thread that calls: LengthMismatch, without a place, where the
@@ -45,13 +44,11 @@ pub fn distribute_over<T: Copy>(value: T, count: i32, out: &mut [T]) -> Result<(
     ensures { Overwrites (in_room (length out.old) (distribute_of value count)) result out.old out.new }
 {
     let length = length_for(&count)?;
-    check_agree(length, out.len())?;
     let copies = Copies {
         item: value,
         count: length,
     };
-    write_over(out, &copies);
-    Ok(())
+    write_room(&copies, length, out)
 }
 
 /// For each segment as many copies of its value as the segment is long, one segment after another: `dis_vez` and
@@ -74,8 +71,7 @@ pub fn seg_distribute<T: Copy + Send + Sync, R: Threads + Sync, A: Memory>(
     let copies = EndToEnd {
         segments: SegmentCopies { values, d },
     };
-    let threads = threads_writing(config, total);
-    Ok(write_in_runs(rt, alloc, threads, &copies, total)?)
+    Ok(write_vector(rt, alloc, config, &copies, total, total)?)
 }
 
 /// The same as [`seg_distribute`], over a room of the caller's, by the thread that calls: LengthMismatch, without a place, where
@@ -88,12 +84,10 @@ pub fn seg_distribute_over<T: Copy, A: Allocator>(
     ensures { Overwrites (in_room (length out.old) (seg_distribute_of values.now d.now)) result out.old out.new }
 {
     check_agree(values.len(), d.count())?;
-    check_agree(d.total(), out.len())?;
     let copies = EndToEnd {
         segments: SegmentCopies { values, d },
     };
-    write_over(out, &copies);
-    Ok(())
+    write_room(&copies, d.total(), out)
 }
 
 /// Copies of a value for each segment.
@@ -134,6 +128,7 @@ impl<'a, T: Copy, A: Allocator> Segments for SegmentCopies<'a, T, A> {
         self.d
     }
 
+    #[tactic(auto, using(crate::proofs::Distributed::zipped))]
     fn push_part(&self, run: Run<T>, s: usize, from: usize, count: usize) -> Run<T>
         requires segment { s < length (copies_of self.now.values.now self.now.d.now) }
         requires within { from + count ≤ length (slice_index_or (copies_of self.now.values.now self.now.d.now) s []) }

@@ -5,7 +5,7 @@ ghost use Rattle.cvl_base.specs.Extracts.{extract_of};
 ghost use Rattle.cvl_base.specs.Gives.{Gives};
 ghost use Rattle.cvl_base.specs.SegmentedCalls.{seg_extract_of};
 
-use crate::places::place_in_segment;
+use crate::checks::place_in_segment;
 use cvl_base::{Fault, FaultNo, Memory, Refused, check_agree, place_among};
 use segdes::SegLengths;
 

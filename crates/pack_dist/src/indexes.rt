@@ -1,6 +1,7 @@
 //! Index: the numbers from a first one on in equal steps, in all or in each segment.
 
 ghost use Rattle.std.specs.Prelude.{◌≡◌, ◌+◌, ◌-◌, ◌<◌, ◌≤◌, ◌^◌, ◌++◌, IfOk, length, sum, vec_len};
+ghost use Rattle.std.specs.List.{zip};
 ghost use Rattle.cvl_base.specs.Distributes.{index_of};
 ghost use Rattle.cvl_base.specs.Gives.{Gives};
 ghost use Rattle.cvl_base.specs.Limits.{most_elements};
@@ -10,10 +11,10 @@ ghost use Rattle.fresh.specs.Places.{stretch};
 ghost use Rattle.pack_dist.specs.Progressions.{numbers_from};
 
 use crate::checks::length_for;
+use crate::writes::{write_room, write_vector};
 use cvl_base::{Config, Fault, Memory, Refused, check_agree};
-use fresh::{Run, Writer, write_in_runs, write_over};
+use fresh::{Run, Writer};
 use segdes::{EndToEnd, SegDes, Segments};
-use sharing::threads_writing;
 use std::alloc::{AllocError, Allocator};
 use std::thread::Threads;
 
@@ -38,8 +39,7 @@ pub fn index<R: Threads + Sync, A: Memory>(
         stride,
         length,
     };
-    let threads = threads_writing(config, length);
-    Ok(write_in_runs(rt, alloc, threads, &numbers, length)?)
+    Ok(write_vector(rt, alloc, config, &numbers, length, length)?)
 }
 
 /// The same as [`index`], over a room of the caller's, by the thread that calls: LengthMismatch, without a place, where the room
@@ -48,14 +48,12 @@ pub fn index_over(init: i32, stride: i32, count: i32, out: &mut [i32]) -> Result
     ensures { Overwrites (in_room (length out.old) (index_of init stride count)) result out.old out.new }
 {
     let length = length_for(&count)?;
-    check_agree(length, out.len())?;
     let numbers = Progression {
         init,
         stride,
         length,
     };
-    write_over(out, &numbers);
-    Ok(())
+    write_room(&numbers, length, out)
 }
 
 /// For each segment the numbers from its `init` on in steps of its `stride`, each wrapped to 32 bits, one segment after
@@ -80,8 +78,7 @@ pub fn seg_index<R: Threads + Sync, A: Memory>(
     let numbers = EndToEnd {
         segments: SegmentProgressions { inits, strides, d },
     };
-    let threads = threads_writing(config, total);
-    Ok(write_in_runs(rt, alloc, threads, &numbers, total)?)
+    Ok(write_vector(rt, alloc, config, &numbers, total, total)?)
 }
 
 /// The same as [`seg_index`], over a room of the caller's, by the thread that calls: LengthMismatch, without a place, where the
@@ -96,12 +93,11 @@ pub fn seg_index_over<A: Allocator>(
 {
     check_agree(inits.len(), strides.len())?;
     check_agree(inits.len(), d.count())?;
-    check_agree(d.total(), out.len())?;
+    let total = d.total();
     let numbers = EndToEnd {
         segments: SegmentProgressions { inits, strides, d },
     };
-    write_over(out, &numbers);
-    Ok(())
+    write_room(&numbers, total, out)
 }
 
 /// So many numbers in equal steps.
@@ -135,8 +131,7 @@ struct SegmentProgressions<'a, A: Allocator> {
     inits: &'a [i32],
     strides: &'a [i32],
     d: &'a SegDes<A>,
-    ghost inits_one_each: { length inits.now ≡ length d.now },
-    ghost strides_one_each: { length strides.now ≡ length d.now },
+    ghost one_each: { length (zip inits.now strides.now) ≡ length d.now },
     ghost few: { sum d.now ≤ most_elements },
 }
 
@@ -171,6 +166,7 @@ impl<'a, A: Allocator> Segments for SegmentProgressions<'a, A> {
         self.d
     }
 
+    #[tactic(auto, using(crate::proofs::Distributed::zipped))]
     fn push_part(&self, run: Run<i32>, s: usize, from: usize, count: usize) -> Run<i32>
         requires segment { s < length (progressions_of self.now.inits.now self.now.strides.now self.now.d.now) }
         requires within { from + count

@@ -12,9 +12,9 @@ mod indexes;
 mod kept_blocks;
 mod kept_runs;
 mod packs;
-mod places;
 mod replaces;
 mod segment_packs;
+mod writes;
 
 pub use counts::{count_true, seg_count, seg_count_gated};
 pub use distributes::{distribute, distribute_over, seg_distribute, seg_distribute_over};

@@ -11,10 +11,10 @@ ghost use Rattle.pack_dist.specs.Kept.{ArePlaces, kept_of};
 use crate::counts::counts_before;
 use crate::kept_blocks::push_kept;
 use crate::kept_runs::Kept;
+use crate::writes::write_vector;
 use crew::{Gate, OpenGate};
 use cvl_base::{Config, Fault, FaultNo, Memory, NoResources, Refused, check_agree, true_count};
-use fresh::{Room, Run, fill_slice, write_in_runs};
-use sharing::threads_writing;
+use fresh::{Room, Run, fill_slice};
 use std::thread::Threads;
 use tile_scans::scan_pace;
 
@@ -96,8 +96,7 @@ pub(crate) fn kept<T: Copy + Send + Sync, R: Threads + Sync, A: Memory, G: Gate>
         flags,
         places,
     };
-    let threads = threads_writing(config, flags.len());
-    Ok(write_in_runs(rt, alloc, threads, &kept, count)?)
+    write_vector(rt, alloc, config, &kept, count, flags.len())
 }
 
 /// The same by the thread that calls, which counts what is kept first, and then asks for memory for it alone.

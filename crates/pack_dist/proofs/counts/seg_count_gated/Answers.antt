@@ -1,16 +1,9 @@
-use Rattle.pack_dist.proofs.Segments.{reduced, descriptor-few, descriptor-small}
+use Rattle.std.proofs.Common.{arith}
+use Rattle.pack_dist.proofs.Segments.{reduced}
 use Rattle.pack_dist.proofs.counts.seg_count_gated.Goals as goal
 
-pub returns-clause-values : goal.returns-clause-values
-returns-clause-values g c =
-    let d = c.args.d.now in
-    let row = c.lengths-lengths.ensures in
-    (reduced c.args.flags.now d (descriptor-few d _ row.value row.lengths) (descriptor-small d _ row.value row.lengths)
-    (λ v. v.items) c.seg_reduce_readings_gated.result c.seg_reduce_readings_gated.ensures.values).0
-
-pub returns-clause-lengths : goal.returns-clause-lengths
-returns-clause-lengths g c =
-    let d = c.args.d.now in
-    let row = c.lengths-lengths.ensures in
-    (reduced c.args.flags.now d (descriptor-few d _ row.value row.lengths) (descriptor-small d _ row.value row.lengths)
-    (λ v. v.items) c.seg_reduce_readings_gated.result c.seg_reduce_readings_gated.ensures.values).1
+pub returns : goal.returns
+returns g c =
+    let sums = c.seg_reduce_readings_gated in
+    let counted = reduced (λ v. v.items) c.args.flags.now c.args.d.now (omega arith) (omega arith) sums.result sums.ensures.values in
+    record { values = counted.0; lengths = counted.1; one_each = sums.ensures.one_each }

@@ -1,4 +1,4 @@
-use Rattle.std.proofs.Common.{◌∙◌, ◌≡◌, ◌+◌, ◌-◌, ◌++◌, ◌<◌, ℕ, Bool, true, false, cond, length, take, get_or, set, refl, sym, ap, arith, take_all}
+use Rattle.std.proofs.Common.{◌∙◌, ◌≡◌, ◌-◌, ◌++◌, ◌<◌, ℕ, Bool, true, false, cond, length, take, get_or, refl, ap, arith, take_all}
 use Rattle.std.proofs.lemmas.List.{length-drop, length-set, length-take}
 use Rattle.std.proofs.lemmas.List.Sums.{count_by-le-length}
 use Rattle.cvl_base.specs.Packs.{count_of}
@@ -21,8 +21,7 @@ loop-k-preserved g c =
     let buffer = c.loop-k.buffer in
     let x = c.index-some_values-k.result in
     let as_long : length values ≡ length flags = omega (arith, c.split_at.ensures.front_len, c.split_at-in-loop-values.ensures.front_len) in
-    let more : count + c.from-count.result ≡ count_of (take (k + 1) flags) =
-    counted flags k count c.from-count.result c.loop-k-test.true c.loop-k.invariant.count (c.from-count.ensures ∙ byte_one (get_or flags k false)) in
+    let one = c.from-count.ensures ∙ byte_one (get_or flags k false) in
     let room : count < length buffer =
     omega (
       arith,
@@ -36,10 +35,8 @@ loop-k-preserved g c =
     ) in
     record {
       long = length-set buffer count x ∙ c.loop-k.invariant.long;
-      count = more;
-      kept = ap (λ n. take n (set buffer count x)) more
-          ∙ stored values buffer flags k count x as_long c.loop-k-test.true c.loop-k.invariant.count room c.index-some_values-k.is
-          (ap (λ n. take n buffer) (sym c.loop-k.invariant.count) ∙ c.loop-k.invariant.kept);
+      count = counted flags k count c.from-count.result c.loop-k-test.true c.loop-k.invariant.count one;
+      kept = stored values buffer flags k count c.from-count.result x as_long c.loop-k-test.true one room c.index-some_values-k.is c.loop-k.invariant.kept;
     }
 
 pub push-requires : goal.push-requires
