@@ -1,14 +1,16 @@
 -- What stands at a place of the list of values, and the part of it that a run gets place by place.
 use Rattle.std.proofs.Common.{◌≡◌, ◌∙◌, ℕ, ◌+◌, ◌<◌, ◌≤◌, List, [], ◌∷◌, ◌++◌, length, map, min, get_or, drop, refl, ap, sym, arith}
 use Rattle.std.specs.List.{zip}
-use Rattle.std.proofs.lemmas.List.{ext_get_or, get_or-map, get_or-take, get_or-drop, length-take, length-drop, length-map}
+use Rattle.std.proofs.lemmas.List.{ext_get_or, get_or-map, get_or-take, get_or-drop, length-map}
 use Rattle.std.proofs.lemmas.Slice.Zip.{get_or-zip, length-zip}
-use Rattle.fresh.specs.Parts.{part}
+use Rattle.fresh.specs.Parts.{length_part, part}
 use Rattle.fresh.specs.Places.{Stretch, stretch, GoWith}
 
--- a part inside the list has all its items
-pub length_part : {Z : Type 0} (whole : List Z) (first n : ℕ) → first + n ≤ length whole → length (part whole first n) ≡ n
-length_part whole first n within = omega (arith, length-take n (drop first whole), length-drop first whole)
+-- lists of values on the elements of two
+pub ruleset zipped = (length-map, length-zip)
+
+pub values_long : {X Y Z : Type 0} (f : X × Y → Z) (xs : List X) (ys : List Y) → length xs ≡ length ys → length (map f (zip xs ys)) ≡ length xs
+values_long f xs ys same = omega (arith, same, length-map (zip xs ys) f, length-zip xs ys)
 
 -- lists that are the same place by place
 pub all_same : {Z : Type 0} (zs vs : List Z) → length zs ≡ length vs → ((d : Z) (k : ℕ) → k < length zs → get_or zs k d ≡ get_or vs k d) → zs ≡ vs

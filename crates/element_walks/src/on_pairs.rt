@@ -43,6 +43,7 @@ impl<'a, O, X> OnPairs<'a, O, X> {
 impl<'a, O: Binary<X, Z>, X: Copy, Z> Writer<Z> for OnPairs<'a, O, X> {
     ghost whole = { λ w. map (λ p. O.value p.0 p.1) (zip w.first.now w.second.now) };
 
+    #[tactic(auto, using(crate::proofs::Places::zipped))]
     fn write(&self, run: Run<Z>) -> Run<Z>
         requires empty { run.items ≡ [] }
         requires within { run.first + run.room ≤ length (map (λ p. O.value p.0 p.1) (zip self.now.first.now self.now.second.now)) }
