@@ -1,13 +1,13 @@
 -- Runs that stand in order in slots: one more at the end, one fewer, and all of them written.
-use Rattle.std.proofs.Common.{◌≡◌, ◌∙◌, ℕ, ◌+◌, ◌-◌, ◌/◌, ◌<◌, ◌≤◌, List, [], ◌∷◌, ◌++◌}
-use Rattle.std.proofs.Common.{length, map, get_or, take, drop, zero, suc, All, refl, ap, sym, subst, arith, append_assoc, take-add, drop-drop, Option, Some, None}
+use Rattle.std.proofs.Common.{◌≡◌, ◌∙◌, ℕ, ◌+◌, ◌-◌, ◌<◌, ◌≤◌, List, [], ◌∷◌, ◌++◌}
+use Rattle.std.proofs.Common.{length, map, get_or, take, drop, zero, suc, All, refl, ap, sym, subst, arith, append_assoc, Option, Some, None}
 use Rattle.std.proofs.lemmas.List.{get_or-map, length-map, append-nil}
-use Rattle.std.proofs.Math.Nat.{div-le_self, div-one}
 use Rattle.std.proofs.Math.Seq.{take-append_seam, take-length}
 use denote.RawPtr.{Ptr}
-use Rattle.fresh.specs.Parts.{part}
+use Rattle.fresh.specs.Parts.{length_part, part}
 use Rattle.fresh.specs.Places.{Stretch, stretch, end}
-use Rattle.element_walks.proofs.Places.{all_same, length_part}
+use Rattle.fresh.proofs.Halves.{parts_both}
+use Rattle.element_walks.proofs.Places.{all_same}
 use Rattle.elementwise.specs.Slots.{InOrder, IsEmpty, IsFull, IsToWrite, items_of, written}
 
 module _ {X : Type 0} (P : Stretch X → Type 0) (block : Ptr) where
@@ -55,14 +55,6 @@ module _ {X : Type 0} (P : Stretch X → Type 0) (block : Ptr) where
       let begins : r.first ≡ from = all.0.1 in
       omega arith
 
--- a share of what is left, which is all of it where one run is to be cut
-pub record Share (left count share : ℕ) : Type 0 where
-  pub fits : share ≤ left
-  pub whole : count ≡ 1 → share ≡ left
-
-pub even_share : (left count : ℕ) → Share left count (left / count)
-even_share left count = record { fits = div-le_self left count; whole = λ one. ap (λ n. left / n) one ∙ div-one left }
-
 first_and : {Y : Type 0} (Q : Y → Type 0) (y : Y) (ys : List Y) → Q y → All Q ys → All Q (y ∷ ys)
 first_and Q y ys is others zero d lt = is
 first_and Q y ys is others (suc k) d lt = others k d (omega arith)
@@ -90,10 +82,6 @@ module _ {X : Type 0} where
       let later : end r ≤ to = goes_up IsEmpty block (end r) to slots all.1 in
       first_and (IsToWrite whole) (Some r) slots (all.0.2, omega arith) (all_to_write whole block (end r) to slots all.1 within)
 
-  -- two parts, one after another, are one
-  part_both : (whole : List X) (first n m : ℕ) → part whole first n ++ part whole (first + n) m ≡ part whole first (n + m)
-  part_both whole first n m = sym (take-add n m (drop first whole) ∙ ap (λ xs. part whole first n ++ take m xs) (drop-drop n first whole))
-
   -- the runs as the writer leaves them
   pub record Written (whole : List X) (block : Ptr) (from to : ℕ) (slots : List (Option (Stretch X))) : Type 0 where
     pub full : InOrder IsFull block from to (map (written whole) slots)
@@ -113,11 +101,10 @@ module _ {X : Type 0} where
       let rest = all_written whole block (end r) to slots all.1 within in
       let next : end r ≡ from + r.room = omega arith in
       let others : to - end r ≡ to - from - r.room = omega arith in
-      let both : r.room + (to - from - r.room) ≡ to - from = omega arith in
       record {
         full = ((all.0.0, begins, refl), subst (λ e. InOrder IsFull block e to (map (written whole) slots)) ends rest.full);
         items = (λ i. part whole (begins i) r.room ++ rest.items i) ∙ (λ i. part whole from r.room ++ part whole (next i) (others i))
-            ∙ part_both whole from r.room (to - from - r.room) ∙ ap (part whole from) both;
+            ∙ sym (parts_both whole from r.room (to - from) (omega arith));
       }
 
   -- what stands in the slots after each was written in its place

@@ -6,10 +6,9 @@ ghost use Rattle.cvl_base.specs.Gives.{Gives};
 
 use crate::comparisons::{AtLeast, AtMost, Equal, Greater, Less, Unequal};
 use crate::copies::copied;
-use crate::on_each::values_on_each;
-use crate::on_pairs::values_on_pairs;
 use crate::singles::{BoolOfInt, NotBool};
 use crate::truths::{Both, Differ, Either};
+use crate::values::{values_on_each, values_on_pairs};
 use cvl_base::{BoolBinary, Comparison, Config, Memory, NoResources, Refused, Unary};
 use std::thread::Threads;
 

@@ -7,11 +7,10 @@ ghost use Rattle.cvl_base.specs.Elementwise.{bools1_of, bools2_of, ints1_of, int
 ghost use Rattle.cvl_base.specs.Limits.{most_elements};
 ghost use Rattle.cvl_base.specs.Rooms.{Overwrites};
 
-use crate::looks::first_without;
-use crate::partials::{Div, Lsh, Mod, Rsh};
+use crate::by_operator::by_int_binary;
+use crate::looks::check_values;
 use crate::sides::{Flipped, Twice};
 use crate::singles::NotInt;
-use crate::total_operators::{Add, And, Ior, Max, Min, Mul, Sub, Xor};
 use cvl_base::{Fault, IntBinary, Unary, check_agree};
 use element_walks::{Binary, OrZero, PartialBinary, Single};
 
@@ -66,12 +65,8 @@ fn on_pairs_or_in_first<O: PartialBinary>(a: &mut [i32], b: &[i32]) -> Result<()
     requires { length a.old ≤ most_elements }
     ensures { Overwrites (on_pairs_or O.fault O.value a.old b.now) result a.old a.new }
 {
-    check_agree(a.len(), b.len())?;
-    if let Some(place) = first_without::<O>(a, b) {
-        return Err(Fault::at(O::fault(), place));
-    }
-    write_pairs::<OrZero<O>, i32>(a, b);
-    Ok(())
+    check_values::<O>(a, b)?;
+    on_pairs_in_first::<OrZero<O>, i32>(a, b)
 }
 
 /// The same over the second vector.
@@ -79,12 +74,8 @@ fn on_pairs_or_in_second<O: PartialBinary>(a: &[i32], b: &mut [i32]) -> Result<(
     requires { length a.now ≤ most_elements }
     ensures { Overwrites (on_pairs_or O.fault O.value a.now b.old) result b.old b.new }
 {
-    check_agree(a.len(), b.len())?;
-    if let Some(place) = first_without::<O>(a, b) {
-        return Err(Fault::at(O::fault(), place));
-    }
-    write_pairs::<Flipped<OrZero<O>>, i32>(b, a);
-    Ok(())
+    check_values::<O>(a, b)?;
+    on_pairs_in_second::<OrZero<O>, i32>(a, b)
 }
 
 /// The same of a vector and itself.
@@ -92,11 +83,8 @@ fn on_pairs_or_in_both<O: PartialBinary>(a: &mut [i32]) -> Result<(), Fault>
     requires { length a.old ≤ most_elements }
     ensures { Overwrites (on_pairs_or O.fault O.value a.old a.old) result a.old a.new }
 {
-    if let Some(place) = first_without::<O>(a, a) {
-        return Err(Fault::at(O::fault(), place));
-    }
-    on_each_in::<Twice<OrZero<O>>, i32>(a);
-    Ok(())
+    check_values::<O>(a, a)?;
+    on_pairs_in_both::<OrZero<O>, i32>(a)
 }
 
 /// The same as [`int2`](crate::int2), over the first vector.
@@ -104,20 +92,11 @@ pub fn int2_in_first(op: IntBinary, a: &mut [i32], b: &[i32]) -> Result<(), Faul
     requires { length a.old ≤ most_elements }
     ensures { Overwrites (ints2_of op a.old b.now) result a.old a.new }
 {
-    match op {
-        IntBinary::Add => on_pairs_in_first::<Add, i32>(a, b),
-        IntBinary::Sub => on_pairs_in_first::<Sub, i32>(a, b),
-        IntBinary::Mul => on_pairs_in_first::<Mul, i32>(a, b),
-        IntBinary::Div => on_pairs_or_in_first::<Div>(a, b),
-        IntBinary::Mod => on_pairs_or_in_first::<Mod>(a, b),
-        IntBinary::Min => on_pairs_in_first::<Min, i32>(a, b),
-        IntBinary::Max => on_pairs_in_first::<Max, i32>(a, b),
-        IntBinary::Lsh => on_pairs_or_in_first::<Lsh>(a, b),
-        IntBinary::Rsh => on_pairs_or_in_first::<Rsh>(a, b),
-        IntBinary::And => on_pairs_in_first::<And, i32>(a, b),
-        IntBinary::Ior => on_pairs_in_first::<Ior, i32>(a, b),
-        IntBinary::Xor => on_pairs_in_first::<Xor, i32>(a, b),
-    }
+    by_int_binary!(
+        op,
+        on_pairs_in_first::<i32>(a, b),
+        on_pairs_or_in_first::<>(a, b)
+    )
 }
 
 /// The same as [`int2`](crate::int2), over the second vector.
@@ -125,20 +104,11 @@ pub fn int2_in_second(op: IntBinary, a: &[i32], b: &mut [i32]) -> Result<(), Fau
     requires { length a.now ≤ most_elements }
     ensures { Overwrites (ints2_of op a.now b.old) result b.old b.new }
 {
-    match op {
-        IntBinary::Add => on_pairs_in_second::<Add, i32>(a, b),
-        IntBinary::Sub => on_pairs_in_second::<Sub, i32>(a, b),
-        IntBinary::Mul => on_pairs_in_second::<Mul, i32>(a, b),
-        IntBinary::Div => on_pairs_or_in_second::<Div>(a, b),
-        IntBinary::Mod => on_pairs_or_in_second::<Mod>(a, b),
-        IntBinary::Min => on_pairs_in_second::<Min, i32>(a, b),
-        IntBinary::Max => on_pairs_in_second::<Max, i32>(a, b),
-        IntBinary::Lsh => on_pairs_or_in_second::<Lsh>(a, b),
-        IntBinary::Rsh => on_pairs_or_in_second::<Rsh>(a, b),
-        IntBinary::And => on_pairs_in_second::<And, i32>(a, b),
-        IntBinary::Ior => on_pairs_in_second::<Ior, i32>(a, b),
-        IntBinary::Xor => on_pairs_in_second::<Xor, i32>(a, b),
-    }
+    by_int_binary!(
+        op,
+        on_pairs_in_second::<i32>(a, b),
+        on_pairs_or_in_second::<>(a, b)
+    )
 }
 
 /// The same as [`int2`](crate::int2) of a vector and itself, over the vector.
@@ -146,20 +116,7 @@ pub fn int2_in_both(op: IntBinary, a: &mut [i32]) -> Result<(), Fault>
     requires { length a.old ≤ most_elements }
     ensures { Overwrites (ints2_of op a.old a.old) result a.old a.new }
 {
-    match op {
-        IntBinary::Add => on_pairs_in_both::<Add, i32>(a),
-        IntBinary::Sub => on_pairs_in_both::<Sub, i32>(a),
-        IntBinary::Mul => on_pairs_in_both::<Mul, i32>(a),
-        IntBinary::Div => on_pairs_or_in_both::<Div>(a),
-        IntBinary::Mod => on_pairs_or_in_both::<Mod>(a),
-        IntBinary::Min => on_pairs_in_both::<Min, i32>(a),
-        IntBinary::Max => on_pairs_in_both::<Max, i32>(a),
-        IntBinary::Lsh => on_pairs_or_in_both::<Lsh>(a),
-        IntBinary::Rsh => on_pairs_or_in_both::<Rsh>(a),
-        IntBinary::And => on_pairs_in_both::<And, i32>(a),
-        IntBinary::Ior => on_pairs_in_both::<Ior, i32>(a),
-        IntBinary::Xor => on_pairs_in_both::<Xor, i32>(a),
-    }
+    by_int_binary!(op, on_pairs_in_both::<i32>(a), on_pairs_or_in_both::<>(a))
 }
 
 /// The same as [`int1`](crate::int1), over the vector.

@@ -5,13 +5,11 @@ ghost use Rattle.cvl_base.specs.Elementwise.{ints_from_bools, ints1_of, ints2_of
 ghost use Rattle.cvl_base.specs.Gives.{Gives};
 ghost use Rattle.cvl_base.specs.Limits.{most_elements};
 
+use crate::by_operator::by_int_binary;
 use crate::copies::copied;
-use crate::on_each::values_on_each;
-use crate::on_pairs::values_on_pairs;
-use crate::partials::{Div, Lsh, Mod, Rsh};
 use crate::races::values_or_fault;
 use crate::singles::{IntOfBool, NotInt};
-use crate::total_operators::{Add, And, Ior, Max, Min, Mul, Sub, Xor};
+use crate::values::{values_on_each, values_on_pairs};
 use crew::{Gate, OpenGate};
 use cvl_base::{Config, IntBinary, Memory, NoResources, Refused, Unary};
 use std::thread::Threads;
@@ -52,20 +50,11 @@ pub fn int2_gated<R: Threads + Sync, A: Memory, G: Gate>(
     ensures values { Gives (λ v. v.items) result (ints2_of op a.now b.now) }
     ensures as_long { IfOk result (λ v. vec_len v ≡ length a.now) }
 {
-    match op {
-        IntBinary::Add => values_on_pairs::<Add, i32, i32, R, A>(rt, alloc, a, b),
-        IntBinary::Sub => values_on_pairs::<Sub, i32, i32, R, A>(rt, alloc, a, b),
-        IntBinary::Mul => values_on_pairs::<Mul, i32, i32, R, A>(rt, alloc, a, b),
-        IntBinary::Div => values_or_fault::<Div, R, A, G>(rt, alloc, config, a, b, gate),
-        IntBinary::Mod => values_or_fault::<Mod, R, A, G>(rt, alloc, config, a, b, gate),
-        IntBinary::Min => values_on_pairs::<Min, i32, i32, R, A>(rt, alloc, a, b),
-        IntBinary::Max => values_on_pairs::<Max, i32, i32, R, A>(rt, alloc, a, b),
-        IntBinary::Lsh => values_or_fault::<Lsh, R, A, G>(rt, alloc, config, a, b, gate),
-        IntBinary::Rsh => values_or_fault::<Rsh, R, A, G>(rt, alloc, config, a, b, gate),
-        IntBinary::And => values_on_pairs::<And, i32, i32, R, A>(rt, alloc, a, b),
-        IntBinary::Ior => values_on_pairs::<Ior, i32, i32, R, A>(rt, alloc, a, b),
-        IntBinary::Xor => values_on_pairs::<Xor, i32, i32, R, A>(rt, alloc, a, b),
-    }
+    by_int_binary!(
+        op,
+        values_on_pairs::<i32, i32, R, A>(rt, alloc, a, b),
+        values_or_fault::<R, A, G>(rt, alloc, config, a, b, gate)
+    )
 }
 
 /// The operator on each element: `not_wuz` and `cpy_wuz`.

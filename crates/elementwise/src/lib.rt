@@ -6,14 +6,13 @@
 #![tactic(auto)]
 
 mod bools;
+mod by_operator;
 mod choice;
 mod comparisons;
 mod copies;
 mod in_place;
 mod ints;
 mod looks;
-mod on_each;
-mod on_pairs;
 mod over;
 mod partials;
 mod races;
@@ -23,6 +22,7 @@ mod sides;
 mod singles;
 mod total_operators;
 mod truths;
+mod values;
 
 pub use bools::{bool_from_int, bool1, bool2, compare};
 pub use choice::select;

@@ -1,9 +1,12 @@
 //! Looks for the first pair of elements on which an operator has no value, by the thread that calls.
 
-ghost use Rattle.std.specs.Prelude.{◌≡◌, ℕ, ◌<◌, ◌≤◌, IsTrue, None, length, slice_index_or};
+ghost use Rattle.std.specs.Prelude.{◌≡◌, ℕ, ◌<◌, ◌≤◌, pos, Err, IsTrue, MatchResult, None, length, slice_index_or};
+ghost use Rattle.std.specs.Option.{unwrap_or};
+ghost use Rattle.cvl_base.specs.Elementwise.{on_pairs, on_pairs_or};
 ghost use Rattle.cvl_base.specs.Limits.{most_elements};
 ghost use Rattle.elementwise.specs.Valueless.{least_without, slots_without};
 
+use cvl_base::{Fault, check_agree};
 use element_walks::PartialBinary;
 
 /// How many pairs are looked at before it is asked whether one of them has no value.
@@ -58,4 +61,19 @@ pub(crate) fn first_without<O: PartialBinary>(a: &[i32], b: &[i32]) -> Option<u3
         start = end;
     }
     None
+}
+
+/// Checks that the operator has a value on all pairs of elements, else its fault at the least place without one; `LengthMismatch`
+/// where one vector is longer.
+pub(crate) fn check_values<O: PartialBinary>(a: &[i32], b: &[i32]) -> Result<(), Fault>
+    requires { length a.now ≤ most_elements }
+    ensures { MatchResult result
+        (λ _. on_pairs_or O.fault O.value a.now b.now ≡ on_pairs (λ x y. unwrap_or (O.value x y) (pos 0)) a.now b.now)
+        (λ f. on_pairs_or O.fault O.value a.now b.now ≡ Err f) }
+{
+    check_agree(a.len(), b.len())?;
+    match first_without::<O>(a, b) {
+        Some(place) => Err(Fault::at(O::fault(), place)),
+        None => Ok(()),
+    }
 }

@@ -5,11 +5,10 @@ ghost use Rattle.cvl_base.specs.Elementwise.{bools_from_ints, compare_of, ints1_
 ghost use Rattle.cvl_base.specs.Limits.{most_elements};
 ghost use Rattle.cvl_base.specs.Rooms.{Overwrites, in_room};
 
+use crate::by_operator::by_int_binary;
 use crate::comparisons::{AtLeast, AtMost, Equal, Greater, Less, Unequal};
-use crate::looks::first_without;
-use crate::partials::{Div, Lsh, Mod, Rsh};
+use crate::looks::check_values;
 use crate::singles::{BoolOfInt, NotInt};
-use crate::total_operators::{Add, And, Ior, Max, Min, Mul, Sub, Xor};
 use cvl_base::{Comparison, Fault, IntBinary, Unary, check_agree};
 use element_walks::{Binary, Copied, OnEach, OnPairs, OrZero, PartialBinary, Single};
 use fresh::write_over;
@@ -36,13 +35,8 @@ fn on_pairs_or_over<O: PartialBinary>(a: &[i32], b: &[i32], out: &mut [i32]) -> 
     requires { length a.now ≤ most_elements }
     ensures { Overwrites (in_room (length out.old) (on_pairs_or O.fault O.value a.now b.now)) result out.old out.new }
 {
-    check_agree(a.len(), b.len())?;
-    if let Some(place) = first_without::<O>(a, b) {
-        return Err(Fault::at(O::fault(), place));
-    }
-    check_agree(a.len(), out.len())?;
-    write_over(out, &OnPairs::<OrZero<O>, i32>::new(a, b));
-    Ok(())
+    check_values::<O>(a, b)?;
+    on_pairs_over::<OrZero<O>, i32, i32>(a, b, out)
 }
 
 /// Writes the operator's values on the elements, or tells `LengthMismatch` where the room isn't as long.
@@ -70,20 +64,11 @@ pub fn int2_over(op: IntBinary, a: &[i32], b: &[i32], out: &mut [i32]) -> Result
     requires { length a.now ≤ most_elements }
     ensures { Overwrites (in_room (length out.old) (ints2_of op a.now b.now)) result out.old out.new }
 {
-    match op {
-        IntBinary::Add => on_pairs_over::<Add, i32, i32>(a, b, out),
-        IntBinary::Sub => on_pairs_over::<Sub, i32, i32>(a, b, out),
-        IntBinary::Mul => on_pairs_over::<Mul, i32, i32>(a, b, out),
-        IntBinary::Div => on_pairs_or_over::<Div>(a, b, out),
-        IntBinary::Mod => on_pairs_or_over::<Mod>(a, b, out),
-        IntBinary::Min => on_pairs_over::<Min, i32, i32>(a, b, out),
-        IntBinary::Max => on_pairs_over::<Max, i32, i32>(a, b, out),
-        IntBinary::Lsh => on_pairs_or_over::<Lsh>(a, b, out),
-        IntBinary::Rsh => on_pairs_or_over::<Rsh>(a, b, out),
-        IntBinary::And => on_pairs_over::<And, i32, i32>(a, b, out),
-        IntBinary::Ior => on_pairs_over::<Ior, i32, i32>(a, b, out),
-        IntBinary::Xor => on_pairs_over::<Xor, i32, i32>(a, b, out),
-    }
+    by_int_binary!(
+        op,
+        on_pairs_over::<i32, i32>(a, b, out),
+        on_pairs_or_over::<>(a, b, out)
+    )
 }
 
 /// The same as [`int1`](crate::int1), over a room.

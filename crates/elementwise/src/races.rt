@@ -34,6 +34,7 @@ impl<'a, O: PartialBinary> Targets for Valueless<'a, O> {
 
     ghost slot_count = { λ t. 1 };
 
+    #[tactic(auto, using(element_walks::proofs::Places::zipped))]
     fn places(&self) -> u32 {
         self.first.len() as u32
     }
@@ -42,6 +43,7 @@ impl<'a, O: PartialBinary> Targets for Valueless<'a, O> {
         1
     }
 
+    #[tactic(auto, using(element_walks::proofs::Places::zipped))]
     fn slot(&self, place: u32) -> Option<u32> {
         let place = place as usize;
         if O::has_value(&self.first[place], &self.second[place]) {
@@ -51,6 +53,7 @@ impl<'a, O: PartialBinary> Targets for Valueless<'a, O> {
         }
     }
 
+    #[tactic(auto, using(element_walks::proofs::Places::zipped))]
     fn is_clear(&self, from: u32, to: u32) -> bool {
         all_have_values::<O>(self.first, self.second, from as usize, to as usize)
     }

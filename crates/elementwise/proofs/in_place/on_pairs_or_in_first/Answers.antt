@@ -1,21 +1,7 @@
-use Rattle.std.proofs.Common.{◌∙◌, Ok, ap, arith, pos, refl, sym}
-use Rattle.std.specs.List.{zip}
-use Rattle.cvl_base.proofs.Elementwise.{if_as_long-fits}
-use Rattle.elementwise.proofs.LeastFaults.{fails, succeeds}
+use Rattle.std.proofs.Common.{subst, sym}
+use Rattle.cvl_base.specs.Rooms.{Overwrites}
 use Rattle.elementwise.proofs.in_place.on_pairs_or_in_first.Goals as goal
-
-pub returns-in-Some : goal.returns-in-Some
-returns-in-Some g c =
-    let a = c.args.a.now in let b = c.args.b.now in
-    rw (c.at.ensures, c.fault.ensures) (
-      if_as_long-fits a b _ (omega (arith, c.in_ok-check_agree.ensures))
-          ∙ fails g.O.PartialBinary.fault (λ p. g.O.PartialBinary.value p.0 p.1) (pos 0) (zip a b) 0 c.in-Some.place (sym c.first_without.ensures ∙ c.in-Some.is),
-      refl,
-    )
 
 pub returns : goal.returns
 returns g c =
-    let a = c.args.a.now in let b = c.args.b.now in
-    if_as_long-fits a b _ (omega (arith, c.in_ok-check_agree.ensures))
-    ∙ succeeds g.O.PartialBinary.fault (λ p. g.O.PartialBinary.value p.0 p.1) (pos 0) (zip a b) 0 (sym c.first_without.ensures ∙ c.in_default.is)
-    ∙ ap Ok (sym c.write_pairs.ensures)
+    let call = c.on_pairs_in_first in subst (λ meaning. Overwrites meaning call.result c.args.a.now call.new.a) (sym c.in_ok-check_values.ensures) call.ensures

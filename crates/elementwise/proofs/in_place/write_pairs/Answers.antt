@@ -1,7 +1,6 @@
-use Rattle.std.proofs.Common.{◌≡◌, ◌<◌, arith, length, map}
+use Rattle.std.proofs.Common.{◌<◌, arith, length, map}
 use Rattle.std.specs.List.{zip}
-use Rattle.std.proofs.lemmas.List.{length-map}
-use Rattle.std.proofs.lemmas.Slice.Zip.{length-zip}
+use Rattle.element_walks.proofs.Places.{values_long}
 use Rattle.elementwise.proofs.InPlace.{ends, step, value_pair}
 use Rattle.elementwise.proofs.in_place.write_pairs.Goals as goal
 
@@ -16,5 +15,5 @@ loop-place-preserved g c =
 pub returns : goal.returns
 returns g c =
     let a = c.args.a.now in let b = c.args.b.now in let whole = map (λ p. g.O.Binary.value p.0 p.1) (zip a b) in
-    let long : length whole ≡ length a = omega (arith, length-map (zip a b) (λ p. g.O.Binary.value p.0 p.1), length-zip a b, c.requires) in
+    let long = values_long (λ p. g.O.Binary.value p.0 p.1) a b c.requires.as_long in
     ends whole a c.loop-place.a c.loop-place.place c.loop-place.invariant (omega (arith, long)) (omega (arith, long, c.loop-place-test.false))
