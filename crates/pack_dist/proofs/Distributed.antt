@@ -23,9 +23,6 @@ use Rattle.pack_dist.specs.Lists.{progressions_of}
 use Rattle.pack_dist.specs.Progressions.{progression}
 use Rattle.segdes.proofs.ListRuns.{whole-long}
 
--- lengths of lists made of two lists
-pub ruleset zipped = (length-map, length-zip)
-
 -- a call of an argument and a length gives a list of that length where this is no longer than any vector
 pub record GivesLists {S X : Type 0} (call : S × ℕ → Result (List X) Fault) (list : S × ℕ → List X) : Type 0 where
   pub gives : (x : S) (n : ℕ) → n ≤ most_elements → call (x, n) ≡ Ok (list (x, n))

@@ -128,7 +128,6 @@ impl<'a, T: Copy, A: Allocator> Segments for SegmentCopies<'a, T, A> {
         self.d
     }
 
-    #[tactic(auto, using(crate::proofs::Distributed::zipped))]
     fn push_part(&self, run: Run<T>, s: usize, from: usize, count: usize) -> Run<T>
         requires segment { s < length (copies_of self.now.values.now self.now.d.now) }
         requires within { from + count ≤ length (slice_index_or (copies_of self.now.values.now self.now.d.now) s []) }

@@ -166,7 +166,6 @@ impl<'a, A: Allocator> Segments for SegmentProgressions<'a, A> {
         self.d
     }
 
-    #[tactic(auto, using(crate::proofs::Distributed::zipped))]
     fn push_part(&self, run: Run<i32>, s: usize, from: usize, count: usize) -> Run<i32>
         requires segment { s < length (progressions_of self.now.inits.now self.now.strides.now self.now.d.now) }
         requires within { from + count

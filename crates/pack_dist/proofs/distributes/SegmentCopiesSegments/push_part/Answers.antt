@@ -1,9 +1,16 @@
-use Rattle.std.proofs.Common.{◌∙◌, ◌+◌, ◌-◌, ◌++◌, get_or, sym, ap}
+use Rattle.std.proofs.Common.{◌∙◌, ◌+◌, ◌-◌, ◌++◌, get_or, sym, ap, rules}
 use Rattle.fresh.specs.Parts.{part}
 use Rattle.fresh.specs.Places.{stretch}
 use Rattle.fresh.proofs.Copied.{part_of_copies}
-use Rattle.pack_dist.proofs.Distributed.{copies, list-at, list-within}
+use Rattle.pack_dist.proofs.Distributed.{copies, in-both, list-at, list-within}
 use Rattle.pack_dist.proofs.distributes.SegmentCopiesSegments.push_part.Goals as goal
+
+pub offset_bounds-self-s : goal.offset_bounds-self-s
+offset_bounds-self-s g c =
+    let self = c.args.self.now in let within = (in-both copies self.values.now self.d.now self.one_each c.args.s c.requires.segment).0 in search rules
+
+pub bounds-self-s : goal.bounds-self-s
+bounds-self-s g c = let self = c.args.self.now in (in-both copies self.values.now self.d.now self.one_each c.args.s c.requires.segment).0
 
 pub returns : goal.returns
 returns g c =

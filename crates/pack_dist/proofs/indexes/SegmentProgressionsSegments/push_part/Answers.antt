@@ -8,6 +8,26 @@ use Rattle.pack_dist.proofs.Distributed.{in-both, list-at, list-within, numbers}
 use Rattle.pack_dist.proofs.Progressed.{progression-part}
 use Rattle.pack_dist.proofs.indexes.SegmentProgressionsSegments.push_part.Goals as goal
 
+pub offset_bounds-self-s : goal.offset_bounds-self-s
+offset_bounds-self-s g c =
+    let self = c.args.self.now in let inits = self.inits.now in let strides = self.strides.now in
+    omega (arith, in-both numbers (zip inits strides) self.d.now self.one_each c.args.s c.requires.segment, length-zip inits strides)
+
+pub bounds-self-s : goal.bounds-self-s
+bounds-self-s g c =
+    let self = c.args.self.now in let inits = self.inits.now in let strides = self.strides.now in
+    omega (arith, in-both numbers (zip inits strides) self.d.now self.one_each c.args.s c.requires.segment, length-zip inits strides)
+
+pub offset_bounds-self-s-2 : goal.offset_bounds-self-s-2
+offset_bounds-self-s-2 g c =
+    let self = c.args.self.now in let inits = self.inits.now in let strides = self.strides.now in
+    omega (arith, in-both numbers (zip inits strides) self.d.now self.one_each c.args.s c.requires.segment, length-zip inits strides)
+
+pub bounds-self-s-2 : goal.bounds-self-s-2
+bounds-self-s-2 g c =
+    let self = c.args.self.now in let inits = self.inits.now in let strides = self.strides.now in
+    omega (arith, in-both numbers (zip inits strides) self.d.now self.one_each c.args.s c.requires.segment, length-zip inits strides)
+
 pub push_progression-requires-clause-few : goal.push_progression-requires-clause-few
 push_progression-requires-clause-few g c =
     let self = c.args.self.now in let steps = zip self.inits.now self.strides.now in
