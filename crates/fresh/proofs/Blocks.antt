@@ -1,31 +1,13 @@
 -- The block of a vector is a row of places and the right to free it, and back. Assumes `Logic`.
-use mathlib.Core.Path.{◌≡◌, ap}
-use mathlib.Core.Bool.{Bool, true, false, not}
-use Prim.Native.Nat.{ℕ, zero, suc, ◌+◌, ◌-◌, ◌*◌, ◌≤◌}
-use native.Mathlib.Omega.{arith}
-use mathlib.Core.List.{List, [], ◌∷◌, ◌++◌, map}
-use lib.Dec.{T}
-use lib.ListN.{length, replicate, length-map}
-use seplogic.Ra.Ura.{Ura}
-use base.Fraction.{full_share}
-use mir.Syntax.{ty_array}
 use mir.Raw.{raw as bare}
-use base.Logic.{ent, sep, emp}
-use base.Fml.{Fml, ftrue, froom}
-use types.Logic.{Logic, sem}
-use types.Kit.{‵, ◌⊛◌, given, ◌$◌, ◌∵◌, !, qed, move, keep, use0, use1, use2, split, learn, fsplit3, fjoin, done}
-use denote.Memory.{part_at}
 use denote.Array.{Array}
-use denote.Index.{row}
-use denote.RawPtr.{block_ptr}
 use Rattle.core.specs.Allocator.{block_with_items}
 use Rattle.core.proofs.mem.Param as one
-use Rattle.core.proofs.alloc.Calls.{token}
-use Rattle.std.specs.Prelude.{Some, None}
-use Rattle.std_alloc.specs.Vec.Ownership.{owns_if}
-use Rattle.std_alloc.proofs.RawLayout.{as_raw, as_written}
 use Rattle.std_alloc.proofs.VecSteps.El.{El, el_x, elτ, R, sz, Hd}
 use Rattle.std_alloc.proofs.VecSteps.Rows.{apart, whole}
+use Rattle.fresh.proofs.Walks.{◌≡◌, ap, Bool, true, false, not, ℕ, zero, suc, ◌+◌, ◌-◌, ◌*◌, ◌≤◌, arith, List, [], ◌∷◌, ◌++◌, map, T, length, replicate, length-map, Ura}
+use Rattle.fresh.proofs.Walks.{full_share, ty_array, ent, sep, emp, Fml, ftrue, froom, Logic, sem, ‵, ◌⊛◌, given, ◌$◌, ◌∵◌, !, qed, move, keep, use0, use1, use2, split, learn}
+use Rattle.fresh.proofs.Walks.{fsplit3, fjoin, done, part_at, row, block_ptr, token, Some, None, owns_if, as_raw, as_written}
 use Rattle.fresh.specs.Ownership.{slots}
 use Rattle.fresh.proofs.Memory.{cut, glue, of_row, to_row, of_room, to_room}
 

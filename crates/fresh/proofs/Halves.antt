@@ -1,5 +1,6 @@
 -- Two runs of a list, one after another, are one.
-use Rattle.std.proofs.Common.{◌≡◌, ℕ, zero, suc, ◌+◌, ◌-◌, ◌≤◌, List, [], ◌∷◌, ◌++◌, map, take, drop, refl, ap, ◌∙◌, arith, take-add, drop-drop}
+use Rattle.std.proofs.Common.{◌≡◌, ℕ, ◌+◌, ◌-◌, ◌≤◌, List, ◌++◌, map, take, drop, sym, ap, ◌∙◌, arith, take-add, drop-drop}
+use Rattle.std.proofs.lemmas.List.{drop-map, take-map}
 use Rattle.fresh.specs.Parts.{part}
 
 pub parts_both : {X : Type 0} (whole : List X) (first n room : ℕ) → n ≤ room → part whole first room ≡ part whole first n ++ part whole (first + n) (room - n)
@@ -9,14 +10,4 @@ parts_both whole first n room within =
 
 -- a run of mapped elements
 pub part_map : {A B : Type 0} (h : A → B) (xs : List A) (first n : ℕ) → map h (part xs first n) ≡ part (map h xs) first n
-part_map h xs first n = taken (drop first xs) n ∙ ap (take n) (dropped xs first)
-  where
-    taken : (ys : List _) (k : ℕ) → map h (take k ys) ≡ take k (map h ys)
-    taken ys zero = refl
-    taken [] (suc k) = refl
-    taken (y ∷ ys) (suc k) = ap (λ l. h y ∷ l) (taken ys k)
-
-    dropped : (ys : List _) (k : ℕ) → map h (drop k ys) ≡ drop k (map h ys)
-    dropped ys zero = refl
-    dropped [] (suc k) = refl
-    dropped (y ∷ ys) (suc k) = dropped ys k
+part_map h xs first n = sym (ap (take n) (drop-map h first xs) ∙ take-map h n (drop first xs))

@@ -8,5 +8,6 @@ pub mod Memory
 pub mod PartWalk
 pub mod Places
 pub mod Rows
-pub mod Zips
+pub mod Walks
 pub mod Written
+pub mod Zips

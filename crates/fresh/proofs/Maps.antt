@@ -1,15 +1,11 @@
 -- Items that belong one by one to the elements of a list.
-use Rattle.std.proofs.Common.{◌≡◌, ℕ, suc, ◌+◌, ◌-◌, ◌<◌, List, [], ◌∷◌, ◌++◌, length, map, take, get_or, refl, sym, ap, ◌∙◌, subst, arith, append_assoc, take-suc}
+use Rattle.std.proofs.Common.{◌≡◌, ℕ, ◌+◌, ◌-◌, ◌<◌, List, [], ◌∷◌, ◌++◌, length, map, take, get_or, refl, sym, ap, ◌∙◌, subst, arith, append_assoc}
+use Rattle.std.proofs.lemmas.List.{take_more}
+use Rattle.std.proofs.lemmas.Slice.Zip.{all_zipped_more}
 use Rattle.std.specs.List.{AllZip}
 use Rattle.fresh.specs.Places.{Stretch, stretch}
 
 module _ {A B : Type 0} (P : A → B → Type 0) where
-  pub zipped_more : (xs : List A) (ys : List B) (x : A) (y : B) → AllZip P xs ys → P x y → AllZip P (xs ++ x ∷ []) (ys ++ y ∷ [])
-  zipped_more [] [] x y all p = (p, tt)
-  zipped_more [] (b ∷ ys) x y all p = absurd all
-  zipped_more (a ∷ xs) [] x y all p = absurd all
-  zipped_more (a ∷ xs) (b ∷ ys) x y all p = (all.0, zipped_more xs ys x y all.1 p)
-
   pub zipped_map : (h : A → B) (xs : List A) (ys : List B) → AllZip P xs ys → ((x : A) (y : B) → P x y → y ≡ h x) → ys ≡ map h xs
   zipped_map h [] [] all is = refl
   zipped_map h [] (b ∷ ys) all is = absurd all
@@ -23,10 +19,9 @@ module _ {A B : Type 0} (P : A → B → Type 0) where
       → (ys : List B) × AllZip P (take (i + 1) xs) ys × (next ≡ stretch old.block old.first (old.items ++ ys) (old.room - (i + 1)))
   one_more xs i x y old now next lt is p before after =
       let ys = before.0 in
-      let at : i + 1 ≡ suc i = omega arith in
-      let longer : take i xs ++ x ∷ [] ≡ take (i + 1) xs = ap (λ z. take i xs ++ z ∷ []) is ∙ sym (take-suc xs i x lt) ∙ ap (λ k. take k xs) (sym at) in
+      let longer : take i xs ++ x ∷ [] ≡ take (i + 1) xs = ap (λ z. take i xs ++ z ∷ []) is ∙ sym (take_more xs i x lt) in
       let less : old.room - i - 1 ≡ old.room - (i + 1) = omega arith in (
         ys ++ y ∷ [],
-        subst (λ zs. AllZip P zs (ys ++ y ∷ [])) longer (zipped_more (take i xs) ys x y before.1 p),
+        subst (λ zs. AllZip P zs (ys ++ y ∷ [])) longer (all_zipped_more P (take i xs) ys x y before.1 p),
         after ∙ ap (λ s. stretch s.block s.first (s.items ++ y ∷ []) (s.room - 1)) before.2 ∙ λ j. stretch old.block old.first (append_assoc old.items ys (y ∷ []) j) (less j),
       )

@@ -3,39 +3,21 @@
 --     cut, glue      a row of places is parted in two, and two rows that meet become one
 --     slot_out, slot_in      one place is taken out of the row, and put back
 --     of_room, to_room      room for an array is a row of empty places
-use mathlib.Core.Path.{◌≡◌, refl, sym, ap, subst, ◌∙◌}
-use Prim.Native.Nat.{ℕ, zero, suc, ◌+◌, ◌*◌, ◌<◌, ◌≤◌}
-use native.Mathlib.Omega.{arith}
-use native.Mathlib.Nat.{zero-mul, suc-mul}
-use mathlib.Core.List.{List, [], ◌∷◌, ◌++◌, map}
-use lib.ListN.{length, take, drop, set, get_or, replicate, take-append-drop, length-take}
+use lib.ListN.{drop}
 use lib.Seq.{drop-cons, set_split}
-use seplogic.Ra.Ura.{Ura}
-use base.Fraction.{full_share}
-use mir.Syntax.{Ty, ty_array}
-use mir.Val.{Val, vstruct, vcons, vnil, of_list}
-use base.Logic.{ent, sep, emp, id⊢, mono_r}
-use base.Fml.{Fml, ftrue, fsep, froom}
-use types.Logic.{Logic, sem}
-use types.Kit.{Item, Goal, Seq, Step, step, ‵, ◌⊛◌, ◌$◌, ◌∵◌, !, qed, by, move, keep, drop as skip, use1, use2, split, frame, fsplit, fjoin, fpick, fpack, feq_i, feq_l, rewrite, done}
-use denote.RattleType.{RattleType, Valss}
 use denote.Laws.{Typed, Is, shows}
-use denote.Param.{param, layout}
 use denote.Param.Laws.{Laws, param_laws}
-use denote.Memory.{part_at}
-use denote.RawPtr.{Ptr, RawPtr, ptr_val}
-use denote.Index.{row}
 use denote.Shadow.{makes_shadow}
-use denote.Steps.{nothing, peeks}
 use denote.Struct.Struct.{Shape, Struct, within}
 use denote.Struct.Owning.{shape}
 use denote.Struct.Declared as Declared
-use denote.Struct.Tuple.{Tuple, tuple_type}
 use borrow.Table.OneValue.{part_in}
-use Rattle.std.specs.Prelude.{Option, Some, None}
 use Rattle.std.specs.Mem.{type_size}
-use Rattle.core.proofs.mem.Param.{El, R, el_x, elτ}
-use Rattle.std_alloc.proofs.RcSteps.{Good, word}
+use Rattle.fresh.proofs.Walks.{◌≡◌, refl, sym, ap, subst, ◌∙◌, ℕ, zero, suc, ◌+◌, ◌*◌, ◌<◌, ◌≤◌, arith, zero-mul, suc-mul, List, [], ◌∷◌, ◌++◌, map, length, take, set, get_or}
+use Rattle.fresh.proofs.Walks.{replicate, take-append-drop, length-take, Ura, full_share, Ty, ty_array, Val, vstruct, vcons, vnil, of_list, ent, sep, emp, id⊢, mono_r, Fml, ftrue}
+use Rattle.fresh.proofs.Walks.{fsep, froom, Logic, sem, Item, Goal, Seq, Step, step, ‵, ◌⊛◌, ◌$◌, ◌∵◌, !, qed, by, move, keep, drop as skip, use1, use2, split, frame, fsplit}
+use Rattle.fresh.proofs.Walks.{fjoin, fpick, fpack, feq_i, feq_l, rewrite, done, RattleType, Valss, param, layout, part_at, Ptr, RawPtr, ptr_val, row, nothing, peeks, Tuple}
+use Rattle.fresh.proofs.Walks.{tuple_type, Option, Some, None, El, R, el_x, elτ, Good, word}
 use Rattle.fresh.specs.Ownership.{slot, slots}
 use Rattle.fresh.specs.contracts.cells.Cells as C-type
 use Rattle.fresh.specs.contracts.cells.Base as B-type

@@ -29,7 +29,8 @@ module _ {P X : Type 0} (items : P → List X) where
       ∙ ap (λ p. option_or (option_or (found part first) (found_in items found low next)) (found_in items found high p)) at
 
   -- parts in two, with their counts
-  module _ (parts low high : List P) (counts low_counts high_counts : List ℕ) (half room total : ℕ) (counts_are : counts ≡ counts_of items parts) (all : room ≡ length (flat_map items parts))
+  module _ (parts : List P) {low high : List P} {counts low_counts high_counts : List ℕ} (half : ℕ) {room total : ℕ} (counts_are : counts ≡ counts_of items parts)
+      (all : room ≡ length (flat_map items parts))
       (low_is : low ≡ take half parts) (high_is : high ≡ drop half parts) (low_counts_are : low_counts ≡ take half counts) (high_counts_are : high_counts ≡ drop half counts)
       (total_is : total ≡ min (sum low_counts) (2 ^ 64 - 1)) (fits : room < 2 ^ 64) where
     both : parts ≡ low ++ high

@@ -1,9 +1,10 @@
 -- Lists of places that begin with items and end empty.
---     made      what a run is made of
---     take_filled, drop_filled, joined_filled, pushed      its places parted, joined, and one more written
-use Rattle.std.proofs.Common.{◌≡◌, ℕ, zero, suc, ◌+◌, ◌-◌, ◌<◌, ◌≤◌, ◌^◌, ◌⊎◌, inl, inr, List, [], ◌∷◌, ◌++◌, length, map, take, drop, replicate, slice_set, Option, Some, None, refl, sym, ap, ◌∙◌, arith}
+--     whole, begun, front, back, pushed_on, joined_with      what a run is made of, and how it is seen
+use Rattle.std.proofs.Common.{◌≡◌, ℕ, zero, suc, ◌+◌, ◌-◌, ◌<◌, ◌≤◌, ◌^◌, ◌⊎◌, inl, inr, List, [], ◌∷◌, ◌++◌, length, map, take, drop, replicate, slice_set, Option, Some, None, refl, sym, ap, ◌∙◌}
+use Rattle.std.proofs.Common.{arith, length-append}
+use Rattle.std.proofs.lemmas.List.{drop-replicate, replicate-append-replicate, take-replicate}
 use denote.RawPtr.{Ptr}
-use Rattle.fresh.specs.Places.{stretch, filled, somes, IsRun}
+use Rattle.fresh.specs.Places.{Follows, IsRun, Stretch, filled, somes, stretch}
 use Rattle.fresh.specs.declared.cells.Cells.{Cells}
 
 module _ {X : Type 0} where
@@ -22,47 +23,96 @@ module _ {X : Type 0} where
   somes_map [] = refl
   somes_map (x ∷ xs) = ap (λ l. x ∷ l) (somes_map xs)
 
-  take_none : (n k : ℕ) → k ≤ n → take k (none n) ≡ none k
-  take_none n zero le = refl
-  take_none zero (suc k) le = absurd (omega arith)
-  take_none (suc n) (suc k) le = ap (λ l. None ∷ l) (take_none n k (omega arith))
-
-  drop_none : (n k : ℕ) → k ≤ n → drop k (none n) ≡ none (n - k)
-  drop_none n zero le = let e : n ≡ n - 0 = omega arith in ap none e
-  drop_none zero (suc k) le = absurd (omega arith)
-  drop_none (suc n) (suc k) le = let e : n - k ≡ suc n - suc k = omega arith in drop_none n k (omega arith) ∙ ap none e
-
-  pub take_filled : (xs : List X) (n k : ℕ) → length xs ≤ k → k ≤ length xs + n → take k (filled xs n) ≡ filled xs (k - length xs)
-  take_filled [] n k low high = let e : k ≡ k - 0 = omega arith in take_none n k (omega arith) ∙ ap none e
+  take_filled : (xs : List X) (n k : ℕ) → length xs ≤ k → k ≤ length xs + n → take k (filled xs n) ≡ filled xs (k - length xs)
+  take_filled [] n k low high = let e : k ≡ k - 0 = omega arith in take-replicate k n None (omega arith) ∙ ap none e
   take_filled (x ∷ xs) n zero low high = absurd (omega arith)
   take_filled (x ∷ xs) n (suc k) low high = let e : k - length xs ≡ suc k - suc (length xs) = omega arith in
       ap (λ l. Some x ∷ l) (take_filled xs n k (omega arith) (omega arith) ∙ ap (filled xs) e)
 
-  pub drop_filled : (xs : List X) (n k : ℕ) → length xs ≤ k → k ≤ length xs + n → drop k (filled xs n) ≡ filled [] (length xs + n - k)
-  drop_filled [] n k low high = let e : n - k ≡ 0 + n - k = omega arith in drop_none n k (omega arith) ∙ ap none e
+  drop_filled : (xs : List X) (n k : ℕ) → length xs ≤ k → k ≤ length xs + n → drop k (filled xs n) ≡ filled [] (length xs + n - k)
+  drop_filled [] n k low high = let e : n - k ≡ 0 + n - k = omega arith in drop-replicate k n None ∙ ap none e
   drop_filled (x ∷ xs) n zero low high = absurd (omega arith)
   drop_filled (x ∷ xs) n (suc k) low high = let e : length xs + n - k ≡ suc (length xs) + n - suc k = omega arith in
       drop_filled xs n k (omega arith) (omega arith) ∙ ap none e
 
-  more_none : (n m : ℕ) → none n ++ none m ≡ none (n + m)
-  more_none zero m = let e : m ≡ 0 + m = omega arith in ap none e
-  more_none (suc n) m = let e : suc (n + m) ≡ suc n + m = omega arith in ap (λ l. None ∷ l) (more_none n m) ∙ ap none e
-
-  pub joined_filled : (xs ys : List X) (n m : ℕ) → (n ≡ 0) ⊎ (ys ≡ []) → filled xs n ++ filled ys m ≡ filled (xs ++ ys) (n + m)
+  joined_filled : (xs ys : List X) (n m : ℕ) → (n ≡ 0) ⊎ (ys ≡ []) → filled xs n ++ filled ys m ≡ filled (xs ++ ys) (n + m)
   joined_filled [] ys n m (inl e) = let less : m ≡ n + m = omega arith in ap (λ j. none j ++ filled ys m) e ∙ ap (filled ys) less
-  joined_filled [] ys n m (inr e) = ap (λ l. none n ++ filled l m) e ∙ more_none n m ∙ ap (λ l. filled l (n + m)) (sym e)
+  joined_filled [] ys n m (inr e) = ap (λ l. none n ++ filled l m) e ∙ replicate-append-replicate n m None ∙ ap (λ l. filled l (n + m)) (sym e)
   joined_filled (x ∷ xs) ys n m fits = ap (λ l. Some x ∷ l) (joined_filled xs ys n m fits)
 
-  pub pushed : (xs : List X) (n : ℕ) (x : X) → 0 < n → slice_set (filled xs n) (length xs) (Some x) ≡ filled (xs ++ x ∷ []) (n - 1)
+  pushed : (xs : List X) (n : ℕ) (x : X) → 0 < n → slice_set (filled xs n) (length xs) (Some x) ≡ filled (xs ++ x ∷ []) (n - 1)
   pushed [] zero x some = absurd (omega arith)
   pushed [] (suc n) x some = let e : n ≡ suc n - 1 = omega arith in ap (λ j. Some x ∷ none j) e
   pushed (y ∷ xs) n x some = ap (λ l. Some y ∷ l) (pushed xs n x some)
 
-  pub made : (c : Cells X) (base : Ptr) (first len written : ℕ) (xs : List X) (room : ℕ) → c.at ≡ base → c.from ≡ first → c.slots ≡ filled xs room → length xs ≡ written → written + room ≡ len → first + len < 2 ^ 63
-      → IsRun c base first len written × ((p : Ptr) (f : ℕ) → p ≡ base → f ≡ first → stretch base first (somes c.slots) (len - written) ≡ stretch p f xs room)
+  -- what a run is made of, and how it is seen
+  abbrev IsSeen : Cells X → Ptr → ℕ → ℕ → ℕ → Stretch X → Type 0
+  IsSeen c base first len written v = IsRun c base first len written × (stretch base first (somes c.slots) (len - written) ≡ v)
+
+  made : (c : Cells X) (base : Ptr) (first len written : ℕ) (xs : List X) (room : ℕ) → c.at ≡ base → c.from ≡ first → c.slots ≡ filled xs room → length xs ≡ written
+      → written + room ≡ len → first + len < 2 ^ 63 → IsSeen c base first len written (stretch base first xs room)
   made c base first len written xs room at from is long all low =
       let there : somes c.slots ≡ xs = ap somes is ∙ somes_filled xs room in
       let left : len - written ≡ room = omega arith in (
         record { place = (at, from); count = (ap length there ∙ long, omega arith, low); laid = is ∙ λ i. filled (sym there i) (sym left i) },
-        λ p f ep ef. λ i. stretch (sym ep i) (sym ef i) (there i) (left i),
+        λ i. stretch base first (there i) (left i),
       )
+
+  -- all places of a block, empty, or of which the first are written
+  pub whole : (c : Cells X) (base : Ptr) (len : ℕ) → c.at ≡ base → c.from ≡ 0 → len < 2 ^ 63 → c.slots ≡ none len → IsSeen c base 0 len 0 (stretch base 0 [] len)
+  whole c base len at from low laid = made c base 0 len 0 [] len at from laid refl (omega arith) (omega arith)
+
+  pub begun : (c : Cells X) (base : Ptr) (len written : ℕ) (xs : List X) → c.at ≡ base → c.from ≡ 0 → len < 2 ^ 63 → length xs ≡ written → written ≤ len → c.slots ≡ filled xs (len - written)
+      → IsSeen c base 0 len written (stretch base 0 xs (len - written))
+  begun c base len written xs at from low long within laid = made c base 0 len written xs (len - written) at from laid long (omega arith) (omega arith)
+
+  module _ {c : Cells X} {base : Ptr} {first len written : ℕ} {v : Stretch X} (run : IsRun c base first len written) (seen : stretch base first (somes c.slots) (len - written) ≡ v) where
+    abbrev xs : List X
+    xs = somes c.slots
+
+    long : length xs ≡ length v.items
+    long = ap (λ s. length s.items) seen
+
+    left : len - written ≡ v.room
+    left = ap (λ s. s.room) seen
+
+    -- the first k places of a run
+    pub front : (f : Cells X) (k : ℕ) → (length v.items ≤ k) × (k ≤ length v.items + v.room) → (f.at ≡ c.at) × (f.from ≡ c.from) × (f.slots ≡ take k c.slots)
+        → IsSeen f base first k written (stretch v.block v.first v.items (k - length v.items))
+    front f k asked cut =
+        let low : length xs ≤ k = omega (arith, asked.0, long) in let high : k ≤ length xs + (len - written) = omega (arith, asked.1, long, left) in
+        let m = made f base first k written xs (k - length xs) (cut.0 ∙ run.place.0) (cut.1 ∙ run.place.1) (cut.2 ∙ ap (take k) run.laid ∙ take_filled xs (len - written) k low high)
+        run.count.0 (omega (arith, run.count.0)) (omega (arith, run.count.0, run.count.1, run.count.2)) in
+        (m.0, m.1 ∙ ap (λ s. stretch s.block s.first s.items (k - length s.items)) seen)
+
+    -- and the others
+    pub back : (f : Cells X) (k : ℕ) → (length v.items ≤ k) × (k ≤ length v.items + v.room) → (f.at ≡ c.at) × (f.from ≡ c.from + k) × (f.slots ≡ drop k c.slots)
+        → IsSeen f base (first + k) (len - k) 0 (stretch v.block (v.first + k) [] (length v.items + v.room - k))
+    back f k asked cut =
+        let low : length xs ≤ k = omega (arith, asked.0, long) in let high : k ≤ length xs + (len - written) = omega (arith, asked.1, long, left) in
+        let m = made f base (first + k) (len - k) 0 [] (length xs + (len - written) - k) (cut.0 ∙ run.place.0) (cut.1 ∙ ap (λ j. j + k) run.place.1)
+        (cut.2 ∙ ap (drop k) run.laid ∙ drop_filled xs (len - written) k low high) refl (omega (arith, run.count.0, run.count.1)) (omega (arith, run.count.0, run.count.1, run.count.2)) in
+        (m.0, m.1 ∙ ap (λ s. stretch s.block (s.first + k) [] (length s.items + s.room - k)) seen)
+
+    -- a run with one more item
+    pub pushed_on : (f : Cells X) (x : X) → 0 < v.room → (f.at ≡ c.at) × (f.from ≡ c.from) × (f.slots ≡ slice_set c.slots (first + written - c.from) (Some x))
+        → IsSeen f base first len (written + 1) (stretch v.block v.first (v.items ++ x ∷ []) (v.room - 1))
+    pushed_on f x some wrote =
+        let at : first + written - c.from ≡ length xs = omega (arith, run.place.1, run.count.0) in let room : 0 < len - written = omega (arith, some, left) in
+        let m = made f base first len (written + 1) (xs ++ x ∷ []) (len - written - 1) (wrote.0 ∙ run.place.0) (wrote.1 ∙ run.place.1)
+        (wrote.2 ∙ (λ i. slice_set (run.laid i) (at i) (Some x)) ∙ pushed xs (len - written) x room)
+        (omega (arith, length-append xs (x ∷ []), run.count.0)) (omega (arith, run.count.1)) run.count.2 in
+        (m.0, m.1 ∙ ap (λ s. stretch s.block s.first (s.items ++ x ∷ []) (s.room - 1)) seen)
+
+    -- a run and the one after it
+    pub joined_with : {d : Cells X} {base' : Ptr} {first' len' written' : ℕ} {w : Stretch X} → IsRun d base' first' len' written' → stretch base' first' (somes d.slots) (len' - written') ≡ w
+        → (f : Cells X) → Follows v w → (v.room ≡ 0) ⊎ (w.items ≡ []) → (f.at ≡ c.at) × (f.from ≡ c.from) × (f.slots ≡ c.slots ++ d.slots)
+        → IsSeen f base first (len + len') (written + written') (stretch v.block v.first (v.items ++ w.items) (v.room + w.room))
+    joined_with {d = d} {first' = first'} {len' = len'} {written' = written'} next after f follows fits both =
+        let ys = somes d.slots in let n : ℕ = len - written in let m : ℕ = len' - written' in
+        let met : first' ≡ first + length xs + n = ap (λ s. s.first) after ∙ follows.1 ∙ ap (λ s. s.first + length s.items + s.room) (sym seen) in
+        let empty : (n ≡ 0) ⊎ (ys ≡ []) = elim fits [ inl e ↦ inl (left ∙ e) | inr e ↦ inr (ap (λ s. s.items) after ∙ e) ] in
+        let made_of = made f base first (len + len') (written + written') (xs ++ ys) (n + m) (both.0 ∙ run.place.0) (both.1 ∙ run.place.1)
+        (both.2 ∙ (λ i. run.laid i ++ next.laid i) ∙ joined_filled xs ys n m empty)
+        (omega (arith, length-append xs ys, run.count.0, next.count.0)) (omega (arith, run.count.1, next.count.1)) (omega (arith, run.count.0, run.count.1, next.count.2)) in
+        (made_of.0, made_of.1 ∙ λ i. stretch (seen i).block (seen i).first ((seen i).items ++ (after i).items) ((seen i).room + (after i).room))

@@ -1,39 +1,15 @@
 -- The two raw calls of a row of slots, and its places as those of a block. Assumes `Logic`.
-use mathlib.Core.Path.{◌≡◌, refl, sym, ap, subst, ◌∙◌}
-use mathlib.Core.Bool.{Bool, true}
-use Prim.Native.Nat.{ℕ, ◌*◌, ◌<◌, ◌^◌}
-use mathlib.Core.List.{List, [], ◌∷◌, ◌++◌, map}
-use lib.Dec.{T}
-use lib.ListN.{length, replicate}
-use seplogic.Ra.Ura.{Ura}
-use mir.Syntax.{w64, ty_array}
-use mir.Val.{Val, vint, vptr, vstruct, of_list, has_ty, WT}
-use base.Logic.{SProp, ent, sep, ex, guard, emp, id⊢}
-use base.Fml.{Fml, Lft, Share, ftrue, fsep, flft, froom}
-use prog.Memory.{Memory}
-use prog.Routine.{Routine}
-use types.Logic.{Logic, sem}
-use contract.BorrowLft.{◌⊑◌}
-use contract.Monad.{Fun, fact, fact_i}
-use types.Kit.{Goal, Seq, Item, ‵, raw, ◌⊛◌, some, later, ◌$◌, ◌∵◌, !, qed, by, move, keep, drop, use0, use1, split, join, pick, rewrite, fsplit, fsplit3, fjoin, fjoin3, fpick, feq_l, feq_i, flt_i, check, show, await, updating, now, done}
-use denote.RattleType.{RattleType}
-use denote.Builtin.{usize}
-use denote.Param.{layout}
-use denote.Index.{row}
-use denote.RawPtr.{Ptr, RawPtr, block_ptr, in_block}
-use base.Fraction.{full_share}
-use denote.Steps.{only, heard, nothing}
-use denote.Struct.Tuple.{Tuple}
-use denote.Triple.Spec.{triple_of}
 use denote.Triple.Statement.{Contract}
-use Rattle.std.specs.Prelude.{Some, None}
 use Rattle.core.specs.Mem.Slots.Ownership.{slots as places, owned}
-use Rattle.core.specs.Mem.Slots.{slots_items, slots_filled, slots_ptr, slots_len}
 use Rattle.core.specs.contracts.slots.Slots.from_raw_parts as FR
 use Rattle.core.specs.contracts.slots.Slots.into_raw_parts as IR
-use Rattle.core.proofs.mem.Param.{El, el_x, elτ, R}
 use Rattle.core.proofs.slots.Places as Core
-use Rattle.core.proofs.slots.Opens.{Sr, words_val, row_val, row_had, row_made}
+use Rattle.fresh.proofs.Walks.{◌≡◌, refl, sym, ap, subst, ◌∙◌, Bool, true, ℕ, ◌*◌, ◌<◌, ◌^◌, List, [], ◌∷◌, ◌++◌, map, T, length, replicate, Ura, w64, ty_array, Val, vint, vptr}
+use Rattle.fresh.proofs.Walks.{vstruct, of_list, has_ty, WT, SProp, ent, sep, ex, guard, emp, id⊢, Fml, Lft, Share, ftrue, fsep, flft, froom, Memory, Routine, Logic, sem, ◌⊑◌, Fun}
+use Rattle.fresh.proofs.Walks.{fact, fact_i, Goal, Seq, Item, ‵, raw, ◌⊛◌, some, later, ◌$◌, ◌∵◌, !, qed, by, move, keep, drop, use0, use1, split, join, pick, rewrite, fsplit}
+use Rattle.fresh.proofs.Walks.{fsplit3, fjoin, fjoin3, fpick, feq_l, feq_i, flt_i, check, show, await, updating, now, done, RattleType, usize, layout, row, Ptr, RawPtr, block_ptr}
+use Rattle.fresh.proofs.Walks.{in_block, full_share, only, heard, nothing, Tuple, triple_of, Some, None, slots_items, slots_filled, slots_ptr, slots_len, El, el_x, elτ, R, Sr}
+use Rattle.fresh.proofs.Walks.{words_val, row_val, row_had, row_made}
 use Rattle.fresh.specs.Ownership.{slots}
 use Rattle.fresh.proofs.Memory.{of_room, to_row}
 

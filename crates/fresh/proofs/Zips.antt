@@ -1,5 +1,5 @@
 -- Runs of two lists side by side.
-use Rattle.std.proofs.Common.{◌≡◌, ℕ, zero, suc, ◌<◌, List, [], ◌∷◌, length, take, drop, get_or, refl, ap, ◌∙◌, arith}
+use Rattle.std.proofs.Common.{◌≡◌, ℕ, zero, suc, List, [], ◌∷◌, length, take, drop, refl, ap, ◌∙◌, arith}
 use Rattle.std.specs.List.{zip}
 use Rattle.fresh.specs.Parts.{part}
 
@@ -23,14 +23,3 @@ module _ {A B : Type 0} where
 
   pub part_zip : (xs : List A) (ys : List B) (first n : ℕ) → zip (part xs first n) (part ys first n) ≡ part (zip xs ys) first n
   part_zip xs ys first n = zip_take (drop first xs) (drop first ys) n ∙ ap (take n) (zip_drop xs ys first)
-
-  pub zip_at : (xs : List A) (ys : List B) (k : ℕ) (x : A) (y : B) → k < length xs → k < length ys → x ≡ get_or xs k x → y ≡ get_or ys k y → (x, y) ≡ get_or (zip xs ys) k (x, y)
-  zip_at [] ys k x y in_xs in_ys is_x is_y = absurd (omega arith)
-  zip_at (a ∷ xs) [] k x y in_xs in_ys is_x is_y = absurd (omega arith)
-  zip_at (a ∷ xs) (b ∷ ys) zero x y in_xs in_ys is_x is_y = λ i. (is_x i, is_y i)
-  zip_at (a ∷ xs) (b ∷ ys) (suc k) x y in_xs in_ys is_x is_y = zip_at xs ys k x y (omega arith) (omega arith) is_x is_y
-
-  pub zip_long : (xs : List A) (ys : List B) → length xs ≡ length ys → length (zip xs ys) ≡ length xs
-  zip_long [] ys e = refl
-  zip_long (x ∷ xs) [] e = absurd (omega arith)
-  zip_long (x ∷ xs) (y ∷ ys) e = let shorter : length xs ≡ length ys = omega arith in ap suc (zip_long xs ys shorter)

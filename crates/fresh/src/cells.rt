@@ -1,28 +1,16 @@
 //! The places of a block: each is empty or holds a value, and belongs to one owner.
-ghost use Rattle.std.specs.Prelude.{◌≡◌, ℕ, ◌+◌, ◌-◌, ◌<◌, ◌≤◌, List, Option, Some, None, ◌++◌, length, take, drop, get_or, slice_set, ⊤};
+ghost use Rattle.std.specs.Prelude.{◌≡◌, ℕ, ◌+◌, ◌-◌, ◌<◌, ◌≤◌, List, Option, Some, None, ◌++◌, length, take, drop, get_or, slice_set};
 ghost use base.Fml.{ftrue};
 ghost use denote.RawPtr.{Ptr};
 ghost use Rattle.fresh.specs.Ownership.{cells_own};
 
-use std::alloc::AllocError;
 use std::marker::{Model, PhantomData, Send, Sync};
 
 /// Where a block begins. It owns nothing.
+#[derive_where(Clone, Copy)]
 pub struct Base<T> {
     pub(crate) ptr: *mut T,
 }
-
-impl<T> Clone for Base<T> {
-    ghost is_clone = { λ x y. y ≡ x };
-
-    ghost is_infallible = { λ _. ⊤ };
-
-    fn clone(&self) -> Result<Base<T>, AllocError> {
-        Ok(*self)
-    }
-}
-
-impl<T> Copy for Base<T> {}
 
 unsafe impl<T> Send for Base<T> {}
 

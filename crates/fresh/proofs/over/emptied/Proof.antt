@@ -1,45 +1,12 @@
 -- `emptied` takes a row for its places. Assumes `Logic`.
-use mathlib.Core.Path.{◌≡◌, refl, sym, subst, ◌∙◌}
-use mathlib.Core.Bool.{Bool}
-use Prim.Native.Nat.{ℕ, ◌+◌, ◌*◌, ◌<◌, ◌^◌}
-use native.Mathlib.Omega.{arith}
-use native.Mathlib.Nat.{zero-mul}
-use mathlib.Core.List.{List, [], ◌∷◌, ◌++◌}
-use lib.ListN.{length, replicate, length-replicate}
-use mir.Syntax.{Fn}
-use mir.MapTy.{inst_fn}
-use mir.Val.{Val, WT}
-use base.Logic.{SProp, ent, emp, id⊢}
-use base.Fml.{Lft, Share, ftrue, flft}
-use prog.Wp.{WpFn}
-use contract.BorrowLft.{◌⊑◌}
-use contract.Monad.{fact}
-use contract.Running.{tables, tables_of}
-use sound.WpLaws.{FmC, WpFn-mono}
-use types.Kit.{‵, raw, ◌⊛◌, given, later, at_ret, ◌$◌, ◌∵◌, !, qed, move, keep, drop, use0, use1, use2, split, join, rewrite, fsplit, fjoin, learn, await, flt_i, suffices, done}
-use types.Part.{agg, sub, whole}
-use types.Run.{stop, fld, of_opd, and_then, no_more, first, blocks, exec, returns, enter}
-use types.ByLocal.{alloc_all, pass_all, free_all, look_at, get, get_in, sets, lands_last, is, env}
-use denote.Exit.{no}
-use denote.Param.{layout}
-use denote.RattleType.{owns}
-use denote.RawPtr.{Ptr, block_ptr}
-use denote.Signature.{plain, types_at}
-use denote.Steps.{heard, nothing}
-use denote.Struct.Tuple.{Tuple}
-use denote.Triple.Call.{calls_at_last}
-use denote.Triple.Clauses.{Ended, closing}
-use denote.Triple.Spec.{triple_of}
-use denote.Triple.Table.{entered, framed}
-use denote.Triple.Walked.{Stays, stay_dropped, walk_of, ends_at, Goes-dropped, walk_Meets}
-use Rattle.std.specs.Prelude.{None}
-use Rattle.core.specs.Mem.Slots.{slots_items, slots_filled, slots_len, slots_counts}
-use Rattle.core.proofs.atomic.Steps.{tail}
-use Rattle.core.proofs.mem.Facts.{says_two}
-use Rattle.core.proofs.mem.Param.{El, R, args, el_x}
-use Rattle.core.proofs.slots.Opens.{row_val}
 use Rattle.core.proofs.slots.Slots.into_raw_parts.Met as callee
-use Rattle.std_alloc.proofs.RcSteps.{Good, word, word-Good}
+use Rattle.fresh.proofs.Walks.{◌≡◌, refl, sym, subst, ◌∙◌, Bool, ℕ, ◌+◌, ◌*◌, ◌<◌, ◌^◌, arith, zero-mul, List, [], ◌∷◌, ◌++◌, length, replicate, length-replicate, Fn, inst_fn, Val}
+use Rattle.fresh.proofs.Walks.{WT, SProp, ent, emp, id⊢, Lft, Share, ftrue, flft, WpFn, ◌⊑◌, fact, tables, tables_of, FmC, WpFn-mono, ‵, raw, ◌⊛◌, given, later, at_ret, ◌$◌, ◌∵◌}
+use Rattle.fresh.proofs.Walks.{ !, qed, move, keep, drop, use0, use1, use2, split, join, rewrite, fsplit, fjoin, learn, await, flt_i, suffices, done, agg, sub, whole, stop, fld}
+use Rattle.fresh.proofs.Walks.{of_opd, and_then, no_more, first, blocks, exec, returns, enter, alloc_all, pass_all, free_all, look_at, get, get_in, sets, lands_last, is, env, no}
+use Rattle.fresh.proofs.Walks.{layout, owns, Ptr, block_ptr, plain, types_at, heard, nothing, Tuple, calls_at_last, Ended, closing, triple_of, entered, framed, Stays, stay_dropped}
+use Rattle.fresh.proofs.Walks.{walk_of, ends_at, Goes-dropped, walk_Meets, None, slots_items, slots_filled, slots_len, slots_counts, tail, says_two, El, R, args, el_x, row_val}
+use Rattle.fresh.proofs.Walks.{Good, word, word-Good}
 use Rattle.fresh.specs.Ownership.{slots}
 use Rattle.fresh.proofs.Memory.{Bs, Cr, Mark, mark, mark_made, word_made, two_val, two_of}
 use Rattle.fresh.proofs.Rows.{Row, all, parts_typed, row_seen, Into, at_into, into_goes, into_gives, empties}

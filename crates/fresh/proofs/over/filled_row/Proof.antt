@@ -1,45 +1,12 @@
 -- `filled_row` gives places that hold items back as a row. Assumes `Logic`.
-use mathlib.Core.Path.{◌≡◌, refl, sym, ap, subst, ◌∙◌}
-use mathlib.Core.Bool.{Bool, true, false}
-use Prim.Native.Nat.{ℕ, ◌+◌, ◌*◌, ◌<◌, ◌^◌}
-use native.Mathlib.Omega.{arith}
-use native.Mathlib.Nat.{zero-mul}
-use mathlib.Core.List.{List, [], ◌∷◌, ◌++◌, map}
-use lib.ListN.{length, replicate, length-map, length-replicate, get_or, get_or-replicate}
-use mir.Syntax.{Fn, w64}
-use mir.MapTy.{inst_fn}
-use mir.Val.{Val, WT, vint}
-use base.Logic.{SProp, ent, never, id⊢}
-use base.Fml.{Lft, Share, ftrue, flft}
-use prog.Wp.{WpFn}
-use contract.BorrowLft.{◌⊑◌}
-use contract.Monad.{fact}
-use contract.Running.{tables, tables_of}
-use sound.WpLaws.{FmC, WpFn-mono}
-use types.Kit.{‵, raw, ◌⊛◌, some, given, later, at_ret, ◌$◌, ◌∵◌, !, qed, move, keep, use1, use2, split, split3, join, pick, rewrite, fsplit, fjoin, feq_l, flt_l, learn, await, suffices, done}
-use types.Part.{sub, whole}
-use types.Run.{stop, fld, of_opd, and_then, no_more, first, blocks, exec, returns, enter}
-use types.ByLocal.{alloc_all, pass_all, free_all, look_at, get, get_in, sets, lands_last, is, env}
-use denote.Builtin.{usize}
-use denote.Exit.{yes, no}
-use denote.RattleType.{owns}
-use denote.RawPtr.{Ptr, block_ptr, in_a_block}
-use denote.Signature.{plain, types_at}
-use denote.Steps.{heard, nothing}
-use denote.Triple.Call.{calls_at_last}
-use denote.Triple.Clauses.{Ended, closing}
-use denote.Triple.Spec.{triple_of}
-use denote.Triple.Table.{entered, framed}
-use denote.Triple.Walked.{Stays, stay_dropped, walk_of, ends_at, Goes-dropped, walk_Meets}
-use Rattle.std.specs.Prelude.{Option, Some}
-use Rattle.core.specs.Mem.Slots.{IsFull}
-use Rattle.core.proofs.alloc.Calls.{Goes-blank}
-use Rattle.core.proofs.atomic.Steps.{tail}
-use Rattle.core.proofs.mem.Facts.{says_two}
-use Rattle.core.proofs.mem.Param.{El, R, args, el_x}
-use Rattle.core.proofs.slots.Opens.{row_val}
 use Rattle.core.proofs.slots.Slots.from_raw_parts.Met as callee
-use Rattle.std_alloc.proofs.RcSteps.{word, word-Good}
+use Rattle.fresh.proofs.Walks.{◌≡◌, refl, sym, ap, subst, ◌∙◌, Bool, true, false, ℕ, ◌+◌, ◌*◌, ◌<◌, ◌^◌, arith, zero-mul, List, [], ◌∷◌, ◌++◌, map, length, replicate, length-map}
+use Rattle.fresh.proofs.Walks.{length-replicate, get_or, get_or-replicate, Fn, w64, inst_fn, Val, WT, vint, SProp, ent, never, id⊢, Lft, Share, ftrue, flft, WpFn, ◌⊑◌, fact}
+use Rattle.fresh.proofs.Walks.{tables, tables_of, FmC, WpFn-mono, ‵, raw, ◌⊛◌, some, given, later, at_ret, ◌$◌, ◌∵◌, !, qed, move, keep, use1, use2, split, split3, join, pick}
+use Rattle.fresh.proofs.Walks.{rewrite, fsplit, fjoin, feq_l, flt_l, learn, await, suffices, done, sub, whole, stop, fld, of_opd, and_then, no_more, first, blocks, exec, returns}
+use Rattle.fresh.proofs.Walks.{enter, alloc_all, pass_all, free_all, look_at, get, get_in, sets, lands_last, is, env, usize, yes, no, owns, Ptr, block_ptr, in_a_block, plain}
+use Rattle.fresh.proofs.Walks.{types_at, heard, nothing, calls_at_last, Ended, closing, triple_of, entered, framed, Stays, stay_dropped, walk_of, ends_at, Goes-dropped, walk_Meets}
+use Rattle.fresh.proofs.Walks.{Option, Some, IsFull, Goes-blank, tail, says_two, El, R, args, el_x, row_val, word, word-Good}
 use Rattle.fresh.specs.Ownership.{slots, cells_own}
 use Rattle.fresh.proofs.Memory.{Bs, Cr, mark, mark_had, word_had, sz}
 use Rattle.fresh.proofs.Rows.{Row, all, row_Typed, From, at_from, Made, from_goes, from_gives, fills}

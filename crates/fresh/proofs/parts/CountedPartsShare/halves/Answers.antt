@@ -4,28 +4,20 @@ use Rattle.fresh.proofs.parts.CountedPartsShare.halves.Goals as goal
 
 pub returns-clause-within : goal.returns-clause-within
 returns-clause-within g c =
-    within
-    g.P.Part.items c.args.self.parts.now c.split_at.result.0.now c.split_at.result.1.now c.args.self.counts.now c.split_at-2.result.0.now c.split_at-2.result.1.now
-    (length c.args.self.parts.now / 2) c.args._room c.total.result c.requires.places.0 c.requires.places.1 c.split_at.ensures.front c.split_at.ensures.back
+    within g.P.Part.items c.args.self.parts.now (length c.args.self.parts.now / 2) c.requires.places.0 c.requires.places.1 c.split_at.ensures.front c.split_at.ensures.back
     c.split_at-2.ensures.front c.split_at-2.ensures.back c.total.ensures (omega (arith, c.ranges._room.fits))
 
 pub returns-clause-front : goal.returns-clause-front
 returns-clause-front g c =
-    front_counted
-    g.P.Part.items c.args.self.parts.now c.split_at.result.0.now c.split_at.result.1.now c.args.self.counts.now c.split_at-2.result.0.now c.split_at-2.result.1.now
-    (length c.args.self.parts.now / 2) c.args._room c.total.result c.requires.places.0 c.requires.places.1 c.split_at.ensures.front c.split_at.ensures.back
+    front_counted g.P.Part.items c.args.self.parts.now (length c.args.self.parts.now / 2) c.requires.places.0 c.requires.places.1 c.split_at.ensures.front c.split_at.ensures.back
     c.split_at-2.ensures.front c.split_at-2.ensures.back c.total.ensures (omega (arith, c.ranges._room.fits))
 
 pub returns-clause-back : goal.returns-clause-back
 returns-clause-back g c =
-    back_counted
-    g.P.Part.items c.args.self.parts.now c.split_at.result.0.now c.split_at.result.1.now c.args.self.counts.now c.split_at-2.result.0.now c.split_at-2.result.1.now
-    (length c.args.self.parts.now / 2) c.args._room c.total.result c.requires.places.0 c.requires.places.1 c.split_at.ensures.front c.split_at.ensures.back
+    back_counted g.P.Part.items c.args.self.parts.now (length c.args.self.parts.now / 2) c.requires.places.0 c.requires.places.1 c.split_at.ensures.front c.split_at.ensures.back
     c.split_at-2.ensures.front c.split_at-2.ensures.back c.total.ensures (omega (arith, c.ranges._room.fits))
 
 pub returns-clause-found : goal.returns-clause-found
 returns-clause-found g c =
-    found_halves
-    g.P.Part.items c.args.self.parts.now c.split_at.result.0.now c.split_at.result.1.now c.args.self.counts.now c.split_at-2.result.0.now c.split_at-2.result.1.now
-    (length c.args.self.parts.now / 2) c.args._room c.total.result c.requires.places.0 c.requires.places.1 c.split_at.ensures.front c.split_at.ensures.back
+    found_halves g.P.Part.items c.args.self.parts.now (length c.args.self.parts.now / 2) c.requires.places.0 c.requires.places.1 c.split_at.ensures.front c.split_at.ensures.back
     c.split_at-2.ensures.front c.split_at-2.ensures.back c.total.ensures (omega (arith, c.ranges._room.fits)) g.P.Part.found c.args._first
