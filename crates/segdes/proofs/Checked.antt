@@ -37,35 +37,25 @@ negative_at i numbers total checked lt e =
 
 -- ---- all numbers were checked
 
-checked-all : (i : ℕ) (numbers : List ℤ) (total : ℕ) → IsCheckedTo i numbers total → i ≤ length numbers → length numbers ≤ i → IsCheckedTo (length numbers) numbers total
-checked-all i numbers total checked le ge =
-    let same : i ≡ length numbers = omega arith in subst (λ (n : ℕ). IsCheckedTo n numbers total) same checked
+module _ (i : ℕ) (numbers : List ℤ) (total : ℕ) (checked : IsCheckedTo i numbers total) (le : i ≤ length numbers) (ge : length numbers ≤ i) where
+  all : IsCheckedTo (length numbers) numbers total
+  all = let same : i ≡ length numbers = omega arith in subst (λ (n : ℕ). IsCheckedTo n numbers total) same checked
 
-is-whole : (numbers : List ℤ) (total : ℕ) → IsCheckedTo (length numbers) numbers total → total ≡ sum (map unsigned_abs numbers)
-is-whole numbers total checked = checked.is_total ∙ ap (λ ns. sum (map unsigned_abs ns)) (take-length numbers)
+  whole : total ≡ sum (map unsigned_abs numbers)
+  whole = all.is_total ∙ ap (λ ns. sum (map unsigned_abs ns)) (take-length numbers)
 
-none-negative : (numbers : List ℤ) (total : ℕ) → IsCheckedTo (length numbers) numbers total → position is_negative numbers ≡ None
-none-negative numbers total checked =
-    position-none numbers (position_or_len_is is_negative numbers (length numbers) (pos 0) (omega arith) checked.none_negative (λ lt. absurd (omega arith)))
+  none : position is_negative numbers ≡ None
+  none = position-none numbers (position_or_len_is is_negative numbers (length numbers) (pos 0) (omega arith) all.none_negative (λ lt. absurd (omega arith)))
 
-pub too_long : (i : ℕ) (numbers : List ℤ) (total : ℕ) → IsCheckedTo i numbers total → i ≤ length numbers → length numbers ≤ i → most_elements < total
-    → descriptor_of numbers ≡ Err (fault no.TooLong)
-too_long i numbers total checked le ge long =
-    let all = checked-all i numbers total checked le ge in
-    made numbers None true (none-negative numbers total all) (lt-ltb most_elements (sum (map unsigned_abs numbers)) (omega (arith, is-whole numbers total all)))
+  pub too_long : most_elements < total → descriptor_of numbers ≡ Err (fault no.TooLong)
+  too_long long = made numbers None true none (lt-ltb most_elements (sum (map unsigned_abs numbers)) (omega (arith, whole)))
 
-pub in_limit : (i : ℕ) (numbers : List ℤ) (total : ℕ) → IsCheckedTo i numbers total → i ≤ length numbers → length numbers ≤ i → total ≤ most_elements
-    → descriptor_of numbers ≡ Ok (map unsigned_abs numbers)
-in_limit i numbers total checked le ge short =
-    let all = checked-all i numbers total checked le ge in
-    made numbers None false (none-negative numbers total all) (le-ltb most_elements (sum (map unsigned_abs numbers)) (omega (arith, is-whole numbers total all)))
+  pub in_limit : total ≤ most_elements → descriptor_of numbers ≡ Ok (map unsigned_abs numbers)
+  in_limit short = made numbers None false none (le-ltb most_elements (sum (map unsigned_abs numbers)) (omega (arith, whole)))
 
-pub are-lengths : (i : ℕ) (numbers : List ℤ) (total : ℕ) → IsCheckedTo i numbers total → i ≤ length numbers → length numbers ≤ i → total ≤ most_elements
-    → length numbers ≤ most_elements → AreLengths numbers
-are-lengths i numbers total checked le ge short few =
-    let all = checked-all i numbers total checked le ge in
-    record {
-      none_negative = natural numbers all.none_negative;
-      few = few;
-      in_limit = omega (arith, is-whole numbers total all);
-    }
+  pub are-lengths : total ≤ most_elements → length numbers ≤ most_elements → AreLengths numbers
+  are-lengths short few = record {
+    none_negative = natural numbers all.none_negative;
+    few = few;
+    in_limit = omega (arith, whole);
+  }

@@ -15,10 +15,6 @@ within row s ns is lt = omega (arith, ap length is, length-map ns pos)
 pub in_row : (row : List ℤ) (s : ℕ) (ns : List ℕ) → row ≡ map pos ns → s < length ns → s < length row
 in_row row s ns is lt = omega (arith, ap length is, length-map ns pos)
 
--- a segment is no longer than all of them
-fits_total : (ns : List ℕ) (s : ℕ) → s < length ns → sum (take s ns) + get_or ns s 0 ≤ sum ns
-fits_total ns s lt = sum_by_more_le (λ x. x) ns s 0 lt
-
 -- the length at s as it is read, a signed number of 32 bits
 pub length_at : (row : List ℤ) (s : ℕ) (ns : List ℕ) → row ≡ map pos ns → sum ns ≤ most_elements → s < length row
     → to_z w32 (of_z w32 (get_or row s (pos 0))) ≡ pos (get_or ns s 0)
@@ -26,13 +22,13 @@ length_at row s ns is small lt =
     let in_list : s < length ns = within row s ns is lt in
     let at : get_or row s (pos 0) ≡ pos (get_or ns s 0) = ap (λ xs. get_or xs s (pos 0)) is ∙ get_or-map pos ns s 0 (pos 0) in_list in
     ap (λ z. to_z w32 (of_z w32 z)) at
-    ∙ to_z-of_z w32 (pos (get_or ns s 0)) (fits_signed_from_abs w32 (pos (get_or ns s 0)) (omega (arith, fits_total ns s in_list)))
+    ∙ to_z-of_z w32 (pos (get_or ns s 0)) (fits_signed_from_abs w32 (pos (get_or ns s 0)) (omega (arith, sum_by_more_le (λ x. x) ns s 0 in_list)))
 
 -- so it fits where it is cast to
 pub cast_fits : (w : Width) (row : List ℤ) (s : ℕ) (ns : List ℕ) → row ≡ map pos ns → sum ns ≤ most_elements → s < length row → ((n : ℕ) → n ≤ most_elements → Fits w n)
     → IsNonNegative (to_z w32 (of_z w32 (get_or row s (pos 0)))) × Fits w (unsigned_abs (to_z w32 (of_z w32 (get_or row s (pos 0)))))
 cast_fits w row s ns is small lt wide =
-    let within_total = fits_total ns s (within row s ns is lt) in
+    let within_total = sum_by_more_le (λ x. x) ns s 0 (within row s ns is lt) in
     let fits : Fits w (get_or ns s 0) = wide (get_or ns s 0) (omega arith) in
     subst (λ (z : ℤ). IsNonNegative z × Fits w (unsigned_abs z)) (sym (length_at row s ns is small lt)) (tt, fits)
 

@@ -1,6 +1,6 @@
 -- Where the segments of a descriptor start in the vector beside it.
 -- Source: CVL's segmented vectors, whose segments lie one after another.
-use Rattle.std.specs.Prelude.{◌≡◌, ℕ, ◌≤◌, List, length, take, sum, slice_index, EachIndex}
+use Rattle.std.specs.Prelude.{◌≡◌, ℕ, ◌+◌, ◌<◌, ◌≤◌, List, length, take, sum, slice_index, EachIndex}
 use Rattle.cvl_base.specs.Limits.{most_elements}
 
 -- segment s starts after the segments before it
@@ -17,3 +17,13 @@ pub record IsKept (lengths starts : List ℕ) (total : ℕ) : Type 0 where
   pub starts_are : AreStarts lengths starts
   pub total_is : total ≡ sum lengths
   pub in_limit : total ≤ most_elements
+
+-- places from `first` to the one before `past` begin behind the first `from` items of segment `begin`, and `last` is the last segment that starts before
+-- their end
+pub record Spans (lengths : List ℕ) (first past begin from last : ℕ) : Type 0 where
+  pub in_order : begin ≤ last
+  pub within : last < length lengths
+  pub begins : start_of lengths begin + from ≡ first
+  pub inside : from ≤ slice_index lengths begin
+  pub some : start_of lengths last < past
+  pub ends : past ≤ start_of lengths (last + 1)

@@ -1,15 +1,16 @@
 //! Descriptors.
 
-ghost use Rattle.std.specs.Prelude.{◌≡◌, ℕ, ◌+◌, ◌<◌, ◌≤◌, pos, length, map, sum, slice_index, IfOk};
+ghost use Rattle.std.specs.Prelude.{◌≡◌, ℕ, ◌+◌, ◌<◌, ◌≤◌, pos, length, map, sum, slice_index, Err, IfOk, MatchResult};
 ghost use Rattle.cvl_base.specs.Descriptors.{AreLengths, descriptor_of};
 ghost use Rattle.cvl_base.specs.Gives.{Gives};
 ghost use Rattle.cvl_base.specs.Limits.{most_elements};
+ghost use Rattle.cvl_base.specs.Nests.{nest};
 ghost use Rattle.segdes.specs.Starts.{start_of};
 
 use crate::check::check_lengths;
 use crate::seg_lengths::SegLengths;
 use crate::starts::starts_and_total;
-use cvl_base::{Lengths, Memory, NoResources, Refused};
+use cvl_base::{Fault, Lengths, Memory, NoResources, Refused};
 use std::alloc::Allocator;
 use std::marker::Model;
 
@@ -163,4 +164,13 @@ impl<A: Allocator> SegDes<A> {
     {
         self.lengths
     }
+}
+
+/// Checks that the segments have as many elements in all as the vector, else `LengthMismatch`, without a place.
+pub fn check_total<T, A: Allocator>(a: &[T], d: &SegDes<A>) -> Result<(), Fault>
+    ensures agrees { MatchResult result (λ _. sum d.now ≡ length a.now)
+        (λ f. nest d.now a.now ≡ Err f) }
+    ensures in_limit { IfOk result (λ _. length a.now ≤ most_elements) }
+{
+    d.as_lengths().check_total(a)
 }

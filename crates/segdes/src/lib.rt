@@ -10,9 +10,7 @@ pub mod descriptor;
 pub mod seg_lengths;
 mod segment_runs;
 mod starts;
-mod total_check;
 
-pub use descriptor::SegDes;
+pub use descriptor::{SegDes, check_total};
 pub use seg_lengths::SegLengths;
 pub use segment_runs::{EndToEnd, Segments};
-pub use total_check::check_total;

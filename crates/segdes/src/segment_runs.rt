@@ -1,9 +1,11 @@
 //! Vectors whose segments each hold a list of their own, written in runs.
 
-ghost use Rattle.std.specs.Prelude.{◌≡◌, ℕ, ◌+◌, ◌-◌, ◌<◌, ◌≤◌, ◌++◌, List, [], length, map, slice_index_or};
+ghost use Rattle.std.specs.Prelude.{◌≡◌, ℕ, ◌+◌, ◌-◌, ◌^◌, ◌<◌, ◌≤◌, ◌++◌, List, [], length, map, slice_index_or, sum};
+ghost use Rattle.std.specs.Option.{MatchOption};
 ghost use Rattle.cvl_base.specs.Lists.{joined};
 ghost use Rattle.fresh.specs.Parts.{part};
 ghost use Rattle.fresh.specs.Places.{stretch};
+ghost use Rattle.segdes.specs.Starts.{Spans};
 
 use crate::descriptor::SegDes;
 use fresh::{Run, Writer};
@@ -58,13 +60,9 @@ impl<S: Segments + Copy> Writer<S::Item> for EndToEnd<S> {
         let segments = self.segments;
         let d = segments.descriptor();
         let first = run.next_place();
-        let begin = d.starts_before(first + 1).saturating_sub(1);
-        let end = d.starts_before(first + run.room());
-        if begin >= end {
+        let Some((begin, from, last)) = span(d, first, first + run.room()) else {
             return run;
-        }
-        let last = end - 1;
-        let from = first - d.start(begin);
+        };
         if begin == last {
             let count = run.room();
             return segments.push_part(run, last, from, count);
@@ -78,4 +76,20 @@ impl<S: Segments + Copy> Writer<S::Item> for EndToEnd<S> {
         let room = run.room();
         segments.push_part(run, last, 0, room)
     }
+}
+
+/// The segment in which the places from `first` to the one before `past` begin, how many items of it stand before them, and the
+/// last segment that starts before their end; none where there is no place.
+fn span<A: Allocator>(d: &SegDes<A>, first: usize, past: usize) -> Option<(usize, usize, usize)>
+    requires in_order { first ≤ past }
+    requires within { past ≤ sum d.now }
+    requires fits { past < 2 ^ 63 }
+    ensures { MatchOption result (past ≡ first) (λ s. Spans d.now first past s.0 s.1 s.2) }
+{
+    let begin = d.starts_before(first + 1).saturating_sub(1);
+    let end = d.starts_before(past);
+    if begin >= end {
+        return None;
+    }
+    Some((begin, first - d.start(begin), end - 1))
 }
