@@ -1,23 +1,18 @@
 -- The rule of the hands is kept by each kind of step, and what it implies.
 -- Source: what the definitions of Hands imply.
-use Rattle.std.proofs.Common.{◌≡◌, ◌≢◌, sym, ap, ◌∙◌, subst, ℕ, ◌+◌, ◌-◌, ◌<◌, ◌≤◌, min, cond, eqb, List, [], ◌∷◌, ◌++◌, length, set, arith}
+use Rattle.std.proofs.Common.{◌≡◌, ◌≢◌, refl, sym, ap, ◌∙◌, subst, ℕ, ◌+◌, ◌-◌, ◌<◌, ◌≤◌, min, cond, eqb, List, [], ◌∷◌, ◌++◌, length, set, arith}
+use Rattle.std.specs.List.{sum_by}
 use Rattle.std.proofs.lemmas.Bool.Decides.{nat_tests}
-use Rattle.std.proofs.lemmas.List.Sums.{sum_by_push}
+use Rattle.std.proofs.lemmas.List.Sums.{sum_by-cons, sum_by_push}
 use Rattle.std.proofs.lemmas.List.{length-append}
-use mathlib.Core.Option.{some}
+use mathlib.Core.Option.{some, some-ne-none}
 use lib.ListN.{get_elem?}
 use Rattle.status_word.specs.declared.pass.Hand.{Hand}
-use Rattle.status_word.specs.Hands.{times, once_claimed, IsFairHand, AreDealt}
+use Rattle.status_word.specs.Hands.{times, once_claimed, new_hand, hand_given, hand_done, hand_dealt, hands_joined, IsFairHand, AreDealt}
 use Rattle.status_word.specs.RuleSteps.{FirstDeals, ClaimDeals, DoneDeals, SameDeals, SplitDeals, JoinDeals, FewClaims, WholeDeals}
-use Rattle.status_word.proofs.Places.{set_else, each_set, each_push, sum_set, sum_at, sum_le, others_none, sum_alone}
+use Rattle.status_word.proofs.Places.{set_else, each_set, each_push, sum_set, sum_at, sum_le, others_none, one_alone}
 
 -- ---- the tests of a claim, on numbers
-
-claimed_more : (t claims tiles : ℕ) → claims < tiles → once_claimed tiles claims t + cond (eqb claims t) 1 0 ≡ once_claimed tiles (claims + 1) t
-claimed_more t claims tiles below = grind (arith, nat_tests)
-
-claimed_all : (t claims tiles : ℕ) → tiles ≤ claims → once_claimed tiles claims t ≡ once_claimed tiles (claims + 1) t
-claimed_all t claims tiles past = grind (arith, nat_tests)
 
 pub none_claimed : (t tiles : ℕ) → once_claimed tiles 0 t ≡ 0
 none_claimed t tiles = grind (arith, nat_tests)
@@ -36,145 +31,101 @@ claimed_is t claims tiles below tile = grind (arith, nat_tests)
 
 pub times-append : (t : ℕ) (xs ys : List ℕ) → times t (xs ++ ys) ≡ times t xs + times t ys
 times-append t [] ys = omega arith
-times-append t (x ∷ xs) ys = let rest = times-append t xs ys in omega arith
+times-append t (x ∷ xs) ys = omega (arith, times-append t xs ys)
 
 -- ---- the steps
 
 module _ {P : Type 0} (hand : P → Hand) where
+  -- the sum of a measure of the hands, where one pass has another hand
+  changed : (f : Hand → ℕ) (passes : List P) (id : ℕ) (p q : P) (h : Hand) → get_elem? passes id ≡ some p → hand q ≡ h
+      → sum_by (λ r. f (hand r)) (set passes id q) + f (hand p) ≡ sum_by (λ r. f (hand r)) passes + f h
+  changed f passes id p q h here is = omega (arith, sum_set (λ r. f (hand r)) passes id p q here, ap f is)
+
+  -- what a measure of new passes is where one more is among them
+  pushed : (f : Hand → ℕ) (passes : List P) (q : P) (h : Hand) → hand q ≡ h → sum_by (λ r. f (hand r)) (passes ++ q ∷ []) ≡ sum_by (λ r. f (hand r)) passes + f h
+  pushed f passes q h is = omega (arith, sum_by_push (λ r. f (hand r)) passes q, ap f is)
+
+  new_fair : (q : P) (share : ℕ) → hand q ≡ new_hand share → IsFairHand (hand q)
+  new_fair q share is = subst IsFairHand (sym is) (record { marks = omega arith; empty = λ none. refl })
+
   pub first_deals : FirstDeals hand
   first_deals tiles workers p new = record {
-    given = λ t. let none = none_claimed t tiles in let here = ap (λ h. times t h.given) new in omega arith;
-    count = let here = ap (λ h. length h.given) new in omega arith;
-    done = let here = ap (λ h. h.done) new in omega arith;
-    shares = let here = ap (λ h. h.share) new in omega arith;
-    fair = each_push (λ q. IsFairHand (hand q)) [] p (λ j z there. absurd (nothing j z there))
-        (record { marks = let here = ap (λ h. h.done) new in omega arith; empty = λ none. ap (λ h. h.given) new });
+    given = λ t. omega (arith, none_claimed t tiles, ap (λ h. times t h.given) new);
+    count = omega (arith, ap (λ h. length h.given) new);
+    done = omega (arith, ap (λ h. h.done) new);
+    shares = omega (arith, ap (λ h. h.share) new);
+    fair = each_push (λ q. IsFairHand (hand q)) [] p (λ j z there. absurd (some-ne-none z (sym there))) (new_fair p workers new);
   }
-    where
-      nothing : (j : ℕ) (z : P) → get_elem? [] j ≡ some z → ⊥
-      nothing j z there = mathlib.Core.Option.some-ne-none z (sym there)
+
+  -- a pass that has the hand h from now on, where the claim word and the shares go along
+  handed : (tiles workers shares claims next : ℕ) (passes : List P) (id : ℕ) (p q : P) (h : Hand) → AreDealt hand tiles workers claims passes → get_elem? passes id ≡ some p → hand q ≡ h
+      → ((t : ℕ) → once_claimed tiles claims t + times t h.given ≡ once_claimed tiles next t + times t (hand p).given)
+      → min claims tiles + length h.given ≡ min next tiles + length (hand p).given → claims - tiles + h.done ≡ next - tiles + (hand p).done
+      → workers + h.share ≡ shares + (hand p).share → IsFairHand h → AreDealt hand tiles shares next (set passes id q)
+  handed tiles workers shares claims next passes id p q h dealt here is given count done share fair = record {
+    given = λ t. omega (arith, changed (λ k. times t k.given) passes id p q h here is, dealt.given t, given t);
+    count = omega (arith, changed (λ k. length k.given) passes id p q h here is, dealt.count, count);
+    done = omega (arith, changed (λ k. k.done) passes id p q h here is, dealt.done, done);
+    shares = omega (arith, changed (λ k. k.share) passes id p q h here is, dealt.shares, share);
+    fair = each_set (λ r. IsFairHand (hand r)) passes id q dealt.fair (subst IsFairHand (sym is) fair);
+  }
 
   pub claim_deals : ClaimDeals hand
-  claim_deals tiles workers claims next passes id p q dealt here same below share next_is =
-      let more : AreDealt hand tiles workers (claims + 1) (set passes id q) = record {
-        given = λ t.
-            let change = sum_set (λ r. times t (hand r).given) passes id p q here in
-            let new = ap (λ h. times t h.given) same in
-            let before = dealt.given t in
-            let after = claimed_more t claims tiles below in
-            omega arith;
-        count = let change = sum_set (λ r. length (hand r).given) passes id p q here in let new = ap (λ h. length h.given) same in let before = dealt.count in omega arith;
-        done = let change = sum_set (λ r. (hand r).done) passes id p q here in let new = ap (λ h. h.done) same in let before = dealt.done in omega arith;
-        shares = let change = sum_set (λ r. (hand r).share) passes id p q here in let new = ap (λ h. h.share) same in let before = dealt.shares in omega arith;
-        fair = each_set (λ r. IsFairHand (hand r)) passes id q dealt.fair
-            (record {
-              marks = let done = ap (λ h. h.done) same in let stays = ap (λ h. h.share) same in let marks = (dealt.fair id p here).marks in omega arith;
-              empty = λ none. let stays = ap (λ h. h.share) same in absurd (omega arith);
-            });
-      } in (
-        subst (λ n. AreDealt hand tiles workers n (set passes id q)) (sym next_is) more,
-        (let some_given = sum_at (λ r. times claims (hand r).given) passes id p here in let all = dealt.given claims in let none = next_claimed claims tiles in omega arith),
-      )
+  claim_deals tiles workers claims next passes id p q dealt here same below share next_is = (
+    handed tiles workers workers claims next passes id p q (hand_given (hand p) claims) dealt here same (λ t. grind (arith, nat_tests)) (omega arith) (omega arith)
+        refl (record { marks = (dealt.fair id p here).marks; empty = λ none. absurd (omega arith) }),
+    omega (arith, sum_at (λ r. times claims (hand r).given) passes id p here, dealt.given claims, next_claimed claims tiles),
+  )
 
   pub done_deals : DoneDeals hand
   done_deals tiles workers claims next passes id p q dealt here same past room next_is =
-      let more : AreDealt hand tiles workers (claims + 1) (set passes id q) = record {
-        given = λ t.
-            let change = sum_set (λ r. times t (hand r).given) passes id p q here in
-            let new = ap (λ h. times t h.given) same in
-            let before = dealt.given t in
-            let after = claimed_all t claims tiles past in
-            omega arith;
-        count = let change = sum_set (λ r. length (hand r).given) passes id p q here in let new = ap (λ h. length h.given) same in let before = dealt.count in omega arith;
-        done = let change = sum_set (λ r. (hand r).done) passes id p q here in let new = ap (λ h. h.done) same in let before = dealt.done in omega arith;
-        shares = let change = sum_set (λ r. (hand r).share) passes id p q here in let new = ap (λ h. h.share) same in let before = dealt.shares in omega arith;
-        fair = each_set (λ r. IsFairHand (hand r)) passes id q dealt.fair
-            (record {
-              marks = let done = ap (λ h. h.done) same in let stays = ap (λ h. h.share) same in omega arith;
-              empty = λ none. let stays = ap (λ h. h.share) same in absurd (omega arith);
-            });
-      } in
-      subst (λ n. AreDealt hand tiles workers n (set passes id q)) (sym next_is) more
+      handed tiles workers workers claims next passes id p q (hand_done (hand p)) dealt here same (λ t. grind (arith, nat_tests)) (omega arith) (omega arith) refl
+      (record { marks = omega arith; empty = λ none. absurd (omega arith) })
 
   pub same_deals : SameDeals hand
-  same_deals tiles workers claims passes id p q dealt here same = record {
-    given = λ t. let change = sum_set (λ r. times t (hand r).given) passes id p q here in let new = ap (λ h. times t h.given) same in let before = dealt.given t in omega arith;
-    count = let change = sum_set (λ r. length (hand r).given) passes id p q here in let new = ap (λ h. length h.given) same in let before = dealt.count in omega arith;
-    done = let change = sum_set (λ r. (hand r).done) passes id p q here in let new = ap (λ h. h.done) same in let before = dealt.done in omega arith;
-    shares = let change = sum_set (λ r. (hand r).share) passes id p q here in let new = ap (λ h. h.share) same in let before = dealt.shares in omega arith;
-    fair = each_set (λ r. IsFairHand (hand r)) passes id q dealt.fair (subst IsFairHand (sym same) (dealt.fair id p here));
-  }
+  same_deals tiles workers claims passes id p q dealt here same =
+      handed tiles workers workers claims claims passes id p q (hand p) dealt here same (λ t. refl) refl refl refl (dealt.fair id p here)
 
   pub split_deals : SplitDeals hand
-  split_deals tiles workers claims passes id p left right dealt here cut new many room = record {
-    given = λ t.
-        let change = sum_set (λ r. times t (hand r).given) passes id p left here in
-        let pushed = sum_by_push (λ r. times t (hand r).given) (set passes id left) right in
-        let stays = ap (λ h. times t h.given) cut in let none = ap (λ h. times t h.given) new in let before = dealt.given t in omega arith;
-    count =
-        let change = sum_set (λ r. length (hand r).given) passes id p left here in
-        let pushed = sum_by_push (λ r. length (hand r).given) (set passes id left) right in
-        let stays = ap (λ h. length h.given) cut in let none = ap (λ h. length h.given) new in let before = dealt.count in omega arith;
-    done =
-        let change = sum_set (λ r. (hand r).done) passes id p left here in
-        let pushed = sum_by_push (λ r. (hand r).done) (set passes id left) right in
-        let stays = ap (λ h. h.done) cut in let none = ap (λ h. h.done) new in let before = dealt.done in omega arith;
-    shares =
-        let change = sum_set (λ r. (hand r).share) passes id p left here in
-        let pushed = sum_by_push (λ r. (hand r).share) (set passes id left) right in
-        let less = ap (λ h. h.share) cut in let one = ap (λ h. h.share) new in let before = dealt.shares in omega arith;
-    fair = each_push (λ r. IsFairHand (hand r)) (set passes id left) right
-        (each_set (λ r. IsFairHand (hand r)) passes id left dealt.fair
-        (record {
-          marks = let stays = ap (λ h. h.done) cut in let less = ap (λ h. h.share) cut in omega arith;
-          empty = λ none. let less = ap (λ h. h.share) cut in absurd (omega arith);
-        }))
-        (record { marks = let none = ap (λ h. h.done) new in omega arith; empty = λ none. ap (λ h. h.given) new });
-  }
+  split_deals tiles workers claims passes id p left right dealt here cut new many room =
+      let some = sum_at (λ r. (hand r).share) passes id p here in
+      let rest = handed tiles workers (workers - 1) claims claims passes id p left (hand_dealt (hand p)) dealt here cut (λ t. refl) refl refl (omega (arith, some, dealt.shares))
+      (record { marks = omega arith; empty = λ none. absurd (omega arith) }) in
+      record {
+        given = λ t. pushed (λ h. times t h.given) (set passes id left) right (new_hand 1) new ∙ omega (arith, rest.given t);
+        count = pushed (λ h. length h.given) (set passes id left) right (new_hand 1) new ∙ omega (arith, rest.count);
+        done = pushed (λ h. h.done) (set passes id left) right (new_hand 1) new ∙ omega (arith, rest.done);
+        shares = pushed (λ h. h.share) (set passes id left) right (new_hand 1) new ∙ omega (arith, rest.shares, some, dealt.shares);
+        fair = each_push (λ r. IsFairHand (hand r)) (set passes id left) right rest.fair (new_fair right 1 new);
+      }
 
   pub join_deals : JoinDeals hand
   join_deals tiles workers claims passes id other p q both spent dealt here differ there joined left =
-      let found : get_elem? passes other ≡ some q = sym (set_else passes id other both differ) ∙ there in
       let mine = dealt.fair id p here in
-      let others = dealt.fair other q found in
+      let others = dealt.fair other q (sym (set_else passes id other both differ) ∙ there) in
+      let whole = hands_joined (hand p) (hand q) in
+      let same : (f : Hand → ℕ) → f whole ≡ f (hand p) + f (hand q) → f (new_hand 0) ≡ 0
+      → sum_by (λ r. f (hand r)) (set (set passes id both) other spent) ≡ sum_by (λ r. f (hand r)) passes = λ f adds none.
+      omega (arith, changed f passes id p both whole here joined, changed f (set passes id both) other q spent (new_hand 0) there left, adds, none) in
       record {
-        given = λ t.
-            let change = sum_set (λ r. times t (hand r).given) passes id p both here in
-            let spending = sum_set (λ r. times t (hand r).given) (set passes id both) other q spent there in
-            let added = ap (λ h. times t h.given) joined ∙ times-append t (hand p).given (hand q).given in
-            let none = ap (λ h. times t h.given) left in let before = dealt.given t in omega arith;
-        count =
-            let change = sum_set (λ r. length (hand r).given) passes id p both here in
-            let spending = sum_set (λ r. length (hand r).given) (set passes id both) other q spent there in
-            let added = ap (λ h. length h.given) joined ∙ length-append (hand p).given (hand q).given in
-            let none = ap (λ h. length h.given) left in let before = dealt.count in omega arith;
-        done =
-            let change = sum_set (λ r. (hand r).done) passes id p both here in
-            let spending = sum_set (λ r. (hand r).done) (set passes id both) other q spent there in
-            let added = ap (λ h. h.done) joined in let none = ap (λ h. h.done) left in let before = dealt.done in omega arith;
-        shares =
-            let change = sum_set (λ r. (hand r).share) passes id p both here in
-            let spending = sum_set (λ r. (hand r).share) (set passes id both) other q spent there in
-            let added = ap (λ h. h.share) joined in let none = ap (λ h. h.share) left in let before = dealt.shares in omega arith;
+        given = λ t. same (λ h. times t h.given) (times-append t (hand p).given (hand q).given) refl ∙ dealt.given t;
+        count = same (λ h. length h.given) (length-append (hand p).given (hand q).given) refl ∙ dealt.count;
+        done = same (λ h. h.done) refl refl ∙ dealt.done;
+        shares = same (λ h. h.share) refl refl ∙ dealt.shares;
         fair = each_set (λ r. IsFairHand (hand r)) (set passes id both) other spent
             (each_set (λ r. IsFairHand (hand r)) passes id both dealt.fair
-            (record {
-              marks = let done = ap (λ h. h.done) joined in let share = ap (λ h. h.share) joined in let a = mine.marks in let b = others.marks in omega arith;
-              empty = λ none.
-                  let share = ap (λ h. h.share) joined in
-                  ap (λ h. h.given) joined ∙ ap (λ xs. xs ++ (hand q).given) (mine.empty (omega arith)) ∙ others.empty (omega arith);
-            }))
-            (record { marks = let none = ap (λ h. h.done) left in omega arith; empty = λ none. ap (λ h. h.given) left });
+            (subst IsFairHand (sym joined) (record {
+              marks = omega (arith, mine.marks, others.marks);
+              empty = λ none. ap (λ xs. xs ++ (hand q).given) (mine.empty (omega arith)) ∙ others.empty (omega arith);
+            })))
+            (new_fair spent 0 left);
       }
 
   -- ---- what the rule implies
 
   pub few_claims : FewClaims hand
   few_claims tiles workers claims passes dealt =
-      let marks = sum_le (λ r. (hand r).done) (λ r. (hand r).share) passes (λ j z there. (dealt.fair j z there).marks) in
-      let done = dealt.done in
-      let shares = dealt.shares in
-      omega arith
+      omega (arith, sum_le (λ r. (hand r).done) (λ r. (hand r).share) passes (λ j z there. (dealt.fair j z there).marks), dealt.done, dealt.shares)
 
   -- where one pass stands for all workers, the others have nothing
   pub others_idle : (tiles workers claims : ℕ) (passes : List P) (id : ℕ) (p : P) → AreDealt hand tiles workers claims passes → get_elem? passes id ≡ some p
@@ -183,16 +134,18 @@ module _ {P : Type 0} (hand : P → Hand) where
 
   pub whole_deals : WholeDeals hand
   whole_deals tiles workers claims passes id p dealt here all =
-      let idle = others_idle tiles workers claims passes id p dealt here all in
-      let given : (t : ℕ) → times t (hand p).given ≡ once_claimed tiles claims t =
-      λ t. sym (sum_alone (λ r. times t (hand r).given) passes id p here (λ j z differ there. ap (times t) ((dealt.fair j z there).empty (idle j z differ there)))) ∙ dealt.given t in
-      let count : length (hand p).given ≡ min claims tiles =
-      sym (sum_alone (λ r. length (hand r).given) passes id p here (λ j z differ there. ap length ((dealt.fair j z there).empty (idle j z differ there)))) ∙ dealt.count in
-      let done : (hand p).done ≡ claims - tiles =
-      sym (sum_alone (λ r. (hand r).done) passes id p here (λ j z differ there. let none = idle j z differ there in let marks = (dealt.fair j z there).marks in omega arith)) ∙ dealt.done in
+      let whole : (f : Hand → ℕ) → ((h : Hand) → IsFairHand h → h.share ≡ 0 → f h ≡ 0) → f (hand p) ≡ sum_by (λ r. f (hand r)) passes = λ f none.
+      omega (
+        arith,
+        one_alone (sum_by (λ r. f (hand r))) (λ r. f (hand r)) ◌+◌ 0 refl (sum_by-cons (λ r. f (hand r))) (λ xs. omega arith) passes id p here
+            (λ j z differ there. none (hand z) (dealt.fair j z there) (others_idle tiles workers claims passes id p dealt here all j z differ there)),
+      ) in
+      let given : (t : ℕ) → times t (hand p).given ≡ once_claimed tiles claims t = λ t. whole (λ h. times t h.given) (λ h fair none. ap (times t) (fair.empty none)) ∙ dealt.given t in
+      let count = whole (λ h. length h.given) (λ h fair none. ap length (fair.empty none)) ∙ dealt.count in
+      let done = whole (λ h. h.done) (λ h fair none. omega (arith, fair.marks, none)) ∙ dealt.done in
       record {
         given = given;
-        distinct = λ t. let same = given t in let once = claimed_once t claims tiles in omega arith;
+        distinct = λ t. omega (arith, given t, claimed_once t claims tiles);
         count = count;
         done = done;
         all = λ some_done t tile. given t ∙ claimed_is t claims tiles (omega arith) tile;

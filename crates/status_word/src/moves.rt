@@ -60,6 +60,7 @@ pub(crate) fn write_word<M: Packed, A: Memory>(
     ensures { words.new.items
         ≡ words_after (coding M.Packed) sums.now words.old.items action }
 {
+    know_laws::<Seg<M>>();
     match action {
         Action::TellSum(tile) => {
             let sum = sum_of_tile::<M>(sums, tile);
@@ -70,7 +71,7 @@ pub(crate) fn write_word<M: Packed, A: Memory>(
             );
         }
         Action::TellPrefix(tile, before) => {
-            let sum = upto_tile::<M>(before, sum_of_tile::<M>(sums, tile));
+            let sum = Seg::<M>::join(before, sum_of_tile::<M>(sums, tile));
             raise(
                 words,
                 tile as usize,
@@ -87,17 +88,6 @@ fn sum_of_tile<M: Monoid>(sums: &[(bool, M::Item)], tile: u32) -> (bool, M::Item
     ensures { result ≡ own_sum M.unit sums.now tile }
 {
     sums[tile as usize]
-}
-
-/// What stands before a tile, joined with the tile's sum.
-fn upto_tile<M: Monoid>(before: (bool, M::Item), sum: (bool, M::Item)) -> (bool, M::Item)
-    requires before { IsTrue (M.is_item before.1) }
-    requires sum { IsTrue (M.is_item sum.1) }
-    ensures value { result ≡ seg_join M.join before sum }
-    ensures item { IsTrue (M.is_item result.1) }
-{
-    know_laws::<Seg<M>>();
-    Seg::<M>::join(before, sum)
 }
 
 /// A word becomes the greater of itself and another.

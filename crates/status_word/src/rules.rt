@@ -53,6 +53,7 @@ pub fn rule_law<I>()
 
 /// The words of the tiles, for each monoid with words: they tell nothing at first, ascend with the states, are read again,
 /// and have 64 bits.
+#[tactic(auto, using(crate::proofs::Coded::code_laws))]
 pub fn code_law<M: Packed>()
     ensures { (sums : List (Bool × M.Item)) → AllPass (is_seg_item M.is_item) sums →
         CodeLaws M.is_item (coding M.Packed) sums }
