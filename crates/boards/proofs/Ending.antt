@@ -7,8 +7,9 @@ use Rattle.atomic_table.specs.Table.{State}
 use Rattle.status_word.specs.declared.pass.Pass.{Pass}
 use Rattle.status_word.specs.Codings.{Coding, code}
 use Rattle.status_word.specs.RuleSteps.{WholeKnows}
+use Rattle.status_word.proofs.Places.{read_at}
 use Rattle.least_boards.specs.Seats.{Seated}
-use Rattle.least_boards.proofs.Ending.{given_once, one_done, read_at}
+use Rattle.least_boards.proofs.Ending.{given_once, one_done}
 use Rattle.boards.specs.Answers.{IsEnd}
 use Rattle.boards.specs.Joined.{AreJoined}
 use Rattle.boards.specs.Rules.{IsRuled}
@@ -18,7 +19,7 @@ module _ {Item : Type 0} (m : Coding Item) (sums : List (Bool × Item)) where
       → 1 ≤ workers → length seats ≡ workers → IsRuled m sums workers s → get_elem? s.views id ≡ some p → s.words ≡ words → get_elem? words (length sums) ≡ some claims
       → given ≡ min claims (length sums) → AreJoined p [] seats → IsEnd (length sums) seats given
   all_ended whole workers claims given id s words p seats several as_many ruled at same_words claimed is_given gathered =
-      let here : get_or s.words (length sums) 0 ≡ claims = ap (λ ws. get_or ws (length sums) 0) same_words ∙ read_at words (length sums) claims claimed in
+      let here : get_or s.words (length sums) 0 ≡ claims = ap (λ ws. get_or ws (length sums) 0) same_words ∙ (read_at words (length sums) claims 0 claimed).1 in
       let known = whole (code m sums) sums workers (get_or s.words (length sums) 0) (λ x. get_or s.words x 0) s.views id p ruled.kept at (omega (arith, gathered.hands.shares)) in
       let hand = known.0 in
       record {

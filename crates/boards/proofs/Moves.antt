@@ -4,14 +4,14 @@ use Rattle.std.proofs.Common.{◌≡◌, refl, sym, ap, ◌∙◌, subst, ℕ, �
 use mathlib.Core.Option.{none}
 use Rattle.std.proofs.lemmas.List.{get_or-set_other, set-get_or}
 use Rattle.std.proofs.lemmas.Grind.{get_or-set_at}
-use Rattle.atomic_table.specs.Table.{Allows, Splits, Joins, step, keeps}
+use Rattle.atomic_table.specs.Table.{Allows, step, keeps}
 use Rattle.status_word.specs.declared.pass.Pass.{Pass}
 use Rattle.status_word.specs.Codings.{Coding, code}
 use Rattle.boards.specs.Boards.{on_hand}
 use Rattle.boards.specs.Rules.{PassOf, IsRuled, LookGives, TellGives}
 use Rattle.least_boards.proofs.Claiming.{AllowsClaims}
-use Rattle.status_word.specs.Passes.{IsRuleKept, highest, passes_joined, looked, spent_pass, split_left, split_right, told_at, told_state}
-use Rattle.status_word.specs.RuleSteps.{AreRaised, AreSame, Ascends, ClaimKeeps, DoneKeeps, FewClaimed, JoinKeeps, LookKeeps, SplitKeeps, TellKeeps}
+use Rattle.status_word.specs.Passes.{IsRuleKept, highest, looked, told_at, told_state}
+use Rattle.status_word.specs.RuleSteps.{AreRaised, AreSame, Ascends, ClaimKeeps, DoneKeeps, FewClaimed, LookKeeps, TellKeeps}
 
 module _ {Item : Type 0} (m : Coding Item) (sums : List (Bool × Item)) (workers : ℕ) where
   same_but_last : (words : List ℕ) (v : ℕ) → AreSame (length sums) (λ x. get_or words x 0) (λ x. get_or (set words (length sums) v) x 0)
@@ -69,11 +69,3 @@ module _ {Item : Type 0} (m : Coding Item) (sums : List (Bool × Item)) (workers
         },
         refl,
       )
-
-  pub split_allowed : (id : ℕ) → SplitKeeps Item → (p : Pass Item) → 2 ≤ p.hand.share → p.hand.done < p.hand.share → Splits (IsRuled m sums workers) id p (split_left p) (split_right p)
-  split_allowed id split p several unmarked s ruled at =
-      record { long = ruled.long; kept = split (code m sums) sums workers (get_or s.words (length sums) 0) (λ x. get_or s.words x 0) s.views id p ruled.kept at several unmarked }
-
-  pub join_allowed : (id : ℕ) → JoinKeeps Item → (p q : Pass Item) (other : ℕ) → 1 ≤ p.hand.share → Joins (IsRuled m sums workers) id p other q (passes_joined p q) spent_pass
-  join_allowed id join p q other whole s ruled at differ at_other =
-      record { long = ruled.long; kept = join (code m sums) sums workers (get_or s.words (length sums) 0) (λ x. get_or s.words x 0) s.views id other p q ruled.kept at differ at_other whole }

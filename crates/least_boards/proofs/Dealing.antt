@@ -1,8 +1,9 @@
 -- How the seats of a board are dealt out, and what one pass has that gathers several: for the passes of any board, and for a least board's.
 -- Source: what the definitions of Joined imply.
 use Rattle.std.proofs.Common.{◌≡◌, refl, sym, ap, ◌∙◌, subst, ℕ, ◌+◌, ◌≤◌, false, cond, List, [], ◌∷◌, ◌++◌, length, replicate, arith, length-append}
-use Rattle.std.proofs.lemmas.List.{replicate_more}
-use Rattle.std.proofs.lemmas.List.Sums.{sum_by-append}
+use Rattle.std.proofs.lemmas.List.{length_push, replicate_more}
+use Rattle.std.proofs.lemmas.List.Sums.{sum_by_push}
+use Rattle.std.specs.List.{sum_by}
 use Rattle.atomic_table.specs.Seated.{TableId}
 use Rattle.status_word.specs.declared.pass.Hand.{Hand}
 use Rattle.status_word.specs.Hands.{hands_joined, times}
@@ -34,37 +35,32 @@ module _ {P : Type 0} (hand : P → Hand) where
   abbrev pub IsSeatPass : Seated P → P → Type 0
   IsSeatPass s p = (p ≡ s.pass) × ((hand p).share ≡ 1) × ((hand p).done ≡ cond s.is_done 1 0)
 
+  -- a measure of the hands of all seats, where one is the last
+  seats_push : (f : Hand → ℕ) (rest : List (Seated P)) (next : Seated P) (p : P) → IsSeatPass next p
+      → sum_by (λ s. f (hand s.pass)) (rest ++ next ∷ []) ≡ sum_by (λ s. f (hand s.pass)) rest + f (hand p)
+  seats_push f rest next p is = omega (arith, sum_by_push (λ s. f (hand s.pass)) rest next, ap (λ q. f (hand q)) is.0)
+
   -- one seat alone
   pub hands_first : (rest : List (Seated P)) (first : Seated P) (p : P) → IsSeatPass first p → AreHandsJoined hand p rest (rest ++ first ∷ [])
   hands_first rest first p is = record {
-    given = λ t. omega (arith, sum_by-append (λ s. times t (hand s.pass).given) rest (first ∷ []), ap (λ q. times t (hand q).given) is.0);
-    count = omega (arith, sum_by-append (λ s. length (hand s.pass).given) rest (first ∷ []), ap (λ q. length (hand q).given) is.0);
-    done = omega (arith, sum_by-append (λ s. cond s.is_done 1 0) rest (first ∷ []), is.2);
-    shares = omega (arith, length-append rest (first ∷ []), is.1);
+    given = λ t. omega (arith, seats_push (λ h. times t h.given) rest first p is);
+    count = omega (arith, seats_push (λ h. length h.given) rest first p is);
+    done = omega (arith, sum_by_push (λ s. cond s.is_done 1 0) rest first, is.2);
+    shares = omega (arith, length_push rest first, is.1);
   }
 
   -- and one seat more
   pub hands_more : (rest all : List (Seated P)) (next : Seated P) (p whole now : P) → IsSeatPass next p → hand now ≡ hands_joined (hand whole) (hand p)
       → AreHandsJoined hand whole (rest ++ next ∷ []) all → AreHandsJoined hand now rest all
   hands_more rest all next p whole now is both so_far = record {
-    given = λ t. omega (
-      arith,
-      sum_by-append (λ s. times t (hand s.pass).given) rest (next ∷ []),
-      ap (λ q. times t (hand q).given) is.0,
-      ap (λ h. times t h.given) both,
-      times-append t (hand whole).given (hand p).given,
-      so_far.given t,
-    );
-    count = omega (
-      arith,
-      sum_by-append (λ s. length (hand s.pass).given) rest (next ∷ []),
-      ap (λ q. length (hand q).given) is.0,
-      ap (λ h. length h.given) both,
-      length-append (hand whole).given (hand p).given,
-      so_far.count,
-    );
-    done = omega (arith, sum_by-append (λ s. cond s.is_done 1 0) rest (next ∷ []), is.2, ap (λ h. h.done) both, so_far.done);
-    shares = omega (arith, length-append rest (next ∷ []), is.1, ap (λ h. h.share) both, so_far.shares);
+    given = λ t.
+        let added = ap (λ h. times t h.given) both ∙ times-append t (hand whole).given (hand p).given in
+        omega (arith, seats_push (λ h. times t h.given) rest next p is, added, so_far.given t);
+    count =
+        let added = ap (λ h. length h.given) both ∙ length-append (hand whole).given (hand p).given in
+        omega (arith, seats_push (λ h. length h.given) rest next p is, added, so_far.count);
+    done = omega (arith, sum_by_push (λ s. cond s.is_done 1 0) rest next, is.2, ap (λ h. h.done) both, so_far.done);
+    shares = omega (arith, length_push rest next, is.1, ap (λ h. h.share) both, so_far.shares);
   }
 
 -- ---- a least board's

@@ -1,15 +1,15 @@
 -- What the words of a closed least board tell, from the rule and from the one pass that stands for all seats.
 -- Source: the laws of the crate `status_word` on the hand that stands for all workers.
-use Rattle.std.proofs.Common.{◌≡◌, sym, ap, ◌∙◌, ℕ, zero, suc, ◌+◌, ◌<◌, ◌≤◌, true, false, cond, ltb, List, [], ◌∷◌, length, map, take, get_or, Option, Some, None, arith, ⊎_elim}
-use Rattle.std.proofs.lemmas.Bool.Decides.{leb_tells}
-use Rattle.std.proofs.lemmas.List.{get_or-map, get_or-take, length-map, length-take, length-take-le}
-use Rattle.std.proofs.lemmas.List.Elements.{All-weaker}
-use Rattle.std.proofs.lemmas.Option.{none-some, same_Some}
+use Rattle.std.proofs.Common.{◌≡◌, refl, sym, ap, ◌∙◌, ℕ, ◌+◌, ◌<◌, ◌≤◌, min, ltb, List, [], length, map, take, get_or, Option, Some, None, arith, ⊎_elim}
+use Rattle.std.proofs.lemmas.Bool.{cases_lt, cond_both, ltb-false, ltb-true}
+use Rattle.std.proofs.lemmas.List.{get_or-map, get_or-take, get_or_past, length-map, length-take, length-take-le}
+use Rattle.std.proofs.lemmas.Option.{cond_some, none-some}
 use mathlib.Core.Option.{some}
 use lib.ListN.{get_elem?}
 use Rattle.atomic_table.specs.Table.{State}
 use Rattle.cvl_base.specs.Limits.{most_elements}
 use Rattle.status_word.specs.RuleSteps.{WholeDeals}
+use Rattle.status_word.proofs.Places.{element_at, one_alone, others_none}
 use Rattle.least_boards.specs.declared.least_pass.LeastPass.{LeastPass}
 use Rattle.least_boards.specs.Seats.{Seated}
 use Rattle.least_boards.specs.Joined.{AreLeastsJoined}
@@ -18,30 +18,25 @@ use Rattle.least_boards.specs.LeastPasses.{lowered_in, lowest, lowest_of, no_pla
 use Rattle.least_boards.specs.LeastRules.{IsLeastFair, IsLeastRuled, IsOfSlot}
 use Rattle.least_boards.proofs.Ending.{given_once}
 use Rattle.least_boards.proofs.LeastSteps.{least_of_slot}
-use Rattle.least_boards.proofs.Lowest.{lowest_alone, lowest_at, lowest_most}
+use Rattle.least_boards.proofs.Lowest.{lowest_at, lowest_most}
 
 -- a place that has a slot is one of the places
-target_within : (targets : List (Option ℕ)) (place slot : ℕ) → get_or targets place None ≡ Some slot → place < length targets
-target_within [] place slot is = absurd (none-some slot is)
-target_within (target ∷ targets) zero slot is = omega arith
-target_within (target ∷ targets) (suc place) slot is = let rest = target_within targets place slot is in omega arith
+pub target_within : (targets : List (Option ℕ)) (place slot : ℕ) → get_or targets place None ≡ Some slot → place < length targets
+target_within targets place slot is =
+    ⊎_elim (λ within. within) (λ past. absurd (none-some slot (sym (get_or_past targets place None past) ∙ is))) (cases_lt place (length targets))
 
 -- a word that is a place of its slot, or no place, is told as such
-pub told_back : (targets : List (Option ℕ)) (slot word : ℕ) → length targets ≤ most_elements → IsOfSlot targets slot word → word_of_place (place_of_word word) ≡ word
-told_back targets slot word few is = ⊎_elim (λ (below : (ltb word 4294967296 ≡ true) × (suc word ≤ 4294967296)). ap (λ b. word_of_place (cond b (Some word) None)) below.0)
-    (λ (past : (ltb word 4294967296 ≡ false) × (4294967296 < suc word)). ap (λ b. word_of_place (cond b (Some word) None)) past.0 ∙ sym (none_past past.1))
-    (leb_tells (suc word) 4294967296)
-  where
-    none_past : 4294967296 < suc word → word ≡ no_place
-    none_past past = ⊎_elim (λ none. none) (λ target. let within = target_within targets word slot target in absurd (omega arith)) is
+told_back : (targets : List (Option ℕ)) (slot word : ℕ) → length targets ≤ most_elements → IsOfSlot targets slot word → word_of_place (place_of_word word) ≡ word
+told_back targets slot word few is =
+    cond_both (ltb word 4294967296) (Some word) None (λ o. word_of_place o ≡ word)
+    (λ _. refl)
+    (λ past. ⊎_elim (λ none. sym none) (λ target. absurd (omega (arith, few, target_within targets word slot target, ltb-false word 4294967296 past))) is)
 
 -- and where that is a place, it is one of the slot
-pub told_slot : (targets : List (Option ℕ)) (slot word place : ℕ) → IsOfSlot targets slot word → place_of_word word ≡ Some place → get_or targets place None ≡ Some slot
-told_slot targets slot word place is told = ⊎_elim (λ (below : (ltb word 4294967296 ≡ true) × (suc word ≤ 4294967296)).
-    let same : word ≡ place = same_Some word place (ap (λ b. cond b (Some word) None) (sym below.0) ∙ told) in
-    ⊎_elim (λ none. absurd (omega arith)) (λ target. ap (λ n. get_or targets n None) (sym same) ∙ target) is)
-    (λ (past : (ltb word 4294967296 ≡ false) × (4294967296 < suc word)). absurd (none-some place (ap (λ b. cond b (Some word) None) (sym past.0) ∙ told)))
-    (leb_tells (suc word) 4294967296)
+told_slot : (targets : List (Option ℕ)) (slot word place : ℕ) → IsOfSlot targets slot word → place_of_word word ≡ Some place → get_or targets place None ≡ Some slot
+told_slot targets slot word place is told =
+    let found = cond_some (ltb word 4294967296) word place told in
+    ⊎_elim (λ none. absurd (omega (arith, none, ltb-true word 4294967296 found.0))) (λ target. ap (λ n. get_or targets n None) (sym found.1) ∙ target) is
 
 -- what is told of a slot is what its word stands for
 pub told_at_slot : (words : List ℕ) (slots s : ℕ) → s < slots → slots < length words → get_or (map place_of_word (take slots words)) s None ≡ place_of_word (get_or words s 0)
@@ -54,6 +49,7 @@ pub least_ended : WholeDeals {P = LeastPass} (λ p. p.hand) → (board : LeastVi
 least_ended whole board id s words p seats few as_many ruled at same_words joined =
     let kept = ruled.kept in
     let share : p.hand.share ≡ board.workers = omega (arith, joined.hands.shares) in
+    let idle = others_none (λ q. q.hand.share) s.views id p at (kept.dealt.shares ∙ sym share) in
     let hand = whole board.tiles board.workers (get_or s.words board.slots 0) s.views id p kept.dealt at share in
     let long : length words ≡ board.slots + 1 = ap length (sym same_words) ∙ ruled.long in
     let told : (t : ℕ) → t < board.slots → get_or (map place_of_word (take board.slots words)) t None ≡ place_of_word (lowest_of (lowered_in t) s.views) = λ t below.
@@ -65,10 +61,9 @@ least_ended whole board id s words p seats few as_many ruled at same_words joine
       given = given_once (λ q. q.hand) board.tiles (get_or s.words board.slots 0) p seats hand joined.hands;
       as_many = length-map (take board.slots words) place_of_word ∙ length-take-le board.slots words (omega arith);
       least = λ t below. least t below
-          ∙ lowest_alone (lowered_in t) (λ q. q.hand.share) s.views id p
-          (All-weaker (IsLeastFair board.targets board.tiles) (λ q. q.hand.share ≡ 0 → lowered_in t q ≡ no_place) (λ q fair none. ap (lowest t) (fair.empty none).0) s.views kept.fair) at
-          (kept.dealt.shares ∙ sym share)
+          ∙ one_alone (lowest_of (lowered_in t)) (lowered_in t) min no_place refl (λ q qs. refl) (λ qs. omega (arith, lowest_most (lowered_in t) qs)) s.views id p at
+          (λ j q differ there. ap (lowest t) ((element_at (IsLeastFair board.targets board.tiles) s.views kept.fair j q there).empty (idle j q differ there)).0)
           ∙ joined.lowered t;
       of_slot = λ t place below is. told_slot board.targets t (lowest_of (lowered_in t) s.views) place (placed t) (sym (told t below) ∙ is);
-      seen = λ t below. let saw = lowest_at (seen_in t) s.views id p at in let most = lowest_most (lowered_in t) s.views in omega (arith, least t below, kept.seen t, joined.seen t);
+      seen = λ t below. omega (arith, lowest_at (seen_in t) s.views id p at, lowest_most (lowered_in t) s.views, least t below, kept.seen t, joined.seen t);
     }

@@ -1,19 +1,16 @@
 use Rattle.std.proofs.Common.{◌≡◌, sym, ap, ◌∙◌, arith}
 use Rattle.status_word.specs.Passes.{first_pass, new_pass}
 use Rattle.least_boards.proofs.Dealing.{last_dealt}
-use Rattle.boards.proofs.Moves.{split_allowed}
 use Rattle.boards.proofs.hands.deal.Goals as goal
 
 pub split_seat-seat-requires : goal.split_seat-seat-requires
 split_seat-seat-requires g c =
-    let here = c.board.inside in
-    let key = here.table.shared.key in
     let whole = c.loop-left.whole in
     let share = ap (λ v. v.0.hand.share) c.loop-left.invariant.4 in
     let done = ap (λ v. v.0.hand.done) c.loop-left.invariant.4 in (
       c.loop-left.invariant.3 ∙ sym (ap (λ b. b.id) c.board.view_is),
       omega (arith, c.board.invariant.1),
-      split_allowed _ (g.T.Tiles.sums key.tiles) key.workers whole.id c.rule_law.ensures.split whole.me.0 (omega arith) (omega arith),
+      λ s ruled at. record { long = ruled.long; kept = c.rule_law.ensures.split _ _ _ _ _ s.views whole.id whole.me.0 ruled.kept at (omega arith) (omega arith) },
     )
 
 pub returns : goal.returns

@@ -2,7 +2,6 @@ use Rattle.std.proofs.Common.{sym, ap, ◌∙◌, cond, arith, Some}
 use Rattle.std.proofs.lemmas.List.Elements.{All-pop}
 use Rattle.boards.specs.Boards.{IsSeatOf}
 use Rattle.boards.proofs.Dealing.{joined_first, joined_more}
-use Rattle.boards.proofs.Moves.{join_allowed}
 use Rattle.boards.proofs.hands.join_seats.Goals as goal
 
 pub loop-next-init : goal.loop-next-init
@@ -18,8 +17,6 @@ loop-next-init g c =
 
 pub join_seat-requires : goal.join_seat-requires
 join_seat-requires g c =
-    let here = c.board.inside in
-    let key = here.table.shared.key in
     let whole = c.loop-next.whole in
     let next = c.next.inside.seat in
     let inv = c.loop-next.invariant in
@@ -29,7 +26,7 @@ join_seat-requires g c =
       ap (λ s. s.id) c.next.view_is ∙ rest.1.0 ∙ of_board,
       c.next.invariant.0,
       omega (arith, c.board.invariant.1),
-      join_allowed _ (g.T.Tiles.sums key.tiles) key.workers whole.id c.rule_law.ensures.join whole.me.0 next.me.0 next.id inv.2,
+      λ s ruled at differ there. record { long = ruled.long; kept = c.rule_law.ensures.join _ _ _ _ _ s.views whole.id next.id whole.me.0 next.me.0 ruled.kept at differ there inv.2 },
     )
 
 pub loop-next-preserved : goal.loop-next-preserved

@@ -1,19 +1,17 @@
 use Rattle.std.proofs.Common.{◌≡◌, sym, ap, ◌∙◌, arith}
 use Rattle.least_boards.specs.LeastPasses.{first_least_pass, new_least_pass}
 use Rattle.least_boards.proofs.Dealing.{last_dealt}
-use Rattle.least_boards.proofs.LeastMoves.{split_allowed}
+use Rattle.least_boards.proofs.LeastSteps.{split_keeps}
 use Rattle.least_boards.proofs.least_hands.deal_least_seats.Goals as goal
 
 pub split_seat-seat-requires : goal.split_seat-seat-requires
 split_seat-seat-requires g c =
-    let here = c.board.inside in
-    let key = here.table.shared.key in
     let whole = c.loop-left.whole in
     let share = ap (λ v. v.0.hand.share) c.loop-left.invariant.4 in
     let done = ap (λ v. v.0.hand.done) c.loop-left.invariant.4 in (
       c.loop-left.invariant.3 ∙ sym (ap (λ b. b.id) c.board.view_is),
       omega (arith, c.board.invariant.1),
-      split_allowed (g.T.Targets.targets key.targets) key.slots key.tiles key.workers (c.hand_law.ensures.split (λ p. p.hand)) whole.id whole.me.0 (omega arith) (omega arith),
+      λ s ruled at. record { long = ruled.long; kept = split_keeps _ _ _ _ _ _ s.views whole.id whole.me.0 ruled.kept at (omega arith) (c.hand_law.ensures.split (λ p. p.hand)) (omega arith) (omega arith) },
     )
 
 pub returns : goal.returns

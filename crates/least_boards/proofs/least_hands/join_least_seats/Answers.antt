@@ -2,7 +2,7 @@ use Rattle.std.proofs.Common.{sym, ap, ◌∙◌, cond, arith, Some}
 use Rattle.std.proofs.lemmas.List.Elements.{All-pop}
 use Rattle.least_boards.specs.LeastBoards.{IsLeastSeatOf}
 use Rattle.least_boards.proofs.Dealing.{leasts_first, leasts_more}
-use Rattle.least_boards.proofs.LeastMoves.{join_allowed}
+use Rattle.least_boards.proofs.LeastSteps.{join_keeps}
 use Rattle.least_boards.proofs.least_hands.join_least_seats.Goals as goal
 
 pub loop-next-init : goal.loop-next-init
@@ -18,8 +18,6 @@ loop-next-init g c =
 
 pub join_seat-requires : goal.join_seat-requires
 join_seat-requires g c =
-    let here = c.board.inside in
-    let key = here.table.shared.key in
     let whole = c.loop-next.whole in
     let next = c.next.inside.seat in
     let inv = c.loop-next.invariant in
@@ -29,7 +27,10 @@ join_seat-requires g c =
       ap (λ s. s.id) c.next.view_is ∙ rest.1.0 ∙ of_board,
       c.next.invariant.0,
       omega (arith, c.board.invariant.1),
-      join_allowed (g.T.Targets.targets key.targets) key.slots key.tiles key.workers (c.hand_law.ensures.join (λ p. p.hand)) whole.id next.id whole.me.0 next.me.0 inv.2,
+      λ s ruled at differ there. record {
+        long = ruled.long;
+        kept = join_keeps _ _ _ _ _ _ s.views whole.id whole.me.0 ruled.kept at inv.2 (c.hand_law.ensures.join (λ p. p.hand)) next.id next.me.0 differ there;
+      },
     )
 
 pub loop-next-preserved : goal.loop-next-preserved

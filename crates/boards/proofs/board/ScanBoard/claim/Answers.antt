@@ -1,10 +1,5 @@
-use Rattle.std.proofs.Common.{◌≡◌, ℕ, Bool, cond, sym, ap, ◌∙◌, subst, arith, ◌%◌, ◌+◌, ◌^◌, length}
-use mathlib.Core.Option.{none}
-use Rattle.atomic_table.specs.Table.{Allows, step}
+use Rattle.std.proofs.Common.{◌≡◌, ℕ, Bool, cond, sym, ap, ◌∙◌, arith, length}
 use Rattle.status_word.specs.Codings.{coding_of}
-use Rattle.boards.specs.Boards.{on_hand}
-use Rattle.boards.specs.Rules.{IsRuled}
-use Rattle.least_boards.specs.ClaimSteps.{ClaimGives}
 use Rattle.least_boards.proofs.Claiming.{claim_allowed}
 use Rattle.boards.proofs.Moves.{allows_claims}
 use Rattle.boards.proofs.board.ScanBoard.claim.Goals as goal
@@ -23,7 +18,7 @@ fetch_add-found-requires g c =
     let unmarked : seat.me.0.hand.done ≡ 0 = c.seat.invariant.1 ∙ ap (λ (b : Bool). cond {A = ℕ} b 1 0) c.if-seat.false in (
       same_board,
       omega (arith, c.self.invariant.1, here.counted.counts),
-      subst (λ i. Allows (IsRuled m sums key.workers) slots seat.id seat.me i (λ n. (n + 1) % 2 ^ 64) (ClaimGives (λ p. p.hand) on_hand (λ p. length p.sums) (step slots i 1 0 none) seat.me)) (sym last)
-          (claim_allowed (λ p. p.hand) on_hand (λ p. length p.sums) (IsRuled m sums key.workers) (length sums) (length sums) key.workers slots seat.id
-          (allows_claims m sums key.workers c.rule_law.ensures.claim c.rule_law.ensures.done c.rule_law.ensures.few) seat.me (omega (arith, key.few, key.few_workers)) (ap length same_sums) unmarked c.seat.invariant.2),
+      claim_allowed _ _ (λ p. length p.sums) _ _ here.counted.count _ _ slots seat.id
+          (allows_claims m sums key.workers c.rule_law.ensures.claim c.rule_law.ensures.done c.rule_law.ensures.few)
+          last seat.me (omega (arith, key.few, key.few_workers)) (ap length same_sums) unmarked c.seat.invariant.2,
     )

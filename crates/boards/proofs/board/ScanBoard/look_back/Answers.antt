@@ -22,7 +22,7 @@ loop-at-preserved g c =
           ∙ ap (λ s. seg_join g.T.M.Monoid.join s c.loop-at.after) c.in-Sum.ensures.found
           ∙ ap (seg_join g.T.M.Monoid.join (own_sum g.T.M.Monoid.unit sums (at - 1))) (inv.3 ∙ ap (λ k. between_tiles g.T.M.Monoid.join g.T.M.Monoid.unit sums k t) next)
           ∙ sym (c.know_sums.ensures.one_more (at - 1) t (omega arith) (omega (arith, c.requires.tile))),
-      walk_more t at (at - 1) c.args.seat.now.pass c.loop-at.seat.pass c.find.new.seat.pass next inv.0 inv.4 c.in-Sum.ensures.step,
+      walk_more t at (at - 1) 1 c.args.seat.now.pass c.loop-at.seat.pass c.find.new.seat.pass next inv.0 inv.4 c.in-Sum.ensures.step refl,
     )
 
 pub returns-in-Prefix-clause-looks : goal.returns-in-Prefix-clause-looks
@@ -30,4 +30,4 @@ returns-in-Prefix-clause-looks g c =
     let t = c.args.t in
     let at = c.loop-at.at in
     let next : at ≡ at - 1 + 1 = omega arith in
-    walk_met t at (at - 1) (t - (at - 1)) c.args.seat.now.pass c.loop-at.seat.pass c.find.new.seat.pass next c.loop-at.invariant.0 refl c.loop-at.invariant.4 c.in-Prefix.ensures.step
+    walk_met t at (at - 1) 2 c.args.seat.now.pass c.loop-at.seat.pass c.find.new.seat.pass next c.loop-at.invariant.0 c.loop-at.invariant.4 c.in-Prefix.ensures.step (t - (at - 1)) refl refl

@@ -2,7 +2,7 @@ use Rattle.std.proofs.Common.{None, sym, ap, ◌∙◌, length, get_or, take, ar
 use Rattle.std.proofs.lemmas.List.{length-map, length-take}
 use Rattle.std.specs.Slots.{slots_counts, slots_items}
 use Rattle.least_boards.specs.LeastPasses.{place_of_word}
-use Rattle.least_boards.proofs.Ending.{read_at}
+use Rattle.status_word.proofs.Places.{read_at}
 use Rattle.least_boards.proofs.LeastEnding.{told_at_slot}
 use Rattle.least_boards.proofs.leasts.Leasts.get.Goals as goal
 
@@ -12,7 +12,7 @@ returns g c =
     let words = slots_items here.closed.words in
     let counts = slots_counts here.closed.words in
     c.place_of.ensures
-    ∙ ap place_of_word (sym (read_at words c.args.slot c.word.result c.word.ensures))
+    ∙ ap place_of_word (sym (read_at words c.args.slot c.word.result 0 c.word.ensures).1)
     ∙ sym (told_at_slot words here.slots c.args.slot
     (omega (arith, c.requires, ap length c.self.view_is, length-map (take here.slots words) place_of_word, length-take here.slots words))
     (omega (arith, here.long, counts.0)))
