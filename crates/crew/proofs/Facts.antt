@@ -1,6 +1,6 @@
 -- How the facts of the tiles given to a worker are kept while more are given.
 -- Source: what the definitions of Facts imply.
-use Rattle.std.proofs.Common.{◌≡◌, ap, subst, ◌∙◌, ℕ, ◌+◌, cond, List, ◌∷◌, arith, inl, inr}
+use Rattle.std.proofs.Common.{◌≡◌, ap, subst, ℕ, cond, List, ◌∷◌, arith, inl, inr}
 use Rattle.std.proofs.lemmas.Bool.Decides.{eqb_tells}
 use Rattle.boards.specs.Passes.{times}
 use Rattle.crew.specs.Facts.{HasFacts}
@@ -12,8 +12,5 @@ module _ {Seat : Type 0} (HasFact : Seat → ℕ → Type 0) (given : Seat → L
   one_fact_more old new t more fact kept facts k some =
       elim (eqb_tells t k) [
         | inl same ↦ subst (HasFact new) same.1 fact
-        | inr other ↦
-            let is : times k (given new) ≡ times k (given old) =
-            ap (times k) more ∙ ap (λ b. cond b 1 0 + times k (given old)) other.0 ∙ omega arith in
-            kept k (facts k (omega (arith, is, some)))
+        | inr other ↦ kept k (facts k (omega (arith, some, ap (times k) more, ap (λ b. cond {A = ℕ} b 1 0) other.0)))
       ]

@@ -11,20 +11,15 @@ left (suc n) given = (1 - times n given) + left n given
 
 no_more : (count t : ℕ) (given : List ℕ) → left count (t ∷ given) ≤ left count given
 no_more zero t given = omega arith
-no_more (suc n) t given = let rest = no_more n t given in omega arith
+no_more (suc n) t given = omega (arith, no_more n t given)
 
 -- a new tile is one less to be given
 pub one_less : (count t : ℕ) (given : List ℕ) → t < count → times t given ≡ 0 → left count (t ∷ given) < left count given
 one_less zero t given below new = absurd (omega arith)
 one_less (suc n) t given below new =
     ⊎_elim (λ (same : (eqb t n ≡ true) × (t ≡ n)).
-    let rest = no_more n t given in
     let here : times n given ≡ 0 = ap (λ k. times k given) (sym same.1) ∙ new in
-    let more : times n (t ∷ given) ≡ 1 + times n given = ap (λ b. cond b 1 0 + times n given) same.0 in
-    omega arith)
+    omega (arith, no_more n t given, here, ap (λ b. cond {A = ℕ} b 1 0) same.0))
     (λ (differ : (eqb t n ≡ false) × (t ≢ n)).
-    let before : t < n = omega (arith, differ.1) in
-    let rest = one_less n t given before new in
-    let none : times n (t ∷ given) ≡ times n given = ap (λ b. cond b 1 0 + times n given) differ.0 ∙ omega arith in
-    omega arith)
+    omega (arith, one_less n t given (omega (arith, differ.1)) new, ap (λ b. cond {A = ℕ} b 1 0) differ.0))
     (eqb_tells t n)

@@ -8,9 +8,10 @@ use Rattle.boards.specs.Passes.{times}
 use Rattle.crew.specs.Pieces.{ArePiecesOf, given_to}
 
 module _ {Item : Type 0} (count : ℕ) (items : ℕ → List Item) where
-  both_pieces : (f g : ℕ → ℕ) (xs ys : List (ℕ × List Item)) → ArePiecesOf count items f xs → ArePiecesOf count items g ys → ArePiecesOf count items (λ t. f t + g t) (xs ++ ys)
-  both_pieces f g xs ys front back = record {
-    one_each = λ t. let all = sum_by-append (λ (p : ℕ × List Item). cond (eqb p.0 t) 1 0) xs ys in let x = front.one_each t in let y = back.one_each t in omega arith;
+  both_pieces : (f g h : ℕ → ℕ) (xs ys all : List (ℕ × List Item)) → ((t : ℕ) → f t + g t ≡ h t) → all ≡ xs ++ ys → ArePiecesOf count items f xs → ArePiecesOf count items g ys
+      → ArePiecesOf count items h all
+  both_pieces f g h xs ys all adds is front back = subst (ArePiecesOf count items h) (sym is) record {
+    one_each = λ t. omega (arith, sum_by-append (λ (p : ℕ × List Item). cond (eqb p.0 t) 1 0) xs ys, front.one_each t, back.one_each t, adds t);
     of_work = All-append (λ p. p.0 < count) xs ys front.of_work back.of_work;
     as_meant = All-append (λ p. p.1 ≡ items p.0) xs ys front.as_meant back.as_meant;
   }
@@ -30,17 +31,14 @@ module _ {Item : Type 0} (count : ℕ) (items : ℕ → List Item) where
   pub one_more : (given after : List ℕ) (t : ℕ) (made : List Item) (ps all : List (ℕ × List Item)) → after ≡ t ∷ given → t < count → made ≡ items t → all ≡ ps ++ (t, made) ∷ []
       → ArePiecesOf count items (λ k. times k given) ps → ArePiecesOf count items (λ k. times k after) all
   one_more given after t made ps all more below same is_all pieces =
-      let both = both_pieces (λ k. times k given) (λ k. cond (eqb t k) 1 0) ps ((t, made) ∷ []) pieces (one_piece t made below same) in
-      subst (ArePiecesOf count items (λ k. times k after)) (sym is_all)
-      (given_as (λ k. times k given + cond (eqb t k) 1 0) (λ k. times k after) (ps ++ (t, made) ∷ []) (λ k. let is : times k after ≡ times k (t ∷ given) = ap (times k) more in omega arith) both)
+      both_pieces (λ k. times k given) (λ k. cond (eqb t k) 1 0) (λ k. times k after) ps ((t, made) ∷ []) all (λ k. omega (arith, ap (times k) more)) is_all
+      pieces (one_piece t made below same)
 
   module _ {P : Type 0} (view : P → ℕ × List Item) where
     -- the pieces of two crews are those of the seats of both
     pub of_both : {Seat : Type 0} (given : Seat → List ℕ) (xs ys : List P) (front back : List Seat)
         → ArePiecesOf count items (given_to given front) (map view xs) → ArePiecesOf count items (given_to given back) (map view ys)
         → ArePiecesOf count items (given_to given (front ++ back)) (map view (xs ++ ys))
-    of_both given xs ys front back first second =
-        let all = both_pieces (given_to given front) (given_to given back) (map view xs) (map view ys) first second in
-        subst (ArePiecesOf count items (given_to given (front ++ back))) (sym (map-append view xs ys))
-        (given_as (λ t. given_to given front t + given_to given back t) (given_to given (front ++ back)) (map view xs ++ map view ys)
-        (λ t. sym (sum_by-append (λ seat. times t (given seat)) front back)) all)
+    of_both given xs ys front back =
+        both_pieces (given_to given front) (given_to given back) (given_to given (front ++ back)) (map view xs) (map view ys) (map view (xs ++ ys))
+        (λ t. sym (sum_by-append (λ seat. times t (given seat)) front back)) (map-append view xs ys)

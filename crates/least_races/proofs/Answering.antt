@@ -1,6 +1,7 @@
 -- How a worker answers the places of a tile, and that what was answered once stays so.
 -- Source: what the definitions of Facts imply.
-use Rattle.std.proofs.Common.{◌≡◌, refl, sym, ap, ◌∙◌, ℕ, ◌+◌, ◌<◌, ◌≤◌, Bool, true, false, cond, arith, inl, inr, [], ◌∷◌, ◌++◌, append_assoc}
+use Rattle.std.proofs.Common.{◌≡◌, refl, sym, ap, ◌∙◌, ℕ, ◌+◌, ◌<◌, ◌≤◌, arith, inl, inr, [], ◌∷◌, ◌++◌, append_assoc}
+use Rattle.std.proofs.lemmas.Bool.{cond_both}
 use Rattle.std.proofs.lemmas.List.{length-append}
 use Rattle.std.proofs.lemmas.List.Elements.{All-append, All-cons, All-nil, All-weaker}
 use Rattle.least_boards.specs.Seats.{Seated, with_pass}
@@ -19,32 +20,23 @@ pub still_answered : (board : LeastView) (plan : ℕ × ℕ) (old new : Seated L
     → HasAnswered board plan old t → HasAnswered board plan new t
 still_answered board plan old new t lowered seen had place slot begun not_past within is =
     elim (had place slot begun not_past within is) [
-      | inl low ↦ inl (let x = lowered slot in omega (arith, low))
-      | inr less ↦ inr (let x = seen slot in omega (arith, less))
+      | inl low ↦ inl (omega (arith, low, lowered slot))
+      | inr less ↦ inr (omega (arith, less, seen slot))
     ]
 
 -- a claim lowers and sees nothing
-module _ {X : Type 0} (of : LeastPass → X) where
-  pick : (b : Bool) (x y : Seated LeastPass) → of x.pass ≡ of y.pass → of (cond b x y).pass ≡ of x.pass
-  pick true x y same = refl
-  pick false x y same = sym same
-
-pub claim_lowers_none : (old : Seated LeastPass) (answer : Claim) → (after_answer on_least_hand old answer).pass.lowered ≡ old.pass.lowered
-claim_lowers_none old (Tile t) = refl
-claim_lowers_none old Done = pick (λ p. p.lowered) old.is_done old _ refl
-
-pub claim_sees_none : (old : Seated LeastPass) (answer : Claim) → (after_answer on_least_hand old answer).pass.seen ≡ old.pass.seen
-claim_sees_none old (Tile t) = refl
-claim_sees_none old Done = pick (λ p. p.seen) old.is_done old _ refl
+claim_adds_none : (old : Seated LeastPass) (answer : Claim)
+    → ((after_answer on_least_hand old answer).pass.lowered ≡ old.pass.lowered) × ((after_answer on_least_hand old answer).pass.seen ≡ old.pass.seen)
+claim_adds_none old (Tile t) = (refl, refl)
+claim_adds_none old Done = cond_both old.is_done old _ (λ (s : Seated LeastPass). (s.pass.lowered ≡ old.pass.lowered) × (s.pass.seen ≡ old.pass.seen)) (λ _. (refl, refl)) (λ _. (refl, refl))
 
 pub claim_keeps : (board : LeastView) (plan : ℕ × ℕ) (old new : Seated LeastPass) (answer : Claim) (t : ℕ)
     → new ≡ after_answer on_least_hand old answer → HasAnswered board plan old t → HasAnswered board plan new t
 claim_keeps board plan old new answer t is had =
-    let lowered = ap (λ (s : Seated LeastPass). s.pass.lowered) is ∙ claim_lowers_none old answer in
-    let seen = ap (λ (s : Seated LeastPass). s.pass.seen) is ∙ claim_sees_none old answer in
+    let none = claim_adds_none old answer in
     still_answered board plan old new t
-    (λ slot. let same = ap (lowest slot) lowered in omega (arith, same))
-    (λ slot. let same = ap (lowest slot) seen in omega (arith, same))
+    (λ slot. omega (arith, ap (λ (s : Seated LeastPass). lowered_in slot s.pass) is, ap (lowest slot) none.0))
+    (λ slot. omega (arith, ap (λ (s : Seated LeastPass). seen_in slot s.pass) is, ap (lowest slot) none.1))
     had
 
 -- the place lies in this range
@@ -77,14 +69,11 @@ lowered_later from to old now new same next = record {
 
 pub lowered_on : (from at to : ℕ) (old now new : LeastPass) → from ≤ at → at ≤ to → HasLowered from at old now → HasLowered at to now new → HasLowered from to old new
 lowered_on from at to old now new begun on first next =
-    let long = length-append next.added first.added in
     let before = All-weaker (lies_in from at) (lies_in from to) (λ low is. (is.0, omega (arith, is.1, on))) first.added first.within in
     let after = All-weaker (lies_in at to) (lies_in from to) (λ low is. (omega (arith, is.0, begun), is.1)) next.added next.within in
-    let few_first = first.few in
-    let few_next = next.few in
     record {
       added = next.added ++ first.added;
       lowered = next.lowered ∙ ap (λ lows. next.added ++ lows) first.lowered ∙ sym (append_assoc next.added first.added old.lowered);
       within = All-append (lies_in from to) next.added first.added after before;
-      few = omega (arith, long, few_first, few_next);
+      few = omega (arith, length-append next.added first.added, first.few, next.few);
     }
