@@ -17,30 +17,21 @@ record IsSumOf (n : ℕ) (z : ℤ) : Type 0 where
   high : z ≤ℤ pos (n * 2147483647)
 
 one_more : (n : ℕ) (z x : ℤ) → IsSumOf n z → IsTrue (is_number x) → IsSumOf (n + 1) (z +ℤ x)
-one_more n z x bound number =
-    let f = fits-is_number x number in
-    let low = bound.low in
-    let high = bound.high in
-    record { low = omega (arith, ints, f); high = omega (arith, ints, f) }
+one_more n z x bound number = omega (arith, ints, fits-is_number x number, bound.low, bound.high)
 
 sum-is_word : (n : ℕ) (z : ℤ) → n ≤ 4194304 → IsSumOf n z → IsTrue (is_word z)
-sum-is_word n z few bound =
-    let low = bound.low in
-    let high = bound.high in
-    in-word z (record { low = omega (arith, ints); high = omega (arith, ints) })
+sum-is_word n z few bound = in-word z (omega (arith, ints, bound.low, bound.high))
 
 none : IsSumOf 0 (pos 0)
-none = record { low = omega (arith, ints); high = omega (arith, ints) }
+none = omega (arith, ints)
 
 -- what a fold of numbers reaches from z, where z may be the sum of n numbers
 bound_from : (n : ℕ) (z : ℤ) (xs : List ℤ) → IsSumOf n z → AllPass is_number xs → IsSumOf (n + length xs) (fold ◌+ℤ◌ z xs)
-bound_from n z [] bound numbers = let low = bound.low in let high = bound.high in record { low = omega (arith, ints); high = omega (arith, ints) }
+bound_from n z [] bound numbers = omega (arith, ints, bound.low, bound.high)
 bound_from n z (x ∷ xs) bound numbers =
     let more = one_more n z x bound (All-head (λ y. is_number y ≡ true) x xs numbers) in
     let rest = bound_from (n + 1) (z +ℤ x) xs more (All-tail (λ y. is_number y ≡ true) x xs numbers) in
-    let low = rest.low in
-    let high = rest.high in
-    record { low = omega (arith, ints); high = omega (arith, ints) }
+    omega (arith, ints, rest.low, rest.high)
 
 exact_from : (n : ℕ) (z : ℤ) (xs : List ℤ) → IsSumOf n z → n + length xs ≤ 4194304 → AllPass is_number xs → fold exact_sum_of z xs ≡ fold ◌+ℤ◌ z xs
 exact_from n z [] bound few numbers = refl
@@ -52,9 +43,7 @@ exact_from n z (x ∷ xs) bound few numbers =
 total_bound : (xs : List ℤ) → AllPass is_number xs → IsSumOf (length xs) (total_of xs)
 total_bound xs numbers =
     let bound = bound_from 0 (pos 0) xs none numbers in
-    let low = bound.low in
-    let high = bound.high in
-    record { low = omega (arith, ints); high = omega (arith, ints) }
+    omega (arith, ints, bound.low, bound.high)
 
 pub exact_fold : (xs : List ℤ) → length xs ≤ 4194304 → AllPass is_number xs → fold_of exact_sum_of (pos 0) xs ≡ total_of xs
 exact_fold xs few numbers = exact_from 0 (pos 0) xs none (omega arith) numbers
