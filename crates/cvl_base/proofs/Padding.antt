@@ -1,6 +1,7 @@
 -- A name's bytes, written over the front of a row of zeros.
-use Rattle.std.proofs.Common.{◌≡◌, ℕ, ◌≤◌, Bool, true, false, ◌&&◌, List, [], ◌∷◌, length, take, drop, ◌++◌, refl, ap, sym, subst, ◌∙◌, arith, nat_le}
+use Rattle.std.proofs.Common.{◌≡◌, ℕ, ◌≤◌, true, ◌&&◌, List, [], ◌∷◌, length, take, drop, ◌++◌, ap, sym, subst, ◌∙◌, arith, nat_le}
 use Rattle.std.specs.Prelude.{replicate, IsTrue}
+use Rattle.std.proofs.lemmas.Bool.{and_parts, leb-true}
 use Rattle.std.proofs.lemmas.List.{drop-replicate}
 use Rattle.std.proofs.Math.Seq.{take-append_seam}
 use Rattle.std.specs.List.{list_all}
@@ -9,19 +10,9 @@ use Rattle.cvl_base.specs.Limits.{most_word_bytes}
 use Rattle.cvl_base.specs.NameBytes.{padded}
 use Rattle.cvl_base.specs.Words.{is_word, is_word_byte, is_name}
 
-both_true : (a b : Bool) → a && b ≡ true → (a ≡ true) × (b ≡ true)
-both_true true b e = (refl, e)
-both_true false b e = (e, cc)
-
-at_most : (n m : ℕ) → nat_le n m ≡ true → n ≤ m
-at_most n m e = grind arith
-
 word_fits : (bytes : List ℕ) → is_word bytes ≡ true → length bytes ≤ 32
 word_fits [] e = omega arith
-word_fits (b ∷ bs) e = at_most _ _ (both_true (is_ascii_alphabetic b && list_all is_word_byte bs) (nat_le (length (b ∷ bs)) most_word_bytes) e).1
-
-pub name_fits : (bytes : List ℕ) → is_name bytes ≡ true → length bytes ≤ 32
-name_fits bytes e = word_fits bytes (both_true (is_word bytes) _ e).0
+word_fits (b ∷ bs) e = leb-true (length (b ∷ bs)) 32 (and_parts (is_ascii_alphabetic b && list_all is_word_byte bs) (nat_le (length (b ∷ bs)) most_word_bytes) e).1
 
 -- what lies in memory of a name with these bytes
 abbrev pub IsLaidOut : List ℕ → ℕ → Type 0
@@ -30,7 +21,7 @@ IsLaidOut row len = (len ≤ 32) × (row ≡ padded (take len row)) × (len ≡ 
 laid_out : (bytes : List ℕ) → is_name bytes ≡ true → IsLaidOut (bytes ++ drop (length bytes) (replicate most_word_bytes 0)) (length bytes)
 laid_out bytes e =
     let front : take (length bytes) (bytes ++ drop (length bytes) (replicate most_word_bytes 0)) ≡ bytes = take-append_seam bytes _ in (
-      name_fits bytes e,
+      word_fits bytes (and_parts (is_word bytes) _ e).0,
       ap (λ tail. bytes ++ tail) (drop-replicate (length bytes) most_word_bytes 0) ∙ ap padded (sym front),
       ap length (sym front),
       ap is_name front ∙ e,
