@@ -9,21 +9,15 @@ use Rattle.tile_plan.specs.Ranges.{tile_count, range_of, IsCutBy}
 use Rattle.tile_plan.proofs.Fronts.{next_of_front}
 use Rattle.tile_plan.proofs.Numbers.{ends_at}
 
-joined_more : {Element : Type 0} (tiles : List (List Element)) (t : ℕ) → t < length tiles → joined (take (t + 1) tiles) ≡ joined (take t tiles) ++ get_or tiles t []
-joined_more tiles t within = next_of_front (λ xs. xs) tiles t [] within
-
 -- the tiles before tile t are as long as the places before it
 pub length_before : {Element : Type 0} (len tile : ℕ) (xs : List Element) (tiles : List (List Element)) → 1 ≤ tile → IsCutBy len tile xs tiles → (t : ℕ) → t ≤ tile_count len tile
     → length (joined (take t tiles)) ≡ min len (t * tile)
 length_before len tile xs tiles some cut zero within = omega arith
 length_before len tile xs tiles some cut (suc t) within =
     let next : suc t ≡ t + 1 = omega arith in
-    let below : t < length tiles = omega (arith, cut.as_many) in
-    let parts = ap (λ n. length (joined (take n tiles))) next ∙ ap length (joined_more tiles t below) ∙ length-append (joined (take t tiles)) (get_or tiles t []) in
-    let front = length_before len tile xs tiles some cut t (omega arith) in
-    let here = cut.as_long t (omega arith) in
-    let ends = ends_at len tile t some (omega arith) in
-    omega (arith, parts, front, here, ends)
+    let more = next_of_front (λ ys. ys) tiles t [] (omega (arith, cut.as_many)) in
+    let parts = ap (λ n. length (joined (take n tiles))) next ∙ ap length more ∙ length-append (joined (take t tiles)) (get_or tiles t []) in
+    omega (arith, parts, length_before len tile xs tiles some cut t (omega arith), cut.as_long t (omega arith), ends_at len tile t some (omega arith))
 
 -- the tiles up to tile t are the list's front that ends where tile t does
 pub front_is : {Element : Type 0} (len tile : ℕ) (xs : List Element) (tiles : List (List Element)) → 1 ≤ tile → IsCutBy len tile xs tiles → (t : ℕ) → t < tile_count len tile

@@ -14,17 +14,15 @@ next_of_front f xs i d within =
 
 module _ {X : Type 0} where
   pub take_of_both : (n : ℕ) (xs ys : List X) → take n (xs ++ ys) ≡ take n xs ++ take (n - length xs) ys
-  take_of_both zero [] ys = refl
+  take_of_both zero xs ys = let none : 0 - length xs ≡ 0 = omega arith in rw none refl
   take_of_both (suc n) [] ys = let all : suc n ≡ suc n - 0 = omega arith in ap (λ k. take k ys) all
-  take_of_both zero (x ∷ xs) ys = let none : 0 - length (x ∷ xs) ≡ 0 = omega arith in rw none refl
   take_of_both (suc n) (x ∷ xs) ys =
       let same : suc n - length (x ∷ xs) ≡ n - length xs = omega arith in
       ap (λ zs. x ∷ zs) (take_of_both n xs ys) ∙ ap (λ k. x ∷ (take n xs ++ take k ys)) (omega (arith, same))
 
   pub drop_of_both : (n : ℕ) (xs ys : List X) → drop n (xs ++ ys) ≡ drop n xs ++ drop (n - length xs) ys
-  drop_of_both zero [] ys = refl
+  drop_of_both zero xs ys = let none : 0 - length xs ≡ 0 = omega arith in rw none refl
   drop_of_both (suc n) [] ys = let all : suc n ≡ suc n - 0 = omega arith in ap (λ k. drop k ys) all
-  drop_of_both zero (x ∷ xs) ys = let none : 0 - length (x ∷ xs) ≡ 0 = omega arith in rw none refl
   drop_of_both (suc n) (x ∷ xs) ys =
       let same : n - length xs ≡ suc n - length (x ∷ xs) = omega arith in
       drop_of_both n xs ys ∙ ap (λ k. drop n xs ++ drop k ys) same

@@ -7,9 +7,6 @@ use Rattle.fresh.specs.Places.{Stretch, stretch, with_items}
 use Rattle.fresh.proofs.Written.{nothing_written, written_twice}
 use Rattle.tile_plan.proofs.Fronts.{take_of_both, drop_of_both}
 
-min_swapped : (a b : ℕ) → min a b ≡ min b a
-min_swapped a b = omega arith
-
 module _ {X : Type 0} where
   -- the run with what the pieces passed have at its places, and `left` elements are still to be passed before the first
   pub record IsWritten (old : Stretch X) (passed : List X) (left : ℕ) (now : Stretch X) : Type 0 where
@@ -33,8 +30,9 @@ module _ {X : Type 0} where
       let here : now.room ≡ n - length (take n (drop start passed)) = ap (λ s. s.room) w.is in
       let from : drop (min left (length piece)) piece ≡ drop (start - length passed) piece = drop_min left piece ∙ ap (λ k. drop k piece) w.before in
       let room : now.room ≡ n - length (drop start passed) = omega (arith, here, length-take n (drop start passed)) in
+      let swapped : min (length wanted) now.room ≡ min now.room (length wanted) = omega arith in
       let cut : fitting ≡ take (n - length (drop start passed)) (drop (start - length passed) piece) =
-      fitting_is ∙ ap (λ k. take k wanted) (min_swapped (length wanted) now.room) ∙ take_min now.room wanted ∙ ap₂ take room (wanted_is ∙ from) in
+      fitting_is ∙ ap (λ k. take k wanted) swapped ∙ take_min now.room wanted ∙ ap₂ take room (wanted_is ∙ from) in
       record {
         before = omega (arith, both, w.before);
         is = next_is
