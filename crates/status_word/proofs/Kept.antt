@@ -1,6 +1,6 @@
 -- The scan board's rule is kept by each kind of step, and what it implies.
 -- Source: what the definitions of Passes imply.
-use Rattle.std.proofs.Common.{◌≡◌, ◌≢◌, refl, sym, ap, ◌∙◌, subst, ℕ, ◌≤◌, max, Bool, true, false, cond, eqb, List, [], ◌∷◌, ◌++◌, length, set, arith}
+use Rattle.std.proofs.Common.{◌≡◌, refl, sym, ap, ◌∙◌, subst, ℕ, ◌≤◌, max, Bool, cond, eqb, List, [], ◌∷◌, ◌++◌, length, set, arith}
 use Rattle.std.proofs.lemmas.Bool.{cond_both, eqb-false, eqb-true}
 use Rattle.std.proofs.lemmas.List.{length-append}
 use mathlib.Core.Option.{some, some-ne-none}
