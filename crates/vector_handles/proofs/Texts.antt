@@ -1,5 +1,5 @@
 -- The text of a call without a target, once its arguments are found to be right.
-use Rattle.std.proofs.Common.{◌≡◌, ◌∙◌, ℕ, List, sym, ap, subst, Some, None, Result, Ok, Err}
+use Rattle.std.proofs.Common.{◌≡◌, ℕ, List, sym, ap, subst, Some, None, Result, Ok, Err}
 use Rattle.cvl_base.specs.declared.call.Arg.{Arg}
 use Rattle.cvl_base.specs.declared.call.ResultNames.TheVariants as results
 use Rattle.cvl_base.specs.declared.fault.Fault.{Fault}
@@ -20,14 +20,11 @@ made view make (Ok x) meaning is = ap (λ m. m >>= λ y. Ok (make y)) is
 made view make (Err (refused.Fault f)) meaning is = ap (λ m. m >>= λ y. Ok (make y)) is
 made view make (Err refused.NoResources) meaning is = tt
 
-pub told : {V A : Type 0} (view : V → List ℕ) (names here : Entries A) (inputs : List (Input A)) (op : Op) (args : List Arg) (arg : ArgumentAt A)
-    (answer : Result V Refused) → here ≡ names → args_fault here op args ≡ None → arg ≡ argument_at here args →
-    Gives view answer (written args arg) →
+pub told : {V A : Type 0} (view : V → List ℕ) (names : Entries A) (inputs : List (Input A)) (op : Op) (args : List Arg) (arg : ArgumentAt A)
+    (answer : Result V Refused) → args_fault names op args ≡ None → arg ≡ argument_at names args → Gives view answer (written args arg) →
     Gives (λ v. record { names = names; shown = Some (view v) }) answer (unless (args_fault names op args) (performed names inputs results.None op args))
-told {V} {A} view names here inputs op args arg answer same right values is =
+told {V} {A} view names inputs op args arg answer right values is =
     let shows : List ℕ → Stepped A = λ text. record { names = names; shown = Some text } in
-    let right_here : args_fault names op args ≡ None = ap (λ n. args_fault n op args) (sym same) ∙ right in
-    let values_here : arg ≡ argument_at names args = values ∙ ap (λ n. argument_at n args) same in
     let whole : (written args arg >>= λ text. Ok (shows text)) ≡ unless (args_fault names op args) (performed names inputs results.None op args) =
-    λ i. unless (sym right_here i) (written args (values_here i) >>= λ text. Ok (shows text)) in
+    λ i. unless (sym right i) (written args (values i) >>= λ text. Ok (shows text)) in
     subst (λ m. Gives (λ v. shows (view v)) answer m) whole (made view shows answer (written args arg) is)

@@ -10,10 +10,11 @@ ghost use Rattle.vector_handles.specs.Families.{single};
 use bound_names::Bound;
 use cvl_base::{Fault, Memory, Refused, Value};
 
+/// What a call gives: a value to be bound, or the call's refusal.
+pub(crate) type Answer<A> = Result<Bound<A>, Refused>;
+
 /// The value with the integers that a kernel gave, at most 4,194,304, or the kernel's refusal.
-pub(crate) fn bound_integers<A: Memory>(
-    answer: Result<Vec<i32, A>, Refused>,
-) -> Result<Bound<A>, Refused>
+pub(crate) fn bound_integers<A: Memory>(answer: Result<Vec<i32, A>, Refused>) -> Answer<A>
     requires { IfOk answer (λ v. vec_len v ≤ most_elements) }
     ensures { IsVectorOf integer (λ v. v.items) answer result }
 {
@@ -24,9 +25,7 @@ pub(crate) fn bound_integers<A: Memory>(
 }
 
 /// The value with the booleans that a kernel gave, at most 4,194,304, or the kernel's refusal.
-pub(crate) fn bound_booleans<A: Memory>(
-    answer: Result<Vec<bool, A>, Refused>,
-) -> Result<Bound<A>, Refused>
+pub(crate) fn bound_booleans<A: Memory>(answer: Result<Vec<bool, A>, Refused>) -> Answer<A>
     requires { IfOk answer (λ v. vec_len v ≤ most_elements) }
     ensures { IsVectorOf boolean (λ v. v.items) answer result }
 {
@@ -37,7 +36,7 @@ pub(crate) fn bound_booleans<A: Memory>(
 }
 
 /// The value with the one integer that a kernel gave, or the kernel's fault.
-pub(crate) fn bound_integer<A: Memory>(answer: Result<i32, Fault>) -> Result<Bound<A>, Refused>
+pub(crate) fn bound_integer<A: Memory>(answer: Result<i32, Fault>) -> Answer<A>
     ensures { Gives (λ v. v) result (single integer answer) }
 {
     match answer {
@@ -47,7 +46,7 @@ pub(crate) fn bound_integer<A: Memory>(answer: Result<i32, Fault>) -> Result<Bou
 }
 
 /// The value with the one boolean that a kernel gave, or the kernel's fault.
-pub(crate) fn bound_boolean<A: Memory>(answer: Result<bool, Fault>) -> Result<Bound<A>, Refused>
+pub(crate) fn bound_boolean<A: Memory>(answer: Result<bool, Fault>) -> Answer<A>
     ensures { Gives (λ v. v) result (single boolean answer) }
 {
     match answer {

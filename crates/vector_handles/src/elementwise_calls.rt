@@ -4,141 +4,108 @@ ghost use Rattle.cvl_base.specs.declared.operation.Op.TheVariants as op;
 ghost use Rattle.bound_names.specs.Operands.{AreTaken};
 ghost use Rattle.vector_handles.specs.Answers.{IsTableValue};
 
-use crate::answers::{bound_booleans, bound_integers};
-use crate::session::Session;
-use bound_names::{Bound, Operands};
+use crate::answers::{Answer, bound_booleans, bound_integers};
+use crate::asked::Asked;
+use bound_names::Bound;
 use crew::Gate;
-use cvl_base::{BoolBinary, Comparison, Element, IntBinary, Memory, Refused, Unary};
+use cvl_base::{BoolBinary, Comparison, Element, IntBinary, Memory, Unary};
 use elementwise::{bool_from_int, bool1, bool2, compare, int_from_bool, int1, int2_gated, select};
 use std::thread::Threads;
 
-impl<A: Memory> Session<A> {
+impl<R: Threads + Sync, A: Memory> Asked<'_, R, A> {
     /// An operator on two integer vectors.
-    pub(crate) fn value_of_ints2<R: Threads + Sync, G: Gate>(
-        &self,
-        rt: &R,
-        operator: IntBinary,
-        operands: &Operands<'_, A>,
-        gate: &G,
-    ) -> Result<Bound<A>, Refused>
-        requires kinds { AreTaken (op.Ints2 operator) operands.now }
-        ensures { IsTableValue self.now.inputs (op.Ints2 operator) operands.now result }
+    pub(crate) fn ints2<G: Gate>(&self, operator: IntBinary, gate: &G) -> Answer<A>
+        requires kinds { AreTaken (op.Ints2 operator) self.now.operands }
+        ensures { IsTableValue self.now.inputs.now (op.Ints2 operator) self.now.operands result }
     {
-        let a = operands.first.integers();
-        let b = operands.second.integers();
-        bound_integers(int2_gated(rt, self.alloc, self.config, operator, a, b, gate))
+        let (a, b) = (
+            self.operands.first.integers(),
+            self.operands.second.integers(),
+        );
+        bound_integers(int2_gated(self.rt, self.alloc, self.config, operator, a, b, gate))
     }
 
     /// An operator on an integer vector.
-    pub(crate) fn value_of_ints1<R: Threads + Sync>(
-        &self,
-        rt: &R,
-        operator: Unary,
-        operands: &Operands<'_, A>,
-    ) -> Result<Bound<A>, Refused>
-        requires kinds { AreTaken (op.Ints1 operator) operands.now }
-        ensures { IsTableValue self.now.inputs (op.Ints1 operator) operands.now result }
+    pub(crate) fn ints1(&self, operator: Unary) -> Answer<A>
+        requires kinds { AreTaken (op.Ints1 operator) self.now.operands }
+        ensures { IsTableValue self.now.inputs.now (op.Ints1 operator) self.now.operands result }
     {
-        let a = operands.first.integers();
-        let values = int1(rt, self.alloc, self.config, operator, a)?;
-        Ok(Bound::from_integers(values))
+        let a = self.operands.first.integers();
+        Ok(Bound::from_integers(int1(self.rt, self.alloc, self.config, operator, a)?))
     }
 
     /// A comparison of two integer vectors.
-    pub(crate) fn value_of_compare<R: Threads + Sync>(
-        &self,
-        rt: &R,
-        operator: Comparison,
-        operands: &Operands<'_, A>,
-    ) -> Result<Bound<A>, Refused>
-        requires kinds { AreTaken (op.Compare operator) operands.now }
-        ensures { IsTableValue self.now.inputs (op.Compare operator) operands.now result }
+    pub(crate) fn compare(&self, operator: Comparison) -> Answer<A>
+        requires kinds { AreTaken (op.Compare operator) self.now.operands }
+        ensures { IsTableValue self.now.inputs.now (op.Compare operator) self.now.operands result }
     {
-        let a = operands.first.integers();
-        let b = operands.second.integers();
-        bound_booleans(compare(rt, self.alloc, self.config, operator, a, b))
+        let (a, b) = (
+            self.operands.first.integers(),
+            self.operands.second.integers(),
+        );
+        bound_booleans(compare(self.rt, self.alloc, self.config, operator, a, b))
     }
 
     /// An operator on two boolean vectors.
-    pub(crate) fn value_of_bools2<R: Threads + Sync>(
-        &self,
-        rt: &R,
-        operator: BoolBinary,
-        operands: &Operands<'_, A>,
-    ) -> Result<Bound<A>, Refused>
-        requires kinds { AreTaken (op.Bools2 operator) operands.now }
-        ensures { IsTableValue self.now.inputs (op.Bools2 operator) operands.now result }
+    pub(crate) fn bools2(&self, operator: BoolBinary) -> Answer<A>
+        requires kinds { AreTaken (op.Bools2 operator) self.now.operands }
+        ensures { IsTableValue self.now.inputs.now (op.Bools2 operator) self.now.operands result }
     {
-        let a = operands.first.booleans();
-        let b = operands.second.booleans();
-        bound_booleans(bool2(rt, self.alloc, self.config, operator, a, b))
+        let (a, b) = (
+            self.operands.first.booleans(),
+            self.operands.second.booleans(),
+        );
+        bound_booleans(bool2(self.rt, self.alloc, self.config, operator, a, b))
     }
 
     /// An operator on a boolean vector.
-    pub(crate) fn value_of_bools1<R: Threads + Sync>(
-        &self,
-        rt: &R,
-        operator: Unary,
-        operands: &Operands<'_, A>,
-    ) -> Result<Bound<A>, Refused>
-        requires kinds { AreTaken (op.Bools1 operator) operands.now }
-        ensures { IsTableValue self.now.inputs (op.Bools1 operator) operands.now result }
+    pub(crate) fn bools1(&self, operator: Unary) -> Answer<A>
+        requires kinds { AreTaken (op.Bools1 operator) self.now.operands }
+        ensures { IsTableValue self.now.inputs.now (op.Bools1 operator) self.now.operands result }
     {
-        let a = operands.first.booleans();
-        let values = bool1(rt, self.alloc, self.config, operator, a)?;
-        Ok(Bound::from_booleans(values))
+        let a = self.operands.first.booleans();
+        Ok(Bound::from_booleans(bool1(self.rt, self.alloc, self.config, operator, a)?))
     }
 
     /// A choice between two vectors by flags.
-    pub(crate) fn value_of_choose<R: Threads + Sync>(
-        &self,
-        rt: &R,
-        element: Element,
-        operands: &Operands<'_, A>,
-    ) -> Result<Bound<A>, Refused>
-        requires kinds { AreTaken (op.Choose element) operands.now }
-        ensures { IsTableValue self.now.inputs (op.Choose element) operands.now result }
+    pub(crate) fn choose(&self, element: Element) -> Answer<A>
+        requires kinds { AreTaken (op.Choose element) self.now.operands }
+        ensures { IsTableValue self.now.inputs.now (op.Choose element) self.now.operands result }
     {
-        let flags = operands.first.booleans();
+        let flags = self.operands.first.booleans();
         match element {
             Element::Integer => {
-                let a = operands.second.integers();
-                let b = operands.third.integers();
-                bound_integers(select(rt, self.alloc, self.config, flags, a, b))
+                let (a, b) = (
+                    self.operands.second.integers(),
+                    self.operands.third.integers(),
+                );
+                bound_integers(select(self.rt, self.alloc, self.config, flags, a, b))
             }
             Element::Boolean => {
-                let a = operands.second.booleans();
-                let b = operands.third.booleans();
-                bound_booleans(select(rt, self.alloc, self.config, flags, a, b))
+                let (a, b) = (
+                    self.operands.second.booleans(),
+                    self.operands.third.booleans(),
+                );
+                bound_booleans(select(self.rt, self.alloc, self.config, flags, a, b))
             }
         }
     }
 
     /// The integers 1 and 0 for the booleans of a vector.
-    pub(crate) fn value_of_int_from_bool<R: Threads + Sync>(
-        &self,
-        rt: &R,
-        operands: &Operands<'_, A>,
-    ) -> Result<Bound<A>, Refused>
-        requires kinds { AreTaken op.IntFromBool operands.now }
-        ensures { IsTableValue self.now.inputs op.IntFromBool operands.now result }
+    pub(crate) fn int_from_bool(&self) -> Answer<A>
+        requires kinds { AreTaken op.IntFromBool self.now.operands }
+        ensures { IsTableValue self.now.inputs.now op.IntFromBool self.now.operands result }
     {
-        let a = operands.first.booleans();
-        let values = int_from_bool(rt, self.alloc, self.config, a)?;
-        Ok(Bound::from_integers(values))
+        let a = self.operands.first.booleans();
+        Ok(Bound::from_integers(int_from_bool(self.rt, self.alloc, self.config, a)?))
     }
 
     /// Which integers of a vector aren't 0.
-    pub(crate) fn value_of_bool_from_int<R: Threads + Sync>(
-        &self,
-        rt: &R,
-        operands: &Operands<'_, A>,
-    ) -> Result<Bound<A>, Refused>
-        requires kinds { AreTaken op.BoolFromInt operands.now }
-        ensures { IsTableValue self.now.inputs op.BoolFromInt operands.now result }
+    pub(crate) fn bool_from_int(&self) -> Answer<A>
+        requires kinds { AreTaken op.BoolFromInt self.now.operands }
+        ensures { IsTableValue self.now.inputs.now op.BoolFromInt self.now.operands result }
     {
-        let a = operands.first.integers();
-        let values = bool_from_int(rt, self.alloc, self.config, a)?;
-        Ok(Bound::from_booleans(values))
+        let a = self.operands.first.integers();
+        Ok(Bound::from_booleans(bool_from_int(self.rt, self.alloc, self.config, a)?))
     }
 }

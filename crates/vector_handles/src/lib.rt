@@ -2,9 +2,9 @@
 #![tactic(auto)]
 
 mod answers;
+mod asked;
 mod bindings;
 mod calls;
-mod checked_calls;
 mod elementwise_calls;
 pub mod input;
 pub mod laws;

@@ -6,46 +6,31 @@ ghost use Rattle.cvl_base.specs.Limits.{most_elements};
 ghost use Rattle.bound_names.specs.Operands.{AreTaken};
 ghost use Rattle.vector_handles.specs.Answers.{IsNestOf, IsTablePair};
 
-use crate::numbered::nest_of_input;
-use crate::session::Session;
-use bound_names::{Bound, Operands};
+use crate::asked::Asked;
+use bound_names::Bound;
 use cvl_base::{Fault, FaultNo, Memory, Op, Refused};
 use segdes::SegDes;
 use std::thread::Threads;
 
-impl<A: Memory> Session<A> {
+impl<R: Threads + Sync, A: Memory> Asked<'_, R, A> {
     /// The two values that a call gives; `WrongArgumentCount` for every call that gives one or none.
-    pub(crate) fn pair_of_call<R: Threads + Sync>(
-        &self,
-        rt: &R,
-        op: Op,
-        operands: &Operands<'_, A>,
-    ) -> Result<(Bound<A>, Bound<A>), Refused>
-        requires kinds { AreTaken op operands.now }
-        ensures { IsTablePair self.now.inputs op operands.now result }
+    pub(crate) fn pair(&self, op: Op) -> Result<(Bound<A>, Bound<A>), Refused>
+        requires kinds { AreTaken op self.now.operands }
+        ensures { IsTablePair self.now.inputs.now op self.now.operands result }
     {
         match op {
-            Op::Nested => self.pair_of_nested(rt, operands),
+            Op::Nested => self.nested(),
             _ => Err(Refused::Fault(Fault::new(FaultNo::WrongArgumentCount))),
         }
     }
 
     /// `nested`: `NoSuchInput` where no input has that number, and the faults of reading it.
-    fn pair_of_nested<R: Threads + Sync>(
-        &self,
-        rt: &R,
-        operands: &Operands<'_, A>,
-    ) -> Result<(Bound<A>, Bound<A>), Refused>
-        requires kinds { AreTaken op.Nested operands.now }
-        ensures { IsTablePair self.now.inputs op.Nested operands.now result }
+    fn nested(&self) -> Result<(Bound<A>, Bound<A>), Refused>
+        requires kinds { AreTaken op.Nested self.now.operands }
+        ensures { IsTablePair self.now.inputs.now op.Nested self.now.operands result }
     {
-        match self.input_asked_for(operands) {
-            Some(input) => {
-                bound_nest(
-                    self.alloc,
-                    nest_of_input(rt, self.alloc, self.config, input),
-                )
-            }
+        match self.input_asked_for() {
+            Some(input) => bound_nest(self.alloc, self.nest_of(input)),
             None => Err(Refused::Fault(Fault::new(FaultNo::NoSuchInput))),
         }
     }
@@ -59,11 +44,7 @@ fn bound_nest<A: Memory>(
     requires { IfOk answer (λ nest. vec_len nest.0 ≤ most_elements) }
     ensures { IsNestOf (λ nest. (nest.0.items, nest.1)) answer result }
 {
-    match answer {
-        Ok((values, descriptor)) => {
-            let descriptor = Bound::from_descriptor(alloc, descriptor)?;
-            Ok((Bound::from_integers(values), descriptor))
-        }
-        Err(refusal) => Err(refusal),
-    }
+    let (values, descriptor) = answer?;
+    let descriptor = Bound::from_descriptor(alloc, descriptor)?;
+    Ok((Bound::from_integers(values), descriptor))
 }

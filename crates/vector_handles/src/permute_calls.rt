@@ -9,9 +9,8 @@ ghost use Rattle.vector_handles.specs.Answers.{IsTableValue};
 ghost use Rattle.bound_names.specs.Arguments.{integers_in};
 ghost use Rattle.vector_handles.specs.Families.{permuted};
 
-use crate::answers::{bound_booleans, bound_integers};
-use crate::session::Session;
-use bound_names::{Bound, Operands};
+use crate::answers::{Answer, bound_booleans, bound_integers};
+use crate::asked::Asked;
 use crew::Gate;
 use cvl_base::{Cut, Element, Form, Memory, Refused};
 use permutes::{back_gated, default_into_gated, select_gated, simple_gated};
@@ -20,54 +19,49 @@ use segmented_permutes::{
 };
 use std::thread::Threads;
 
-impl<A: Memory> Session<A> {
+impl<R: Threads + Sync, A: Memory> Asked<'_, R, A> {
     /// A permute of an integer or a boolean vector.
-    pub(crate) fn value_of_permute<R: Threads + Sync, G: Gate>(
+    pub(crate) fn permute<G: Gate>(
         &self,
-        rt: &R,
         form: Form,
         cut: Cut,
         element: Element,
-        operands: &Operands<'_, A>,
         gate: &G,
-    ) -> Result<Bound<A>, Refused>
-        requires kinds { AreTaken (op.Permute form cut element) operands.now }
-        ensures { IsTableValue self.now.inputs (op.Permute form cut element) operands.now result }
+    ) -> Answer<A>
+        requires kinds { AreTaken (op.Permute form cut element) self.now.operands }
+        ensures { IsTableValue self.now.inputs.now (op.Permute form cut element) self.now.operands result }
     {
+        let (source, defaults) = (self.operands.first, self.operands.third);
         match element {
             Element::Integer => {
-                let source = operands.first.integers();
-                let defaults = operands.third.integers_if_any();
-                bound_integers(self.permuted(rt, form, cut, source, defaults, operands, gate))
+                let (source, defaults) = (source.integers(), defaults.integers_if_any());
+                bound_integers(self.permuted(form, cut, source, defaults, gate))
             }
             Element::Boolean => {
-                let source = operands.first.booleans();
-                let defaults = operands.third.booleans_if_any();
-                bound_booleans(self.permuted(rt, form, cut, source, defaults, operands, gate))
+                let (source, defaults) = (source.booleans(), defaults.booleans_if_any());
+                bound_booleans(self.permuted(form, cut, source, defaults, gate))
             }
         }
     }
 
     /// The elements of a source, permuted. The index, the flags and the descriptors are the operands at their places.
-    fn permuted<T: Copy + Send + Sync, R: Threads + Sync, G: Gate>(
+    fn permuted<T: Copy + Send + Sync, G: Gate>(
         &self,
-        rt: &R,
         form: Form,
         cut: Cut,
         source: &[T],
         defaults: &[T],
-        operands: &Operands<'_, A>,
         gate: &G,
     ) -> Result<Vec<T, A>, Refused>
-        requires kinds { (element : Element) × AreTaken (op.Permute form cut element) operands.now }
+        requires kinds { (element : Element) × AreTaken (op.Permute form cut element) self.now.operands }
         requires source { length source.now ≤ most_elements }
         requires defaults { length defaults.now ≤ most_elements }
         ensures values { Gives (λ v. v.items) result
-            (permuted form cut source.now (integers_in (held operands.now.second)) defaults.now
-            (held_at operands.now)) }
+            (permuted form cut source.now (integers_in (held self.now.operands.second)) defaults.now
+            (held_at self.now.operands)) }
         ensures in_limit { IfOk result (λ v. vec_len v ≤ most_elements) }
     {
-        let (alloc, config) = (self.alloc, self.config);
+        let (rt, alloc, config, operands) = (self.rt, self.alloc, self.config, self.operands);
         let index = operands.second.integers_if_any();
         match cut {
             Cut::Flat => match form {

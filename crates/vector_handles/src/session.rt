@@ -4,7 +4,7 @@ ghost use Rattle.std.specs.Prelude.{◌≡◌, [], IfOk, OnErr, option_copied};
 
 use crate::input::Input;
 use crate::shown::Shown;
-use bound_names::{Names, value_of};
+use bound_names::{Names, bind_answer, bind_answers, value_of};
 use crew::{Gate, OpenGate};
 use cvl_base::{Call, Config, Memory, Name, NoResources, Refused, ResultNames, Value};
 use std::collections::BTreeMap;
@@ -85,11 +85,13 @@ impl<A: Memory> Session<A> {
         match call.results {
             ResultNames::None => Ok(Shown::Text(self.text_of_call(rt, call.op, args)?)),
             ResultNames::One(target) => {
-                self.bind(rt, &target, call.op, args, gate)?;
+                let answer = self.value_for(rt, &target, call.op, args, gate);
+                bind_answer(&mut self.names, &target, answer)?;
                 Ok(Shown::Nothing)
             }
             ResultNames::Two(first, second) => {
-                self.bind_both(rt, &first, &second, call.op, args)?;
+                let answer = self.values_for(rt, &first, &second, call.op, args);
+                bind_answers(&mut self.names, &first, &second, answer)?;
                 Ok(Shown::Nothing)
             }
         }

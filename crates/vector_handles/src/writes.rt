@@ -10,10 +10,11 @@ ghost use Rattle.bound_names.specs.Arguments.{args_fault};
 ghost use Rattle.bound_names.specs.Operands.{held_at};
 ghost use Rattle.vector_handles.specs.Steps.{name_in, performed, shown_text_of, written};
 
+use crate::asked::Asked;
 use crate::session::Session;
-use bound_names::{Operand, Operands, resolve};
+use bound_names::Operand;
 use call_reader::put_value;
-use cvl_base::{Arg, Config, Fault, FaultNo, Memory, Op, Refused, Value};
+use cvl_base::{Arg, Fault, FaultNo, Memory, Op, Refused, Value};
 use segdes::SegDes;
 use std::thread::Threads;
 
@@ -29,26 +30,53 @@ impl<A: Memory> Session<A> {
             (unless (args_fault self.now.names op args.now)
             (performed self.now.names self.now.inputs results.None op args.now)) }
     {
-        let operands = resolve(&self.names, op, args)?;
-        self.text_of_write(rt, args, &operands)
+        self.asked(rt, op, args)?.text_of_write(args)
     }
+}
 
+impl<R: Threads + Sync, A: Memory> Asked<'_, R, A> {
     /// The name, ` = `, the value and a line feed: `LengthMismatch` where a descriptor beside the value doesn't add up
     /// to the value's length.
-    fn text_of_write<R: Threads + Sync>(
-        &self,
-        rt: &R,
-        args: &[Arg],
-        operands: &Operands<'_, A>,
-    ) -> Result<Vec<u8, A>, Refused>
-        ensures { Gives (λ text. text.items) result (written args.now (held_at operands.now)) }
+    fn text_of_write(&self, args: &[Arg]) -> Result<Vec<u8, A>, Refused>
+        ensures { Gives (λ text. text.items) result (written args.now (held_at self.now.operands)) }
     {
         let mut text = Vec::new(self.alloc);
         text.extend_from_slice(name_of_first(args))?;
         text.extend_from_slice(b" = ")?;
-        put_first(rt, self.alloc, self.config, operands, &mut text)?;
+        self.put_first(&mut text)?;
         text.push(b'\n')?;
         Ok(text)
+    }
+
+    /// Appends the text of the first operand, beside the second where that is a descriptor.
+    fn put_first(&self, text: &mut Vec<u8, A>) -> Result<(), Refused>
+        ensures { Appends text.old.items text.new.items result (shown_text_of (held_at self.now.operands)) }
+    {
+        let beside = self.operands.second.descriptor_if_any();
+        match self.operands.first {
+            Operand::Absent => Ok(()),
+            Operand::Bound(bound) => self.put_beside(bound.value(), beside, text),
+            Operand::Integer(n) => self.put_beside(&Value::Integer(n), beside, text),
+            Operand::Boolean(b) => self.put_beside(&Value::Boolean(b), beside, text),
+        }
+    }
+
+    /// Appends the text of a value, beside a descriptor if there is one: `LengthMismatch` where the value is no vector of
+    /// as many elements as the descriptor's segments.
+    fn put_beside(
+        &self,
+        value: &Value<A>,
+        beside: Option<&SegDes<A>>,
+        text: &mut Vec<u8, A>,
+    ) -> Result<(), Refused>
+        ensures { Appends text.old.items text.new.items result (value_text (option_copied beside.entry) value.now) }
+    {
+        if let Some(descriptor) = beside {
+            if !is_cut(value, descriptor) {
+                return Err(Refused::Fault(Fault::new(FaultNo::LengthMismatch)));
+            }
+        }
+        Ok(put_value(self.rt, self.alloc, self.config, value, beside, text)?)
     }
 }
 
@@ -60,45 +88,6 @@ fn name_of_first(args: &[Arg]) -> &[u8]
         Some(Arg::Name(name)) => name.as_bytes(),
         _ => &[],
     }
-}
-
-/// Appends the text of the first operand, beside the second where that is a descriptor.
-fn put_first<R: Threads + Sync, A: Memory>(
-    rt: &R,
-    alloc: A,
-    config: Config,
-    operands: &Operands<'_, A>,
-    text: &mut Vec<u8, A>,
-) -> Result<(), Refused>
-    ensures { Appends text.old.items text.new.items result (shown_text_of (held_at operands.now)) }
-{
-    let beside = operands.second.descriptor_if_any();
-    match operands.first {
-        Operand::Absent => Ok(()),
-        Operand::Bound(bound) => put_beside(rt, alloc, config, bound.value(), beside, text),
-        Operand::Integer(n) => put_beside(rt, alloc, config, &Value::Integer(n), beside, text),
-        Operand::Boolean(b) => put_beside(rt, alloc, config, &Value::Boolean(b), beside, text),
-    }
-}
-
-/// Appends the text of a value, beside a descriptor if there is one: `LengthMismatch` where the value is no vector of
-/// as many elements as the descriptor's segments.
-fn put_beside<R: Threads + Sync, A: Memory>(
-    rt: &R,
-    alloc: A,
-    config: Config,
-    value: &Value<A>,
-    beside: Option<&SegDes<A>>,
-    text: &mut Vec<u8, A>,
-) -> Result<(), Refused>
-    ensures { Appends text.old.items text.new.items result (value_text (option_copied beside.entry) value.now) }
-{
-    if let Some(descriptor) = beside {
-        if !is_cut(value, descriptor) {
-            return Err(Refused::Fault(Fault::new(FaultNo::LengthMismatch)));
-        }
-    }
-    Ok(put_value(rt, alloc, config, value, beside, text)?)
 }
 
 /// Whether the value is a vector of as many elements as the descriptor's segments.

@@ -1,0 +1,45 @@
+//! A call that is made on a session, once its arguments are found to be right.
+
+ghost use Rattle.std.specs.Prelude.{◌≡◌, IfOk, MatchResult, None, Some};
+ghost use Rattle.bound_names.specs.Arguments.{args_fault, argument_at};
+ghost use Rattle.bound_names.specs.Operands.{AreTaken, held_at};
+
+use crate::input::Input;
+use crate::session::Session;
+use bound_names::{Operands, resolve};
+use cvl_base::{Arg, Config, Fault, Memory, Op};
+
+/// What the arguments of a call hold, the session's inputs, and what a kernel takes beside them.
+#[derive(Drop)]
+pub(crate) struct Asked<'a, R, A: Memory> {
+    pub(crate) rt: &'a R,
+    pub(crate) alloc: A,
+    pub(crate) config: Config,
+    pub(crate) inputs: &'a [Input<A>],
+    pub(crate) operands: Operands<'a, A>,
+}
+
+impl<A: Memory> Session<A> {
+    /// A call with these arguments, or their first fault.
+    pub(crate) fn asked<'a, R>(
+        &'a self,
+        rt: &'a R,
+        op: Op,
+        args: &[Arg],
+    ) -> Result<Asked<'a, R, A>, Fault>
+        ensures fault { MatchResult result
+            (λ _. args_fault self.now.names op args.now ≡ None)
+            (λ fault. args_fault self.now.names op args.now ≡ Some fault) }
+        ensures values { IfOk result (λ asked. held_at asked.operands ≡ argument_at self.now.names args.now) }
+        ensures kinds { IfOk result (λ asked. AreTaken op asked.operands) }
+        ensures inputs { IfOk result (λ asked. asked.inputs.now ≡ self.now.inputs) }
+    {
+        Ok(Asked {
+            rt,
+            alloc: self.alloc,
+            config: self.config,
+            inputs: self.inputs.as_slice(),
+            operands: resolve(&self.names, op, args)?,
+        })
+    }
+}
