@@ -10,17 +10,16 @@ ghost use Rattle.flag_calls.specs.Flags.{as_bytes, flags_of};
 ghost use Rattle.c_calls.specs.Numbers.{bool_binary, unary};
 ghost use Rattle.c_calls.specs.Tiles.{bool_scan_after};
 
-use crate::checks::{check_limit, segments};
-use crate::in_place::scan;
+use crate::checks::check_limit;
+use crate::in_place::{scan, seg_scan};
+use crate::monoids::by_bool_monoid;
 use crate::numbers::{bool_binary, unary};
-use cvl_base::monoids::{BoolAnd, BoolIor, BoolXor};
 use cvl_base::{BoolBinary, Fault};
 use flag_calls::{
     bool1_in, bool2_in_both, bool2_in_first, bool2_in_second, select_flags_in_first,
     select_flags_in_second, select_in_first, select_in_second,
 };
-use scan_walks::{scan_in, seg_scan_in};
-use segdes::SegLengths;
+use scan_walks::scan_in;
 
 /// The operator on each two flags at the same place, over the first.
 pub fn bool2_first(op: u32, a: &mut [u8], b: &[u8]) -> Result<(), Fault>
@@ -96,36 +95,19 @@ pub fn select_bool_second(flags: &[u8], a: &[u8], b: &mut [u8]) -> Result<(), Fa
     select_flags_in_second(flags, a, b)
 }
 
-/// The scan of booleans by an operator, over the booleans.
-fn bool_scan_by(op: BoolBinary, a: &mut [bool])
-    ensures { a.new ≡ bool_scan_of op a.old }
-{
-    match op {
-        BoolBinary::And => scan::<BoolAnd>(a),
-        BoolBinary::Ior => scan::<BoolIor>(a),
-        BoolBinary::Xor => scan::<BoolXor>(a),
-    }
-}
-
 /// The scan of booleans by the operator of a number, over the booleans.
 pub fn bool_scan(op: u32, a: &mut [bool]) -> Result<(), Fault>
     ensures { Overwrites (by_operator (bool_binary op) (λ o. in_limit a.old (Ok (bool_scan_of o a.old)))) result a.old a.new }
 {
     let op = bool_binary(op)?;
-    check_limit(a)?;
-    bool_scan_by(op, a);
-    Ok(())
+    by_bool_monoid!(op, scan(a))
 }
 
 /// The scan of booleans by an operator, after a boolean, over the booleans.
 fn bool_scan_after_by(op: BoolBinary, before: bool, a: &mut [bool])
     ensures { a.new ≡ bool_scan_after op before a.old }
 {
-    match op {
-        BoolBinary::And => scan_in::<BoolAnd>(before, a),
-        BoolBinary::Ior => scan_in::<BoolIor>(before, a),
-        BoolBinary::Xor => scan_in::<BoolXor>(before, a),
-    }
+    by_bool_monoid!(op, scan_in(before, a))
 }
 
 /// The scan of booleans by the operator of a number, after a boolean, over the booleans.
@@ -138,23 +120,11 @@ pub fn bool_scan_from(op: u32, before: bool, a: &mut [bool]) -> Result<(), Fault
     Ok(())
 }
 
-/// The scan of each segment of booleans by an operator, over the booleans.
-fn bool_scan_of_segments(op: BoolBinary, a: &mut [bool], d: &SegLengths) -> Result<(), Fault>
-    ensures { Overwrites (seg_scan_of (bool_join_of op) (bool_unit_of op) a.old d.now) result a.old a.new }
-{
-    match op {
-        BoolBinary::And => seg_scan_in::<BoolAnd>(a, d),
-        BoolBinary::Ior => seg_scan_in::<BoolIor>(a, d),
-        BoolBinary::Xor => seg_scan_in::<BoolXor>(a, d),
-    }
-}
-
 /// The scan of each segment of booleans by the operator of a number, over the booleans.
 pub fn seg_bool_scan(op: u32, a: &mut [bool], lengths: &[i32]) -> Result<(), Fault>
     ensures { Overwrites (by_operator (bool_binary op)
         (λ o. by_segments lengths.now (seg_scan_of (bool_join_of o) (bool_unit_of o) a.old))) result a.old a.new }
 {
     let op = bool_binary(op)?;
-    let d = segments(lengths)?;
-    bool_scan_of_segments(op, a, &d)
+    by_bool_monoid!(op, seg_scan(a, lengths))
 }

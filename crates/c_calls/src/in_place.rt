@@ -1,12 +1,11 @@
 //! The calls in place: the result is written over a vector that the call reads, which is as before where a fault is told. They
 //! check what the same calls over a room check, in the same order; there is no room whose length could differ.
 
-ghost use Rattle.std.specs.Prelude.{◌≡◌, ◌≤◌, Ok, length};
+ghost use Rattle.std.specs.Prelude.{◌≡◌, Ok};
 ghost use Rattle.std.specs.List.{AllPass};
 ghost use Rattle.cvl_base.specs.CheckedSums.{checked_scan_of, checked_seg_scan_of};
 ghost use Rattle.cvl_base.specs.Elementwise.{ints1_of, ints2_of};
 ghost use Rattle.cvl_base.specs.Folds.{scan_of};
-ghost use Rattle.cvl_base.specs.Limits.{most_elements};
 ghost use Rattle.cvl_base.specs.Rooms.{Overwrites};
 ghost use Rattle.cvl_base.specs.Scans.{int_join_of, int_scan_of, int_unit_of};
 ghost use Rattle.cvl_base.specs.SegmentedCalls.{seg_scan_of};
@@ -15,13 +14,12 @@ ghost use Rattle.c_calls.specs.Numbers.{int_binary, int_monoid, unary};
 ghost use Rattle.c_calls.specs.Tiles.{int_scan_after};
 
 use crate::checks::{check_limit, segments};
+use crate::monoids::by_int_monoid;
 use crate::numbers::{int_binary, int_monoid, unary};
 use cvl_base::monoid::know_laws;
-use cvl_base::monoids::{Add, And, Ior, Max, Min, Mul, Xor};
 use cvl_base::{Fault, IntMonoid, Monoid};
 use elementwise::{int1_in, int2_in_both, int2_in_first, int2_in_second};
 use scan_walks::{checked_scan_in, checked_seg_scan_in, know_numbers, scan_in, seg_scan_in};
-use segdes::SegLengths;
 
 /// The operator on each two integers at the same place, over the first.
 pub fn int2_first(op: u32, a: &mut [i32], b: &[i32]) -> Result<(), Fault>
@@ -61,28 +59,23 @@ pub fn int1(op: u32, a: &mut [i32]) -> Result<(), Fault>
 }
 
 /// The scan from the unit on, over the elements.
-pub(crate) fn scan<M: Monoid>(a: &mut [M::Item])
-    requires items { AllPass M.is_item a.old }
-    ensures { a.new ≡ scan_of M.join M.unit a.old }
+pub(crate) fn scan<M: Monoid>(a: &mut [M::Item]) -> Result<(), Fault>
+    requires { AllPass M.is_item a.old }
+    ensures { Overwrites (in_limit a.old (Ok (scan_of M.join M.unit a.old))) result a.old a.new }
 {
+    check_limit(a)?;
     know_laws::<M>();
     scan_in::<M>(M::unit(), a);
+    Ok(())
 }
 
-/// The scan of integers by an operator, over the integers.
-fn int_scan_by(op: IntMonoid, a: &mut [i32])
-    ensures { a.new ≡ int_scan_of op a.old }
+/// The scan of each segment, over the elements.
+pub(crate) fn seg_scan<M: Monoid>(a: &mut [M::Item], lengths: &[i32]) -> Result<(), Fault>
+    requires { AllPass M.is_item a.old }
+    ensures { Overwrites (by_segments lengths.now (seg_scan_of M.join M.unit a.old)) result a.old a.new }
 {
-    know_numbers(a);
-    match op {
-        IntMonoid::Add => scan::<Add>(a),
-        IntMonoid::Mul => scan::<Mul>(a),
-        IntMonoid::Min => scan::<Min>(a),
-        IntMonoid::Max => scan::<Max>(a),
-        IntMonoid::And => scan::<And>(a),
-        IntMonoid::Ior => scan::<Ior>(a),
-        IntMonoid::Xor => scan::<Xor>(a),
-    }
+    let d = segments(lengths)?;
+    seg_scan_in::<M>(a, &d)
 }
 
 /// The scan of integers by the operator of a number, over the integers.
@@ -90,26 +83,17 @@ pub fn int_scan(op: u32, a: &mut [i32]) -> Result<(), Fault>
     ensures { Overwrites (by_operator (int_monoid op) (λ o. in_limit a.old (Ok (int_scan_of o a.old)))) result a.old a.new }
 {
     let op = int_monoid(op)?;
-    check_limit(a)?;
-    int_scan_by(op, a);
-    Ok(())
+    know_numbers(a);
+    by_int_monoid!(op, scan(a))
 }
 
 /// The scan of integers by an operator, after an integer, over the integers.
-fn int_scan_after_by(op: IntMonoid, before: i32, a: &mut [i32])
-    ensures { a.new ≡ int_scan_after op before a.old }
+fn int_scan_after_by(op: IntMonoid, before: &i32, a: &mut [i32])
+    ensures { a.new ≡ int_scan_after op before.now a.old }
 {
-    know_numbers(&[before]);
+    know_numbers(&[*before]);
     know_numbers(a);
-    match op {
-        IntMonoid::Add => scan_in::<Add>(before, a),
-        IntMonoid::Mul => scan_in::<Mul>(before, a),
-        IntMonoid::Min => scan_in::<Min>(before, a),
-        IntMonoid::Max => scan_in::<Max>(before, a),
-        IntMonoid::And => scan_in::<And>(before, a),
-        IntMonoid::Ior => scan_in::<Ior>(before, a),
-        IntMonoid::Xor => scan_in::<Xor>(before, a),
-    }
+    by_int_monoid!(op, scan_in(*before, a))
 }
 
 /// The scan of integers by the operator of a number, after an integer, over the integers.
@@ -118,7 +102,7 @@ pub fn int_scan_from(op: u32, before: i32, a: &mut [i32]) -> Result<(), Fault>
 {
     let op = int_monoid(op)?;
     check_limit(a)?;
-    int_scan_after_by(op, before, a);
+    int_scan_after_by(op, &before, a);
     Ok(())
 }
 
@@ -130,30 +114,14 @@ pub fn checked_scan(a: &mut [i32]) -> Result<(), Fault>
     checked_scan_in(a)
 }
 
-/// The scan of each segment of integers by an operator, over the integers.
-fn int_scan_of_segments(op: IntMonoid, a: &mut [i32], d: &SegLengths) -> Result<(), Fault>
-    ensures { Overwrites (seg_scan_of (int_join_of op) (int_unit_of op) a.old d.now) result a.old a.new }
-{
-    know_numbers(a);
-    match op {
-        IntMonoid::Add => seg_scan_in::<Add>(a, d),
-        IntMonoid::Mul => seg_scan_in::<Mul>(a, d),
-        IntMonoid::Min => seg_scan_in::<Min>(a, d),
-        IntMonoid::Max => seg_scan_in::<Max>(a, d),
-        IntMonoid::And => seg_scan_in::<And>(a, d),
-        IntMonoid::Ior => seg_scan_in::<Ior>(a, d),
-        IntMonoid::Xor => seg_scan_in::<Xor>(a, d),
-    }
-}
-
 /// The scan of each segment of integers by the operator of a number, over the integers.
 pub fn seg_int_scan(op: u32, a: &mut [i32], lengths: &[i32]) -> Result<(), Fault>
     ensures { Overwrites (by_operator (int_monoid op)
         (λ o. by_segments lengths.now (seg_scan_of (int_join_of o) (int_unit_of o) a.old))) result a.old a.new }
 {
     let op = int_monoid(op)?;
-    let d = segments(lengths)?;
-    int_scan_of_segments(op, a, &d)
+    know_numbers(a);
+    by_int_monoid!(op, seg_scan(a, lengths))
 }
 
 /// For each integer the sum of those before it in its segment, over the integers.

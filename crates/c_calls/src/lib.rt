@@ -10,6 +10,7 @@ pub mod elements;
 pub mod flags_in_place;
 pub mod flat_permutes;
 pub mod in_place;
+mod monoids;
 pub mod nested_texts;
 mod numbers;
 pub mod packs;

@@ -1,9 +1,8 @@
 //! Scans and reduces of whole vectors.
 
-ghost use Rattle.std.specs.Prelude.{◌≡◌, ◌≤◌, Ok, length};
+ghost use Rattle.std.specs.Prelude.{◌≡◌, Ok, length};
 ghost use Rattle.std.specs.List.{AllPass};
 ghost use Rattle.cvl_base.specs.Folds.{fold_of, scan_of};
-ghost use Rattle.cvl_base.specs.Limits.{most_elements};
 ghost use Rattle.cvl_base.specs.Rooms.{Overwrites};
 ghost use Rattle.cvl_base.specs.Scans.{bool_reduce_of, bool_scan_of, int_reduce_of, int_scan_of};
 ghost use Rattle.c_calls.specs.Calls.{by_operator, in_limit};
@@ -12,74 +11,30 @@ ghost use Rattle.c_calls.specs.Numbers.{bool_binary, int_monoid};
 ghost use Rattle.c_calls.specs.Told.{in_room};
 
 use crate::checks::check_limit;
+use crate::monoids::{by_bool_monoid, by_int_monoid};
 use crate::numbers::{bool_binary, int_monoid};
 use cvl_base::monoid::know_laws;
-use cvl_base::monoids::{Add, And, BoolAnd, BoolIor, BoolXor, Ior, Max, Min, Mul, Xor};
-use cvl_base::{BoolBinary, Fault, IntMonoid, Monoid};
+use cvl_base::{Fault, Monoid};
 use scan_walks::{Itself, know_numbers, scan_over, sum_from};
 
 /// For each element those before it, joined from left to right, and the unit where none is.
 fn scan<M: Monoid>(a: &[M::Item], out: &mut [M::Item]) -> Result<(), Fault>
-    requires items { AllPass M.is_item a.now }
-    requires in_limit { length a.now ≤ most_elements }
-    ensures { Overwrites (in_room (length out.old) (Ok (scan_of M.join M.unit a.now))) result out.old out.new }
+    requires { AllPass M.is_item a.now }
+    ensures { Overwrites (in_room (length out.old) (in_limit a.now (Ok (scan_of M.join M.unit a.now)))) result out.old out.new }
 {
+    check_limit(a)?;
     know_laws::<M>();
     scan_over::<M>(M::unit(), a, out)
 }
 
 /// The elements, joined from left to right, and the unit where there are none.
-fn reduce<M: Monoid>(a: &[M::Item]) -> M::Item
+fn reduce<M: Monoid>(a: &[M::Item]) -> Result<M::Item, Fault>
     requires { AllPass M.is_item a.now }
-    ensures { result ≡ fold_of M.join M.unit a.now }
+    ensures { result ≡ in_limit a.now (Ok (fold_of M.join M.unit a.now)) }
 {
+    check_limit(a)?;
     know_laws::<M>();
-    sum_from::<M, M::Item, Itself>(M::unit(), a)
-}
-
-/// The scan of integers by an operator.
-fn int_scan_by(op: IntMonoid, a: &[i32], out: &mut [i32]) -> Result<(), Fault>
-    requires { length a.now ≤ most_elements }
-    ensures { Overwrites (in_room (length out.old) (Ok (int_scan_of op a.now))) result out.old out.new }
-{
-    know_numbers(a);
-    match op {
-        IntMonoid::Add => scan::<Add>(a, out),
-        IntMonoid::Mul => scan::<Mul>(a, out),
-        IntMonoid::Min => scan::<Min>(a, out),
-        IntMonoid::Max => scan::<Max>(a, out),
-        IntMonoid::And => scan::<And>(a, out),
-        IntMonoid::Ior => scan::<Ior>(a, out),
-        IntMonoid::Xor => scan::<Xor>(a, out),
-    }
-}
-
-/// The reduce of integers by an operator.
-fn int_reduce_by(op: IntMonoid, a: &[i32]) -> i32
-    ensures { result ≡ int_reduce_of op a.now }
-{
-    know_numbers(a);
-    match op {
-        IntMonoid::Add => reduce::<Add>(a),
-        IntMonoid::Mul => reduce::<Mul>(a),
-        IntMonoid::Min => reduce::<Min>(a),
-        IntMonoid::Max => reduce::<Max>(a),
-        IntMonoid::And => reduce::<And>(a),
-        IntMonoid::Ior => reduce::<Ior>(a),
-        IntMonoid::Xor => reduce::<Xor>(a),
-    }
-}
-
-/// The scan of booleans by an operator.
-fn bool_scan_by(op: BoolBinary, a: &[bool], out: &mut [bool]) -> Result<(), Fault>
-    requires { length a.now ≤ most_elements }
-    ensures { Overwrites (in_room (length out.old) (Ok (bool_scan_of op a.now))) result out.old out.new }
-{
-    match op {
-        BoolBinary::And => scan::<BoolAnd>(a, out),
-        BoolBinary::Ior => scan::<BoolIor>(a, out),
-        BoolBinary::Xor => scan::<BoolXor>(a, out),
-    }
+    Ok(sum_from::<M, M::Item, Itself>(M::unit(), a))
 }
 
 /// The scan of integers by the operator of a number.
@@ -87,8 +42,8 @@ pub fn int_scan(op: u32, a: &[i32], out: &mut [i32]) -> Result<(), Fault>
     ensures { Overwrites (in_room (length out.old) (by_operator (int_monoid op) (λ o. in_limit a.now (Ok (int_scan_of o a.now))))) result out.old out.new }
 {
     let op = int_monoid(op)?;
-    check_limit(a)?;
-    int_scan_by(op, a, out)
+    know_numbers(a);
+    by_int_monoid!(op, scan(a, out))
 }
 
 /// The reduce of integers by the operator of a number.
@@ -96,8 +51,8 @@ pub fn int_reduce(op: u32, a: &[i32]) -> Result<i32, Fault>
     ensures { result ≡ by_operator (int_monoid op) (λ o. in_limit a.now (Ok (int_reduce_of o a.now))) }
 {
     let op = int_monoid(op)?;
-    check_limit(a)?;
-    Ok(int_reduce_by(op, a))
+    know_numbers(a);
+    by_int_monoid!(op, reduce(a))
 }
 
 /// The scan of booleans by the operator of a number.
@@ -105,8 +60,7 @@ pub fn bool_scan(op: u32, a: &[bool], out: &mut [bool]) -> Result<(), Fault>
     ensures { Overwrites (in_room (length out.old) (by_operator (bool_binary op) (λ o. in_limit a.now (Ok (bool_scan_of o a.now))))) result out.old out.new }
 {
     let op = bool_binary(op)?;
-    check_limit(a)?;
-    bool_scan_by(op, a, out)
+    by_bool_monoid!(op, scan(a, out))
 }
 
 /// The reduce of flags by the operator of a number.

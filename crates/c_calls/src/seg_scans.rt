@@ -1,6 +1,7 @@
 //! Scans and reduces of each segment. Segments come as their lengths.
 
 ghost use Rattle.std.specs.Prelude.{length};
+ghost use Rattle.std.specs.List.{AllPass};
 ghost use Rattle.cvl_base.specs.Rooms.{Overwrites};
 ghost use Rattle.cvl_base.specs.Scans.{bool_join_of, bool_unit_of, int_join_of, int_unit_of};
 ghost use Rattle.cvl_base.specs.SegmentedCalls.{seg_reduce_of, seg_scan_of};
@@ -10,54 +11,28 @@ ghost use Rattle.c_calls.specs.Numbers.{bool_binary, int_monoid};
 ghost use Rattle.c_calls.specs.Told.{in_room};
 
 use crate::checks::segments;
+use crate::monoids::{by_bool_monoid, by_int_monoid};
 use crate::numbers::{bool_binary, int_monoid};
-use cvl_base::monoids::{Add, And, BoolAnd, BoolIor, BoolXor, Ior, Max, Min, Mul, Xor};
-use cvl_base::{BoolBinary, Fault, IntMonoid};
+use cvl_base::{Fault, Monoid};
 use flag_calls::seg_bool_reduce_over;
 use scan_walks::{know_numbers, seg_reduce_over, seg_scan_over};
-use segdes::SegLengths;
 
-/// The scan of each segment of integers by an operator.
-fn int_scan_by(op: IntMonoid, a: &[i32], d: &SegLengths, out: &mut [i32]) -> Result<(), Fault>
-    ensures { Overwrites (in_room (length out.old) (seg_scan_of (int_join_of op) (int_unit_of op) a.now d.now)) result out.old out.new }
+/// For each element those before it in its segment, joined from left to right, and the unit where none is.
+fn scan<M: Monoid>(a: &[M::Item], lengths: &[i32], out: &mut [M::Item]) -> Result<(), Fault>
+    requires { AllPass M.is_item a.now }
+    ensures { Overwrites (in_room (length out.old) (by_segments lengths.now (seg_scan_of M.join M.unit a.now))) result out.old out.new }
 {
-    know_numbers(a);
-    match op {
-        IntMonoid::Add => seg_scan_over::<Add>(a, d, out),
-        IntMonoid::Mul => seg_scan_over::<Mul>(a, d, out),
-        IntMonoid::Min => seg_scan_over::<Min>(a, d, out),
-        IntMonoid::Max => seg_scan_over::<Max>(a, d, out),
-        IntMonoid::And => seg_scan_over::<And>(a, d, out),
-        IntMonoid::Ior => seg_scan_over::<Ior>(a, d, out),
-        IntMonoid::Xor => seg_scan_over::<Xor>(a, d, out),
-    }
+    let d = segments(lengths)?;
+    seg_scan_over::<M>(a, &d, out)
 }
 
-/// The reduce of each segment of integers by an operator.
-fn int_reduce_by(op: IntMonoid, a: &[i32], d: &SegLengths, out: &mut [i32]) -> Result<(), Fault>
-    ensures { Overwrites (in_room (length out.old) (seg_reduce_of (int_join_of op) (int_unit_of op) a.now d.now)) result out.old out.new }
+/// The elements of each segment, joined from left to right, and the unit where there are none.
+fn reduce<M: Monoid>(a: &[M::Item], lengths: &[i32], out: &mut [M::Item]) -> Result<(), Fault>
+    requires { AllPass M.is_item a.now }
+    ensures { Overwrites (in_room (length out.old) (by_segments lengths.now (seg_reduce_of M.join M.unit a.now))) result out.old out.new }
 {
-    know_numbers(a);
-    match op {
-        IntMonoid::Add => seg_reduce_over::<Add>(a, d, out),
-        IntMonoid::Mul => seg_reduce_over::<Mul>(a, d, out),
-        IntMonoid::Min => seg_reduce_over::<Min>(a, d, out),
-        IntMonoid::Max => seg_reduce_over::<Max>(a, d, out),
-        IntMonoid::And => seg_reduce_over::<And>(a, d, out),
-        IntMonoid::Ior => seg_reduce_over::<Ior>(a, d, out),
-        IntMonoid::Xor => seg_reduce_over::<Xor>(a, d, out),
-    }
-}
-
-/// The scan of each segment of booleans by an operator.
-fn bool_scan_by(op: BoolBinary, a: &[bool], d: &SegLengths, out: &mut [bool]) -> Result<(), Fault>
-    ensures { Overwrites (in_room (length out.old) (seg_scan_of (bool_join_of op) (bool_unit_of op) a.now d.now)) result out.old out.new }
-{
-    match op {
-        BoolBinary::And => seg_scan_over::<BoolAnd>(a, d, out),
-        BoolBinary::Ior => seg_scan_over::<BoolIor>(a, d, out),
-        BoolBinary::Xor => seg_scan_over::<BoolXor>(a, d, out),
-    }
+    let d = segments(lengths)?;
+    seg_reduce_over::<M>(a, &d, out)
 }
 
 /// The scan of each segment of integers by the operator of a number.
@@ -66,8 +41,8 @@ pub fn int_scan(op: u32, a: &[i32], lengths: &[i32], out: &mut [i32]) -> Result<
         (λ o. by_segments lengths.now (seg_scan_of (int_join_of o) (int_unit_of o) a.now)))) result out.old out.new }
 {
     let op = int_monoid(op)?;
-    let d = segments(lengths)?;
-    int_scan_by(op, a, &d, out)
+    know_numbers(a);
+    by_int_monoid!(op, scan(a, lengths, out))
 }
 
 /// The reduce of each segment of integers by the operator of a number.
@@ -76,8 +51,8 @@ pub fn int_reduce(op: u32, a: &[i32], lengths: &[i32], out: &mut [i32]) -> Resul
         (λ o. by_segments lengths.now (seg_reduce_of (int_join_of o) (int_unit_of o) a.now)))) result out.old out.new }
 {
     let op = int_monoid(op)?;
-    let d = segments(lengths)?;
-    int_reduce_by(op, a, &d, out)
+    know_numbers(a);
+    by_int_monoid!(op, reduce(a, lengths, out))
 }
 
 /// The scan of each segment of booleans by the operator of a number.
@@ -86,8 +61,7 @@ pub fn bool_scan(op: u32, a: &[bool], lengths: &[i32], out: &mut [bool]) -> Resu
         (λ o. by_segments lengths.now (seg_scan_of (bool_join_of o) (bool_unit_of o) a.now)))) result out.old out.new }
 {
     let op = bool_binary(op)?;
-    let d = segments(lengths)?;
-    bool_scan_by(op, a, &d, out)
+    by_bool_monoid!(op, scan(a, lengths, out))
 }
 
 /// The reduce of each segment of flags by the operator of a number.

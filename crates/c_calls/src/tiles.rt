@@ -9,8 +9,8 @@ ghost use Rattle.c_calls.specs.Told.{in_room};
 ghost use Rattle.c_calls.specs.Tiles.{bool_scan_after, int_scan_after};
 
 use crate::checks::check_limit;
+use crate::monoids::{by_bool_monoid, by_int_monoid};
 use crate::numbers::{bool_binary, int_monoid};
-use cvl_base::monoids::{Add, And, BoolAnd, BoolIor, BoolXor, Ior, Max, Min, Mul, Xor};
 use cvl_base::{BoolBinary, Fault, IntMonoid};
 use scan_walks::{know_numbers, scan_over};
 
@@ -21,15 +21,7 @@ fn int_scan_after_by(op: IntMonoid, before: i32, a: &[i32], out: &mut [i32]) -> 
 {
     know_numbers(&[before]);
     know_numbers(a);
-    match op {
-        IntMonoid::Add => scan_over::<Add>(before, a, out),
-        IntMonoid::Mul => scan_over::<Mul>(before, a, out),
-        IntMonoid::Min => scan_over::<Min>(before, a, out),
-        IntMonoid::Max => scan_over::<Max>(before, a, out),
-        IntMonoid::And => scan_over::<And>(before, a, out),
-        IntMonoid::Ior => scan_over::<Ior>(before, a, out),
-        IntMonoid::Xor => scan_over::<Xor>(before, a, out),
-    }
+    by_int_monoid!(op, scan_over(before, a, out))
 }
 
 /// The scan of booleans by an operator, after a boolean.
@@ -42,11 +34,7 @@ fn bool_scan_after_by(
     requires { length a.now ≤ most_elements }
     ensures { Overwrites (in_room (length out.old) (Ok (bool_scan_after op before a.now))) result out.old out.new }
 {
-    match op {
-        BoolBinary::And => scan_over::<BoolAnd>(before, a, out),
-        BoolBinary::Ior => scan_over::<BoolIor>(before, a, out),
-        BoolBinary::Xor => scan_over::<BoolXor>(before, a, out),
-    }
+    by_bool_monoid!(op, scan_over(before, a, out))
 }
 
 /// The scan of integers by the operator of a number, after an integer.
