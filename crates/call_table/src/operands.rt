@@ -2,40 +2,44 @@
 //! hold.
 
 ghost use Rattle.std.specs.Prelude.{◌≡◌, ◌∷◌};
-ghost use Rattle.call_table.specs.Calls.{operands_of, cut_by};
+ghost use Rattle.call_table.specs.Calls.{operands_of, cut_by, vector_of};
 ghost use Rattle.call_table.specs.declared.operation.Op.TheVariants as op;
 
 use crate::families::{Cut, Element, Form};
 use crate::kind::Kind;
-use crate::kind::Kind::{Boolean, Booleans, Descriptor, Integer, Integers};
+
+/// A kind of a list: `single` is that of one element of this type, and `vector` that of a vector of them.
+macro_rules! kind {
+    ($of:ident single) => { Kind::$of };
+    (Integer vector) => { Kind::Integers };
+    (Boolean vector) => { Kind::Booleans };
+    ($of:ident $kind:ident) => { Kind::$kind };
+}
+
+/// A list of kinds, for elements of either type.
+macro_rules! kinds {
+    ($element:expr; $($kind:ident),*) => {
+        match $element {
+            Element::Integer => &[$(kind!(Integer $kind)),*],
+            Element::Boolean => &[$(kind!(Boolean $kind)),*],
+        }
+    };
+}
 
 /// Flags, and the two vectors to choose from.
 pub(crate) fn of_choose(element: Element) -> &'static [Kind]
     ensures { result.now ≡ operands_of (op.Choose element) }
 {
-    match element {
-        Element::Integer => &[Booleans, Integers, Integers],
-        Element::Boolean => &[Booleans, Booleans, Booleans],
-    }
+    kinds!(element; Booleans, vector, vector)
 }
 
-/// Numbers to be scanned or reduced.
-pub(crate) fn of_ints(cut: Cut) -> &'static [Kind]
-    ensures { result.now ≡ Kind.Integers ∷ cut_by cut }
+/// A vector: to be scanned or reduced, or whose elements or flags are counted.
+pub(crate) fn of_vector(cut: Cut, element: Element) -> &'static [Kind]
+    ensures { result.now ≡ vector_of element ∷ cut_by cut }
 {
     match cut {
-        Cut::Flat => &[Integers],
-        Cut::Segmented => &[Integers, Descriptor],
-    }
-}
-
-/// Flags to be scanned, reduced or counted.
-pub(crate) fn of_bools(cut: Cut) -> &'static [Kind]
-    ensures { result.now ≡ Kind.Booleans ∷ cut_by cut }
-{
-    match cut {
-        Cut::Flat => &[Booleans],
-        Cut::Segmented => &[Booleans, Descriptor],
+        Cut::Flat => kinds!(element; vector),
+        Cut::Segmented => kinds!(element; vector, Descriptor),
     }
 }
 
@@ -44,43 +48,16 @@ pub(crate) fn of_bools(cut: Cut) -> &'static [Kind]
 pub(crate) fn of_permute(form: Form, cut: Cut, element: Element) -> &'static [Kind]
     ensures { result.now ≡ operands_of (op.Permute form cut element) }
 {
-    match (form, cut, element) {
-        (Form::Simple | Form::Back, Cut::Flat, Element::Integer) => &[Integers, Integers],
-        (Form::Simple | Form::Back, Cut::Flat, Element::Boolean) => &[Booleans, Integers],
-        (Form::Simple, Cut::Segmented, Element::Integer) => &[Integers, Integers, Descriptor],
-        (Form::Simple, Cut::Segmented, Element::Boolean) => &[Booleans, Integers, Descriptor],
-        (Form::Back, Cut::Segmented, Element::Integer) => &[
-            Integers, Integers, Descriptor, Descriptor,
-        ],
-        (Form::Back, Cut::Segmented, Element::Boolean) => &[
-            Booleans, Integers, Descriptor, Descriptor,
-        ],
-        (Form::Select, Cut::Flat, Element::Integer) => &[Integers, Integers, Booleans],
-        (Form::Select, Cut::Flat, Element::Boolean) => &[Booleans, Integers, Booleans],
-        (Form::Select, Cut::Segmented, Element::Integer) => &[
-            Integers, Integers, Booleans, Descriptor,
-        ],
-        (Form::Select, Cut::Segmented, Element::Boolean) => &[
-            Booleans, Integers, Booleans, Descriptor,
-        ],
-        (Form::Default, Cut::Flat, Element::Integer) => &[Integers, Integers, Integers],
-        (Form::Default, Cut::Flat, Element::Boolean) => &[Booleans, Integers, Booleans],
-        (Form::Default, Cut::Segmented, Element::Integer) => {
-            &[Integers, Integers, Integers, Descriptor, Descriptor]
+    match (form, cut) {
+        (Form::Simple | Form::Back, Cut::Flat) => kinds!(element; vector, Integers),
+        (Form::Simple, Cut::Segmented) => kinds!(element; vector, Integers, Descriptor),
+        (Form::Back, Cut::Segmented) => kinds!(element; vector, Integers, Descriptor, Descriptor),
+        (Form::Select, Cut::Flat) => kinds!(element; vector, Integers, Booleans),
+        (Form::Select, Cut::Segmented) => kinds!(element; vector, Integers, Booleans, Descriptor),
+        (Form::Default, Cut::Flat) => kinds!(element; vector, Integers, vector),
+        (Form::Default, Cut::Segmented) => {
+            kinds!(element; vector, Integers, vector, Descriptor, Descriptor)
         }
-        (Form::Default, Cut::Segmented, Element::Boolean) => {
-            &[Booleans, Integers, Booleans, Descriptor, Descriptor]
-        }
-    }
-}
-
-/// A vector.
-pub(crate) fn of_length(element: Element) -> &'static [Kind]
-    ensures { result.now ≡ operands_of (op.Length element) }
-{
-    match element {
-        Element::Integer => &[Integers],
-        Element::Boolean => &[Booleans],
     }
 }
 
@@ -88,11 +65,9 @@ pub(crate) fn of_length(element: Element) -> &'static [Kind]
 pub(crate) fn of_pack(cut: Cut, element: Element) -> &'static [Kind]
     ensures { result.now ≡ operands_of (op.Pack cut element) }
 {
-    match (cut, element) {
-        (Cut::Flat, Element::Integer) => &[Integers, Booleans],
-        (Cut::Flat, Element::Boolean) => &[Booleans, Booleans],
-        (Cut::Segmented, Element::Integer) => &[Integers, Booleans, Descriptor],
-        (Cut::Segmented, Element::Boolean) => &[Booleans, Booleans, Descriptor],
+    match cut {
+        Cut::Flat => kinds!(element; vector, Booleans),
+        Cut::Segmented => kinds!(element; vector, Booleans, Descriptor),
     }
 }
 
@@ -100,11 +75,9 @@ pub(crate) fn of_pack(cut: Cut, element: Element) -> &'static [Kind]
 pub(crate) fn of_distribute(cut: Cut, element: Element) -> &'static [Kind]
     ensures { result.now ≡ operands_of (op.Distribute cut element) }
 {
-    match (cut, element) {
-        (Cut::Flat, Element::Integer) => &[Integer, Integer],
-        (Cut::Flat, Element::Boolean) => &[Boolean, Integer],
-        (Cut::Segmented, Element::Integer) => &[Integers, Descriptor],
-        (Cut::Segmented, Element::Boolean) => &[Booleans, Descriptor],
+    match cut {
+        Cut::Flat => kinds!(element; single, Integer),
+        Cut::Segmented => kinds!(element; vector, Descriptor),
     }
 }
 
@@ -113,8 +86,8 @@ pub(crate) fn of_index(cut: Cut) -> &'static [Kind]
     ensures { result.now ≡ operands_of (op.Index cut) }
 {
     match cut {
-        Cut::Flat => &[Integer, Integer, Integer],
-        Cut::Segmented => &[Integers, Integers, Descriptor],
+        Cut::Flat => &[Kind::Integer, Kind::Integer, Kind::Integer],
+        Cut::Segmented => &[Kind::Integers, Kind::Integers, Kind::Descriptor],
     }
 }
 
@@ -122,11 +95,9 @@ pub(crate) fn of_index(cut: Cut) -> &'static [Kind]
 pub(crate) fn of_extract(cut: Cut, element: Element) -> &'static [Kind]
     ensures { result.now ≡ operands_of (op.Extract cut element) }
 {
-    match (cut, element) {
-        (Cut::Flat, Element::Integer) => &[Integers, Integer],
-        (Cut::Flat, Element::Boolean) => &[Booleans, Integer],
-        (Cut::Segmented, Element::Integer) => &[Integers, Integers, Descriptor],
-        (Cut::Segmented, Element::Boolean) => &[Booleans, Integers, Descriptor],
+    match cut {
+        Cut::Flat => kinds!(element; vector, Integer),
+        Cut::Segmented => kinds!(element; vector, Integers, Descriptor),
     }
 }
 
@@ -134,10 +105,8 @@ pub(crate) fn of_extract(cut: Cut, element: Element) -> &'static [Kind]
 pub(crate) fn of_replace(cut: Cut, element: Element) -> &'static [Kind]
     ensures { result.now ≡ operands_of (op.Replace cut element) }
 {
-    match (cut, element) {
-        (Cut::Flat, Element::Integer) => &[Integers, Integer, Integer],
-        (Cut::Flat, Element::Boolean) => &[Booleans, Integer, Boolean],
-        (Cut::Segmented, Element::Integer) => &[Integers, Integers, Integers, Descriptor],
-        (Cut::Segmented, Element::Boolean) => &[Booleans, Integers, Booleans, Descriptor],
+    match cut {
+        Cut::Flat => kinds!(element; vector, Integer, single),
+        Cut::Segmented => kinds!(element; vector, Integers, vector, Descriptor),
     }
 }

@@ -1,11 +1,10 @@
 //! The names of the calls, and the call that a name means.
 
-ghost use Rattle.std.specs.Prelude.{◌≡◌, ◌≢◌, ◌++◌, ℕ, List, Some, None, false, bytes_eq, find, map};
+ghost use Rattle.std.specs.Prelude.{◌≡◌, ◌≢◌, ◌++◌, ℕ, List, Some, None, false, bytes_eq, find};
 ghost use Rattle.call_table.specs.declared.operation.Op.{Op};
-ghost use Rattle.call_table.specs.declared.operation.Op.TheVariants as op;
 ghost use Rattle.call_table.specs.Letters.{call_name_of};
 ghost use Rattle.call_table.specs.Calls.{spelling_of, is_write};
-ghost use Rattle.call_table.specs.Spellings.{bytes_of, is_spelled, int_binaries, unaries, comparisons, bool_binaries, int_monoids, forms, elements, elementwise_calls, element_calls, cut_calls, other_calls, op_of};
+ghost use Rattle.call_table.specs.Spellings.{bytes_of, is_spelled, elementwise_calls, element_calls, cut_calls, other_calls, op_of};
 
 use crate::families::{
     BoolBinary, Comparison, Cut, Element, Form, IntBinary, IntMonoid, Unary, cut_and_element,
@@ -92,96 +91,42 @@ impl fmt::Display for Spelling {
     }
 }
 
-/// The calls of a family, one for each operator on two integer vectors.
-macro_rules! each_int_binary {
-    ($call:path $(, $part:expr)*) => {
-        [
-            $call(IntBinary::Add $(, $part)*),
-            $call(IntBinary::Sub $(, $part)*),
-            $call(IntBinary::Mul $(, $part)*),
-            $call(IntBinary::Div $(, $part)*),
-            $call(IntBinary::Mod $(, $part)*),
-            $call(IntBinary::Min $(, $part)*),
-            $call(IntBinary::Max $(, $part)*),
-            $call(IntBinary::Lsh $(, $part)*),
-            $call(IntBinary::Rsh $(, $part)*),
-            $call(IntBinary::And $(, $part)*),
-            $call(IntBinary::Ior $(, $part)*),
-            $call(IntBinary::Xor $(, $part)*),
-        ]
+/// The calls of families, family by family one for each operator of its enum, and then other calls.
+macro_rules! calls {
+    ([$($made:tt)*]; $($other:expr),*) => { [$($made)* $($other),*] };
+    ([$($made:tt)*] $call:ident $parts:tt by IntBinary $($rest:tt)*) => {
+        family!([$($made)*] $call $parts IntBinary: Add Sub Mul Div Mod Min Max Lsh Rsh And Ior Xor; $($rest)*)
+    };
+    ([$($made:tt)*] $call:ident $parts:tt by Unary $($rest:tt)*) => {
+        family!([$($made)*] $call $parts Unary: Not Copy; $($rest)*)
+    };
+    ([$($made:tt)*] $call:ident $parts:tt by Comparison $($rest:tt)*) => {
+        family!([$($made)*] $call $parts Comparison: Greater Less AtLeast AtMost Equal Unequal; $($rest)*)
+    };
+    ([$($made:tt)*] $call:ident $parts:tt by BoolBinary $($rest:tt)*) => {
+        family!([$($made)*] $call $parts BoolBinary: And Ior Xor; $($rest)*)
+    };
+    ([$($made:tt)*] $call:ident $parts:tt by IntMonoid $($rest:tt)*) => {
+        family!([$($made)*] $call $parts IntMonoid: Add Mul Min Max And Ior Xor; $($rest)*)
+    };
+    ([$($made:tt)*] $call:ident $parts:tt by Form $($rest:tt)*) => {
+        family!([$($made)*] $call $parts Form: Simple Back Select Default; $($rest)*)
+    };
+    ([$($made:tt)*] $call:ident $parts:tt by Element $($rest:tt)*) => {
+        family!([$($made)*] $call $parts Element: Integer Boolean; $($rest)*)
     };
 }
 
-/// The calls of a family, one for each operator on one vector.
-macro_rules! each_unary {
-    ($call:path $(, $part:expr)*) => {
-        [
-            $call(Unary::Not $(, $part)*),
-            $call(Unary::Copy $(, $part)*),
-        ]
+/// The calls that are made, those of one more family, and the rest.
+macro_rules! family {
+    ([$($made:tt)*] $call:ident $parts:tt $of:ident: $($operator:ident)*; $($rest:tt)*) => {
+        calls!([$($made)* $(call!($call $of $operator $parts),)*] $($rest)*)
     };
 }
 
-/// The calls of a family, one for each comparison.
-macro_rules! each_comparison {
-    ($call:path $(, $part:expr)*) => {
-        [
-            $call(Comparison::Greater $(, $part)*),
-            $call(Comparison::Less $(, $part)*),
-            $call(Comparison::AtLeast $(, $part)*),
-            $call(Comparison::AtMost $(, $part)*),
-            $call(Comparison::Equal $(, $part)*),
-            $call(Comparison::Unequal $(, $part)*),
-        ]
-    };
-}
-
-/// The calls of a family, one for each operator on two booleans.
-macro_rules! each_bool_binary {
-    ($call:path $(, $part:expr)*) => {
-        [
-            $call(BoolBinary::And $(, $part)*),
-            $call(BoolBinary::Ior $(, $part)*),
-            $call(BoolBinary::Xor $(, $part)*),
-        ]
-    };
-}
-
-/// The calls of a family, one for each type of elements.
-macro_rules! each_element {
-    ($call:path $(, $part:expr)*) => {
-        [
-            $call(Element::Integer $(, $part)*),
-            $call(Element::Boolean $(, $part)*),
-        ]
-    };
-}
-
-/// The calls of a family, one for each associative operator on integers.
-macro_rules! each_int_monoid {
-    ($call:path $(, $part:expr)*) => {
-        [
-            $call(IntMonoid::Add $(, $part)*),
-            $call(IntMonoid::Mul $(, $part)*),
-            $call(IntMonoid::Min $(, $part)*),
-            $call(IntMonoid::Max $(, $part)*),
-            $call(IntMonoid::And $(, $part)*),
-            $call(IntMonoid::Ior $(, $part)*),
-            $call(IntMonoid::Xor $(, $part)*),
-        ]
-    };
-}
-
-/// The calls of a family, one for each form of permute.
-macro_rules! each_form {
-    ($call:path $(, $part:expr)*) => {
-        [
-            $call(Form::Simple $(, $part)*),
-            $call(Form::Back $(, $part)*),
-            $call(Form::Select $(, $part)*),
-            $call(Form::Default $(, $part)*),
-        ]
-    };
+/// A call of a family: the operator, and what else the family's calls differ in.
+macro_rules! call {
+    ($call:ident $of:ident $operator:ident ($($part:expr),*)) => { Op::$call($of::$operator $(, $part)*) };
 }
 
 /// The first of these calls whose name is the word.
@@ -191,160 +136,74 @@ fn first_spelled(calls: &[Op], word: &[u8]) -> Option<Op>
     calls.iter().copied().find(|op| op.is_spelled(word))
 }
 
-/// The operator on two integer vectors with this name.
-#[tactic(auto, unfolding(crate::specs::Spellings::int_binaries))]
-fn ints2_named(word: &[u8]) -> Option<Op>
-    ensures { result ≡ find (is_spelled word.now) (map op.Ints2 int_binaries) }
-{
-    first_spelled(&each_int_binary!(Op::Ints2), word)
-}
-
-/// The operator on one integer vector with this name.
-#[tactic(auto, unfolding(crate::specs::Spellings::unaries))]
-fn ints1_named(word: &[u8]) -> Option<Op>
-    ensures { result ≡ find (is_spelled word.now) (map op.Ints1 unaries) }
-{
-    first_spelled(&each_unary!(Op::Ints1), word)
-}
-
-/// The comparison with this name.
-#[tactic(auto, unfolding(crate::specs::Spellings::comparisons))]
-fn compare_named(word: &[u8]) -> Option<Op>
-    ensures { result ≡ find (is_spelled word.now) (map op.Compare comparisons) }
-{
-    first_spelled(&each_comparison!(Op::Compare), word)
-}
-
-/// The operator on two boolean vectors with this name.
-#[tactic(auto, unfolding(crate::specs::Spellings::bool_binaries))]
-fn bools2_named(word: &[u8]) -> Option<Op>
-    ensures { result ≡ find (is_spelled word.now) (map op.Bools2 bool_binaries) }
-{
-    first_spelled(&each_bool_binary!(Op::Bools2), word)
-}
-
-/// The operator on one boolean vector with this name.
-#[tactic(auto, unfolding(crate::specs::Spellings::unaries))]
-fn bools1_named(word: &[u8]) -> Option<Op>
-    ensures { result ≡ find (is_spelled word.now) (map op.Bools1 unaries) }
-{
-    first_spelled(&each_unary!(Op::Bools1), word)
-}
-
-/// The choice with this name.
-#[tactic(auto, unfolding(crate::specs::Spellings::elements))]
-fn choose_named(word: &[u8]) -> Option<Op>
-    ensures { result ≡ find (is_spelled word.now) (map op.Choose elements) }
-{
-    first_spelled(&each_element!(Op::Choose), word)
-}
-
 /// The elementwise call with this name.
+#[tactic(auto, unfolding(crate::specs::Spellings::int_binaries, crate::specs::Spellings::unaries, crate::specs::Spellings::comparisons, crate::specs::Spellings::bool_binaries, crate::specs::Spellings::elements))]
 fn elementwise_named(word: &[u8]) -> Option<Op>
     ensures { result ≡ find (is_spelled word.now) elementwise_calls }
 {
-    let conversion = first_spelled(&[Op::IntFromBool, Op::BoolFromInt], word);
-    ints2_named(word)
-        .or(ints1_named(word))
-        .or(compare_named(word))
-        .or(bools2_named(word))
-        .or(bools1_named(word))
-        .or(choose_named(word))
-        .or(conversion)
-}
-
-/// The scan of integers with this name, flat or by segments.
-#[tactic(auto, unfolding(crate::specs::Spellings::int_monoids))]
-fn scan_named(cut: Cut, word: &[u8]) -> Option<Op>
-    ensures { result ≡ find (is_spelled word.now) (map (λ o. op.Scan o cut) int_monoids) }
-{
-    first_spelled(&each_int_monoid!(Op::Scan, cut), word)
-}
-
-/// The reduce of integers with this name, flat or by segments.
-#[tactic(auto, unfolding(crate::specs::Spellings::int_monoids))]
-fn reduce_named(cut: Cut, word: &[u8]) -> Option<Op>
-    ensures { result ≡ find (is_spelled word.now) (map (λ o. op.Reduce o cut) int_monoids) }
-{
-    first_spelled(&each_int_monoid!(Op::Reduce, cut), word)
-}
-
-/// The scan of booleans with this name, flat or by segments.
-#[tactic(auto, unfolding(crate::specs::Spellings::bool_binaries))]
-fn bool_scan_named(cut: Cut, word: &[u8]) -> Option<Op>
-    ensures { result ≡ find (is_spelled word.now) (map (λ o. op.BoolScan o cut) bool_binaries) }
-{
-    first_spelled(&each_bool_binary!(Op::BoolScan, cut), word)
-}
-
-/// The reduce of booleans with this name, flat or by segments.
-#[tactic(auto, unfolding(crate::specs::Spellings::bool_binaries))]
-fn bool_reduce_named(cut: Cut, word: &[u8]) -> Option<Op>
-    ensures { result ≡ find (is_spelled word.now) (map (λ o. op.BoolReduce o cut) bool_binaries) }
-{
-    first_spelled(&each_bool_binary!(Op::BoolReduce, cut), word)
-}
-
-/// The permute with this name, flat or by segments, of such elements.
-#[tactic(auto, unfolding(crate::specs::Spellings::forms))]
-fn permute_named(cut: Cut, element: Element, word: &[u8]) -> Option<Op>
-    ensures { result ≡ find (is_spelled word.now) (map (λ form. op.Permute form cut element) forms) }
-{
-    first_spelled(&each_form!(Op::Permute, cut, element), word)
+    let calls = calls!([]
+        Ints2() by IntBinary
+        Ints1() by Unary
+        Compare() by Comparison
+        Bools2() by BoolBinary
+        Bools1() by Unary
+        Choose() by Element;
+        Op::IntFromBool, Op::BoolFromInt
+    );
+    first_spelled(&calls, word)
 }
 
 /// The call with this name on such elements, flat or by segments.
+#[tactic(auto, unfolding(crate::specs::Spellings::forms))]
 fn element_call_named(cut: Cut, element: Element, word: &[u8]) -> Option<Op>
     ensures { result ≡ find (is_spelled word.now) (element_calls cut element) }
 {
-    let others = [
+    let calls = calls!([]
+        Permute(cut, element) by Form;
         Op::Pack(cut, element),
         Op::Distribute(cut, element),
         Op::Extract(cut, element),
-        Op::Replace(cut, element),
-    ];
-    permute_named(cut, element, word).or(first_spelled(&others, word))
+        Op::Replace(cut, element)
+    );
+    first_spelled(&calls, word)
 }
 
 /// The call with this name of those that take their vectors whole, or of those that take them by segments.
 fn cut_call_named(cut: Cut, word: &[u8]) -> Option<Op>
     ensures { result ≡ find (is_spelled word.now) (cut_calls cut) }
 {
+    let calls = calls!([]
+        Scan(cut) by IntMonoid
+        Reduce(cut) by IntMonoid
+        BoolScan(cut) by BoolBinary
+        BoolReduce(cut) by BoolBinary;
+    );
     let others = [
         Op::CheckedScan(cut),
         Op::CheckedReduce(cut),
         Op::Count(cut),
         Op::Index(cut),
     ];
-    scan_named(cut, word)
-        .or(reduce_named(cut, word))
-        .or(bool_scan_named(cut, word))
-        .or(bool_reduce_named(cut, word))
+    first_spelled(&calls, word)
         .or(element_call_named(cut, Element::Integer, word))
         .or(element_call_named(cut, Element::Boolean, word))
         .or(first_spelled(&others, word))
 }
 
-/// The length with this name.
-#[tactic(auto, unfolding(crate::specs::Spellings::elements))]
-fn length_named(word: &[u8]) -> Option<Op>
-    ensures { result ≡ find (is_spelled word.now) (map op.Length elements) }
-{
-    first_spelled(&each_element!(Op::Length), word)
-}
-
 /// The call with this name that reads an input or a length, or makes or reads a descriptor.
+#[tactic(auto, unfolding(crate::specs::Spellings::elements))]
 fn other_call_named(word: &[u8]) -> Option<Op>
     ensures { result ≡ find (is_spelled word.now) other_calls }
 {
-    let others = [
+    let calls = calls!([]
+        Length() by Element;
         Op::Input,
         Op::Nested,
         Op::PackedLengths,
         Op::MakeDescriptor,
-        Op::DescriptorLengths,
-    ];
-    length_named(word).or(first_spelled(&others, word))
+        Op::DescriptorLengths
+    );
+    first_spelled(&calls, word)
 }
 
 /// The call with this name, or none where no call has it; `write` is no call.

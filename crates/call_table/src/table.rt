@@ -8,8 +8,7 @@ use crate::families::{Cut, Element};
 use crate::kind::Kind;
 use crate::kind::Kind::{Boolean, Booleans, Descriptor, Integer, Integers};
 use crate::operands::{
-    of_bools, of_choose, of_distribute, of_extract, of_index, of_ints, of_length, of_pack,
-    of_permute, of_replace,
+    of_choose, of_distribute, of_extract, of_index, of_pack, of_permute, of_replace, of_vector,
 };
 use crate::operation::Op;
 use crate::spelling::{Spelling, named, whole};
@@ -86,28 +85,32 @@ pub(crate) fn row_of(op: Op) -> Row
         Op::BoolFromInt => call(named("boo", "_w", flat, integer), &[Integers], Booleans),
         Op::Scan(operator, cut) => call(
             named(operator.letters(), "_s", cut, integer),
-            of_ints(cut),
+            of_vector(cut, integer),
             Integers,
         ),
         Op::Reduce(operator, cut) => call(
             named(operator.letters(), "_r", cut, integer),
-            of_ints(cut),
+            of_vector(cut, integer),
             each_kind(cut, integer),
         ),
-        Op::CheckedScan(cut) => call(named("tot", "_s", cut, integer), of_ints(cut), Integers),
+        Op::CheckedScan(cut) => call(
+            named("tot", "_s", cut, integer),
+            of_vector(cut, integer),
+            Integers,
+        ),
         Op::CheckedReduce(cut) => call(
             named("tot", "_r", cut, integer),
-            of_ints(cut),
+            of_vector(cut, integer),
             each_kind(cut, integer),
         ),
         Op::BoolScan(operator, cut) => call(
             named(operator.letters(), "_s", cut, boolean),
-            of_bools(cut),
+            of_vector(cut, boolean),
             Booleans,
         ),
         Op::BoolReduce(operator, cut) => call(
             named(operator.letters(), "_r", cut, boolean),
-            of_bools(cut),
+            of_vector(cut, boolean),
             each_kind(cut, boolean),
         ),
         Op::Permute(form, cut, element) => call(
@@ -117,12 +120,12 @@ pub(crate) fn row_of(op: Op) -> Row
         ),
         Op::Length(element) => call(
             named("len", "_l", flat, element),
-            of_length(element),
+            of_vector(flat, element),
             Integer,
         ),
         Op::Count(cut) => call(
             named("cnt", "_l", cut, boolean),
-            of_bools(cut),
+            of_vector(cut, boolean),
             each_kind(cut, integer),
         ),
         Op::Pack(cut, element) => call(
