@@ -26,4 +26,5 @@ macro_rules! by_bool_monoid {
     };
 }
 
-pub(crate) use {by_bool_monoid, by_int_monoid};
+pub(crate) use by_bool_monoid;
+pub(crate) use by_int_monoid;

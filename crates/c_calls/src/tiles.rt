@@ -1,7 +1,8 @@
 //! Scans that go on from what stands before: of a vector that several threads of the caller's share, each scans its own tiles.
 
-ghost use Rattle.std.specs.Prelude.{◌≤◌, Ok, length};
-ghost use Rattle.cvl_base.specs.Limits.{most_elements};
+ghost use Rattle.std.specs.Prelude.{IsTrue, Ok, length};
+ghost use Rattle.std.specs.List.{AllPass};
+ghost use Rattle.cvl_base.specs.Folds.{scan_of};
 ghost use Rattle.cvl_base.specs.Rooms.{Overwrites};
 ghost use Rattle.c_calls.specs.Calls.{by_operator, in_limit};
 ghost use Rattle.c_calls.specs.Numbers.{bool_binary, int_monoid};
@@ -11,30 +12,28 @@ ghost use Rattle.c_calls.specs.Tiles.{bool_scan_after, int_scan_after};
 use crate::checks::check_limit;
 use crate::monoids::{by_bool_monoid, by_int_monoid};
 use crate::numbers::{bool_binary, int_monoid};
-use cvl_base::{BoolBinary, Fault, IntMonoid};
+use cvl_base::{Fault, Monoid};
 use scan_walks::{know_numbers, scan_over};
 
-/// The scan of integers by an operator, after an integer.
-fn int_scan_after_by(op: IntMonoid, before: i32, a: &[i32], out: &mut [i32]) -> Result<(), Fault>
-    requires { length a.now ≤ most_elements }
-    ensures { Overwrites (in_room (length out.old) (Ok (int_scan_after op before a.now))) result out.old out.new }
+/// For each element `before`, joined from left to right with those in front of it.
+fn scan_after<M: Monoid>(before: &M::Item, a: &[M::Item], out: &mut [M::Item]) -> Result<(), Fault>
+    requires before { IsTrue (M.is_item before.now) }
+    requires items { AllPass M.is_item a.now }
+    ensures { Overwrites (in_room (length out.old) (in_limit a.now (Ok (scan_of M.join before.now a.now)))) result out.old out.new }
 {
-    know_numbers(&[before]);
-    know_numbers(a);
-    by_int_monoid!(op, scan_over(before, a, out))
+    check_limit(a)?;
+    scan_over::<M>(*before, a, out)
 }
 
-/// The scan of booleans by an operator, after a boolean.
-fn bool_scan_after_by(
-    op: BoolBinary,
-    before: bool,
-    a: &[bool],
-    out: &mut [bool],
-) -> Result<(), Fault>
-    requires { length a.now ≤ most_elements }
-    ensures { Overwrites (in_room (length out.old) (Ok (bool_scan_after op before a.now))) result out.old out.new }
+/// The same as [`int_scan_from`]. Its contract names the integer itself, where that of a call by value names the number of its word.
+fn int_scan_after_ref(op: u32, before: &i32, a: &[i32], out: &mut [i32]) -> Result<(), Fault>
+    ensures { Overwrites (in_room (length out.old)
+        (by_operator (int_monoid op) (λ o. in_limit a.now (Ok (int_scan_after o before.now a.now))))) result out.old out.new }
 {
-    by_bool_monoid!(op, scan_over(before, a, out))
+    let op = int_monoid(op)?;
+    know_numbers(&[*before]);
+    know_numbers(a);
+    by_int_monoid!(op, scan_after(before, a, out))
 }
 
 /// The scan of integers by the operator of a number, after an integer.
@@ -42,9 +41,7 @@ pub fn int_scan_from(op: u32, before: i32, a: &[i32], out: &mut [i32]) -> Result
     ensures { Overwrites (in_room (length out.old)
         (by_operator (int_monoid op) (λ o. in_limit a.now (Ok (int_scan_after o before a.now))))) result out.old out.new }
 {
-    let op = int_monoid(op)?;
-    check_limit(a)?;
-    int_scan_after_by(op, before, a, out)
+    int_scan_after_ref(op, &before, a, out)
 }
 
 /// The scan of booleans by the operator of a number, after a boolean.
@@ -53,6 +50,5 @@ pub fn bool_scan_from(op: u32, before: bool, a: &[bool], out: &mut [bool]) -> Re
         (by_operator (bool_binary op) (λ o. in_limit a.now (Ok (bool_scan_after o before a.now))))) result out.old out.new }
 {
     let op = bool_binary(op)?;
-    check_limit(a)?;
-    bool_scan_after_by(op, before, a, out)
+    by_bool_monoid!(op, scan_after(&before, a, out))
 }
