@@ -1,6 +1,6 @@
 -- The first of some numbers that doesn't fit 32 bits, found while the numbers are written.
 -- Source: what the definitions of Checked and CheckedSums imply.
-use Rattle.std.proofs.Common.{◌≡◌, ◌∙◌, refl, sym, ap, ℕ, suc, ◌+◌, ◌-◌, ◌<◌, ◌≤◌, Bool, true, false, ℤ, pos, List, [], ◌∷◌, ◌++◌, length, map, take, get_or, arith, Option, Some, None, Ok, Err}
+use Rattle.std.proofs.Common.{◌≡◌, ◌∙◌, refl, sym, ap, ℕ, ◌+◌, ◌-◌, ◌<◌, ◌≤◌, Bool, true, false, ℤ, pos, List, [], ◌∷◌, ◌++◌, length, map, take, get_or, arith, Option, Some, None, Ok, Err}
 use Rattle.std.specs.Prelude.{if◌then◌else◌}
 use Rattle.std.specs.Option.{option_or}
 use Rattle.std.proofs.lemmas.List.{drop_more, get_or-map, length-map}
@@ -16,35 +16,21 @@ use Rattle.cvl_base.specs.ItemWords.{is_number}
 use Rattle.fresh.specs.Found.{first_without}
 use Rattle.fresh.specs.Parts.{part}
 use Rattle.fresh.specs.Places.{Stretch, stretch, with_items}
+use Rattle.fresh.proofs.FirstWithout.{found_in_both}
 use Rattle.tile_scans.specs.Written.{next_of}
 use Rattle.tile_scans.proofs.WrittenParts.{IsWrittenPart, more_written, next_is}
 
-found_alone : (found : Option ℕ) → option_or found None ≡ found
-found_alone None = refl
-found_alone (Some w) = refl
+part_one : {X : Type 0} (whole : List X) (place : ℕ) (d x : X) → place < length whole → x ≡ get_or whole place d → x ∷ [] ≡ part whole place 1
+part_one whole place d x lt is = ap (λ y. y ∷ []) is ∙ ap (take 1) (sym (drop_more whole place d lt))
 
-module _ {X : Type 0} where
-  found_before : (found : Option ℕ) (place : ℕ) (v : Option X) (vs : List (Option X))
-      → option_or (option_or found (first_without place (v ∷ []))) (first_without (place + 1) vs) ≡ option_or found (first_without place (v ∷ vs))
-  found_before None place None vs = refl
-  found_before None place (Some x) vs = refl
-  found_before (Some w) place v vs = refl
-
-  module _ (whole : List (Option X)) (found target : Option ℕ) (place room : ℕ) (is : option_or found (first_without place (part whole place room)) ≡ target) where
-    pub goes_on : (now : Option ℕ) (v : Option X) (next left : ℕ) → place < length whole → room ≡ left + 1 → next ≡ place + 1 → v ≡ get_or whole place None
-        → now ≡ option_or found (first_without place (v ∷ [])) → option_or now (first_without next (part whole next left)) ≡ target
-    goes_on now v next left lt one is_next is_v is_now =
-        let more : room ≡ suc left = omega (arith, one) in
-        ap (λ o. option_or o (first_without next (part whole next left))) is_now
-        ∙ ap (λ p. option_or (option_or found (first_without place (v ∷ []))) (first_without p (part whole p left))) is_next
-        ∙ found_before found place v (part whole (place + 1) left)
-        ∙ ap (λ x. option_or found (first_without place (x ∷ part whole (place + 1) left))) is_v
-        ∙ ap (λ ys. option_or found (first_without place (take (suc left) ys))) (sym (drop_more whole place None lt))
-        ∙ ap (λ n. option_or found (first_without place (part whole place n))) (sym more)
-        ∙ is
-
-    pub found_all : room ≡ 0 → found ≡ target
-    found_all none = sym (found_alone found) ∙ ap (λ n. option_or found (first_without place (part whole place n))) (sym none) ∙ is
+-- the step of a walk that has found the first of n items, and looks at one more
+pub found_more : {X : Type 0} (whole : List (Option X)) (first n place : ℕ) (v : Option X) (found now : Option ℕ) → first + n < length whole → place ≡ first + n → v ≡ get_or whole (first + n) None
+    → found ≡ first_without first (part whole first n) → now ≡ option_or found (first_without place (v ∷ [])) → now ≡ first_without first (part whole first (n + 1))
+found_more whole first n place v found now lt is_place is_v is_found is_now =
+    let one : n + 1 - n ≡ 1 = omega arith in
+    is_now
+    ∙ (λ i. option_or (is_found i) (first_without (is_place i) (part_one whole (first + n) None v lt is_v i)))
+    ∙ sym (found_in_both whole first n (n + 1) (omega arith) ∙ ap (λ k. option_or (first_without first (part whole first n)) (first_without (first + n) (part whole (first + n) k))) one)
 
 pub found_within : {X : Type 0} (place w : ℕ) (vs : List (Option X)) → first_without place vs ≡ Some w → w < place + length vs
 found_within place w [] is = absurd (none-some w is)
@@ -53,13 +39,10 @@ found_within place w (Some x ∷ vs) is = omega (arith, found_within (place + 1)
 
 -- ---- what it means
 
-pub fails_first : (n p : ℕ) (zs : List ℤ) → first_without n (map fitting zs) ≡ Some p → values_from Overflow n (map fitting zs) ≡ Err (fault_at Overflow p)
-fails_first n p zs is = fails n (map fitting zs) is
-  where
-    fails : (m : ℕ) (vs : List (Option ℤ)) → first_without m vs ≡ Some p → values_from Overflow m vs ≡ Err (fault_at Overflow p)
-    fails m [] e = absurd (none-some p e)
-    fails m (None ∷ vs) e = ap (λ q. Err (fault_at Overflow q)) (same_Some m p e)
-    fails m (Some z ∷ vs) e = ap (λ r. r >>= λ ys. Ok (z ∷ ys)) (fails (m + 1) vs e)
+pub fails_first : (n p : ℕ) (vs : List (Option ℤ)) → first_without n vs ≡ Some p → values_from Overflow n vs ≡ Err (fault_at Overflow p)
+fails_first n p [] is = absurd (none-some p is)
+fails_first n p (None ∷ vs) is = ap (λ q. Err (fault_at Overflow q)) (same_Some n p is)
+fails_first n p (Some z ∷ vs) is = ap (λ r. r >>= λ ys. Ok (z ∷ ys)) (fails_first (n + 1) p vs is)
 
 fits_here : (b : Bool) (n : ℕ) (z : ℤ) (zs : List ℤ) → is_number z ≡ b → first_without n ((if b then Some z else None) ∷ map fitting zs) ≡ None
     → (first_without (n + 1) (map fitting zs) ≡ None → values_from Overflow (n + 1) (map fitting zs) ≡ Ok (map wrap zs))
@@ -82,7 +65,5 @@ module _ (zs : List ℤ) (old : Stretch ℤ) (within : old.first + old.room ≤ 
       let place : ℕ = next_of now in
       let at = next_is (map wrap zs) old within now so_far in
       let inside : place < length (map wrap zs) = omega (arith, at, within, so_far.left, some) in
-      let here : x ∷ [] ≡ part (map wrap zs) place 1 =
-      ap (λ y. y ∷ []) (is ∙ sym (get_or-map wrap zs place (pos 0) (pos 0) (omega (arith, inside, length-map zs wrap))))
-      ∙ ap (take 1) (sym (drop_more (map wrap zs) place (pos 0) inside)) in
+      let here = part_one (map wrap zs) place (pos 0) x inside (is ∙ sym (get_or-map wrap zs place (pos 0) (pos 0) (omega (arith, inside, length-map zs wrap)))) in
       more_written (map wrap zs) old within now next 1 (omega (arith, some)) so_far (pushed ∙ ap (with_items now) here)

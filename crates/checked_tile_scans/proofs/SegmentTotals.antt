@@ -55,37 +55,34 @@ before_there plan ws known t is below =
     ap (λ ks. get_or ks t (pos 0)) is
     ∙ get_or-map-range_with_len (λ k. (total_since (take (range_of plan.0 plan.1 k).0 ws)).1) 0 (tile_count plan.0 plan.1) t t (pos 0) below (omega arith)
 
--- the sum of a range from those of its two parts
-module _ (xs : List ℤ) (few : length xs ≤ most_elements) (numbers : AllPass is_number xs) (start from end : ℕ) (before own : ℤ) (begun : start ≤ from) (ends : from ≤ end)
-    (is_before : before ≡ total_of (slice_range xs start from)) (is_own : own ≡ total_of (slice_range xs from end)) where
-  parts_joined : before +ℤ own ≡ total_of (slice_range xs start end)
-  parts_joined =
-      let j : ℕ = from - start in
-      let rest : ℕ = end - from in
-      let front = slice_range xs start from in
-      let back = slice_range xs from end in
-      let split : j + rest ≡ end - start = omega (arith, begun, ends) in
-      let at : start + j ≡ from = omega (arith, begun) in
-      ap (λ z. z +ℤ own) is_before
-      ∙ ap (λ z. total_of front +ℤ z) is_own
-      ∙ sym (fold_of-append whole_laws front back (all_whole front) (all_whole back))
-      ∙ ap (λ p. total_of (front ++ take rest (drop p xs))) (sym at)
-      ∙ ap (λ ys. total_of (front ++ take rest ys)) (sym (drop-drop j start xs))
-      ∙ ap total_of (sym (take-add j rest (drop start xs)))
-      ∙ ap (λ n. total_of (take n (drop start xs))) split
+-- a range in two parts
+slice_parted : (xs : List ℤ) (from middle to : ℕ) → from ≤ middle → middle ≤ to → slice_range xs from to ≡ slice_range xs from middle ++ slice_range xs middle to
+slice_parted xs from middle to begun ends =
+    let split : to - from ≡ (middle - from) + (to - middle) = omega (arith, begun, ends) in
+    let at : from + (middle - from) ≡ middle = omega (arith, begun) in
+    ap (λ n. take n (drop from xs)) split
+    ∙ take-add (middle - from) (to - middle) (drop from xs)
+    ∙ ap (λ ys. slice_range xs from middle ++ take (to - middle) ys) (drop-drop (middle - from) from xs ∙ ap (λ p. drop p xs) at)
 
-  before_in_words : InWords before
-  before_in_words = subst InWords (sym is_before) (range_in_words xs start from few numbers)
-
-  own_in_words : InWords own
-  own_in_words = subst InWords (sym is_own) (range_in_words xs from end few numbers)
-
-  -- a program adds both in 64 bits
-  pub parts_fit : FitsSigned w64 (to_z w64 (of_z w64 before) +ℤ to_z w64 (of_z w64 own))
-  parts_fit = wide_fits before own before_in_words own_in_words
-
-  pub parts_summed : to_z w64 (of_z w64 (to_z w64 (of_z w64 before) +ℤ to_z w64 (of_z w64 own))) ≡ total_of (slice_range xs start end)
-  parts_summed = wide_sum before own before_in_words own_in_words ∙ parts_joined
+-- the sum of a range from what is known to stand before the tile that holds its last element, and its own elements in the tile, as a
+-- program adds them in 64 bits
+pub parts_summed : (plan : ℕ × ℕ) (ws : List (Bool × ℤ)) (xs known : List ℤ) (t start from end : ℕ) (own : ℤ) → length xs ≤ most_elements → AllPass is_number xs
+    → known ≡ totals_before plan ws → t < tile_count plan.0 plan.1 → from ≡ (range_of plan.0 plan.1 t).0 → start < from → from ≤ end
+    → ((place : ℕ) → start < place → place ≤ end → (total_since (take place ws)).1 ≡ total_of (slice_range xs start place)) → own ≡ total_of (slice_range xs from end)
+    → FitsSigned w64 (to_z w64 (of_z w64 (get_or known t (pos 0))) +ℤ to_z w64 (of_z w64 own))
+    × (to_z w64 (of_z w64 (to_z w64 (of_z w64 (get_or known t (pos 0))) +ℤ to_z w64 (of_z w64 own))) ≡ total_of (slice_range xs start end))
+parts_summed plan ws xs known t start from end own few numbers known_is below begins lt ends since is_own =
+    let front = slice_range xs start from in
+    let back = slice_range xs from end in
+    let is_before = before_there plan ws known t known_is below ∙ ap (λ p. (total_since (take p ws)).1) (sym begins) ∙ since from lt ends in
+    let first = subst InWords (sym is_before) (range_in_words xs start from few numbers) in
+    let second = subst InWords (sym is_own) (range_in_words xs from end few numbers) in (
+      wide_fits _ own first second,
+      wide_sum _ own first second
+          ∙ (λ i. is_before i +ℤ is_own i)
+          ∙ sym (fold_of-append whole_laws front back (all_whole front) (all_whole back))
+          ∙ ap total_of (sym (slice_parted xs start from end (omega (arith, lt)) ends)),
+    )
 
 -- ---- ranges in which no segment starts but the first
 

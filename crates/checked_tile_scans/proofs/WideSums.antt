@@ -1,6 +1,6 @@
 -- Sums of two numbers of 54 bits, as a program makes them in 64 bits.
 -- Source: arithmetic.
-use Rattle.std.proofs.Common.{◌≡◌, ◌∙◌, sym, ap, subst, ℤ, pos, negsuc, ◌+ℤ◌, ◌≤ℤ◌, ◌^◌, to_z, of_z, w64, FitsSigned, arith}
+use Rattle.std.proofs.Common.{◌≡◌, ℤ, pos, negsuc, ◌+ℤ◌, ◌≤ℤ◌, ◌^◌, to_z, of_z, w64, FitsSigned, arith}
 use Rattle.std.proofs.lemmas.Int.{ints, to_z-of_z}
 use Rattle.operators.specs.ExactLaws.{InWords}
 
@@ -23,12 +23,7 @@ sum_fits a b p q =
 -- as a program adds them in 64 bits
 module _ (a b : ℤ) (p : InWords a) (q : InWords b) where
   pub wide_fits : FitsSigned w64 (to_z w64 (of_z w64 a) +ℤ to_z w64 (of_z w64 b))
-  wide_fits =
-      subst (λ z. FitsSigned w64 (z +ℤ to_z w64 (of_z w64 b))) (sym (to_z-of_z w64 a (fits_wide a p)))
-      (subst (λ z. FitsSigned w64 (a +ℤ z)) (sym (to_z-of_z w64 b (fits_wide b q))) (sum_fits a b p q))
+  wide_fits = rw (to_z-of_z w64 a (fits_wide a p), to_z-of_z w64 b (fits_wide b q)) (sum_fits a b p q)
 
   pub wide_sum : to_z w64 (of_z w64 (to_z w64 (of_z w64 a) +ℤ to_z w64 (of_z w64 b))) ≡ a +ℤ b
-  wide_sum =
-      ap (λ z. to_z w64 (of_z w64 (z +ℤ to_z w64 (of_z w64 b)))) (to_z-of_z w64 a (fits_wide a p))
-      ∙ ap (λ z. to_z w64 (of_z w64 (a +ℤ z))) (to_z-of_z w64 b (fits_wide b q))
-      ∙ to_z-of_z w64 (a +ℤ b) (sum_fits a b p q)
+  wide_sum = rw (to_z-of_z w64 a (fits_wide a p), to_z-of_z w64 b (fits_wide b q)) (to_z-of_z w64 (a +ℤ b) (sum_fits a b p q))

@@ -1,7 +1,7 @@
 -- Checked scans in tiles: what stands before each tile over whole numbers, and which results don't fit 32 bits.
 -- Source: Blelloch's segmented scans and the tiles of Merrill and Garland; that the first result that doesn't fit is the fault is this
 -- library's profile.
-use Rattle.std.specs.Prelude.{ℕ, Bool, ℤ, pos, ◌+ℤ◌, List, length, map, take, nat_lt, Option, Some, None, if◌then◌else◌}
+use Rattle.std.specs.Prelude.{ℕ, ◌+◌, Bool, ℤ, pos, ◌+ℤ◌, List, length, map, take, nat_lt, Option, Some, None, option_map, if◌then◌else◌}
 use Rattle.std.specs.List.{range_with_len}
 use Rattle.cvl_base.specs.Folds.{fold_of}
 use Rattle.cvl_base.specs.SegmentMonoid.{seg_join, seg_unit}
@@ -30,9 +30,14 @@ has_outside zs = nat_lt (fitting_front zs) (length zs)
 abbrev pub first_outside : List ℤ → Option ℕ
 first_outside zs = if has_outside zs then Some (fitting_front zs) else None
 
--- the one slot of tiles with a result that doesn't fit; the other tiles have none
-abbrev pub slot_of_tile : ℕ × ℕ → List (Bool × ℤ) → ℕ → Option ℕ
-slot_of_tile plan ws t = if has_outside (tile_of plan.0 plan.1 (total_scan ws) t) then Some 0 else None
+-- of a list that is cut into tiles, the place of the first number of tile t that doesn't fit
+abbrev pub tile_outside : ℕ × ℕ → List ℤ → ℕ → Option ℕ
+tile_outside plan zs t = option_map (λ k. (range_of plan.0 plan.1 t).0 + k) (first_outside (tile_of plan.0 plan.1 zs t))
+
+-- the slots of tiles: one slot for all tiles with a result that doesn't fit, and none for the others
+abbrev pub slots_of_tiles : ℕ × ℕ → List (Bool × ℤ) → List (Option ℕ)
+slots_of_tiles plan ws =
+    map (λ t. option_map (λ _. 0) (tile_outside plan (total_scan ws) t)) (range_with_len 0 (tile_count plan.0 plan.1))
 
 -- the sum of each segment, whether it fits or not
 abbrev pub segment_totals : List ℕ → List ℤ → List ℤ

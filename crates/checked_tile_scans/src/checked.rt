@@ -1,21 +1,30 @@
-//! Scans and reduces of integer vectors by sums that never wrap: `Overflow` at the first result that does not fit 32 bits.
+//! Scans and reduces of integer vectors by sums that never wrap, flat and by segments: `Overflow` at the first result that does not
+//! fit 32 bits.
 //!
 //! Workers race for the tiles of a long vector, whose sums are numbers of 54 bits and so are exact. They race again for the
-//! first result that does not fit, and only where there is none the results are written, each of 32 bits.
+//! first result of a scan that does not fit, and only where there is none the results are written, each of 32 bits.
+//!
+//! The sum of a segment is found from the tile that holds its last element: from what stands before the tile, and the segment's
+//! elements in the tile. Where segments start about as often as threads need it there is one tile, and no race: each thread adds
+//! up segments of its own, once.
 
 ghost use Rattle.std.specs.Prelude.{◌≡◌, ◌≤◌, IfOk, length, vec_len};
-ghost use Rattle.cvl_base.specs.CheckedSums.{checked_reduce_of, checked_scan_of};
+ghost use Rattle.cvl_base.specs.CheckedSums.{checked_reduce_of, checked_scan_of, checked_seg_reduce_of, checked_seg_scan_of};
 ghost use Rattle.cvl_base.specs.Gives.{Gives};
 ghost use Rattle.cvl_base.specs.Limits.{most_elements};
 
-use crate::overflows::befores_or_overflow;
+use crate::overflows::scan_or_overflow;
+use crate::segment_sums::{before_tiles, sums_known};
+use crate::summed_tile::summed_tile;
 use crate::tile_totals::{Totals, race_for_totals};
-use cvl_base::monoids::Add;
 use cvl_base::{Config, Fault, FaultNo, Memory, Refused};
-use scan_walks::{checked_scan_vec, checked_sum, fitting, know_numbers};
+use scan_walks::{
+    checked_scan_vec, checked_seg_reduce_vec, checked_seg_scan_vec, checked_sum, fitting,
+};
+use segdes::{SegDes, check_total};
 use std::mem::size_of_val;
 use std::thread::Threads;
-use tile_scans::{reduce_pace, scan_after_befores, scan_pace};
+use tile_scans::{reduce_pace, scan_pace};
 
 /// The exclusive scan by addition that never wraps: `tot_suz`.
 ///
@@ -35,14 +44,7 @@ pub fn checked_scan<R: Threads + Sync, A: Memory>(
         return checked_scan_vec(alloc, a);
     };
     let totals = Totals::<A>::new(a, None, pace.tile());
-    let before = match befores_or_overflow(rt, alloc, pace, &totals) {
-        Ok(before) => before,
-        Err(refused) => return Err(refused),
-    };
-    know_numbers(a);
-    let flat = totals.segments;
-    let sums = scan_after_befores::<R, A, Add>(rt, alloc, pace, a, flat, &before)?;
-    Ok(sums)
+    scan_or_overflow(rt, alloc, pace, &totals)
 }
 
 /// The sum of all elements, which never wraps: `tot_ruz`.
@@ -68,4 +70,52 @@ pub fn checked_reduce<R: Threads + Sync, A: Memory>(
         Some(sum) => Ok(sum),
         None => Err(Refused::Fault(Fault::at(FaultNo::Overflow, 0))),
     }
+}
+
+/// The exclusive scan of each segment by addition that never wraps: `tot_sez`.
+///
+/// The result is as long as the vector. LengthMismatch, without a place, where the segments' total is not the number of
+/// elements; else `Overflow` at the first result that does not fit 32 bits, at its place in the vector. Source: CVL's
+/// segmented scans, over whole numbers.
+pub fn checked_seg_scan<R: Threads + Sync, A: Memory>(
+    rt: &R,
+    alloc: A,
+    config: Config,
+    a: &[i32],
+    d: &SegDes<A>,
+) -> Result<Vec<i32, A>, Refused>
+    ensures values { Gives (λ sums. sums.items) result (checked_seg_scan_of a.now d.now) }
+    ensures as_long { IfOk result (λ sums. vec_len sums ≡ length a.now) }
+{
+    check_total(a, d)?;
+    let Some(pace) = scan_pace(config, a.len()) else {
+        return checked_seg_scan_vec(alloc, a, d);
+    };
+    let totals = Totals::new(a, Some(d), pace.tile());
+    scan_or_overflow(rt, alloc, pace, &totals)
+}
+
+/// The sum of each segment, which never wraps: `tot_rez`.
+///
+/// The result has one element for each segment. LengthMismatch, without a place, where the segments' total is not the
+/// number of elements; else `Overflow` at the first segment whose sum does not fit 32 bits. Source: CVL's segmented
+/// reduces, over whole numbers.
+pub fn checked_seg_reduce<R: Threads + Sync, A: Memory>(
+    rt: &R,
+    alloc: A,
+    config: Config,
+    a: &[i32],
+    d: &SegDes<A>,
+) -> Result<Vec<i32, A>, Refused>
+    ensures values { Gives (λ sums. sums.items) result (checked_seg_reduce_of a.now d.now) }
+    ensures one_each { IfOk result (λ sums. vec_len sums ≡ length d.now) }
+{
+    check_total(a, d)?;
+    let Some(pace) = reduce_pace(config, a.len(), size_of_val(a)) else {
+        return checked_seg_reduce_vec(alloc, a, &d.as_lengths());
+    };
+    let totals = Totals::new(a, Some(d), summed_tile(pace, d));
+    let before = before_tiles(rt, alloc, pace, &totals)?;
+    let threads = pace.threads_writing(a.len().max(d.count()));
+    sums_known(rt, alloc, threads, &totals, d, &before)
 }

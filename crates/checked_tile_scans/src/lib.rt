@@ -7,11 +7,9 @@
 #![tactic(auto)]
 
 mod checked;
-mod checked_segments;
 mod overflows;
 mod segment_sums;
 mod summed_tile;
 mod tile_totals;
 
-pub use checked::{checked_reduce, checked_scan};
-pub use checked_segments::{checked_seg_reduce, checked_seg_scan};
+pub use checked::{checked_reduce, checked_scan, checked_seg_reduce, checked_seg_scan};

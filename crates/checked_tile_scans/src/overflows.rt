@@ -1,6 +1,6 @@
-//! The first result of a checked scan that does not fit 32 bits, for which workers race.
+//! Checked scans in tiles, and the first result that does not fit 32 bits, for which workers race.
 
-ghost use Rattle.std.specs.Prelude.{◌≡◌, IfOk, None, map};
+ghost use Rattle.std.specs.Prelude.{◌≡◌, IfOk, length, map, vec_len};
 ghost use Rattle.std.specs.Option.{option_copied};
 ghost use Rattle.cvl_base.specs.CheckedSums.{fitting};
 ghost use Rattle.cvl_base.specs.declared.fault.FaultNo.TheVariants as no;
@@ -16,9 +16,11 @@ use crew::OpenGate;
 use cvl_base::monoids::Add;
 use cvl_base::{Fault, FaultNo, Memory, NoResources, Packed, Refused};
 use least_races::race_for_least;
+use scan_walks::know_numbers;
 use sharing::Pace;
 use std::alloc::Allocator;
 use std::thread::Threads;
+use tile_scans::scan_after_befores;
 
 /// The tiles of a vector that have a result which does not fit 32 bits, all in one slot.
 #[derive(Drop)]
@@ -29,17 +31,33 @@ struct Outside<'a, A: Allocator> {
         ≡ totals_before vector.now.plan (flagged (option_copied vector.now.segments) vector.now.elements.now) },
 }
 
-impl<'a, A: Allocator> Targets for Outside<'a, A> {
-    ghost use Rattle.std.specs.Prelude.{map};
-    ghost use Rattle.std.specs.List.{range_with_len};
-    ghost use Rattle.std.specs.Option.{option_copied};
+impl<'a, A: Allocator> Outside<'a, A> {
+    ghost use Rattle.std.specs.Prelude.{◌<◌};
     ghost use Rattle.tile_plan.specs.Ranges.{tile_count};
-    ghost use Rattle.tile_scans.specs.TiledSums.{flagged};
-    ghost use Rattle.checked_tile_scans.specs.Checked.{slot_of_tile};
+    ghost use Rattle.checked_tile_scans.specs.Checked.{tile_outside};
 
-    ghost targets = { λ o. map (slot_of_tile o.vector.now.plan
-        (flagged (option_copied o.vector.now.segments) o.vector.now.elements.now))
-        (range_with_len 0 (tile_count o.vector.now.plan.0 o.vector.now.plan.1)) };
+    /// The place of the first result of tile `t` that does not fit 32 bits, if the tile has one.
+    fn place_in(&self, t: u32) -> Option<u32>
+        requires { t < tile_count self.now.vector.now.plan.0 self.now.vector.now.plan.1 }
+        ensures { result ≡ tile_outside self.now.vector.now.plan
+            (total_scan (flagged (option_copied self.now.vector.now.segments) self.now.vector.now.elements.now)) t }
+    {
+        let (from, to) = self.vector.plan.range(t);
+        let fitting = self.vector.fitting(t, self.before[t as usize]);
+        if fitting < (to - from) as usize {
+            return Some(from + fitting as u32);
+        }
+        None
+    }
+}
+
+impl<'a, A: Allocator> Targets for Outside<'a, A> {
+    ghost use Rattle.std.specs.Option.{option_copied};
+    ghost use Rattle.tile_scans.specs.TiledSums.{flagged};
+    ghost use Rattle.checked_tile_scans.specs.Checked.{slots_of_tiles};
+
+    ghost targets = { λ o. slots_of_tiles o.vector.now.plan
+        (flagged (option_copied o.vector.now.segments) o.vector.now.elements.now) };
 
     ghost slot_count = { λ o. 1 };
 
@@ -52,11 +70,9 @@ impl<'a, A: Allocator> Targets for Outside<'a, A> {
     }
 
     fn slot(&self, place: u32) -> Option<u32> {
-        let (from, to) = self.vector.plan.range(place);
-        if self.vector.fitting(place, self.before[place as usize]) < (to - from) as usize {
-            Some(0)
-        } else {
-            None
+        match self.place_in(place) {
+            Some(_) => Some(0),
+            None => None,
         }
     }
 }
@@ -77,10 +93,7 @@ fn first_overflow<R: Threads + Sync, A: Memory>(
 {
     let outside = Outside { vector, before };
     match race_for_least(rt, alloc, pace.place_by_place(), &outside, &OpenGate)? {
-        Some(t) => {
-            let (from, _) = vector.plan.range(t);
-            Ok(Some(from + vector.fitting(t, before[t as usize]) as u32))
-        }
+        Some(t) => Ok(outside.place_in(t)),
         None => Ok(None),
     }
 }
@@ -92,25 +105,28 @@ fn wrapped<A: Allocator>(alloc: A, numbers: &[i64]) -> Result<Vec<i32, A>, NoRes
     Ok(numbers.iter().map(|z| Add::from_word(*z)).collect(alloc)?)
 }
 
-/// What stands before each tile, of 32 bits, where all results of the scan fit them: `Overflow` at the first one that does
-/// not.
-pub(crate) fn befores_or_overflow<R: Threads + Sync, A: Memory>(
+/// The checked scan of a vector in tiles of the pace's length. It is written once it is known that all results fit 32 bits:
+/// `Overflow` at the first one that does not.
+pub(crate) fn scan_or_overflow<R: Threads + Sync, A: Memory>(
     rt: &R,
     alloc: A,
     pace: Pace,
     vector: &Totals<A>,
 ) -> Result<Vec<i32, A>, Refused>
-    ensures meaning { Gives (λ before. total_scan (flagged (option_copied vector.now.segments) vector.now.elements.now)) result
-        (values_from no.Overflow 0 (map fitting
+    requires { vector.now.plan.1 ≡ pace.0 }
+    ensures values { Gives (λ sums. sums.items) result (values_from no.Overflow 0 (map fitting
         (total_scan (flagged (option_copied vector.now.segments) vector.now.elements.now)))) }
-    ensures fit { IfOk result (λ _. first_outside
-        (total_scan (flagged (option_copied vector.now.segments) vector.now.elements.now)) ≡ None) }
-    ensures before { IfOk result (λ before. before.items ≡ map wrap
-        (totals_before vector.now.plan (flagged (option_copied vector.now.segments) vector.now.elements.now))) }
+    ensures as_long { IfOk result (λ sums. vec_len sums ≡ length vector.now.elements.now) }
 {
-    let before = race_for_totals(rt, alloc, pace, vector)?;
-    if let Some(place) = first_overflow(rt, alloc, pace, vector, &before)? {
-        return Err(Refused::Fault(Fault::at(FaultNo::Overflow, place)));
-    }
-    Ok(wrapped(alloc, &before)?)
+    let before = {
+        let totals = race_for_totals(rt, alloc, pace, vector)?;
+        if let Some(place) = first_overflow(rt, alloc, pace, vector, &totals)? {
+            return Err(Refused::Fault(Fault::at(FaultNo::Overflow, place)));
+        }
+        wrapped(alloc, &totals)?
+    };
+    let (a, segments) = (vector.elements, vector.segments);
+    know_numbers(a);
+    let sums = scan_after_befores::<R, A, Add>(rt, alloc, pace, a, segments, &before)?;
+    Ok(sums)
 }

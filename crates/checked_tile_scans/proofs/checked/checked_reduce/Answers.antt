@@ -1,4 +1,3 @@
-use Rattle.std.proofs.Common.{◌-◌}
 use Rattle.checked_tile_scans.proofs.SegmentTotals.{flat_open}
 use Rattle.checked_tile_scans.proofs.checked.checked_reduce.Goals as goal
 

@@ -33,15 +33,13 @@ overflow_cast-place g c =
 pub returns-in-Some-clause-values : goal.returns-in-Some-clause-values
 returns-in-Some-clause-values g c =
     let totals = segment_totals c.args.segments.now c.args.vector.now.elements.now in
-    fails_first 0 c.in-Some.place totals (sym c.in_ok-written.ensures.found ∙ c.in-Some.is) ∙ ap Err (sym c.at.ensures)
+    fails_first 0 c.in-Some.place (map fitting totals) (sym c.in_ok-written.ensures.found ∙ c.in-Some.is) ∙ ap Err (sym c.at.ensures)
 
-pub returns-in-None-clause-values : goal.returns-in-None-clause-values
-returns-in-None-clause-values g c =
-    let totals = segment_totals c.args.segments.now c.args.vector.now.elements.now in
-    all_fit 0 totals (sym c.in_ok-written.ensures.found ∙ c.in-None.is) ∙ ap Ok (sym c.in_ok-written.ensures.items)
-
-pub returns-in-None-clause-one_each : goal.returns-in-None-clause-one_each
-returns-in-None-clause-one_each g c =
+pub returns-in-None : goal.returns-in-None
+returns-in-None g c =
     let d = c.args.segments.now in
-    let xs = c.args.vector.now.elements.now in
-    omega (arith, c.in_ok-written.written.ok, ap length c.in_ok-written.ensures.items, length-map (segment_totals d xs) wrap, length-segment_totals d xs)
+    let totals = segment_totals d c.args.vector.now.elements.now in
+    record {
+      values = all_fit 0 totals (sym c.in_ok-written.ensures.found ∙ c.in-None.is) ∙ ap Ok (sym c.in_ok-written.ensures.items);
+      one_each = omega (arith, c.in_ok-written.written.ok, ap length c.in_ok-written.ensures.items, length-map totals wrap, length-segment_totals d c.args.vector.now.elements.now);
+    }

@@ -1,10 +1,8 @@
-use Rattle.std.proofs.Common.{◌≡◌, map}
-use Rattle.std.specs.Option.{option_or}
+use Rattle.std.proofs.Common.{◌≡◌, ◌-◌, map}
 use Rattle.cvl_base.specs.CheckedSums.{fitting}
 use Rattle.cvl_base.specs.Integers.{wrap}
 use Rattle.fresh.specs.Found.{first_without}
 use Rattle.fresh.specs.Parts.{part}
-use Rattle.tile_scans.specs.Written.{next_of}
 use Rattle.tile_scans.proofs.WrittenParts.{IsWrittenPart}
 use Rattle.checked_tile_scans.specs.Checked.{segment_totals}
 use Rattle.checked_tile_scans.proofs.segment_sums.SegmentSumsCheckedWriterI32.write.Given as goal
@@ -14,8 +12,7 @@ invariant-loop-run g l =
     let totals = segment_totals l.self.segments.now l.self.vector.now.elements.now in
     record {
       written : IsWrittenPart (map wrap totals) l.fn.run l.run;
-      outside : option_or l.outside (first_without (next_of l.run) (part (map fitting totals) (next_of l.run) l.run.room))
-          ≡ first_without l.fn.run.first (part (map fitting totals) l.fn.run.first l.fn.run.room);
+      outside : l.outside ≡ first_without l.fn.run.first (part (map fitting totals) l.fn.run.first (l.fn.run.room - l.run.room));
     }
 
 abbrev pub decreases-loop-run : goal.decreases-loop-run

@@ -5,7 +5,7 @@ use Rattle.cvl_base.specs.Elementwise.{values_from}
 use Rattle.cvl_base.specs.Gives.{Gives}
 use Rattle.scan_walks.proofs.Valued.{sums_valued}
 use Rattle.checked_tile_scans.specs.Checked.{segment_totals}
-use Rattle.checked_tile_scans.proofs.checked_segments.checked_seg_reduce.Goals as goal
+use Rattle.checked_tile_scans.proofs.checked.checked_seg_reduce.Goals as goal
 
 pub returns-clause-values : goal.returns-clause-values
 returns-clause-values g c =
