@@ -12,6 +12,17 @@ use segdes::SegDes;
 use std::thread::Threads;
 use tile_scans::{reduce_gated, scan_gated, seg_reduce_gated, seg_scan_gated};
 
+/// What a call gives at the monoid of an operator of the table.
+macro_rules! at_bool_monoid {
+    ($op:expr, $call:ident($($arg:expr),*)) => {
+        match $op {
+            BoolBinary::And => $call::<R, A, BoolAnd, G>($($arg),*),
+            BoolBinary::Ior => $call::<R, A, BoolIor, G>($($arg),*),
+            BoolBinary::Xor => $call::<R, A, BoolXor, G>($($arg),*),
+        }
+    };
+}
+
 /// The exclusive scan by an operator of the table: `and_sub` and its like.
 ///
 /// The result is as long as the vector. Source: CVL's scans.
@@ -40,11 +51,7 @@ pub fn bool_scan_gated<R: Threads + Sync, A: Memory, G: Gate>(
     ensures values { IfOk result (λ sums. sums.items ≡ bool_scan_of op a.now) }
     ensures as_long { IfOk result (λ sums. vec_len sums ≡ length a.now) }
 {
-    match op {
-        BoolBinary::And => scan_gated::<R, A, BoolAnd, G>(rt, alloc, config, a, gate),
-        BoolBinary::Ior => scan_gated::<R, A, BoolIor, G>(rt, alloc, config, a, gate),
-        BoolBinary::Xor => scan_gated::<R, A, BoolXor, G>(rt, alloc, config, a, gate),
-    }
+    at_bool_monoid!(op, scan_gated(rt, alloc, config, a, gate))
 }
 
 /// The elements joined by an operator of the table, and its identity where there are none.
@@ -73,11 +80,7 @@ pub fn bool_reduce_gated<R: Threads + Sync, A: Memory, G: Gate>(
 ) -> Result<bool, NoResources>
     ensures { IfOk result (λ sum. sum ≡ bool_reduce_of op a.now) }
 {
-    match op {
-        BoolBinary::And => reduce_gated::<R, A, BoolAnd, G>(rt, alloc, config, a, gate),
-        BoolBinary::Ior => reduce_gated::<R, A, BoolIor, G>(rt, alloc, config, a, gate),
-        BoolBinary::Xor => reduce_gated::<R, A, BoolXor, G>(rt, alloc, config, a, gate),
-    }
+    at_bool_monoid!(op, reduce_gated(rt, alloc, config, a, gate))
 }
 
 /// The exclusive scan of each segment by an operator of the table.
@@ -113,11 +116,7 @@ pub fn seg_bool_scan_gated<R: Threads + Sync, A: Memory, G: Gate>(
         (seg_scan_of (bool_join_of op) (bool_unit_of op) a.now d.now) }
     ensures as_long { IfOk result (λ sums. vec_len sums ≡ length a.now) }
 {
-    match op {
-        BoolBinary::And => seg_scan_gated::<R, A, BoolAnd, G>(rt, alloc, config, a, d, gate),
-        BoolBinary::Ior => seg_scan_gated::<R, A, BoolIor, G>(rt, alloc, config, a, d, gate),
-        BoolBinary::Xor => seg_scan_gated::<R, A, BoolXor, G>(rt, alloc, config, a, d, gate),
-    }
+    at_bool_monoid!(op, seg_scan_gated(rt, alloc, config, a, d, gate))
 }
 
 /// For each segment its elements joined by an operator of the table, and the operator's identity where it is empty.
@@ -153,9 +152,5 @@ pub fn seg_bool_reduce_gated<R: Threads + Sync, A: Memory, G: Gate>(
         (seg_reduce_of (bool_join_of op) (bool_unit_of op) a.now d.now) }
     ensures one_each { IfOk result (λ sums. vec_len sums ≡ length d.now) }
 {
-    match op {
-        BoolBinary::And => seg_reduce_gated::<R, A, BoolAnd, G>(rt, alloc, config, a, d, gate),
-        BoolBinary::Ior => seg_reduce_gated::<R, A, BoolIor, G>(rt, alloc, config, a, d, gate),
-        BoolBinary::Xor => seg_reduce_gated::<R, A, BoolXor, G>(rt, alloc, config, a, d, gate),
-    }
+    at_bool_monoid!(op, seg_reduce_gated(rt, alloc, config, a, d, gate))
 }

@@ -13,6 +13,21 @@ use segdes::SegDes;
 use std::thread::Threads;
 use tile_scans::{reduce_gated, scan_gated, seg_reduce_gated, seg_scan_gated};
 
+/// What a call gives at the monoid of an operator of the table.
+macro_rules! at_int_monoid {
+    ($op:expr, $call:ident($($arg:expr),*)) => {
+        match $op {
+            IntMonoid::Add => $call::<R, A, Add, G>($($arg),*),
+            IntMonoid::Mul => $call::<R, A, Mul, G>($($arg),*),
+            IntMonoid::Min => $call::<R, A, Min, G>($($arg),*),
+            IntMonoid::Max => $call::<R, A, Max, G>($($arg),*),
+            IntMonoid::And => $call::<R, A, And, G>($($arg),*),
+            IntMonoid::Ior => $call::<R, A, Ior, G>($($arg),*),
+            IntMonoid::Xor => $call::<R, A, Xor, G>($($arg),*),
+        }
+    };
+}
+
 /// The exclusive scan by an operator of the table: `add_suz` and its like.
 ///
 /// The result is as long as the vector. Source: CVL's scans.
@@ -42,15 +57,7 @@ pub fn int_scan_gated<R: Threads + Sync, A: Memory, G: Gate>(
     ensures as_long { IfOk result (λ sums. vec_len sums ≡ length a.now) }
 {
     know_numbers(a);
-    match op {
-        IntMonoid::Add => scan_gated::<R, A, Add, G>(rt, alloc, config, a, gate),
-        IntMonoid::Mul => scan_gated::<R, A, Mul, G>(rt, alloc, config, a, gate),
-        IntMonoid::Min => scan_gated::<R, A, Min, G>(rt, alloc, config, a, gate),
-        IntMonoid::Max => scan_gated::<R, A, Max, G>(rt, alloc, config, a, gate),
-        IntMonoid::And => scan_gated::<R, A, And, G>(rt, alloc, config, a, gate),
-        IntMonoid::Ior => scan_gated::<R, A, Ior, G>(rt, alloc, config, a, gate),
-        IntMonoid::Xor => scan_gated::<R, A, Xor, G>(rt, alloc, config, a, gate),
-    }
+    at_int_monoid!(op, scan_gated(rt, alloc, config, a, gate))
 }
 
 /// The elements joined by an operator of the table, and its identity where there are none.
@@ -80,15 +87,7 @@ pub fn int_reduce_gated<R: Threads + Sync, A: Memory, G: Gate>(
     ensures { IfOk result (λ sum. sum ≡ int_reduce_of op a.now) }
 {
     know_numbers(a);
-    match op {
-        IntMonoid::Add => reduce_gated::<R, A, Add, G>(rt, alloc, config, a, gate),
-        IntMonoid::Mul => reduce_gated::<R, A, Mul, G>(rt, alloc, config, a, gate),
-        IntMonoid::Min => reduce_gated::<R, A, Min, G>(rt, alloc, config, a, gate),
-        IntMonoid::Max => reduce_gated::<R, A, Max, G>(rt, alloc, config, a, gate),
-        IntMonoid::And => reduce_gated::<R, A, And, G>(rt, alloc, config, a, gate),
-        IntMonoid::Ior => reduce_gated::<R, A, Ior, G>(rt, alloc, config, a, gate),
-        IntMonoid::Xor => reduce_gated::<R, A, Xor, G>(rt, alloc, config, a, gate),
-    }
+    at_int_monoid!(op, reduce_gated(rt, alloc, config, a, gate))
 }
 
 /// The exclusive scan of each segment by an operator of the table.
@@ -125,15 +124,7 @@ pub fn seg_int_scan_gated<R: Threads + Sync, A: Memory, G: Gate>(
     ensures as_long { IfOk result (λ sums. vec_len sums ≡ length a.now) }
 {
     know_numbers(a);
-    match op {
-        IntMonoid::Add => seg_scan_gated::<R, A, Add, G>(rt, alloc, config, a, d, gate),
-        IntMonoid::Mul => seg_scan_gated::<R, A, Mul, G>(rt, alloc, config, a, d, gate),
-        IntMonoid::Min => seg_scan_gated::<R, A, Min, G>(rt, alloc, config, a, d, gate),
-        IntMonoid::Max => seg_scan_gated::<R, A, Max, G>(rt, alloc, config, a, d, gate),
-        IntMonoid::And => seg_scan_gated::<R, A, And, G>(rt, alloc, config, a, d, gate),
-        IntMonoid::Ior => seg_scan_gated::<R, A, Ior, G>(rt, alloc, config, a, d, gate),
-        IntMonoid::Xor => seg_scan_gated::<R, A, Xor, G>(rt, alloc, config, a, d, gate),
-    }
+    at_int_monoid!(op, seg_scan_gated(rt, alloc, config, a, d, gate))
 }
 
 /// For each segment its elements joined by an operator of the table, and the operator's identity where it is empty.
@@ -170,13 +161,5 @@ pub fn seg_int_reduce_gated<R: Threads + Sync, A: Memory, G: Gate>(
     ensures one_each { IfOk result (λ sums. vec_len sums ≡ length d.now) }
 {
     know_numbers(a);
-    match op {
-        IntMonoid::Add => seg_reduce_gated::<R, A, Add, G>(rt, alloc, config, a, d, gate),
-        IntMonoid::Mul => seg_reduce_gated::<R, A, Mul, G>(rt, alloc, config, a, d, gate),
-        IntMonoid::Min => seg_reduce_gated::<R, A, Min, G>(rt, alloc, config, a, d, gate),
-        IntMonoid::Max => seg_reduce_gated::<R, A, Max, G>(rt, alloc, config, a, d, gate),
-        IntMonoid::And => seg_reduce_gated::<R, A, And, G>(rt, alloc, config, a, d, gate),
-        IntMonoid::Ior => seg_reduce_gated::<R, A, Ior, G>(rt, alloc, config, a, d, gate),
-        IntMonoid::Xor => seg_reduce_gated::<R, A, Xor, G>(rt, alloc, config, a, d, gate),
-    }
+    at_int_monoid!(op, seg_reduce_gated(rt, alloc, config, a, d, gate))
 }
