@@ -1,9 +1,10 @@
 -- What the elements of a run join to since the last start in it.
-use Rattle.std.proofs.Common.{◌≡◌, ℕ, ◌+◌, ◌-◌, ◌<◌, ◌≤◌, Bool, false, true, List, [], ◌∷◌, ◌++◌, length, take, drop, get_or, refl, sym, ap, ◌∙◌, arith, append-nil}
+use Rattle.std.proofs.Common.{◌≡◌, ℕ, ◌+◌, ◌-◌, ◌<◌, ◌≤◌, Bool, false, true, List, [], ◌∷◌, ◌++◌, length, take, drop, get_or, slice_range, refl, sym, ap, ◌∙◌, arith, append-nil}
 use Rattle.std.specs.Prelude.{sum}
 use Rattle.std.specs.List.{AllPass, flat_map}
 use Rattle.std.proofs.lemmas.Grind.{flat_map-append}
-use Rattle.std.proofs.lemmas.List.{length-take, length-drop, length-append, take_all, drop_all, drop_more, drop-append-le, drop-take}
+use Rattle.std.proofs.lemmas.List.{length-take, length-drop, length-append, take_all, drop_all, drop_more, drop-append-le}
+use Rattle.std.proofs.lemmas.Slice.{between_is}
 use Rattle.std.proofs.lemmas.List.Elements.{All-head, All-take, All-drop}
 use Rattle.std.proofs.lemmas.List.Sums.{fold-append, sum_by_more}
 use Rattle.cvl_base.specs.Booleans.{either}
@@ -14,15 +15,10 @@ use Rattle.segdes.specs.Starts.{start_of}
 use Rattle.range_walks.specs.Ranges.{continued, started, with_starts, range_between}
 use Rattle.cvl_base.proofs.Lists.{sum-cons}
 use Rattle.cvl_base.specs.Nests.{cut_of}
-use Rattle.range_walks.proofs.Cut.{range_cut, length-started}
+use Rattle.range_walks.proofs.Cut.{begins_by, length-started, range_cut}
 use Rattle.range_walks.proofs.Segments.{cut_parted}
 
 module _ {Item : Type 0} where
-  -- of the first elements those from a place on
-  pub part_between : (from to : ℕ) (xs : List Item) → from ≤ to → drop from (take to xs) ≡ take (to - from) (drop from xs)
-  part_between from to xs in_order =
-      let end : from + (to - from) ≡ to = omega (arith, in_order) in ap (λ t. drop from (take t xs)) (sym end) ∙ drop-take from (to - from) xs
-
   pub with_starts-none : (lengths : List ℕ) → with_starts {Item = Item} lengths [] ≡ []
   with_starts-none [] = refl
   with_starts-none (n ∷ ls) =
@@ -47,23 +43,23 @@ module _ {Item : Type 0} where
         length-with_starts ls (drop n xs) (omega (arith, covered, sum-cons n ls, length-drop n xs)),
       )
 
-  -- a run at whose elements no segment starts
-  pub range_continued : (lengths : List ℕ) (xs : List Item) (from to k first : ℕ) → from ≤ to → to ≤ length xs → first ≤ length lengths
-      → from + k ≡ start_of lengths first → to ≤ from + k → ((s : ℕ) → s < first → start_of lengths s < from)
-      → range_between lengths xs from to ≡ continued (take (to - from) (drop from xs))
-  range_continued lengths xs from to k first in_order within le is past earlier =
+  -- a run at whose elements no segment starts: those before `first` start before it, and the others behind it
+  pub range_continued : (lengths : List ℕ) (xs : List Item) (from to first : ℕ) → from ≤ to → to ≤ length xs → first ≤ length lengths → to ≤ start_of lengths first
+      → ((s : ℕ) → s < first → start_of lengths s < from) → range_between lengths xs from to ≡ continued (slice_range xs from to)
+  range_continued lengths xs from to first in_order within le past earlier =
+      let k : ℕ = start_of lengths first - from in
       let ys = drop from (take to xs) in
       let few : length ys ≤ k = omega (arith, length-drop from (take to xs), length-take to xs, past) in
-      range_cut lengths (take to xs) from k first le (omega (arith, length-take to xs)) is earlier
+      range_cut lengths (take to xs) from k first le (omega (arith, length-take to xs)) (omega (arith, in_order, past)) earlier
       ∙ (λ i. continued (take_all k ys few i) ++ with_starts (drop first lengths) (drop_all k ys few i))
       ∙ ap (λ zs. continued ys ++ zs) (with_starts-none (drop first lengths))
       ∙ append-nil (continued ys)
-      ∙ ap continued (part_between from to xs in_order)
+      ∙ ap continued (sym (between_is xs from to))
 
   -- a run in which segment s is the last that starts
   pub range_started : (lengths : List ℕ) (xs : List Item) (from to s : ℕ) → to ≤ length xs → s < length lengths
       → from ≤ start_of lengths s → start_of lengths s < to → to ≤ start_of lengths (s + 1)
-      → (front : List (Bool × Item)) × (range_between lengths xs from to ≡ front ++ started (take (to - start_of lengths s) (drop (start_of lengths s) xs)))
+      → (front : List (Bool × Item)) × (range_between lengths xs from to ≡ front ++ started (slice_range xs (start_of lengths s) to))
   range_started lengths xs from to s within lt le before last =
       let p : ℕ = start_of lengths s in
       let n : ℕ = get_or lengths s 0 in
@@ -79,7 +75,7 @@ module _ {Item : Type 0} where
         drop from front,
         ap (drop from) (split_at_start lengths (take to xs) s ∙ ap (λ zs. front ++ zs) behind)
             ∙ drop-append-le from front (started ys) (omega (arith, long, length-take p (take to xs), length-take to xs, le, before, within))
-            ∙ ap (λ zs. drop from front ++ started zs) (part_between p to xs (omega (arith, before))),
+            ∙ ap (λ zs. drop from front ++ started zs) (sym (between_is xs p to)),
       )
 
 -- ---- the sum of a run
@@ -98,12 +94,14 @@ module _ {Item : Type 0} (join : Item → Item → Item) where
   continued_summed f before (y ∷ ys) =
       ap (λ g. fold_of (seg_join join) (g, join before y) (continued ys)) (flag_stays f) ∙ continued_summed f (join before y) ys
 
-  pub range_summed : (lengths : List ℕ) (xs : List Item) (f : Bool) (before : Item) (from to k first : ℕ) → from ≤ to → to ≤ length xs → first ≤ length lengths
-      → from + k ≡ start_of lengths first → to ≤ from + k → ((s : ℕ) → s < first → start_of lengths s < from)
-      → fold_of (seg_join join) (f, before) (range_between lengths xs from to) ≡ (f, fold_of join before (take (to - from) (drop from xs)))
-  range_summed lengths xs f before from to k first in_order within le is past earlier =
-      ap (fold_of (seg_join join) (f, before)) (range_continued lengths xs from to k first in_order within le is past earlier)
-      ∙ continued_summed f before (take (to - from) (drop from xs))
+  -- `next` is the first segment that starts at `to` or after it, as `first` is for `from`
+  pub range_summed : (lengths : List ℕ) (xs : List Item) (f : Bool) (before : Item) (from to first next : ℕ) → from ≤ to → to ≤ length xs → sum lengths ≡ length xs → first ≤ length lengths
+      → ((s : ℕ) → s < first → start_of lengths s < from) → ((s : ℕ) → next ≤ s → s < length lengths → to ≤ start_of lengths s) → next ≤ first
+      → fold_of (seg_join join) (f, before) (range_between lengths xs from to) ≡ (f, fold_of join before (slice_range xs from to))
+  range_summed lengths xs f before from to first next in_order within total le earlier later none =
+      let past = begins_by lengths to first (omega (arith, within, total)) (λ s ge lt. later s (omega (arith, ge, none)) lt) in
+      ap (fold_of (seg_join join) (f, before)) (range_continued lengths xs from to first in_order within le past earlier)
+      ∙ continued_summed f before (slice_range xs from to)
 
 module _ {Item : Type 0} {is_item : Item → Bool} {unit : Item} {join : Item → Item → Item} (laws : MonoidLaws is_item unit join) where
   started_summed : (before : Bool × Item) (ys : List Item) → 0 < length ys → AllPass is_item ys → fold_of (seg_join join) before (started ys) ≡ (true, fold_of join unit ys)
@@ -115,13 +113,25 @@ module _ {Item : Type 0} {is_item : Item → Bool} {unit : Item} {join : Item �
 
   pub started_range_summed : (lengths : List ℕ) (xs : List Item) (before : Bool × Item) (from to s : ℕ) → to ≤ length xs → s < length lengths
       → from ≤ start_of lengths s → start_of lengths s < to → to ≤ start_of lengths (s + 1) → AllPass is_item xs
-      → fold_of (seg_join join) before (range_between lengths xs from to) ≡ (true, fold_of join unit (take (to - start_of lengths s) (drop (start_of lengths s) xs)))
+      → fold_of (seg_join join) before (range_between lengths xs from to) ≡ (true, fold_of join unit (slice_range xs (start_of lengths s) to))
   started_range_summed lengths xs before from to s within lt le ends last items =
       let p : ℕ = start_of lengths s in
-      let ys = take (to - p) (drop p xs) in
       let is_one : Item → Type 0 = λ x. is_item x ≡ true in
       let parts = range_started lengths xs from to s within lt le ends last in
       ap (fold_of (seg_join join) before) parts.1
-      ∙ fold-append (seg_join join) before parts.0 (started ys)
-      ∙ started_summed (fold_of (seg_join join) before parts.0) ys (omega (arith, length-take (to - p) (drop p xs), length-drop p xs, ends, within))
+      ∙ fold-append (seg_join join) before parts.0 (started (slice_range xs p to))
+      ∙ started_summed (fold_of (seg_join join) before parts.0) (slice_range xs p to) (omega (arith, length-take (to - p) (drop p xs), length-drop p xs, ends, within))
       (All-take is_one (to - p) (drop p xs) (All-drop is_one p xs items))
+
+  -- the last segment that starts in the run is the one before `next`
+  pub last_range_summed : (lengths : List ℕ) (xs : List Item) (before : Bool × Item) (from to first next start : ℕ) → to ≤ length xs → sum lengths ≡ length xs → next ≤ length lengths
+      → ((s : ℕ) → first ≤ s → s < length lengths → from ≤ start_of lengths s) → ((s : ℕ) → s < next → start_of lengths s < to)
+      → ((s : ℕ) → next ≤ s → s < length lengths → to ≤ start_of lengths s) → first < next → start ≡ start_of lengths (next - 1) → AllPass is_item xs
+      → fold_of (seg_join join) before (range_between lengths xs from to) ≡ (true, fold_of join unit (slice_range xs start to))
+  last_range_summed lengths xs before from to first next start within total le behind earlier later some is_start items =
+      let s : ℕ = next - 1 in
+      let more : next ≡ s + 1 = omega (arith, some) in
+      let lt : s < length lengths = omega (arith, more, le) in
+      let past = begins_by lengths to next (omega (arith, within, total)) later in
+      started_range_summed lengths xs before from to s within lt (behind s (omega (arith, more, some)) lt) (earlier s (omega (arith, more))) (omega (arith, past, ap (start_of lengths) more)) items
+      ∙ ap (λ p. (true, fold_of join unit (slice_range xs p to))) (sym is_start)

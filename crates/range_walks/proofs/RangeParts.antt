@@ -3,10 +3,11 @@ use Rattle.std.proofs.Common.{◌≡◌, ℕ, suc, ◌-◌, ◌<◌, ◌≤◌, 
 use Rattle.std.specs.Prelude.{sum, if◌then◌else◌}
 use Rattle.std.proofs.lemmas.List.{drop-map, drop_all, drop_min, length-drop, length-take, map-append, take-map, take_all, take_min}
 use Rattle.std.proofs.lemmas.Simd.{map-map}
+use Rattle.std.proofs.lemmas.Slice.{between_is}
 use Rattle.segdes.specs.Starts.{start_of}
 use Rattle.range_walks.specs.Ranges.{continued, range_between, range_scan_of, started, with_starts}
 use Rattle.range_walks.proofs.Cut.{begins_by, range_cut, starts_in_order}
-use Rattle.range_walks.proofs.LastStart.{length-with_starts, part_between, split_at_start, with_starts-none}
+use Rattle.range_walks.proofs.LastStart.{length-with_starts, split_at_start, with_starts-none}
 use Rattle.range_walks.proofs.Segments.{range_sum}
 
 module _ {Item : Type 0} (join : Item → Item → Item) (unit : Item) where
@@ -51,7 +52,7 @@ range_parted d xs rest front others from to first next start j total in_order wi
     let begins : from ≤ start_of d first = begins_by d from first (omega (arith, in_order, within, total)) later in
     let m : ℕ = to - from in
     let k : ℕ = start_of d first - from in
-    let same : drop from (take to xs) ≡ rest = part_between from to xs in_order ∙ sym is_rest in
+    let same : drop from (take to xs) ≡ rest = sym (between_is xs from to) ∙ sym is_rest in
     let long : length rest ≡ m = ap length is_rest ∙ omega (arith, length-take m (drop from xs), length-drop from xs, within) in
     let split : min k (length rest) ≡ j = omega (arith, long, is_j, is_start, begins) in
     range_cut d (take to xs) from k first few (omega (arith, length-take to xs, in_order, within)) (omega (arith, begins)) earlier

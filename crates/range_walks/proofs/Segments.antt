@@ -1,4 +1,4 @@
--- Loops over segments: what the next segment adds to the scans or reduces of those before it.
+-- Loops over segments: what is left to them, and the lengths that they read.
 use Rattle.std.proofs.Common.{◌≡◌, ℕ, zero, suc, ◌-◌, ℤ, pos, to_z, of_z, w32, w64, Fits, ◌+◌, ◌<◌, ◌≤◌, min, List, [], ◌∷◌, ◌++◌, length, take, drop, map, get_or, refl, sym, ap, ◌∙◌, arith, take-add}
 use Rattle.std.specs.Prelude.{sum, unsigned_abs}
 use Rattle.std.proofs.Math.Facts.{Fits-below}
@@ -19,28 +19,14 @@ use Rattle.segdes.specs.Starts.{start_of}
 use Rattle.range_walks.specs.Ranges.{scans_of, reduces_of}
 use Rattle.range_walks.proofs.Scanned.{part_read}
 
--- ---- the step of a loop over the segments, which has scanned or reduced those before s and has `rest` left
+-- ---- what is left to a loop over the segments: segment s, and those after it
 
-module _ {Item : Type 0} (join : Item → Item → Item) (unit : Item) (lengths : List ℕ) where
-  pub scans_more : (s n : ℕ) (rest : List Item) → s < length lengths → n ≡ get_or lengths s 0
-      → scans_of join unit (drop s lengths) rest ≡ scan_of join unit (take n rest) ++ scans_of join unit (drop (s + 1) lengths) (drop n rest)
-  scans_more s n rest lt is =
-      ap (λ ls. scans_of join unit ls rest) (drop_more lengths s 0 lt)
-      ∙ ap (λ m. scan_of join unit (take m rest) ++ scans_of join unit (drop (s + 1) lengths) (drop m rest)) (sym is)
-
-  -- where the last segment is cut short
-  pub scans_more_min : (s n : ℕ) (rest : List Item) → s < length lengths → n ≡ get_or lengths s 0
-      → scans_of join unit (drop s lengths) rest
-      ≡ scan_of join unit (take (min n (length rest)) rest) ++ scans_of join unit (drop (s + 1) lengths) (drop (min n (length rest)) rest)
-  scans_more_min s n rest lt is =
-      scans_more s n rest lt is
-      ∙ (λ i. scan_of join unit (sym (take_min n rest) i) ++ scans_of join unit (drop (s + 1) lengths) (sym (drop_min n rest) i))
-
-  pub reduces_more : (s n : ℕ) (rest : List Item) → s < length lengths → n ≡ get_or lengths s 0
-      → reduces_of join unit (drop s lengths) rest ≡ fold_of join unit (take n rest) ∷ reduces_of join unit (drop (s + 1) lengths) (drop n rest)
-  reduces_more s n rest lt is =
-      ap (λ ls. reduces_of join unit ls rest) (drop_more lengths s 0 lt)
-      ∙ ap (λ m. fold_of join unit (take m rest) ∷ reduces_of join unit (drop (s + 1) lengths) (drop m rest)) (sym is)
+pub cut_more : {Item : Type 0} (lengths : List ℕ) (s n : ℕ) (rest front others : List Item) → s < length lengths → n ≡ get_or lengths s 0 → front ≡ take n rest → others ≡ drop n rest
+    → cut_of (drop s lengths) rest ≡ front ∷ cut_of (drop (s + 1) lengths) others
+cut_more lengths s n rest front others lt is is_front is_others =
+    ap (λ ls. cut_of ls rest) (drop_more lengths s 0 lt)
+    ∙ ap (λ m. take m rest ∷ cut_of (drop (s + 1) lengths) (drop m rest)) (sym is)
+    ∙ (λ i. sym is_front i ∷ cut_of (drop (s + 1) lengths) (sym is_others i))
 
 -- k segments, and those after them
 pub cut_parted : {Item : Type 0} (k : ℕ) (lengths : List ℕ) (xs : List Item)

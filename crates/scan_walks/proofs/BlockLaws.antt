@@ -1,10 +1,10 @@
 -- Blocks of numbers whose sums are seen to fit 32 bits by the least and the greatest of the numbers.
 -- Source: arithmetic.
-use Rattle.std.proofs.Common.{◌≡◌, ◌∙◌, refl, sym, ap, ℕ, suc, zero, ◌+◌, ◌*◌, ◌≤◌, true, cond, ℤ, pos, negsuc, ◌+ℤ◌, ◌*ℤ◌, ◌≤ℤ◌, unsigned_abs, w32, w64, FitsSigned, List, [], ◌∷◌, length, map, take, drop, arith}
+use Rattle.std.proofs.Common.{◌≡◌, ◌∙◌, refl, sym, ap, ℕ, suc, zero, ◌+◌, ◌≤◌, true, cond, ℤ, pos, negsuc, ◌+ℤ◌, ◌*ℤ◌, ◌≤ℤ◌, unsigned_abs, w32, w64, FitsSigned, List, [], ◌∷◌, length, map, take, drop, arith}
 use Rattle.std.specs.Prelude.{sum}
 use Rattle.std.specs.List.{All}
-use Rattle.std.proofs.Math.IntN.{pos-*ℤ-negsuc, pos-*ℤ-pos}
-use Rattle.std.proofs.Math.Nat.{mul-le-mul, suc-mul}
+use Rattle.std.proofs.Math.IntN.{suc_ℤ-*ℤ, zero-*ℤ}
+use Rattle.std.proofs.Math.Nat.{mul-le-mul}
 use Rattle.std.proofs.lemmas.Int.{fits_signed_mul, fold-int_max_bounds, fold-int_min_bounds, int_wrap-add_left, ints, unsigned_abs-mul}
 use Rattle.std.proofs.lemmas.List.{length-drop, length-take}
 use Rattle.std.proofs.lemmas.List.Elements.{All-drop, All-head, All-tail, All-take}
@@ -26,59 +26,55 @@ reaches from steps step fits fits_2 fits_3 =
     let far : unsigned_abs (steps *ℤ step) ≤ 4611686018427387904 = omega (arith, unsigned_abs-mul steps step, mul-le-mul often long) in
     (fits_signed_mul w64 steps step 2147483648 2147483648 often long (omega arith), omega (arith, ints, far, fits.sfits))
 
--- ---- steps that are at most so long, down and up
+-- ---- steps of which none is longer than the least one down and the greatest one up
 
-module _ (least greatest : ℤ) (down up : ℕ) (is_down : least +ℤ pos down ≡ pos 0) (is_up : greatest ≡ pos up) where
-  fits_now : (n : ℕ) (before : ℤ) → pos (n * down) ≤ℤ (before +ℤ pos 2147483648) → (before +ℤ pos (n * up)) ≤ℤ pos 2147483647 → is_number before ≡ true
-  fits_now n before low high = is_number-fits before (omega (arith, ints, low, high))
+module _ (least greatest : ℤ) (down : least ≤ℤ pos 0) (up : pos 0 ≤ℤ greatest) where
+  -- n of the least and n of the greatest lead to numbers of 32 bits
+  record LeadsWithin (n : ℕ) (before : ℤ) : Type 0 where
+    low : FitsSigned w32 (before +ℤ (pos n *ℤ least))
+    high : FitsSigned w32 (before +ℤ (pos n *ℤ greatest))
 
-  -- where there is room for n steps down and up, all sums of at most n numbers fit, the last one too
-  steps_fit : (n : ℕ) (before : ℤ) (xs : List ℤ) → length xs ≤ n → pos (n * down) ≤ℤ (before +ℤ pos 2147483648) → (before +ℤ pos (n * up)) ≤ℤ pos 2147483647
-      → All (λ x. least ≤ℤ x) xs → All (λ x. x ≤ℤ greatest) xs
+  leads : (n : ℕ) (before : ℤ) → is_number (before +ℤ (pos n *ℤ least)) ≡ true → is_number (before +ℤ (pos n *ℤ greatest)) ≡ true → LeadsWithin n before
+  leads n before lowest highest = record { low = fits-is_number (before +ℤ (pos n *ℤ least)) lowest; high = fits-is_number (before +ℤ (pos n *ℤ greatest)) highest }
+
+  signs : (n : ℕ) → ((pos n *ℤ least) ≤ℤ pos 0) × (pos 0 ≤ℤ (pos n *ℤ greatest))
+  signs zero = (omega (arith, ints, zero-*ℤ least), omega (arith, ints, zero-*ℤ greatest))
+  signs (suc m) = let rest = signs m in (omega (arith, ints, down, rest.0, suc_ℤ-*ℤ (pos m) least), omega (arith, ints, up, rest.1, suc_ℤ-*ℤ (pos m) greatest))
+
+  begins : (n : ℕ) (before : ℤ) → LeadsWithin n before → is_number before ≡ true
+  begins n before room = let low = room.low in let high = room.high in let s = signs n in is_number-fits before (omega (arith, ints, s.0, s.1, low, high))
+
+  goes_on : (m : ℕ) (before x : ℤ) → LeadsWithin (suc m) before → least ≤ℤ x → x ≤ℤ greatest → LeadsWithin m (before +ℤ x)
+  goes_on m before x room from to =
+      let low = room.low in
+      let high = room.high in
+      let s = signs m in
+      let lower = suc_ℤ-*ℤ (pos m) least in
+      let higher = suc_ℤ-*ℤ (pos m) greatest in
+      record { low = omega (arith, ints, lower, higher, s.0, s.1, low, high, from, to); high = omega (arith, ints, lower, higher, s.0, s.1, low, high, from, to) }
+
+  -- so all sums of at most n such numbers fit, the last one too
+  steps_fit : (n : ℕ) (before : ℤ) (xs : List ℤ) → length xs ≤ n → LeadsWithin n before → All (λ x. least ≤ℤ x) xs → All (λ x. x ≤ℤ greatest) xs
       → (fitting_front (scan_of ◌+ℤ◌ before xs) ≡ length xs) × (is_number (fold_of ◌+ℤ◌ before xs) ≡ true)
-  steps_fit n before [] few low high from to = (refl, fits_now n before low high)
-  steps_fit zero before (x ∷ xs) few low high from to = absurd (omega (arith, few))
-  steps_fit (suc m) before (x ∷ xs) few low high from to =
-      let down_more = suc-mul m down in
-      let up_more = suc-mul m up in
-      let x_from = All-head (λ y. least ≤ℤ y) x xs from in
-      let x_to = All-head (λ y. y ≤ℤ greatest) x xs to in
-      let rest = steps_fit m (before +ℤ x) xs (omega (arith, few)) (omega (arith, ints, low, down_more, x_from, is_down)) (omega (arith, ints, high, up_more, x_to, is_up))
+  steps_fit n before [] few room from to = (refl, begins n before room)
+  steps_fit zero before (x ∷ xs) few room from to = absurd (omega (arith, few))
+  steps_fit (suc m) before (x ∷ xs) few room from to =
+      let rest = steps_fit m (before +ℤ x) xs (omega (arith, few)) (goes_on m before x room (All-head (λ y. least ≤ℤ y) x xs from) (All-head (λ y. y ≤ℤ greatest) x xs to))
       (All-tail (λ y. least ≤ℤ y) x xs from) (All-tail (λ y. y ≤ℤ greatest) x xs to) in
       let first : fitting_front (scan_of ◌+ℤ◌ before (x ∷ xs)) ≡ 1 + fitting_front (scan_of ◌+ℤ◌ (before +ℤ x) xs) =
       ap fitting_front (scan_of-cons ◌+ℤ◌ before x xs)
-      ∙ ap (λ b. cond b (1 + fitting_front (scan_of ◌+ℤ◌ (before +ℤ x) xs)) 0) (fits_now (suc m) before low high) in
+      ∙ ap (λ b. cond b (1 + fitting_front (scan_of ◌+ℤ◌ (before +ℤ x) xs)) 0) (begins (suc m) before room) in
       (omega (arith, first, rest.0), rest.1)
 
--- so long steps, of which n lead so far
-steps_down : (z : ℤ) → z ≤ℤ pos 0 → (down : ℕ) × (z +ℤ pos down ≡ pos 0) × ((n : ℕ) → (pos n *ℤ z) +ℤ pos (n * down) ≡ pos 0)
-steps_down (pos zero) le = (0, refl, λ n. omega (arith, ints))
-steps_down (pos (suc k)) le = absurd (omega (arith, ints, le))
-steps_down (negsuc k) le = (suc k, omega (arith, ints), λ n. omega (arith, ints, pos-*ℤ-negsuc n k))
-
-steps_up : (z : ℤ) → pos 0 ≤ℤ z → (up : ℕ) × (z ≡ pos up) × ((n : ℕ) → pos n *ℤ z ≡ pos (n * up))
-steps_up (pos k) le = (k, refl, λ n. pos-*ℤ-pos n k)
-steps_up (negsuc k) le = absurd (omega (arith, ints, le))
-
-room_down : (n down : ℕ) (before z : ℤ) → (pos n *ℤ z) +ℤ pos (n * down) ≡ pos 0 → is_number (before +ℤ (pos n *ℤ z)) ≡ true → pos (n * down) ≤ℤ (before +ℤ pos 2147483648)
-room_down n down before z far number = let fits = fits-is_number (before +ℤ (pos n *ℤ z)) number in omega (arith, ints, far, fits)
-
-room_up : (n up : ℕ) (before z : ℤ) → pos n *ℤ z ≡ pos (n * up) → is_number (before +ℤ (pos n *ℤ z)) ≡ true → (before +ℤ pos (n * up)) ≤ℤ pos 2147483647
-room_up n up before z far number = let fits = fits-is_number (before +ℤ (pos n *ℤ z)) number in omega (arith, ints, far, fits)
-
--- ---- segments of which none is longer than n
-
-module _ (n down up : ℕ) (least greatest longest : ℤ) (is_down : least +ℤ pos down ≡ pos 0) (is_up : greatest ≡ pos up) (is_n : longest ≡ pos n)
-    (low : pos (n * down) ≤ℤ pos 2147483648) (high : pos (n * up) ≤ℤ pos 2147483647) where
-  each_fits : (lengths : List ℕ) (xs : List ℤ) → All (λ z. z ≤ℤ longest) (map pos lengths) → length xs ≤ sum lengths → All (λ x. least ≤ℤ x) xs → All (λ x. x ≤ℤ greatest) xs
-      → fitting_front (scans_of ◌+ℤ◌ (pos 0) lengths xs) ≡ length xs
-  each_fits [] xs short covered from to = omega (arith, covered)
-  each_fits (m ∷ ls) xs short covered from to =
+  -- and all results of the scans of segments of which none is longer than n
+  each_fits : (n : ℕ) (lengths : List ℕ) (xs : List ℤ) → LeadsWithin n (pos 0) → All (λ z. z ≤ℤ pos n) (map pos lengths) → length xs ≤ sum lengths
+      → All (λ x. least ≤ℤ x) xs → All (λ x. x ≤ℤ greatest) xs → fitting_front (scans_of ◌+ℤ◌ (pos 0) lengths xs) ≡ length xs
+  each_fits n [] xs room short covered from to = omega (arith, covered)
+  each_fits n (m ∷ ls) xs room short covered from to =
       let segment = take m xs in
-      let few = All-head (λ z. z ≤ℤ longest) (pos m) (map pos ls) short in
-      let first = steps_fit least greatest down up is_down is_up n (pos 0) segment (omega (arith, ints, few, is_n, length-take m xs)) (omega (arith, ints, low)) (omega (arith, ints, high))
-      (All-take (λ x. least ≤ℤ x) m xs from) (All-take (λ x. x ≤ℤ greatest) m xs to) in
-      let rest = each_fits ls (drop m xs) (All-tail (λ z. z ≤ℤ longest) (pos m) (map pos ls) short) (omega (arith, covered, sum-cons m ls, length-drop m xs))
+      let few = All-head (λ z. z ≤ℤ pos n) (pos m) (map pos ls) short in
+      let first = steps_fit n (pos 0) segment (omega (arith, ints, few, length-take m xs)) room (All-take (λ x. least ≤ℤ x) m xs from) (All-take (λ x. x ≤ℤ greatest) m xs to) in
+      let rest = each_fits n ls (drop m xs) room (All-tail (λ z. z ≤ℤ pos n) (pos m) (map pos ls) short) (omega (arith, covered, sum-cons m ls, length-drop m xs))
       (All-drop (λ x. least ≤ℤ x) m xs from) (All-drop (λ x. x ≤ℤ greatest) m xs to) in
       let past = scan_past (pos 0) segment (scans_of ◌+ℤ◌ (pos 0) ls (drop m xs)) (length segment) (sym first.0) (omega arith) in
       omega (arith, past, rest, length-take m xs, length-drop m xs)
@@ -87,16 +83,13 @@ module _ (n down up : ℕ) (least greatest longest : ℤ) (is_down : least +ℤ 
 pub segments_fit : (longest least greatest : ℤ) (lengths : List ℕ) (xs : List ℤ) → longest ≡ fold_of greater_of (pos 0) (map pos lengths) → length xs ≤ sum lengths
     → least ≡ fold_of lesser_of (pos 0) xs → greatest ≡ fold_of greater_of (pos 0) xs → is_number (pos 0 +ℤ (longest *ℤ least)) ≡ true → is_number (pos 0 +ℤ (longest *ℤ greatest)) ≡ true
     → fitting_front (scans_of ◌+ℤ◌ (pos 0) lengths xs) ≡ length xs
-segments_fit longest least greatest lengths xs is_longest covered is_least is_greatest lowest highest =
-    let short = fold-int_max_bounds (pos 0) (map pos lengths) longest is_longest in
+segments_fit (negsuc k) least greatest lengths xs is_longest covered is_least is_greatest lowest highest =
+    absurd (omega (arith, ints, (fold-int_max_bounds (pos 0) (map pos lengths) (negsuc k) is_longest).0))
+segments_fit (pos n) least greatest lengths xs is_longest covered is_least is_greatest lowest highest =
+    let short = fold-int_max_bounds (pos 0) (map pos lengths) (pos n) is_longest in
     let from = fold-int_min_bounds (pos 0) xs least is_least in
     let to = fold-int_max_bounds (pos 0) xs greatest is_greatest in
-    let n = steps_up longest short.0 in
-    let down = steps_down least from.0 in
-    let up = steps_up greatest to.0 in
-    let lower = room_down n.0 down.0 (pos 0) least (down.2 n.0) (ap (λ z. is_number (pos 0 +ℤ (z *ℤ least))) (sym n.1) ∙ lowest) in
-    let higher = room_up n.0 up.0 (pos 0) greatest (up.2 n.0) (ap (λ z. is_number (pos 0 +ℤ (z *ℤ greatest))) (sym n.1) ∙ highest) in
-    each_fits n.0 down.0 up.0 least greatest longest down.1 up.1 n.1 (omega (arith, ints, lower)) (omega (arith, ints, higher)) lengths xs short.1 covered from.1 to.1
+    each_fits least greatest from.0 to.0 n lengths xs (leads least greatest from.0 to.0 n (pos 0) lowest highest) short.1 covered from.1 to.1
 
 -- ---- the sum that wraps is the wrapped sum
 
@@ -106,26 +99,17 @@ wrapped_sum before (x ∷ xs) = ap (λ z. fold_of sum_of z xs) (int_wrap-add_lef
 
 -- ---- a block of at most n numbers, for so many of whose least and of whose greatest there is room
 
-module _ (n : ℕ) (before least greatest : ℤ) (xs : List ℤ) (few : length xs ≤ n) (is_least : least ≡ fold_of lesser_of (pos 0) xs)
-    (is_greatest : greatest ≡ fold_of greater_of (pos 0) xs) (lowest : is_number (before +ℤ (pos n *ℤ least)) ≡ true)
-    (highest : is_number (before +ℤ (pos n *ℤ greatest)) ≡ true) where
-  block_fits : (is_number before ≡ true) × (fitting_front (scan_of ◌+ℤ◌ before xs) ≡ length xs) × (is_number (fold_of ◌+ℤ◌ before xs) ≡ true)
-  block_fits =
-      let from = fold-int_min_bounds (pos 0) xs least is_least in
-      let to = fold-int_max_bounds (pos 0) xs greatest is_greatest in
-      let down = steps_down least from.0 in
-      let up = steps_up greatest to.0 in
-      let lower = room_down n down.0 before least (down.2 n) lowest in
-      let higher = room_up n up.0 before greatest (up.2 n) highest in
-      let fit = steps_fit least greatest down.0 up.0 down.1 up.1 n before xs few lower higher from.1 to.1 in
-      (fits_now least greatest down.0 up.0 down.1 up.1 n before lower higher, fit.0, fit.1)
-
-  pub block_walked : (sum : ℤ) → sum ≡ fold_of sum_of before xs → (fitting_front (scan_of ◌+ℤ◌ before xs) ≡ length xs) × (sum ≡ fold_of ◌+ℤ◌ before xs)
-  block_walked sum is_sum =
-      let fits = block_fits in (
-        fits.1,
-        is_sum
-            ∙ ap (λ z. fold_of sum_of z xs) (sym (number_words.inverse before fits.0))
-            ∙ wrapped_sum before xs
-            ∙ number_words.inverse (fold_of ◌+ℤ◌ before xs) fits.2,
-      )
+pub block_walked : (n : ℕ) (before least greatest : ℤ) (xs : List ℤ) → length xs ≤ n → least ≡ fold_of lesser_of (pos 0) xs → greatest ≡ fold_of greater_of (pos 0) xs
+    → is_number (before +ℤ (pos n *ℤ least)) ≡ true → is_number (before +ℤ (pos n *ℤ greatest)) ≡ true → (sum : ℤ) → sum ≡ fold_of sum_of before xs
+    → (fitting_front (scan_of ◌+ℤ◌ before xs) ≡ length xs) × (sum ≡ fold_of ◌+ℤ◌ before xs)
+block_walked n before least greatest xs few is_least is_greatest lowest highest sum is_sum =
+    let from = fold-int_min_bounds (pos 0) xs least is_least in
+    let to = fold-int_max_bounds (pos 0) xs greatest is_greatest in
+    let room = leads least greatest from.0 to.0 n before lowest highest in
+    let fit = steps_fit least greatest from.0 to.0 n before xs few room from.1 to.1 in (
+      fit.0,
+      is_sum
+          ∙ ap (λ z. fold_of sum_of z xs) (sym (number_words.inverse before (begins least greatest from.0 to.0 n before room)))
+          ∙ wrapped_sum before xs
+          ∙ number_words.inverse (fold_of ◌+ℤ◌ before xs) fit.1,
+    )

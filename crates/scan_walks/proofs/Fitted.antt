@@ -1,10 +1,12 @@
 -- Lists of numbers of which the first ones fit 32 bits, and the checked scans of such results: the fault of the first that doesn't
 -- fit, or the scans that wrap.
 -- Source: what the definitions of CheckedSums, Fronts and Integers imply.
-use Rattle.std.proofs.Common.{◌≡◌, ◌∙◌, refl, sym, ap, ℕ, ◌+◌, ◌<◌, ◌≤◌, Bool, true, false, cond, ℤ, pos, ◌+ℤ◌, w32, List, [], ◌∷◌, ◌++◌, length, map, take, drop, arith, Some, None, Ok, Err}
+use Rattle.std.proofs.Common.{◌≡◌, ◌∙◌, refl, sym, ap, ℕ, ◌+◌, ◌<◌, ◌≤◌, Bool, true, false, cond, ℤ, pos, ◌+ℤ◌, w32, List, [], ◌∷◌, ◌++◌, length, map, take, drop, get_or, arith, Some, None, Ok, Err}
 use Rattle.std.specs.Prelude.{if◌then◌else◌, sum}
 use Rattle.std.proofs.lemmas.Int.{int_wrap-add_left}
 use Rattle.std.proofs.lemmas.List.{map-append}
+use Rattle.std.proofs.lemmas.List.Folds.{map_fixed}
+use Rattle.std.proofs.lemmas.List.Sums.{prefix_len_passes}
 use Rattle.operators.proofs.FoldLaws.{length-scan_of}
 use Rattle.operators.specs.NumberLaws.{number_words}
 use Rattle.cvl_base.specs.CheckedSums.{checked_scan_of, checked_seg_scan_of, fitting}
@@ -44,15 +46,9 @@ pub all_fit : (n : ℕ) (zs : List ℤ) → length zs ≤ fitting_front zs → v
 all_fit n [] ge = refl
 all_fit n (z ∷ zs) ge = fits_at (is_number z) n z zs (omega (arith, ge)) (all_fit (n + 1) zs)
 
-wrapped_at : (b : Bool) (z : ℤ) (zs : List ℤ) → is_number z ≡ b → 1 + length zs ≤ cond b (1 + fitting_front zs) 0 → (length zs ≤ fitting_front zs → map wrap zs ≡ zs)
-    → map wrap (z ∷ zs) ≡ z ∷ zs
-wrapped_at true z zs number ge others = λ i. number_words.inverse z number i ∷ others (omega (arith, ge)) i
-wrapped_at false z zs number ge others = absurd (omega (arith, ge))
-
 -- and to wrap them changes nothing
 wrapped_same : (zs : List ℤ) → length zs ≤ fitting_front zs → map wrap zs ≡ zs
-wrapped_same [] ge = refl
-wrapped_same (z ∷ zs) ge = wrapped_at (is_number z) z zs refl (omega (arith, ge)) (wrapped_same zs)
+wrapped_same zs ge = map_fixed wrap zs (λ i d lt. number_words.inverse (get_or zs i d) (prefix_len_passes is_number zs i d (omega (arith, ge, lt))))
 
 -- ---- the scan that wraps is the wrapped scan
 
@@ -83,7 +79,7 @@ module _ (n : ℕ) (zs : List ℤ) (is : n ≡ fitting_front zs) where
   one_overflows : n < length zs → values_from Overflow 0 (map fitting zs) ≡ Err (fault_at Overflow n)
   one_overflows lt = let at : 0 + fitting_front zs ≡ n = omega (arith, is) in overflows 0 zs (omega (arith, is, lt)) ∙ ap (λ p. Err (fault_at Overflow p)) at
 
-  none_overflows : (ys : List ℤ) → length zs ≤ n → ys ≡ map wrap zs → values_from Overflow 0 (map fitting zs) ≡ Ok ys
+  pub none_overflows : (ys : List ℤ) → length zs ≤ n → ys ≡ map wrap zs → values_from Overflow 0 (map fitting zs) ≡ Ok ys
   none_overflows ys ge wrapped = let all : length zs ≤ fitting_front zs = omega (arith, is, ge) in all_fit 0 zs all ∙ ap Ok (sym (wrapped ∙ wrapped_same zs all))
 
 -- of a flat vector

@@ -2,27 +2,20 @@
 use Rattle.std.proofs.Common.{◌≡◌, ◌∙◌, refl, sym, ap, ℕ, ◌+◌, ◌<◌, ◌≤◌, min, Bool, true, false, cond, ℤ, pos, ◌+ℤ◌, List, ◌++◌, length, take, drop, get_or, arith, Some, None}
 use Rattle.std.specs.Prelude.{if◌then◌else◌, sum}
 use Rattle.std.specs.Option.{is_some}
+use Rattle.std.proofs.lemmas.Bool.{false_from_ne_true}
 use Rattle.std.proofs.lemmas.List.{drop_more, drop-drop, length-take, take-append-drop}
 use Rattle.std.proofs.lemmas.List.Folds.{prefix_len-append}
 use Rattle.std.proofs.lemmas.List.Sums.{prefix_len-le-length}
-use Rattle.operators.proofs.FoldLaws.{length-scan_of}
+use Rattle.std.proofs.lemmas.Option.{cond_some, none-some}
 use Rattle.cvl_base.specs.CheckedSums.{fitting}
 use Rattle.cvl_base.specs.Folds.{fold_of, scan_of}
 use Rattle.cvl_base.specs.ItemWords.{is_number}
 use Rattle.range_walks.specs.Ranges.{continued, range_scan_of, scans_of, with_starts}
 use Rattle.range_walks.proofs.Cut.{parts_scanned}
 use Rattle.scan_walks.specs.Fronts.{fitting_front}
-use Rattle.operators.proofs.FoldLaws.{scan_of-append, scan_of-cons}
+use Rattle.operators.proofs.FoldLaws.{length-scan_of, scan_of-append, scan_of-cons}
 use Rattle.range_walks.proofs.Segments.{length-scans_of, scans_parted}
 use Rattle.scan_walks.proofs.WholeSums.{all_whole, whole_laws}
-
-passed : (z y : ℤ) (b : Bool) → (if b then Some z else None) ≡ Some y → b ≡ true
-passed z y true is = refl
-passed z y false is = cc
-
-failed : (z : ℤ) (b : Bool) → (if b then Some z else None) ≡ None → b ≡ false
-failed z true is = cc
-failed z false is = refl
 
 some_passed : (z : ℤ) (b : Bool) → is_some (if b then Some z else None) ≡ true → b ≡ true
 some_passed z true is = refl
@@ -31,11 +24,11 @@ some_passed z false is = cc
 pub some-fits : (z w : ℤ) → w ≡ z → is_some (fitting w) ≡ true → is_number z ≡ true
 some-fits z w same is = some_passed z (is_number z) (ap (λ v. is_some (fitting v)) (sym same) ∙ is)
 
-pub fitting-passes : (z y : ℤ) → fitting z ≡ Some y → is_number z ≡ true
-fitting-passes z y is = passed z y (is_number z) is
+pub fitting-is : (z y : ℤ) → fitting z ≡ Some y → (is_number z ≡ true) × (z ≡ y)
+fitting-is z y is = cond_some (is_number z) z y is
 
-pub fitting-fails : (z : ℤ) → fitting z ≡ None → is_number z ≡ false
-fitting-fails z is = failed z (is_number z) is
+pub none-fits : (z : ℤ) → fitting z ≡ None → is_number z ≡ false
+none-fits z is = false_from_ne_true (is_number z) (λ number. none-some z (sym is ∙ ap (λ b. if b then Some z else None) number))
 
 -- ---- a walk over the sums before each of some numbers, of which i were seen to fit
 
@@ -51,12 +44,12 @@ module _ (n i : ℕ) (so_far : ℤ) (xs : List ℤ) (is : n ≡ i + fitting_fron
   pub front_goes_on : (y next : ℤ) → i < length xs → fitting so_far ≡ Some y → next ≡ so_far +ℤ get_or xs i (pos 0)
       → n ≡ (i + 1) + fitting_front (scan_of ◌+ℤ◌ next (drop (i + 1) xs))
   front_goes_on y next lt fits sum =
-      let more = begun true lt (fitting-passes so_far y fits) in
+      let more = begun true lt (fitting-is so_far y fits).0 in
       let same = ap (λ z. fitting_front (scan_of ◌+ℤ◌ z (drop (i + 1) xs))) (sym sum) in
       omega (arith, more, same)
 
   pub front_stops : i < length xs → fitting so_far ≡ None → i ≡ n
-  front_stops lt fits = let more = begun false lt (fitting-fails so_far fits) in omega (arith, more)
+  front_stops lt fits = let more = begun false lt (none-fits so_far fits) in omega (arith, more)
 
 -- ---- lists one after another
 

@@ -1,6 +1,6 @@
 -- A list that is written over from its front on: from the place that is next on it is as before.
 -- Source: what the definitions of take, drop and set imply.
-use Rattle.std.proofs.Common.{◌≡◌, ◌∙◌, ℕ, ◌+◌, ◌<◌, ◌≤◌, List, ◌++◌, drop, get_or, length, set, take, sym, ap, arith}
+use Rattle.std.proofs.Common.{◌≡◌, ◌∙◌, ℕ, ◌+◌, ◌<◌, ◌≤◌, List, ◌++◌, drop, get_or, length, map, set, take, refl, sym, ap, arith}
 use Rattle.std.specs.Prelude.{sum}
 use Rattle.std.proofs.lemmas.List.{append_assoc, drop-drop, drop-set-lt, get_or-drop, length-drop, length-take}
 use Rattle.std.proofs.lemmas.List.Sums.{sum_by-drop_more}
@@ -8,8 +8,9 @@ use Rattle.std.proofs.lemmas.Slice.{drop-put_mid, take-put_mid}
 use borrow.Rule.Slice.PartMut.{put_mid}
 use Rattle.operators.proofs.FoldLaws.{length-scan_of}
 use Rattle.cvl_base.specs.Folds.{scan_of}
+use Rattle.cvl_base.specs.Lists.{joined}
 use Rattle.range_walks.specs.Ranges.{scans_of}
-use Rattle.range_walks.proofs.Segments.{scans_more}
+use Rattle.range_walks.proofs.Segments.{cut_more}
 
 module _ {X : Type 0} (now before : List X) (i : ℕ) (left : drop i now ≡ drop i before) where
   -- what stands at the place
@@ -55,5 +56,5 @@ module _ {Item : Type 0} (join : Item → Item → Item) (unit : Item) (lengths 
         ∙ append_assoc (take start now) segment others
         ∙ ap (λ xs. take start now ++ xs)
         ((λ i. as_scanned i ++ scans_of join unit (drop (s + 1) lengths) (sym (drop-drop n start before) i))
-        ∙ sym (scans_more join unit lengths s n (drop start before) lt is_n))
+        ∙ sym (ap (λ lists. joined (map (scan_of join unit) lists)) (cut_more lengths s n (drop start before) _ _ lt is_n refl refl)))
         ∙ so_far

@@ -1,5 +1,4 @@
 pub mod BlockLaws
-pub mod Continued
 pub mod Fitted
 pub mod FrontLaws
 pub mod InPlace

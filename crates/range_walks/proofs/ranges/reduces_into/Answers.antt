@@ -1,10 +1,12 @@
-use Rattle.std.proofs.Common.{◌≡◌, ◌-◌, true, map, unsigned_abs, sym, subst, ap, ◌∙◌, arith}
+use Rattle.std.proofs.Common.{◌≡◌, ◌+◌, ◌-◌, ◌∷◌, [], true, drop, map, unsigned_abs, sym, subst, ap, ◌∙◌, arith}
 use Rattle.std.specs.List.{AllPass}
 use Rattle.std.proofs.lemmas.List.{drop-map, take-map}
 use Rattle.std.proofs.lemmas.List.Elements.{All-drop}
 use Rattle.std.proofs.lemmas.List.Sums.{sum_by-drop_more}
-use Rattle.range_walks.proofs.Segments.{length_fits, segment_read, read_at}
-use Rattle.range_walks.proofs.Written.{reduces_written}
+use Rattle.cvl_base.specs.Folds.{fold_of}
+use Rattle.range_walks.specs.Ranges.{reduces_of}
+use Rattle.range_walks.proofs.Segments.{cut_more, length_fits, segment_read, read_at}
+use Rattle.range_walks.proofs.Written.{written_more}
 use Rattle.range_walks.proofs.ranges.reduces_into.Goals as goal
 
 pub overflow_cast-length : goal.overflow_cast-length
@@ -32,9 +34,12 @@ loop-length-preserved g c =
     let n = read_at row s in
     let left : c.push.new.self.room ≡ c.loop-length.run.room - 1 = ap (λ r. r.room) c.push.ensures in
     record {
-      whole = reduces_written m.join m.unit lengths c.loop-length.run c.push.new.self _ (map item rest) _ _ c.unit.result c.sum_from.result s n read.0 read.1
-          (ap (map item) c.split_at.ensures.front ∙ sym (take-map item n rest)) (ap (map item) c.split_at.ensures.back ∙ sym (drop-map item n rest)) c.unit.ensures c.sum_from.ensures
-          c.push.ensures c.loop-length.invariant.whole;
+      whole = written_more c.loop-length.run c.push.new.self _ (c.sum_from.result ∷ []) _ _ c.push.ensures
+          (ap (map (fold_of m.join m.unit)) (cut_more lengths s n (map item rest) (map item c.split_at.result.0.now) _ read.0 read.1
+          (ap (map item) c.split_at.ensures.front ∙ sym (take-map item n rest)) (ap (map item) c.split_at.ensures.back ∙ sym (drop-map item n rest)))
+          ∙ ap (λ sum. sum ∷ reduces_of m.join m.unit (drop (s + 1) lengths) (map item c.split_at.result.1.now))
+          (sym (c.sum_from.ensures ∙ ap (λ u. fold_of m.join u (map item c.split_at.result.0.now)) c.unit.ensures)))
+          c.loop-length.invariant.whole;
       covered = omega (arith, read.1, c.split_at.ensures.back_len, c.loop-length.invariant.covered, sum_by-drop_more (λ x. x) lengths s 0 read.0);
       room = omega (arith, left, c.loop-length.invariant.room, c.loop-length-test.true);
       items = subst (λ xs. AllPass (λ x. m.is_item (item x)) xs) (sym c.split_at.ensures.back) (All-drop (λ x. m.is_item (item x) ≡ true) n rest c.loop-length.invariant.items);

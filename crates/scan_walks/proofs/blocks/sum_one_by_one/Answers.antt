@@ -3,8 +3,7 @@ use Rattle.std.proofs.lemmas.Int.{to_z-of_z}
 use Rattle.std.proofs.lemmas.List.Sums.{fold_more}
 use Rattle.cvl_base.specs.Folds.{scan_of}
 use Rattle.scan_walks.specs.Fronts.{fitting_front}
-use Rattle.scan_walks.proofs.Continued.{fitting-same}
-use Rattle.scan_walks.proofs.FrontLaws.{front_goes_on, front_stops}
+use Rattle.scan_walks.proofs.FrontLaws.{fitting-is, front_goes_on, front_stops}
 use Rattle.scan_walks.proofs.blocks.sum_one_by_one.Goals as goal
 
 pub returns-in-None : goal.returns-in-None
@@ -20,7 +19,7 @@ loop-place-preserved c =
     let back : to_z w32 (of_z w32 c.in-Some.sum) ≡ c.in-Some.sum = grind (arith, to_z-of_z) in
     let wide : to_z w64 (of_z w64 c.plus-so_far.result) ≡ c.plus-so_far.result = grind (arith, to_z-of_z) in
     let fits = sym c.fitting.ensures ∙ c.in-Some.is in
-    let same = fitting-same _ _ fits in
+    let same = sym (fitting-is _ _ fits).1 in
     let next = wide ∙ c.plus-so_far.ensures ∙ ap (λ z. z +ℤ get_or c.args.xs.now c.loop-place.place (pos 0)) (back ∙ same) in
     record {
       front = front_goes_on _ _ _ _ c.loop-place.invariant.front c.in-Some.sum _ c.loop-place-test.true fits next;

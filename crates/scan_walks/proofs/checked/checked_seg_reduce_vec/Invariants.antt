@@ -1,13 +1,16 @@
-use Rattle.std.proofs.Common.{◌≡◌, ℤ, length, drop, vec_len, vec_capacity}
-use Rattle.std.specs.Prelude.{sum}
-use Rattle.cvl_base.specs.Gives.{after}
-use Rattle.scan_walks.proofs.Continued.{sums_from}
+use Rattle.std.proofs.Common.{◌≡◌, ◌+◌, pos, ◌+ℤ◌, length, drop, take, vec_len, vec_capacity}
+use Rattle.segdes.specs.Starts.{start_of}
+use Rattle.range_walks.specs.Ranges.{reduces_of}
+use Rattle.scan_walks.specs.Fronts.{fitting_front}
 use Rattle.scan_walks.proofs.checked.checked_seg_reduce_vec.Given as goal
 
 abbrev pub invariant-loop-length : goal.invariant-loop-length
-invariant-loop-length g l = record {
-  whole : sums_from 0 l.d l.a ≡ after {X = ℤ} l.sums.items (sums_from (vec_len l.sums) (drop l.length-index l.d) l.rest);
-  as_long : vec_len l.sums ≡ l.length-index;
-  capacity : vec_capacity l.sums ≡ length l.d;
-  covered : sum (drop l.length-index l.d) ≡ length l.rest;
-}
+invariant-loop-length g l =
+    let totals = reduces_of ◌+ℤ◌ (pos 0) l.d l.a in
+    record {
+      sums : l.sums.items ≡ take l.length-index totals;
+      front : fitting_front totals ≡ l.length-index + fitting_front (drop l.length-index totals);
+      rest : l.rest ≡ drop (start_of l.d l.length-index) l.a;
+      as_long : vec_len l.sums ≡ l.length-index;
+      capacity : vec_capacity l.sums ≡ length l.d;
+    }
