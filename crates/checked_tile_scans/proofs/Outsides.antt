@@ -1,6 +1,6 @@
 -- The first number of a list that doesn't fit 32 bits, and the first tile that has one.
 -- Source: what the definitions of Checked and CheckedSums imply.
-use Rattle.std.proofs.Common.{◌≡◌, ◌∙◌, refl, sym, ap, subst, ℕ, zero, suc, ◌+◌, ◌-◌, ◌*◌, ◌<◌, ◌≤◌, min, Bool, true, false, ℤ, List, ◌∷◌, ◌++◌, length, map, take, drop, arith, take-add, Option, Some, None, Err, option_map}
+use Rattle.std.proofs.Common.{◌≡◌, ◌∙◌, refl, sym, ap, subst, ℕ, zero, suc, ◌+◌, ◌*◌, ◌<◌, ◌≤◌, min, Bool, true, false, ℤ, List, ◌∷◌, ◌++◌, length, map, take, drop, arith, Option, Some, None, Err, option_map}
 use Rattle.std.specs.Prelude.{if◌then◌else◌}
 use Rattle.std.specs.List.{range_with_len}
 use Rattle.std.proofs.lemmas.Bool.{false_from_ne_true, le-ltb, lt-ltb, ltb-false, ltb-true}
@@ -15,9 +15,9 @@ use Rattle.scan_walks.specs.Fronts.{fitting_front}
 use Rattle.scan_walks.proofs.Fitted.{overflows}
 use Rattle.scan_walks.proofs.FrontLaws.{front_past, front_within}
 use Rattle.tile_plan.specs.Ranges.{range_of, tile_count}
-use Rattle.tile_plan.proofs.Numbers.{ends_at, starts_past, starts_within}
+use Rattle.tile_plan.proofs.Numbers.{starts_past, starts_within}
 use Rattle.tile_scans.specs.TiledSums.{tile_of}
-use Rattle.tile_scans.proofs.SumsOfTiles.{tile_cut}
+use Rattle.tile_scans.proofs.SumsOfTiles.{tiles_more}
 use Rattle.checked_tile_scans.specs.Checked.{first_outside, has_outside, tile_outside}
 
 -- ---- one list
@@ -47,15 +47,6 @@ module _ (plan : ℕ × ℕ) (zs : List ℤ) (some : 1 ≤ plan.1) (whole : leng
   abbrev slots : ℕ → ℕ → List (Option ℕ)
   slots t n = map (λ k. option_map (λ _. 0) (tile_outside plan zs k)) (range_with_len t n)
 
-  one_more : (t : ℕ) → t < tile_count plan.0 plan.1 → front (t + 1) ≡ front t ++ tile_of plan.0 plan.1 zs t
-  one_more t below =
-      let from : ℕ = min plan.0 (t * plan.1) in
-      let to : ℕ = min plan.0 ((t + 1) * plan.1) in
-      let ends = ends_at plan.0 plan.1 t some below in
-      let same : suc t * plan.1 ≡ (t + 1) * plan.1 = omega arith in
-      let rises : from + (to - from) ≡ to = omega arith in
-      ap (λ k. take k zs) (sym rises) ∙ take-add from (to - from) zs ∙ ap (λ ys. take from zs ++ ys) (sym (tile_cut plan.0 plan.1 t zs some below))
-
   -- where all numbers before tile t fit, and one of the tile doesn't
   stops : (t : ℕ) → t < tile_count plan.0 plan.1 → length (front t) ≤ fitting_front (front t) → has_outside (tile_of plan.0 plan.1 zs t) ≡ true → first_outside zs ≡ tile_outside plan zs t
   stops t below fits outside =
@@ -63,7 +54,7 @@ module _ (plan : ℕ × ℕ) (zs : List ℤ) (some : 1 ≤ plan.1) (whole : leng
       let end : ℕ = min plan.0 ((t + 1) * plan.1) in
       let rest = drop end zs in
       let start : ℕ = (range_of plan.0 plan.1 t).0 in
-      let parts : zs ≡ front t ++ (piece ++ rest) = sym (take-append-drop end zs) ∙ ap (λ ys. ys ++ rest) (one_more t below) ∙ append_assoc (front t) piece rest in
+      let parts : zs ≡ front t ++ (piece ++ rest) = sym (take-append-drop end zs) ∙ ap (λ ys. ys ++ rest) (tiles_more plan t zs some below) ∙ append_assoc (front t) piece rest in
       let lt = ltb-true (fitting_front piece) (length piece) outside in
       let long : length (front t) ≡ start = omega (arith, length-take (min plan.0 (t * plan.1)) zs, whole, starts_within plan.0 plan.1 t some below) in
       let at : fitting_front (front t ++ (piece ++ rest)) ≡ start + fitting_front piece = omega (arith, front_past (front t) (piece ++ rest) fits, front_within piece rest lt, long) in
@@ -79,7 +70,7 @@ module _ (plan : ℕ × ℕ) (zs : List ℤ) (some : 1 ≤ plan.1) (whole : leng
   found_at false t ts is below fits later =
       let piece = tile_of plan.0 plan.1 zs t in
       let here = ltb-false (fitting_front piece) (length piece) is in
-      later (subst (λ ys. length ys ≤ fitting_front ys) (sym (one_more t below)) (omega (arith, length-append (front t) piece, front_past (front t) piece fits, here)))
+      later (subst (λ ys. length ys ≤ fitting_front ys) (sym (tiles_more plan t zs some below)) (omega (arith, length-append (front t) piece, front_past (front t) piece fits, here)))
 
   -- from tile t on, where all numbers before it fit
   found_from : (t n : ℕ) → t + n ≡ tile_count plan.0 plan.1 → length (front t) ≤ fitting_front (front t) → Told plan zs (least_from t (slots t n) 0)

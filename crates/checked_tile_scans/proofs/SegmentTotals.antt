@@ -1,8 +1,8 @@
 -- The sum of a range over whole numbers, from what stands before the tile that holds its last element, and its elements in the tile.
 -- Source: what the definitions of Checked and Exact imply.
-use Rattle.std.proofs.Common.{◌≡◌, ◌∙◌, sym, ap, subst, ℕ, ◌+◌, ◌-◌, ◌<◌, ◌≤◌, Bool, true, false, ℤ, pos, ◌+ℤ◌, w64, FitsSigned, to_z, of_z, List, [], ◌++◌, length, take, drop, get_or, slice_range, arith, take-add, Option, Some, None}
+use Rattle.std.proofs.Common.{◌≡◌, ◌∙◌, sym, ap, subst, ℕ, ◌+◌, ◌-◌, ◌<◌, ◌≤◌, Bool, true, false, ℤ, pos, ◌+ℤ◌, w64, FitsSigned, to_z, of_z, List, ◌++◌, length, take, drop, get_or, slice_range, arith, take-add, Option, Some, None}
 use Rattle.std.specs.List.{AllPass}
-use Rattle.std.proofs.lemmas.List.{drop-drop, get_or-map, length-drop, length-take}
+use Rattle.std.proofs.lemmas.List.{drop-drop, length-drop, length-take}
 use Rattle.std.proofs.lemmas.List.Elements.{All-drop, All-take}
 use Rattle.std.proofs.lemmas.List.FromFn.{get_or-map-range_with_len, length-map-range_with_len}
 use Rattle.std.proofs.lemmas.List.Sums.{sum_by_more}
@@ -12,34 +12,31 @@ use Rattle.operators.specs.Exact.{total_of}
 use Rattle.operators.specs.ExactLaws.{InWords, word-in}
 use Rattle.cvl_base.specs.ItemWords.{is_number}
 use Rattle.cvl_base.specs.Limits.{most_elements}
-use Rattle.cvl_base.specs.Nests.{cut_of}
-use Rattle.cvl_base.proofs.Nests.{cut_at, length-cut}
 use Rattle.segdes.specs.Starts.{start_of}
 use Rattle.scan_walks.specs.Ranges.{continued}
 use Rattle.scan_walks.proofs.LastStart.{continued_summed}
+use Rattle.scan_walks.proofs.Segmented.{length-reduces_of}
+use Rattle.scan_walks.proofs.Valued.{segment_total}
 use Rattle.scan_walks.proofs.WholeSums.{all_whole, whole_laws}
 use Rattle.tile_plan.specs.Ranges.{range_of, tile_count}
 use Rattle.tile_scans.specs.TiledSums.{flagged}
-use Rattle.tile_scans.proofs.OpenSegments.{length-reduces_of, since_start}
+use Rattle.tile_scans.proofs.OpenSegments.{since_start}
 use Rattle.tile_scans.proofs.RangeScans.{continued_slice}
 use Rattle.checked_tile_scans.specs.Checked.{segment_totals, total_since, totals_before}
 use Rattle.checked_tile_scans.proofs.WideSums.{wide_fits, wide_sum}
 
 pub length-segment_totals : (lengths : List ℕ) (xs : List ℤ) → length (segment_totals lengths xs) ≡ length lengths
-length-segment_totals lengths xs = length-reduces_of ◌+ℤ◌ (pos 0) lengths xs
+length-segment_totals lengths xs = length-reduces_of ◌+ℤ◌ (pos 0) xs lengths
 
 pub length-totals_before : (plan : ℕ × ℕ) (ws : List (Bool × ℤ)) → length (totals_before plan ws) ≡ tile_count plan.0 plan.1
 length-totals_before plan ws = length-map-range_with_len (λ t. (total_since (take (range_of plan.0 plan.1 t).0 ws)).1) 0 (tile_count plan.0 plan.1)
 
-module _ (lengths : List ℕ) (xs : List ℤ) (s : ℕ) (lt : s < length lengths) where
-  pub segment_at : get_or (segment_totals lengths xs) s (pos 0) ≡ total_of (take (get_or lengths s 0) (drop (start_of lengths s) xs))
-  segment_at = get_or-map total_of (cut_of lengths xs) s [] (pos 0) (omega (arith, lt, length-cut lengths xs)) ∙ ap total_of (cut_at lengths xs s lt)
-
-  -- as its elements' range
-  pub segment_ranged : (start end : ℕ) → start ≡ start_of lengths s → end ≡ start + get_or lengths s 0 → total_of (slice_range xs start end) ≡ get_or (segment_totals lengths xs) s (pos 0)
-  segment_ranged start end is_start is_end =
-      let long : end - start ≡ get_or lengths s 0 = omega (arith, is_end) in
-      ap (λ n. total_of (take n (drop start xs))) long ∙ ap (λ p. total_of (take (get_or lengths s 0) (drop p xs))) is_start ∙ sym segment_at
+-- the sum of a segment, as its elements' range
+pub segment_ranged : (lengths : List ℕ) (xs : List ℤ) (s : ℕ) → s < length lengths → (start end : ℕ) → start ≡ start_of lengths s → end ≡ start + get_or lengths s 0
+    → total_of (slice_range xs start end) ≡ get_or (segment_totals lengths xs) s (pos 0)
+segment_ranged lengths xs s lt start end is_start is_end =
+    let long : end - start ≡ get_or lengths s 0 = omega (arith, is_end) in
+    (λ i. total_of (take (long i) (drop (is_start i) xs))) ∙ sym (segment_total lengths xs s lt)
 
 -- the sum of few numbers that follow one another fits 54 bits
 pub range_in_words : (xs : List ℤ) (from to : ℕ) → length xs ≤ most_elements → AllPass is_number xs → InWords (total_of (slice_range xs from to))

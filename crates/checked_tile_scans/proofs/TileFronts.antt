@@ -1,25 +1,21 @@
 -- The results of a tile, and the first of them that doesn't fit 32 bits, as a walk over the tile finds it; and the scan that is written
 -- where all results fit.
 -- Source: what the definitions of Checked imply.
-use Rattle.std.proofs.Common.{◌≡◌, ◌∙◌, sym, ap, subst, ℕ, ◌+◌, ◌-◌, ◌<◌, ◌≤◌, Bool, false, true, IsTrue, ℤ, pos, ◌+ℤ◌, to_z, of_z, w64, FitsSigned, List, length, map, take, drop, get_or, arith, Option, Some, None, Ok, option_map}
+use Rattle.std.proofs.Common.{◌≡◌, ◌∙◌, sym, ap, subst, ℕ, ◌+◌, ◌-◌, ◌<◌, ◌≤◌, Bool, false, IsTrue, ℤ, pos, ◌+ℤ◌, to_z, of_z, w64, FitsSigned, List, length, map, take, drop, get_or, arith, Option, Some, None, Ok, option_map}
 use Rattle.std.specs.Prelude.{if◌then◌else◌}
 use Rattle.std.proofs.lemmas.Bool.{le-ltb, lt-ltb}
 use Rattle.std.proofs.lemmas.Int.{to_z-of_z}
 use Rattle.std.proofs.lemmas.List.{length-drop, length-take}
-use Rattle.std.proofs.lemmas.List.Elements.{All-take}
 use Rattle.std.proofs.lemmas.List.Folds.{map_fixed}
 use Rattle.std.proofs.lemmas.List.FromFn.{get_or-map-range_with_len, length-map-range_with_len}
 use Rattle.std.proofs.lemmas.List.Sums.{prefix_len_passes}
-use Rattle.operators.proofs.FoldLaws.{fold_of_is_item}
 use Rattle.operators.specs.ExactLaws.{exact_laws, word-in}
 use Rattle.operators.specs.NumberLaws.{number_words}
-use Rattle.operators.specs.SegmentMonoidLaws.{seg_laws}
 use Rattle.cvl_base.specs.CheckedSums.{fitting}
 use Rattle.cvl_base.specs.declared.fault.FaultNo.TheVariants.{Overflow}
 use Rattle.cvl_base.specs.Elementwise.{values_from}
 use Rattle.cvl_base.specs.Integers.{sum_of, wrap}
 use Rattle.cvl_base.specs.ItemWords.{is_number, is_word}
-use Rattle.cvl_base.specs.SegmentMonoid.{is_seg_item}
 use Rattle.scan_walks.specs.Fronts.{fitting_front}
 use Rattle.scan_walks.specs.Ranges.{range_scan_of}
 use Rattle.scan_walks.proofs.Fitted.{all_fit, zero_wrapped}
@@ -27,17 +23,17 @@ use Rattle.scan_walks.proofs.RangeParts.{length-range_scan_of}
 use Rattle.tile_plan.specs.Ranges.{range_of, tile_count}
 use Rattle.tile_scans.specs.TiledSums.{tile_of}
 use Rattle.tile_scans.proofs.RangeScans.{range_scan-drop, range_scan-take}
+use Rattle.tile_scans.proofs.SumsOfTiles.{IsTiled, front_is_item}
 use Rattle.checked_tile_scans.specs.Checked.{first_outside, slots_of_tiles, tile_outside, total_scan, total_since, totals_before}
 use Rattle.checked_tile_scans.proofs.Outsides.{none_outside}
 use Rattle.checked_tile_scans.proofs.SegmentTotals.{before_there}
-use Rattle.checked_tile_scans.proofs.WholeSums.{IsTiled, all_words, front_total, wrapped_since}
+use Rattle.checked_tile_scans.proofs.WholeSums.{front_total, worded, wrapped_since}
 use Rattle.checked_tile_scans.proofs.WideSums.{fits_wide}
 
-module _ {plan : ℕ × ℕ} {ws : List (Bool × ℤ)} (is : IsTiled plan ws) where
+module _ {plan : ℕ × ℕ} {ws : List (Bool × ℤ)} (is : IsTiled is_number plan ws) where
   total_fits : (k : ℕ) → FitsSigned w64 (total_since (take k ws)).1
   total_fits k =
-      let words = All-take (λ w. is_seg_item is_word w ≡ true) k ws (all_words ws is.numbers) in
-      fits_wide (total_since (take k ws)).1 (word-in (total_since (take k ws)).1 (subst (λ w. IsTrue (is_word w.1)) (front_total is k) (fold_of_is_item (seg_laws exact_laws) (take k ws) words)))
+      fits_wide (total_since (take k ws)).1 (word-in (total_since (take k ws)).1 (subst (λ w. IsTrue (is_word w.1)) (front_total is k) (front_is_item exact_laws (worded is) k)))
 
   pub length-total_scan : length (total_scan ws) ≡ plan.0
   length-total_scan = length-range_scan_of ◌+ℤ◌ (pos 0) (pos 0) ws ∙ is.whole
@@ -83,7 +79,7 @@ module _ {plan : ℕ × ℕ} {ws : List (Bool × ℤ)} (is : IsTiled plan ws) wh
       let all = none_outside zs fit in
       let same : map wrap zs ≡ zs = map_fixed wrap zs (λ i d lt. number_words.inverse (get_or zs i d) (prefix_len_passes is_number zs i d (omega (arith, lt, all)))) in
       all_fit 0 zs all
-      ∙ ap Ok (sym (ap (λ z. range_scan_of sum_of (pos 0) z ws) (sym zero_wrapped) ∙ (wrapped_since false (pos 0) ws is.numbers).1 ∙ same))
+      ∙ ap Ok (sym (ap (λ z. range_scan_of sum_of (pos 0) z ws) (sym zero_wrapped) ∙ (wrapped_since false (pos 0) ws is.items).1 ∙ same))
 
 -- the slots of tiles
 module _ (plan : ℕ × ℕ) (ws : List (Bool × ℤ)) where

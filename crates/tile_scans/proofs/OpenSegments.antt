@@ -1,17 +1,13 @@
 -- Which segments are open at a place of a segmented vector, and what stands before the place then.
-use Rattle.std.proofs.Common.{◌≡◌, ℕ, suc, ◌+◌, ◌-◌, ◌<◌, ◌≤◌, Bool, List, [], ◌∷◌, length, take, drop, slice_range, refl, ap, ◌∙◌, arith}
+use Rattle.std.proofs.Common.{◌≡◌, ℕ, ◌+◌, ◌-◌, ◌<◌, ◌≤◌, Bool, List, length, take, slice_range, ap, ◌∙◌, arith}
 use Rattle.std.specs.List.{AllPass}
 use Rattle.cvl_base.specs.Folds.{fold_of}
 use Rattle.cvl_base.specs.Monoid.{MonoidLaws}
 use Rattle.cvl_base.specs.SegmentMonoid.{seg_unit, seg_join}
 use Rattle.segdes.specs.Starts.{start_of}
-use Rattle.scan_walks.specs.Ranges.{with_starts, reduces_of, IsOpenAt}
+use Rattle.scan_walks.specs.Ranges.{with_starts, IsOpenAt}
 use Rattle.scan_walks.proofs.LastStart.{started_range_summed}
 use Rattle.tile_scans.proofs.RangeScans.{with_starts-take}
-
-pub length-reduces_of : {Item : Type 0} (join : Item → Item → Item) (unit : Item) (lengths : List ℕ) (xs : List Item) → length (reduces_of join unit lengths xs) ≡ length lengths
-length-reduces_of join unit [] xs = refl
-length-reduces_of join unit (n ∷ ls) xs = ap suc (length-reduces_of join unit ls (drop n xs))
 
 module _ {Item : Type 0} {is_item : Item → Bool} {unit : Item} {join : Item → Item → Item} (laws : MonoidLaws is_item unit join) (lengths : List ℕ) (xs : List Item) (items : AllPass is_item xs) where
   -- what stands before a place inside of segment s, or at its end, is what the segment's elements before the place join to

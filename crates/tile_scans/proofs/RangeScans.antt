@@ -1,9 +1,11 @@
 -- A part of a scan is the scan of that part, after what stands before it.
-use Rattle.std.proofs.Common.{◌≡◌, ℕ, zero, suc, ◌+◌, ◌-◌, ◌≤◌, Bool, true, false, List, [], ◌∷◌, ◌++◌, length, take, drop, slice_range, refl, sym, ap, ◌∙◌, arith, inl, inr}
+use Rattle.std.proofs.Common.{◌≡◌, ℕ, zero, suc, ◌+◌, ◌-◌, ◌≤◌, min, Bool, true, false, List, [], ◌∷◌, ◌++◌, length, take, drop, slice_range, refl, sym, ap, ◌∙◌, arith, inl, inr}
 use Rattle.std.proofs.lemmas.Bool.Decides.{leb_tells}
 use Rattle.std.specs.Prelude.{if◌then◌else◌}
 use Rattle.std.specs.List.{AllPass}
-use Rattle.std.proofs.lemmas.List.{length-take, length-drop, take_all, drop_all, drop-take, take-take, take-map, drop-map, length-take-le}
+use Rattle.std.proofs.lemmas.List.{append-nil, drop-map, drop-take, drop_all, length-drop, length-take, take-append-le, take-map, take-take, take_all}
+use Rattle.std.proofs.lemmas.Slice.{between_is}
+use Rattle.std.proofs.Math.Seq.{take-append-add}
 use Rattle.std.proofs.lemmas.List.Elements.{All-nil, All-cons, All-head, All-tail, All-append, All-take, All-drop, All-map}
 use Rattle.cvl_base.specs.Booleans.{either}
 use Rattle.cvl_base.specs.Folds.{fold_of, scan_of}
@@ -11,6 +13,7 @@ use Rattle.cvl_base.specs.SegmentMonoid.{is_seg_item, seg_join, seg_unit}
 use Rattle.fresh.specs.Parts.{part}
 use Rattle.scan_walks.specs.Ranges.{continued, started, with_starts, range_between, range_scan_of}
 use Rattle.scan_walks.proofs.Cut.{length-started}
+use Rattle.scan_walks.proofs.LastStart.{with_starts-none}
 use Rattle.operators.proofs.FoldLaws.{scan_of-cons}
 
 module _ {Item : Type 0} (join : Item → Item → Item) (unit : Item) where
@@ -38,16 +41,6 @@ module _ {Item : Type 0} (join : Item → Item → Item) (unit : Item) where
   continued_range_scan before [] = refl
   continued_range_scan before (x ∷ xs) = ap (λ tail. before ∷ tail) (continued_range_scan (join before x) xs) ∙ sym (scan_of-cons join before x xs)
 
--- the front of one list after another
-front_of_both : {X : Type 0} (k : ℕ) (xs ys : List X) → take k (xs ++ ys) ≡ take k xs ++ take (k - length xs) ys
-front_of_both k [] ys =
-    let same : k ≡ k - 0 = omega arith in
-    ap (λ j. take j ys) same ∙ ap (λ front. front ++ take (k - 0) ys) (sym (take_all k [] (omega arith)))
-front_of_both zero (x ∷ xs) ys = let none : 0 ≡ 0 - length (x ∷ xs) = omega arith in ap (λ j. take j ys) none
-front_of_both (suc k) (x ∷ xs) ys =
-    let same : k - length xs ≡ suc k - length (x ∷ xs) = omega arith in
-    ap (λ zs. x ∷ zs) (front_of_both k xs ys) ∙ ap (λ j. (x ∷ take k xs) ++ take j ys) same
-
 module _ {Item : Type 0} where
   pub continued_slice : (xs : List Item) (from to : ℕ) → slice_range (continued xs) from to ≡ continued (slice_range xs from to)
   continued_slice xs from to =
@@ -74,52 +67,45 @@ module _ {Item : Type 0} where
   started-take (suc k) [] = refl
   started-take (suc k) (x ∷ xs) = ap (λ ws. (true, x) ∷ ws) (take-map (λ y. (false, y)) k xs)
 
-  take_both : (k n : ℕ) (xs : List Item) → take k (take n xs) ≡ take n (take k xs)
-  take_both k n xs =
-      elim (leb_tells k n) [
-        | inl t ↦ take-take k n xs t.1 ∙ sym (take_all n (take k xs) (omega (arith, length-take k xs, t.1)))
-        | inr t ↦ take_all k (take n xs) (omega (arith, length-take n xs, t.1)) ∙ sym (take-take n k xs (omega (arith, t.1)))
+  -- of the elements before place k, where the first n or all of them stand before it, those of the first n and the others
+  front_kept : (k n : ℕ) (xs : List Item) → min n (length xs) ≤ k → take n xs ≡ take n (take k xs)
+  front_kept k n xs within =
+      elim (leb_tells n k) [
+        | inl s ↦ sym (take-take n k xs s.1)
+        | inr s ↦ ap (take n) (sym (take_all k xs (omega (arith, within, s.1))))
       ]
 
-  -- what is left of the front of k elements behind the first n
-  rest_of_front : (k n : ℕ) (xs : List Item) → take (k - length (take n xs)) (drop n xs) ≡ drop n (take k xs)
-  rest_of_front k n xs =
+  rest_kept : (k n m : ℕ) (xs : List Item) → min n (length xs) + m ≡ k → take m (drop n xs) ≡ drop n (take k xs)
+  rest_kept k n m xs split =
       elim (leb_tells n (length xs)) [
-        | inl s ↦
-            let long : length (take n xs) ≡ n = length-take-le n xs s.1 in
-            elim (leb_tells n k) [
-              | inl t ↦
-                  let m : ℕ = k - n in
-                  let whole : n + m ≡ k = omega (arith, t.1) in
-                  ap (λ j. take (k - j) (drop n xs)) long ∙ sym (drop-take n m xs) ∙ ap (λ j. drop n (take j xs)) whole
-              | inr t ↦
-                  let none : k - length (take n xs) ≡ 0 = omega (arith, long, t.1) in
-                  ap (λ j. take j (drop n xs)) none ∙ sym (drop_all n (take k xs) (omega (arith, length-take k xs, t.1)))
-            ]
-        | inr s ↦
-            take_all (k - length (take n xs)) (drop n xs) (omega (arith, length-drop n xs, s.1))
-            ∙ drop_all n xs (omega (arith, s.1)) ∙ sym (drop_all n (take k xs) (omega (arith, length-take k xs, s.1)))
+        | inl s ↦ let same : n + m ≡ k = omega (arith, split, s.1) in sym (drop-take n m xs) ∙ ap (λ j. drop n (take j xs)) same
+        | inr s ↦ take_all m (drop n xs) (omega (arith, length-drop n xs, s.1)) ∙ ap (drop n) (sym (take_all k xs (omega (arith, split, s.1))))
       ]
 
-  -- the front of a segmented vector
+  -- the front of a segmented vector: where it ends in the first segment, or behind it
   pub with_starts-take : (lengths : List ℕ) (xs : List Item) (k : ℕ) → take k (with_starts lengths xs) ≡ with_starts lengths (take k xs)
   with_starts-take [] xs k = take_all k [] (omega arith)
   with_starts-take (n ∷ ls) xs k =
-      let front = started (take n xs) in
+      let first = started (take n xs) in
       let rest = with_starts ls (drop n xs) in
-      let left : ℕ = k - length front in
-      front_of_both k front rest
-      ∙ ap (λ ws. ws ++ take left rest) (started-take k (take n xs) ∙ ap started (take_both k n xs))
-      ∙ ap (λ ws. started (take n (take k xs)) ++ ws)
-      (with_starts-take ls (drop n xs) left
-      ∙ ap (λ j. with_starts ls (take (k - j) (drop n xs))) (length-started (take n xs))
-      ∙ ap (with_starts ls) (rest_of_front k n xs))
+      let long : length first ≡ min n (length xs) = length-started (take n xs) ∙ length-take n xs in
+      elim (leb_tells k (length first)) [
+        | inl t ↦
+            take-append-le k first rest t.1
+            ∙ started-take k (take n xs)
+            ∙ ap started (take-take k n xs (omega (arith, t.1, long)) ∙ sym (take_all n (take k xs) (omega (arith, t.1, long, length-take k xs))))
+            ∙ sym (append-nil (started (take n (take k xs))))
+            ∙ ap (λ ys. started (take n (take k xs)) ++ ys) (sym (with_starts-none ls))
+            ∙ ap (λ ys. started (take n (take k xs)) ++ with_starts ls ys) (sym (drop_all n (take k xs) (omega (arith, t.1, long, length-take k xs))))
+        | inr t ↦
+            let m : ℕ = k - length first in
+            let split : length first + m ≡ k = omega (arith, t.1) in
+            ap (λ j. take j (first ++ rest)) (sym split)
+            ∙ take-append-add first rest m
+            ∙ ap (λ ws. first ++ ws) (with_starts-take ls (drop n xs) m)
+            ∙ (λ i. started (front_kept k n xs (omega (arith, t.1, long)) i) ++ with_starts ls (rest_kept k n m xs (omega (arith, split, long)) i))
+      ]
 
   -- a run is a part of the segmented vector
-  pub range_is_slice : (lengths : List ℕ) (xs : List Item) (from to : ℕ) → from ≤ to → range_between lengths xs from to ≡ slice_range (with_starts lengths xs) from to
-  range_is_slice lengths xs from to in_order =
-      let m : ℕ = to - from in
-      let end : from + m ≡ to = omega (arith, in_order) in
-      ap (drop from) (sym (with_starts-take lengths xs to))
-      ∙ ap (λ j. drop from (take j (with_starts lengths xs))) (sym end)
-      ∙ drop-take from m (with_starts lengths xs)
+  pub range_is_slice : (lengths : List ℕ) (xs : List Item) (from to : ℕ) → range_between lengths xs from to ≡ slice_range (with_starts lengths xs) from to
+  range_is_slice lengths xs from to = ap (drop from) (sym (with_starts-take lengths xs to)) ∙ sym (between_is (with_starts lengths xs) from to)

@@ -1,25 +1,40 @@
--- What each tile of a list sums up to, and what the tiles before a tile do.
+-- What each tile of a list sums up to, and what stands before a tile and before a place of it.
 use Rattle.std.specs.Prelude.{if◌then◌else◌}
-use Rattle.std.proofs.Common.{◌≡◌, ℕ, zero, suc, ◌+◌, ◌-◌, ◌*◌, ◌<◌, ◌≤◌, min, Bool, false, true, IsTrue, List, [], ◌∷◌, ◌++◌, length, take, get_or, slice_range, refl, sym, subst, ap, ◌∙◌, arith, take-add}
+use Rattle.std.proofs.Common.{◌≡◌, ℕ, zero, suc, ◌+◌, ◌-◌, ◌*◌, ◌<◌, ◌≤◌, min, Bool, false, true, IsTrue, List, [], ◌∷◌, ◌++◌, length, map, take, get_or, slice_range, refl, sym, ap, ◌∙◌, arith, take-add}
 use Rattle.std.specs.List.{AllPass, range_with_len}
 use Rattle.std.proofs.lemmas.List.Elements.{All-from_get_or, All-map, All-take, All-drop}
-use Rattle.std.proofs.lemmas.List.FromFn.{get_or-map-range_with_len, length-map-range_with_len}
+use Rattle.std.proofs.lemmas.List.FromFn.{fill_by_all, get_or-map-range_with_len, length-map-range_with_len}
 use Rattle.std.proofs.lemmas.List.Sums.{fold-append, fold_more}
 use Rattle.operators.proofs.FoldLaws.{fold_of_is_item, fold_of-append}
 use Rattle.operators.specs.SegmentMonoidLaws.{seg_laws}
 use Rattle.cvl_base.specs.Booleans.{either}
 use Rattle.cvl_base.specs.Folds.{fold_of}
+use Rattle.cvl_base.specs.Limits.{most_elements}
 use Rattle.cvl_base.specs.Monoid.{MonoidLaws}
 use Rattle.cvl_base.specs.SegmentMonoid.{is_seg_item, seg_unit, seg_join}
+use Rattle.cvl_base.specs.TileSums.{before_tile}
 use Rattle.tile_plan.specs.Ranges.{tile_count, range_of}
-use Rattle.tile_plan.proofs.Numbers.{starts_within, ends_at}
+use Rattle.tile_plan.proofs.Numbers.{starts_within}
 use Rattle.tile_scans.specs.TiledSums.{tile_of, sums_of}
+use Rattle.tile_scans.specs.Written.{befores_of}
 
-module _ {X : Type 0} where
-  pub tile_cut : (len tile t : ℕ) (xs : List X) → 1 ≤ tile → t < tile_count len tile → tile_of len tile xs t ≡ slice_range xs (min len (t * tile)) (min len ((t + 1) * tile))
-  tile_cut len tile t xs some below =
-      let starts : t * tile ≡ min len (t * tile) = omega (arith, starts_within len tile t some below) in
-      ap (λ k. slice_range xs k (min len ((t + 1) * tile))) starts
+-- the elements of a vector in tiles, each with whether a segment starts at it
+pub record IsTiled {Item : Type 0} (is_item : Item → Bool) (plan : ℕ × ℕ) (ws : List (Bool × Item)) : Type 0 where
+  pub some : 1 ≤ plan.1
+  pub few : plan.0 ≤ most_elements
+  pub whole : length ws ≡ plan.0
+  pub items : AllPass (is_seg_item is_item) ws
+
+-- the elements up to tile t are those before it, and its own
+pub tiles_more : {X : Type 0} (plan : ℕ × ℕ) (t : ℕ) (xs : List X) → 1 ≤ plan.1 → t < tile_count plan.0 plan.1
+    → take (min plan.0 ((t + 1) * plan.1)) xs ≡ take (min plan.0 (t * plan.1)) xs ++ tile_of plan.0 plan.1 xs t
+tiles_more plan t xs some below =
+    let from : ℕ = t * plan.1 in
+    let to : ℕ = min plan.0 ((t + 1) * plan.1) in
+    let within = starts_within plan.0 plan.1 t some below in
+    let starts : min plan.0 from ≡ from = omega (arith, within) in
+    let rises : from + (to - from) ≡ to = omega (arith, within) in
+    ap (λ k. take k xs) (sym rises) ∙ take-add from (to - from) xs ∙ ap (λ k. take k xs ++ tile_of plan.0 plan.1 xs t) (sym starts)
 
 -- the sums of the tiles
 module _ {Item : Type 0} (join : Item → Item → Item) (unit : Item) (len tile : ℕ) (ws : List (Bool × Item)) where
@@ -35,74 +50,79 @@ unflagged : {Item : Type 0} (join : Item → Item → Item) (f h : Bool) (v : It
 unflagged join f h v [] = refl
 unflagged join f h v ((starts, x) ∷ ws) = unflagged join (either f starts) (either h starts) (if starts then x else join v x) ws
 
-module _ {Item : Type 0} {is_item : Item → Bool} {unit : Item} {join : Item → Item → Item} (laws : MonoidLaws is_item unit join)
-    (len tile : ℕ) (run : List (Bool × Item)) (some : 1 ≤ tile) (items : AllPass (is_seg_item is_item) run) where
-  one : Bool × Item → Type 0
-  one w = is_seg_item is_item w ≡ true
+-- what stands before a place, since the last start
+abbrev pub stands_before : {Item : Type 0} → (Item → Item → Item) → Item → List (Bool × Item) → ℕ → Item
+stands_before join unit ws p = (fold_of (seg_join join) (seg_unit unit) (take p ws)).1
 
-  tile_passes : (t : ℕ) → AllPass (is_seg_item is_item) (tile_of len tile run t)
+module _ {Item : Type 0} {is_item : Item → Bool} {plan : ℕ × ℕ} {ws : List (Bool × Item)} (is : IsTiled is_item plan ws) where
+  pub front_passes : (p : ℕ) → AllPass (is_seg_item is_item) (take p ws)
+  front_passes p = All-take (λ w. is_seg_item is_item w ≡ true) p ws is.items
+
+  pub tile_passes : (t : ℕ) → AllPass (is_seg_item is_item) (tile_of plan.0 plan.1 ws t)
   tile_passes t =
-      All-take (λ w. is_seg_item is_item w ≡ true) ((range_of len tile t).1 - (range_of len tile t).0) _
-      (All-drop (λ w. is_seg_item is_item w ≡ true) (range_of len tile t).0 run items)
+      All-take (λ w. is_seg_item is_item w ≡ true) ((range_of plan.0 plan.1 t).1 - (range_of plan.0 plan.1 t).0) _
+      (All-drop (λ w. is_seg_item is_item w ≡ true) (range_of plan.0 plan.1 t).0 ws is.items)
 
-  pub sum_is_item : (t : ℕ) → IsTrue (is_seg_item is_item (fold_of (seg_join join) (seg_unit unit) (tile_of len tile run t)))
-  sum_is_item t = fold_of_is_item (seg_laws laws) (tile_of len tile run t) (tile_passes t)
+module _ {Item : Type 0} {is_item : Item → Bool} {unit : Item} {join : Item → Item → Item} (laws : MonoidLaws is_item unit join)
+    {plan : ℕ × ℕ} {ws : List (Bool × Item)} (is : IsTiled is_item plan ws) where
+  pub front_is_item : (p : ℕ) → IsTrue (is_item (stands_before join unit ws p))
+  front_is_item p = fold_of_is_item (seg_laws laws) (take p ws) (front_passes is p)
 
   -- the sums of tiles are items
-  pub sums_pass : AllPass (is_seg_item is_item) (sums_of join unit len tile run)
+  sum_is_item : (t : ℕ) → IsTrue (is_seg_item is_item (fold_of (seg_join join) (seg_unit unit) (tile_of plan.0 plan.1 ws t)))
+  sum_is_item t = fold_of_is_item (seg_laws laws) (tile_of plan.0 plan.1 ws t) (tile_passes is t)
+
+  pub sums_pass : AllPass (is_seg_item is_item) (sums_of join unit plan.0 plan.1 ws)
   sums_pass =
-      All-map (λ w. is_seg_item is_item w ≡ true) (λ t. fold_of (seg_join join) (seg_unit unit) (tile_of len tile run t)) (range_with_len 0 (tile_count len tile))
-      (All-from_get_or (λ t. is_seg_item is_item (fold_of (seg_join join) (seg_unit unit) (tile_of len tile run t)) ≡ true) (range_with_len 0 (tile_count len tile)) 0 (λ i below. sum_is_item _))
+      All-map (λ w. is_seg_item is_item w ≡ true) (λ t. fold_of (seg_join join) (seg_unit unit) (tile_of plan.0 plan.1 ws t)) (range_with_len 0 (tile_count plan.0 plan.1))
+      (All-from_get_or (λ t. is_seg_item is_item (fold_of (seg_join join) (seg_unit unit) (tile_of plan.0 plan.1 ws t)) ≡ true) (range_with_len 0 (tile_count plan.0 plan.1)) 0 (λ i below. sum_is_item _))
 
   -- what the tiles before tile t join to is what their elements join to
-  pub sums_before : (t : ℕ) → t ≤ tile_count len tile
-      → fold_of (seg_join join) (seg_unit unit) (take t (sums_of join unit len tile run)) ≡ fold_of (seg_join join) (seg_unit unit) (take (min len (t * tile)) run)
-  sums_before zero within = let none : 0 ≡ min len (0 * tile) = omega arith in ap (λ k. fold_of (seg_join join) (seg_unit unit) (take k run)) none
+  sums_before : (t : ℕ) → t ≤ tile_count plan.0 plan.1
+      → fold_of (seg_join join) (seg_unit unit) (take t (sums_of join unit plan.0 plan.1 ws)) ≡ fold_of (seg_join join) (seg_unit unit) (take (min plan.0 (t * plan.1)) ws)
+  sums_before zero within = let none : 0 ≡ min plan.0 (0 * plan.1) = omega arith in ap (λ k. fold_of (seg_join join) (seg_unit unit) (take k ws)) none
   sums_before (suc t) within =
       let next : suc t ≡ t + 1 = omega arith in
-      let below : t < tile_count len tile = omega arith in
-      let sums = sums_of join unit len tile run in
-      let sum : ℕ → Bool × Item = λ k. fold_of (seg_join join) (seg_unit unit) (tile_of len tile run k) in
-      let from : ℕ = min len (t * tile) in
-      let to : ℕ = min len ((t + 1) * tile) in
-      let front = take from run in
-      let long : t < length sums = omega (arith, length-map-range_with_len sum 0 (tile_count len tile), below) in
-      let end : from + (to - from) ≡ to = (let ends = ends_at len tile t some below in let same : suc t * tile ≡ (t + 1) * tile = omega arith in omega arith) in
+      let below : t < tile_count plan.0 plan.1 = omega arith in
+      let sums = sums_of join unit plan.0 plan.1 ws in
       ap (λ k. fold_of (seg_join join) (seg_unit unit) (take k sums)) next
-      ∙ fold_more (seg_join join) (seg_unit unit) sums t (seg_unit unit) long
-      ∙ ap (λ w. seg_join join (fold_of (seg_join join) (seg_unit unit) (take t sums)) w) (get_or-map-range_with_len sum 0 (tile_count len tile) t t (seg_unit unit) below (omega arith))
-      ∙ ap (λ w. seg_join join w (sum t)) (sums_before t (omega arith))
-      ∙ sym (fold_of-append (seg_laws laws) front (tile_of len tile run t) (All-take (λ w. is_seg_item is_item w ≡ true) from run items) (tile_passes t))
-      ∙ ap (λ ws. fold_of (seg_join join) (seg_unit unit) (front ++ ws)) (tile_cut len tile t run some below)
-      ∙ ap (fold_of (seg_join join) (seg_unit unit)) (sym (take-add from (to - from) run))
-      ∙ ap (λ k. fold_of (seg_join join) (seg_unit unit) (take k run)) end
-      ∙ ap (λ k. fold_of (seg_join join) (seg_unit unit) (take (min len (k * tile)) run)) (sym next)
+      ∙ fold_more (seg_join join) (seg_unit unit) sums t (seg_unit unit) (omega (arith, length-sums_of join unit plan.0 plan.1 ws, below))
+      ∙ (λ i. seg_join join (sums_before t (omega arith) i) (sum_at join unit plan.0 plan.1 ws t below i))
+      ∙ sym (fold_of-append (seg_laws laws) (take (min plan.0 (t * plan.1)) ws) (tile_of plan.0 plan.1 ws t) (front_passes is (min plan.0 (t * plan.1))) (tile_passes is t))
+      ∙ ap (fold_of (seg_join join) (seg_unit unit)) (sym (tiles_more plan t ws is.some below))
+      ∙ ap (λ k. fold_of (seg_join join) (seg_unit unit) (take (min plan.0 (k * plan.1)) ws)) (sym next)
 
-  -- and it is an item
-  pub before_is_item : (t : ℕ) → t ≤ tile_count len tile → IsTrue (is_seg_item is_item (fold_of (seg_join join) (seg_unit unit) (take t (sums_of join unit len tile run))))
-  before_is_item t within =
-      fold_of_is_item (seg_laws laws) (take t (sums_of join unit len tile run)) (All-take (λ w. is_seg_item is_item w ≡ true) t (sums_of join unit len tile run) sums_pass)
+  -- what stands before each tile is what the elements before it join to
+  pub befores_are : befores_of join unit (sums_of join unit plan.0 plan.1 ws) ≡ map (λ t. stands_before join unit ws (range_of plan.0 plan.1 t).0) (range_with_len 0 (tile_count plan.0 plan.1))
+  befores_are =
+      let sums = sums_of join unit plan.0 plan.1 ws in
+      let long = length-sums_of join unit plan.0 plan.1 ws in
+      fill_by_all (λ t. stands_before join unit ws (range_of plan.0 plan.1 t).0) (befores_of join unit sums) (tile_count plan.0 plan.1) unit
+      (length-map-range_with_len (λ t. (before_tile join unit sums t).1) 0 (length sums) ∙ long)
+      (λ t below.
+      let start : min plan.0 (t * plan.1) ≡ (range_of plan.0 plan.1 t).0 = omega (arith, starts_within plan.0 plan.1 t is.some below) in
+      get_or-map-range_with_len (λ k. (before_tile join unit sums k).1) 0 (length sums) t t unit (omega (arith, below, long)) (omega arith)
+      ∙ ap (λ w. w.1) (sums_before t (omega (arith, below)))
+      ∙ ap (stands_before join unit ws) start)
 
-  -- what stands before a place is what stands before its tile, and then what the tile's elements before it join to
-  pub since_tile : (t p : ℕ) (before : Item) → t < tile_count len tile → (range_of len tile t).0 ≤ p
-      → before ≡ (fold_of (seg_join join) (seg_unit unit) (take t (sums_of join unit len tile run))).1
-      → (fold_of (seg_join join) (false, before) (slice_range run (range_of len tile t).0 p)).1 ≡ (fold_of (seg_join join) (seg_unit unit) (take p run)).1
-  since_tile t p before below begun is =
-      let from : ℕ = (range_of len tile t).0 in
-      let starts : min len (t * tile) ≡ from = omega (arith, starts_within len tile t some below) in
-      let end : from + (p - from) ≡ p = omega (arith, begun) in
-      let sum : Bool × Item = fold_of (seg_join join) (seg_unit unit) (take from run) in
-      let joined = sums_before t (omega (arith, below)) ∙ ap (λ k. fold_of (seg_join join) (seg_unit unit) (take k run)) starts in
-      ap (λ b. (fold_of (seg_join join) (false, b) (slice_range run from p)).1) (is ∙ ap (λ w. w.1) joined)
-      ∙ unflagged join false sum.0 sum.1 (slice_range run from p)
-      ∙ ap (λ w. w.1) (sym (fold-append (seg_join join) (seg_unit unit) (take from run) (slice_range run from p)))
-      ∙ ap (λ ws. (fold_of (seg_join join) (seg_unit unit) ws).1) (sym (take-add from (p - from) run))
-      ∙ ap (λ k. (fold_of (seg_join join) (seg_unit unit) (take k run)).1) end
+  module _ (known : List Item) (known_is : known ≡ befores_of join unit (sums_of join unit plan.0 plan.1 ws)) where
+    pub length-known : length known ≡ tile_count plan.0 plan.1
+    length-known = ap length (known_is ∙ befores_are) ∙ length-map-range_with_len (λ t. stands_before join unit ws (range_of plan.0 plan.1 t).0) 0 (tile_count plan.0 plan.1)
 
-  -- and it is an item
-  pub since_is_item : (t p : ℕ) (before : Item) → t < tile_count len tile → (range_of len tile t).0 ≤ p
-      → before ≡ (fold_of (seg_join join) (seg_unit unit) (take t (sums_of join unit len tile run))).1
-      → IsTrue (is_item (fold_of (seg_join join) (false, before) (slice_range run (range_of len tile t).0 p)).1)
-  since_is_item t p before below begun is =
-      subst (λ x. IsTrue (is_item x)) (sym (since_tile t p before below begun is))
-      (fold_of_is_item (seg_laws laws) (take p run) (All-take (λ w. is_seg_item is_item w ≡ true) p run items))
+    pub known_at : (t : ℕ) (d : Item) → t < tile_count plan.0 plan.1 → get_or known t d ≡ stands_before join unit ws (range_of plan.0 plan.1 t).0
+    known_at t d below =
+        ap (λ ks. get_or ks t d) (known_is ∙ befores_are)
+        ∙ get_or-map-range_with_len (λ k. stands_before join unit ws (range_of plan.0 plan.1 k).0) 0 (tile_count plan.0 plan.1) t t d below (omega arith)
+
+    -- so from there on it is known what stands before a place of tile t
+    pub since_known : (t p : ℕ) (d : Item) → t < tile_count plan.0 plan.1 → (range_of plan.0 plan.1 t).0 ≤ p
+        → (fold_of (seg_join join) (false, get_or known t d) (slice_range ws (range_of plan.0 plan.1 t).0 p)).1 ≡ stands_before join unit ws p
+    since_known t p d below begun =
+        let from : ℕ = (range_of plan.0 plan.1 t).0 in
+        let end : from + (p - from) ≡ p = omega (arith, begun) in
+        let sum : Bool × Item = fold_of (seg_join join) (seg_unit unit) (take from ws) in
+        ap (λ b. (fold_of (seg_join join) (false, b) (slice_range ws from p)).1) (known_at t d below)
+        ∙ unflagged join false sum.0 sum.1 (slice_range ws from p)
+        ∙ ap (λ w. w.1) (sym (fold-append (seg_join join) (seg_unit unit) (take from ws) (slice_range ws from p)))
+        ∙ ap (λ zs. (fold_of (seg_join join) (seg_unit unit) zs).1) (sym (take-add from (p - from) ws))
+        ∙ ap (stands_before join unit ws) end

@@ -1,12 +1,10 @@
 -- A scan of which it is known what stands before each tile, while it is written.
 -- Source: what the definitions of Written imply.
-use Rattle.std.proofs.Common.{◌≡◌, ℕ, ◌+◌, ◌-◌, ◌<◌, ◌≤◌, Bool, List, ◌++◌, length, take, drop, get_or, sym, ap, ◌∙◌, arith, take-add}
-use Rattle.std.proofs.lemmas.List.{drop-drop, length-drop, length-take}
-use Rattle.std.proofs.lemmas.List.FromFn.{get_or-map-range_with_len, length-map-range_with_len}
-use Rattle.cvl_base.specs.TileSums.{before_tile}
-use Rattle.fresh.specs.Parts.{part}
+use Rattle.std.proofs.Common.{◌≡◌, ℕ, ◌+◌, ◌-◌, ◌≤◌, List, ◌++◌, length, take, drop, sym, ap, ◌∙◌, arith, take-add}
+use Rattle.std.proofs.lemmas.List.{drop-drop}
+use Rattle.fresh.specs.Parts.{length_part, part}
 use Rattle.fresh.specs.Places.{Stretch, stretch}
-use Rattle.tile_scans.specs.Written.{befores_of, next_of, written_on}
+use Rattle.tile_scans.specs.Written.{next_of, written_on}
 
 -- what was written of the run is that part of the whole
 pub record IsWrittenPart {X : Type 0} (whole : List X) (old now : Stretch X) : Type 0 where
@@ -14,20 +12,17 @@ pub record IsWrittenPart {X : Type 0} (whole : List X) (old now : Stretch X) : T
   pub is : now ≡ stretch old.block old.first (part whole old.first (old.room - now.room)) now.room
 
 module _ {X : Type 0} (whole : List X) (old : Stretch X) (within : old.first + old.room ≤ length whole) where
-  part_long : (first n : ℕ) → first + n ≤ length whole → length (part whole first n) ≡ n
-  part_long first n fits = omega (arith, length-take n (drop first whole), length-drop first whole, fits)
-
   pub next_is : (now : Stretch X) → IsWrittenPart whole old now → next_of now ≡ old.first + (old.room - now.room)
   next_is now so_far =
       let first : now.first ≡ old.first = ap (λ s. s.first) so_far.is in
-      let long : length now.items ≡ old.room - now.room = ap (λ s. length s.items) so_far.is ∙ part_long old.first (old.room - now.room) (omega (arith, within)) in
+      let long : length now.items ≡ old.room - now.room = ap (λ s. length s.items) so_far.is ∙ length_part whole old.first (old.room - now.room) (omega (arith, within)) in
       omega (arith, first, long)
 
   pub more_written : (now next : Stretch X) (n : ℕ) → n ≤ now.room → IsWrittenPart whole old now → next ≡ written_on whole n now → (next.room ≡ now.room - n) × IsWrittenPart whole old next
   more_written now next n fits so_far more =
       let k : ℕ = old.room - now.room in
       let at = next_is now so_far in
-      let long : length (part whole (next_of now) n) ≡ n = part_long (next_of now) n (omega (arith, at, within, so_far.left, fits)) in
+      let long : length (part whole (next_of now) n) ≡ n = length_part whole (next_of now) n (omega (arith, at, within, so_far.left, fits)) in
       let room : next.room ≡ now.room - n = ap (λ s. s.room) more ∙ ap (λ j. now.room - j) long in
       let all : k + n ≡ old.room - next.room = omega (arith, room, so_far.left, fits) in
       let joined : now.items ++ part whole (next_of now) n ≡ part whole old.first (old.room - next.room) =
@@ -42,12 +37,3 @@ module _ {X : Type 0} (whole : List X) (old : Stretch X) (within : old.first + o
           is = more ∙ (λ i. stretch (ap (λ s. s.block) so_far.is i) (ap (λ s. s.first) so_far.is i) (joined i) ((ap (λ s. s.room) (sym more)) i));
         },
       )
-
--- what is known to stand before a tile
-pub before_known : {Item : Type 0} (join : Item → Item → Item) (unit : Item) (sums : List (Bool × Item)) (known : List Item) (t : ℕ) (x : Item) → t < length sums
-    → known ≡ befores_of join unit sums → x ≡ get_or known t x → x ≡ (before_tile join unit sums t).1
-before_known join unit sums known t x below is here =
-    here ∙ ap (λ ks. get_or ks t x) is ∙ get_or-map-range_with_len (λ k. (before_tile join unit sums k).1) 0 (length sums) t t x below (omega arith)
-
-pub as_many_known : {Item : Type 0} (join : Item → Item → Item) (unit : Item) (sums : List (Bool × Item)) (known : List Item) → known ≡ befores_of join unit sums → length known ≡ length sums
-as_many_known join unit sums known is = ap length is ∙ length-map-range_with_len (λ k. (before_tile join unit sums k).1) 0 (length sums)

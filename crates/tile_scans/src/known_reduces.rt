@@ -1,14 +1,14 @@
 //! The reduces of segments, written in runs once it is known what stands before each tile.
 
-ghost use Rattle.std.specs.Prelude.{◌≡◌, ◌≤◌, IfOk, Some, map};
+ghost use Rattle.std.specs.Prelude.{◌≡◌, ◌≤◌, IfOk, Some, length, map, vec_len};
 ghost use Rattle.std.specs.Option.{option_copied};
 ghost use Rattle.scan_walks.specs.Ranges.{reduces_of};
 
 use crate::known::Known;
-use crate::steps::{Steps, write_in_steps};
+use crate::steps::{InSteps, Steps};
 use cvl_base::monoid::know_laws;
 use cvl_base::{Memory, NoResources, Packed};
-use fresh::{Run, Writer, write_in_runs};
+use fresh::{Run, write_in_runs};
 use scan_walks::{Reading, seg_reduces_into};
 use segdes::SegDes;
 use sharing::Pace;
@@ -42,13 +42,15 @@ where
     E: Reading<X, M::Item> + Send + Sync,
     requires cut { option_copied known.now.vector.now.segments ≡ Some segments.now }
     requires filled { 1 ≤ known.now.vector.now.plan.0 }
-    ensures { IfOk result (λ sums. sums.items
+    ensures values { IfOk result (λ sums. sums.items
         ≡ reduces_of M.join M.unit segments.now (map E.item known.now.vector.now.elements.now)) }
+    ensures one_each { IfOk result (λ sums. vec_len sums ≡ length segments.now) }
 {
     let reduces = KnownReduces { known, segments };
+    let in_steps = InSteps { steps: &reduces };
     let count = segments.count();
     let threads = pace.threads_writing(known.vector.elements.len().max(count));
-    let sums = write_in_runs(rt, alloc, threads, &reduces, count)?;
+    let sums = write_in_runs(rt, alloc, threads, &in_steps, count)?;
     Ok(sums)
 }
 
@@ -91,26 +93,5 @@ impl<'a, M: Packed, X: Copy, E: Reading<X, M::Item>, A: Allocator> Steps<M::Item
             );
         }
         seg_reduces_into::<M, X, E, A>(run, elements, segments, first, next, start, M::unit())
-    }
-}
-
-impl<'a, M: Packed, X: Copy, E: Reading<X, M::Item>, A: Allocator> Writer<M::Item>
-    for KnownReduces<'a, M, X, E, A> {
-    ghost use Rattle.std.specs.Prelude.{◌≡◌, ◌+◌, ◌≤◌, [], length, map};
-    ghost use Rattle.fresh.specs.Parts.{part};
-    ghost use Rattle.fresh.specs.Places.{stretch};
-    ghost use Rattle.scan_walks.specs.Ranges.{reduces_of};
-
-    ghost whole = { λ reduces. reduces_of M.join M.unit reduces.segments.now
-        (map E.item reduces.known.now.vector.now.elements.now) };
-
-    fn write(&self, run: Run<M::Item>) -> Run<M::Item>
-        requires empty { run.items ≡ [] }
-        requires within { run.first + run.room ≤ length (reduces_of M.join M.unit self.now.segments.now
-            (map E.item self.now.known.now.vector.now.elements.now)) }
-        ensures { result ≡ stretch run.block run.first (part (reduces_of M.join M.unit
-            self.now.segments.now (map E.item self.now.known.now.vector.now.elements.now)) run.first run.room) 0 }
-    {
-        write_in_steps(self, run)
     }
 }

@@ -1,14 +1,14 @@
 //! Scans, written in runs once it is known what stands before each tile.
 
-ghost use Rattle.std.specs.Prelude.{◌≡◌, IfOk, map};
+ghost use Rattle.std.specs.Prelude.{◌≡◌, IfOk, length, map, vec_len};
 ghost use Rattle.std.specs.Option.{option_copied};
 ghost use Rattle.scan_walks.specs.Ranges.{range_scan_of};
 ghost use Rattle.tile_scans.specs.TiledSums.{flagged};
 
 use crate::known::Known;
-use crate::steps::{Steps, write_in_steps};
+use crate::steps::{InSteps, Steps};
 use cvl_base::{Memory, NoResources, Packed};
-use fresh::{Run, Writer, write_in_runs};
+use fresh::{Run, write_in_runs};
 use scan_walks::Reading;
 use sharing::Pace;
 use std::alloc::Allocator;
@@ -29,11 +29,13 @@ where
     M::Item: Send + Sync,
     X: Copy + Send + Sync,
     E: Reading<X, M::Item> + Send + Sync,
-    ensures { IfOk result (λ sums. sums.items ≡ range_scan_of M.join M.unit M.unit
+    ensures values { IfOk result (λ sums. sums.items ≡ range_scan_of M.join M.unit M.unit
         (flagged (option_copied known.now.vector.now.segments) (map E.item known.now.vector.now.elements.now))) }
+    ensures as_long { IfOk result (λ sums. vec_len sums ≡ length known.now.vector.now.elements.now) }
 {
     let len = known.vector.elements.len();
-    let sums = write_in_runs(rt, alloc, pace.threads_writing(len), known, len)?;
+    let in_steps = InSteps { steps: known };
+    let sums = write_in_runs(rt, alloc, pace.threads_writing(len), &in_steps, len)?;
     Ok(sums)
 }
 
@@ -62,29 +64,5 @@ impl<'a, M: Packed, X: Copy, E: Reading<X, M::Item>, A: Allocator> Steps<M::Item
         let end = (end as usize).min(at + run.room());
         let before = self.before_place(t, at);
         self.vector.scan_between(run, at, end, before)
-    }
-}
-
-impl<'a, M: Packed, X: Copy, E: Reading<X, M::Item>, A: Allocator> Writer<M::Item>
-    for Known<'a, M, X, E, A> {
-    ghost use Rattle.std.specs.Prelude.{◌≡◌, ◌+◌, ◌≤◌, [], length, map};
-    ghost use Rattle.std.specs.Option.{option_copied};
-    ghost use Rattle.fresh.specs.Parts.{part};
-    ghost use Rattle.fresh.specs.Places.{stretch};
-    ghost use Rattle.scan_walks.specs.Ranges.{range_scan_of};
-    ghost use Rattle.tile_scans.specs.TiledSums.{flagged};
-
-    ghost whole = { λ known. range_scan_of M.join M.unit M.unit
-        (flagged (option_copied known.vector.now.segments) (map E.item known.vector.now.elements.now)) };
-
-    fn write(&self, run: Run<M::Item>) -> Run<M::Item>
-        requires empty { run.items ≡ [] }
-        requires within { run.first + run.room ≤ length (range_scan_of M.join M.unit M.unit
-            (flagged (option_copied self.now.vector.now.segments) (map E.item self.now.vector.now.elements.now))) }
-        ensures { result ≡ stretch run.block run.first (part (range_scan_of M.join M.unit M.unit
-            (flagged (option_copied self.now.vector.now.segments) (map E.item self.now.vector.now.elements.now)))
-            run.first run.room) 0 }
-    {
-        write_in_steps(self, run)
     }
 }

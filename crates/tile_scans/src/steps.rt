@@ -1,11 +1,9 @@
 //! Runs that are written some places at a time.
 
-ghost use Rattle.std.specs.Prelude.{◌≡◌, ◌+◌, ◌<◌, ◌≤◌, [], List, length};
-ghost use Rattle.fresh.specs.Parts.{part};
-ghost use Rattle.fresh.specs.Places.{stretch};
+ghost use Rattle.std.specs.Prelude.{◌+◌, ◌<◌, ◌≤◌, List, length};
 ghost use Rattle.tile_scans.specs.Written.{IsWrittenOn, next_of};
 
-use fresh::Run;
+use fresh::{Run, Writer};
 
 /// What is written in steps. Its meaning is the list of all the items.
 pub(crate) trait Steps<T> {
@@ -18,15 +16,28 @@ pub(crate) trait Steps<T> {
         ensures { IsWrittenOn (whole self.now) run result };
 }
 
-/// Writes all places of an empty run, step by step.
-pub(crate) fn write_in_steps<T, S: Steps<T>>(steps: &S, run: Run<T>) -> Run<T>
-    requires empty { run.items ≡ [] }
-    requires within { run.first + run.room ≤ length (S.whole steps.now) }
-    ensures { result ≡ stretch run.block run.first (part (S.whole steps.now) run.first run.room) 0 }
-{
-    let mut run = run;
-    while run.room() > 0 {
-        run = steps.write_on(run);
+/// What is written in steps, as a writer of whole runs.
+#[derive(Drop)]
+pub(crate) struct InSteps<'a, S> {
+    pub(crate) steps: &'a S,
+}
+
+impl<'a, T, S: Steps<T>> Writer<T> for InSteps<'a, S> {
+    ghost use Rattle.std.specs.Prelude.{◌≡◌, []};
+    ghost use Rattle.fresh.specs.Parts.{part};
+    ghost use Rattle.fresh.specs.Places.{stretch};
+
+    ghost whole = { λ w. S.whole w.steps.now };
+
+    fn write(&self, run: Run<T>) -> Run<T>
+        requires empty { run.items ≡ [] }
+        requires within { run.first + run.room ≤ length (S.whole self.now.steps.now) }
+        ensures { result ≡ stretch run.block run.first (part (S.whole self.now.steps.now) run.first run.room) 0 }
+    {
+        let mut run = run;
+        while run.room() > 0 {
+            run = self.steps.write_on(run);
+        }
+        run
     }
-    run
 }

@@ -1,18 +1,20 @@
 use Rattle.std.proofs.Common.{◌∙◌, pos, map, ap, sym, Err, Ok}
 use Rattle.std.specs.Option.{option_copied}
 use Rattle.cvl_base.specs.Integers.{sum_of, wrap}
+use Rattle.cvl_base.specs.ItemWords.{is_number}
+use Rattle.tile_scans.proofs.Flagged.{tiled}
 use Rattle.tile_scans.specs.TiledSums.{flagged, sums_of}
 use Rattle.tile_scans.specs.Written.{befores_of}
 use Rattle.checked_tile_scans.specs.Checked.{total_scan}
 use Rattle.checked_tile_scans.proofs.Outsides.{overflow_meant}
 use Rattle.checked_tile_scans.proofs.TileFronts.{scan_meant}
-use Rattle.checked_tile_scans.proofs.WholeSums.{tiled, wrapped_befores}
+use Rattle.checked_tile_scans.proofs.WholeSums.{wrapped_befores}
 use Rattle.checked_tile_scans.proofs.overflows.scan_or_overflow.Goals as goal
 
 pub scan_after_befores-requires-clause-before : goal.scan_after_befores-requires-clause-before
 scan_after_befores-requires-clause-before g c κs within =
     let v = c.args.vector.now in
-    let is = tiled (option_copied v.segments) v.elements.now v.plan v.numbers v.agrees v.whole v.few v.some in
+    let is = tiled is_number (option_copied v.segments) v.elements.now v.plan v.numbers v.agrees v.whole v.few v.some in
     wrapped_befores is c.deref-3.result.now (c.deref-3.ensures.value ∙ c.in_ok-before.ensures ∙ ap (map wrap) (c.deref-2.ensures.value ∙ c.in_ok-totals.ensures))
     ∙ (λ i. befores_of sum_of (pos 0) (sums_of sum_of (pos 0) (v.whole i) (c.requires i) (flagged (option_copied v.segments) v.elements.now)))
 
@@ -24,4 +26,4 @@ returns-in-Some-clause-values g c =
 pub returns-clause-values : goal.returns-clause-values
 returns-clause-values g c =
     let v = c.args.vector.now in
-    scan_meant (tiled (option_copied v.segments) v.elements.now v.plan v.numbers v.agrees v.whole v.few v.some) (sym c.in_ok-place.ensures ∙ c.in_default.is) ∙ ap Ok (sym c.in_ok-sums.ensures.values)
+    scan_meant (tiled is_number (option_copied v.segments) v.elements.now v.plan v.numbers v.agrees v.whole v.few v.some) (sym c.in_ok-place.ensures ∙ c.in_default.is) ∙ ap Ok (sym c.in_ok-sums.ensures.values)

@@ -1,9 +1,8 @@
-use Rattle.std.proofs.Common.{◌≡◌, length, map, sym, ap, ◌∙◌, arith}
+use Rattle.std.proofs.Common.{◌≡◌, length, map, sym, ap, ◌∙◌}
 use Rattle.std.specs.Option.{option_copied}
 use Rattle.std.proofs.lemmas.List.{map-id}
 use Rattle.tile_scans.specs.TiledSums.{flagged, sums_of}
 use Rattle.tile_scans.specs.Written.{befores_of}
-use Rattle.tile_scans.proofs.Flagged.{length-scanned}
 use Rattle.tile_scans.proofs.befores.scan_after_befores.Goals as goal
 
 pub invariant_of-known : goal.invariant_of-known
@@ -14,15 +13,3 @@ invariant_of-known g c = record {
       let elements : map (λ x. x) v.elements.now ≡ c.args.a.now = map-id v.elements.now ∙ c.new-vector.ensures.elements in
       c.requires.before ∙ sym (λ i. befores_of m.join m.unit (sums_of m.join m.unit (plan i).0 (plan i).1 (flagged (c.new-vector.ensures.segments i) (elements i))));
 }
-
-pub returns-clause-as_long : goal.returns-clause-as_long
-returns-clause-as_long g c =
-    let m = g.M.Monoid in
-    let v = c.new-vector.result in
-    omega (
-      arith,
-      c.in_ok-sums.sums.ok,
-      ap length c.in_ok-sums.ensures,
-      length-scanned m.join m.unit (λ x. x) (option_copied v.segments) v.elements.now v.agrees,
-      ap length c.new-vector.ensures.elements,
-    )

@@ -1,8 +1,7 @@
-use Rattle.std.proofs.Common.{Ok, arith, length, map, sym, ap, ◌∙◌}
+use Rattle.std.proofs.Common.{Ok, map, sym, ap, ◌∙◌}
 use Rattle.std.proofs.lemmas.List.{length-map}
 use Rattle.scan_walks.specs.Ranges.{reduces_of}
 use Rattle.scan_walks.proofs.Segmented.{seg_reduce-fits}
-use Rattle.tile_scans.proofs.OpenSegments.{length-reduces_of}
 use Rattle.tile_scans.proofs.reduces.seg_reduce_readings_gated.Goals as goal
 
 pub returns-clause-values : goal.returns-clause-values
@@ -11,10 +10,4 @@ returns-clause-values g c =
     let item = g.E.Reading.item in
     let d = c.args.d.now in
     seg_reduce-fits m.join m.unit (map item c.args.a.now) d (c.in_ok-check_total.ensures.agrees ∙ sym (length-map c.args.a.now item))
-    ∙ ap (λ sums. Ok sums) (sym (c.in_ok-reduces.ensures ∙ ap (λ ys. reduces_of m.join m.unit d (map item ys)) c.new-vector.ensures.elements))
-
-pub returns-clause-one_each : goal.returns-clause-one_each
-returns-clause-one_each g c =
-    let m = g.M.Monoid in
-    let xs = map g.E.Reading.item c.new-vector.result.elements.now in
-    omega (arith, c.in_ok-reduces.reduces.ok, ap length c.in_ok-reduces.ensures, length-reduces_of m.join m.unit c.args.d.now xs)
+    ∙ ap (λ sums. Ok sums) (sym (c.in_ok-reduces.ensures.values ∙ ap (λ ys. reduces_of m.join m.unit d (map item ys)) c.new-vector.ensures.elements))

@@ -1,7 +1,5 @@
-use Rattle.std.proofs.Common.{◌≡◌, arith, length, map, ap, ◌∙◌}
-use Rattle.std.proofs.lemmas.List.{length-map}
+use Rattle.std.proofs.Common.{map, ap, ◌∙◌}
 use Rattle.cvl_base.specs.Folds.{scan_of}
-use Rattle.operators.proofs.FoldLaws.{length-scan_of}
 use Rattle.scan_walks.specs.Ranges.{range_scan_of}
 use Rattle.tile_scans.specs.TiledSums.{flagged}
 use Rattle.tile_scans.proofs.RangeScans.{continued_range_scan}
@@ -12,15 +10,7 @@ returns-clause-values g c =
     let m = g.M.Monoid in
     let item = g.E.Reading.item in
     let v = c.new-vector.result in
-    c.in_ok-sums.ensures
+    c.in_ok-sums.ensures.values
     ∙ ap (λ s. range_scan_of m.join m.unit m.unit (flagged s (map item v.elements.now))) c.new-vector.ensures.segments
     ∙ continued_range_scan m.join m.unit m.unit (map item v.elements.now)
     ∙ ap (λ ys. scan_of m.join m.unit (map item ys)) c.new-vector.ensures.elements
-
-pub returns-clause-as_long : goal.returns-clause-as_long
-returns-clause-as_long g c =
-    let m = g.M.Monoid in
-    let item = g.E.Reading.item in
-    let xs = map item c.args.a.now in
-    let values : c.in_ok-sums.sums.items ≡ scan_of m.join m.unit xs = returns-clause-values g c in
-    omega (arith, c.in_ok-sums.sums.ok, ap length values, length-scan_of m.join m.unit xs, length-map c.args.a.now item)

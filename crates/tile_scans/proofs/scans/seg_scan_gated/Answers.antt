@@ -1,8 +1,7 @@
-use Rattle.std.proofs.Common.{◌≡◌, Ok, arith, length, map, sym, ap, ◌∙◌}
+use Rattle.std.proofs.Common.{Ok, map, sym, ap, ◌∙◌}
 use Rattle.std.proofs.lemmas.List.{map-id}
-use Rattle.scan_walks.specs.Ranges.{range_scan_of, scans_of, with_starts}
+use Rattle.scan_walks.specs.Ranges.{range_scan_of, with_starts}
 use Rattle.scan_walks.proofs.Cut.{segments_scanned}
-use Rattle.scan_walks.proofs.Segments.{length-scans_of}
 use Rattle.scan_walks.proofs.Segmented.{seg_scan-fits}
 use Rattle.tile_scans.specs.TiledSums.{flagged}
 use Rattle.tile_scans.proofs.scans.seg_scan_gated.Goals as goal
@@ -14,20 +13,7 @@ returns-clause-values g c =
     let d = c.args.d.now in
     let v = c.new-vector.result in
     seg_scan-fits m.join m.unit a d c.in_ok-check_total.ensures.agrees
-    ∙ ap (λ sums. Ok sums) (sym (c.in_ok-sums.ensures
+    ∙ ap (λ sums. Ok sums) (sym (c.in_ok-sums.ensures.values
     ∙ ap (λ s. range_scan_of m.join m.unit m.unit (flagged s (map (λ x. x) v.elements.now))) c.new-vector.ensures.segments
     ∙ ap (λ xs. range_scan_of m.join m.unit m.unit (with_starts d xs)) (map-id v.elements.now ∙ c.new-vector.ensures.elements)
     ∙ segments_scanned c.know_laws.ensures d a m.unit c.requires.items))
-
-pub returns-clause-as_long : goal.returns-clause-as_long
-returns-clause-as_long g c =
-    let m = g.M.Monoid in
-    let a = c.args.a.now in
-    let d = c.args.d.now in
-    let v = c.new-vector.result in
-    let values : c.in_ok-sums.sums.items ≡ scans_of m.join m.unit d a =
-    c.in_ok-sums.ensures
-    ∙ ap (λ s. range_scan_of m.join m.unit m.unit (flagged s (map (λ x. x) v.elements.now))) c.new-vector.ensures.segments
-    ∙ ap (λ xs. range_scan_of m.join m.unit m.unit (with_starts d xs)) (map-id v.elements.now ∙ c.new-vector.ensures.elements)
-    ∙ segments_scanned c.know_laws.ensures d a m.unit c.requires.items in
-    omega (arith, c.in_ok-sums.sums.ok, ap length values, length-scans_of m.join m.unit d a (omega (arith, c.in_ok-check_total.ensures.agrees)))

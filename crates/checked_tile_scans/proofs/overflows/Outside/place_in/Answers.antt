@@ -1,9 +1,10 @@
 use Rattle.std.proofs.Common.{◌∙◌, length, ap, arith}
 use Rattle.std.specs.Option.{option_copied}
+use Rattle.cvl_base.specs.ItemWords.{is_number}
+use Rattle.tile_scans.proofs.Flagged.{tiled}
 use Rattle.tile_scans.specs.TiledSums.{flagged}
 use Rattle.checked_tile_scans.proofs.SegmentTotals.{length-totals_before}
 use Rattle.checked_tile_scans.proofs.TileFronts.{none_there, outside_there, tile_front}
-use Rattle.checked_tile_scans.proofs.WholeSums.{tiled}
 use Rattle.checked_tile_scans.proofs.overflows.Outside.place_in.Goals as goal
 
 pub bounds-self-t : goal.bounds-self-t
@@ -16,12 +17,12 @@ pub returns-then-fitting-to : goal.returns-then-fitting-to
 returns-then-fitting-to g c =
     let o = c.args.self.now in
     let v = o.vector.now in
-    let is = tiled (option_copied v.segments) v.elements.now v.plan v.numbers v.agrees v.whole v.few v.some in
+    let is = tiled is_number (option_copied v.segments) v.elements.now v.plan v.numbers v.agrees v.whole v.few v.some in
     outside_there is c.args.t c.fitting-fitting.result c.range-from.result c.range-from.ensures.value (tile_front is o.before.now c.args.t c.fitting-fitting.result o.known c.requires c.fitting-fitting.ensures) c.if-fitting-to.true
 
 pub returns : goal.returns
 returns g c =
     let o = c.args.self.now in
     let v = o.vector.now in
-    let is = tiled (option_copied v.segments) v.elements.now v.plan v.numbers v.agrees v.whole v.few v.some in
+    let is = tiled is_number (option_copied v.segments) v.elements.now v.plan v.numbers v.agrees v.whole v.few v.some in
     none_there is c.args.t c.fitting-fitting.result c.range-from.result c.range-from.ensures.value (tile_front is o.before.now c.args.t c.fitting-fitting.result o.known c.requires c.fitting-fitting.ensures) c.if-fitting-to.false

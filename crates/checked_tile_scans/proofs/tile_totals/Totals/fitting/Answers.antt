@@ -1,11 +1,12 @@
-use Rattle.std.proofs.Common.{◌≡◌, ◌∙◌, ◌≤◌, pos, ◌+ℤ◌, to_z, of_z, w64, slice_range, ap, arith}
+use Rattle.std.proofs.Common.{◌≡◌, ◌∙◌, pos, ◌+ℤ◌, to_z, of_z, w64, slice_range, ap, sym, arith}
 use Rattle.std.specs.Option.{option_copied}
 use Rattle.std.proofs.lemmas.Int.{to_z-of_z}
 use Rattle.cvl_base.specs.Folds.{scan_of}
 use Rattle.scan_walks.specs.Fronts.{fitting_front}
 use Rattle.scan_walks.specs.Ranges.{range_between, range_scan_of}
 use Rattle.tile_scans.specs.TiledSums.{flagged}
-use Rattle.tile_scans.proofs.Flagged.{cut_scanned, flat_scanned}
+use Rattle.tile_scans.proofs.Flagged.{cut_range, flat_range}
+use Rattle.tile_scans.proofs.RangeScans.{continued_range_scan}
 use Rattle.checked_tile_scans.proofs.tile_totals.Totals.fitting.Goals as goal
 
 pub returns-in-None : goal.returns-in-None
@@ -17,8 +18,9 @@ returns-in-None g c =
     let back : to_z w64 (of_z w64 before) ≡ before = grind (arith, to_z-of_z) in
     c.fitting_of_scan.ensures.front
     ∙ ap (λ z. fitting_front (scan_of ◌+ℤ◌ z (slice_range xs range.0 range.1))) back
-    ∙ ap fitting_front (flat_scanned ◌+ℤ◌ (option_copied v.segments) xs range.0 range.1 before (pos 0) (ap option_copied c.in-None.is))
-    ∙ ap (λ r. fitting_front (range_scan_of ◌+ℤ◌ (pos 0) before (slice_range (flagged (option_copied v.segments) xs) r.0 r.1))) c.range-from.ensures.value
+    ∙ ap fitting_front (sym (continued_range_scan ◌+ℤ◌ (pos 0) before (slice_range xs range.0 range.1)))
+    ∙ ap (λ ws. fitting_front (range_scan_of ◌+ℤ◌ (pos 0) before ws)) (flat_range (option_copied v.segments) xs range.0 range.1 (ap option_copied c.in-None.is)
+    ∙ ap (λ r. slice_range (flagged (option_copied v.segments) xs) r.0 r.1) c.range-from.ensures.value)
 
 pub returns-in-Some : goal.returns-in-Some
 returns-in-Some g c =
@@ -27,8 +29,7 @@ returns-in-Some g c =
     let range = c.range-from.result in
     let before = c.args.before in
     let back : to_z w64 (of_z w64 before) ≡ before = grind (arith, to_z-of_z) in
-    let in_order : range.0 ≤ range.1 = omega (arith, c.range-from.ensures.filled) in
     c.fitting_of_range.ensures
     ∙ ap (λ z. fitting_front (range_scan_of ◌+ℤ◌ (pos 0) z (range_between c.in-Some.d.now xs range.0 range.1))) back
-    ∙ ap fitting_front (cut_scanned ◌+ℤ◌ (option_copied v.segments) xs range.0 range.1 before (pos 0) c.in-Some.d.now (ap option_copied c.in-Some.is) in_order)
-    ∙ ap (λ r. fitting_front (range_scan_of ◌+ℤ◌ (pos 0) before (slice_range (flagged (option_copied v.segments) xs) r.0 r.1))) c.range-from.ensures.value
+    ∙ ap (λ ws. fitting_front (range_scan_of ◌+ℤ◌ (pos 0) before ws)) (cut_range (option_copied v.segments) xs range.0 range.1 c.in-Some.d.now (ap option_copied c.in-Some.is)
+    ∙ ap (λ r. slice_range (flagged (option_copied v.segments) xs) r.0 r.1) c.range-from.ensures.value)

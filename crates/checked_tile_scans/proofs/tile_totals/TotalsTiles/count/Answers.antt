@@ -2,19 +2,21 @@ use Rattle.std.proofs.Common.{arith, sym, pos, ◌∙◌}
 use Rattle.std.specs.Option.{option_copied}
 use Rattle.operators.specs.ExactLaws.{exact_laws}
 use Rattle.cvl_base.specs.Exact.{exact_sum_of}
+use Rattle.cvl_base.specs.ItemWords.{is_number}
+use Rattle.tile_scans.proofs.Flagged.{tiled}
 use Rattle.tile_scans.specs.TiledSums.{flagged}
 use Rattle.tile_scans.proofs.SumsOfTiles.{length-sums_of, sums_pass}
-use Rattle.checked_tile_scans.proofs.WholeSums.{all_words, tiled}
+use Rattle.checked_tile_scans.proofs.WholeSums.{worded}
 use Rattle.checked_tile_scans.proofs.tile_totals.TotalsTiles.count.Goals as goal
 
 pub returns : goal.returns
 returns g c =
     let v = c.args.self.now in
     let ws = flagged (option_copied v.segments) v.elements.now in
-    let is = tiled (option_copied v.segments) v.elements.now v.plan v.numbers v.agrees v.whole v.few v.some in
+    let is = tiled is_number (option_copied v.segments) v.elements.now v.plan v.numbers v.agrees v.whole v.few v.some in
     let long = length-sums_of exact_sum_of (pos 0) v.plan.0 v.plan.1 ws in
     record {
       count = c.count.ensures.value ∙ sym long;
       few = omega (arith, c.count.ensures.value, c.count.ensures.at_most, v.few, long);
-      items = sums_pass exact_laws v.plan.0 v.plan.1 ws v.some (all_words ws is.numbers);
+      items = sums_pass exact_laws (worded is);
     }

@@ -1,14 +1,13 @@
-use Rattle.std.proofs.Common.{◌≡◌, ◌-◌, ◌<◌, ◌≤◌, true, arith, sym, length, pos, drop, ◌∙◌}
+use Rattle.std.proofs.Common.{◌-◌, ◌<◌, ◌≤◌, arith, sym, length, pos, drop, ◌∙◌}
 use Rattle.std.specs.Option.{option_copied}
 use Rattle.std.proofs.lemmas.List.{length-drop, length-take}
-use Rattle.std.proofs.lemmas.List.Elements.{All-drop, All-take}
 use Rattle.cvl_base.specs.Exact.{exact_sum_of}
 use Rattle.cvl_base.specs.ItemWords.{is_number}
-use Rattle.cvl_base.specs.SegmentMonoid.{is_seg_item}
 use Rattle.tile_plan.specs.Ranges.{range_of, tile_count}
+use Rattle.tile_scans.proofs.Flagged.{tiled}
 use Rattle.tile_scans.specs.TiledSums.{flagged, tile_of}
-use Rattle.tile_scans.proofs.SumsOfTiles.{length-sums_of, sum_at}
-use Rattle.checked_tile_scans.proofs.WholeSums.{exact_total, tiled}
+use Rattle.tile_scans.proofs.SumsOfTiles.{length-sums_of, sum_at, tile_passes}
+use Rattle.checked_tile_scans.proofs.WholeSums.{exact_total}
 use Rattle.checked_tile_scans.proofs.tile_totals.TotalsTiles.sum.Goals as goal
 
 pub total-requires : goal.total-requires
@@ -20,13 +19,11 @@ pub returns : goal.returns
 returns g c =
     let v = c.args.self.now in
     let ws = flagged (option_copied v.segments) v.elements.now in
-    let is = tiled (option_copied v.segments) v.elements.now v.plan v.numbers v.agrees v.whole v.few v.some in
+    let is = tiled is_number (option_copied v.segments) v.elements.now v.plan v.numbers v.agrees v.whole v.few v.some in
     let t = c.args.t in
     let below : t < tile_count v.plan.0 v.plan.1 = omega (arith, c.requires, length-sums_of exact_sum_of (pos 0) v.plan.0 v.plan.1 ws) in
     let from = (range_of v.plan.0 v.plan.1 t).0 in
-    let n = (range_of v.plan.0 v.plan.1 t).1 - from in
-    let few : length (tile_of v.plan.0 v.plan.1 ws t) ≤ 4194304 = omega (arith, length-take n (drop from ws), length-drop from ws, is.whole, v.few) in
-    let numbers = All-take (λ w. is_seg_item is_number w ≡ true) n (drop from ws) (All-drop (λ w. is_seg_item is_number w ≡ true) from ws is.numbers) in
+    let few : length (tile_of v.plan.0 v.plan.1 ws t) ≤ 4194304 = omega (arith, length-take ((range_of v.plan.0 v.plan.1 t).1 - from) (drop from ws), length-drop from ws, is.whole, v.few) in
     c.total.ensures
-    ∙ sym (exact_total (tile_of v.plan.0 v.plan.1 ws t) few numbers)
+    ∙ sym (exact_total (tile_of v.plan.0 v.plan.1 ws t) few (tile_passes is t))
     ∙ sym (sum_at exact_sum_of (pos 0) v.plan.0 v.plan.1 ws t below)

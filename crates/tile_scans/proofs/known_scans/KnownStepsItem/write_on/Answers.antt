@@ -12,7 +12,7 @@ pub overflow_cast-at : goal.overflow_cast-at
 overflow_cast-at g c =
     let m = g.M.Monoid in
     let v = c.args.self.now.vector.now in
-    let long = length-scanned m.join m.unit g.E.Reading.item (option_copied v.segments) v.elements.now v.agrees in
+    let long = length-scanned g.E.Reading.item (option_copied v.segments) v.elements.now v.agrees m.join m.unit in
     let small : c.next_place-at.result ≤ 4194304 = omega (arith, c.next_place-at.ensures.place, c.requires.within, long, v.whole, v.few) in
     search (rules, small)
 
@@ -20,7 +20,7 @@ pub tile_at-t-requires : goal.tile_at-t-requires
 tile_at-t-requires g c =
     let m = g.M.Monoid in
     let v = c.args.self.now.vector.now in
-    let long = length-scanned m.join m.unit g.E.Reading.item (option_copied v.segments) v.elements.now v.agrees in
+    let long = length-scanned g.E.Reading.item (option_copied v.segments) v.elements.now v.agrees m.join m.unit in
     omega (arith, c.next_place-at.ensures.place, c.requires.some, c.requires.within, long, v.whole)
 
 pub returns : goal.returns

@@ -1,9 +1,11 @@
-use Rattle.std.proofs.Common.{◌-◌, ap, map, ◌∙◌}
+use Rattle.std.proofs.Common.{◌-◌, ap, map, slice_range, sym, ◌∙◌}
 use Rattle.std.specs.Option.{option_copied}
 use Rattle.cvl_base.specs.Folds.{scan_of}
 use Rattle.fresh.specs.Places.{with_items}
+use Rattle.scan_walks.specs.Ranges.{range_scan_of}
 use Rattle.scan_walks.proofs.Scanned.{part_read}
-use Rattle.tile_scans.proofs.Flagged.{cut_scanned, flat_scanned}
+use Rattle.tile_scans.proofs.Flagged.{cut_range, flat_range}
+use Rattle.tile_scans.proofs.RangeScans.{continued_range_scan}
 use Rattle.tile_scans.proofs.tiled.Tiled.scan_between.Goals as goal
 
 pub returns-in-None : goal.returns-in-None
@@ -12,13 +14,14 @@ returns-in-None g c =
     let v = c.args.self.now in
     let item = g.E.Reading.item in
     c.scan_into.ensures
-    ∙ ap (λ ys. with_items c.args.run (scan_of m.join c.args.before ys)) (part_read item (c.args.to - c.args.from) c.args.from v.elements.now)
-    ∙ ap (with_items c.args.run) (flat_scanned m.join (option_copied v.segments) (map item v.elements.now) c.args.from c.args.to c.args.before m.unit (ap option_copied c.in-None.is))
+    ∙ ap (with_items c.args.run) (ap (scan_of m.join c.args.before) (part_read item (c.args.to - c.args.from) c.args.from v.elements.now)
+    ∙ sym (continued_range_scan m.join m.unit c.args.before (slice_range (map item v.elements.now) c.args.from c.args.to))
+    ∙ ap (range_scan_of m.join m.unit c.args.before) (flat_range (option_copied v.segments) (map item v.elements.now) c.args.from c.args.to (ap option_copied c.in-None.is)))
 
 pub returns-in-Some : goal.returns-in-Some
 returns-in-Some g c =
     let m = g.M.Monoid in
     let v = c.args.self.now in
     c.scan_range_into.ensures
-    ∙ ap (with_items c.args.run) (cut_scanned m.join (option_copied v.segments) (map g.E.Reading.item v.elements.now) c.args.from c.args.to c.args.before m.unit c.in-Some.d.now
-    (ap option_copied c.in-Some.is) c.requires.in_order)
+    ∙ ap (λ ws. with_items c.args.run (range_scan_of m.join m.unit c.args.before ws))
+    (cut_range (option_copied v.segments) (map g.E.Reading.item v.elements.now) c.args.from c.args.to c.in-Some.d.now (ap option_copied c.in-Some.is))
