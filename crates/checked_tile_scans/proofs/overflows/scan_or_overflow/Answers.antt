@@ -26,4 +26,5 @@ returns-in-Some-clause-values g c =
 pub returns-clause-values : goal.returns-clause-values
 returns-clause-values g c =
     let v = c.args.vector.now in
-    scan_meant (tiled is_number (option_copied v.segments) v.elements.now v.plan v.numbers v.agrees v.whole v.few v.some) (sym c.in_ok-place.ensures ∙ c.in_default.is) ∙ ap Ok (sym c.in_ok-sums.ensures.values)
+    scan_meant (tiled is_number (option_copied v.segments) v.elements.now v.plan v.numbers v.agrees v.whole v.few v.some) (sym c.in_ok-place.ensures ∙ c.in_default.is)
+    ∙ ap Ok (sym c.in_ok-sums.ensures.values)

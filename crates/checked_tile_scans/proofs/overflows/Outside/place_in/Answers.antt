@@ -18,11 +18,13 @@ returns-then-fitting-to g c =
     let o = c.args.self.now in
     let v = o.vector.now in
     let is = tiled is_number (option_copied v.segments) v.elements.now v.plan v.numbers v.agrees v.whole v.few v.some in
-    outside_there is c.args.t c.fitting-fitting.result c.range-from.result c.range-from.ensures.value (tile_front is o.before.now c.args.t c.fitting-fitting.result o.known c.requires c.fitting-fitting.ensures) c.if-fitting-to.true
+    outside_there is c.args.t c.fitting-fitting.result c.range-from.result c.range-from.ensures.value
+    (tile_front is o.before.now c.args.t c.fitting-fitting.result o.known c.requires c.fitting-fitting.ensures) c.if-fitting-to.true
 
 pub returns : goal.returns
 returns g c =
     let o = c.args.self.now in
     let v = o.vector.now in
     let is = tiled is_number (option_copied v.segments) v.elements.now v.plan v.numbers v.agrees v.whole v.few v.some in
-    none_there is c.args.t c.fitting-fitting.result c.range-from.result c.range-from.ensures.value (tile_front is o.before.now c.args.t c.fitting-fitting.result o.known c.requires c.fitting-fitting.ensures) c.if-fitting-to.false
+    none_there is c.args.t c.fitting-fitting.result c.range-from.result c.range-from.ensures.value
+    (tile_front is o.before.now c.args.t c.fitting-fitting.result o.known c.requires c.fitting-fitting.ensures) c.if-fitting-to.false

@@ -42,12 +42,13 @@ loop-run-preserved g c =
     let back : to_z w64 (of_z w64 c.sum-sum.result) ≡ c.sum-sum.result = grind (arith, to_z-of_z) in
     let narrow : to_z w32 (of_z w32 c.from_word.result) ≡ c.from_word.result = grind (arith, to_z-of_z) in
     let sum : to_z w64 (of_z w64 c.sum-sum.result) ≡ get_or totals (old.first + n) (pos 0) = back ∙ c.sum-sum.ensures ∙ ap (λ p. get_or totals p (pos 0)) place in
-    let written = one_more_written totals old c.requires.within run c.push.new.self _ some c.loop-run.invariant.written (narrow ∙ c.from_word.ensures ∙ ap wrap (sum ∙ ap (λ p. get_or totals p (pos 0)) (sym at)))
-    c.push.ensures in
+    let written = one_more_written totals old c.requires.within run c.push.new.self _ some c.loop-run.invariant.written
+    (narrow ∙ c.from_word.ensures ∙ ap wrap (sum ∙ ap (λ p. get_or totals p (pos 0)) (sym at))) c.push.ensures in
     let more : n + 1 ≡ old.room - c.push.new.self.room = omega (arith, written.0, some, c.loop-run.invariant.written.left) in
     record {
       written = written.1;
-      outside = found_more (map fitting totals) old.first n c.next_place-place.result c.fitting.result c.loop-run.outside c.first_found-outside.result (omega (arith, inside, length-map totals fitting)) place
-          (c.fitting.ensures ∙ ap fitting sum ∙ sym (get_or-map fitting totals (old.first + n) (pos 0) None inside)) c.loop-run.invariant.outside c.first_found-outside.ensures
+      outside = found_more (map fitting totals) old.first n c.next_place-place.result c.fitting.result c.loop-run.outside c.first_found-outside.result
+          (omega (arith, inside, length-map totals fitting)) place (c.fitting.ensures ∙ ap fitting sum ∙ sym (get_or-map fitting totals (old.first + n) (pos 0) None inside))
+          c.loop-run.invariant.outside c.first_found-outside.ensures
           ∙ ap (λ k. first_without old.first (part (map fitting totals) old.first k)) more;
     }
