@@ -13,10 +13,9 @@ use Rattle.vector_handles.specs.Names.{Entries}
 use Rattle.vector_handles.specs.Steps.{Stepped, step}
 use Rattle.script_runs.specs.Meaning.{after_line, call_step, from_line, names_after_line, names_left, stop_fault}
 
--- where a definition goes on after another without a fault, the first has a value
-pub value_of : {X Y : Type 0} (first : Result X Fault) (next : X → Result Y Fault) (y : Y) → (first >>= next) ≡ Ok y → (x : X) × (first ≡ Ok x) × (next x ≡ Ok y)
-value_of (Ok x) next y is = (x, refl, is)
-value_of (Err f) next y is = cc
+-- a definition has one value
+pub one_value : {X : Type 0} (x y : X) → ◌≡◌ {A = Result X Fault} (Ok x) (Ok y) → x ≡ y
+one_value x y e = cc
 
 module _ {A : Type 0} where
   -- a line that binds a name to what a call gives
@@ -73,12 +72,12 @@ module _ {A : Type 0} where
       >>= λ after. names_after_calls after inputs others
 
   -- a call whose answer is known
-  pub goes_on : {X : Type 0} (answer : Result X Fault) (x : X) (make : X → Value A) (bound : Value A → Entries A) (inputs : List (Input A)) (others : List (Call A)) → answer ≡ Ok x
+  pub goes_on : {X : Type 0} {answer : Result X Fault} {x : X} (make : X → Value A) (bound : Value A → Entries A) (inputs : List (Input A)) (others : List (Call A)) → answer ≡ Ok x
       → bound_before answer make bound inputs others ≡ names_after_calls (bound (make x)) inputs others
-  goes_on answer x make bound inputs others is = ap (λ r. bound_before r make bound inputs others) is
+  goes_on make bound inputs others is = ap (λ r. bound_before r make bound inputs others) is
 
-  -- a call that may have a fault
-  pub may_go_on : {X : Type 0} (answer : Result X Fault) (make : X → Value A) (bound : Value A → Entries A) (inputs : List (Input A)) (others : List (Call A))
-      → bound_before answer make bound inputs others ≡ (answer >>= λ x. names_after_calls (bound (make x)) inputs others)
-  may_go_on (Ok x) make bound inputs others = refl
-  may_go_on (Err f) make bound inputs others = refl
+  -- a call that leaves names, with those after it, has a value
+  pub went_on : {X : Type 0} (answer : Result X Fault) (make : X → Value A) (bound : Value A → Entries A) (inputs : List (Input A)) (others : List (Call A)) (names : Entries A)
+      → bound_before answer make bound inputs others ≡ Ok names → (x : X) × (answer ≡ Ok x) × (names_after_calls (bound (make x)) inputs others ≡ Ok names)
+  went_on (Ok x) make bound inputs others names is = (x, refl, is)
+  went_on (Err f) make bound inputs others names is = cc

@@ -1,18 +1,17 @@
 -- The calls of the sparse product's script, on a matrix: each has the value that the product asks for.
-use Rattle.std.proofs.Common.{◌≡◌, ℕ, ◌+◌, ◌≤◌, true, not, List, [], ◌∷◌, length, take, drop, map, sum, unsigned_abs, ℤ, pos, negsuc, ◌+ℤ◌, refl, sym, ap, ◌∙◌, eq-eqb, arith, Some, Ok}
-use Rattle.std.specs.Prelude.{unwrap_or, position, nat_lt, option_map, ok_or}
+use Rattle.std.proofs.Common.{◌≡◌, ℕ, ◌≤◌, true, List, [], ◌∷◌, length, take, drop, map, sum, unsigned_abs, ℤ, pos, negsuc, ◌+ℤ◌, refl, sym, ap, ◌∙◌, arith, Some, Ok}
+use Rattle.std.specs.Prelude.{position, nat_lt, option_map}
 use Rattle.std.specs.Int.{w32, is_negative, int_wrap}
-use Rattle.std.specs.List.{AllPass, fold, zip}
+use Rattle.std.specs.List.{AllPass, fold, slice_index_or, zip}
 use Rattle.std.proofs.lemmas.Bool.{false≢true, le-ltb, ltb-true}
 use Rattle.std.proofs.lemmas.Int.{int_wrap-add_left, int_wrap-add_right}
 use Rattle.std.proofs.lemmas.List.{length-map, take-map, drop-map}
-use Rattle.std.proofs.lemmas.List.Elements.{All-head, All-tail}
-use Rattle.std.proofs.lemmas.Option.{slice_get-get_or}
+use Rattle.std.proofs.lemmas.Option.{slice_get-get_or, unwrap_or-slice_get}
 use Rattle.std.proofs.lemmas.Slice.Zip.{length-zip}
 use Rattle.cvl_base.specs.declared.fault.FaultNo.TheVariants as no
 use Rattle.cvl_base.specs.declared.families.IntBinary.TheVariants.{Mul}
 use Rattle.cvl_base.specs.Descriptors.{descriptor_of}
-use Rattle.cvl_base.specs.Elementwise.{ints2_of, values_from}
+use Rattle.cvl_base.specs.Elementwise.{ints2_of}
 use Rattle.cvl_base.specs.Extracts.{element_at}
 use Rattle.cvl_base.specs.Faults.{fault, fault_at}
 use Rattle.cvl_base.specs.Folds.{fold_of}
@@ -21,12 +20,14 @@ use Rattle.cvl_base.specs.Integers.{sum_of, product_of, wrap}
 use Rattle.cvl_base.specs.Limits.{most_elements}
 use Rattle.cvl_base.specs.Nests.{cut_of}
 use Rattle.cvl_base.proofs.Descriptors.{position-lengths}
+use Rattle.cvl_base.proofs.Elementwise.{if_as_long-fits}
 use Rattle.cvl_base.proofs.Nests.{nest-fits}
 use Rattle.cvl_base.proofs.Segmented.{results-ok}
 use Rattle.cvl_base.specs.Permutes.{back_of, is_place}
 use Rattle.cvl_base.specs.Segmented.{results_from, in_vector}
 use Rattle.cvl_base.specs.SegmentedCalls.{seg_reduce_of}
 use Rattle.recipes.specs.Products.{at_column, term, row_product}
+use Rattle.recipes.proofs.Tables.{all_values}
 
 -- ---- the lengths
 
@@ -40,21 +41,11 @@ lengths_made numbers natural small =
 -- ---- the elements of x at the columns
 
 there : (x : List ℤ) (column : ℤ) → is_place (length x) column ≡ true → element_at x column ≡ Some (at_column x column)
-there x (pos k) inside =
-    let e = slice_get-get_or x k (pos 0) (ltb-true k (length x) inside) in
-    e ∙ ap Some (sym (ap (λ o. unwrap_or o (pos 0)) e))
+there x (pos k) inside = slice_get-get_or x k (pos 0) (ltb-true k (length x) inside) ∙ ap Some (sym (unwrap_or-slice_get x k (pos 0)))
 there x (negsuc k) inside = absurd (false≢true inside)
 
-all_there : (x columns : List ℤ) (place : ℕ) → AllPass (is_place (length x)) columns → values_from no.IndexOutOfRange place (map (element_at x) columns) ≡ Ok (map (at_column x) columns)
-all_there x [] place inside = refl
-all_there x (column ∷ columns) place inside =
-    let first = there x column (All-head (λ c. is_place (length x) c ≡ true) column columns inside) in
-    let others = all_there x columns (place + 1) (All-tail (λ c. is_place (length x) c ≡ true) column columns inside) in
-    ap (λ o. ok_or o (fault_at no.IndexOutOfRange place) >>= λ y. values_from no.IndexOutOfRange (place + 1) (map (element_at x) columns) >>= λ ys. Ok (y ∷ ys)) first
-    ∙ ap (λ r. r >>= λ ys. Ok (at_column x column ∷ ys)) others
-
 pub columns_there : (x columns : List ℤ) → AllPass (is_place (length x)) columns → back_of x columns ≡ Ok (map (at_column x) columns)
-columns_there x columns inside = all_there x columns 0 inside
+columns_there x columns inside = all_values no.IndexOutOfRange (element_at x) (at_column x) 0 columns (λ k d below. there x (slice_index_or columns k d) (inside k d below))
 
 -- ---- the wrapped products of the entries
 
@@ -69,8 +60,7 @@ each_term x (c ∷ columns) (v ∷ values) = ap (λ others. wrapped_term x (c, v
 
 pub terms_made : (x columns values : List ℤ) → length values ≡ length columns → ints2_of Mul values (map (at_column x) columns) ≡ Ok (map (wrapped_term x) (zip columns values))
 terms_made x columns values as_many =
-    let long : length values ≡ length (map (at_column x) columns) = as_many ∙ sym (length-map columns (at_column x)) in
-    ap (λ b. fault_if (not b) (fault no.LengthMismatch) (Ok (map (λ p. product_of p.0 p.1) (zip values (map (at_column x) columns))))) (eq-eqb _ _ long)
+    if_as_long-fits values (map (at_column x) columns) (Ok (map (λ p. product_of p.0 p.1) (zip values (map (at_column x) columns)))) (as_many ∙ sym (length-map columns (at_column x)))
     ∙ ap Ok (each_term x columns values)
 
 pub length-terms : (x columns values : List ℤ) → length values ≡ length columns → length (map (wrapped_term x) (zip columns values)) ≡ length columns

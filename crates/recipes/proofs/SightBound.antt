@@ -1,35 +1,39 @@
 -- The script of line of sight binds `v` to the visible places: a slope is above the greatest before it where it is above
 -- each of them.
-use Rattle.std.proofs.Common.{◌≡◌, refl, sym, ap, ◌∙◌, ℕ, zero, suc, ◌-◌, ◌<◌, ◌≤◌, true, false, List, [], ◌∷◌, length, map, codes, ℤ, pos, negsuc, ◌-ℤ◌, ◌*ℤ◌, Some, Ok, slice_get, arith}
+use Rattle.std.proofs.Common.{◌≡◌, refl, sym, ap, ◌∙◌, ℕ, zero, suc, ◌-◌, ◌<◌, ◌≤◌, Bool, true, false, List, [], ◌∷◌, length, map, codes, ℤ}
+use Rattle.std.proofs.Common.{pos, negsuc, ◌-ℤ◌, ◌*ℤ◌, Some, Ok, Err, Result, slice_get, arith}
 use Rattle.std.specs.Prelude.{int_lt, ◌<ℤ◌, ◌&&◌, not, unwrap_or, unsigned_abs}
 use Rattle.std.specs.Int.{is_negative}
 use Rattle.std.specs.List.{list_all, range_with_len, AllPass}
 use Rattle.std.proofs.lemmas.Bool.{false≢true, le-ltb, ltb-true}
 use Rattle.std.proofs.lemmas.Int.{ints}
-use Rattle.std.proofs.lemmas.List.Elements.{All-head, All-tail}
 use Rattle.std.proofs.lemmas.List.Folds.{list_all-map}
+use Rattle.std.proofs.lemmas.Option.{unwrap_or-slice_get}
+use Rattle.cvl_base.specs.declared.fault.FaultNo.TheVariants.{IndexOutOfRange}
+use Rattle.cvl_base.specs.declared.refused.Refused.{Refused}
 use Rattle.cvl_base.specs.declared.value.Value.TheVariants as value
-use Rattle.cvl_base.specs.Gives.{◌>>=◌}
+use Rattle.cvl_base.specs.Faults.{fault_at}
+use Rattle.cvl_base.specs.Gives.{◌>>=◌, Gives}
 use Rattle.cvl_base.specs.Integers.{IsFloor}
 use Rattle.cvl_base.specs.Limits.{most_elements}
 use Rattle.vector_handles.specs.declared.input.Input.TheVariants as input
 use Rattle.vector_handles.specs.Names.{Entries, value_at}
 use Rattle.recipes.specs.declared.scripts.TheConstants.{LINE_OF_SIGHT}
-use Rattle.recipes.specs.Recipes.{HasBooleans, bound_by, names_bound}
+use Rattle.recipes.specs.Recipes.{GivesBound, HasBooleans, bound_by, names_bound}
 use Rattle.recipes.specs.Visibility.{AreExact, is_altitude, is_steeper, is_visible, visible_of, rise}
+use Rattle.recipes.proofs.Answered.{is_answer}
+use Rattle.recipes.proofs.Calls.{one_value}
 use Rattle.recipes.proofs.Fractions.{floors_as_fractions}
 use Rattle.recipes.proofs.Greatest.{greatest_less, less_true}
-use Rattle.recipes.proofs.SightScript.{bound, least, nothing_seen, seen}
-use Rattle.recipes.proofs.SightValues.{flags, height, sight_is, slope_at, slopes, values}
+use Rattle.recipes.proofs.SightScript.{least, run}
+use Rattle.recipes.proofs.SightValues.{bound, flags, height, seen, slope_at, slopes}
 use Rattle.recipes.proofs.Slopes.{slope_is_floor}
 use Rattle.recipes.proofs.Tables.{after_first, same_map, same_tests, table}
 
 -- ---- altitudes
 
 altitude_at : (a : List ℤ) (k : ℕ) → AllPass is_altitude a → k < length a → is_altitude (unwrap_or (slice_get a k) (pos 0)) ≡ true
-altitude_at [] k low below = absurd (omega arith)
-altitude_at (h ∷ hs) zero low below = All-head (λ z. is_altitude z ≡ true) h hs low
-altitude_at (h ∷ hs) (suc k) low below = altitude_at hs k (All-tail (λ z. is_altitude z ≡ true) h hs low) (omega arith)
+altitude_at a k low below = ap is_altitude (unwrap_or-slice_get a k (pos 0)) ∙ low k (pos 0) below
 
 altitude_is : (z : ℤ) → is_altitude z ≡ true → (h : ℕ) × (z ≡ pos h) × (h < 32768)
 altitude_is (pos h) is =
@@ -78,17 +82,17 @@ module _ (a : List ℤ) (exact : AreExact a) where
 
 -- ---- what the script binds
 
-module _ {A : Type 0} where
-  pub sight_bound : (a : List ℤ) → AreExact a →
-      bound_by {A = A} LINE_OF_SIGHT.now (input.Vector a ∷ []) (codes "v") ≡ Ok (Some (value.Booleans (visible_of a)))
-  sight_bound a exact =
-      let few : length a ≤ most_elements = omega (arith, exact.few) in
-      ap (λ r. r >>= λ names. Ok (value_at names (codes "v"))) (seen a (values a exact.some few))
-      ∙ ap (λ bs. Ok (Some (value.Booleans bs))) (sight_is a exact.some few ∙ flags_are a exact)
+module _ (A : Type 0) where
+  -- what the run of the script answers is whether each place is visible
+  pub sight_given : (a : List ℤ) → AreExact a → {X : Type 0} (view : X → List Bool) (answer : Result X Refused)
+      → GivesBound {A = A} (λ v. value.Booleans (view v)) answer LINE_OF_SIGHT.now (input.Vector a ∷ []) (codes "v") → Gives view answer (Ok (visible_of a))
+  sight_given a exact view answer gives =
+      is_answer (λ (bs : List Bool). value.Booleans bs) view answer (bound_by LINE_OF_SIGHT.now (input.Vector a ∷ []) (codes "v")) (visible_of a) (λ b c same. cc) gives
+      (ap (λ r. r >>= λ names. Ok (value_at names (codes "v"))) (seen a exact.some (omega (arith, exact.few))) ∙ ap (λ bs. Ok (Some (value.Booleans bs))) (flags_are a exact))
 
+  -- no altitude is at fault
   pub binds_booleans : (a : List ℤ) → length a ≤ most_elements → (names : Entries A) → names_bound LINE_OF_SIGHT.now (input.Vector a ∷ []) ≡ Ok names → HasBooleans names (codes "v")
-  binds_booleans [] few names is = let none = nothing_seen {A = A} in cc
+  binds_booleans [] few names is = let none : names_bound {A = A} LINE_OF_SIGHT.now (input.Vector [] ∷ []) ≡ Err (fault_at IndexOutOfRange 0) = run (input.Vector [] ∷ []) in cc
   binds_booleans (h ∷ hs) few names is =
-      let w = values (h ∷ hs) (omega arith) few in
-      let all : bound (h ∷ hs) w 20 ≡ names = let run = seen {A = A} (h ∷ hs) w in cc in
-      (w.v, sym (ap (λ ns. value_at ns (codes "v")) all))
+      let all = one_value (bound (h ∷ hs) 20) names (sym (seen (h ∷ hs) (omega arith) few) ∙ is) in
+      (table (flags (h ∷ hs)) (length (h ∷ hs)), sym (ap (λ ns. value_at ns (codes "v")) all))

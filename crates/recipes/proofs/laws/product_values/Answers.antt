@@ -1,11 +1,6 @@
-use Rattle.std.proofs.Common.{refl}
 use Rattle.std.specs.Int.{int_wrap}
 use Rattle.recipes.proofs.laws.product_values.Goals as goal
 
-pub returns-clause-rows : goal.returns-clause-rows
+pub returns : goal.returns
 unfolding int_wrap
-returns-clause-rows c = refl
-
-pub returns-clause-wrapped : goal.returns-clause-wrapped
-unfolding int_wrap
-returns-clause-wrapped c = refl
+returns c = assumption
