@@ -1,16 +1,20 @@
 -- What a parse of the program's command holds.
-use Rattle.std.proofs.Common.{◌≡◌, ◌∙◌, ◌<◌, ◌≤◌, ap, ℕ, zero, suc, true, false, List, [], ◌∷◌, length, map, is_some, Option, Some, None, Err, slice_index, refl, sym, subst, inl, inr, arith, codes}
-use Rattle.std.proofs.Common.{IsSome}
-use Rattle.std.specs.List.{slice_index_or}
-use Rattle.std.proofs.lemmas.List.{length-map}
+use Rattle.std.proofs.Common.{◌≡◌, ◌∙◌, ◌<◌, ◌≤◌, ◌==◌, ◌&&◌, ◌||◌, ap, ℕ, Bool, true, false, not, List, [], ◌∷◌, length, map}
+use Rattle.std.proofs.Common.{is_some, IsSome, Option, Some, None, Err, refl, sym, subst, inl, inr, arith, codes}
+use Rattle.std.specs.List.{All, list_all, range_with_len, slice_index_or}
 use Rattle.std.specs.Str.{bytes_eq}
-use Rattle.std.proofs.lemmas.Bool.{not-true}
-use Rattle.clap.specs.Built.{IsAuto, IsParsedFrom, IsPlain}
+use Rattle.std.proofs.lemmas.Bool.{false≢true, not-true}
+use Rattle.std.proofs.lemmas.Bool.Decides.{nat_tests}
+use Rattle.std.proofs.lemmas.List.{get_or-map, length-map}
+use Rattle.std.proofs.lemmas.List.Elements.{All-cons, All-nil}
+use Rattle.std.proofs.lemmas.List.FromFn.{get_or-range_with_len}
+use Rattle.std.proofs.lemmas.List.Sums.{AllPass-from_list_all}
+use Rattle.clap.specs.Built.{IsAuto, IsParsedFrom, IsPlain, IsPlainArg}
 use Rattle.clap.specs.Facts.{args_of, unwrap_or_range}
 use Rattle.clap.specs.Texts.{items_of}
 use Rattle.clap.specs.Matches.{first_value, found_of, one_text}
 use Rattle.clap.specs.Lexer.{without_minus}
-use Rattle.clap.specs.Walk.{Rule, Text, rows_of, rule_of, texts}
+use Rattle.clap.specs.Walk.{Rule, Text, is_free_arg, is_simple_arg, rows_of, rule_of, texts}
 use Rattle.clap.specs.Simple.{App, HasMatchesOf, app_of, is_simple, matches_of}
 use Rattle.clap.specs.Faults.{fault_of, is_simple_and_free}
 use Rattle.clap.specs.Kinds.{HasKind, Kinds}
@@ -30,9 +34,49 @@ use Rattle.command_line.specs.Command.{cvl, inputs_rule, number_rule, script_rul
 use Rattle.command_line.specs.Reads.{HasNumber, IsFaultOf, HoldsAllArguments, ReadsBy}
 use Rattle.command_line.specs.declared.fault.WordsFault.{WordsFault}
 use Rattle.command_line.specs.declared.fault.WordsFault.TheVariants as fault
-use Rattle.command_line.proofs.Accepted.{accepted}
-use Rattle.command_line.proofs.Present.{IsAlone, default_has_value}
-use Rattle.command_line.proofs.Rules.{IsBare, all_plain, bare, empty_list, rule_at}
+use Rattle.command_line.proofs.Options.{IsAlone, value_accepted}
+
+-- ---- what the rule of an argument says of the argument
+
+empty_list : {X : Type 0} (xs : List X) → (length xs == 0) ≡ true → xs ≡ []
+empty_list [] e = refl
+empty_list (x ∷ xs) e = absurd (grind arith)
+
+none_of : {X : Type 0} (o : Option X) → not (is_some o) ≡ true → o ≡ None
+none_of None e = refl
+none_of (Some x) e = cc
+
+-- an argument that excludes nothing, whose default has no condition and whose values are not cut
+record IsBare (a : Arg) : Type 0 where
+  plain : IsPlainArg a
+  ifs : a.default_vals_ifs.items ≡ []
+  delimiter : a.val_delim ≡ None
+
+bare : (a : Arg) → is_simple_arg a ≡ true → is_free_arg a ≡ true → IsBare a
+bare a simple free =
+    let s0 = both _ _ simple in
+    let s1 = both _ _ s0.1 in
+    let s2 = both _ _ s1.1 in
+    let s3 = both _ _ s2.1 in
+    let f0 = both _ _ free in
+    let f1 = both _ _ f0.1 in
+    record {
+      plain = (not-true _ f0.0, empty_list _ f1.0, empty_list _ s0.0, empty_list _ s2.0);
+      ifs = empty_list _ s1.0;
+      delimiter = none_of _ s3.0;
+    }
+
+abbrev is_bare_rule : Rule → Bool
+is_bare_rule r = r.is_simple && r.is_free
+
+all_plain : (xs : List Arg) → list_all is_bare_rule (map rule_of xs) ≡ true → All IsPlainArg xs
+all_plain [] e = All-nil IsPlainArg
+all_plain (x ∷ xs) e =
+    let parts = both _ _ e in
+    let here = both _ _ parts.0 in
+    All-cons IsPlainArg x xs (bare x here.0 here.1).plain (all_plain xs parts.1)
+
+-- ---- the program's command
 
 abbrev rules : List Rule
 rules = tile_rule ∷ workers_rule ∷ script_rule ∷ inputs_rule ∷ []
@@ -73,18 +117,45 @@ no_negates c e = ap (λ (a : App). a.top.subcommand_negates_reqs) e
 rule_is : (c : Command) → app_of c ≡ cvl → (k : ℕ) (d : Arg) (r : Rule) → k < 4 → slice_index_or rules k inputs_rule ≡ r
     → rule_of (slice_index_or (args_of c) k d) ≡ r
 rule_is c e k d r lt at =
-    rule_at (args_of c) k d inputs_rule (omega (arith, count_is c e))
-    ∙ (ap (λ rs. slice_index_or rs k inputs_rule) (rules_are c e) ∙ at)
+    sym (get_or-map rule_of (args_of c) k d inputs_rule (omega (arith, count_is c e))) ∙ ap (λ rs. slice_index_or rs k inputs_rule) (rules_are c e) ∙ at
 
--- where no other rule has the id, no other argument has it
-alone : (c : Command) → app_of c ≡ cvl → (k : ℕ) (d : Arg) (r : Rule) → k < 4 → slice_index_or rules k inputs_rule ≡ r
-    → ((j : ℕ) → j < 4 → bytes_eq (slice_index_or rules j inputs_rule).id r.id ≡ true → j ≡ k)
-    → IsAlone (args_of c) k d
+-- the rule at a place has this id only if it is the one at place k
+abbrev is_other : ℕ → Text → ℕ → Bool
+is_other k id j = not (bytes_eq (slice_index_or rules j inputs_rule).id id) || (j == k)
+
+-- no other rule has the id, which is neither empty nor one of clap's own
+abbrev is_own : ℕ → Text → Bool
+is_own k id = list_all (is_other k id) (range_with_len 0 4) && list_all (λ word. not (bytes_eq id word)) ([] ∷ codes "help" ∷ codes "version" ∷ [])
+
+place_is : (same : Bool) (j k : ℕ) → (not same || (j == k)) ≡ true → same ≡ true → j ≡ k
+place_is true j k e h = grind (arith, nat_tests)
+place_is false j k e h = cc
+
+-- no other argument has the id of the one at a place
+alone : (c : Command) → app_of c ≡ cvl → (k : ℕ) (d : Arg) (r : Rule) → k < 4 → slice_index_or rules k inputs_rule ≡ r → is_own k r.id ≡ true → IsAlone (args_of c) k d
 alone c e k d r lt at own j other low same =
     let few : j < 4 = omega (arith, count_is c e) in
     let this = ap (λ (x : Rule). x.id) (rule_is c e k d r lt at) in
     let that = ap (λ (x : Rule). x.id) (rule_is c e j other (slice_index_or rules j inputs_rule) few refl) in
-    own j few (rw (← that, ← this) same)
+    let here : slice_index_or (range_with_len 0 4) j 0 ≡ j = omega (arith, get_or-range_with_len 0 4 j 0 few) in
+    let tested = AllPass-from_list_all (is_other k r.id) (range_with_len 0 4) (both _ _ own).0 j 0 few in
+    place_is _ j k (ap (is_other k r.id) (sym here) ∙ tested) (rw (← that, ← this) same)
+
+differs : (id word : Text) → not (bytes_eq id word) ≡ true → bytes_eq word word ≡ true → id ≡ word → ⊥
+differs id word other itself e = false≢true (sym (not-true _ other) ∙ ap (λ t. bytes_eq t word) e ∙ itself)
+
+-- and it is a name of the command's own
+named : (k : ℕ) (id : Text) → is_own k id ≡ true → id ≡ [] → ⊥
+named k id own = differs id [] (both _ _ (both _ _ own).1).0 refl
+
+not_auto : (k : ℕ) (a : Arg) (id : Text) → a.id.now ≡ id → is_own k id ≡ true → IsAuto a → ⊥
+not_auto k a id is own auto =
+    let words = both _ _ (both _ _ own).1 in
+    let help = both _ _ words.1 in
+    elim auto [
+      | inl h ↦ differs id (codes "help") help.0 refl (sym is ∙ h)
+      | inr h ↦ differs id (codes "version") (both _ _ help.1).0 refl (sym is ∙ h)
+    ]
 
 some_arg : (xs : List Arg) → 0 < length xs → Arg
 some_arg [] lt = absurd (omega arith)
@@ -96,85 +167,24 @@ one_at_least o e = rw e (omega arith)
 some_default : (a : Arg) (v : Text) → texts (items_of a.default_vals) ≡ v ∷ [] → 0 < length (items_of a.default_vals)
 some_default a v e = omega (arith, ap length e, length-map (items_of a.default_vals) (λ s. s.now))
 
-differ : (a b : Text) → (slice_index a 0 ≡ slice_index b 0 → ⊥) → a ≡ b → ⊥
-differ a b h e = h (ap (λ t. slice_index t 0) e)
-
--- a name that is neither empty nor one of clap's own
-record IsOwnName (name : Text) : Type 0 where
-  named : name ≡ [] → ⊥
-  help : name ≡ codes "help" → ⊥
-  version : name ≡ codes "version" → ⊥
-
 -- an option of one number has a number in its range
 has_number : (c : Command) (m : ArgMatches) → app_of c ≡ cvl → IsParsedFrom c m → (k : ℕ) (name : Text) (greatest : ℕ) (default : Text)
-    → k < 4 → slice_index_or rules k inputs_rule ≡ number_rule name (up_to greatest) default
-    → ((j : ℕ) → j < 4 → bytes_eq (slice_index_or rules j inputs_rule).id name ≡ true → j ≡ k)
-    → IsOwnName name → HasNumber m name greatest
-has_number c m e p k name greatest default lt at own names =
+    → k < 4 → slice_index_or rules k inputs_rule ≡ number_rule name (up_to greatest) default → is_own k name ≡ true → HasNumber m name greatest
+has_number c m e p k name greatest default lt at own =
     let d = some_arg (args_of c) (omega (arith, count_is c e)) in
     let rule = number_rule name (up_to greatest) default in
     let is = rule_is c e k d rule lt at in
     let a = slice_index_or (args_of c) k d in
     let id : a.id.now ≡ name = ap (λ (x : Rule). x.id) is in
-    let low : k < length (args_of c) = omega (arith, count_is c e) in
     let free : IsBare a = bare a (ap (λ (x : Rule). x.is_simple) is) (ap (λ (x : Rule). x.is_free) is) in
-    let only = alone c e k d rule lt at own in
-    let named : a.id.now ≡ [] → ⊥ = λ none. names.named (sym id ∙ none) in
-    let mine : IsAuto a → ⊥ = λ auto. elim auto [
-      | inl h ↦ names.help (sym id ∙ h)
-      | inr h ↦ names.version (sym id ∙ h)
-    ] in
-    let has = default_has_value c m p (plain c e) (no_globals c e) k d low
-    (free.ifs, some_default a default (ap (λ (x : Rule). x.defaults) is)) (ap (λ (x : Rule). x.action) is)
-    free.delimiter (one_at_least a.num_vals (ap (λ (x : Rule). x.range) is)) only named mine in
-    let got = accepted c m p (plain c e) (no_globals c e) k d low only named mine (up_to greatest) (ap (λ (x : Rule). x.parser) is) has in
+    let got = value_accepted c m p (plain c e) (no_globals c e) k d (omega (arith, count_is c e)) (alone c e k d rule lt at own)
+    (λ none. named k name own (sym id ∙ none)) (not_auto k a name id own) (free.ifs, some_default a default (ap (λ (x : Rule). x.defaults) is))
+    (ap (λ (x : Rule). x.action) is) free.delimiter (one_at_least a.num_vals (ap (λ (x : Rule). x.range) is)) (up_to greatest) (ap (λ (x : Rule). x.parser) is) in
     record {
       text = got.0;
       read = subst (λ (w : Text). one_text (found_of m) w ≡ Some (without_minus got.0)) id got.1;
       range = got.2;
     }
-
-tile_alone : (j : ℕ) → j < 4 → bytes_eq (slice_index_or rules j inputs_rule).id (codes "tile") ≡ true → j ≡ 0
-tile_alone zero lt e = refl
-tile_alone (suc zero) lt e = cc
-tile_alone (suc (suc zero)) lt e = cc
-tile_alone (suc (suc (suc zero))) lt e = cc
-tile_alone (suc (suc (suc (suc j)))) lt e = absurd (omega arith)
-
-workers_alone : (j : ℕ) → j < 4 → bytes_eq (slice_index_or rules j inputs_rule).id (codes "workers") ≡ true → j ≡ 1
-workers_alone zero lt e = cc
-workers_alone (suc zero) lt e = refl
-workers_alone (suc (suc zero)) lt e = cc
-workers_alone (suc (suc (suc zero))) lt e = cc
-workers_alone (suc (suc (suc (suc j)))) lt e = absurd (omega arith)
-
-script_alone : (j : ℕ) → j < 4 → bytes_eq (slice_index_or rules j inputs_rule).id (codes "script") ≡ true → j ≡ 2
-script_alone zero lt e = cc
-script_alone (suc zero) lt e = cc
-script_alone (suc (suc zero)) lt e = refl
-script_alone (suc (suc (suc zero))) lt e = cc
-script_alone (suc (suc (suc (suc j)))) lt e = absurd (omega arith)
-
-tile_is_own : IsOwnName (codes "tile")
-tile_is_own = record {
-  named = differ (codes "tile") [] (λ h. let bad : 116 ≡ 0 = h in absurd (omega arith));
-  help = differ (codes "tile") (codes "help") (λ h. let bad : 116 ≡ 104 = h in absurd (omega arith));
-  version = differ (codes "tile") (codes "version") (λ h. let bad : 116 ≡ 118 = h in absurd (omega arith));
-}
-
-workers_is_own : IsOwnName (codes "workers")
-workers_is_own = record {
-  named = differ (codes "workers") [] (λ h. let bad : 119 ≡ 0 = h in absurd (omega arith));
-  help = differ (codes "workers") (codes "help") (λ h. let bad : 119 ≡ 104 = h in absurd (omega arith));
-  version = differ (codes "workers") (codes "version") (λ h. let bad : 119 ≡ 118 = h in absurd (omega arith));
-}
-
-script_is_own : IsOwnName (codes "script")
-script_is_own = record {
-  named = differ (codes "script") [] (λ h. let bad : 115 ≡ 0 = h in absurd (omega arith));
-  help = differ (codes "script") (codes "help") (λ h. let bad : 115 ≡ 104 = h in absurd (omega arith));
-  version = differ (codes "script") (codes "version") (λ h. let bad : 115 ≡ 118 = h in absurd (omega arith));
-}
 
 -- the script has a name
 has_script : (c : Command) (m : ArgMatches) → app_of c ≡ cvl → IsParsedFrom c m
@@ -186,17 +196,14 @@ has_script c m e p =
     let id : a.id.now ≡ codes "script" = ap (λ (x : Rule). x.id) is in
     let free : IsBare a = bare a (ap (λ (x : Rule). x.is_simple) is) (ap (λ (x : Rule). x.is_free) is) in
     let has = required_has_value c m p (plain c e) (no_globals c e) (no_negates c e) 2 d (omega (arith, count_is c e))
-    (ap (λ (x : Rule). x.required) is) (ap (λ (x : Rule). x.action) is) free.delimiter
-    (one_at_least a.num_vals (ap (λ (x : Rule). x.range) is))
-    (alone c e 2 d script_rule (omega arith) refl script_alone)
-    (λ none. script_is_own.named (sym id ∙ none))
-    (λ auto. elim auto [ inl h ↦ script_is_own.help (sym id ∙ h) | inr h ↦ script_is_own.version (sym id ∙ h) ]) in
+    (ap (λ (x : Rule). x.required) is) (ap (λ (x : Rule). x.action) is) free.delimiter (one_at_least a.num_vals (ap (λ (x : Rule). x.range) is))
+    (alone c e 2 d script_rule (omega arith) refl refl) (λ none. named 2 (codes "script") refl (sym id ∙ none)) (not_auto 2 a (codes "script") id refl) in
     subst (λ (w : Text). is_some (first_value (found_of m) w) ≡ true) id has
 
 pub whole : (c : Command) (m : ArgMatches) → app_of c ≡ cvl → IsParsedFrom c m → HoldsAllArguments m
 whole c m e p = record {
-  tile = has_number c m e p 0 (codes "tile") longest_tile (codes "4096") (omega arith) refl tile_alone tile_is_own;
-  workers = has_number c m e p 1 (codes "workers") most_workers (codes "4") (omega arith) refl workers_alone workers_is_own;
+  tile = has_number c m e p 0 (codes "tile") longest_tile (codes "4096") (omega arith) refl refl;
+  workers = has_number c m e p 1 (codes "workers") most_workers (codes "4") (omega arith) refl refl;
   script = is_some_of _ (has_script c m e p);
 }
   where

@@ -1,10 +1,12 @@
+use Rattle.std.proofs.Common.{◌∙◌, ap, Some, option_map, sym}
+use Rattle.std.specs.Str.Parse.{digits_value, without_leading_plus}
 use Rattle.clap.specs.Lexer.{without_minus}
 use Rattle.clap.specs.Matches.{found_of}
-use Rattle.command_line.proofs.NumberReads.{number_read}
+use Rattle.clap.proofs.WalkLemmas.{one_text-rows}
 use Rattle.command_line.proofs.numbers.number.Goals as goal
 
 pub returns-clause-value : goal.returns-clause-value
 returns-clause-value c =
     let has = c.requires.2 in
     let read = rw c.unwrap.ensures at (c.get_one.ensures.value (without_minus has.text) has.read) in
-    number_read (found_of c.args.matches.now) c.args.name.now (without_minus has.text) c.unwrap.result has.read read.0.1
+    ap (option_map (λ t. digits_value 10 (without_leading_plus t))) (sym (one_text-rows (found_of c.args.matches.now) c.args.name.now) ∙ has.read) ∙ ap Some (sym read.0.1)
