@@ -1,11 +1,11 @@
-use Rattle.std.proofs.Common.{◌≡◌, ◌<◌, ◌+◌, suc, ◌++◌, ◌∷◌, [], Some, None, take, drop, length, ap, refl, arith}
+use Rattle.std.proofs.Common.{◌+◌, ◌++◌, ◌∷◌, [], Some, None, take, drop, length, ap, refl, arith}
 use Rattle.std.specs.List.{slice_index_or}
-use Rattle.std.proofs.lemmas.List.{length-append}
+use Rattle.std.proofs.lemmas.List.{length-append, map_more, take_all}
 use Rattle.clap.specs.Walk.{texts}
 use Rattle.vector_handles.specs.declared.input.Input.TheVariants.{Bytes}
 use Rattle.script_runs.specs.Hosts.{read_of}
 use Rattle.script_runs.proofs.Shown.{reads_both, shows_nothing_read}
-use Rattle.shell.proofs.NamedFiles.{gave_more, gave_none, names_all, names_at, names_more, stops_after}
+use Rattle.shell.proofs.NamedFiles.{gave_more, gave_none, names_at, stops_after}
 use Rattle.shell.proofs.files.read_inputs.Goals as goal
 
 pub loop-name-init : goal.loop-name-init
@@ -20,10 +20,9 @@ loop-name-init g c = record {
 pub returns-in-None-clause-missed : goal.returns-in-None-clause-missed
 returns-in-None-clause-missed g c =
     let i = c.loop-name.name-index in
-    let names = texts c.args.names.now in
     let reads = c.loop-name.invariant.reads in (
       reads ++ read_of _ None ∷ [],
-      stops_after names (take i names) (drop (suc i) names) reads _ _ (names_at c.args.names.now i _ (omega arith)) c.loop-name.invariant.gave,
+      stops_after (texts c.args.names.now) (texts (take i c.args.names.now)) (texts (drop (i + 1) c.args.names.now)) reads _ _ (names_at c.args.names.now i _ (omega arith)) c.loop-name.invariant.gave,
       reads_both _ _ _ _ _ c.loop-name.invariant.shown c.in-None.ensures,
     )
 
@@ -31,9 +30,7 @@ pub loop-name-preserved : goal.loop-name-preserved
 loop-name-preserved g c =
     let i = c.loop-name.name-index in
     let name = (slice_index_or c.args.names.now i (record { ref_ptr = (0, 0); now = [] })).now in
-    let next : i + 1 ≡ suc i = omega arith in
-    let lt : i < length c.args.names.now = omega arith in
-    let names = names_more c.args.names.now i (i + 1) (record { ref_ptr = (0, 0); now = [] }) lt next in
+    let names = map_more (λ s. s.now) c.args.names.now i (record { ref_ptr = (0, 0); now = [] }) (omega arith) in
     let pushed = c.push_reserved.ensures.items in
     record {
       reads = c.loop-name.invariant.reads ++ read_of name (Some c.in-Some.bytes.items) ∷ [];
@@ -45,5 +42,5 @@ loop-name-preserved g c =
 
 pub returns-clause-read : goal.returns-clause-read
 returns-clause-read g c =
-    let whole = names_all c.args.names.now c.loop-name.name-index (omega arith) in
+    let whole = take_all c.loop-name.name-index c.args.names.now (omega arith) in
     (c.loop-name.invariant.reads, rw whole at c.loop-name.invariant.gave, c.loop-name.invariant.shown)

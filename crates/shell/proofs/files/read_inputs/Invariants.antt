@@ -9,7 +9,7 @@ abbrev pub invariant-loop-name : goal.invariant-loop-name
 invariant-loop-name g l =
     record {
       reads : List Read;
-      gave : GaveInputs (take l.name-index (texts l.names)) reads l.inputs.items;
+      gave : GaveInputs (texts (take l.name-index l.names)) reads l.inputs.items;
       shown : Shows (with_reads reads (g.H.Sink.seen l.initial.host)) (g.H.Sink.seen l.host);
       count : length l.inputs.items ≡ l.name-index;
       room : length l.names ≤ vec_capacity l.inputs;

@@ -1,8 +1,9 @@
-use Rattle.std.proofs.Common.{◌≡◌, ◌∙◌, sym}
+use Rattle.std.proofs.Common.{◌≡◌, ◌∙◌, Some, refl, sym}
 use Rattle.clap.specs.Walk.{texts}
 use Rattle.clap.specs.Values.{kind_of}
 use Rattle.clap.specs.declared.error.kind.ErrorKind.TheVariants.{DisplayHelp}
-use Rattle.shell.proofs.Performed.{performs_files, performs_help, performs_refused, performs_starved}
+use Rattle.shell.specs.Programs.{refused}
+use Rattle.shell.proofs.Performed.{performs_files, performs_help, performs_starved}
 use Rattle.shell.proofs.programs.program_gated.Goals as goal
 
 pub returns-in-Ok : goal.returns-in-Ok
@@ -24,5 +25,10 @@ returns-in-DisplayHelp g c =
 pub returns : goal.returns
 returns g c =
     let among = rw c.in-Err-Refused.field-0-is at c.in-Err-Refused.ensures.faults in
-    performs_refused g.row.A.Denot (texts c.args.words.now) (kind_of c.in-Err-Refused.error) _ _
-    among (λ is. c.in_default.not-DisplayHelp (c.kind.ensures ∙ is)) c.tell_refused.ensures
+    record {
+      end = refused;
+      told = Some c.tell_refused.ensures.0;
+      comes = (kind_of c.in-Err-Refused.error, among, (λ is. c.in_default.not-DisplayHelp (c.kind.ensures ∙ is)), c.tell_refused.ensures.1);
+      says = refl;
+      status_is = refl;
+    }

@@ -1,7 +1,9 @@
-use Rattle.std.proofs.Common.{[], arith, vec_capacity}
+use Rattle.std.proofs.Common.{[], Some, refl, inr, arith, vec_capacity}
 use Rattle.clap.specs.Walk.{texts}
-use Rattle.shell.proofs.NamedFiles.{missed_fits}
-use Rattle.shell.proofs.Performed.{misses_first, misses_later, runs_files}
+use Rattle.script_runs.proofs.Shown.{reads_both, tells_after}
+use Rattle.shell.specs.Programs.{unreadable_line}
+use Rattle.shell.proofs.NamedFiles.{missed_fits, stops_first, stops_later}
+use Rattle.shell.proofs.Performed.{runs_files}
 use Rattle.shell.proofs.programs.run_files.Goals as goal
 
 pub tell_unreadable-requires-clause-fits : goal.tell_unreadable-requires-clause-fits
@@ -13,14 +15,24 @@ tell_unreadable-requires-in-Err-clause-fits g c κs within =
     missed_fits (vec_capacity c.in-Ok.room.line) c.args.words.now.script.now (texts c.args.words.now.inputs.items) missed.0 c.in-Err.name.now missed.1 c.in-Ok.ensures.line_fits
 
 pub returns-in-None : goal.returns-in-None
-returns-in-None g c =
-    misses_first g.row.A.Denot c.args.words.now.script.now (texts c.args.words.now.inputs.items) _ _ _ c.in-None.ensures c.tell_unreadable.ensures
+returns-in-None g c = inr (inr (
+  refl,
+  _,
+  _,
+  stops_first c.args.words.now.script.now (texts c.args.words.now.inputs.items),
+  tells_after (Some (unreadable_line c.args.words.now.script.now)) _ _ _ c.in-None.ensures c.tell_unreadable.ensures,
+))
 
 pub returns-in-Err : goal.returns-in-Err
 returns-in-Err g c =
     let missed = rw c.as_slice.ensures.value at c.in-Err.ensures.missed in
-    misses_later g.row.A.Denot c.args.words.now.script.now (texts c.args.words.now.inputs.items) c.in-Some.text.items c.in-Err.name.now _ _ _ _
-    c.in-Some.ensures missed c.tell_unreadable-in-Err.ensures
+    inr (inr (
+      refl,
+      _,
+      _,
+      stops_later c.args.words.now.script.now c.in-Some.text.items (texts c.args.words.now.inputs.items) missed.0 c.in-Err.name.now missed.1,
+      tells_after (Some (unreadable_line c.in-Err.name.now)) _ _ _ (reads_both _ missed.0 _ _ _ c.in-Some.ensures missed.2) c.tell_unreadable-in-Err.ensures,
+    ))
 
 pub returns-in-Ok-read_inputs : goal.returns-in-Ok-read_inputs
 returns-in-Ok-read_inputs g c =
