@@ -1,11 +1,12 @@
 -- The arguments of a call, one place after the other: their first fault, and the kinds of what they hold.
 use Rattle.std.proofs.Common.{◌≡◌, ◌∙◌, ℕ, zero, suc, ◌+◌, ◌≤◌, ◌==◌, ◌||◌, Bool, true, false, List, [], ◌∷◌, length, drop, slice_get, refl, ap, sym, subst, arith}
-use Rattle.std.proofs.Common.{Option, Some, None, Result, Err, IsErrAnd, MatchResult, option_map, option_and_then, if◌then◌else◌}
+use Rattle.std.proofs.Common.{Option, Some, None, Result, IsErrAnd, MatchResult, option_map, option_and_then, if◌then◌else◌}
 use Rattle.std.proofs.Math.ListN.{drop_of_length-le}
 use Rattle.std.proofs.lemmas.Bool.{eqb-true}
+use Rattle.std.proofs.lemmas.Bool.Decides.{nat_tests}
 use Rattle.std.proofs.lemmas.Option.{slice_get_past}
 use Rattle.std.proofs.lemmas.Result.{err_from_is_err_and}
-use Rattle.cvl_base.specs.declared.families.Cut.TheVariants.{Flat, Segmented}
+use Rattle.cvl_base.specs.declared.families.Cut.TheVariants.{Flat}
 use Rattle.cvl_base.specs.declared.families.Form.TheVariants.{Simple, Back, Select, Default}
 use Rattle.cvl_base.specs.declared.kind.Kind.{Kind}
 use Rattle.cvl_base.specs.declared.kind.Kind.TheVariants.{Integers, Booleans, Descriptor, Integer, Boolean}
@@ -17,9 +18,7 @@ use Rattle.cvl_base.specs.declared.value.Value.{Value}
 use Rattle.cvl_base.specs.declared.fault.Fault.{Fault}
 use Rattle.cvl_base.specs.declared.fault.FaultNo.TheVariants.{WrongArgumentCount, WrongKind}
 use Rattle.cvl_base.specs.declared.operation.Op.{Op}
-use Rattle.cvl_base.specs.declared.operation.Op.TheVariants.{Input, Nested, Ints2, Ints1, Compare, Bools2, Bools1, Choose, IntFromBool, BoolFromInt, Scan, Reduce}
-use Rattle.cvl_base.specs.declared.operation.Op.TheVariants.{CheckedScan, CheckedReduce, BoolScan, BoolReduce, Permute, Length, Count, Pack, PackedLengths, Distribute, Index, Extract}
-use Rattle.cvl_base.specs.declared.operation.Op.TheVariants.{Replace, MakeDescriptor, DescriptorLengths, Write}
+use Rattle.cvl_base.specs.declared.operation.Op.TheVariants.{Scan, Reduce, CheckedScan, CheckedReduce, BoolScan, BoolReduce, Permute, Count, Pack, Extract, Replace}
 use Rattle.bound_names.specs.Arguments.{arg_fault, arg_value, args_fault, argument_at, each_fault, earlier, kind_fault, place_fault}
 use Rattle.bound_names.specs.Names.{Entries}
 use Rattle.bound_names.specs.Operands.{AreTaken, HaveKinds, UnlessWrite, held, held_at}
@@ -28,63 +27,28 @@ use Rattle.bound_names.specs.declared.operands.Operands.{Operands}
 -- ---- no call takes more than five arguments
 
 few_operands : (op : Op) → length (operands_of op) ≤ 5
-few_operands Input = omega arith
-few_operands Nested = omega arith
-few_operands (Ints2 o) = omega arith
-few_operands (Ints1 o) = omega arith
-few_operands (Compare o) = omega arith
-few_operands (Bools2 o) = omega arith
-few_operands (Bools1 o) = omega arith
-few_operands (Choose e) = omega arith
-few_operands IntFromBool = omega arith
-few_operands BoolFromInt = omega arith
 few_operands (Scan o Flat) = omega arith
-few_operands (Scan o Segmented) = omega arith
 few_operands (Reduce o Flat) = omega arith
-few_operands (Reduce o Segmented) = omega arith
 few_operands (BoolScan o Flat) = omega arith
-few_operands (BoolScan o Segmented) = omega arith
-few_operands (CheckedScan Flat) = omega arith
-few_operands (CheckedScan Segmented) = omega arith
-few_operands (CheckedReduce Flat) = omega arith
-few_operands (CheckedReduce Segmented) = omega arith
 few_operands (BoolReduce o Flat) = omega arith
-few_operands (BoolReduce o Segmented) = omega arith
+few_operands (CheckedScan Flat) = omega arith
+few_operands (CheckedReduce Flat) = omega arith
 few_operands (Permute Simple Flat e) = omega arith
-few_operands (Permute Simple Segmented e) = omega arith
 few_operands (Permute Back Flat e) = omega arith
-few_operands (Permute Back Segmented e) = omega arith
 few_operands (Permute Select Flat e) = omega arith
-few_operands (Permute Select Segmented e) = omega arith
 few_operands (Permute Default Flat e) = omega arith
-few_operands (Permute Default Segmented e) = omega arith
-few_operands (Length e) = omega arith
 few_operands (Count Flat) = omega arith
-few_operands (Count Segmented) = omega arith
 few_operands (Pack Flat e) = omega arith
-few_operands (Pack Segmented e) = omega arith
-few_operands PackedLengths = omega arith
-few_operands (Distribute cut e) = omega arith
-few_operands (Index cut) = omega arith
 few_operands (Extract Flat e) = omega arith
-few_operands (Extract Segmented e) = omega arith
 few_operands (Replace Flat e) = omega arith
-few_operands (Replace Segmented e) = omega arith
-few_operands MakeDescriptor = omega arith
-few_operands DescriptorLengths = omega arith
-few_operands Write = omega arith
-
-few_written : (count : ℕ) (one two : Bool) → (count == 1) ≡ one → (count == 2) ≡ two → (one || two) ≡ true → count ≤ 5
-few_written count true two is_one is_two h = let same_one = eqb-true count 1 is_one in omega arith
-few_written count false true is_one is_two h = let same_two = eqb-true count 2 is_two in omega arith
-few_written count false false is_one is_two h = let never : count ≡ suc count = cc in omega arith
+few_operands op = omega arith
 
 as_many : (b : Bool) (count wanted : ℕ) → b ≡ false → (if b then (count == 1) || (count == 2) else (count == wanted)) ≡ true → count ≡ wanted
 as_many true count wanted call takes = cc
 as_many false count wanted call takes = eqb-true count wanted takes
 
 few_by : (b : Bool) (count wanted : ℕ) → wanted ≤ 5 → (if b then (count == 1) || (count == 2) else (count == wanted)) ≡ true → count ≤ 5
-few_by true count wanted few takes = few_written count (count == 1) (count == 2) refl refl takes
+few_by true count wanted few takes = grind (arith, nat_tests)
 few_by false count wanted few takes = let same = eqb-true count wanted takes in omega arith
 
 pub few : (op : Op) (count : ℕ) → takes_of op count ≡ true → count ≤ 5
@@ -94,30 +58,11 @@ few op count takes = few_by (is_write op) count (length (operands_of op)) (few_o
 
 same : (wanted kind : Kind) → same_kind wanted kind ≡ true → kind ≡ wanted
 same Integers Integers h = refl
-same Integers Booleans h = cc
-same Integers Descriptor h = cc
-same Integers Integer h = cc
-same Integers Boolean h = cc
-same Booleans Integers h = cc
 same Booleans Booleans h = refl
-same Booleans Descriptor h = cc
-same Booleans Integer h = cc
-same Booleans Boolean h = cc
-same Descriptor Integers h = cc
-same Descriptor Booleans h = cc
 same Descriptor Descriptor h = refl
-same Descriptor Integer h = cc
-same Descriptor Boolean h = cc
-same Integer Integers h = cc
-same Integer Booleans h = cc
-same Integer Descriptor h = cc
 same Integer Integer h = refl
-same Integer Boolean h = cc
-same Boolean Integers h = cc
-same Boolean Booleans h = cc
-same Boolean Descriptor h = cc
-same Boolean Integer h = cc
 same Boolean Boolean h = refl
+same wanted kind h = cc
 
 operand_is : (wanted : Option Kind) (kind : Kind) → is_operand wanted kind ≡ true → Some kind ≡ wanted
 operand_is None kind h = cc

@@ -58,13 +58,7 @@ impl<'a, A: Memory> Operand<'a, A> {
         ensures value { result.now ≡ integers_in (held self.now) }
         ensures in_limit { length result.now ≤ most_elements }
     {
-        match *self {
-            Operand::Bound(bound) => match bound.value() {
-                Value::Integers(xs) => xs.as_slice(),
-                _ => unreachable!(),
-            },
-            _ => unreachable!(),
-        }
+        self.integers_if_any()
     }
 
     /// The booleans of a vector.
@@ -73,13 +67,7 @@ impl<'a, A: Memory> Operand<'a, A> {
         ensures value { result.now ≡ booleans_in (held self.now) }
         ensures in_limit { length result.now ≤ most_elements }
     {
-        match *self {
-            Operand::Bound(bound) => match bound.value() {
-                Value::Booleans(bs) => bs.as_slice(),
-                _ => unreachable!(),
-            },
-            _ => unreachable!(),
-        }
+        self.booleans_if_any()
     }
 
     /// The descriptor, with its starts.
