@@ -1,10 +1,11 @@
 -- Sixteen bytes as lanes: how many digits they begin with, and the lanes moved towards the end.
-use Rattle.std.proofs.Common.{◌≡◌, ℕ, zero, suc, ◌+◌, ◌-◌, ◌*◌, ◌^◌, ◌/◌, ◌%◌, ◌<◌, ◌≤◌, Bool, true, false, not, get_or, Fits, nat_lt, nat_le, List, []}
-use Rattle.std.proofs.Common.{◌∷◌, ◌++◌, length, take, map, replicate, refl, ap, sym, subst, ◌∙◌, arith, cond, w8}
+use Rattle.std.proofs.Common.{◌≡◌, ℕ, zero, suc, ◌+◌, ◌-◌, ◌*◌, ◌^◌, ◌/◌, ◌%◌, ◌<◌, ◌≤◌, Bool, true, not, get_or, Fits, nat_lt, nat_le, List, []}
+use Rattle.std.proofs.Common.{◌∷◌, ◌++◌, length, drop, take, map, replicate, refl, ap, sym, subst, ◌∙◌, arith, cond, w8}
 use Rattle.std.proofs.lemmas.Bool.Decides.{nat_tests}
-use Rattle.std.proofs.lemmas.Bool.{agree_below_at, and_parts}
+use Rattle.std.proofs.lemmas.Bool.{agree_below_at, and_parts, ne_eqb}
 use Rattle.std.proofs.lemmas.Simd.{below_from_Fits, chunk-fits, tops_compared, zip2_splat, zip2_splat_left, mask_l-mod, Each1-all, leading_from_mask_l, trailing_mask_l}
-use Rattle.std.proofs.lemmas.List.{length-map, length-take-le, take-take, take-map}
+use Rattle.std.proofs.lemmas.List.{length-map, length-take-le, take-append-drop, take-take, take-map}
+use Rattle.std.proofs.lemmas.List.Folds.{prefix_len-append}
 use Rattle.std.proofs.lemmas.Int.Digits.{number_lt, digits_value_is}
 use Rattle.std.specs.Int.Digits.{number_from_digits, AllBelowBase}
 use Rattle.std.proofs.Math.Nat.{pow-succ', pow-le-pow_right}
@@ -114,11 +115,14 @@ below_taken b (suc n) [] all = tt
 below_taken b (suc n) (d ∷ ds) all = (all.0, below_taken b n ds all.1)
 
 -- fewer than sixteen digits write a number below 10 ^ 15
+small_number : (ds : List ℕ) → AllBelowBase 10 ds → length ds < 16 → number_from_digits 10 ds < 10 ^ 15
+small_number ds all few =
+    let short : length ds ≤ 15 = omega arith in
+    let more : 10 ^ length ds ≤ 10 ^ 15 = pow-le-pow_right (omega arith) short in
+    omega (arith, number_lt 10 ds all, more)
+
 pub few_small : (n : ℕ) (ds : List ℕ) → AllBelowBase 10 ds → n < 16 → n ≤ length ds → number_from_digits 10 (take n ds) < 10 ^ 15
-few_small n ds all few within =
-    let short : length (take n ds) ≤ 15 = omega (arith, length-take-le n ds within) in
-    let more : 10 ^ length (take n ds) ≤ 10 ^ 15 = pow-le-pow_right (omega arith) short in
-    omega (arith, number_lt 10 (take n ds) (below_taken 10 n ds all), more)
+few_small n ds all few within = small_number (take n ds) (below_taken 10 n ds all) (omega (arith, length-take-le n ds within))
 
 -- ---- bytes whose lanes are their distances above `0` (48)
 abbrev above_zero : ℕ → ℕ
@@ -131,14 +135,10 @@ lane_of : (b : ℕ) → b < 256 → nat_lt (above_zero b) 10 ≡ is_ascii_digit 
 lane_of b small = agree_below_at (λ b. nat_lt (above_zero b) 10) is_ascii_digit 256 b refl small
 
 prefix_in_front : {X : Type 0} (p : X → Bool) (n : ℕ) (xs : List X) → n ≤ length xs → prefix_len p (take n xs) < n → prefix_len p (take n xs) ≡ prefix_len p xs
-prefix_in_front p zero xs within less = absurd (omega arith)
-prefix_in_front p (suc n) [] within less = absurd (omega arith)
-prefix_in_front p (suc n) (x ∷ xs) within less = with_first (p x) less (λ h. prefix_in_front p n xs (omega arith) h)
-  where
-    with_first : (b : Bool) → cond b (1 + prefix_len p (take n xs)) 0 < suc n → (prefix_len p (take n xs) < n → prefix_len p (take n xs) ≡ prefix_len p xs)
-        → cond b (1 + prefix_len p (take n xs)) 0 ≡ cond b (1 + prefix_len p xs) 0
-    with_first true h rest = ap (λ (k : ℕ). 1 + k) (rest (omega arith))
-    with_first false h rest = refl
+prefix_in_front p n xs within less =
+    let long = length-take-le n xs within in
+    let differs = ne_eqb (prefix_len p (take n xs)) (length (take n xs)) (λ same. absurd (omega arith)) in
+    sym (ap (prefix_len p) (sym (take-append-drop n xs)) ∙ prefix_len-append p (take n xs) (drop n xs) ∙ rw differs refl)
 
 -- fewer than sixteen lanes are below 10, and these are the digits that the bytes begin with
 run_read : (bytes : List ℕ) (count : ℕ) → 16 ≤ length bytes → ((i : ℕ) → Fits w8 (get_or bytes i 0))
@@ -179,21 +179,8 @@ moved_digits bytes count moved few is =
     is ∙ ap (λ (n : ℕ). replicate (16 - count) 0 ++ take n (map above_zero (take 16 bytes))) back
     ∙ ap (λ (ds : List ℕ). replicate (16 - count) 0 ++ ds) (take-map above_zero count (take 16 bytes) ∙ ap (map above_zero) (take-take count 16 bytes (omega arith)))
 
-moved_below : (count : ℕ) (ds moved : List ℕ) → list_all is_ascii_digit ds ≡ true → moved ≡ replicate (16 - count) 0 ++ map above_zero ds → AllBelowBase 10 moved
-moved_below count ds moved all is = subst (AllBelowBase 10) (sym is) (zeros_below (16 - count) (map above_zero ds) (values_below ds all))
-
-moved_value : (count : ℕ) (ds moved : List ℕ) → list_all is_ascii_digit ds ≡ true → moved ≡ replicate (16 - count) 0 ++ map above_zero ds
-    → number_from_digits 10 moved ≡ digits_value 10 ds
-moved_value count ds moved all is =
-    ap (number_from_digits 10) is ∙ zeros_number (16 - count) (map above_zero ds) ∙ ap (number_from_digits 10) (values_are ds all) ∙ sym (digits_value_is 10 ds)
-
-few_digits_small : (ds : List ℕ) → list_all is_ascii_digit ds ≡ true → length ds < 16 → digits_value 10 ds < 10 ^ 15
-few_digits_small ds all few =
-    let value = digits_value_is 10 ds ∙ ap (number_from_digits 10) (sym (values_are ds all)) in
-    let long : length (map above_zero ds) ≡ length ds = length-map ds above_zero in
-    let short : length (map above_zero ds) ≤ 15 = omega (arith, long) in
-    let more : 10 ^ length (map above_zero ds) ≤ 10 ^ 15 = pow-le-pow_right (omega arith) short in
-    omega (arith, value, number_lt 10 (map above_zero ds) (values_below ds all), more)
+value_of : (ds : List ℕ) → list_all is_ascii_digit ds ≡ true → number_from_digits 10 (map above_zero ds) ≡ digits_value 10 ds
+value_of ds all = ap (number_from_digits 10) (values_are ds all) ∙ sym (digits_value_is 10 ds)
 
 abbrev distances_of : List ℕ → List ℕ
 distances_of bytes = zip2 (λ a b. (a + (256 - b)) % 256) (take 16 bytes) (replicate 16 48)
@@ -214,10 +201,12 @@ lanes_read bytes count moved room fits found few is =
     let whole = run_read bytes count room fits (found ∙ ap (prefix_len (λ lane. nat_lt lane 10)) lanes) few in
     let digits = ap (λ (n : ℕ). list_all is_ascii_digit (take n bytes)) whole ∙ all_digits bytes in
     let zeros = moved_digits bytes count moved few (is ∙ ap (λ (ls : List ℕ). replicate (16 - count) 0 ++ take (16 - (16 - count)) ls) lanes) in
+    let ds = take count bytes in
+    let long : length (map above_zero ds) < 16 = omega (arith, length-map ds above_zero, length-take-le count bytes (omega (arith, room, few)), few) in
     record {
       whole = whole;
       digits = digits;
-      below = moved_below count (take count bytes) moved digits zeros;
-      value = moved_value count (take count bytes) moved digits zeros;
-      small = few_digits_small (take count bytes) digits (omega (arith, length-take-le count bytes (omega (arith, room, few)), few));
+      below = subst (AllBelowBase 10) (sym zeros) (zeros_below (16 - count) (map above_zero ds) (values_below ds digits));
+      value = ap (number_from_digits 10) zeros ∙ zeros_number (16 - count) (map above_zero ds) ∙ value_of ds digits;
+      small = omega (arith, value_of ds digits, small_number (map above_zero ds) (values_below ds digits) long);
     }

@@ -57,8 +57,7 @@ fit true m = negative_of m
 fit false m = positive_of m
 
 too_great : (sign : Bool) (m : ℕ) → 2 ^ 31 < m → fit sign m ≡ None
-too_great true m h = grind (arith, nat_tests)
-too_great false m h = grind (arith, nat_tests)
+too_great sign m h = grind (arith, nat_tests)
 
 -- digits after a sign, or without one
 pub sign_read : (sign : Bool) (digits : List ℕ) → 0 < length digits → list_all is_ascii_digit digits ≡ true → with_sign sign digits digits ≡ fit sign (digits_value 10 digits)
@@ -112,16 +111,13 @@ signed_front_at first others false count e whole =
 
 -- an integer by its sign and magnitude
 pub fits : (sign : Bool) (m : ℕ) (n : ℤ) → n ≡ (if sign then neg_ℤ (pos m) else pos m) → neg_ℤ (pos (2 ^ 31)) ≤ℤ n → n <ℤ pos (2 ^ 31) → fit sign m ≡ Some n
-fits true m n e low high = grind (arith, nat_tests)
-fits false m n e low high = grind (arith, nat_tests)
+fits sign m n e low high = grind (arith, nat_tests)
 
 pub unfit_outside : (sign : Bool) (m : ℕ) (n : ℤ) → n ≡ (if sign then neg_ℤ (pos m) else pos m) → ¬ (FitsSigned w32 n) → fit sign m ≡ None
-unfit_outside true m n e outside = grind (arith, nat_tests)
-unfit_outside false m n e outside = grind (arith, nat_tests)
+unfit_outside sign m n e outside = grind (arith, nat_tests)
 
 pub within_32 : (sign : Bool) (m : ℕ) (n : ℤ) → n ≡ (if sign then neg_ℤ (pos m) else pos m) → neg_ℤ (pos (2 ^ 31)) ≤ℤ n → n <ℤ pos (2 ^ 31) → m ≤ 2 ^ 31
-within_32 true m n e low high = grind arith
-within_32 false m n e low high = grind arith
+within_32 sign m n e low high = grind arith
 
 -- the bytes' first one is split off, and the digits stand after the sign
 abbrev pub IsSplit : List ℕ → ℕ → List ℕ → Bool → ℕ → List ℕ → Type 0

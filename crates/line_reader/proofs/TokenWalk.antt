@@ -10,9 +10,8 @@ use Rattle.line_reader.specs.declared.token.ByteClass.TheVariants.{Blank, Alone,
 use Rattle.line_reader.specs.Tokens.{tokens_by, with_byte, onto_first, is_part, is_blank, begins_with_part, begins_with_blank}
 
 pub class_is_part : (c : ByteClass) → is_part c ≡ true → c ≡ Part
-class_is_part Blank e = cc
-class_is_part Alone e = cc
 class_is_part Part e = refl
+class_is_part c e = cc
 
 -- a run of one byte or more, after which no run goes on, is the first token
 pub run_first : (class_of : ℕ → ByteClass) (run rest : List ℕ) → list_all (λ b. is_part (class_of b)) run ≡ true → 0 < length run
@@ -51,11 +50,9 @@ lone_taken class_of bytes first others same stands (inr blank) =
 
 concat_with : (c : ByteClass) (runs_on : Bool) (b : ℕ) (tokens : List (List ℕ))
     → concat (with_byte c runs_on b tokens) ≡ (if not (is_blank c) then b ∷ concat tokens else concat tokens)
-concat_with Blank runs_on b tokens = refl
-concat_with Alone runs_on b tokens = refl
 concat_with Part true b [] = refl
 concat_with Part true b (token ∷ tokens) = refl
-concat_with Part false b tokens = refl
+concat_with c runs_on b tokens = refl
 
 -- the tokens' bytes are all that aren't blank
 pub concat_tokens : (class_of : ℕ → ByteClass) (bytes : List ℕ) → concat (tokens_by class_of bytes) ≡ filter (λ b. not (is_blank (class_of b))) bytes
@@ -66,12 +63,9 @@ concat_tokens class_of (b ∷ bs) =
 
 some_with : (c : ByteClass) (runs_on : Bool) (b : ℕ) (tokens : List (List ℕ)) → list_all (λ token. not (is_empty token)) tokens ≡ true
     → list_all (λ token. not (is_empty token)) (with_byte c runs_on b tokens) ≡ true
-some_with Blank runs_on b tokens e = e
-some_with Alone runs_on b tokens e = e
 some_with Part true b [] e = refl
 some_with Part true b ([] ∷ tokens) e = absurd (false≢true e)
-some_with Part true b ((c ∷ token) ∷ tokens) e = e
-some_with Part false b tokens e = e
+some_with c runs_on b tokens e = e
 
 -- no token is empty
 pub none_empty : (class_of : ℕ → ByteClass) (bytes : List ℕ) → list_all (λ token. not (is_empty token)) (tokens_by class_of bytes) ≡ true
@@ -83,8 +77,7 @@ some_tokens_at : (c : ByteClass) (runs_on : Bool) (b : ℕ) (tokens : List (List
 some_tokens_at Part true b [] e = omega arith
 some_tokens_at Part true b (token ∷ tokens) e = omega arith
 some_tokens_at Part false b tokens e = omega arith
-some_tokens_at Blank runs_on b tokens e = absurd (false≢true e)
-some_tokens_at Alone runs_on b tokens e = absurd (false≢true e)
+some_tokens_at c runs_on b tokens e = absurd (false≢true e)
 
 pub some_tokens : (class_of : ℕ → ByteClass) (bs : List ℕ) → begins_with_part class_of bs ≡ true → 1 ≤ length (tokens_by class_of bs)
 some_tokens class_of [] e = absurd (false≢true e)
@@ -93,11 +86,9 @@ some_tokens class_of (b ∷ bs) e = some_tokens_at (class_of b) (begins_with_par
 -- a byte before tokens changes the first of them alone
 with_byte_before : (c : ByteClass) (runs_on : Bool) (b : ℕ) (tokens more : List (List ℕ)) → (runs_on ≡ true → 1 ≤ length tokens)
     → with_byte c runs_on b (tokens ++ more) ≡ with_byte c runs_on b tokens ++ more
-with_byte_before Blank runs_on b tokens more some = refl
-with_byte_before Alone runs_on b tokens more some = refl
 with_byte_before Part true b [] more some = absurd (omega (arith, some refl))
 with_byte_before Part true b (token ∷ tokens) more some = refl
-with_byte_before Part false b tokens more some = refl
+with_byte_before c runs_on b tokens more some = refl
 
 -- where what stands after begins with no part of a run, it changes nothing before it
 pub cut_before : (class_of : ℕ → ByteClass) (before behind : List ℕ) → begins_with_part class_of behind ≡ false

@@ -73,10 +73,7 @@ fn read_binding<A: Memory>(
 fn one_result(name: &[u8]) -> Option<ResultNames>
     ensures { result ≡ one_result name.now }
 {
-    match Name::new(name) {
-        Some(name) => Some(ResultNames::One(name)),
-        None => None,
-    }
+    Name::new(name).map(ResultNames::One)
 }
 
 /// The two names of a binding; none where they are the same.

@@ -43,6 +43,17 @@ pub fn blanks<C: Classes>(bytes: &[u8]) -> usize
     bytes.len()
 }
 
+/// Whether the bytes begin with one that is part of a run.
+#[inline(always)]
+pub fn begins_with_part<C: Classes>(bytes: &[u8]) -> bool
+    ensures { result ≡ begins_with_part C.class_of bytes.now }
+{
+    match bytes.first() {
+        Some(byte) => C::class_of(*byte) == ByteClass::Part,
+        None => false,
+    }
+}
+
 /// How many bytes the run has that the bytes begin with.
 #[inline]
 pub fn run_length<C: Classes>(bytes: &[u8]) -> usize
