@@ -3,8 +3,8 @@ use Rattle.std.proofs.Common.{◌≡◌, ℕ, zero, suc, ◌+◌, ◌-◌, ◌*�
 use Rattle.std.proofs.Common.{unsigned_abs, refl, ap, sym, ◌∙◌, arith}
 use Rattle.std.proofs.lemmas.Bool.Decides.{nat_tests}
 use Rattle.std.proofs.Math.Nat.{pow-succ', one-le-pow}
-use Rattle.std.proofs.lemmas.Fmt.{decimal_digit, decimal_step}
-use Rattle.std.proofs.lemmas.List.{length-append, append_assoc, drop-set, drop-set-lt}
+use Rattle.std.proofs.lemmas.Fmt.{decimal_digit, decimal_step, length-decimal-le}
+use Rattle.std.proofs.lemmas.List.{length-append, append_assoc, drop_at, drop-set, drop-set-lt}
 use Rattle.std.specs.Int.{from_bool}
 use Rattle.std.specs.Fmt.{decimal, signed_decimal}
 
@@ -82,10 +82,6 @@ ends (suc k) n few fits =
       | false ↦ λ e. last_digit (suc k) n (grind (arith, nat_tests)) fits
     ] refl
 
-drop_front : {X : Type 0} (front xs : List X) → drop (length front) (front ++ xs) ≡ xs
-drop_front [] xs = refl
-drop_front (x ∷ front) xs = drop_front front xs
-
 -- so it is what stands in a page from so many digits before the end on
 pub digits_at_end : (n start end : ℕ) (page rest : List ℕ) → n < 10 ^ 10 → start + length (decimal (10 ^ 10 + n)) ≡ end
     → drop start page ≡ decimal (10 ^ 10 + n) ++ rest → drop (end - length (decimal n)) page ≡ decimal n ++ rest
@@ -95,7 +91,11 @@ digits_at_end n start end page rest few at written =
     let is = ap decimal swapped ∙ both.1 in
     let from : end - length (decimal n) ≡ start + length both.0 = omega (arith, at, ap length is, length-append both.0 (decimal n)) in
     ap (λ (k : ℕ). drop k page) from ∙ sym (drop-drop (length both.0) start page) ∙ ap (drop (length both.0)) (written ∙ ap (λ (ds : List ℕ). ds ++ rest) is ∙ append_assoc both.0 (decimal n) rest)
-    ∙ drop_front both.0 (decimal n ++ rest)
+    ∙ drop_at both.0 (decimal n ++ rest) (length both.0) refl
+
+-- a magnitude of 32 bits has at most ten digits
+pub short : (n : ℕ) → n < 2 ^ 32 → length (decimal n) ≤ 10
+short n h = length-decimal-le 10 n (omega arith) (omega arith) (omega arith)
 
 pub from_bool_small : (b : Bool) → from_bool b ≤ 1
 from_bool_small true = omega arith

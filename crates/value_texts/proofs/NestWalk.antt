@@ -1,7 +1,7 @@
 -- Texts that are appended one by one with a space before each, and then put in brackets.
-use Rattle.std.proofs.Common.{◌≡◌, ℕ, ◌+◌, ◌≤◌, ◌<◌, List, [], ◌∷◌, ◌++◌, length, map, take, drop, sym, ap, ◌∙◌, arith, append_assoc, append-nil, slice_set}
+use Rattle.std.proofs.Common.{◌≡◌, ℕ, suc, ◌+◌, ◌≤◌, ◌<◌, List, [], ◌∷◌, ◌++◌, length, map, take, drop, sym, ap, ◌∙◌, arith, append_assoc, append-nil, slice_set}
 use Rattle.std.specs.List.{join_with_byte}
-use Rattle.std.proofs.lemmas.List.{take_all, length-drop, drop-drop, take-append-drop, take-set, drop-set}
+use Rattle.std.proofs.lemmas.List.{take_all, length-drop, drop-drop, set_split}
 use Rattle.value_texts.specs.Texts.{spaced}
 use Rattle.value_texts.proofs.Spaces.{join_spaced, begins_after}
 
@@ -16,7 +16,8 @@ begins_on old mid new first later = begins_after old mid [] new first (rw (appen
 -- a list with another element at one place
 pub put_at : (xs : List ℕ) (i y : ℕ) → i < length xs → slice_set xs i y ≡ take i xs ++ (y ∷ drop (i + 1) xs)
 put_at xs i y within =
-    sym (take-append-drop i (slice_set xs i y)) ∙ ap (λ t. t ++ drop i (slice_set xs i y)) (take-set xs i y) ∙ ap (λ t. take i xs ++ t) (drop-set xs i y within)
+    let next : suc i ≡ i + 1 = omega arith in
+    set_split xs i y within ∙ ap (λ k. take i xs ++ (y ∷ drop k xs)) next
 
 module _ {X : Type 0} (f : X → List ℕ) where
   -- one more text, with a space before it: what is left is one less

@@ -1,12 +1,11 @@
--- A text in parts: its bytes are those of the parts.
-use Rattle.std.proofs.Common.{◌≡◌, ℕ, List, [], ◌∷◌, ◌++◌, ap, ◌∙◌, append_assoc, append-nil}
+-- A list in parts: its items are those of the parts.
+use Rattle.std.proofs.Common.{◌≡◌, List, [], ◌∷◌, ◌++◌, ap, sym, ◌∙◌, append_assoc}
 use Rattle.std.specs.List.{flat_map}
-use Rattle.std.proofs.lemmas.Grind.{flat_map-append}
+use Rattle.std.proofs.lemmas.List.{flat_map_more}
 
-module _ {P : Type 0} (text : P → List ℕ) where
+module _ {P X : Type 0} (items : P → List X) where
   -- one part more
-  pub one_part_more : (parts : List P) (part : P) (others rest whole : List ℕ) → text part ++ others ≡ rest → flat_map text parts ++ rest ≡ whole
-      → flat_map text (parts ++ part ∷ []) ++ others ≡ whole
+  pub one_part_more : (parts : List P) (part : P) (others rest whole : List X) → items part ++ others ≡ rest → flat_map items parts ++ rest ≡ whole
+      → flat_map items (parts ++ part ∷ []) ++ others ≡ whole
   one_part_more parts part others rest whole cut so_far =
-      ap (λ l. l ++ others) (flat_map-append text parts (part ∷ [])) ∙ append_assoc (flat_map text parts) (text part ++ []) others
-      ∙ ap (λ l. flat_map text parts ++ (l ++ others)) (append-nil (text part)) ∙ ap (λ l. flat_map text parts ++ l) cut ∙ so_far
+      ap (λ l. l ++ others) (sym (flat_map_more items [] parts part)) ∙ append_assoc (flat_map items parts) (items part) others ∙ ap (λ l. flat_map items parts ++ l) cut ∙ so_far

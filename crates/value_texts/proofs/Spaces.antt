@@ -1,7 +1,7 @@
 -- Texts that are appended piece by piece, with spaces and brackets.
 use Rattle.std.proofs.Common.{◌≡◌, ℕ, ◌≤◌, List, [], ◌∷◌, ◌++◌, length, map, take, drop, sym, ap, ◌∙◌, arith, append_assoc, append-nil, length-append, min}
 use Rattle.std.specs.List.{join_with_byte}
-use Rattle.std.proofs.lemmas.List.{take_all, length-take, take-take, take-append-le, drop_all}
+use Rattle.std.proofs.lemmas.List.{take_all, length-take, take-take, take-append-le}
 use Rattle.value_texts.specs.Texts.{spaced}
 
 -- texts joined by spaces are the first text, and then the others with a space before each
@@ -16,10 +16,6 @@ begins_after old mid more new first later =
     let fits : length old ≤ length mid = omega arith in
     let longer : length old ≤ length (mid ++ more) = omega (arith, length-append mid more) in
     sym (take-take (length old) (length (mid ++ more)) new longer) ∙ ap (take (length old)) later ∙ take-append-le (length old) mid more fits ∙ first
-
--- what ends where a page ends has nothing after it
-pub nothing_behind : (text page : List ℕ) (end : ℕ) → length page ≤ end → text ++ drop end page ≡ text
-nothing_behind text page end h = ap (λ bs. text ++ bs) (drop_all end page h) ∙ append-nil text
 
 -- an opening bracket appended and then the first text: with the others, a space before each, and a closing bracket, the texts in brackets
 pub opened_onto : {X : Type 0} (f : X → List ℕ) (old opened new : List ℕ) (x : X) (xs whole : List X) → whole ≡ x ∷ xs → opened ≡ old ++ (91 ∷ []) → new ≡ opened ++ f x

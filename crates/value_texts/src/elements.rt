@@ -1,16 +1,14 @@
 //! The elements of a vector, whose texts are counted and written in parts.
 
-ghost use Rattle.std.specs.Prelude.{◌≡◌, ◌*◌, ◌≤◌, [], length, IfOk};
-ghost use Rattle.std.specs.List.{flat_map};
+ghost use Rattle.std.specs.Prelude.{◌≡◌, ◌*◌, ◌≤◌, [], length};
 ghost use Rattle.cvl_base.specs.Limits.{most_elements};
 ghost use Rattle.fresh.specs.Places.{stretch, with_items};
 ghost use Rattle.value_texts.specs.Texts.{spaced};
 
+use crate::part_writes::Cut;
 use crate::vector_text::{PAGE_BYTES, PAGE_ELEMENTS, Page, write_spaced};
 use crate::written::Written;
-use cvl_base::{Memory, NoResources};
 use fresh::{Part, Run};
-use sharing::ThreadCount;
 use std::alloc::AllocError;
 
 /// How many bytes the texts of the elements have with a space before each.
@@ -45,7 +43,7 @@ pub(crate) fn write_into_run<T: Written>(xs: &[T], page: &mut Page, run: Run<u8>
 
 /// Neighbouring elements of a vector, each with a space before it.
 pub(crate) struct ElementTexts<'a, T> {
-    xs: &'a [T],
+    pub(crate) xs: &'a [T],
     ghost few: { length xs.now ≤ most_elements },
 }
 
@@ -86,25 +84,9 @@ impl<'a, T: Written> Part<u8> for ElementTexts<'a, T> {
     }
 }
 
-/// A part of the elements for each thread, about equally many in each.
-pub(crate) fn elements_in<T: Written, A: Memory>(
-    alloc: A,
-    xs: &[T],
-    threads: ThreadCount,
-) -> Result<Vec<ElementTexts<'_, T>, A>, NoResources>
-    requires { length xs.now ≤ most_elements }
-    ensures whole { IfOk result (λ parts. flat_map (λ p. spaced T.text_of p.xs.now) parts.items ≡ spaced T.text_of xs.now) }
-    ensures as_many { IfOk result (λ parts. length parts.items ≡ threads) }
-{
-    let mut parts = Vec::with_capacity(alloc, threads.get())?;
-    let mut rest = xs;
-    let mut left = threads.get();
-    while left > 1 {
-        let (front, others) = rest.split_at(rest.len() / left);
-        parts.push(ElementTexts { xs: front })?;
-        rest = others;
-        left -= 1;
+impl<'a, T: Written> Cut for ElementTexts<'a, T> {
+    fn cut(self, parts: usize) -> (ElementTexts<'a, T>, ElementTexts<'a, T>) {
+        let (front, others) = self.xs.split_at(self.xs.len() / parts);
+        (ElementTexts { xs: front }, ElementTexts { xs: others })
     }
-    parts.push(ElementTexts { xs: rest })?;
-    Ok(parts)
 }

@@ -4,8 +4,8 @@ ghost use Rattle.std.specs.Prelude.{◌≡◌, ◌≤◌, List, [], ◌++◌, le
 ghost use Rattle.cvl_base.specs.Nests.{cut_of};
 ghost use Rattle.value_texts.specs.Texts.{spaced, vector_text, nest_text};
 
-use crate::part_writes::put_parts;
-use crate::segments::segments_in;
+use crate::part_writes::put_in_parts;
+use crate::segments::SegmentTexts;
 use crate::vector_text::{PAGE_ELEMENTS, Page, put_vector, put_vector_alone};
 use crate::written::{MOST_TEXT_BYTES, Written};
 use cvl_base::{Config, Memory, NoResources};
@@ -142,8 +142,7 @@ fn put_spaced_segments<R: Threads + Sync, T: Written + Sync, A: Memory>(
     if threads.get() < 2 || moves_much || !are_short(lengths, xs.len() / threads.get()) {
         return put_segments_in_turn(rt, alloc, config, lengths, xs, page, text);
     }
-    let parts = segments_in(alloc, lengths, xs, threads)?;
-    put_parts(rt, alloc, threads, parts.as_slice(), text)
+    put_in_parts(rt, alloc, threads, SegmentTexts { lengths, xs }, text)
 }
 
 /// Appends the text of the vectors into which the lengths cut the elements, by as many threads as pay. After a refusal the text

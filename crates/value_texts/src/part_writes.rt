@@ -1,6 +1,6 @@
 //! The parts of a text written by several threads, each into a run of one fresh text.
 
-ghost use Rattle.std.specs.Prelude.{◌≡◌, ◌≤◌, ◌++◌, OnOk, OnErr, length};
+ghost use Rattle.std.specs.Prelude.{◌≡◌, ◌<◌, ◌≤◌, ◌++◌, IfOk, OnOk, OnErr, length};
 ghost use Rattle.std.specs.List.{flat_map};
 
 use cvl_base::{Memory, NoResources};
@@ -11,9 +11,55 @@ use std::thread::Threads;
 /// Room for what ends a text after its parts: brackets and the end of a line.
 const SPARE_BYTES: usize = 64;
 
+/// A part of a text that can be cut in two.
+pub(crate) trait Cut: Part<u8> {
+    /// The part in two, of which the first has about as much to write as each of so many equal parts.
+    fn cut(self, parts: usize) -> (Self, Self)
+        requires { 1 < parts }
+        ensures { Self.items result.0 ++ Self.items result.1 ≡ Self.items self };
+}
+
+/// A part of the whole for each thread, about equally much to write in each.
+fn parts_of<A: Memory, P: Cut>(
+    alloc: A,
+    threads: ThreadCount,
+    whole: P,
+) -> Result<Vec<P, A>, NoResources>
+    ensures whole { IfOk result (λ parts. flat_map P.items parts.items ≡ P.items whole) }
+    ensures as_many { IfOk result (λ parts. length parts.items ≡ threads) }
+{
+    let mut parts = Vec::with_capacity(alloc, threads.get())?;
+    let mut rest = whole;
+    let mut left = threads.get();
+    while left > 1 {
+        let (front, others) = rest.cut(left);
+        parts.push(front)?;
+        rest = others;
+        left -= 1;
+    }
+    parts.push(rest)?;
+    Ok(parts)
+}
+
+/// Appends the text of a whole in parts, one for each thread. The text moves to where there is room. After a refusal it is as
+/// before.
+pub(crate) fn put_in_parts<R: Threads + Sync, A: Memory, P: Cut + Sync>(
+    rt: &R,
+    alloc: A,
+    threads: ThreadCount,
+    whole: P,
+    text: &mut Vec<u8, A>,
+) -> Result<(), NoResources>
+    ensures ok { OnOk result (text.new.items ≡ text.old.items ++ P.items whole) }
+    ensures err { OnErr result (text.new.items ≡ text.old.items) }
+{
+    let parts = parts_of(alloc, threads, whole)?;
+    put_parts(rt, alloc, threads, parts.as_slice(), text)
+}
+
 /// Appends the texts of the parts, of which there are at most `threads`, one after another, each written by a thread of its own.
 /// The text moves to where there is room for the parts. After a refusal it is as before.
-pub(crate) fn put_parts<R: Threads + Sync, A: Memory, P: Part<u8> + Sync>(
+fn put_parts<R: Threads + Sync, A: Memory, P: Part<u8> + Sync>(
     rt: &R,
     alloc: A,
     threads: ThreadCount,

@@ -1,18 +1,17 @@
 //! The segments of a vector, whose texts are counted and written in parts.
 
-ghost use Rattle.std.specs.Prelude.{◌≡◌, ◌+◌, ◌*◌, ◌≤◌, length, map, sum, take, unsigned_abs, IfOk, [], ◌∷◌};
-ghost use Rattle.std.specs.List.{flat_map, join_with_byte};
+ghost use Rattle.std.specs.Prelude.{◌≡◌, ◌+◌, ◌*◌, ◌≤◌, length, map, sum, take, unsigned_abs, [], ◌∷◌};
+ghost use Rattle.std.specs.List.{join_with_byte};
 ghost use Rattle.cvl_base.specs.Limits.{most_elements};
 ghost use Rattle.cvl_base.specs.Nests.{cut_of};
 ghost use Rattle.fresh.specs.Places.{stretch, with_items};
 ghost use Rattle.value_texts.specs.Texts.{spaced, vector_text};
 
 use crate::elements::{count_spaced, write_into_run};
-use crate::vector_text::{PAGE_BYTES, Page};
+use crate::part_writes::Cut;
+use crate::vector_text::{PAGE_BYTES, Page, text_in_page};
 use crate::written::Written;
-use cvl_base::{Memory, NoResources};
 use fresh::{Part, Run};
-use sharing::ThreadCount;
 use std::alloc::AllocError;
 
 /// How many bytes the text of a vector has.
@@ -53,8 +52,7 @@ fn write_joined<T: Written>(xs: &[T], page: &mut Page, run: Run<u8>) -> Run<u8>
     let Some((first, others)) = xs.split_first() else {
         return run;
     };
-    let start = first.write_before(page, PAGE_BYTES);
-    let run = run.extend_from_slice(&page[start..]);
+    let run = run.extend_from_slice(text_in_page(first, page));
     write_into_run(others, page, run)
 }
 
@@ -86,8 +84,8 @@ fn write_segments<T: Written>(lengths: &[i32], xs: &[T], page: &mut Page, run: R
 
 /// Neighbouring segments of a vector, each with a space before it.
 pub(crate) struct SegmentTexts<'a, T> {
-    lengths: &'a [i32],
-    xs: &'a [T],
+    pub(crate) lengths: &'a [i32],
+    pub(crate) xs: &'a [T],
     ghost few_segments: { length lengths.now ≤ most_elements },
     ghost few: { length xs.now ≤ most_elements },
     ghost cut: { sum (map unsigned_abs lengths.now) ≡ length xs.now },
@@ -149,36 +147,22 @@ fn leading(lengths: &[i32], least: usize) -> (usize, usize)
     (lengths.len(), elements)
 }
 
-/// A part of the segments for each thread, about equally much to write in each.
-pub(crate) fn segments_in<'a, T: Written, A: Memory>(
-    alloc: A,
-    lengths: &'a [i32],
-    xs: &'a [T],
-    threads: ThreadCount,
-) -> Result<Vec<SegmentTexts<'a, T>, A>, NoResources>
-    requires few_segments { length lengths.now ≤ most_elements }
-    requires few { length xs.now ≤ most_elements }
-    requires cut { sum (map unsigned_abs lengths.now) ≡ length xs.now }
-    ensures whole { IfOk result (λ parts. flat_map (λ p. spaced (vector_text T.text_of) (cut_of (map unsigned_abs p.lengths.now) p.xs.now)) parts.items
-        ≡ spaced (vector_text T.text_of) (cut_of (map unsigned_abs lengths.now) xs.now)) }
-    ensures as_many { IfOk result (λ parts. length parts.items ≡ threads) }
-{
-    let mut parts = Vec::with_capacity(alloc, threads.get())?;
-    let mut lengths = lengths;
-    let mut rest = xs;
-    let mut left = threads.get();
-    while left > 1 {
-        let (segments, elements) = leading(lengths, (rest.len() + lengths.len()) / left);
-        let (front_lengths, other_lengths) = lengths.split_at(segments);
-        let (front, others) = rest.split_at(elements);
-        parts.push(SegmentTexts {
+impl<'a, T: Written> Cut for SegmentTexts<'a, T> {
+    fn cut(self, parts: usize) -> (SegmentTexts<'a, T>, SegmentTexts<'a, T>) {
+        let (segments, elements) = leading(
+            self.lengths,
+            (self.xs.len() + self.lengths.len()) / parts,
+        );
+        let (front_lengths, other_lengths) = self.lengths.split_at(segments);
+        let (front, others) = self.xs.split_at(elements);
+        let first = SegmentTexts {
             lengths: front_lengths,
             xs: front,
-        })?;
-        lengths = other_lengths;
-        rest = others;
-        left -= 1;
+        };
+        let second = SegmentTexts {
+            lengths: other_lengths,
+            xs: others,
+        };
+        (first, second)
     }
-    parts.push(SegmentTexts { lengths, xs: rest })?;
-    Ok(parts)
 }

@@ -4,8 +4,8 @@ ghost use Rattle.std.specs.Prelude.{◌≡◌, ◌≤◌, ◌++◌, codes, lengt
 ghost use Rattle.cvl_base.specs.Limits.{most_elements};
 ghost use Rattle.value_texts.specs.Texts.{spaced, vector_text};
 
-use crate::elements::elements_in;
-use crate::part_writes::put_parts;
+use crate::elements::ElementTexts;
+use crate::part_writes::put_in_parts;
 use crate::written::{MOST_TEXT_BYTES, Written};
 use cvl_base::{Config, Memory, NoResources};
 use sharing::{ThreadCount, threads_writing_text};
@@ -21,6 +21,15 @@ pub(crate) const PAGE_BYTES: usize = PAGE_ELEMENTS * (MOST_TEXT_BYTES + 1);
 /// Where texts are put together, from its end to its front, before they are appended: one copy of many bytes is
 /// faster than one for each element.
 pub(crate) type Page = [u8; PAGE_BYTES];
+
+/// Writes the text of one element at the end of the page, and returns it.
+#[inline(always)]
+pub(crate) fn text_in_page<'a, T: Written>(x: &T, page: &'a mut Page) -> &'a [u8]
+    ensures { result.now ≡ T.text_of x.now }
+{
+    let start = x.write_before(page, PAGE_BYTES);
+    &page[start..]
+}
 
 /// Writes the texts of at most 1,024 elements, with a space before each, at the end of the page, and returns where
 /// they start.
@@ -69,8 +78,7 @@ pub(crate) fn put_element<T: Written, A: Allocator>(
     ensures ok { OnOk result (text.new.items ≡ text.old.items ++ T.text_of x.now) }
     ensures begins { take (length text.old.items) text.new.items ≡ text.old.items }
 {
-    let start = x.write_before(page, PAGE_BYTES);
-    text.extend_from_slice(&page[start..])?;
+    text.extend_from_slice(text_in_page(x, page))?;
     Ok(())
 }
 
@@ -123,8 +131,7 @@ fn put_vector_in_parts<R: Threads + Sync, T: Written + Sync, A: Memory>(
     ensures begins { take (length text.old.items) text.new.items ≡ text.old.items }
 {
     let others = put_first(xs, page, text)?;
-    let parts = elements_in(alloc, others, threads)?;
-    put_parts(rt, alloc, threads, parts.as_slice(), text)?;
+    put_in_parts(rt, alloc, threads, ElementTexts { xs: others }, text)?;
     text.push(b']')?;
     Ok(())
 }

@@ -1,11 +1,6 @@
-use Rattle.std.proofs.Common.{ℕ, ◌^◌, ◌<◌, ◌≤◌, length, pos, int_lt, arith, to_z, of_z, w32}
-use Rattle.std.proofs.lemmas.Fmt.{length-decimal-le}
-use Rattle.std.specs.Fmt.{decimal}
-use Rattle.value_texts.proofs.DecimalTexts.{from_bool_small}
+use Rattle.std.proofs.Common.{pos, int_lt, arith, to_z, of_z, w32}
+use Rattle.value_texts.proofs.DecimalTexts.{from_bool_small, short}
 use Rattle.value_texts.proofs.written.I32Written.text_len.Goals as goal
-
-short : (n : ℕ) → n < 2 ^ 32 → length (decimal n) ≤ 10
-short n h = length-decimal-le 10 n (omega arith) (omega arith) (omega arith)
 
 pub overflow_add-result : goal.overflow_add-result
 overflow_add-result c =

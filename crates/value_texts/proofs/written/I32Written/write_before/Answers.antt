@@ -2,11 +2,8 @@ use Rattle.std.proofs.Common.{◌≡◌, ℕ, ◌+◌, ◌-◌, ◌^◌, ◌<◌
 use Rattle.std.specs.Int.{from_bool}
 use Rattle.std.proofs.lemmas.Fmt.{length-decimal-le}
 use Rattle.std.specs.Fmt.{decimal}
-use Rattle.value_texts.proofs.DecimalTexts.{digits_at_end, with_sign, from_bool_small}
+use Rattle.value_texts.proofs.DecimalTexts.{digits_at_end, with_sign, from_bool_small, short}
 use Rattle.value_texts.proofs.written.I32Written.write_before.Goals as goal
-
-short : (n : ℕ) → n < 2 ^ 32 → length (decimal n) ≤ 10
-short n h = length-decimal-le 10 n (omega arith) (omega arith) (omega arith)
 
 pub write_digits-requires : goal.write_digits-requires
 write_digits-requires c =
