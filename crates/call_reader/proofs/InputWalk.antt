@@ -1,6 +1,6 @@
 -- An input, read from the front: how many tokens there are, and the numbers so far.
-use Rattle.std.proofs.Common.{◌≡◌, ℕ, ◌+◌, ◌*◌, ◌<◌, ◌≤◌, Bool, true, false, ◌&&◌, List, [], ◌∷◌, ◌++◌, length, map, get_or, take}
-use Rattle.std.proofs.Common.{drop, refl, ap, sym, ◌∙◌, arith, Ok, Some, ℤ}
+use Rattle.std.proofs.Common.{◌≡◌, ℕ, ◌+◌, ◌*◌, ◌<◌, ◌≤◌, Bool, true, false, ◌&&◌, List, [], ◌∷◌, length, map, get_or, take}
+use Rattle.std.proofs.Common.{drop, refl, ap, sym, ◌∙◌, arith, Some, ℤ}
 use Rattle.std.specs.Int.{from_bool}
 use Rattle.std.specs.Prelude.{Result, if◌then◌else◌, not, ◌==◌}
 use Rattle.std.specs.List.{list_all}
@@ -10,7 +10,6 @@ use Rattle.std.proofs.lemmas.List.{at_drop_more, take-append-drop}
 use Rattle.cvl_base.specs.declared.fault.Fault.{Fault}
 use Rattle.cvl_base.specs.declared.fault.FaultNo.TheVariants.{BadInput}
 use Rattle.cvl_base.specs.Elementwise.{values_from}
-use Rattle.cvl_base.specs.Gives.{◌>>=◌}
 use Rattle.line_reader.specs.declared.token.ByteClass.{ByteClass}
 use Rattle.line_reader.specs.declared.token.ByteClass.TheVariants.{Blank, Part}
 use Rattle.line_reader.specs.Tokens.{tokens_by, with_byte, is_part, begins_with_part}
@@ -34,12 +33,8 @@ count_at : (count total b : ℕ) (behind_white_space white runs_on : Bool) (toke
     ≡ total + from_bool (not behind_white_space && is_part (if white then Blank else Part))
     → (count + from_bool (behind_white_space && not white)) + length tokens ≡ total + from_bool (not white && runs_on)
 count_at count total b true true runs_on tokens some so_far = omega arith
-count_at count total b false true runs_on tokens some so_far = omega arith
 count_at count total b behind_white_space false true [] some so_far = absurd (omega (arith, some refl))
-count_at count total b true false true (token ∷ tokens) some so_far = omega arith
-count_at count total b false false true (token ∷ tokens) some so_far = omega arith
-count_at count total b true false false tokens some so_far = omega arith
-count_at count total b false false false tokens some so_far = omega arith
+count_at count total b behind_white_space white runs_on tokens some so_far = omega arith
 
 -- the count with one byte more
 pub count_more : (bytes : List ℕ) (i count total one : ℕ) (behind_white_space white : Bool) → i < length bytes
@@ -55,10 +50,8 @@ count_more bytes i count total one behind_white_space white h so_far one_is whit
 room_at : (white runs_on : Bool) (b : ℕ) (tokens : List (List ℕ)) (len : ℕ) → (runs_on ≡ true → 1 ≤ length tokens) → 2 * length tokens ≤ len + from_bool runs_on
     → 2 * length (with_byte (if white then Blank else Part) runs_on b tokens) ≤ (len + 1) + from_bool (is_part (if white then Blank else Part))
 room_at true true b tokens len some h = omega arith
-room_at true false b tokens len some h = omega arith
 room_at false true b [] len some h = absurd (omega (arith, some refl))
-room_at false true b (token ∷ tokens) len some h = omega arith
-room_at false false b tokens len some h = omega arith
+room_at white runs_on b tokens len some h = omega arith
 
 room_for_run : (bytes : List ℕ) → 2 * count_of bytes ≤ length bytes + from_bool (begins_with_part input_class bytes)
 room_for_run [] = omega arith
@@ -75,10 +68,6 @@ room_for_tokens bytes =
 -- the numbers of the tokens, of which the first stands at the place given
 abbrev pub numbers_from : ℕ → List (List ℕ) → Result (List ℤ) Fault
 numbers_from place tokens = values_from BadInput place (map written_number tokens)
-
--- the numbers read so far, and after them what the others give
-abbrev pub behind : List ℤ → Result (List ℤ) Fault → Result (List ℤ) Fault
-behind numbers others = others >>= λ ns. Ok (numbers ++ ns)
 
 -- a class at which the bytes of a number are part of a run
 module _ (class_of : ℕ → ByteClass) (digit_is_part : (b : ℕ) → is_ascii_digit b ≡ true → is_part (class_of b) ≡ true) (sign_is_part : is_part (class_of 45) ≡ true) where

@@ -1,10 +1,11 @@
 -- The text of a nest, read again.
-use Rattle.std.proofs.Common.{◌≡◌, ℕ, zero, suc, ◌<◌, ◌≤◌, List, [], ◌∷◌, ◌++◌, length, map, take, drop, refl, ap, sym, ◌∙◌, arith, Ok, ℤ, FitsSigned, w32}
-use Rattle.std.specs.Prelude.{flat_map, sum, Result, slice_index_or}
+use Rattle.std.proofs.Common.{◌≡◌, ℕ, ◌≤◌, List, [], ◌∷◌, ◌++◌, length, map, take, drop, refl, ap, sym, ◌∙◌, arith, Ok, ℤ, FitsSigned, w32}
+use Rattle.std.specs.Prelude.{flat_map, sum, Result}
 use Rattle.cvl_base.specs.declared.fault.Fault.{Fault}
 use Rattle.std.specs.List.{join_with_byte}
 use Rattle.std.specs.Fmt.{signed_decimal}
-use Rattle.std.proofs.lemmas.List.{append-nil, take_all, drop_all}
+use Rattle.std.proofs.lemmas.List.{append-nil, drop_all, map-append, take_all}
+use Rattle.std.proofs.lemmas.List.Elements.{All-drop, All-head, All-tail, All-take}
 use Rattle.cvl_base.specs.Gives.{◌>>=◌}
 use Rattle.cvl_base.specs.Limits.{most_elements}
 use Rattle.cvl_base.specs.Nests.{cut_of}
@@ -17,7 +18,6 @@ use Rattle.line_reader.proofs.TokenWalk.{cut_at_blank, cut_at_lone}
 use Rattle.call_reader.proofs.ReadBack.{read_back}
 use Rattle.call_reader.proofs.NestedTokens.{number_first}
 use Rattle.call_reader.proofs.NestedMarks.{text-read}
-use Rattle.std.proofs.lemmas.List.{map-append}
 
 marks-blank : (before after : List ℕ) → marks_of (before ++ 32 ∷ after) ≡ marks_of before ++ marks_of after
 marks-blank before after = ap (map mark_of) (cut_at_blank nested_class before after 32 refl) ∙ map-append mark_of _ _
@@ -46,8 +46,8 @@ number-marks z fits =
 numbers-marks : (xs : List ℤ) → IsWithin32 xs → flat_map marks_of (map signed_decimal xs) ≡ map number xs
 numbers-marks [] fit = refl
 numbers-marks (x ∷ xs) fit =
-    ap (λ (ms : List Mark). ms ++ flat_map marks_of (map signed_decimal xs)) (number-marks x (fit 0 x (omega arith)))
-    ∙ ap (λ (ms : List Mark). number x ∷ ms) (numbers-marks xs (λ k d h. fit (suc k) d (omega arith)))
+    ap (λ (ms : List Mark). ms ++ flat_map marks_of (map signed_decimal xs)) (number-marks x (All-head (FitsSigned w32) x xs fit))
+    ∙ ap (λ (ms : List Mark). number x ∷ ms) (numbers-marks xs (All-tail (FitsSigned w32) x xs fit))
 
 -- each number of each list fits 32 bits
 abbrev AllWithin32 : List (List ℤ) → Type 0
@@ -66,23 +66,9 @@ nest-text-marks lists fit =
     let texts = map (vector_text signed_decimal) lists in
     marks-bracketed (join_with_byte 32 texts) (flat_map list_marks lists) (marks-joined texts ∙ lists-marks lists fit)
 
-front-fits : (n : ℕ) (xs : List ℤ) → IsWithin32 xs → IsWithin32 (take n xs)
-front-fits zero xs fit = λ k d h. absurd (omega arith)
-front-fits (suc n) [] fit = λ k d h. absurd (omega arith)
-front-fits (suc n) (x ∷ xs) fit = at (front-fits n xs (λ j e less. fit (suc j) e (omega arith)))
-  where
-    at : IsWithin32 (take n xs) → (k : ℕ) (d : ℤ) → k < length (x ∷ take n xs) → FitsSigned w32 (slice_index_or (x ∷ take n xs) k d)
-    at others zero d h = fit 0 d (omega arith)
-    at others (suc k) d h = others k d (omega arith)
-
-rest-fits : (n : ℕ) (xs : List ℤ) → IsWithin32 xs → IsWithin32 (drop n xs)
-rest-fits zero xs fit = fit
-rest-fits (suc n) [] fit = λ k d h. absurd (omega arith)
-rest-fits (suc n) (x ∷ xs) fit = rest-fits n xs (λ k d h. fit (suc k) d (omega arith))
-
 cut-fits : (lengths : List ℕ) (xs : List ℤ) → IsWithin32 xs → AllWithin32 (cut_of lengths xs)
 cut-fits [] xs fit = tt
-cut-fits (n ∷ lengths) xs fit = (front-fits n xs fit, cut-fits lengths (drop n xs) (rest-fits n xs fit))
+cut-fits (n ∷ lengths) xs fit = (All-take (FitsSigned w32) n xs fit, cut-fits lengths (drop n xs) (All-drop (FitsSigned w32) n xs fit))
 
 -- the text of a vector's nest is a nested text of that vector and of the lengths
 pub nest-back : (lengths : List ℕ) (xs : List ℤ) → IsWithin32 xs → sum lengths ≡ length xs → length xs ≤ most_elements → length lengths ≤ most_elements

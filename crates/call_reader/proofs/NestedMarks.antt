@@ -2,9 +2,8 @@
 use Rattle.std.proofs.Common.{◌≡◌, ℕ, ◌+◌, ◌-◌, ◌*◌, ◌≤◌, Bool, true, false, cond, List, [], ◌∷◌, ◌++◌, length, map, take, drop, refl, ap, sym, ◌∙◌, arith, Ok, Err, ℤ, pos, append_assoc, length-append}
 use Rattle.std.specs.Prelude.{Result, unsigned_abs, sum, count_by, flat_map, nat_lt, ◌||◌}
 use Rattle.std.proofs.Math.Seq.{take-append_seam, drop-append_seam}
-use Rattle.std.proofs.lemmas.Bool.Decides.{nat_tests}
-use Rattle.std.proofs.lemmas.List.{append-nil}
-use Rattle.std.proofs.lemmas.Grind.{flat_map-append}
+use Rattle.std.proofs.lemmas.Bool.{le-ltb, ltb-false, or_parts}
+use Rattle.std.proofs.lemmas.List.{append-nil, flat_map_more, length-map, map_push}
 use Rattle.std.proofs.lemmas.List.Sums.{sum_by-cons, sum_by-append}
 use Rattle.cvl_base.specs.declared.fault.Fault.{Fault}
 use Rattle.cvl_base.specs.declared.fault.FaultNo.TheVariants.{TooLong, BadInput}
@@ -15,9 +14,10 @@ use Rattle.cvl_base.proofs.Descriptors.{abs_pos}
 use Rattle.cvl_base.specs.Limits.{most_elements}
 use Rattle.cvl_base.specs.Lists.{joined}
 use Rattle.cvl_base.specs.Nests.{cut_of}
-use Rattle.cvl_base.proofs.Lists.{sum-cons}
+use Rattle.cvl_base.proofs.Gives.{after-after, after-none}
 use Rattle.cvl_base.proofs.Nests.{length-cut, lengths-cut, joined-cut}
-use Rattle.call_reader.specs.NestedTexts.{Mark, opening, closing, number, stray, Where, before, between, inside, behind, is_opening, is_no_bracket, are_too_many}
+use Rattle.segdes.proofs.ListRuns.{length-joined}
+use Rattle.call_reader.specs.NestedTexts.{Mark, opening, closing, number, Where, before, between, inside, behind, is_opening, is_no_bracket, are_too_many}
 use Rattle.call_reader.specs.NestedReads.{is_closing, is_number, begin_with}
 use Rattle.call_reader.specs.NestedTexts.{with_number, lists_from, flat_nest, nested_of, marks_of, list_marks, nest_marks, IsNestedText}
 use Rattle.call_reader.specs.NestedReads.{is_no_mark, ArePushed, AreListsRead, IsNestRead, IsFaultAt, HasRoom}
@@ -39,10 +39,6 @@ numbers-open-none : (xs : List ℤ) → count_by is_opening (map number xs) ≡ 
 numbers-open-none [] = refl
 numbers-open-none (x ∷ xs) = omega (arith, count-cons is_opening (number x) (map number xs), numbers-open-none xs)
 
-numbers-length : (xs : List ℤ) → length (map number xs) ≡ length xs
-numbers-length [] = refl
-numbers-length (x ∷ xs) = omega (arith, numbers-length xs)
-
 list-counted : (xs : List ℤ) → count_by is_no_bracket (list_marks xs) ≡ length xs
 list-counted xs =
     omega (arith, count-cons is_no_bracket opening (map number xs ++ (closing ∷ [])), count-append is_no_bracket (map number xs) (closing ∷ []), count-closing is_no_bracket refl, numbers-counted xs)
@@ -52,7 +48,7 @@ list-opened xs =
     omega (arith, count-cons is_opening opening (map number xs ++ (closing ∷ [])), count-append is_opening (map number xs) (closing ∷ []), count-closing is_opening refl, numbers-open-none xs)
 
 list-length : (xs : List ℤ) → length (list_marks xs) ≡ length xs + 2
-list-length xs = omega (arith, length-append (map number xs) (closing ∷ []), numbers-length xs)
+list-length xs = omega (arith, length-append (map number xs) (closing ∷ []), length-map xs number)
 
 -- the numbers, the `[` and all marks of inner lists
 pub lists-counted : (lists : List (List ℤ)) → count_by is_no_bracket (flat_map list_marks lists) ≡ length (joined lists)
@@ -76,24 +72,14 @@ counted-on lists ms =
 pub opened-on : (lists : List (List ℤ)) (ms : List Mark) → count_by is_opening (opening ∷ (flat_map list_marks lists ++ ms)) ≡ 1 + length lists + count_by is_opening ms
 opened-on lists ms = omega (arith, count-cons is_opening opening (flat_map list_marks lists ++ ms), count-append is_opening (flat_map list_marks lists) ms, lists-opened lists)
 
-neither : (a b : Bool) → (a || b) ≡ false → (a ≡ false) × (b ≡ false)
-neither true b e = absurd (cc)
-neither false b e = (refl, e)
-
-at_most : (n m : ℕ) → nat_lt m n ≡ false → n ≤ m
-at_most n m e = grind (arith, nat_tests)
-
-not_more : (n m : ℕ) → n ≤ m → nat_lt m n ≡ false
-not_more n m h = grind (arith, nat_tests)
-
 pub few : (ms : List Mark) → are_too_many ms ≡ false → (count_by is_no_bracket ms ≤ most_elements) × (count_by is_opening ms ≤ most_elements + 1)
 few ms e =
-    let both = neither (nat_lt most_elements (count_by is_no_bracket ms)) (nat_lt (most_elements + 1) (count_by is_opening ms)) e in
-    (at_most _ _ both.0, at_most _ _ both.1)
+    let both = or_parts (nat_lt most_elements (count_by is_no_bracket ms)) (nat_lt (most_elements + 1) (count_by is_opening ms)) e in
+    (ltb-false _ _ both.0, ltb-false _ _ both.1)
 
 pub not_too_many : (ms : List Mark) → count_by is_no_bracket ms ≤ most_elements → count_by is_opening ms ≤ most_elements + 1 → are_too_many ms ≡ false
 not_too_many ms h k =
-    ap (λ (b : Bool). b || nat_lt (most_elements + 1) (count_by is_opening ms)) (not_more (count_by is_no_bracket ms) most_elements h) ∙ not_more (count_by is_opening ms) (most_elements + 1) k
+    ap (λ (b : Bool). b || nat_lt (most_elements + 1) (count_by is_opening ms)) (le-ltb most_elements (count_by is_no_bracket ms) h) ∙ le-ltb (most_elements + 1) (count_by is_opening ms) k
 
 -- a list's numbers and its end, read
 onto : (x : ℤ) (xs : List ℤ) (r : Result (List (List ℤ)) Fault) → ((r >>= λ lists. Ok (xs ∷ lists)) >>= λ lists. Ok (with_number x lists)) ≡ (r >>= λ lists. Ok ((x ∷ xs) ∷ lists))
@@ -112,46 +98,34 @@ read-list place after (x ∷ xs) ms e =
 seam : (xs : List ℤ) (rest ms : List Mark) → (list_marks xs ++ rest) ++ ms ≡ opening ∷ (map number xs ++ closing ∷ (rest ++ ms))
 seam xs rest ms = simp append_assoc
 
-no_more : (r : Result (List (List ℤ)) Fault) → r ≡ (r >>= λ more. Ok ([] ++ more))
-no_more (Ok lists) = refl
-no_more (Err f) = refl
-
-list_more : (xs : List ℤ) (lists : List (List ℤ)) (r : Result (List (List ℤ)) Fault) → ((r >>= λ more. Ok (lists ++ more)) >>= λ ls. Ok (xs ∷ ls)) ≡ (r >>= λ more. Ok ((xs ∷ lists) ++ more))
-list_more xs lists (Ok more) = refl
-list_more xs lists (Err f) = refl
-
 -- whole inner lists read, and then what stands behind them
 pub read-lists : (place after : ℕ) (lists : List (List ℤ)) (ms : List Mark) → after ≡ place + length (flat_map list_marks lists)
     → lists_from between place (flat_map list_marks lists ++ ms) ≡ (lists_from between after ms >>= λ more. Ok (lists ++ more))
 read-lists place after [] ms e =
     let same : place ≡ after = omega arith in
-    ap (λ (k : ℕ). lists_from between k ms) same ∙ no_more (lists_from between after ms)
+    ap (λ (k : ℕ). lists_from between k ms) same ∙ sym (after-none (lists_from between after ms))
 read-lists place after (xs ∷ lists) ms e =
     let rest = flat_map list_marks lists in
     ap (lists_from between place) (seam xs rest ms)
     ∙ read-list (place + 1) (place + length xs + 2) xs (rest ++ ms) (omega arith)
     ∙ ap (λ (r : Result (List (List ℤ)) Fault). r >>= λ ls. Ok (xs ∷ ls)) (read-lists (place + length xs + 2) after lists ms
     (omega (arith, e, length-append (list_marks xs) rest, list-length xs)))
-    ∙ list_more xs lists (lists_from between after ms)
+    ∙ after-after (xs ∷ []) lists (lists_from between after ms)
 
 -- what can't stand in an inner list
 pub list-ends : (place after : ℕ) (xs : List ℤ) (ms : List Mark) → begin_with is_number ms ≡ false → begin_with is_closing ms ≡ false → after ≡ place + length xs
     → lists_from inside place (map number xs ++ ms) ≡ Err (fault_at BadInput after)
-list-ends place after [] [] e f at = ap (λ (k : ℕ). Err (fault_at BadInput k)) (omega arith)
-list-ends place after [] (opening ∷ ms) e f at = ap (λ (k : ℕ). Err (fault_at BadInput k)) (omega arith)
 list-ends place after [] (closing ∷ ms) e f at = absurd (cc)
 list-ends place after [] (number n ∷ ms) e f at = absurd (cc)
-list-ends place after [] (stray ∷ ms) e f at = ap (λ (k : ℕ). Err (fault_at BadInput k)) (omega arith)
+list-ends place after [] ms e f at = ap (λ (k : ℕ). Err (fault_at BadInput k)) (omega arith)
 list-ends place after (x ∷ xs) ms e f at =
     ap (λ (r : Result (List (List ℤ)) Fault). r >>= λ lists. Ok (with_number x lists)) (list-ends (place + 1) after xs ms e f (omega arith))
 
 -- what can't stand between inner lists
 pub between-ends : (place : ℕ) (ms : List Mark) → begin_with is_opening ms ≡ false → begin_with is_closing ms ≡ false → lists_from between place ms ≡ Err (fault_at BadInput place)
-between-ends place [] e f = refl
 between-ends place (opening ∷ ms) e f = absurd (cc)
 between-ends place (closing ∷ ms) e f = absurd (cc)
-between-ends place (number n ∷ ms) e f = refl
-between-ends place (stray ∷ ms) e f = refl
+between-ends place ms e f = refl
 
 -- the marks of a nest are read as its lists
 pub nest-read : (lists : List (List ℤ)) → lists_from before 0 (nest_marks lists) ≡ Ok lists
@@ -170,9 +144,6 @@ through (Ok x) f y e = (x, refl, (cc))
 through (Err g) f y e = absurd (cc)
 
 inside-some : (place : ℕ) (ms : List Mark) → lists_from inside place ms ≡ Ok [] → ⊥
-inside-some place [] e = cc
-inside-some place (opening ∷ ms) e = cc
-inside-some place (stray ∷ ms) e = cc
 inside-some place (closing ∷ ms) e =
     let back = through (lists_from between (place + 1) ms) (λ (lists : List (List ℤ)). [] ∷ lists) [] e in
     let never : [] ∷ back.0 ≡ [] = back.2 in cc
@@ -183,6 +154,7 @@ inside-some place (number n ∷ ms) e =
     never : (lists : List (List ℤ)) → with_number n lists ≡ [] → ⊥
     never [] e = cc
     never (xs ∷ lists) e = cc
+inside-some place ms e = cc
 
 open-shape : (lists : List (List ℤ)) → (lists ≡ [] → ⊥) → opening ∷ shape inside lists ≡ shape between lists
 open-shape [] some = absurd (some refl)
@@ -195,35 +167,20 @@ number-shape n (xs ∷ lists) = refl
 -- marks that the grammar reads as lists are the lists' marks
 sound : (w : Where) (place : ℕ) (ms : List Mark) (lists : List (List ℤ)) → lists_from w place ms ≡ Ok lists → ms ≡ shape w lists
 sound before place (opening ∷ ms) lists e = ap (λ (others : List Mark). opening ∷ others) (sound between (place + 1) ms lists e)
-sound before place [] lists e = absurd (cc)
-sound before place (closing ∷ ms) lists e = absurd (cc)
-sound before place (number n ∷ ms) lists e = absurd (cc)
-sound before place (stray ∷ ms) lists e = absurd (cc)
 sound between place (opening ∷ ms) lists e =
     ap (λ (others : List Mark). opening ∷ others) (sound inside (place + 1) ms lists e)
     ∙ open-shape lists (λ none. inside-some (place + 1) ms (e ∙ ap Ok none))
 sound between place (closing ∷ []) lists e =
     let none : [] ≡ lists = cc in
     ap (shape between) none
-sound between place (closing ∷ m ∷ ms) lists e = absurd (cc)
-sound between place [] lists e = absurd (cc)
-sound between place (number n ∷ ms) lists e = absurd (cc)
-sound between place (stray ∷ ms) lists e = absurd (cc)
 sound inside place (number n ∷ ms) lists e =
     let back = through (lists_from inside (place + 1) ms) (with_number n) lists e in
     ap (λ (others : List Mark). number n ∷ others) (sound inside (place + 1) ms back.0 back.1) ∙ number-shape n back.0 ∙ ap (shape inside) back.2
 sound inside place (closing ∷ ms) lists e =
     let back = through (lists_from between (place + 1) ms) (λ (lists : List (List ℤ)). [] ∷ lists) lists e in
     ap (λ (others : List Mark). closing ∷ others) (sound between (place + 1) ms back.0 back.1) ∙ ap (shape inside) back.2
-sound inside place [] lists e = absurd (cc)
-sound inside place (opening ∷ ms) lists e = absurd (cc)
-sound inside place (stray ∷ ms) lists e = absurd (cc)
 sound behind place [] lists e = refl
-sound behind place (m ∷ ms) lists e = absurd (cc)
-
-pub total-joined : (lists : List (List ℤ)) → sum (map length lists) ≡ length (joined lists)
-total-joined [] = refl
-total-joined (xs ∷ lists) = omega (arith, sum-cons (length xs) (map length lists), total-joined lists, length-append xs (joined lists))
+sound w place ms lists e = absurd (cc)
 
 cut-joined : (lists : List (List ℤ)) → cut_of (map length lists) (joined lists) ≡ lists
 cut-joined [] = refl
@@ -232,23 +189,22 @@ cut-joined (xs ∷ lists) =
     let back : cut_of (map length lists) (drop (length xs) (xs ++ joined lists)) ≡ lists = ap (cut_of (map length lists)) (drop-append_seam xs (joined lists)) ∙ cut-joined lists in
     cc
 
-answered : (ms : List Mark) (lists : List (List ℤ)) → are_too_many ms ≡ false → lists_from before 0 ms ≡ Ok lists
-    → fault_if (are_too_many ms) (fault TooLong) (lists_from before 0 ms >>= λ ls. Ok (flat_nest ls)) ≡ Ok (flat_nest lists)
-answered ms lists e f = rw (e, f) refl
+-- the marks of lists within the limits are read as these
+nest-answered : (bytes : List ℕ) (lists : List (List ℤ)) → marks_of bytes ≡ nest_marks lists → length (joined lists) ≤ most_elements → length lists ≤ most_elements
+    → nested_of bytes ≡ Ok (flat_nest lists)
+nest-answered bytes lists is few_numbers few_lists =
+    let count : count_by is_no_bracket (nest_marks lists) ≤ most_elements = omega (arith, counted-on lists (closing ∷ []), count-closing is_no_bracket refl, few_numbers) in
+    let opens : count_by is_opening (nest_marks lists) ≤ most_elements + 1 = omega (arith, opened-on lists (closing ∷ []), count-closing is_opening refl, few_lists) in
+    ap (λ (ms : List Mark). fault_if (are_too_many ms) (fault TooLong) (lists_from before 0 ms >>= λ ls. Ok (flat_nest ls))) is
+    ∙ rw (not_too_many (nest_marks lists) count opens, nest-read lists) refl
 
 -- a nested text of a vector and lengths is read as these
 pub text-read : (bytes : List ℕ) (xs : List ℤ) (lengths : List ℕ) → IsNestedText bytes xs lengths → nested_of bytes ≡ Ok (xs, lengths)
 text-read bytes xs lengths is =
-    let lists = cut_of lengths xs in
-    let ends : count_by is_no_bracket (closing ∷ []) ≡ 0 = count-closing is_no_bracket refl in
-    let ends_too : count_by is_opening (closing ∷ []) ≡ 0 = count-closing is_opening refl in
     let same = joined-cut lengths xs is.total in
     let lens = lengths-cut lengths xs (omega (arith, is.total)) in
-    let count : count_by is_no_bracket (nest_marks lists) ≤ most_elements = omega (arith, counted-on lists (closing ∷ []), ap length same, is.few_numbers) in
-    let opens : count_by is_opening (nest_marks lists) ≤ most_elements + 1 = omega (arith, opened-on lists (closing ∷ []), length-cut lengths xs, is.few_lists) in
-    let reads = answered (nest_marks lists) lists (not_too_many (nest_marks lists) count opens) (nest-read lists) in
-    ap (λ (ms : List Mark). fault_if (are_too_many ms) (fault TooLong) (lists_from before 0 ms >>= λ ls. Ok (flat_nest ls))) is.tokens ∙ reads
-    ∙ ap (λ (ys : List ℤ). Ok (ys, map length lists)) same ∙ ap (λ (ns : List ℕ). Ok (xs, ns)) lens
+    nest-answered bytes (cut_of lengths xs) is.tokens (omega (arith, ap length same, is.few_numbers)) (omega (arith, length-cut lengths xs, is.few_lists))
+    ∙ ap (λ (ys : List ℤ). Ok (ys, map length (cut_of lengths xs))) same ∙ ap (λ (ns : List ℕ). Ok (xs, ns)) lens
 
 limited : (ms : List Mark) (y : List ℤ × List ℕ) → fault_if (are_too_many ms) (fault TooLong) (lists_from before 0 ms >>= λ ls. Ok (flat_nest ls)) ≡ Ok y → are_too_many ms ≡ false
 limited ms y = by_case (are_too_many ms)
@@ -276,31 +232,23 @@ read-text bytes xs lengths e =
     let ends : count_by is_no_bracket (closing ∷ []) ≡ 0 = count-closing is_no_bracket refl in
     let ends_too : count_by is_opening (closing ∷ []) ≡ 0 = count-closing is_opening refl in
     record {
-      total = ap sum (sym lens) ∙ total-joined lists ∙ ap length numbers;
+      total = ap sum (sym lens) ∙ sym (length-joined lists) ∙ ap length numbers;
       tokens = shaped ∙ ap nest_marks (sym cut);
       few_numbers = omega (arith, both.0, ap (count_by is_no_bracket) shaped, count, ap length numbers);
-      few_lists = omega (arith, both.1, ap (count_by is_opening) shaped, opens, ap length lens, length-map' lists);
+      few_lists = omega (arith, both.1, ap (count_by is_opening) shaped, opens, ap length lens, length-map lists length);
     }
-  where
-    length-map' : (lists : List (List ℤ)) → length (map length lists) ≡ length lists
-    length-map' [] = refl
-    length-map' (list ∷ lists) = omega (arith, length-map' lists)
 
 pub none_pushed : (bytes : List ℕ) (old : List ℤ) → ArePushed bytes bytes old old
 none_pushed bytes old = record { pushed = []; numbers = sym (append-nil old); marks = refl }
 
 joined-more : (lists : List (List ℤ)) (xs : List ℤ) → joined (lists ++ (xs ∷ [])) ≡ joined lists ++ xs
-joined-more lists xs = flat_map-append (λ (ys : List ℤ). ys) lists (xs ∷ []) ∙ ap (λ (ys : List ℤ). joined lists ++ ys) (append-nil xs)
+joined-more lists xs = sym (flat_map_more (λ (ys : List ℤ). ys) [] lists xs)
 
 marks-more : (lists : List (List ℤ)) (xs : List ℤ) (ms : List Mark) → flat_map list_marks (lists ++ (xs ∷ [])) ++ ms ≡ flat_map list_marks lists ++ (opening ∷ (map number xs ++ closing ∷ ms))
-marks-more [] xs ms = simp append_assoc
-marks-more (list ∷ lists) xs ms =
-    append_assoc (list_marks list) (flat_map list_marks (lists ++ (xs ∷ []))) ms ∙ ap (λ (ns : List Mark). list_marks list ++ ns) (marks-more lists xs ms)
-    ∙ sym (append_assoc (list_marks list) (flat_map list_marks lists) (opening ∷ (map number xs ++ closing ∷ ms)))
+marks-more lists xs ms = ap (λ (l : List Mark). l ++ ms) (sym (flat_map_more list_marks [] lists xs)) ∙ simp append_assoc
 
 lengths-more : (lists : List (List ℤ)) (xs : List ℤ) → map pos (map length (lists ++ (xs ∷ []))) ≡ map pos (map length lists) ++ (pos (length xs) ∷ [])
-lengths-more [] xs = refl
-lengths-more (list ∷ lists) xs = ap (λ (zs : List ℤ). pos (length list) ∷ zs) (lengths-more lists xs)
+lengths-more lists xs = ap (map pos) (map_push length lists xs) ∙ map_push pos (map length lists) (length xs)
 
 -- the list inside the others, before its end
 open_marks : (bytes rest inner others : List ℕ) (old new lengths : List ℤ) (is : AreListsRead bytes rest old lengths) (in_list : ArePushed inner others old new)
@@ -324,8 +272,7 @@ lists_more bytes rest inner others tail old new lengths more n is starts in_list
     }
 
 length-lengths : (lists : List (List ℤ)) → length (map pos (map length lists)) ≡ length lists
-length-lengths [] = refl
-length-lengths (xs ∷ lists) = omega (arith, length-lengths lists)
+length-lengths lists = length-map (map length lists) pos ∙ length-map lists length
 
 -- no room for one list more: there are too many
 pub lists_full : (bytes rest inner : List ℕ) (numbers lengths : List ℤ) (room_numbers room_lengths place : ℕ) → AreListsRead bytes rest numbers lengths → marks_of rest ≡ opening ∷ marks_of inner
@@ -338,11 +285,15 @@ lists_full bytes rest inner numbers lengths room_numbers room_lengths place is s
     absurd (omega (arith, opens, all, one, within, full, ap length is.lengths_are, length-lengths is.lists))
 
 some_number : (ms : List Mark) → begin_with is_number ms ≡ true → 1 ≤ count_by is_no_bracket ms
-some_number [] e = absurd (cc)
-some_number (opening ∷ ms) e = absurd (cc)
-some_number (closing ∷ ms) e = absurd (cc)
-some_number (stray ∷ ms) e = absurd (cc)
 some_number (number n ∷ ms) e = omega (arith, count-cons is_no_bracket (number n) ms)
+some_number ms e = absurd (cc)
+
+-- the inner lists are read, and then what stands behind them
+after_lists : (bytes rest : List ℕ) (numbers lengths : List ℤ) (is : AreListsRead bytes rest numbers lengths)
+    → lists_from between 1 (marks_of bytes) ≡ (lists_from between (1 + length numbers + 2 * length lengths) (marks_of rest) >>= λ more. Ok (is.lists ++ more))
+after_lists bytes rest numbers lengths is =
+    ap (lists_from between 1) is.marks ∙ read-lists 1 (1 + length numbers + 2 * length lengths) is.lists (marks_of rest)
+    (omega (arith, lists-length is.lists, ap length is.lengths_are, length-lengths is.lists, ap length is.numbers_are))
 
 -- what follows the numbers of a list is no end of it
 pub list_fault : (bytes rest inner others : List ℕ) (old new lengths : List ℤ) (room_numbers room_lengths place : ℕ) → AreListsRead bytes rest old lengths
@@ -374,36 +325,26 @@ list_fault bytes rest inner others old new lengths room_numbers room_lengths pla
           length-append old in_list.pushed,
         ))
     by_case false e =
-        let marks = open_marks bytes rest inner others old new lengths is in_list starts in
-        let after = 1 + length (flat_map list_marks is.lists) in
-        ap (lists_from between 1) marks ∙ read-lists 1 after is.lists (opening ∷ (map number in_list.pushed ++ marks_of others)) refl
+        let after = 1 + length old + 2 * length lengths in
+        after_lists bytes rest old lengths is ∙ ap (λ (ms : List Mark). lists_from between after ms >>= λ more. Ok (is.lists ++ more)) (starts ∙ ap (λ (ms : List Mark). opening ∷ ms) in_list.marks)
         ∙ ap (λ (r : Result (List (List ℤ)) Fault). r >>= λ more. Ok (is.lists ++ more)) (list-ends (after + 1) place in_list.pushed (marks_of others) e no_end
-        (omega (arith, at, lists-length is.lists, ap length is.lengths_are, length-lengths is.lists, ap length is.numbers_are, ap length in_list.numbers, length-append old in_list.pushed)))
-
-place_behind : (bytes rest : List ℕ) (numbers lengths : List ℤ) (is : AreListsRead bytes rest numbers lengths) → length (flat_map list_marks is.lists) ≡ length numbers + 2 * length lengths
-place_behind bytes rest numbers lengths is =
-    omega (arith, lists-length is.lists, ap length is.lengths_are, length-lengths is.lists, ap length is.numbers_are)
-
-behind_lists : (bytes inner rest : List ℕ) (numbers lengths : List ℤ) (is : AreListsRead inner rest numbers lengths) → marks_of bytes ≡ opening ∷ marks_of inner
-    → marks_of bytes ≡ opening ∷ (flat_map list_marks is.lists ++ marks_of rest)
-behind_lists bytes inner rest numbers lengths is starts = starts ∙ ap (λ (ms : List Mark). opening ∷ ms) is.marks
+        (omega (arith, at, ap length in_list.numbers, length-append old in_list.pushed)))
 
 -- what follows the inner lists is no end of the outer one
 pub nest_fault : (bytes inner rest : List ℕ) (numbers lengths : List ℤ) (place : ℕ) → AreListsRead inner rest numbers lengths → marks_of bytes ≡ opening ∷ marks_of inner
     → begin_with is_opening (marks_of rest) ≡ false → begin_with is_closing (marks_of rest) ≡ false → place ≡ 1 + length numbers + 2 * length lengths
     → IsFaultAt place before 0 (marks_of bytes) (marks_of bytes)
 nest_fault bytes inner rest numbers lengths place is starts no_list no_end at fine =
-    ap (lists_from before 0) (behind_lists bytes inner rest numbers lengths is starts)
-    ∙ read-lists 1 place is.lists (marks_of rest) (omega (arith, at, place_behind inner rest numbers lengths is))
-    ∙ ap (λ (r : Result (List (List ℤ)) Fault). r >>= λ more. Ok (is.lists ++ more)) (between-ends place (marks_of rest) no_list no_end)
+    let last = 1 + length numbers + 2 * length lengths in
+    ap (lists_from before 0) starts ∙ after_lists inner rest numbers lengths is
+    ∙ ap (λ (r : Result (List (List ℤ)) Fault). r >>= λ more. Ok (is.lists ++ more)) (between-ends last (marks_of rest) no_list no_end ∙ ap (λ (k : ℕ). Err (fault_at BadInput k)) (sym at))
 
 -- a token behind the outer list
 pub behind_fault : (bytes inner rest tail : List ℕ) (numbers lengths : List ℤ) (place : ℕ) → AreListsRead inner rest numbers lengths → marks_of bytes ≡ opening ∷ marks_of inner
     → marks_of rest ≡ closing ∷ marks_of tail → is_no_mark (marks_of tail) ≡ false → place ≡ 2 + length numbers + 2 * length lengths → IsFaultAt place before 0 (marks_of bytes) (marks_of bytes)
 behind_fault bytes inner rest after numbers lengths place is starts ends some at fine =
     let last = 1 + length numbers + 2 * length lengths in
-    ap (lists_from before 0) (behind_lists bytes inner rest numbers lengths is starts)
-    ∙ read-lists 1 last is.lists (marks_of rest) (omega (arith, place_behind inner rest numbers lengths is))
+    ap (lists_from before 0) starts ∙ after_lists inner rest numbers lengths is
     ∙ ap (λ (ms : List Mark). lists_from between last ms >>= λ more. Ok (is.lists ++ more)) ends
     ∙ ap (λ (r : Result (List (List ℤ)) Fault). r >>= λ more. Ok (is.lists ++ more)) (more-stands (marks_of after) last place some (omega (arith, at)))
   where
@@ -416,12 +357,7 @@ pub nest_given : (bytes : List ℕ) (numbers lengths : List ℤ) → IsNestRead 
     → nested_of bytes ≡ Ok (numbers, map unsigned_abs lengths)
 nest_given bytes numbers lengths is few_numbers few_lists =
     let lists = is.lists in
-    let ends : count_by is_no_bracket (closing ∷ []) ≡ 0 = count-closing is_no_bracket refl in
-    let ends_too : count_by is_opening (closing ∷ []) ≡ 0 = count-closing is_opening refl in
-    let count : count_by is_no_bracket (nest_marks lists) ≤ most_elements = omega (arith, counted-on lists (closing ∷ []), ap length is.numbers_are, few_numbers) in
-    let opens : count_by is_opening (nest_marks lists) ≤ most_elements + 1 = omega (arith, opened-on lists (closing ∷ []), ap length is.lengths_are, length-lengths lists, few_lists) in
-    ap (λ (ms : List Mark). fault_if (are_too_many ms) (fault TooLong) (lists_from before 0 ms >>= λ ls. Ok (flat_nest ls))) is.marks
-    ∙ answered (nest_marks lists) lists (not_too_many (nest_marks lists) count opens) (nest-read lists)
+    nest-answered bytes lists is.marks (omega (arith, ap length is.numbers_are, few_numbers)) (omega (arith, ap length is.lengths_are, length-lengths lists, few_lists))
     ∙ ap (λ (xs : List ℤ). Ok (xs, map length lists)) (sym is.numbers_are)
     ∙ ap (λ (ns : List ℕ). Ok (numbers, ns)) (sym (abs_pos (map length lists)) ∙ ap (map unsigned_abs) (sym is.lengths_are))
 
@@ -432,17 +368,16 @@ lengths_given bytes numbers lengths is few_numbers few_lists =
     record {
       none_negative = is.lengths_are ∙ ap (map pos) (sym same);
       few = few_lists;
-      in_limit = omega (arith, ap sum same, total-joined is.lists, ap length is.numbers_are, few_numbers);
+      in_limit = omega (arith, ap sum same, length-joined is.lists, ap length is.numbers_are, few_numbers);
     }
 
 pub total_given : (bytes : List ℕ) (numbers lengths : List ℤ) → IsNestRead bytes numbers lengths → sum (map unsigned_abs lengths) ≡ length numbers
 total_given bytes numbers lengths is =
-    ap (λ (zs : List ℤ). sum (map unsigned_abs zs)) is.lengths_are ∙ ap sum (abs_pos (map length is.lists)) ∙ total-joined is.lists ∙ ap length (sym is.numbers_are)
-
-given : (r : Result (List ℤ × List ℕ) Fault) (x y : List ℤ × List ℕ) → r ≡ Ok x → r ≡ Ok y → x ≡ y
-given r x y e f = cc
+    ap (λ (zs : List ℤ). sum (map unsigned_abs zs)) is.lengths_are ∙ ap sum (abs_pos (map length is.lists)) ∙ sym (length-joined is.lists) ∙ ap length (sym is.numbers_are)
 
 pub one-pair : (bytes : List ℕ) (xs ys : List ℤ) (lengths others : List ℕ) → IsNestedText bytes xs lengths → IsNestedText bytes ys others → (xs ≡ ys) × (lengths ≡ others)
 one-pair bytes xs ys lengths others is too =
-    let pair = given (nested_of bytes) (xs, lengths) (ys, others) (text-read bytes xs lengths is) (text-read bytes ys others too) in
+    let one = text-read bytes xs lengths is in
+    let other = text-read bytes ys others too in
+    let pair : ◌≡◌ {A = List ℤ × List ℕ} (xs, lengths) (ys, others) = cc in
     (ap (λ (p : List ℤ × List ℕ). p.0) pair, ap (λ (p : List ℤ × List ℕ). p.1) pair)

@@ -3,49 +3,38 @@ use Rattle.std.proofs.Common.{◌≡◌, ℕ, ◌+◌, ◌≤◌, Bool, true, fa
 use Rattle.std.specs.Prelude.{codes, nat_eq, if◌then◌else◌, count_by, not, ◌||◌}
 use Rattle.std.specs.Cmp.Lexicographic.{pointwise}
 use Rattle.std.specs.Char.{is_ascii_digit}
-use Rattle.std.proofs.lemmas.Bool.{and_parts}
 use Rattle.std.proofs.lemmas.Bool.Decides.{nat_tests}
+use Rattle.std.proofs.lemmas.List.{length-map}
 use Rattle.std.proofs.lemmas.List.Sums.{count_by-le-length}
+use Rattle.std.proofs.lemmas.Slice.Eq.{bytes_eq-Decides}
 use Rattle.line_reader.specs.declared.token.ByteClass.{ByteClass}
-use Rattle.line_reader.specs.declared.token.ByteClass.TheVariants.{Blank, Alone, Part}
+use Rattle.line_reader.specs.declared.token.ByteClass.TheVariants.{Part}
 use Rattle.line_reader.specs.Tokens.{tokens_by, with_byte, is_part, begins_with_part, IsFirstToken}
 use Rattle.line_reader.specs.Numbers.{written_number}
 use Rattle.call_reader.specs.NestedTexts.{nested_class, Mark, opening, closing, number, stray, number_or, mark_of, marks_of, is_opening, is_no_bracket}
 use Rattle.call_reader.specs.NestedReads.{is_closing}
 use Rattle.call_reader.proofs.InputWalk.{number_leads}
 
-same_byte : (b : ℕ) (token : List ℕ) → pointwise nat_eq token (b ∷ []) ≡ true → token ≡ b ∷ []
-same_byte b [] e = absurd (cc)
-same_byte b (c ∷ []) e =
-    let first : nat_eq c b ≡ true = (and_parts (nat_eq c b) true e).0 in
-    let same : c ≡ b = grind (arith, nat_tests) in
-    ap (λ (x : ℕ). x ∷ []) same
-same_byte b (c ∷ d ∷ ds) e =
-    let never : false ≡ true = (and_parts (nat_eq c b) false e).1 in absurd (cc)
-
 pub opening_mark : (token : List ℕ) → pointwise nat_eq token (codes "[") ≡ true → mark_of token ≡ opening
-opening_mark token e = ap mark_of (same_byte 91 token e)
+opening_mark token e = ap mark_of ((bytes_eq-Decides token (codes "[")).0 e)
 
 pub closing_mark : (token : List ℕ) → pointwise nat_eq token (codes "]") ≡ true → mark_of token ≡ closing
-closing_mark token e = ap mark_of (same_byte 93 token e)
+closing_mark token e = ap mark_of ((bytes_eq-Decides token (codes "]")).0 e)
 
 not_opening : (o : Option ℤ) (b c : Bool) → b ≡ false → is_opening (number_or o (if b then opening else (if c then closing else stray))) ≡ false
-not_opening (Some n) b c e = refl
 not_opening None true c e = absurd (cc)
 not_opening None false true e = refl
-not_opening None false false e = refl
+not_opening o b c e = refl
 
 not_closing : (o : Option ℤ) (b c : Bool) → c ≡ false → is_closing (number_or o (if b then opening else (if c then closing else stray))) ≡ false
-not_closing (Some n) b c e = refl
-not_closing None true c e = refl
 not_closing None false true e = absurd (cc)
-not_closing None false false e = refl
+not_closing None true c e = refl
+not_closing o b c e = refl
 
 neither_one : (o : Option ℤ) (b c : Bool) → b ≡ false → c ≡ false → is_no_bracket (number_or o (if b then opening else (if c then closing else stray))) ≡ true
-neither_one (Some n) b c e f = refl
 neither_one None true c e f = absurd (cc)
 neither_one None false true e f = absurd (cc)
-neither_one None false false e f = refl
+neither_one o b c e f = refl
 
 pub opens : (token : List ℕ) → pointwise nat_eq token (codes "[") ≡ is_opening (mark_of token)
 opens token = by_case (pointwise nat_eq token (codes "[")) refl
@@ -86,20 +75,14 @@ number_first bytes k n e ends =
     ∙ ap (λ (m : Mark). m ∷ marks_of (drop k bytes)) (number_mark (take k bytes) n e)
 
 one_more : (c : ByteClass) (runs_on : Bool) (b : ℕ) (tokens : List (List ℕ)) → length (with_byte c runs_on b tokens) ≤ 1 + length tokens
-one_more Blank runs_on b tokens = omega arith
-one_more Alone runs_on b tokens = omega arith
 one_more Part true b [] = omega arith
 one_more Part true b (token ∷ tokens) = omega arith
-one_more Part false b tokens = omega arith
+one_more c runs_on b tokens = omega arith
 
 tokens_short : (bytes : List ℕ) → length (tokens_by nested_class bytes) ≤ length bytes
 tokens_short [] = omega arith
 tokens_short (b ∷ bs) = omega (arith, one_more (nested_class b) (begins_with_part nested_class bs) b (tokens_by nested_class bs), tokens_short bs)
 
-length_marks : (tokens : List (List ℕ)) → length (map mark_of tokens) ≡ length tokens
-length_marks [] = refl
-length_marks (token ∷ tokens) = omega (arith, length_marks tokens)
-
 -- each token has a byte
 pub marks_short : (p : Mark → Bool) (bytes : List ℕ) → count_by p (marks_of bytes) ≤ length bytes
-marks_short p bytes = omega (arith, count_by-le-length p (marks_of bytes), length_marks (tokens_by nested_class bytes), tokens_short bytes)
+marks_short p bytes = omega (arith, count_by-le-length p (marks_of bytes), length-map (tokens_by nested_class bytes) mark_of, tokens_short bytes)

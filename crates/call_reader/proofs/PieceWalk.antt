@@ -1,12 +1,11 @@
 -- An input in pieces: its tokens are those of the pieces, and the first wrong one of all is the first of the pieces' first ones.
-use Rattle.std.proofs.Common.{◌-◌, ◌^◌, min, ◌≡◌, ℕ, ◌+◌, ◌<◌, ◌≤◌, false, List, [], ◌∷◌, ◌++◌, length, map, refl, ap, sym, ◌∙◌, arith, Option, Some, None, Ok, Err, ℤ, append_assoc}
+use Rattle.std.proofs.Common.{◌-◌, ◌^◌, min, ◌≡◌, ℕ, ◌+◌, ◌<◌, ◌≤◌, false, List, [], ◌∷◌, ◌++◌, length, map, refl, ap, sym, ◌∙◌, arith, Option, Some, None, Ok, Err, ℤ}
 use Rattle.std.specs.Prelude.{Result, nat_lt}
 use Rattle.std.proofs.lemmas.Bool.Decides.{nat_tests}
 use Rattle.std.specs.List.{flat_map}
 use Rattle.cvl_base.specs.Limits.{most_elements}
 use Rattle.std.specs.Option.{option_or}
-use Rattle.std.proofs.lemmas.List.{append-nil, length-map, map-append}
-use Rattle.std.proofs.lemmas.Grind.{flat_map-append}
+use Rattle.std.proofs.lemmas.List.{length-map, map-append}
 use Rattle.cvl_base.specs.declared.fault.Fault.{Fault}
 use Rattle.cvl_base.specs.declared.fault.FaultNo.TheVariants.{BadInput, TooLong}
 use Rattle.cvl_base.specs.Elementwise.{values_from}
@@ -18,6 +17,7 @@ use Rattle.call_reader.specs.Inputs.{input_class}
 use Rattle.call_reader.specs.Pieces.{numbers_of, or_zero}
 use Rattle.call_reader.proofs.InputWalk.{count_of}
 use Rattle.line_reader.proofs.TokenWalk.{cut_before}
+use Rattle.value_texts.proofs.PartWalk.{one_part_more}
 use Rattle.fresh.specs.Counted.{found_in}
 use Rattle.fresh.specs.Found.{first_without}
 use Rattle.fresh.proofs.FirstWithout.{first_of_both}
@@ -60,11 +60,7 @@ module _ {A : Type 0} (bytes_of : A → List ℕ) where
   pub one_piece_more : (pieces : List A) (piece : A) (others rest : List ℕ) (all : List (Option ℤ)) → bytes_of piece ++ others ≡ rest → begins_with_part input_class others ≡ false
       → numbers_in pieces ++ numbers_of rest ≡ all → numbers_in (pieces ++ piece ∷ []) ++ numbers_of others ≡ all
   one_piece_more pieces piece others rest all whole ends so_far =
-      ap (λ l. l ++ numbers_of others) (flat_map-append (λ p. numbers_of (bytes_of p)) pieces (piece ∷ []))
-      ∙ append_assoc (numbers_in pieces) (numbers_of (bytes_of piece) ++ []) (numbers_of others)
-      ∙ ap (λ l. numbers_in pieces ++ (l ++ numbers_of others)) (append-nil (numbers_of (bytes_of piece)))
-      ∙ ap (λ l. numbers_in pieces ++ l) (sym (numbers_of_both (bytes_of piece) others ends) ∙ ap numbers_of whole)
-      ∙ so_far
+      one_part_more (λ p. numbers_of (bytes_of p)) pieces piece (numbers_of others) (numbers_of rest) all (sym (numbers_of_both (bytes_of piece) others ends) ∙ ap numbers_of whole) so_far
 
   -- what is written for each piece
   abbrev pub written_of : A → List ℤ

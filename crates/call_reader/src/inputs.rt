@@ -5,7 +5,7 @@ ghost use Rattle.cvl_base.specs.declared.fault.FaultNo.TheVariants.{TooLong, Bad
 ghost use Rattle.cvl_base.specs.Faults.{fault, fault_at};
 ghost use Rattle.cvl_base.specs.Gives.{Gives};
 ghost use Rattle.cvl_base.specs.Limits.{most_elements};
-ghost use Rattle.line_reader.specs.Tokens.{tokens_by, IsFirstToken, begins_with_part};
+ghost use Rattle.line_reader.specs.Tokens.{tokens_by, IsFirstToken};
 ghost use Rattle.line_reader.specs.Numbers.{written_number};
 ghost use Rattle.call_reader.specs.Inputs.{is_white_space, input_class, input_of};
 ghost use Rattle.call_reader.specs.Pieces.{goes_on};
@@ -14,7 +14,7 @@ ghost use Rattle.std.specs.Int.{from_bool};
 use cvl_base::limits::MOST_ELEMENTS;
 use cvl_base::{Fault, FaultNo, Memory, Refused};
 use line_reader::number::{leading_number, number};
-use line_reader::token::{ByteClass, Classes, blanks, first_token};
+use line_reader::token::{ByteClass, Classes, begins_with_part, blanks, first_token};
 
 /// Whether a byte is white space: a space, a tab, a line feed or a carriage return.
 #[inline(always)]
@@ -98,17 +98,6 @@ fn fault_at_token(place: usize, rest: &[u8]) -> Fault
     }
 }
 
-/// Whether the bytes begin with one that is no white space.
-#[inline(always)]
-fn begins_with_token(bytes: &[u8]) -> bool
-    ensures { result ≡ begins_with_part input_class bytes.now }
-{
-    match bytes.first() {
-        Some(byte) => !is_white_space(*byte),
-        None => false,
-    }
-}
-
 /// The first token of the bytes, the integer that it writes, and what stands after it; none where there is no token.
 #[inline(always)]
 pub(crate) fn first_number(bytes: &[u8]) -> Option<(&[u8], Option<i32>, &[u8])>
@@ -121,7 +110,7 @@ pub(crate) fn first_number(bytes: &[u8]) -> Option<(&[u8], Option<i32>, &[u8])>
     // nearly every token is an integer that one walk finds and reads
     if let Some((value, length)) = leading_number(rest) {
         let (token, others) = rest.split_at(length);
-        if !begins_with_token(others) {
+        if !begins_with_part::<InputBytes>(others) {
             return Some((token, Some(value), others));
         }
     }

@@ -1,14 +1,14 @@
 //! The tokens of a nested text.
 
 ghost use Rattle.std.specs.Prelude.{◌≡◌, ◌<◌, [], ◌∷◌, length, false, MatchOption, IfSome, count_by};
-ghost use Rattle.line_reader.specs.Tokens.{tokens_by, begins_with_part};
+ghost use Rattle.line_reader.specs.Tokens.{tokens_by};
 ghost use Rattle.call_reader.specs.NestedTexts.{nested_class, mark_of, marks_of, number, opening, closing, is_opening, is_no_bracket, are_too_many};
 ghost use Rattle.call_reader.specs.NestedReads.{is_closing, is_number, is_no_mark, begin_with};
 
 use crate::inputs::is_white_space;
 use cvl_base::limits::MOST_ELEMENTS;
 use line_reader::number::{leading_number, number};
-use line_reader::token::{ByteClass, Classes, blanks, first_token};
+use line_reader::token::{ByteClass, Classes, begins_with_part, blanks, first_token};
 
 /// The classes of a nested text's bytes: white space is blank, and brackets are tokens of their own.
 pub(crate) enum NestedBytes {}
@@ -25,17 +25,6 @@ impl Classes for NestedBytes {
         } else {
             ByteClass::Part
         }
-    }
-}
-
-/// Whether the bytes begin with one that goes on with a run before it.
-#[inline(always)]
-fn begins_with_run(bytes: &[u8]) -> bool
-    ensures { result ≡ begins_with_part nested_class bytes.now }
-{
-    match bytes.first() {
-        Some(byte) => NestedBytes::class_of(*byte) == ByteClass::Part,
-        None => false,
     }
 }
 
@@ -107,7 +96,7 @@ pub(crate) fn after_number(bytes: &[u8]) -> Option<(i32, &[u8])>
     // nearly every number is one that one walk finds and reads
     if let Some((value, length)) = leading_number(rest) {
         let (_token, others) = rest.split_at(length);
-        if !begins_with_run(others) {
+        if !begins_with_part::<NestedBytes>(others) {
             return Some((value, others));
         }
     }

@@ -1,8 +1,9 @@
 use Rattle.std.proofs.Common.{◌≡◌, ◌+◌, ◌≤◌, length, vec_len, vec_capacity}
+use Rattle.cvl_base.specs.Gives.{after}
 use Rattle.cvl_base.specs.Limits.{most_elements}
 use Rattle.line_reader.specs.Tokens.{tokens_by}
 use Rattle.call_reader.specs.Inputs.{input_class}
-use Rattle.call_reader.proofs.InputWalk.{count_of, behind, numbers_from}
+use Rattle.call_reader.proofs.InputWalk.{count_of, numbers_from}
 use Rattle.call_reader.proofs.inputs.read_vector_alone.Given as goal
 
 abbrev pub invariant-loop-token : goal.invariant-loop-token
@@ -10,7 +11,7 @@ invariant-loop-token g l = record {
   small : vec_len l.numbers ≤ most_elements;
   room : vec_capacity l.numbers ≡ l.room;
   count : vec_len l.numbers + count_of l.rest ≡ count_of l.bytes;
-  so_far : numbers_from 0 (tokens_by input_class l.bytes) ≡ behind l.numbers.items (numbers_from (vec_len l.numbers) (tokens_by input_class l.rest));
+  so_far : numbers_from 0 (tokens_by input_class l.bytes) ≡ after l.numbers.items (numbers_from (vec_len l.numbers) (tokens_by input_class l.rest));
 }
 
 abbrev pub decreases-loop-token : goal.decreases-loop-token
