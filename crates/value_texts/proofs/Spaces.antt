@@ -1,7 +1,7 @@
 -- Texts that are appended piece by piece, with spaces and brackets.
-use Rattle.std.proofs.Common.{◌≡◌, ℕ, ◌≤◌, List, [], ◌∷◌, ◌++◌, length, map, take, drop, sym, ap, ◌∙◌, arith, append_assoc, append-nil, length-append, min}
+use Rattle.std.proofs.Common.{◌≡◌, ℕ, ◌≤◌, List, [], ◌∷◌, ◌++◌, length, map, take, sym, ap, ◌∙◌, arith, append_assoc, append-nil, length-append, min}
 use Rattle.std.specs.List.{join_with_byte}
-use Rattle.std.proofs.lemmas.List.{take_all, length-take, take-take, take-append-le}
+use Rattle.std.proofs.lemmas.List.{length-take, take-take, take-append-le}
 use Rattle.value_texts.specs.Texts.{spaced}
 
 -- texts joined by spaces are the first text, and then the others with a space before each

@@ -1,4 +1,4 @@
-use Rattle.std.proofs.Common.{◌≡◌, ℕ, ◌+◌, ◌-◌, ◌^◌, ◌<◌, ◌≤◌, ◌++◌, length, drop, ℤ, pos, int_lt, unsigned_abs, slice_set, ap, sym, ◌∙◌, arith, rules, to_z, of_z, w32}
+use Rattle.std.proofs.Common.{◌≡◌, ℕ, ◌+◌, ◌-◌, ◌^◌, ◌<◌, ◌++◌, length, drop, ℤ, pos, int_lt, unsigned_abs, slice_set, ap, sym, ◌∙◌, arith, rules, to_z, of_z, w32}
 use Rattle.std.specs.Int.{from_bool}
 use Rattle.std.proofs.lemmas.Fmt.{length-decimal-le}
 use Rattle.std.specs.Fmt.{decimal}
