@@ -1,6 +1,7 @@
 -- What a host shows after one call, and after two.
 use Rattle.std.proofs.Common.{◌≡◌, ℕ, ◌+◌, Bool, true, false, ◌&&◌, List, [], ◌∷◌, ◌++◌, Option, Some, None, Result, Ok, take, drop, refl, ap, sym, ◌∙◌, arith, ◌||◌, inl, inr}
 use Rattle.std.proofs.lemmas.List.{append-nil, append_assoc}
+use Rattle.std.proofs.Math.Bool.{and-true}
 use Rattle.std.proofs.Math.Seq.{take-add}
 use Rattle.script_runs.specs.declared.stop.Stop.{Stop}
 use Rattle.script_runs.specs.Ends.{failures_in, with_answer}
@@ -29,10 +30,6 @@ told_both xs ys None = tt
 told_both xs ys (Some told) = ap Some (append_assoc told xs ys)
 
 -- ---- bytes that are not sent on
-
-and_true : (b : Bool) → b && true ≡ b
-and_true true = refl
-and_true false = refl
 
 empty_both : (b : Bool) (xs ys : List ℕ) → (b && is_empty xs) && is_empty ys ≡ b && is_empty (xs ++ ys)
 empty_both false xs ys = refl
@@ -65,7 +62,7 @@ shows_on a b c first then =
 
 pub shows_nothing_put : (s : Seen) → Shows (with_output [] s) s
 shows_nothing_put s =
-    shows_each (told_nothing s.output) refl (sym (and_true s.sent)) refl (told_same s.errors) refl refl (told_same s.reads)
+    shows_each (told_nothing s.output) refl (sym (and-true s.sent)) refl (told_same s.errors) refl refl (told_same s.reads)
 
 pub shows_nothing_read : (s : Seen) → Shows (with_reads [] s) s
 shows_nothing_read s = shows_each (told_same s.output) refl refl refl (told_same s.errors) refl refl (told_nothing s.reads)
@@ -115,7 +112,7 @@ answer_ok written a b h = shows_each h.output (omega (arith, h.failed_puts)) h.s
 -- nothing is put, and nothing fails
 pub nothing_answered : (answer : Result (Unit {0}) Stop) (s : Seen) → failures_in answer ≡ 0 → Shows (with_answer [] answer s) s
 nothing_answered answer s none =
-    shows_each (told_nothing s.output) (omega (arith, none)) (sym (and_true s.sent)) refl (told_same s.errors) refl refl
+    shows_each (told_nothing s.output) (omega (arith, none)) (sym (and-true s.sent)) refl (told_same s.errors) refl refl
     (told_same s.reads)
 
 pub output_ok : (written : List ℕ) (a b : Seen) → Shows (with_answer written (Ok tt) a) b → Shows (with_output written a) b
