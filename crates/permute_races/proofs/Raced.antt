@@ -17,7 +17,7 @@ use Rattle.cvl_base.specs.declared.refused.Refused.TheVariants as refused
 use Rattle.cvl_base.specs.Faults.{fault_at}
 use Rattle.cvl_base.specs.Gives.{Gives, unless}
 use Rattle.cvl_base.specs.Limits.{most_elements}
-use Rattle.cvl_base.specs.Permutes.{first_fault, is_place, is_destination, place_among, wrong_at, wrongs}
+use Rattle.cvl_base.specs.Permutes.{destination_if, first_fault, is_place, is_destination, place_among, wrong_at, wrongs}
 use Rattle.permute_walks.specs.Senders.{nobody, sender_from, senders_of}
 use Rattle.permute_walks.proofs.Sent.{length-senders_of, length-wrongs, sender_at, wrong_here}
 use Rattle.permute_races.specs.Races.{bad_slots, slot_of, slots_of, wrong_beside, wrongs_beside}
@@ -83,10 +83,6 @@ senders_are ts m leasts few are =
     ∙ ap told (get_or-map-range_with_len (least_from 0 (map (slot_of m) ts)) 0 m d d None below (omega arith))
     ∙ sender_least 0 ts m d below
     ∙ sym (sender_at 0 ts m d below))
-
-pub if_senders : {V E : Type 0} (view : V → List ℕ) (told senders : List ℕ) (r : Result V E) → told ≡ senders → IfOk r (λ v. view v ≡ told) → IfOk r (λ v. view v ≡ senders)
-if_senders view told senders (Ok v) same is = is ∙ same
-if_senders view told senders (Err e) same is = tt
 
 -- ---- a place is bad where it isn't the sender of its index
 
@@ -195,12 +191,16 @@ out_if : (b : Bool) (d : ℕ) (others : Option FaultNo) → None ≡ (if b then 
 out_if true d others none = absurd (none-some d none)
 out_if false d others none = refl
 
-pub outside_at : (senders : List ℕ) (k : ℕ) (i : ℤ) → None ≡ place_among (length senders) i → wrong_beside senders k (Some i) ≡ Some IndexOutOfRange
-outside_at senders k i none = out_if (is_place (length senders) i) (unsigned_abs i) _ none
+module _ (senders : List ℕ) (ts : List (Option ℤ)) (k : ℕ) (lt : k < length (wrongs_beside senders ts)) (i : ℤ) (takes : Bool) (is : get_or ts k None ≡ destination_if i takes) where
+  pub wrong_now : (b : Bool) → takes ≡ b → get_or (wrongs_beside senders ts) k None ≡ wrong_beside senders k (destination_if i b)
+  wrong_now b same = beside-at senders ts k (omega (arith, lt, length-beside senders ts)) ∙ ap (wrong_beside senders k) (is ∙ ap (destination_if i) same)
 
-pub inside_at : (senders : List ℕ) (k d : ℕ) (b : Bool) (i : ℤ) → i ≡ pos d → d < length senders → eqb (get_or senders d 0) k ≡ b
-    → wrong_beside senders k (Some i) ≡ (if b then None else Some IndexRepeated)
-inside_at senders k d b i is lt equal =
-    ap (λ j. wrong_beside senders k (Some j)) is
-    ∙ ap (λ inside. if not inside then Some IndexOutOfRange else if eqb (get_or senders d 0) k then None else Some IndexRepeated) (lt-ltb d (length senders) lt)
-    ∙ ap (λ e. if e then None else Some IndexRepeated) equal
+  pub wrong_outside : takes ≡ true → None ≡ place_among (length senders) i → get_or (wrongs_beside senders ts) k None ≡ Some IndexOutOfRange
+  wrong_outside same none = wrong_now true same ∙ out_if (is_place (length senders) i) (unsigned_abs i) _ none
+
+  pub wrong_inside : (d : ℕ) (b : Bool) → takes ≡ true → i ≡ pos d → d < length senders → eqb (get_or senders d 0) k ≡ b → get_or (wrongs_beside senders ts) k None ≡ (if b then None else Some IndexRepeated)
+  wrong_inside d b same named below equal =
+      wrong_now true same
+      ∙ ap (λ j. wrong_beside senders k (Some j)) named
+      ∙ ap (λ inside. if not inside then Some IndexOutOfRange else if eqb (get_or senders d 0) k then None else Some IndexRepeated) (lt-ltb d (length senders) below)
+      ∙ ap (λ e. if e then None else Some IndexRepeated) equal

@@ -100,27 +100,6 @@ fn senders_told<A: Memory>(
     Ok(senders)
 }
 
-/// The first race: for each place of the result the least place that is sent there.
-fn firsts_raced<R: Threads + Sync, A: Memory, D: Destinations + Sync, G: Gate>(
-    rt: &R,
-    alloc: A,
-    pace: Pace,
-    places: u32,
-    destinations: &D,
-    gate: &G,
-) -> Result<Vec<u32, A>, NoResources>
-    requires few { length (D.destinations destinations.now) ≤ most_elements }
-    requires few_places { places ≤ most_elements }
-    ensures { IfOk result (λ v. v.items ≡ senders_of 0 (D.destinations destinations.now) places) }
-{
-    let slots = Slots {
-        destinations,
-        places,
-    };
-    let leasts = race_for_leasts(rt, alloc, pace, &slots, gate)?;
-    senders_told(alloc, &leasts, places)
-}
-
 /// For each place of the result its sender, for which workers race: on a first board for the least place that is sent there,
 /// and on a second one for the least bad place, whose fault it is. Each worker passes the gate at `Claimed` and `Finished`
 /// of each of its tiles.
@@ -137,7 +116,12 @@ pub fn senders_raced<R: Threads + Sync, A: Memory, D: Destinations + Sync, G: Ga
     ensures { Gives (λ v. v.items) result (unless (first_fault 0 (wrongs places (D.destinations destinations.now)))
         (Ok (senders_of 0 (D.destinations destinations.now) places))) }
 {
-    let senders = firsts_raced(rt, alloc, pace, places as u32, destinations, gate)?;
+    let slots = Slots {
+        destinations,
+        places: places as u32,
+    };
+    let leasts = race_for_leasts(rt, alloc, pace, &slots, gate)?;
+    let senders = senders_told(alloc, &leasts, slots.places)?;
     let sent = Sent {
         destinations,
         senders: &senders,
