@@ -2,7 +2,7 @@
 //! reads all indices, writes and marks the places of its range to which an index sends, and counts its marks. So no two threads
 //! write one place, no place is waited for, and each thread's writes lie close together.
 
-ghost use Rattle.std.specs.Prelude.{◌≡◌, ◌+◌, ◌≤◌, List, length, replicate, IfOk, IfSome, is_none, is_some};
+ghost use Rattle.std.specs.Prelude.{◌≡◌, ◌+◌, ◌≤◌, ℤ, List, Option, length, replicate, IfOk, IfSome, is_none, is_some};
 ghost use Rattle.std.specs.Thread.{IsSend, IsSync};
 ghost use Rattle.cvl_base.specs.Limits.{most_elements};
 ghost use Rattle.cvl_base.specs.Permutes.{first_fault, wrongs};
@@ -32,51 +32,60 @@ fn count_destinations<D: Destinations>(destinations: &D) -> usize
     count
 }
 
-/// The elements of the places.
-// By this trait, and not as a slice, they go to other threads beside the range of the result, whose elements are of the same type.
-trait Elements<T> {
+/// Writes and marks the places of a range.
+// By this trait, and not as a slice, the elements go to other threads beside the range of the result, whose elements are of the same
+// type.
+trait Owner<T> {
     ghost elements: { Self → List T };
 
-    fn elements(&self) -> &[T]
-        ensures { result.now ≡ elements self.now };
+    ghost destinations: { Self → List (Option ℤ) };
+
+    /// Writes and marks the places of one range, none of which is marked, and tells how many are marked then.
+    fn write(&self, lowest: usize, out: &mut [T], marks: &mut [u32]) -> usize
+        requires unmarked { marks.old ≡ replicate (words_for (length out.old)) 0 }
+        requires within { lowest + length out.old ≤ most_elements }
+        ensures written { out.new ≡ written_over (elements self.now) (last_senders 0 (destinations self.now) lowest (length out.old)) out.old }
+        ensures count { result ≡ count_sent (last_senders 0 (destinations self.now) lowest (length out.old)) };
 }
 
-/// All elements of a slice.
+/// Sends the elements of a slice.
 #[derive(Drop)]
-struct AllElements<'a, T> {
-    elements: &'a [T],
+struct Sends<'a, T, D: Destinations> {
+    source: &'a [T],
+    destinations: &'a D,
+    ghost sourced: { length source.now ≡ length (D.destinations destinations.now) },
+    ghost few: { length (D.destinations destinations.now) ≤ most_elements },
 }
 
-impl<'a, T> Elements<T> for AllElements<'a, T> {
-    ghost elements = { λ a. a.elements.now };
+impl<'a, T: Copy, D: Destinations> Owner<T> for Sends<'a, T, D> {
+    ghost elements = { λ s. s.source.now };
 
-    fn elements(&self) -> &[T] {
-        self.elements
+    ghost destinations = { λ s. D.destinations s.destinations.now };
+
+    fn write(&self, lowest: usize, out: &mut [T], marks: &mut [u32]) -> usize {
+        write_range(self.source, self.destinations, lowest, out, marks);
+        count_marks(marks)
     }
 }
 
 /// Writes and marks the places of one range, which at most so many threads share, and tells how many are marked. No two threads
 /// share a word of marks.
 #[cycle(ranges)]
-fn write_ranges<T: Copy + Send, R: Threads + Sync, S: Elements<T> + Sync, D: Destinations + Sync>(
+fn write_ranges<T: Copy + Send, R: Threads + Sync, W: Owner<T> + Sync>(
     rt: &R,
-    source: &S,
-    destinations: &D,
+    owner: &W,
     threads: ThreadCount,
     lowest: usize,
     out: &mut [T],
     marks: &mut [u32],
 ) -> usize
-    requires sourced { length (S.elements source.now) ≡ length (D.destinations destinations.now) }
     requires unmarked { marks.old ≡ replicate (words_for (length out.old)) 0 }
     requires within { lowest + length out.old ≤ most_elements }
-    requires in_limit { length (D.destinations destinations.now) ≤ most_elements }
-    ensures written { out.new ≡ written_over (S.elements source.now) (last_senders 0 (D.destinations destinations.now) lowest (length out.old)) out.old }
-    ensures count { result ≡ count_sent (last_senders 0 (D.destinations destinations.now) lowest (length out.old)) }
+    ensures written { out.new ≡ written_over (W.elements owner.now) (last_senders 0 (W.destinations owner.now) lowest (length out.old)) out.old }
+    ensures count { result ≡ count_sent (last_senders 0 (W.destinations owner.now) lowest (length out.old)) }
 {
     if threads.get() < 2 {
-        write_range(source.elements(), destinations, lowest, out, marks);
-        return count_marks(marks);
+        return owner.write(lowest, out, marks);
     }
     let (fewer, others) = threads.halves();
     let words = out.len() / threads.get() * fewer.get() / WORD_BITS;
@@ -85,8 +94,7 @@ fn write_ranges<T: Copy + Send, R: Threads + Sync, S: Elements<T> + Sync, D: Des
     let (low_marks, high_marks) = marks.split_at_mut(words);
     write_both(
         rt,
-        source,
-        destinations,
+        owner,
         fewer,
         lowest,
         low,
@@ -100,10 +108,9 @@ fn write_ranges<T: Copy + Send, R: Threads + Sync, S: Elements<T> + Sync, D: Des
 
 /// `write_ranges` for two ranges, each in a thread of its own: how many places are marked in both.
 #[cycle(ranges)]
-fn write_both<T: Copy + Send, R: Threads + Sync, S: Elements<T> + Sync, D: Destinations + Sync>(
+fn write_both<T: Copy + Send, R: Threads + Sync, W: Owner<T> + Sync>(
     rt: &R,
-    source: &S,
-    destinations: &D,
+    owner: &W,
     fewer: ThreadCount,
     lowest: usize,
     low: &mut [T],
@@ -114,29 +121,25 @@ fn write_both<T: Copy + Send, R: Threads + Sync, S: Elements<T> + Sync, D: Desti
     high_marks: &mut [u32],
 ) -> usize
     requires some { (1 ≤ fewer) × (1 ≤ others) }
-    requires sourced { length (S.elements source.now) ≡ length (D.destinations destinations.now) }
     requires unmarked { (low_marks.old ≡ replicate (words_for (length low.old)) 0) × (high_marks.old ≡ replicate (words_for (length high.old)) 0) }
     requires within { (lowest + length low.old ≤ most_elements) × (middle + length high.old ≤ most_elements) }
-    requires in_limit { length (D.destinations destinations.now) ≤ most_elements }
-    ensures low { low.new ≡ written_over (S.elements source.now) (last_senders 0 (D.destinations destinations.now) lowest (length low.old)) low.old }
-    ensures high { high.new ≡ written_over (S.elements source.now) (last_senders 0 (D.destinations destinations.now) middle (length high.old)) high.old }
-    ensures count { result ≡ count_sent (last_senders 0 (D.destinations destinations.now) lowest (length low.old))
-        + count_sent (last_senders 0 (D.destinations destinations.now) middle (length high.old)) }
+    ensures low { low.new ≡ written_over (W.elements owner.now) (last_senders 0 (W.destinations owner.now) lowest (length low.old)) low.old }
+    ensures high { high.new ≡ written_over (W.elements owner.now) (last_senders 0 (W.destinations owner.now) middle (length high.old)) high.old }
+    ensures count { result ≡ count_sent (last_senders 0 (W.destinations owner.now) lowest (length low.old))
+        + count_sent (last_senders 0 (W.destinations owner.now) middle (length high.old)) }
 {
     let mut write_low = || -> usize
-        requires { IsSync R.row × IsSend T.row × IsSync S.row × IsSync D.row × (1 ≤ fewer) × (length (S.elements source.now) ≡ length (D.destinations destinations.now))
-            × (low_marks.now ≡ replicate (words_for (length low.now)) 0)
-            × (lowest + length low.now ≤ most_elements) × (length (D.destinations destinations.now) ≤ most_elements) }
-        ensures { (low.exit.now ≡ written_over (S.elements source.entry.now) (last_senders 0 (D.destinations destinations.entry.now) lowest (length low.entry.now)) low.entry.now)
-            × (result ≡ count_sent (last_senders 0 (D.destinations destinations.entry.now) lowest (length low.entry.now))) }
-    { write_ranges(rt, source, destinations, fewer, lowest, low, low_marks) };
+        requires { IsSync R.row × IsSend T.row × IsSync W.row × (1 ≤ fewer)
+            × (low_marks.now ≡ replicate (words_for (length low.now)) 0) × (lowest + length low.now ≤ most_elements) }
+        ensures { (low.exit.now ≡ written_over (W.elements owner.entry.now) (last_senders 0 (W.destinations owner.entry.now) lowest (length low.entry.now)) low.entry.now)
+            × (result ≡ count_sent (last_senders 0 (W.destinations owner.entry.now) lowest (length low.entry.now))) }
+    { write_ranges(rt, owner, fewer, lowest, low, low_marks) };
     let mut write_high = || -> usize
-        requires { IsSync R.row × IsSend T.row × IsSync S.row × IsSync D.row × (1 ≤ others) × (length (S.elements source.now) ≡ length (D.destinations destinations.now))
-            × (high_marks.now ≡ replicate (words_for (length high.now)) 0)
-            × (middle + length high.now ≤ most_elements) × (length (D.destinations destinations.now) ≤ most_elements) }
-        ensures { (high.exit.now ≡ written_over (S.elements source.entry.now) (last_senders 0 (D.destinations destinations.entry.now) middle (length high.entry.now)) high.entry.now)
-            × (result ≡ count_sent (last_senders 0 (D.destinations destinations.entry.now) middle (length high.entry.now))) }
-    { write_ranges(rt, source, destinations, others, middle, high, high_marks) };
+        requires { IsSync R.row × IsSend T.row × IsSync W.row × (1 ≤ others)
+            × (high_marks.now ≡ replicate (words_for (length high.now)) 0) × (middle + length high.now ≤ most_elements) }
+        ensures { (high.exit.now ≡ written_over (W.elements owner.entry.now) (last_senders 0 (W.destinations owner.entry.now) middle (length high.entry.now)) high.entry.now)
+            × (result ≡ count_sent (last_senders 0 (W.destinations owner.entry.now) middle (length high.entry.now))) }
+    { write_ranges(rt, owner, others, middle, high, high_marks) };
     let (in_low, in_high) = join_mut(rt, &mut write_low, &mut write_high);
     in_low + in_high
 }
@@ -174,15 +177,11 @@ where
         count: words,
     };
     let mut marks = write_in_runs(rt, alloc, threads, &unmarked, words)?;
-    let sent = write_ranges(
-        rt,
-        &AllElements { elements: source },
+    let owner = Sends {
+        source,
         destinations,
-        threads,
-        0,
-        &mut out,
-        &mut marks,
-    );
+    };
+    let sent = write_ranges(rt, &owner, threads, 0, &mut out, &mut marks);
     if sent == count_destinations(destinations) {
         Ok(Some(out))
     } else {

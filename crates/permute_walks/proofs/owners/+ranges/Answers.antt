@@ -1,14 +1,12 @@
-use Rattle.std.proofs.Common.{rules, ◌≡◌, ◌+◌, ◌++◌, ◌∙◌, ap, count_ones, length, sum_by, sym, arith}
-use Rattle.permute_walks.specs.Senders.{count_sent, last_senders, sent_marks, written_over}
+use Rattle.std.proofs.Common.{rules, ◌≡◌, ◌+◌, ◌++◌, ◌∙◌, ap, length, sym, arith}
+use Rattle.permute_walks.specs.Senders.{count_sent, last_senders, written_over}
 use Rattle.permute_walks.proofs.LastSent.{lasts_both, length-last_senders}
-use Rattle.permute_walks.proofs.MarkWords.{marks_count}
-use Rattle.permute_walks.proofs.Scattered.{count_marked}
 use Rattle.permute_walks.proofs.Written.{count_both, count_within, unmarked_both, written_both}
 use Rattle.permute_walks.proofs.owners.+ranges.Goals as goal
 
 pub write_both-overflow_add-result : goal.write_both-overflow_add-result
 write_both-overflow_add-result g t c =
-    let ds = g.D.Destinations.destinations c.args.destinations.now in
+    let ds = g.W.Owner.destinations c.args.owner.now in
     let m = length c.args.low.now in
     let n = length c.args.high.now in
     let in_low : c.join_mut-in_low.result.0 ≡ count_sent (last_senders 0 ds c.args.lowest m) = search rules in
@@ -24,15 +22,10 @@ write_ranges-write_both-requires-clause-unmarked g t c κs within =
     let marks = c.split_at_mut-low_marks in
     unmarked_both (length c.args.out.now) m n _ c.args.marks.now marks.result.0.now marks.result.1.now c.requires.unmarked marks.ensures.front marks.ensures.back (sym cut.ensures.front_len) all
 
-pub write_ranges-returns-then-get-lt2-clause-count : goal.write_ranges-returns-then-get-lt2-clause-count
-write_ranges-returns-then-get-lt2-clause-count g t c =
-    let lasts = last_senders 0 (g.D.Destinations.destinations c.args.destinations.now) c.args.lowest (length c.args.out.now) in
-    c.count_marks.ensures ∙ ap (sum_by count_ones) c.write_range.ensures.marked ∙ marks_count (sent_marks lasts) ∙ count_marked lasts
-
 pub write_ranges-returns-clause-written : goal.write_ranges-returns-clause-written
 write_ranges-returns-clause-written g t c =
-    let source = g.S.Elements.elements c.args.source.now in
-    let ds = g.D.Destinations.destinations c.args.destinations.now in
+    let source = g.W.Owner.elements c.args.owner.now in
+    let ds = g.W.Owner.destinations c.args.owner.now in
     let lowest = c.args.lowest in
     let cut = c.split_at_mut-low in
     let low = cut.result.0.now in
@@ -50,7 +43,7 @@ write_ranges-returns-clause-written g t c =
 
 pub write_ranges-returns-clause-count : goal.write_ranges-returns-clause-count
 write_ranges-returns-clause-count g t c =
-    let ds = g.D.Destinations.destinations c.args.destinations.now in
+    let ds = g.W.Owner.destinations c.args.owner.now in
     let lowest = c.args.lowest in
     let cut = c.split_at_mut-low in
     let m = length cut.result.0.now in
