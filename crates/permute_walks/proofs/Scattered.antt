@@ -16,7 +16,7 @@ use Rattle.permute_walks.proofs.LastSent.{lasts_set, lasts_stored, reached}
 use Rattle.cvl_base.proofs.Permutes.{length-all_destinations}
 use Rattle.sent_places.proofs.Sent.{length-senders_of, nobody_sent}
 use Rattle.sent_places.proofs.Stored.{inside_where_right, is_sent, right_now}
-use Rattle.permute_walks.proofs.Taken.{read_at}
+use Rattle.cvl_base.proofs.Lists.{element}
 
 -- ---- marks
 
@@ -65,7 +65,7 @@ pub written_all : {X : Type 0} (source : List X) (senders : List ℕ) (values : 
 written_all source [] values long below = refl
 written_all source (s ∷ senders) [] long below = absurd (omega arith)
 written_all source (s ∷ senders) (v ∷ values) long below =
-    let some = (read_at source s (All-head (λ s. s < length source) s senders below)).1 in
+    let some = (element source s (All-head (λ s. s < length source) s senders below)).1 in
     let rest = written_all source senders values (omega arith) (All-tail (λ s. s < length source) s senders below) in
     (λ i. unwrap_or (some i) v ∷ rest i)
     ∙ ap (λ o. cons_option o (filter_map (slice_get source) senders)) (sym some)

@@ -1,6 +1,8 @@
--- What the definitions of the flat calls give, told by the senders of the places.
-use Rattle.std.proofs.Common.{◌≡◌, ◌∙◌, ℕ, ◌≤◌, Bool, not, List, ◌++◌, length, filter_map, take, drop, refl, sym, ap, arith, inl, inr, ℤ, slice_get, Result, Ok}
+-- What the definitions of the flat calls are told to be by the senders of the places, and by the indices.
+use Rattle.std.proofs.Common.{◌≡◌, ◌∙◌, ℕ, ◌+◌, ◌<◌, ◌≤◌, Bool, not, List, ◌++◌, length, take, drop, refl, sym, ap, arith, inl, inr, ℤ, Option, Result, Ok}
+use Rattle.std.specs.List.{sum_by}
 use Rattle.std.proofs.lemmas.Bool.Decides.{eqb_tells}
+use Rattle.std.proofs.lemmas.List.Elements.{All-weaker}
 use Rattle.std.proofs.Math.Seq.{take-append_seam}
 use Rattle.cvl_base.specs.declared.fault.Fault.{Fault}
 use Rattle.cvl_base.specs.declared.fault.FaultNo.TheVariants.{LengthMismatch}
@@ -9,10 +11,15 @@ use Rattle.cvl_base.specs.Faults.{fault}
 use Rattle.cvl_base.specs.Gives.{fault_if, unless}
 use Rattle.cvl_base.specs.Limits.{most_elements}
 use Rattle.cvl_base.specs.Packs.{count_of}
-use Rattle.cvl_base.specs.Permutes.{all_destinations, default_of, first_fault, flagged_destinations, select_of, sent_over, sent_to_all, simple_of, wrongs}
-use Rattle.permute_walks.specs.Senders.{senders_of, written_over}
+use Rattle.cvl_base.specs.Permutes.{all_destinations, back_of, default_of, first_fault, flagged_destinations, select_of, sent_over, sent_to_all, simple_of, wrongs}
+use Rattle.permute_walks.specs.Indices.{elements_at, first_outside}
+use Rattle.permute_walks.specs.Senders.{senders_of}
 use Rattle.cvl_base.proofs.Permutes.{length-all_destinations, length-flagged_destinations}
+use Rattle.permute_walks.proofs.EachSent.{all_take_part, each_sent, flagged_take_part, takes_part}
+use Rattle.permute_walks.proofs.Outside.{all_inside, length-elements_at, values_unless}
+use Rattle.permute_walks.proofs.Sent.{length-senders_of}
 use Rattle.permute_walks.proofs.Taken.{taken_flat, taken_over_flat}
+use Rattle.permutes.proofs.Told.{IsSent, IsSentOver, IsTold}
 
 pub if_as_long-fits : {X Y Z : Type 0} (xs : List X) (ys : List Y) (rest : Result Z Fault) → length xs ≡ length ys → if_as_long xs ys rest ≡ rest
 if_as_long-fits xs ys rest same =
@@ -25,27 +32,43 @@ if_as_long-fits xs ys rest same =
 pub written : {X : Type 0} (new held : List X) (n : ℕ) → n ≡ length new → take n (new ++ drop (length new) held) ≡ new
 written new held n long = rw (long, take-append_seam new (drop (length new) held)) refl
 
--- ---- the definitions, told by senders
+-- ---- the calls
 
-pub simple-meaning : {X : Type 0} (source : List X) (index : List ℤ) → length source ≡ length index → length index ≤ most_elements
-    → simple_of source index ≡ unless (first_fault 0 (wrongs (length index) (all_destinations index))) (Ok (filter_map (slice_get source) (senders_of 0 (all_destinations index) (length index))))
-simple-meaning source index long few =
-    let ts = all_destinations index in
-    if_as_long-fits source index (sent_to_all source ts (length index)) long
-    ∙ ap (λ xs. unless (first_fault 0 (wrongs (length index) ts)) (Ok xs)) (sym (taken_flat source ts (length index) (omega (arith, length-all_destinations index)) (omega arith)))
+flat_sent : {X : Type 0} (source : List X) (ts : List (Option ℤ)) (m : ℕ) (meaning : Result (List X) Fault) → meaning ≡ sent_to_all source ts m → length source ≡ length ts → length source ≤ most_elements
+    → sum_by takes_part ts ≡ m → IsSent source meaning (first_fault 0 (wrongs m ts)) (senders_of 0 ts m) m
+flat_sent source ts m meaning is long few as_many = record {
+  is = is ∙ ap (λ xs. unless (first_fault 0 (wrongs m ts)) (Ok xs)) (sym (taken_flat source ts m long (omega arith)));
+  sent = λ right.
+      All-weaker (λ s. s < 0 + length ts) (λ s. s < length source) (λ s below. omega (arith, below, long)) (senders_of 0 ts m) (each_sent 0 ts m (omega (arith, long)) (sym right) as_many);
+  as_many = length-senders_of 0 ts m;
+}
 
-pub select-meaning : {X : Type 0} (source : List X) (index : List ℤ) (flags : List Bool) → length source ≡ length index → length index ≡ length flags → length index ≤ most_elements
-    → select_of source index flags ≡ unless (first_fault 0 (wrongs (count_of flags) (flagged_destinations index flags)))
-    (Ok (filter_map (slice_get source) (senders_of 0 (flagged_destinations index flags) (count_of flags))))
-select-meaning source index flags long flagged few =
-    let ts = flagged_destinations index flags in
-    if_as_long-fits source index (if_as_long index flags (sent_to_all source ts (count_of flags))) long
-    ∙ if_as_long-fits index flags (sent_to_all source ts (count_of flags)) flagged
-    ∙ ap (λ xs. unless (first_fault 0 (wrongs (count_of flags) ts)) (Ok xs)) (sym (taken_flat source ts (count_of flags) (omega (arith, length-flagged_destinations index flags flagged)) (omega arith)))
+module _ {X : Type 0} (source : List X) (index : List ℤ) (long : length source ≡ length index) (few : length index ≤ most_elements) where
+  pub simple_sent : IsSent source (simple_of source index) (first_fault 0 (wrongs (length index) (all_destinations index))) (senders_of 0 (all_destinations index) (length index)) (length index)
+  simple_sent =
+      flat_sent source (all_destinations index) (length index) (simple_of source index) (if_as_long-fits source index _ long) (long ∙ sym (length-all_destinations index)) (omega arith) (all_take_part index)
 
-pub default-meaning : {X : Type 0} (source : List X) (index : List ℤ) (defaults : List X) → length source ≡ length index → length index ≤ most_elements
-    → default_of source index defaults ≡ unless (first_fault 0 (wrongs (length defaults) (all_destinations index))) (Ok (written_over source (senders_of 0 (all_destinations index) (length defaults)) defaults))
-default-meaning source index defaults long few =
-    let ts = all_destinations index in
-    if_as_long-fits source index (sent_over source ts defaults) long
-    ∙ ap (λ xs. unless (first_fault 0 (wrongs (length defaults) ts)) (Ok xs)) (sym (taken_over_flat source ts defaults (omega (arith, length-all_destinations index)) (omega arith)))
+  pub select_sent : (flags : List Bool) (places : ℕ) → places ≡ count_of flags → length index ≡ length flags
+      → IsSent source (select_of source index flags) (first_fault 0 (wrongs places (flagged_destinations index flags))) (senders_of 0 (flagged_destinations index flags) places) places
+  select_sent flags places count flagged =
+      let ts = flagged_destinations index flags in
+      flat_sent source ts places (select_of source index flags)
+      (if_as_long-fits source index (if_as_long index flags (sent_to_all source ts (count_of flags))) long ∙ if_as_long-fits index flags (sent_to_all source ts (count_of flags)) flagged
+      ∙ ap (sent_to_all source ts) (sym count))
+      (long ∙ sym (length-flagged_destinations index flags flagged)) (omega arith) (flagged_take_part index flags flagged ∙ sym count)
+
+  pub default_sent : (defaults : List X)
+      → IsSentOver source defaults (default_of source index defaults) (first_fault 0 (wrongs (length defaults) (all_destinations index))) (senders_of 0 (all_destinations index) (length defaults))
+  default_sent defaults =
+      let ts = all_destinations index in
+      record {
+        is = if_as_long-fits source index (sent_over source ts defaults) long
+            ∙ ap (λ xs. unless (first_fault 0 (wrongs (length defaults) ts)) (Ok xs)) (sym (taken_over_flat source ts defaults (omega (arith, length-all_destinations index)) (omega arith)));
+        as_many = length-senders_of 0 ts (length defaults);
+      }
+
+pub back_told : {X : Type 0} (source : List X) (index : List ℤ) → IsTold (back_of source index) (first_outside 0 (length source) index) (elements_at source index) (length index)
+back_told source index = record {
+  is = values_unless 0 source index;
+  long = λ none. length-elements_at source index (all_inside 0 (length source) index none);
+}

@@ -1,5 +1,3 @@
-pub mod Called
-pub mod Checked
 pub mod Flat
-pub mod Roomed
+pub mod Told
 pub mod Walked

@@ -1,14 +1,12 @@
 -- The walks of a simple permute by segments straight into a room: what the marks of each segment tell, and what the room holds.
 use Rattle.std.proofs.Common.{◌≡◌, ◌∙◌, ℕ, zero, suc, ◌+◌, ◌-◌, ◌<◌, ◌≤◌, List, [], ◌∷◌, ◌++◌, length, filter_map, map, sum, take, drop, get_or, refl, sym, ap, arith, inl, inr, ℤ, slice_get, Option, Some, None}
-use Rattle.std.proofs.Common.{length-drop}
-use Rattle.std.specs.List.{All}
 use Rattle.std.proofs.lemmas.Bool.Decides.{leb_tells}
-use Rattle.std.proofs.lemmas.List.{length-take-le, take_all, take-append-drop}
+use Rattle.std.proofs.lemmas.List.{take_all}
 use Rattle.std.proofs.lemmas.List.Elements.{All-weaker}
 use Rattle.std.proofs.lemmas.Option.{none-some}
 use Rattle.std.proofs.lemmas.Slice.{take-put_mid}
 use Rattle.std.proofs.Math.Seq.{take-add}
-use borrow.Rule.Slice.PartMut.{put_mid}
+use borrow.Rule.Slice.PartMut.{put_mid, same_len_mid}
 use Rattle.cvl_base.specs.declared.fault.FaultNo.{FaultNo}
 use Rattle.cvl_base.specs.Faults.{fault_at}
 use Rattle.cvl_base.specs.Limits.{most_elements}
@@ -21,12 +19,12 @@ use Rattle.permute_walks.proofs.EachSent.{all_take_part, each_sent}
 use Rattle.permute_walks.proofs.Scattered.{written_all}
 use Rattle.cvl_base.proofs.Permutes.{length-all_destinations}
 use Rattle.permute_walks.proofs.Sent.{length-senders_of}
-use Rattle.permute_walks.proofs.Taken.{taken_flat, taken_sent}
+use Rattle.permute_walks.proofs.Taken.{taken_flat, taken_part}
 use Rattle.segment_sends.specs.Parts.{destinations_in, fault_from, parts_of, places_in, senders_from}
 use Rattle.segment_sends.specs.Shares.{AreRight, part_at, permuted}
 use Rattle.segment_sends.proofs.Ranges.{length-range, part_of_range}
 use Rattle.segment_sends.proofs.Shared.{all_right, length-permuted, permuted_at}
-use Rattle.segment_sends.proofs.Through.{destinations_ahead, length-parts, places_ahead, places-parts, put_length, segment_within, start_more}
+use Rattle.segment_sends.proofs.Through.{destinations_ahead, length-parts, places_ahead, places-parts, segment_within, start_more}
 use Rattle.segment_sends.proofs.AllSent.{neither, length-senders_from, segments_sent}
 
 -- ---- what is wrong hangs on no place
@@ -106,90 +104,55 @@ module _ (lengths : List ℕ) (index : List ℤ) (total : sum lengths ≡ length
     whole_long = length-permuted source parts source places_all
 
     -- a segment of the room
-    module _ (s : ℕ) (lt : s < length lengths) (first last : ℕ) (there : first ≡ start_of lengths s) (is : last ≡ first + get_or lengths s 0) where
-      abbrev n : ℕ
-      n = get_or lengths s 0
-
+    module _ (s : ℕ) (lt : s < length lengths) (first n : ℕ) (there : first ≡ start_of lengths s) (is : n ≡ get_or lengths s 0) where
       abbrev ys : List X
-      ys = take (last - first) (drop first source)
+      ys = take (first + n - first) (drop first source)
 
       abbrev js : List ℤ
-      js = take (last - first) (drop first index)
+      js = segment s lt first n there is
 
-      pub room_within : last ≤ length index
-      room_within = omega (arith, is, there, segment_within lengths index total s lt)
+      js_long : length js ≡ n
+      js_long = segment_long s lt first n there is
 
-      width : last - first ≡ n
-      width = omega (arith, is)
-
-      pub ys_long : length ys ≡ n
-      ys_long = length-take-le (last - first) (drop first source) (omega (arith, width, room_within, is, sourced, length-drop first source)) ∙ width
-
-      js_are : js ≡ take (first + n - first) (drop first index)
-      js_are = ap (λ k. take (k - first) (drop first index)) is
-
-      pub js_long : length js ≡ n
-      js_long = ap length js_are ∙ segment_long s lt first n there refl
-
-      told : part_at parts s ≡ (n, all_destinations js)
-      told = segment_is s lt first n there refl ∙ ap (λ xs. (n, all_destinations xs)) (sym js_are)
-
-      start : places_in (take s parts) ≡ first
-      start = places_ahead lengths lengths index refl s ∙ sym there
-
-      place : destinations_in (take s parts) ≡ first
-      place = destinations_ahead lengths lengths index refl s total ∙ sym there
-
-      in_parts : s < length parts
-      in_parts = omega (arith, lt, length-parts lengths lengths index refl)
+      room_within : first + n ≤ length source
+      room_within = omega (arith, is, there, sourced, segment_within lengths index total s lt)
 
       pub segment_right : None ≡ first_fault 0 (wrongs (length js) (all_destinations js))
-      segment_right =
-          right_here s lt first n there refl right ∙ ap (λ xs. first_fault 0 (wrongs (length xs) (all_destinations xs))) (sym js_are)
+      segment_right = right_here s lt first n there is right
 
       -- what it is sent
-      sent : filter_map (slice_get ys) (senders_of 0 (all_destinations js) n) ≡ filter_map (slice_get source) (senders_of first (all_destinations js) n)
-      sent =
-          let ts = all_destinations js in
-          let ts_long : length ts ≡ n = length-all_destinations js ∙ js_long in
-          let behind = drop (last - first) (drop first source) in
-          let front : length (take first source) ≡ first = length-take-le first source (omega (arith, room_within, is, sourced)) in
-          let again : take first source ++ (ys ++ behind) ≡ source = ap (λ xs. take first source ++ xs) (take-append-drop (last - first) (drop first source)) ∙ take-append-drop first source in
-          taken_flat ys ts n (ys_long ∙ sym ts_long) (omega (arith, ys_long, room_within, is, few))
-          ∙ sym (taken_sent (take first source) ys behind first ts n front (ys_long ∙ sym ts_long) (omega (arith, ap length again, sourced, few)))
-          ∙ ap (λ xs. filter_map (slice_get xs) (senders_of first ts n)) again
-
-      all_below : All (λ k. k < length source) (senders_of first (all_destinations js) n)
-      all_below =
-          let ts = all_destinations js in
-          let ts_long : length ts ≡ n = length-all_destinations js ∙ js_long in
-          All-weaker (λ k. k < first + length ts) (λ k. k < length source) (λ k below. omega (arith, ts_long, room_within, is, sourced)) (senders_of first ts n)
-          (each_sent first ts n (omega (arith, ts_long, room_within, is, few)) (no_fault_at 0 first (wrongs n ts) (segment_right ∙ ap (λ k. first_fault 0 (wrongs k ts)) js_long)) (all_take_part js ∙ js_long))
-
-      segment_of_whole : filter_map (slice_get ys) (senders_of 0 (all_destinations js) n) ≡ part whole first n
+      segment_of_whole : filter_map (slice_get ys) (senders_of 0 (all_destinations js) (length js)) ≡ part whole first n
       segment_of_whole =
           let ts = all_destinations js in
+          let ts_long : length ts ≡ n = length-all_destinations js ∙ js_long in
           let here = part source first n in
-          let here_long : length here ≡ n = length_part source first n (omega (arith, room_within, is, sourced)) in
-          sent
-          ∙ sym (written_all source (senders_of first ts n) here (length-senders_of first ts n ∙ sym here_long) all_below)
+          let here_long : length here ≡ n = length_part source first n room_within in
+          let ys_are : ys ≡ here = ap (λ k. take k (drop first source)) (omega arith) in
+          let told = segment_is s lt first n there is in
+          let start = places_ahead lengths lengths index refl s ∙ sym there in
+          let place = destinations_ahead lengths lengths index refl s total ∙ sym there in
+          let below = All-weaker (λ k. k < first + length ts) (λ k. k < length source) (λ k lt. omega (arith, lt, ts_long, room_within)) (senders_of first ts n)
+          (each_sent first ts n (omega (arith, ts_long, room_within, sourced, few)) (no_fault_at 0 first (wrongs n ts) (segment_right ∙ ap (λ k. first_fault 0 (wrongs k ts)) js_long)) (all_take_part js ∙ js_long)) in
+          (λ i. filter_map (slice_get (ys_are i)) (senders_of 0 ts (js_long i)))
+          ∙ taken_flat here ts n (here_long ∙ sym ts_long) (omega (arith, here_long, room_within, sourced, few))
+          ∙ sym (taken_part source (omega (arith, sourced, few)) first n ts ts_long room_within n)
+          ∙ sym (written_all source (senders_of first ts n) here (length-senders_of first ts n ∙ sym here_long) below)
           ∙ (λ i. written_over source (senders_of (sym place i) (sym told i).1 (sym told i).0) (part source (sym start i) (sym told i).0))
-          ∙ sym (permuted_at source parts source s in_parts)
+          ∙ sym (permuted_at source parts source s (omega (arith, lt, length-parts lengths lengths index refl)))
           ∙ (λ i. part whole (start i) (told i).0)
 
       -- one more segment is written
-      pub room_more : (old out new : List X) → length out ≡ length index → take first out ≡ take first whole
-          → new ≡ put_mid first (last - first) out (filter_map (slice_get ys) (senders_of 0 (all_destinations js) (length js)))
+      pub room_more : (out new : List X) → length out ≡ length index → take first out ≡ take first whole
+          → new ≡ put_mid first (first + n - first) out (filter_map (slice_get ys) (senders_of 0 (all_destinations js) (length js)))
           → (length new ≡ length index) × (take (sum (take (s + 1) lengths)) new ≡ take (sum (take (s + 1) lengths)) whole)
-      room_more old out new long done put =
+      room_more out new long done put =
           let segment = filter_map (slice_get ys) (senders_of 0 (all_destinations js) (length js)) in
-          let are : segment ≡ part whole first n = ap (λ k. filter_map (slice_get ys) (senders_of 0 (all_destinations js) k)) js_long ∙ segment_of_whole in
-          let wide : length segment ≡ n = ap length are ∙ length_part whole first n (omega (arith, room_within, is, sourced, whole_long)) in
-          let next : first + n ≡ sum (take (s + 1) lengths) = omega (arith, start_more lengths s lt, there) in (
-            ap length put ∙ put_length first (last - first) out segment (omega (arith, room_within, is, long)) (wide ∙ sym width) ∙ long,
+          let wide : length segment ≡ n = ap length segment_of_whole ∙ length_part whole first n (omega (arith, room_within, whole_long)) in
+          let next : first + n ≡ sum (take (s + 1) lengths) = omega (arith, start_more lengths s lt, there, is) in (
+            ap length put ∙ same_len_mid first (first + n - first) out segment (omega (arith, wide, length_part out first (first + n - first) (omega (arith, room_within, sourced, long)))) ∙ long,
             ap (λ k. take k new) (sym next) ∙ ap (take (first + n)) put
-                ∙ take-put_mid first (last - first) out segment (first + n) (omega (arith, wide)) (omega (arith, room_within, is, long))
-                ∙ (λ i. done i ++ are i) ∙ sym (take-add first n whole) ∙ ap (λ k. take k whole) next,
+                ∙ take-put_mid first (first + n - first) out segment (first + n) (omega (arith, wide)) (omega (arith, room_within, sourced, long))
+                ∙ (λ i. done i ++ segment_of_whole i) ∙ sym (take-add first n whole) ∙ ap (λ k. take k whole) next,
           )
 
     pub room_all : (s : ℕ) (out : List X) → length out ≡ length index → take (sum (take s lengths)) out ≡ take (sum (take s lengths)) whole → length lengths ≤ s

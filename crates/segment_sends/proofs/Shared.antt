@@ -20,7 +20,8 @@ use Rattle.permute_walks.specs.Senders.{senders_of, written_over}
 use Rattle.permute_walks.proofs.Sent.{length-senders_of}
 use Rattle.permute_walks.proofs.Taken.{length-over}
 use Rattle.segment_sends.specs.Parts.{destinations_in, fault_from, places_in, senders_from}
-use Rattle.segment_sends.specs.Shares.{AreRight, AreWithin, IsShare, IsWritten, part_at, permuted}
+use Rattle.segment_sends.specs.Shares.{AreRight, AreWithin, IsShare, IsWritten, Sending, part_at, permuted}
+use denote.RawPtr.{Ptr}
 use Rattle.segment_sends.proofs.AllSent.{length-senders_from}
 
 -- ---- the places of a segment
@@ -100,37 +101,39 @@ stretch_more whole items old run new done n last begun within is are written =
     written ∙ ap (λ s. with_items s items) is ∙ (λ i. stretch old.block first (joined i) (room i))
 
 -- the segments up to before s are done, and the destinations of the next one begin at `place`
-pub record IsWalked {X : Type 0} (source : List X) (parts : List (ℕ × List (Option ℤ))) (before : List X) (begin end s : ℕ) (old : Stretch X) (place : ℕ) (run : Stretch X) : Type 0 where
-  pub there : place ≡ destinations_in (take s parts)
-  pub no_fault : AreRight parts begin s
-  pub is : run ≡ stretch old.block old.first (part (permuted source parts before) old.first (places_in (take s parts) - old.first)) (places_in (take end parts) - places_in (take s parts))
+pub record IsWalked {X : Type 0} (w : Sending X) (begin end s : ℕ) (old : Stretch X) (place : ℕ) (run : Stretch X) : Type 0 where
+  pub there : place ≡ destinations_in (take s w.parts)
+  pub no_fault : AreRight w.parts begin s
+  pub is : run ≡ stretch old.block old.first (part (permuted w.source w.parts w.before) old.first (places_in (take s w.parts) - old.first)) (places_in (take end w.parts) - places_in (take s w.parts))
 
-module _ {X : Type 0} (source : List X) (parts : List (ℕ × List (Option ℤ))) (before : List X) (widest begin end : ℕ) (old : Stretch X)
-    (share : IsShare parts (length before) widest begin end old.first old.room) (empty : old.items ≡ []) where
+module _ {X : Type 0} {w : Sending X} {begin end : ℕ} {old : Stretch X} (share : IsShare w begin end old) where
+  abbrev parts : List (ℕ × List (Option ℤ))
+  parts = w.parts
+
   abbrev whole : List X
-  whole = permuted source parts before
+  whole = permuted w.source parts w.before
 
-  whole_long : length whole ≡ length before
-  whole_long = length-permuted source parts before share.as_long
+  whole_long : length whole ≡ length w.before
+  whole_long = length-permuted w.source parts w.before share.as_long
 
-  pub walked_none : (place : ℕ) → place ≡ destinations_in (take begin parts) → IsWalked source parts before begin end begin old place old
+  pub walked_none : (place : ℕ) → place ≡ destinations_in (take begin parts) → IsWalked w begin end begin old place old
   walked_none place there =
       let none : places_in (take begin parts) - old.first ≡ 0 = omega (arith, share.starts) in
       let room : old.room ≡ places_in (take end parts) - places_in (take begin parts) = omega (arith, share.starts, share.ends) in
       record {
         there = there;
         no_fault = λ s from below. absurd (omega (arith, from, below));
-        is = (λ i. stretch old.block old.first (empty i) (room i)) ∙ ap (λ k. stretch old.block old.first (part whole old.first k) (places_in (take end parts) - places_in (take begin parts))) (sym none);
+        is = (λ i. stretch old.block old.first (share.empty i) (room i)) ∙ ap (λ k. stretch old.block old.first (part whole old.first k) (places_in (take end parts) - places_in (take begin parts))) (sym none);
       }
 
-  module _ (s place : ℕ) (run : Stretch X) (from : begin ≤ s) (upto : s ≤ end) (to : IsWalked source parts before begin end s old place run) where
+  module _ {s place : ℕ} {run : Stretch X} (from : begin ≤ s) (upto : s ≤ end) (to : IsWalked w begin end s old place run) where
     starts_before : old.first ≤ places_in (take s parts)
     starts_before = omega (arith, share.starts, ahead_order (λ p. p.0) parts begin s from)
 
     ends_here : places_in (take s parts) ≤ places_in (take end parts)
     ends_here = ahead_order (λ p. p.0) parts s end upto
 
-    ends_last : places_in (take end parts) ≤ length before
+    ends_last : places_in (take end parts) ≤ length w.before
     ends_last = omega (arith, share.as_long, ahead_all (λ p. p.0) parts end)
 
     done_long : length (part whole old.first (places_in (take s parts) - old.first)) ≡ places_in (take s parts) - old.first
@@ -143,10 +146,10 @@ module _ {X : Type 0} (source : List X) (parts : List (ℕ × List (Option ℤ))
     run_room = ap (λ (r : Stretch X). r.room) to.is
 
     -- where the walk stops, what stands before fills the rest
-    pub walked_rest_within : run.first + length run.items + run.room ≤ length before
+    pub walked_rest_within : run.first + length run.items + run.room ≤ length w.before
     walked_rest_within = omega (arith, run_end, run_room, ends_here, ends_last)
 
-    pub walked_bad : (new : Stretch X) → new ≡ with_items run (part before (run.first + length run.items) run.room) → IsWritten source parts before begin end old new false
+    pub walked_bad : (new : Stretch X) → new ≡ with_items run (part w.before (run.first + length run.items) run.room) → IsWritten w begin end old new false
     walked_bad new filled = record {
       full = filled_full;
       no_fault = λ same. absurd (false≢true same);
@@ -154,17 +157,17 @@ module _ {X : Type 0} (source : List X) (parts : List (ℕ × List (Option ℤ))
     }
       where
         rest : List X
-        rest = part before (run.first + length run.items) run.room
+        rest = part w.before (run.first + length run.items) run.room
 
         filled_full : (items : List X) × (length items ≡ old.room) × (new ≡ stretch old.block old.first items 0)
         filled_full =
-            let rest_long : length rest ≡ run.room = length_part before (run.first + length run.items) run.room walked_rest_within in
+            let rest_long : length rest ≡ run.room = length_part w.before (run.first + length run.items) run.room walked_rest_within in
             let none : run.room - length rest ≡ 0 = omega (arith, rest_long) in
             let long : length (run.items ++ rest) ≡ old.room =
             omega (arith, length-append run.items rest, rest_long, run_room, run_end, ap (λ (r : Stretch X). r.first) to.is, share.starts, share.ends, starts_before, ends_here) in
             (run.items ++ rest, long, filled ∙ (λ i. stretch (ap (λ (r : Stretch X). r.block) to.is i) (ap (λ (r : Stretch X). r.first) to.is i) (run.items ++ rest) (none i)))
 
-    module _ (m n : ℕ) (ts : List (Option ℤ)) (below : s < end) (is : part_at parts s ≡ (m, ts)) (wide : n ≡ m) where
+    module _ {m n : ℕ} {ts : List (Option ℤ)} (below : s < end) (is : part_at parts s ≡ (m, ts)) (wide : n ≡ m) where
       lt : s < length parts
       lt = omega (arith, below, share.in_parts)
 
@@ -174,28 +177,28 @@ module _ {X : Type 0} (source : List X) (parts : List (ℕ × List (Option ℤ))
       width : (part_at parts s).0 ≡ n
       width = ap (λ p. p.0) is ∙ sym wide
 
-      pub walked_within : m ≤ widest
-      walked_within = omega (arith, ap (λ (p : ℕ × List (Option ℤ)). p.0) is, share.within s lt)
+      pub walked_within : n ≤ w.widest
+      walked_within = omega (arith, width, share.within s lt)
 
       pub walked_room : n ≤ run.room
       walked_room = omega (arith, width, run_room, ends_before)
 
-      pub walked_before : run.first + length run.items + n ≤ length before
+      pub walked_before : run.first + length run.items + n ≤ length w.before
       walked_before = omega (arith, width, run_end, ends_before, ends_last)
 
-      pub walked_limit : place + length ts ≤ destinations_in parts
-      walked_limit = omega (arith, to.there, ahead_within (λ p. length p.1) parts s lt, ap (λ (p : ℕ × List (Option ℤ)). length p.1) is)
+      pub walked_limit : place + length ts ≤ most_elements
+      walked_limit = omega (arith, share.few, to.there, ahead_within (λ p. length p.1) parts s lt, ap (λ (p : ℕ × List (Option ℤ)). length p.1) is)
 
       pub walked_more : (new : Stretch X) → None ≡ first_fault place (wrongs n ts)
-          → new ≡ with_items run (written_over source (senders_of place ts n) (part before (run.first + length run.items) n))
-          → (next : ℕ) → next ≡ place + length ts → IsWalked source parts before begin end (s + 1) old next new
+          → new ≡ with_items run (written_over w.source (senders_of place ts n) (part w.before (run.first + length run.items) n))
+          → (next : ℕ) → next ≡ place + length ts → IsWalked w begin end (s + 1) old next new
       walked_more new right pushed next onward =
           let start = places_in (take s parts) in
           let told = ap (λ (p : ℕ × List (Option ℤ)). p.1) is in
           let more : start + n ≡ places_in (take (s + 1) parts) = omega (arith, width, ahead_more (λ p. p.0) parts s lt) in
-          let are : written_over source (senders_of place ts n) (part before (run.first + length run.items) n) ≡ part whole start n =
-          (λ i. written_over source (senders_of (to.there i) (sym told i) (sym width i)) (part before (run_end i) (sym width i)))
-          ∙ sym (permuted_at source parts before s lt) ∙ ap (part whole start) width in
+          let are : written_over w.source (senders_of place ts n) (part w.before (run.first + length run.items) n) ≡ part whole start n =
+          (λ i. written_over w.source (senders_of (to.there i) (sym told i) (sym width i)) (part w.before (run_end i) (sym width i)))
+          ∙ sym (permuted_at w.source parts w.before s lt) ∙ ap (part whole start) width in
           record {
             there = omega (arith, onward, to.there, ahead_more (λ p. length p.1) parts s lt, ap (λ (p : ℕ × List (Option ℤ)). length p.1) is);
             no_fault = λ r after earlier. elim (leb_tells (suc r) s) [
@@ -204,13 +207,13 @@ module _ {X : Type 0} (source : List X) (parts : List (ℕ × List (Option ℤ))
                   let same : s ≡ r = omega (arith, now.1, earlier) in
                   (right ∙ (λ i. first_fault (to.there i) (wrongs (sym width i) (sym told i)))) ∙ ap (λ k. first_fault (destinations_in (take k parts)) (wrongs (part_at parts k).0 (part_at parts k).1)) same
             ];
-            is = stretch_more whole (written_over source (senders_of place ts n) (part before (run.first + length run.items) n)) old run new start n (places_in (take end parts)) starts_before
+            is = stretch_more whole (written_over w.source (senders_of place ts n) (part w.before (run.first + length run.items) n)) old run new start n (places_in (take end parts)) starts_before
                 (omega (arith, width, ends_before, ends_last, whole_long)) to.is are pushed
                 ∙ ap (λ k. stretch old.block old.first (part whole old.first (k - old.first)) (places_in (take end parts) - k)) more;
           }
 
-  pub walked_all : (s place : ℕ) (run : Stretch X) → IsWalked source parts before begin end s old place run → end ≤ s → s ≤ end → IsWritten source parts before begin end old run true
-  walked_all s place run to past within =
+  pub walked_all : {s place : ℕ} {run : Stretch X} → IsWalked w begin end s old place run → end ≤ s → s ≤ end → IsWritten w begin end old run true
+  walked_all {s = s} {run = run} to past within =
       let same : s ≡ end = omega (arith, past, within) in
       let last = places_in (take end parts) in
       let width : last - old.first ≡ old.room = omega (arith, share.ends) in
@@ -225,93 +228,88 @@ module _ {X : Type 0} (source : List X) (parts : List (ℕ × List (Option ℤ))
       }
 
   -- nothing was walked
-  pub unwalked_within : old.first + length old.items + old.room ≤ length before
-  unwalked_within = walked_rest_within begin (destinations_in (take begin parts)) old (omega arith) share.in_order (walked_none (destinations_in (take begin parts)) refl)
+  pub unwalked_within : old.first + length old.items + old.room ≤ length w.before
+  unwalked_within = walked_rest_within (omega arith) share.in_order (walked_none (destinations_in (take begin parts)) refl)
 
-  pub unwalked : (new : Stretch X) → new ≡ with_items old (part before (old.first + length old.items) old.room) → IsWritten source parts before begin end old new false
-  unwalked new filled = walked_bad begin (destinations_in (take begin parts)) old (omega arith) share.in_order (walked_none (destinations_in (take begin parts)) refl) new filled
+  pub unwalked : (new : Stretch X) → new ≡ with_items old (part w.before (old.first + length old.items) old.room) → IsWritten w begin end old new false
+  unwalked new filled = walked_bad (omega arith) share.in_order (walked_none (destinations_in (take begin parts)) refl) new filled
 
   -- ---- two shares side by side are one
 
-  module _ (middle k : ℕ) (from : begin ≤ middle) (to : middle ≤ end) (is : k ≡ places_in (take middle parts) - old.first) where
+  module _ {middle k : ℕ} (from : begin ≤ middle) (to : middle ≤ end) (is : k ≡ places_in (take middle parts) - old.first) where
     pub middle_first : old.first ≤ places_in (take middle parts)
     middle_first = omega (arith, share.starts, ahead_order (λ p. p.0) parts begin middle from)
 
     pub middle_room : k ≤ old.room
     middle_room = omega (arith, is, share.ends, ahead_order (λ p. p.0) parts middle end to)
 
-    pub front_share : (front : Stretch X) → front ≡ stretch old.block old.first old.items (k - length old.items) → IsShare parts (length before) widest begin middle front.first front.room
-    front_share front cut = record {
-      few = share.few;
-      as_long = share.as_long;
-      within = share.within;
-      in_order = from;
-      in_parts = omega (arith, to, share.in_parts);
-      starts = ap (λ (r : Stretch X). r.first) cut ∙ share.starts;
-      ends = omega (arith, ap (λ (r : Stretch X). r.first) cut, ap (λ (r : Stretch X). r.room) cut, ap length empty, is, middle_first);
-    }
+    module _ {front back : Stretch X} (front_cut : front ≡ stretch old.block old.first old.items (k - length old.items))
+        (back_cut : back ≡ stretch old.block (old.first + k) [] (length old.items + old.room - k)) where
+      front_width : front.room ≡ k
+      front_width = omega (arith, ap (λ (r : Stretch X). r.room) front_cut, ap length share.empty)
 
-    pub back_share : (back : Stretch X) → back ≡ stretch old.block (old.first + k) [] (length old.items + old.room - k) → IsShare parts (length before) widest middle end back.first back.room
-    back_share back cut = record {
-      few = share.few;
-      as_long = share.as_long;
-      within = share.within;
-      in_order = to;
-      in_parts = share.in_parts;
-      starts = omega (arith, ap (λ (r : Stretch X). r.first) cut, is, middle_first);
-      ends = omega (arith, ap (λ (r : Stretch X). r.first) cut, ap (λ (r : Stretch X). r.room) cut, ap length empty, is, middle_first, middle_room, share.ends);
-    }
+      back_width : back.room ≡ old.room - k
+      back_width = omega (arith, ap (λ (r : Stretch X). r.room) back_cut, ap length share.empty)
 
-    module _ (front back written rest : Stretch X) (front_right back_right : Bool) (front_cut : front ≡ stretch old.block old.first old.items (k - length old.items))
-        (back_cut : back ≡ stretch old.block (old.first + k) [] (length old.items + old.room - k))
-        (in_front : IsWritten source parts before begin middle front written front_right) (in_back : IsWritten source parts before middle end back rest back_right) where
-      abbrev front_items : List X
-      front_items = in_front.full.0
+      pub front_share : IsShare w begin middle front
+      front_share = record {
+        few = share.few;
+        as_long = share.as_long;
+        within = share.within;
+        in_order = from;
+        in_parts = omega (arith, to, share.in_parts);
+        starts = ap (λ (r : Stretch X). r.first) front_cut ∙ share.starts;
+        ends = omega (arith, ap (λ (r : Stretch X). r.first) front_cut, front_width, is, middle_first);
+        empty = ap (λ (r : Stretch X). r.items) front_cut ∙ share.empty;
+      }
 
-      abbrev back_items : List X
-      back_items = in_back.full.0
+      pub back_share : IsShare w middle end back
+      back_share = record {
+        few = share.few;
+        as_long = share.as_long;
+        within = share.within;
+        in_order = to;
+        in_parts = share.in_parts;
+        starts = omega (arith, ap (λ (r : Stretch X). r.first) back_cut, is, middle_first);
+        ends = omega (arith, ap (λ (r : Stretch X). r.first) back_cut, back_width, is, middle_first, middle_room, share.ends);
+        empty = ap (λ (r : Stretch X). r.items) back_cut;
+      }
 
-      front_long : length front_items ≡ k
-      front_long = omega (arith, in_front.full.1, ap (λ (r : Stretch X). r.room) front_cut, ap length empty)
+      module _ {written rest : Stretch X} {front_right back_right : Bool} (in_front : IsWritten w begin middle front written front_right) (in_back : IsWritten w middle end back rest back_right) where
+        abbrev front_items : List X
+        front_items = in_front.full.0
 
-      back_long : length back_items ≡ old.room - k
-      back_long = omega (arith, in_back.full.1, ap (λ (r : Stretch X). r.room) back_cut, ap length empty)
+        abbrev back_items : List X
+        back_items = in_back.full.0
 
-      front_is : written ≡ stretch old.block old.first front_items 0
-      front_is = in_front.full.2 ∙ (λ i. stretch (ap (λ (r : Stretch X). r.block) front_cut i) (ap (λ (r : Stretch X). r.first) front_cut i) front_items 0)
+        front_is : written ≡ stretch old.block old.first front_items 0
+        front_is = in_front.full.2 ∙ (λ i. stretch (ap (λ (r : Stretch X). r.block) front_cut i) (ap (λ (r : Stretch X). r.first) front_cut i) front_items 0)
 
-      back_is : rest ≡ stretch old.block (old.first + k) back_items 0
-      back_is = in_back.full.2 ∙ (λ i. stretch (ap (λ (r : Stretch X). r.block) back_cut i) (ap (λ (r : Stretch X). r.first) back_cut i) back_items 0)
+        back_is : rest ≡ stretch old.block (old.first + k) back_items 0
+        back_is = in_back.full.2 ∙ (λ i. stretch (ap (λ (r : Stretch X). r.block) back_cut i) (ap (λ (r : Stretch X). r.first) back_cut i) back_items 0)
 
-      pub shares_both : (joined : Stretch X) → joined ≡ stretch written.block written.first (written.items ++ rest.items) (written.room + rest.room)
-          → IsWritten source parts before begin end old joined (front_right && back_right)
-      shares_both joined are =
-          let is : joined ≡ stretch old.block old.first (front_items ++ back_items) 0 =
-          are ∙ (λ i. let w = front_is i in let r = back_is i in stretch w.block w.first (w.items ++ r.items) (w.room + r.room)) in
-          record {
-            full = (front_items ++ back_items, omega (arith, length-append front_items back_items, front_long, back_long, middle_room), is);
-            no_fault = λ told r after earlier.
-                let both = and_parts front_right back_right told in
-                elim (leb_tells (suc r) middle) [
-                  | inl first ↦ in_front.no_fault both.0 r after (omega (arith, first.1))
-                  | inr later ↦ in_back.no_fault both.1 r (omega (arith, later.1)) earlier
-                ];
-            items = λ told.
-                let both = and_parts front_right back_right told in
-                let front_whole : front_items ≡ part whole old.first k =
-                sym (ap (λ (r : Stretch X). r.items) front_is) ∙ ap (λ (r : Stretch X). r.items) (in_front.items both.0)
-                ∙ (λ i. part whole (ap (λ (r : Stretch X). r.first) front_cut i) (front_width i)) in
-                let back_whole : back_items ≡ part whole (old.first + k) (old.room - k) =
-                sym (ap (λ (r : Stretch X). r.items) back_is) ∙ ap (λ (r : Stretch X). r.items) (in_back.items both.1)
-                ∙ (λ i. part whole (ap (λ (r : Stretch X). r.first) back_cut i) (back_width i)) in
-                is ∙ ap (λ xs. stretch old.block old.first xs 0) ((λ i. front_whole i ++ back_whole i) ∙ sym (parts_both whole old.first k old.room middle_room));
-          }
-        where
-          front_width : front.room ≡ k
-          front_width = omega (arith, ap (λ (r : Stretch X). r.room) front_cut, ap length empty)
-
-          back_width : back.room ≡ old.room - k
-          back_width = omega (arith, ap (λ (r : Stretch X). r.room) back_cut, ap length empty)
+        pub shares_both : (joined : Stretch X) → joined ≡ stretch written.block written.first (written.items ++ rest.items) (written.room + rest.room) → IsWritten w begin end old joined (front_right && back_right)
+        shares_both joined are =
+            let is : joined ≡ stretch old.block old.first (front_items ++ back_items) 0 =
+            are ∙ (λ i. let w = front_is i in let r = back_is i in stretch w.block w.first (w.items ++ r.items) (w.room + r.room)) in
+            record {
+              full = (front_items ++ back_items, omega (arith, length-append front_items back_items, in_front.full.1, in_back.full.1, front_width, back_width, middle_room), is);
+              no_fault = λ told r after earlier.
+                  let both = and_parts front_right back_right told in
+                  elim (leb_tells (suc r) middle) [
+                    | inl first ↦ in_front.no_fault both.0 r after (omega (arith, first.1))
+                    | inr later ↦ in_back.no_fault both.1 r (omega (arith, later.1)) earlier
+                  ];
+              items = λ told.
+                  let both = and_parts front_right back_right told in
+                  let front_whole : front_items ≡ part whole old.first k =
+                  sym (ap (λ (r : Stretch X). r.items) front_is) ∙ ap (λ (r : Stretch X). r.items) (in_front.items both.0)
+                  ∙ (λ i. part whole (ap (λ (r : Stretch X). r.first) front_cut i) (front_width i)) in
+                  let back_whole : back_items ≡ part whole (old.first + k) (old.room - k) =
+                  sym (ap (λ (r : Stretch X). r.items) back_is) ∙ ap (λ (r : Stretch X). r.items) (in_back.items both.1)
+                  ∙ (λ i. part whole (ap (λ (r : Stretch X). r.first) back_cut i) (back_width i)) in
+                  is ∙ ap (λ xs. stretch old.block old.first xs 0) ((λ i. front_whole i ++ back_whole i) ∙ sym (parts_both whole old.first k old.room middle_room));
+            }
 
 -- ---- all segments
 
@@ -328,28 +326,29 @@ all_right place ((m, ts) ∷ parts) right =
     right (suc s) (omega (arith, lt)) ∙ ap (λ p. first_fault p (wrongs (part_at parts s).0 (part_at parts s).1)) past) in
     others ∙ ap (λ o. option_or o (fault_from (place + length ts) parts)) here
 
-module _ {X : Type 0} (source : List X) (parts : List (ℕ × List (Option ℤ))) (before : List X) (widest : ℕ) (old : Stretch X) (few : destinations_in parts ≤ most_elements)
-    (long : places_in parts ≡ length before) (within : AreWithin widest parts) (is : old ≡ stretch old.block 0 [] (length before)) where
-  pub whole_share : (count : ℕ) → count ≡ length parts → IsShare parts (length before) widest 0 count old.first old.room
-  whole_share count all = record {
+module _ {X : Type 0} {w : Sending X} {old : Stretch X} (few : destinations_in w.parts ≤ most_elements) (long : places_in w.parts ≡ length w.before) (within : AreWithin w.widest w.parts)
+    {block : Ptr} (is : old ≡ stretch block 0 [] (length w.before)) {count : ℕ} (all : count ≡ length w.parts) where
+  pub whole_share : IsShare w 0 count old
+  whole_share = record {
     few = few;
     as_long = long;
     within = within;
     in_order = omega arith;
     in_parts = omega (arith, all);
     starts = ap (λ (r : Stretch X). r.first) is;
-    ends = omega (arith, ap (λ (r : Stretch X). r.first) is, ap (λ (r : Stretch X). r.room) is, long, ap places_in (take_all count parts (omega (arith, all))));
+    ends = omega (arith, ap (λ (r : Stretch X). r.first) is, ap (λ (r : Stretch X). r.room) is, long, ap places_in (take_all count w.parts (omega (arith, all))));
+    empty = ap (λ (r : Stretch X). r.items) is;
   }
 
-  module _ (count : ℕ) (all : count ≡ length parts) (written : Stretch X) (right : Bool) (told : IsWritten source parts before 0 count old written right) where
-    pub whole_right : right ≡ true → None ≡ fault_from 0 parts
+  module _ {written : Stretch X} {right : Bool} (told : IsWritten w 0 count old written right) where
+    pub whole_right : right ≡ true → None ≡ fault_from 0 w.parts
     whole_right is_right =
-        all_right 0 parts (λ s lt. told.no_fault is_right s (omega arith) (omega (arith, lt, all)) ∙ ap (λ p. first_fault p (wrongs (part_at parts s).0 (part_at parts s).1)) (omega arith))
+        all_right 0 w.parts (λ s lt. told.no_fault is_right s (omega arith) (omega (arith, lt, all)) ∙ ap (λ p. first_fault p (wrongs (part_at w.parts s).0 (part_at w.parts s).1)) (omega arith))
 
-    pub whole_items : right ≡ true → written.items ≡ permuted source parts before
+    pub whole_items : right ≡ true → written.items ≡ permuted w.source w.parts w.before
     whole_items is_right =
-        let whole = permuted source parts before in
-        let width : old.room ≡ length whole = ap (λ (r : Stretch X). r.room) is ∙ sym (length-permuted source parts before long) in
+        let whole = permuted w.source w.parts w.before in
+        let width : old.room ≡ length whole = ap (λ (r : Stretch X). r.room) is ∙ sym (length-permuted w.source w.parts w.before long) in
         ap (λ (r : Stretch X). r.items) (told.items is_right)
         ∙ (λ i. part whole (ap (λ (r : Stretch X). r.first) is i) (width i))
         ∙ take_all (length whole) whole (omega arith)

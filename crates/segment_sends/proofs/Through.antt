@@ -1,14 +1,14 @@
 -- The first walk through the segments: what it has found after the first segments, and after all.
-use Rattle.std.proofs.Common.{◌≡◌, ◌∙◌, cond, subst, ℕ, zero, suc, ◌+◌, ◌-◌, ◌<◌, ◌≤◌, Bool, List, [], ◌∷◌, ◌++◌, length, map, sum, take, drop, get_or, replicate, refl, sym, ap, append_assoc, append-nil}
-use Rattle.std.proofs.Common.{length-append, length-drop, arith, ℤ, Option, Some, None}
+use Rattle.std.proofs.Common.{◌≡◌, ◌∙◌, cond, ℕ, zero, suc, ◌+◌, ◌-◌, ◌<◌, ◌≤◌, Bool, List, [], ◌∷◌, ◌++◌, length, map, sum, take, drop, get_or, replicate, refl, sym, ap, append_assoc, append-nil}
+use Rattle.std.proofs.Common.{length-drop, arith, ℤ, Option, Some, None}
 use Rattle.std.specs.List.{zip}
 use Rattle.std.specs.Option.{option_or}
 use Rattle.std.proofs.lemmas.List.{drop_more, drop_all, take_all, take-map, take-replicate, drop-replicate, drop-drop, get_or-map, length-map, length-take, length-take-le}
-use Rattle.std.proofs.lemmas.List.Sums.{count_by-le-length, sum_by-append, sum_by-take-drop, sum_by-take-le, sum_by_more_le, sum_by_more}
+use Rattle.std.proofs.lemmas.List.Sums.{count_by-le-length, sum_by-append, sum_by-take-le, sum_by_more_le, sum_by_more}
 use Rattle.std.proofs.Math.Seq.{take-add}
 use Rattle.std.proofs.lemmas.Slice.{take-put_mid, drop-put_mid}
 use Rattle.std.proofs.lemmas.Slice.Zip.{firsts-zip, get_or-zip, length-zip}
-use borrow.Rule.Slice.PartMut.{put_mid}
+use borrow.Rule.Slice.PartMut.{put_mid, same_len_mid}
 use Rattle.cvl_base.specs.declared.fault.Fault.{Fault}
 use Rattle.cvl_base.specs.Nests.{cut_of}
 use Rattle.cvl_base.specs.Packs.{count_of}
@@ -37,28 +37,23 @@ through_none parts senders fresh room = record {
   left_is = omega arith;
 }
 
--- a write to a range of a list keeps its length
-pub put_length : {X : Type 0} (start k : ℕ) (xs ys : List X) → start + k ≤ length xs → length ys ≡ k → length (put_mid start k xs ys) ≡ length xs
-put_length start k xs ys within long =
-    omega (
-      arith,
-      length-append (take start xs) (ys ++ drop k (drop start xs)),
-      length-append ys (drop k (drop start xs)),
-      length-take-le start xs (omega arith),
-      length-drop k (drop start xs),
-      length-drop start xs,
-    )
-
-module _ (parts : List (ℕ × List (Option ℤ))) (place start s : ℕ) (senders : List ℕ) (m : ℕ) (ts : List (Option ℤ)) (to : IsSentThrough parts place start s senders) (lt : s < length parts)
+-- the next part, whose range of the senders the code reads and writes
+module _ {parts : List (ℕ × List (Option ℤ))} {place start s : ℕ} {senders : List ℕ} {m : ℕ} {ts : List (Option ℤ)} (to : IsSentThrough parts place start s senders) (lt : s < length parts)
     (is : get_or parts s (0, []) ≡ (m, ts)) where
-  split : drop s parts ≡ (m, ts) ∷ drop (s + 1) parts
-  split = drop_more parts s (0, []) lt ∙ ap (λ p. p ∷ drop (s + 1) parts) is
+  abbrev others : List (ℕ × List (Option ℤ))
+  others = drop (s + 1) parts
 
-  room_more : start + m + places_in (drop (s + 1) parts) ≡ length senders
-  room_more = omega (arith, to.room_is, ap places_in split, sum-cons m (map (λ (p : ℕ × List (Option ℤ)). p.0) (drop (s + 1) parts)))
+  abbrev range : List ℕ
+  range = take (start + m - start) (drop start senders)
 
-  left_more : place + length ts + destinations_in (drop (s + 1) parts) ≡ destinations_in parts
-  left_more = omega (arith, to.left_is, ap destinations_in split, sum-cons (length ts) (map (λ (p : ℕ × List (Option ℤ)). length p.1) (drop (s + 1) parts)))
+  split : drop s parts ≡ (m, ts) ∷ others
+  split = drop_more parts s (0, []) lt ∙ ap (λ p. p ∷ others) is
+
+  room_more : start + m + places_in others ≡ length senders
+  room_more = omega (arith, to.room_is, ap places_in split, sum-cons m (map (λ (p : ℕ × List (Option ℤ)). p.0) others))
+
+  left_more : place + length ts + destinations_in others ≡ destinations_in parts
+  left_more = omega (arith, to.left_is, ap destinations_in split, sum-cons (length ts) (map (λ (p : ℕ × List (Option ℤ)). length p.1) others))
 
   pub through_left : place + length ts ≤ destinations_in parts
   through_left = omega (arith, left_more)
@@ -66,76 +61,54 @@ module _ (parts : List (ℕ × List (Option ℤ))) (place start s : ℕ) (sender
   pub through_room : start + m ≤ length senders
   through_room = omega (arith, room_more)
 
-  pub through_fresh : take m (drop start senders) ≡ replicate m nobody
-  through_fresh = ap (take m) to.rest_is ∙ take-replicate m (length senders - start) nobody (omega (arith, room_more))
+  width : start + m - start ≡ m
+  width = omega arith
 
-  first_of_part : fault_from 0 parts ≡ option_or (first_fault place (wrongs m ts)) (fault_from (place + length ts) (drop (s + 1) parts))
-  first_of_part = to.fault_is ∙ ap (fault_from place) split
+  long : length range ≡ m
+  long = length-take-le (start + m - start) (drop start senders) (omega (arith, width, through_room, length-drop start senders)) ∙ width
 
-  pub through_fails : (f : Fault) → Some f ≡ first_fault place (wrongs m ts) → Some f ≡ fault_from 0 parts
-  through_fails f bad = sym (first_of_part ∙ ap (λ o. option_or o (fault_from (place + length ts) (drop (s + 1) parts))) (sym bad))
+  pub range_fresh : range ≡ replicate (length range) nobody
+  range_fresh = (λ i. take (width i) (to.rest_is i)) ∙ take-replicate m (length senders - start) nobody (omega (arith, room_more)) ∙ ap (λ n. replicate n nobody) (sym long)
 
-  pub through_more : (k : ℕ) (sent new : List ℕ) → k ≡ m → None ≡ first_fault place (wrongs m ts) → sent ≡ senders_of place ts m → new ≡ put_mid start k senders sent
-      → IsSentThrough parts (place + length ts) (start + m) (s + 1) new
-  through_more k sent new width right are put =
+  first_of_part : fault_from 0 parts ≡ option_or (first_fault place (wrongs (length range) ts)) (fault_from (place + length ts) others)
+  first_of_part = to.fault_is ∙ ap (fault_from place) split ∙ ap (λ n. option_or (first_fault place (wrongs n ts)) (fault_from (place + length ts) others)) (sym long)
+
+  pub range_fails : (f : Fault) → Some f ≡ first_fault place (wrongs (length range) ts) → Some f ≡ fault_from 0 parts
+  range_fails f bad = sym (first_of_part ∙ ap (λ o. option_or o (fault_from (place + length ts) others)) (sym bad))
+
+  pub range_more : (sent new : List ℕ) (next : ℕ) → None ≡ first_fault place (wrongs (length range) ts) → sent ≡ senders_of place ts (length range) → new ≡ put_mid start (start + m - start) senders sent
+      → place + length ts ≡ next → IsSentThrough parts next (start + m) (s + 1) new
+  range_more sent new next right are put onward =
+      let k = start + m - start in
+      let sent_are : sent ≡ senders_of place ts m = are ∙ ap (senders_of place ts) long in
+      let wide : length sent ≡ m = ap length sent_are ∙ length-senders_of place ts m in
       let within : start + m ≤ length senders = through_room in
-      let long : length sent ≡ m = ap length are ∙ length-senders_of place ts m in
-      let as_long : length new ≡ length senders = ap length put ∙ put_length start k senders sent (omega arith) (omega arith) in
+      let as_long : length new ≡ length senders = ap length put ∙ same_len_mid start k senders sent (wide ∙ sym long) in
       record {
-        fault_is = first_of_part ∙ ap (λ o. option_or o (fault_from (place + length ts) (drop (s + 1) parts))) (sym right);
-        senders_are = ap (λ xs. take (start + m) xs ++ senders_from (place + length ts) (drop (s + 1) parts)) put
-            ∙ ap (λ xs. xs ++ senders_from (place + length ts) (drop (s + 1) parts))
-            (take-put_mid start k senders sent (start + m) (omega arith) (omega arith) ∙ ap (λ xs. take start senders ++ xs) are)
-            ∙ append_assoc (take start senders) (senders_of place ts m) (senders_from (place + length ts) (drop (s + 1) parts))
+        fault_is = first_of_part ∙ (λ i. option_or (sym right i) (fault_from (onward i) others));
+        senders_are = (λ i. take (start + m) (put i) ++ senders_from (sym onward i) others)
+            ∙ ap (λ xs. xs ++ senders_from (place + length ts) others)
+            (take-put_mid start k senders sent (start + m) (omega (arith, width, wide)) (omega (arith, width, within)) ∙ ap (λ xs. take start senders ++ xs) sent_are)
+            ∙ append_assoc (take start senders) (senders_of place ts m) (senders_from (place + length ts) others)
             ∙ ap (λ ps. take start senders ++ senders_from place ps) (sym split)
             ∙ to.senders_are;
         rest_is = ap (drop (start + m)) put
-            ∙ drop-put_mid start k senders sent (start + m) (omega arith) (omega arith) (omega arith)
+            ∙ drop-put_mid start k senders sent (start + m) (omega (arith, width)) (omega (arith, width, wide)) (omega (arith, width, within))
             ∙ sym (drop-drop m start senders)
             ∙ ap (drop m) to.rest_is
             ∙ drop-replicate m (length senders - start) nobody
-            ∙ ap (λ n. replicate n nobody) (omega arith);
-        room_is = omega (arith, room_more);
-        left_is = left_more;
+            ∙ ap (λ n. replicate n nobody) (omega (arith, as_long, within));
+        room_is = omega (arith, room_more, as_long);
+        left_is = omega (arith, left_more, onward);
       }
 
--- the same as the code reads and writes it, by a range of the senders
-module _ (parts : List (ℕ × List (Option ℤ))) (place start s : ℕ) (senders : List ℕ) (m : ℕ) (ts : List (Option ℤ)) (to : IsSentThrough parts place start s senders) (lt : s < length parts)
-    (is : get_or parts s (0, []) ≡ (m, ts)) where
-  range_wide : start + m - start ≡ m
-  range_wide = omega arith
-
-  range_long : length (take (start + m - start) (drop start senders)) ≡ m
-  range_long = ap (λ k. length (take k (drop start senders))) range_wide
-      ∙ length-take-le m (drop start senders) (omega (arith, length-drop start senders, through_room parts place start s senders m ts to lt is))
-
-  pub range_fresh : take (start + m - start) (drop start senders) ≡ replicate (length (take (start + m - start) (drop start senders))) nobody
-  range_fresh =
-      ap (λ k. take k (drop start senders)) range_wide
-      ∙ through_fresh parts place start s senders m ts to lt is
-      ∙ ap (λ n. replicate n nobody) (sym range_long)
-
-  pub range_fails : (f : Fault) → Some f ≡ first_fault place (wrongs (length (take (start + m - start) (drop start senders))) ts) → Some f ≡ fault_from 0 parts
-  range_fails f bad = through_fails parts place start s senders m ts to lt is f (bad ∙ ap (λ n. first_fault place (wrongs n ts)) range_long)
-
-  pub range_more : (sent new : List ℕ) → None ≡ first_fault place (wrongs (length (take (start + m - start) (drop start senders))) ts)
-      → sent ≡ senders_of place ts (length (take (start + m - start) (drop start senders))) → new ≡ put_mid start (start + m - start) senders sent
-      → IsSentThrough parts (place + length ts) (start + m) (s + 1) new
-  range_more sent new right are put =
-      through_more parts place start s senders m ts to lt is (start + m - start) sent new range_wide (right ∙ ap (λ n. first_fault place (wrongs n ts)) range_long)
-      (are ∙ ap (senders_of place ts) range_long) put
-
-pub moved_on : (parts : List (ℕ × List (Option ℤ))) (place now start then s : ℕ) (senders : List ℕ) → place ≡ now → start ≡ then → IsSentThrough parts place start s senders
-    → IsSentThrough parts now then s senders
-moved_on parts place now start then s senders there here to = subst (λ (p : ℕ). IsSentThrough parts p then s senders) there (subst (λ (q : ℕ). IsSentThrough parts place q s senders) here to)
-
-pub through_all : (parts : List (ℕ × List (Option ℤ))) (place start s : ℕ) (senders : List ℕ) → IsSentThrough parts place start s senders → length parts ≤ s → (None ≡ fault_from 0 parts)
-    × (senders ≡ senders_from 0 parts)
-through_all parts place start s senders to past =
+pub through_all : {parts : List (ℕ × List (Option ℤ))} {place start s : ℕ} {senders : List ℕ} → IsSentThrough parts place start s senders → length parts ≤ s
+    → (None ≡ fault_from 0 parts) × (senders ≡ senders_from 0 parts)
+through_all {parts = parts} {place = place} {start = start} {s = s} {senders = senders} to past =
     let none = drop_all s parts past in
     let full : start ≡ length senders = omega (arith, to.room_is, ap places_in none) in (
       sym (to.fault_is ∙ ap (fault_from place) none),
-      sym (sym to.senders_are ∙ ap (λ ps. take start senders ++ senders_from place ps) none ∙ append-nil (take start senders) ∙ take_all start senders (omega arith)),
+      sym (sym to.senders_are ∙ ap (λ ps. take start senders ++ senders_from place ps) none ∙ append-nil (take start senders) ∙ take_all start senders (omega (arith, full))),
     )
 
 -- ---- the parts where each place takes part
@@ -171,15 +144,19 @@ start_more lengths s lt = sum_by_more (λ x. x) lengths s 0 lt
 abbrev flagged_part : List ℤ × List Bool → ℕ × List (Option ℤ)
 flagged_part p = (count_of p.1, flagged_destinations p.0 p.1)
 
-counted : (lengths : List ℕ) (index : List ℤ) (flags : List Bool) → sum lengths ≡ length flags → places_in (flagged_parts lengths index flags) ≡ count_of flags
-counted [] index [] total = refl
-counted [] index (f ∷ flags) total = absurd (omega arith)
-counted (n ∷ ns) index flags total =
+pub flagged_places_ahead : (lengths : List ℕ) (index : List ℤ) (flags : List Bool) (s : ℕ) → places_in (take s (flagged_parts lengths index flags)) ≡ count_of (take (sum (take s lengths)) flags)
+flagged_places_ahead [] index flags zero = refl
+flagged_places_ahead [] index flags (suc s) = refl
+flagged_places_ahead (n ∷ ns) index flags zero = refl
+flagged_places_ahead (n ∷ ns) index flags (suc s) =
+    let k = sum (take s ns) in
+    let cut : take (sum (take (suc s) (n ∷ ns))) flags ≡ take n flags ++ take k (drop n flags) = ap (λ j. take j flags) (sum-cons n (take s ns)) ∙ take-add n k flags in
     omega (
       arith,
-      sum-cons (count_of (take n flags)) (map (λ (p : ℕ × List (Option ℤ)). p.0) (flagged_parts ns (drop n index) (drop n flags))),
-      counted ns (drop n index) (drop n flags) (omega (arith, sum-cons n ns, length-drop n flags)),
-      sum_by-take-drop (λ (f : Bool). cond f 1 0) flags n,
+      sum-cons (count_of (take n flags)) (map (λ (p : ℕ × List (Option ℤ)). p.0) (take s (flagged_parts ns (drop n index) (drop n flags)))),
+      flagged_places_ahead ns (drop n index) (drop n flags) s,
+      ap count_of cut,
+      sum_by-append (λ (f : Bool). cond f 1 0) (take n flags) (take k (drop n flags)),
     )
 
 module _ (lengths : List ℕ) (index : List ℤ) (flags : List Bool) where
@@ -208,7 +185,12 @@ module _ (lengths : List ℕ) (index : List ℤ) (flags : List Bool) where
       ∙ (λ i. (count_of (cut_at lengths flags s lt i), flagged_destinations (cut_at lengths index s lt i) (cut_at lengths flags s lt i)))
 
   pub places-flagged_parts : sum lengths ≡ length flags → places_in (flagged_parts lengths index flags) ≡ count_of flags
-  places-flagged_parts total = counted lengths index flags total
+  places-flagged_parts total =
+      let n = length lengths in
+      let all : sum (take n lengths) ≡ length flags = ap sum (take_all n lengths (omega arith)) ∙ total in
+      ap places_in (sym (take_all n (flagged_parts lengths index flags) (omega (arith, length-flagged_parts))))
+      ∙ flagged_places_ahead lengths index flags n
+      ∙ ap count_of (take_all (sum (take n lengths)) flags (omega (arith, all)))
 
 -- ---- how many places and destinations the parts before a segment have
 
@@ -248,21 +230,6 @@ flagged_long (n ∷ ns) index flags total flag_total =
 pub destinations-flagged_parts : (lengths : List ℕ) (index : List ℤ) (flags : List Bool) → sum lengths ≡ length index → sum lengths ≡ length flags
     → destinations_in (flagged_parts lengths index flags) ≡ length index
 destinations-flagged_parts lengths index flags total flag_total = ap sum (flagged_long lengths index flags (omega (arith, total)) (omega (arith, flag_total))) ∙ total
-
-pub flagged_places_ahead : (lengths : List ℕ) (index : List ℤ) (flags : List Bool) (s : ℕ) → places_in (take s (flagged_parts lengths index flags)) ≡ count_of (take (sum (take s lengths)) flags)
-flagged_places_ahead [] index flags zero = refl
-flagged_places_ahead [] index flags (suc s) = refl
-flagged_places_ahead (n ∷ ns) index flags zero = refl
-flagged_places_ahead (n ∷ ns) index flags (suc s) =
-    let k = sum (take s ns) in
-    let cut : take (sum (take (suc s) (n ∷ ns))) flags ≡ take n flags ++ take k (drop n flags) = ap (λ j. take j flags) (sum-cons n (take s ns)) ∙ take-add n k flags in
-    omega (
-      arith,
-      sum-cons (count_of (take n flags)) (map (λ (p : ℕ × List (Option ℤ)). p.0) (take s (flagged_parts ns (drop n index) (drop n flags)))),
-      flagged_places_ahead ns (drop n index) (drop n flags) s,
-      ap count_of cut,
-      sum_by-append (λ (f : Bool). cond f 1 0) (take n flags) (take k (drop n flags)),
-    )
 
 pub start_within : (lengths : List ℕ) (s n : ℕ) → sum lengths ≡ n → sum (take s lengths) ≤ n
 start_within lengths s n total = omega (arith, total, sum_by-take-le (λ x. x) lengths s)

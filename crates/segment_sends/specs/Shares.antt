@@ -25,21 +25,30 @@ AreRight parts begin end = (s : ℕ) → begin ≤ s → s < end
 abbrev pub AreWithin : ℕ → List (ℕ × List (Option ℤ)) → Type 0
 AreWithin widest parts = (s : ℕ) → s < length parts → (part_at parts s).0 ≤ widest
 
--- The segments from `begin` up to before `end`, whose places are the `room` ones from the one numbered `first` on. What stands
--- before has as many places as all parts.
-pub record IsShare (parts : List (ℕ × List (Option ℤ))) (places widest begin end first room : ℕ) : Type 0 where
-  pub few : destinations_in parts ≤ most_elements
-  pub as_long : places_in parts ≡ places
-  pub within : AreWithin widest parts
-  pub in_order : begin ≤ end
-  pub in_parts : end ≤ length parts
-  pub starts : first ≡ places_in (take begin parts)
-  pub ends : first + room ≡ places_in (take end parts)
+-- What is sent: the elements, the parts, what stands before in the result, and a number of places that no part exceeds.
+pub record Sending (X : Type 0) : Type 0 where
+  pub source : List X
+  pub parts : List (ℕ × List (Option ℤ))
+  pub before : List X
+  pub widest : ℕ
 
--- What was written of a share, whose run was empty: all its places, and where it is told to be right, no segment has a bad place,
--- and the places hold their part of the result.
-pub record IsWritten {X : Type 0} (source : List X) (parts : List (ℕ × List (Option ℤ))) (before : List X) (begin end : ℕ)
-    (run written : Stretch X) (right : Bool) : Type 0 where
+abbrev pub sending : {X : Type 0} → List X → List (ℕ × List (Option ℤ)) → List X → ℕ → Sending X
+sending source parts before widest = record { source = source; parts = parts; before = before; widest = widest }
+
+-- The segments from `begin` up to before `end`, whose places an empty run has. What stands before has as many places as all parts.
+pub record IsShare {X : Type 0} (w : Sending X) (begin end : ℕ) (run : Stretch X) : Type 0 where
+  pub few : destinations_in w.parts ≤ most_elements
+  pub as_long : places_in w.parts ≡ length w.before
+  pub within : AreWithin w.widest w.parts
+  pub in_order : begin ≤ end
+  pub in_parts : end ≤ length w.parts
+  pub starts : run.first ≡ places_in (take begin w.parts)
+  pub ends : run.first + run.room ≡ places_in (take end w.parts)
+  pub empty : run.items ≡ []
+
+-- What was written of a share: all its places, and where it is told to be right, no segment has a bad place, and the places hold
+-- their part of the result.
+pub record IsWritten {X : Type 0} (w : Sending X) (begin end : ℕ) (run written : Stretch X) (right : Bool) : Type 0 where
   pub full : (items : List X) × (length items ≡ run.room) × (written ≡ stretch run.block run.first items 0)
-  pub no_fault : right ≡ true → AreRight parts begin end
-  pub items : right ≡ true → written ≡ stretch run.block run.first (part (permuted source parts before) run.first run.room) 0
+  pub no_fault : right ≡ true → AreRight w.parts begin end
+  pub items : right ≡ true → written ≡ stretch run.block run.first (part (permuted w.source w.parts w.before) run.first run.room) 0

@@ -2,14 +2,14 @@
 //! place of it is bad. So it stays in the processor's cache, and nothing else is written but the result. Several threads each walk
 //! whole segments, by a buffer of their own.
 
-ghost use Rattle.std.specs.Prelude.{◌≡◌, ◌+◌, ◌≤◌, ◌++◌, List, [], false, true, length, IfOk, IfSome, None, vec_len};
+ghost use Rattle.std.specs.Prelude.{◌≡◌, ◌+◌, ◌≤◌, List, false, true, length, IfOk, IfSome, None, vec_len};
 ghost use denote.Param.Send.{Frees, IsSend, IsSync};
 ghost use Rattle.fresh.specs.Parts.{part};
 ghost use Rattle.fresh.specs.Places.{stretch, with_items};
 ghost use Rattle.cvl_base.specs.Limits.{most_elements};
 ghost use Rattle.cvl_base.specs.Permutes.{first_fault, wrongs};
 ghost use Rattle.segment_sends.specs.Parts.{destinations_in, fault_from, places_in};
-ghost use Rattle.segment_sends.specs.Shares.{AreWithin, IsShare, IsWritten, permuted};
+ghost use Rattle.segment_sends.specs.Shares.{AreWithin, IsShare, IsWritten, permuted, sending};
 ghost use Rattle.permute_walks.specs.Senders.{senders_of, written_over};
 
 use crate::segments::{Parts, destinations_before, segment_count};
@@ -84,9 +84,8 @@ fn write_segments<T: Copy, P: Parts>(
     run: Run<T>,
 ) -> (Run<T>, bool)
     requires cut { P.AreCut parts.now }
-    requires share { IsShare (P.parts parts.now) (length before.now) (length senders.old) begin end run.first run.room }
-    requires empty { run.items ≡ [] }
-    ensures { IsWritten source.now (P.parts parts.now) before.now begin end run result.0 result.1 }
+    requires share { IsShare (sending source.now (P.parts parts.now) before.now (length senders.old)) begin end run }
+    ensures { IsWritten (sending source.now (P.parts parts.now) before.now (length senders.old)) begin end run result.0 result.1 }
 {
     let mut run = run;
     let mut first = destinations_before(parts, begin);
@@ -115,9 +114,8 @@ fn write_by_buffer<T: Copy, A: Memory, P: Parts>(
     run: Run<T>,
 ) -> (Run<T>, bool)
     requires cut { P.AreCut parts.now }
-    requires share { IsShare (P.parts parts.now) (length before.now) widest begin end run.first run.room }
-    requires empty { run.items ≡ [] }
-    ensures { IsWritten source.now (P.parts parts.now) before.now begin end run result.0 result.1 }
+    requires share { IsShare (sending source.now (P.parts parts.now) before.now widest) begin end run }
+    ensures { IsWritten (sending source.now (P.parts parts.now) before.now widest) begin end run result.0 result.1 }
 {
     match vec![in alloc; NOBODY; widest] {
         Ok(mut senders) => write_segments(source, before, parts, begin, end, &mut senders, run),
@@ -197,9 +195,8 @@ fn write_shared<T: Copy + Send, R: Threads + Sync, A: Memory, S: Sides<T> + Sync
     run: Run<T>,
 ) -> (Run<T>, bool)
     requires cut { P.AreCut parts.now }
-    requires share { IsShare (P.parts parts.now) (length (S.before sides.now)) widest begin end run.first run.room }
-    requires empty { run.items ≡ [] }
-    ensures { IsWritten (S.source sides.now) (P.parts parts.now) (S.before sides.now) begin end run result.0 result.1 }
+    requires share { IsShare (sending (S.source sides.now) (P.parts parts.now) (S.before sides.now) widest) begin end run }
+    ensures { IsWritten (sending (S.source sides.now) (P.parts parts.now) (S.before sides.now) widest) begin end run result.0 result.1 }
 {
     if threads.get() < 2 {
         let source = sides.source();
@@ -234,25 +231,22 @@ fn write_both<T: Copy + Send, R: Threads + Sync, A: Memory, S: Sides<T> + Sync, 
 ) -> ((Run<T>, bool), (Run<T>, bool))
     requires some { (1 ≤ fewer) × (1 ≤ others) }
     requires cut { P.AreCut parts.now }
-    requires front_share { IsShare (P.parts parts.now) (length (S.before sides.now)) widest begin middle front.first front.room }
-    requires back_share { IsShare (P.parts parts.now) (length (S.before sides.now)) widest middle end back.first back.room }
-    requires empty { (front.items ≡ []) × (back.items ≡ []) }
-    ensures front { IsWritten (S.source sides.now) (P.parts parts.now) (S.before sides.now) begin middle front result.0.0 result.0.1 }
-    ensures back { IsWritten (S.source sides.now) (P.parts parts.now) (S.before sides.now) middle end back result.1.0 result.1.1 }
+    requires front_share { IsShare (sending (S.source sides.now) (P.parts parts.now) (S.before sides.now) widest) begin middle front }
+    requires back_share { IsShare (sending (S.source sides.now) (P.parts parts.now) (S.before sides.now) widest) middle end back }
+    ensures front { IsWritten (sending (S.source sides.now) (P.parts parts.now) (S.before sides.now) widest) begin middle front result.0.0 result.0.1 }
+    ensures back { IsWritten (sending (S.source sides.now) (P.parts parts.now) (S.before sides.now) widest) middle end back result.1.0 result.1.1 }
 {
     let write_front = move || -> (Run<T>, bool)
         requires { IsSync R.row × IsSend T.row × IsSend A.row × Frees A.Allocator A.dealloc_token × IsSync S.row × IsSync P.row
             × IsSend P.Part.row × IsSend P.A.row × IsSync P.A.row × (1 ≤ fewer) × P.AreCut parts.now
-            × IsShare (P.parts parts.now) (length (S.before sides.now)) widest begin middle front.first front.room × (front.items ≡ []) }
-        ensures { IsWritten (S.source sides.entry.now) (P.parts parts.entry.now) (S.before sides.entry.now)
-            begin middle front result.0 result.1 }
+            × IsShare (sending (S.source sides.now) (P.parts parts.now) (S.before sides.now) widest) begin middle front }
+        ensures { IsWritten (sending (S.source sides.entry.now) (P.parts parts.entry.now) (S.before sides.entry.now) widest) begin middle front result.0 result.1 }
     { write_shared(rt, alloc, sides, parts, fewer, begin, middle, widest, front) };
     let write_back = move || -> (Run<T>, bool)
         requires { IsSync R.row × IsSend T.row × IsSend A.row × Frees A.Allocator A.dealloc_token × IsSync S.row × IsSync P.row
             × IsSend P.Part.row × IsSend P.A.row × IsSync P.A.row × (1 ≤ others) × P.AreCut parts.now
-            × IsShare (P.parts parts.now) (length (S.before sides.now)) widest middle end back.first back.room × (back.items ≡ []) }
-        ensures { IsWritten (S.source sides.entry.now) (P.parts parts.entry.now) (S.before sides.entry.now)
-            middle end back result.0 result.1 }
+            × IsShare (sending (S.source sides.now) (P.parts parts.now) (S.before sides.now) widest) middle end back }
+        ensures { IsWritten (sending (S.source sides.entry.now) (P.parts parts.entry.now) (S.before sides.entry.now) widest) middle end back result.0 result.1 }
     { write_shared(rt, alloc, sides, parts, others, middle, end, widest, back) };
     join(rt, write_front, write_back)
 }
@@ -284,17 +278,8 @@ where
 {
     let (room, run) = Room::new(alloc, before.len())?;
     let sides = BothSides { source, before };
-    let (run, right) = write_shared(
-        rt,
-        alloc,
-        &sides,
-        parts,
-        threads,
-        0,
-        segment_count(parts),
-        widest,
-        run,
-    );
+    let count = segment_count(parts);
+    let (run, right) = write_shared(rt, alloc, &sides, parts, threads, 0, count, widest, run);
     let elements = room.into_vec(run);
     if right { Ok(Some(elements)) } else { Ok(None) }
 }

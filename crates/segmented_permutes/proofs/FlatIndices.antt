@@ -1,6 +1,6 @@
 -- The flat indices of the segmented permutes: the walk that makes them, and what destinations they are.
 use Rattle.std.proofs.Common.{◌≡◌, ◌∙◌, ℕ, suc, ◌+◌, ◌<◌, ◌≤◌, Bool, true, false, if◌then◌else◌, List, [], ◌∷◌, ◌++◌, length, map, sum, take, drop, refl, sym, ap, arith, inl, inr}
-use Rattle.std.proofs.Common.{length-append, length-drop, ℤ, pos, negsuc, Option, Some, None, Ok}
+use Rattle.std.proofs.Common.{length-drop, ℤ, pos, negsuc, Option, Some, None, Ok}
 use Rattle.std.specs.Option.{option_or}
 use Rattle.std.proofs.lemmas.Bool.{lt-ltb, le-ltb}
 use Rattle.std.proofs.lemmas.Bool.Decides.{leb_tells}
@@ -117,22 +117,6 @@ outside_flat place start whole (m ∷ ms) (n ∷ ns) index count total within =
     ∙ ap (λ ws. first_fault place (ws ++ map (outside whole) others)) (sym (outside_each start m whole js (omega (arith, wide, within))))
     ∙ ap (first_fault place) (sym (map-append (outside whole) (map (flat_index start m) js) others))
     ∙ ap (λ k. first_outside place whole (map (flat_index start m) (take k index) ++ flat_indices (start + m) (parts_of ns ms (drop n index)) (drop k index))) (sym long)
-
--- ---- as many as there are indices
-
-pub length-flat_indices : (start : ℕ) (parts : List (ℕ × List (Option ℤ))) (index : List ℤ) → destinations_in parts ≤ length index → length (flat_indices start parts index) ≡ destinations_in parts
-length-flat_indices start [] index within = refl
-length-flat_indices start ((m, ts) ∷ parts) index within =
-    let all = sum-cons (length ts) (map (λ (p : ℕ × List (Option ℤ)). length p.1) parts) in
-    let js = take (length ts) index in
-    omega (
-      arith,
-      all,
-      length-append (map (flat_index start m) js) (flat_indices (start + m) parts (drop (length ts) index)),
-      length-map js (flat_index start m),
-      length-take-le (length ts) index (omega (arith, all, within)),
-      length-flat_indices (start + m) parts (drop (length ts) index) (omega (arith, all, within, length-drop (length ts) index)),
-    )
 
 -- ---- what a race at flat destinations finds
 

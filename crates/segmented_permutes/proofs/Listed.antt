@@ -7,9 +7,12 @@ use Rattle.segdes.proofs.ListRuns.{list-long, lists-many, whole-long}
 use Rattle.permute_walks.specs.Indices.{AreInside, elements_at}
 use Rattle.permute_walks.proofs.Outside.{length-elements_at, part_at, part_inside}
 use Rattle.segmented_permutes.specs.Backs.{IsSegmentedBack, lists_at, outside_from, segments_at}
-use Rattle.segmented_permutes.proofs.Backed.{inside_first}
+use Rattle.cvl_base.specs.SegmentedCalls.{seg_back_of}
+use Rattle.permutes.proofs.Told.{IsTold}
+use Rattle.segmented_permutes.proofs.Backed.{inside_first, seg_back-meaning}
 use Rattle.cvl_base.proofs.Lists.{sum-cons}
 use Rattle.segment_sends.proofs.Ranges.{length-range, range_is}
+use Rattle.segment_sends.proofs.Through.{segment_within}
 
 part_of_front : {X : Type 0} (xs : List X) (n p k : ℕ) → p + k ≤ n → part (take n xs) p k ≡ part xs p k
 part_of_front xs n p k within =
@@ -51,7 +54,7 @@ module _ {X : Type 0} where
         inside = subst (λ is. AreInside (get_or ms s 0) (take (get_or ns s 0) is)) at later.inside;
       }
 
-  module _ (widths : List ℕ) (source : List X) (lengths : List ℕ) (index : List ℤ) (fits : IsSegmentedBack widths source lengths index) where
+  module _ {widths : List ℕ} {source : List X} {lengths : List ℕ} {index : List ℤ} (fits : IsSegmentedBack widths source lengths index) where
     pub lists-long : lengths ≡ map length (lists_at widths source lengths index)
     lists-long = lists_long 0 widths source lengths index (omega (arith, fits.source_total)) fits.count (omega (arith, fits.total)) fits.inside
 
@@ -65,40 +68,53 @@ module _ {X : Type 0} where
       pub in_widths : s < length widths
       in_widths = omega (arith, fits.count, in_lengths)
 
-      pub list_long : length (get_or (lists_at widths source lengths index) s []) ≡ get_or lengths s 0
-      list_long = list-long (lists_at widths source lengths index) lengths lists-long s in_lengths
+      -- a part of one, as the code reads source and index by ranges
+      module _ (from count : ℕ) (within : from + count ≤ length (get_or (lists_at widths source lengths index) s [])) (at : ℕ) (is : at ≡ start_of lengths s) where
+        list_long : length (get_or (lists_at widths source lengths index) s []) ≡ get_or lengths s 0
+        list_long = list-long (lists_at widths source lengths index) lengths lists-long s in_lengths
 
-    -- a part of one, as the code reads source and index by ranges
-    module _ (s from count start m first : ℕ) (segment : s < length (lists_at widths source lengths index)) (within : from + count ≤ length (get_or (lists_at widths source lengths index) s []))
-        (there : start ≡ start_of widths s) (wide : m ≡ get_or widths s 0) (at : first ≡ start_of lengths s + from) where
-      abbrev ys : List X
-      ys = take (get_or widths s 0) (drop (sum (take s widths)) source)
+        pub list_inside : at + from + count ≤ length index
+        list_inside = omega (arith, within, list_long, is, segment_within lengths index fits.total s in_lengths)
 
-      abbrev js : List ℤ
-      js = take (get_or lengths s 0) (drop (sum (take s lengths)) index)
+        module _ (start m : ℕ) (there : start ≡ start_of widths s) (wide : m ≡ get_or widths s 0) where
+          abbrev first : ℕ
+          first = at + from
 
-      all : IsList (get_or widths s 0) ys js (get_or (lists_at widths source lengths index) s [])
-      all = list_is 0 widths source lengths index s fits.count fits.inside (in_lengths s segment)
+          abbrev ys : List X
+          ys = take (get_or widths s 0) (drop (sum (take s widths)) source)
 
-      ranged : part js from count ≡ take (first + count - first) (drop first index)
-      ranged =
-          let n : count ≡ first + count - first = omega arith in
-          part_of_front (drop (sum (take s lengths)) index) (get_or lengths s 0) from count (omega (arith, within, list_long s segment))
-          ∙ ap (take count) (drop-drop from (sum (take s lengths)) index) ∙ (λ i. take (n i) (drop (sym at i) index))
+          abbrev js : List ℤ
+          js = take (get_or lengths s 0) (drop (sum (take s lengths)) index)
 
-      source_is : take (start + m - start) (drop start source) ≡ ys
-      source_is = range_is widths source fits.source_total s (in_widths s segment) start m there wide
+          all : IsList (get_or widths s 0) ys js (get_or (lists_at widths source lengths index) s [])
+          all = list_is 0 widths source lengths index s fits.count fits.inside in_lengths
 
-      source_long : length ys ≡ get_or widths s 0
-      source_long = ap length (sym source_is) ∙ length-range widths source fits.source_total s (in_widths s segment) start m there wide ∙ wide
+          ranged : part js from count ≡ take (first + count - first) (drop first index)
+          ranged =
+              let n : count ≡ first + count - first = omega arith in
+              part_of_front (drop (sum (take s lengths)) index) (get_or lengths s 0) from count (omega (arith, within, list_long))
+              ∙ ap (take count) (drop-drop from (sum (take s lengths)) index) ∙ (λ i. take (n i) (drop (sym is i + from) index))
 
-      pub part_inside_range : AreInside (length (take (start + m - start) (drop start source))) (take (first + count - first) (drop first index))
-      part_inside_range =
-          subst (λ j. AreInside j (take (first + count - first) (drop first index))) (sym (ap length source_is ∙ source_long))
-          (subst (AreInside (get_or widths s 0)) ranged (part_inside (get_or widths s 0) js from count all.inside))
+          source_is : take (start + m - start) (drop start source) ≡ ys
+          source_is = range_is widths source fits.source_total s in_widths start m there wide
 
-      pub part_in_range : elements_at (take (start + m - start) (drop start source)) (take (first + count - first) (drop first index)) ≡ part (get_or (lists_at widths source lengths index) s []) from count
-      part_in_range =
-          (λ i. elements_at (source_is i) (sym ranged i))
-          ∙ sym (part_at ys js from count (subst (λ j. AreInside j js) (sym source_long) all.inside))
-          ∙ ap (λ zs. part zs from count) (sym all.is)
+          source_long : length ys ≡ get_or widths s 0
+          source_long = ap length (sym source_is) ∙ length-range widths source fits.source_total s in_widths start m there wide ∙ wide
+
+          pub part_inside_range : AreInside (length (take (start + m - start) (drop start source))) (take (first + count - first) (drop first index))
+          part_inside_range =
+              subst (λ j. AreInside j (take (first + count - first) (drop first index))) (sym (ap length source_is ∙ source_long))
+              (subst (AreInside (get_or widths s 0)) ranged (part_inside (get_or widths s 0) js from count all.inside))
+
+          pub part_in_range : elements_at (take (start + m - start) (drop start source)) (take (first + count - first) (drop first index)) ≡ part (get_or (lists_at widths source lengths index) s []) from count
+          part_in_range =
+              (λ i. elements_at (source_is i) (sym ranged i))
+              ∙ sym (part_at ys js from count (subst (λ j. AreInside j js) (sym source_long) all.inside))
+              ∙ ap (λ zs. part zs from count) (sym all.is)
+
+pub seg_back_told : {X : Type 0} (source : List X) (index : List ℤ) (widths lengths : List ℕ) → sum widths ≡ length source → sum lengths ≡ length index → length widths ≡ length lengths
+    → IsTold (seg_back_of source index widths lengths) (outside_from 0 widths lengths index) (segments_at widths source lengths index) (length index)
+seg_back_told source index widths lengths source_total total count = record {
+  is = seg_back-meaning source index widths lengths source_total total count;
+  long = λ none. length-whole (record { source_total = source_total; total = total; count = count; inside = none }) ∙ total;
+}

@@ -7,17 +7,18 @@ ghost use Rattle.cvl_base.specs.SegmentedCalls.{seg_back_of};
 ghost use Rattle.segmented_permutes.specs.Backs.{outside_from};
 
 use crate::back_segments::{check_segments, segments_at};
+use crate::flat_indices::flat_indices;
 use crate::looks::ByThreads;
-use crate::segment_races::check_segments_raced;
 use crew::{Gate, OpenGate};
 use cvl_base::{Config, Memory, Refused, check_agree};
-use permute_races::permute_pace;
+use permute_races::{check_indices_raced, permute_pace};
 use segdes::{SegDes, check_total};
+use segment_sends::AllParts;
 use sharing::threads_writing;
 use std::thread::Threads;
 
-/// `IndexOutOfRange` at the first place whose index is no place of its segment of the source, for which workers race, or one
-/// or several threads look.
+/// `IndexOutOfRange` at the first place whose index is no place of its segment of the source, for which workers race at flat indices,
+/// or one or several threads look.
 fn check_segment_indices<R: Threads + Sync, A: Memory, G: Gate>(
     rt: &R,
     alloc: A,
@@ -32,8 +33,17 @@ fn check_segment_indices<R: Threads + Sync, A: Memory, G: Gate>(
     requires in_limit { length index.now ≤ most_elements }
     ensures { Gives (λ u. u) result (unless (outside_from 0 source_d.now index_d.now index.now) (Ok tt)) }
 {
-    match permute_pace(config, index.len(), source_d.total()) {
-        Some(pace) => check_segments_raced(rt, alloc, pace, index, source_d, index_d, gate),
+    let places = source_d.total();
+    match permute_pace(config, index.len(), places) {
+        Some(pace) => {
+            let parts = AllParts {
+                index,
+                d: index_d,
+                result_d: source_d,
+            };
+            let flat = flat_indices(alloc, &parts, index)?;
+            check_indices_raced(rt, alloc, pace, &flat, places, gate)
+        }
         None => Ok(check_segments(&ByThreads { rt, config }, index, source_d, index_d)?),
     }
 }

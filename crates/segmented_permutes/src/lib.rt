@@ -17,9 +17,9 @@
 mod back_segments;
 mod backs;
 mod defaults;
+mod flat_indices;
 mod looks;
 mod over;
-mod segment_races;
 mod selects;
 mod sent;
 mod simples;

@@ -6,10 +6,11 @@ ghost use Rattle.cvl_base.specs.Limits.{most_elements};
 ghost use Rattle.segment_sends.specs.Parts.{destinations_in, fault_from, flagged_parts, parts_of, places_in, senders_from};
 ghost use Rattle.segment_sends.specs.Shares.{permuted};
 
-use crate::segment_races::{flagged_segments_raced, segments_raced};
+use crate::flat_indices::flat_indices;
 use crew::Gate;
 use cvl_base::{Config, Memory, NoResources, Refused, true_count};
-use permute_races::permute_pace;
+use permute_races::{permute_pace, senders_raced};
+use permute_walks::{AllDestinations, FlaggedDestinations};
 use segdes::SegDes;
 use segment_sends::{AllParts, FlaggedParts, Parts, permuted_by_segments, segment_senders_alone};
 use sharing::threads_writing;
@@ -47,8 +48,8 @@ where
     permuted_by_segments(rt, alloc, threads, source, before, parts, widest)
 }
 
-/// For each place of a result with segments of its own lengths its sender, for which workers race or one thread walks the
-/// segments. Each place takes part.
+/// For each place of a result with segments of its own lengths its sender, for which workers race at flat indices, or one thread
+/// walks the segments. Each place takes part.
 pub(crate) fn segment_senders<R: Threads + Sync, A: Memory, G: Gate>(
     rt: &R,
     alloc: A,
@@ -65,9 +66,14 @@ pub(crate) fn segment_senders<R: Threads + Sync, A: Memory, G: Gate>(
         (Ok (senders_from 0 (parts_of d.now result_d.now index.now)))) }
 {
     let places = result_d.total();
+    let parts = AllParts { index, d, result_d };
     match permute_pace(config, index.len(), places) {
-        Some(pace) => segments_raced(rt, alloc, pace, index, d, result_d, gate),
-        None => segment_senders_alone(alloc, places, &AllParts { index, d, result_d }),
+        Some(pace) => {
+            let flat = flat_indices(alloc, &parts, index)?;
+            let destinations = AllDestinations { index: &flat };
+            senders_raced(rt, alloc, pace, places, &destinations, gate)
+        }
+        None => segment_senders_alone(alloc, places, &parts),
     }
 }
 
@@ -89,8 +95,16 @@ pub(crate) fn flagged_segment_senders<R: Threads + Sync, A: Memory, G: Gate>(
         (Ok (senders_from 0 (flagged_parts d.now index.now flags.now)))) }
 {
     let places = true_count(flags);
+    let parts = FlaggedParts { index, flags, d };
     match permute_pace(config, index.len(), places) {
-        Some(pace) => flagged_segments_raced(rt, alloc, pace, index, flags, d, places, gate),
-        None => segment_senders_alone(alloc, places, &FlaggedParts { index, flags, d }),
+        Some(pace) => {
+            let flat = flat_indices(alloc, &parts, index)?;
+            let destinations = FlaggedDestinations {
+                index: &flat,
+                flags,
+            };
+            senders_raced(rt, alloc, pace, places, &destinations, gate)
+        }
+        None => segment_senders_alone(alloc, places, &parts),
     }
 }

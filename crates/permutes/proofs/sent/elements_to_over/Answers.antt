@@ -1,9 +1,8 @@
 use Rattle.std.proofs.Common.{◌≡◌, ℕ, Vec, ap, arith, length, vec_len}
-use Rattle.cvl_base.specs.Permutes.{first_fault, wrongs}
 use Rattle.permute_walks.specs.Senders.{senders_of, written_over}
 use Rattle.permute_walks.proofs.Sent.{length-senders_of}
 use Rattle.permute_walks.proofs.Taken.{length-over}
-use Rattle.permutes.proofs.Called.{found_gives}
+use Rattle.permutes.proofs.Told.{found_gives}
 use Rattle.permutes.proofs.Walked.{length_given}
 use Rattle.permutes.proofs.sent.elements_to_over.Goals as goal
 
@@ -11,14 +10,13 @@ pub elements_or_defaults_found-requires-clause-as_long : goal.elements_or_defaul
 elements_or_defaults_found-requires-clause-as_long g c κs within =
     let ts = g.D.Destinations.destinations c.args.destinations.now in
     let places = length c.args.defaults.now in
-    length_given (λ (v : Vec ℕ g.row.A.Denot). v.items) (λ v. vec_len v) (λ v. omega (arith, v.ok.0)) c.senders_to-found.result (first_fault 0 (wrongs places ts)) (senders_of 0 ts places) places
+    length_given (λ (v : Vec ℕ g.row.A.Denot). v.items) (λ v. vec_len v) (λ v. omega (arith, v.ok.0)) c.senders_to-found.result _ (senders_of 0 ts places) places
     (λ none. length-senders_of 0 ts places) c.senders_to-found.ensures
 
 pub returns-clause-values : goal.returns-clause-values
 returns-clause-values g c =
     let ts = g.D.Destinations.destinations c.args.destinations.now in
-    let places = length c.args.defaults.now in
-    c.elements_or_defaults_found.ensures.values (first_fault 0 (wrongs places ts)) (senders_of 0 ts places) c.senders_to-found.ensures (λ none. length-senders_of 0 ts places)
+    c.elements_or_defaults_found.ensures.values _ _ c.senders_to-found.ensures (λ none. length-senders_of 0 ts (length c.args.defaults.now))
 
 pub returns-in-Some-clause-as_long : goal.returns-in-Some-clause-as_long
 returns-in-Some-clause-as_long g c =

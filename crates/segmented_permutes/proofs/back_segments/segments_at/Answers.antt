@@ -3,6 +3,4 @@ use Rattle.segmented_permutes.proofs.Listed.{length-whole}
 use Rattle.segmented_permutes.proofs.back_segments.segments_at.Goals as goal
 
 pub write_in_runs-requires-after_bounds : goal.write_in_runs-requires-after_bounds
-write_in_runs-requires-after_bounds g c κs within =
-    let fits = c.requires.fits in
-    omega (arith, fits.total, length-whole c.args.source_d.now c.args.source.now c.args.index_d.now c.args.index.now fits)
+write_in_runs-requires-after_bounds g c κs within = omega (arith, c.requires.fits.total, length-whole c.requires.fits)

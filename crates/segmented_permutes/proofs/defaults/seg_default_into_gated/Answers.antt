@@ -1,13 +1,11 @@
 use Rattle.std.proofs.Common.{ℕ, Vec, ◌≡◌, ◌∙◌, ap, sym, arith, length, subst, vec_len, Err, Ok}
 use Rattle.std.proofs.lemmas.Result.{err_from_is_err_and}
 use Rattle.cvl_base.specs.Gives.{Gives, unless}
-use Rattle.permutes.proofs.Called.{found_gives}
-use Rattle.permutes.proofs.Walked.{length_given}
-use Rattle.segment_sends.specs.Parts.{fault_from, parts_of, senders_from}
+use Rattle.permutes.proofs.Told.{found_gives, senders_long}
+use Rattle.segment_sends.specs.Parts.{parts_of}
 use Rattle.segment_sends.specs.Shares.{permuted}
 use Rattle.segment_sends.proofs.Through.{destinations-parts, places-parts}
-use Rattle.segment_sends.proofs.AllSent.{length-senders}
-use Rattle.segmented_permutes.proofs.Whole.{seg_default-meaning, seg_default-differ}
+use Rattle.segmented_permutes.proofs.Whole.{seg_default-differ, seg_default_sent}
 use Rattle.segmented_permutes.proofs.defaults.seg_default_into_gated.Goals as goal
 
 pub returns-in_err-check_agree-clause-values : goal.returns-in_err-check_agree-clause-values
@@ -15,7 +13,7 @@ returns-in_err-check_agree-clause-values g c =
     let p = err_from_is_err_and c.from_residual-in_err-check_agree.result c.from_residual-in_err-check_agree.ensures.1 in
     let differ = c.in_err-check_agree.ensures in
     rw (p.1, p.2)
-    (seg_default-differ c.args.source.now c.args.index.now c.args.defaults.now c.args.source_d.now c.args.default_d.now c.in_ok-check_total.ensures.agrees c.in_ok-check_total-2.ensures.agrees
+    (seg_default-differ c.args.source.now c.args.index.now c.args.source_d.now c.in_ok-check_total.ensures.agrees c.in_ok-check_total-2.ensures.agrees c.args.defaults.now c.args.default_d.now
     c.in_ok-check_total-3.ensures.agrees (λ same. differ.1 (c.count.ensures.value ∙ same ∙ sym c.count-2.ensures.value))
     ∙ ap (λ f. Err f) (sym differ.0))
 
@@ -26,29 +24,25 @@ permuted_segments-requires-clause-few g c κs within =
 
 pub permuted_segments-requires-clause-as_long : goal.permuted_segments-requires-clause-as_long
 permuted_segments-requires-clause-as_long g c κs within =
-    let count : length c.args.source_d.now ≡ length c.args.default_d.now = omega (arith, c.in_ok-check_agree.ensures) in
-    places-parts c.args.source_d.now c.args.default_d.now c.args.index.now count ∙ c.in_ok-check_total-3.ensures.agrees
+    places-parts c.args.source_d.now c.args.default_d.now c.args.index.now (omega (arith, c.in_ok-check_agree.ensures)) ∙ c.in_ok-check_total-3.ensures.agrees
 
 pub returns-in-Some-clause-values : goal.returns-in-Some-clause-values
 returns-in-Some-clause-values g c =
-    let parts = parts_of c.args.source_d.now c.args.default_d.now c.args.index.now in
-    seg_default-meaning c.args.source.now c.args.index.now c.args.defaults.now c.args.source_d.now c.args.default_d.now c.in_ok-check_total.ensures.agrees
-    c.in_ok-check_total-2.ensures.agrees c.in_ok-check_total-3.ensures.agrees (omega (arith, c.in_ok-check_agree.ensures)) c.requires.in_limit
-    ∙ ap (λ f. unless f (Ok (permuted c.args.source.now parts c.args.defaults.now))) (sym (found_gives _ c.in_ok-elements.field-0 c.in-Some.elements c.in-Some.is c.in_ok-elements.ensures.right))
+    let call = seg_default_sent c.args.source.now c.args.index.now c.args.source_d.now c.in_ok-check_total.ensures.agrees c.in_ok-check_total-2.ensures.agrees c.requires.in_limit c.args.defaults.now
+    c.args.default_d.now c.in_ok-check_total-3.ensures.agrees (omega (arith, c.in_ok-check_agree.ensures)) in
+    call.is
+    ∙ ap (λ f. unless f (Ok (permuted c.args.source.now (parts_of c.args.source_d.now c.args.default_d.now c.args.index.now) c.args.defaults.now)))
+    (sym (found_gives _ c.in_ok-elements.field-0 c.in-Some.elements c.in-Some.is c.in_ok-elements.ensures.right))
     ∙ ap (λ xs. Ok xs) (sym (found_gives _ c.in_ok-elements.field-0 c.in-Some.elements c.in-Some.is c.in_ok-elements.ensures.written))
 
 pub elements_or_defaults_found-requires-clause-as_long : goal.elements_or_defaults_found-requires-clause-as_long
 elements_or_defaults_found-requires-clause-as_long g c κs within =
-    let parts = parts_of c.args.source_d.now c.args.default_d.now c.args.index.now in
-    length_given (λ (v : Vec ℕ g.row.A.Denot). v.items) (λ v. vec_len v) (λ v. omega (arith, v.ok.0)) c.segment_senders-found.result (fault_from 0 parts) (senders_from 0 parts) (length c.args.defaults.now)
-    (λ none. length-senders c.args.source_d.now c.args.default_d.now c.args.index.now (omega (arith, c.in_ok-check_agree.ensures)) ∙ c.in_ok-check_total-3.ensures.agrees) c.segment_senders-found.ensures
+    let call = seg_default_sent c.args.source.now c.args.index.now c.args.source_d.now c.in_ok-check_total.ensures.agrees c.in_ok-check_total-2.ensures.agrees c.requires.in_limit c.args.defaults.now
+    c.args.default_d.now c.in_ok-check_total-3.ensures.agrees (omega (arith, c.in_ok-check_agree.ensures)) in
+    senders_long call (λ (v : Vec ℕ g.row.A.Denot). v.items) (λ v. vec_len v) (λ v. omega (arith, v.ok.0)) c.segment_senders-found.result c.segment_senders-found.ensures
 
 pub returns-clause-values : goal.returns-clause-values
 returns-clause-values g c =
-    let count : length c.args.source_d.now ≡ length c.args.default_d.now = omega (arith, c.in_ok-check_agree.ensures) in
-    let parts = parts_of c.args.source_d.now c.args.default_d.now c.args.index.now in
-    subst (Gives (λ v. v.items) c.elements_or_defaults_found.result)
-    (sym (seg_default-meaning c.args.source.now c.args.index.now c.args.defaults.now c.args.source_d.now c.args.default_d.now c.in_ok-check_total.ensures.agrees
-    c.in_ok-check_total-2.ensures.agrees c.in_ok-check_total-3.ensures.agrees count c.requires.in_limit))
-    (c.elements_or_defaults_found.ensures.values (fault_from 0 parts) (senders_from 0 parts) c.segment_senders-found.ensures
-    (λ none. length-senders c.args.source_d.now c.args.default_d.now c.args.index.now count ∙ c.in_ok-check_total-3.ensures.agrees))
+    let call = seg_default_sent c.args.source.now c.args.index.now c.args.source_d.now c.in_ok-check_total.ensures.agrees c.in_ok-check_total-2.ensures.agrees c.requires.in_limit c.args.defaults.now
+    c.args.default_d.now c.in_ok-check_total-3.ensures.agrees (omega (arith, c.in_ok-check_agree.ensures)) in
+    subst (Gives (λ v. v.items) c.elements_or_defaults_found.result) (sym call.is) (c.elements_or_defaults_found.ensures.values _ _ c.segment_senders-found.ensures (λ none. call.as_many))

@@ -1,12 +1,9 @@
-use Rattle.std.proofs.Common.{Vec, ◌≡◌, ◌∙◌, ap, arith, length, refl, subst, sym, vec_len, Err}
+use Rattle.std.proofs.Common.{ℕ, Vec, ◌≡◌, ◌∙◌, ap, arith, length, refl, subst, sym, vec_len, Err}
 use Rattle.cvl_base.specs.declared.refused.Refused.TheVariants as refused
 use Rattle.cvl_base.specs.Rooms.{OverwritesOr, in_room}
-use Rattle.permutes.proofs.Roomed.{told_or}
-use Rattle.permutes.proofs.Walked.{length_given}
-use Rattle.segment_sends.specs.Parts.{fault_from, parts_of, senders_from}
-use Rattle.segment_sends.proofs.AllSent.{length-senders}
+use Rattle.permutes.proofs.Told.{senders_long, told_or}
 use Rattle.segment_sends.proofs.Through.{destinations-parts, places-parts}
-use Rattle.segmented_permutes.proofs.Whole.{seg_default-differ, seg_default-meaning}
+use Rattle.segmented_permutes.proofs.Whole.{seg_default-differ, seg_default_sent}
 use Rattle.segmented_permutes.proofs.over.seg_default_into_over.Goals as goal
 
 pub returns-in_err-check_agree : goal.returns-in_err-check_agree
@@ -14,7 +11,7 @@ returns-in_err-check_agree g c =
     let differ = c.in_err-check_agree.ensures in
     told_or _ c.from_residual-in_err-check_agree.result (refused.Fault c.in_err-check_agree.field-0.0) c.args.out.now c.from_residual-in_err-check_agree.ensures.1 (
       ap (in_room (length c.args.out.now))
-          (seg_default-differ c.args.source.now c.args.index.now c.args.defaults.now c.args.source_d.now c.args.default_d.now c.in_ok-check_total.ensures.agrees c.in_ok-check_total-2.ensures.agrees
+          (seg_default-differ c.args.source.now c.args.index.now c.args.source_d.now c.in_ok-check_total.ensures.agrees c.in_ok-check_total-2.ensures.agrees c.args.defaults.now c.args.default_d.now
           c.in_ok-check_total-3.ensures.agrees (λ same. differ.1 (c.count.ensures.value ∙ same ∙ sym c.count-2.ensures.value)))
           ∙ ap Err (sym differ.0),
       refl,
@@ -27,22 +24,17 @@ segment_senders_alone-found-requires-clause-few g c κs within =
 
 pub segment_senders_alone-found-requires-clause-whole : goal.segment_senders_alone-found-requires-clause-whole
 segment_senders_alone-found-requires-clause-whole g c κs within =
-    let count : length c.args.source_d.now ≡ length c.args.default_d.now = omega (arith, c.in_ok-check_agree.ensures) in
-    places-parts c.args.source_d.now c.args.default_d.now c.args.index.now count ∙ c.in_ok-check_total-3.ensures.agrees
+    places-parts c.args.source_d.now c.args.default_d.now c.args.index.now (omega (arith, c.in_ok-check_agree.ensures)) ∙ c.in_ok-check_total-3.ensures.agrees
 
 pub take_or_default_over-requires-clause-as_long : goal.take_or_default_over-requires-clause-as_long
 take_or_default_over-requires-clause-as_long g c κs within =
-    let d = c.args.source_d.now in let widths = c.args.default_d.now in let parts = parts_of d widths c.args.index.now in
-    length_given (λ (v : Vec _ g.row.A.Denot). v.items) (λ v. vec_len v) (λ v. omega (arith, v.ok.0)) c.segment_senders_alone-found.result (fault_from 0 parts) (senders_from 0 parts)
-    (length c.args.defaults.now) (λ none. length-senders d widths c.args.index.now (omega (arith, c.in_ok-check_agree.ensures)) ∙ c.in_ok-check_total-3.ensures.agrees)
-    c.segment_senders_alone-found.ensures
+    let call = seg_default_sent c.args.source.now c.args.index.now c.args.source_d.now c.in_ok-check_total.ensures.agrees c.in_ok-check_total-2.ensures.agrees c.requires.in_limit c.args.defaults.now
+    c.args.default_d.now c.in_ok-check_total-3.ensures.agrees (omega (arith, c.in_ok-check_agree.ensures)) in
+    senders_long call (λ (v : Vec ℕ g.row.A.Denot). v.items) (λ v. vec_len v) (λ v. omega (arith, v.ok.0)) c.segment_senders_alone-found.result c.segment_senders_alone-found.ensures
 
 pub returns : goal.returns
 returns g c =
-    let source = c.args.source.now in let index = c.args.index.now in let defaults = c.args.defaults.now in let d = c.args.source_d.now in let widths = c.args.default_d.now in
-    let count : length d ≡ length widths = omega (arith, c.in_ok-check_agree.ensures) in
-    let parts = parts_of d widths index in
-    subst (λ m. OverwritesOr (in_room (length c.args.out.now) m) c.take_or_default_over.result c.args.out.now c.take_or_default_over.new.out)
-    (sym (seg_default-meaning source index defaults d widths c.in_ok-check_total.ensures.agrees c.in_ok-check_total-2.ensures.agrees c.in_ok-check_total-3.ensures.agrees count c.requires.in_limit))
-    (c.take_or_default_over.ensures (fault_from 0 parts) (senders_from 0 parts) c.segment_senders_alone-found.ensures
-    (λ none. length-senders d widths index count ∙ c.in_ok-check_total-3.ensures.agrees))
+    let call = seg_default_sent c.args.source.now c.args.index.now c.args.source_d.now c.in_ok-check_total.ensures.agrees c.in_ok-check_total-2.ensures.agrees c.requires.in_limit c.args.defaults.now
+    c.args.default_d.now c.in_ok-check_total-3.ensures.agrees (omega (arith, c.in_ok-check_agree.ensures)) in
+    subst (λ m. OverwritesOr (in_room (length c.args.out.now) m) c.take_or_default_over.result c.args.out.now c.take_or_default_over.new.out) (sym call.is)
+    (c.take_or_default_over.ensures _ _ c.segment_senders_alone-found.ensures (λ none. call.as_many))

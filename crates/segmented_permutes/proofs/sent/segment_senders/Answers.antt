@@ -1,6 +1,30 @@
-use Rattle.std.proofs.Common.{◌∙◌, arith, sym}
+use Rattle.std.proofs.Common.{◌∙◌, ap, subst, sym, arith, length}
+use Rattle.cvl_base.specs.Gives.{Gives}
+use Rattle.cvl_base.specs.Permutes.{all_destinations}
+use Rattle.cvl_base.proofs.Permutes.{length-all_destinations}
+use Rattle.segment_sends.specs.Parts.{parts_of}
 use Rattle.segment_sends.proofs.Through.{destinations-parts, places-parts}
+use Rattle.segmented_permutes.proofs.FlatIndices.{raced_flat, destinations_all}
 use Rattle.segmented_permutes.proofs.sent.segment_senders.Goals as goal
+
+pub flat_indices-requires-clause-as_long : goal.flat_indices-requires-clause-as_long
+flat_indices-requires-clause-as_long g c κs within = destinations-parts c.args.d.now c.args.result_d.now c.args.index.now c.requires.total c.requires.count
+
+pub flat_indices-requires-clause-in_limit : goal.flat_indices-requires-clause-in_limit
+flat_indices-requires-clause-in_limit g c κs within =
+    omega (arith, places-parts c.args.d.now c.args.result_d.now c.args.index.now c.requires.count, c.total-places.ensures.value, c.total-places.ensures.in_limit)
+
+pub senders_raced-requires-clause-few : goal.senders_raced-requires-clause-few
+senders_raced-requires-clause-few g c κs within =
+    omega (arith, length-all_destinations c.deref.result.now, ap length c.deref.ensures.value, c.in_ok-flat-in-Some.ensures.as_long, c.requires.in_limit)
+
+pub returns-in_ok-flat-in-Some : goal.returns-in_ok-flat-in-Some
+returns-in_ok-flat-in-Some g c =
+    let parts = parts_of c.args.d.now c.args.result_d.now c.args.index.now in
+    subst (Gives (λ v. v.items) c.senders_raced.result)
+    (raced_flat parts c.total-places.result (all_destinations c.deref.result.now) (places-parts c.args.d.now c.args.result_d.now c.args.index.now c.requires.count ∙ sym c.total-places.ensures.value)
+    (ap all_destinations (c.deref.ensures.value ∙ c.in_ok-flat-in-Some.ensures.are) ∙ sym (destinations_all 0 c.args.d.now c.args.result_d.now c.args.index.now (omega (arith, c.requires.total)))))
+    c.senders_raced.ensures
 
 pub segment_senders_alone-requires-clause-few : goal.segment_senders_alone-requires-clause-few
 segment_senders_alone-requires-clause-few g c κs within =

@@ -1,10 +1,9 @@
 use Rattle.std.proofs.Common.{◌∙◌, ap, subst, sym, arith, length, Ok}
 use Rattle.cvl_base.specs.Gives.{Gives, unless}
 use Rattle.permute_walks.specs.Indices.{first_outside}
-use Rattle.segment_sends.specs.Parts.{parts_of}
-use Rattle.segmented_permutes.proofs.FlatIndices.{length-flat_indices, outside_flat}
 use Rattle.segment_sends.proofs.Through.{destinations-parts, places-parts}
-use Rattle.segmented_permutes.proofs.segment_races.check_segments_raced.Goals as goal
+use Rattle.segmented_permutes.proofs.FlatIndices.{outside_flat}
+use Rattle.segmented_permutes.proofs.backs.check_segment_indices.Goals as goal
 
 pub flat_indices-requires-clause-as_long : goal.flat_indices-requires-clause-as_long
 flat_indices-requires-clause-as_long g c κs within = destinations-parts c.args.index_d.now c.args.source_d.now c.args.index.now c.requires.total (sym c.requires.count)
@@ -14,24 +13,13 @@ flat_indices-requires-clause-in_limit g c κs within =
     omega (arith, places-parts c.args.index_d.now c.args.source_d.now c.args.index.now (sym c.requires.count), c.total-places.ensures.value, c.total-places.ensures.in_limit)
 
 pub check_indices_raced-requires-after_bounds : goal.check_indices_raced-requires-after_bounds
-check_indices_raced-requires-after_bounds g c κs within =
-    let all = destinations-parts c.args.index_d.now c.args.source_d.now c.args.index.now c.requires.total (sym c.requires.count) in
-    omega (
-      arith,
-      ap length (c.deref.ensures.value ∙ c.in_ok-flat.ensures),
-      length-flat_indices 0 (parts_of c.args.index_d.now c.args.source_d.now c.args.index.now) c.args.index.now (omega (arith, all)),
-      all,
-      c.requires.in_limit,
-    )
+check_indices_raced-requires-after_bounds g c κs within = omega (arith, ap length c.deref.ensures.value, c.in_ok-flat-in-Some.ensures.as_long, c.requires.in_limit)
 
-pub returns : goal.returns
-returns g c =
-    let index = c.args.index.now in
-    let lengths = c.args.index_d.now in
-    let widths = c.args.source_d.now in
+pub returns-in_ok-flat-in-Some : goal.returns-in_ok-flat-in-Some
+returns-in_ok-flat-in-Some g c =
     let whole = c.total-places.result in
     subst (Gives (λ u. u) c.check_indices_raced.result)
     (ap (λ o. unless {Y = Unit {0}} o (Ok (tt {0})))
-    (ap (first_outside 0 whole) (c.deref.ensures.value ∙ c.in_ok-flat.ensures)
-    ∙ sym (outside_flat 0 0 whole widths lengths index c.requires.count (omega (arith, c.requires.total)) (omega (arith, c.total-places.ensures.value)))))
+    (ap (first_outside 0 whole) (c.deref.ensures.value ∙ c.in_ok-flat-in-Some.ensures.are)
+    ∙ sym (outside_flat 0 0 whole c.args.source_d.now c.args.index_d.now c.args.index.now c.requires.count (omega (arith, c.requires.total)) (omega (arith, c.total-places.ensures.value)))))
     c.check_indices_raced.ensures

@@ -1,6 +1,6 @@
 use Rattle.std.proofs.Common.{◌≡◌, ◌+◌, ◌++◌, map, take, vec_capacity, vec_len}
 use Rattle.segmented_permutes.specs.FlatIndices.{flat_index}
-use Rattle.segmented_permutes.proofs.segment_races.push_flat.Given as goal
+use Rattle.segmented_permutes.proofs.flat_indices.push_flat.Given as goal
 
 abbrev pub invariant-loop-index : goal.invariant-loop-index
 invariant-loop-index g l = record {

@@ -1,6 +1,6 @@
 use Rattle.std.proofs.Common.{◌≡◌, ◌+◌, length, vec_capacity, vec_len}
 use Rattle.segmented_permutes.proofs.FlatIndices.{IsFlatThrough}
-use Rattle.segmented_permutes.proofs.segment_races.flat_indices.Given as goal
+use Rattle.segmented_permutes.proofs.flat_indices.flat_indices.Given as goal
 
 abbrev pub invariant-loop-s : goal.invariant-loop-s
 invariant-loop-s g l = record {

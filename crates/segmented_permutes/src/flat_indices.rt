@@ -1,0 +1,65 @@
+//! Flat indices, which count from the start of the whole result and not from that of their segment. The race of a segmented permute
+//! is that of a flat one at them.
+
+ghost use Rattle.std.specs.Prelude.{◌≡◌, ◌+◌, ◌≤◌, ◌++◌, IfOk, length, map, vec_capacity, vec_len};
+ghost use Rattle.cvl_base.specs.Limits.{most_elements};
+ghost use Rattle.segmented_permutes.specs.FlatIndices.{flat_index, flat_indices};
+ghost use Rattle.segment_sends.specs.Parts.{destinations_in, places_in};
+
+use cvl_base::{Memory, NoResources, place_among};
+use permute_walks::Destinations;
+use segment_sends::{Parts, segment_count};
+use std::alloc::Allocator;
+
+/// The flat index of an index that is no place of its segment. It is no place of the whole either.
+const OUTSIDE: i32 = -1;
+
+/// The flat index of an index into a segment of so many places, the first of which is place `start` of the whole.
+#[inline]
+fn flat_index(start: usize, places: usize, index: &i32) -> i32
+    requires { start + places ≤ most_elements }
+    ensures { result ≡ flat_index start places index.now }
+{
+    match place_among(places, index) {
+        Some(place) => (start + place) as i32,
+        None => OUTSIDE,
+    }
+}
+
+/// Pushes the flat index of each index into such a segment. There must be room for them.
+fn push_flat<A: Allocator>(flat: &mut Vec<i32, A>, start: usize, places: usize, segment: &[i32])
+    requires room { vec_len flat.old + length segment.now ≤ vec_capacity flat.old }
+    requires in_limit { start + places ≤ most_elements }
+    ensures pushed { flat.new.items ≡ flat.old.items ++ map (flat_index start places) segment.now }
+    ensures as_long { vec_len flat.new ≡ vec_len flat.old + length segment.now }
+    ensures capacity { vec_capacity flat.new ≡ vec_capacity flat.old }
+{
+    for index in segment {
+        flat.push_reserved(flat_index(start, places, index));
+    }
+}
+
+/// The flat indices of all parts, which have as many destinations as there are indices.
+pub(crate) fn flat_indices<P: Parts, A: Memory>(
+    alloc: A,
+    parts: &P,
+    index: &[i32],
+) -> Result<Vec<i32, A>, NoResources>
+    requires cut { P.AreCut parts.now }
+    requires as_long { destinations_in (P.parts parts.now) ≡ length index.now }
+    requires in_limit { places_in (P.parts parts.now) ≤ most_elements }
+    ensures are { IfOk result (λ flat. flat.items ≡ flat_indices 0 (P.parts parts.now) index.now) }
+    ensures as_long { IfOk result (λ flat. length flat.items ≡ length index.now) }
+{
+    let mut flat = Vec::with_capacity(alloc, index.len())?;
+    let mut rest = index;
+    let mut start = 0;
+    for s in 0..segment_count(parts) {
+        let (places, destinations) = parts.part(s);
+        let (segment, others) = rest.split_at(destinations.count());
+        push_flat(&mut flat, start, places, segment);
+        rest = others;
+        start += places;
+    }
+    Ok(flat)
+}
