@@ -7,11 +7,11 @@ use std::sync::atomic::{AtomicU64, Ordering};
 /// The requests, their bytes and the frees so far, and the rule by which requests are refused.
 #[derive(Drop)]
 pub struct Calls {
-    refusal: Refusal,
-    requests: AtomicU64,
-    bytes: AtomicU64,
-    refused: AtomicU64,
-    frees: AtomicU64,
+    pub refusal: Refusal,
+    pub requests: AtomicU64,
+    pub bytes: AtomicU64,
+    pub refused: AtomicU64,
+    pub frees: AtomicU64,
 }
 
 impl Calls {
@@ -42,32 +42,5 @@ impl Calls {
     /// Counts a block that is given back.
     pub fn free(&self) {
         self.frees.fetch_add(1, Ordering::SeqCst);
-    }
-
-    /// The rule by which requests are refused.
-    pub fn rule(&self) -> Refusal
-        ensures { result ≡ self.now.refusal }
-    {
-        self.refusal
-    }
-
-    /// How many requests were made so far, refused ones among them.
-    pub fn requests(&self) -> u64 {
-        self.requests.load(Ordering::SeqCst)
-    }
-
-    /// How many bytes these requests asked for in all, modulo 2^64.
-    pub fn bytes(&self) -> u64 {
-        self.bytes.load(Ordering::SeqCst)
-    }
-
-    /// How many of the requests were refused.
-    pub fn refused(&self) -> u64 {
-        self.refused.load(Ordering::SeqCst)
-    }
-
-    /// How many blocks were given back.
-    pub fn frees(&self) -> u64 {
-        self.frees.load(Ordering::SeqCst)
     }
 }

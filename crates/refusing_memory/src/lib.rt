@@ -15,6 +15,7 @@
 ghost use Rattle.std.specs.Prelude.{◌≡◌};
 
 use std::alloc::{AllocError, Allocator};
+use std::sync::atomic::Ordering;
 
 mod counting;
 mod each;
@@ -69,27 +70,27 @@ impl<B: Allocator> Refusing<B> {
     pub fn rule(&self) -> Refusal
         ensures { result ≡ rule_of self.now }
     {
-        self.calls.rule()
+        self.calls.refusal
     }
 
     /// How many requests were made so far, granted or refused.
     pub fn requests(&self) -> u64 {
-        self.calls.requests()
+        self.calls.requests.load(Ordering::SeqCst)
     }
 
-    /// How many bytes the requests so far asked for in all, granted or refused.
+    /// How many bytes the requests so far asked for in all, granted or refused, modulo 2^64.
     pub fn bytes(&self) -> u64 {
-        self.calls.bytes()
+        self.calls.bytes.load(Ordering::SeqCst)
     }
 
     /// How many requests were refused so far by the rule.
     pub fn refused(&self) -> u64 {
-        self.calls.refused()
+        self.calls.refused.load(Ordering::SeqCst)
     }
 
     /// How many blocks were given back so far.
     pub fn frees(&self) -> u64 {
-        self.calls.frees()
+        self.calls.frees.load(Ordering::SeqCst)
     }
 
     /// How many requests were granted whose block was not given back so far.
