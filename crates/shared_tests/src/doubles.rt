@@ -1,15 +1,14 @@
-//! The doubles of numbers, written by several threads, and what may be done with such a vector afterwards.
+//! The doubles of numbers, written by several threads, and what may be done with such a vector afterwards; those that are written over
+//! a slice; and a vector that a thread leaves early.
 
 ghost use Rattle.std.specs.Prelude.{◌≡◌, ◌+◌, ◌≤◌, [], length, map};
 ghost use Rattle.fresh.specs.Parts.{part};
 ghost use Rattle.fresh.specs.Places.{stretch};
 ghost use Rattle.shared_tests.specs.Doubles.{double};
 
-use cvl_base::{Config, Memory, NoResources};
-use fresh::{Run, Writer, write_in_runs, write_over};
-use refusing_memory::Refusing;
-use sharing::{ThreadCount, all_workers};
-use std::test::Fail;
+use cvl_base::{Memory, NoResources};
+use fresh::{Room, Run, Writer, write_in_runs, write_over};
+use sharing::ThreadCount;
 use std::thread::Threads;
 
 /// Writes the doubles of numbers.
@@ -65,20 +64,21 @@ pub fn are_written<R: Threads + Sync, A: Memory>(
     )
 }
 
-/// The length from which on threads share a vector.
-#[test]
-fn a_shared_length(rt: HostRuntime) -> Result<(), Fail> {
-    let heap = Refusing::none(rt.alloc());
-    let threads = all_workers(Config::new(1, 8)?);
-    assert!(rt; are_written(&rt, &heap, threads, 262_145) == Ok(true));
-    Ok(())
+/// Whether the doubles of five numbers are right that are written over other numbers.
+pub fn are_written_over<A: Memory>(heap: A) -> Result<bool, NoResources> {
+    let numbers = [3, 1, 4, 1, 5];
+    let mut values = vec![in heap; 7; numbers.len()]?;
+    write_over(&mut values, &Doubles { numbers: &numbers });
+    Ok(are_doubles(&values, &numbers))
 }
 
-#[test]
-fn a_slice_that_is_written_over(rt: HostRuntime) -> Result<(), Fail> {
-    let numbers = [3, 1, 4, 1, 5];
-    let mut values = vec![in rt.alloc(); 7; numbers.len()]?;
-    write_over(&mut values, &Doubles { numbers: &numbers });
-    assert!(rt; are_doubles(&values, &numbers));
-    Ok(())
+/// Whether a room for five items, of which a thread that stops early has written two, is a vector of these two: of two runs one is
+/// written in part and one not at all.
+pub fn keeps_what_is_written<A: Memory>(heap: A) -> Result<bool, NoResources> {
+    let (room, run) = Room::new(heap, 5)?;
+    let (mut front, back) = run.split_at(3);
+    front.push(7u8);
+    front.push(8);
+    let items = room.into_vec(front.joined(back));
+    Ok(items.as_slice() == [7, 8].as_slice() && items.capacity() == 5)
 }

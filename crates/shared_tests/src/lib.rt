@@ -5,9 +5,9 @@
 #![tactic(auto)]
 
 #[cfg(test)]
-mod doubles;
+mod counter;
 #[cfg(test)]
-mod early;
+mod doubles;
 #[cfg(test)]
 mod lowered_places;
 #[cfg(test)]

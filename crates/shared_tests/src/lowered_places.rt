@@ -1,110 +1,67 @@
 //! Least boards: two seats whose workers take their steps in turn. The program of `embedding` has one in two threads.
 
-ghost use Rattle.std.specs.Prelude.{◌≡◌, ◌≤◌, ◌<◌, IfSome, length, map};
+ghost use Rattle.std.specs.Prelude.{◌≡◌, Some, replicate};
 ghost use Rattle.boards.specs.LeastBoards.{IsLeastSeatOf};
-ghost use Rattle.cvl_base.specs.Limits.{most_elements};
-ghost use Rattle.shared_tests.specs.Slots.{slot_of};
 
 use boards::{LeastBoard, LeastSeat, Targets};
 use cvl_base::{Memory, NoResources};
-use std::alloc::Allocator;
 use tile_plan::Plan;
 
-/// Places that have the slots which a list's numbers name; a number that is too great names none.
+/// Eight places, all in the first of two slots.
 #[derive(Drop)]
-struct Slots<'a> {
-    numbers: &'a [u32],
-    count: u32,
-    ghost few: { length numbers.now ≤ most_elements },
-    ghost few_slots: { count ≤ most_elements },
-}
+struct AllInFirst;
 
-/// The slot that a number names.
-fn slot_of_number(count: u32, number: u32) -> Option<u32>
-    ensures value { result ≡ slot_of count number }
-    ensures within { IfSome result (λ s. s < count) }
-{
-    if number < count { Some(number) } else { None }
-}
+impl Targets for AllInFirst {
+    ghost use Rattle.std.specs.Prelude.{Some, replicate};
 
-impl Targets for Slots<'_> {
-    ghost targets = { λ places. map (slot_of places.count) places.numbers.now };
+    ghost targets = { λ _. replicate 8 (Some 0) };
 
-    ghost slot_count = { λ places. places.count };
+    ghost slot_count = { λ _. 2 };
 
     fn places(&self) -> u32 {
-        self.numbers.len() as u32
+        8
     }
 
     fn slots(&self) -> u32 {
-        self.count
+        2
     }
 
-    fn slot(&self, place: u32) -> Option<u32> {
-        slot_of_number(self.count, self.numbers[place as usize])
+    fn slot(&self, _place: u32) -> Option<u32> {
+        Some(0)
     }
 }
 
-/// What the workers share: a board over the places of a list.
-#[derive(Drop)]
-struct Shared<'a, 'b, A: Allocator> {
-    board: &'a LeastBoard<Slots<'b>, A>,
-    numbers: &'b [u32],
-    count: u32,
-    ghost targets: { board.now.targets ≡ map (slot_of count) numbers.now },
-    ghost slots: { board.now.slots ≡ count },
-}
-
-impl<'a, 'b, A: Memory> Shared<'a, 'b, A> {
-    /// Lowers each place from one up to another, which is not counted in, that has a slot.
-    fn lower_each(&self, seat: &mut LeastSeat, from: u32, to: u32)
-        requires seat { IsLeastSeatOf self.now.board.now seat.old }
-        requires within { to ≤ length self.now.numbers.now }
-        ensures { IsLeastSeatOf self.now.board.now seat.new }
-    {
-        for place in from..to {
-            if let Some(slot) = slot_of_number(self.count, self.numbers[place as usize]) {
-                self.board.lower(seat, slot, place);
-            }
-        }
-    }
-
-    /// Whether what one worker lowers, the other one sees, and a greater place changes nothing.
-    fn sees_what_is_lowered(&self, first: &mut LeastSeat, second: &mut LeastSeat) -> bool
-        requires first { IsLeastSeatOf self.now.board.now first.old }
-        requires second { IsLeastSeatOf self.now.board.now second.old }
-        requires places { 8 ≤ length self.now.numbers.now }
-        requires slots { 1 ≤ self.now.count }
-        ensures first { IsLeastSeatOf self.now.board.now first.new }
-        ensures second { IsLeastSeatOf self.now.board.now second.new }
-    {
-        let mut right = self.board.least(first, 0).is_none();
-        self.lower_each(first, 7, 8);
-        right &= self.board.least(second, 0) == Some(7);
-        self.lower_each(first, 3, 4);
-        right &= self.board.least(second, 0) == Some(3);
-        right &= self.board.least(first, 0) == Some(3);
-        self.lower_each(first, 5, 6);
-        right & (self.board.least(second, 0) == Some(3))
-    }
+/// Whether what one worker lowers, the other one sees, and a greater place changes nothing.
+fn sees_what_is_lowered<A: Memory>(
+    board: &LeastBoard<AllInFirst, A>,
+    first: &mut LeastSeat,
+    second: &mut LeastSeat,
+) -> bool
+    requires first { IsLeastSeatOf board.now first.old }
+    requires second { IsLeastSeatOf board.now second.old }
+    requires targets { board.now.targets ≡ replicate 8 (Some 0) }
+    requires slots { board.now.slots ≡ 2 }
+    ensures first { IsLeastSeatOf board.now first.new }
+    ensures second { IsLeastSeatOf board.now second.new }
+{
+    let mut right = board.least(first, 0).is_none();
+    board.lower(first, 0, 7);
+    right &= board.least(second, 0) == Some(7);
+    board.lower(first, 0, 3);
+    right &= board.least(second, 0) == Some(3);
+    right &= board.least(first, 0) == Some(3);
+    board.lower(first, 0, 5);
+    right & (board.least(second, 0) == Some(3))
 }
 
 /// Whether each answer of two workers is the one that is worked out by hand, of eight places that are all in the first of two
 /// slots. In the second one no place is lowered.
 pub fn answers_by_hand<A: Memory>(alloc: A) -> Result<bool, NoResources> {
-    let zeros = [0; 8];
-    let numbers = zeros.as_slice();
-    let targets = Slots { numbers, count: 2 };
-    let (board, mut seats) = LeastBoard::new(alloc, targets, Plan::new(8, 2), 2)?;
+    let (board, mut seats) = LeastBoard::new(alloc, AllInFirst, Plan::new(8, 2), 2)?;
     let (Some(mut second), Some(mut first)) = (seats.pop(), seats.pop()) else {
         return Ok(false);
     };
-    let shared = Shared {
-        board: &board,
-        numbers,
-        count: 2,
-    };
-    let right = shared.sees_what_is_lowered(&mut first, &mut second);
+    let right = sees_what_is_lowered(&board, &mut first, &mut second);
     let mut seats = Vec::with_capacity(alloc, 2)?;
     seats.push_reserved(first);
     seats.push_reserved(second);

@@ -1,6 +1,6 @@
 //! What threads share, with ample memory and with each of its requests refused in turn.
 
-use crate::{doubles, early, lowered_places, pieces, scan_boards, worlds};
+use crate::{doubles, lowered_places, pieces, scan_boards, worlds};
 use cvl_base::{Config, Memory, NoResources};
 use refusing_memory::withstands_refusals;
 use sharing::all_workers;
@@ -16,35 +16,28 @@ enum Made {
     List,
     /// The doubles of so many numbers.
     Doubles(usize),
+    /// Doubles over a slice.
+    Over,
     /// What a thread leaves that stops early.
     Early,
 }
 
 /// Each, by so many workers, and how many requests it makes at least.
-const ALL: &[(Made, u32, u64)] = &[
-    (Made::ScanBoard, 1, 3),
-    (Made::LeastBoard, 1, 3),
+const ALL: &[(Made, &[u32], u64)] = &[
+    (Made::ScanBoard, &[1], 3),
+    (Made::LeastBoard, &[1], 3),
     // the sums, the words and the states
-    (Made::World, 1, 3),
+    (Made::World, &[1], 3),
     // three pieces, their list, and the whole
-    (Made::List, 1, 5),
-    (Made::List, 2, 5),
-    (Made::List, 4, 5),
-    (Made::List, 9, 5),
-    // no number, one, fewer than threads, and more; the vector, and where it is pushed to
-    (Made::Doubles(0), 1, 2),
-    (Made::Doubles(0), 3, 2),
-    (Made::Doubles(0), 8, 2),
-    (Made::Doubles(1), 1, 2),
-    (Made::Doubles(1), 3, 2),
-    (Made::Doubles(1), 8, 2),
-    (Made::Doubles(5), 1, 2),
-    (Made::Doubles(5), 3, 2),
-    (Made::Doubles(5), 8, 2),
-    (Made::Doubles(40), 1, 2),
-    (Made::Doubles(40), 3, 2),
-    (Made::Doubles(40), 8, 2),
-    (Made::Early, 1, 1),
+    (Made::List, &[1, 2, 4, 9], 5),
+    // no number, one, fewer than threads, more, and so many that threads share them; the vector, and where it is pushed to
+    (Made::Doubles(0), &[1, 3, 8], 2),
+    (Made::Doubles(1), &[1, 3, 8], 2),
+    (Made::Doubles(5), &[1, 3, 8], 2),
+    (Made::Doubles(40), &[1, 3, 8], 2),
+    (Made::Doubles(262_145), &[8], 2),
+    (Made::Over, &[1], 1),
+    (Made::Early, &[1], 1),
 ];
 
 /// Whether it is right.
@@ -61,21 +54,34 @@ fn is_right<R: Threads + Sync, A: Memory>(
         Made::World => worlds::answers_by_hand(heap),
         Made::List => pieces::is_in_order(rt, heap, threads),
         Made::Doubles(length) => doubles::are_written(rt, heap, threads, *length),
-        Made::Early => early::keeps_what_is_written(heap),
+        Made::Over => doubles::are_written_over(heap),
+        Made::Early => doubles::keeps_what_is_written(heap),
     }
+}
+
+/// How many requests it makes by so many workers, each of which is refused in turn.
+fn requests_of<R: Threads + Sync + AllocGlobal>(
+    rt: &R,
+    made: &Made,
+    workers: u32,
+) -> Result<u64, Fail> {
+    let config = Config::new(1, workers)?;
+    let requests = withstands_refusals(
+        rt.alloc(),
+        |heap| is_right(rt, heap, made, config),
+        Ok(true),
+        Err(NoResources),
+    );
+    Ok(requests?)
 }
 
 #[test]
 fn each_request_refused(rt: HostRuntime) -> Result<(), Fail> {
-    for (made, workers, least) in ALL {
-        let config = Config::new(1, *workers)?;
-        let requests = withstands_refusals(
-            rt.alloc(),
-            |heap| is_right(&rt, heap, made, config),
-            Ok(true),
-            Err(NoResources),
-        )?;
-        assert!(rt; requests >= *least, "{requests} and not {least}");
+    for (made, by, least) in ALL {
+        for workers in *by {
+            let requests = requests_of(&rt, made, *workers)?;
+            assert!(rt; requests >= *least, "{requests} and not {least}");
+        }
     }
     Ok(())
 }

@@ -3,13 +3,13 @@
 ghost use Rattle.std.specs.Prelude.{◌≤◌, length};
 ghost use Rattle.boards.specs.Boards.{IsSeatOf};
 
-use crate::tiles::{CountedTiles, Counter};
+use crate::counter::Counter;
+use crate::tiles::CountedTiles;
 use boards::{Back, Claim, ScanBoard, ScanSeat};
 use cvl_base::monoids::Add;
 use cvl_base::{Memory, NoResources};
 use refusing_memory::Refusing;
 use status_word::Status;
-use std::sync::atomic::Ordering;
 use std::test::Fail;
 use std::thread::{Threads, join_mut};
 
@@ -58,30 +58,25 @@ pub fn answers_by_hand<A: Memory>(alloc: A) -> Result<bool, NoResources> {
     Ok(is_seen && is_back(onward, 11, 1) && is_back(again, 4, 2) && counter.count() == before)
 }
 
-/// How many tiles there are for threads.
+/// How many tiles there are for threads. Each has its own number.
 const TILES: usize = 1000;
 
 /// How often a worker claims: for each tile, and 1,000 times and more after it was told that none is left.
 const CLAIMS: u32 = 2001;
 
-/// The numbers of the tiles, and what stands before each.
-fn numbers() -> ([i32; 1000], [i32; 1000]) {
+/// The numbers of the tiles.
+fn numbers() -> [i32; 1000] {
     let mut numbers = [0; TILES];
-    let mut before = [0; TILES];
-    let mut sum: i32 = 0;
     for k in 0..TILES {
-        numbers[k] = (k as i32 * 7919) % 101 - 50;
-        before[k] = sum;
-        sum = sum.wrapping_add(numbers[k]);
+        numbers[k] = k as i32;
     }
-    (numbers, before)
+    numbers
 }
 
 /// Claims a tile, and tells its sum and its prefix; whether the look-back answered what the tiles before join to, or none
 /// where no tile is left.
 fn take_tile<A: Memory>(
     board: &ScanBoard<CountedTiles<'_>, A>,
-    before: &[i32],
     seat: &mut ScanSeat<Add>,
 ) -> Option<bool>
     requires { IsSeatOf board.now seat.old }
@@ -93,22 +88,19 @@ fn take_tile<A: Memory>(
     board.tell_sum(seat, t);
     let back = board.look_back(seat, t);
     board.tell_prefix(seat, t, back.before);
-    Some(before.get(t as usize) == Some(&back.before.1))
+    let t = i64::from(t);
+    Some(i64::from(back.before.1) == t.wrapping_mul(t.wrapping_sub(1)) / 2)
 }
 
 /// One worker's part. The answer is whether each look-back was right, and no tile came after it was told that none is left.
-fn work<A: Memory>(
-    board: &ScanBoard<CountedTiles<'_>, A>,
-    before: &[i32],
-    seat: &mut ScanSeat<Add>,
-) -> bool
+fn work<A: Memory>(board: &ScanBoard<CountedTiles<'_>, A>, seat: &mut ScanSeat<Add>) -> bool
     requires { IsSeatOf board.now seat.old }
     ensures { IsSeatOf board.now seat.new }
 {
     let mut right = true;
     let mut given: u32 = 0;
     for claim in 0..CLAIMS {
-        if let Some(is_right) = take_tile(board, before, seat) {
+        if let Some(is_right) = take_tile(board, seat) {
             right &= is_right && given == claim;
             given = given.wrapping_add(1);
         }
@@ -120,7 +112,6 @@ fn work<A: Memory>(
 fn in_two_threads<R: Threads + Sync, A: Memory>(
     rt: &R,
     board: &ScanBoard<CountedTiles<'_>, A>,
-    before: &[i32],
     first: &mut ScanSeat<Add>,
     second: &mut ScanSeat<Add>,
 ) -> bool
@@ -132,11 +123,11 @@ fn in_two_threads<R: Threads + Sync, A: Memory>(
     let mut first_half = || -> bool
         requires { IsSeatOf board.now first.now }
         ensures { IsSeatOf board.entry.now first.exit.now }
-    { work(board, before, first) };
+    { work(board, first) };
     let mut second_half = || -> bool
         requires { IsSeatOf board.now second.now }
         ensures { IsSeatOf board.entry.now second.exit.now }
-    { work(board, before, second) };
+    { work(board, second) };
     let (first_right, second_right) = join_mut(rt, &mut first_half, &mut second_half);
     first_right && second_right
 }
@@ -149,7 +140,7 @@ fn by_two_threads<R: Threads + Sync, A: Memory>(
     counter: &Counter,
     stops: bool,
 ) -> Result<(u32, bool), NoResources> {
-    let (numbers, before) = numbers();
+    let numbers = numbers();
     let tiles = CountedTiles::new(numbers.as_slice(), counter);
     let (board, mut seats) = ScanBoard::new(alloc, tiles, 3)?;
     let (Some(mut third), Some(mut second), Some(mut first)) = (
@@ -160,22 +151,14 @@ fn by_two_threads<R: Threads + Sync, A: Memory>(
         return Ok((0, false));
     };
     if stops {
-        stop(&board, &mut third);
+        let _claim = board.claim(&mut third);
     }
-    let right = in_two_threads(rt, &board, before.as_slice(), &mut first, &mut second);
+    let right = in_two_threads(rt, &board, &mut first, &mut second);
     let mut seats = Vec::with_capacity(alloc, 3)?;
     seats.push_reserved(first);
     seats.push_reserved(second);
     seats.push_reserved(third);
     Ok((board.close(seats).given, right))
-}
-
-/// Claims once.
-fn stop<A: Memory>(board: &ScanBoard<CountedTiles<'_>, A>, seat: &mut ScanSeat<Add>)
-    requires { IsSeatOf board.now seat.old }
-    ensures { IsSeatOf board.now seat.new }
-{
-    let _claim = board.claim(seat);
 }
 
 /// Beside a worker that has stopped and beside one that never claims, twenty times each; and once where a worker stands still
@@ -193,6 +176,6 @@ fn workers_in_threads(rt: HostRuntime) -> Result<(), Fail> {
     let counter = Counter::new(1 + 2 * 999);
     let told = by_two_threads(&rt, &heap, &counter, false);
     assert_eq!(rt; told, Ok((1000, true)));
-    assert!(rt; !counter.is_overdue.load(Ordering::SeqCst));
+    assert!(rt; !counter.is_overdue());
     Ok(())
 }

@@ -1,0 +1,47 @@
+//! A count, at which whoever counts first is held.
+
+use std::sync::atomic::{AtomicBool, AtomicU64, Ordering};
+
+/// How often a worker that is held looks whether it may go on, at most. One turn reads one word.
+const TURNS: u64 = 100_000_000;
+
+/// A count, which holds whoever adds to it first until others have added so much that it has come so far.
+#[derive(Drop)]
+pub struct Counter {
+    count: AtomicU64,
+    until: u64,
+    is_overdue: AtomicBool,
+}
+
+impl Counter {
+    pub fn new(until: u64) -> Counter {
+        Counter {
+            count: AtomicU64::new(0),
+            until,
+            is_overdue: AtomicBool::new(false),
+        }
+    }
+
+    /// How far it has come.
+    pub fn count(&self) -> u64 {
+        self.count.load(Ordering::SeqCst)
+    }
+
+    /// Whether a worker waited in vain.
+    pub fn is_overdue(&self) -> bool {
+        self.is_overdue.load(Ordering::SeqCst)
+    }
+
+    /// Counts one time more, and holds the first worker.
+    pub fn add(&self) {
+        if self.count.fetch_add(1, Ordering::SeqCst) > 0 {
+            return;
+        }
+        for _ in 0..TURNS {
+            if self.count() >= self.until {
+                return;
+            }
+        }
+        self.is_overdue.store(true, Ordering::SeqCst);
+    }
+}
