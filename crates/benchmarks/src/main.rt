@@ -5,20 +5,20 @@
 #![tactic(auto)]
 
 use cvl_base::Config;
-use measured_calls::{Subject, measure};
+use measured_calls::measure;
 use std::{env, io};
 
 /// How many elements a tile has.
 const TILE: u32 = 4096;
 
-/// What is measured, with the word for it.
-const SUBJECTS: &[(&str, Subject)] = &[
-    ("text", Subject::Text),
-    ("elementwise", Subject::Elementwise),
-    ("scans", Subject::Scans),
-    ("permutes", Subject::Permutes),
-    ("packs", Subject::Packs),
-    ("recipes", Subject::Recipes),
+/// The words for what is measured.
+const SUBJECTS: [&str; 6] = [
+    "text",
+    "elementwise",
+    "scans",
+    "permutes",
+    "packs",
+    "recipes",
 ];
 
 fn main(rt: HostRuntime) -> io::Result<()> {
@@ -39,18 +39,13 @@ fn main(rt: HostRuntime) -> io::Result<()> {
         println!(&rt; "the number of workers is from 1 to 64")?;
         return Ok(());
     };
-    let mut is_known = false;
-    for (name, subject) in SUBJECTS {
-        let is_wanted = match &wanted {
-            Some(word) => word.as_str() == *name,
-            None => true,
-        };
-        if is_wanted {
-            is_known = true;
+    let Some(subject) = wanted else {
+        for subject in SUBJECTS {
             measure(&rt, rt.alloc(), config, subject)?;
         }
-    }
-    if !is_known {
+        return Ok(());
+    };
+    if !measure(&rt, rt.alloc(), config, subject.as_str())? {
         println!(&rt; "measured are text, elementwise, scans, permutes, packs and recipes")?;
     }
     Ok(())

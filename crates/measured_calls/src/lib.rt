@@ -1,7 +1,6 @@
 //! Measures calls of the library: each call of a subject on vectors of several lengths and shapes, with the best time of many.
 #![tactic(auto)]
 
-mod cases;
 mod element_calls;
 mod numbers;
 mod pack_calls;
@@ -12,6 +11,7 @@ mod texts;
 mod timing;
 mod vectors;
 
+use crate::timing::Bench;
 use cvl_base::Config;
 use std::alloc::Global;
 use std::io;
@@ -21,35 +21,24 @@ use std::thread::Threads;
 /// The vectors' lengths.
 const LENGTHS: [usize; 3] = [4_194_304, 65_536, 1_000];
 
-/// What is measured.
-pub enum Subject {
-    /// Texts that are written and read.
-    Text,
-    /// The calls that work place by place.
-    Elementwise,
-    /// Scans and reduces, the checked ones too.
-    Scans,
-    /// The permutes.
-    Permutes,
-    /// Packs, counts, distributes and indexes.
-    Packs,
-    /// The recipe of the sparse product.
-    Recipes,
-}
-
-/// Measures one subject, and prints a line for each case.
+/// Measures one subject, and prints a line for each case: texts that are written and read; the calls that work place by place;
+/// scans and reduces, the checked ones too; permutes; packs, counts, distributes and indexes; or the recipe of the sparse product.
+/// Tells whether there is such a subject.
 pub fn measure<R: Print + Clock + Threads + Sync>(
     rt: &R,
     alloc: Global,
     config: Config,
-    subject: &Subject,
-) -> io::Result<()> {
+    subject: &str,
+) -> io::Result<bool> {
+    let bench = Bench { rt, alloc, config };
     match subject {
-        Subject::Text => texts::measure(rt, alloc, config),
-        Subject::Elementwise => element_calls::measure(rt, alloc, config),
-        Subject::Scans => scan_calls::measure(rt, alloc, config),
-        Subject::Permutes => permute_calls::measure(rt, alloc, config),
-        Subject::Packs => pack_calls::measure(rt, alloc, config),
-        Subject::Recipes => recipe_calls::measure(rt, alloc, config),
+        "text" => texts::measure(&bench)?,
+        "elementwise" => element_calls::measure(&bench)?,
+        "scans" => scan_calls::measure(&bench)?,
+        "permutes" => permute_calls::measure(&bench)?,
+        "packs" => pack_calls::measure(&bench)?,
+        "recipes" => recipe_calls::measure(&bench)?,
+        _ => return Ok(false),
     }
+    Ok(true)
 }

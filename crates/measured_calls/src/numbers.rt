@@ -1,4 +1,4 @@
-//! Numbers and flags that look random, and are the same in each run.
+//! Numbers that look random, and are the same in each run.
 
 use std::alloc::{AllocError, Global};
 
@@ -18,18 +18,17 @@ pub fn random(alloc: Global, seed: i32, length: usize, bits: i32) -> Result<Vec<
     Ok(numbers)
 }
 
-/// So many random flags, of which about so many of a hundred are true.
-pub fn random_flags(
+/// So many random numbers from 0 up to a limit, which is at most 65,536 and is not counted in.
+pub fn random_below(
     alloc: Global,
     seed: i32,
     length: usize,
-    percent: i32,
-) -> Result<Vec<bool>, AllocError> {
-    let mut flags = vec![in alloc; false; length]?;
-    let mut state = seed;
-    for place in 0..length {
-        state = next(state);
-        flags[place] = ((state >> 8) & 65_535) % 100 < percent;
+    limit: u32,
+) -> Result<Vec<i32>, AllocError> {
+    let mut numbers = random(alloc, seed, length, 0)?;
+    for number in &mut numbers {
+        let word = (number.cast_unsigned() >> 8) & 65_535;
+        *number = (word % limit.max(1)).cast_signed();
     }
-    Ok(flags)
+    Ok(numbers)
 }

@@ -1,63 +1,26 @@
 //! The packs, counts, distributes and indexes.
 
 use crate::LENGTHS;
-use crate::cases::{Case, last_number};
-use crate::timing::measure_cases;
+use crate::timing::{Answer, Bench, Family, ints, measure_cases};
 use crate::vectors::{Shape, Vectors};
-use cvl_base::Config;
 use cvl_base::limits::MOST_ELEMENTS;
-use pack_dist::{distribute, index, pack, seg_count, seg_distribute, seg_index, seg_pack};
-use std::alloc::Global;
+use pack_dist::{
+    count_true, distribute, index, pack, seg_count, seg_distribute, seg_index, seg_pack,
+};
 use std::io;
 use std::rt::Clock;
 use std::thread::Threads;
 
-/// What is measured.
-pub enum PackCase {
-    Pack,
-    Count,
-    Distribute,
-    Index,
-    SegmentPack,
-    SegmentCounts,
-    SegmentDistribute,
-    SegmentIndex,
-}
-
-/// The flat calls that take flags, each with what its line begins with.
-const OF_FLAGS: &[(Case, &str)] = &[
-    (Case::Pack(PackCase::Pack), "pack"),
-    (Case::Pack(PackCase::Count), "count"),
-];
-
-/// The other flat calls.
-const WITHOUT_FLAGS: &[(Case, &str)] = &[
-    (Case::Pack(PackCase::Distribute), "distribute"),
-    (Case::Pack(PackCase::Index), "index"),
-];
-
-/// The segmented calls.
-const SEGMENTED: &[(Case, &str)] = &[
-    (Case::Pack(PackCase::SegmentCounts), "count by segments"),
-    (Case::Pack(PackCase::SegmentPack), "pack by segments"),
-    (
-        Case::Pack(PackCase::SegmentDistribute),
-        "distribute by segments",
-    ),
-    (Case::Pack(PackCase::SegmentIndex), "index by segments"),
-];
-
 /// How many of a hundred flags are true, each with its words.
 const PARTS: &[(i32, &str)] = &[(1, ", 1 % true"), (50, ", 50 % true"), (99, ", 99 % true")];
 
-/// Makes the call of a case.
+/// Makes the call of a case: of the flat ones first those that take flags, and then the segmented ones.
 pub fn call<R: Threads + Sync>(
-    rt: &R,
-    alloc: Global,
-    config: Config,
-    case: &PackCase,
+    bench: &Bench<'_, R>,
     vectors: &Vectors,
-) -> Option<i32> {
+    number: u32,
+) -> Option<Answer> {
+    let (rt, alloc, config) = (bench.rt, bench.alloc, bench.config);
     let (xs, flags) = (vectors.numbers.as_slice(), vectors.flags.as_slice());
     let (firsts, d) = (vectors.firsts.as_slice(), &vectors.segments);
     if flags.len() > MOST_ELEMENTS {
@@ -65,28 +28,34 @@ pub fn call<R: Threads + Sync>(
     }
     let first = firsts.first().copied().unwrap_or(0);
     let count = flags.len() as i32;
-    match case {
-        PackCase::Pack => last_number(pack(rt, alloc, config, xs, flags)),
-        PackCase::Count => i32::try_from(pack_dist::count_true(flags)).ok(),
-        PackCase::Distribute => last_number(distribute(rt, alloc, config, first, count)),
-        PackCase::Index => last_number(index(rt, alloc, config, first, first, count)),
-        PackCase::SegmentPack => match seg_pack(rt, alloc, config, xs, flags, d) {
-            Ok((packed, _lengths)) => packed.last().copied(),
-            Err(_) => None,
-        },
-        PackCase::SegmentCounts => last_number(seg_count(rt, alloc, config, flags, d)),
-        PackCase::SegmentDistribute => last_number(seg_distribute(rt, alloc, config, firsts, d)),
-        PackCase::SegmentIndex => last_number(seg_index(rt, alloc, config, firsts, firsts, d)),
-    }
+    Some(match number {
+        0 => ints("pack", pack(rt, alloc, config, xs, flags)),
+        1 => ("count", i32::try_from(count_true(flags)).ok()),
+        2 => ints("distribute", distribute(rt, alloc, config, first, count)),
+        3 => ints("index", index(rt, alloc, config, first, first, count)),
+        4 => ints("count by segments", seg_count(rt, alloc, config, flags, d)),
+        5 => (
+            "pack by segments",
+            match seg_pack(rt, alloc, config, xs, flags, d) {
+                Ok((packed, _lengths)) => packed.last().copied(),
+                Err(_) => None,
+            },
+        ),
+        6 => ints(
+            "distribute by segments",
+            seg_distribute(rt, alloc, config, firsts, d),
+        ),
+        7 => ints(
+            "index by segments",
+            seg_index(rt, alloc, config, firsts, firsts, d),
+        ),
+        _ => return None,
+    })
 }
 
 /// Measures each call on vectors of each length, a flat one that takes flags with several parts of them true, a segmented
 /// one on segments of several lengths.
-pub fn measure<R: Print + Clock + Threads + Sync>(
-    rt: &R,
-    alloc: Global,
-    config: Config,
-) -> io::Result<()> {
+pub fn measure<R: Print + Clock + Threads + Sync>(bench: &Bench<'_, R>) -> io::Result<()> {
     for length in LENGTHS {
         for (percent, words) in PARTS {
             let part = Shape {
@@ -94,7 +63,7 @@ pub fn measure<R: Print + Clock + Threads + Sync>(
                 words,
                 ..Shape::whole(length)
             };
-            measure_cases(rt, alloc, config, OF_FLAGS, &part)?;
+            measure_cases(bench, &Family::Packs, (0, 2), &part)?;
         }
         for segment in [1, 16, 1_000] {
             let cut = Shape {
@@ -102,9 +71,9 @@ pub fn measure<R: Print + Clock + Threads + Sync>(
                 words: ", 50 % true",
                 ..Shape::whole(length)
             };
-            measure_cases(rt, alloc, config, SEGMENTED, &cut)?;
+            measure_cases(bench, &Family::Packs, (4, 8), &cut)?;
         }
-        measure_cases(rt, alloc, config, WITHOUT_FLAGS, &Shape::whole(length))?;
+        measure_cases(bench, &Family::Packs, (2, 4), &Shape::whole(length))?;
     }
     Ok(())
 }

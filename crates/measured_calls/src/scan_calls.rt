@@ -1,97 +1,64 @@
 //! The scans and reduces.
 
 use crate::LENGTHS;
-use crate::cases::{Case, last_number};
-use crate::timing::measure_cases;
+use crate::timing::{Answer, Bench, Family, ints, measure_cases};
 use crate::vectors::{Shape, Vectors};
+use cvl_base::IntMonoid;
 use cvl_base::limits::MOST_ELEMENTS;
-use cvl_base::{Config, IntMonoid};
 use scan_ops::{
     checked_reduce, checked_scan, checked_seg_reduce, checked_seg_scan, int_reduce, int_scan,
     seg_int_reduce, seg_int_scan,
 };
-use std::alloc::Global;
 use std::io;
 use std::rt::Clock;
 use std::thread::Threads;
 
-/// What is measured.
-pub enum ScanCase {
-    Scan,
-    Reduce,
-    SegmentedScan,
-    SegmentedReduce,
-    CheckedScan,
-    CheckedReduce,
-    CheckedSegmentedScan,
-    CheckedSegmentedReduce,
-}
-
-/// The flat cases, each with what its line begins with.
-const FLAT_CASES: &[(Case, &str)] = &[
-    (Case::Scan(ScanCase::Scan), "scan of sums"),
-    (Case::Scan(ScanCase::Reduce), "sum"),
-    (Case::Scan(ScanCase::CheckedScan), "checked scan of sums"),
-    (Case::Scan(ScanCase::CheckedReduce), "checked sum"),
-];
-
-/// The segmented cases.
-const SEGMENTED_CASES: &[(Case, &str)] = &[
-    (
-        Case::Scan(ScanCase::SegmentedScan),
-        "scan of sums by segments",
-    ),
-    (Case::Scan(ScanCase::SegmentedReduce), "sums by segments"),
-    (
-        Case::Scan(ScanCase::CheckedSegmentedScan),
-        "checked scan of sums by segments",
-    ),
-    (
-        Case::Scan(ScanCase::CheckedSegmentedReduce),
-        "checked sums by segments",
-    ),
-];
-
-/// Makes the call of a case. One operator stands for all, since they share their walks. The checked ones add small numbers, so
-/// that none of their sums is outside 32 bits.
+/// Makes the call of a case, first the flat ones. One operator stands for all, since they share their walks. The checked ones add
+/// small numbers, so that none of their sums is outside 32 bits.
 pub fn call<R: Threads + Sync>(
-    rt: &R,
-    alloc: Global,
-    config: Config,
-    case: &ScanCase,
+    bench: &Bench<'_, R>,
     vectors: &Vectors,
-) -> Option<i32> {
+    number: u32,
+) -> Option<Answer> {
+    let (rt, alloc, config) = (bench.rt, bench.alloc, bench.config);
     let (a, d) = (vectors.numbers.as_slice(), &vectors.segments);
     let small = vectors.shifts.as_slice();
     let add = IntMonoid::Add;
     if small.len() > MOST_ELEMENTS {
         return None;
     }
-    match case {
-        ScanCase::Scan => last_number(int_scan(rt, alloc, config, add, a)),
-        ScanCase::Reduce => int_reduce(rt, alloc, config, add, a).ok(),
-        ScanCase::SegmentedScan => last_number(seg_int_scan(rt, alloc, config, add, a, d)),
-        ScanCase::SegmentedReduce => last_number(seg_int_reduce(rt, alloc, config, add, a, d)),
-        ScanCase::CheckedScan => last_number(checked_scan(rt, alloc, config, small)),
-        ScanCase::CheckedReduce => checked_reduce(rt, alloc, config, small).ok(),
-        ScanCase::CheckedSegmentedScan => {
-            last_number(checked_seg_scan(rt, alloc, config, small, d))
-        }
-        ScanCase::CheckedSegmentedReduce => {
-            last_number(checked_seg_reduce(rt, alloc, config, small, d))
-        }
-    }
+    Some(match number {
+        0 => ints("scan of sums", int_scan(rt, alloc, config, add, a)),
+        1 => ("sum", int_reduce(rt, alloc, config, add, a).ok()),
+        2 => ints(
+            "checked scan of sums",
+            checked_scan(rt, alloc, config, small),
+        ),
+        3 => ("checked sum", checked_reduce(rt, alloc, config, small).ok()),
+        4 => ints(
+            "scan of sums by segments",
+            seg_int_scan(rt, alloc, config, add, a, d),
+        ),
+        5 => ints(
+            "sums by segments",
+            seg_int_reduce(rt, alloc, config, add, a, d),
+        ),
+        6 => ints(
+            "checked scan of sums by segments",
+            checked_seg_scan(rt, alloc, config, small, d),
+        ),
+        7 => ints(
+            "checked sums by segments",
+            checked_seg_reduce(rt, alloc, config, small, d),
+        ),
+        _ => return None,
+    })
 }
 
 /// Measures each call on vectors of each length, the segmented ones on segments of several lengths.
-pub fn measure<R: Print + Clock + Threads + Sync>(
-    rt: &R,
-    alloc: Global,
-    config: Config,
-) -> io::Result<()> {
+pub fn measure<R: Print + Clock + Threads + Sync>(bench: &Bench<'_, R>) -> io::Result<()> {
     for length in LENGTHS {
-        let whole = Shape::whole(length);
-        measure_cases(rt, alloc, config, FLAT_CASES, &whole)?;
+        measure_cases(bench, &Family::Scans, (0, 4), &Shape::whole(length))?;
         for segment in [1, 4, 16, 1000, length] {
             for with_empty in [false, true] {
                 let cut = Shape {
@@ -99,7 +66,7 @@ pub fn measure<R: Print + Clock + Threads + Sync>(
                     with_empty,
                     ..Shape::whole(length)
                 };
-                measure_cases(rt, alloc, config, SEGMENTED_CASES, &cut)?;
+                measure_cases(bench, &Family::Scans, (4, 8), &cut)?;
             }
         }
     }

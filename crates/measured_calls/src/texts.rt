@@ -1,9 +1,10 @@
 //! Texts that are written and read, in bytes a second.
 
 use crate::numbers::{next, random};
+use crate::timing::Bench;
 use call_reader::{put_value, read_nested, read_vector};
 use cvl_base::limits::MOST_ELEMENTS;
-use cvl_base::{Config, Ints, Refused, Value};
+use cvl_base::{Ints, Refused, Value};
 use std::alloc::{AllocError, Global};
 use std::io;
 use std::rt::Clock;
@@ -16,58 +17,24 @@ const NUMBERS: usize = 4_194_304;
 /// How often a case is measured. The best time counts.
 const ROUNDS: usize = 20;
 
-/// A vector of random numbers, all of 32 bits, or each of a random number of bits.
-fn random_value(alloc: Global, are_all_long: bool) -> Result<Value<Global>, Refused> {
+/// Random numbers, all of 32 bits, or each of a random number of bits.
+fn random_bits(alloc: Global, are_all_long: bool) -> Result<Vec<i32>, AllocError> {
     let mut numbers = random(alloc, 1, NUMBERS, 0)?;
     if !are_all_long {
         for number in &mut numbers {
             *number = number.wrapping_shr(next(*number).cast_unsigned() >> 27);
         }
     }
+    Ok(numbers)
+}
+
+/// A vector of such numbers.
+fn random_value(alloc: Global, are_all_long: bool) -> Result<Value<Global>, Refused> {
+    let numbers = random_bits(alloc, are_all_long)?;
     if numbers.len() > MOST_ELEMENTS {
         return Err(Refused::NoResources);
     }
     Ok(Value::Integers(Ints::from_vec(numbers)))
-}
-
-/// Writes a value several times, and gives the text and the best time.
-fn best_writing<R: Clock + Threads + Sync>(
-    rt: &R,
-    alloc: Global,
-    config: Config,
-    value: &Value<Global>,
-) -> io::Result<(Vec<u8>, Duration)> {
-    let mut best = Duration::MAX;
-    let mut text = Vec::new(alloc);
-    for _ in 0..ROUNDS {
-        text = Vec::new(alloc);
-        let start = Instant::now(rt)?;
-        let answer = put_value(rt, alloc, config, value, None, &mut text);
-        let time = start.elapsed(rt)?;
-        if answer.is_ok() {
-            best = best.min(time);
-        }
-    }
-    Ok((text, best))
-}
-
-/// Reads the numbers several times, and gives the best time.
-fn best_reading<R: Clock + Threads + Sync>(
-    rt: &R,
-    alloc: Global,
-    config: Config,
-    input: &[u8],
-) -> io::Result<Duration> {
-    let mut best = Duration::MAX;
-    for _ in 0..ROUNDS {
-        let start = Instant::now(rt)?;
-        let answer = read_vector(rt, alloc, config, input);
-        let time = start.elapsed(rt)?;
-        if answer.is_ok() {
-            best = best.min(time);
-        }
-    }
-    Ok(best)
 }
 
 /// The text of a list of lists of eight numbers, out of the text of a list.
@@ -89,79 +56,89 @@ fn nest_of(alloc: Global, list: &[u8]) -> Result<Vec<u8>, AllocError> {
     Ok(nest)
 }
 
-/// Reads a list of lists several times, and gives the best time.
-fn best_nested_reading<R: Clock + Threads + Sync>(
-    rt: &R,
-    alloc: Global,
-    config: Config,
-    input: &[u8],
+/// What is measured: a value that is written, a text of numbers that is read, or one of lists of eight numbers.
+#[derive(Drop)]
+enum Work<'a> {
+    Writing(&'a Value<Global>),
+    Reading(&'a [u8]),
+    ReadingLists(&'a [u8]),
+}
+
+/// The time of the work, or the longest of all where it was refused.
+fn time_of<R: Clock + Threads + Sync>(
+    bench: &Bench<'_, R>,
+    work: &Work<'_>,
 ) -> io::Result<Duration> {
+    let (rt, alloc, config) = (bench.rt, bench.alloc, bench.config);
+    let start = Instant::now(rt)?;
+    let (time, is_done) = match work {
+        Work::Writing(value) => {
+            let mut text = Vec::new(alloc);
+            let done = put_value(rt, alloc, config, value, None, &mut text);
+            (start.elapsed(rt)?, done.is_ok())
+        }
+        Work::Reading(input) => {
+            let numbers = read_vector(rt, alloc, config, input);
+            (start.elapsed(rt)?, numbers.is_ok())
+        }
+        Work::ReadingLists(input) => {
+            let lists = read_nested(rt, alloc, config, input);
+            (start.elapsed(rt)?, lists.is_ok())
+        }
+    };
+    Ok(if is_done { time } else { Duration::MAX })
+}
+
+/// Measures the work on so many bytes, of these numbers, and prints its line.
+fn measure_work<R: Print + Clock + Threads + Sync>(
+    bench: &Bench<'_, R>,
+    work: &Work<'_>,
+    numbers: &str,
+    bytes: usize,
+) -> io::Result<()> {
     let mut best = Duration::MAX;
     for _ in 0..ROUNDS {
-        let start = Instant::now(rt)?;
-        let answer = read_nested(rt, alloc, config, input);
-        let time = start.elapsed(rt)?;
-        if answer.is_ok() {
-            best = best.min(time);
-        }
+        best = best.min(time_of(bench, work)?);
     }
-    Ok(best)
-}
-
-/// Prints a case's line.
-fn print_rate<R: Print>(rt: &R, case: &str, bytes: usize, time: Duration) -> io::Result<()> {
-    if time == Duration::MAX {
-        return println!(rt; "{case}: refused");
+    let what = match work {
+        Work::Writing(_) => "writing",
+        Work::Reading(_) => "reading",
+        Work::ReadingLists(_) => "reading lists of eight",
+    };
+    let rt = bench.rt;
+    if best == Duration::MAX {
+        return println!(rt; "{what} {numbers}: refused");
     }
-    let micros = time.as_micros().max(1);
+    let micros = best.as_micros().max(1);
     let rate = bytes as u128 * 1_000_000 / micros;
-    println!(rt; "{case}: {rate} bytes a second ({bytes} bytes in {micros} microseconds)")
+    println!(rt; "{what} {numbers}: {rate} bytes a second ({bytes} bytes in {micros} microseconds)")
 }
 
-/// What the numbers of a case are, and what its lines begin with.
-struct TextCase {
-    are_all_long: bool,
-    writing: &'static str,
-    reading: &'static str,
-    reading_nested: &'static str,
-}
-
-/// The cases.
-const CASES: &[TextCase] = &[
-    TextCase {
-        are_all_long: true,
-        writing: "writing long numbers",
-        reading: "reading long numbers",
-        reading_nested: "reading lists of eight long numbers",
-    },
-    TextCase {
-        are_all_long: false,
-        writing: "writing numbers of any length",
-        reading: "reading numbers of any length",
-        reading_nested: "reading lists of eight numbers of any length",
-    },
-];
-
-/// Measures writing numbers, reading what was written without its brackets, and reading it in lists of eight.
-pub fn measure<R: Print + Clock + Threads + Sync>(
-    rt: &R,
-    alloc: Global,
-    config: Config,
-) -> io::Result<()> {
-    for case in CASES {
-        let Ok(value) = random_value(alloc, case.are_all_long) else {
-            println!(rt; "{}: no memory for the numbers", case.writing)?;
+/// Measures writing numbers, all long or of any length, reading what was written without its brackets, and reading it in lists of
+/// eight.
+pub fn measure<R: Print + Clock + Threads + Sync>(bench: &Bench<'_, R>) -> io::Result<()> {
+    let (rt, alloc) = (bench.rt, bench.alloc);
+    for (numbers, are_all_long) in [("long numbers", true), ("numbers of any length", false)] {
+        let Ok(value) = random_value(alloc, are_all_long) else {
+            println!(rt; "writing {numbers}: no memory for the numbers")?;
             continue;
         };
-        let (text, time) = best_writing(rt, alloc, config, &value)?;
-        print_rate(rt, case.writing, text.len(), time)?;
+        let mut text = Vec::new(alloc);
+        if put_value(rt, alloc, bench.config, &value, None, &mut text).is_err() {
+            println!(rt; "writing {numbers}: refused")?;
+            continue;
+        }
+        measure_work(bench, &Work::Writing(&value), numbers, text.len())?;
         if let [_, input @ .., _] = text.as_slice() {
-            let time = best_reading(rt, alloc, config, input)?;
-            print_rate(rt, case.reading, input.len(), time)?;
+            measure_work(bench, &Work::Reading(input), numbers, input.len())?;
         }
         if let Ok(nest) = nest_of(alloc, &text) {
-            let time = best_nested_reading(rt, alloc, config, &nest)?;
-            print_rate(rt, case.reading_nested, nest.len(), time)?;
+            measure_work(
+                bench,
+                &Work::ReadingLists(nest.as_slice()),
+                numbers,
+                nest.len(),
+            )?;
         }
     }
     Ok(())

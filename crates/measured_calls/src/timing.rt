@@ -1,7 +1,7 @@
 //! Times of calls.
 
-use crate::cases::{Case, call};
 use crate::vectors::{Shape, Vectors, vectors_of};
+use crate::{element_calls, pack_calls, permute_calls, scan_calls};
 use cvl_base::Config;
 use std::alloc::Global;
 use std::io;
@@ -12,13 +12,67 @@ use std::time::{Duration, Instant};
 /// How often a case is measured. The best time counts.
 pub const ROUNDS: usize = 40;
 
+/// What calls are made with.
+#[derive(Drop)]
+pub struct Bench<'a, R> {
+    pub rt: &'a R,
+    pub alloc: Global,
+    pub config: Config,
+}
+
+/// The calls that are measured on vectors of one shape. Each family numbers its cases from 0.
+pub enum Family {
+    Elementwise,
+    Scans,
+    Permutes,
+    Packs,
+}
+
+/// What the line of a case begins with, and a number that hangs on the result of its call, so that no call is left out as
+/// unneeded; none where the call was refused.
+pub type Answer = (&'static str, Option<i32>);
+
+/// The last number of a result.
+pub fn last<E: Drop>(answer: Result<Vec<i32>, E>) -> Option<i32> {
+    let numbers = answer.ok()?;
+    numbers.last().copied()
+}
+
+/// A case whose answer is the last number of a result.
+pub fn ints<E: Drop>(name: &'static str, answer: Result<Vec<i32>, E>) -> Answer {
+    (name, last(answer))
+}
+
+/// A case whose answer is the last flag of a result as 1 or 0.
+pub fn flags<E: Drop>(name: &'static str, answer: Result<Vec<bool>, E>) -> Answer {
+    let last = match answer {
+        Ok(flags) => Some(i32::from(flags.last().copied().unwrap_or(false))),
+        Err(_) => None,
+    };
+    (name, last)
+}
+
+/// Makes the call of a case, if there is one of this number.
+fn call<R: Threads + Sync>(
+    bench: &Bench<'_, R>,
+    vectors: &Vectors,
+    family: &Family,
+    number: u32,
+) -> Option<Answer> {
+    match family {
+        Family::Elementwise => element_calls::call(bench, vectors, number),
+        Family::Scans => scan_calls::call(bench, vectors, number),
+        Family::Permutes => permute_calls::call(bench, vectors, number),
+        Family::Packs => pack_calls::call(bench, vectors, number),
+    }
+}
+
 /// Prints a case's line: its best time, and a number that hangs on its result; or that it was refused.
 pub fn print_time<R: Print>(
     rt: &R,
-    name: &str,
     what: &str,
     best: Duration,
-    answer: Option<i32>,
+    (name, answer): Answer,
 ) -> io::Result<()> {
     let nanos = best.as_nanos();
     match answer {
@@ -27,44 +81,46 @@ pub fn print_time<R: Print>(
     }
 }
 
-/// The best time of a case's call, and its last answer.
-fn best_time<R: Clock + Threads + Sync>(
-    rt: &R,
-    alloc: Global,
-    config: Config,
-    case: &Case,
+/// Measures a case, and prints its line.
+fn measure_case<R: Print + Clock + Threads + Sync>(
+    bench: &Bench<'_, R>,
     vectors: &Vectors,
-) -> io::Result<(Duration, Option<i32>)> {
+    what: &str,
+    family: &Family,
+    number: u32,
+) -> io::Result<()> {
     let mut best = Duration::MAX;
-    let mut answer = None;
+    let mut last: Answer = ("", None);
     for _ in 0..ROUNDS {
-        let start = Instant::now(rt)?;
-        answer = call(rt, alloc, config, case, vectors);
-        best = best.min(start.elapsed(rt)?);
-        if answer.is_none() {
+        let start = Instant::now(bench.rt)?;
+        let Some(answer) = call(bench, vectors, family, number) else {
+            return Ok(());
+        };
+        best = best.min(start.elapsed(bench.rt)?);
+        last = answer;
+        if last.1.is_none() {
             break;
         }
     }
-    Ok((best, answer))
+    print_time(bench.rt, what, best, last)
 }
 
-/// Measures these cases, each with what its line begins with, on vectors of a shape, and prints a line for each.
+/// Measures the cases of a family from one number up to another, which is not counted in, on vectors of a shape, and prints a line
+/// for each.
 pub fn measure_cases<R: Print + Clock + Threads + Sync>(
-    rt: &R,
-    alloc: Global,
-    config: Config,
-    cases: &[(Case, &str)],
+    bench: &Bench<'_, R>,
+    family: &Family,
+    (first, end): (u32, u32),
     shape: &Shape,
 ) -> io::Result<()> {
-    let Ok(vectors) = vectors_of(alloc, shape) else {
+    let Ok(vectors) = vectors_of(bench.alloc, shape) else {
         return Ok(());
     };
     let (length, segments) = (vectors.numbers.len(), vectors.segments.count());
     let words = shape.words;
-    let what = format!(in alloc; "{length} elements, {segments} segments{words}")?;
-    for (case, name) in cases {
-        let (best, answer) = best_time(rt, alloc, config, case, &vectors)?;
-        print_time(rt, name, &what, best, answer)?;
+    let what = format!(in bench.alloc; "{length} elements, {segments} segments{words}")?;
+    for number in first..end {
+        measure_case(bench, &vectors, &what, family, number)?;
     }
     Ok(())
 }

@@ -1,6 +1,6 @@
 //! The vectors on which the calls are measured.
 
-use crate::numbers::{next, random, random_flags};
+use crate::numbers::{next, random, random_below};
 use cvl_base::Refused;
 use cvl_base::limits::MOST_ELEMENTS;
 use segdes::SegDes;
@@ -60,20 +60,16 @@ pub struct Vectors {
     pub segments: SegDes<Global>,
 }
 
-/// The lengths of such segments, at most 4,194,304.
-fn lengths_of(
-    alloc: Global,
-    most: usize,
-    segment: usize,
-    with_empty: bool,
-) -> Result<Vec<i32>, AllocError> {
+/// The lengths of the segments of a shape, at most 4,194,304.
+fn lengths_of(alloc: Global, shape: &Shape) -> Result<Vec<i32>, AllocError> {
+    let (segment, with_empty) = (shape.segment, shape.with_empty);
     let most_cut = if with_empty {
         MOST_ELEMENTS / 2
     } else {
         MOST_ELEMENTS
     };
     let mut lengths = Vec::new(alloc);
-    let mut left = most;
+    let mut left = shape.most;
     for _ in 0..most_cut {
         let taken = segment.min(left);
         if taken == 0 {
@@ -124,6 +120,12 @@ fn below(alloc: Global, numbers: &[i32], limit: i32) -> Result<Vec<bool>, AllocE
     Ok(flags)
 }
 
+/// So many random flags, of which about so many of a hundred are true.
+fn flags_of(alloc: Global, seed: i32, n: usize, percent: i32) -> Result<Vec<bool>, AllocError> {
+    let numbers = random_below(alloc, seed, n, 100)?;
+    below(alloc, &numbers, percent)
+}
+
 /// So many random integers from 0 to 31.
 fn shifts_of(alloc: Global, n: usize) -> Result<Vec<i32>, AllocError> {
     let mut numbers = random(alloc, 3, n, 0)?;
@@ -135,7 +137,7 @@ fn shifts_of(alloc: Global, n: usize) -> Result<Vec<i32>, AllocError> {
 
 /// The vectors of a shape.
 pub fn vectors_of(alloc: Global, shape: &Shape) -> Result<Vectors, Refused> {
-    let lengths = lengths_of(alloc, shape.most, shape.segment, shape.with_empty)?;
+    let lengths = lengths_of(alloc, shape)?;
     if lengths.len() > MOST_ELEMENTS {
         return Err(Refused::NoResources);
     }
@@ -147,8 +149,8 @@ pub fn vectors_of(alloc: Global, shape: &Shape) -> Result<Vectors, Refused> {
         numbers: random(alloc, 1, length, 0)?,
         divisors: random(alloc, 2, length, 1)?,
         shifts: shifts_of(alloc, length)?,
-        flags: random_flags(alloc, 1, length, shape.percent)?,
-        others: random_flags(alloc, 2, length, 33)?,
+        flags: flags_of(alloc, 1, length, shape.percent)?,
+        others: flags_of(alloc, 2, length, 33)?,
         chosen: below(alloc, &index, half)?,
         firsts: random(alloc, 3, segments.count(), 0)?,
         index,
