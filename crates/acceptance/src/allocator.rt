@@ -31,31 +31,19 @@ fn counts_of(heap: &Refusing<Global>) -> [u64; 4] {
     [heap.requests(), heap.refused(), heap.frees(), heap.held()]
 }
 
-/// A rule, what two runs of three requests answer under it, and what is counted then.
-type Row = (
-    Refusal,
-    Result<u64, AllocError>,
-    Result<u64, AllocError>,
-    [u64; 4],
-);
-
-const ROWS: &[Row] = &[
-    (Refusal::Never, Ok(6), Ok(6), [6, 0, 6, 0]),
-    (Refusal::Only(1), Err(AllocError), Ok(6), [5, 1, 4, 0]),
-    (
-        Refusal::From(1),
-        Err(AllocError),
-        Err(AllocError),
-        [3, 2, 1, 0],
-    ),
+/// A rule, whether it grants each of two runs of three requests, and what is counted then.
+const RULES: [(Refusal, [bool; 2], [u64; 4]); 3] = [
+    (Refusal::Never, [true, true], [6, 0, 6, 0]),
+    (Refusal::Only(1), [false, true], [5, 1, 4, 0]),
+    (Refusal::From(1), [false, false], [3, 2, 1, 0]),
 ];
 
 #[test]
 fn counts_and_refusals(rt: HostRuntime) {
-    for (rule, first, second, counts) in ROWS {
-        let heap = Refusing::new(*rule, rt.alloc());
-        assert!(rt; boxes(&heap, 4) == *first && boxes(&heap, 4) == *second);
-        assert!(rt; heap.rule() == *rule && counts_of(&heap) == *counts);
+    for (rule, granted, counts) in RULES {
+        let heap = Refusing::new(rule, rt.alloc());
+        assert!(rt; [boxes(&heap, 4) == Ok(6), boxes(&heap, 4) == Ok(6)] == granted);
+        assert!(rt; heap.rule() == rule && counts_of(&heap) == counts);
     }
     let heap = Refusing::none(rt.alloc());
     let kept = Box::new(&heap, 7u64);

@@ -15,12 +15,8 @@ mod memory_of_calls;
 #[cfg(test)]
 mod programs;
 #[cfg(test)]
-mod recipe_calls;
-#[cfg(test)]
 mod requests;
 #[cfg(test)]
 mod sessions;
 #[cfg(test)]
-mod shown;
-#[cfg(test)]
-mod without_memory;
+mod sinks;

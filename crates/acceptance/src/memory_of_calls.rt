@@ -71,6 +71,11 @@ const ROWS: &[Row] = &[
     ("write f", (3, 6_020), (3, 6_020)),
     ("write i d", (6, 9_153), (6, 9_153)),
     ("write d", (3, 140), (3, 140)),
+    // a count at fault comes before memory
+    ("r = dis_vuz 7 -1", (0, 0), (0, 0)),
+    ("r = dis_vuz 7 4194305", (0, 0), (0, 0)),
+    ("r = ind_luz 0 1 -1", (0, 0), (0, 0)),
+    ("r = ind_luz 0 1 4194305", (0, 0), (0, 0)),
 ];
 
 /// The first call that asks for another amount of memory than its row says, by one worker in one tile or by four, with what it

@@ -3,12 +3,13 @@
 use crate::programs::{FILES, NO_FILE, SCANNED, SUMMED, SUMS};
 use cvl_base::{Memory, Refused};
 use refusing_memory::{Flaw, withstands_refusals};
+use shell::OpenGate;
 use std::test::Fail;
 use std::thread::Threads;
 use tested_runs::hosts::Failing::Nothing;
 use tested_runs::hosts::{Files, text_of};
 use tested_runs::kept_texts::{LONG_TEXT, appends};
-use tested_runs::other_calls::{Call, gives};
+use tested_runs::other_calls::{Call, answer_of};
 use tested_runs::programs::{Row, ends_as};
 use tested_runs::recipe_calls::{has_product, is_seen};
 
@@ -17,6 +18,10 @@ use tested_runs::recipe_calls::{has_product, is_seen};
 enum Made<'a> {
     /// A run of the program, on these files.
     Run(Files<'a>, Row<'a>),
+    /// A run with the last input that a script may read.
+    ManyWords,
+    /// A run with a file that is so long that threads write the memory for it before it is read.
+    LongFile,
     /// What a call gives.
     Call(Call, &'a [i32]),
     /// The product of a matrix and a vector.
@@ -54,6 +59,9 @@ const ALL: &[(Made, u64)] = &[
         3,
     ),
     (Made::Run(FILES, (Nothing, SUMS, SUMMED, "", 0)), 10),
+    (Made::ManyWords, 6),
+    // the room for the file, beside those for the inputs, for a line and for the script
+    (Made::LongFile, 6),
     (Made::Call(Call::Scan, &[0, 3, 4, 11, 11]), 4),
     (Made::Call(Call::Reduce, &[15]), 4),
     (Made::Call(Call::SegScan, &[0, 3, 0, 7, 7]), 4),
@@ -71,6 +79,36 @@ const ALL: &[(Made, u64)] = &[
     (Made::Text(LONG_TEXT + 1), 2),
 ];
 
+/// Whether the last input that a script may read is the file of the numbers.
+fn is_read_last<R: Threads + Sync + AllocGlobal, A: Memory>(
+    rt: &R,
+    heap: A,
+) -> Result<bool, Refused> {
+    let line = text_of(rt.alloc(), "cvl last", " empty", 197, " numbers")?;
+    Ok(ends_as(
+        rt,
+        heap,
+        FILES,
+        &(Nothing, &line, SCANNED, "", 0),
+        &OpenGate,
+    )?)
+}
+
+/// Whether a file of numbers with many blanks behind them is read.
+fn is_read_whole<R: Threads + Sync + AllocGlobal, A: Memory>(
+    rt: &R,
+    heap: A,
+) -> Result<bool, Refused> {
+    let numbers = text_of(rt.alloc(), "3 1 7 0 4", " ", 1_100_000, "")?;
+    Ok(ends_as(
+        rt,
+        heap,
+        &[FILES[1], ("numbers", &numbers)],
+        &SCAN,
+        &OpenGate,
+    )?)
+}
+
 /// Whether it is right.
 fn is_right<R: Threads + Sync + AllocGlobal, A: Memory>(
     rt: &R,
@@ -78,8 +116,10 @@ fn is_right<R: Threads + Sync + AllocGlobal, A: Memory>(
     made: &Made<'_>,
 ) -> Result<bool, Refused> {
     match made {
-        Made::Run(files, row) => Ok(ends_as(rt, heap, files, row)?),
-        Made::Call(call, right) => gives(rt, heap, call, right),
+        Made::Run(files, row) => Ok(ends_as(rt, heap, files, row, &OpenGate)?),
+        Made::ManyWords => is_read_last(rt, heap),
+        Made::LongFile => is_read_whole(rt, heap),
+        Made::Call(call, right) => Ok(answer_of(rt, heap, call)?.as_slice() == *right),
         Made::Product => {
             let matrix = [
                 [2, 0, 2].as_slice(),
@@ -113,18 +153,5 @@ fn each_request_refused(rt: HostRuntime) -> Result<(), Fail> {
         let requests = requests_of(&rt, made)?;
         assert!(rt; requests >= *least, "{requests} and not {least}");
     }
-    Ok(())
-}
-
-/// The last input that a script may read; and a file that is so long that threads write the memory for it before it is read.
-#[test]
-fn many_words_and_a_long_file(rt: HostRuntime) -> Result<(), Fail> {
-    let line = text_of(rt.alloc(), "cvl last", " empty", 197, " numbers")?;
-    let last = Made::Run(FILES, (Nothing, line.as_str(), SCANNED, "", 0));
-    assert!(rt; requests_of(&rt, &last)? > 5);
-    let numbers = text_of(rt.alloc(), "3 1 7 0 4", " ", 1_100_000, "")?;
-    let files = [FILES[1], ("numbers", numbers.as_str())];
-    // the room for the file, beside those for the inputs, for a line and for the script
-    assert!(rt; requests_of(&rt, &Made::Run(&files, SCAN))? > 5);
     Ok(())
 }

@@ -44,15 +44,6 @@ line 0: fault 4 UnknownName\n",
     ),
 ];
 
-#[test]
-fn made_again(rt: HostRuntime) -> Result<(), Fail> {
-    for (lines, right, least) in ROWS {
-        let requests = requests_of(&rt, lines, right)?;
-        assert!(rt; requests >= *least, "{requests} of {lines}");
-    }
-    Ok(())
-}
-
 /// Lines that bind these names to 8, and so many others, and `a`. Then the call of two names, and what they are bound to.
 fn lines_of(alloc: Global, names: &[&str], others: u32) -> Result<String, Fail> {
     let mut lines = String::from_str(alloc, "a = input 2\n")?;
@@ -67,7 +58,11 @@ fn lines_of(alloc: Global, names: &[&str], others: u32) -> Result<String, Fail> 
 }
 
 #[test]
-fn two_names_made_again(rt: HostRuntime) -> Result<(), Fail> {
+fn made_again(rt: HostRuntime) -> Result<(), Fail> {
+    for (lines, right, least) in ROWS {
+        let requests = requests_of(&rt, lines, right)?;
+        assert!(rt; requests >= *least, "{requests} of {lines}");
+    }
     for names in [[].as_slice(), &["v"], &["d"], &["v", "d"]] {
         // a node of the names has room for 15: it is cut in two by none of the two, by the second, and by the first
         for others in [0, 12, 13, 14] {

@@ -43,33 +43,44 @@ impl ReadFiles for TableFiles<'_> {
     }
 }
 
+/// What fails on a host, whose standard output takes a byte a write where nothing else is said.
+#[derive(Clone, Copy)]
+pub enum Failing {
+    Nothing,
+    /// The flush.
+    Flush,
+    /// Each write of standard output after so many, of so many bytes each beside the first.
+    Writes(usize, u64),
+    /// Standard output, which is full after so many bytes.
+    Room(u64),
+    /// Each write of standard error after so many, of a byte each.
+    Errors(u64),
+}
+
 /// A writer in memory that takes few bytes a write, and once it has taken so many writes it fails, or is full.
 #[derive(Drop)]
 pub struct NarrowWriter {
     /// The bytes taken so far.
     pub taken: Vec<u8>,
+    /// How many bytes a flush has sent on.
+    pub sent: usize,
     /// How many bytes it takes a write, beside the first.
     more_a_write: usize,
     /// How many writes it takes.
     writes_left: u64,
-    /// Whether it takes no byte then, and doesn't fail.
-    is_full: bool,
-    /// Whether a flush succeeds.
-    flushes: bool,
-    /// How many bytes a flush has sent on.
-    pub sent: usize,
+    /// What fails.
+    failing: Failing,
 }
 
 impl NarrowWriter {
-    /// A writer that takes so many bytes a write beside the first, so many times, and then fails.
-    fn new(alloc: Global, more_a_write: usize, writes_left: u64) -> NarrowWriter {
+    /// A writer that takes so many bytes a write beside the first, so many times.
+    fn new(alloc: Global, more_a_write: usize, writes_left: u64, failing: Failing) -> NarrowWriter {
         NarrowWriter {
             taken: Vec::new(alloc),
+            sent: 0,
             more_a_write,
             writes_left,
-            is_full: false,
-            flushes: true,
-            sent: 0,
+            failing,
         }
     }
 }
@@ -89,64 +100,41 @@ impl Write for NarrowWriter {
             self.writes_left -= 1;
             return Ok(count);
         }
-        if self.is_full {
-            Ok(0)
-        } else {
-            Err(Error::from(ErrorKind::BrokenPipe))
+        match self.failing {
+            Failing::Room(_) => Ok(0),
+            _ => Err(Error::from(ErrorKind::BrokenPipe)),
         }
     }
 
     fn flush(&mut self) -> IoResult<()> {
-        if self.flushes {
-            self.sent = self.taken.len();
-            Ok(())
-        } else {
-            Err(Error::from(ErrorKind::BrokenPipe))
+        if let Failing::Flush = self.failing {
+            return Err(Error::from(ErrorKind::BrokenPipe));
         }
+        self.sent = self.taken.len();
+        Ok(())
     }
 }
 
 /// A host over files in memory.
 pub type Host<'a> = StreamHost<TableFiles<'a>, NarrowWriter, NarrowWriter>;
 
-/// What fails on a host, whose standard output takes a byte a write where nothing else is said.
-#[derive(Clone, Copy)]
-pub enum Failing {
-    Nothing,
-    /// The flush.
-    Flush,
-    /// Each write of standard output after so many, of so many bytes each beside the first.
-    Writes(usize, u64),
-    /// Standard output, which is full after so many bytes.
-    Room(u64),
-    /// Each write of standard error after so many, of a byte each.
-    Errors(u64),
-}
-
 /// A host with these files, on which this fails.
 pub fn host_with<'a>(alloc: Global, files: Files<'a>, failing: Failing) -> Host<'a>
     ensures puts { result.failed_puts ≡ 0 }
     ensures flushes { result.failed_flushes ≡ 0 }
 {
-    let mut output = NarrowWriter::new(alloc, 0, u64::MAX);
+    let (more, writes) = match failing {
+        Failing::Writes(more, writes) => (more, writes),
+        Failing::Room(bytes) => (0, bytes),
+        _ => (0, u64::MAX),
+    };
     // a message is one write, so that the messages of two programs don't mix
-    let mut errors = NarrowWriter::new(alloc, usize::MAX, 1);
-    match failing {
-        Failing::Nothing => {}
-        Failing::Flush => output.flushes = false,
-        Failing::Writes(more, writes) => {
-            output.more_a_write = more;
-            output.writes_left = writes;
-        }
-        Failing::Room(bytes) => {
-            output.writes_left = bytes;
-            output.is_full = true;
-        }
-        Failing::Errors(writes) => {
-            errors.more_a_write = 0;
-            errors.writes_left = writes;
-        }
-    }
+    let (more_told, messages) = match failing {
+        Failing::Errors(writes) => (0, writes),
+        _ => (usize::MAX, 1),
+    };
+    let output = NarrowWriter::new(alloc, more, writes, failing);
+    let errors = NarrowWriter::new(alloc, more_told, messages, Failing::Nothing);
     StreamHost::new(TableFiles { files }, output, errors)
 }
 

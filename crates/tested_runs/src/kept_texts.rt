@@ -15,6 +15,21 @@ const COUNT: usize = 32_769;
 /// bracket and the one byte of the first element stand before these.
 pub const LONG_TEXT: usize = 11 * COUNT - 2;
 
+/// The sevens.
+fn sevens_of<A: Memory>(heap: A) -> Result<Value<A>, NoResources> {
+    let sevens = vec![in heap; 7; COUNT]?;
+    if sevens.len() > MOST_ELEMENTS {
+        return Err(NoResources);
+    }
+    Ok(Value::Integers(Ints::from_vec(sevens)))
+}
+
+/// Whether this is the text of the sevens.
+fn is_shown(alloc: Global, text: &[u8]) -> Result<bool, NoResources> {
+    let shown = text_of(alloc, "[", "7 ", COUNT - 1, "7]")?;
+    Ok(text == shown.as_bytes())
+}
+
 /// Whether the text of the sevens is appended to one of so many bytes, which is kept.
 pub fn appends<R: Threads + Sync, A: Memory>(
     rt: &R,
@@ -23,18 +38,14 @@ pub fn appends<R: Threads + Sync, A: Memory>(
     length: usize,
 ) -> Result<bool, NoResources> {
     let config = Config::new(4_096, 2).unwrap();
-    let sevens = vec![in heap; 7; COUNT]?;
-    if sevens.len() > MOST_ELEMENTS {
-        return Ok(false);
-    }
-    let sevens = Value::Integers(Ints::from_vec(sevens));
+    let before = vec![in alloc; b'.'; length]?;
+    let mut text = Vec::from_slice(heap, &before)?;
+    let sevens = sevens_of(heap)?;
     let none: Option<SegDes<A>> = None;
-    let before = text_of(alloc, "", ".", length, "")?;
-    let shown = text_of(alloc, "[", "7 ", COUNT - 1, "7]")?;
-    let mut text = Vec::from_slice(heap, before.as_bytes())?;
-    match put_value(rt, heap, config, &sevens, none.as_ref(), &mut text) {
-        Ok(()) => Ok(text.strip_prefix(before.as_bytes()) == Some(shown.as_bytes())),
-        Err(refused) if text.as_slice() == before.as_bytes() => Err(refused),
-        Err(_) => Ok(false),
+    let put = put_value(rt, heap, config, &sevens, none.as_ref(), &mut text);
+    match (put, text.strip_prefix(before.as_slice())) {
+        (Ok(()), Some(shown)) => is_shown(alloc, shown),
+        (Err(refused), Some([])) => Err(refused),
+        _ => Ok(false),
     }
 }

@@ -39,7 +39,7 @@ pub fn session_before<R: Threads + Sync, A: Memory>(
     Ok(session)
 }
 
-/// What the call of a line asks for. Its names are bound already, so that no node of the names is made.
+/// What the call of a line asks for, also one with a fault. Its names are bound already, so that no node of the names is made.
 pub fn asked_by<'a, R: Threads + Sync>(
     rt: &R,
     heap: &'a Refusing<Global>,
@@ -50,9 +50,11 @@ pub fn asked_by<'a, R: Threads + Sync>(
         return Ok((0, 0));
     };
     let (requests, bytes) = (heap.requests(), heap.bytes());
-    session.apply(rt, &call)?;
-    Ok((
-        heap.requests().wrapping_sub(requests),
-        heap.bytes().wrapping_sub(bytes),
-    ))
+    match session.apply(rt, &call) {
+        Err(Refused::NoResources) => Err(Refused::NoResources),
+        _ => Ok((
+            heap.requests().wrapping_sub(requests),
+            heap.bytes().wrapping_sub(bytes),
+        )),
+    }
 }

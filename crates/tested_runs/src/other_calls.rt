@@ -20,40 +20,44 @@ pub enum Call {
     SegPack,
 }
 
+/// The five numbers.
+const XS: &[i32] = &[3, 1, 7, 0, 4];
+
+/// What a permute writes over a room.
+fn over<A: Memory>(heap: A) -> Result<Vec<i32, A>, Refused> {
+    let mut room = vec![in heap; -7; 3]?;
+    simple_over(heap, &[10, 20, 30], &[2, 0, 1], &mut room)?;
+    Ok(room)
+}
+
+/// What a pack of segments gives: the lengths stand behind the values.
+fn packed<R: Threads + Sync, A: Memory>(
+    rt: &R,
+    heap: A,
+    config: Config,
+    d: &SegDes<A>,
+) -> Result<Vec<i32, A>, Refused> {
+    let flags = &[true, false, true, true, false];
+    let (mut values, lengths) = seg_pack(rt, heap, config, XS, flags, d)?;
+    values.extend_from_slice(lengths.lengths())?;
+    Ok(values)
+}
+
 /// What a call gives on five numbers in three segments, by three workers in tiles of one element. A number is told as a vector
-/// of it, and lengths stand behind values.
-fn made<R: Threads + Sync, A: Memory>(
+/// of it.
+pub fn answer_of<R: Threads + Sync, A: Memory>(
     rt: &R,
     heap: A,
     call: &Call,
 ) -> Result<Vec<i32, A>, Refused> {
-    let (config, xs) = (Config::new(1, 3).unwrap(), &[3, 1, 7, 0, 4]);
+    let config = Config::new(1, 3).unwrap();
     let d = SegDes::from_lengths(heap, &[2, 0, 3])?;
     match call {
-        Call::Scan => Ok(scan::<R, A, Add>(rt, heap, config, xs)?),
-        Call::Reduce => Ok(vec![in heap; reduce::<R, A, Add>(rt, heap, config, xs)?]?),
-        Call::SegScan => seg_scan::<R, A, Add>(rt, heap, config, xs, &d),
-        Call::SegReduce => seg_reduce::<R, A, Add>(rt, heap, config, xs, &d),
-        Call::SimpleOver => {
-            let mut room = vec![in heap; -7; 3]?;
-            simple_over(heap, &[10, 20, 30], &[2, 0, 1], &mut room)?;
-            Ok(room)
-        }
-        Call::SegPack => {
-            let flags = &[true, false, true, true, false];
-            let (mut values, lengths) = seg_pack(rt, heap, config, xs, flags, &d)?;
-            values.extend_from_slice(lengths.lengths())?;
-            Ok(values)
-        }
+        Call::Scan => Ok(scan::<R, A, Add>(rt, heap, config, XS)?),
+        Call::Reduce => Ok(vec![in heap; reduce::<R, A, Add>(rt, heap, config, XS)?]?),
+        Call::SegScan => seg_scan::<R, A, Add>(rt, heap, config, XS, &d),
+        Call::SegReduce => seg_reduce::<R, A, Add>(rt, heap, config, XS, &d),
+        Call::SimpleOver => over(heap),
+        Call::SegPack => packed(rt, heap, config, &d),
     }
-}
-
-/// Whether a call gives this.
-pub fn gives<R: Threads + Sync, A: Memory>(
-    rt: &R,
-    heap: A,
-    call: &Call,
-    right: &[i32],
-) -> Result<bool, Refused> {
-    Ok(made(rt, heap, call)?.as_slice() == right)
 }

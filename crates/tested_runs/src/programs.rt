@@ -2,7 +2,7 @@
 
 use crate::hosts::{Failing, Files, Host, host_with};
 use cvl_base::{Memory, NoResources};
-use shell::program;
+use shell::{Gate, program_gated};
 use std::thread::Threads;
 
 /// What fails on the host, a command line, and what comes of it: standard output, standard error and the status.
@@ -28,16 +28,18 @@ fn is_starved(host: &Host<'_>, status: u8, row: &Row<'_>) -> bool {
     status == 3 && is_told && row.2.as_bytes().starts_with(&host.output.taken)
 }
 
-/// Whether the program ends as the row says, on this memory and on a host that has its own for what it writes.
-pub fn ends_as<R: Threads + Sync + AllocGlobal, A: Memory>(
+/// Whether the program ends as the row says, on this memory and on a host that has its own for what it writes. Its workers pass a
+/// gate.
+pub fn ends_as<R: Threads + Sync + AllocGlobal, A: Memory, G: Gate>(
     rt: &R,
     heap: A,
     files: Files<'_>,
     row: &Row<'_>,
+    gate: &G,
 ) -> Result<bool, NoResources> {
     let mut host = host_with(rt.alloc(), files, row.0);
     let words: Vec<&str> = row.1.split_whitespace().collect(rt.alloc())?;
-    let status = program(rt, heap, words.as_slice(), &mut host);
+    let status = program_gated(rt, heap, words.as_slice(), &mut host, gate);
     if came(&host, status, row) {
         Ok(true)
     } else if is_starved(&host, status, row) {

@@ -36,7 +36,7 @@ pub fn has_product<R: Threads + Sync, A: Memory>(
     Ok(found.as_slice() == product)
 }
 
-/// Whether a line of altitudes is as long as these flags, which tell of the first places whether they are visible.
+/// Whether a line of altitudes has these flags, which tell of each place whether it is visible.
 pub fn is_seen<R: Threads + Sync, A: Memory>(
     rt: &R,
     heap: A,
@@ -45,5 +45,5 @@ pub fn is_seen<R: Threads + Sync, A: Memory>(
 ) -> Result<bool, Refused> {
     let config = Config::new(2, 3).unwrap();
     let found = line_of_sight(rt, heap, config, vector_of(heap, altitudes)?)?;
-    Ok(found.len() == altitudes.len() && found.starts_with(visible))
+    Ok(found.as_slice() == visible)
 }
