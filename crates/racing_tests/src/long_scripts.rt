@@ -57,46 +57,29 @@ const CALLS: &[Call] = &[
 ];
 
 /// How many elements there are and the last place, the former as a number, the tile and the workers that are asked for, the tile of
-/// the race, and how many workers are held, each in turn, at its first tile, until the others have finished all other tiles.
-type Length = (&'static str, u32, u32, u32, u32, u32);
+/// the race, and who is held, at its first tile, until the others have finished all other tiles.
+type Length = (&'static str, u32, u32, u32, u32, Holds);
 
 const LENGTHS: &[Length] = &[
-    ("262143 262142", 262_143, 4_096, 4, 4_096, 0),
-    ("262144 262143", 262_144, 4_096, 4, 8_192, 0),
-    ("262145 262144", 262_145, 65_536, 3, 65_536, 0),
-    ("524287 524286", 524_287, 4_096, 4, 10_922, 0),
-    ("524288 524287", 524_288, 4_096, 4, 8_192, 4),
+    ("262143 262142", 262_143, 4_096, 4, 4_096, Holds::Nobody),
+    ("262144 262143", 262_144, 4_096, 4, 8_192, Holds::Nobody),
+    ("262145 262144", 262_145, 65_536, 3, 65_536, Holds::Nobody),
+    ("524287 524286", 524_287, 4_096, 4, 10_922, Holds::Nobody),
+    ("524288 524287", 524_288, 4_096, 4, 8_192, Holds::Nobody),
+    ("524288 524287", 524_288, 4_096, 4, 8_192, Holds::Worker(0)),
+    ("524288 524287", 524_288, 4_096, 4, 8_192, Holds::Worker(1)),
+    ("524288 524287", 524_288, 4_096, 4, 8_192, Holds::Worker(2)),
+    ("524288 524287", 524_288, 4_096, 4, 8_192, Holds::Worker(3)),
 ];
 
-/// Whether a script comes out while each of so many workers is held, and then nobody.
-fn in_each_run<R: Threads + Sync>(
-    rt: &R,
-    alloc: Global,
-    script: &Script<'_>,
-    length: &Length,
-    tiles: u32,
-) -> Result<bool, NoResources> {
-    let (_, _, tile, workers, _, held) = *length;
-    let mut right = true;
-    for run in 0..=held {
-        let holds = if run < held {
-            Holds::Worker(run)
-        } else {
-            Holds::Nobody
-        };
-        right &= comes_out(rt, alloc, script, (tile, workers, tiles, holds))?;
-    }
-    Ok(right)
-}
-
-/// Whether a call on so many elements comes out, in as many tiles as it should, in each of its runs.
+/// Whether a call on so many elements comes out, in as many tiles as it should.
 fn is_raced<R: Threads + Sync>(
     rt: &R,
     alloc: Global,
     length: &Length,
     call: &Call,
 ) -> Result<bool, NoResources> {
-    let (numbers, elements, _, _, raced, _) = *length;
+    let (numbers, elements, tile, workers, raced, holds) = *length;
     let (call, told, race, least) = *call;
     let is_fault = told.starts_with("fault");
     let same = if is_fault { "v" } else { told };
@@ -121,7 +104,7 @@ fn is_raced<R: Threads + Sync>(
     } else {
         0
     };
-    in_each_run(rt, alloc, &script, length, tiles)
+    comes_out(rt, alloc, &script, (tile, workers, tiles, holds))
 }
 
 #[test]

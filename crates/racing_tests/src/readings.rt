@@ -15,20 +15,17 @@ use watching_gate::{Holds, Race, Watch, place_of};
 
 /// A number, and how often it was read.
 #[derive(Clone, Copy)]
-struct Counted<'a> {
-    number: i32,
-    reads: &'a AtomicU64,
-}
+struct Counted<'a>(i32, &'a AtomicU64);
 
 /// The rule by which such a number is read as itself, and counted.
 struct Counting;
 
 impl<'a> Reading<Counted<'a>, i32> for Counting {
-    ghost item = { λ x. x.number };
+    ghost item = { λ x. x.0 };
 
     fn item(x: Counted<'a>) -> i32 {
-        x.reads.fetch_add(1, Ordering::SeqCst);
-        x.number
+        x.1.fetch_add(1, Ordering::SeqCst);
+        x.0
     }
 }
 
@@ -66,26 +63,14 @@ impl Gate for Noting<'_> {
 
 /// Four numbers, whose reads are counted here.
 fn elements(reads: &[AtomicU64; 5]) -> [Counted<'_>; 4]
-    ensures { AllPass (λ x. is_number x.number) result }
+    ensures { AllPass (λ x. is_number x.0) result }
 {
     let [first, second, third, fourth, _] = reads;
     [
-        Counted {
-            number: 3,
-            reads: first,
-        },
-        Counted {
-            number: 1,
-            reads: second,
-        },
-        Counted {
-            number: 7,
-            reads: third,
-        },
-        Counted {
-            number: 0,
-            reads: fourth,
-        },
+        Counted(3, first),
+        Counted(1, second),
+        Counted(7, third),
+        Counted(0, fourth),
     ]
 }
 
@@ -113,39 +98,29 @@ fn hold(words: &[AtomicU64], numbers: &[u64]) -> bool {
 /// in all.
 type Row = (u32, bool, Holds, [u64; 5], [u64; 4]);
 
+/// Each element was read for its tile's sum alone, after the tile was claimed; and once more in all.
+const ONCE: [u64; 5] = [90111, 90111, 90111, 90111, 91111];
+
+const TWICE: [u64; 4] = [2, 2, 2, 2];
+
+/// That of tile 0 was first read by the worker of tile 1, who looked back.
+const LOOKED_AT: [u64; 5] = [91222, 90111, 90111, 90111, 90011];
+
 const ROWS: [Row; 4] = [
     // each element is read for its tile's sum, and once more when the scan is written
-    (
-        1,
-        false,
-        Holds::Nobody,
-        [90111, 90111, 90111, 90111, 91111],
-        [2, 2, 2, 2],
-    ),
+    (1, false, Holds::Nobody, ONCE, TWICE),
     // the look-back from tile 1 adds up tile 0, of which nothing is told
     (
         2,
         false,
         Holds::TileZero(Point::Claimed(0)),
-        [91222, 90111, 90111, 90111, 90011],
+        LOOKED_AT,
         [3, 2, 2, 2],
     ),
     // and does not where its sum is told
-    (
-        2,
-        false,
-        Holds::TileZero(Point::Summed(0)),
-        [90111, 90111, 90111, 90111, 91111],
-        [2, 2, 2, 2],
-    ),
+    (2, false, Holds::TileZero(Point::Summed(0)), ONCE, TWICE),
     // a reduce of segments reads each element for its tile's sum, and once more when the reduces are written, after the race
-    (
-        1,
-        true,
-        Holds::Nobody,
-        [90111, 90111, 90111, 90111, 91111],
-        [2, 2, 2, 2],
-    ),
+    (1, true, Holds::Nobody, ONCE, TWICE),
 ];
 
 #[test]

@@ -1,5 +1,5 @@
-//! Scripts whose workers race in short tiles: each call, by one worker and by many, who are held there or not, and the least of
-//! several faults again and again.
+//! Scripts whose workers race in short tiles: each call, by one worker and by many, who are held there or not, and a scan whose
+//! workers are held at each point of each tile.
 
 use crew::Point;
 use std::test::Fail;
@@ -74,9 +74,13 @@ const CALLS: &[(&str, Race, &str)] = &[
     ("pck_fov f d", SCAN, "b = [1 0 2]\n"),
 ];
 
-/// The runs of each call on four elements. Of two workers the one that first claims a tile is held until the other has finished the
-/// three other tiles, for each tile in turn. In each cut into tiles, by one worker and by many, the gate sees each tile.
+/// The runs of each call on four elements. Two workers are at work at one moment: each is held at its first tile until both have one,
+/// and the one at tile 0 until the other has finished all others. Of two workers the one that first claims a tile is held until the
+/// other has finished the three other tiles, for each tile in turn. In each cut into tiles, by one worker and by many, the gate sees
+/// each tile.
 const RUNS: &[Run] = &[
+    (2, 2, 2, Holds::FirstTiles(2)),
+    (1, 2, 4, Holds::TileZero(Point::Claimed(0))),
     (1, 2, 4, Holds::UntilOthers(Point::Claimed(0))),
     (1, 2, 4, Holds::UntilOthers(Point::Claimed(1))),
     (1, 2, 4, Holds::UntilOthers(Point::Claimed(2))),
@@ -109,36 +113,26 @@ fn each_call_held_and_seen(rt: HostRuntime) -> Result<(), Fail> {
     Ok(())
 }
 
-/// The least of several faults of 1,000 elements: of a quotient, and of a permute, flat and in segments.
-const FAULTS: [Script; 3] = [
-    Script {
-        lines: "a = dis_vuz 7 1000\nb = dis_vuz 1 1000\nb = rep_vuz b 3 0\nb = rep_vuz b 900 0\nq = div_wuz a b\n",
-        inputs: &[],
-        outcome: "line 5: fault 8 DivideByZero at 3\n",
-        race: ONE,
-    },
-    Script {
-        lines: "i = ind_luz 0 1 1000\ni = rep_vuz i 5 2\ni = rep_vuz i 999 1000\np = smp_puz i i\n",
-        inputs: &[],
-        outcome: "line 4: fault 11 IndexRepeated at 5\n",
-        race: TWO,
-    },
-    Script {
-        lines: "l = input 1\nd = mke_fov l\nz = input 2\no = input 3\ni = ind_lez z o d\ni = rep_vuz i 5 2\ni = rep_vuz i 999 1000
-p = smp_pez i i d\n",
-        inputs: &["250 250 0 500", "0 0 0 0", "1 1 1 1"],
-        outcome: "line 8: fault 11 IndexRepeated at 5\n",
-        race: TWO,
-    },
-];
+/// The scan of eight numbers.
+const EIGHT: Script = Script {
+    lines: "a = input 1\nb = add_suz a\nwrite b\n",
+    inputs: &["3 1 7 0 4 1 6 3"],
+    outcome: "b = [0 3 4 11 11 15 16 22]\n",
+    race: SCAN,
+};
 
-/// The same comes of a script every time, since each run may race another way.
+/// A worker that stands still at any point of any tile holds up no other: the other one finishes all other tiles.
 #[test]
-fn least_fault_every_time(rt: HostRuntime) -> Result<(), Fail> {
-    for script in &FAULTS {
-        for _ in 0..100 {
-            let right = comes_out(&rt, rt.alloc(), script, (16, 8, 63, Holds::Nobody))?;
-            assert!(rt; right, "{}", script.lines);
+fn held_at_each_point(rt: HostRuntime) -> Result<(), Fail> {
+    for tile in 0..8 {
+        for point in [
+            Point::Claimed(tile),
+            Point::Summed(tile),
+            Point::Looked(tile),
+        ] {
+            let run = (1, 2, 8, Holds::UntilOthers(point));
+            let right = comes_out(&rt, rt.alloc(), &EIGHT, run)?;
+            assert!(rt; right, "held at {point:?}");
         }
     }
     Ok(())
