@@ -94,7 +94,10 @@ impl<'a> Case<'a> {
     ) -> Result<(), Trouble<'a>> {
         match section.what {
             "tile" => return add_configs(&mut self.configs, section),
-            "refused" => return add_requests(&mut self.requests, section),
+            "refused" => {
+                self.requests = Some(number_of(section, section.rest)?);
+                return Ok(());
+            }
             "more" => {}
             what => self.last = what,
         }
@@ -137,15 +140,9 @@ fn add_configs<'a>(configs: &mut Vec<Config>, section: &Section<'a>) -> Result<(
     Ok(())
 }
 
-/// Adds how many requests there are at least, of which a heading such as `refused 12` tells.
-fn add_requests<'a>(requests: &mut Option<u64>, section: &Section<'a>) -> Result<(), Trouble<'a>> {
-    match section.rest.parse() {
-        Ok(least) => {
-            *requests = Some(least);
-            Ok(())
-        }
-        Err(_) => Err(Trouble::Heading(section.heading)),
-    }
+/// The number that a word of a section's heading writes.
+fn number_of<'a>(section: &Section<'a>, word: &str) -> Result<u64, Trouble<'a>> {
+    word.parse().ok().ok_or(Trouble::Heading(section.heading))
 }
 
 /// Puts lines without their last line feed behind other bytes, so many times.
@@ -182,10 +179,10 @@ fn put_content<'a, R: Files + AllocGlobal>(
         return Ok(place.extend_from_slice(&section.lines)?);
     }
     match section.rest.strip_prefix("times ") {
-        Some(times) => match times.parse() {
-            Ok(times) => Ok(put_times(place, &section.lines, times)?),
-            Err(_) => Err(Trouble::Heading(section.heading)),
-        },
+        Some(times) => {
+            let times = number_of(section, times)?;
+            Ok(put_times(place, &section.lines, times)?)
+        }
         None => put_file(rt, folder, section.rest, place),
     }
 }

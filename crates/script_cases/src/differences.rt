@@ -1,8 +1,7 @@
 //! What is told of a run that differs.
 
 use crate::outcomes::Outcome;
-use case_files::{Case, SingleRun};
-use cvl_base::Config;
+use case_files::SingleRun;
 use refusing_memory::Flaw;
 use std::io;
 use std::io::Write;
@@ -17,13 +16,9 @@ fn tell_bytes<W: Write>(output: &mut W, what: &str, bytes: &[u8]) -> io::Result<
 }
 
 /// Writes which run differs, and its inputs where they are short.
-fn tell_run<W: Write>(
-    output: &mut W,
-    config: Config,
-    case: &Case<'_>,
-    single: &SingleRun<'_>,
-) -> io::Result<()> {
-    let (name, tile, workers) = (case.name, config.tile(), config.workers());
+fn tell_run<W: Write>(output: &mut W, single: &SingleRun<'_>) -> io::Result<()> {
+    let (tile, workers) = (single.config.tile(), single.config.workers());
+    let name = single.case.name;
     writeln!(
         output,
         "differs: {name}, on tiles of {tile} and {workers} workers"
@@ -40,12 +35,10 @@ fn tell_run<W: Write>(
 /// Writes what came out beside what was expected.
 pub fn tell_difference<W: Write>(
     output: &mut W,
-    config: Config,
-    case: &Case<'_>,
     single: &SingleRun<'_>,
     outcome: &Outcome,
 ) -> io::Result<()> {
-    tell_run(output, config, case, single)?;
+    tell_run(output, single)?;
     tell_bytes(output, "came out", &outcome.shown)?;
     tell_bytes(output, "expected", &single.shown)
 }
@@ -53,12 +46,10 @@ pub fn tell_difference<W: Write>(
 /// Writes what is wrong with a run whose requests for memory were refused in turn, or how many requests it made.
 pub fn tell_flaw<W: Write>(
     output: &mut W,
-    config: Config,
-    case: &Case<'_>,
     single: &SingleRun<'_>,
     found: &Result<u64, Flaw>,
 ) -> io::Result<()> {
-    tell_run(output, config, case, single)?;
+    tell_run(output, single)?;
     match found {
         Ok(requests) => writeln!(output, "-- requests for memory: {requests}"),
         Err(flaw) => writeln!(output, "-- refused memory: {flaw:?}"),

@@ -33,24 +33,17 @@ const COMMAND_LINE: u8 = 2;
 /// The status where a file cannot be read or understood, or memory or standard output fails.
 const FAILED: u8 = 3;
 
-/// The length of tiles and the number of workers of a case that names none: small ones, so that short vectors are cut.
-fn small_config() -> Config {
-    Config::new(2, 3).unwrap()
-}
-
 /// Refuses each request of a run in turn, tells what is wrong, and answers whether all came out, of at least so many requests.
 fn refuse_in_turn<'a, R: AllocGlobal + Threads + Sync, W: Write>(
     rt: &R,
     output: &mut W,
-    config: Config,
-    case: &Case<'_>,
     single: &SingleRun<'_>,
     least: u64,
 ) -> Result<bool, Trouble<'a>> {
     let ample = rt.alloc();
     let found = withstands_refusals(
         ample,
-        |heap| comes_out(rt, ample, heap, config, single),
+        |heap| comes_out(rt, ample, heap, single),
         Ok(true),
         Err(NoResources),
     );
@@ -59,26 +52,24 @@ fn refuse_in_turn<'a, R: AllocGlobal + Threads + Sync, W: Write>(
     {
         return Ok(true);
     }
-    tell_flaw(output, config, case, single, &found)?;
+    tell_flaw(output, single, &found)?;
     Ok(false)
 }
 
-/// Makes a run on a configuration, tells what differs, and answers whether all came out as expected.
+/// Makes a run, tells what differs, and answers whether all came out as expected.
 fn run_once<'a, R: AllocGlobal + Threads + Sync, W: Write>(
     rt: &R,
     output: &mut W,
-    config: Config,
-    case: &Case<'_>,
     single: &SingleRun<'_>,
 ) -> Result<bool, Trouble<'a>> {
     let heap = Refusing::none(rt.alloc());
-    let outcome = outcome_of(rt, rt.alloc(), &heap, config, single)?;
+    let outcome = outcome_of(rt, rt.alloc(), &heap, single)?;
     if !outcome.is_expected(single) {
-        tell_difference(output, config, case, single, &outcome)?;
+        tell_difference(output, single, &outcome)?;
         return Ok(false);
     }
-    match case.requests {
-        Some(least) => refuse_in_turn(rt, output, config, case, single, least),
+    match single.case.requests {
+        Some(least) => refuse_in_turn(rt, output, single, least),
         None => Ok(true),
     }
 }
@@ -87,31 +78,29 @@ fn run_once<'a, R: AllocGlobal + Threads + Sync, W: Write>(
 fn run_on<'a, R: AllocGlobal + Threads + Sync, W: Write>(
     rt: &R,
     output: &mut W,
-    config: Config,
     case: &Case<'_>,
+    config: Config,
 ) -> Result<bool, Trouble<'a>> {
-    for single in runs_of(rt.alloc(), case)? {
-        if !run_once(rt, output, config, case, &single)? {
+    for single in runs_of(rt.alloc(), case, config)? {
+        if !run_once(rt, output, &single)? {
             return Ok(false);
         }
     }
     Ok(true)
 }
 
-/// Runs a case on each of its configurations up to one where it differs, and answers whether all came out as expected.
+/// Runs a case on each of its configurations up to one where it differs, and answers whether all came out as expected. One that
+/// names none is run on short tiles, so that short vectors are cut.
 fn run_case<'a, R: AllocGlobal + Threads + Sync, W: Write>(
     rt: &R,
     output: &mut W,
     case: &Case<'_>,
 ) -> Result<bool, Trouble<'a>> {
-    let alone = [small_config()];
-    let configs = if case.configs.is_empty() {
-        alone.as_slice()
-    } else {
-        case.configs.as_slice()
-    };
-    for config in configs {
-        if !run_on(rt, output, *config, case)? {
+    if case.configs.is_empty() {
+        return run_on(rt, output, case, Config::new(2, 3).unwrap());
+    }
+    for config in &case.configs {
+        if !run_on(rt, output, case, *config)? {
             return Ok(false);
         }
     }

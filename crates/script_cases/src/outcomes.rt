@@ -1,7 +1,7 @@
 //! What comes of a run.
 
 use case_files::SingleRun;
-use cvl_base::{Config, Memory, NoResources};
+use cvl_base::{Memory, NoResources};
 use script_runs::{MemSink, Stop, put_stop, run};
 use std::alloc::Global;
 use std::thread::Threads;
@@ -35,12 +35,12 @@ pub fn outcome_of<R: Threads + Sync, A: Memory>(
     rt: &R,
     ample: Global,
     heap: A,
-    config: Config,
     single: &SingleRun<'_>,
 ) -> Result<Outcome, NoResources> {
     let inputs = inputs_of(heap, &single.inputs)?;
     let mut sink = MemSink::new(ample);
-    let ran = run(rt, heap, config, single.script, inputs, &mut sink);
+    let script = single.case.script.as_slice();
+    let ran = run(rt, heap, single.config, script, inputs, &mut sink);
     let mut shown = sink.into_vec();
     let written = shown.len();
     let mut out_of_memory = None;
@@ -86,8 +86,9 @@ impl Outcome {
     fn ends_in(&self, single: &SingleRun<'_>, line: u32) -> bool {
         let line = line as usize;
         let (text, _) = self.shown.split_at(self.written.min(self.shown.len()));
-        let before = writing_lines(single.script, line.saturating_sub(1));
-        let all = writing_lines(single.script, line);
+        let script = single.case.script.as_slice();
+        let before = writing_lines(script, line.saturating_sub(1));
+        let all = writing_lines(script, line);
         text.starts_with(first_lines(&single.shown, before))
             && first_lines(&single.shown, all).starts_with(text)
     }
@@ -99,10 +100,9 @@ pub fn comes_out<R: Threads + Sync, A: Memory>(
     rt: &R,
     ample: Global,
     heap: A,
-    config: Config,
     single: &SingleRun<'_>,
 ) -> Result<bool, NoResources> {
-    let outcome = outcome_of(rt, ample, heap, config, single)?;
+    let outcome = outcome_of(rt, ample, heap, single)?;
     match outcome.out_of_memory {
         Some(line) if outcome.ends_in(single, line) => Err(NoResources),
         Some(_) => Ok(false),
