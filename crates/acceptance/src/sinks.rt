@@ -9,13 +9,18 @@ use std::test::Fail;
 const SHOWN: &str = "a tile has 1 to 65536 elements, there are 1 to 64 workers, Some(\"ab_9\")";
 
 #[test]
-fn texts_and_their_room(rt: HostRuntime) -> Result<(), Fail> {
+fn as_text(rt: HostRuntime) -> Result<(), Fail> {
     let (tile, workers, name) = (BadConfig::Tile, BadConfig::Workers, Name::new(b"ab_9"));
     assert!(rt;
         Config::new(0, 65).err() == Some(tile) && Config::new(1, 65).err() == Some(workers)
     );
     let shown = format!(in rt.alloc(); "{tile}, {workers}, {name:?}")?;
     assert_eq!(rt; shown.as_str(), SHOWN);
+    Ok(())
+}
+
+#[test]
+fn room_of_a_sink(rt: HostRuntime) -> Result<(), Fail> {
     let heap = Refusing::from(1, rt.alloc());
     let mut sink = MemSink::with_room(&heap, 64)?;
     let bytes = [b'a'; 64];
