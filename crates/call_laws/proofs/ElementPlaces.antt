@@ -10,7 +10,6 @@ use Rattle.cvl_base.specs.declared.fault.Fault.{Fault}
 use Rattle.cvl_base.specs.declared.fault.FaultNo.TheVariants as no
 use Rattle.cvl_base.specs.Extracts.{extract_of, replace_of}
 use Rattle.cvl_base.specs.Faults.{fault_at}
-use Rattle.cvl_base.proofs.Lists.{element}
 use Rattle.call_laws.proofs.Places.{same_elements}
 
 -- ---- extract

@@ -1,6 +1,6 @@
 -- Each step of a seat keeps the rule of a least board's table, in the form that the table asks for.
 -- Source: the steps of a least board's rule, and the law of the crate `status_word` on hands.
-use Rattle.std.proofs.Common.{◌≡◌, refl, sym, subst, ℕ, ◌+◌, ◌<◌, ◌≤◌, min, List, length, get_or, set, length-set, Option, Some, None, arith}
+use Rattle.std.proofs.Common.{◌≡◌, refl, sym, subst, ℕ, ◌+◌, ◌<◌, ◌≤◌, min, List, get_or, set, length-set, Option, Some, None, arith}
 use mathlib.Core.Option.{none}
 use Rattle.std.proofs.lemmas.List.{get_or-set_other, set-get_or}
 use Rattle.std.proofs.lemmas.Grind.{get_or-set_at}

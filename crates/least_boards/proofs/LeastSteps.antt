@@ -1,6 +1,6 @@
 -- The least board's rule is kept by each kind of step, and what it implies of a word.
 -- Source: what the definitions of LeastRules and LeastPasses imply.
-use Rattle.std.proofs.Common.{◌≡◌, ◌≢◌, refl, sym, ap, ◌∙◌, subst, ℕ, ◌<◌, ◌≤◌, min, true, false, cond, eqb, inl, inr, List, [], ◌∷◌, ◌++◌, get_or, set, Option, Some, None, arith, ⊎_elim}
+use Rattle.std.proofs.Common.{◌≡◌, ◌≢◌, refl, sym, ap, ◌∙◌, subst, ℕ, ◌<◌, ◌≤◌, min, cond, eqb, inl, inr, List, [], ◌∷◌, ◌++◌, get_or, set, Option, Some, None, arith, ⊎_elim}
 use Rattle.std.specs.List.{All}
 use Rattle.std.proofs.lemmas.Bool.{cond_both, eqb-false, eqb-true}
 use Rattle.std.proofs.lemmas.Bool.Decides.{leb_tells}

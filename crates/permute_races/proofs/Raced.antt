@@ -1,7 +1,7 @@
 -- What the boards of a permute are shown, and what follows of what they tell.
 use Rattle.std.proofs.Common.{◌≡◌, ◌∙◌, ℕ, zero, suc, ◌+◌, ◌-◌, ◌<◌, ◌≤◌, Bool, true, false, not, ◌||◌, if◌then◌else◌, List, [], ◌∷◌, length, map, take, get_or, min, refl, sym, ap, arith, inl, inr, eqb, ltb}
-use Rattle.std.proofs.Common.{ℤ, pos, negsuc, option_map, unwrap_or, Option, Some, None, Result, Ok, Err, IfOk, unsigned_abs}
-use Rattle.std.specs.List.{list_any, range_with_len, enumerate_from}
+use Rattle.std.proofs.Common.{ℤ, pos, negsuc, option_map, unwrap_or, Option, Some, None, Ok, Err, unsigned_abs}
+use Rattle.std.specs.List.{list_any, enumerate_from}
 use Rattle.std.specs.Ordering.{int_eq}
 use Rattle.std.proofs.lemmas.Bool.{lt-ltb, ltb-true, false_from_ne_true}
 use Rattle.std.proofs.lemmas.Bool.Decides.{eqb_tells, Decides-int_eq}

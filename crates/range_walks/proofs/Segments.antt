@@ -8,7 +8,7 @@ use Rattle.std.proofs.lemmas.List.Sums.{sum_by-append, sum_by-take-drop}
 use Rattle.std.specs.Int.{IsNonNegative}
 use Rattle.cvl_base.specs.Descriptors.{AreLengths}
 use Rattle.cvl_base.specs.Limits.{most_elements}
-use Rattle.cvl_base.specs.Folds.{fold_of, scan_of}
+use Rattle.cvl_base.specs.Folds.{scan_of}
 use Rattle.cvl_base.specs.Lists.{joined}
 use Rattle.cvl_base.specs.Nests.{cut_of}
 use Rattle.cvl_base.proofs.FoldLaws.{length-scan_of}
@@ -16,7 +16,7 @@ use Rattle.cvl_base.proofs.Descriptors.{abs_pos}
 use Rattle.cvl_base.proofs.Lists.{sum-cons}
 use Rattle.segdes.proofs.Sums.{cast_fits, length_at}
 use Rattle.segdes.specs.Starts.{start_of}
-use Rattle.range_walks.specs.Ranges.{scans_of, reduces_of}
+use Rattle.range_walks.specs.Ranges.{scans_of}
 use Rattle.range_walks.proofs.Scanned.{part_read}
 
 -- ---- what is left to a loop over the segments: segment s, and those after it

@@ -1,6 +1,5 @@
 use Rattle.std.proofs.Common.{◌≡◌, ◌∙◌, ap, arith, length, refl, replicate, sym, vec_len}
 use Rattle.std.proofs.lemmas.List.{length-replicate}
-use Rattle.cvl_base.specs.Permutes.{first_fault, wrongs}
 use Rattle.permute_walks.specs.Senders.{senders_of, written_over}
 use Rattle.permute_walks.proofs.Sent.{length-senders_of}
 use Rattle.permute_walks.proofs.Taken.{length-over}

@@ -1,5 +1,4 @@
 use Rattle.std.proofs.Common.{◌≡◌, length, map, sym, ap, ◌∙◌}
-use Rattle.std.specs.Option.{option_copied}
 use Rattle.std.proofs.lemmas.List.{map-id}
 use Rattle.tile_scans.specs.TiledSums.{flagged, sums_of}
 use Rattle.tile_scans.specs.Written.{befores_of}

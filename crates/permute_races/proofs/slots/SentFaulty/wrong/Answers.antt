@@ -1,4 +1,4 @@
-use Rattle.std.proofs.Common.{sym, length, arith, true, false}
+use Rattle.std.proofs.Common.{sym, arith, true, false}
 use Rattle.std.proofs.lemmas.Bool.{ne_eqb}
 use Rattle.permute_races.proofs.Raced.{is_equal, length-beside, wrong_inside, wrong_now, wrong_outside}
 use Rattle.permute_races.proofs.slots.SentFaulty.wrong.Goals as goal

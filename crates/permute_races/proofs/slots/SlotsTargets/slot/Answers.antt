@@ -1,6 +1,6 @@
-use Rattle.std.proofs.Common.{◌≡◌, ◌<◌, ◌∙◌, ap, sym, get_or, length, None}
+use Rattle.std.proofs.Common.{◌≡◌, ◌<◌, ◌∙◌, ap, sym, None}
 use Rattle.cvl_base.specs.Permutes.{destination_if}
-use Rattle.permute_races.specs.Races.{slot_of, slots_of}
+use Rattle.permute_races.specs.Races.{slot_of}
 use Rattle.permute_races.proofs.Raced.{shown-at}
 use Rattle.permute_races.proofs.slots.SlotsTargets.slot.Goals as goal
 
