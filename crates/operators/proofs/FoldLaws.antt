@@ -5,7 +5,7 @@ use Rattle.std.specs.List.{fold, AllPass}
 use Rattle.std.specs.Option.{option_map}
 use Rattle.std.proofs.lemmas.List.{length-map, map-append, take_more}
 use Rattle.std.proofs.lemmas.List.Elements.{All-head, All-tail}
-use Rattle.std.proofs.lemmas.List.Sums.{fold_push, fold_more, fold-append}
+use Rattle.std.proofs.lemmas.List.Sums.{fold_push, fold-append}
 use Rattle.std.proofs.lemmas.Option.{slice_get-map}
 use Rattle.operators.specs.Folds.{fold_of, fronts, scan_of}
 use Rattle.operators.specs.Monoid.{MonoidLaws}
@@ -43,9 +43,6 @@ module _ {Item : Type 0} (join : Item → Item → Item) where
 module _ {Item : Type 0} (join : Item → Item → Item) (unit : Item) where
   pub fold_of_push : (xs : List Item) (x : Item) → fold_of join unit (xs ++ x ∷ []) ≡ join (fold_of join unit xs) x
   fold_of_push xs x = fold_push join unit xs x
-
-  pub fold_of_more : (xs : List Item) (i : ℕ) (other : Item) → i < length xs → fold_of join unit (take (i + 1) xs) ≡ join (fold_of join unit (take i xs)) (get_or xs i other)
-  fold_of_more xs i other within = fold_more join unit xs i other within
 
   pub length-scan_of : (xs : List Item) → length (scan_of join unit xs) ≡ length xs
   length-scan_of xs = length-map (fronts xs) (fold_of join unit) ∙ length-fronts xs

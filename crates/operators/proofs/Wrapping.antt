@@ -1,12 +1,11 @@
--- What `wrapping_div` and `checked_shl` give is the exact result, wrapped; and the law of `wrap`.
-use Rattle.std.proofs.Common.{◌≡◌, ℕ, zero, suc, ◌+◌, ◌-◌, ◌/◌, ◌%◌, ◌^◌, ◌<◌, ◌≤◌, ◌∙◌, sym, ap, refl, arith, lit<, ℤ, pos, negsuc, ◌+ℤ◌, ◌-ℤ◌, ◌*ℤ◌, w32, w64, to_z, of_z, FitsSigned}
+-- What `wrapping_div` and `checked_shl` give is the exact result, wrapped.
+use Rattle.std.proofs.Common.{◌≡◌, ℕ, zero, suc, ◌/◌, ◌%◌, ◌^◌, ◌<◌, ◌≤◌, ◌∙◌, sym, ap, refl, arith, ℤ, pos, negsuc, ◌*ℤ◌, w32, w64, to_z, of_z, FitsSigned}
 use Rattle.std.specs.Prelude.{unsigned_abs, int_div, neg_ℤ}
 use Rattle.std.specs.Int.{int_wrap, int_shl, int_wrapping_div}
-use Rattle.std.proofs.Math.Nat.{mod-eq_of_lt, mod-lt, div-le_self}
-use Rattle.std.proofs.Math.IntN.{*ℤ-zero}
+use Rattle.std.proofs.Math.Nat.{mod-eq_of_lt, div-le_self}
 use Rattle.std.proofs.Math.Pow.{pow-lt}
-use Rattle.std.proofs.lemmas.Int.{ints, wrapping_mul-bits, int_wrap-mul_right, int_wrap-add_right, int_wrap_fits, SFits-int_wrap, to_z-of_z}
-use Rattle.operators.specs.Integers.{IsWrapped, wrap}
+use Rattle.std.proofs.lemmas.Int.{ints, wrapping_mul-bits, int_wrap-mul_right, to_z-of_z}
+use Rattle.operators.specs.Integers.{wrap}
 
 -- ---- bits that are read as a number
 
@@ -53,37 +52,3 @@ shl_is a k f h =
     wrapping_mul-bits w32 (of_z w32 a) (2 ^ k) (omega (arith, ints)) small
     ∙ (λ i. wrap (to_z-of_z w32 a f i *ℤ wrap-pos (2 ^ k) small i))
     ∙ int_wrap-mul_right w32 a (pos (2 ^ k))
-
--- ---- the law of `wrap`
-
--- bits of which the highest is set are one turn above their signed number
-bits-turns : (r : ℕ) → r < 2 ^ 32 → pos r ≡ to_z w32 r +ℤ pos (r / 2 ^ 31) *ℤ pos (2 ^ 32)
-bits-turns r h = grind (arith, ints)
-
-pub is_wrapped : (x : ℤ) → IsWrapped x (wrap x)
-unfolding int_wrap
-is_wrapped (pos a) = record {
-  fits = SFits-int_wrap w32 (pos a);
-  congruent = (pos (a / 2 ^ 32 + a % 2 ^ 32 / 2 ^ 31), omega (arith, ints, bits-turns (a % 2 ^ 32) (mod-lt a (lit< tt))));
-}
-is_wrapped (negsuc a) = record {
-  fits = SFits-int_wrap w32 (negsuc a);
-  congruent = let r = 2 ^ 32 - 1 - a % 2 ^ 32 in (pos (r / 2 ^ 31) -ℤ pos (a / 2 ^ 32 + 1), omega (arith, ints, bits-turns r (omega arith)));
-}
-
--- whole turns wrap to 0
-turns-wrap : (turns : ℤ) → wrap (turns *ℤ pos (2 ^ 32)) ≡ pos 0
-unfolding int_wrap
-turns-wrap turns =
-    sym (int_wrap-mul_right w32 turns (pos (2 ^ 32)))
-    ∙ ap (λ z. wrap (turns *ℤ z)) (let whole : wrap (pos (2 ^ 32)) ≡ pos 0 = refl in whole)
-    ∙ ap wrap (*ℤ-zero turns)
-
-pub only_wrapped : (x wrapped : ℤ) → IsWrapped x wrapped → wrapped ≡ wrap x
-only_wrapped x wrapped h =
-    let turns = h.congruent.0 in
-    sym (ap wrap h.congruent.1
-    ∙ sym (int_wrap-add_right w32 wrapped (turns *ℤ pos (2 ^ 32)))
-    ∙ ap (λ z. wrap (wrapped +ℤ z)) (turns-wrap turns)
-    ∙ ap wrap (omega (arith, ints))
-    ∙ int_wrap_fits w32 wrapped h.fits)

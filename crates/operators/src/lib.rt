@@ -8,6 +8,7 @@ pub mod integer;
 pub mod laws;
 pub mod monoid;
 pub mod monoids;
+pub mod operator;
 pub mod seg;
 pub mod tile_sums;
 

@@ -5,7 +5,7 @@ ghost use Rattle.operators.specs.Exact.{exact_sum_of};
 ghost use Rattle.operators.specs.ExactLaws.{exact_laws, exact_words};
 ghost use Rattle.operators.specs.ItemWords.{is_word, same_word};
 
-use crate::monoid::{Monoid, Packed};
+use crate::operator::{Operator, Packable};
 
 /// The greatest item.
 const GREATEST: i64 = 0x1F_FFFF_FFFF_FFFF;
@@ -22,39 +22,37 @@ const ITEMS: i64 = 0x40_0000_0000_0000;
 /// `exact_fold_law` says. Each item is its own word.
 pub struct Exact;
 
-impl Monoid for Exact {
-    type Item = i64;
+impl Operator for Exact {
+    type Value = i64;
 
-    ghost is_item = { is_word };
+    ghost UNIT = { pos 0 };
 
-    ghost unit = { pos 0 };
+    ghost combined = { exact_sum_of };
 
-    ghost join = { exact_sum_of };
+    const UNIT: i64 = 0;
 
-    ghost laws = { exact_laws };
-
-    fn is_item(x: i64) -> bool {
-        (LEAST..=GREATEST).contains(&x)
-    }
-
-    fn unit() -> i64 {
-        0
-    }
-
-    fn join(a: i64, b: i64) -> i64 {
+    fn combine(a: i64, b: i64) -> i64 {
         exact_sum(a, b)
     }
+
+    ghost associates = { exact_laws };
 }
 
-impl Packed for Exact {
+impl Packable for i64 {
+    ghost is_item = { is_word };
+
     ghost to_word = { same_word };
 
     ghost from_word = { same_word };
 
     ghost words = { exact_words };
 
-    fn to_word(x: i64) -> i64 {
-        x
+    fn is_item(self) -> bool {
+        (LEAST..=GREATEST).contains(&self)
+    }
+
+    fn to_word(self) -> i64 {
+        self
     }
 
     fn from_word(word: i64) -> i64 {

@@ -1,0 +1,93 @@
+//! Operators by what is their own: a unit, and what two values join to. Their monoids, and the words of their items, are said
+//! once, for each of them.
+
+ghost use Rattle.std.specs.Prelude.{◌≡◌, Bool, IsTrue, ℤ};
+ghost use Rattle.operators.specs.ItemWords.{WordLaws};
+ghost use Rattle.operators.specs.Monoid.{MonoidLaws};
+
+use crate::monoid::{Monoid, Packed};
+
+/// A type of which some or all values are items, each of which can be kept as a word: a number from -2^53 to 2^53 - 1.
+pub trait Packable: Copy {
+    ghost is_item: { Self → Bool };
+
+    ghost to_word: { Self → ℤ };
+
+    ghost from_word: { ℤ → Self };
+
+    /// Whether the value is an item.
+    fn is_item(self) -> bool
+        ensures { result ≡ is_item self };
+
+    /// The word of an item.
+    fn to_word(self) -> i64
+        requires { IsTrue (is_item self) }
+        ensures { result ≡ to_word self };
+
+    /// The item of a word. Of a word that is no item's nothing is claimed.
+    fn from_word(word: i64) -> Self
+        ensures { result ≡ from_word word };
+
+    ghost words: { WordLaws is_item to_word from_word };
+}
+
+/// An associative operator with a unit, over the items of a type.
+pub trait Operator {
+    /// The values, of which some or all are items.
+    type Value: Packable;
+
+    ghost UNIT: { Self.Value };
+
+    ghost combined: { Self.Value → Self.Value → Self.Value };
+
+    /// The item that changes no other when it is joined to it.
+    const UNIT: Self::Value;
+
+    /// `a` and `b` joined, in this order. Both must be items.
+    fn combine(a: Self::Value, b: Self::Value) -> Self::Value
+        requires first { IsTrue (Self.Value.is_item a) }
+        requires second { IsTrue (Self.Value.is_item b) }
+        ensures { result ≡ combined a b };
+
+    ghost associates: { MonoidLaws Self.Value.is_item UNIT combined };
+}
+
+impl<O: Operator> Monoid for O {
+    type Item = O::Value;
+
+    ghost is_item = { O.Value.is_item };
+
+    ghost unit = { O.UNIT };
+
+    ghost join = { O.combined };
+
+    ghost laws = { O.associates };
+
+    fn is_item(x: O::Value) -> bool {
+        x.is_item()
+    }
+
+    fn unit() -> O::Value {
+        O::UNIT
+    }
+
+    fn join(a: O::Value, b: O::Value) -> O::Value {
+        O::combine(a, b)
+    }
+}
+
+impl<O: Operator> Packed for O {
+    ghost to_word = { O.Value.to_word };
+
+    ghost from_word = { O.Value.from_word };
+
+    ghost words = { O.Value.words };
+
+    fn to_word(x: O::Value) -> i64 {
+        x.to_word()
+    }
+
+    fn from_word(word: i64) -> O::Value {
+        O::Value::from_word(word)
+    }
+}
