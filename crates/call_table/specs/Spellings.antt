@@ -58,17 +58,16 @@ elementwise_calls =
     ++ map Bools2 bool_binaries ++ map Bools1 unaries ++ map Choose elements
     ++ IntFromBool ∷ BoolFromInt ∷ []
 
--- those that take their vectors whole or by segments, over integers or booleans
+-- those that hold packed, copied, picked or changed elements, integers or booleans
 abbrev pub element_calls : Cut → Element → List Op
-element_calls cut element =
-    map (λ form. Permute form cut element) forms
-    ++ Pack cut element ∷ Distribute cut element ∷ Extract cut element ∷ Replace cut element ∷ []
+element_calls cut element = Pack cut element ∷ Distribute cut element ∷ Extract cut element ∷ Replace cut element ∷ []
 
 -- all that take their vectors whole, or all that take them by segments
 abbrev pub cut_calls : Cut → List Op
 cut_calls cut =
     map (λ o. Scan o cut) int_monoids ++ map (λ o. Reduce o cut) int_monoids
     ++ map (λ o. BoolScan o cut) bool_binaries ++ map (λ o. BoolReduce o cut) bool_binaries
+    ++ map (λ form. Permute form cut Integer) forms ++ map (λ form. Permute form cut Boolean) forms
     ++ element_calls cut Integer ++ element_calls cut Boolean
     ++ CheckedScan cut ∷ CheckedReduce cut ∷ Count cut ∷ Index cut ∷ []
 

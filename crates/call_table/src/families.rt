@@ -3,6 +3,15 @@
 ghost use Rattle.std.specs.Prelude.{◌≡◌};
 ghost use Rattle.call_table.specs.Letters.{int_binary_letters, unary_letters, comparison_letters, bool_binary_letters, int_monoid_letters, form_letters, cut_and_element_letters};
 
+/// The letters of an operator, of each that its enum has.
+macro_rules! letters {
+    ($operator:expr; $($name:ident $letters:literal),*) => {
+        match $operator {
+            $(Self::$name => $letters,)*
+        }
+    };
+}
+
 /// An operator on two integer vectors, element by element, whose result is an integer vector.
 #[derive(Clone, Copy, Debug, PartialEq, Eq)]
 pub enum IntBinary {
@@ -37,20 +46,10 @@ impl IntBinary {
     pub(crate) fn letters(self) -> &'static str
         ensures { result.now ≡ int_binary_letters self }
     {
-        match self {
-            IntBinary::Add => "add",
-            IntBinary::Sub => "sub",
-            IntBinary::Mul => "mul",
-            IntBinary::Div => "div",
-            IntBinary::Mod => "mod",
-            IntBinary::Min => "min",
-            IntBinary::Max => "max",
-            IntBinary::Lsh => "lsh",
-            IntBinary::Rsh => "rsh",
-            IntBinary::And => "and",
-            IntBinary::Ior => "ior",
-            IntBinary::Xor => "xor",
-        }
+        letters!(self;
+            Add "add", Sub "sub", Mul "mul", Div "div", Mod "mod", Min "min",
+            Max "max", Lsh "lsh", Rsh "rsh", And "and", Ior "ior", Xor "xor"
+        )
     }
 }
 
@@ -68,10 +67,7 @@ impl Unary {
     pub(crate) fn letters(self) -> &'static str
         ensures { result.now ≡ unary_letters self }
     {
-        match self {
-            Unary::Not => "not",
-            Unary::Copy => "cpy",
-        }
+        letters!(self; Not "not", Copy "cpy")
     }
 }
 
@@ -97,14 +93,10 @@ impl Comparison {
     pub(crate) fn letters(self) -> &'static str
         ensures { result.now ≡ comparison_letters self }
     {
-        match self {
-            Comparison::Greater => "grt",
-            Comparison::Less => "les",
-            Comparison::AtLeast => "geq",
-            Comparison::AtMost => "leq",
-            Comparison::Equal => "eql",
-            Comparison::Unequal => "neq",
-        }
+        letters!(self;
+            Greater "grt", Less "les", AtLeast "geq",
+            AtMost "leq", Equal "eql", Unequal "neq"
+        )
     }
 }
 
@@ -124,11 +116,7 @@ impl BoolBinary {
     pub(crate) fn letters(self) -> &'static str
         ensures { result.now ≡ bool_binary_letters self }
     {
-        match self {
-            BoolBinary::And => "and",
-            BoolBinary::Ior => "ior",
-            BoolBinary::Xor => "xor",
-        }
+        letters!(self; And "and", Ior "ior", Xor "xor")
     }
 }
 
@@ -156,15 +144,10 @@ impl IntMonoid {
     pub(crate) fn letters(self) -> &'static str
         ensures { result.now ≡ int_monoid_letters self }
     {
-        match self {
-            IntMonoid::Add => "add",
-            IntMonoid::Mul => "mul",
-            IntMonoid::Min => "min",
-            IntMonoid::Max => "max",
-            IntMonoid::And => "and",
-            IntMonoid::Ior => "ior",
-            IntMonoid::Xor => "xor",
-        }
+        letters!(self;
+            Add "add", Mul "mul", Min "min", Max "max",
+            And "and", Ior "ior", Xor "xor"
+        )
     }
 }
 
@@ -186,12 +169,7 @@ impl Form {
     pub(crate) fn letters(self) -> &'static str
         ensures { result.now ≡ form_letters self }
     {
-        match self {
-            Form::Simple => "smp",
-            Form::Back => "bck",
-            Form::Select => "sel",
-            Form::Default => "def",
-        }
+        letters!(self; Simple "smp", Back "bck", Select "sel", Default "def")
     }
 }
 

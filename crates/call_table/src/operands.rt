@@ -1,8 +1,8 @@
-//! The kinds of the arguments of those families whose calls differ in them: by how they take their vectors, or what these
-//! hold.
+//! The kinds of what calls take and give, where a family's calls differ in them: by how they take their vectors, or what
+//! these hold.
 
-ghost use Rattle.std.specs.Prelude.{◌≡◌, ◌∷◌};
-ghost use Rattle.call_table.specs.Calls.{operands_of, cut_by, vector_of};
+ghost use Rattle.std.specs.Prelude.{◌≡◌, ◌∷◌, []};
+ghost use Rattle.call_table.specs.Calls.{operands_of, cut_by, each_of, vector_of};
 ghost use Rattle.call_table.specs.declared.operation.Op.TheVariants as op;
 
 use crate::families::{Cut, Element, Form};
@@ -16,31 +16,47 @@ macro_rules! kind {
     ($of:ident $kind:ident) => { Kind::$kind };
 }
 
-/// A list of kinds, for elements of either type.
+/// The kinds of a call that takes its vectors whole, or of one that takes them by segments, for elements of either type.
 macro_rules! kinds {
-    ($element:expr; $($kind:ident),*) => {
-        match $element {
-            Element::Integer => &[$(kind!(Integer $kind)),*],
-            Element::Boolean => &[$(kind!(Boolean $kind)),*],
+    ($cut:expr, $element:expr; $($flat:ident)*; $($segmented:ident)*) => {
+        match ($cut, $element) {
+            (Cut::Flat, Element::Integer) => &[$(kind!(Integer $flat)),*],
+            (Cut::Flat, Element::Boolean) => &[$(kind!(Boolean $flat)),*],
+            (Cut::Segmented, Element::Integer) => &[$(kind!(Integer $segmented)),*],
+            (Cut::Segmented, Element::Boolean) => &[$(kind!(Boolean $segmented)),*],
         }
     };
+}
+
+/// One value for the whole vector, or one for each segment.
+pub(crate) fn each(cut: Cut, element: Element) -> &'static [Kind]
+    ensures { result.now ≡ each_of cut element ∷ [] }
+{
+    kinds!(cut, element; single; vector)
+}
+
+/// A vector.
+pub(crate) fn vector(element: Element) -> &'static [Kind]
+    ensures { result.now ≡ vector_of element ∷ [] }
+{
+    each(Cut::Segmented, element)
 }
 
 /// Flags, and the two vectors to choose from.
 pub(crate) fn of_choose(element: Element) -> &'static [Kind]
     ensures { result.now ≡ operands_of (op.Choose element) }
 {
-    kinds!(element; Booleans, vector, vector)
+    match element {
+        Element::Integer => &[Kind::Booleans, Kind::Integers, Kind::Integers],
+        Element::Boolean => &[Kind::Booleans, Kind::Booleans, Kind::Booleans],
+    }
 }
 
 /// A vector: to be scanned or reduced, or whose elements or flags are counted.
 pub(crate) fn of_vector(cut: Cut, element: Element) -> &'static [Kind]
     ensures { result.now ≡ vector_of element ∷ cut_by cut }
 {
-    match cut {
-        Cut::Flat => kinds!(element; vector),
-        Cut::Segmented => kinds!(element; vector, Descriptor),
-    }
+    kinds!(cut, element; vector; vector Descriptor)
 }
 
 /// A source and an index vector; beside them flags in a select permute, and defaults in a default one. Two descriptors
@@ -48,16 +64,13 @@ pub(crate) fn of_vector(cut: Cut, element: Element) -> &'static [Kind]
 pub(crate) fn of_permute(form: Form, cut: Cut, element: Element) -> &'static [Kind]
     ensures { result.now ≡ operands_of (op.Permute form cut element) }
 {
-    match (form, cut) {
-        (Form::Simple | Form::Back, Cut::Flat) => kinds!(element; vector, Integers),
-        (Form::Simple, Cut::Segmented) => kinds!(element; vector, Integers, Descriptor),
-        (Form::Back, Cut::Segmented) => kinds!(element; vector, Integers, Descriptor, Descriptor),
-        (Form::Select, Cut::Flat) => kinds!(element; vector, Integers, Booleans),
-        (Form::Select, Cut::Segmented) => kinds!(element; vector, Integers, Booleans, Descriptor),
-        (Form::Default, Cut::Flat) => kinds!(element; vector, Integers, vector),
-        (Form::Default, Cut::Segmented) => {
-            kinds!(element; vector, Integers, vector, Descriptor, Descriptor)
-        }
+    match form {
+        Form::Simple => kinds!(cut, element; vector Integers; vector Integers Descriptor),
+        Form::Back => kinds!(cut, element; vector Integers; vector Integers Descriptor Descriptor),
+        Form::Select =>
+            kinds!(cut, element; vector Integers Booleans; vector Integers Booleans Descriptor),
+        Form::Default =>
+            kinds!(cut, element; vector Integers vector; vector Integers vector Descriptor Descriptor),
     }
 }
 
@@ -65,20 +78,14 @@ pub(crate) fn of_permute(form: Form, cut: Cut, element: Element) -> &'static [Ki
 pub(crate) fn of_pack(cut: Cut, element: Element) -> &'static [Kind]
     ensures { result.now ≡ operands_of (op.Pack cut element) }
 {
-    match cut {
-        Cut::Flat => kinds!(element; vector, Booleans),
-        Cut::Segmented => kinds!(element; vector, Booleans, Descriptor),
-    }
+    kinds!(cut, element; vector Booleans; vector Booleans Descriptor)
 }
 
 /// A value and a count, or one value for each segment.
 pub(crate) fn of_distribute(cut: Cut, element: Element) -> &'static [Kind]
     ensures { result.now ≡ operands_of (op.Distribute cut element) }
 {
-    match cut {
-        Cut::Flat => kinds!(element; single, Integer),
-        Cut::Segmented => kinds!(element; vector, Descriptor),
-    }
+    kinds!(cut, element; single Integer; vector Descriptor)
 }
 
 /// A first number, a stride and a count, or a first number and a stride for each segment.
@@ -95,18 +102,12 @@ pub(crate) fn of_index(cut: Cut) -> &'static [Kind]
 pub(crate) fn of_extract(cut: Cut, element: Element) -> &'static [Kind]
     ensures { result.now ≡ operands_of (op.Extract cut element) }
 {
-    match cut {
-        Cut::Flat => kinds!(element; vector, Integer),
-        Cut::Segmented => kinds!(element; vector, Integers, Descriptor),
-    }
+    kinds!(cut, element; vector Integer; vector Integers Descriptor)
 }
 
 /// A vector, an index and a value, or one index and one value for each segment.
 pub(crate) fn of_replace(cut: Cut, element: Element) -> &'static [Kind]
     ensures { result.now ≡ operands_of (op.Replace cut element) }
 {
-    match cut {
-        Cut::Flat => kinds!(element; vector, Integer, single),
-        Cut::Segmented => kinds!(element; vector, Integers, vector, Descriptor),
-    }
+    kinds!(cut, element; vector Integer single; vector Integers vector Descriptor)
 }

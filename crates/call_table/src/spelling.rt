@@ -4,7 +4,7 @@ ghost use Rattle.std.specs.Prelude.{◌≡◌, ◌≢◌, ◌++◌, ℕ, List, S
 ghost use Rattle.call_table.specs.declared.operation.Op.{Op};
 ghost use Rattle.call_table.specs.Letters.{call_name_of};
 ghost use Rattle.call_table.specs.Calls.{spelling_of, is_write};
-ghost use Rattle.call_table.specs.Spellings.{bytes_of, is_spelled, elementwise_calls, element_calls, cut_calls, other_calls, op_of};
+ghost use Rattle.call_table.specs.Spellings.{bytes_of, is_spelled, elementwise_calls, cut_calls, other_calls, op_of};
 
 use crate::families::{
     BoolBinary, Comparison, Cut, Element, Form, IntBinary, IntMonoid, Unary, cut_and_element,
@@ -93,40 +93,14 @@ impl fmt::Display for Spelling {
 
 /// The calls of families, family by family one for each operator of its enum, and then other calls.
 macro_rules! calls {
-    ([$($made:tt)*]; $($other:expr),*) => { [$($made)* $($other),*] };
-    ([$($made:tt)*] $call:ident $parts:tt by IntBinary $($rest:tt)*) => {
-        family!([$($made)*] $call $parts IntBinary: Add Sub Mul Div Mod Min Max Lsh Rsh And Ior Xor; $($rest)*)
-    };
-    ([$($made:tt)*] $call:ident $parts:tt by Unary $($rest:tt)*) => {
-        family!([$($made)*] $call $parts Unary: Not Copy; $($rest)*)
-    };
-    ([$($made:tt)*] $call:ident $parts:tt by Comparison $($rest:tt)*) => {
-        family!([$($made)*] $call $parts Comparison: Greater Less AtLeast AtMost Equal Unequal; $($rest)*)
-    };
-    ([$($made:tt)*] $call:ident $parts:tt by BoolBinary $($rest:tt)*) => {
-        family!([$($made)*] $call $parts BoolBinary: And Ior Xor; $($rest)*)
-    };
-    ([$($made:tt)*] $call:ident $parts:tt by IntMonoid $($rest:tt)*) => {
-        family!([$($made)*] $call $parts IntMonoid: Add Mul Min Max And Ior Xor; $($rest)*)
-    };
-    ([$($made:tt)*] $call:ident $parts:tt by Form $($rest:tt)*) => {
-        family!([$($made)*] $call $parts Form: Simple Back Select Default; $($rest)*)
-    };
-    ([$($made:tt)*] $call:ident $parts:tt by Element $($rest:tt)*) => {
-        family!([$($made)*] $call $parts Element: Integer Boolean; $($rest)*)
-    };
-}
-
-/// The calls that are made, those of one more family, and the rest.
-macro_rules! family {
-    ([$($made:tt)*] $call:ident $parts:tt $of:ident: $($operator:ident)*; $($rest:tt)*) => {
-        calls!([$($made)* $(call!($call $of $operator $parts),)*] $($rest)*)
+    ($($family:ident $parts:tt by $of:ident: $($operator:ident)*),*; $($other:expr),*) => {
+        [$($(call!($family $of $operator $parts),)*)* $($other),*]
     };
 }
 
 /// A call of a family: the operator, and what else the family's calls differ in.
 macro_rules! call {
-    ($call:ident $of:ident $operator:ident ($($part:expr),*)) => { Op::$call($of::$operator $(, $part)*) };
+    ($family:ident $of:ident $operator:ident ($($part:expr),*)) => { Op::$family($of::$operator $(, $part)*) };
 }
 
 /// The first of these calls whose name is the word.
@@ -141,53 +115,38 @@ fn first_spelled(calls: &[Op], word: &[u8]) -> Option<Op>
 fn elementwise_named(word: &[u8]) -> Option<Op>
     ensures { result ≡ find (is_spelled word.now) elementwise_calls }
 {
-    let calls = calls!([]
-        Ints2() by IntBinary
-        Ints1() by Unary
-        Compare() by Comparison
-        Bools2() by BoolBinary
-        Bools1() by Unary
-        Choose() by Element;
+    let calls = calls![
+        Ints2() by IntBinary: Add Sub Mul Div Mod Min Max Lsh Rsh And Ior Xor,
+        Ints1() by Unary: Not Copy,
+        Compare() by Comparison: Greater Less AtLeast AtMost Equal Unequal,
+        Bools2() by BoolBinary: And Ior Xor,
+        Bools1() by Unary: Not Copy,
+        Choose() by Element: Integer Boolean;
         Op::IntFromBool, Op::BoolFromInt
-    );
-    first_spelled(&calls, word)
-}
-
-/// The call with this name on such elements, flat or by segments.
-#[tactic(auto, unfolding(crate::specs::Spellings::forms))]
-fn element_call_named(cut: Cut, element: Element, word: &[u8]) -> Option<Op>
-    ensures { result ≡ find (is_spelled word.now) (element_calls cut element) }
-{
-    let calls = calls!([]
-        Permute(cut, element) by Form;
-        Op::Pack(cut, element),
-        Op::Distribute(cut, element),
-        Op::Extract(cut, element),
-        Op::Replace(cut, element)
-    );
+    ];
     first_spelled(&calls, word)
 }
 
 /// The call with this name of those that take their vectors whole, or of those that take them by segments.
+#[tactic(auto, unfolding(crate::specs::Spellings::int_monoids, crate::specs::Spellings::bool_binaries, crate::specs::Spellings::forms))]
 fn cut_call_named(cut: Cut, word: &[u8]) -> Option<Op>
     ensures { result ≡ find (is_spelled word.now) (cut_calls cut) }
 {
-    let calls = calls!([]
-        Scan(cut) by IntMonoid
-        Reduce(cut) by IntMonoid
-        BoolScan(cut) by BoolBinary
-        BoolReduce(cut) by BoolBinary;
-    );
-    let others = [
-        Op::CheckedScan(cut),
-        Op::CheckedReduce(cut),
-        Op::Count(cut),
-        Op::Index(cut),
+    let (integer, boolean) = (Element::Integer, Element::Boolean);
+    let calls = calls![
+        Scan(cut) by IntMonoid: Add Mul Min Max And Ior Xor,
+        Reduce(cut) by IntMonoid: Add Mul Min Max And Ior Xor,
+        BoolScan(cut) by BoolBinary: And Ior Xor,
+        BoolReduce(cut) by BoolBinary: And Ior Xor,
+        Permute(cut, integer) by Form: Simple Back Select Default,
+        Permute(cut, boolean) by Form: Simple Back Select Default;
+        Op::Pack(cut, integer), Op::Distribute(cut, integer),
+        Op::Extract(cut, integer), Op::Replace(cut, integer),
+        Op::Pack(cut, boolean), Op::Distribute(cut, boolean),
+        Op::Extract(cut, boolean), Op::Replace(cut, boolean),
+        Op::CheckedScan(cut), Op::CheckedReduce(cut), Op::Count(cut), Op::Index(cut)
     ];
     first_spelled(&calls, word)
-        .or(element_call_named(cut, Element::Integer, word))
-        .or(element_call_named(cut, Element::Boolean, word))
-        .or(first_spelled(&others, word))
 }
 
 /// The call with this name that reads an input or a length, or makes or reads a descriptor.
@@ -195,14 +154,10 @@ fn cut_call_named(cut: Cut, word: &[u8]) -> Option<Op>
 fn other_call_named(word: &[u8]) -> Option<Op>
     ensures { result ≡ find (is_spelled word.now) other_calls }
 {
-    let calls = calls!([]
-        Length() by Element;
-        Op::Input,
-        Op::Nested,
-        Op::PackedLengths,
-        Op::MakeDescriptor,
-        Op::DescriptorLengths
-    );
+    let calls = calls![
+        Length() by Element: Integer Boolean;
+        Op::Input, Op::Nested, Op::PackedLengths, Op::MakeDescriptor, Op::DescriptorLengths
+    ];
     first_spelled(&calls, word)
 }
 

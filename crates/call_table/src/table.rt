@@ -1,14 +1,15 @@
 //! The table of calls: the name of each, the kinds of its arguments, and the kinds of what it gives.
 
-ghost use Rattle.std.specs.Prelude.{◌≡◌, ◌∷◌, []};
-ghost use Rattle.call_table.specs.Calls.{spelling_of, operands_of, results_of, each_of, vector_of};
+ghost use Rattle.std.specs.Prelude.{◌≡◌};
+ghost use Rattle.call_table.specs.Calls.{spelling_of, operands_of, results_of};
 ghost use Rattle.call_table.specs.Spellings.{bytes_of};
 
 use crate::families::{Cut, Element};
 use crate::kind::Kind;
-use crate::kind::Kind::{Boolean, Booleans, Descriptor, Integer, Integers};
+use crate::kind::Kind::{Booleans, Descriptor, Integer, Integers};
 use crate::operands::{
-    of_choose, of_distribute, of_extract, of_index, of_pack, of_permute, of_replace, of_vector,
+    each, of_choose, of_distribute, of_extract, of_index, of_pack, of_permute, of_replace,
+    of_vector, vector,
 };
 use crate::operation::Op;
 use crate::spelling::{Spelling, named, whole};
@@ -24,17 +25,14 @@ pub(crate) struct Row {
     pub gives: &'static [Kind],
 }
 
-/// The row of a call that gives one value, of this kind.
-fn call(name: Spelling, operands: &'static [Kind], gives: Kind) -> Row
-    ensures name { result.name ≡ name }
-    ensures operands { result.operands.now ≡ operands.now }
-    ensures gives { result.gives.now ≡ gives ∷ [] }
-{
-    Row {
-        name,
-        operands,
-        gives: of_kind(gives),
-    }
+/// A row as it stands in the table: a whole name or the parts of one, the arguments, and what the call gives.
+macro_rules! row {
+    ($name:literal, $operands:expr => $gives:expr) => {
+        Row { name: whole($name), operands: $operands, gives: $gives }
+    };
+    ($letters:expr, $class:literal, $cut:expr, $element:expr, $operands:expr => $gives:expr) => {
+        Row { name: named($letters, $class, $cut, $element), operands: $operands, gives: $gives }
+    };
 }
 
 /// The call's row.
@@ -45,152 +43,44 @@ pub(crate) fn row_of(op: Op) -> Row
 {
     let (flat, integer, boolean) = (Cut::Flat, Element::Integer, Element::Boolean);
     match op {
-        Op::Input => call(whole("input"), &[Integer], Integers),
-        Op::Nested => Row {
-            name: whole("nested"),
-            operands: &[Integer],
-            gives: &[Integers, Descriptor],
-        },
-        Op::Ints2(operator) => call(
-            named(operator.letters(), "_w", flat, integer),
-            &[Integers, Integers],
-            Integers,
-        ),
-        Op::Ints1(operator) => call(
-            named(operator.letters(), "_w", flat, integer),
-            &[Integers],
-            Integers,
-        ),
-        Op::Compare(operator) => call(
-            named(operator.letters(), "_w", flat, integer),
-            &[Integers, Integers],
-            Booleans,
-        ),
-        Op::Bools2(operator) => call(
-            named(operator.letters(), "_w", flat, boolean),
-            &[Booleans, Booleans],
-            Booleans,
-        ),
-        Op::Bools1(operator) => call(
-            named(operator.letters(), "_w", flat, boolean),
-            &[Booleans],
-            Booleans,
-        ),
-        Op::Choose(element) => call(
-            named("sel", "_w", flat, element),
-            of_choose(element),
-            vector_kind(element),
-        ),
-        Op::IntFromBool => call(named("int", "_w", flat, boolean), &[Booleans], Integers),
-        Op::BoolFromInt => call(named("boo", "_w", flat, integer), &[Integers], Booleans),
-        Op::Scan(operator, cut) => call(
-            named(operator.letters(), "_s", cut, integer),
-            of_vector(cut, integer),
-            Integers,
-        ),
-        Op::Reduce(operator, cut) => call(
-            named(operator.letters(), "_r", cut, integer),
-            of_vector(cut, integer),
-            each_kind(cut, integer),
-        ),
-        Op::CheckedScan(cut) => call(
-            named("tot", "_s", cut, integer),
-            of_vector(cut, integer),
-            Integers,
-        ),
-        Op::CheckedReduce(cut) => call(
-            named("tot", "_r", cut, integer),
-            of_vector(cut, integer),
-            each_kind(cut, integer),
-        ),
-        Op::BoolScan(operator, cut) => call(
-            named(operator.letters(), "_s", cut, boolean),
-            of_vector(cut, boolean),
-            Booleans,
-        ),
-        Op::BoolReduce(operator, cut) => call(
-            named(operator.letters(), "_r", cut, boolean),
-            of_vector(cut, boolean),
-            each_kind(cut, boolean),
-        ),
-        Op::Permute(form, cut, element) => call(
-            named(form.letters(), "_p", cut, element),
-            of_permute(form, cut, element),
-            vector_kind(element),
-        ),
-        Op::Length(element) => call(
-            named("len", "_l", flat, element),
-            of_vector(flat, element),
-            Integer,
-        ),
-        Op::Count(cut) => call(
-            named("cnt", "_l", cut, boolean),
-            of_vector(cut, boolean),
-            each_kind(cut, integer),
-        ),
-        Op::Pack(cut, element) => call(
-            named("pck", "_l", cut, element),
-            of_pack(cut, element),
-            vector_kind(element),
-        ),
-        Op::PackedLengths => call(whole("pck_fov"), &[Booleans, Descriptor], Descriptor),
-        Op::Distribute(cut, element) => call(
-            named("dis", "_v", cut, element),
-            of_distribute(cut, element),
-            vector_kind(element),
-        ),
-        Op::Index(cut) => call(named("ind", "_l", cut, integer), of_index(cut), Integers),
-        Op::Extract(cut, element) => call(
-            named("ext", "_v", cut, element),
-            of_extract(cut, element),
-            each_kind(cut, element),
-        ),
-        Op::Replace(cut, element) => call(
-            named("rep", "_v", cut, element),
-            of_replace(cut, element),
-            vector_kind(element),
-        ),
-        Op::MakeDescriptor => call(whole("mke_fov"), &[Integers], Descriptor),
-        Op::DescriptorLengths => call(whole("len_fos"), &[Descriptor], Integers),
-        Op::Write => Row {
-            name: whole("write"),
-            operands: &[],
-            gives: &[],
-        },
-    }
-}
-
-/// One kind, as a list of kinds.
-fn of_kind(kind: Kind) -> &'static [Kind]
-    ensures { result.now ≡ kind ∷ [] }
-{
-    match kind {
-        Kind::Integers => &[Integers],
-        Kind::Booleans => &[Booleans],
-        Kind::Descriptor => &[Descriptor],
-        Kind::Integer => &[Integer],
-        Kind::Boolean => &[Boolean],
-    }
-}
-
-/// The kind of a vector of such elements.
-fn vector_kind(element: Element) -> Kind
-    ensures { result ≡ vector_of element }
-{
-    match element {
-        Element::Integer => Kind::Integers,
-        Element::Boolean => Kind::Booleans,
-    }
-}
-
-/// The kind of one value for the whole vector, or of one for each segment.
-fn each_kind(cut: Cut, element: Element) -> Kind
-    ensures { result ≡ each_of cut element }
-{
-    match (cut, element) {
-        (Cut::Flat, Element::Integer) => Kind::Integer,
-        (Cut::Flat, Element::Boolean) => Kind::Boolean,
-        (Cut::Segmented, Element::Integer) => Kind::Integers,
-        (Cut::Segmented, Element::Boolean) => Kind::Booleans,
+        Op::Input => row!("input", &[Integer] => &[Integers]),
+        Op::Nested => row!("nested", &[Integer] => &[Integers, Descriptor]),
+        Op::Ints2(by) =>
+            row!(by.letters(), "_w", flat, integer, &[Integers, Integers] => &[Integers]),
+        Op::Ints1(by) => row!(by.letters(), "_w", flat, integer, &[Integers] => &[Integers]),
+        Op::Compare(by) =>
+            row!(by.letters(), "_w", flat, integer, &[Integers, Integers] => &[Booleans]),
+        Op::Bools2(by) =>
+            row!(by.letters(), "_w", flat, boolean, &[Booleans, Booleans] => &[Booleans]),
+        Op::Bools1(by) => row!(by.letters(), "_w", flat, boolean, &[Booleans] => &[Booleans]),
+        Op::Choose(of) => row!("sel", "_w", flat, of, of_choose(of) => vector(of)),
+        Op::IntFromBool => row!("int", "_w", flat, boolean, &[Booleans] => &[Integers]),
+        Op::BoolFromInt => row!("boo", "_w", flat, integer, &[Integers] => &[Booleans]),
+        Op::Scan(by, cut) =>
+            row!(by.letters(), "_s", cut, integer, of_vector(cut, integer) => &[Integers]),
+        Op::Reduce(by, cut) =>
+            row!(by.letters(), "_r", cut, integer, of_vector(cut, integer) => each(cut, integer)),
+        Op::CheckedScan(cut) =>
+            row!("tot", "_s", cut, integer, of_vector(cut, integer) => &[Integers]),
+        Op::CheckedReduce(cut) =>
+            row!("tot", "_r", cut, integer, of_vector(cut, integer) => each(cut, integer)),
+        Op::BoolScan(by, cut) =>
+            row!(by.letters(), "_s", cut, boolean, of_vector(cut, boolean) => &[Booleans]),
+        Op::BoolReduce(by, cut) =>
+            row!(by.letters(), "_r", cut, boolean, of_vector(cut, boolean) => each(cut, boolean)),
+        Op::Permute(by, cut, of) =>
+            row!(by.letters(), "_p", cut, of, of_permute(by, cut, of) => vector(of)),
+        Op::Length(of) => row!("len", "_l", flat, of, of_vector(flat, of) => &[Integer]),
+        Op::Count(cut) =>
+            row!("cnt", "_l", cut, boolean, of_vector(cut, boolean) => each(cut, integer)),
+        Op::Pack(cut, of) => row!("pck", "_l", cut, of, of_pack(cut, of) => vector(of)),
+        Op::PackedLengths => row!("pck_fov", &[Booleans, Descriptor] => &[Descriptor]),
+        Op::Distribute(cut, of) => row!("dis", "_v", cut, of, of_distribute(cut, of) => vector(of)),
+        Op::Index(cut) => row!("ind", "_l", cut, integer, of_index(cut) => &[Integers]),
+        Op::Extract(cut, of) => row!("ext", "_v", cut, of, of_extract(cut, of) => each(cut, of)),
+        Op::Replace(cut, of) => row!("rep", "_v", cut, of, of_replace(cut, of) => vector(of)),
+        Op::MakeDescriptor => row!("mke_fov", &[Integers] => &[Descriptor]),
+        Op::DescriptorLengths => row!("len_fos", &[Descriptor] => &[Integers]),
+        Op::Write => row!("write", &[] => &[]),
     }
 }

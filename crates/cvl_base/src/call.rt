@@ -1,6 +1,6 @@
 //! Calls, as a line of a script asks for them.
 
-ghost use Rattle.std.specs.Prelude.{◌≡◌, ◌==◌, length};
+ghost use Rattle.std.specs.Prelude.{◌≡◌};
 ghost use Rattle.cvl_base.specs.ResultNames.{count_of_results};
 
 use crate::name::Name;
@@ -55,20 +55,6 @@ impl<A: Allocator> Args<A> {
         ensures { result.now ≡ self.now }
     {
         self.items.as_slice()
-    }
-
-    /// How many arguments there are.
-    pub fn len(&self) -> usize
-        ensures { result ≡ length self.now }
-    {
-        self.items.len()
-    }
-
-    /// Whether there is no argument.
-    pub fn is_empty(&self) -> bool
-        ensures { result ≡ (length self.now == 0) }
-    {
-        self.items.is_empty()
     }
 }
 

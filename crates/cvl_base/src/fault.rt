@@ -8,7 +8,7 @@ use std::fmt;
 #[derive(Clone, Copy, Debug, PartialEq, Eq)]
 pub enum FaultNo {
     /// The line has none of the forms of a line.
-    BadLine,
+    BadLine = 1,
     /// No call has this name.
     UnknownCall,
     /// The call takes another number of arguments.
@@ -45,6 +45,15 @@ pub enum FaultNo {
     Overflow,
 }
 
+/// The fault's name, as the code has it.
+macro_rules! spelled {
+    ($fault:expr; $($name:ident)*) => {
+        match $fault {
+            $(FaultNo::$name => stringify!($name),)*
+        }
+    };
+}
+
 impl FaultNo {
     ghost use Rattle.cvl_base.specs.Faults.{number_of, name_of};
 
@@ -52,52 +61,18 @@ impl FaultNo {
     pub fn number(self) -> u32
         ensures { result ≡ number_of self }
     {
-        match self {
-            FaultNo::BadLine => 1,
-            FaultNo::UnknownCall => 2,
-            FaultNo::WrongArgumentCount => 3,
-            FaultNo::UnknownName => 4,
-            FaultNo::WrongKind => 5,
-            FaultNo::BadNumber => 6,
-            FaultNo::LengthMismatch => 7,
-            FaultNo::DivideByZero => 8,
-            FaultNo::ShiftOutOfRange => 9,
-            FaultNo::IndexOutOfRange => 10,
-            FaultNo::IndexRepeated => 11,
-            FaultNo::NegativeLength => 12,
-            FaultNo::TooLong => 13,
-            FaultNo::NoSuchInput => 14,
-            FaultNo::BadInput => 15,
-            FaultNo::TooManyNames => 16,
-            FaultNo::ScriptTooLong => 17,
-            FaultNo::Overflow => 18,
-        }
+        self as u32
     }
 
     /// The name that the fault is printed with.
     pub fn name(self) -> &'static str
         ensures { result.now ≡ name_of self }
     {
-        match self {
-            FaultNo::BadLine => "BadLine",
-            FaultNo::UnknownCall => "UnknownCall",
-            FaultNo::WrongArgumentCount => "WrongArgumentCount",
-            FaultNo::UnknownName => "UnknownName",
-            FaultNo::WrongKind => "WrongKind",
-            FaultNo::BadNumber => "BadNumber",
-            FaultNo::LengthMismatch => "LengthMismatch",
-            FaultNo::DivideByZero => "DivideByZero",
-            FaultNo::ShiftOutOfRange => "ShiftOutOfRange",
-            FaultNo::IndexOutOfRange => "IndexOutOfRange",
-            FaultNo::IndexRepeated => "IndexRepeated",
-            FaultNo::NegativeLength => "NegativeLength",
-            FaultNo::TooLong => "TooLong",
-            FaultNo::NoSuchInput => "NoSuchInput",
-            FaultNo::BadInput => "BadInput",
-            FaultNo::TooManyNames => "TooManyNames",
-            FaultNo::ScriptTooLong => "ScriptTooLong",
-            FaultNo::Overflow => "Overflow",
-        }
+        spelled!(self;
+            BadLine UnknownCall WrongArgumentCount UnknownName WrongKind BadNumber LengthMismatch
+            DivideByZero ShiftOutOfRange IndexOutOfRange IndexRepeated NegativeLength TooLong
+            NoSuchInput BadInput TooManyNames ScriptTooLong Overflow
+        )
     }
 }
 
