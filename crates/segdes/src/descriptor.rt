@@ -157,13 +157,6 @@ impl<A: Allocator> SegDes<A> {
         let lengths = Vec::from_slice(alloc, self.lengths())?;
         Ok(Lengths::from_vec(lengths))
     }
-
-    /// The lengths of the segments as a descriptor value, without taking memory.
-    pub fn into_lengths(self) -> Lengths<A>
-        ensures { result ≡ self }
-    {
-        self.lengths
-    }
 }
 
 /// Checks that the segments have as many elements in all as the vector, else `LengthMismatch`, without a place.

@@ -79,6 +79,7 @@ impl<'a> SegLengths<'a> {
     /// The lengths of the segments.
     pub fn lengths(&self) -> &[i32]
         ensures value { result.now ≡ map pos self.now }
+        ensures read { map unsigned_abs result.now ≡ self.now }
         ensures lengths { AreLengths result.now }
         ensures total { sum self.now ≤ most_elements }
     {
