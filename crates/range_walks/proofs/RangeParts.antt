@@ -1,13 +1,14 @@
 -- The parts of a range: what continues the segment before it, and the segments that start in it.
-use Rattle.std.proofs.Common.{◌≡◌, ℕ, suc, ◌-◌, ◌<◌, ◌≤◌, min, Bool, false, true, List, [], ◌∷◌, ◌++◌, refl, length, map, take, drop, sym, ap, ◌∙◌, arith, append-nil}
+use Rattle.std.proofs.Common.{◌≡◌, ℕ, suc, zero, ◌-◌, ◌<◌, ◌≤◌, min, Bool, false, true, List, [], ◌∷◌, ◌++◌, refl, length, map, take, drop, sym, ap, ◌∙◌, arith}
 use Rattle.std.specs.Prelude.{sum, if◌then◌else◌}
-use Rattle.std.proofs.lemmas.List.{drop-map, drop_all, drop_min, length-drop, length-take, map-append, take-map, take_all, take_min}
+use Rattle.std.proofs.lemmas.List.{drop-map, drop_min, length-drop, length-take, map-append, take-map, take_min}
 use Rattle.std.proofs.lemmas.Simd.{map-map}
 use Rattle.std.proofs.lemmas.Slice.{between_is}
+use Rattle.cvl_base.proofs.Lists.{sum-cons}
 use Rattle.segdes.specs.Starts.{start_of}
 use Rattle.range_walks.specs.Ranges.{continued, range_between, range_scan_of, started, with_starts}
 use Rattle.range_walks.proofs.Cut.{begins_by, range_cut, starts_in_order}
-use Rattle.range_walks.proofs.LastStart.{length-with_starts, split_at_start, with_starts-none}
+use Rattle.range_walks.proofs.LastStart.{length-with_starts, with_starts-none}
 use Rattle.range_walks.proofs.Segments.{range_sum}
 
 module _ {Item : Type 0} (join : Item → Item → Item) (unit : Item) where
@@ -34,12 +35,11 @@ segments_cover d from to first next start j others in_order within le earlier la
 
 -- segments that start after the elements' end change nothing
 starts_cut : {Item : Type 0} (k : ℕ) (lengths : List ℕ) (xs : List Item) → length xs ≤ start_of lengths k → with_starts (take k lengths) xs ≡ with_starts lengths xs
-starts_cut k lengths xs covered =
-    let front = with_starts (take k lengths) in
-    sym (split_at_start lengths xs k
-    ∙ (λ i. front (take_all (start_of lengths k) xs covered i) ++ with_starts (drop k lengths) (drop_all (start_of lengths k) xs covered i))
-    ∙ ap (λ zs. front xs ++ zs) (with_starts-none (drop k lengths))
-    ∙ append-nil (front xs))
+starts_cut zero lengths [] covered = sym (with_starts-none lengths)
+starts_cut zero lengths (x ∷ xs) covered = absurd (omega (arith, covered))
+starts_cut (suc k) [] xs covered = refl
+starts_cut (suc k) (n ∷ ls) xs covered =
+    ap (λ ws. started (take n xs) ++ ws) (starts_cut k ls (drop n xs) (omega (arith, covered, sum-cons n (take k ls), length-drop n xs)))
 
 -- a range is what continues the segment before it, and then the segments that start in it
 pub range_parted : {Item : Type 0} (d : List ℕ) (xs rest front others : List Item) (from to first next start j : ℕ)
