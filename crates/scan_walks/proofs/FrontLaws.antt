@@ -3,7 +3,7 @@ use Rattle.std.proofs.Common.{◌≡◌, ◌∙◌, refl, sym, ap, ℕ, ◌+◌,
 use Rattle.std.specs.Prelude.{if◌then◌else◌, sum}
 use Rattle.std.specs.Option.{is_some}
 use Rattle.std.proofs.lemmas.Bool.{false_from_ne_true}
-use Rattle.std.proofs.lemmas.List.{drop_more, drop-drop, length-take, take-append-drop}
+use Rattle.std.proofs.lemmas.List.{drop_more, drop-drop, length-drop, length-take, take-append-drop}
 use Rattle.std.proofs.lemmas.List.Folds.{prefix_len-append}
 use Rattle.std.proofs.lemmas.List.Sums.{prefix_len-le-length}
 use Rattle.std.proofs.lemmas.Option.{cond_some, none-some}
@@ -14,7 +14,7 @@ use Rattle.range_walks.specs.Ranges.{continued, range_scan_of, scans_of, with_st
 use Rattle.range_walks.proofs.Cut.{parts_scanned}
 use Rattle.scan_walks.specs.Fronts.{fitting_front}
 use Rattle.operators.proofs.FoldLaws.{length-scan_of, scan_of-append, scan_of-cons}
-use Rattle.range_walks.proofs.Segments.{length-scans_of, scans_parted}
+use Rattle.range_walks.proofs.Segments.{length-scans_of, range_left, scans_parted}
 use Rattle.scan_walks.proofs.WholeSums.{all_whole, whole_laws}
 
 some_passed : (z : ℤ) (b : Bool) → is_some (if b then Some z else None) ≡ true → b ≡ true
@@ -95,14 +95,19 @@ module _ (whole done k : ℕ) (so_far : ℤ) (rest block others : List ℤ) (is_
 
 -- ---- a walk over segments, of whose scans the first ones, `done` in all, were seen to fit
 
+pub record FitSoFar (lengths : List ℕ) (xs : List ℤ) (s done : ℕ) (rest : List ℤ) : Type 0 where
+  pub front : fitting_front (scans_of ◌+ℤ◌ (pos 0) lengths xs) ≡ done + fitting_front (scans_of ◌+ℤ◌ (pos 0) (drop s lengths) rest)
+  pub parts : done + length rest ≡ length xs
+  pub covered : length rest ≤ sum (drop s lengths)
+
 -- the step takes k segments, the last of them cut short by the end of the numbers
-module _ (whole done s k n cut later : ℕ) (lengths : List ℕ) (rest group others : List ℤ) (is_later : later ≡ s + k) (is_n : n ≡ sum (take k (drop s lengths)))
-    (is_cut : cut ≡ min n (length rest)) (is_group : group ≡ take cut rest) (is_others : others ≡ drop cut rest)
-    (is : whole ≡ done + fitting_front (scans_of ◌+ℤ◌ (pos 0) (drop s lengths) rest)) where
-  cut_off : whole ≡ done + fitting_front (scans_of ◌+ℤ◌ (pos 0) (take k (drop s lengths)) group ++ scans_of ◌+ℤ◌ (pos 0) (drop later lengths) others)
+module _ {lengths : List ℕ} {xs : List ℤ} {s done : ℕ} {rest : List ℤ} (so_far : FitSoFar lengths xs s done rest) (k n later : ℕ) (is_later : later ≡ s + k)
+    (is_n : n ≡ sum (take k (drop s lengths))) (cut : ℕ) (group others : List ℤ) (is_cut : cut ≡ min n (length rest)) (is_group : group ≡ take cut rest) (is_others : others ≡ drop cut rest) where
+  cut_off : fitting_front (scans_of ◌+ℤ◌ (pos 0) lengths xs)
+      ≡ done + fitting_front (scans_of ◌+ℤ◌ (pos 0) (take k (drop s lengths)) group ++ scans_of ◌+ℤ◌ (pos 0) (drop later lengths) others)
   cut_off =
       let behind : drop k (drop s lengths) ≡ drop later lengths = drop-drop k s lengths ∙ ap (λ j. drop j lengths) (sym is_later) in
-      is
+      so_far.front
       ∙ ap (λ zs. done + fitting_front zs) (scans_parted ◌+ℤ◌ (pos 0) k n cut (drop s lengths) rest is_n is_cut)
       ∙ (λ i. done + fitting_front (scans_of ◌+ℤ◌ (pos 0) (take k (drop s lengths)) (sym is_group i) ++ scans_of ◌+ℤ◌ (pos 0) (behind i) (sym is_others i)))
 
@@ -110,15 +115,19 @@ module _ (whole done s k n cut later : ℕ) (lengths : List ℕ) (rest group oth
   long = length-scans_of ◌+ℤ◌ (pos 0) (take k (drop s lengths)) group (omega (arith, ap length is_group, length-take cut rest, is_n, is_cut))
 
   module _ (fitting : ℕ) (met : fitting ≡ fitting_front (scans_of ◌+ℤ◌ (pos 0) (take k (drop s lengths)) group)) where
-    pub segments_stop : fitting < length group → done + fitting ≡ whole
+    pub segments_stop : fitting < length group → done + fitting ≡ fitting_front (scans_of ◌+ℤ◌ (pos 0) lengths xs)
     segments_stop lt =
         let within = front_within (scans_of ◌+ℤ◌ (pos 0) (take k (drop s lengths)) group) (scans_of ◌+ℤ◌ (pos 0) (drop later lengths) others) (omega (arith, met, lt, long)) in
         omega (arith, cut_off, within, met)
 
-    pub segments_go_on : (next : ℕ) → length group ≤ fitting → next ≡ done + length group → whole ≡ next + fitting_front (scans_of ◌+ℤ◌ (pos 0) (drop later lengths) others)
+    pub segments_go_on : (next : ℕ) → length group ≤ fitting → next ≡ done + length group → FitSoFar lengths xs later next others
     segments_go_on next ge is_next =
         let past = front_past (scans_of ◌+ℤ◌ (pos 0) (take k (drop s lengths)) group) (scans_of ◌+ℤ◌ (pos 0) (drop later lengths) others) (omega (arith, met, ge, long)) in
-        omega (arith, cut_off, past, long, is_next)
+        record {
+          front = omega (arith, cut_off, past, long, is_next);
+          parts = omega (arith, so_far.parts, is_cut, is_next, ap length is_group, ap length is_others, length-take cut rest, length-drop cut rest);
+          covered = omega (arith, so_far.covered, is_n, is_cut, ap length is_others, length-drop cut rest, range_left lengths s k later is_later);
+        }
 
 -- ---- a walk over a range: what continues the segment before it, and then the segments that start in it
 

@@ -25,14 +25,16 @@ module _ {X : Type 0} (now before : List X) (i : ℕ) (left : drop i now ≡ dro
 
 -- ---- a loop over segments, which has written over those before s, up to place `start`
 
-module _ {Item : Type 0} (join : Item → Item → Item) (unit : Item) (lengths : List ℕ) (before now : List Item) (start s n : ℕ)
-    (lt : s < length lengths) (is_n : n ≡ get_or lengths s 0) (total : start + sum (drop s lengths) ≡ length before) (long : length now ≡ length before)
-    (left : drop start now ≡ drop start before) where
-  pub segment_fits : start + n ≤ length now
-  segment_fits = omega (arith, is_n, total, long, sum_by-drop_more (λ x. x) lengths s 0 lt)
+pub record Scanning {Item : Type 0} (join : Item → Item → Item) (unit : Item) (lengths : List ℕ) (before now : List Item) (start s : ℕ) : Type 0 where
+  pub total : start + sum (drop s lengths) ≡ length before
+  -- what is written, with the scans of the segments left, is the whole
+  pub whole : take start now ++ scans_of join unit (drop s lengths) (drop start before) ≡ scans_of join unit lengths before
+  pub left : drop start now ≡ drop start before
 
-  pub total_more : start + n + sum (drop (s + 1) lengths) ≡ length before
-  total_more = omega (arith, is_n, total, sum_by-drop_more (λ x. x) lengths s 0 lt)
+module _ {Item : Type 0} {join : Item → Item → Item} {unit : Item} {lengths : List ℕ} {before now : List Item} {start s : ℕ} (done : Scanning join unit lengths before now start s)
+    (n : ℕ) (lt : s < length lengths) (is_n : n ≡ get_or lengths s 0) (long : length now ≡ length before) where
+  pub segment_fits : start + n ≤ length now
+  segment_fits = omega (arith, is_n, done.total, long, sum_by-drop_more (λ x. x) lengths s 0 lt)
 
   module _ (k : ℕ) (is_k : k ≡ n) (u : Item) (is_u : u ≡ unit) (segment : List Item) (is : segment ≡ scan_of join u (take k (drop start now))) where
     length_segment : length segment ≡ n
@@ -40,21 +42,19 @@ module _ {Item : Type 0} (join : Item → Item → Item) (unit : Item) (lengths 
         let fits = segment_fits in
         ap length is ∙ length-scan_of join u (take k (drop start now)) ∙ omega (arith, length-take k (drop start now), length-drop start now, is_k, fits)
 
-    pub left_more : drop (start + n) (put_mid start k now segment) ≡ drop (start + n) before
-    left_more =
-        let fits = segment_fits in
-        drop-put_mid start k now segment (start + n) (omega (arith, is_k)) (omega (arith, fits)) (length_segment ∙ sym is_k)
-        ∙ sym (drop-drop n start now) ∙ ap (drop n) left ∙ drop-drop n start before
-
-    pub whole_more : (whole : List Item) → take start now ++ scans_of join unit (drop s lengths) (drop start before) ≡ whole
-        → take (start + n) (put_mid start k now segment) ++ scans_of join unit (drop (s + 1) lengths) (drop (start + n) before) ≡ whole
-    whole_more whole so_far =
+    pub scanning_more : Scanning join unit lengths before (put_mid start k now segment) (start + n) (s + 1)
+    scanning_more =
         let fits = segment_fits in
         let others = scans_of join unit (drop (s + 1) lengths) (drop (start + n) before) in
-        let as_scanned : segment ≡ scan_of join unit (take n (drop start before)) = is ∙ (λ i. scan_of join (is_u i) (take (is_k i) (left i))) in
-        ap (λ xs. xs ++ others) (take-put_mid start k now segment (start + n) (omega (arith, length_segment)) (omega (arith, fits)))
-        ∙ append_assoc (take start now) segment others
-        ∙ ap (λ xs. take start now ++ xs)
-        ((λ i. as_scanned i ++ scans_of join unit (drop (s + 1) lengths) (sym (drop-drop n start before) i))
-        ∙ sym (ap (λ lists. joined (map (scan_of join unit) lists)) (cut_more lengths s n (drop start before) _ _ lt is_n refl refl)))
-        ∙ so_far
+        let as_scanned : segment ≡ scan_of join unit (take n (drop start before)) = is ∙ (λ i. scan_of join (is_u i) (take (is_k i) (done.left i))) in
+        record {
+          total = omega (arith, is_n, done.total, sum_by-drop_more (λ x. x) lengths s 0 lt);
+          whole = ap (λ xs. xs ++ others) (take-put_mid start k now segment (start + n) (omega (arith, length_segment)) (omega (arith, fits)))
+              ∙ append_assoc (take start now) segment others
+              ∙ ap (λ xs. take start now ++ xs)
+              ((λ i. as_scanned i ++ scans_of join unit (drop (s + 1) lengths) (sym (drop-drop n start before) i))
+              ∙ sym (ap (λ lists. joined (map (scan_of join unit) lists)) (cut_more lengths s n (drop start before) _ _ lt is_n refl refl)))
+              ∙ done.whole;
+          left = drop-put_mid start k now segment (start + n) (omega (arith, is_k)) (omega (arith, fits)) (length_segment ∙ sym is_k)
+              ∙ sym (drop-drop n start now) ∙ ap (drop n) done.left ∙ drop-drop n start before;
+        }

@@ -2,8 +2,10 @@ pub mod BlockLaws
 pub mod Fitted
 pub mod FrontLaws
 pub mod InPlace
+pub mod Parts
 pub mod Segmented
 pub mod Valued
+pub mod Walk
 pub mod WholeSums
 pub use Rattle.range_walks.proofs.Cut
 pub use Rattle.range_walks.proofs.LastStart

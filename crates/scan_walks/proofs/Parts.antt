@@ -4,10 +4,8 @@ use Rattle.std.specs.Prelude.{sum}
 use Rattle.std.specs.List.{zip}
 use Rattle.std.proofs.lemmas.List.{get_or_default, get_or-take, get_or-drop, length-take, length-drop}
 use Rattle.std.proofs.lemmas.List.Sums.{sum_by_more, sum_by_more_le}
-use Rattle.std.proofs.lemmas.Option.{get_or_from_slice_get}
 use Rattle.std.proofs.lemmas.Slice.Zip.{get_or-zip, length-zip}
 use Rattle.cvl_base.specs.Nests.{cut_of}
-use Rattle.cvl_base.proofs.Lists.{element}
 use Rattle.cvl_base.proofs.Nests.{cut_at, length-cut}
 
 -- a list has this element at place s
@@ -18,12 +16,6 @@ pub record StandsAt {X : Type 0} (xs : List X) (s : ℕ) (x : X) : Type 0 where
 -- as it is read with any default
 pub stands : {X : Type 0} (xs : List X) (s : ℕ) (x d : X) → s < length xs → x ≡ get_or xs s d → StandsAt xs s x
 stands xs s x d lt is = record { within = lt; here = is ∙ get_or_default xs s d x lt }
-
--- there is one
-pub there : {X : Type 0} (xs : List X) (s : ℕ) → s < length xs → (x : X) × StandsAt xs s x
-there xs s lt =
-    let found = element xs s lt in
-    (found.0, record { within = lt; here = sym (get_or_from_slice_get xs s found.0 found.0 found.1) })
 
 -- two arguments of a segment
 pub both : {X Y : Type 0} {xs : List X} {ys : List Y} {s : ℕ} {x : X} {y : Y} → StandsAt xs s x → StandsAt ys s y → StandsAt (zip xs ys) s (x, y)

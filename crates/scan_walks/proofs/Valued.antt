@@ -3,8 +3,8 @@
 use Rattle.std.proofs.Common.{◌≡◌, ◌∙◌, refl, sym, ap, ℕ, ◌+◌, ◌<◌, ℤ, pos, ◌+ℤ◌, List, [], ◌∷◌, ◌++◌, length, map, take, drop, get_or, arith, Option, Some, None, Result, Ok, Err}
 use Rattle.std.specs.Prelude.{sum}
 use Rattle.std.specs.Option.{ok_or}
-use Rattle.std.proofs.lemmas.List.{drop_more, get_or-map, length-drop, length-map, length-take-le, map-append, take_more}
-use Rattle.std.proofs.lemmas.List.Sums.{prefix_len-drop_no, prefix_len-drop_yes, sum_by_more}
+use Rattle.std.proofs.lemmas.List.{drop_more, get_or-map, length-drop, length-map, length-take-le, map-append}
+use Rattle.std.proofs.lemmas.List.Sums.{sum_by_more}
 use Rattle.operators.proofs.FoldLaws.{length-scan_of}
 use Rattle.cvl_base.specs.CheckedSums.{checked_reduce_of, checked_scan_of, checked_seg_reduce_of, checked_seg_scan_of, fitting, totals_of}
 use Rattle.cvl_base.specs.Exact.{total_of}
@@ -14,7 +14,6 @@ use Rattle.cvl_base.specs.declared.fault.FaultNo.TheVariants.{Overflow}
 use Rattle.cvl_base.specs.Elementwise.{values_from}
 use Rattle.cvl_base.specs.Faults.{fault_at}
 use Rattle.cvl_base.specs.Gives.{◌>>=◌, after}
-use Rattle.cvl_base.specs.ItemWords.{is_number}
 use Rattle.cvl_base.specs.Lists.{joined}
 use Rattle.cvl_base.specs.Nests.{cut_of}
 use Rattle.cvl_base.specs.Segmented.{at_segment, end_to_end, in_vector, moved, one_each, results_from}
@@ -23,8 +22,6 @@ use Rattle.cvl_base.proofs.Lists.{sum-cons}
 use Rattle.cvl_base.proofs.Nests.{cut_at, length-cut, nest-fits}
 use Rattle.range_walks.specs.Ranges.{reduces_of, scans_of}
 use Rattle.segdes.specs.Starts.{start_of}
-use Rattle.scan_walks.specs.Fronts.{fitting_front}
-use Rattle.scan_walks.proofs.FrontLaws.{fitting-is, none-fits}
 
 module _ {Y : Type 0} where
   moved-then : (to : ℕ → ℕ) (y : Y) (r : Result (List Y) Fault) → moved to (r >>= λ ys. Ok (y ∷ ys)) ≡ (moved to r >>= λ ys. Ok (y ∷ ys))
@@ -105,28 +102,8 @@ pub sums_valued : (lengths : List ℕ) (xs : List ℤ) → sum lengths ≡ lengt
     → checked_seg_reduce_of xs lengths ≡ values_from Overflow 0 (map fitting (reduces_of ◌+ℤ◌ (pos 0) lengths xs))
 sums_valued lengths xs total = ap (one_each at_segment checked_reduce_of) (nest-fits lengths xs total) ∙ sums_are 0 (cut_of lengths xs)
 
--- ---- a walk over the segments, of whose sums the first s were seen to fit
-
-module _ (lengths : List ℕ) (xs : List ℤ) (s : ℕ) (lt : s < length lengths) where
-  pub segment_total : get_or (reduces_of ◌+ℤ◌ (pos 0) lengths xs) s (pos 0) ≡ total_of (take (get_or lengths s 0) (drop (start_of lengths s) xs))
-  segment_total = get_or-map total_of (cut_of lengths xs) s [] (pos 0) (omega (arith, lt, length-cut lengths xs)) ∙ ap total_of (cut_at lengths xs s lt)
-
-  module _ (k : ℕ) (rest segment : List ℤ) (is_k : k ≡ get_or lengths s 0) (is_rest : rest ≡ drop (start_of lengths s) xs) (is_segment : segment ≡ take k rest) where
-    total_is : get_or (reduces_of ◌+ℤ◌ (pos 0) lengths xs) s (pos 0) ≡ total_of segment
-    total_is = segment_total ∙ sym (ap total_of (is_segment ∙ (λ i. take (is_k i) (is_rest i))))
-
-    within : s < length (reduces_of ◌+ℤ◌ (pos 0) lengths xs)
-    within = omega (arith, lt, length-map (cut_of lengths xs) total_of, length-cut lengths xs)
-
-    pub sum_fits : (y : ℤ) → fitting (total_of segment) ≡ Some y
-        → (take s (reduces_of ◌+ℤ◌ (pos 0) lengths xs) ++ y ∷ [] ≡ take (s + 1) (reduces_of ◌+ℤ◌ (pos 0) lengths xs))
-        × (fitting_front (drop s (reduces_of ◌+ℤ◌ (pos 0) lengths xs)) ≡ 1 + fitting_front (drop (s + 1) (reduces_of ◌+ℤ◌ (pos 0) lengths xs)))
-    sum_fits y met =
-        let totals = reduces_of ◌+ℤ◌ (pos 0) lengths xs in
-        let fits = fitting-is (total_of segment) y met in (
-          sym (take_more totals s (pos 0) within ∙ ap (λ z. take s totals ++ z ∷ []) (total_is ∙ fits.1)),
-          prefix_len-drop_yes is_number totals s (pos 0) within (ap is_number total_is ∙ fits.0),
-        )
-
-    pub sum_overflows : fitting (total_of segment) ≡ None → fitting_front (drop s (reduces_of ◌+ℤ◌ (pos 0) lengths xs)) ≡ 0
-    sum_overflows met = prefix_len-drop_no is_number (reduces_of ◌+ℤ◌ (pos 0) lengths xs) s (pos 0) within (ap is_number total_is ∙ none-fits (total_of segment) met)
+-- the sum of a segment is that of its elements
+pub segment_total : (lengths : List ℕ) (xs : List ℤ) (s : ℕ) → s < length lengths
+    → get_or (reduces_of ◌+ℤ◌ (pos 0) lengths xs) s (pos 0) ≡ total_of (take (get_or lengths s 0) (drop (start_of lengths s) xs))
+segment_total lengths xs s lt =
+    get_or-map total_of (cut_of lengths xs) s [] (pos 0) (omega (arith, lt, length-cut lengths xs)) ∙ ap total_of (cut_at lengths xs s lt)

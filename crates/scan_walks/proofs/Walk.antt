@@ -9,7 +9,7 @@ use Rattle.cvl_base.specs.Gives.{◌>>=◌, after}
 use Rattle.cvl_base.specs.Segmented.{moved, results_from}
 use Rattle.cvl_base.proofs.Gives.{after-after, after-none, after-end}
 use Rattle.cvl_base.proofs.Lists.{uncons}
-use Rattle.pack_dist.proofs.Parts.{StandsAt}
+use Rattle.scan_walks.proofs.Parts.{StandsAt}
 
 -- how a result stands for some elements: it is one, or is the list of them
 abbrev pub single : {X : Type 0} → X → List X

@@ -143,14 +143,13 @@ pub fn checked_seg_reduce_vec<A: Allocator>(
     ensures one_each { IfOk result (λ sums. vec_len sums ≡ length d.now) }
 {
     d.check_total(a)?;
-    let count = d.count();
-    let mut sums = Vec::with_capacity(alloc, count)?;
+    let mut sums = Vec::with_capacity(alloc, d.count())?;
     let mut rest = a;
-    for length in d.lengths() {
-        let (segment, others) = rest.split_at(*length as usize);
+    for s in 0..d.count() {
+        let (segment, others) = rest.split_at(d.length(s));
         match fitting_total(segment) {
             Some(sum) => sums.push_reserved(sum),
-            None => return Err(Refused::Fault(Fault::at(FaultNo::Overflow, sums.len() as u32))),
+            None => return Err(Refused::Fault(Fault::at(FaultNo::Overflow, s as u32))),
         }
         rest = others;
     }

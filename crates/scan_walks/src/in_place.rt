@@ -1,9 +1,8 @@
 //! Scans in place, by the thread that calls: each is written over the vector that it scans. They ask for no memory.
 
-ghost use Rattle.std.specs.Prelude.{◌≡◌, ◌≤◌, IsTrue, length, map, pos, sum, unsigned_abs};
+ghost use Rattle.std.specs.Prelude.{◌≡◌, ◌≤◌, IsTrue, length, pos, sum};
 ghost use Rattle.std.specs.List.{AllPass};
 ghost use Rattle.cvl_base.specs.CheckedSums.{checked_scan_of, checked_seg_scan_of};
-ghost use Rattle.cvl_base.specs.Descriptors.{AreLengths};
 ghost use Rattle.cvl_base.specs.Folds.{scan_of};
 ghost use Rattle.cvl_base.specs.Limits.{most_elements};
 ghost use Rattle.cvl_base.specs.Rooms.{Overwrites};
@@ -37,17 +36,16 @@ pub fn scan_in<M: Monoid>(before: M::Item, a: &mut [M::Item])
     }
 }
 
-/// Writes the exclusive scans of the segments with these lengths over the vector, which has as many elements.
-fn scans_in<M: Monoid>(lengths: &[i32], a: &mut [M::Item])
-    requires lengths { AreLengths lengths.now }
-    requires total { sum (map unsigned_abs lengths.now) ≡ length a.old }
+/// Writes the exclusive scans of the segments over the vector, which has as many elements.
+fn scans_in<M: Monoid>(a: &mut [M::Item], d: &SegLengths)
+    requires total { sum d.now ≡ length a.old }
     requires items { AllPass M.is_item a.old }
-    ensures { a.new ≡ scans_of M.join M.unit (map unsigned_abs lengths.now) a.old }
+    ensures { a.new ≡ scans_of M.join M.unit d.now a.old }
 {
     know_laws::<M>();
     let mut start = 0;
-    for length in lengths {
-        let end = start + *length as usize;
+    for s in 0..d.count() {
+        let end = start + d.length(s);
         scan_in::<M>(M::unit(), &mut a[start..end]);
         start = end;
     }
@@ -62,7 +60,7 @@ pub fn seg_scan_in<M: Monoid>(a: &mut [M::Item], d: &SegLengths) -> Result<(), F
     ensures { Overwrites (seg_scan_of M.join M.unit a.old d.now) result a.old a.new }
 {
     d.check_total(a)?;
-    scans_in::<M>(d.lengths(), a);
+    scans_in::<M>(a, d);
     Ok(())
 }
 

@@ -1,6 +1,5 @@
 use Rattle.std.proofs.Common.{◌≡◌, ◌∙◌, ◌+ℤ◌, ap, Err, map, pos, sym, unsigned_abs}
 use Rattle.cvl_base.specs.Integers.{sum_of}
-use Rattle.cvl_base.proofs.Descriptors.{abs_pos}
 use Rattle.range_walks.specs.Ranges.{scans_of}
 use Rattle.scan_walks.specs.Fronts.{fitting_front}
 use Rattle.scan_walks.proofs.Fitted.{scans_fit, scans_overflow}
@@ -12,9 +11,8 @@ returns-then-fitting-a c =
     let a = c.args.a.now in
     let d = c.args.d.now in
     let fitting = c.fitting_of_scans-fitting in
-    let are : map unsigned_abs c.lengths.result.now ≡ d = ap (map unsigned_abs) c.lengths.ensures.value ∙ abs_pos d in
     scans_overflow fitting.result d a c.in_ok-check_total.ensures.agrees
-    (fitting.ensures.front ∙ ap (λ ls. fitting_front (scans_of ◌+ℤ◌ (pos 0) ls a)) are) c.if-fitting-a.true
+    (fitting.ensures.front ∙ ap (λ ls. fitting_front (scans_of ◌+ℤ◌ (pos 0) ls a)) c.lengths.ensures.read) c.if-fitting-a.true
     ∙ ap Err (sym c.at.ensures)
 
 pub returns : goal.returns
@@ -23,6 +21,5 @@ returns c =
     let d = c.args.d.now in
     let fitting = c.fitting_of_scans-fitting in
     let agrees = c.in_ok-check_total.ensures.agrees in
-    let are : map unsigned_abs c.lengths.result.now ≡ d = ap (map unsigned_abs) c.lengths.ensures.value ∙ abs_pos d in
-    scans_fit fitting.result d a agrees (fitting.ensures.front ∙ ap (λ ls. fitting_front (scans_of ◌+ℤ◌ (pos 0) ls a)) are) c.if-fitting-a.false
+    scans_fit fitting.result d a agrees (fitting.ensures.front ∙ ap (λ ls. fitting_front (scans_of ◌+ℤ◌ (pos 0) ls a)) c.lengths.ensures.read) c.if-fitting-a.false
     ∙ sym (seg_scan-fits sum_of (pos 0) a d agrees)

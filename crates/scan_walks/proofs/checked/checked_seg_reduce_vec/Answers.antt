@@ -1,79 +1,58 @@
-use Rattle.std.proofs.Common.{◌≡◌, ◌∙◌, ◌≤◌, ◌∷◌, [], ◌++◌, ◌+ℤ◌, to_z, of_z, w32, Err, Ok, length, pos, drop, sym, ap, arith}
+use Rattle.std.proofs.Common.{◌≡◌, ◌∙◌, ◌∷◌, [], ◌++◌, to_z, of_z, w32, Err, length, drop, refl, sym, take, ap, arith}
+use Rattle.std.specs.Option.{ok_or}
 use Rattle.std.proofs.lemmas.Int.{to_z-of_z}
-use Rattle.std.proofs.lemmas.List.{drop-drop, length-drop, length-map, take_all}
-use Rattle.std.proofs.lemmas.List.Sums.{sum_by_more, sum_by_more_le}
+use Rattle.std.proofs.lemmas.List.{drop-drop, length-drop}
+use Rattle.cvl_base.specs.CheckedSums.{checked_reduce_of, fitting}
+use Rattle.cvl_base.specs.Exact.{total_of}
 use Rattle.cvl_base.specs.Faults.{fault_at}
+use Rattle.cvl_base.specs.Segmented.{at_segment, one_each}
 use Rattle.cvl_base.specs.declared.fault.FaultNo.TheVariants.{Overflow}
+use Rattle.cvl_base.proofs.Nests.{length-cut, nest-fits}
 use Rattle.segdes.specs.Starts.{start_of}
-use Rattle.range_walks.specs.Ranges.{reduces_of}
-use Rattle.range_walks.proofs.Segments.{length_fits, read_at, segment_read}
-use Rattle.scan_walks.proofs.Fitted.{all_fit, overflows}
-use Rattle.scan_walks.proofs.Segmented.{length-reduces_of}
-use Rattle.scan_walks.proofs.Valued.{sum_fits, sum_overflows, sums_valued}
+use Rattle.scan_walks.proofs.Parts.{IsSegment, ends_within, part, starts_more}
+use Rattle.scan_walks.proofs.Walk.{all_done, begins, fails, one_more, singles}
 use Rattle.scan_walks.proofs.checked.checked_seg_reduce_vec.Goals as goal
-
-pub overflow_cast-length : goal.overflow_cast-length
-overflow_cast-length g c =
-    let row = c.lengths-length-items in
-    length_fits row.result.now c.args.d.now row.ensures.value row.ensures.lengths c.loop-length.length-index c.loop-length-test.true
 
 pub split_at-requires : goal.split_at-requires
 split_at-requires g c =
-    let row = c.lengths-length-items in
-    let d = c.args.d.now in
-    let s = c.loop-length.length-index in
-    let read = segment_read row.result.now d row.ensures.value row.ensures.lengths s c.loop-length-test.true in
-    omega (arith, read.1, ap length c.loop-length.invariant.rest, length-drop (start_of d s) c.args.a.now, sum_by_more_le (λ x. x) d s 0 read.0, c.in_ok-check_total.ensures.agrees)
+    let d = c.args.d.now in let s = c.loop-s.s in
+    omega (arith, c.length.ensures, ap length c.loop-s.invariant.rest, length-drop (start_of d s) c.args.a.now, ends_within d s (omega arith), c.in_ok-check_total.ensures.agrees)
 
 pub fitting_total-requires : goal.fitting_total-requires
-fitting_total-requires g c =
-    let row = c.lengths-length-items in
-    let d = c.args.d.now in
-    let s = c.loop-length.length-index in
-    let read = segment_read row.result.now d row.ensures.value row.ensures.lengths s c.loop-length-test.true in
-    record { in_limit = omega (arith, c.split_at.ensures.front_len, read.1, sum_by_more_le (λ x. x) d s 0 read.0, c.in_ok-check_total.ensures.agrees, c.in_ok-check_total.ensures.in_limit) }
+fitting_total-requires g c = record {
+  in_limit = omega (arith, c.split_at.ensures.front_len, c.length.ensures, ends_within c.args.d.now c.loop-s.s (omega arith), c.in_ok-check_total.ensures.agrees, c.in_ok-check_total.ensures.in_limit);
+}
+
+pub loop-s-init : goal.loop-s-init
+loop-s-init g c = record {
+  walked = begins _ _ c.in_ok-sums.ensures.items (ap (one_each at_segment checked_reduce_of) (nest-fits c.args.d.now c.args.a.now c.in_ok-check_total.ensures.agrees) ∙ singles _);
+  rest = refl;
+  as_long = c.in_ok-sums.ensures.len;
+  capacity = c.in_ok-sums.ensures.exact ∙ c.count.ensures.value;
+}
 
 pub returns-in-None-clause-values : goal.returns-in-None-clause-values
 returns-in-None-clause-values g c =
-    let row = c.lengths-length-items in
-    let a = c.args.a.now in
-    let d = c.args.d.now in
-    let turn = c.loop-length in
-    let s = turn.length-index in
-    let read = segment_read row.result.now d row.ensures.value row.ensures.lengths s c.loop-length-test.true in
-    let none = sum_overflows d a s read.0 (read_at row.result.now s) turn.rest.now c.split_at.result.0.now read.1 turn.invariant.rest c.split_at.ensures.front (sym c.fitting_total.ensures ∙ c.in-None.is) in
-    sums_valued d a c.in_ok-check_total.ensures.agrees
-    ∙ overflows 0 (reduces_of ◌+ℤ◌ (pos 0) d a) (omega (arith, turn.invariant.front, none, read.0, length-reduces_of ◌+ℤ◌ (pos 0) a d))
-    ∙ ap (λ p. Err (fault_at Overflow p)) (omega (arith, turn.invariant.front, none, turn.invariant.as_long, c.len.ensures))
-    ∙ ap Err (sym c.at.ensures)
+    let a = c.args.a.now in let d = c.args.d.now in let s = c.loop-s.s in let k = c.length.result in
+    let here : IsSegment d s (start_of d s) k = record { within = omega arith; starts = refl; long = c.length.ensures } in
+    let segment : c.split_at.result.0.now ≡ take k (drop (start_of d s) a) = c.split_at.ensures.front ∙ ap (take k) c.loop-s.invariant.rest in
+    fails c.loop-s.invariant.walked (part here a) (fault_at Overflow 0)
+    (ap (λ v. ok_or v (fault_at Overflow 0)) (ap (λ xs. fitting (total_of xs)) (sym segment) ∙ sym c.fitting_total.ensures ∙ c.in-None.is)) ∙ ap Err (sym c.at.ensures)
 
-pub loop-length-preserved : goal.loop-length-preserved
-loop-length-preserved g c =
-    let row = c.lengths-length-items in
-    let a = c.args.a.now in
-    let d = c.args.d.now in
-    let turn = c.loop-length in
-    let s = turn.length-index in
-    let k = read_at row.result.now s in
-    let read = segment_read row.result.now d row.ensures.value row.ensures.lengths s c.loop-length-test.true in
+pub loop-s-preserved : goal.loop-s-preserved
+loop-s-preserved g c =
+    let a = c.args.a.now in let d = c.args.d.now in let s = c.loop-s.s in let k = c.length.result in
+    let here : IsSegment d s (start_of d s) k = record { within = omega arith; starts = refl; long = c.length.ensures } in
+    let segment : c.split_at.result.0.now ≡ take k (drop (start_of d s) a) = c.split_at.ensures.front ∙ ap (take k) c.loop-s.invariant.rest in
     let back : to_z w32 (of_z w32 c.in-Some.sum) ≡ c.in-Some.sum = grind (arith, to_z-of_z) in
-    let fits = sum_fits d a s read.0 k turn.rest.now c.split_at.result.0.now read.1 turn.invariant.rest c.split_at.ensures.front c.in-Some.sum (sym c.fitting_total.ensures ∙ c.in-Some.is) in
     record {
-      sums = c.push_reserved.ensures.items ∙ (λ i. turn.invariant.sums i ++ back i ∷ []) ∙ fits.0;
-      front = omega (arith, turn.invariant.front, fits.1);
-      rest = c.split_at.ensures.back ∙ ap (drop k) turn.invariant.rest ∙ drop-drop k (start_of d s) a ∙ ap (λ p. drop p a) (omega (arith, read.1, sum_by_more (λ x. x) d s 0 read.0));
+      walked = one_more c.loop-s.invariant.walked (part here a) c.in-Some.sum _
+          (ap (λ v. ok_or v (fault_at Overflow 0)) (ap (λ xs. fitting (total_of xs)) (sym segment) ∙ sym c.fitting_total.ensures ∙ c.in-Some.is))
+          (c.push_reserved.ensures.items ∙ ap (λ y. c.loop-s.sums.items ++ y ∷ []) back);
+      rest = c.split_at.ensures.back ∙ ap (drop k) c.loop-s.invariant.rest ∙ drop-drop k (start_of d s) a ∙ ap (λ p. drop p a) (starts_more here);
       as_long = omega arith;
       capacity = omega arith;
     }
 
 pub returns-clause-values : goal.returns-clause-values
-returns-clause-values g c =
-    let a = c.args.a.now in
-    let d = c.args.d.now in
-    let turn = c.loop-length in
-    let s = turn.length-index in
-    let totals = reduces_of ◌+ℤ◌ (pos 0) d a in
-    let all : length totals ≤ s = omega (arith, c.loop-length-test.false, ap length c.lengths-length-items.ensures.value, length-map d pos, length-reduces_of ◌+ℤ◌ (pos 0) a d) in
-    sums_valued d a c.in_ok-check_total.ensures.agrees
-    ∙ all_fit 0 totals (omega (arith, turn.invariant.front, all))
-    ∙ ap Ok (sym (turn.invariant.sums ∙ take_all s totals all))
+returns-clause-values g c = all_done c.loop-s.invariant.walked (omega (arith, length-cut c.args.d.now c.args.a.now, c.loop-s-test.false, c.count-s-end.ensures.value))

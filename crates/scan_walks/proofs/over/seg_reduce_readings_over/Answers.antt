@@ -1,7 +1,6 @@
 use Rattle.std.proofs.Common.{◌≡◌, ◌∙◌, Err, Ok, ap, arith, length, map, sym, unsigned_abs}
 use Rattle.std.proofs.lemmas.List.{length-map}
 use Rattle.cvl_base.specs.Rooms.{in_room}
-use Rattle.cvl_base.proofs.Descriptors.{abs_pos}
 use Rattle.cvl_base.proofs.Rooms.{differs, fits, told}
 use Rattle.range_walks.specs.Ranges.{reduces_of}
 use Rattle.scan_walks.proofs.Segmented.{length-reduces_of, seg_reduce-fits}
@@ -19,17 +18,15 @@ returns-in_err-check_agree g c =
 pub fill_slice-requires-clause-full : goal.fill_slice-requires-clause-full
 fill_slice-requires-clause-full g c = λ block run done.
     let m = g.M.Monoid in let item = g.E.Reading.item in let a = c.args.a.now in let d = c.args.d.now in let is = done.1 in
-    let are : map unsigned_abs c.lengths-lengths.result.now ≡ d = ap (map unsigned_abs) c.lengths-lengths.ensures.value ∙ abs_pos d in
     let long : length (reduces_of m.join m.unit (map unsigned_abs c.lengths-lengths.result.now) (map item a)) ≡ length c.args.out.now =
-    ap (λ ls. length (reduces_of m.join m.unit ls (map item a))) are ∙ length-reduces_of m.join m.unit (map item a) d ∙ sym c.count.ensures.value ∙ c.in_ok-check_agree.ensures in
+    ap (λ ls. length (reduces_of m.join m.unit ls (map item a))) c.lengths-lengths.ensures.read ∙ length-reduces_of m.join m.unit (map item a) d ∙ sym c.count.ensures.value ∙ c.in_ok-check_agree.ensures in
     (ap (λ s. s.block) is, ap (λ s. s.first) is, ap (λ s. s.room) is ∙ omega (arith, long), ap (λ s. length s.items) is ∙ long)
 
 pub returns : goal.returns
 returns g c =
     let m = g.M.Monoid in let item = g.E.Reading.item in let a = c.args.a.now in let d = c.args.d.now in let room = length c.args.out.now in
-    let are : map unsigned_abs c.lengths-lengths.result.now ≡ d = ap (map unsigned_abs) c.lengths-lengths.ensures.value ∙ abs_pos d in
     let sums = reduces_of m.join m.unit d (map item a) in
     let whole : length sums ≡ room = length-reduces_of m.join m.unit (map item a) d ∙ sym c.count.ensures.value ∙ c.in_ok-check_agree.ensures in
     ap (in_room room) (seg_reduce-fits m.join m.unit (map item a) d (c.in_ok-check_total.ensures.agrees ∙ sym (length-map a item)))
     ∙ fits room sums whole
-    ∙ ap Ok (sym (c.fill_slice.ensures.3 ∙ ap (λ s. s.items) c.fill_slice.ensures.2.1 ∙ ap (λ ls. reduces_of m.join m.unit ls (map item a)) are))
+    ∙ ap Ok (sym (c.fill_slice.ensures.3 ∙ ap (λ s. s.items) c.fill_slice.ensures.2.1 ∙ ap (λ ls. reduces_of m.join m.unit ls (map item a)) c.lengths-lengths.ensures.read))

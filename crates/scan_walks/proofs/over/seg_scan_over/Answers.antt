@@ -1,6 +1,5 @@
 use Rattle.std.proofs.Common.{◌≡◌, ◌∙◌, Err, Ok, ap, arith, length, map, sym, unsigned_abs}
 use Rattle.cvl_base.specs.Rooms.{in_room}
-use Rattle.cvl_base.proofs.Descriptors.{abs_pos}
 use Rattle.cvl_base.proofs.Rooms.{differs, fits, told}
 use Rattle.range_walks.specs.Ranges.{scans_of}
 use Rattle.range_walks.proofs.Segments.{length-scans_of}
@@ -19,15 +18,13 @@ returns-in_err-check_agree g c =
 pub fill_slice-requires-clause-full : goal.fill_slice-requires-clause-full
 fill_slice-requires-clause-full g c = λ block run done.
     let m = g.M.Monoid in let a = c.args.a.now in let d = c.args.d.now in let is = done.1 in
-    let are : map unsigned_abs c.lengths-lengths.result.now ≡ d = ap (map unsigned_abs) c.lengths-lengths.ensures.value ∙ abs_pos d in
     let long : length (scans_of m.join m.unit (map unsigned_abs c.lengths-lengths.result.now) a) ≡ length c.args.out.now =
-    ap (λ ls. length (scans_of m.join m.unit ls a)) are ∙ length-scans_of m.join m.unit d a (omega (arith, c.in_ok-check_total.ensures.agrees)) ∙ c.in_ok-check_agree.ensures in
+    ap (λ ls. length (scans_of m.join m.unit ls a)) c.lengths-lengths.ensures.read ∙ length-scans_of m.join m.unit d a (omega (arith, c.in_ok-check_total.ensures.agrees)) ∙ c.in_ok-check_agree.ensures in
     (ap (λ s. s.block) is, ap (λ s. s.first) is, ap (λ s. s.room) is ∙ omega (arith, long), ap (λ s. length s.items) is ∙ long)
 
 pub returns : goal.returns
 returns g c =
     let m = g.M.Monoid in let a = c.args.a.now in let d = c.args.d.now in let room = length c.args.out.now in let agrees = c.in_ok-check_total.ensures.agrees in
-    let are : map unsigned_abs c.lengths-lengths.result.now ≡ d = ap (map unsigned_abs) c.lengths-lengths.ensures.value ∙ abs_pos d in
     let sums = scans_of m.join m.unit d a in
     ap (in_room room) (seg_scan-fits m.join m.unit a d agrees) ∙ fits room sums (length-scans_of m.join m.unit d a (omega (arith, agrees)) ∙ c.in_ok-check_agree.ensures)
-    ∙ ap Ok (sym (c.fill_slice.ensures.3 ∙ ap (λ s. s.items) c.fill_slice.ensures.2.1 ∙ ap (λ ls. scans_of m.join m.unit ls a) are))
+    ∙ ap Ok (sym (c.fill_slice.ensures.3 ∙ ap (λ s. s.items) c.fill_slice.ensures.2.1 ∙ ap (λ ls. scans_of m.join m.unit ls a) c.lengths-lengths.ensures.read))

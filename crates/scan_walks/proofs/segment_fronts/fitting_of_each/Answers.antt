@@ -1,5 +1,4 @@
-use Rattle.std.proofs.Common.{◌≡◌, ◌∙◌, ◌+◌, min, ◌+ℤ◌, pos, length, map, unsigned_abs, refl, ap, arith}
-use Rattle.std.proofs.lemmas.List.Sums.{sum_by-drop_more}
+use Rattle.std.proofs.Common.{◌∙◌, ◌+◌, ◌+ℤ◌, pos, map, unsigned_abs, refl, ap, arith}
 use Rattle.range_walks.proofs.Segments.{length_fits, segment_read, one_long, one_scanned, read_at}
 use Rattle.scan_walks.specs.Fronts.{fitting_front}
 use Rattle.scan_walks.proofs.FrontLaws.{segments_go_on, segments_stop}
@@ -12,28 +11,16 @@ overflow_cast-length c =
 
 pub returns-then-fitting-segment-clause-front : goal.returns-then-fitting-segment-clause-front
 returns-then-fitting-segment-clause-front c =
-    let row = c.args.lengths.now in
-    let lengths = map unsigned_abs row in
-    let s = c.loop-length.length-index in
-    let segment = c.split_at.result.0.now in
+    let row = c.args.lengths.now in let lengths = map unsigned_abs row in let s = c.loop-length.length-index in let segment = c.split_at.result.0.now in
     let read = segment_read row lengths c.requires.lengths.none_negative c.requires.lengths s c.loop-length-test.true in
     let met = c.fitting_of_scan-fitting.ensures.front ∙ ap fitting_front (one_scanned ◌+ℤ◌ (pos 0) lengths s (read_at row s) segment read.0 read.1 (omega (arith, c.split_at.ensures.front_len, c.min.ensures))) in
-    segments_stop _ c.loop-length.done s 1 (read_at row s) c.min.result (s + 1) lengths c.loop-length.rest.now segment c.split_at.result.1.now refl (one_long lengths s _ read.0 read.1) c.min.ensures
-    c.split_at.ensures.front c.split_at.ensures.back c.loop-length.invariant.front c.fitting_of_scan-fitting.result met c.if-fitting-segment.true
+    segments_stop c.loop-length.invariant 1 (read_at row s) (s + 1) refl (one_long lengths s _ read.0 read.1) _ segment c.split_at.result.1.now c.min.ensures
+    c.split_at.ensures.front c.split_at.ensures.back c.fitting_of_scan-fitting.result met c.if-fitting-segment.true
 
 pub loop-length-preserved : goal.loop-length-preserved
 loop-length-preserved c =
-    let row = c.args.lengths.now in
-    let lengths = map unsigned_abs row in
-    let s = c.loop-length.length-index in
-    let rest = c.loop-length.rest.now in
-    let segment = c.split_at.result.0.now in
+    let row = c.args.lengths.now in let lengths = map unsigned_abs row in let s = c.loop-length.length-index in let segment = c.split_at.result.0.now in
     let read = segment_read row lengths c.requires.lengths.none_negative c.requires.lengths s c.loop-length-test.true in
-    let cut : c.min.result ≡ min (read_at row s) (length rest) = c.min.ensures in
-    let met = c.fitting_of_scan-fitting.ensures.front ∙ ap fitting_front (one_scanned ◌+ℤ◌ (pos 0) lengths s (read_at row s) segment read.0 read.1 (omega (arith, c.split_at.ensures.front_len, cut))) in
-    record {
-      front = segments_go_on _ c.loop-length.done s 1 (read_at row s) c.min.result (s + 1) lengths rest segment c.split_at.result.1.now refl (one_long lengths s _ read.0 read.1) cut
-          c.split_at.ensures.front c.split_at.ensures.back c.loop-length.invariant.front c.fitting_of_scan-fitting.result met _ (omega (arith, c.if-fitting-segment.false)) (omega arith);
-      parts = omega (arith, cut, c.split_at.ensures.back_len, c.split_at.ensures.front_len, c.loop-length.invariant.parts);
-      covered = omega (arith, read.1, cut, c.split_at.ensures.back_len, c.loop-length.invariant.covered, sum_by-drop_more (λ x. x) lengths s 0 read.0);
-    }
+    let met = c.fitting_of_scan-fitting.ensures.front ∙ ap fitting_front (one_scanned ◌+ℤ◌ (pos 0) lengths s (read_at row s) segment read.0 read.1 (omega (arith, c.split_at.ensures.front_len, c.min.ensures))) in
+    segments_go_on c.loop-length.invariant 1 (read_at row s) (s + 1) refl (one_long lengths s _ read.0 read.1) _ segment c.split_at.result.1.now c.min.ensures
+    c.split_at.ensures.front c.split_at.ensures.back c.fitting_of_scan-fitting.result met _ (omega (arith, c.if-fitting-segment.false)) (omega arith)

@@ -1,7 +1,7 @@
-use Rattle.std.proofs.Common.{◌≡◌, ◌∙◌, ◌+◌, ◌-◌, ◌+ℤ◌, pos, map, take, drop, unsigned_abs, ap, arith}
+use Rattle.std.proofs.Common.{◌∙◌, ◌-◌, ◌+ℤ◌, pos, map, unsigned_abs, ap, arith}
 use Rattle.std.specs.Prelude.{sum}
 use Rattle.range_walks.specs.Ranges.{scans_of}
-use Rattle.range_walks.proofs.Segments.{range_left, range_lengths, range_read}
+use Rattle.range_walks.proofs.Segments.{range_lengths, range_read}
 use Rattle.scan_walks.specs.Fronts.{fitting_front}
 use Rattle.scan_walks.proofs.FrontLaws.{segments_go_on, segments_stop}
 use Rattle.scan_walks.proofs.segment_fronts.fitting_of_scans.Goals as goal
@@ -18,33 +18,16 @@ fitting_of_group-fitting-requires-clause-lengths c =
 
 pub returns-then-fitting-elements-clause-front : goal.returns-then-fitting-elements-clause-front
 returns-then-fitting-elements-clause-front c =
-    let row = c.args.lengths.now in
-    let lengths = map unsigned_abs row in
-    let first = c.loop-first.first in
-    let next = c.min-next.result in
-    let k = next - first in
-    let group = c.split_at.result.0.now in
-    let read = range_read row lengths first k c.requires.lengths.none_negative in
-    segments_stop _ c.loop-first.done first k c.extent_of-total.result.0 c.min.result next lengths c.loop-first.rest.now group c.split_at.result.1.now
-    (omega (arith, c.min-next.ensures, c.loop-first-test.true)) (c.extent_of-total.ensures.total ∙ ap sum read) c.min.ensures c.split_at.ensures.front c.split_at.ensures.back
-    c.loop-first.invariant.front c.fitting_of_group-fitting.result
+    let row = c.args.lengths.now in let first = c.loop-first.first in let next = c.min-next.result in let k = next - first in let group = c.split_at.result.0.now in
+    let read = range_read row (map unsigned_abs row) first k c.requires.lengths.none_negative in
+    segments_stop c.loop-first.invariant k c.extent_of-total.result.0 next (omega (arith, c.min-next.ensures, c.loop-first-test.true)) (c.extent_of-total.ensures.total ∙ ap sum read)
+    _ group c.split_at.result.1.now c.min.ensures c.split_at.ensures.front c.split_at.ensures.back c.fitting_of_group-fitting.result
     (c.fitting_of_group-fitting.ensures.front ∙ ap (λ ls. fitting_front (scans_of ◌+ℤ◌ (pos 0) ls group)) read) c.if-fitting-elements.true
 
 pub loop-first-preserved : goal.loop-first-preserved
 loop-first-preserved c =
-    let row = c.args.lengths.now in
-    let lengths = map unsigned_abs row in
-    let first = c.loop-first.first in
-    let next = c.min-next.result in
-    let k = next - first in
-    let group = c.split_at.result.0.now in
-    let read = range_read row lengths first k c.requires.lengths.none_negative in
-    let later : next ≡ first + k = omega (arith, c.min-next.ensures, c.loop-first-test.true) in
-    let total : c.extent_of-total.result.0 ≡ sum (take k (drop first lengths)) = c.extent_of-total.ensures.total ∙ ap sum read in
-    record {
-      front = segments_go_on _ c.loop-first.done first k c.extent_of-total.result.0 c.min.result next lengths c.loop-first.rest.now group c.split_at.result.1.now
-          later total c.min.ensures c.split_at.ensures.front c.split_at.ensures.back c.loop-first.invariant.front c.fitting_of_group-fitting.result
-          (c.fitting_of_group-fitting.ensures.front ∙ ap (λ ls. fitting_front (scans_of ◌+ℤ◌ (pos 0) ls group)) read) _ (omega (arith, c.if-fitting-elements.false)) (omega arith);
-      parts = omega (arith, c.min.ensures, c.split_at.ensures.back_len, c.split_at.ensures.front_len, c.loop-first.invariant.parts);
-      covered = omega (arith, total, c.min.ensures, c.split_at.ensures.back_len, c.loop-first.invariant.covered, range_left lengths first k next later);
-    }
+    let row = c.args.lengths.now in let first = c.loop-first.first in let next = c.min-next.result in let k = next - first in let group = c.split_at.result.0.now in
+    let read = range_read row (map unsigned_abs row) first k c.requires.lengths.none_negative in
+    segments_go_on c.loop-first.invariant k c.extent_of-total.result.0 next (omega (arith, c.min-next.ensures, c.loop-first-test.true)) (c.extent_of-total.ensures.total ∙ ap sum read)
+    _ group c.split_at.result.1.now c.min.ensures c.split_at.ensures.front c.split_at.ensures.back c.fitting_of_group-fitting.result
+    (c.fitting_of_group-fitting.ensures.front ∙ ap (λ ls. fitting_front (scans_of ◌+ℤ◌ (pos 0) ls group)) read) _ (omega (arith, c.if-fitting-elements.false)) (omega arith)

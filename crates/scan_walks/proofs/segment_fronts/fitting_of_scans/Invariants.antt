@@ -1,17 +1,9 @@
-use Rattle.std.proofs.Common.{◌≡◌, ◌+◌, ◌-◌, ◌≤◌, ◌+ℤ◌, pos, length, drop, map, unsigned_abs}
-use Rattle.std.specs.Prelude.{sum}
-use Rattle.range_walks.specs.Ranges.{scans_of}
-use Rattle.scan_walks.specs.Fronts.{fitting_front}
+use Rattle.std.proofs.Common.{◌-◌, length, map, unsigned_abs}
+use Rattle.scan_walks.proofs.FrontLaws.{FitSoFar}
 use Rattle.scan_walks.proofs.segment_fronts.fitting_of_scans.Given as goal
 
 abbrev pub invariant-loop-first : goal.invariant-loop-first
-invariant-loop-first l =
-    let lengths = map unsigned_abs l.lengths in
-    record {
-      front : fitting_front (scans_of ◌+ℤ◌ (pos 0) lengths l.xs) ≡ l.done + fitting_front (scans_of ◌+ℤ◌ (pos 0) (drop l.first lengths) l.rest);
-      parts : l.done + length l.rest ≡ length l.xs;
-      covered : length l.rest ≤ sum (drop l.first lengths);
-    }
+invariant-loop-first l = FitSoFar (map unsigned_abs l.lengths) l.xs l.first l.done l.rest
 
 -- how many segments are left
 abbrev pub decreases-loop-first : goal.decreases-loop-first
