@@ -1,19 +1,15 @@
 -- A part of a scan is the scan of that part, after what stands before it.
-use Rattle.std.proofs.Common.{◌≡◌, ℕ, zero, suc, ◌+◌, ◌-◌, ◌≤◌, min, Bool, true, false, List, [], ◌∷◌, ◌++◌, length, take, drop, slice_range, refl, sym, ap, ◌∙◌, arith, inl, inr}
-use Rattle.std.proofs.lemmas.Bool.Decides.{leb_tells}
+use Rattle.std.proofs.Common.{◌≡◌, ℕ, zero, suc, ◌+◌, ◌-◌, Bool, true, false, List, [], ◌∷◌, ◌++◌, length, take, drop, slice_range, refl, sym, ap, ◌∙◌, arith}
 use Rattle.std.specs.Prelude.{if◌then◌else◌}
 use Rattle.std.specs.List.{AllPass}
-use Rattle.std.proofs.lemmas.List.{append-nil, drop-map, drop-take, drop_all, length-drop, length-take, take-append-le, take-map, take-take, take_all}
+use Rattle.std.proofs.lemmas.List.{drop-map, take-map, take_all}
 use Rattle.std.proofs.lemmas.Slice.{between_is}
-use Rattle.std.proofs.Math.Seq.{take-append-add}
 use Rattle.std.proofs.lemmas.List.Elements.{All-nil, All-cons, All-head, All-tail, All-append, All-take, All-drop, All-map}
 use Rattle.cvl_base.specs.Booleans.{either}
 use Rattle.cvl_base.specs.Folds.{fold_of, scan_of}
 use Rattle.cvl_base.specs.SegmentMonoid.{is_seg_item, seg_join, seg_unit}
 use Rattle.fresh.specs.Parts.{part}
 use Rattle.scan_walks.specs.Ranges.{continued, started, with_starts, range_between, range_scan_of}
-use Rattle.scan_walks.proofs.Cut.{length-started}
-use Rattle.scan_walks.proofs.LastStart.{with_starts-none}
 use Rattle.operators.proofs.FoldLaws.{scan_of-cons}
 
 module _ {Item : Type 0} (join : Item → Item → Item) (unit : Item) where
@@ -62,49 +58,21 @@ module _ {Item : Type 0} where
       (started_passes is_item (take n xs) (All-take (λ y. is_item y ≡ true) n xs items))
       (with_starts_passes is_item ls (drop n xs) (All-drop (λ y. is_item y ≡ true) n xs items))
 
-  started-take : (k : ℕ) (xs : List Item) → take k (started xs) ≡ started (take k xs)
-  started-take zero xs = refl
-  started-take (suc k) [] = refl
-  started-take (suc k) (x ∷ xs) = ap (λ ws. (true, x) ∷ ws) (take-map (λ y. (false, y)) k xs)
+  -- the front of elements that continue a segment and of what follows them, where a front of that is known
+  continued-take : (rest : List Item → List (Bool × Item)) → ((k : ℕ) (ys : List Item) → take k (rest ys) ≡ rest (take k ys)) → (n k : ℕ) (xs : List Item)
+      → take k (continued (take n xs) ++ rest (drop n xs)) ≡ continued (take n (take k xs)) ++ rest (drop n (take k xs))
+  continued-take rest is zero k xs = is k xs
+  continued-take rest is (suc n) zero xs = is 0 []
+  continued-take rest is (suc n) (suc k) [] = is (suc k) []
+  continued-take rest is (suc n) (suc k) (x ∷ xs) = ap (λ ws. (false, x) ∷ ws) (continued-take rest is n k xs)
 
-  -- of the elements before place k, where the first n or all of them stand before it, those of the first n and the others
-  front_kept : (k n : ℕ) (xs : List Item) → min n (length xs) ≤ k → take n xs ≡ take n (take k xs)
-  front_kept k n xs within =
-      elim (leb_tells n k) [
-        | inl s ↦ sym (take-take n k xs s.1)
-        | inr s ↦ ap (take n) (sym (take_all k xs (omega (arith, within, s.1))))
-      ]
-
-  rest_kept : (k n m : ℕ) (xs : List Item) → min n (length xs) + m ≡ k → take m (drop n xs) ≡ drop n (take k xs)
-  rest_kept k n m xs split =
-      elim (leb_tells n (length xs)) [
-        | inl s ↦ let same : n + m ≡ k = omega (arith, split, s.1) in sym (drop-take n m xs) ∙ ap (λ j. drop n (take j xs)) same
-        | inr s ↦ take_all m (drop n xs) (omega (arith, length-drop n xs, s.1)) ∙ ap (drop n) (sym (take_all k xs (omega (arith, split, s.1))))
-      ]
-
-  -- the front of a segmented vector: where it ends in the first segment, or behind it
+  -- the front of a segmented vector
   pub with_starts-take : (lengths : List ℕ) (xs : List Item) (k : ℕ) → take k (with_starts lengths xs) ≡ with_starts lengths (take k xs)
   with_starts-take [] xs k = take_all k [] (omega arith)
-  with_starts-take (n ∷ ls) xs k =
-      let first = started (take n xs) in
-      let rest = with_starts ls (drop n xs) in
-      let long : length first ≡ min n (length xs) = length-started (take n xs) ∙ length-take n xs in
-      elim (leb_tells k (length first)) [
-        | inl t ↦
-            take-append-le k first rest t.1
-            ∙ started-take k (take n xs)
-            ∙ ap started (take-take k n xs (omega (arith, t.1, long)) ∙ sym (take_all n (take k xs) (omega (arith, t.1, long, length-take k xs))))
-            ∙ sym (append-nil (started (take n (take k xs))))
-            ∙ ap (λ ys. started (take n (take k xs)) ++ ys) (sym (with_starts-none ls))
-            ∙ ap (λ ys. started (take n (take k xs)) ++ with_starts ls ys) (sym (drop_all n (take k xs) (omega (arith, t.1, long, length-take k xs))))
-        | inr t ↦
-            let m : ℕ = k - length first in
-            let split : length first + m ≡ k = omega (arith, t.1) in
-            ap (λ j. take j (first ++ rest)) (sym split)
-            ∙ take-append-add first rest m
-            ∙ ap (λ ws. first ++ ws) (with_starts-take ls (drop n xs) m)
-            ∙ (λ i. started (front_kept k n xs (omega (arith, t.1, long)) i) ++ with_starts ls (rest_kept k n m xs (omega (arith, split, long)) i))
-      ]
+  with_starts-take (zero ∷ ls) xs k = with_starts-take ls xs k
+  with_starts-take (suc n ∷ ls) xs zero = with_starts-take ls [] 0
+  with_starts-take (suc n ∷ ls) [] (suc k) = with_starts-take ls [] (suc k)
+  with_starts-take (suc n ∷ ls) (x ∷ xs) (suc k) = ap (λ ws. (true, x) ∷ ws) (continued-take (with_starts ls) (λ j ys. with_starts-take ls ys j) n k xs)
 
   -- a run is a part of the segmented vector
   pub range_is_slice : (lengths : List ℕ) (xs : List Item) (from to : ℕ) → range_between lengths xs from to ≡ slice_range (with_starts lengths xs) from to
