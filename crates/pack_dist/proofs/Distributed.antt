@@ -84,6 +84,12 @@ numbers = record {
   long = λ p n. progression-long p.0 p.1 n;
 }
 
+-- each segment has an init and a stride
+pub in-steps : (inits strides : List ℤ) (lengths : List ℕ) → length (zip inits strides) ≡ length lengths → (s : ℕ) → s < length (progressions_of inits strides lengths)
+    → (s < length inits) × (s < length strides)
+in-steps inits strides lengths same s lt =
+    let both = in-both numbers (zip inits strides) lengths same s lt in (omega (arith, both, length-zip inits strides), omega (arith, both, length-zip inits strides))
+
 module _ (inits strides : List ℤ) (lengths : List ℕ) (pairs : length inits ≡ length strides) where
   pub steps-long : length (zip inits strides) ≡ length inits
   steps-long = omega (arith, pairs, length-zip inits strides)

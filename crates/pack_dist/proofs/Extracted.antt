@@ -12,8 +12,8 @@ use Rattle.cvl_base.specs.SegmentedCalls.{seg_extract_of}
 use Rattle.cvl_base.proofs.Nests.{length-cut, nest-fits}
 use Rattle.cvl_base.proofs.Segmented.{beside-fits, beside-misfits}
 use Rattle.pack_dist.proofs.Named.{Names, NamesNone, extract_some, extract_none}
-use Rattle.pack_dist.proofs.Parts.{IsSegment, StandsAt, both, part, part_read, part_long, part_short, stands}
-use Rattle.pack_dist.proofs.Walk.{Walked, all_done, begins, fails, one_more, single, singles}
+use Rattle.scan_walks.proofs.Parts.{IsSegment, StandsAt, both, part, part_read, part_long, part_short, stands}
+use Rattle.scan_walks.proofs.Walk.{Walked, all_done, begins, fails, one_more, single, singles}
 
 module _ {X : Type 0} (xs : List X) (index : List ℤ) (lengths : List ℕ) where
   -- the elements of each segment and its index

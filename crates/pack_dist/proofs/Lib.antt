@@ -3,10 +3,8 @@ pub mod Extracted
 pub mod Named
 pub mod Ones
 pub mod Packing
-pub mod Parts
 pub mod Progressed
 pub mod Pushed
 pub mod Replaced
 pub mod Segments
 pub mod Standing
-pub mod Walk

@@ -1,12 +1,12 @@
 -- What a pack keeps of the first elements, of one more, and of those that a run is made of.
-use Rattle.std.proofs.Common.{◌≡◌, ℕ, ◌+◌, ◌<◌, ◌≤◌, Bool, true, false, cond, List, [], ◌∷◌, ◌++◌, length, take, drop, get_or, set, refl, sym, ap, ◌∙◌, arith, append-nil, append_assoc, inl, inr}
+use Rattle.std.proofs.Common.{◌≡◌, ℕ, zero, suc, ◌+◌, ◌<◌, ◌≤◌, Bool, true, false, cond, List, [], ◌∷◌, ◌++◌, length, take, drop, get_or, set, refl, sym, ap, ◌∙◌, arith, append-nil, append_assoc, inl, inr}
 use Rattle.std.proofs.Math.Seq.{drop-append_seam, take-append_seam}
 use Rattle.std.proofs.lemmas.Bool.{cases_lt}
-use Rattle.std.proofs.lemmas.List.{length-append, length-take, take-append-drop, take-take, take_more, take_more_set, take-set}
+use Rattle.std.proofs.lemmas.List.{drop-take, drop_more, length-append, length-take, take-take, take_more_set, take-set}
 use Rattle.std.proofs.lemmas.List.Sums.{sum_by-take-drop, sum_by_more}
 use Rattle.cvl_base.specs.Packs.{count_of}
 use Rattle.fresh.specs.Parts.{part}
-use Rattle.pack_dist.specs.Kept.{kept_of}
+use Rattle.pack_dist.specs.Kept.{StandBefore, kept_of}
 use Rattle.cvl_base.proofs.Packs.{count-cons}
 
 -- the true flags in front, and the others
@@ -14,12 +14,17 @@ pub count-split : (flags : List Bool) (n : ℕ) → count_of (take n flags) + co
 count-split flags n = sum_by-take-drop (λ (f : Bool). cond f 1 0) flags n
 
 module _ {X : Type 0} where
-  pub kept-append : (xs ys : List X) (flags others : List Bool) → length xs ≡ length flags → kept_of (xs ++ ys) (flags ++ others) ≡ kept_of xs flags ++ kept_of ys others
-  kept-append [] ys [] others long = refl
-  kept-append [] ys (flag ∷ flags) others long = absurd (omega arith)
-  kept-append (x ∷ xs) ys [] others long = absurd (omega arith)
-  kept-append (x ∷ xs) ys (true ∷ flags) others long = ap (λ kept. x ∷ kept) (kept-append xs ys flags others (omega arith))
-  kept-append (x ∷ xs) ys (false ∷ flags) others long = kept-append xs ys flags others (omega arith)
+  kept-none : (xs : List X) → kept_of xs [] ≡ []
+  kept-none [] = refl
+  kept-none (x ∷ xs) = refl
+
+  -- it is what is kept of the first elements, and of those after them
+  pub kept-split : (xs : List X) (flags : List Bool) (n : ℕ) → kept_of xs flags ≡ kept_of (take n xs) (take n flags) ++ kept_of (drop n xs) (drop n flags)
+  kept-split xs flags zero = refl
+  kept-split [] flags (suc n) = refl
+  kept-split (x ∷ xs) [] (suc n) = sym (kept-none (drop n xs))
+  kept-split (x ∷ xs) (true ∷ flags) (suc n) = ap (λ kept. x ∷ kept) (kept-split xs flags n)
+  kept-split (x ∷ xs) (false ∷ flags) (suc n) = kept-split xs flags n
 
   pub length-kept : (xs : List X) (flags : List Bool) → length xs ≡ length flags → length (kept_of xs flags) ≡ count_of flags
   length-kept [] [] long = refl
@@ -28,13 +33,6 @@ module _ {X : Type 0} where
   length-kept (x ∷ xs) (true ∷ flags) long = omega (arith, length-kept xs flags (omega arith), count-cons true flags)
   length-kept (x ∷ xs) (false ∷ flags) long = omega (arith, length-kept xs flags (omega arith), count-cons false flags)
 
-  -- it is what is kept of the first elements, and of those after them
-  pub kept-split : (xs : List X) (flags : List Bool) (n : ℕ) → length xs ≡ length flags → kept_of xs flags ≡ kept_of (take n xs) (take n flags) ++ kept_of (drop n xs) (drop n flags)
-  kept-split xs flags n long =
-      ap (λ ys. kept_of ys flags) (sym (take-append-drop n xs))
-      ∙ ap (λ fs. kept_of (take n xs ++ drop n xs) fs) (sym (take-append-drop n flags))
-      ∙ kept-append (take n xs) (drop n xs) (take n flags) (drop n flags) (omega (arith, long, length-take n xs, length-take n flags))
-
   kept_one : (x : X) (flag : Bool) → kept_of (x ∷ []) (flag ∷ []) ≡ cond flag (x ∷ []) []
   kept_one x true = refl
   kept_one x false = refl
@@ -42,9 +40,9 @@ module _ {X : Type 0} where
   kept_more : (xs : List X) (flags : List Bool) (k : ℕ) (d : X) → length xs ≡ length flags → k < length flags
       → kept_of (take (k + 1) xs) (take (k + 1) flags) ≡ kept_of (take k xs) (take k flags) ++ cond (get_or flags k false) (get_or xs k d ∷ []) []
   kept_more xs flags k d long within =
-      ap (λ ys. kept_of ys (take (k + 1) flags)) (take_more xs k d (omega (arith, long)))
-      ∙ ap (λ fs. kept_of (take k xs ++ get_or xs k d ∷ []) fs) (take_more flags k false within)
-      ∙ kept-append (take k xs) (get_or xs k d ∷ []) (take k flags) (get_or flags k false ∷ []) (omega (arith, long, length-take k xs, length-take k flags))
+      kept-split (take (k + 1) xs) (take (k + 1) flags) k
+      ∙ (λ i. kept_of (take-take k (k + 1) xs (omega arith) i) (take-take k (k + 1) flags (omega arith) i)
+      ++ kept_of ((drop-take k 1 xs ∙ ap (take 1) (drop_more xs k d (omega (arith, long)))) i) ((drop-take k 1 flags ∙ ap (take 1) (drop_more flags k false within)) i))
       ∙ ap (λ kept. kept_of (take k xs) (take k flags) ++ kept) (kept_one (get_or xs k d) (get_or flags k false))
 
   -- ---- the loop that stores each element at the number of true flags before it
@@ -67,17 +65,16 @@ module _ {X : Type 0} where
   -- ---- runs of what is kept
 
   -- the elements from one on and before another, where n flags are true: what is kept of them fills n places
-  module _ (xs : List X) (flags : List Bool) (from to first n : ℕ) (long : length xs ≡ length flags) (within : to ≤ length flags) (before : count_of (take from flags) ≡ first)
-      (upto : count_of (take to flags) ≡ first + n) (fewest : (k : ℕ) → k < from → count_of (take k flags) < first) where
+  module _ (xs : List X) {flags : List Bool} {from to first : ℕ} (n : ℕ) (long : length xs ≡ length flags) (begin : StandBefore flags first from) (end : StandBefore flags (first + n) to) where
     in_order : from ≤ to
     in_order =
         elim (cases_lt to from) [
-          | inl lt ↦ absurd (omega (arith, fewest to lt, upto))
+          | inl lt ↦ absurd (omega (arith, begin.fewest to lt, end.kept))
           | inr le ↦ le
         ]
 
     pub section-count : (here : List Bool) → here ≡ drop from (take to flags) → count_of here ≡ n
-    section-count here is = omega (arith, ap count_of is, count-split (take to flags) from, ap count_of (take-take from to flags in_order), before, upto)
+    section-count here is = omega (arith, ap count_of is, count-split (take to flags) from, ap count_of (take-take from to flags in_order), begin.kept, end.kept)
 
     pub section-kept : (ys : List X) (here : List Bool) → ys ≡ drop from (take to xs) → here ≡ drop from (take to flags) → kept_of ys here ≡ part (kept_of xs flags) first n
     section-kept ys here are is =
@@ -85,15 +82,15 @@ module _ {X : Type 0} where
         let kept = kept_of ys here in
         let others = kept_of (drop to xs) (drop to flags) in
         let some_long : length (take to xs) ≡ length (take to flags) = omega (arith, long, length-take to xs, length-take to flags) in
-        let both : kept_of (take to xs) (take to flags) ≡ front ++ kept = kept-split (take to xs) (take to flags) from some_long ∙ sym (λ i. front ++ kept_of (are i) (is i)) in
+        let both : kept_of (take to xs) (take to flags) ≡ front ++ kept = kept-split (take to xs) (take to flags) from ∙ sym (λ i. front ++ kept_of (are i) (is i)) in
         let front_long : length front ≡ first =
         length-kept (take from (take to xs)) (take from (take to flags)) (omega (arith, some_long, length-take from (take to xs), length-take from (take to flags)))
         ∙ ap count_of (take-take from to flags in_order)
-        ∙ before in
+        ∙ begin.kept in
         let here_long : length kept ≡ n =
-        omega (arith, ap length both, length-kept (take to xs) (take to flags) some_long, upto, front_long, length-append front kept) in
+        omega (arith, ap length both, length-kept (take to xs) (take to flags) some_long, end.kept, front_long, length-append front kept) in
         sym
-        (ap (λ ys. part ys first n) (kept-split xs flags to long ∙ ap (λ ys. ys ++ others) both ∙ append_assoc front kept others)
+        (ap (λ ys. part ys first n) (kept-split xs flags to ∙ ap (λ ys. ys ++ others) both ∙ append_assoc front kept others)
         ∙ ap (λ k. take n (drop k (front ++ (kept ++ others)))) (sym front_long)
         ∙ ap (take n) (drop-append_seam front (kept ++ others))
         ∙ ap (λ k. take k (kept ++ others)) (sym here_long)
@@ -106,9 +103,9 @@ pub counted : (flags : List Bool) (k count more : ℕ) → k < length flags → 
 counted flags k count more lt is one = omega (arith, is, one, sum_by_more (λ (f : Bool). cond f 1 0) flags k false lt)
 
 -- what a run holds and what is left to be pushed, before a block and after it
-pub block_more : {X : Type 0} (xs : List X) (flags : List Bool) (n : ℕ) (before after : List X) → length xs ≡ length flags → after ≡ before ++ kept_of (take n xs) (take n flags)
+pub block_more : {X : Type 0} (xs : List X) (flags : List Bool) (n : ℕ) (before after : List X) → after ≡ before ++ kept_of (take n xs) (take n flags)
     → after ++ kept_of (drop n xs) (drop n flags) ≡ before ++ kept_of xs flags
-block_more xs flags n before after long is =
+block_more xs flags n before after is =
     ap (λ ys. ys ++ kept_of (drop n xs) (drop n flags)) is
     ∙ append_assoc before (kept_of (take n xs) (take n flags)) (kept_of (drop n xs) (drop n flags))
-    ∙ ap (λ ys. before ++ ys) (sym (kept-split xs flags n long))
+    ∙ ap (λ ys. before ++ ys) (sym (kept-split xs flags n))

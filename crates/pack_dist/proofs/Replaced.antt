@@ -15,8 +15,8 @@ use Rattle.cvl_base.proofs.Nests.{length-cut}
 use Rattle.cvl_base.proofs.Segmented.{beside-fits, beside-misfits}
 use Rattle.pack_dist.proofs.Extracted.{indexed, indexed-at, indexed-fits, indexed-misfits, length-indexed}
 use Rattle.pack_dist.proofs.Named.{Names, NamesNone, replace_some, replace_none}
-use Rattle.pack_dist.proofs.Parts.{IsSegment, StandsAt, both, part_long, part_short}
-use Rattle.pack_dist.proofs.Walk.{Walked, all_done, begins, fails, itself, one_more}
+use Rattle.scan_walks.proofs.Parts.{IsSegment, StandsAt, both, part_long, part_short}
+use Rattle.scan_walks.proofs.Walk.{Walked, all_done, begins, fails, itself, one_more}
 
 -- a write of one element into those between `start` and `start + n`, where from `start` on the vector was as at first
 module _ {X : Type 0} (xs : List X) (start n k : ℕ) (v : X) (held : List X) (within : k < n) (same : drop start held ≡ drop start xs) where

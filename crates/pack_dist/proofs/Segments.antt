@@ -12,7 +12,7 @@ use Rattle.cvl_base.specs.Conversions.{integer_of}
 use Rattle.cvl_base.specs.Descriptors.{AreLengths}
 use Rattle.cvl_base.specs.Faults.{fault}
 use Rattle.cvl_base.specs.Folds.{fold_of}
-use Rattle.cvl_base.specs.Gives.{◌>>=◌, after, Gives}
+use Rattle.cvl_base.specs.Gives.{after, Gives}
 use Rattle.cvl_base.specs.Integers.{sum_of}
 use Rattle.cvl_base.specs.Limits.{most_elements}
 use Rattle.cvl_base.specs.Nests.{cut_of, nest}
@@ -26,11 +26,10 @@ use Rattle.cvl_base.proofs.Nests.{length-cut, nest-fits, nest-misfits}
 use Rattle.cvl_base.proofs.Segmented.{beside-fits, results-ok}
 use Rattle.scan_walks.proofs.Segmented.{seg_reduce-fits, seg_reduce-misfits}
 use Rattle.scan_walks.specs.Ranges.{reduces_of}
-use Rattle.pack_dist.specs.Counts.{counts_of}
 use Rattle.pack_dist.specs.Kept.{kept_of}
 use Rattle.pack_dist.proofs.Ones.{ones_counted}
 use Rattle.pack_dist.proofs.Packing.{kept-split}
-use Rattle.pack_dist.proofs.Walk.{given, given-more, itself}
+use Rattle.scan_walks.proofs.Walk.{given, given-more, itself}
 
 -- ---- counts
 
@@ -66,59 +65,46 @@ sum-counts (n ∷ lengths) flags =
       length-drop n flags,
     )
 
-are_counts : (lengths : List ℕ) (flags : List Bool) (numbers : List ℤ) → length lengths ≤ most_elements → length flags ≤ most_elements → numbers ≡ map pos (map count_of (cut_of lengths flags))
-    → AreLengths numbers
-are_counts lengths flags numbers few small is =
-    let counts = map count_of (cut_of lengths flags) in
-    let read : map unsigned_abs numbers ≡ counts = ap (map unsigned_abs) is ∙ abs_pos counts in
-    record {
-      none_negative = is ∙ ap (map pos) (sym read);
-      few = omega (arith, few, ap length is, length-map counts pos, length-map (cut_of lengths flags) count_of, length-cut lengths flags);
-      in_limit = omega (arith, small, ap sum read, sum-counts lengths flags);
-    }
+-- the counts are the lengths of a descriptor
+are_counts : (counts : List ℕ) → length counts ≤ most_elements → sum counts ≤ most_elements → AreLengths (map pos counts)
+are_counts counts few small = record {
+  none_negative = ap (map pos) (sym (abs_pos counts));
+  few = omega (arith, few, length-map counts pos);
+  in_limit = omega (arith, small, ap sum (abs_pos counts));
+}
 
--- the sums of the segments' flags, read as 1 and 0, are their counts
-ones-reduced : (flags : List Bool) (lengths : List ℕ) → sum lengths ≤ most_elements → seg_reduce_of sum_of (pos 0) (map integer_of flags) lengths ≡ counts_of flags lengths
-ones-reduced flags lengths small =
-    elim (eqb_tells (sum lengths) (length flags)) [
-      | inl t ↦
-          seg_reduce-fits sum_of (pos 0) (map integer_of flags) lengths (t.1 ∙ sym (length-map flags integer_of))
-          ∙ ap Ok (ones_by_segment lengths flags (omega (arith, t.1, small)))
-          ∙ sym (ap (λ r. r >>= λ counts. Ok (map pos counts)) (seg_count-fits flags lengths t.1))
-      | inr t ↦ ones-misfit flags lengths t.1 ∙ sym (ap (λ r. r >>= λ counts. Ok (map pos counts)) (seg_count-misfits flags lengths t.1))
-    ]
+module _ {V : Type 0} (view : V → List ℤ) (flags : List Bool) (lengths : List ℕ) (few : length lengths ≤ most_elements) (small : sum lengths ≤ most_elements) where
+  abbrev counts : List ℕ
+  counts = map count_of (cut_of lengths flags)
 
-module _ {V : Type 0} (view : V → List ℤ) where
-  -- what gives them as integers gives them
-  counts-given : (counts : Result (List ℕ) Fault) (r : Result V Refused) → Gives view r (counts >>= λ ns. Ok (map pos ns)) → Gives (λ v. map unsigned_abs (view v)) r counts
-  counts-given (Ok ns) (Ok v) given = let same : map pos ns ≡ view v = cc given in ap Ok (sym (abs_pos ns) ∙ ap (map unsigned_abs) same)
-  counts-given (Err e) (Ok v) given = cc given
-  counts-given (Ok ns) (Err (refused.Fault f)) given = cc given
-  counts-given (Err e) (Err (refused.Fault f)) given = cc given
-  counts-given counts (Err refused.NoResources) given = tt
+  -- the count of each segment is given, and can be made a descriptor
+  abbrev IsCount : Result V Refused → Type 0
+  IsCount r = Gives (λ v. map unsigned_abs (view v)) r (seg_count_of flags lengths) × IfOk r (λ v. AreLengths (view v))
 
-  module _ (flags : List Bool) (lengths : List ℕ) (few : length lengths ≤ most_elements) (small : sum lengths ≤ most_elements) where
-    -- and they are the lengths of a descriptor
-    counts-lengths : (r : Result V Refused) → Gives view r (counts_of flags lengths) → IfOk r (λ v. AreLengths (view v))
-    counts-lengths (Err e) given = tt
-    counts-lengths (Ok v) given =
-        elim (eqb_tells (sum lengths) (length flags)) [
-          | inl t ↦
-              let both : ◌≡◌ {A = Result (List ℤ) Fault} (Ok (map pos (map count_of (cut_of lengths flags)))) (Ok (view v)) =
-              sym (ap (λ r. r >>= λ counts. Ok (map pos counts)) (seg_count-fits flags lengths t.1)) ∙ given in
-              are_counts lengths flags (view v) few (omega (arith, t.1, small)) (cc both)
-          | inr t ↦
-              let both : ◌≡◌ {A = Result (List ℤ) Fault} (Err (fault no.LengthMismatch)) (Ok (view v)) =
-              sym (ap (λ r. r >>= λ counts. Ok (map pos counts)) (seg_count-misfits flags lengths t.1)) ∙ given in
-              let none : ◌≡◌ {A = ℕ} 0 1 = cc both in
-              absurd (omega (arith, none))
-        ]
+  fits : (r : Result V Refused) → sum lengths ≡ length flags → Gives view r (Ok (map pos counts)) → IsCount r
+  fits (Ok v) same given =
+      let is : map pos counts ≡ view v = cc given in (
+        seg_count-fits flags lengths same ∙ ap Ok (sym (abs_pos counts) ∙ ap (map unsigned_abs) is),
+        subst AreLengths is
+            (are_counts counts (omega (arith, few, length-map (cut_of lengths flags) count_of, length-cut lengths flags)) (omega (arith, small, same, sum-counts lengths flags))),
+      )
+  fits (Err (refused.Fault f)) same given = absurd (cc given)
+  fits (Err refused.NoResources) same given = (tt, tt)
 
-    -- a reduce of the flags, read as 1 and 0, is the count of each segment
-    pub reduced : (r : Result V Refused) → Gives view r (seg_reduce_of sum_of (pos 0) (map integer_of flags) lengths)
-        → Gives (λ v. map unsigned_abs (view v)) r (seg_count_of flags lengths) × IfOk r (λ v. AreLengths (view v))
-    reduced r given =
-        let counted = subst (Gives view r) (ones-reduced flags lengths small) given in (counts-given (seg_count_of flags lengths) r counted, counts-lengths r counted)
+  misfits : (r : Result V Refused) → sum lengths ≢ length flags → Gives view r (Err (fault no.LengthMismatch)) → IsCount r
+  misfits (Ok v) unlike given = absurd (cc given)
+  misfits (Err (refused.Fault f)) unlike given = let is : fault no.LengthMismatch ≡ f = cc given in (seg_count-misfits flags lengths unlike ∙ ap Err is, tt)
+  misfits (Err refused.NoResources) unlike given = (tt, tt)
+
+  -- a reduce of the flags, read as 1 and 0, is the count of each segment
+  pub reduced : (r : Result V Refused) → Gives view r (seg_reduce_of sum_of (pos 0) (map integer_of flags) lengths) → IsCount r
+  reduced r given =
+      elim (eqb_tells (sum lengths) (length flags)) [
+        | inl t ↦
+            fits r t.1 (subst (Gives view r) (seg_reduce-fits sum_of (pos 0) (map integer_of flags) lengths (t.1 ∙ sym (length-map flags integer_of))
+            ∙ ap Ok (ones_by_segment lengths flags (omega (arith, t.1, small)))) given)
+        | inr t ↦ misfits r t.1 (subst (Gives view r) (ones-misfit flags lengths t.1) given)
+      ]
 
 -- ---- packs
 
@@ -134,7 +120,7 @@ module _ {X : Type 0} where
       ∙ ap (after first)
       (packed place (s + 1) lengths (drop n xs) (drop n flags)
       (omega (arith, long, length-drop n xs, length-drop n flags)) (omega (arith, fits, sum-cons n lengths, length-drop n xs)))
-      ∙ ap Ok (sym (kept-split xs flags n long))
+      ∙ ap Ok (sym (kept-split xs flags n))
 
   pub seg_pack-fits : (xs : List X) (flags : List Bool) (lengths : List ℕ) → sum lengths ≡ length xs → sum lengths ≡ length flags → seg_pack_of xs flags lengths ≡ Ok (kept_of xs flags)
   seg_pack-fits xs flags lengths fits fits_flags =

@@ -1,12 +1,14 @@
 //! Distribute: copies of one value, or of one for each segment.
 
-ghost use Rattle.std.specs.Prelude.{◌≡◌, ℕ, ◌+◌, ◌-◌, ◌≤◌, ◌++◌, IfOk, length, replicate, sum, vec_len};
+ghost use Rattle.std.specs.Prelude.{◌≡◌, ℕ, ◌+◌, ◌-◌, ◌≤◌, ◌++◌, IfOk, MatchResult, Ok, Err, length, replicate, sum, vec_len};
 ghost use Rattle.cvl_base.specs.Distributes.{distribute_of};
 ghost use Rattle.cvl_base.specs.Gives.{Gives};
 ghost use Rattle.cvl_base.specs.Limits.{most_elements};
+ghost use Rattle.cvl_base.specs.Lists.{joined};
 ghost use Rattle.cvl_base.specs.Rooms.{Overwrites, in_room};
 ghost use Rattle.cvl_base.specs.SegmentedCalls.{seg_distribute_of};
 ghost use Rattle.fresh.specs.Places.{stretch};
+ghost use Rattle.pack_dist.specs.Lists.{copies_of};
 
 use crate::checks::length_for;
 use crate::writes::{write_room, write_vector};
@@ -66,11 +68,7 @@ pub fn seg_distribute<T: Copy + Send + Sync, R: Threads + Sync, A: Memory>(
     ensures values { Gives (λ v. v.items) result (seg_distribute_of values.now d.now) }
     ensures as_long { IfOk result (λ v. vec_len v ≡ sum d.now) }
 {
-    check_agree(values.len(), d.count())?;
-    let total = d.total();
-    let copies = EndToEnd {
-        segments: SegmentCopies { values, d },
-    };
+    let (copies, total) = segment_copies(values, d)?;
     Ok(write_vector(rt, alloc, config, &copies, total, total)?)
 }
 
@@ -83,11 +81,27 @@ pub fn seg_distribute_over<T: Copy, A: Allocator>(
 ) -> Result<(), Fault>
     ensures { Overwrites (in_room (length out.old) (seg_distribute_of values.now d.now)) result out.old out.new }
 {
+    let (copies, total) = segment_copies(values, d)?;
+    write_room(&copies, total, out)
+}
+
+/// The copies of the segments' values and how many they are: LengthMismatch, without a place, where there isn't one value for each
+/// segment.
+fn segment_copies<'a, T: Copy, A: Allocator>(
+    values: &'a [T],
+    d: &'a SegDes<A>,
+) -> Result<(EndToEnd<SegmentCopies<'a, T, A>>, usize), Fault>
+    ensures values { MatchResult result
+        (λ made. seg_distribute_of values.now d.now ≡ Ok (joined (copies_of made.0.segments.values.now made.0.segments.d.now)))
+        (λ f. seg_distribute_of values.now d.now ≡ Err f) }
+    ensures items { IfOk result (λ made. made.1 ≡ length (joined (copies_of made.0.segments.values.now made.0.segments.d.now))) }
+    ensures total { IfOk result (λ made. (made.1 ≡ sum d.now) × (made.1 ≤ most_elements)) }
+{
     check_agree(values.len(), d.count())?;
     let copies = EndToEnd {
         segments: SegmentCopies { values, d },
     };
-    write_room(&copies, d.total(), out)
+    Ok((copies, d.total()))
 }
 
 /// Copies of a value for each segment.

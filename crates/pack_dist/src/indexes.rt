@@ -1,13 +1,15 @@
 //! Index: the numbers from a first one on in equal steps, in all or in each segment.
 
-ghost use Rattle.std.specs.Prelude.{◌≡◌, ◌+◌, ◌-◌, ◌<◌, ◌≤◌, ◌^◌, ◌++◌, IfOk, length, sum, vec_len};
+ghost use Rattle.std.specs.Prelude.{◌≡◌, ◌+◌, ◌-◌, ◌<◌, ◌≤◌, ◌^◌, ◌++◌, IfOk, MatchResult, Ok, Err, length, sum, vec_len};
 ghost use Rattle.std.specs.List.{zip};
 ghost use Rattle.cvl_base.specs.Distributes.{index_of};
 ghost use Rattle.cvl_base.specs.Gives.{Gives};
 ghost use Rattle.cvl_base.specs.Limits.{most_elements};
+ghost use Rattle.cvl_base.specs.Lists.{joined};
 ghost use Rattle.cvl_base.specs.Rooms.{Overwrites, in_room};
 ghost use Rattle.cvl_base.specs.SegmentedCalls.{seg_index_of};
 ghost use Rattle.fresh.specs.Places.{stretch};
+ghost use Rattle.pack_dist.specs.Lists.{progressions_of};
 ghost use Rattle.pack_dist.specs.Progressions.{numbers_from};
 
 use crate::checks::length_for;
@@ -72,12 +74,7 @@ pub fn seg_index<R: Threads + Sync, A: Memory>(
     ensures values { Gives (λ v. v.items) result (seg_index_of inits.now strides.now d.now) }
     ensures as_long { IfOk result (λ v. vec_len v ≡ sum d.now) }
 {
-    check_agree(inits.len(), strides.len())?;
-    check_agree(inits.len(), d.count())?;
-    let total = d.total();
-    let numbers = EndToEnd {
-        segments: SegmentProgressions { inits, strides, d },
-    };
+    let (numbers, total) = segment_progressions(inits, strides, d)?;
     Ok(write_vector(rt, alloc, config, &numbers, total, total)?)
 }
 
@@ -91,13 +88,32 @@ pub fn seg_index_over<A: Allocator>(
 ) -> Result<(), Fault>
     ensures { Overwrites (in_room (length out.old) (seg_index_of inits.now strides.now d.now)) result out.old out.new }
 {
+    let (numbers, total) = segment_progressions(inits, strides, d)?;
+    write_room(&numbers, total, out)
+}
+
+/// The numbers of the segments and how many they are: LengthMismatch, without a place, where there aren't one init and one stride for
+/// each segment.
+fn segment_progressions<'a, A: Allocator>(
+    inits: &'a [i32],
+    strides: &'a [i32],
+    d: &'a SegDes<A>,
+) -> Result<(EndToEnd<SegmentProgressions<'a, A>>, usize), Fault>
+    ensures values { MatchResult result
+        (λ made. seg_index_of inits.now strides.now d.now ≡ Ok (joined
+        (progressions_of made.0.segments.inits.now made.0.segments.strides.now made.0.segments.d.now)))
+        (λ f. seg_index_of inits.now strides.now d.now ≡ Err f) }
+    ensures items { IfOk result (λ made. made.1 ≡ length (joined
+        (progressions_of made.0.segments.inits.now made.0.segments.strides.now made.0.segments.d.now))) }
+    ensures total { IfOk result (λ made. (made.1 ≡ sum d.now) × (made.1 ≤ most_elements)) }
+{
     check_agree(inits.len(), strides.len())?;
     check_agree(inits.len(), d.count())?;
     let total = d.total();
     let numbers = EndToEnd {
         segments: SegmentProgressions { inits, strides, d },
     };
-    write_room(&numbers, total, out)
+    Ok((numbers, total))
 }
 
 /// So many numbers in equal steps.

@@ -1,11 +1,11 @@
 //! What a pack keeps, written in runs.
 
-ghost use Rattle.std.specs.Prelude.{◌≡◌, ℕ, ◌+◌, ◌<◌, ◌≤◌, [], length, take};
+ghost use Rattle.std.specs.Prelude.{◌≡◌, ◌+◌, ◌≤◌, [], length};
 ghost use Rattle.cvl_base.specs.Limits.{most_elements};
 ghost use Rattle.cvl_base.specs.Packs.{count_of};
 ghost use Rattle.fresh.specs.Parts.{part};
 ghost use Rattle.fresh.specs.Places.{stretch};
-ghost use Rattle.pack_dist.specs.Kept.{ArePlaces, kept_of};
+ghost use Rattle.pack_dist.specs.Kept.{ArePlaces, StandBefore, kept_of};
 
 use crate::kept_blocks::push_kept;
 use fresh::{Run, Writer};
@@ -26,9 +26,7 @@ impl<'a, T: Copy> Kept<'a, T> {
     /// How many elements have a place below this one, kept or not. They are those that fill the places below it.
     fn standing_before(&self, place: usize) -> usize
         requires { place ≤ count_of self.now.flags.now }
-        ensures within { result ≤ length self.now.flags.now }
-        ensures kept { count_of (take result self.now.flags.now) ≡ place }
-        ensures fewest { (k : ℕ) → k < result → count_of (take k self.now.flags.now) < place }
+        ensures { StandBefore self.now.flags.now place result }
     {
         let place = place as u32;
         self.places.partition_point(|p| p.cast_unsigned() < place)

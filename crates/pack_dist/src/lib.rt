@@ -23,6 +23,5 @@ pub use indexes::{index, index_over, seg_index, seg_index_over};
 pub use packs::{pack, pack_gated, pack_over};
 pub use replaces::{replace, seg_replace};
 pub use segment_packs::{
-    packed_descriptor, packed_descriptor_gated, seg_pack, seg_pack_gated, seg_pack_values,
-    seg_pack_values_gated, seg_pack_values_over,
+    packed_descriptor_gated, seg_pack, seg_pack_values_gated, seg_pack_values_over,
 };

@@ -53,9 +53,9 @@ pub fn seg_replace<T: Copy, A: Memory>(
     let mut replaced = Vec::from_slice(alloc, vector)?;
     let mut start = 0;
     for s in 0..d.count() {
-        let length = d.length(s);
+        let (length, value) = (d.length(s), values[s]);
         let place = place_in_segment(s, start, length, &index[s])?;
-        replaced[place] = values[s];
+        replaced[place] = value;
         start += length;
     }
     Ok(replaced)

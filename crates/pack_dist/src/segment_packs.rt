@@ -12,25 +12,11 @@ use cvl_base::{Config, Fault, Lengths, Memory, Refused};
 use segdes::{SegDes, SegLengths, check_total};
 use std::thread::Threads;
 
-/// The elements of each segment whose flag is true, in order, one segment after another: `pck_lez` and `pck_leb`.
+/// The elements of each segment whose flag is true, in order, one segment after another: `pck_lez` and `pck_leb`. Workers pass a
+/// gate at each point of their way through a tile of the flags.
 ///
 /// LengthMismatch, without a place, where the segments' total is not the number of elements, or not that of flags.
 /// Source: CVL's segmented pack.
-pub fn seg_pack_values<T: Copy + Send + Sync, R: Threads + Sync, A: Memory>(
-    rt: &R,
-    alloc: A,
-    config: Config,
-    values: &[T],
-    flags: &[bool],
-    d: &SegDes<A>,
-) -> Result<Vec<T, A>, Refused>
-    ensures values { Gives (λ v. v.items) result (seg_pack_of values.now flags.now d.now) }
-    ensures no_longer { IfOk result (λ v. vec_len v ≤ length values.now) }
-{
-    seg_pack_values_gated(rt, alloc, config, values, flags, d, &OpenGate)
-}
-
-/// The same as [`seg_pack_values`], by workers that pass a gate at each point of their way through a tile of the flags.
 pub fn seg_pack_values_gated<T: Copy + Send + Sync, R: Threads + Sync, A: Memory, G: Gate>(
     rt: &R,
     alloc: A,
@@ -48,7 +34,7 @@ pub fn seg_pack_values_gated<T: Copy + Send + Sync, R: Threads + Sync, A: Memory
     Ok(kept(rt, alloc, config, values, flags, gate)?)
 }
 
-/// The same as [`seg_pack_values`], at the front of a room of the caller's, by the thread that calls. It asks for no memory.
+/// The same as [`seg_pack_values_gated`], at the front of a room of the caller's, by the thread that calls. It asks for no memory.
 ///
 /// The count becomes the number of true flags, also where the room is too short for as many elements: that is LengthMismatch,
 /// without a place, and the room is as before. Else the rest of the room is as before. At any other fault the count is, too.
@@ -66,22 +52,10 @@ pub fn seg_pack_values_over<T: Copy>(
     kept_over(values, flags, out, count)
 }
 
-/// The descriptor of what a segmented pack keeps: `pck_fov`. An empty segment stays, with length 0.
+/// The descriptor of what a segmented pack keeps: `pck_fov`. An empty segment stays, with length 0. Workers pass a gate at each point
+/// of their way through a tile of the flags.
 ///
 /// LengthMismatch, without a place, where the segments' total is not the number of flags. Source: CVL's segmented pack.
-pub fn packed_descriptor<R: Threads + Sync, A: Memory>(
-    rt: &R,
-    alloc: A,
-    config: Config,
-    flags: &[bool],
-    d: &SegDes<A>,
-) -> Result<SegDes<A>, Refused>
-    ensures { Gives (λ packed. packed) result (seg_count_of flags.now d.now) }
-{
-    packed_descriptor_gated(rt, alloc, config, flags, d, &OpenGate)
-}
-
-/// The same as [`packed_descriptor`], by workers that pass a gate at each point of their way through a tile of the flags.
 pub fn packed_descriptor_gated<R: Threads + Sync, A: Memory, G: Gate>(
     rt: &R,
     alloc: A,
@@ -100,6 +74,7 @@ pub fn packed_descriptor_gated<R: Threads + Sync, A: Memory, G: Gate>(
 ///
 /// LengthMismatch, without a place, where the segments' total is not the number of elements, or not that of flags.
 /// Source: CVL's segmented pack.
+#[tactic(auto, using(crate::proofs::Segments::pack_fault))]
 pub fn seg_pack<T: Copy + Send + Sync, R: Threads + Sync, A: Memory>(
     rt: &R,
     alloc: A,
@@ -113,27 +88,7 @@ pub fn seg_pack<T: Copy + Send + Sync, R: Threads + Sync, A: Memory>(
     ensures lengths { IfOk result (λ packed. seg_count_of flags.now d.now ≡ Ok packed.1) }
     ensures no_longer { IfOk result (λ packed. vec_len packed.0 ≤ length values.now) }
 {
-    seg_pack_gated(rt, alloc, config, values, flags, d, &OpenGate)
-}
-
-/// The same as [`seg_pack`], by workers that pass a gate at each point of their way through a tile of the flags, first for the
-/// elements that are kept, then for their descriptor.
-#[tactic(auto, using(crate::proofs::Segments::pack_fault))]
-pub fn seg_pack_gated<T: Copy + Send + Sync, R: Threads + Sync, A: Memory, G: Gate>(
-    rt: &R,
-    alloc: A,
-    config: Config,
-    values: &[T],
-    flags: &[bool],
-    d: &SegDes<A>,
-    gate: &G,
-) -> Result<(Vec<T, A>, SegDes<A>), Refused>
-    ensures values { Gives (λ packed. packed.0.items) result
-        (seg_pack_of values.now flags.now d.now) }
-    ensures lengths { IfOk result (λ packed. seg_count_of flags.now d.now ≡ Ok packed.1) }
-    ensures no_longer { IfOk result (λ packed. vec_len packed.0 ≤ length values.now) }
-{
-    let packed = seg_pack_values_gated(rt, alloc, config, values, flags, d, gate)?;
-    let lengths = packed_descriptor_gated(rt, alloc, config, flags, d, gate)?;
+    let packed = seg_pack_values_gated(rt, alloc, config, values, flags, d, &OpenGate)?;
+    let lengths = packed_descriptor_gated(rt, alloc, config, flags, d, &OpenGate)?;
     Ok((packed, lengths))
 }

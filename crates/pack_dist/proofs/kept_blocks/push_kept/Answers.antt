@@ -82,7 +82,7 @@ loop-values-preserved g c =
     record {
       place = (ap (λ r. r.block) is ∙ c.loop-values.invariant.place.0, ap (λ r. r.first) is ∙ c.loop-values.invariant.place.1);
       items = (λ i. c.loop-place.run.items ++ kept_of (of_values.back i) (of_flags.back i))
-          ∙ block_more values flags block run.items c.loop-place.run.items c.loop-values.invariant.as_long
+          ∙ block_more values flags block run.items c.loop-place.run.items
           (ap (λ r. r.items) is ∙ λ i. run.items ++ kept_of (of_values.front i) (of_flags.front i))
           ∙ c.loop-values.invariant.items;
       room = omega (

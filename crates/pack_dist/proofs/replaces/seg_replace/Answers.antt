@@ -1,6 +1,6 @@
 use Rattle.std.proofs.Common.{◌∙◌, rules, arith, ap, refl, take_all}
 use Rattle.std.specs.Prelude.{sum}
-use Rattle.pack_dist.proofs.Parts.{IsSegment, ends_within, starts_more, there}
+use Rattle.scan_walks.proofs.Parts.{IsSegment, ends_within, starts_more}
 use Rattle.pack_dist.proofs.Replaced.{index-misfits, replace-begins, replace-ends, replace-fails, replace-more, values-misfit}
 use Rattle.pack_dist.proofs.replaces.seg_replace.Goals as goal
 
@@ -43,9 +43,9 @@ pub returns-in_err-place-clause-values : goal.returns-in_err-place-clause-values
 returns-in_err-place-clause-values g c =
     let here : IsSegment c.args.d.now c.loop-s.s c.loop-s.start c.length-length.result =
     record { within = omega arith; starts = c.loop-s.invariant.starts; long = c.length-length.ensures } in
-    let value = there c.args.values.now c.loop-s.s (omega (arith, c.in_ok-check_agree-2.ensures)) in
     let e = replace-fails c.args.vector.now c.args.index.now c.args.values.now c.args.d.now c.loop-s.s c.loop-s.start c.loop-s.replaced.items c.loop-s.invariant.replacing
-    c.length-length.result value.0 here (omega (arith, c.in_ok-check_agree.ensures)) value.1 c.in_err-place.ensures.named.1 in
+    c.length-length.result c.index-values-s.result here (omega (arith, c.in_ok-check_agree.ensures))
+    (record { within = omega (arith, c.in_ok-check_agree-2.ensures); here = c.index-values-s.is }) c.in_err-place.ensures.named.1 in
     search rules
 
 pub returns-clause-values : goal.returns-clause-values

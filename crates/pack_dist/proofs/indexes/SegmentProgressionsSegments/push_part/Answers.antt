@@ -1,32 +1,24 @@
 use Rattle.std.proofs.Common.{◌∙◌, ◌≡◌, ◌+◌, ◌-◌, ◌++◌, get_or, pos, sym, ap, arith}
 use Rattle.std.specs.List.{zip}
-use Rattle.std.proofs.lemmas.Slice.Zip.{get_or-zip, length-zip}
+use Rattle.std.proofs.lemmas.Slice.Zip.{get_or-zip}
 use Rattle.fresh.specs.Parts.{part}
 use Rattle.fresh.specs.Places.{stretch}
 use Rattle.pack_dist.specs.Progressions.{progression}
-use Rattle.pack_dist.proofs.Distributed.{in-both, list-at, list-within, numbers}
+use Rattle.pack_dist.proofs.Distributed.{in-steps, list-at, list-within, numbers}
 use Rattle.pack_dist.proofs.Progressed.{progression-part}
 use Rattle.pack_dist.proofs.indexes.SegmentProgressionsSegments.push_part.Goals as goal
 
 pub offset_bounds-self-s : goal.offset_bounds-self-s
-offset_bounds-self-s g c =
-    let self = c.args.self.now in let inits = self.inits.now in let strides = self.strides.now in
-    omega (arith, in-both numbers (zip inits strides) self.d.now self.one_each c.args.s c.requires.segment, length-zip inits strides)
+offset_bounds-self-s g c = let self = c.args.self.now in omega (arith, in-steps self.inits.now self.strides.now self.d.now self.one_each c.args.s c.requires.segment)
 
 pub bounds-self-s : goal.bounds-self-s
-bounds-self-s g c =
-    let self = c.args.self.now in let inits = self.inits.now in let strides = self.strides.now in
-    omega (arith, in-both numbers (zip inits strides) self.d.now self.one_each c.args.s c.requires.segment, length-zip inits strides)
+bounds-self-s g c = let self = c.args.self.now in omega (arith, in-steps self.inits.now self.strides.now self.d.now self.one_each c.args.s c.requires.segment)
 
 pub offset_bounds-self-s-2 : goal.offset_bounds-self-s-2
-offset_bounds-self-s-2 g c =
-    let self = c.args.self.now in let inits = self.inits.now in let strides = self.strides.now in
-    omega (arith, in-both numbers (zip inits strides) self.d.now self.one_each c.args.s c.requires.segment, length-zip inits strides)
+offset_bounds-self-s-2 g c = let self = c.args.self.now in omega (arith, in-steps self.inits.now self.strides.now self.d.now self.one_each c.args.s c.requires.segment)
 
 pub bounds-self-s-2 : goal.bounds-self-s-2
-bounds-self-s-2 g c =
-    let self = c.args.self.now in let inits = self.inits.now in let strides = self.strides.now in
-    omega (arith, in-both numbers (zip inits strides) self.d.now self.one_each c.args.s c.requires.segment, length-zip inits strides)
+bounds-self-s-2 g c = let self = c.args.self.now in omega (arith, in-steps self.inits.now self.strides.now self.d.now self.one_each c.args.s c.requires.segment)
 
 pub push_progression-requires-clause-few : goal.push_progression-requires-clause-few
 push_progression-requires-clause-few g c =
@@ -38,9 +30,9 @@ returns g c =
     let self = c.args.self.now in let run = c.args.run in let s = c.args.s in
     let inits = self.inits.now in let strides = self.strides.now in let d = self.d.now in let steps = zip inits strides in
     let init = get_or inits s (pos 0) in let stride = get_or strides s (pos 0) in
-    let both = in-both numbers steps d self.one_each s c.requires.segment in
+    let both = in-steps inits strides d self.one_each s c.requires.segment in
     let step : get_or steps s (pos 0, pos 0) ≡ (init, stride) =
-    get_or-zip inits strides s (pos 0, pos 0) (omega (arith, both, length-zip inits strides)) (omega (arith, both, length-zip inits strides)) in
+    get_or-zip inits strides s (pos 0, pos 0) both.0 both.1 in
     let within = (list-within numbers steps d self.one_each s c.requires.segment (pos 0, pos 0) (c.args.from + c.args.count) c.requires.within).0 in
     c.push_progression.ensures ∙ ap (λ ys. stretch run.block run.first (run.items ++ ys) (run.room - c.args.count))
     (sym (ap (λ ys. part ys c.args.from c.args.count) (list-at numbers steps d self.one_each s c.requires.segment (pos 0, pos 0)

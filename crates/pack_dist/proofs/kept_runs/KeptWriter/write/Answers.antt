@@ -16,9 +16,8 @@ standing_before-to-requires g c =
 
 pub push_kept-requires-clause-room : goal.push_kept-requires-clause-room
 push_kept-requires-clause-room g c =
-    let k = c.args.self.now in let from = c.standing_before-from in let to = c.standing_before-to in
-    let count = section-count k.values.now k.flags.now from.result to.result c.next_place-first.result c.room.result k.as_long to.ensures.within from.ensures.kept to.ensures.kept from.ensures.fewest
-    _ (c.split_at-4.ensures.back ∙ ap (drop from.result) c.split_at-2.ensures.front) in
+    let k = c.args.self.now in let from = c.standing_before-from in
+    let count = section-count k.values.now c.room.result k.as_long from.ensures c.standing_before-to.ensures _ (c.split_at-4.ensures.back ∙ ap (drop from.result) c.split_at-2.ensures.front) in
     omega (arith, count, c.room.ensures)
 
 pub returns : goal.returns
@@ -27,6 +26,6 @@ returns g c =
     let cut = c.split_at-4.ensures.back ∙ ap (drop from.result) c.split_at-2.ensures.front in
     let here : first ≡ run.first = omega (arith, c.next_place-first.ensures.place, ap length c.requires.empty) in
     filled_up run c.push_kept.result (kept_of c.split_at-3.result.1.now c.split_at-4.result.1.now) _ (count_of c.split_at-4.result.1.now) c.push_kept.ensures c.requires.empty
-    (section-count k.values.now k.flags.now from.result to.result first c.room.result k.as_long to.ensures.within from.ensures.kept to.ensures.kept from.ensures.fewest _ cut ∙ c.room.ensures)
-    (section-kept k.values.now k.flags.now from.result to.result first c.room.result k.as_long to.ensures.within from.ensures.kept to.ensures.kept from.ensures.fewest
-    _ _ (c.split_at-3.ensures.back ∙ ap (drop from.result) c.split_at.ensures.front) cut ∙ λ i. part (kept_of k.values.now k.flags.now) (here i) (c.room.ensures i))
+    (section-count k.values.now c.room.result k.as_long from.ensures to.ensures _ cut ∙ c.room.ensures)
+    (section-kept k.values.now c.room.result k.as_long from.ensures to.ensures _ _ (c.split_at-3.ensures.back ∙ ap (drop from.result) c.split_at.ensures.front) cut
+    ∙ λ i. part (kept_of k.values.now k.flags.now) (here i) (c.room.ensures i))
