@@ -1,4 +1,4 @@
-use Rattle.std.proofs.Common.{◌≡◌, ◌∙◌, ◌+ℤ◌, ap, Err, map, pos, sym, unsigned_abs}
+use Rattle.std.proofs.Common.{◌∙◌, ◌+ℤ◌, ap, Err, pos, sym}
 use Rattle.cvl_base.specs.Integers.{sum_of}
 use Rattle.range_walks.specs.Ranges.{scans_of}
 use Rattle.scan_walks.specs.Fronts.{fitting_front}

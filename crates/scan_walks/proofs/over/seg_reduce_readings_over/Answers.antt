@@ -19,7 +19,8 @@ pub fill_slice-requires-clause-full : goal.fill_slice-requires-clause-full
 fill_slice-requires-clause-full g c = λ block run done.
     let m = g.M.Monoid in let item = g.E.Reading.item in let a = c.args.a.now in let d = c.args.d.now in let is = done.1 in
     let long : length (reduces_of m.join m.unit (map unsigned_abs c.lengths-lengths.result.now) (map item a)) ≡ length c.args.out.now =
-    ap (λ ls. length (reduces_of m.join m.unit ls (map item a))) c.lengths-lengths.ensures.read ∙ length-reduces_of m.join m.unit (map item a) d ∙ sym c.count.ensures.value ∙ c.in_ok-check_agree.ensures in
+    ap (λ ls. length (reduces_of m.join m.unit ls (map item a))) c.lengths-lengths.ensures.read
+    ∙ length-reduces_of m.join m.unit (map item a) d ∙ sym c.count.ensures.value ∙ c.in_ok-check_agree.ensures in
     (ap (λ s. s.block) is, ap (λ s. s.first) is, ap (λ s. s.room) is ∙ omega (arith, long), ap (λ s. length s.items) is ∙ long)
 
 pub returns : goal.returns

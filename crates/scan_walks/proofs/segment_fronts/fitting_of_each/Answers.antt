@@ -13,7 +13,8 @@ pub returns-then-fitting-segment-clause-front : goal.returns-then-fitting-segmen
 returns-then-fitting-segment-clause-front c =
     let row = c.args.lengths.now in let lengths = map unsigned_abs row in let s = c.loop-length.length-index in let segment = c.split_at.result.0.now in
     let read = segment_read row lengths c.requires.lengths.none_negative c.requires.lengths s c.loop-length-test.true in
-    let met = c.fitting_of_scan-fitting.ensures.front ∙ ap fitting_front (one_scanned ◌+ℤ◌ (pos 0) lengths s (read_at row s) segment read.0 read.1 (omega (arith, c.split_at.ensures.front_len, c.min.ensures))) in
+    let met = c.fitting_of_scan-fitting.ensures.front
+    ∙ ap fitting_front (one_scanned ◌+ℤ◌ (pos 0) lengths s (read_at row s) segment read.0 read.1 (omega (arith, c.split_at.ensures.front_len, c.min.ensures))) in
     segments_stop c.loop-length.invariant 1 (read_at row s) (s + 1) refl (one_long lengths s _ read.0 read.1) _ segment c.split_at.result.1.now c.min.ensures
     c.split_at.ensures.front c.split_at.ensures.back c.fitting_of_scan-fitting.result met c.if-fitting-segment.true
 
@@ -21,6 +22,7 @@ pub loop-length-preserved : goal.loop-length-preserved
 loop-length-preserved c =
     let row = c.args.lengths.now in let lengths = map unsigned_abs row in let s = c.loop-length.length-index in let segment = c.split_at.result.0.now in
     let read = segment_read row lengths c.requires.lengths.none_negative c.requires.lengths s c.loop-length-test.true in
-    let met = c.fitting_of_scan-fitting.ensures.front ∙ ap fitting_front (one_scanned ◌+ℤ◌ (pos 0) lengths s (read_at row s) segment read.0 read.1 (omega (arith, c.split_at.ensures.front_len, c.min.ensures))) in
+    let met = c.fitting_of_scan-fitting.ensures.front
+    ∙ ap fitting_front (one_scanned ◌+ℤ◌ (pos 0) lengths s (read_at row s) segment read.0 read.1 (omega (arith, c.split_at.ensures.front_len, c.min.ensures))) in
     segments_go_on c.loop-length.invariant 1 (read_at row s) (s + 1) refl (one_long lengths s _ read.0 read.1) _ segment c.split_at.result.1.now c.min.ensures
     c.split_at.ensures.front c.split_at.ensures.back c.fitting_of_scan-fitting.result met _ (omega (arith, c.if-fitting-segment.false)) (omega arith)
