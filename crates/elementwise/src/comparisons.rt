@@ -1,7 +1,8 @@
 //! The comparisons of two integers, on signed numbers.
 
-ghost use Rattle.cvl_base.specs.Integers.{is_greater, is_less, is_at_least, is_at_most, is_equal, is_unequal};
+ghost use Rattle.cvl_base.specs.Integers.{is_greater, is_at_least, is_equal, is_unequal};
 
+use crate::sides::Flipped;
 use cvl_base::integer;
 use element_walks::Binary;
 
@@ -16,16 +17,8 @@ impl Binary<i32, bool> for Greater {
     }
 }
 
-/// The first is less.
-pub(crate) struct Less;
-
-impl Binary<i32, bool> for Less {
-    ghost value = { is_less };
-
-    fn apply(a: i32, b: i32) -> bool {
-        integer::les(a, b)
-    }
-}
+/// The first is less, so the second is greater.
+pub(crate) type Less = Flipped<Greater>;
 
 /// The first is greater, or they are equal.
 pub(crate) struct AtLeast;
@@ -39,15 +32,7 @@ impl Binary<i32, bool> for AtLeast {
 }
 
 /// The first is less, or they are equal.
-pub(crate) struct AtMost;
-
-impl Binary<i32, bool> for AtMost {
-    ghost value = { is_at_most };
-
-    fn apply(a: i32, b: i32) -> bool {
-        integer::leq(a, b)
-    }
-}
+pub(crate) type AtMost = Flipped<AtLeast>;
 
 /// They are equal.
 pub(crate) struct Equal;

@@ -8,10 +8,10 @@ pub(crate) struct Flipped<O> {
     operator: PhantomData<O>,
 }
 
-impl<O: Binary<X, X>, X: Copy> Binary<X, X> for Flipped<O> {
+impl<O: Binary<X, Z>, X: Copy, Z> Binary<X, Z> for Flipped<O> {
     ghost value = { λ a b. O.value b a };
 
-    fn apply(a: X, b: X) -> X {
+    fn apply(a: X, b: X) -> Z {
         O::apply(b, a)
     }
 }
