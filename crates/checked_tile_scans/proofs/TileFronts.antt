@@ -1,24 +1,21 @@
 -- The results of a tile, and the first of them that doesn't fit 32 bits, as a walk over the tile finds it; and the scan that is written
 -- where all results fit.
 -- Source: what the definitions of Checked imply.
-use Rattle.std.proofs.Common.{◌≡◌, ◌∙◌, sym, ap, subst, ℕ, ◌+◌, ◌-◌, ◌<◌, ◌≤◌, Bool, false, IsTrue, ℤ, pos, ◌+ℤ◌, to_z, of_z, w64, FitsSigned, List, length, map, take, drop, get_or, arith, Option, Some, None, Ok, option_map}
+use Rattle.std.proofs.Common.{◌≡◌, ◌∙◌, refl, sym, ap, subst, ℕ, ◌+◌, ◌-◌, ◌<◌, ◌≤◌, Bool, false, IsTrue, ℤ, pos, ◌+ℤ◌, to_z, of_z, w64, FitsSigned, List, length, map, take, drop, get_or, arith, Option, Some, None, Ok, option_map}
 use Rattle.std.specs.Prelude.{if◌then◌else◌}
 use Rattle.std.proofs.lemmas.Bool.{le-ltb, lt-ltb}
 use Rattle.std.proofs.lemmas.Int.{to_z-of_z}
 use Rattle.std.proofs.lemmas.List.{length-drop, length-take}
-use Rattle.std.proofs.lemmas.List.Folds.{map_fixed}
 use Rattle.std.proofs.lemmas.List.FromFn.{get_or-map-range_with_len, length-map-range_with_len}
-use Rattle.std.proofs.lemmas.List.Sums.{prefix_len_passes}
 use Rattle.operators.specs.ExactLaws.{exact_laws, word-in}
-use Rattle.operators.specs.NumberLaws.{number_words}
 use Rattle.cvl_base.specs.CheckedSums.{fitting}
 use Rattle.cvl_base.specs.declared.fault.FaultNo.TheVariants.{Overflow}
 use Rattle.cvl_base.specs.Elementwise.{values_from}
-use Rattle.cvl_base.specs.Integers.{sum_of, wrap}
+use Rattle.cvl_base.specs.Integers.{sum_of}
 use Rattle.cvl_base.specs.ItemWords.{is_number, is_word}
 use Rattle.scan_walks.specs.Fronts.{fitting_front}
 use Rattle.scan_walks.specs.Ranges.{range_scan_of}
-use Rattle.scan_walks.proofs.Fitted.{all_fit, zero_wrapped}
+use Rattle.scan_walks.proofs.Fitted.{none_overflows, zero_wrapped}
 use Rattle.scan_walks.proofs.RangeParts.{length-range_scan_of}
 use Rattle.tile_plan.specs.Ranges.{range_of, tile_count}
 use Rattle.tile_scans.specs.TiledSums.{tile_of}
@@ -75,11 +72,8 @@ module _ {plan : ℕ × ℕ} {ws : List (Bool × ℤ)} (is : IsTiled is_number p
 
   pub scan_meant : first_outside (total_scan ws) ≡ None → values_from Overflow 0 (map fitting (total_scan ws)) ≡ Ok (range_scan_of sum_of (pos 0) (pos 0) ws)
   scan_meant fit =
-      let zs = total_scan ws in
-      let all = none_outside zs fit in
-      let same : map wrap zs ≡ zs = map_fixed wrap zs (λ i d lt. number_words.inverse (get_or zs i d) (prefix_len_passes is_number zs i d (omega (arith, lt, all)))) in
-      all_fit 0 zs all
-      ∙ ap Ok (sym (ap (λ z. range_scan_of sum_of (pos 0) z ws) (sym zero_wrapped) ∙ (wrapped_since false (pos 0) ws is.items).1 ∙ same))
+      none_overflows _ (total_scan ws) refl (range_scan_of sum_of (pos 0) (pos 0) ws) (none_outside (total_scan ws) fit)
+      (ap (λ z. range_scan_of sum_of (pos 0) z ws) (sym zero_wrapped) ∙ (wrapped_since false (pos 0) ws is.items).1)
 
 -- the slots of tiles
 module _ (plan : ℕ × ℕ) (ws : List (Bool × ℤ)) where
