@@ -1,3 +1,4 @@
+pub mod Counts
 pub mod Kept
 pub mod Lists
 pub mod Progressions
