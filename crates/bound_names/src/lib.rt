@@ -8,8 +8,5 @@ pub mod operands;
 
 pub use arguments::resolve;
 pub use bound::Bound;
-pub use names::{
-    Names, bind_answer, bind_answers, bind_name, bind_names, bound_to, is_room, is_room_for_both,
-    value_of,
-};
+pub use names::{Names, bind_answer, bind_answers, bound_to, is_room, is_room_for_both, value_of};
 pub use operands::{Operand, Operands};

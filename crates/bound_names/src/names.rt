@@ -29,19 +29,6 @@ pub fn value_of<'a, A: Memory>(names: &'a Names<A>, name: &Name) -> Option<&'a V
     }
 }
 
-/// Binds a name to a value, in place of what was bound to it. After a refusal the names are as before.
-pub fn bind_name<A: Memory>(
-    names: &mut Names<A>,
-    name: &Name,
-    bound: Bound<A>,
-) -> Result<(), NoResources>
-    ensures binds { OnOk result (names.new.entries ≡ bind names.old.entries name.now bound) }
-    ensures refused { OnErr result (names.new.entries ≡ names.old.entries) }
-{
-    put(names, name, bound)?;
-    Ok(())
-}
-
 /// Binds a name to the value that a call gave. Where the call was refused, that is the answer, and no name is bound.
 pub fn bind_answer<A: Memory>(
     names: &mut Names<A>,
@@ -55,29 +42,11 @@ pub fn bind_answer<A: Memory>(
     ensures refused { OnErr result (names.new.entries ≡ names.old.entries) }
 {
     match answer {
-        Ok(bound) => Ok(bind_name(names, name, bound)?),
-        Err(refusal) => Err(refusal),
-    }
-}
-
-/// Binds two names to two values, both or neither: after a refusal the names are as before.
-#[tactic(auto, using(crate::proofs::TakenBack::taken_back))]
-pub fn bind_names<A: Memory>(
-    names: &mut Names<A>,
-    first: &Name,
-    second: &Name,
-    both: (Bound<A>, Bound<A>),
-) -> Result<(), NoResources>
-    ensures binds { OnOk result (names.new.entries ≡ bind_both names.old.entries first.now second.now both) }
-    ensures refused { OnErr result (names.new.entries ≡ names.old.entries) }
-{
-    let before = put(names, first, both.0)?;
-    match put(names, second, both.1) {
-        Ok(_) => Ok(()),
-        Err(refusal) => {
-            take_back(names, first, before);
-            Err(refusal)
+        Ok(bound) => {
+            put(names, name, bound)?;
+            Ok(())
         }
+        Err(refusal) => Err(refusal),
     }
 }
 
@@ -114,6 +83,7 @@ fn take_back<A: Memory>(names: &mut Names<A>, name: &Name, before: Option<Bound<
 
 /// Binds two names to the two values that a call gave, both or neither. Where the call was refused, that is the answer,
 /// and no name is bound.
+#[tactic(auto, using(crate::proofs::TakenBack::taken_back))]
 pub fn bind_answers<A: Memory>(
     names: &mut Names<A>,
     first: &Name,
@@ -126,9 +96,14 @@ pub fn bind_answers<A: Memory>(
     ensures memory { IfOk answer (λ _. IfErr result (λ e. e ≡ Refused.NoResources)) }
     ensures refused { OnErr result (names.new.entries ≡ names.old.entries) }
 {
-    match answer {
-        Ok(both) => Ok(bind_names(names, first, second, both)?),
-        Err(refused) => Err(refused),
+    let both = answer?;
+    let before = put(names, first, both.0)?;
+    match put(names, second, both.1) {
+        Ok(_) => Ok(()),
+        Err(_) => {
+            take_back(names, first, before);
+            Err(Refused::NoResources)
+        }
     }
 }
 
