@@ -4,8 +4,8 @@ use Rattle.std.proofs.Common.{◌∷◌, ◌++◌, length, drop, take, map, repl
 use Rattle.std.proofs.lemmas.Bool.Decides.{nat_tests}
 use Rattle.std.proofs.lemmas.Bool.{agree_below_at, and_parts, ne_eqb}
 use Rattle.std.proofs.lemmas.Simd.{below_from_Fits, chunk-fits, tops_compared, zip2_splat, zip2_splat_left, mask_l-mod, Each1-all, leading_from_mask_l, trailing_mask_l}
-use Rattle.std.proofs.lemmas.List.{length-map, length-take-le, take-append-drop, take-take, take-map}
-use Rattle.std.proofs.lemmas.List.Folds.{prefix_len-append}
+use Rattle.std.proofs.lemmas.List.{get_or-map, get_or-take, length-map, length-take-le, take-take, take-map}
+use Rattle.std.proofs.lemmas.List.Sums.{prefix_len_is, prefix_len_passes, prefix_len_stops}
 use Rattle.std.proofs.lemmas.Int.Digits.{number_lt, digits_value_is}
 use Rattle.std.specs.Int.Digits.{number_from_digits, AllBelowBase}
 use Rattle.std.proofs.Math.Nat.{pow-succ', pow-le-pow_right}
@@ -76,15 +76,6 @@ joined_halves xs low high long below l h =
     let bound : number_l 256 xs < 256 ^ 16 = subst (λ (n : ℕ). number_l 256 xs < 256 ^ n) long (bytes_lt xs below) in
     omega (arith, l, h, bound)
 
-prefix_map : {X Y : Type 0} (p : Y → Bool) (f : X → Y) (xs : List X) → prefix_len p (map f xs) ≡ prefix_len (λ x. p (f x)) xs
-prefix_map p f [] = refl
-prefix_map p f (x ∷ xs) = ap (λ (n : ℕ). cond (p (f x)) (1 + n) 0) (prefix_map p f xs)
-
-prefix_agree : {X : Type 0} (p q : X → Bool) (P : X → Type 0) → ((x : X) → P x → p x ≡ q x) → (xs : List X) → Each1 P xs → prefix_len p xs ≡ prefix_len q xs
-prefix_agree p q P same [] all = refl
-prefix_agree p q P same (x ∷ xs) all =
-    ap (λ (b : Bool). cond b (1 + prefix_len p xs) 0) (same x all.0) ∙ ap (λ (n : ℕ). cond (q x) (1 + n) 0) (prefix_agree p q P same xs all.1)
-
 -- which lanes are 10 or more, as a mask
 abbrev pub others : List ℕ → ℕ
 others xs = mask_l (map (top 7) (zip2 (λ a b. cond (nat_le a b) 255 0) (replicate 16 10) xs)) % 2 ^ 64
@@ -98,7 +89,7 @@ below_ten : (x : ℕ) → not (nat_le 10 x) ≡ nat_lt x 10
 below_ten x = grind (arith, nat_tests)
 
 run_is : (xs : List ℕ) → prefix_len (λ x. not (nat_le 10 x)) xs ≡ prefix_len (λ x. nat_lt x 10) xs
-run_is xs = prefix_agree (λ x. not (nat_le 10 x)) (λ x. nat_lt x 10) (λ x. x ≡ x) (λ x _. below_ten x) xs (Each1-all (λ x. x ≡ x) (λ x. refl) xs)
+run_is xs = λ i. prefix_len (λ x. below_ten x i) xs
 
 pub run_of_all : (xs : List ℕ) → length xs ≡ 16 → others xs ≡ 0 → 16 ≡ prefix_len (λ x. nat_lt x 10) xs
 run_of_all xs long none = sym (sym (run_is xs) ∙ leading_from_mask_l (nat_le 10) xs (sym (others_are xs long) ∙ none) ∙ long)
@@ -134,20 +125,17 @@ distances xs long = zip2_splat (λ a b. (a + (256 - b)) % 256) xs 16 48 long
 lane_of : (b : ℕ) → b < 256 → nat_lt (above_zero b) 10 ≡ is_ascii_digit b
 lane_of b small = agree_below_at (λ b. nat_lt (above_zero b) 10) is_ascii_digit 256 b refl small
 
-prefix_in_front : {X : Type 0} (p : X → Bool) (n : ℕ) (xs : List X) → n ≤ length xs → prefix_len p (take n xs) < n → prefix_len p (take n xs) ≡ prefix_len p xs
-prefix_in_front p n xs within less =
-    let long = length-take-le n xs within in
-    let differs = ne_eqb (prefix_len p (take n xs)) (length (take n xs)) (λ same. absurd (omega arith)) in
-    sym (ap (prefix_len p) (sym (take-append-drop n xs)) ∙ prefix_len-append p (take n xs) (drop n xs) ∙ rw differs refl)
-
 -- fewer than sixteen lanes are below 10, and these are the digits that the bytes begin with
 run_read : (bytes : List ℕ) (count : ℕ) → 16 ≤ length bytes → ((i : ℕ) → Fits w8 (get_or bytes i 0))
     → count ≡ prefix_len (λ lane. nat_lt lane 10) (map above_zero (take 16 bytes)) → count < 16 → count ≡ prefix_len is_ascii_digit bytes
 run_read bytes count room fits found few =
-    let below = below_from_Fits w8 (take 16 bytes) (chunk-fits w8 0 16 bytes fits) in
-    let same = prefix_map (λ lane. nat_lt lane 10) above_zero (take 16 bytes)
-    ∙ prefix_agree (λ b. nat_lt (above_zero b) 10) is_ascii_digit (λ b. b < 256) lane_of (take 16 bytes) below in
-    found ∙ same ∙ prefix_in_front is_ascii_digit 16 bytes room (omega (arith, found, same, few))
+    let lanes = map above_zero (take 16 bytes) in
+    let long : length (take 16 bytes) ≡ 16 = length-take-le 16 bytes room in
+    let lane : (k : ℕ) → k < 16 → nat_lt (get_or lanes k 0) 10 ≡ is_ascii_digit (get_or bytes k 0) = λ k low.
+    ap (λ x. nat_lt x 10) (get_or-map above_zero (take 16 bytes) k 0 0 (omega arith) ∙ ap above_zero (get_or-take 16 bytes k 0 low)) ∙ lane_of (get_or bytes k 0) (fits k).fits in
+    sym (prefix_len_is is_ascii_digit bytes count 0 (omega arith)
+    (λ k low. sym (lane k (omega arith)) ∙ prefix_len_passes (λ x. nat_lt x 10) lanes k 0 (omega arith))
+    (λ _. sym (lane count few) ∙ ap (λ k. nat_lt (get_or lanes k 0) 10) found ∙ prefix_len_stops (λ x. nat_lt x 10) lanes 0 (omega (arith, length-map (take 16 bytes) above_zero))))
 
 -- the lanes of digits are their values
 values_are : (ds : List ℕ) → list_all is_ascii_digit ds ≡ true → map above_zero ds ≡ map digit_value ds

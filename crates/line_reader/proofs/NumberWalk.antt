@@ -2,14 +2,14 @@
 use Rattle.std.proofs.Common.{◌≡◌, ℕ, zero, suc, ◌+◌, ◌-◌, ◌*◌, ◌^◌, ◌<◌, ◌≤◌, Bool, true, false, List, [], ◌∷◌, length, get_or, take, drop, refl, ap}
 use Rattle.std.proofs.Common.{sym, ◌∙◌, arith, Option, Some, None, ℤ, ◌≤ℤ◌, ◌<ℤ◌, pos, neg_ℤ, cond, nat_lt, FitsSigned, w32}
 use Rattle.std.specs.Prelude.{option_and_then, if◌then◌else◌, ◌==◌}
-use Rattle.std.proofs.lemmas.List.{length-take-le}
+use Rattle.std.proofs.lemmas.List.{get_or-take, length-take-le, take_all}
 use Rattle.std.proofs.lemmas.Bool.Decides.{nat_tests}
 use Rattle.std.specs.List.{list_all, take_while, prefix_len}
 use Rattle.std.specs.Int.{from_bool}
 use Rattle.std.specs.Char.{is_ascii_digit, digit_value}
 use Rattle.std.specs.Str.Parse.{digits_value, digits_value_after}
-use Rattle.std.proofs.lemmas.List.Folds.{list_all_more}
-use Rattle.std.proofs.lemmas.List.Sums.{take_while-cons}
+use Rattle.std.proofs.lemmas.List.Folds.{length-prefix_len, list_all_more}
+use Rattle.std.proofs.lemmas.List.Sums.{AllPass-from_list_all, list_all-from_AllPass, prefix_len_is, prefix_len_passes, take_while-cons}
 use Rattle.std.proofs.lemmas.Int.Digits.{digits_value_more}
 use Rattle.line_reader.specs.Numbers.{magnitude_of, positive_of, negative_of, with_sign, written_number, signed_digits}
 use Rattle.std.proofs.lemmas.Bool.{and_parts}
@@ -33,13 +33,10 @@ value_more bytes i value h so_far e =
 
 -- the digits at the front are digits
 pub all_digits : (bytes : List ℕ) → list_all is_ascii_digit (take_while is_ascii_digit bytes) ≡ true
-all_digits [] = refl
-all_digits (b ∷ bs) = ap (list_all is_ascii_digit) (take_while-cons is_ascii_digit b bs) ∙ with_byte (is_ascii_digit b) refl (all_digits bs)
-  where
-    with_byte : (digit : Bool) → is_ascii_digit b ≡ digit → list_all is_ascii_digit (take_while is_ascii_digit bs) ≡ true
-        → list_all is_ascii_digit (cond digit (b ∷ take_while is_ascii_digit bs) []) ≡ true
-    with_byte true e others = rw (e, others) refl
-    with_byte false e others = refl
+all_digits bytes =
+    list_all-from_AllPass is_ascii_digit (take_while is_ascii_digit bytes) (λ k d within.
+    let below : k < prefix_len is_ascii_digit bytes = omega (arith, within, length-prefix_len is_ascii_digit bytes) in
+    ap is_ascii_digit (get_or-take (prefix_len is_ascii_digit bytes) bytes k d below) ∙ prefix_len_passes is_ascii_digit bytes k d below)
 
 -- some of them write no more than all
 value_grows : (n : ℕ) (bytes : List ℕ) (count : ℕ) → list_all is_ascii_digit (take count bytes) ≡ true
@@ -152,10 +149,9 @@ magnitude_digits [] f n e = refl
 magnitude_digits (d ∷ ds) f n e = some_where (list_all is_ascii_digit (d ∷ ds)) (digits_value 10 (d ∷ ds)) f n e
 
 front_of_digits : (digits : List ℕ) → list_all is_ascii_digit digits ≡ true → take_while is_ascii_digit digits ≡ digits
-front_of_digits [] all = refl
-front_of_digits (d ∷ ds) all =
-    let parts = and_parts (is_ascii_digit d) (list_all is_ascii_digit ds) all in
-    take_while-cons is_ascii_digit d ds ∙ rw parts.0 (ap (λ (others : List ℕ). d ∷ others) (front_of_digits ds parts.1))
+front_of_digits digits all =
+    let whole = prefix_len_is is_ascii_digit digits (length digits) 0 (omega arith) (λ k within. AllPass-from_list_all is_ascii_digit digits all k 0 within) (λ past. absurd (omega arith)) in
+    take_all (prefix_len is_ascii_digit digits) digits (omega (arith, whole))
 
 signed_whole : (sign : Bool) (b : ℕ) (bs : List ℕ) (n : ℤ) → sign ≡ (b == 45) → with_sign sign (b ∷ bs) bs ≡ Some n → signed_digits (b ∷ bs) ≡ b ∷ bs
 signed_whole true b bs n minus e = rw (← minus) (ap (λ (others : List ℕ). b ∷ others) (front_of_digits bs (magnitude_digits bs negative_of n e)))

@@ -116,3 +116,5 @@ cut_at_lone class_of before after b e =
 
 pub run_alone : (class_of : ℕ → ByteClass) (bs : List ℕ) → 0 < length bs → list_all (λ b. is_part (class_of b)) bs ≡ true → tokens_by class_of bs ≡ bs ∷ []
 run_alone class_of bs some all = ap (tokens_by class_of) (sym (append-nil bs)) ∙ run_first class_of bs [] all some refl
+
+pub ruleset token_laws = (run_alone, cut_at_blank, cut_at_lone, concat_tokens, none_empty)

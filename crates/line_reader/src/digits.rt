@@ -11,6 +11,7 @@ pub(crate) const LANES: usize = 16;
 
 /// How many of the lanes, from the first on, are below 10.
 #[inline(always)]
+#[tactic(auto, using(crate::proofs::DigitLanes::run_of_all, crate::proofs::DigitLanes::run_of_some))]
 pub(crate) fn digit_run(lanes: u8x16) -> usize
     ensures { result ≡ prefix_len (λ lane. nat_lt lane 10) lanes }
 {

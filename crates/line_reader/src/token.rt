@@ -88,6 +88,7 @@ pub fn first_token<C: Classes>(bytes: &[u8]) -> Option<(&[u8], &[u8])>
 /// What the tokens of any bytes are: all bytes that aren't blank, in their order, in lists of which none is empty. A
 /// blank stands between tokens, a lone byte is a token of its own, and a longest run is one token. It does nothing: its
 /// contract says so of the definition.
+#[tactic(auto, using(crate::proofs::TokenWalk::token_laws))]
 pub fn token_laws<C: Classes>(bytes: &[u8])
     ensures classes { AreTokens C.class_of (tokens_by C.class_of) }
     ensures whole { concat (tokens_by C.class_of bytes.now) ≡ filter (λ b. not (is_blank (C.class_of b))) bytes.now }
