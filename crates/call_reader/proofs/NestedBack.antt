@@ -80,8 +80,8 @@ nest-back lengths xs fit total few_numbers few_lists = record {
   few_lists = few_lists;
 }
 
-pub nest-read-back : (lengths : List ℕ) (xs : List ℤ) → IsWithin32 xs → sum lengths ≡ length xs → length xs ≤ most_elements → length lengths ≤ most_elements
+pub nest_read_back : (lengths : List ℕ) (xs : List ℤ) → IsWithin32 xs → sum lengths ≡ length xs → length xs ≤ most_elements → length lengths ≤ most_elements
     → read_again lengths xs ≡ Ok (xs, lengths)
-nest-read-back lengths xs fit total few_numbers few_lists =
+nest_read_back lengths xs fit total few_numbers few_lists =
     ap (λ (r : Result (List (List ℤ)) Fault). r >>= λ lists. nested_of (nest_text signed_decimal lists)) (nest-fits lengths xs total)
     ∙ text-read (nest_text signed_decimal (cut_of lengths xs)) xs lengths (nest-back lengths xs fit total few_numbers few_lists)

@@ -1,8 +1,8 @@
 -- The marks of a nest: how many there are of each kind, what the grammar gives of them, and that it gives lists of no others.
 use Rattle.std.proofs.Common.{◌≡◌, ℕ, ◌+◌, ◌-◌, ◌*◌, ◌≤◌, Bool, true, false, cond, List, [], ◌∷◌, ◌++◌, length, map, take, drop, refl, ap, sym, ◌∙◌, arith, Ok, Err, ℤ, pos, append_assoc, length-append}
-use Rattle.std.specs.Prelude.{Result, unsigned_abs, sum, count_by, flat_map, nat_lt, ◌||◌}
+use Rattle.std.specs.Prelude.{Result, unsigned_abs, sum, count_by, flat_map}
 use Rattle.std.proofs.Math.Seq.{take-append_seam, drop-append_seam}
-use Rattle.std.proofs.lemmas.Bool.{le-ltb, ltb-false, or_parts}
+use Rattle.std.proofs.lemmas.Bool.Decides.{nat_tests}
 use Rattle.std.proofs.lemmas.List.{append-nil, flat_map_more, length-map, map_push}
 use Rattle.std.proofs.lemmas.List.Sums.{sum_by-cons, sum_by-append}
 use Rattle.cvl_base.specs.declared.fault.Fault.{Fault}
@@ -31,55 +31,41 @@ count-append p ms ns = sum_by-append (λ x. cond (p x) 1 0) ms ns
 count-closing : (p : Mark → Bool) → p closing ≡ false → count_by p (closing ∷ []) ≡ 0
 count-closing p e = count-cons p closing [] ∙ rw e refl
 
-pub numbers-counted : (xs : List ℤ) → count_by is_no_bracket (map number xs) ≡ length xs
-numbers-counted [] = refl
-numbers-counted (x ∷ xs) = omega (arith, count-cons is_no_bracket (number x) (map number xs), numbers-counted xs)
-
-numbers-open-none : (xs : List ℤ) → count_by is_opening (map number xs) ≡ 0
-numbers-open-none [] = refl
-numbers-open-none (x ∷ xs) = omega (arith, count-cons is_opening (number x) (map number xs), numbers-open-none xs)
-
-list-counted : (xs : List ℤ) → count_by is_no_bracket (list_marks xs) ≡ length xs
-list-counted xs =
-    omega (arith, count-cons is_no_bracket opening (map number xs ++ (closing ∷ [])), count-append is_no_bracket (map number xs) (closing ∷ []), count-closing is_no_bracket refl, numbers-counted xs)
-
-list-opened : (xs : List ℤ) → count_by is_opening (list_marks xs) ≡ 1
-list-opened xs =
-    omega (arith, count-cons is_opening opening (map number xs ++ (closing ∷ [])), count-append is_opening (map number xs) (closing ∷ []), count-closing is_opening refl, numbers-open-none xs)
-
 list-length : (xs : List ℤ) → length (list_marks xs) ≡ length xs + 2
 list-length xs = omega (arith, length-append (map number xs) (closing ∷ []), length-map xs number)
-
--- the numbers, the `[` and all marks of inner lists
-pub lists-counted : (lists : List (List ℤ)) → count_by is_no_bracket (flat_map list_marks lists) ≡ length (joined lists)
-lists-counted [] = refl
-lists-counted (xs ∷ lists) =
-    omega (arith, count-append is_no_bracket (list_marks xs) (flat_map list_marks lists), list-counted xs, lists-counted lists, length-append xs (joined lists))
-
-pub lists-opened : (lists : List (List ℤ)) → count_by is_opening (flat_map list_marks lists) ≡ length lists
-lists-opened [] = refl
-lists-opened (xs ∷ lists) = omega (arith, count-append is_opening (list_marks xs) (flat_map list_marks lists), list-opened xs, lists-opened lists)
 
 pub lists-length : (lists : List (List ℤ)) → length (flat_map list_marks lists) ≡ 2 * length lists + length (joined lists)
 lists-length [] = refl
 lists-length (xs ∷ lists) = omega (arith, length-append (list_marks xs) (flat_map list_marks lists), list-length xs, lists-length lists, length-append xs (joined lists))
 
--- what stands behind the inner lists, in counts
+-- how many marks of a kind there are, which has no `]`: so many for each `[` and for each number
+module _ (p : Mark → Bool) (o n : ℕ) (opens : cond {A = ℕ} (p opening) 1 0 ≡ o) (closes : p closing ≡ false) (numbers : (x : ℤ) → cond {A = ℕ} (p (number x)) 1 0 ≡ n) where
+  numbers-counted : (xs : List ℤ) → count_by p (map number xs) ≡ n * length xs
+  numbers-counted [] = omega arith
+  numbers-counted (x ∷ xs) = omega (arith, count-cons p (number x) (map number xs), numbers x, numbers-counted xs)
+
+  list-counted : (xs : List ℤ) → count_by p (list_marks xs) ≡ o + n * length xs
+  list-counted xs = omega (arith, count-cons p opening (map number xs ++ (closing ∷ [])), opens, count-append p (map number xs) (closing ∷ []), count-closing p closes, numbers-counted xs)
+
+  lists-counted : (lists : List (List ℤ)) → count_by p (flat_map list_marks lists) ≡ o * length lists + n * length (joined lists)
+  lists-counted [] = omega arith
+  lists-counted (xs ∷ lists) = omega (arith, count-append p (list_marks xs) (flat_map list_marks lists), list-counted xs, lists-counted lists, ap (λ k. n * k) (length-append xs (joined lists)))
+
+  -- the inner lists after the first `[`, and what stands behind them
+  all-counted : (lists : List (List ℤ)) (ms : List Mark) → count_by p (opening ∷ (flat_map list_marks lists ++ ms)) ≡ o * (1 + length lists) + n * length (joined lists) + count_by p ms
+  all-counted lists ms = omega (arith, count-cons p opening (flat_map list_marks lists ++ ms), opens, count-append p (flat_map list_marks lists) ms, lists-counted lists)
+
 pub counted-on : (lists : List (List ℤ)) (ms : List Mark) → count_by is_no_bracket (opening ∷ (flat_map list_marks lists ++ ms)) ≡ length (joined lists) + count_by is_no_bracket ms
-counted-on lists ms =
-    omega (arith, count-cons is_no_bracket opening (flat_map list_marks lists ++ ms), count-append is_no_bracket (flat_map list_marks lists) ms, lists-counted lists)
+counted-on lists ms = omega (arith, all-counted is_no_bracket 0 1 refl refl (λ x. refl) lists ms)
 
 pub opened-on : (lists : List (List ℤ)) (ms : List Mark) → count_by is_opening (opening ∷ (flat_map list_marks lists ++ ms)) ≡ 1 + length lists + count_by is_opening ms
-opened-on lists ms = omega (arith, count-cons is_opening opening (flat_map list_marks lists ++ ms), count-append is_opening (flat_map list_marks lists) ms, lists-opened lists)
+opened-on lists ms = omega (arith, all-counted is_opening 1 0 refl refl (λ x. refl) lists ms)
 
 pub few : (ms : List Mark) → are_too_many ms ≡ false → (count_by is_no_bracket ms ≤ most_elements) × (count_by is_opening ms ≤ most_elements + 1)
-few ms e =
-    let both = or_parts (nat_lt most_elements (count_by is_no_bracket ms)) (nat_lt (most_elements + 1) (count_by is_opening ms)) e in
-    (ltb-false _ _ both.0, ltb-false _ _ both.1)
+few ms e = (grind (arith, nat_tests), grind (arith, nat_tests))
 
 pub not_too_many : (ms : List Mark) → count_by is_no_bracket ms ≤ most_elements → count_by is_opening ms ≤ most_elements + 1 → are_too_many ms ≡ false
-not_too_many ms h k =
-    ap (λ (b : Bool). b || nat_lt (most_elements + 1) (count_by is_opening ms)) (le-ltb most_elements (count_by is_no_bracket ms) h) ∙ le-ltb (most_elements + 1) (count_by is_opening ms) k
+not_too_many ms h k = grind (arith, nat_tests)
 
 -- a list's numbers and its end, read
 onto : (x : ℤ) (xs : List ℤ) (r : Result (List (List ℤ)) Fault) → ((r >>= λ lists. Ok (xs ∷ lists)) >>= λ lists. Ok (with_number x lists)) ≡ (r >>= λ lists. Ok ((x ∷ xs) ∷ lists))
@@ -312,14 +298,9 @@ list_fault bytes rest inner others old new lengths room_numbers room_lengths pla
         let within = (room fine).0 in
         absurd (omega (
           arith,
-          counted,
-          all,
-          here,
-          more,
-          within,
           full e,
           some_number (marks_of others) e,
-          numbers-counted in_list.pushed,
+          numbers-counted is_no_bracket 0 1 refl refl (λ x. refl) in_list.pushed,
           ap length is.numbers_are,
           ap length in_list.numbers,
           length-append old in_list.pushed,

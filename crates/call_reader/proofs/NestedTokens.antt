@@ -1,5 +1,5 @@
 -- What the tokens of a nested text are to its grammar.
-use Rattle.std.proofs.Common.{◌≡◌, ℕ, ◌+◌, ◌≤◌, Bool, true, false, List, [], ◌∷◌, length, map, take, drop, refl, ap, sym, ◌∙◌, arith, Option, Some, None, ℤ}
+use Rattle.std.proofs.Common.{◌≡◌, ℕ, ◌+◌, ◌≤◌, Bool, true, false, List, [], ◌∷◌, length, map, min, take, drop, refl, ap, sym, ◌∙◌, arith, Option, Some, None, ℤ}
 use Rattle.std.specs.Prelude.{codes, nat_eq, if◌then◌else◌, count_by, not, ◌||◌}
 use Rattle.std.specs.Cmp.Lexicographic.{pointwise}
 use Rattle.std.specs.Char.{is_ascii_digit}
@@ -7,13 +7,15 @@ use Rattle.std.proofs.lemmas.Bool.Decides.{nat_tests}
 use Rattle.std.proofs.lemmas.List.{length-map}
 use Rattle.std.proofs.lemmas.List.Sums.{count_by-le-length}
 use Rattle.std.proofs.lemmas.Slice.Eq.{bytes_eq-Decides}
+use Rattle.cvl_base.specs.Limits.{most_elements}
 use Rattle.line_reader.specs.declared.token.ByteClass.{ByteClass}
 use Rattle.line_reader.specs.declared.token.ByteClass.TheVariants.{Part}
 use Rattle.line_reader.specs.Tokens.{tokens_by, with_byte, is_part, begins_with_part, IsFirstToken}
 use Rattle.line_reader.specs.Numbers.{written_number}
 use Rattle.call_reader.specs.NestedTexts.{nested_class, Mark, opening, closing, number, stray, number_or, mark_of, marks_of, is_opening, is_no_bracket}
-use Rattle.call_reader.specs.NestedReads.{is_closing}
+use Rattle.call_reader.specs.NestedReads.{is_closing, HasRoom}
 use Rattle.call_reader.proofs.InputWalk.{number_leads}
+use Rattle.call_reader.proofs.NestedMarks.{count-cons, few}
 
 pub opening_mark : (token : List ℕ) → pointwise nat_eq token (codes "[") ≡ true → mark_of token ≡ opening
 opening_mark token e = ap mark_of ((bytes_eq-Decides token (codes "[")).0 e)
@@ -86,3 +88,11 @@ tokens_short (b ∷ bs) = omega (arith, one_more (nested_class b) (begins_with_p
 -- each token has a byte
 pub marks_short : (p : Mark → Bool) (bytes : List ℕ) → count_by p (marks_of bytes) ≤ length bytes
 marks_short p bytes = omega (arith, count_by-le-length p (marks_of bytes), length-map (tokens_by nested_class bytes) mark_of, tokens_short bytes)
+
+-- vectors with room for as many elements as there are bytes, or as a vector may have, have room for all
+pub has_room : (bytes : List ℕ) (room : ℕ) → room ≡ min (length bytes) most_elements → HasRoom room room (opening ∷ marks_of bytes)
+has_room bytes room is fine =
+    let both = few (opening ∷ marks_of bytes) fine in (
+      omega (arith, both.0, count-cons is_no_bracket opening (marks_of bytes), marks_short is_no_bracket bytes),
+      omega (arith, both.1, count-cons is_opening opening (marks_of bytes), marks_short is_opening bytes),
+    )

@@ -33,6 +33,7 @@ pub fn nested_text_laws()
 
 /// The text of a vector's nest, read as a nested text, is that vector and the nest's lengths, within the limits. It does
 /// nothing: its contract says so of the definitions.
+#[tactic(auto, using(crate::proofs::NestedBack::nest_read_back))]
 pub fn nest_reads_back()
     ensures { (lengths : List ℕ) (xs : List ℤ) → IsWithin32 xs → sum lengths ≡ length xs → length xs ≤ most_elements
         → length lengths ≤ most_elements → read_again lengths xs ≡ Ok (xs, lengths) }

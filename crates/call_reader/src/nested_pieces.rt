@@ -7,44 +7,12 @@ ghost use Rattle.call_reader.specs.NestedTexts.{marks_of, nested_class};
 ghost use Rattle.call_reader.specs.NestedReads.{AreListsRead, is_no_mark};
 ghost use denote.Param.Send.{IsSync, IsSend, Frees};
 
-use crate::nested_texts::read_lists;
+use crate::nested_texts::{ReadLists, read_lists};
 use crate::nested_tokens::has_no_token;
 use cvl_base::limits::MOST_ELEMENTS;
 use cvl_base::{Memory, NoResources};
 use sharing::ThreadCount;
-use std::alloc::Allocator;
 use std::thread::{Threads, join};
-
-/// The inner lists with which bytes begin.
-#[derive(Drop)]
-pub(crate) struct ReadLists<'a, A: Allocator> {
-    /// The numbers of all lists, one list after another.
-    pub(crate) numbers: Vec<i32, A>,
-    /// How many numbers each list has.
-    pub(crate) lengths: Vec<i32, A>,
-    /// The bytes after the lists.
-    pub(crate) rest: &'a [u8],
-}
-
-/// Reads the inner lists with which the bytes begin. None where a token can't stand in one of them, and where there are too
-/// many lists or numbers.
-fn lists_alone<A: Memory>(alloc: A, bytes: &[u8]) -> Result<Option<ReadLists<'_, A>>, NoResources>
-    ensures read { IfOk result (λ o. IfSome o (λ l. AreListsRead bytes.now l.rest.now l.numbers.items l.lengths.items)) }
-    ensures few { IfOk result (λ o. IfSome o (λ l. (vec_len l.numbers ≤ most_elements) × (vec_len l.lengths ≤ most_elements))) }
-{
-    // each token has a byte
-    let room = bytes.len().min(MOST_ELEMENTS);
-    let mut numbers = Vec::with_capacity(alloc, room)?;
-    let mut lengths = Vec::with_capacity(alloc, room)?;
-    match read_lists(bytes, &mut numbers, &mut lengths) {
-        Ok(rest) => Ok(Some(ReadLists {
-            numbers,
-            lengths,
-            rest,
-        })),
-        Err(_place) => Ok(None),
-    }
-}
 
 /// How many bytes stand before the first `[`.
 fn bytes_before_list(bytes: &[u8]) -> usize
@@ -75,13 +43,10 @@ fn both<'a, A: Memory>(
     front: ReadLists<'_, A>,
     back: ReadLists<'a, A>,
 ) -> Result<Option<ReadLists<'a, A>>, NoResources>
-    requires front { (vec_len front.numbers ≤ most_elements) × (vec_len front.lengths ≤ most_elements) }
-    requires back { (vec_len back.numbers ≤ most_elements) × (vec_len back.lengths ≤ most_elements) }
     ensures whole { IfOk result (λ o. IfSome o (λ _. is_no_mark (marks_of front.entry.rest.now) ≡ true)) }
     ensures numbers { IfOk result (λ o. IfSome o (λ l. l.numbers.items ≡ front.entry.numbers.items ++ back.entry.numbers.items)) }
     ensures lengths { IfOk result (λ o. IfSome o (λ l. l.lengths.items ≡ front.entry.lengths.items ++ back.entry.lengths.items)) }
     ensures rest { IfOk result (λ o. IfSome o (λ l. l.rest.now ≡ back.entry.rest.now)) }
-    ensures few { IfOk result (λ o. IfSome o (λ l. (vec_len l.numbers ≤ most_elements) × (vec_len l.lengths ≤ most_elements))) }
 {
     let (mut front, mut back) = (front, back);
     let numbers = front.numbers.len() + back.numbers.len();
@@ -99,7 +64,7 @@ fn both<'a, A: Memory>(
 }
 
 /// Reads the inner lists with which the bytes begin by several threads, each of which reads a piece that begins with a list. Its
-/// answers are those of `lists_alone`, but for none: that it may also give where one of several tokens is no list's.
+/// answers are those of `read_lists`, but for none: that it gives in place of a fault, and where one of several tokens is no list's.
 #[cycle(halves)]
 pub(crate) fn lists_by_several<'a, R: Threads + Sync, A: Memory>(
     rt: &R,
@@ -107,23 +72,20 @@ pub(crate) fn lists_by_several<'a, R: Threads + Sync, A: Memory>(
     threads: ThreadCount,
     bytes: &'a [u8],
 ) -> Result<Option<ReadLists<'a, A>>, NoResources>
-    ensures read { IfOk result (λ o. IfSome o (λ l. AreListsRead bytes.now l.rest.now l.numbers.items l.lengths.items)) }
-    ensures few { IfOk result (λ o. IfSome o (λ l. (vec_len l.numbers ≤ most_elements) × (vec_len l.lengths ≤ most_elements))) }
+    ensures { IfOk result (λ o. IfSome o (λ l. AreListsRead bytes.now l.rest.now l.numbers.items l.lengths.items)) }
 {
     if threads.get() < 2 {
-        return lists_alone(alloc, bytes);
+        return Ok(read_lists(alloc, bytes)?.ok());
     }
     let (fewer, others) = threads.halves();
     let (front, back) = cut_at_list(bytes, bytes.len() / 2);
     let read_front = move || -> Result<Option<ReadLists<A>>, NoResources>
         requires { IsSync R.row × IsSend A.row × Frees A.Allocator A.dealloc_token }
-        ensures read { IfOk result (λ o. IfSome o (λ l. AreListsRead front.entry.now l.rest.now l.numbers.items l.lengths.items)) }
-        ensures few { IfOk result (λ o. IfSome o (λ l. (vec_len l.numbers ≤ most_elements) × (vec_len l.lengths ≤ most_elements))) }
+        ensures { IfOk result (λ o. IfSome o (λ l. AreListsRead front.entry.now l.rest.now l.numbers.items l.lengths.items)) }
     { lists_by_several(rt, alloc, fewer, front) };
     let read_back = move || -> Result<Option<ReadLists<A>>, NoResources>
         requires { IsSync R.row × IsSend A.row × Frees A.Allocator A.dealloc_token }
-        ensures read { IfOk result (λ o. IfSome o (λ l. AreListsRead back.entry.now l.rest.now l.numbers.items l.lengths.items)) }
-        ensures few { IfOk result (λ o. IfSome o (λ l. (vec_len l.numbers ≤ most_elements) × (vec_len l.lengths ≤ most_elements))) }
+        ensures { IfOk result (λ o. IfSome o (λ l. AreListsRead back.entry.now l.rest.now l.numbers.items l.lengths.items)) }
     { lists_by_several(rt, alloc, others, back) };
     let (front, back) = join(rt, read_front, read_back);
     match (front?, back?) {

@@ -1,21 +1,31 @@
 //! Nested texts.
 
-ghost use Rattle.std.specs.Prelude.{◌≡◌, ◌+◌, ◌-◌, ◌*◌, pos, ◌<◌, ◌≤◌, ◌^◌, [], ◌∷◌, length, sum, true, false, IfOk, MatchResult, vec_len, vec_capacity, if◌then◌else◌};
-ghost use Rattle.cvl_base.specs.declared.fault.FaultNo.TheVariants.{TooLong, BadInput};
-ghost use Rattle.cvl_base.specs.Faults.{fault, fault_at};
+ghost use Rattle.std.specs.Prelude.{◌≡◌, ◌+◌, ◌-◌, ◌*◌, pos, ◌<◌, ◌≤◌, ◌^◌, ◌∷◌, length, true, false, IfOk, IfErr, MatchResult, vec_len, vec_capacity};
 ghost use Rattle.cvl_base.specs.Gives.{Gives};
 ghost use Rattle.cvl_base.specs.Limits.{most_elements};
-ghost use Rattle.call_reader.specs.NestedTexts.{marks_of, opening, before, between, is_opening, are_too_many, nested_of};
+ghost use Rattle.call_reader.specs.NestedTexts.{marks_of, opening, before, between, is_opening, nested_of};
 ghost use Rattle.call_reader.specs.NestedReads.{is_number, begin_with};
-ghost use Rattle.call_reader.specs.NestedReads.{ArePushed, AreListsRead, IsNestRead, IsFaultAt, HasRoom};
+ghost use Rattle.call_reader.specs.NestedReads.{ArePushed, AreListsRead, IsNestRead, IsFaultAt};
 
 use crate::nested_tokens::{
     after_closing, after_number, after_opening, has_no_token, has_too_many,
 };
 use cvl_base::limits::MOST_ELEMENTS;
-use cvl_base::{Fault, FaultNo, Lengths, Memory, Refused};
-use segdes::SegDes;
+use cvl_base::{Fault, FaultNo, Memory, NoResources, Refused};
 use std::alloc::Allocator;
+
+/// The inner lists with which bytes begin.
+#[derive(Drop)]
+pub(crate) struct ReadLists<'a, A: Allocator> {
+    /// The numbers of all lists, one list after another.
+    pub(crate) numbers: Vec<i32, A>,
+    /// How many numbers each list has.
+    pub(crate) lengths: Vec<i32, A>,
+    /// The bytes after the lists.
+    pub(crate) rest: &'a [u8],
+    ghost few_numbers: { vec_len numbers ≤ most_elements },
+    ghost few_lists: { vec_len lengths ≤ most_elements },
+}
 
 /// Pushes the integers with which the bytes begin, as many as there is room for, and returns what stands after them.
 fn push_numbers<'a, A: Allocator>(bytes: &'a [u8], numbers: &mut Vec<i32, A>) -> &'a [u8]
@@ -45,76 +55,48 @@ fn count_between(start: usize, end: usize) -> i32
     (end - start) as i32
 }
 
-/// Reads the inner lists of a nested text, of which the bytes are what stands after its first `[`, into empty vectors: the
-/// numbers, and how many each list has. It returns what stands after the last of them, or the place in the text of the
-/// first token that can't stand there.
-pub(crate) fn read_lists<'a, A: Allocator>(
-    bytes: &'a [u8],
-    numbers: &mut Vec<i32, A>,
-    lengths: &mut Vec<i32, A>,
-) -> Result<&'a [u8], usize>
-    requires empty { (numbers.old.items ≡ []) × (lengths.old.items ≡ []) }
-    requires limit { (vec_capacity numbers.old ≤ most_elements) × (vec_capacity lengths.old ≤ most_elements) }
-    requires room { HasRoom (vec_capacity numbers.old) (vec_capacity lengths.old) (opening ∷ marks_of bytes.now) }
-    ensures read { MatchResult result
-        (λ rest. AreListsRead bytes.now rest.now numbers.new.items lengths.new.items)
-        (λ place. IsFaultAt place between 1 (marks_of bytes.now) (opening ∷ marks_of bytes.now)) }
-    ensures all { IfOk result (λ rest. begin_with is_opening (marks_of rest.now) ≡ false) }
-    ensures place { MatchResult result (λ rest. true ≡ true) (λ place. place ≤ 3 * most_elements + 2) }
-    ensures few_numbers { vec_len numbers.new ≤ most_elements }
-    ensures few_lists { vec_len lengths.new ≤ most_elements }
+/// Reads the inner lists of a nested text, of which the bytes are what stands after its first `[`, or returns the place in the
+/// text of the first token that can't stand there.
+pub(crate) fn read_lists<A: Memory>(
+    alloc: A,
+    bytes: &[u8],
+) -> Result<Result<ReadLists<'_, A>, usize>, NoResources>
+    ensures read { IfOk result (λ r. MatchResult r
+        (λ l. AreListsRead bytes.now l.rest.now l.numbers.items l.lengths.items)
+        (λ place. IsFaultAt place between 1 (marks_of bytes.now) (opening ∷ marks_of bytes.now))) }
+    ensures all { IfOk result (λ r. IfOk r (λ l. begin_with is_opening (marks_of l.rest.now) ≡ false)) }
+    ensures place { IfOk result (λ r. IfErr r (λ place. place ≤ 3 * most_elements + 2)) }
 {
+    // each token has a byte
+    let room = bytes.len().min(MOST_ELEMENTS);
+    let mut numbers = Vec::with_capacity(alloc, room)?;
+    let mut lengths = Vec::with_capacity(alloc, room)?;
     let mut rest = bytes;
     while let Some(inner) = after_opening(rest) {
         if lengths.len() == lengths.capacity() {
-            return Err(1 + numbers.len() + 2 * lengths.len());
+            return Ok(Err(1 + numbers.len() + 2 * lengths.len()));
         }
         let start = numbers.len();
-        let others = push_numbers(inner, numbers);
+        let others = push_numbers(inner, &mut numbers);
         let Some(behind) = after_closing(others) else {
-            return Err(2 + numbers.len() + 2 * lengths.len());
+            return Ok(Err(2 + numbers.len() + 2 * lengths.len()));
         };
         lengths.push_reserved(count_between(start, numbers.len()));
         rest = behind;
     }
-    Ok(rest)
-}
-
-/// Reads a nested text into empty vectors, the numbers of all inner lists and how many each list has, or returns the place
-/// of the first token that can't stand there, or how many tokens there are where they end too early.
-fn read_nest<A: Allocator>(
-    bytes: &[u8],
-    numbers: &mut Vec<i32, A>,
-    lengths: &mut Vec<i32, A>,
-) -> Result<(), usize>
-    requires empty { (numbers.old.items ≡ []) × (lengths.old.items ≡ []) }
-    requires limit { (vec_capacity numbers.old ≤ most_elements) × (vec_capacity lengths.old ≤ most_elements) }
-    requires room { HasRoom (vec_capacity numbers.old) (vec_capacity lengths.old) (marks_of bytes.now) }
-    ensures read { MatchResult result
-        (λ _. IsNestRead bytes.now numbers.new.items lengths.new.items)
-        (λ place. IsFaultAt place before 0 (marks_of bytes.now) (marks_of bytes.now)) }
-    ensures place { MatchResult result (λ _. true ≡ true) (λ place. place ≤ 3 * most_elements + 2) }
-    ensures few_numbers { IfOk result (λ _. vec_len numbers.new ≤ most_elements) }
-    ensures few_lists { IfOk result (λ _. vec_len lengths.new ≤ most_elements) }
-{
-    let Some(inner) = after_opening(bytes) else {
-        return Err(0);
-    };
-    let rest = read_lists(inner, numbers, lengths)?;
-    let Some(behind) = after_closing(rest) else {
-        return Err(1 + numbers.len() + 2 * lengths.len());
-    };
-    if !has_no_token(behind) {
-        return Err(2 + numbers.len() + 2 * lengths.len());
-    }
-    Ok(())
+    Ok(Ok(ReadLists {
+        numbers,
+        lengths,
+        rest,
+    }))
 }
 
 /// The fault of a text with a token at this place that can't stand there, or that ends there too early: `TooLong` where it has
 /// too many tokens, and else `BadInput` at the place.
 fn fault_there(bytes: &[u8], place: usize) -> Fault
-    requires { place < 2 ^ 32 }
-    ensures { result ≡ (if are_too_many (marks_of bytes.now) then fault TooLong else fault_at BadInput place) }
+    requires small { place < 2 ^ 32 }
+    requires fault { IsFaultAt place before 0 (marks_of bytes.now) (marks_of bytes.now) }
+    ensures { nested_of bytes.now ≡ Err result }
 {
     if has_too_many(bytes) {
         Fault::new(FaultNo::TooLong)
@@ -124,6 +106,7 @@ fn fault_there(bytes: &[u8], place: usize) -> Fault
 }
 
 /// The numbers of all inner lists and how many each list has, as the thread that calls reads them.
+#[tactic(auto, using(crate::proofs::NestedMarks::nest_fault, crate::proofs::NestedMarks::behind_fault))]
 pub(crate) fn nest_alone<A: Memory>(
     alloc: A,
     bytes: &[u8],
@@ -133,12 +116,19 @@ pub(crate) fn nest_alone<A: Memory>(
         (λ refused. Gives (λ p. p) (Err refused) (nested_of bytes.now)) }
     ensures few { IfOk result (λ p. (vec_len p.0 ≤ most_elements) × (vec_len p.1 ≤ most_elements)) }
 {
-    // each token has a byte
-    let room = bytes.len().min(MOST_ELEMENTS);
-    let mut numbers = Vec::with_capacity(alloc, room)?;
-    let mut lengths = Vec::with_capacity(alloc, room)?;
-    if let Err(place) = read_nest(bytes, &mut numbers, &mut lengths) {
-        return Err(Refused::Fault(fault_there(bytes, place)));
+    let Some(inner) = after_opening(bytes) else {
+        return Err(Refused::Fault(fault_there(bytes, 0)));
+    };
+    let lists = match read_lists(alloc, inner)? {
+        Ok(lists) => lists,
+        Err(place) => return Err(Refused::Fault(fault_there(bytes, place))),
+    };
+    let end = 1 + lists.numbers.len() + 2 * lists.lengths.len();
+    let Some(behind) = after_closing(lists.rest) else {
+        return Err(Refused::Fault(fault_there(bytes, end)));
+    };
+    if !has_no_token(behind) {
+        return Err(Refused::Fault(fault_there(bytes, end + 1)));
     }
-    Ok((numbers, lengths))
+    Ok((lists.numbers, lists.lengths))
 }

@@ -36,14 +36,6 @@ fn is_opening(token: &[u8]) -> bool
     token == b"[".as_slice()
 }
 
-/// Whether a token is `]`.
-#[tactic(auto, using(crate::proofs::NestedTokens::closes))]
-fn is_closing(token: &[u8]) -> bool
-    ensures { result ≡ is_closing (mark_of token.now) }
-{
-    token == b"]".as_slice()
-}
-
 /// Whether a token is no bracket.
 #[tactic(auto, using(crate::proofs::NestedTokens::no_bracket))]
 fn is_no_bracket(token: &[u8]) -> bool
@@ -66,13 +58,14 @@ pub(crate) fn after_opening(bytes: &[u8]) -> Option<&[u8]>
 }
 
 /// What stands after a `]` with which the bytes begin; none where they begin with no `]`.
+#[tactic(auto, using(crate::proofs::NestedTokens::closes))]
 pub(crate) fn after_closing(bytes: &[u8]) -> Option<&[u8]>
     ensures marks { MatchOption result (begin_with is_closing (marks_of bytes.now) ≡ false)
         (λ rest. marks_of bytes.now ≡ closing ∷ marks_of rest.now) }
     ensures shorter { IfSome result (λ rest. length rest.now < length bytes.now) }
 {
     let (token, others) = first_token::<NestedBytes>(bytes)?;
-    if !is_closing(token) {
+    if token != b"]".as_slice() {
         return None;
     }
     Some(others)

@@ -1,23 +1,21 @@
 //! An input cut into pieces at white space, each of which is read by a thread of its own.
 
-ghost use Rattle.std.specs.Prelude.{◌≡◌, ◌<◌, ◌≤◌, ◌++◌, [], false, length, map, IfOk};
-ghost use Rattle.std.specs.List.{flat_map};
-ghost use Rattle.line_reader.specs.Tokens.{tokens_by, begins_with_part};
+ghost use Rattle.std.specs.Prelude.{◌≡◌, ◌≤◌, ◌++◌, [], false, length, map};
+ghost use Rattle.line_reader.specs.Tokens.{begins_with_part};
 ghost use Rattle.call_reader.specs.Inputs.{input_class};
 ghost use Rattle.call_reader.specs.Pieces.{numbers_of, or_zero};
 ghost use Rattle.fresh.specs.Found.{first_without};
 ghost use Rattle.fresh.specs.Places.{stretch};
 
 use crate::inputs::{InputBytes, first_number, token_count};
-use cvl_base::{Memory, NoResources};
 use fresh::{Part, Run, first_found};
 use line_reader::token::run_length;
-use sharing::ThreadCount;
+use value_texts::Cut;
 
 /// A piece of an input, of which no token goes on in another.
 #[derive(Clone, Copy)]
 pub(crate) struct Piece<'a> {
-    bytes: &'a [u8],
+    pub(crate) bytes: &'a [u8],
 }
 
 /// Writes the numbers of the bytes' tokens, a zero for each token that is no number, and tells the place of the first such
@@ -73,24 +71,10 @@ fn cut_near(bytes: &[u8], place: usize) -> (&[u8], &[u8])
     bytes.split_at(place + run_length::<InputBytes>(back))
 }
 
-/// A piece of the bytes for each thread, about equally long, of which no token has a part in two.
-pub(crate) fn pieces_of<A: Memory>(
-    alloc: A,
-    bytes: &[u8],
-    threads: ThreadCount,
-) -> Result<Vec<Piece<'_>, A>, NoResources>
-    ensures whole { IfOk result (λ pieces. flat_map (λ p. numbers_of p.bytes.now) pieces.items ≡ numbers_of bytes.now) }
-    ensures as_many { IfOk result (λ pieces. length pieces.items ≡ threads) }
-{
-    let mut pieces = Vec::with_capacity(alloc, threads.get())?;
-    let mut rest = bytes;
-    let mut left = threads.get();
-    while left > 1 {
-        let (bytes, others) = cut_near(rest, rest.len() / left);
-        pieces.push(Piece { bytes })?;
-        rest = others;
-        left -= 1;
+#[tactic(auto, using(crate::proofs::PieceWalk::items_cut, crate::proofs::PieceWalk::found_cut))]
+impl<'a> Cut<i32> for Piece<'a> {
+    fn cut(self, parts: usize) -> (Piece<'a>, Piece<'a>) {
+        let (front, others) = cut_near(self.bytes, self.bytes.len() / parts);
+        (Piece { bytes: front }, Piece { bytes: others })
     }
-    pieces.push(Piece { bytes: rest })?;
-    Ok(pieces)
 }

@@ -36,6 +36,7 @@ pub fn nested_text_values<A: Allocator>()
 {}
 
 /// The text of an integer, read as a number, is that integer. It does nothing: its contract says so of the definitions.
+#[tactic(auto, using(crate::proofs::ReadBack::read_back))]
 pub fn integer_reads_back<A: Allocator>(number: i32)
     ensures { written_number (text_of {A = A} (value.Integer number)) ≡ Some number }
 {

@@ -2,7 +2,6 @@
 use Rattle.std.proofs.Common.{◌≡◌, ℕ, ◌+◌, List, [], ◌∷◌, ◌++◌, length, map, take, drop, refl, ap, sym, ◌∙◌, sum, arith, length-append, ℤ, unsigned_abs}
 use Rattle.std.specs.List.{join_with_byte}
 use Rattle.std.proofs.lemmas.List.{drop-drop, drop-take, map-append, take-append-drop, take-take}
-use Rattle.std.proofs.lemmas.List.Sums.{sum_by-append}
 use Rattle.std.proofs.lemmas.Grind.{flat_map-append}
 use Rattle.cvl_base.proofs.Lists.{sum-cons}
 use Rattle.cvl_base.specs.Nests.{cut_of}
@@ -34,9 +33,3 @@ module _ {X : Type 0} where
       let halves = ap (map unsigned_abs) (sym (take-append-drop k lengths)) ∙ map-append unsigned_abs (take k lengths) (drop k lengths) in
       ap (λ ls. spaced (vector_text f) (cut_of ls xs)) halves ∙ ap (spaced (vector_text f)) (cut_both (map unsigned_abs (take k lengths)) (map unsigned_abs (drop k lengths)) xs n e)
       ∙ flat_map-append (λ x. 32 ∷ vector_text f x) (cut_of (map unsigned_abs (take k lengths)) (take n xs)) (cut_of (map unsigned_abs (drop k lengths)) (drop n xs))
-
--- the elements of the first segments and of the others
-pub sums_cut : (lengths : List ℤ) (k : ℕ) → sum (map unsigned_abs (take k lengths)) + sum (map unsigned_abs (drop k lengths)) ≡ sum (map unsigned_abs lengths)
-sums_cut lengths k =
-    sym (sum_by-append (λ n. n) (map unsigned_abs (take k lengths)) (map unsigned_abs (drop k lengths)))
-    ∙ ap sum (sym (map-append unsigned_abs (take k lengths) (drop k lengths)) ∙ ap (map unsigned_abs) (take-append-drop k lengths))

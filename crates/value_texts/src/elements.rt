@@ -84,7 +84,7 @@ impl<'a, T: Written> Part<u8> for ElementTexts<'a, T> {
     }
 }
 
-impl<'a, T: Written> Cut for ElementTexts<'a, T> {
+impl<'a, T: Written> Cut<u8> for ElementTexts<'a, T> {
     fn cut(self, parts: usize) -> (ElementTexts<'a, T>, ElementTexts<'a, T>) {
         let (front, others) = self.xs.split_at(self.xs.len() / parts);
         (ElementTexts { xs: front }, ElementTexts { xs: others })

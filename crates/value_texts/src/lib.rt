@@ -11,5 +11,6 @@ mod vector_text;
 mod written;
 
 pub use alone::{nest_text_alone, vector_text_alone};
+pub use part_writes::{Cut, made_in_parts};
 pub use texts::put_value;
 pub use written::Written;

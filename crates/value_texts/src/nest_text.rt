@@ -15,6 +15,7 @@ use std::thread::Threads;
 
 /// Puts the texts of vectors that stand from a place on, with a space before each, in brackets: the first space becomes `[`.
 /// After a refusal what stands before the place is as before.
+#[tactic(auto, using(crate::proofs::NestWalk::brackets_on, crate::proofs::NestWalk::brackets_on_nothing, crate::proofs::NestWalk::put_at))]
 fn put_brackets<T: Written, A: Allocator>(
     begun: usize,
     text: &mut Vec<u8, A>,

@@ -1,31 +1,36 @@
 //! The parts of a text written by several threads, each into a run of one fresh text.
 
-ghost use Rattle.std.specs.Prelude.{◌≡◌, ◌<◌, ◌≤◌, ◌++◌, IfOk, OnOk, OnErr, length};
+ghost use Rattle.std.specs.Prelude.{◌≡◌, ℕ, ◌+◌, ◌-◌, ◌^◌, ◌<◌, ◌≤◌, ◌++◌, IfOk, MatchOption, OnOk, OnErr, length, vec_len};
 ghost use Rattle.std.specs.List.{flat_map};
+ghost use Rattle.value_texts.specs.Parts.{AreParts};
 
 use cvl_base::{Memory, NoResources};
-use fresh::{CountedParts, Part, Room, count_parts, extend_in_parts};
+use fresh::{CountedParts, Part, Room, count_parts, extend_in_parts, write_in_parts};
 use sharing::ThreadCount;
 use std::thread::Threads;
 
 /// Room for what ends a text after its parts: brackets and the end of a line.
 const SPARE_BYTES: usize = 64;
 
-/// A part of a text that can be cut in two.
-pub(crate) trait Cut: Part<u8> {
+/// A part that can be cut in two.
+pub trait Cut<T>: Part<T> {
+    ghost use Rattle.std.specs.Option.{option_or};
+
     /// The part in two, of which the first has about as much to write as each of so many equal parts.
     fn cut(self, parts: usize) -> (Self, Self)
         requires { 1 < parts }
-        ensures { Self.items result.0 ++ Self.items result.1 ≡ Self.items self };
+        ensures items { Self.items result.0 ++ Self.items result.1 ≡ Self.items self }
+        ensures found { (first : ℕ) → option_or (Self.found result.0 first)
+            (Self.found result.1 (first + length (Self.items result.0))) ≡ Self.found self first };
 }
 
 /// A part of the whole for each thread, about equally much to write in each.
-fn parts_of<A: Memory, P: Cut>(
+fn parts_of<T, A: Memory, P: Cut<T>>(
     alloc: A,
     threads: ThreadCount,
     whole: P,
 ) -> Result<Vec<P, A>, NoResources>
-    ensures whole { IfOk result (λ parts. flat_map P.items parts.items ≡ P.items whole) }
+    ensures whole { IfOk result (λ parts. AreParts P.items P.found parts.items whole) }
     ensures as_many { IfOk result (λ parts. length parts.items ≡ threads) }
 {
     let mut parts = Vec::with_capacity(alloc, threads.get())?;
@@ -41,9 +46,33 @@ fn parts_of<A: Memory, P: Cut>(
     Ok(parts)
 }
 
+/// The items of a whole, written in parts, one for each thread, and the first place whose item has no value; none where there are
+/// more of them than `most`.
+pub fn made_in_parts<T: Send + Sync + Drop, R: Threads + Sync, A: Memory, P: Cut<T> + Sync>(
+    rt: &R,
+    alloc: A,
+    threads: ThreadCount,
+    whole: P,
+    most: usize,
+) -> Result<Option<(Vec<T, A>, Option<usize>)>, NoResources>
+    requires { most < 2 ^ 64 - 1 }
+    ensures { IfOk result (λ made. MatchOption made (most < length (P.items whole))
+        (λ m. (m.0.items ≡ P.items whole) × (m.1 ≡ P.found whole 0) × (vec_len m.0 ≤ most))) }
+{
+    let parts = parts_of(alloc, threads, whole)?;
+    let parts = parts.as_slice();
+    let (counts, items) = count_parts(rt, alloc, threads, parts)?;
+    if items > most {
+        return Ok(None);
+    }
+    let counts = counts.as_slice();
+    let made = write_in_parts(rt, alloc, threads, CountedParts { parts, counts }, items)?;
+    Ok(Some(made))
+}
+
 /// Appends the text of a whole in parts, one for each thread. The text moves to where there is room. After a refusal it is as
 /// before.
-pub(crate) fn put_in_parts<R: Threads + Sync, A: Memory, P: Cut + Sync>(
+pub(crate) fn put_in_parts<R: Threads + Sync, A: Memory, P: Cut<u8> + Sync>(
     rt: &R,
     alloc: A,
     threads: ThreadCount,

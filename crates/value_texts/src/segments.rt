@@ -15,6 +15,7 @@ use fresh::{Part, Run};
 use std::alloc::AllocError;
 
 /// How many bytes the text of a vector has.
+#[tactic(auto, using(crate::proofs::SegmentWalk::text_size))]
 fn count_vector<T: Written>(xs: &[T]) -> u32
     requires { length xs.now ≤ most_elements }
     ensures count { result ≡ length (vector_text T.text_of xs.now) }
@@ -147,7 +148,8 @@ fn leading(lengths: &[i32], least: usize) -> (usize, usize)
     (lengths.len(), elements)
 }
 
-impl<'a, T: Written> Cut for SegmentTexts<'a, T> {
+#[tactic(auto, using(crate::proofs::SegmentWalk::segments_cut))]
+impl<'a, T: Written> Cut<u8> for SegmentTexts<'a, T> {
     fn cut(self, parts: usize) -> (SegmentTexts<'a, T>, SegmentTexts<'a, T>) {
         let (segments, elements) = leading(
             self.lengths,

@@ -84,6 +84,7 @@ pub(crate) fn put_element<T: Written, A: Allocator>(
 
 /// Appends `[` and the text of the first element, if there is one, and returns the others. After a refusal the text begins as
 /// before.
+#[tactic(auto, using(crate::proofs::Spaces::opened_onto))]
 fn put_first<'a, T: Written, A: Allocator>(
     xs: &'a [T],
     page: &mut Page,

@@ -46,6 +46,7 @@ fn digit_count(number: u32) -> u32
 }
 
 /// An integer's text is its decimal.
+#[tactic(auto, using(crate::proofs::DecimalTexts::short, crate::proofs::DecimalTexts::from_bool_small))]
 impl Written for i32 {
     ghost use Rattle.std.specs.Fmt.{signed_decimal};
 

@@ -4,11 +4,11 @@ use Rattle.call_reader.specs.NestedReads.{AreListsRead}
 use Rattle.call_reader.proofs.NestedPieces.{both_read}
 use Rattle.call_reader.proofs.nested_pieces.+halves.Goals as goal
 
-pub returns-in-Some-Some-clause-read : goal.returns-in-Some-Some-clause-read
-returns-in-Some-Some-clause-read g t c =
+pub returns-in-Some-Some : goal.returns-in-Some-Some
+returns-in-Some-Some g t c =
     let pieces = c.cut_at_list.result in
-    let front = IfOk-at_ok (λ o. IfSome o (λ l. AreListsRead pieces.0.now l.rest.now l.numbers.items l.lengths.items)) c.in_ok-front.was c.join-front.ensures.first.0 in
-    let back = IfOk-at_ok (λ o. IfSome o (λ l. AreListsRead pieces.1.now l.rest.now l.numbers.items l.lengths.items)) c.in_ok-back.was c.join-front.ensures.second.0 in
+    let front = IfOk-at_ok (λ o. IfSome o (λ l. AreListsRead pieces.0.now l.rest.now l.numbers.items l.lengths.items)) c.in_ok-front.was c.join-front.ensures.first in
+    let back = IfOk-at_ok (λ o. IfSome o (λ l. AreListsRead pieces.1.now l.rest.now l.numbers.items l.lengths.items)) c.in_ok-back.was c.join-front.ensures.second in
     both_read (λ l. l.rest.now) (λ l. l.numbers.items) (λ l. l.lengths.items) c.both.result c.args.bytes.now pieces.0.now pieces.1.now _ _ _ _ _ _
     c.cut_at_list.ensures.whole c.cut_at_list.ensures.between
     (subst (λ o. IfSome o (λ l. AreListsRead pieces.0.now l.rest.now l.numbers.items l.lengths.items)) c.in-Some-Some.is-0 front)

@@ -1,11 +1,11 @@
-use Rattle.std.proofs.Common.{◌≡◌, ◌+◌, ◌≤◌, ◌++◌, length}
-use Rattle.std.specs.List.{flat_map}
+use Rattle.std.proofs.Common.{◌≡◌, ◌+◌, ◌≤◌, [], ◌∷◌, ◌++◌, length}
+use Rattle.value_texts.specs.Parts.{AreParts}
 use Rattle.value_texts.proofs.part_writes.parts_of.Given as goal
 
 -- the parts with what is left are the whole
 abbrev pub invariant-loop-left : goal.invariant-loop-left
 invariant-loop-left g l = record {
-  whole : flat_map g.P.Part.items l.parts.items ++ g.P.Part.items l.rest ≡ g.P.Part.items l.fn.whole;
+  whole : AreParts g.P.Part.items g.P.Part.found (l.parts.items ++ l.rest ∷ []) l.fn.whole;
   as_many : length l.parts.items + l.left ≡ l.fn.threads;
   some : 1 ≤ l.left;
 }

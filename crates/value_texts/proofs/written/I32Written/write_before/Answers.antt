@@ -10,20 +10,6 @@ write_digits-requires c =
     let number : 10 ^ 10 + c.from.result < 10 ^ 11 = omega (arith, c.from.ensures) in
     (omega (arith, length-decimal-le 11 (10 ^ 10 + c.from.result) (omega arith) number (omega (arith, number))), omega arith)
 
-pub overflow_sub-start : goal.overflow_sub-start
-overflow_sub-start c = omega (arith, c.digit_count.ensures, short c.unsigned_abs-magnitude.result (omega arith))
-
-pub overflow_sub-page : goal.overflow_sub-page
-overflow_sub-page c = omega (arith, c.digit_count.ensures, short c.unsigned_abs-magnitude.result (omega arith))
-
-pub overflow_sub-result : goal.overflow_sub-result
-overflow_sub-result c =
-    omega (arith, c.digit_count.ensures, short c.unsigned_abs-magnitude.result (omega arith), c.from-2.ensures, from_bool_small (int_lt (to_z w32 (of_z w32 c.args.self.now)) (pos 0)))
-
-pub returns-clause-short : goal.returns-clause-short
-returns-clause-short c =
-    omega (arith, c.digit_count.ensures, short c.unsigned_abs-magnitude.result (omega arith), c.from-2.ensures, from_bool_small (int_lt (to_z w32 (of_z w32 c.args.self.now)) (pos 0)))
-
 pub returns-clause-written : goal.returns-clause-written
 returns-clause-written c =
     let page = c.write_digits.new.buf in
