@@ -1,6 +1,6 @@
 -- The lawful words of a tile, by the state: they ascend, and each is read again.
 -- Source: what the definitions of Codings imply.
-use Rattle.std.proofs.Common.{◌≡◌, refl, ap, ◌∙◌, ℕ, zero, suc, ◌+◌, ◌<◌, ◌≤◌, max, min, Bool, List, IsTrue, arith, ⊎_elim}
+use Rattle.std.proofs.Common.{◌≡◌, refl, ap, ℕ, zero, suc, ◌+◌, ◌<◌, ◌≤◌, max, min, Bool, List, IsTrue, arith, ⊎_elim}
 use Rattle.std.specs.List.{AllPass}
 use Rattle.std.proofs.lemmas.Bool.{cases_lt}
 use Rattle.cvl_base.specs.TileSums.{SumsLaws}
@@ -35,11 +35,8 @@ module _ {Item : Type 0} {is_item : Item → Bool} (m : Coding Item) (coded : Co
   code_le : (t a b : ℕ) → a ≤ b → code m sums t a ≤ code m sums t b
   code_le t a b le =
       ⊎_elim (λ (less : min a 2 < min b 2).
-      omega (
-        arith,
-        coded.ascending (told_of m.join m.unit sums t a) (told_of m.join m.unit sums t b) (told_is_item t a) (told_is_item t b)
-            (omega (arith, less, told_state_of t a, told_state_of t b)),
-      ))
+      let word = coded.ascending (told_of m.join m.unit sums t a) (told_of m.join m.unit sums t b) (told_is_item t a) (told_is_item t b)
+      (omega (arith, less, told_state_of t a, told_state_of t b)) in omega arith)
       (λ (same : min b 2 ≤ min a 2).
       ⊎_elim (λ (low : a < 2). let equal : a ≡ b = omega arith in omega (arith, ap (code m sums t) equal))
       (λ (high : 2 ≤ a). omega (arith, code_high m sums t a high, code_high m sums t b (omega arith)))
@@ -49,10 +46,8 @@ module _ {Item : Type 0} {is_item : Item → Bool} (m : Coding Item) (coded : Co
   -- the greater word is that of the higher state
   pub code_max : (t a b : ℕ) → max (code m sums t a) (code m sums t b) ≡ code m sums t (max a b)
   code_max t a b =
-      ⊎_elim (λ (less : a < b). let up = code_le t a b (omega arith) in let top : b ≡ max a b = omega arith in
-      let word : max (code m sums t a) (code m sums t b) ≡ code m sums t b = omega arith in word ∙ ap (code m sums t) top)
-      (λ (more : b ≤ a). let up = code_le t b a more in let top : a ≡ max a b = omega arith in
-      let word : max (code m sums t a) (code m sums t b) ≡ code m sums t a = omega arith in word ∙ ap (code m sums t) top)
+      ⊎_elim (λ (less : a < b). let top : max a b ≡ b = omega arith in omega (arith, code_le t a b (omega arith), ap (code m sums t) top))
+      (λ (more : b ≤ a). let top : max a b ≡ a = omega arith in omega (arith, code_le t b a more, ap (code m sums t) top))
       (cases_lt a b)
 
   pub code_laws : CodeLaws is_item m sums

@@ -135,11 +135,9 @@ module _ {P : Type 0} (hand : P → Hand) where
   pub whole_deals : WholeDeals hand
   whole_deals tiles workers claims passes id p dealt here all =
       let whole : (f : Hand → ℕ) → ((h : Hand) → IsFairHand h → h.share ≡ 0 → f h ≡ 0) → f (hand p) ≡ sum_by (λ r. f (hand r)) passes = λ f none.
-      omega (
-        arith,
-        one_alone (sum_by (λ r. f (hand r))) (λ r. f (hand r)) ◌+◌ 0 refl (sum_by-cons (λ r. f (hand r))) (λ xs. omega arith) passes id p here
-            (λ j z differ there. none (hand z) (dealt.fair j z there) (others_idle tiles workers claims passes id p dealt here all j z differ there)),
-      ) in
+      let alone = one_alone (sum_by (λ r. f (hand r))) (λ r. f (hand r)) ◌+◌ 0 refl (sum_by-cons (λ r. f (hand r))) (λ xs. omega arith) passes id p here
+      (λ j z differ there. none (hand z) (dealt.fair j z there) (others_idle tiles workers claims passes id p dealt here all j z differ there)) in
+      omega arith in
       let given : (t : ℕ) → times t (hand p).given ≡ once_claimed tiles claims t = λ t. whole (λ h. times t h.given) (λ h fair none. ap (times t) (fair.empty none)) ∙ dealt.given t in
       let count = whole (λ h. length h.given) (λ h fair none. ap length (fair.empty none)) ∙ dealt.count in
       let done = whole (λ h. h.done) (λ h fair none. omega (arith, fair.marks, none)) ∙ dealt.done in

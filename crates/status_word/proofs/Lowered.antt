@@ -86,3 +86,5 @@ pub left_first : {Item : Type 0} (sums : List (Bool × Item)) (workers : ℕ) �
 left_first {Item = Item} sums workers =
     let all : length sums - 0 ≡ length sums = omega arith in
     omega (arith, tiles_left 0 (length sums), products (length sums), ap (left_of_tiles 0) all, sum_by-replicate (left_of_local {Item = Item}) workers Ready)
+
+pub ruleset lowers = (step_lowers, run_lowers, left_first)

@@ -39,6 +39,7 @@ pub fn word_values()
 {}
 
 /// That the words of a packed monoid ascend with their states and are read again, and how its sums hang together.
+#[tactic(auto, using(crate::proofs::Packed::coding_laws))]
 pub(crate) fn know_coding<M: Packed>()
     ensures coded { CodingLaws M.is_item (coding M.Packed) }
     ensures sums { (sums : List (Bool × M.Item)) → AllPass (is_seg_item M.is_item) sums → SumsLaws M.is_item M.join M.unit sums }
@@ -63,6 +64,7 @@ pub fn world_law<M: Packed>()
 
 /// A step that a worker takes lowers the number of steps that are left, so a run takes no more of them than were left at
 /// its start less those that are left at its end; in a new world of n tiles and W workers these are 3n + n(n-1) + W.
+#[tactic(auto, using(crate::proofs::Lowered::lowers))]
 pub fn left_law<M: Packed>()
     ensures lowered { (w : Scene M.Item) (actor : ℕ) → actor < length w.locals →
         LowersBy (coding M.Packed) w actor }

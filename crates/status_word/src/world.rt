@@ -29,22 +29,12 @@ pub enum Stepped<T> {
 /// the four lists and numbers, and each world came from a new one by steps of its workers.
 ///
 /// Source: Merrill and Garland's decoupled look-back, as an interleaving of atomic steps.
+#[derive(Drop)]
 pub struct World<M: Packed, A: Allocator> {
     sums: Vec<(bool, M::Item), A>,
     claims: u64,
     words: Vec<u64, A>,
     locals: Vec<Local<M::Item>, A>,
-}
-
-impl<M: Packed, A: Allocator> Drop for World<M, A> {
-    fn drop(self) {
-        let World {
-            sums: _,
-            claims: _,
-            words: _,
-            locals: _,
-        } = self;
-    }
 }
 
 impl<M: Packed, A: Allocator> Model for World<M, A> {
