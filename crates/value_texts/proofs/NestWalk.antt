@@ -1,17 +1,15 @@
 -- Texts that are appended one by one with a space before each, and then put in brackets.
-use Rattle.std.proofs.Common.{◌≡◌, ℕ, suc, ◌+◌, ◌≤◌, ◌<◌, List, [], ◌∷◌, ◌++◌, length, map, take, drop, sym, ap, ◌∙◌, arith, append_assoc, append-nil, slice_set}
+use Rattle.std.proofs.Common.{◌≡◌, ℕ, suc, ◌+◌, ◌≤◌, ◌<◌, List, [], ◌∷◌, ◌++◌, length, map, sum, take, drop, sym, ap, ◌∙◌, arith, append_assoc, append-nil, slice_set, ℤ, unsigned_abs}
 use Rattle.std.specs.List.{join_with_byte}
 use Rattle.std.proofs.lemmas.List.{take_all, length-drop, drop-drop, set_split}
-use Rattle.value_texts.specs.Texts.{spaced}
+use Rattle.cvl_base.specs.Nests.{cut_of}
+use Rattle.cvl_base.proofs.Lists.{sum-cons}
+use Rattle.value_texts.specs.Texts.{spaced, vector_text}
 use Rattle.value_texts.proofs.Spaces.{join_spaced, begins_after}
 
 -- a text that grows from one that begins with a third begins with that
 pub begins_grown : (old mid more new : List ℕ) → take (length old) mid ≡ old → new ≡ mid ++ more → take (length old) new ≡ old
 begins_grown old mid more new first grown = begins_after old mid more new first (ap (take (length (mid ++ more))) grown ∙ take_all (length (mid ++ more)) (mid ++ more) (omega arith))
-
--- a text that begins with one that begins with a third begins with that
-pub begins_on : (old mid new : List ℕ) → take (length old) mid ≡ old → take (length mid) new ≡ mid → take (length old) new ≡ old
-begins_on old mid new first later = begins_after old mid [] new first (rw (append-nil mid) later)
 
 -- a list with another element at one place
 pub put_at : (xs : List ℕ) (i y : ℕ) → i < length xs → slice_set xs i y ≡ take i xs ++ (y ∷ drop (i + 1) xs)
@@ -41,3 +39,36 @@ module _ {X : Type 0} (f : X → List ℕ) where
       let place : drop 1 (drop begun old) ≡ drop (begun + 1) old = drop-drop 1 begun old ∙ ap (λ k. drop k old) (omega arith) in
       let joined : drop (begun + 1) old ≡ join_with_byte 32 (map f (x ∷ xs)) = sym place ∙ ap (drop 1) texts ∙ sym (join_spaced f x xs) in
       put ∙ append_assoc (take begun old) (91 ∷ drop (begun + 1) old) (93 ∷ []) ∙ ap (λ t. take begun old ++ (91 ∷ (t ++ (93 ∷ [])))) joined
+
+-- a text that began as `old` and will be `all`: what is left to write are the segments of these lengths
+pub record IsUnderway {X : Type 0} (f : X → List ℕ) (old all text : List ℕ) (lengths : List ℤ) (xs : List X) : Type 0 where
+  pub whole : text ++ spaced (vector_text f) (cut_of (map unsigned_abs lengths) xs) ≡ all
+  pub begins : take (length old) text ≡ old
+  pub total : sum (map unsigned_abs lengths) ≡ length xs
+
+module _ {X : Type 0} {f : X → List ℕ} {old all text : List ℕ} {left : List ℤ} {rest : List X} (is : IsUnderway f old all text left rest) where
+  pub none_left : left ≡ [] → text ≡ all
+  none_left none = sym (append-nil text) ∙ ap (λ ls. text ++ spaced (vector_text f) (cut_of (map unsigned_abs ls) rest)) (sym none) ∙ is.whole
+
+  module _ (first : ℤ) (others : List ℤ) (n : ℕ) (parts : left ≡ first ∷ others) (count : unsigned_abs first ≡ n) where
+    sizes : map unsigned_abs left ≡ n ∷ map unsigned_abs others
+    sizes = ap (map unsigned_abs) parts ∙ ap (λ k. k ∷ map unsigned_abs others) count
+
+    pub segment_within : n ≤ length rest
+    segment_within = omega (arith, ap sum sizes, sum-cons n (map unsigned_abs others), is.total)
+
+    -- one segment more is written, with a space before it
+    pub segment_written : (segment behind : List X) (spaced_text new : List ℕ) → segment ≡ take n rest → behind ≡ drop n rest
+        → spaced_text ≡ text ++ (32 ∷ []) → new ≡ spaced_text ++ vector_text f segment → IsUnderway f old all new others behind
+    segment_written segment behind spaced_text new front back space written =
+        let next = cut_of (map unsigned_abs others) behind in
+        let cut : cut_of (map unsigned_abs left) rest ≡ segment ∷ next = ap (λ ls. cut_of ls rest) sizes ∙ (λ i. sym front i ∷ cut_of (map unsigned_abs others) (sym back i)) in
+        record {
+          whole = one_more (vector_text f) text spaced_text new all segment next (cut_of (map unsigned_abs left) rest) cut is.whole space written;
+          begins = begins_grown old spaced_text (vector_text f segment) new (begins_grown old text (32 ∷ []) spaced_text is.begins space) written;
+          total = omega (arith, ap sum sizes, sum-cons n (map unsigned_abs others), is.total, ap length back, length-drop n rest);
+        }
+
+  -- a segment is refused after the space before it
+  pub refused_after : (spaced_text new : List ℕ) → spaced_text ≡ text ++ (32 ∷ []) → take (length spaced_text) new ≡ spaced_text → take (length old) new ≡ old
+  refused_after spaced_text new space later = begins_after old text (32 ∷ []) new is.begins (rw (← space) later)

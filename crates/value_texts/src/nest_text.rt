@@ -1,12 +1,12 @@
 //! The text of nests.
 
-ghost use Rattle.std.specs.Prelude.{◌≡◌, ◌≤◌, List, [], ◌++◌, length, map, sum, take, drop, unsigned_abs, IfOk, OnOk};
+ghost use Rattle.std.specs.Prelude.{◌≡◌, ◌≤◌, List, ◌++◌, length, map, sum, take, drop, unsigned_abs, OnOk};
 ghost use Rattle.cvl_base.specs.Nests.{cut_of};
 ghost use Rattle.value_texts.specs.Texts.{spaced, vector_text, nest_text};
 
 use crate::part_writes::put_in_parts;
 use crate::segments::SegmentTexts;
-use crate::vector_text::{PAGE_ELEMENTS, Page, put_vector, put_vector_alone};
+use crate::vector_text::{Page, put_vector, put_vector_alone};
 use crate::written::{MOST_TEXT_BYTES, Written};
 use cvl_base::{Config, Memory, NoResources};
 use sharing::threads_writing_text;
@@ -34,37 +34,30 @@ fn put_brackets<T: Written, A: Allocator>(
     Ok(())
 }
 
-/// Appends the texts of the segments with a space before each, by the thread that calls, up to the first segment of more than so
-/// many elements. It returns the lengths from that one on, and their elements. After a refusal the text begins as before.
-fn put_short_segments<'a, T: Written, A: Allocator>(
-    lengths: &'a [i32],
-    xs: &'a [T],
-    most: usize,
+/// Appends the texts of the segments with a space before each, by the thread that calls. After a refusal the text begins as
+/// before.
+#[tactic(auto, using(crate::proofs::NestWalk::none_left))]
+fn put_segments_alone<T: Written, A: Allocator>(
+    lengths: &[i32],
+    xs: &[T],
     page: &mut Page,
     text: &mut Vec<u8, A>,
-) -> Result<(&'a [i32], &'a [T]), NoResources>
+) -> Result<(), NoResources>
     requires { sum (map unsigned_abs lengths.now) ≡ length xs.now }
-    ensures ok { IfOk result (λ left. text.new.items ++ spaced (vector_text T.text_of) (cut_of (map unsigned_abs left.0.now) left.1.now)
+    ensures ok { OnOk result (text.new.items
         ≡ text.old.items ++ spaced (vector_text T.text_of) (cut_of (map unsigned_abs lengths.now) xs.now)) }
-    ensures total { IfOk result (λ left. sum (map unsigned_abs left.0.now) ≡ length left.1.now) }
-    ensures fewer { IfOk result (λ left. length left.0.now ≤ length lengths.now) }
-    ensures all { IfOk result (λ left. length xs.now ≤ most → left.0.now ≡ []) }
     ensures begins { take (length text.old.items) text.new.items ≡ text.old.items }
 {
     let mut left = lengths;
     let mut rest = xs;
     while let Some((first, others)) = left.split_first() {
-        let elements = first.unsigned_abs() as usize;
-        if elements > most {
-            return Ok((left, rest));
-        }
-        let (segment, behind) = rest.split_at(elements);
+        let (segment, behind) = rest.split_at(first.unsigned_abs() as usize);
         text.push(b' ')?;
         put_vector_alone(segment, page, text)?;
         left = others;
         rest = behind;
     }
-    Ok((left, rest))
+    Ok(())
 }
 
 /// Appends the text of the vectors into which the lengths cut the elements, by the thread that calls. After a refusal the text
@@ -81,13 +74,14 @@ pub(crate) fn put_nest_alone<T: Written, A: Allocator>(
     ensures begins { take (length text.old.items) text.new.items ≡ text.old.items }
 {
     let begun = text.len();
-    put_short_segments(lengths, xs, xs.len(), page, text)?;
+    put_segments_alone(lengths, xs, page, text)?;
     put_brackets::<T, A>(begun, text)?;
     Ok(())
 }
 
 /// Appends the texts of the segments with a space before each, in turn, and of long ones by as many threads as pay. After a
 /// refusal the text begins as before.
+#[tactic(auto, using(crate::proofs::NestWalk::none_left))]
 fn put_segments_in_turn<R: Threads + Sync, T: Written + Sync, A: Memory>(
     rt: &R,
     alloc: A,
@@ -102,14 +96,14 @@ fn put_segments_in_turn<R: Threads + Sync, T: Written + Sync, A: Memory>(
         ≡ text.old.items ++ spaced (vector_text T.text_of) (cut_of (map unsigned_abs lengths.now) xs.now)) }
     ensures begins { take (length text.old.items) text.new.items ≡ text.old.items }
 {
-    let (mut left, mut rest) = put_short_segments(lengths, xs, PAGE_ELEMENTS, page, text)?;
+    let mut left = lengths;
+    let mut rest = xs;
     while let Some((first, others)) = left.split_first() {
         let (segment, behind) = rest.split_at(first.unsigned_abs() as usize);
         text.push(b' ')?;
         put_vector(rt, alloc, config, segment, page, text)?;
-        let (short, after) = put_short_segments(others, behind, PAGE_ELEMENTS, page, text)?;
-        left = short;
-        rest = after;
+        left = others;
+        rest = behind;
     }
     Ok(())
 }

@@ -150,6 +150,9 @@ pub(crate) fn put_vector<R: Threads + Sync, T: Written + Sync, A: Memory>(
     ensures ok { OnOk result (text.new.items ≡ text.old.items ++ vector_text T.text_of xs.now) }
     ensures begins { take (length text.old.items) text.new.items ≡ text.old.items }
 {
+    if xs.len() <= PAGE_ELEMENTS {
+        return put_vector_alone(xs, page, text);
+    }
     let threads = threads_writing_text(config, xs.len());
     if threads.get() < 2 || text.len() / MOST_TEXT_BYTES > xs.len() {
         return put_vector_alone(xs, page, text);
