@@ -1,4 +1,3 @@
-pub mod Counted
 pub mod InSegments
 pub mod OnBytes
 pub mod Replaced

@@ -1,11 +1,12 @@
 -- Flags that come as bytes: a byte that isn't 0 is true, and results are 0 and 1.
 -- Source: the conversion to bool of C.
-use Rattle.std.specs.Prelude.{ℕ, ℤ, ◌==◌, nat_lt, Bool, true, false, not, List, map, Result, Ok}
+use Rattle.std.specs.Prelude.{ℕ, ℤ, pos, ◌==◌, nat_lt, Bool, true, false, not, List, map, Result, Ok}
 use Rattle.std.specs.List.{zip}
 use Rattle.cvl_base.specs.declared.fault.Fault.{Fault}
 use Rattle.cvl_base.specs.Elementwise.{chosen, if_as_long}
 use Rattle.cvl_base.specs.Extracts.{extract_of}
 use Rattle.cvl_base.specs.Gives.{◌>>=◌}
+use Rattle.cvl_base.specs.Packs.{count_of}
 
 -- whether a byte is 0 or 1
 abbrev pub is_flag : ℕ → Bool
@@ -21,6 +22,10 @@ flags_of bytes = map flag_of bytes
 abbrev pub byte_of : Bool → ℕ
 byte_of true = 1
 byte_of false = 0
+
+-- how many bytes are true, as an integer
+abbrev pub count_in : List ℕ → ℤ
+count_in bytes = pos (count_of (flags_of bytes))
 
 -- the byte 1 for each that is true, and 0 for each other
 abbrev pub as_flag : ℕ → ℕ
@@ -38,7 +43,7 @@ made_flags meaning = meaning >>= λ bytes. Ok (map as_flag bytes)
 abbrev pub extract_flag_of : List ℕ → ℤ → Result Bool Fault
 extract_flag_of bytes index = extract_of bytes index >>= λ byte. Ok (flag_of byte)
 
--- at each place the first of two elements where the byte is true, else the second, through an operator
-abbrev pub choose_by : {X : Type 0} → (X → X) → List ℕ → List X → List X → Result (List X) Fault
-choose_by operator bytes xs ys =
-    if_as_long bytes xs (if_as_long bytes ys (Ok (map (λ p. operator (chosen (flag_of p.0) p.1)) (zip bytes (zip xs ys)))))
+-- at each place the first of two elements where the test on the byte holds, else the second, through an operator
+abbrev pub choose_by : {X : Type 0} → (ℕ → Bool) → (X → X) → List ℕ → List X → List X → Result (List X) Fault
+choose_by test operator bytes xs ys =
+    if_as_long bytes xs (if_as_long bytes ys (Ok (map (λ p. operator (chosen (test p.0) p.1)) (zip bytes (zip xs ys)))))

@@ -58,7 +58,7 @@ fn choose_over<O: Single<T, T>, T: Copy>(
     out: &mut [T],
 ) -> Result<(), Fault>
     requires { length bytes.now ≤ most_elements }
-    ensures { Overwrites (in_room (length out.old) (choose_by O.value bytes.now a.now b.now)) result out.old out.new }
+    ensures { Overwrites (in_room (length out.old) (choose_by flag_of O.value bytes.now a.now b.now)) result out.old out.new }
 {
     check_agree(bytes.len(), a.len())?;
     check_agree(bytes.len(), b.len())?;
@@ -73,46 +73,19 @@ fn choose_over<O: Single<T, T>, T: Copy>(
     Ok(())
 }
 
-/// Writes over each element what it or the other one at its place is chosen for: its own where the test on the byte holds.
-fn write_chosen<F: Single<u8, bool>, O: Single<T, T>, T: Copy>(
+/// The choice over one of the two vectors: at each place its own element where the test on the byte holds, else that of the others.
+fn choose_in<F: Single<u8, bool>, O: Single<T, T>, T: Copy>(
     bytes: &[u8],
     over: &mut [T],
     others: &[T],
-)
-    requires in_bytes { length over.old ≡ length bytes.now }
-    requires in_others { length over.old ≡ length others.now }
-    ensures { over.new ≡ map (λ p. O.value (chosen (F.value p.0) p.1)) (zip bytes.now (zip over.old others.now)) }
+) -> Result<(), Fault>
+    ensures { Overwrites (choose_by F.value O.value bytes.now over.old others.now) result over.old over.new }
 {
+    check_agree(bytes.len(), over.len())?;
+    check_agree(bytes.len(), others.len())?;
     for place in 0..over.len() {
         over[place] = O::apply(choose(F::apply(bytes[place]), over[place], others[place]));
     }
-}
-
-/// The choice over the first of the two vectors.
-fn choose_in_first<O: Single<T, T>, T: Copy>(
-    bytes: &[u8],
-    a: &mut [T],
-    b: &[T],
-) -> Result<(), Fault>
-    ensures { Overwrites (choose_by O.value bytes.now a.old b.now) result a.old a.new }
-{
-    check_agree(bytes.len(), a.len())?;
-    check_agree(bytes.len(), b.len())?;
-    write_chosen::<TrueByte, O, T>(bytes, a, b);
-    Ok(())
-}
-
-/// The choice over the second of the two vectors.
-fn choose_in_second<O: Single<T, T>, T: Copy>(
-    bytes: &[u8],
-    a: &[T],
-    b: &mut [T],
-) -> Result<(), Fault>
-    ensures { Overwrites (choose_by O.value bytes.now a.now b.old) result b.old b.new }
-{
-    check_agree(bytes.len(), a.len())?;
-    check_agree(bytes.len(), b.len())?;
-    write_chosen::<FalseByte, O, T>(bytes, b, a);
     Ok(())
 }
 
@@ -129,14 +102,14 @@ pub fn select_over<T: Copy>(flags: &[u8], a: &[T], b: &[T], out: &mut [T]) -> Re
 pub fn select_in_first<T: Copy>(flags: &[u8], a: &mut [T], b: &[T]) -> Result<(), Fault>
     ensures { Overwrites (choose_of (flags_of flags.now) a.old b.now) result a.old a.new }
 {
-    choose_in_first::<Same, T>(flags, a, b)
+    choose_in::<TrueByte, Same, T>(flags, a, b)
 }
 
 /// The same as [`select_over`], over `b`.
 pub fn select_in_second<T: Copy>(flags: &[u8], a: &[T], b: &mut [T]) -> Result<(), Fault>
     ensures { Overwrites (choose_of (flags_of flags.now) a.now b.old) result b.old b.new }
 {
-    choose_in_second::<Same, T>(flags, a, b)
+    choose_in::<FalseByte, Same, T>(flags, b, a)
 }
 
 /// The same as [`select_over`], between flags: `sel_wub`.
@@ -151,12 +124,12 @@ pub fn select_flags_over(flags: &[u8], a: &[u8], b: &[u8], out: &mut [u8]) -> Re
 pub fn select_flags_in_first(flags: &[u8], a: &mut [u8], b: &[u8]) -> Result<(), Fault>
     ensures { Overwrites (as_bytes (choose_of (flags_of flags.now) (flags_of a.old) (flags_of b.now))) result a.old a.new }
 {
-    choose_in_first::<OnBytes<Same>, u8>(flags, a, b)
+    choose_in::<TrueByte, OnBytes<Same>, u8>(flags, a, b)
 }
 
 /// The same as [`select_flags_over`], over `b`.
 pub fn select_flags_in_second(flags: &[u8], a: &[u8], b: &mut [u8]) -> Result<(), Fault>
     ensures { Overwrites (as_bytes (choose_of (flags_of flags.now) (flags_of a.now) (flags_of b.old))) result b.old b.new }
 {
-    choose_in_second::<OnBytes<Same>, u8>(flags, a, b)
+    choose_in::<FalseByte, OnBytes<Same>, u8>(flags, b, a)
 }

@@ -1,15 +1,18 @@
 //! How many flags are true: of all, and of each segment.
 
-ghost use Rattle.std.specs.Prelude.{◌≡◌, ◌≤◌, count_by, length, pos};
+ghost use Rattle.std.specs.Prelude.{◌≡◌, ◌≤◌, [], count_by, length, map, sum, unsigned_abs};
+ghost use Rattle.cvl_base.specs.Descriptors.{AreLengths};
 ghost use Rattle.cvl_base.specs.Limits.{most_elements};
+ghost use Rattle.cvl_base.specs.Nests.{cut_of};
 ghost use Rattle.cvl_base.specs.Packs.{count_of};
 ghost use Rattle.cvl_base.specs.Rooms.{Overwrites, in_room};
-ghost use Rattle.flag_calls.specs.Flags.{flag_of, flags_of};
+ghost use Rattle.flag_calls.specs.Flags.{count_in, flag_of, flags_of};
+ghost use Rattle.fresh.specs.Places.{with_items};
 ghost use Rattle.pack_dist.specs.Counts.{counts_of};
 
 use crate::flags::{byte_of, flag_of};
-use crate::segments::{Reduce, reduces_over};
-use cvl_base::Fault;
+use cvl_base::{Fault, check_agree};
+use fresh::{Run, fill_slice};
 use segdes::SegLengths;
 
 /// The most bytes of a block. So many are counted in a byte.
@@ -61,20 +64,27 @@ fn true_count(bytes: &[u8]) -> usize
 /// The number of true flags, of which there are at most 4,194,304: `cnt_lub`.
 pub fn count(flags: &[u8]) -> i32
     requires few { length flags.now ≤ most_elements }
-    ensures { result ≡ pos (count_of (flags_of flags.now)) }
+    ensures { result ≡ count_in flags.now }
 {
     true_count(flags) as i32
 }
 
-/// Bytes are reduced to the number of those that are true.
-struct TrueBytes;
-
-impl Reduce<i32> for TrueBytes {
-    ghost value = { λ bytes. pos (count_of (flags_of bytes)) };
-
-    fn reduce(bytes: &[u8]) -> i32 {
-        count(bytes)
+/// Writes how many bytes of each of the segments with these lengths are true, one segment after another. The bytes begin with
+/// those of the segments. The run must have room for as many counts.
+fn counts_into(run: Run<i32>, lengths: &[i32], bytes: &[u8]) -> Run<i32>
+    requires lengths { AreLengths lengths.now }
+    requires covered { sum (map unsigned_abs lengths.now) ≤ length bytes.now }
+    requires room { length lengths.now ≤ run.room }
+    requires few { length bytes.now ≤ most_elements }
+    ensures { result ≡ with_items run (map count_in (cut_of (map unsigned_abs lengths.now) bytes.now)) }
+{
+    let (mut run, mut rest) = (run, bytes);
+    for length in lengths {
+        let (segment, others) = rest.split_at(*length as usize);
+        run.push(count(segment));
+        rest = others;
     }
+    run
 }
 
 /// The number of true flags of each segment, over a room: `cnt_leb`. `LengthMismatch`, without a place, where the segments' total
@@ -82,5 +92,15 @@ impl Reduce<i32> for TrueBytes {
 pub fn seg_count_over(flags: &[u8], d: &SegLengths, out: &mut [i32]) -> Result<(), Fault>
     ensures { Overwrites (in_room (length out.old) (counts_of (flags_of flags.now) d.now)) result out.old out.new }
 {
-    reduces_over::<TrueBytes, i32>(flags, d, out)
+    d.check_total(flags)?;
+    check_agree(d.count(), out.len())?;
+    let lengths = d.lengths();
+    fill_slice(
+        out,
+        |run: Run<i32>| -> Run<i32>
+            requires { (run.items ≡ []) × (run.room ≡ length lengths.now) × AreLengths lengths.now × (sum (map unsigned_abs lengths.now) ≡ length flags.now) × (length flags.now ≤ most_elements) }
+            ensures { result ≡ with_items run (map count_in (cut_of (map unsigned_abs lengths.entry.now) flags.entry.now)) }
+        { counts_into(run, lengths, flags) },
+    );
+    Ok(())
 }

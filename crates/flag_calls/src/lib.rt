@@ -8,7 +8,6 @@ mod counts;
 mod flags;
 mod reduces;
 mod replaces;
-mod segments;
 
 pub use bools::{
     bool1_in, bool1_over, bool2_in_both, bool2_in_first, bool2_in_second, bool2_over,

@@ -1,9 +1,5 @@
-use Rattle.std.proofs.Common.{length, subst, sym}
-use Rattle.cvl_base.specs.Rooms.{Overwrites, in_room}
 use Rattle.flag_calls.proofs.OnBytes.{chosen_elements}
 use Rattle.flag_calls.proofs.choice.select_over.Goals as goal
 
 pub returns : goal.returns
-returns g c =
-    let out = c.args.out.now in let call = c.choose_over in
-    subst (λ m. Overwrites (in_room (length out) m) call.result out call.new.out) (sym (chosen_elements c.args.flags.now c.args.a.now c.args.b.now)) call.ensures
+returns g c = rw (chosen_elements c.args.flags.now c.args.a.now c.args.b.now) c.choose_over.ensures

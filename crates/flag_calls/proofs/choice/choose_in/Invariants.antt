@@ -2,7 +2,7 @@ use Rattle.std.proofs.Common.{map}
 use Rattle.std.specs.List.{zip}
 use Rattle.cvl_base.specs.Elementwise.{chosen}
 use Rattle.elementwise.proofs.InPlace.{IsWritten}
-use Rattle.flag_calls.proofs.choice.write_chosen.Given as goal
+use Rattle.flag_calls.proofs.choice.choose_in.Given as goal
 
 abbrev pub invariant-loop-place : goal.invariant-loop-place
 invariant-loop-place g l =
