@@ -14,18 +14,10 @@ use Rattle.scan_walks.specs.Fronts.{fitting_front}
 use Rattle.scan_walks.proofs.Fitted.{all_fit, overflows}
 use Rattle.part_calls.specs.Sums.{checked_scan_after}
 
--- the number that a scan starts from where its first result fits
-start_at : (b : Bool) (before : ℤ) (others : ℕ) → is_number before ≡ b → 0 < cond b (1 + others) 0 → unwrap_or (if b then Some before else None) (pos 0) ≡ before
-start_at true before others number some = refl
-start_at false before others number some = absurd (omega (arith, some))
-
-rest_at : (b : Bool) (others count : ℕ) → suc count ≤ cond b (1 + others) 0 → count ≤ others
-rest_at true others count all = omega (arith, all)
-rest_at false others count all = absurd (omega (arith, all))
-
-number_at : (b : Bool) (z : ℤ) (others : ℕ) → is_number z ≡ b → 0 < cond b (1 + others) 0 → wrap z ≡ z
-number_at true z others number some = number_words.inverse z number
-number_at false z others number some = absurd (omega (arith, some))
+-- where some of the results fit, the first does
+first_fits : (b : Bool) (some others : ℕ) → 0 < some → some ≤ cond b (1 + others) 0 → (b ≡ true) × (some ≤ 1 + others)
+first_fits true some others lt all = (refl, all)
+first_fits false some others lt all = absurd (omega (arith, lt, all))
 
 -- where all results fit, the scan that wraps does not wrap
 unwrapped : (before : ℤ) (xs : List ℤ) → length xs ≤ fitting_front (scan_of ◌+ℤ◌ before xs) → scan_of sum_of before xs ≡ scan_of ◌+ℤ◌ before xs
@@ -36,8 +28,9 @@ unwrapped before (x ∷ y ∷ ys) all =
     let tail = fitting_front (scan_of ◌+ℤ◌ next (y ∷ ys)) in
     let whole : length (x ∷ y ∷ ys) ≤ cond (is_number before) (1 + tail) 0 =
     subst (λ zs. length (x ∷ y ∷ ys) ≤ fitting_front zs) (scan_of-cons ◌+ℤ◌ before x (y ∷ ys)) all in
-    let rest : length (y ∷ ys) ≤ tail = rest_at (is_number before) tail (length (y ∷ ys)) whole in
-    let fits : wrap next ≡ next = number_at (is_number next) next (fitting_front (map (fold_of ◌+ℤ◌ next) (map (λ front. y ∷ front) (fronts ys)))) refl (omega (arith, rest)) in
+    let rest : length (y ∷ ys) ≤ tail = omega (arith, (first_fits (is_number before) (length (x ∷ y ∷ ys)) tail (omega arith) whole).1) in
+    let fits : wrap next ≡ next =
+    number_words.inverse next (first_fits (is_number next) (length (y ∷ ys)) (fitting_front (map (fold_of ◌+ℤ◌ next) (map (λ front. y ∷ front) (fronts ys)))) (omega arith) rest).0 in
     scan_of-cons sum_of before x (y ∷ ys)
     ∙ ap (λ z. before ∷ scan_of sum_of z (y ∷ ys)) fits
     ∙ ap (λ zs. before ∷ zs) (unwrapped next (y ∷ ys) rest)
@@ -48,9 +41,9 @@ started : (before : ℤ) (xs : List ℤ) → length xs ≤ fitting_front (scan_o
     → scan_of sum_of (unwrap_or (fitting before) (pos 0)) xs ≡ scan_of ◌+ℤ◌ before xs
 started before [] all = refl
 started before (x ∷ xs) all =
-    ap (λ z. scan_of sum_of z (x ∷ xs))
-    (start_at (is_number before) before (fitting_front (map (fold_of ◌+ℤ◌ before) (map (λ front. x ∷ front) (fronts xs)))) refl (omega (arith, all)))
-    ∙ unwrapped before (x ∷ xs) all
+    let fits = first_fits (is_number before) (length (x ∷ xs)) (fitting_front (map (fold_of ◌+ℤ◌ before) (map (λ front. x ∷ front) (fronts xs)))) (omega arith) all in
+    let start : unwrap_or (fitting before) (pos 0) ≡ before = rw fits.0 in
+    ap (λ z. scan_of sum_of z (x ∷ xs)) start ∙ unwrapped before (x ∷ xs) all
 
 module _ (n : ℕ) (before : ℤ) (xs : List ℤ) (is : n ≡ fitting_front (scan_of ◌+ℤ◌ before xs)) where
   pub after_overflows : n < length xs → checked_scan_after before xs ≡ Err (fault_at Overflow n)

@@ -1,6 +1,8 @@
-use Rattle.std.proofs.Common.{◌∙◌, Ok, arith, sym}
+use Rattle.std.proofs.Common.{◌∙◌, ◌+◌, Ok, arith, eq-eqb, length, sym}
+use Rattle.std.proofs.lemmas.Bool.{le-ltb}
+use Rattle.cvl_base.specs.Limits.{most_elements}
 use Rattle.cvl_base.proofs.Permutes.{length-all_destinations}
-use Rattle.part_calls.proofs.Ranged.{simple_written}
+use Rattle.permute_walks.specs.Marks.{words_for}
 use Rattle.part_calls.proofs.permute_ranges.simple_range.Goals as goal
 
 pub write_counted-requires-clause-sourced : goal.write_counted-requires-clause-sourced
@@ -11,7 +13,11 @@ write_counted-requires-clause-few g c = omega (arith, length-all_destinations c.
 
 pub returns : goal.returns
 returns g c =
-    let told = c.write_counted.ensures in
-    simple_written c.args.source.now c.args.index.now c.args.lowest c.args.out.now c.args.marks.now c.in_ok-check_few.ensures c.in_ok-check_end.ensures
-    c.in_ok-check_agree.ensures (sym c.words_for.ensures ∙ c.in_ok-check_agree-2.ensures)
-    ∙ (λ i. Ok (sym told.written i, sym told.marked i, sym told.counted i))
+    let told = c.write_counted.ensures in let index = c.args.index.now in let out = c.args.out.now in
+    rw (
+      le-ltb most_elements (length index) c.in_ok-check_few.ensures,
+      le-ltb most_elements (c.args.lowest + length out) c.in_ok-check_end.ensures,
+      eq-eqb (length c.args.source.now) (length index) c.in_ok-check_agree.ensures,
+      eq-eqb (words_for (length out)) (length c.args.marks.now) (sym c.words_for.ensures ∙ c.in_ok-check_agree-2.ensures),
+    )
+    (λ i. Ok (sym told.written i, sym told.marked i, sym told.counted i))
