@@ -13,7 +13,7 @@ use segdes::{SegDes, SegLengths};
 use std::alloc::Global;
 
 /// Checks that a vector has at most 4,194,304 elements, else TooLong, without a place.
-pub(crate) fn check_limit<T>(vector: &[T]) -> Result<(), Fault>
+pub fn check_limit<T>(vector: &[T]) -> Result<(), Fault>
     ensures { MatchResult result (λ _. length vector.now ≤ most_elements)
         (λ f. (f ≡ fault no.TooLong) × (most_elements < length vector.now)) }
 {
@@ -25,7 +25,7 @@ pub(crate) fn check_limit<T>(vector: &[T]) -> Result<(), Fault>
 
 /// The segments with these lengths, which are looked at where they lie: TooLong, without a place, where there are more than
 /// 4,194,304 lengths; NegativeLength at the first that is negative; TooLong where they add up to more than 4,194,304.
-pub(crate) fn segments(lengths: &[i32]) -> Result<SegLengths<'_>, Fault>
+pub fn segments(lengths: &[i32]) -> Result<SegLengths<'_>, Fault>
     ensures { MatchResult result (λ d. lengths_of lengths.now ≡ Ok d) (λ f. lengths_of lengths.now ≡ Err f) }
 {
     check_limit(lengths)?;
@@ -34,7 +34,7 @@ pub(crate) fn segments(lengths: &[i32]) -> Result<SegLengths<'_>, Fault>
 
 /// The descriptor of segments with these lengths: TooLong, without a place, where there are more than 4,194,304 lengths;
 /// NegativeLength at the first that is negative; TooLong where they add up to more than 4,194,304.
-pub(crate) fn descriptor(alloc: Global, lengths: &[i32]) -> Result<SegDes<Global>, Refused>
+pub fn descriptor(alloc: Global, lengths: &[i32]) -> Result<SegDes<Global>, Refused>
     ensures { Gives (λ d. d) result (lengths_of lengths.now) }
 {
     check_limit(lengths)?;

@@ -1,14 +1,17 @@
-//! Counts and single elements of whole vectors of flags.
+//! Counts of whole vectors of flags, and the flags of segments at indices.
 
 ghost use Rattle.std.specs.Prelude.{◌≡◌, Ok, pos};
+ghost use Rattle.cvl_base.specs.Gives.{Gives};
 ghost use Rattle.cvl_base.specs.Packs.{count_of};
-ghost use Rattle.c_calls.specs.Calls.{in_limit};
-ghost use Rattle.flag_calls.specs.Flags.{extract_flag_of, flags_of};
+ghost use Rattle.cvl_base.specs.SegmentedCalls.{seg_extract_of};
+ghost use Rattle.c_calls.specs.Calls.{by_segments, in_limit};
+ghost use Rattle.flag_calls.specs.Flags.{flags_of, made_flags};
 
-use crate::checks::check_limit;
-use cvl_base::Fault;
-use flag_calls::flag_of;
-use pack_dist::extract;
+use crate::checks::{check_limit, segments};
+use cvl_base::{Fault, Refused};
+use flag_calls::make_flags;
+use pack_dist::seg_extract;
+use std::alloc::Global;
 
 /// The number of true flags, of which there are at most 4,194,304, else TooLong, without a place.
 pub fn count(flags: &[u8]) -> Result<i32, Fault>
@@ -18,9 +21,17 @@ pub fn count(flags: &[u8]) -> Result<i32, Fault>
     Ok(flag_calls::count(flags))
 }
 
-/// The flag at the place that an index names.
-pub fn extract_flag(vector: &[u8], index: i32) -> Result<bool, Fault>
-    ensures { result ≡ extract_flag_of vector.now index }
+/// For each segment the byte at the place that its index names, 1 where it is true and 0 where it is false.
+pub fn extract_each_flag(
+    alloc: Global,
+    vector: &[u8],
+    index: &[i32],
+    lengths: &[i32],
+) -> Result<Vec<u8, Global>, Refused>
+    ensures { Gives (λ v. v.items) result (made_flags (by_segments lengths.now (seg_extract_of vector.now index.now))) }
 {
-    Ok(flag_of(extract(vector, index)?))
+    let d = segments(lengths)?;
+    let mut bytes = seg_extract(alloc, vector, index, &d)?;
+    make_flags(&mut bytes);
+    Ok(bytes)
 }

@@ -19,7 +19,7 @@ fn numbered<T: Copy>(first: u32, operators: &[T], number: u32) -> Result<T, Faul
 }
 
 /// The operator on two integers of a number, from 0 to 11.
-pub(crate) fn int_binary(number: u32) -> Result<IntBinary, Fault>
+pub fn int_binary(number: u32) -> Result<IntBinary, Fault>
     ensures { result ≡ int_binary number }
 {
     let operators = [
@@ -40,7 +40,7 @@ pub(crate) fn int_binary(number: u32) -> Result<IntBinary, Fault>
 }
 
 /// The associative operator on integers of a number, from 0 to 6.
-pub(crate) fn int_monoid(number: u32) -> Result<IntMonoid, Fault>
+pub fn int_monoid(number: u32) -> Result<IntMonoid, Fault>
     ensures { result ≡ int_monoid number }
 {
     let operators = [
@@ -56,7 +56,7 @@ pub(crate) fn int_monoid(number: u32) -> Result<IntMonoid, Fault>
 }
 
 /// The operator on two booleans of a number, from 4 to 6.
-pub(crate) fn bool_binary(number: u32) -> Result<BoolBinary, Fault>
+pub fn bool_binary(number: u32) -> Result<BoolBinary, Fault>
     ensures { result ≡ bool_binary number }
 {
     let operators = [BoolBinary::And, BoolBinary::Ior, BoolBinary::Xor];
@@ -64,7 +64,7 @@ pub(crate) fn bool_binary(number: u32) -> Result<BoolBinary, Fault>
 }
 
 /// The comparison of a number, from 12 to 17.
-pub(crate) fn comparison(number: u32) -> Result<Comparison, Fault>
+pub fn comparison(number: u32) -> Result<Comparison, Fault>
     ensures { result ≡ comparison number }
 {
     let operators = [
@@ -79,7 +79,7 @@ pub(crate) fn comparison(number: u32) -> Result<Comparison, Fault>
 }
 
 /// The operator on one vector of a number, 18 or 19.
-pub(crate) fn unary(number: u32) -> Result<Unary, Fault>
+pub fn unary(number: u32) -> Result<Unary, Fault>
     ensures { result ≡ unary number }
 {
     let operators = [Unary::Not, Unary::Copy];

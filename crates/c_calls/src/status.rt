@@ -47,6 +47,17 @@ pub fn status_of(refused: Refused) -> CvlStatus
     }
 }
 
+/// What a check gives; where it gives nothing, the export that asks ends here and tells why.
+#[macro_export]
+macro_rules! or_tell {
+    ($check:expr) => {
+        match $check {
+            Ok(value) => value,
+            Err(refused) => return $crate::status::status_of(refused.into()),
+        }
+    };
+}
+
 /// Puts items into a room of their length, or tells LengthMismatch, without a place, and leaves the room as it is.
 fn put<T: Copy>(items: &[T], room: &mut [T]) -> Result<(), Fault>
     ensures { MatchResult result (λ _. (length items.now ≡ length room.old) × (room.new ≡ items.now))

@@ -8,9 +8,10 @@ ghost use Rattle.c_calls.specs.Calls.{in_limit};
 ghost use Rattle.flag_calls.specs.Flags.{as_bytes, extract_flag_of, flags_of};
 ghost use Rattle.c_calls.specs.Told.{Told, ToldOr, in_room};
 
-use c_calls::elements::{count, extract_flag};
-use c_calls::status::{CvlStatus, told, told_one, told_over};
-use flag_calls::replace_over;
+use c_calls::elements::count;
+use c_calls::or_tell;
+use c_calls::status::{CvlStatus, done, told, told_one, told_over};
+use flag_calls::{flag_of, replace_over};
 use pack_dist::{distribute_over, extract, index_over, replace};
 use std::alloc::Global;
 
@@ -35,7 +36,8 @@ pub extern "C" fn cvl_extract_int(vector: &[i32], index: i32, out: &mut i32) -> 
 pub extern "C" fn cvl_extract_bool(vector: &[u8], index: i32, out: &mut bool) -> CvlStatus
     ensures { Told (extract_flag_of vector.now index) result out.old out.new }
 {
-    told_one(extract_flag(vector, index), out)
+    *out = flag_of(or_tell!(extract(vector, index)));
+    done()
 }
 
 /// The integers with another one at the place that an index names: `rep_vuz`.

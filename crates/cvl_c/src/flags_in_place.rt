@@ -10,11 +10,15 @@ ghost use Rattle.c_calls.specs.Numbers.{bool_binary, unary};
 ghost use Rattle.c_calls.specs.Tiles.{bool_scan_after};
 ghost use Rattle.c_calls.specs.Told.{Told};
 
-use c_calls::flags_in_place::{
-    bool_scan, bool_scan_from, bool1, bool2_both, bool2_first, bool2_second, seg_bool_scan,
-    select_bool_first, select_bool_second, select_int_first, select_int_second,
-};
+use c_calls::checks::check_limit;
+use c_calls::in_place::{bool_scan, bool_scan_from, seg_bool_scan};
+use c_calls::numbers::{bool_binary, unary};
+use c_calls::or_tell;
 use c_calls::status::{CvlStatus, told_over};
+use flag_calls::{
+    bool1_in, bool2_in_both, bool2_in_first, bool2_in_second, select_flags_in_first,
+    select_flags_in_second, select_in_first, select_in_second,
+};
 
 /// `cvl_bool2` over `a`.
 #[unsafe(no_mangle)]
@@ -22,7 +26,9 @@ pub extern "C" fn cvl_bool2_in_first(op: u32, a: &mut [u8], b: &[u8]) -> CvlStat
     ensures { Told (as_bytes (by_operator (bool_binary op)
         (λ o. in_limit a.old (bools2_of o (flags_of a.old) (flags_of b.now))))) result a.old a.new }
 {
-    told_over::<u8>(bool2_first(op, a, b))
+    let op = or_tell!(bool_binary(op));
+    or_tell!(check_limit(a));
+    told_over::<u8>(bool2_in_first(op, a, b))
 }
 
 /// `cvl_bool2` over `b`.
@@ -31,7 +37,9 @@ pub extern "C" fn cvl_bool2_in_second(op: u32, a: &[u8], b: &mut [u8]) -> CvlSta
     ensures { Told (as_bytes (by_operator (bool_binary op)
         (λ o. in_limit a.now (bools2_of o (flags_of a.now) (flags_of b.old))))) result b.old b.new }
 {
-    told_over::<u8>(bool2_second(op, a, b))
+    let op = or_tell!(bool_binary(op));
+    or_tell!(check_limit(a));
+    told_over::<u8>(bool2_in_second(op, a, b))
 }
 
 /// `cvl_bool2` of `a` and itself, over `a`.
@@ -40,7 +48,9 @@ pub extern "C" fn cvl_bool2_in_both(op: u32, a: &mut [u8]) -> CvlStatus
     ensures { Told (as_bytes (by_operator (bool_binary op)
         (λ o. in_limit a.old (bools2_of o (flags_of a.old) (flags_of a.old))))) result a.old a.new }
 {
-    told_over::<u8>(bool2_both(op, a))
+    let op = or_tell!(bool_binary(op));
+    or_tell!(check_limit(a));
+    told_over::<u8>(bool2_in_both(op, a))
 }
 
 /// `cvl_bool1` over `a`.
@@ -49,7 +59,9 @@ pub extern "C" fn cvl_bool1_in(op: u32, a: &mut [u8]) -> CvlStatus
     ensures { Told (as_bytes (by_operator (unary op)
         (λ o. in_limit a.old (Ok (bools1_of o (flags_of a.old)))))) result a.old a.new }
 {
-    told_over::<u8>(bool1(op, a))
+    let op = or_tell!(unary(op));
+    or_tell!(check_limit(a));
+    told_over::<u8>(bool1_in(op, a))
 }
 
 /// `cvl_select_int` over `a`.
@@ -57,7 +69,8 @@ pub extern "C" fn cvl_bool1_in(op: u32, a: &mut [u8]) -> CvlStatus
 pub extern "C" fn cvl_select_int_in_first(flags: &[u8], a: &mut [i32], b: &[i32]) -> CvlStatus
     ensures { Told (in_limit flags.now (choose_of (flags_of flags.now) a.old b.now)) result a.old a.new }
 {
-    told_over::<i32>(select_int_first(flags, a, b))
+    or_tell!(check_limit(flags));
+    told_over::<i32>(select_in_first(flags, a, b))
 }
 
 /// `cvl_select_int` over `b`.
@@ -65,7 +78,8 @@ pub extern "C" fn cvl_select_int_in_first(flags: &[u8], a: &mut [i32], b: &[i32]
 pub extern "C" fn cvl_select_int_in_second(flags: &[u8], a: &[i32], b: &mut [i32]) -> CvlStatus
     ensures { Told (in_limit flags.now (choose_of (flags_of flags.now) a.now b.old)) result b.old b.new }
 {
-    told_over::<i32>(select_int_second(flags, a, b))
+    or_tell!(check_limit(flags));
+    told_over::<i32>(select_in_second(flags, a, b))
 }
 
 /// `cvl_select_bool` over `a`.
@@ -74,7 +88,8 @@ pub extern "C" fn cvl_select_bool_in_first(flags: &[u8], a: &mut [u8], b: &[u8])
     ensures { Told (as_bytes (in_limit flags.now
         (choose_of (flags_of flags.now) (flags_of a.old) (flags_of b.now)))) result a.old a.new }
 {
-    told_over::<u8>(select_bool_first(flags, a, b))
+    or_tell!(check_limit(flags));
+    told_over::<u8>(select_flags_in_first(flags, a, b))
 }
 
 /// `cvl_select_bool` over `b`.
@@ -83,7 +98,8 @@ pub extern "C" fn cvl_select_bool_in_second(flags: &[u8], a: &[u8], b: &mut [u8]
     ensures { Told (as_bytes (in_limit flags.now
         (choose_of (flags_of flags.now) (flags_of a.now) (flags_of b.old)))) result b.old b.new }
 {
-    told_over::<u8>(select_bool_second(flags, a, b))
+    or_tell!(check_limit(flags));
+    told_over::<u8>(select_flags_in_second(flags, a, b))
 }
 
 /// `cvl_bool_scan` over `a`.

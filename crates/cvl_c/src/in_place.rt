@@ -10,18 +10,22 @@ ghost use Rattle.c_calls.specs.Numbers.{int_binary, int_monoid, unary};
 ghost use Rattle.c_calls.specs.Tiles.{int_scan_after};
 ghost use Rattle.c_calls.specs.Told.{Told};
 
-use c_calls::in_place::{
-    checked_scan, int_scan, int_scan_from, int1, int2_both, int2_first, int2_second,
-    seg_checked_scan, seg_int_scan,
-};
-use c_calls::status::{CvlStatus, told_over};
+use c_calls::checks::{check_limit, segments};
+use c_calls::in_place::{int_scan, int_scan_from, seg_int_scan};
+use c_calls::numbers::{int_binary, unary};
+use c_calls::or_tell;
+use c_calls::status::{CvlStatus, done, told_over};
+use elementwise::{int1_in, int2_in_both, int2_in_first, int2_in_second};
+use scan_walks::{checked_scan_in, checked_seg_scan_in};
 
 /// `cvl_int2` over `a`.
 #[unsafe(no_mangle)]
 pub extern "C" fn cvl_int2_in_first(op: u32, a: &mut [i32], b: &[i32]) -> CvlStatus
     ensures { Told (by_operator (int_binary op) (λ o. in_limit a.old (ints2_of o a.old b.now))) result a.old a.new }
 {
-    told_over::<i32>(int2_first(op, a, b))
+    let op = or_tell!(int_binary(op));
+    or_tell!(check_limit(a));
+    told_over::<i32>(int2_in_first(op, a, b))
 }
 
 /// `cvl_int2` over `b`.
@@ -29,7 +33,9 @@ pub extern "C" fn cvl_int2_in_first(op: u32, a: &mut [i32], b: &[i32]) -> CvlSta
 pub extern "C" fn cvl_int2_in_second(op: u32, a: &[i32], b: &mut [i32]) -> CvlStatus
     ensures { Told (by_operator (int_binary op) (λ o. in_limit a.now (ints2_of o a.now b.old))) result b.old b.new }
 {
-    told_over::<i32>(int2_second(op, a, b))
+    let op = or_tell!(int_binary(op));
+    or_tell!(check_limit(a));
+    told_over::<i32>(int2_in_second(op, a, b))
 }
 
 /// `cvl_int2` of `a` and itself, over `a`.
@@ -37,7 +43,9 @@ pub extern "C" fn cvl_int2_in_second(op: u32, a: &[i32], b: &mut [i32]) -> CvlSt
 pub extern "C" fn cvl_int2_in_both(op: u32, a: &mut [i32]) -> CvlStatus
     ensures { Told (by_operator (int_binary op) (λ o. in_limit a.old (ints2_of o a.old a.old))) result a.old a.new }
 {
-    told_over::<i32>(int2_both(op, a))
+    let op = or_tell!(int_binary(op));
+    or_tell!(check_limit(a));
+    told_over::<i32>(int2_in_both(op, a))
 }
 
 /// `cvl_int1` over `a`.
@@ -45,7 +53,10 @@ pub extern "C" fn cvl_int2_in_both(op: u32, a: &mut [i32]) -> CvlStatus
 pub extern "C" fn cvl_int1_in(op: u32, a: &mut [i32]) -> CvlStatus
     ensures { Told (by_operator (unary op) (λ o. in_limit a.old (Ok (ints1_of o a.old)))) result a.old a.new }
 {
-    told_over::<i32>(int1(op, a))
+    let op = or_tell!(unary(op));
+    or_tell!(check_limit(a));
+    int1_in(op, a);
+    done()
 }
 
 /// `cvl_int_scan` over `a`.
@@ -69,7 +80,8 @@ pub extern "C" fn cvl_int_scan_after_in(op: u32, before: i32, a: &mut [i32]) -> 
 pub extern "C" fn cvl_checked_scan_in(a: &mut [i32]) -> CvlStatus
     ensures { Told (in_limit a.old (checked_scan_of a.old)) result a.old a.new }
 {
-    told_over::<i32>(checked_scan(a))
+    or_tell!(check_limit(a));
+    told_over::<i32>(checked_scan_in(a))
 }
 
 /// `cvl_seg_int_scan` over `a`.
@@ -86,5 +98,6 @@ pub extern "C" fn cvl_seg_int_scan_in(op: u32, a: &mut [i32], lengths: &[i32]) -
 pub extern "C" fn cvl_seg_checked_scan_in(a: &mut [i32], lengths: &[i32]) -> CvlStatus
     ensures { Told (by_segments lengths.now (checked_seg_scan_of a.old)) result a.old a.new }
 {
-    told_over::<i32>(seg_checked_scan(a, lengths))
+    let d = or_tell!(segments(lengths));
+    told_over::<i32>(checked_seg_scan_in(a, &d))
 }

@@ -1,8 +1,7 @@
 //! The calls for C, Rust, Python and others, as a static library: on the caller's own memory, by the thread that calls.
 //!
 //! Each function checks whatever its caller may get wrong, so that no call with valid pointers and lengths is undefined. The
-//! header `include/cvl.h` declares them, and has each call of the table under its own name. What they call stands in `c_calls`,
-//! once for integers and booleans.
+//! header `include/cvl.h` declares them, and has each call of the table under its own name. What they share stands in `c_calls`.
 #![tactic(auto)]
 
 mod checked_sums;

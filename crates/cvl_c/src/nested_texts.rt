@@ -8,11 +8,14 @@ ghost use Rattle.c_calls.specs.NestedTexts.{segments_text, with_lengths};
 ghost use Rattle.c_calls.specs.Told.{FrontToldOr};
 ghost use Rattle.value_texts.specs.Texts.{boolean_text};
 
-use c_calls::nested_texts::text;
+use c_calls::checks::segments;
+use c_calls::or_tell;
 use c_calls::status::{CvlStatus, told_in_front};
 use c_calls::told_nest::told_nest;
 use call_reader::read_nested_alone;
+use cvl_base::check_agree;
 use std::alloc::Global;
+use value_texts::nest_text_alone;
 
 /// The integers of a nested text, and the lengths of its lists.
 #[unsafe(no_mangle)]
@@ -47,7 +50,9 @@ pub extern "C" fn cvl_seg_write_ints(
 ) -> CvlStatus
     ensures { FrontToldOr (by_segments lengths.now (segments_text signed_decimal a.now)) result out.old out.new count.old count.new }
 {
-    told_in_front(text(alloc, a, lengths), out, count)
+    let d = or_tell!(segments(lengths));
+    or_tell!(check_agree(d.total(), a.len()));
+    told_in_front(Ok(or_tell!(nest_text_alone(alloc, &d, a))), out, count)
 }
 
 /// The text of the booleans, each `T` or `F`, cut into segments, in brackets.
@@ -61,5 +66,7 @@ pub extern "C" fn cvl_seg_write_bools(
 ) -> CvlStatus
     ensures { FrontToldOr (by_segments lengths.now (segments_text boolean_text a.now)) result out.old out.new count.old count.new }
 {
-    told_in_front(text(alloc, a, lengths), out, count)
+    let d = or_tell!(segments(lengths));
+    or_tell!(check_agree(d.total(), a.len()));
+    told_in_front(Ok(or_tell!(nest_text_alone(alloc, &d, a))), out, count)
 }

@@ -1,19 +1,35 @@
 //! What one part of a call needs where the whole doesn't: sums that go on from what stands before the part, one range of a permute's
 //! result, and one piece of a text.
 
-ghost use Rattle.std.specs.Prelude.{Ok, length};
+ghost use Rattle.std.specs.Prelude.{ℕ, List, Ok, Result, length};
+ghost use Rattle.cvl_base.specs.declared.fault.Fault.{Fault};
 ghost use Rattle.cvl_base.specs.Exact.{total_of};
 ghost use Rattle.c_calls.specs.Told.{FrontToldOr, Told, in_room};
 ghost use Rattle.part_calls.specs.Limits.{few_enough};
 ghost use Rattle.part_calls.specs.Pieces.{piece_of};
-ghost use Rattle.part_calls.specs.Ranges.{select_range_of, simple_range_of};
+ghost use Rattle.part_calls.specs.Ranges.{WritesRange, select_range_of, simple_range_of};
 ghost use Rattle.part_calls.specs.Sums.{checked_scan_after};
 
-use c_calls::status::{CvlStatus, told_in_front, told_one, told_over};
+use c_calls::status::{CvlStatus, done, status_of, told_in_front, told_one, told_over};
+use cvl_base::Fault;
 use part_calls::carries::{checked_scan_from, exact_sum};
 use part_calls::permute_ranges::{select_range, simple_range};
 use part_calls::text_pieces::read_piece;
 use std::alloc::Global;
+
+/// Tells a caller whether a range of a permute was written, and the number of its places.
+fn told_range<T>(answer: Result<usize, Fault>, written: &mut usize) -> CvlStatus
+    ensures { (meaning : Result (List T × List ℕ × ℕ) Fault) (out now : List T) (marks marked : List ℕ) → WritesRange meaning answer (out, marks) (now, marked)
+        → Told meaning result (out, marks, written.old) (now, marked, written.new) }
+{
+    match answer {
+        Ok(count) => {
+            *written = count;
+            done()
+        }
+        Err(fault) => status_of(fault.into()),
+    }
+}
 
 /// What the integers add up to, in 64 bits, where it always fits: what a part of a checked sum tells to the next.
 #[unsafe(no_mangle)]
@@ -44,7 +60,7 @@ pub extern "C" fn cvl_permute_int_range(
     ensures { Told (simple_range_of source.now index.now lowest out.old marks.old)
         result (out.old, marks.old, written.old) (out.new, marks.new, written.new) }
 {
-    told_one(simple_range(source, index, lowest, out, marks), written)
+    told_range::<i32>(simple_range(source, index, lowest, out, marks), written)
 }
 
 /// The same of booleans, whose bytes are moved as they are.
@@ -60,7 +76,7 @@ pub extern "C" fn cvl_permute_bool_range(
     ensures { Told (simple_range_of source.now index.now lowest out.old marks.old)
         result (out.old, marks.old, written.old) (out.new, marks.new, written.new) }
 {
-    told_one(simple_range(source, index, lowest, out, marks), written)
+    told_range::<u8>(simple_range(source, index, lowest, out, marks), written)
 }
 
 /// The integers that go to one range of a select permute's result, from place `lowest` on, by a bit for each place of it.
@@ -77,7 +93,7 @@ pub extern "C" fn cvl_select_permute_int_range(
     ensures { Told (select_range_of source.now index.now flags.now lowest out.old marks.old)
         result (out.old, marks.old, written.old) (out.new, marks.new, written.new) }
 {
-    told_one(
+    told_range::<i32>(
         select_range(source, index, flags, lowest, out, marks),
         written,
     )
@@ -97,7 +113,7 @@ pub extern "C" fn cvl_select_permute_bool_range(
     ensures { Told (select_range_of source.now index.now flags.now lowest out.old marks.old)
         result (out.old, marks.old, written.old) (out.new, marks.new, written.new) }
 {
-    told_one(
+    told_range::<u8>(
         select_range(source, index, flags, lowest, out, marks),
         written,
     )

@@ -7,10 +7,13 @@ ghost use Rattle.flag_calls.specs.Flags.{as_bytes, flags_of};
 ghost use Rattle.c_calls.specs.Numbers.{bool_binary, comparison, int_binary, unary};
 ghost use Rattle.c_calls.specs.Told.{Told, in_room};
 
-use c_calls::place_by_place::{
-    bool_from_int, bool1, bool2, compare, int_from_bool, int1, int2, select_bool, select_int,
-};
+use c_calls::checks::check_limit;
+use c_calls::numbers::{bool_binary, unary};
+use c_calls::or_tell;
+use c_calls::place_by_place::{bool_from_int, compare, int2, select_int};
 use c_calls::status::{CvlStatus, told_over};
+use elementwise::int1_over;
+use flag_calls::{bool1_over, bool2_over, int_from_bool_over, select_flags_over};
 
 /// The operator on each two integers at the same place: `add_wuz` and its like.
 #[unsafe(no_mangle)]
@@ -25,7 +28,9 @@ pub extern "C" fn cvl_int2(op: u32, a: &[i32], b: &[i32], out: &mut [i32]) -> Cv
 pub extern "C" fn cvl_int1(op: u32, a: &[i32], out: &mut [i32]) -> CvlStatus
     ensures { Told (in_room (length out.old) (by_operator (unary op) (λ o. in_limit a.now (Ok (ints1_of o a.now))))) result out.old out.new }
 {
-    told_over::<i32>(int1(op, a, out))
+    let op = or_tell!(unary(op));
+    or_tell!(check_limit(a));
+    told_over::<i32>(int1_over(op, a, out))
 }
 
 /// The comparison of each two integers at the same place: `grt_wuz` and its like.
@@ -42,7 +47,9 @@ pub extern "C" fn cvl_bool2(op: u32, a: &[u8], b: &[u8], out: &mut [u8]) -> CvlS
     ensures { Told (in_room (length out.old) (as_bytes (by_operator (bool_binary op)
         (λ o. in_limit a.now (bools2_of o (flags_of a.now) (flags_of b.now)))))) result out.old out.new }
 {
-    told_over::<u8>(bool2(op, a, b, out))
+    let op = or_tell!(bool_binary(op));
+    or_tell!(check_limit(a));
+    told_over::<u8>(bool2_over(op, a, b, out))
 }
 
 /// The operator on each flag: `not_wub` and `cpy_wub`.
@@ -51,7 +58,9 @@ pub extern "C" fn cvl_bool1(op: u32, a: &[u8], out: &mut [u8]) -> CvlStatus
     ensures { Told (in_room (length out.old) (as_bytes (by_operator (unary op)
         (λ o. in_limit a.now (Ok (bools1_of o (flags_of a.now))))))) result out.old out.new }
 {
-    told_over::<u8>(bool1(op, a, out))
+    let op = or_tell!(unary(op));
+    or_tell!(check_limit(a));
+    told_over::<u8>(bool1_over(op, a, out))
 }
 
 /// 1 for each true flag, and 0 for each false one: `int_wub`.
@@ -59,7 +68,8 @@ pub extern "C" fn cvl_bool1(op: u32, a: &[u8], out: &mut [u8]) -> CvlStatus
 pub extern "C" fn cvl_int_from_bool(a: &[u8], out: &mut [i32]) -> CvlStatus
     ensures { Told (in_room (length out.old) (in_limit a.now (Ok (ints_from_bools (flags_of a.now))))) result out.old out.new }
 {
-    told_over::<i32>(int_from_bool(a, out))
+    or_tell!(check_limit(a));
+    told_over::<i32>(int_from_bool_over(a, out))
 }
 
 /// True for each integer that isn't 0: `boo_wuz`.
@@ -84,5 +94,6 @@ pub extern "C" fn cvl_select_bool(flags: &[u8], a: &[u8], b: &[u8], out: &mut [u
     ensures { Told (in_room (length out.old) (as_bytes (in_limit flags.now
         (choose_of (flags_of flags.now) (flags_of a.now) (flags_of b.now))))) result out.old out.new }
 {
-    told_over::<u8>(select_bool(flags, a, b, out))
+    or_tell!(check_limit(flags));
+    told_over::<u8>(select_flags_over(flags, a, b, out))
 }

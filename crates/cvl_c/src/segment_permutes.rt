@@ -5,8 +5,10 @@ ghost use Rattle.cvl_base.specs.SegmentedCalls.{seg_back_of, seg_default_of, seg
 ghost use Rattle.c_calls.specs.Calls.{by_segments, in_limit};
 ghost use Rattle.c_calls.specs.Told.{ToldOr, in_room};
 
-use c_calls::segment_permutes::{back_each, default_each, select_each, simple_each};
-use c_calls::status::{CvlStatus, told_over_or};
+use c_calls::checks::{check_limit, descriptor};
+use c_calls::or_tell;
+use c_calls::status::{CvlStatus, told_over, told_over_or};
+use segmented_permutes::{seg_back_over, seg_default_into_over, seg_select_over, seg_simple_over};
 use std::alloc::Global;
 
 /// Each integer at its index in its segment: `smp_pez`.
@@ -21,7 +23,9 @@ pub extern "C" fn cvl_seg_permute_int(
     ensures { ToldOr (in_room (length out.old) (by_segments lengths.now
         (λ d. in_limit index.now (seg_simple_of source.now index.now d)))) result out.old out.new }
 {
-    told_over_or::<i32>(simple_each(alloc, source, index, lengths, out))
+    let d = or_tell!(descriptor(alloc, lengths));
+    or_tell!(check_limit(index));
+    told_over_or::<i32>(seg_simple_over(alloc, source, index, &d, out))
 }
 
 /// Each boolean at its index in its segment: `smp_peb`.
@@ -36,7 +40,9 @@ pub extern "C" fn cvl_seg_permute_bool(
     ensures { ToldOr (in_room (length out.old) (by_segments lengths.now
         (λ d. in_limit index.now (seg_simple_of source.now index.now d)))) result out.old out.new }
 {
-    told_over_or::<bool>(simple_each(alloc, source, index, lengths, out))
+    let d = or_tell!(descriptor(alloc, lengths));
+    or_tell!(check_limit(index));
+    told_over_or::<bool>(seg_simple_over(alloc, source, index, &d, out))
 }
 
 /// Each integer whose flag is true at its index in its segment of the result: `sel_pez`.
@@ -52,7 +58,9 @@ pub extern "C" fn cvl_seg_select_permute_int(
     ensures { ToldOr (in_room (length out.old) (by_segments lengths.now
         (λ d. in_limit index.now (seg_select_of source.now index.now flags.now d)))) result out.old out.new }
 {
-    told_over_or::<i32>(select_each(alloc, source, index, flags, lengths, out))
+    let d = or_tell!(descriptor(alloc, lengths));
+    or_tell!(check_limit(index));
+    told_over_or::<i32>(seg_select_over(alloc, source, index, flags, &d, out))
 }
 
 /// Each boolean whose flag is true at its index in its segment of the result: `sel_peb`.
@@ -68,7 +76,9 @@ pub extern "C" fn cvl_seg_select_permute_bool(
     ensures { ToldOr (in_room (length out.old) (by_segments lengths.now
         (λ d. in_limit index.now (seg_select_of source.now index.now flags.now d)))) result out.old out.new }
 {
-    told_over_or::<bool>(select_each(alloc, source, index, flags, lengths, out))
+    let d = or_tell!(descriptor(alloc, lengths));
+    or_tell!(check_limit(index));
+    told_over_or::<bool>(seg_select_over(alloc, source, index, flags, &d, out))
 }
 
 /// Each integer at its index in its segment of the defaults, and at a place to which none goes its default: `def_pez`.
@@ -85,15 +95,10 @@ pub extern "C" fn cvl_seg_default_permute_int(
     ensures { ToldOr (in_room (length out.old) (by_segments lengths.now (λ d. by_segments default_lengths.now
         (λ e. in_limit index.now (seg_default_of source.now index.now defaults.now d e))))) result out.old out.new }
 {
-    told_over_or::<i32>(default_each(
-        alloc,
-        source,
-        index,
-        defaults,
-        lengths,
-        default_lengths,
-        out,
-    ))
+    let d = or_tell!(descriptor(alloc, lengths));
+    let e = or_tell!(descriptor(alloc, default_lengths));
+    or_tell!(check_limit(index));
+    told_over_or::<i32>(seg_default_into_over(alloc, source, index, defaults, &d, &e, out))
 }
 
 /// Each boolean at its index in its segment of the defaults, and at a place to which none goes its default: `def_peb`.
@@ -110,15 +115,10 @@ pub extern "C" fn cvl_seg_default_permute_bool(
     ensures { ToldOr (in_room (length out.old) (by_segments lengths.now (λ d. by_segments default_lengths.now
         (λ e. in_limit index.now (seg_default_of source.now index.now defaults.now d e))))) result out.old out.new }
 {
-    told_over_or::<bool>(default_each(
-        alloc,
-        source,
-        index,
-        defaults,
-        lengths,
-        default_lengths,
-        out,
-    ))
+    let d = or_tell!(descriptor(alloc, lengths));
+    let e = or_tell!(descriptor(alloc, default_lengths));
+    or_tell!(check_limit(index));
+    told_over_or::<bool>(seg_default_into_over(alloc, source, index, defaults, &d, &e, out))
 }
 
 /// At each place the integer at the place's index in the same segment of the source: `bck_pez`.
@@ -134,7 +134,10 @@ pub extern "C" fn cvl_seg_back_permute_int(
     ensures { ToldOr (in_room (length out.old) (by_segments lengths.now (λ d. by_segments index_lengths.now
         (λ e. in_limit index.now (seg_back_of source.now index.now d e))))) result out.old out.new }
 {
-    told_over_or::<i32>(back_each(alloc, source, index, lengths, index_lengths, out))
+    let d = or_tell!(descriptor(alloc, lengths));
+    let e = or_tell!(descriptor(alloc, index_lengths));
+    or_tell!(check_limit(index));
+    told_over::<i32>(seg_back_over(source, index, &d, &e, out))
 }
 
 /// At each place the boolean at the place's index in the same segment of the source: `bck_peb`.
@@ -150,5 +153,8 @@ pub extern "C" fn cvl_seg_back_permute_bool(
     ensures { ToldOr (in_room (length out.old) (by_segments lengths.now (λ d. by_segments index_lengths.now
         (λ e. in_limit index.now (seg_back_of source.now index.now d e))))) result out.old out.new }
 {
-    told_over_or::<bool>(back_each(alloc, source, index, lengths, index_lengths, out))
+    let d = or_tell!(descriptor(alloc, lengths));
+    let e = or_tell!(descriptor(alloc, index_lengths));
+    or_tell!(check_limit(index));
+    told_over::<bool>(seg_back_over(source, index, &d, &e, out))
 }

@@ -6,10 +6,11 @@ ghost use Rattle.c_calls.specs.Calls.{by_segments};
 ghost use Rattle.flag_calls.specs.Flags.{made_flags};
 ghost use Rattle.c_calls.specs.Told.{ToldOr, in_room};
 
-use c_calls::segments::{
-    distribute_each, extract_each, extract_each_flag, index_each, replace_each,
-};
-use c_calls::status::{CvlStatus, told, told_over_or};
+use c_calls::checks::{descriptor, segments};
+use c_calls::elements::extract_each_flag;
+use c_calls::or_tell;
+use c_calls::status::{CvlStatus, told, told_over};
+use pack_dist::{seg_distribute_over, seg_extract, seg_index_over, seg_replace};
 use std::alloc::Global;
 
 /// For each segment the integer at the place that its index names: `ext_vez`.
@@ -23,7 +24,8 @@ pub extern "C" fn cvl_seg_extract_int(
 ) -> CvlStatus
     ensures { ToldOr (in_room (length out.old) (by_segments lengths.now (seg_extract_of vector.now index.now))) result out.old out.new }
 {
-    told(extract_each(alloc, vector, index, lengths), out)
+    let d = or_tell!(segments(lengths));
+    told(seg_extract(alloc, vector, index, &d), out)
 }
 
 /// For each segment the flag at the place that its index names: `ext_veb`.
@@ -52,7 +54,8 @@ pub extern "C" fn cvl_seg_replace_int(
 ) -> CvlStatus
     ensures { ToldOr (in_room (length out.old) (by_segments lengths.now (seg_replace_of vector.now index.now values.now))) result out.old out.new }
 {
-    told(replace_each(alloc, vector, index, values, lengths), out)
+    let d = or_tell!(segments(lengths));
+    told(seg_replace(alloc, vector, index, values, &d), out)
 }
 
 /// The booleans with, in each segment, the segment's value at the place that its index names: `rep_veb`.
@@ -67,7 +70,8 @@ pub extern "C" fn cvl_seg_replace_bool(
 ) -> CvlStatus
     ensures { ToldOr (in_room (length out.old) (by_segments lengths.now (seg_replace_of vector.now index.now values.now))) result out.old out.new }
 {
-    told(replace_each(alloc, vector, index, values, lengths), out)
+    let d = or_tell!(segments(lengths));
+    told(seg_replace(alloc, vector, index, values, &d), out)
 }
 
 /// For each segment as many copies of its integer as the segment is long: `dis_vez`.
@@ -80,7 +84,8 @@ pub extern "C" fn cvl_seg_distribute_int(
 ) -> CvlStatus
     ensures { ToldOr (in_room (length out.old) (by_segments lengths.now (seg_distribute_of values.now))) result out.old out.new }
 {
-    told_over_or::<i32>(distribute_each(alloc, values, lengths, out))
+    let d = or_tell!(descriptor(alloc, lengths));
+    told_over::<i32>(seg_distribute_over(values, &d, out))
 }
 
 /// For each segment as many copies of its boolean as the segment is long: `dis_veb`.
@@ -93,7 +98,8 @@ pub extern "C" fn cvl_seg_distribute_bool(
 ) -> CvlStatus
     ensures { ToldOr (in_room (length out.old) (by_segments lengths.now (seg_distribute_of values.now))) result out.old out.new }
 {
-    told_over_or::<bool>(distribute_each(alloc, values, lengths, out))
+    let d = or_tell!(descriptor(alloc, lengths));
+    told_over::<bool>(seg_distribute_over(values, &d, out))
 }
 
 /// For each segment the numbers from its init on in steps of its stride: `ind_lez`.
@@ -107,5 +113,6 @@ pub extern "C" fn cvl_seg_index(
 ) -> CvlStatus
     ensures { ToldOr (in_room (length out.old) (by_segments lengths.now (seg_index_of inits.now strides.now))) result out.old out.new }
 {
-    told_over_or::<i32>(index_each(alloc, inits, strides, lengths, out))
+    let d = or_tell!(descriptor(alloc, lengths));
+    told_over::<i32>(seg_index_over(inits, strides, &d, out))
 }
