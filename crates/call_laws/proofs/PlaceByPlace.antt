@@ -3,18 +3,14 @@ use Rattle.std.proofs.Common.{◌≡◌, ℕ, Bool, List, ◌++◌, length, sym,
 use Rattle.std.proofs.lemmas.List.{map-append}
 use Rattle.std.proofs.lemmas.Slice.Zip.{length-zip}
 use Rattle.call_table.specs.declared.families.IntBinary.{IntBinary}
-use Rattle.call_table.specs.declared.families.IntBinary.TheVariants.{Add, Sub, Mul, Div, Mod, Min, Max, Lsh, Rsh, And, Ior, Xor}
+use Rattle.call_table.specs.declared.families.IntBinary.TheVariants.{Div, Mod, Lsh, Rsh}
 use Rattle.call_table.specs.declared.families.Comparison.{Comparison}
-use Rattle.call_table.specs.declared.families.Comparison.TheVariants.{Greater, Less, AtLeast, AtMost, Equal, Unequal}
+use Rattle.call_table.specs.declared.families.Comparison.TheVariants.{Greater}
 use Rattle.call_table.specs.declared.families.BoolBinary.{BoolBinary}
 use Rattle.call_table.specs.declared.families.BoolBinary.TheVariants as truth
 use Rattle.cvl_base.specs.declared.fault.Fault.{Fault}
 use Rattle.cvl_base.specs.declared.fault.FaultNo.{FaultNo}
-use Rattle.cvl_base.specs.declared.fault.FaultNo.TheVariants.{DivideByZero, ShiftOutOfRange}
 use Rattle.cvl_base.specs.Elementwise.{if_as_long, on_pairs, on_pairs_or, ints2_of, compare_of, bools2_of}
-use Rattle.cvl_base.specs.Integers.{sum_of, difference_of, product_of, quotient_of, remainder_of, lesser_of, greater_of, left_shift_of, right_shift_of, and_of, ior_of, xor_of}
-use Rattle.cvl_base.specs.Integers.{is_greater, is_less, is_at_least, is_at_most, is_equal, is_unequal}
-use Rattle.cvl_base.specs.Booleans.{both, either, differ}
 use Rattle.cvl_base.proofs.Elementwise.{if_as_long-fits}
 use Rattle.call_laws.specs.InParts.{in_two}
 use Rattle.call_laws.proofs.TwoParts.{values-two, zip-append}
@@ -43,30 +39,18 @@ module _ {A B C : Type 0} (xs : List A) (ys : List B) (more : List A) (others : 
 
 pub ints2-two : (operator : IntBinary) (xs ys more others : List ℤ) → length xs ≡ length ys → length more ≡ length others
     → ints2_of operator (xs ++ more) (ys ++ others) ≡ in_two (length xs) (ints2_of operator xs ys) (ints2_of operator more others)
-ints2-two Add xs ys more others long also_long = pairs-two xs ys more others long also_long sum_of
-ints2-two Sub xs ys more others long also_long = pairs-two xs ys more others long also_long difference_of
-ints2-two Mul xs ys more others long also_long = pairs-two xs ys more others long also_long product_of
-ints2-two Div xs ys more others long also_long = pairs_or-two xs ys more others long also_long DivideByZero quotient_of
-ints2-two Mod xs ys more others long also_long = pairs_or-two xs ys more others long also_long DivideByZero remainder_of
-ints2-two Min xs ys more others long also_long = pairs-two xs ys more others long also_long lesser_of
-ints2-two Max xs ys more others long also_long = pairs-two xs ys more others long also_long greater_of
-ints2-two Lsh xs ys more others long also_long = pairs_or-two xs ys more others long also_long ShiftOutOfRange left_shift_of
-ints2-two Rsh xs ys more others long also_long = pairs_or-two xs ys more others long also_long ShiftOutOfRange right_shift_of
-ints2-two And xs ys more others long also_long = pairs-two xs ys more others long also_long and_of
-ints2-two Ior xs ys more others long also_long = pairs-two xs ys more others long also_long ior_of
-ints2-two Xor xs ys more others long also_long = pairs-two xs ys more others long also_long xor_of
+ints2-two Div xs ys more others long also_long = pairs_or-two xs ys more others long also_long _ _
+ints2-two Mod xs ys more others long also_long = pairs_or-two xs ys more others long also_long _ _
+ints2-two Lsh xs ys more others long also_long = pairs_or-two xs ys more others long also_long _ _
+ints2-two Rsh xs ys more others long also_long = pairs_or-two xs ys more others long also_long _ _
+ints2-two operator xs ys more others long also_long = pairs-two xs ys more others long also_long _
 
 pub compare-two : (comparison : Comparison) (xs ys more others : List ℤ) → length xs ≡ length ys → length more ≡ length others
     → compare_of comparison (xs ++ more) (ys ++ others) ≡ in_two (length xs) (compare_of comparison xs ys) (compare_of comparison more others)
-compare-two Greater xs ys more others long also_long = pairs-two xs ys more others long also_long is_greater
-compare-two Less xs ys more others long also_long = pairs-two xs ys more others long also_long is_less
-compare-two AtLeast xs ys more others long also_long = pairs-two xs ys more others long also_long is_at_least
-compare-two AtMost xs ys more others long also_long = pairs-two xs ys more others long also_long is_at_most
-compare-two Equal xs ys more others long also_long = pairs-two xs ys more others long also_long is_equal
-compare-two Unequal xs ys more others long also_long = pairs-two xs ys more others long also_long is_unequal
+compare-two Greater xs ys more others long also_long = pairs-two xs ys more others long also_long _
+compare-two comparison xs ys more others long also_long = pairs-two xs ys more others long also_long _
 
 pub bools2-two : (operator : BoolBinary) (xs ys more others : List Bool) → length xs ≡ length ys → length more ≡ length others
     → bools2_of operator (xs ++ more) (ys ++ others) ≡ in_two (length xs) (bools2_of operator xs ys) (bools2_of operator more others)
-bools2-two truth.And xs ys more others long also_long = pairs-two xs ys more others long also_long both
-bools2-two truth.Ior xs ys more others long also_long = pairs-two xs ys more others long also_long either
-bools2-two truth.Xor xs ys more others long also_long = pairs-two xs ys more others long also_long differ
+bools2-two truth.And xs ys more others long also_long = pairs-two xs ys more others long also_long _
+bools2-two operator xs ys more others long also_long = pairs-two xs ys more others long also_long _
