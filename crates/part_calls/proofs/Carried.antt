@@ -1,7 +1,7 @@
 -- Checked scans after a number, where it is known how many results fit from the first one on.
 -- Source: what the definitions of CheckedSums and Sums imply.
-use Rattle.std.proofs.Common.{◌≡◌, ◌∙◌, refl, sym, ap, subst, ℕ, suc, ◌+◌, ◌<◌, ◌≤◌, Bool, true, false, cond, ℤ, pos, ◌+ℤ◌, List, [], ◌∷◌, length, map, arith, Some, None, Ok, Err}
-use Rattle.std.specs.Prelude.{if◌then◌else◌, unwrap_or}
+use Rattle.std.proofs.Common.{◌≡◌, ◌∙◌, refl, sym, ap, subst, ℕ, ◌+◌, ◌<◌, ◌≤◌, Bool, true, false, cond, ℤ, pos, ◌+ℤ◌, List, [], ◌∷◌, length, map, arith, Ok, Err}
+use Rattle.std.specs.Prelude.{unwrap_or}
 use Rattle.operators.proofs.FoldLaws.{length-scan_of, scan_of-cons}
 use Rattle.operators.specs.NumberLaws.{number_words}
 use Rattle.cvl_base.specs.CheckedSums.{fitting}
