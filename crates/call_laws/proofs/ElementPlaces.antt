@@ -1,11 +1,11 @@
 -- Extracts and replaces, place by place.
 use Rattle.std.proofs.Common.{◌≡◌, ◌≢◌, ℕ, zero, suc, ◌<◌, Bool, true, false, List, [], ◌∷◌, length, refl, sym, ap, ◌∙◌, arith, inl, inr, pos}
-use Rattle.std.proofs.Common.{lt-ltb, nat_lt, if◌then◌else◌, slice_get, slice_set, Some, None, Ok, Option, length-set}
+use Rattle.std.proofs.Common.{lt-ltb, nat_lt, if◌then◌else◌, slice_get, slice_set, Some, None, Ok, Option, get_or-set_same, length-set}
 use Rattle.std.specs.Option.{ok_or}
 use Rattle.std.specs.Prelude.{◌↔◌}
 use Rattle.std.proofs.lemmas.Bool.{ltb-true}
 use Rattle.std.proofs.lemmas.Bool.Decides.{eqb_tells}
-use Rattle.std.proofs.lemmas.Option.{slice_get_within}
+use Rattle.std.proofs.lemmas.Option.{slice_get_read, slice_get_within}
 use Rattle.cvl_base.specs.declared.fault.Fault.{Fault}
 use Rattle.cvl_base.specs.declared.fault.FaultNo.TheVariants as no
 use Rattle.cvl_base.specs.Extracts.{extract_of, replace_of}
@@ -24,9 +24,7 @@ extract-meaning xs k x = (from-Some (slice_get xs k) (fault_at no.IndexOutOfRang
 -- ---- replace
 
 get-set_same : {X : Type 0} (xs : List X) (k : ℕ) (x : X) → k < length xs → slice_get (slice_set xs k x) k ≡ Some x
-get-set_same [] k x within = absurd (omega arith)
-get-set_same (y ∷ xs) zero x within = refl
-get-set_same (y ∷ xs) (suc k) x within = get-set_same xs k x (omega arith)
+get-set_same xs k x within = slice_get_read (slice_set xs k x) (length xs) k x (sym (length-set xs k x)) within (sym (get_or-set_same xs k x x within))
 
 get-set_other : {X : Type 0} (xs : List X) (k : ℕ) (x : X) (j : ℕ) → j ≢ k → slice_get (slice_set xs k x) j ≡ slice_get xs j
 get-set_other [] k x j other = refl
