@@ -1,7 +1,7 @@
 -- Lists of places that begin with items and end empty.
---     whole, begun, front, back, pushed_on, joined_with      what a run is made of, and how it is seen
+--     begun, front, back, pushed_on, joined_with      what a run is made of, and how it is seen
 use Rattle.std.proofs.Common.{◌≡◌, ℕ, zero, suc, ◌+◌, ◌-◌, ◌<◌, ◌≤◌, ◌^◌, ◌⊎◌, inl, inr, List, [], ◌∷◌, ◌++◌, length, map, take, drop, replicate, slice_set, Option, Some, None, refl, sym, ap, ◌∙◌}
-use Rattle.std.proofs.Common.{arith, length-append}
+use Rattle.std.proofs.Common.{append-nil, arith, length-append}
 use Rattle.std.proofs.lemmas.List.{drop-replicate, replicate-append-replicate, take-replicate}
 use denote.RawPtr.{Ptr}
 use Rattle.fresh.specs.Places.{Follows, IsRun, Stretch, filled, somes, stretch}
@@ -20,8 +20,7 @@ module _ {X : Type 0} where
   somes_filled (x ∷ xs) n = ap (λ l. x ∷ l) (somes_filled xs n)
 
   pub somes_map : (xs : List X) → somes (map Some xs) ≡ xs
-  somes_map [] = refl
-  somes_map (x ∷ xs) = ap (λ l. x ∷ l) (somes_map xs)
+  somes_map xs = ap somes (sym (append-nil (map Some xs))) ∙ somes_filled xs 0
 
   take_filled : (xs : List X) (n k : ℕ) → length xs ≤ k → k ≤ length xs + n → take k (filled xs n) ≡ filled xs (k - length xs)
   take_filled [] n k low high = let e : k ≡ k - 0 = omega arith in take-replicate k n None (omega arith) ∙ ap none e
@@ -58,10 +57,7 @@ module _ {X : Type 0} where
         λ i. stretch base first (there i) (left i),
       )
 
-  -- all places of a block, empty, or of which the first are written
-  pub whole : (c : Cells X) (base : Ptr) (len : ℕ) → c.at ≡ base → c.from ≡ 0 → len < 2 ^ 63 → c.slots ≡ none len → IsSeen c base 0 len 0 (stretch base 0 [] len)
-  whole c base len at from low laid = made c base 0 len 0 [] len at from laid refl (omega arith) (omega arith)
-
+  -- all places of a block, of which the first are written
   pub begun : (c : Cells X) (base : Ptr) (len written : ℕ) (xs : List X) → c.at ≡ base → c.from ≡ 0 → len < 2 ^ 63 → length xs ≡ written → written ≤ len → c.slots ≡ filled xs (len - written)
       → IsSeen c base 0 len written (stretch base 0 xs (len - written))
   begun c base len written xs at from low long within laid = made c base 0 len written xs (len - written) at from laid long (omega arith) (omega arith)

@@ -96,6 +96,7 @@ impl<'a, T, W: CheckedWriter<T>> Share<T> for Places<'a, W> {
         self.threads
     }
 
+    #[tactic(auto, using(crate::proofs::Halves::parts_both, crate::proofs::FirstWithout::found_in_both))]
     fn halves(self, first: usize, room: usize) -> (Places<'a, W>, usize, Places<'a, W>) {
         let Places { writer, threads } = self;
         let fewer = threads / 2;

@@ -51,7 +51,7 @@ fn write_row<T: Copy, F: FnOnce(Run<T>) -> Run<T>>(
 {
     let len = row.len();
     let (base, cells) = emptied(row);
-    let (_, cells) = write(Run::whole(base, len, cells)).into_cells();
+    let (_, cells) = write(Run::begun(base, len, 0, cells)).into_cells();
     (filled_row(base, len, cells), state, ())
 }
 

@@ -74,6 +74,7 @@ fn total(counts: &[usize]) -> usize
 
 /// How many items each part has, counted by at most so many threads, and how many all have, or the greatest number where that
 /// is less.
+#[tactic(auto, using(crate::proofs::PartWalk::counted))]
 pub fn count_parts<T: Sync, R: Threads + Sync, A: Allocator, P: Part<T> + Sync>(
     rt: &R,
     alloc: A,

@@ -45,6 +45,7 @@ impl<T, A: Allocator> Room<T, A> {
     }
 
     /// The room of a vector, and the run of all its places, which begins with the vector's items.
+    #[tactic(auto, using(crate::proofs::Places::somes_filled))]
     pub fn of(mut vec: Vec<T, A>) -> (Room<T, A>, Run<T>)
         ensures room { result.0.places ≡ vec_capacity vec }
         ensures fits { vec_capacity vec < 2 ^ 63 }
@@ -64,6 +65,7 @@ impl<T, A: Allocator> Room<T, A> {
     }
 
     /// The vector of the items that are written in the run of all places.
+    #[tactic(auto, using(crate::proofs::Places::somes_filled))]
     pub fn into_vec(self, run: Run<T>) -> Vec<T, A>
         requires { IsAllOf self run }
         ensures items { result.items ≡ run.items }

@@ -33,25 +33,12 @@ impl<T> Model for Run<T> {
 }
 
 impl<T> Run<T> {
-    /// All the places of a block.
-    pub(crate) fn whole(base: Base<T>, len: usize, cells: Cells<T>) -> Run<T>
-        requires { (cells.at ≡ base.ptr) × (cells.from ≡ 0) × (cells.slots ≡ replicate len None) × (len < 2 ^ 63) }
-        ensures { result ≡ stretch base.ptr 0 [] len }
-    {
-        Run {
-            base,
-            first: 0,
-            len,
-            written: 0,
-            cells,
-        }
-    }
-
     /// All the places of a block, of which the first ones are written.
     pub(crate) fn begun(base: Base<T>, len: usize, written: usize, cells: Cells<T>) -> Run<T>
         requires place { (cells.at ≡ base.ptr) × (cells.from ≡ 0) × (len < 2 ^ 63) }
         requires laid { (items : List T) × (length items ≡ written) × (written ≤ len) × (cells.slots ≡ filled items (len - written)) }
-        ensures { result ≡ stretch base.ptr 0 (somes cells.slots) (len - written) }
+        ensures begun { result ≡ stretch base.ptr 0 (somes cells.slots) (len - written) }
+        ensures empty { written ≡ 0 → result ≡ stretch base.ptr 0 [] len }
     {
         Run {
             base,

@@ -5,7 +5,7 @@ use Rattle.fresh.proofs.Walks.{length-map, length-replicate, Fn, w64, inst_fn, V
 use Rattle.fresh.proofs.Walks.{◌⊑◌, fact, tables, tables_of, WpFn-mono, ‵, raw, ◌⊛◌, at_ret, ◌$◌, ◌∵◌, !, qed, move, keep, drop, use2, split, split3, join, rewrite}
 use Rattle.fresh.proofs.Walks.{fsplit, fsplit3, fjoin, fjoin3, feq_i, feq_l, flt_l, suffices, done, whole, sub, store_in, stop, fld, addr, unit_lit, of_opd, assigns, assigns_last}
 use Rattle.fresh.proofs.Walks.{first, blocks, exec, returns, enter, alloc_all, pass_all, free_all, look_at, get, get_in, through, is, sets, env, yes, no, RattleType, owns, usize}
-use Rattle.fresh.proofs.Walks.{Ptr, ptr_val, in_a_block, plain, types_at, heard, nothing, Ended, triple_of, entered, Stays, stay_dropped, stay_ref}
+use Rattle.fresh.proofs.Walks.{Ptr, ptr_val, in_a_block, plain, types_at, heard, nothing, Ended, triple_of, proved_at, Stays, stay_dropped, stay_ref}
 use Rattle.fresh.proofs.Walks.{walk_of, ends_at, Goes-dropped, Goes-ref, walk_Meets, Some, None, token, Goes-blank, says_two, has_block, word, word-Good, Blk, vec_opens⁰}
 use Rattle.fresh.proofs.Walks.{vec_closes⁰, after}
 use Rattle.fresh.specs.Ownership.{slots, cells_own, deed_owns}
@@ -18,10 +18,9 @@ use Rattle.fresh.proofs.block.give_block.Statement.{statement}
 use Rattle.fresh.proofs.block.give_block.Code as code
 
 pub give_block_spec : {M : Type 1} → statement M
-unfolding tables_of
 give_block_spec 𝓤 𝓛 𝓜 𝓡 wired X Z L LZ g d dd met md =
     let E : El = record { row = X; laws = L; al = record { row = Z; laws = LZ; g = g; d = d; drops = dd } } in let H = 𝓛.H in
-    let 𝓣 : Tables 𝓤 H = tables_of 𝓤 H 𝓜 (tables 𝓤 H 𝓜 𝓡 𝓡.env) in let here : Fn = inst_fn (args E) code.function in
+    let 𝓣 = tables 𝓤 H 𝓜 𝓡 𝓡.env in let here : Fn = inst_fn (args E) code.function in
     let En : Ended = F.ended X Z g d dd in let cl = F.clauses X Z g d dd 𝓛 𝓜.mem 𝓡.returns in let Dd : RattleType = D-type.the_row (R E) (P E) g in
     let hs : Stays En.signature.params En.kept = (
       stay_ref (0 ∷ []) tt (plain (λ _. Vr E)),
@@ -36,8 +35,7 @@ give_block_spec 𝓤 𝓛 𝓜 𝓡 wired X Z L LZ g d dd met md =
         ),
       ),
     ) in
-    entered 𝓤 H (triple_of 𝓛 En.signature (F.spec X Z g d dd 𝓛 𝓜.mem 𝓡.returns)) 𝓣.C 𝓣.Λ (#self (args E)) here (code.unfolded 𝓤 H 𝓜 𝓡 wired (X, (Z, tt)) d dd)
-    (walk_Meets 𝓛 En hs (
+    proved_at 𝓛 En hs cl 𝓜 𝓡 (
       Goes-ref 𝓛 3 0 tt (plain (λ _. Vr E)),
       (
         Goes-dropped 𝓛 3 (plain (λ _. Bs (el E))) no (λ κs x f. refl),
@@ -46,8 +44,7 @@ give_block_spec 𝓤 𝓛 𝓜 𝓡 wired X Z L LZ g d dd met md =
           (Goes-dropped 𝓛 3 (plain (λ _. usize)) yes (λ κs x f. refl), (Goes-blank 𝓛 3 (plain (λ _. Cr (el E))) no (λ κs x f. tt), (Goes-blank 𝓛 3 (plain (λ _. Dd)) no (λ κs x f. tt), tt))),
         ),
       ),
-    ) cl
-    (WpFn 𝓤 H 𝓣.C 𝓣.Λ here) (WpFn-mono 𝓤 H 𝓛.laws 𝓣 here) (λ z.
+    ) (#self (args E)) here (code.unfolded 𝓤 H 𝓜 𝓡 wired (X, (Z, tt)) d dd) (λ z are.
     let κ = z.0.0.0 in let κ₁ = z.0.0.1.0 in let κ₂ = z.0.0.1.1.0 in let q = z.0.1.0 in let q₁ = z.0.1.1.0 in let q₂ = z.0.1.1.1.0 in
     let rb : ℕ = z.0.3.0.ref_ptr.0 in let ro : ℕ = z.0.3.0.ref_ptr.1 in let vss = z.0.4 in
     let Post : Val → SProp 𝓤 = (walk_of 𝓛 En hs cl).post z in
@@ -94,4 +91,4 @@ give_block_spec 𝓤 𝓛 𝓜 𝓡 wired X Z L LZ g d dd met md =
     suffices ! _ (ends_at 𝓛 En hs cl z vunit tt (new, (tt, (tt, (tt, (tt, (tt, tt)))))) (tt, (tt, (tt, (tt, (tt, (tt, tt))))))) $ says_two ! (full.3, (refl, refl, refl)) $
     feq_i ! (List Val) vss.0 (vptr rb ro ∷ []) e₀ $ fjoin3 ! $
     nothing ! $ nothing ! $ fjoin ! $ nothing ! $ fjoin ! $ nothing ! $ fjoin ! $ nothing ! $ fjoin ! $ nothing ! $ fjoin ! $ move ! (1 ∷ 0 ∷ []) $ fjoin ! $
-    move ! (2 ∷ 3 ∷ []) $ join ! $ move ! (2 ∷ 0 ∷ []) $ join ! $ feq_i ! (List Val) (vunit ∷ []) (vunit ∷ []) refl $ keep ! (1 ∷ 2 ∷ 0 ∷ []) $ done !)))))))))))))))))
+    move ! (2 ∷ 3 ∷ []) $ join ! $ move ! (2 ∷ 0 ∷ []) $ join ! $ feq_i ! (List Val) (vunit ∷ []) (vunit ∷ []) refl $ keep ! (1 ∷ 2 ∷ 0 ∷ []) $ done !))))))))))))))))

@@ -5,7 +5,7 @@ use Rattle.fresh.proofs.Walks.{length-map, length-replicate, Fn, inst_fn, Val, v
 use Rattle.fresh.proofs.Walks.{fact, tables, tables_of, WpFn-mono, ‵, raw, ◌⊛◌, at_ret, ◌$◌, ◌∵◌, !, qed, move, keep, drop, use0, use1, use3, split, split3, join, rewrite, fsplit}
 use Rattle.fresh.proofs.Walks.{fsplit3, fjoin, fjoin3, feq_i, feq_l, flt_i, suffices, done, whole, sub, agg, look_in, store_in, stop, fld, load, addr, lit, of_opd, no_more}
 use Rattle.fresh.proofs.Walks.{and_then, assigns, assigns_last, first, blocks, exec, returns, enter, alloc_all, pass_all, free_all, look_at, get, through, sets, sets_last, env}
-use Rattle.fresh.proofs.Walks.{RattleType, owns, Ptr, block_ptr, plain, types_at, nothing, Ended, triple_of, entered, Stays, stay_ref, walk_of, ends_at}
+use Rattle.fresh.proofs.Walks.{RattleType, owns, Ptr, block_ptr, plain, types_at, nothing, Ended, triple_of, proved_at, Stays, stay_ref, walk_of, ends_at}
 use Rattle.fresh.proofs.Walks.{Goes-ref, walk_Meets, None, Some, says_three, owns_if, has_block, Good, word, word-Good, not_live, vec_opens⁰, vec_closes⁰, after, layout, Tuple}
 use Rattle.fresh.specs.Ownership.{slots}
 use Rattle.fresh.proofs.Blocks.{el, Frees, items_out}
@@ -17,14 +17,12 @@ use Rattle.fresh.proofs.block.take_block.Statement.{statement}
 use Rattle.fresh.proofs.block.take_block.Code as code
 
 pub take_block_spec : {M : Type 1} → statement M
-unfolding tables_of
 take_block_spec 𝓤 𝓛 𝓜 𝓡 wired X Z L LZ g d dd met md =
     let E : El = record { row = X; laws = L; al = record { row = Z; laws = LZ; g = g; d = d; drops = dd } } in let H = 𝓛.H in
-    let 𝓣 : Tables 𝓤 H = tables_of 𝓤 H 𝓜 (tables 𝓤 H 𝓜 𝓡 𝓡.env) in let fn : Fn = inst_fn (args E) code.function in
+    let 𝓣 = tables 𝓤 H 𝓜 𝓡 𝓡.env in let fn : Fn = inst_fn (args E) code.function in
     let En : Ended = F.ended X Z g d dd in let cl = F.clauses X Z g d dd 𝓛 𝓜.mem 𝓡.returns in let Dd : RattleType = D-type.the_row (R E) (P E) g in
     let hs : Stays En.signature.params En.kept = (stay_ref (0 ∷ []) tt (plain (λ _. Vr E)), tt) in
-    entered 𝓤 H (triple_of 𝓛 En.signature (F.spec X Z g d dd 𝓛 𝓜.mem 𝓡.returns)) 𝓣.C 𝓣.Λ (#self (args E)) fn (code.unfolded 𝓤 H 𝓜 𝓡 wired (X, (Z, tt)) d dd)
-    (walk_Meets 𝓛 En hs (Goes-ref 𝓛 3 0 tt (plain (λ _. Vr E)), tt) cl (WpFn 𝓤 H 𝓣.C 𝓣.Λ fn) (WpFn-mono 𝓤 H 𝓛.laws 𝓣 fn) (λ z.
+    proved_at 𝓛 En hs cl 𝓜 𝓡 (Goes-ref 𝓛 3 0 tt (plain (λ _. Vr E)), tt) (#self (args E)) fn (code.unfolded 𝓤 H 𝓜 𝓡 wired (X, (Z, tt)) d dd) (λ z are.
     let κ = z.0.0.0 in let κ₁ = z.0.0.1.0 in let κ₂ = z.0.0.1.1.0 in let q = z.0.1.0 in let q₁ = z.0.1.1.0 in let q₂ = z.0.1.1.1.0 in
     let rb : ℕ = z.0.3.0.ref_ptr.0 in let ro : ℕ = z.0.3.0.ref_ptr.1 in let vss = z.0.4 in
     let Post : Val → SProp 𝓤 = (walk_of 𝓛 En hs cl).post z in
@@ -75,4 +73,4 @@ take_block_spec 𝓤 𝓛 𝓜 𝓡 wired X Z L LZ g d dd met md =
     returns ! (look_at ! 0 refl) $ free_all ! refl $
     suffices ! _ (ends_at 𝓛 En hs cl z made (base, cells, deed) (new, tt) (tt, tt)) $ says_three ! ((refl, refl, refl), (refl, refl, refl), (refl, refl)) $
     feq_i ! (List Val) vss.0 (vptr rb ro ∷ []) e₀ $ fjoin3 ! $ nothing ! $ move ! (1 ∷ 0 ∷ []) $ fjoin ! $
-    move ! (3 ∷ 4 ∷ []) $ join ! $ move ! (2 ∷ 0 ∷ []) $ join ! $ keep ! (0 ∷ 1 ∷ 2 ∷ []) $ done !)))))
+    move ! (3 ∷ 4 ∷ []) $ join ! $ move ! (2 ∷ 0 ∷ []) $ join ! $ keep ! (0 ∷ 1 ∷ 2 ∷ []) $ done !))))

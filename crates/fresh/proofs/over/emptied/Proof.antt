@@ -4,7 +4,7 @@ use Rattle.fresh.proofs.Walks.{◌≡◌, refl, sym, subst, ◌∙◌, Bool, ℕ
 use Rattle.fresh.proofs.Walks.{WT, SProp, ent, emp, id⊢, Lft, Share, ftrue, flft, WpFn, ◌⊑◌, fact, tables, tables_of, FmC, WpFn-mono, ‵, raw, ◌⊛◌, given, later, at_ret, ◌$◌, ◌∵◌}
 use Rattle.fresh.proofs.Walks.{ !, qed, move, keep, drop, use0, use1, use2, split, join, rewrite, fsplit, fjoin, learn, await, flt_i, suffices, done, agg, sub, whole, stop, fld}
 use Rattle.fresh.proofs.Walks.{of_opd, and_then, no_more, first, blocks, exec, returns, enter, alloc_all, pass_all, free_all, look_at, get, get_in, sets, lands_last, is, env, no}
-use Rattle.fresh.proofs.Walks.{layout, owns, Ptr, block_ptr, plain, types_at, heard, nothing, Tuple, calls_at_last, Ended, closing, triple_of, entered, framed, Stays, stay_dropped}
+use Rattle.fresh.proofs.Walks.{layout, owns, Ptr, block_ptr, plain, types_at, heard, nothing, Tuple, calls_at_last, Ended, closing, triple_of, proved_at, framed, Stays, stay_dropped}
 use Rattle.fresh.proofs.Walks.{walk_of, ends_at, Goes-dropped, walk_Meets, None, slots_items, slots_filled, slots_len, slots_counts, tail, says_two, El, R, args, el_x, row_val}
 use Rattle.fresh.proofs.Walks.{Good, word, word-Good}
 use Rattle.fresh.specs.Ownership.{slots}
@@ -16,15 +16,13 @@ use Rattle.fresh.proofs.over.emptied.Statement.{statement}
 use Rattle.fresh.proofs.over.emptied.Code as code
 
 pub emptied_spec : {M : Type 1} → statement M
-unfolding tables_of
 emptied_spec 𝓤 𝓛 𝓜 𝓡 wired X L =
     let H = 𝓛.H in let 𝓣 = tables 𝓤 H 𝓜 𝓡 𝓡.env in let E : El = record { row = X; laws = L } in let En : Ended = F.ended X in
     let inst = args E in let fn : Fn = inst_fn inst code.function in let c = F.clauses X 𝓛 𝓜.mem 𝓡.returns in let s = Rattle.fresh.proofs.Memory.sz E in
     let fm : FmC 𝓤 H 𝓛.laws 𝓣.C = λ f. framed 𝓤 H 𝓜 𝓣 f in
     let met = callee.met 𝓤 𝓛 𝓜 𝓡 (code.calls-core::slots::Slots::into_raw_parts 𝓡.env wired) X L in
     let hs : Stays En.signature.params En.kept = (stay_dropped (plain (λ _. Row E)) no, tt) in
-    entered 𝓤 H (triple_of 𝓛 En.signature (closing 𝓛 En c)) 𝓣.C 𝓣.Λ (#self inst) fn (code.unfolded 𝓤 H 𝓜 𝓡 wired (X, tt))
-    (walk_Meets 𝓛 En hs (Goes-dropped 𝓛 1 (plain (λ _. Row E)) no (λ κs x f. refl), tt) c (WpFn 𝓤 H 𝓣.C 𝓣.Λ fn) (WpFn-mono 𝓤 H 𝓛.laws (tables_of 𝓤 H 𝓜 𝓣) fn) (λ z.
+    proved_at 𝓛 En hs c 𝓜 𝓡 (Goes-dropped 𝓛 1 (plain (λ _. Row E)) no (λ κs x f. refl), tt) (#self inst) fn (code.unfolded 𝓤 H 𝓜 𝓡 wired (X, tt)) (λ z are.
     let κ : Lft = z.0.0.0 in let q : Share = z.0.1.0 in let r : (Row E).Denot = z.0.3.0 in let vss = z.0.4 in
     let k : ℕ = slots_len r in let xs : List (el_x E) = slots_items r in let fs : List Bool = slots_filled r in
     let Post : Val → SProp 𝓤 = (walk_of 𝓛 En hs c).post z in let Run : List Val → SProp 𝓤 = λ ws. WpFn 𝓤 H 𝓣.C 𝓣.Λ fn ws Post in
@@ -53,4 +51,4 @@ emptied_spec 𝓤 𝓛 𝓜 𝓡 wired X L =
     use2 𝓛 (‵ ((Tuple (Bs E ∷ Cr E ∷ [])).own_val (base, cells) (made ∷ []))) (two_of 𝓛 (Bs E) (Cr E) base cells (word p) mark) $
     returns ! (look_at ! 0 refl) $ free_all ! refl $
     suffices ! _ (ends_at 𝓛 En hs c z made (base, cells) (tt, tt) (tt, tt)) $ says_two ! (sym at, (sym at, refl, refl)) $
-    nothing ! $ move ! (2 ∷ 0 ∷ []) $ join ! $ nothing ! $ nothing ! $ fjoin ! $ move ! (0 ∷ 2 ∷ []) $ join ! $ move ! (1 ∷ 0 ∷ []) $ join ! $ done !)))))))
+    nothing ! $ move ! (2 ∷ 0 ∷ []) $ join ! $ nothing ! $ nothing ! $ fjoin ! $ move ! (0 ∷ 2 ∷ []) $ join ! $ move ! (1 ∷ 0 ∷ []) $ join ! $ done !))))))

@@ -5,7 +5,7 @@ use Rattle.fresh.proofs.Walks.{length-replicate, get_or, get_or-replicate, Fn, w
 use Rattle.fresh.proofs.Walks.{tables, tables_of, FmC, WpFn-mono, ‵, raw, ◌⊛◌, some, given, later, at_ret, ◌$◌, ◌∵◌, !, qed, move, keep, use1, use2, split, split3, join, pick}
 use Rattle.fresh.proofs.Walks.{rewrite, fsplit, fjoin, feq_l, flt_l, learn, await, suffices, done, sub, whole, stop, fld, of_opd, and_then, no_more, first, blocks, exec, returns}
 use Rattle.fresh.proofs.Walks.{enter, alloc_all, pass_all, free_all, look_at, get, get_in, sets, lands_last, is, env, usize, yes, no, owns, Ptr, block_ptr, in_a_block, plain}
-use Rattle.fresh.proofs.Walks.{types_at, heard, nothing, calls_at_last, Ended, closing, triple_of, entered, framed, Stays, stay_dropped, walk_of, ends_at, Goes-dropped, walk_Meets}
+use Rattle.fresh.proofs.Walks.{types_at, heard, nothing, calls_at_last, Ended, closing, triple_of, proved_at, framed, Stays, stay_dropped, walk_of, ends_at, Goes-dropped, walk_Meets}
 use Rattle.fresh.proofs.Walks.{Option, Some, IsFull, Goes-blank, tail, says_two, El, R, args, el_x, row_val, word, word-Good}
 use Rattle.fresh.specs.Ownership.{slots, cells_own}
 use Rattle.fresh.proofs.Memory.{Bs, Cr, mark, mark_had, word_had, sz}
@@ -16,16 +16,13 @@ use Rattle.fresh.proofs.over.filled_row.Statement.{statement}
 use Rattle.fresh.proofs.over.filled_row.Code as code
 
 pub filled_row_spec : {M : Type 1} → statement M
-unfolding tables_of
 filled_row_spec 𝓤 𝓛 𝓜 𝓡 wired X L =
     let H = 𝓛.H in let 𝓣 = tables 𝓤 H 𝓜 𝓡 𝓡.env in let E : El = record { row = X; laws = L } in let En : Ended = F.ended X in
     let inst = args E in let fn : Fn = inst_fn inst code.function in let c = F.clauses X 𝓛 𝓜.mem 𝓡.returns in let s = sz E in
     let fm : FmC 𝓤 H 𝓛.laws 𝓣.C = λ f. framed 𝓤 H 𝓜 𝓣 f in
     let met = callee.met 𝓤 𝓛 𝓜 𝓡 (code.calls-core::slots::Slots::from_raw_parts 𝓡.env wired) X L in
     let hs : Stays En.signature.params En.kept = (stay_dropped (plain (λ _. Bs E)) no, (stay_dropped (plain (λ _. usize)) yes, (stay_dropped (plain (λ _. Cr E)) no, tt))) in
-    entered 𝓤 H (triple_of 𝓛 En.signature (closing 𝓛 En c)) 𝓣.C 𝓣.Λ (#self inst) fn (code.unfolded 𝓤 H 𝓜 𝓡 wired (X, tt))
-    (walk_Meets 𝓛 En hs (Goes-dropped 𝓛 1 (plain (λ _. Bs E)) no (λ κs x f. refl), (Goes-dropped 𝓛 1 (plain (λ _. usize)) yes (λ κs x f. refl), (Goes-blank 𝓛 1 (plain (λ _. Cr E)) no (λ κs x f. tt), tt))) c
-    (WpFn 𝓤 H 𝓣.C 𝓣.Λ fn) (WpFn-mono 𝓤 H 𝓛.laws (tables_of 𝓤 H 𝓜 𝓣) fn) (λ z.
+    proved_at 𝓛 En hs c 𝓜 𝓡 (Goes-dropped 𝓛 1 (plain (λ _. Bs E)) no (λ κs x f. refl), (Goes-dropped 𝓛 1 (plain (λ _. usize)) yes (λ κs x f. refl), (Goes-blank 𝓛 1 (plain (λ _. Cr E)) no (λ κs x f. tt), tt))) (#self inst) fn (code.unfolded 𝓤 H 𝓜 𝓡 wired (X, tt)) (λ z are.
     let κ : Lft = z.0.0.0 in let q : Share = z.0.1.0 in let base : (Bs E).Denot = z.0.3.0 in let k : ℕ = z.0.3.1.0 in let cells : (Cr E).Denot = z.0.3.1.1.0 in let vss = z.0.4 in
     let Whole : Type 0 = (cells.at ≡ base.ptr) × (cells.from ≡ 0) in
     let Full : Type 0 = (xs : List (el_x E)) × (length xs ≡ k) × (cells.slots ≡ map Some xs) in
@@ -55,4 +52,4 @@ filled_row_spec 𝓤 𝓛 𝓜 𝓡 wired X L =
     lands_last ! refl (row_Typed E v b o k got.0 fk) $ exec ! 𝓣.C 𝓣.Λ Ev (tail fn.body) (at_ret Ev Post) $ sets ! (is ! (of_opd ! (get ! refl)) got.0) refl (tt, words) $
     returns ! (look_at ! 0 refl) $ free_all ! refl $
     suffices ! _ (ends_at 𝓛 En hs c z (row_val b o k) r (tt, (tt, (tt, tt))) (tt, (tt, (tt, tt)))) $ says_two ! ((made.0 ∙ sym e, made.1, full_row), full.2 ∙ ap (map Some) (sym made.2)) $
-    nothing ! $ move ! (2 ∷ 0 ∷ []) $ join ! $ nothing ! $ nothing ! $ fjoin ! $ nothing ! $ fjoin ! $ nothing ! $ fjoin ! $ move ! (0 ∷ 2 ∷ []) $ join ! $ move ! (1 ∷ 0 ∷ []) $ join ! $ done !)))))))))))))))
+    nothing ! $ move ! (2 ∷ 0 ∷ []) $ join ! $ nothing ! $ nothing ! $ fjoin ! $ nothing ! $ fjoin ! $ nothing ! $ fjoin ! $ move ! (0 ∷ 2 ∷ []) $ join ! $ move ! (1 ∷ 0 ∷ []) $ join ! $ done !))))))))))))))

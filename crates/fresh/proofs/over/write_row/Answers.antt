@@ -1,4 +1,4 @@
-use Rattle.std.proofs.Common.{[], sym, ap, ◌∙◌, subst}
+use Rattle.std.proofs.Common.{[], refl, sym, ap, ◌∙◌, subst}
 use Rattle.core.specs.Mem.Slots.{slots_items}
 use Rattle.fresh.specs.Places.{somes, stretch}
 use Rattle.fresh.specs.contracts.over.write_row.F-FnOnce.{words}
@@ -9,6 +9,6 @@ pub returns-clause-items : goal.returns-clause-items
 returns-clause-items g c =
     let run = c.write.result in (
       run,
-      subst (λ s. (words g.row.T g.row.F g.F.FnOnce).post c.args.write s run) (c.whole.ensures ∙ λ i. stretch (c.emptied-cells.ensures.base i) 0 [] (c.len-len.ensures i)) c.write.ensures,
+      subst (λ s. (words g.row.T g.row.F g.F.FnOnce).post c.args.write s run) (c.begun.ensures.empty refl ∙ λ i. stretch (c.emptied-cells.ensures.base i) 0 [] (c.len-len.ensures i)) c.write.ensures,
       sym (somes_map (slots_items c.filled_row.result)) ∙ ap somes (sym c.filled_row.ensures.items ∙ c.into_cells-cells.ensures.cells.2) ∙ somes_filled run.items run.room,
     )

@@ -2,7 +2,7 @@
 use Rattle.fresh.proofs.Walks.{◌≡◌, refl, sym, ap, subst, ◌∙◌, ℕ, ◌+◌, ◌*◌, ◌<◌, ◌^◌, arith, List, [], ◌∷◌, ◌++◌, length, length-append, Fn, inst_fn, Val, SProp, ent, never, id⊢}
 use Rattle.fresh.proofs.Walks.{Lft, Share, ftrue, flft, WpFn, ◌⊑◌, fact, tables, tables_of, WpFn-mono, ‵, raw, ◌⊛◌, ◌$◌, ◌∵◌, !, qed, move, keep, drop, use0, use2, split, join}
 use Rattle.fresh.proofs.Walks.{rewrite, fsplit, fjoin, suffices, done, flt_l, flt_i, agg, and_then, no_more, returns, enter, alloc_all, pass_all, free_all, look_at, get, sets, no, owns, Ptr}
-use Rattle.fresh.proofs.Walks.{in_a_block, plain, types_at, heard, nothing, Ended, closing, triple_of, entered, says, Stays, stay_dropped, walk_of, ends_at, walk_Meets, Goes-blank, El, R}
+use Rattle.fresh.proofs.Walks.{in_a_block, plain, types_at, heard, nothing, Ended, closing, triple_of, proved_at, says, Stays, stay_dropped, walk_of, ends_at, walk_Meets, Goes-blank, El, R}
 use Rattle.fresh.proofs.Walks.{args, add_times}
 use Rattle.fresh.specs.Ownership.{slots, cells_own}
 use Rattle.fresh.proofs.Memory.{Cr, Mark, sz, mark, mark_had, mark_made, glue}
@@ -12,14 +12,11 @@ use Rattle.fresh.proofs.cells.Cells.merge.Statement.{statement}
 use Rattle.fresh.proofs.cells.Cells.merge.Code as code
 
 pub merge_spec : {M : Type 1} → statement M
-unfolding tables_of
 merge_spec 𝓤 𝓛 𝓜 𝓡 wired X L =
     let H = 𝓛.H in let 𝓣 = tables 𝓤 H 𝓜 𝓡 𝓡.env in let E : El = record { row = X; laws = L } in let En : Ended = F.ended X in
     let inst = args E in let fn : Fn = inst_fn inst code.function in let cl = F.clauses X 𝓛 𝓜.mem 𝓡.returns in let s = sz E in
     let hs : Stays En.signature.params En.kept = (stay_dropped (plain (λ _. Cr E)) no, (stay_dropped (plain (λ _. Cr E)) no, tt)) in
-    entered 𝓤 H (triple_of 𝓛 En.signature (closing 𝓛 En cl)) 𝓣.C 𝓣.Λ (#self inst) fn (code.unfolded 𝓤 H 𝓜 𝓡 wired (X, tt))
-    (walk_Meets 𝓛 En hs (Goes-blank 𝓛 1 (plain (λ _. Cr E)) no (λ κs x f. tt), (Goes-blank 𝓛 1 (plain (λ _. Cr E)) no (λ κs x f. tt), tt)) cl
-    (WpFn 𝓤 H 𝓣.C 𝓣.Λ fn) (WpFn-mono 𝓤 H 𝓛.laws (tables_of 𝓤 H 𝓜 𝓣) fn) (λ z.
+    proved_at 𝓛 En hs cl 𝓜 𝓡 (Goes-blank 𝓛 1 (plain (λ _. Cr E)) no (λ κs x f. tt), (Goes-blank 𝓛 1 (plain (λ _. Cr E)) no (λ κs x f. tt), tt)) (#self inst) fn (code.unfolded 𝓤 H 𝓜 𝓡 wired (X, tt)) (λ z are.
     let κ : Lft = z.0.0.0 in let q : Share = z.0.1.0 in let c : (Cr E).Denot = z.0.3.0 in let d : (Cr E).Denot = z.0.3.1.0 in let vss = z.0.4 in
     let Asks : Type 0 = (d.at ≡ c.at) × (d.from ≡ c.from + length c.slots) in
     let Post : Val → SProp 𝓤 = (walk_of 𝓛 En hs cl).post z in let Run : List Val → SProp 𝓤 = λ ws. WpFn 𝓤 H 𝓣.C 𝓣.Λ fn ws Post in
@@ -41,4 +38,4 @@ merge_spec 𝓤 𝓛 𝓜 𝓡 wired X L =
     sets ! (agg ! (no_more !)) refl (tt, tt) $ sets ! (agg ! (and_then ! (get ! refl) (no_more !))) refl (tt, (tt, tt)) $
     returns ! (look_at ! 0 refl) $ free_all ! refl $
     suffices ! _ (ends_at 𝓛 En hs cl z mark new (tt, (tt, tt)) (tt, (tt, tt))) $ says ! (refl, refl, refl) $
-    nothing ! $ move ! (2 ∷ 0 ∷ []) $ join ! $ nothing ! $ nothing ! $ fjoin ! $ nothing ! $ fjoin ! $ move ! (0 ∷ 2 ∷ []) $ join ! $ move ! (1 ∷ 0 ∷ []) $ join ! $ done !))))))))
+    nothing ! $ move ! (2 ∷ 0 ∷ []) $ join ! $ nothing ! $ nothing ! $ fjoin ! $ nothing ! $ fjoin ! $ move ! (0 ∷ 2 ∷ []) $ join ! $ move ! (1 ∷ 0 ∷ []) $ join ! $ done !)))))))

@@ -4,7 +4,7 @@ use Rattle.fresh.proofs.Walks.{vint, vptr, vunit, SProp, ent, id⊢, never, Lft,
 use Rattle.fresh.proofs.Walks.{◌∵◌, qed, move, keep, drop, use1, use2, split, join, rewrite, fsplit, fjoin, flt_i, suffices, done, split3, feq_l, flt_l, fsplit3, fjoin3, feq_i}
 use Rattle.fresh.proofs.Walks.{sub, whole, stop, fld, of_opd, first, blocks, exec, returns, enter, assigns_last, unit_lit, init, bin, size_lit, alloc_all, pass_all, free_all}
 use Rattle.fresh.proofs.Walks.{look_at, get, get_in, sets, env, through, take_at, give_at, no, yes, layout, owns, Ptr, in_a_block, plain, types_at, heard, nothing, opens, closes}
-use Rattle.fresh.proofs.Walks.{Ended, closing, triple_of, entered, Stays, stay_dropped, walk_of, ends_at, Goes-dropped, walk_Meets, stay_ref, Goes-ref, says, None, Some, El, R}
+use Rattle.fresh.proofs.Walks.{Ended, closing, triple_of, proved_at, Stays, stay_dropped, walk_of, ends_at, Goes-dropped, walk_Meets, stay_ref, Goes-ref, says, None, Some, El, R}
 use Rattle.fresh.proofs.Walks.{args, elτ, word, word-Good, usize, after, add_times, times_below, one_below, full_share, as_written, ! }
 use Rattle.fresh.specs.Ownership.{slot, slots, cells_own}
 use Rattle.fresh.proofs.Memory.{Cr, Bs, sz, Place, word_had, value_in, tells, Besides, slot_out, slot_in}
@@ -14,14 +14,12 @@ use Rattle.fresh.proofs.cells.Cells.write.Statement.{statement}
 use Rattle.fresh.proofs.cells.Cells.write.Code as code
 
 pub write_spec : {M : Type 1} → statement M
-unfolding tables_of
 write_spec 𝓤 𝓛 𝓜 𝓡 wired X L =
     let H = 𝓛.H in let 𝓣 = tables 𝓤 H 𝓜 𝓡 𝓡.env in let E : El = record { row = X; laws = L } in let En : Ended = F.ended X in
     let inst = args E in let fn : Fn = inst_fn inst code.function in let cl = F.clauses X 𝓛 𝓜.mem 𝓡.returns in let s = sz E in
     let hs : Stays En.signature.params En.kept =
     (stay_ref (0 ∷ []) tt (plain (λ _. Cr E)), (stay_dropped (plain (λ _. Bs E)) no, (stay_dropped (plain (λ _. usize)) yes, (stay_dropped (plain (λ _. R E)) no, tt)))) in
-    entered 𝓤 H (triple_of 𝓛 En.signature (closing 𝓛 En cl)) 𝓣.C 𝓣.Λ (#self inst) fn (code.unfolded 𝓤 H 𝓜 𝓡 wired (X, tt))
-    (walk_Meets 𝓛 En hs (
+    proved_at 𝓛 En hs cl 𝓜 𝓡 (
       Goes-ref 𝓛 2 0 tt (plain (λ _. Cr E)),
       (
         Goes-dropped 𝓛 2 (plain (λ _. Bs E)) no (λ κs x f. refl),
@@ -30,7 +28,7 @@ write_spec 𝓤 𝓛 𝓜 𝓡 wired X L =
           (Goes-dropped 𝓛 2 (plain (λ _. R E)) no (λ κs x f. refl), tt),
         ),
       ),
-    ) cl (WpFn 𝓤 H 𝓣.C 𝓣.Λ fn) (WpFn-mono 𝓤 H 𝓛.laws (tables_of 𝓤 H 𝓜 𝓣) fn) (λ z.
+    ) (#self inst) fn (code.unfolded 𝓤 H 𝓜 𝓡 wired (X, tt)) (λ z are.
     let κ : Lft = z.0.0.0 in let κ₁ : Lft = z.0.0.1.0 in let q : Share = z.0.1.0 in let q₁ : Share = z.0.1.1.0 in let vss = z.0.4 in
     let rb : ℕ = z.0.3.0.ref_ptr.0 in let ro : ℕ = z.0.3.0.ref_ptr.1 in let d : (Cr E).Denot = z.0.3.0.now in
     let base : (Bs E).Denot = z.0.3.1.0 in let index : ℕ = z.0.3.1.1.0 in let item : (R E).Denot = z.0.3.1.1.1.0 in
@@ -67,4 +65,4 @@ write_spec 𝓤 𝓛 𝓜 𝓡 wired X L =
     returns ! (look_at ! 0 refl) $ free_all ! refl $
     suffices ! _ (ends_at 𝓛 En hs cl z vunit tt (new, (tt, (tt, (tt, tt)))) (tt, (tt, (tt, (tt, tt))))) $ says ! (refl, refl, refl) $
     feq_i ! (List Val) vss.0 (vptr rb ro ∷ []) e0 $ fjoin3 ! $ nothing ! $ nothing ! $ fjoin ! $ nothing ! $ fjoin ! $ nothing ! $ fjoin ! $ move ! (1 ∷ 0 ∷ []) $ fjoin ! $
-    nothing ! $ move ! (3 ∷ 0 ∷ []) $ join ! $ move ! (2 ∷ 0 ∷ []) $ join ! $ feq_i ! (List Val) (vunit ∷ []) (vunit ∷ []) refl $ keep ! (1 ∷ 2 ∷ 0 ∷ []) $ done !))))))))))))
+    nothing ! $ move ! (3 ∷ 0 ∷ []) $ join ! $ move ! (2 ∷ 0 ∷ []) $ join ! $ feq_i ! (List Val) (vunit ∷ []) (vunit ∷ []) refl $ keep ! (1 ∷ 2 ∷ 0 ∷ []) $ done !)))))))))))
