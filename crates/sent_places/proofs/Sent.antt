@@ -6,7 +6,8 @@ use Rattle.std.specs.Ordering.{int_eq}
 use Rattle.std.proofs.lemmas.Bool.{ltb-true, eqb-true, or_parts, false_from_ne_true}
 use Rattle.std.proofs.lemmas.Bool.Decides.{eqb_tells, Decides-int_eq}
 use Rattle.std.proofs.lemmas.List.{ext_get_or, get_or-map, get_or-set_same, get_or-set_other, length-map, length-set, length-take, take_more, take_all, at_drop_more, drop_all}
-use Rattle.std.proofs.lemmas.List.FromFn.{length-map-range_with_len, get_or-map-range_with_len}
+use Rattle.std.proofs.lemmas.List.FromFn.{length-range_with_len, length-map-range_with_len, get_or-map-range_with_len}
+use Rattle.std.proofs.lemmas.Simd.{splat_is_map}
 use Rattle.std.proofs.lemmas.Slice.Zip.{get_or-zip, length-zip}
 use Rattle.std.proofs.lemmas.Option.{get_or_from_slice_get, none-some}
 use Rattle.std.proofs.lemmas.Result.{err_from_is_err_and}
@@ -48,6 +49,11 @@ first_fault-here place ws k number lt some =
 
 -- ---- senders
 
+-- another destination
+pub other_place : (a d : ℕ) → ¬ (a ≡ d) → is_destination (pos d) (Some (pos a)) ≡ false
+other_place a d other =
+    false_from_ne_true (int_eq (pos a) (pos d)) (λ yes. let same : pos a ≡ pos d = (Decides-int_eq (pos a) (pos d)).0 yes in other (cc))
+
 -- whether anybody was sent there
 tells_first : (b : Bool) (place other : ℕ) (any : Bool) → place < nobody → not (eqb other nobody) ≡ any → not (eqb (if b then place else other) nobody) ≡ (b || any)
 tells_first true place other any small rest = elim (eqb_tells place nobody) [ inl t ↦ absurd (omega (arith, t.1)) | inr t ↦ ap not t.0 ]
@@ -87,8 +93,7 @@ same_senders place ts us m each =
     sender_at place ts m d below ∙ each d below ∙ sym (sender_at place us m d below))
 
 pub nobody_sent : (a m : ℕ) → map (λ _. nobody) (range_with_len a m) ≡ replicate m nobody
-nobody_sent a zero = refl
-nobody_sent a (suc m) = ap (λ rest. nobody ∷ rest) (nobody_sent (a + 1) m)
+nobody_sent a m = sym (splat_is_map (range_with_len a m) m nobody (length-range_with_len a m))
 
 -- ---- what the walk has found after the first k places
 
@@ -143,8 +148,7 @@ sent-same place us t m d senders small are is lt free =
           get_or-set_other senders d e (place + length us) 0 other.1
           ∙ ap (λ ss. get_or ss e 0) are
           ∙ sender_at place us m e below
-          ∙ sym (sender-other place us t e (ap (is_destination (pos e)) is ∙ false_from_ne_true (int_eq (pos d) (pos e))
-          (λ yes. let same : pos d ≡ pos e = (Decides-int_eq (pos d) (pos e)).0 yes in other.1 (cc))))
+          ∙ sym (sender-other place us t e (ap (is_destination (pos e)) is ∙ other_place d e (λ same. other.1 (sym same))))
           ∙ sym (sender_at place (us ++ t ∷ []) m e below)
     ])
 

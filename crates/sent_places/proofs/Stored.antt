@@ -28,13 +28,6 @@ first_right : (place : ℕ) (w : Option FaultNo) (ws : List (Option FaultNo)) �
 first_right place None ws right = refl
 first_right place (Some number) ws right = absurd (none-some (fault_at number place) right)
 
--- where no place is bad, and none before place k was found bad, the one at place k is not
-right_here : (place : ℕ) (ts : List (Option ℤ)) (m k : ℕ) (senders : List ℕ) → None ≡ first_fault place (wrongs m ts)
-    → IsSentTo place ts m k senders → k < length ts → get_or (wrongs m ts) k None ≡ None
-right_here place ts m k senders right to lt =
-    first_right (place + k) (get_or (wrongs m ts) k None) (drop (k + 1) (wrongs m ts))
-    (right ∙ to.fault_is ∙ at_drop_more (first_fault (place + k)) (wrongs m ts) k None (omega (arith, length-wrongs m ts)))
-
 -- what the walk leaves after the first k places, where so many were sent
 pub record IsStoredTo (place : ℕ) (ts : List (Option ℤ)) (m k sent : ℕ) (senders : List ℕ) : Type 0 where
   pub as_long : length senders ≡ m
@@ -50,12 +43,6 @@ stored_none place ts m senders fresh = record {
   apart = λ right. omega (arith, ap count_sent fresh, none_sent m);
 }
 
--- an index inside, at which nobody stands, is right
-right_from : (is_inside free : Bool) → is_inside ≡ true → free ≡ true → (if not is_inside then Some IndexOutOfRange else if not free then Some IndexRepeated else None) ≡ None
-right_from true true inside is_free = refl
-right_from true false inside is_free = absurd (false≢true is_free)
-right_from false free inside is_free = absurd (false≢true inside)
-
 -- an index that is right is a place
 pub inside_where_right : (senders : List ℕ) (i : ℤ) → wrong_with senders i ≡ None → is_place (length senders) i ≡ true
 inside_where_right senders (pos d) right = (right_tests (ltb d (length senders)) (eqb (get_or senders d 0) nobody) right).0
@@ -70,7 +57,9 @@ module _ (place : ℕ) (ts : List (Option ℤ)) (m k sent : ℕ) (senders : List
   pub right_now : (i : ℤ) → get_or ts k None ≡ Some i → None ≡ first_fault place (wrongs m ts) → wrong_with senders i ≡ None
   right_now i is right =
       let sent_to = to.exact (to.apart right) in
-      sym (found_here place ts m k senders small sent_to lt i is) ∙ right_here place ts m k senders right sent_to lt
+      sym (found_here place ts m k senders small sent_to lt i is)
+      ∙ first_right (place + k) (get_or (wrongs m ts) k None) (drop (k + 1) (wrongs m ts))
+      (right ∙ sent_to.fault_is ∙ at_drop_more (first_fault (place + k)) (wrongs m ts) k None (omega (arith, length-wrongs m ts)))
 
   -- one more destination
   pub stored_more : (new : List ℕ) (now d : ℕ) → get_or ts k None ≡ Some (pos d) → d < m → now ≡ sent + 1 → new ≡ set senders d (place + k) → IsStoredTo place ts m (k + 1) now new
@@ -85,9 +74,9 @@ module _ (place : ℕ) (ts : List (Option ℤ)) (m k sent : ℕ) (senders : List
         exact = λ same.
             let was : is_sent (get_or senders d 0) ≡ 0 = omega (arith, count, set_one, becomes, to.at_most, more, same) in
             let before : count_sent senders ≡ sent = omega (arith, count, set_one, becomes, more, same, was) in
-            sent_more place ts m k senders small (to.exact before) lt new (pos d) is
-            (right_from (ltb d (length senders)) (eqb (get_or senders d 0) nobody) (lt-ltb d (length senders) in_senders) (free_from (eqb (get_or senders d 0) nobody) (omega (arith, was))))
-            stored;
+            let inside = lt-ltb d (length senders) in_senders in
+            let free = free_from (eqb (get_or senders d 0) nobody) (omega (arith, was)) in
+            sent_more place ts m k senders small (to.exact before) lt new (pos d) is (rw (inside, free) refl) stored;
         apart = λ right.
             let tests = right_tests (ltb d (length senders)) (eqb (get_or senders d 0) nobody) (right_now (pos d) is right) in
             let was : is_sent (get_or senders d 0) ≡ 0 = ap (λ b. cond (not b) 1 0) tests.1 in

@@ -8,7 +8,7 @@ ghost use Rattle.cvl_base.specs.Permutes.{first_fault, wrongs};
 ghost use Rattle.sent_places.specs.Senders.{nobody, senders_of, fault_told, wrong_with};
 
 use crate::destinations::Destinations;
-use crate::stores::{are_apart, store_each};
+use crate::stores::{count_senders, store_each};
 use cvl_base::{Fault, FaultNo, place_among};
 
 /// Stands among the senders where no element goes.
@@ -76,9 +76,11 @@ pub fn send_places<T: Destinations>(
         (senders.new ≡ senders_of first (T.destinations destinations.now) (length senders.old)) }
 {
     if destinations.count() >= LONG {
-        let sent = store_each(senders, first, destinations);
-        if are_apart(senders, sent) {
-            return Ok(());
+        // No two were sent to one place where as many places have a sender.
+        if let Some(sent) = store_each(senders, first, destinations) {
+            if count_senders(senders) as usize == sent {
+                return Ok(());
+            }
         }
         senders.fill(NOBODY);
     }

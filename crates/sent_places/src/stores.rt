@@ -2,7 +2,7 @@
 //! alone takes less time than a load, a comparison and a store. How many places have a sender then tells whether an index
 //! was repeated.
 
-ghost use Rattle.std.specs.Prelude.{◌≡◌, ◌+◌, ◌≤◌, ◌↔◌, length, replicate, IfSome, IsTrue, Some};
+ghost use Rattle.std.specs.Prelude.{◌≡◌, ◌+◌, ◌≤◌, length, replicate, IfSome};
 ghost use Rattle.cvl_base.specs.Limits.{most_elements};
 ghost use Rattle.sent_places.specs.Senders.{IsStored, count_sent, nobody};
 
@@ -47,17 +47,6 @@ pub(crate) fn store_each<T: Destinations>(
         senders[destination as usize] = sender;
     }
     Some(sent)
-}
-
-/// Whether as many places have a sender as were sent, so that no two were sent to one.
-pub(crate) fn are_apart(senders: &[u32], sent: Option<usize>) -> bool
-    requires few { IfSome sent (λ sent. count_sent senders.now ≤ most_elements) }
-    ensures value { IsTrue result ↔ sent ≡ Some (count_sent senders.now) }
-{
-    match sent {
-        Some(sent) => count_senders(senders) as usize == sent,
-        None => false,
-    }
 }
 
 /// How many places have a sender.
