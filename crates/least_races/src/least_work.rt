@@ -163,6 +163,7 @@ impl<'a, T: Targets + Sync, A: Memory> Work for LeastWork<'a, T, A> {
 
     ghost HasFact = { λ work seat t. HasAnswered work.board work.plan seat t };
 
+    #[tactic(auto, using(crate::proofs::Answering::claim_keeps))]
     fn claim(&self, seat: &mut LeastSeat) -> Claim {
         self.board.claim(seat)
     }
