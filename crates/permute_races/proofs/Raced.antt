@@ -1,5 +1,5 @@
 -- What the boards of a permute are shown, and what follows of what they tell.
-use Rattle.std.proofs.Common.{◌≡◌, ◌∙◌, ℕ, zero, suc, ◌+◌, ◌-◌, ◌<◌, ◌≤◌, Bool, true, false, not, ◌||◌, if◌then◌else◌, List, [], ◌∷◌, length, map, take, get_or, min, refl, sym, ap, arith, inl, inr, eqb, ltb}
+use Rattle.std.proofs.Common.{◌≡◌, ◌∙◌, ℕ, zero, suc, ◌+◌, ◌-◌, ◌<◌, ◌≤◌, Bool, true, false, not, ◌||◌, if◌then◌else◌, List, [], ◌∷◌, length, map, take, get_or, min, refl, sym, ap, arith, inl, inr, eqb, eq-eqb, ltb}
 use Rattle.std.proofs.Common.{ℤ, pos, negsuc, option_map, unwrap_or, Option, Some, None, Ok, Err, unsigned_abs}
 use Rattle.std.specs.List.{list_any, enumerate_from}
 use Rattle.std.specs.Ordering.{int_eq}
@@ -19,7 +19,7 @@ use Rattle.cvl_base.specs.Gives.{Gives, unless}
 use Rattle.cvl_base.specs.Limits.{most_elements}
 use Rattle.cvl_base.specs.Permutes.{destination_if, first_fault, is_place, is_destination, place_among, wrong_at, wrongs}
 use Rattle.permute_walks.specs.Senders.{nobody, sender_from, senders_of}
-use Rattle.permute_walks.proofs.Sent.{length-senders_of, length-wrongs, sender_at, wrong_here}
+use Rattle.permute_walks.proofs.Sent.{length-senders_of, length-wrongs, other_place, sender_at, wrong_here}
 use Rattle.permute_races.specs.Races.{bad_slots, slot_of, slots_of, wrong_beside, wrongs_beside}
 
 -- ---- what a board has room for
@@ -39,9 +39,6 @@ module _ {X Y : Type 0} (f : X → Y) (xs : List X) where
 
 -- ---- the least place of each slot is its sender
 
-pub is_equal : (x y : ℕ) → x ≡ y → eqb x y ≡ true
-is_equal x y same = elim (eqb_tells x y) [ inl e ↦ e.0 | inr ne ↦ absurd (ne.1 same) ]
-
 no_slot : (d a : ℕ) (b : Bool) → eqb a d ≡ false → is_slot d (if b then Some a else None) ≡ false
 no_slot d a true other = other
 no_slot d a false other = refl
@@ -57,7 +54,7 @@ same_slot m d (Some (pos a)) lt =
           ∙ sym ((Decides-int_eq (pos a) (pos d)).1 (ap (λ n. pos n) same.1))
       | inr other ↦
           no_slot d a (ltb a m) other.0
-          ∙ sym (false_from_ne_true (int_eq (pos a) (pos d)) (λ yes. let same : pos a ≡ pos d = (Decides-int_eq (pos a) (pos d)).0 yes in other.1 (cc)))
+          ∙ sym (other_place a d other.1)
     ]
 
 first_or : (b : Bool) (place : ℕ) (others : Option ℕ) (r : ℕ) → unwrap_or others nobody ≡ r → unwrap_or (if b then Some place else others) nobody ≡ (if b then place else r)
@@ -95,7 +92,7 @@ is_first : (place : ℕ) (ts : List (Option ℤ)) (k d : ℕ) → k < length ts 
 is_first place [] k d lt is = absurd (omega arith)
 is_first place (t ∷ ts) zero d lt is =
     ap (λ b. eqb (if b then place else sender_from (place + 1) ts d) (place + 0)) (ap (is_destination (pos d)) is ∙ (Decides-int_eq (pos d) (pos d)).1 refl)
-    ∙ is_equal place (place + 0) (omega arith)
+    ∙ eq-eqb place (place + 0) (omega arith)
 is_first place (t ∷ ts) (suc k) d lt is =
     later_if (is_destination (pos d) t) place (sender_from (place + 1) ts d) (list_any (is_destination (pos d)) (take k ts)) k (is_first (place + 1) ts k d (omega arith) is)
 
@@ -179,7 +176,7 @@ pub checked_ok : (one other : Option Fault) (senders items : List ℕ) → one �
 checked_ok None other senders items same right are = ap (λ o. unless o (Ok senders)) (sym same) ∙ ap Ok (sym are)
 checked_ok (Some f) other senders items same right are = absurd (cc)
 
-pub checked_err : {V : Type 0} (view : V → List ℕ) (one other : Option Fault) (senders : List ℕ) (e : Refused) → one ≡ other → Gives {X = Unit {0}} {Y = Unit {0}} (λ u. u) (Err e) (unless one (Ok (tt {0})))
+pub checked_err : {V X : Type 0} (view : V → List X) (one other : Option Fault) (senders : List X) (e : Refused) → one ≡ other → Gives {X = Unit {0}} {Y = Unit {0}} (λ u. u) (Err e) (unless one (Ok (tt {0})))
     → Gives view (Err e) (unless other (Ok senders))
 checked_err view (Some g) other senders (refused.Fault f) same given = let is : g ≡ f = cc in ap (λ o. unless o (Ok senders)) (sym same) ∙ ap Err is
 checked_err view None other senders (refused.Fault f) same given = absurd (cc)

@@ -1,10 +1,12 @@
 -- Where no place is bad and as many places take part as the result has, each place of the result has a sender.
-use Rattle.std.proofs.Common.{◌≡◌, ◌∙◌, ℕ, zero, suc, ◌+◌, ◌<◌, ◌≤◌, Bool, true, false, not, if◌then◌else◌, cond, List, [], ◌∷◌, length, get_or, refl, sym, ap}
-use Rattle.std.proofs.Common.{arith, eqb, ℤ, pos, is_some, Option, Some, None}
+use Rattle.std.proofs.Common.{◌≡◌, ◌∙◌, ℕ, suc, ◌+◌, ◌<◌, ◌≤◌, Bool, true, false, not, if◌then◌else◌, cond, List, [], ◌∷◌, length, get_or, set, refl, sym, ap}
+use Rattle.std.proofs.Common.{arith, eqb, inl, inr, ℤ, pos, is_some, Option, Some, None}
 use Rattle.std.specs.List.{All, sum_by}
 use Rattle.std.proofs.lemmas.Bool.{false≢true}
+use Rattle.std.proofs.lemmas.Bool.Decides.{eqb_tells}
+use Rattle.std.proofs.lemmas.List.{length-set}
 use Rattle.std.proofs.lemmas.List.Elements.{All-from_get_or}
-use Rattle.std.proofs.lemmas.List.Sums.{count_by-le-length, sum_by-cons}
+use Rattle.std.proofs.lemmas.List.Sums.{count_by-le-length, sum_by-cons, sum_by-set}
 use Rattle.cvl_base.specs.Packs.{count_of}
 use Rattle.cvl_base.specs.Permutes.{all_destinations, first_fault, flagged_destinations, is_destination, wrongs}
 use Rattle.permute_walks.specs.Senders.{last_senders, nobody, sender_from, senders_of}
@@ -18,21 +20,12 @@ takes_part t = cond (is_some t) 1 0
 
 -- ---- where there are as many senders as places, each place has one
 
-at_most_one : (b : Bool) → cond (not b) 1 0 ≤ 1
-at_most_one true = omega arith
-at_most_one false = omega arith
-
-is_one : (b : Bool) → 1 ≤ cond (not b) 1 0 → b ≡ false
-is_one true some = absurd (omega arith)
-is_one false some = refl
-
-most_sent : (senders : List ℕ) → sum_by is_sent senders ≤ length senders
-most_sent senders = count_by-le-length (λ s. not (eqb s nobody)) senders
-
 all_sent : (senders : List ℕ) (d : ℕ) → sum_by is_sent senders ≡ length senders → d < length senders → eqb (get_or senders d 0) nobody ≡ false
-all_sent [] d total lt = absurd (omega arith)
-all_sent (s ∷ senders) zero total lt = is_one (eqb s nobody) (omega (arith, total, sum_by-cons is_sent s senders, most_sent senders))
-all_sent (s ∷ senders) (suc d) total lt = all_sent senders d (omega (arith, total, sum_by-cons is_sent s senders, most_sent senders, at_most_one (eqb s nobody))) (omega arith)
+all_sent senders d total lt =
+    elim (eqb_tells (get_or senders d 0) nobody) [
+      | inl none ↦ absurd (omega (arith, sum_by-set is_sent senders d 0 0 lt, ap is_sent none.1, count_by-le-length (λ s. not (eqb s nobody)) (set senders d 0), length-set senders d 0, total))
+      | inr some ↦ some.0
+    ]
 
 -- a sender is one of the places that sent
 below_if : (b : Bool) (place other n : ℕ) → (eqb other nobody ≡ false → other < place + 1 + n) → eqb (if b then place else other) nobody ≡ false → (if b then place else other) < place + suc n

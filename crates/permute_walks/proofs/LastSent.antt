@@ -15,7 +15,7 @@ use Rattle.cvl_base.specs.declared.fault.Fault.{Fault}
 use Rattle.cvl_base.specs.Permutes.{first_fault, is_destination, wrongs}
 use Rattle.permute_walks.specs.Senders.{IsStored, count_sent, count_destinations, is_between, last_sender_from, last_senders, nobody, senders_of}
 use Rattle.permute_walks.proofs.Listed.{range_both}
-use Rattle.sent_places.proofs.Sent.{nobody_sent}
+use Rattle.sent_places.proofs.Sent.{nobody_sent, other_place}
 use Rattle.sent_places.proofs.Stored.{IsStoredTo, stored_none, stored_more, stored_outside, stored_skip, stored_all}
 
 pub length-last_senders : (place : ℕ) (ts : List (Option ℤ)) (lowest n : ℕ) → length (last_senders place ts lowest n) ≡ n
@@ -70,13 +70,9 @@ module _ (place : ℕ) (ts : List (Option ℤ)) (lowest n k : ℕ) (lt : k < len
             ap pick ((Decides-int_eq (pos (lowest + j)) (pos (lowest + e))).1 (ap (λ m. pos (lowest + m)) (sym same.1)))
             ∙ sym (ap (λ m. get_or (set old j (place + k)) m 0) same.1 ∙ get_or-set_same old j (place + k) 0 (omega (arith, long)))
         | inr other ↦
-            ap pick (false_from_ne_true (int_eq (pos (lowest + j)) (pos (lowest + e)))
-            (λ yes. let same : pos (lowest + j) ≡ pos (lowest + e) = (Decides-int_eq (pos (lowest + j)) (pos (lowest + e))).0 yes in other.1 (apart_in same)))
+            ap pick (other_place (lowest + j) (lowest + e) (λ same. other.1 (omega (arith, same))))
             ∙ sym (get_or-set_other old j e (place + k) 0 other.1 ∙ last_at place (take k ts) lowest n e below)
       ])
-    where
-      apart_in : {e : ℕ} → pos (lowest + j) ≡ pos (lowest + e) → e ≡ j
-      apart_in {e} same = let sums : lowest + j ≡ lowest + e = ap unsigned_abs same in omega (arith, sums)
 
 -- ---- two ranges side by side are one
 
@@ -101,13 +97,8 @@ module _ (place : ℕ) (ts : List (Option ℤ)) (m : ℕ) (small : place + lengt
       stored_outside place ts m k (count_destinations (take k ts)) (last_senders place (take k ts) 0 m) small to lt
       (last_senders place (take (k + 1) ts) 0 m) (count_destinations (take (k + 1) ts)) (pos d) is inside
       (count_by_more_yes is_some ts k None lt (ap is_some is))
-      (lasts_other place ts 0 m k lt (λ j from below. ap (is_destination (pos j)) is ∙ other_int j (omega arith)))
-    where
-      other_int : (j : ℕ) → j < m → int_eq (pos d) (pos j) ≡ false
-      other_int j below = false_from_ne_true (int_eq (pos d) (pos j)) (λ yes. let same : pos d ≡ pos j = (Decides-int_eq (pos d) (pos j)).0 yes in past same below)
-        where
-          past : pos d ≡ pos j → j < m → ⊥
-          past same below = let same_number : d ≡ j = ap unsigned_abs same in false≢true (sym inside ∙ lt-ltb d m (omega (arith, same_number, below)))
+      (lasts_other place ts 0 m k lt (λ j from below.
+      ap (is_destination (pos j)) is ∙ other_place d j (λ same. false≢true (sym inside ∙ lt-ltb d m (omega (arith, same, below))))))
 
   stored_destination : (k : ℕ) (t : Option ℤ) → get_or ts k None ≡ t → k < length ts → IsReached k → IsReached (k + 1)
   stored_destination k None is lt to =
@@ -134,10 +125,8 @@ module _ (place : ℕ) (ts : List (Option ℤ)) (m : ℕ) (small : place + lengt
 pub between_out : (lowest end : ℕ) (t : Option ℤ) → is_between lowest end t ≡ false → (d : ℕ) → lowest ≤ d → d < end → is_destination (pos d) t ≡ false
 between_out lowest end None out d from below = refl
 between_out lowest end (Some (negsuc a)) out d from below = refl
-between_out lowest end (Some (pos a)) out d from below = false_from_ne_true (int_eq (pos a) (pos d)) (λ yes.
-    let same_int : pos a ≡ pos d = (Decides-int_eq (pos a) (pos d)).0 yes in
-    let same : a ≡ d = ap unsigned_abs same_int in
-    false≢true (sym out ∙ both_true (le-leb lowest a (omega arith)) (lt-ltb a end (omega arith))))
+between_out lowest end (Some (pos a)) out d from below =
+    other_place a d (λ same. false≢true (sym out ∙ both_true (le-leb lowest a (omega arith)) (lt-ltb a end (omega arith))))
 
 -- ---- what the number of senders tells
 

@@ -6,10 +6,10 @@ use Rattle.std.specs.Option.{ok_or}
 use Rattle.std.proofs.lemmas.Bool.{lt-ltb, le-ltb, ltb-true, false≢true}
 use Rattle.std.specs.Int.Signed.{non_neg}
 use Rattle.std.proofs.lemmas.Int.{ints, to_z-of_z}
-use Rattle.std.proofs.lemmas.List.{at_drop_more, length-take-le, take_more}
+use Rattle.std.proofs.lemmas.List.{at_drop_more, drop_at, length-take-le, take-append-drop, take_at, take_more}
 use Rattle.std.proofs.lemmas.List.Elements.{All-cons, All-drop, All-head, All-nil, All-tail, All-take, filter_map-append}
 use Rattle.std.proofs.lemmas.List.Sums.{sum_by-cons}
-use Rattle.std.proofs.lemmas.Option.{none-some, slice_get_cases, slice_get_read}
+use Rattle.std.proofs.lemmas.Option.{cond_some, none-some, slice_get_cases, slice_get_read}
 use Rattle.fresh.specs.Parts.{part}
 use Rattle.fresh.specs.Places.{Stretch, stretch}
 use Rattle.cvl_base.specs.declared.fault.Fault.{Fault}
@@ -51,10 +51,6 @@ none_outside place places (i ∷ index) none =
 
 -- ---- the walk from index to index
 
-named : (is_inside : Bool) (p q : ℕ) → (if is_inside then Some p else None) ≡ Some q → is_inside ≡ true
-named true p q is = refl
-named false p q is = absurd (none-some q is)
-
 module _ (first places : ℕ) (index : List ℤ) (k : ℕ) (so_far : first_outside first places index ≡ first_outside (first + k) places (drop k index)) where
   abbrev pub this : ℤ
   this = get_or index k (pos 0)
@@ -65,7 +61,7 @@ module _ (first places : ℕ) (index : List ℤ) (k : ℕ) (so_far : first_outsi
   pub checked_more : (p : ℕ) → k < length index → place_among places this ≡ Some p → first_outside first places index ≡ first_outside (first + (k + 1)) places (drop (k + 1) index)
   checked_more p lt inside =
       next lt
-      ∙ passed (first + k) (map _ (drop (k + 1) index)) (is_place places this) (named (is_place places this) (unsigned_abs this) p inside)
+      ∙ passed (first + k) (map _ (drop (k + 1) index)) (is_place places this) (cond_some (is_place places this) (unsigned_abs this) p inside).0
       ∙ ap (λ at. first_outside at places (drop (k + 1) index)) (omega arith)
 
 -- ---- the definition
@@ -105,22 +101,9 @@ all_inside place places (i ∷ index) none =
     let here = inside_first place (map _ index) (is_place places i) none in
     All-cons (λ j. is_place places j ≡ true) i index here.0 (all_inside (place + 1) places index here.1)
 
-module _ {X : Type 0} (v : Option X) (some : is_some v ≡ true) where
-  value : (x : X) × (v ≡ Some x)
-  value = is_there v some
-    where
-      is_there : (w : Option X) → is_some w ≡ true → (x : X) × (w ≡ Some x)
-      is_there (Some x) there = (x, refl)
-      is_there None there = absurd (false≢true there)
-
-  length-on : (xs : List X) → length (cons_option v xs) ≡ length xs + 1
-  length-on xs = ap (λ o. length (cons_option o xs)) value.1 ∙ omega arith
-
-  drop-on : (n : ℕ) (xs : List X) → drop (suc n) (cons_option v xs) ≡ drop n xs
-  drop-on n xs = ap (λ o. drop (suc n) (cons_option o xs)) value.1
-
-  take-on : (n : ℕ) (xs : List X) → take (suc n) (cons_option v xs) ≡ cons_option v (take n xs)
-  take-on n xs = ap (λ o. take (suc n) (cons_option o xs)) value.1 ∙ ap (λ o. cons_option o (take n xs)) (sym value.1)
+length-on : {X : Type 0} (v : Option X) (xs : List X) → is_some v ≡ true → length (cons_option v xs) ≡ length xs + 1
+length-on (Some x) xs some = omega arith
+length-on None xs some = absurd (false≢true some)
 
 module _ {X : Type 0} (source : List X) where
   here : (i : ℤ) (index : List ℤ) → AreInside (length source) (i ∷ index) → is_some (element_at source i) ≡ true
@@ -131,22 +114,22 @@ module _ {X : Type 0} (source : List X) where
 
   pub length-elements_at : (index : List ℤ) → AreInside (length source) index → length (elements_at source index) ≡ length index
   length-elements_at [] inside = refl
-  length-elements_at (i ∷ index) inside = omega (arith, length-on (element_at source i) (here i index inside) (elements_at source index), length-elements_at index (rest i index inside))
+  length-elements_at (i ∷ index) inside = omega (arith, length-on (element_at source i) (elements_at source index) (here i index inside), length-elements_at index (rest i index inside))
 
-  drop_at : (n : ℕ) (index : List ℤ) → AreInside (length source) index → drop n (elements_at source index) ≡ elements_at source (drop n index)
-  drop_at zero index inside = refl
-  drop_at (suc n) [] inside = refl
-  drop_at (suc n) (i ∷ index) inside = drop-on (element_at source i) (here i index inside) n (elements_at source index) ∙ drop_at n index (rest i index inside)
+  cut : (n : ℕ) (index : List ℤ) → elements_at source index ≡ elements_at source (take n index) ++ elements_at source (drop n index)
+  cut n index = ap (elements_at source) (sym (take-append-drop n index)) ∙ filter_map-append (element_at source) (take n index) (drop n index)
 
-  take_at : (n : ℕ) (index : List ℤ) → AreInside (length source) index → take n (elements_at source index) ≡ elements_at source (take n index)
-  take_at zero index inside = refl
-  take_at (suc n) [] inside = refl
-  take_at (suc n) (i ∷ index) inside =
-      take-on (element_at source i) (here i index inside) n (elements_at source index) ∙ ap (cons_option (element_at source i)) (take_at n index (rest i index inside))
+  length-front : (n : ℕ) (index : List ℤ) → n ≤ length index → AreInside (length source) index → length (elements_at source (take n index)) ≡ n
+  length-front n index within inside = length-elements_at (take n index) (All-take (λ j. is_place (length source) j ≡ true) n index inside) ∙ length-take-le n index within
 
   -- the elements at some neighbouring indices
-  pub part_at : (index : List ℤ) (p k : ℕ) → AreInside (length source) index → part (elements_at source index) p k ≡ elements_at source (part index p k)
-  part_at index p k inside = ap (take k) (drop_at p index inside) ∙ take_at k (drop p index) (All-drop (λ j. is_place (length source) j ≡ true) p index inside)
+  pub part_at : (index : List ℤ) (p k : ℕ) → p + k ≤ length index → AreInside (length source) index → part (elements_at source index) p k ≡ elements_at source (part index p k)
+  part_at index p k within inside =
+      let others = drop p index in
+      ap (λ xs. part xs p k) (cut p index)
+      ∙ ap (take k) (drop_at (elements_at source (take p index)) (elements_at source others) p (length-front p index (omega arith) inside) ∙ cut k others)
+      ∙ take_at (elements_at source (take k others)) (elements_at source (drop k others)) k
+      (length-front k others (omega (arith, length-drop p index)) (All-drop (λ j. is_place (length source) j ≡ true) p index inside))
 
 pub part_inside : (places : ℕ) (index : List ℤ) (p k : ℕ) → AreInside places index → AreInside places (part index p k)
 part_inside places index p k inside =
@@ -184,5 +167,5 @@ run_found source index js run out first n inside empty within there wide are is 
     let same : js ≡ part index run.first run.room = are ∙ (λ i. part index (start i) (wide i)) in
     let long : length (part index run.first run.room) ≡ run.room = length-take-le run.room (drop run.first index) (omega (arith, length-drop run.first index)) in
     let left : run.room - length js ≡ 0 = omega (arith, ap length same, long) in
-    let items = ap (elements_at source) same ∙ sym (part_at source index run.first run.room inside) in
+    let items = ap (elements_at source) same ∙ sym (part_at source index run.first run.room in_index inside) in
     is ∙ (λ i. stretch run.block run.first (empty i ++ items i) (left i))

@@ -52,12 +52,15 @@ written_set source (s ∷ senders) (v ∷ values) (suc d) k x is =
     ap (λ rest. unwrap_or (slice_get source s) v ∷ rest) (written_set source senders values d k x is)
 
 -- nobody was sent
-pub written_none : {X : Type 0} (source values : List X) → length source ≤ nobody → written_over source (replicate (length values) nobody) values ≡ values
+written_none : {X : Type 0} (source values : List X) → length source ≤ nobody → written_over source (replicate (length values) nobody) values ≡ values
 written_none source [] small = refl
 written_none source (v ∷ values) small =
     let none = slice_get_past source nobody small in
     let rest = written_none source values small in
     λ i. unwrap_or (none i) v ∷ rest i
+
+pub nobody_written : {X : Type 0} (source values : List X) (lowest : ℕ) → length source ≤ nobody → written_over source (last_senders 0 [] lowest (length values)) values ≡ values
+nobody_written source values lowest small = ap (λ ss. written_over source ss values) (nobody_sent lowest (length values)) ∙ written_none source values small
 
 -- somebody was sent to each place
 pub written_all : {X : Type 0} (source : List X) (senders : List ℕ) (values : List X) → length senders ≡ length values → All (λ s. s < length source) senders
@@ -130,12 +133,7 @@ module _ (index : List ℤ) (m : ℕ) (few : length index ≤ nobody) where
 
   module _ {X : Type 0} (source old : List X) (sourced : length source ≡ length index) (long : length old ≡ m) where
     pub room_none : old ≡ written_over source (lasts 0) old
-    room_none =
-        sym (
-        ap (λ ss. written_over source ss old) (nobody_sent 0 m)
-        ∙ ap (λ n. written_over source (replicate n nobody) old) (sym long)
-        ∙ written_none source old (omega arith)
-        )
+    room_none = sym (ap (λ n. written_over source (last_senders 0 [] 0 n) old) (sym long) ∙ nobody_written source old 0 (omega arith))
 
     pub room_all : m ≡ length index → (k : ℕ) → length index ≤ k → None ≡ first_fault 0 (wrongs m (all_destinations index))
         → written_over source (lasts k) old ≡ filter_map (slice_get source) (senders_of 0 (all_destinations index) m)

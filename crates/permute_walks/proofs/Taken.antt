@@ -89,3 +89,6 @@ length-taken source [] below = refl
 length-taken source (s ∷ senders) below =
     ap (λ o. length (cons_option o (filter_map (slice_get source) senders))) (element source s (All-head (λ s. s < length source) s senders below)).1
     ∙ ap suc (length-taken source senders (All-tail (λ s. s < length source) s senders below))
+
+-- how many elements are written
+pub ruleset lengths = (length-over, length-taken)

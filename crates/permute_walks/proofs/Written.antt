@@ -9,14 +9,14 @@ use Rattle.permute_walks.specs.Senders.{IsWrittenTo, count_sent, is_between, las
 use Rattle.permute_walks.proofs.LastSent.{between_out, lasts_both, lasts_other, lasts_set, length-last_senders}
 use Rattle.permute_walks.proofs.Listed.{IsNext, IsRest, at_end, at_next}
 use Rattle.permute_walks.proofs.MarkWords.{no_marks}
-use Rattle.permute_walks.proofs.Scattered.{marked_set, none_marked, written_none, written_set}
+use Rattle.permute_walks.proofs.Scattered.{marked_set, nobody_written, none_marked, written_set}
 use Rattle.sent_places.proofs.Sent.{nobody_sent}
 use Rattle.sent_places.proofs.Stored.{is_sent}
 
 module _ {X : Type 0} (source : List X) (ts : List (Option ℤ)) (lowest : ℕ) where
   pub range_none : length source ≤ nobody → (old : List X) (marks : List ℕ) → marks ≡ replicate (words_for (length old)) 0 → IsWrittenTo source ts lowest old 0 old marks
   range_none few old marks unmarked = record {
-    written = sym (ap (λ ss. written_over source ss old) (nobody_sent lowest (length old)) ∙ written_none source old few);
+    written = sym (nobody_written source old lowest few);
     marked = unmarked ∙ sym (ap mark_words (ap sent_marks (nobody_sent lowest (length old)) ∙ none_marked (length old)) ∙ no_marks (length old));
   }
 

@@ -1,7 +1,7 @@
 //! The two walks of a back permute, each of which several threads may make. The first looks at all indices, so that the second
 //! has an element for each.
 
-ghost use Rattle.std.specs.Prelude.{◌≡◌, ◌+◌, ◌-◌, ◌≤◌, ◌++◌, [], length, IfOk};
+ghost use Rattle.std.specs.Prelude.{◌≡◌, ◌+◌, ◌-◌, ◌≤◌, ◌++◌, [], length};
 ghost use Rattle.fresh.specs.Parts.{part};
 ghost use Rattle.fresh.specs.Places.{stretch};
 ghost use Rattle.cvl_base.specs.Limits.{most_elements};
@@ -9,9 +9,9 @@ ghost use Rattle.permute_walks.specs.Indices.{AreInside, elements_at, first_outs
 ghost use Rattle.permute_walks.specs.Senders.{fault_told};
 
 use crate::index_counts::{count_alone, count_outside};
-use cvl_base::{Fault, FaultNo, Memory, NoResources, place_among};
-use fresh::{Run, Writer, write_in_runs, write_over};
-use sharing::ThreadCount;
+use cvl_base::{Config, Fault, FaultNo, place_among};
+use fresh::{Run, Writer};
+use sharing::{LEAST_SEARCHED, threads_writing};
 use std::thread::Threads;
 
 /// From how many indices on they are counted before they are looked at in turn.
@@ -31,12 +31,12 @@ fn check_each(index: &[i32], places: usize, first: usize) -> Result<(), Fault>
     Ok(())
 }
 
-/// The first walk, by at most `threads` threads: `IndexOutOfRange` at the first place whose index is none of so many places of
-/// the source. The first index stands at place `first`.
+/// The first walk, by as many threads as pay: `IndexOutOfRange` at the first place whose index is none of so many places of the
+/// source. The first index stands at place `first`.
 #[tactic(auto, using(crate::proofs::Outside::none_outside))]
 pub fn check_places<R: Threads + Sync>(
     rt: &R,
-    threads: ThreadCount,
+    config: Config,
     index: &[i32],
     places: usize,
     first: usize,
@@ -44,7 +44,8 @@ pub fn check_places<R: Threads + Sync>(
     requires { first + length index.now ≤ most_elements }
     ensures { fault_told result ≡ first_outside first places index.now }
 {
-    if threads.get() < 2 || index.len() < LONG {
+    let threads = threads_writing(config, index.len());
+    if threads.get() < 2 || index.len() < LEAST_SEARCHED {
         return check_places_alone(index, places, first);
     }
     if count_outside(rt, threads, index, places) == 0 {
@@ -82,11 +83,13 @@ pub fn write_elements_at<T: Copy>(run: Run<T>, source: &[T], index: &[i32]) -> R
     run
 }
 
-/// Writes the element at each index.
+/// Writes the element at each index: the second walk of a flat back permute.
 #[derive(Drop)]
-struct ElementsAt<'a, T> {
-    source: &'a [T],
-    index: &'a [i32],
+pub struct ElementsAt<'a, T> {
+    /// The elements.
+    pub source: &'a [T],
+    /// The index of each place, which is a place of the source.
+    pub index: &'a [i32],
     ghost inside: { AreInside (length source.now) index.now },
 }
 
@@ -105,29 +108,4 @@ impl<'a, T: Copy> Writer<T> for ElementsAt<'a, T> {
         let (index, _) = rest.split_at(run.room());
         write_elements_at(run, self.source, index)
     }
-}
-
-/// The second walk of a flat back permute, by at most `threads` threads: the element at each index, each of which is a place
-/// of the source.
-pub fn elements_at<T: Copy + Send + Sync, R: Threads + Sync, A: Memory>(
-    rt: &R,
-    alloc: A,
-    threads: ThreadCount,
-    source: &[T],
-    index: &[i32],
-) -> Result<Vec<T, A>, NoResources>
-    requires inside { AreInside (length source.now) index.now }
-    ensures { IfOk result (λ v. v.items ≡ elements_at source.now index.now) }
-{
-    let elements = ElementsAt { source, index };
-    Ok(write_in_runs(rt, alloc, threads, &elements, index.len())?)
-}
-
-/// The same as [`elements_at`], over a room of as many places, by the thread that calls.
-pub fn elements_at_over<T: Copy>(source: &[T], index: &[i32], out: &mut [T])
-    requires inside { AreInside (length source.now) index.now }
-    requires as_long { length out.old ≡ length index.now }
-    ensures { out.new ≡ elements_at source.now index.now }
-{
-    write_over(out, &ElementsAt { source, index });
 }

@@ -6,11 +6,22 @@ ghost use Rattle.fresh.specs.Parts.{part};
 ghost use Rattle.fresh.specs.Places.{stretch};
 ghost use Rattle.permute_walks.specs.Senders.{elements_or, written_over};
 
-use crate::places::element_of;
 use cvl_base::{Memory, NoResources};
 use fresh::{Run, Writer, write_in_runs, write_over};
 use sharing::ThreadCount;
 use std::thread::Threads;
+
+/// The element at a place, if there is that place.
+#[inline]
+pub fn element_of<T: Copy>(source: &[T], place: usize) -> Option<T>
+    ensures { result ≡ slice_get source.now place }
+{
+    if place < source.len() {
+        Some(source[place])
+    } else {
+        None
+    }
+}
 
 /// Writes the element of each sender, and another one for nobody, since a writer writes every place.
 #[derive(Drop)]
@@ -85,10 +96,13 @@ pub fn elements_of_over<T: Copy>(source: &[T], senders: &[u32], out: &mut [T])
 
 /// Writes the element of each sender, and for nobody the default at the same place.
 #[derive(Drop)]
-struct ElementsOr<'a, T> {
-    source: &'a [T],
-    senders: &'a [u32],
-    defaults: &'a [T],
+pub struct ElementsOr<'a, T> {
+    /// The elements.
+    pub source: &'a [T],
+    /// The sender of each place, or nobody.
+    pub senders: &'a [u32],
+    /// The default of each place.
+    pub defaults: &'a [T],
 }
 
 impl<'a, T: Copy> Writer<T> for ElementsOr<'a, T> {
@@ -111,44 +125,4 @@ impl<'a, T: Copy> Writer<T> for ElementsOr<'a, T> {
             { element_of(source, sender as usize).unwrap_or(default) },
         )
     }
-}
-
-/// For each sender its element, or the default at the same place where it is nobody, written by at most `threads` threads.
-pub fn elements_or_defaults<T: Copy + Send + Sync, R: Threads + Sync, A: Memory>(
-    rt: &R,
-    alloc: A,
-    threads: ThreadCount,
-    source: &[T],
-    senders: &[u32],
-    defaults: &[T],
-) -> Result<Vec<T, A>, NoResources>
-    requires as_long { length senders.now ≡ length defaults.now }
-    ensures values { IfOk result (λ v. v.items ≡ written_over source.now senders.now defaults.now) }
-    ensures as_long { IfOk result (λ v. vec_len v ≡ length defaults.now) }
-{
-    let elements = ElementsOr {
-        source,
-        senders,
-        defaults,
-    };
-    Ok(write_in_runs(rt, alloc, threads, &elements, defaults.len())?)
-}
-
-/// The same as [`elements_or_defaults`], over a room of as many places, by the thread that calls.
-pub fn elements_or_defaults_over<T: Copy>(
-    source: &[T],
-    senders: &[u32],
-    defaults: &[T],
-    out: &mut [T],
-)
-    requires as_long { length senders.now ≡ length defaults.now }
-    requires room { length out.old ≡ length defaults.now }
-    ensures { out.new ≡ written_over source.now senders.now defaults.now }
-{
-    let elements = ElementsOr {
-        source,
-        senders,
-        defaults,
-    };
-    write_over(out, &elements);
 }

@@ -2,7 +2,7 @@
 //! reads all indices, writes and marks the places of its range to which an index sends, and counts its marks. So no two threads
 //! write one place, no place is waited for, and each thread's writes lie close together.
 
-ghost use Rattle.std.specs.Prelude.{◌≡◌, ◌+◌, ◌≤◌, ℤ, List, Option, length, replicate, IfOk, IfSome, is_none, is_some};
+ghost use Rattle.std.specs.Prelude.{◌≡◌, ◌+◌, ◌≤◌, ℤ, List, Option, length, replicate, IfOk, IfSome, is_none, is_some, vec_len};
 ghost use Rattle.std.specs.Thread.{IsSend, IsSync};
 ghost use Rattle.cvl_base.specs.Limits.{most_elements};
 ghost use Rattle.cvl_base.specs.Permutes.{first_fault, wrongs};
@@ -62,6 +62,7 @@ impl<'a, T: Copy, D: Destinations> Owner<T> for Sends<'a, T, D> {
 
     ghost destinations = { λ s. D.destinations s.destinations.now };
 
+    #[tactic(auto, using(crate::proofs::MarkWords::marks_count, crate::proofs::Scattered::count_marked))]
     fn write(&self, lowest: usize, out: &mut [T], marks: &mut [u32]) -> usize {
         write_range(self.source, self.destinations, lowest, out, marks);
         count_marks(marks)
@@ -92,17 +93,9 @@ fn write_ranges<T: Copy + Send, R: Threads + Sync, W: Owner<T> + Sync>(
     let middle = words * WORD_BITS;
     let (low, high) = out.split_at_mut(middle);
     let (low_marks, high_marks) = marks.split_at_mut(words);
+    let next = lowest + middle;
     write_both(
-        rt,
-        owner,
-        fewer,
-        lowest,
-        low,
-        low_marks,
-        others,
-        lowest + middle,
-        high,
-        high_marks,
+        rt, owner, fewer, lowest, low, low_marks, others, next, high, high_marks,
     )
 }
 
@@ -168,6 +161,7 @@ where
     requires whole { places ≡ length (W.whole before.now) }
     ensures written { IfOk result (λ found. IfSome found (λ v.
         v.items ≡ written_over source.now (senders_of 0 (D.destinations destinations.now) places) (W.whole before.now))) }
+    ensures as_long { IfOk result (λ found. IfSome found (λ v. vec_len v ≡ places)) }
     ensures bad { IfOk result (λ found. is_none found ≡ is_some (first_fault 0 (wrongs places (D.destinations destinations.now)))) }
 {
     let mut out = write_in_runs(rt, alloc, threads, before, places)?;

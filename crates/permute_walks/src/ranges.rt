@@ -136,13 +136,8 @@ fn write_block<T: Copy, D: Destinations>(
     );
     let (own, _) = list.split_at(count);
     for place in own {
-        let (destination, element) = sent_from(
-            source,
-            destinations,
-            *place as usize,
-            lowest,
-            places,
-        );
+        let k = *place as usize;
+        let (destination, element) = sent_from(source, destinations, k, lowest, places);
         out[destination] = element;
         mark(marks, destination);
     }

@@ -1,9 +1,7 @@
 -- What the definitions of the flat calls are told to be by the senders of the places, and by the indices.
 use Rattle.std.proofs.Common.{◌≡◌, ◌∙◌, ℕ, ◌+◌, ◌<◌, ◌≤◌, Bool, not, List, ◌++◌, length, take, drop, refl, sym, ap, arith, inl, inr, ℤ, Option, Result, Ok}
 use Rattle.std.specs.List.{sum_by}
-use Rattle.std.proofs.lemmas.Bool.Decides.{eqb_tells}
 use Rattle.std.proofs.lemmas.List.Elements.{All-weaker}
-use Rattle.std.proofs.Math.Seq.{take-append_seam}
 use Rattle.cvl_base.specs.declared.fault.Fault.{Fault}
 use Rattle.cvl_base.specs.declared.fault.FaultNo.TheVariants.{LengthMismatch}
 use Rattle.cvl_base.specs.Elementwise.{if_as_long}
@@ -14,23 +12,13 @@ use Rattle.cvl_base.specs.Packs.{count_of}
 use Rattle.cvl_base.specs.Permutes.{all_destinations, back_of, default_of, first_fault, flagged_destinations, select_of, sent_over, sent_to_all, simple_of, wrongs}
 use Rattle.permute_walks.specs.Indices.{elements_at, first_outside}
 use Rattle.permute_walks.specs.Senders.{senders_of}
+use Rattle.cvl_base.proofs.Elementwise.{if_as_long-fits}
 use Rattle.cvl_base.proofs.Permutes.{length-all_destinations, length-flagged_destinations}
 use Rattle.permute_walks.proofs.EachSent.{all_take_part, each_sent, flagged_take_part, takes_part}
 use Rattle.permute_walks.proofs.Outside.{all_inside, length-elements_at, values_unless}
 use Rattle.permute_walks.proofs.Sent.{length-senders_of}
 use Rattle.permute_walks.proofs.Taken.{taken_flat, taken_over_flat}
 use Rattle.permutes.proofs.Told.{IsSent, IsSentOver, IsTold}
-
-pub if_as_long-fits : {X Y Z : Type 0} (xs : List X) (ys : List Y) (rest : Result Z Fault) → length xs ≡ length ys → if_as_long xs ys rest ≡ rest
-if_as_long-fits xs ys rest same =
-    elim (eqb_tells (length xs) (length ys)) [
-      | inl t ↦ ap (λ b. fault_if (not b) (fault LengthMismatch) rest) t.0
-      | inr t ↦ absurd (t.1 same)
-    ]
-
--- a vector that was written over as a slice
-pub written : {X : Type 0} (new held : List X) (n : ℕ) → n ≡ length new → take n (new ++ drop (length new) held) ≡ new
-written new held n long = rw (long, take-append_seam new (drop (length new) held)) refl
 
 -- ---- the calls
 

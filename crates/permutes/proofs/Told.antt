@@ -13,6 +13,7 @@ use Rattle.permutes.specs.Walks.{AreAllSent}
 use Rattle.permute_walks.specs.Senders.{written_over}
 use Rattle.permute_walks.proofs.Scattered.{written_all}
 use Rattle.permute_walks.proofs.Taken.{length-taken}
+use Rattle.permute_races.proofs.Raced.{checked_err}
 use Rattle.permutes.proofs.Walked.{length_given}
 
 -- the call tells what a step before the second walk told
@@ -54,12 +55,7 @@ module _ {X : Type 0} {meaning : Result (List X) Fault} {first : Option Fault} {
 
   -- a check refused
   pub told_refused : {V : Type 0} (view : V → List X) (e : Refused) → Gives {X = Unit {0}} {Y = Unit {0}} (λ u. u) (Err e) (unless first (Ok (tt {0}))) → Gives view (Err e) meaning
-  told_refused view e given = subst (Gives view (Err e)) (sym call.is) (stays first e given)
-    where
-      stays : (o : Option Fault) (r : Refused) → Gives {X = Unit {0}} {Y = Unit {0}} (λ u. u) (Err r) (unless o (Ok (tt {0}))) → Gives view (Err r) (unless o (Ok items))
-      stays (Some f) (refused.Fault g) refuses = cc
-      stays None (refused.Fault g) refuses = absurd (cc)
-      stays o refused.NoResources refuses = tt
+  told_refused view e given = subst (Gives view (Err e)) (sym call.is) (checked_err view first first items e refl given)
 
   -- over a room, which is as long as the items, or not
   pub fits_in_room : (room : ℕ) → None ≡ first → places ≡ room → in_room room meaning ≡ Ok items

@@ -1,24 +1,11 @@
--- The two walks of a permute, told by what the first one may leave of fresh senders.
+-- The second walk of a permute, told by what the first one found.
 -- Source: this library's permutes in two walks.
-use Rattle.std.specs.Prelude.{◌≡◌, ◌<◌, ℕ, List, length, IfOk, OnOk, Option, None, Result, Ok}
+use Rattle.std.specs.Prelude.{◌≡◌, ◌<◌, ℕ, List, length, Option, None, Result, Ok}
 use Rattle.std.specs.List.{All}
 use Rattle.cvl_base.specs.declared.fault.Fault.{Fault}
 use Rattle.cvl_base.specs.declared.refused.Refused.{Refused}
 use Rattle.cvl_base.specs.Gives.{Gives, unless}
 use Rattle.cvl_base.specs.Rooms.{OverwritesOr, in_room}
-use Rattle.permute_walks.specs.Senders.{fault_told}
-
--- what the walk may give and leave: it tells that fault, or leaves those senders
-abbrev pub Sends : (Result (Unit {0}) Fault → List ℕ → Type 0) → Option Fault → List ℕ → Type 0
-Sends leaves fault senders = (given : Result (Unit {0}) Fault) (left : List ℕ) → leaves given left
-    → (fault_told given ≡ fault) × OnOk given (left ≡ senders)
-
--- what was found in so many places, seen by `view`: the fault or the senders of the walk, or memory was out
-abbrev pub IsFound : {V : Type 0} → (Result (Unit {0}) Fault → List ℕ → Type 0)
-    → (V → List ℕ) → ℕ → Result V Refused → Type 0
-IsFound leaves view places found = IfOk found (λ v. length (view v) ≡ places)
-    × ((fault : Option Fault) (senders : List ℕ) → length senders ≡ places
-    → Sends leaves fault senders → Gives view found (unless fault (Ok senders)))
 
 -- What a second walk gives, whatever fault or senders the first one found: the fault, or the elements that are taken from the
 -- senders, where these fit.

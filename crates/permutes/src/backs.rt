@@ -6,11 +6,11 @@ ghost use Rattle.cvl_base.specs.Limits.{most_elements};
 ghost use Rattle.cvl_base.specs.Permutes.{back_of};
 ghost use Rattle.permute_walks.specs.Indices.{first_outside};
 
-use crate::looks::threads_looking;
 use crew::{Gate, OpenGate};
 use cvl_base::{Config, Memory, Refused, check_agree};
+use fresh::write_in_runs;
 use permute_races::{check_indices_raced, permute_pace};
-use permute_walks::{check_places, elements_at};
+use permute_walks::{ElementsAt, check_places};
 use sharing::threads_writing;
 use std::thread::Threads;
 
@@ -29,10 +29,7 @@ fn check_indices<R: Threads + Sync, A: Memory, G: Gate>(
 {
     match permute_pace(config, index.len(), places) {
         Some(pace) => check_indices_raced(rt, alloc, pace, index, places, gate),
-        None => {
-            let threads = threads_looking(config, index.len());
-            Ok(check_places(rt, threads, index, places, 0)?)
-        }
+        None => Ok(check_places(rt, config, index, places, 0)?),
     }
 }
 
@@ -70,5 +67,6 @@ pub fn back_gated<T: Copy + Send + Sync, R: Threads + Sync, A: Memory, G: Gate>(
 {
     check_indices(rt, alloc, config, index, source.len(), gate)?;
     let threads = threads_writing(config, index.len());
-    Ok(elements_at(rt, alloc, threads, source, index)?)
+    let elements = ElementsAt { source, index };
+    Ok(write_in_runs(rt, alloc, threads, &elements, index.len())?)
 }

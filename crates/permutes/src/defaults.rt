@@ -46,13 +46,6 @@ pub fn default_into_gated<T: Copy + Send + Sync, R: Threads + Sync, A: Memory, G
     ensures as_long { IfOk result (λ v. vec_len v ≡ length defaults.now) }
 {
     check_agree(source.len(), index.len())?;
-    elements_to_over(
-        rt,
-        alloc,
-        config,
-        source,
-        defaults,
-        &AllDestinations { index },
-        gate,
-    )
+    let destinations = AllDestinations { index };
+    elements_to_over(rt, alloc, config, source, defaults, &destinations, gate)
 }

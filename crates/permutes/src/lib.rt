@@ -13,13 +13,11 @@
 //! caller's. Nothing is written before it is known that there is no fault. A simple permute looks for senders there only where
 //! there is a fault: its first walk marks each index, and its second writes each element to its index.
 //!
-//! What the permutes of segments do in the same way stands here too, under its own name: the senders that one thread finds, the
-//! second walk, also over a room, and how many threads look at indices.
-#![tactic(auto)]
+//! What the permutes of segments do in the same way stands here too, under its own name: the second walk, also over a room.
+#![tactic(auto, using(permute_walks::proofs::Taken::lengths))]
 
 mod backs;
 mod defaults;
-mod looks;
 mod over;
 mod selects;
 mod sent;
@@ -30,10 +28,8 @@ mod taken_over;
 
 pub use backs::{back, back_gated};
 pub use defaults::{default_into, default_into_gated};
-pub use looks::threads_looking;
 pub use over::{back_over, default_into_over, select_over, simple_over};
 pub use selects::{select, select_gated};
-pub use sent_alone::senders_found;
 pub use simples::{simple, simple_gated};
 pub use taken::{elements_found, elements_or_defaults_found};
 pub use taken_over::{take_or_default_over, take_over};

@@ -12,8 +12,9 @@ ghost use Rattle.cvl_base.specs.Rooms.{Overwrites, OverwritesOr, in_room};
 use crate::sent_alone::senders_alone;
 use crate::taken_over::{take_or_default_over, take_over};
 use cvl_base::{Fault, Memory, Refused, check_agree, true_count};
+use fresh::write_over;
 use permute_walks::{
-    AllDestinations, FlaggedDestinations, check_places_alone, elements_at_over, is_permutation,
+    AllDestinations, ElementsAt, FlaggedDestinations, check_places_alone, is_permutation,
     scatter_over,
 };
 
@@ -78,6 +79,6 @@ pub fn back_over<T: Copy>(source: &[T], index: &[i32], out: &mut [T]) -> Result<
 {
     check_places_alone(index, source.len(), 0)?;
     check_agree(index.len(), out.len())?;
-    elements_at_over(source, index, out);
+    write_over(out, &ElementsAt { source, index });
     Ok(())
 }

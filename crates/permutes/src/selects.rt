@@ -49,13 +49,6 @@ pub fn select_gated<T: Copy + Send + Sync, R: Threads + Sync, A: Memory, G: Gate
     check_agree(source.len(), index.len())?;
     check_agree(index.len(), flags.len())?;
     let places = true_count(flags);
-    elements_to(
-        rt,
-        alloc,
-        config,
-        source,
-        places,
-        &FlaggedDestinations { index, flags },
-        gate,
-    )
+    let destinations = FlaggedDestinations { index, flags };
+    elements_to(rt, alloc, config, source, places, &destinations, gate)
 }

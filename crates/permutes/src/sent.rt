@@ -16,7 +16,7 @@ use element_walks::Copied;
 use fresh::{Copies, Writer};
 use permute_races::{permute_pace, senders_raced};
 use permute_walks::{Destinations, permuted_shared};
-use sharing::{LEAST_SEARCHED, LEAST_SHARED, Pace, race_pace, threads_writing};
+use sharing::{LEAST_SEARCHED, LEAST_SHARED, race_pace, threads_writing};
 use std::thread::Threads;
 
 /// Whether a result has so many places that one walk makes it sooner than two, by whatever number of threads.
@@ -26,18 +26,8 @@ fn is_long(places: usize) -> bool
     places >= LEAST_SHARED && places <= MOST_ELEMENTS
 }
 
-/// The tiles and the workers of the race for the senders of a flat result, or none where one thread walks: what is asked for, and
-/// where the one walk of a long result found that a place is bad, what the search for the first one pays for.
-fn senders_pace(config: Config, indices: usize, places: usize) -> Option<Pace>
-    ensures { IfSome result (λ _. places ≤ most_elements) }
-{
-    if !is_long(places) {
-        return permute_pace(config, indices, places);
-    }
-    race_pace(indices >= LEAST_SEARCHED, config, indices)
-}
-
-/// For each place of a flat result its sender, for which workers race or one thread walks.
+/// For each place of a flat result its sender, for which workers race or one thread walks. Where the one walk of a long result found
+/// that a place is bad, they race if the search for the first one pays for it.
 fn senders_to<R: Threads + Sync, A: Memory, D: Destinations + Sync, G: Gate>(
     rt: &R,
     alloc: A,
@@ -50,7 +40,13 @@ fn senders_to<R: Threads + Sync, A: Memory, D: Destinations + Sync, G: Gate>(
     ensures { Gives (λ v. v.items) result (unless (first_fault 0 (wrongs places (D.destinations destinations.now)))
         (Ok (senders_of 0 (D.destinations destinations.now) places))) }
 {
-    match senders_pace(config, destinations.count(), places) {
+    let indices = destinations.count();
+    let pace = if is_long(places) {
+        race_pace(indices >= LEAST_SEARCHED, config, indices)
+    } else {
+        permute_pace(config, indices, places)
+    };
+    match pace {
         Some(pace) => senders_raced(rt, alloc, pace, places, destinations, gate),
         None => senders_alone(alloc, places, destinations),
     }
@@ -79,6 +75,7 @@ where
     ensures right { IfOk result (λ found. IfSome found (λ _. None ≡ first_fault 0 (wrongs places (D.destinations destinations.now)))) }
     ensures written { IfOk result (λ found. IfSome found (λ v.
         v.items ≡ written_over source.now (senders_of 0 (D.destinations destinations.now) places) (W.whole before.now))) }
+    ensures as_long { IfOk result (λ found. IfSome found (λ v. vec_len v ≡ places)) }
 {
     let raced = permute_pace(config, destinations.count(), places).is_some();
     if !is_long(places) || raced {
@@ -117,15 +114,8 @@ pub(crate) fn elements_to<
             item: *first,
             count: places,
         };
-        if let Some(elements) = permuted_long(
-            rt,
-            alloc,
-            config,
-            source,
-            destinations,
-            places,
-            &before,
-        )? {
+        let permuted = permuted_long(rt, alloc, config, source, destinations, places, &before)?;
+        if let Some(elements) = permuted {
             return Ok(elements);
         }
     }
@@ -158,15 +148,8 @@ pub(crate) fn elements_to_over<
 {
     let places = defaults.len();
     let before = Copied { elements: defaults };
-    if let Some(elements) = permuted_long(
-        rt,
-        alloc,
-        config,
-        source,
-        destinations,
-        places,
-        &before,
-    )? {
+    let permuted = permuted_long(rt, alloc, config, source, destinations, places, &before)?;
+    if let Some(elements) = permuted {
         return Ok(elements);
     }
     let found = senders_to(rt, alloc, config, places, destinations, gate);

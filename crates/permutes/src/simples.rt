@@ -45,13 +45,6 @@ pub fn simple_gated<T: Copy + Send + Sync, R: Threads + Sync, A: Memory, G: Gate
     ensures as_long { IfOk result (λ v. vec_len v ≡ length index.now) }
 {
     check_agree(source.len(), index.len())?;
-    elements_to(
-        rt,
-        alloc,
-        config,
-        source,
-        index.len(),
-        &AllDestinations { index },
-        gate,
-    )
+    let destinations = AllDestinations { index };
+    elements_to(rt, alloc, config, source, index.len(), &destinations, gate)
 }

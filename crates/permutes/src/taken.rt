@@ -8,7 +8,8 @@ ghost use Rattle.permute_walks.specs.Senders.{written_over};
 ghost use Rattle.permutes.specs.Walks.{IsTaken};
 
 use cvl_base::{Config, Memory, Refused};
-use permute_walks::{elements_of, elements_or_defaults};
+use fresh::write_in_runs;
+use permute_walks::{ElementsOr, elements_of};
 use sharing::threads_writing;
 use std::thread::Threads;
 
@@ -51,7 +52,12 @@ pub fn elements_or_defaults_found<T: Copy + Send + Sync, R: Threads + Sync, A: M
     match found {
         Ok(senders) => {
             let threads = threads_writing(config, defaults.len());
-            Ok(elements_or_defaults(rt, alloc, threads, source, &senders, defaults)?)
+            let elements = ElementsOr {
+                source,
+                senders: &senders,
+                defaults,
+            };
+            Ok(write_in_runs(rt, alloc, threads, &elements, defaults.len())?)
         }
         Err(refused) => Err(refused),
     }

@@ -6,7 +6,8 @@ ghost use Rattle.permute_walks.specs.Senders.{written_over};
 ghost use Rattle.permutes.specs.Walks.{IsTakenOver};
 
 use cvl_base::{Memory, Refused, check_agree};
-use permute_walks::{elements_of_over, elements_or_defaults_over};
+use fresh::write_over;
+use permute_walks::{ElementsOr, elements_of_over};
 
 /// Writes the element of each sender that was found. Tells why none were found, or `LengthMismatch` where the room isn't as long
 /// as the senders.
@@ -43,7 +44,12 @@ pub fn take_or_default_over<T: Copy, A: Memory>(
     match found {
         Ok(senders) => {
             check_agree(defaults.len(), out.len())?;
-            elements_or_defaults_over(source, &senders, defaults, out);
+            let elements = ElementsOr {
+                source,
+                senders: &senders,
+                defaults,
+            };
+            write_over(out, &elements);
             Ok(())
         }
         Err(refused) => Err(refused),

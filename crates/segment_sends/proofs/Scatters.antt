@@ -1,6 +1,5 @@
 -- The walks of a simple permute by segments straight into a room: what the marks of each segment tell, and what the room holds.
-use Rattle.std.proofs.Common.{◌≡◌, ◌∙◌, ℕ, zero, suc, ◌+◌, ◌-◌, ◌<◌, ◌≤◌, List, [], ◌∷◌, ◌++◌, length, filter_map, map, sum, take, drop, get_or, refl, sym, ap, arith, inl, inr, ℤ, slice_get, Option, Some, None}
-use Rattle.std.proofs.lemmas.Bool.Decides.{leb_tells}
+use Rattle.std.proofs.Common.{◌≡◌, ◌∙◌, ℕ, zero, suc, ◌+◌, ◌-◌, ◌<◌, ◌≤◌, List, [], ◌∷◌, ◌++◌, length, filter_map, map, sum, take, drop, get_or, refl, sym, ap, arith, ℤ, slice_get, Option, Some, None}
 use Rattle.std.proofs.lemmas.List.{take_all}
 use Rattle.std.proofs.lemmas.List.Elements.{All-weaker}
 use Rattle.std.proofs.lemmas.Option.{none-some}
@@ -21,9 +20,9 @@ use Rattle.cvl_base.proofs.Permutes.{length-all_destinations}
 use Rattle.permute_walks.proofs.Sent.{length-senders_of}
 use Rattle.permute_walks.proofs.Taken.{taken_flat, taken_part}
 use Rattle.segment_sends.specs.Parts.{destinations_in, fault_from, parts_of, places_in, senders_from}
-use Rattle.segment_sends.specs.Shares.{AreRight, part_at, permuted}
+use Rattle.segment_sends.specs.Shares.{fault_behind, part_at, permuted}
 use Rattle.segment_sends.proofs.Ranges.{length-range, part_of_range}
-use Rattle.segment_sends.proofs.Shared.{all_right, length-permuted, permuted_at}
+use Rattle.segment_sends.proofs.Shared.{fault_at_end, fault_next, fault_passed, length-permuted, permuted_at}
 use Rattle.segment_sends.proofs.Through.{destinations_ahead, length-parts, places_ahead, places-parts, segment_within, start_more}
 use Rattle.segment_sends.proofs.AllSent.{neither, length-senders_from, segments_sent}
 
@@ -33,18 +32,6 @@ no_fault_at : (p q : ℕ) (ws : List (Option FaultNo)) → None ≡ first_fault 
 no_fault_at p q [] none = refl
 no_fault_at p q (None ∷ ws) none = no_fault_at (p + 1) (q + 1) ws none
 no_fault_at p q (Some number ∷ ws) none = absurd (none-some (fault_at number p) none)
-
--- where there is no fault, no segment has one
-each_right : (place : ℕ) (parts : List (ℕ × List (Option ℤ))) → None ≡ fault_from place parts → (s : ℕ) → s < length parts
-    → None ≡ first_fault (place + destinations_in (take s parts)) (wrongs (part_at parts s).0 (part_at parts s).1)
-each_right place [] right s lt = absurd (omega arith)
-each_right place ((m, ts) ∷ parts) right zero lt =
-    sym (neither (first_fault place (wrongs m ts)) (fault_from (place + length ts) parts) (sym right)).0 ∙ ap (λ p. first_fault p (wrongs m ts)) (omega arith)
-each_right place ((m, ts) ∷ parts) right (suc s) lt =
-    let others : None ≡ fault_from (place + length ts) parts = sym (neither (first_fault place (wrongs m ts)) (fault_from (place + length ts) parts) (sym right)).1 in
-    let past : place + length ts + destinations_in (take s parts) ≡ place + destinations_in (take (suc s) ((m, ts) ∷ parts)) =
-    omega (arith, sum-cons (length ts) (map (λ (p : ℕ × List (Option ℤ)). length p.1) (take s parts))) in
-    each_right (place + length ts) parts others s (omega arith) ∙ ap (λ p. first_fault p (wrongs (part_at parts s).0 (part_at parts s).1)) past
 
 module _ (lengths : List ℕ) (index : List ℤ) (total : sum lengths ≡ length index) where
   abbrev pub parts : List (ℕ × List (Option ℤ))
@@ -65,26 +52,25 @@ module _ (lengths : List ℕ) (index : List ℤ) (total : sum lengths ≡ length
     wrongs_are : first_fault 0 (wrongs (length segment) (all_destinations segment)) ≡ first_fault 0 (wrongs (part_at parts s).0 (part_at parts s).1)
     wrongs_are = (λ i. first_fault 0 (wrongs (segment_long i) (all_destinations segment))) ∙ (λ i. first_fault 0 (wrongs (sym segment_is i).0 (sym segment_is i).1))
 
-    pub right_more : AreRight parts 0 s → None ≡ first_fault 0 (wrongs (length segment) (all_destinations segment)) → AreRight parts 0 (s + 1)
-    right_more before right r after below =
-        elim (leb_tells (suc r) s) [
-          | inl done ↦ before r after (omega (arith, done.1))
-          | inr now ↦
-              let same : s ≡ r = omega (arith, now.1, below) in
-              no_fault_at 0 (destinations_in (take s parts)) (wrongs (part_at parts s).0 (part_at parts s).1) (right ∙ wrongs_are)
-              ∙ ap (λ k. first_fault (destinations_in (take k parts)) (wrongs (part_at parts k).0 (part_at parts k).1)) same
-        ]
+    in_parts : s < length parts
+    in_parts = omega (arith, lt, length-parts lengths lengths index refl)
 
-    pub right_here : None ≡ fault_from 0 parts → None ≡ first_fault 0 (wrongs (length segment) (all_destinations segment))
+    pub segment_passed : None ≡ first_fault 0 (wrongs (length segment) (all_destinations segment)) → fault_behind parts s ≡ fault_behind parts (s + 1)
+    segment_passed right = fault_passed parts s in_parts (no_fault_at 0 (destinations_in (take s parts)) (wrongs (part_at parts s).0 (part_at parts s).1) (right ∙ wrongs_are))
+
+    pub right_here : None ≡ fault_behind parts s → None ≡ first_fault 0 (wrongs (length segment) (all_destinations segment))
     right_here right =
-        no_fault_at (0 + destinations_in (take s parts)) 0 (wrongs (part_at parts s).0 (part_at parts s).1)
-        (each_right 0 parts right s (omega (arith, lt, length-parts lengths lengths index refl)))
-        ∙ sym wrongs_are
+        no_fault_at (destinations_in (take s parts)) 0 (wrongs (part_at parts s).0 (part_at parts s).1) (sym (neither _ _ (sym (right ∙ fault_next parts s in_parts))).0) ∙ sym wrongs_are
 
-  pub right_all : (s : ℕ) → AreRight parts 0 s → length lengths ≤ s → None ≡ fault_from 0 parts
-  right_all s right past =
-      all_right 0 parts (λ r lt. right r (omega arith) (omega (arith, lt, past, length-parts lengths lengths index refl))
-      ∙ ap (λ p. first_fault p (wrongs (part_at parts r).0 (part_at parts r).1)) (omega arith))
+  -- where there is no fault, there is none behind any segment
+  right_behind : None ≡ fault_from 0 parts → (s : ℕ) → s ≤ length parts → None ≡ fault_behind parts s
+  right_behind right zero le = right
+  right_behind right (suc s) le =
+      let next : s + 1 ≡ suc s = omega arith in
+      sym (neither _ _ (sym (right_behind right s (omega arith) ∙ fault_next parts s (omega arith)))).1 ∙ ap (fault_behind parts) next
+
+  pub right_all : (s : ℕ) → fault_from 0 parts ≡ fault_behind parts s → length lengths ≤ s → None ≡ fault_from 0 parts
+  right_all s same past = fault_at_end parts s (omega (arith, past, length-parts lengths lengths index refl)) ∙ sym same
 
   -- ---- the room
 
@@ -98,7 +84,7 @@ module _ (lengths : List ℕ) (index : List ℤ) (total : sum lengths ≡ length
     pub whole_is : whole ≡ filter_map (slice_get source) (senders_from 0 parts)
     whole_is =
         written_all source (senders_from 0 parts) source (length-senders_from 0 parts ∙ places_all)
-        (segments_sent (length source) (omega (arith, sourced, few)) 0 lengths index total (omega (arith, sourced)) (sym right))
+        (segments_sent (length source) (omega (arith, sourced, few)) lengths index total (omega (arith, sourced)) (sym right))
 
     whole_long : length whole ≡ length source
     whole_long = length-permuted source parts source places_all
@@ -118,7 +104,7 @@ module _ (lengths : List ℕ) (index : List ℤ) (total : sum lengths ≡ length
       room_within = omega (arith, is, there, sourced, segment_within lengths index total s lt)
 
       pub segment_right : None ≡ first_fault 0 (wrongs (length js) (all_destinations js))
-      segment_right = right_here s lt first n there is right
+      segment_right = right_here s lt first n there is (right_behind right s (omega (arith, lt, length-parts lengths lengths index refl)))
 
       -- what it is sent
       segment_of_whole : filter_map (slice_get ys) (senders_of 0 (all_destinations js) (length js)) ≡ part whole first n

@@ -1,12 +1,11 @@
 -- The walk over a share of the segments: what it has written after the first of them, and after all; and that two shares side by side
 -- are one.
-use Rattle.std.proofs.Common.{◌≡◌, ◌∙◌, ℕ, zero, suc, ◌+◌, ◌-◌, ◌<◌, ◌≤◌, true, false, Bool, ◌&&◌, List, [], ◌∷◌, ◌++◌, length, map, sum, take, refl, sym, ap, arith, inl, inr, ℤ}
+use Rattle.std.proofs.Common.{◌≡◌, ◌∙◌, ℕ, zero, suc, ◌+◌, ◌-◌, ◌<◌, ◌≤◌, true, false, Bool, ◌&&◌, List, [], ◌∷◌, ◌++◌, length, map, sum, take, drop, refl, sym, ap, arith, ℤ}
 use Rattle.std.proofs.Common.{slice_get, unwrap_or, length-append, Option, None}
 use Rattle.std.specs.List.{sum_by, zip}
 use Rattle.std.specs.Option.{option_or}
 use Rattle.std.proofs.lemmas.Bool.{and_parts, false≢true}
-use Rattle.std.proofs.lemmas.Bool.Decides.{leb_tells}
-use Rattle.std.proofs.lemmas.List.{take-append-le, take_all, take-take}
+use Rattle.std.proofs.lemmas.List.{drop_all, drop_more, take-append-le, take_all, take-take}
 use Rattle.std.proofs.lemmas.List.Sums.{sum-map, sum_by_more, sum_by_more_le, sum_by-take-le}
 use Rattle.std.proofs.Math.Seq.{drop-append-add}
 use Rattle.cvl_base.specs.Limits.{most_elements}
@@ -20,7 +19,7 @@ use Rattle.permute_walks.specs.Senders.{senders_of, written_over}
 use Rattle.permute_walks.proofs.Sent.{length-senders_of}
 use Rattle.permute_walks.proofs.Taken.{length-over}
 use Rattle.segment_sends.specs.Parts.{destinations_in, fault_from, places_in, senders_from}
-use Rattle.segment_sends.specs.Shares.{AreRight, AreWithin, IsShare, IsWritten, Sending, part_at, permuted}
+use Rattle.segment_sends.specs.Shares.{AreWithin, IsShare, IsWritten, Sending, fault_behind, part_at, permuted}
 use denote.RawPtr.{Ptr}
 use Rattle.segment_sends.proofs.AllSent.{length-senders_from}
 
@@ -41,6 +40,21 @@ module _ (f : ℕ × List (Option ℤ) → ℕ) (parts : List (ℕ × List (Opti
 pub ahead_order : (f : ℕ × List (Option ℤ) → ℕ) (parts : List (ℕ × List (Option ℤ))) (a b : ℕ) → a ≤ b → sum (map f (take a parts)) ≤ sum (map f (take b parts))
 ahead_order f parts a b le =
     omega (arith, sum-map f (take a parts), sum-map f (take b parts), ap (sum_by f) (take-take a b parts le), sum_by-take-le f (take b parts) a)
+
+-- the first bad place from a segment on is one of the segment, or lies behind it
+pub fault_next : (parts : List (ℕ × List (Option ℤ))) (s : ℕ) → s < length parts
+    → fault_behind parts s ≡ option_or (first_fault (destinations_in (take s parts)) (wrongs (part_at parts s).0 (part_at parts s).1)) (fault_behind parts (s + 1))
+fault_next parts s lt =
+    let first = first_fault (destinations_in (take s parts)) (wrongs (part_at parts s).0 (part_at parts s).1) in
+    ap (fault_from (destinations_in (take s parts))) (drop_more parts s (0, []) lt)
+    ∙ ap (λ p. option_or first (fault_from p (drop (s + 1) parts))) (sym (ahead_more (λ p. length p.1) parts s lt))
+
+pub fault_passed : (parts : List (ℕ × List (Option ℤ))) (s : ℕ) → s < length parts
+    → None ≡ first_fault (destinations_in (take s parts)) (wrongs (part_at parts s).0 (part_at parts s).1) → fault_behind parts s ≡ fault_behind parts (s + 1)
+fault_passed parts s lt right = fault_next parts s lt ∙ ap (λ o. option_or o (fault_behind parts (s + 1))) (sym right)
+
+pub fault_at_end : (parts : List (ℕ × List (Option ℤ))) (s : ℕ) → length parts ≤ s → None ≡ fault_behind parts s
+fault_at_end parts s past = ap (fault_from (destinations_in (take s parts))) (sym (drop_all s parts past))
 
 -- the senders of a segment stand at its places
 senders_at : (place : ℕ) (parts : List (ℕ × List (Option ℤ))) (s : ℕ) → s < length parts
@@ -103,7 +117,7 @@ stretch_more whole items old run new done n last begun within is are written =
 -- the segments up to before s are done, and the destinations of the next one begin at `place`
 pub record IsWalked {X : Type 0} (w : Sending X) (begin end s : ℕ) (old : Stretch X) (place : ℕ) (run : Stretch X) : Type 0 where
   pub there : place ≡ destinations_in (take s w.parts)
-  pub no_fault : AreRight w.parts begin s
+  pub no_fault : fault_behind w.parts begin ≡ fault_behind w.parts s
   pub is : run ≡ stretch old.block old.first (part (permuted w.source w.parts w.before) old.first (places_in (take s w.parts) - old.first)) (places_in (take end w.parts) - places_in (take s w.parts))
 
 module _ {X : Type 0} {w : Sending X} {begin end : ℕ} {old : Stretch X} (share : IsShare w begin end old) where
@@ -122,7 +136,7 @@ module _ {X : Type 0} {w : Sending X} {begin end : ℕ} {old : Stretch X} (share
       let room : old.room ≡ places_in (take end parts) - places_in (take begin parts) = omega (arith, share.starts, share.ends) in
       record {
         there = there;
-        no_fault = λ s from below. absurd (omega (arith, from, below));
+        no_fault = refl;
         is = (λ i. stretch old.block old.first (share.empty i) (room i)) ∙ ap (λ k. stretch old.block old.first (part whole old.first k) (places_in (take end parts) - places_in (take begin parts))) (sym none);
       }
 
@@ -201,12 +215,7 @@ module _ {X : Type 0} {w : Sending X} {begin end : ℕ} {old : Stretch X} (share
           ∙ sym (permuted_at w.source parts w.before s lt) ∙ ap (part whole start) width in
           record {
             there = omega (arith, onward, to.there, ahead_more (λ p. length p.1) parts s lt, ap (λ (p : ℕ × List (Option ℤ)). length p.1) is);
-            no_fault = λ r after earlier. elim (leb_tells (suc r) s) [
-              | inl done ↦ to.no_fault r after (omega (arith, done.1))
-              | inr now ↦
-                  let same : s ≡ r = omega (arith, now.1, earlier) in
-                  (right ∙ (λ i. first_fault (to.there i) (wrongs (sym width i) (sym told i)))) ∙ ap (λ k. first_fault (destinations_in (take k parts)) (wrongs (part_at parts k).0 (part_at parts k).1)) same
-            ];
+            no_fault = to.no_fault ∙ fault_passed parts s lt (right ∙ (λ i. first_fault (to.there i) (wrongs (sym width i) (sym told i))));
             is = stretch_more whole (written_over w.source (senders_of place ts n) (part w.before (run.first + length run.items) n)) old run new start n (places_in (take end parts)) starts_before
                 (omega (arith, width, ends_before, ends_last, whole_long)) to.is are pushed
                 ∙ ap (λ k. stretch old.block old.first (part whole old.first (k - old.first)) (places_in (take end parts) - k)) more;
@@ -223,7 +232,7 @@ module _ {X : Type 0} {w : Sending X} {begin end : ℕ} {old : Stretch X} (share
       ∙ (λ i. stretch old.block old.first (part whole old.first (width i)) (none i)) in
       record {
         full = (part whole old.first old.room, length_part whole old.first old.room (omega (arith, share.ends, whole_long, share.as_long, ahead_all (λ p. p.0) parts end)), is);
-        no_fault = λ told r after earlier. to.no_fault r after (omega (arith, same, earlier));
+        no_fault = λ told. to.no_fault ∙ ap (fault_behind parts) same;
         items = λ told. is;
       }
 
@@ -294,12 +303,7 @@ module _ {X : Type 0} {w : Sending X} {begin end : ℕ} {old : Stretch X} (share
             are ∙ (λ i. let w = front_is i in let r = back_is i in stretch w.block w.first (w.items ++ r.items) (w.room + r.room)) in
             record {
               full = (front_items ++ back_items, omega (arith, length-append front_items back_items, in_front.full.1, in_back.full.1, front_width, back_width, middle_room), is);
-              no_fault = λ told r after earlier.
-                  let both = and_parts front_right back_right told in
-                  elim (leb_tells (suc r) middle) [
-                    | inl first ↦ in_front.no_fault both.0 r after (omega (arith, first.1))
-                    | inr later ↦ in_back.no_fault both.1 r (omega (arith, later.1)) earlier
-                  ];
+              no_fault = λ told. let both = and_parts front_right back_right told in in_front.no_fault both.0 ∙ in_back.no_fault both.1;
               items = λ told.
                   let both = and_parts front_right back_right told in
                   let front_whole : front_items ≡ part whole old.first k =
@@ -312,19 +316,6 @@ module _ {X : Type 0} {w : Sending X} {begin end : ℕ} {old : Stretch X} (share
             }
 
 -- ---- all segments
-
--- where no segment has a bad place, there is no fault
-pub all_right : (place : ℕ) (parts : List (ℕ × List (Option ℤ)))
-    → ((s : ℕ) → s < length parts → None ≡ first_fault (place + destinations_in (take s parts)) (wrongs (part_at parts s).0 (part_at parts s).1))
-    → None ≡ fault_from place parts
-all_right place [] right = refl
-all_right place ((m, ts) ∷ parts) right =
-    let here : None ≡ first_fault place (wrongs m ts) = right 0 (omega arith) ∙ ap (λ p. first_fault p (wrongs m ts)) (omega arith) in
-    let others = all_right (place + length ts) parts (λ s lt.
-    let past : place + destinations_in (take (suc s) ((m, ts) ∷ parts)) ≡ place + length ts + destinations_in (take s parts) =
-    omega (arith, sum-cons (length ts) (map (λ (p : ℕ × List (Option ℤ)). length p.1) (take s parts))) in
-    right (suc s) (omega (arith, lt)) ∙ ap (λ p. first_fault p (wrongs (part_at parts s).0 (part_at parts s).1)) past) in
-    others ∙ ap (λ o. option_or o (fault_from (place + length ts) parts)) here
 
 module _ {X : Type 0} {w : Sending X} {old : Stretch X} (few : destinations_in w.parts ≤ most_elements) (long : places_in w.parts ≡ length w.before) (within : AreWithin w.widest w.parts)
     {block : Ptr} (is : old ≡ stretch block 0 [] (length w.before)) {count : ℕ} (all : count ≡ length w.parts) where
@@ -342,8 +333,7 @@ module _ {X : Type 0} {w : Sending X} {old : Stretch X} (few : destinations_in w
 
   module _ {written : Stretch X} {right : Bool} (told : IsWritten w 0 count old written right) where
     pub whole_right : right ≡ true → None ≡ fault_from 0 w.parts
-    whole_right is_right =
-        all_right 0 w.parts (λ s lt. told.no_fault is_right s (omega arith) (omega (arith, lt, all)) ∙ ap (λ p. first_fault p (wrongs (part_at w.parts s).0 (part_at w.parts s).1)) (omega arith))
+    whole_right is_right = fault_at_end w.parts count (omega (arith, all)) ∙ sym (told.no_fault is_right)
 
     pub whole_items : right ≡ true → written.items ≡ permuted w.source w.parts w.before
     whole_items is_right =

@@ -5,9 +5,10 @@ use Rattle.std.specs.List.{zip}
 use Rattle.std.specs.Option.{option_or}
 use Rattle.std.proofs.lemmas.List.{drop_more, drop_all, take_all, take-map, take-replicate, drop-replicate, drop-drop, get_or-map, length-map, length-take, length-take-le}
 use Rattle.std.proofs.lemmas.List.Sums.{count_by-le-length, sum_by-append, sum_by-take-le, sum_by_more_le, sum_by_more}
+use Rattle.std.proofs.lemmas.Simd.{map-map}
 use Rattle.std.proofs.Math.Seq.{take-add}
 use Rattle.std.proofs.lemmas.Slice.{take-put_mid, drop-put_mid}
-use Rattle.std.proofs.lemmas.Slice.Zip.{firsts-zip, get_or-zip, length-zip}
+use Rattle.std.proofs.lemmas.Slice.Zip.{firsts-zip, get_or-zip, length-zip, seconds-zip}
 use borrow.Rule.Slice.PartMut.{put_mid, same_len_mid}
 use Rattle.cvl_base.specs.declared.fault.Fault.{Fault}
 use Rattle.cvl_base.specs.Nests.{cut_of}
@@ -15,7 +16,7 @@ use Rattle.cvl_base.specs.Packs.{count_of}
 use Rattle.cvl_base.specs.Permutes.{all_destinations, first_fault, flagged_destinations, wrongs}
 use Rattle.segment_sends.specs.Parts.{fault_from, flagged_parts, parts_of, places_in, senders_from, destinations_in}
 use Rattle.permute_walks.specs.Senders.{nobody, senders_of}
-use Rattle.cvl_base.proofs.Nests.{cut_at, length-cut}
+use Rattle.cvl_base.proofs.Nests.{cut_at, length-cut, lengths-cut}
 use Rattle.cvl_base.proofs.Lists.{sum-cons}
 use Rattle.cvl_base.proofs.Permutes.{length-all_destinations}
 use Rattle.permute_walks.proofs.Sent.{length-senders_of, count-flagged_destinations}
@@ -195,14 +196,11 @@ module _ (lengths : List ℕ) (index : List ℤ) (flags : List Bool) where
 -- ---- how many places and destinations the parts before a segment have
 
 pub each_long : (lengths widths : List ℕ) (index : List ℤ) → sum lengths ≤ length index → length lengths ≡ length widths → map (λ p. length p.1) (parts_of lengths widths index) ≡ lengths
-each_long [] [] index total count = refl
-each_long [] (m ∷ ms) index total count = absurd (omega (arith, count))
-each_long (n ∷ ns) [] index total count = absurd (omega (arith, count))
-each_long (n ∷ ns) (m ∷ ms) index total count =
-    let all = sum-cons n ns in
-    let here : length (all_destinations (take n index)) ≡ n = length-all_destinations (take n index) ∙ length-take-le n index (omega (arith, all, total)) in
-    let rest = each_long ns ms (drop n index) (omega (arith, all, total, length-drop n index)) (omega (arith, count)) in
-    λ i. here i ∷ rest i
+each_long lengths widths index total count =
+    let segments = cut_of lengths index in
+    let long : length (map all_destinations segments) ≡ length widths = omega (arith, length-map segments all_destinations, length-cut lengths index, count) in
+    sym (map-map length (λ (p : ℕ × List (Option ℤ)). p.1) (parts_of lengths widths index)) ∙ ap (map length) (seconds-zip widths (map all_destinations segments) long)
+    ∙ map-map length all_destinations segments ∙ (λ i. map (λ js. length-all_destinations js i) segments) ∙ lengths-cut lengths index total
 
 pub destinations-parts : (lengths widths : List ℕ) (index : List ℤ) → sum lengths ≡ length index → length lengths ≡ length widths → destinations_in (parts_of lengths widths index) ≡ length index
 destinations-parts lengths widths index total count = ap sum (each_long lengths widths index (omega (arith, total)) count) ∙ total
@@ -239,3 +237,9 @@ pub flagged_width : (lengths : List ℕ) (index : List ℤ) (flags : List Bool) 
 flagged_width lengths index flags s lt =
     let fs = take (get_or lengths s 0) (drop (sum (take s lengths)) flags) in
     omega (arith, ap (λ (p : ℕ × List (Option ℤ)). p.0) (flagged_part_at lengths index flags s lt), count_by-le-length (λ (flag : Bool). flag) fs, length-take (get_or lengths s 0) (drop (sum (take s lengths)) flags))
+
+-- how many there are in all
+pub ruleset part_counts = (length-parts, places-parts, destinations-parts, length-flagged_parts, places-flagged_parts, destinations-flagged_parts)
+
+-- a list of which each element is read
+pub ruleset mapped = (length-map, take-map)

@@ -1,11 +1,11 @@
 -- The shares of a permute by segments: some neighbouring segments, whose places of the result one thread writes.
 -- Source: CVL's segmented permutes, each of which permutes every segment by itself.
-use Rattle.std.specs.Prelude.{◌≡◌, ℕ, ◌+◌, ◌<◌, ◌≤◌, ℤ, Bool, true, List, [], length, slice_index_or, take, Option, None}
+use Rattle.std.specs.Prelude.{◌≡◌, ℕ, ◌+◌, ◌<◌, ◌≤◌, ℤ, Bool, true, List, [], length, slice_index_or, take, drop, Option}
 use Rattle.fresh.specs.Parts.{part}
 use Rattle.fresh.specs.Places.{Stretch, stretch}
 use Rattle.cvl_base.specs.Limits.{most_elements}
-use Rattle.cvl_base.specs.Permutes.{first_fault, wrongs}
-use Rattle.segment_sends.specs.Parts.{destinations_in, places_in, senders_from}
+use Rattle.cvl_base.specs.declared.fault.Fault.{Fault}
+use Rattle.segment_sends.specs.Parts.{destinations_in, fault_from, places_in, senders_from}
 use Rattle.permute_walks.specs.Senders.{written_over}
 
 -- the elements of all parts' senders, written over what stands before
@@ -16,10 +16,9 @@ permuted source parts before = written_over source (senders_from 0 parts) before
 abbrev pub part_at : List (ℕ × List (Option ℤ)) → ℕ → ℕ × List (Option ℤ)
 part_at parts s = slice_index_or parts s (0, [])
 
--- none of the segments from one up to before another has a bad place
-abbrev pub AreRight : List (ℕ × List (Option ℤ)) → ℕ → ℕ → Type 0
-AreRight parts begin end = (s : ℕ) → begin ≤ s → s < end
-    → None ≡ first_fault (destinations_in (take s parts)) (wrongs (part_at parts s).0 (part_at parts s).1)
+-- the fault of the first bad place of the segments from segment s on
+abbrev pub fault_behind : List (ℕ × List (Option ℤ)) → ℕ → Option Fault
+fault_behind parts s = fault_from (destinations_in (take s parts)) (drop s parts)
 
 -- no segment has more places than that
 abbrev pub AreWithin : ℕ → List (ℕ × List (Option ℤ)) → Type 0
@@ -46,9 +45,9 @@ pub record IsShare {X : Type 0} (w : Sending X) (begin end : ℕ) (run : Stretch
   pub ends : run.first + run.room ≡ places_in (take end w.parts)
   pub empty : run.items ≡ []
 
--- What was written of a share: all its places, and where it is told to be right, no segment has a bad place, and the places hold
--- their part of the result.
+-- What was written of a share: all its places, and where it is told to be right, the first bad place lies behind it, and the places
+-- hold their part of the result.
 pub record IsWritten {X : Type 0} (w : Sending X) (begin end : ℕ) (run written : Stretch X) (right : Bool) : Type 0 where
   pub full : (items : List X) × (length items ≡ run.room) × (written ≡ stretch run.block run.first items 0)
-  pub no_fault : right ≡ true → AreRight w.parts begin end
+  pub no_fault : right ≡ true → fault_behind w.parts begin ≡ fault_behind w.parts end
   pub items : right ≡ true → written ≡ stretch run.block run.first (part (permuted w.source w.parts w.before) run.first run.room) 0

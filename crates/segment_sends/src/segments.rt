@@ -49,6 +49,7 @@ pub trait Parts {
 }
 
 /// How many segments there are.
+#[tactic(auto, using(crate::proofs::Through::mapped))]
 pub fn segment_count<P: Parts>(parts: &P) -> usize
     requires { P.AreCut parts.now }
     ensures { result ≡ length (P.parts parts.now) }
@@ -57,6 +58,7 @@ pub fn segment_count<P: Parts>(parts: &P) -> usize
 }
 
 /// How many destinations the segments before segment `s` have, and all segments where there is no such one.
+#[tactic(auto, using(crate::proofs::Through::mapped))]
 pub(crate) fn destinations_before<P: Parts>(parts: &P, s: usize) -> usize
     requires { P.AreCut parts.now }
     ensures { result ≡ destinations_in (take s (P.parts parts.now)) }
@@ -103,6 +105,7 @@ impl<'a, A: Memory> Parts for AllParts<'a, A> {
         self.d
     }
 
+    #[tactic(auto, using(crate::proofs::Through::part_counts))]
     fn part(&self, s: usize) -> (usize, AllDestinations<'a>) {
         let first = self.d.start(s);
         let index = &self.index[first..first + self.d.length(s)];
@@ -149,6 +152,7 @@ impl<'a, A: Memory> Parts for FlaggedParts<'a, A> {
         self.d
     }
 
+    #[tactic(auto, using(crate::proofs::Through::part_counts))]
     fn part(&self, s: usize) -> (usize, FlaggedDestinations<'a>) {
         let first = self.d.start(s);
         let last = first + self.d.length(s);

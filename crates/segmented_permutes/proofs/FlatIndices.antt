@@ -5,6 +5,7 @@ use Rattle.std.specs.Option.{option_or}
 use Rattle.std.proofs.lemmas.Bool.{lt-ltb, le-ltb}
 use Rattle.std.proofs.lemmas.Bool.Decides.{leb_tells}
 use Rattle.std.proofs.lemmas.List.{length-map, length-take-le, map-append}
+use Rattle.std.proofs.lemmas.Simd.{map-map}
 use Rattle.cvl_base.specs.declared.fault.FaultNo.TheVariants.{IndexOutOfRange}
 use Rattle.cvl_base.specs.Gives.{unless}
 use Rattle.cvl_base.specs.Packs.{count_of}
@@ -28,10 +29,6 @@ pub record IsFlatThrough (parts : List (ℕ × List (Option ℤ))) (index : List
 
 -- ---- where each place takes part
 
-flat_all_destinations : (start m : ℕ) (index : List ℤ) → map (flat_destination start m) (all_destinations index) ≡ all_destinations (map (flat_index start m) index)
-flat_all_destinations start m [] = refl
-flat_all_destinations start m (i ∷ index) = ap (λ rest. Some (flat_index start m i) ∷ rest) (flat_all_destinations start m index)
-
 pub destinations_all : (start : ℕ) (lengths widths : List ℕ) (index : List ℤ) → sum lengths ≤ length index
     → flat_destinations start (parts_of lengths widths index) ≡ all_destinations (flat_indices start (parts_of lengths widths index) index)
 destinations_all start [] [] index within = refl
@@ -41,7 +38,7 @@ destinations_all start (n ∷ ns) (m ∷ ms) index within =
     let all = sum-cons n ns in
     let others = parts_of ns ms (drop n index) in
     let long : length (all_destinations (take n index)) ≡ n = length-all_destinations (take n index) ∙ length-take-le n index (omega (arith, all, within)) in
-    (λ i. flat_all_destinations start m (take n index) i ++ destinations_all (start + m) ns ms (drop n index) (omega (arith, all, within, length-drop n index)) i)
+    (λ i. (map-map (flat_destination start m) (λ j. Some j) (take n index) ∙ sym (map-map (λ j. Some j) (flat_index start m) (take n index))) i ++ destinations_all (start + m) ns ms (drop n index) (omega (arith, all, within, length-drop n index)) i)
     ∙ sym (map-append (λ i. Some i) (map (flat_index start m) (take n index)) (flat_indices (start + m) others (drop n index)))
     ∙ ap (λ k. all_destinations (map (flat_index start m) (take k index) ++ flat_indices (start + m) others (drop k index))) (sym long)
 
@@ -94,10 +91,6 @@ outside_one start m whole (pos a) within =
           ap (λ b. outside whole (if b then pos (start + a) else negsuc 0)) (le-ltb a m ge) ∙ ap (λ b. if b then None else Some IndexOutOfRange) (sym (le-ltb a m ge))
     ]
 
-outside_each : (start m whole : ℕ) (index : List ℤ) → start + m ≤ whole → map (outside whole) (map (flat_index start m) index) ≡ map (outside m) index
-outside_each start m whole [] within = refl
-outside_each start m whole (i ∷ index) within = (λ k. outside_one start m whole i within k ∷ outside_each start m whole index within k)
-
 pub outside_flat : (place start whole : ℕ) (widths lengths : List ℕ) (index : List ℤ) → length widths ≡ length lengths → sum lengths ≤ length index → start + sum widths ≤ whole
     → outside_from place widths lengths index ≡ first_outside place whole (flat_indices start (parts_of lengths widths index) index)
 outside_flat place start whole [] [] index count total within = refl
@@ -114,7 +107,7 @@ outside_flat place start whole (m ∷ ms) (n ∷ ns) index count total within =
     (omega (arith, wide, within)))
     ∙ ap (λ k. option_or (first_outside place m js) (first_outside (place + k) whole others)) (sym (length-map js (outside m) ∙ index_long))
     ∙ sym (first_fault-append place (map (outside m) js) (map (outside whole) others))
-    ∙ ap (λ ws. first_fault place (ws ++ map (outside whole) others)) (sym (outside_each start m whole js (omega (arith, wide, within))))
+    ∙ ap (λ ws. first_fault place (ws ++ map (outside whole) others)) (sym (map-map (outside whole) (flat_index start m) js ∙ (λ i. map (λ j. outside_one start m whole j (omega (arith, wide, within)) i) js)))
     ∙ ap (first_fault place) (sym (map-append (outside whole) (map (flat_index start m) js) others))
     ∙ ap (λ k. first_outside place whole (map (flat_index start m) (take k index) ++ flat_indices (start + m) (parts_of ns ms (drop n index)) (drop k index))) (sym long)
 

@@ -16,7 +16,7 @@ use Rattle.segmented_permutes.specs.FlatIndices.{flat_index}
 use Rattle.segment_sends.specs.Parts.{fault_from, places_in, senders_from}
 use Rattle.permute_walks.specs.Senders.{nobody, sender_from, senders_of}
 use Rattle.permute_walks.proofs.Listed.{range_both}
-use Rattle.permute_walks.proofs.Sent.{length-wrongs, sender_after, wrong_here}
+use Rattle.permute_walks.proofs.Sent.{length-wrongs, other_place, sender_after, wrong_here}
 use Rattle.cvl_base.proofs.Lists.{sum-cons}
 
 -- ---- the flat destinations
@@ -29,10 +29,6 @@ flat_destinations start [] = []
 flat_destinations start (part ∷ parts) = map (flat_destination start part.0) part.1 ++ flat_destinations (start + part.0) parts
 
 -- whether a destination is a place, in its segment and in the whole
-other_place : (a d : ℕ) → a ≢ d → is_destination (pos d) (Some (pos a)) ≡ false
-other_place a d other =
-    false_from_ne_true (int_eq (pos a) (pos d)) (λ yes. let same : pos a ≡ pos d = (Decides-int_eq (pos a) (pos d)).0 yes in other (cc))
-
 same_place : (start a d : ℕ) → int_eq (pos (start + a)) (pos (start + d)) ≡ int_eq (pos a) (pos d)
 same_place start a d =
     elim (eqb_tells a d) [

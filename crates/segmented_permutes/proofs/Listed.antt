@@ -12,7 +12,7 @@ use Rattle.permutes.proofs.Told.{IsTold}
 use Rattle.segmented_permutes.proofs.Backed.{inside_first, seg_back-meaning}
 use Rattle.cvl_base.proofs.Lists.{sum-cons}
 use Rattle.segment_sends.proofs.Ranges.{length-range, range_is}
-use Rattle.segment_sends.proofs.Through.{segment_within}
+use Rattle.segment_sends.proofs.Through.{length-segment, segment_within}
 
 part_of_front : {X : Type 0} (xs : List X) (n p k : ℕ) → p + k ≤ n → part (take n xs) p k ≡ part xs p k
 part_of_front xs n p k within =
@@ -55,15 +55,15 @@ module _ {X : Type 0} where
       }
 
   module _ {widths : List ℕ} {source : List X} {lengths : List ℕ} {index : List ℤ} (fits : IsSegmentedBack widths source lengths index) where
-    pub lists-long : lengths ≡ map length (lists_at widths source lengths index)
-    lists-long = lists_long 0 widths source lengths index (omega (arith, fits.source_total)) fits.count (omega (arith, fits.total)) fits.inside
+    pub lengths_are : lengths ≡ map length (lists_at widths source lengths index)
+    lengths_are = lists_long 0 widths source lengths index (omega (arith, fits.source_total)) fits.count (omega (arith, fits.total)) fits.inside
 
     pub length-whole : length (segments_at widths source lengths index) ≡ sum lengths
-    length-whole = whole-long (lists_at widths source lengths index) lengths lists-long
+    length-whole = whole-long (lists_at widths source lengths index) lengths lengths_are
 
     module _ (s : ℕ) (segment : s < length (lists_at widths source lengths index)) where
       pub in_lengths : s < length lengths
-      in_lengths = omega (arith, segment, lists-many (lists_at widths source lengths index) lengths lists-long)
+      in_lengths = omega (arith, segment, lists-many (lists_at widths source lengths index) lengths lengths_are)
 
       pub in_widths : s < length widths
       in_widths = omega (arith, fits.count, in_lengths)
@@ -71,7 +71,7 @@ module _ {X : Type 0} where
       -- a part of one, as the code reads source and index by ranges
       module _ (from count : ℕ) (within : from + count ≤ length (get_or (lists_at widths source lengths index) s [])) (at : ℕ) (is : at ≡ start_of lengths s) where
         list_long : length (get_or (lists_at widths source lengths index) s []) ≡ get_or lengths s 0
-        list_long = list-long (lists_at widths source lengths index) lengths lists-long s in_lengths
+        list_long = list-long (lists_at widths source lengths index) lengths lengths_are s in_lengths
 
         pub list_inside : at + from + count ≤ length index
         list_inside = omega (arith, within, list_long, is, segment_within lengths index fits.total s in_lengths)
@@ -109,7 +109,7 @@ module _ {X : Type 0} where
           pub part_in_range : elements_at (take (start + m - start) (drop start source)) (take (first + count - first) (drop first index)) ≡ part (get_or (lists_at widths source lengths index) s []) from count
           part_in_range =
               (λ i. elements_at (source_is i) (sym ranged i))
-              ∙ sym (part_at ys js from count (subst (λ j. AreInside j js) (sym source_long) all.inside))
+              ∙ sym (part_at ys js from count (omega (arith, within, list_long, length-segment lengths index fits.total s in_lengths)) (subst (λ j. AreInside j js) (sym source_long) all.inside))
               ∙ ap (λ zs. part zs from count) (sym all.is)
 
 pub seg_back_told : {X : Type 0} (source : List X) (index : List ℤ) (widths lengths : List ℕ) → sum widths ≡ length source → sum lengths ≡ length index → length widths ≡ length lengths

@@ -3,7 +3,6 @@ use Rattle.std.proofs.Common.{◌≡◌, ◌≢◌, ◌∙◌, not, inl, inr, �
 use Rattle.std.specs.List.{zip}
 use Rattle.std.proofs.lemmas.List.{drop-drop, length-take-le, take-append-drop}
 use Rattle.std.proofs.lemmas.Slice.Zip.{length-zip}
-use Rattle.std.proofs.lemmas.Bool.Decides.{eqb_tells}
 use Rattle.cvl_base.specs.declared.fault.Fault.{Fault}
 use Rattle.cvl_base.specs.declared.fault.FaultNo.TheVariants.{LengthMismatch}
 use Rattle.cvl_base.specs.Faults.{fault}
@@ -21,7 +20,7 @@ use Rattle.segment_sends.specs.Parts.{fault_from, flagged_parts, parts_of, sende
 use Rattle.permute_walks.specs.Senders.{nobody, written_over}
 use Rattle.cvl_base.proofs.Nests.{length-cut, nest-fits}
 use Rattle.cvl_base.proofs.Lists.{sum-cons}
-use Rattle.permutes.proofs.Flat.{if_as_long-fits}
+use Rattle.cvl_base.proofs.Elementwise.{if_as_long-fits, if_as_long-misfits}
 use Rattle.permutes.proofs.Told.{IsSent, IsSentOver}
 use Rattle.segment_sends.proofs.AllSent.{flagged_segments_sent, length-senders, length-senders_from, segments_sent}
 use Rattle.segment_sends.proofs.Through.{places-flagged_parts}
@@ -108,12 +107,7 @@ module _ {S C : Type 0} (segments : Result (List S) Fault) (ss : List S) (widths
 
   -- where the segments are not equally many
   pub beside-differ : length ss ≢ length widths → beside segments (nest widths zs) ≡ Err (fault LengthMismatch)
-  beside-differ differ =
-      both
-      ∙ elim (eqb_tells (length ss) (length (cut_of widths zs))) [
-        | inl t ↦ absurd (differ (t.1 ∙ length-cut widths zs))
-        | inr t ↦ ap (λ b. fault_if (not b) (fault LengthMismatch) (Ok (zip ss (cut_of widths zs)))) t.0
-      ]
+  beside-differ differ = both ∙ if_as_long-misfits ss (cut_of widths zs) (Ok (zip ss (cut_of widths zs))) (λ same. differ (same ∙ length-cut widths zs))
 
 -- ---- the definitions
 
@@ -146,7 +140,7 @@ module _ {X : Type 0} (source : List X) (index : List ℤ) (lengths : List ℕ) 
     seg_simple_sent = record {
       is = ap (end_to_end (in_vector lengths) (of_two simple_of)) nested
           ∙ simple_walked lengths source small 0 0 lengths source index refl refl refl (omega (arith, total)) index_total;
-      sent = segments_sent (length source) small 0 lengths index index_total (omega (arith, total, index_total));
+      sent = segments_sent (length source) small lengths index index_total (omega (arith, total, index_total));
       as_many = length-senders lengths lengths index refl ∙ index_total;
     }
 
@@ -155,7 +149,7 @@ module _ {X : Type 0} (source : List X) (index : List ℤ) (lengths : List ℕ) 
     seg_select_sent flags flag_total = record {
       is = ap (end_to_end (in_vector lengths) (of_three select_of)) (beside-fits (beside (nest lengths source) (nest lengths index)) segments lengths flags nested flag_total many)
           ∙ select_walked lengths source small 0 0 lengths source index flags refl refl refl (omega (arith, total)) index_total flag_total;
-      sent = flagged_segments_sent (length source) small 0 lengths index flags index_total (sym index_total ∙ flag_total) (omega (arith, total, index_total));
+      sent = flagged_segments_sent (length source) small lengths index flags index_total flag_total (omega (arith, total, index_total));
       as_many = length-senders_from 0 (flagged_parts lengths index flags) ∙ places-flagged_parts lengths index flags flag_total;
     }
 

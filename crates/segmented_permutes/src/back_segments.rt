@@ -9,13 +9,11 @@ ghost use Rattle.permute_walks.specs.Senders.{fault_told};
 ghost use Rattle.segmented_permutes.specs.Backs.{IsSegmentedBack, lists_at, outside_from, segments_at};
 
 use crate::looks::Look;
-use cvl_base::{Fault, Memory, NoResources};
-use fresh::{Run, write_in_runs, write_over};
+use cvl_base::Fault;
+use fresh::Run;
 use permute_walks::write_elements_at;
-use segdes::{EndToEnd, SegDes, Segments};
-use sharing::ThreadCount;
+use segdes::{SegDes, Segments};
 use std::alloc::{AllocError, Allocator};
-use std::thread::Threads;
 
 /// The first walk, which looks at one segment after another: `IndexOutOfRange` at the first place whose index is no place of its
 /// segment of the source.
@@ -39,12 +37,12 @@ pub(crate) fn check_segments<L: Look, A: Allocator>(
     Ok(())
 }
 
-/// The element at each index, segment by segment.
-struct SegmentsAt<'a, T, A: Allocator> {
-    source: &'a [T],
-    index: &'a [i32],
-    source_d: &'a SegDes<A>,
-    index_d: &'a SegDes<A>,
+/// The element at each index, segment by segment, which the second walk writes.
+pub(crate) struct SegmentsAt<'a, T, A: Allocator> {
+    pub(crate) source: &'a [T],
+    pub(crate) index: &'a [i32],
+    pub(crate) source_d: &'a SegDes<A>,
+    pub(crate) index_d: &'a SegDes<A>,
     ghost fits: { IsSegmentedBack source_d.now source.now index_d.now index.now },
 }
 
@@ -71,6 +69,7 @@ impl<'a, T: Copy, A: Allocator> Segments for SegmentsAt<'a, T, A> {
 
     ghost lists = { λ w. lists_at w.source_d.now w.source.now w.index_d.now w.index.now };
 
+    #[tactic(auto, using(crate::proofs::Listed::lengths_are))]
     fn descriptor(&self) -> &SegDes<A>
         ensures { result.now ≡ map length (lists_at self.now.source_d.now self.now.source.now self.now.index_d.now self.now.index.now) }
     {
@@ -92,48 +91,4 @@ impl<'a, T: Copy, A: Allocator> Segments for SegmentsAt<'a, T, A> {
         let first = self.index_d.start(s) + from;
         write_elements_at(run, source, &self.index[first..first + count])
     }
-}
-
-/// The second walk, by at most `threads` threads: the element at each index, segment by segment. Each index is a place of its
-/// segment of the source.
-pub(crate) fn segments_at<T: Copy + Send + Sync, R: Threads + Sync, A: Memory>(
-    rt: &R,
-    alloc: A,
-    threads: ThreadCount,
-    source: &[T],
-    index: &[i32],
-    source_d: &SegDes<A>,
-    index_d: &SegDes<A>,
-) -> Result<Vec<T, A>, NoResources>
-    requires fits { IsSegmentedBack source_d.now source.now index_d.now index.now }
-    ensures { IfOk result (λ v. v.items ≡ segments_at source_d.now source.now index_d.now index.now) }
-{
-    let segments = SegmentsAt {
-        source,
-        index,
-        source_d,
-        index_d,
-    };
-    Ok(write_in_runs(rt, alloc, threads, &EndToEnd { segments }, index.len())?)
-}
-
-/// The same as [`segments_at`], over a room of as many places, by the thread that calls.
-pub(crate) fn segments_at_over<T: Copy, A: Allocator>(
-    source: &[T],
-    index: &[i32],
-    source_d: &SegDes<A>,
-    index_d: &SegDes<A>,
-    out: &mut [T],
-)
-    requires fits { IsSegmentedBack source_d.now source.now index_d.now index.now }
-    requires as_long { length out.old ≡ length index.now }
-    ensures { out.new ≡ segments_at source_d.now source.now index_d.now index.now }
-{
-    let segments = SegmentsAt {
-        source,
-        index,
-        source_d,
-        index_d,
-    };
-    write_over(out, &EndToEnd { segments });
 }

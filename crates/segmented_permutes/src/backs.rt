@@ -6,13 +6,14 @@ ghost use Rattle.cvl_base.specs.Limits.{most_elements};
 ghost use Rattle.cvl_base.specs.SegmentedCalls.{seg_back_of};
 ghost use Rattle.segmented_permutes.specs.Backs.{outside_from};
 
-use crate::back_segments::{check_segments, segments_at};
+use crate::back_segments::{SegmentsAt, check_segments};
 use crate::flat_indices::flat_indices;
 use crate::looks::ByThreads;
 use crew::{Gate, OpenGate};
 use cvl_base::{Config, Memory, Refused, check_agree};
+use fresh::write_in_runs;
 use permute_races::{check_indices_raced, permute_pace};
-use segdes::{SegDes, check_total};
+use segdes::{EndToEnd, SegDes, check_total};
 use segment_sends::AllParts;
 use sharing::threads_writing;
 use std::thread::Threads;
@@ -95,5 +96,11 @@ pub fn seg_back_gated<T: Copy + Send + Sync, R: Threads + Sync, A: Memory, G: Ga
     check_agree(source_d.count(), index_d.count())?;
     check_segment_indices(rt, alloc, config, index, source_d, index_d, gate)?;
     let threads = threads_writing(config, index.len());
-    Ok(segments_at(rt, alloc, threads, source, index, source_d, index_d)?)
+    let segments = SegmentsAt {
+        source,
+        index,
+        source_d,
+        index_d,
+    };
+    Ok(write_in_runs(rt, alloc, threads, &EndToEnd { segments }, index.len())?)
 }

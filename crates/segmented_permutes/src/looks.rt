@@ -8,7 +8,6 @@ ghost use Rattle.permute_walks.specs.Senders.{fault_told};
 
 use cvl_base::{Config, Fault};
 use permute_walks::{check_places, check_places_alone};
-use permutes::threads_looking;
 use std::thread::Threads;
 
 /// What looks at indices. Its meaning is what it needs so that it may look.
@@ -35,8 +34,7 @@ impl<'a, R: Threads + Sync> Look for ByThreads<'a, R> {
     ghost MayLook = { λ _. IsSync R.row };
 
     fn look(&self, index: &[i32], places: usize, first: usize) -> Result<(), Fault> {
-        let threads = threads_looking(self.config, index.len());
-        check_places(self.rt, threads, index, places, first)
+        check_places(self.rt, self.config, index, places, first)
     }
 }
 

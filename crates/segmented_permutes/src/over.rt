@@ -9,11 +9,12 @@ ghost use Rattle.cvl_base.specs.Limits.{most_elements};
 ghost use Rattle.cvl_base.specs.Rooms.{Overwrites, OverwritesOr, in_room};
 ghost use Rattle.cvl_base.specs.SegmentedCalls.{seg_back_of, seg_default_of, seg_select_of, seg_simple_of};
 
-use crate::back_segments::{check_segments, segments_at_over};
+use crate::back_segments::{SegmentsAt, check_segments};
 use crate::looks::ByCaller;
 use cvl_base::{Fault, Memory, Refused, check_agree, true_count};
+use fresh::write_over;
 use permutes::{take_or_default_over, take_over};
-use segdes::{SegDes, check_total};
+use segdes::{EndToEnd, SegDes, check_total};
 use segment_sends::{
     AllParts, FlaggedParts, are_permutations, scatter_segments_over, segment_senders_alone,
 };
@@ -110,6 +111,12 @@ pub fn seg_back_over<T: Copy, A: Allocator>(
     check_agree(source_d.count(), index_d.count())?;
     check_segments(&ByCaller, index, source_d, index_d)?;
     check_agree(index.len(), out.len())?;
-    segments_at_over(source, index, source_d, index_d, out);
+    let segments = SegmentsAt {
+        source,
+        index,
+        source_d,
+        index_d,
+    };
+    write_over(out, &EndToEnd { segments });
     Ok(())
 }

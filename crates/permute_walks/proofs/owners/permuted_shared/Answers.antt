@@ -1,14 +1,9 @@
-use Rattle.std.proofs.Common.{◌≡◌, ◌++◌, ◌∙◌, ℕ, List, length, take, drop, sym, ap, arith}
-use Rattle.std.proofs.lemmas.List.{append-nil, drop_all, take_all}
+use Rattle.std.proofs.Common.{◌≡◌, ◌∙◌, length, drop, sym, ap}
+use Rattle.std.proofs.lemmas.List.{take_at}
 use Rattle.permute_walks.specs.Senders.{count_sent, count_destinations, last_senders, written_over}
 use Rattle.permute_walks.proofs.LastSent.{as_many_told, fewer_told, length-last_senders}
 use Rattle.permute_walks.proofs.Taken.{length-over}
 use Rattle.permute_walks.proofs.owners.permuted_shared.Goals as goal
-
--- a vector that was written whole
-written_whole : {X : Type 0} (items news : List X) (len : ℕ) → length items ≡ length news → len ≡ length news → take len (news ++ drop (length news) items) ≡ news
-written_whole items news len same is =
-    ap (λ rest. take len (news ++ rest)) (drop_all (length news) items (omega (arith, same))) ∙ ap (take len) (append-nil news) ∙ take_all len news (omega (arith, is))
 
 pub returns-then-sent-count_destinations-clause-written : goal.returns-then-sent-count_destinations-clause-written
 returns-then-sent-count_destinations-clause-written g c =
@@ -17,7 +12,6 @@ returns-then-sent-count_destinations-clause-written g c =
     let places = c.args.places in
     let before = g.W.Writer.whole c.args.before.now in
     let news = c.write_ranges-sent.new.out in
-    let items = c.in_ok-out.out.items in
     let given = c.deref_mut.result.now in
     let shown : given ≡ before = c.deref_mut.ensures.value ∙ c.in_ok-out.ensures in
     let given_long : length given ≡ places = ap length shown ∙ sym c.requires.whole in
@@ -27,7 +21,7 @@ returns-then-sent-count_destinations-clause-written g c =
     ap length are ∙ length-over source (last_senders 0 ds 0 places) before (length-last_senders 0 ds 0 places ∙ c.requires.whole) ∙ sym c.requires.whole in
     let same : count_sent (last_senders 0 ds 0 places) ≡ count_destinations ds =
     sym (c.write_ranges-sent.ensures.count ∙ ap (λ n. count_sent (last_senders 0 ds 0 n)) given_long) ∙ c.if-sent-count_destinations.true ∙ c.count_destinations.ensures in
-    written_whole items news c.in_ok-out.out.len (ap length c.in_ok-out.ensures ∙ sym c.requires.whole ∙ sym news_long) (sym c.deref_mut.ensures.len ∙ given_long ∙ sym news_long)
+    take_at news (drop (length news) c.in_ok-out.out.items) c.in_ok-out.out.len (news_long ∙ sym given_long ∙ c.deref_mut.ensures.len)
     ∙ are ∙ ap (λ ss. written_over source ss before) (as_many_told ds places c.requires.few same).0
 
 pub returns-then-sent-count_destinations-clause-bad : goal.returns-then-sent-count_destinations-clause-bad

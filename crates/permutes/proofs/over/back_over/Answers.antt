@@ -1,7 +1,7 @@
-use Rattle.std.proofs.Common.{◌∙◌, ap, length, sym, Ok}
+use Rattle.std.proofs.Common.{◌∙◌, ap, arith, length, sym, Ok}
 use Rattle.cvl_base.specs.Rooms.{in_room}
 use Rattle.cvl_base.proofs.Rooms.{told}
-use Rattle.permute_walks.proofs.Outside.{all_inside}
+use Rattle.permute_walks.proofs.Outside.{all_inside, length-elements_at}
 use Rattle.permutes.proofs.Flat.{back_told}
 use Rattle.permutes.proofs.Told.{fits_in_room, mismatch, told_err}
 use Rattle.permutes.proofs.over.back_over.Goals as goal
@@ -17,9 +17,13 @@ returns-in_err-check_agree g c =
     mismatch (back_told c.args.source.now c.args.index.now) c.in_err-check_agree.field-0.0 c.args.out.now c.in_ok-check_places_alone.ensures c.in_err-check_agree.ensures
     c.from_residual-in_err-check_agree.result c.from_residual-in_err-check_agree.ensures.1
 
-pub elements_at_over-requires-clause-inside : goal.elements_at_over-requires-clause-inside
-elements_at_over-requires-clause-inside g c = all_inside 0 (length c.args.source.now) c.args.index.now c.in_ok-check_places_alone.ensures
+pub invariant_of-write_over : goal.invariant_of-write_over
+invariant_of-write_over g c = record { inside = all_inside 0 (length c.args.source.now) c.args.index.now c.in_ok-check_places_alone.ensures }
+
+pub write_over-requires-clause-as_long : goal.write_over-requires-clause-as_long
+write_over-requires-clause-as_long g c =
+    omega (arith, length-elements_at c.args.source.now c.args.index.now (all_inside 0 (length c.args.source.now) c.args.index.now c.in_ok-check_places_alone.ensures), c.in_ok-check_agree.ensures)
 
 pub returns : goal.returns
 returns g c =
-    fits_in_room (back_told c.args.source.now c.args.index.now) (length c.args.out.now) c.in_ok-check_places_alone.ensures c.in_ok-check_agree.ensures ∙ ap Ok (sym c.elements_at_over.ensures)
+    fits_in_room (back_told c.args.source.now c.args.index.now) (length c.args.out.now) c.in_ok-check_places_alone.ensures c.in_ok-check_agree.ensures ∙ ap Ok (sym c.write_over.ensures)

@@ -14,21 +14,11 @@ returns-clause-in_length g c =
     let ts = g.D.Destinations.destinations c.args.destinations.now in
     shorter (λ v. vec_len v) c.elements_found.result (omega (arith, length-senders_of 0 ts c.args.places)) (c.elements_found.ensures.in_length _ _ c.senders_to-found.ensures)
 
-pub returns-in-Some-2-clause-values : goal.returns-in-Some-2-clause-values
-returns-in-Some-2-clause-values g c sent =
+pub returns-in-Some-permuted-clause-values : goal.returns-in-Some-permuted-clause-values
+returns-in-Some-permuted-clause-values g c sent =
     let ts = g.D.Destinations.destinations c.args.destinations.now in
     let places = c.args.places in
-    let elements = c.in-Some-2.elements in
+    let elements = c.in-Some-permuted.elements in
     sent_written (record { is = refl; sent = sent; as_many = length-senders_of 0 ts places }) (replicate places c.in-Some.first.now) elements.items (length-replicate places c.in-Some.first.now)
-    (found_gives _ c.in_ok-elements.field-0 elements c.in-Some-2.is c.in_ok-elements.ensures.right)
-    (found_gives _ c.in_ok-elements.field-0 elements c.in-Some-2.is c.in_ok-elements.ensures.written)
-
-pub returns-in-Some-2-clause-in_length : goal.returns-in-Some-2-clause-in_length
-returns-in-Some-2-clause-in_length g c =
-    let ts = g.D.Destinations.destinations c.args.destinations.now in
-    let places = c.args.places in
-    let before = replicate places c.in-Some.first.now in
-    let elements = c.in-Some-2.elements in
-    let are : elements.items ≡ written_over c.args.source.now (senders_of 0 ts places) before = found_gives _ c.in_ok-elements.field-0 elements c.in-Some-2.is c.in_ok-elements.ensures.written in
-    let long = length-replicate places c.in-Some.first.now in
-    omega (arith, elements.ok.0, ap length are, length-over c.args.source.now (senders_of 0 ts places) before (length-senders_of 0 ts places ∙ sym long), long)
+    (found_gives _ c.in_ok-permuted.permuted elements c.in-Some-permuted.is c.in_ok-permuted.ensures.right)
+    (found_gives _ c.in_ok-permuted.permuted elements c.in-Some-permuted.is c.in_ok-permuted.ensures.written)

@@ -17,12 +17,3 @@ pub returns-clause-values : goal.returns-clause-values
 returns-clause-values g c =
     let ts = g.D.Destinations.destinations c.args.destinations.now in
     c.elements_or_defaults_found.ensures.values _ _ c.senders_to-found.ensures (λ none. length-senders_of 0 ts (length c.args.defaults.now))
-
-pub returns-in-Some-clause-as_long : goal.returns-in-Some-clause-as_long
-returns-in-Some-clause-as_long g c =
-    let ts = g.D.Destinations.destinations c.args.destinations.now in
-    let defaults = c.args.defaults.now in
-    let places = length defaults in
-    let elements = c.in-Some.elements in
-    let are : elements.items ≡ written_over c.args.source.now (senders_of 0 ts places) defaults = found_gives _ c.in_ok-elements.field-0 elements c.in-Some.is c.in_ok-elements.ensures.written in
-    omega (arith, elements.ok.0, ap length are, length-over c.args.source.now (senders_of 0 ts places) defaults (length-senders_of 0 ts places))

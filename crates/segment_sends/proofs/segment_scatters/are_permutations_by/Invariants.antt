@@ -1,6 +1,7 @@
-use Rattle.segment_sends.specs.Parts.{parts_of}
-use Rattle.segment_sends.specs.Shares.{AreRight}
+use Rattle.std.proofs.Common.{◌≡◌}
+use Rattle.segment_sends.specs.Parts.{fault_from, parts_of}
+use Rattle.segment_sends.specs.Shares.{fault_behind}
 use Rattle.segment_sends.proofs.segment_scatters.are_permutations_by.Given as goal
 
 abbrev pub invariant-loop-s : goal.invariant-loop-s
-invariant-loop-s g l = AreRight (parts_of l.d l.d l.index) 0 l.s
+invariant-loop-s g l = fault_from 0 (parts_of l.d l.d l.index) ≡ fault_behind (parts_of l.d l.d l.index) l.s

@@ -1,14 +1,16 @@
-use Rattle.std.proofs.Common.{rules, ◌≡◌, ◌∙◌, refl, OnOk}
-use Rattle.permute_walks.specs.Senders.{fault_told}
-use Rattle.permutes.proofs.Walked.{sends_at}
+use Rattle.std.proofs.Common.{arith}
+use Rattle.std.proofs.lemmas.Result.{err_from_is_err_and}
 use Rattle.segment_sends.specs.Parts.{fault_from, senders_from}
-use Rattle.segment_sends.proofs.AllSent.{length-senders_from}
+use Rattle.permutes.proofs.Walked.{found_fault, found_ok}
 use Rattle.segment_sends.proofs.sent_alone.segment_senders_alone.Goals as goal
+
+pub returns-in_err-send_parts : goal.returns-in_err-send_parts
+returns-in_err-send_parts g c =
+    let parts = g.P.Parts.parts c.args.parts.now in
+    let p = err_from_is_err_and c.from_residual-in_err-send_parts.result c.from_residual-in_err-send_parts.ensures.1 in
+    rw (p.1, p.2) (found_fault (fault_from 0 parts) (senders_from 0 parts) c.in_err-send_parts.field-0.0 c.in_err-send_parts.ensures.fault)
 
 pub returns : goal.returns
 returns g c =
-    let parts = g.P.Parts.parts c.args.parts.now in
-    c.senders_found.ensures.1 (fault_from 0 parts) (senders_from 0 parts) (length-senders_from 0 parts ∙ c.requires.whole)
-    (λ given left p.
-    let met : (fault_told given ≡ fault_from 0 parts) × OnOk given (p.left.now ≡ senders_from 0 parts) = search rules in
-    sends_at (λ n. fault_from 0 parts) (λ n. senders_from 0 parts) given p.left.now left 0 0 refl p.leaves met)
+    found_ok _ _ c.send_parts.new.senders c.in_ok-senders.senders.items c.in_ok-senders.senders.len c.in_ok-send_parts.ensures.fault c.in_ok-send_parts.ensures.sent
+    (omega (arith, c.send_parts.auto.senders, c.deref_mut.ensures.len))

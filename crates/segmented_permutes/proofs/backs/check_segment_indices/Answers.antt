@@ -12,9 +12,6 @@ pub flat_indices-requires-clause-in_limit : goal.flat_indices-requires-clause-in
 flat_indices-requires-clause-in_limit g c κs within =
     omega (arith, places-parts c.args.index_d.now c.args.source_d.now c.args.index.now (sym c.requires.count), c.total-places.ensures.value, c.total-places.ensures.in_limit)
 
-pub check_indices_raced-requires-after_bounds : goal.check_indices_raced-requires-after_bounds
-check_indices_raced-requires-after_bounds g c κs within = omega (arith, ap length c.deref.ensures.value, c.in_ok-flat-in-Some.ensures.as_long, c.requires.in_limit)
-
 pub returns-in_ok-flat-in-Some : goal.returns-in_ok-flat-in-Some
 returns-in_ok-flat-in-Some g c =
     let whole = c.total-places.result in

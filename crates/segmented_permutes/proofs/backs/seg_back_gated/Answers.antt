@@ -21,14 +21,20 @@ returns-in_err-check_segment_indices-clause-values g c =
     (omega (arith, c.in_ok-check_agree.ensures)) in
     rw (p.1, p.2) (told_refused call (λ (v : Vec g.row.T.Denot g.row.A.Denot). v.items) c.in_err-check_segment_indices.field-0.0 c.in_err-check_segment_indices.ensures)
 
+pub write_in_runs-requires-after_bounds : goal.write_in_runs-requires-after_bounds
+write_in_runs-requires-after_bounds g c κs within =
+    let call = seg_back_told c.args.source.now c.args.index.now c.args.source_d.now c.args.index_d.now c.in_ok-check_total.ensures.agrees c.in_ok-check_total-2.ensures.agrees
+    (omega (arith, c.in_ok-check_agree.ensures)) in
+    sym (call.long (none_told _ c.in_ok-check_segment_indices.ensures))
+
 pub returns-clause-values : goal.returns-clause-values
 returns-clause-values g c =
     let call = seg_back_told c.args.source.now c.args.index.now c.args.source_d.now c.args.index_d.now c.in_ok-check_total.ensures.agrees c.in_ok-check_total-2.ensures.agrees
     (omega (arith, c.in_ok-check_agree.ensures)) in
-    told_ok call (none_told _ c.in_ok-check_segment_indices.ensures) _ c.in_ok-segments_at.ensures
+    told_ok call (none_told _ c.in_ok-check_segment_indices.ensures) _ c.in_ok-write_in_runs.ensures
 
 pub returns-clause-as_long : goal.returns-clause-as_long
 returns-clause-as_long g c =
     let call = seg_back_told c.args.source.now c.args.index.now c.args.source_d.now c.args.index_d.now c.in_ok-check_total.ensures.agrees c.in_ok-check_total-2.ensures.agrees
     (omega (arith, c.in_ok-check_agree.ensures)) in
-    omega (arith, c.in_ok-segments_at.field-0.ok.0, ap length c.in_ok-segments_at.ensures, call.long (none_told _ c.in_ok-check_segment_indices.ensures))
+    omega (arith, c.in_ok-write_in_runs.field-0.ok.0, ap length c.in_ok-write_in_runs.ensures, call.long (none_told _ c.in_ok-check_segment_indices.ensures))

@@ -8,15 +8,6 @@ use Rattle.segment_sends.proofs.Through.{destinations-parts, places-parts}
 use Rattle.segmented_permutes.proofs.Whole.{seg_default-differ, seg_default_sent}
 use Rattle.segmented_permutes.proofs.defaults.seg_default_into_gated.Goals as goal
 
-pub returns-in_err-check_agree-clause-values : goal.returns-in_err-check_agree-clause-values
-returns-in_err-check_agree-clause-values g c =
-    let p = err_from_is_err_and c.from_residual-in_err-check_agree.result c.from_residual-in_err-check_agree.ensures.1 in
-    let differ = c.in_err-check_agree.ensures in
-    rw (p.1, p.2)
-    (seg_default-differ c.args.source.now c.args.index.now c.args.source_d.now c.in_ok-check_total.ensures.agrees c.in_ok-check_total-2.ensures.agrees c.args.defaults.now c.args.default_d.now
-    c.in_ok-check_total-3.ensures.agrees (λ same. differ.1 (c.count.ensures.value ∙ same ∙ sym c.count-2.ensures.value))
-    ∙ ap (λ f. Err f) (sym differ.0))
-
 pub permuted_segments-requires-clause-few : goal.permuted_segments-requires-clause-few
 permuted_segments-requires-clause-few g c κs within =
     let count : length c.args.source_d.now ≡ length c.args.default_d.now = omega (arith, c.in_ok-check_agree.ensures) in
@@ -25,6 +16,15 @@ permuted_segments-requires-clause-few g c κs within =
 pub permuted_segments-requires-clause-as_long : goal.permuted_segments-requires-clause-as_long
 permuted_segments-requires-clause-as_long g c κs within =
     places-parts c.args.source_d.now c.args.default_d.now c.args.index.now (omega (arith, c.in_ok-check_agree.ensures)) ∙ c.in_ok-check_total-3.ensures.agrees
+
+pub returns-in_err-check_agree-clause-values : goal.returns-in_err-check_agree-clause-values
+returns-in_err-check_agree-clause-values g c =
+    let p = err_from_is_err_and c.from_residual-in_err-check_agree.result c.from_residual-in_err-check_agree.ensures.1 in
+    let differ = c.in_err-check_agree.ensures in
+    rw (p.1, p.2)
+    (seg_default-differ c.args.source.now c.args.index.now c.args.source_d.now c.in_ok-check_total.ensures.agrees c.in_ok-check_total-2.ensures.agrees c.args.defaults.now c.args.default_d.now
+    c.in_ok-check_total-3.ensures.agrees (λ same. differ.1 (c.count.ensures.value ∙ same ∙ sym c.count-2.ensures.value))
+    ∙ ap (λ f. Err f) (sym differ.0))
 
 pub returns-in-Some-clause-values : goal.returns-in-Some-clause-values
 returns-in-Some-clause-values g c =

@@ -29,8 +29,14 @@ returns-in_err-check_agree-2 g c =
     mismatch call c.in_err-check_agree-2.field-0.0 c.args.out.now c.in_ok-check_segments.ensures c.in_err-check_agree-2.ensures
     c.from_residual-in_err-check_agree-2.result c.from_residual-in_err-check_agree-2.ensures.1
 
+pub write_over-requires-clause-as_long : goal.write_over-requires-clause-as_long
+write_over-requires-clause-as_long g c =
+    let call = seg_back_told c.args.source.now c.args.index.now c.args.source_d.now c.args.index_d.now c.in_ok-check_total.ensures.agrees c.in_ok-check_total-2.ensures.agrees
+    (omega (arith, c.in_ok-check_agree.ensures)) in
+    omega (arith, call.long c.in_ok-check_segments.ensures, c.in_ok-check_agree-2.ensures)
+
 pub returns : goal.returns
 returns g c =
     let call = seg_back_told c.args.source.now c.args.index.now c.args.source_d.now c.args.index_d.now c.in_ok-check_total.ensures.agrees c.in_ok-check_total-2.ensures.agrees
     (omega (arith, c.in_ok-check_agree.ensures)) in
-    fits_in_room call (length c.args.out.now) c.in_ok-check_segments.ensures c.in_ok-check_agree-2.ensures ∙ ap Ok (sym c.segments_at_over.ensures)
+    fits_in_room call (length c.args.out.now) c.in_ok-check_segments.ensures c.in_ok-check_agree-2.ensures ∙ ap Ok (sym c.write_over.ensures)

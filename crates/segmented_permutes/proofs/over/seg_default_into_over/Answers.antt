@@ -6,6 +6,15 @@ use Rattle.segment_sends.proofs.Through.{destinations-parts, places-parts}
 use Rattle.segmented_permutes.proofs.Whole.{seg_default-differ, seg_default_sent}
 use Rattle.segmented_permutes.proofs.over.seg_default_into_over.Goals as goal
 
+pub segment_senders_alone-found-requires-clause-few : goal.segment_senders_alone-found-requires-clause-few
+segment_senders_alone-found-requires-clause-few g c κs within =
+    let count : length c.args.source_d.now ≡ length c.args.default_d.now = omega (arith, c.in_ok-check_agree.ensures) in
+    omega (arith, destinations-parts c.args.source_d.now c.args.default_d.now c.args.index.now c.in_ok-check_total-2.ensures.agrees count, c.requires.in_limit)
+
+pub segment_senders_alone-found-requires-clause-whole : goal.segment_senders_alone-found-requires-clause-whole
+segment_senders_alone-found-requires-clause-whole g c κs within =
+    places-parts c.args.source_d.now c.args.default_d.now c.args.index.now (omega (arith, c.in_ok-check_agree.ensures)) ∙ c.in_ok-check_total-3.ensures.agrees
+
 pub returns-in_err-check_agree : goal.returns-in_err-check_agree
 returns-in_err-check_agree g c =
     let differ = c.in_err-check_agree.ensures in
@@ -16,15 +25,6 @@ returns-in_err-check_agree g c =
           ∙ ap Err (sym differ.0),
       refl,
     )
-
-pub segment_senders_alone-found-requires-clause-few : goal.segment_senders_alone-found-requires-clause-few
-segment_senders_alone-found-requires-clause-few g c κs within =
-    let count : length c.args.source_d.now ≡ length c.args.default_d.now = omega (arith, c.in_ok-check_agree.ensures) in
-    omega (arith, destinations-parts c.args.source_d.now c.args.default_d.now c.args.index.now c.in_ok-check_total-2.ensures.agrees count, c.requires.in_limit)
-
-pub segment_senders_alone-found-requires-clause-whole : goal.segment_senders_alone-found-requires-clause-whole
-segment_senders_alone-found-requires-clause-whole g c κs within =
-    places-parts c.args.source_d.now c.args.default_d.now c.args.index.now (omega (arith, c.in_ok-check_agree.ensures)) ∙ c.in_ok-check_total-3.ensures.agrees
 
 pub take_or_default_over-requires-clause-as_long : goal.take_or_default_over-requires-clause-as_long
 take_or_default_over-requires-clause-as_long g c κs within =

@@ -5,6 +5,13 @@ use Rattle.segment_sends.proofs.Through.{destinations-parts, places-parts}
 use Rattle.segmented_permutes.proofs.Whole.{seg_simple_sent}
 use Rattle.segmented_permutes.proofs.over.seg_simple_over.Goals as goal
 
+pub segment_senders_alone-found-requires-clause-few : goal.segment_senders_alone-found-requires-clause-few
+segment_senders_alone-found-requires-clause-few g c κs within =
+    omega (arith, destinations-parts c.args.d.now c.args.d.now c.args.index.now c.in_ok-check_total-2.ensures.agrees refl, c.requires.in_limit)
+
+pub segment_senders_alone-found-requires-clause-whole : goal.segment_senders_alone-found-requires-clause-whole
+segment_senders_alone-found-requires-clause-whole g c κs within = places-parts c.args.d.now c.args.d.now c.args.index.now refl ∙ c.in_ok-check_total-2.ensures.agrees
+
 pub returns-in_err-check_agree : goal.returns-in_err-check_agree
 returns-in_err-check_agree g c =
     let call = seg_simple_sent c.args.source.now c.args.index.now c.args.d.now c.in_ok-check_total.ensures.agrees c.in_ok-check_total-2.ensures.agrees c.requires.in_limit in
@@ -15,13 +22,6 @@ pub returns-then-branch : goal.returns-then-branch
 returns-then-branch g c =
     let call = seg_simple_sent c.args.source.now c.args.index.now c.args.d.now c.in_ok-check_total.ensures.agrees c.in_ok-check_total-2.ensures.agrees c.requires.in_limit in
     (fits_in_room (sent_told call) (length c.args.out.now) (c.in_ok-are_permutations.ensures.0 c.if-branch.true) c.in_ok-check_agree.ensures ∙ ap Ok (sym c.scatter_segments_over.ensures), tt)
-
-pub segment_senders_alone-found-requires-clause-few : goal.segment_senders_alone-found-requires-clause-few
-segment_senders_alone-found-requires-clause-few g c κs within =
-    omega (arith, destinations-parts c.args.d.now c.args.d.now c.args.index.now c.in_ok-check_total-2.ensures.agrees refl, c.requires.in_limit)
-
-pub segment_senders_alone-found-requires-clause-whole : goal.segment_senders_alone-found-requires-clause-whole
-segment_senders_alone-found-requires-clause-whole g c κs within = places-parts c.args.d.now c.args.d.now c.args.index.now refl ∙ c.in_ok-check_total-2.ensures.agrees
 
 pub returns : goal.returns
 returns g c =

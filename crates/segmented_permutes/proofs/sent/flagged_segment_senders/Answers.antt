@@ -14,6 +14,14 @@ pub flat_indices-requires-clause-in_limit : goal.flat_indices-requires-clause-in
 flat_indices-requires-clause-in_limit g c κs within =
     omega (arith, places-flagged_parts c.args.d.now c.args.index.now c.args.flags.now (c.requires.total ∙ c.requires.as_long), c.true_count-places.ensures.value, c.in-Some.ensures.few_places)
 
+pub segment_senders_alone-requires-clause-few : goal.segment_senders_alone-requires-clause-few
+segment_senders_alone-requires-clause-few g c κs within =
+    omega (arith, destinations-flagged_parts c.args.d.now c.args.index.now c.args.flags.now c.requires.total (c.requires.total ∙ c.requires.as_long), c.requires.in_limit)
+
+pub segment_senders_alone-requires-clause-whole : goal.segment_senders_alone-requires-clause-whole
+segment_senders_alone-requires-clause-whole g c κs within =
+    places-flagged_parts c.args.d.now c.args.index.now c.args.flags.now (c.requires.total ∙ c.requires.as_long) ∙ sym c.true_count-places.ensures.value
+
 pub senders_raced-requires-clause-few : goal.senders_raced-requires-clause-few
 senders_raced-requires-clause-few g c κs within = omega (arith, count-flagged_destinations c.deref.result.now c.args.flags.now, c.requires.as_long, c.requires.in_limit)
 
@@ -26,11 +34,3 @@ returns-in_ok-flat-in-Some g c =
     (ap (λ js. flagged_destinations js flags) (c.deref.ensures.value ∙ c.in_ok-flat-in-Some.ensures.are)
     ∙ sym (destinations_flagged 0 d index flags (omega (arith, c.requires.total)) (omega (arith, c.requires.total, c.requires.as_long)))))
     c.senders_raced.ensures
-
-pub segment_senders_alone-requires-clause-few : goal.segment_senders_alone-requires-clause-few
-segment_senders_alone-requires-clause-few g c κs within =
-    omega (arith, destinations-flagged_parts c.args.d.now c.args.index.now c.args.flags.now c.requires.total (c.requires.total ∙ c.requires.as_long), c.requires.in_limit)
-
-pub segment_senders_alone-requires-clause-whole : goal.segment_senders_alone-requires-clause-whole
-segment_senders_alone-requires-clause-whole g c κs within =
-    places-flagged_parts c.args.d.now c.args.index.now c.args.flags.now (c.requires.total ∙ c.requires.as_long) ∙ sym c.true_count-places.ensures.value

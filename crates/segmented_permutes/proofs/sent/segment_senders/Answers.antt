@@ -14,9 +14,12 @@ pub flat_indices-requires-clause-in_limit : goal.flat_indices-requires-clause-in
 flat_indices-requires-clause-in_limit g c κs within =
     omega (arith, places-parts c.args.d.now c.args.result_d.now c.args.index.now c.requires.count, c.total-places.ensures.value, c.total-places.ensures.in_limit)
 
-pub senders_raced-requires-clause-few : goal.senders_raced-requires-clause-few
-senders_raced-requires-clause-few g c κs within =
-    omega (arith, length-all_destinations c.deref.result.now, ap length c.deref.ensures.value, c.in_ok-flat-in-Some.ensures.as_long, c.requires.in_limit)
+pub segment_senders_alone-requires-clause-few : goal.segment_senders_alone-requires-clause-few
+segment_senders_alone-requires-clause-few g c κs within =
+    omega (arith, destinations-parts c.args.d.now c.args.result_d.now c.args.index.now c.requires.total c.requires.count, c.requires.in_limit)
+
+pub segment_senders_alone-requires-clause-whole : goal.segment_senders_alone-requires-clause-whole
+segment_senders_alone-requires-clause-whole g c κs within = places-parts c.args.d.now c.args.result_d.now c.args.index.now c.requires.count ∙ sym c.total-places.ensures.value
 
 pub returns-in_ok-flat-in-Some : goal.returns-in_ok-flat-in-Some
 returns-in_ok-flat-in-Some g c =
@@ -25,10 +28,3 @@ returns-in_ok-flat-in-Some g c =
     (raced_flat parts c.total-places.result (all_destinations c.deref.result.now) (places-parts c.args.d.now c.args.result_d.now c.args.index.now c.requires.count ∙ sym c.total-places.ensures.value)
     (ap all_destinations (c.deref.ensures.value ∙ c.in_ok-flat-in-Some.ensures.are) ∙ sym (destinations_all 0 c.args.d.now c.args.result_d.now c.args.index.now (omega (arith, c.requires.total)))))
     c.senders_raced.ensures
-
-pub segment_senders_alone-requires-clause-few : goal.segment_senders_alone-requires-clause-few
-segment_senders_alone-requires-clause-few g c κs within =
-    omega (arith, destinations-parts c.args.d.now c.args.result_d.now c.args.index.now c.requires.total c.requires.count, c.requires.in_limit)
-
-pub segment_senders_alone-requires-clause-whole : goal.segment_senders_alone-requires-clause-whole
-segment_senders_alone-requires-clause-whole g c κs within = places-parts c.args.d.now c.args.result_d.now c.args.index.now c.requires.count ∙ sym c.total-places.ensures.value

@@ -1,6 +1,6 @@
-use Rattle.std.proofs.Common.{sym, arith, true, false}
+use Rattle.std.proofs.Common.{sym, arith, eq-eqb, true, false}
 use Rattle.std.proofs.lemmas.Bool.{ne_eqb}
-use Rattle.permute_races.proofs.Raced.{is_equal, length-beside, wrong_inside, wrong_now, wrong_outside}
+use Rattle.permute_races.proofs.Raced.{length-beside, wrong_inside, wrong_now, wrong_outside}
 use Rattle.permute_races.proofs.slots.SentFaulty.wrong.Goals as goal
 
 pub at-takes_part-requires : goal.at-takes_part-requires
@@ -18,7 +18,7 @@ returns-in_default g c =
 pub returns-then-self-destination : goal.returns-then-self-destination
 returns-then-self-destination g c =
     sym (wrong_inside c.args.self.now.senders.now (g.D.Destinations.destinations c.args.self.now.destinations.now) c.args.place c.requires c.at-takes_part.result.0.now _ c.at-takes_part.ensures
-    c.in-Some.destination true c.if-not-takes_part.false c.in-Some.ensures.named.1 c.in-Some.ensures.named.0 (is_equal _ _ c.if-self-destination.true))
+    c.in-Some.destination true c.if-not-takes_part.false c.in-Some.ensures.named.1 c.in-Some.ensures.named.0 (eq-eqb _ _ c.if-self-destination.true))
 
 pub returns-else-self-destination : goal.returns-else-self-destination
 returns-else-self-destination g c =

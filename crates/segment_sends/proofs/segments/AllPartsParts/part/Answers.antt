@@ -3,21 +3,6 @@ use Rattle.segment_sends.proofs.Ranges.{part_of_range}
 use Rattle.segment_sends.proofs.Through.{length-parts}
 use Rattle.segment_sends.proofs.segments.AllPartsParts.part.Goals as goal
 
-pub start-first-requires : goal.start-first-requires
-start-first-requires g c =
-    let parts = c.args.self.now in
-    omega (arith, length-parts parts.d.now parts.result_d.now parts.index.now c.requires.cut.1, c.requires.within)
-
-pub length-requires : goal.length-requires
-length-requires g c =
-    let parts = c.args.self.now in
-    omega (arith, length-parts parts.d.now parts.result_d.now parts.index.now c.requires.cut.1, c.requires.within)
-
-pub length-requires-2 : goal.length-requires-2
-length-requires-2 g c =
-    let parts = c.args.self.now in
-    omega (arith, length-parts parts.d.now parts.result_d.now parts.index.now c.requires.cut.1, c.requires.cut.1, c.requires.within)
-
 pub returns : goal.returns
 returns g c =
     let parts = c.args.self.now in

@@ -3,16 +3,6 @@ use Rattle.segment_sends.proofs.Ranges.{flagged_part_of_range}
 use Rattle.segment_sends.proofs.Through.{length-flagged_parts}
 use Rattle.segment_sends.proofs.segments.FlaggedPartsParts.part.Goals as goal
 
-pub start-first-requires : goal.start-first-requires
-start-first-requires g c =
-    let parts = c.args.self.now in
-    omega (arith, length-flagged_parts parts.d.now parts.index.now parts.flags.now, c.requires.within)
-
-pub length-requires : goal.length-requires
-length-requires g c =
-    let parts = c.args.self.now in
-    omega (arith, length-flagged_parts parts.d.now parts.index.now parts.flags.now, c.requires.within)
-
 pub returns : goal.returns
 returns g c =
     let parts = c.args.self.now in

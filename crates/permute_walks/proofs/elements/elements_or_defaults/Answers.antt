@@ -1,9 +1,0 @@
-use Rattle.std.proofs.Common.{length, ap, sym, arith}
-use Rattle.permute_walks.proofs.Taken.{length-over}
-use Rattle.permute_walks.proofs.elements.elements_or_defaults.Goals as goal
-
-pub write_in_runs-requires-after_bounds : goal.write_in_runs-requires-after_bounds
-write_in_runs-requires-after_bounds g c κs within = sym (length-over c.args.source.now c.args.senders.now c.args.defaults.now c.requires.as_long)
-
-pub returns-clause-as_long : goal.returns-clause-as_long
-returns-clause-as_long g c = omega (arith, ap length c.in_ok-write_in_runs.ensures, length-over c.args.source.now c.args.senders.now c.args.defaults.now c.requires.as_long)
