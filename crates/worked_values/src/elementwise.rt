@@ -1,192 +1,122 @@
 //! Worked values of the elementwise calls.
 
-ghost use Rattle.std.specs.Prelude.{◌≡◌, negsuc, pos, true, false, ℤ, [], ◌∷◌};
+ghost use Rattle.std.specs.Prelude.{◌≡◌, ℤ, []};
 ghost use Rattle.cvl_base.specs.declared.families.BoolBinary.TheVariants as truth;
 ghost use Rattle.cvl_base.specs.declared.families.Comparison.TheVariants.{Greater, Less, AtLeast, AtMost, Equal, Unequal};
 ghost use Rattle.cvl_base.specs.declared.families.IntBinary.TheVariants.{Add, Sub, Mul, Div, Mod, Min, Max, Lsh, Rsh, And, Ior, Xor};
 ghost use Rattle.cvl_base.specs.declared.families.Unary.TheVariants.{Not, Copy};
 ghost use Rattle.cvl_base.specs.declared.fault.FaultNo.TheVariants as no;
 ghost use Rattle.cvl_base.specs.Elementwise.{bools1_of, bools2_of, bools_from_ints, choose_of, compare_of, ints1_of, ints2_of, ints_from_bools};
-ghost use Rattle.cvl_base.specs.Faults.{fault, fault_at};
+ghost use Rattle.cvl_base.specs.Faults.{fault_at};
+ghost use Rattle.worked_values.specs.Written.{bools, ints, length_mismatch};
 
 /// An operator on two integer vectors: values wrap past either end, a quotient is truncated toward zero, and the
 /// least place with a divisor of 0 or a shift out of range is at fault, but vectors that aren't equally long are so
 /// before it.
 pub fn ints2()
-    ensures sums { ints2_of Add (pos 3 ∷ pos 1 ∷ pos 2147483647 ∷ []) (pos 1 ∷ negsuc 1 ∷ pos 1 ∷ [])
-        ≡ Ok (pos 4 ∷ negsuc 0 ∷ negsuc 2147483647 ∷ []) }
-    ensures differences { ints2_of Sub (pos 3 ∷ negsuc 2147483647 ∷ []) (pos 5 ∷ pos 1 ∷ [])
-        ≡ Ok (negsuc 1 ∷ pos 2147483647 ∷ []) }
-    ensures products { ints2_of Mul (pos 65536 ∷ negsuc 2 ∷ []) (pos 65536 ∷ pos 5 ∷ [])
-        ≡ Ok (pos 0 ∷ negsuc 14 ∷ []) }
-    ensures quotients { ints2_of Div (negsuc 6 ∷ negsuc 2147483647 ∷ []) (pos 2 ∷ negsuc 0 ∷ [])
-        ≡ Ok (negsuc 2 ∷ negsuc 2147483647 ∷ []) }
-    ensures remainders { ints2_of Mod (negsuc 6 ∷ negsuc 2147483647 ∷ []) (pos 2 ∷ negsuc 0 ∷ [])
-        ≡ Ok (negsuc 0 ∷ pos 0 ∷ []) }
-    ensures remainders_with_the_sign_of_the_dividend { ints2_of Mod (pos 7 ∷ negsuc 6 ∷ []) (negsuc 1 ∷ negsuc 1 ∷ [])
-        ≡ Ok (pos 1 ∷ negsuc 0 ∷ []) }
-    ensures lesser { ints2_of Min (pos 3 ∷ negsuc 4 ∷ []) (pos 2 ∷ pos 1 ∷ [])
-        ≡ Ok (pos 2 ∷ negsuc 4 ∷ []) }
-    ensures greater { ints2_of Max (pos 3 ∷ negsuc 4 ∷ []) (pos 2 ∷ pos 1 ∷ [])
-        ≡ Ok (pos 3 ∷ pos 1 ∷ []) }
-    ensures left_shifts_drop_high_bits { ints2_of Lsh (pos 1 ∷ pos 3 ∷ negsuc 0 ∷ []) (pos 31 ∷ pos 31 ∷ pos 1 ∷ [])
-        ≡ Ok (negsuc 2147483647 ∷ negsuc 2147483647 ∷ negsuc 1 ∷ []) }
-    ensures right_shifts_copy_the_sign { ints2_of Rsh (negsuc 6 ∷ pos 7 ∷ []) (pos 1 ∷ pos 1 ∷ [])
-        ≡ Ok (negsuc 3 ∷ pos 3 ∷ []) }
-    ensures common_bits { ints2_of And (negsuc 3 ∷ []) (pos 6 ∷ []) ≡ Ok (pos 4 ∷ []) }
-    ensures bits_of_either { ints2_of Ior (negsuc 3 ∷ []) (pos 6 ∷ []) ≡ Ok (negsuc 1 ∷ []) }
-    ensures bits_of_one { ints2_of Xor (negsuc 3 ∷ []) (pos 6 ∷ []) ≡ Ok (negsuc 5 ∷ []) }
-    ensures first_zero_divisor { ints2_of Div (pos 8 ∷ pos 6 ∷ pos 4 ∷ pos 2 ∷ []) (pos 2 ∷ pos 0 ∷ pos 0 ∷ pos 1 ∷ [])
-        ≡ Err (fault_at no.DivideByZero 1) }
-    ensures first_zero_modulus { ints2_of Mod (pos 8 ∷ pos 6 ∷ pos 4 ∷ []) (pos 3 ∷ pos 5 ∷ pos 0 ∷ [])
-        ≡ Err (fault_at no.DivideByZero 2) }
-    ensures left_shift_by_32 { ints2_of Lsh (pos 1 ∷ pos 1 ∷ []) (pos 0 ∷ pos 32 ∷ [])
-        ≡ Err (fault_at no.ShiftOutOfRange 1) }
-    ensures right_shift_by_32 { ints2_of Rsh (pos 1 ∷ pos 1 ∷ []) (pos 31 ∷ pos 32 ∷ [])
-        ≡ Err (fault_at no.ShiftOutOfRange 1) }
-    ensures left_shift_by_a_negative { ints2_of Lsh (pos 5 ∷ pos 5 ∷ pos 5 ∷ []) (pos 0 ∷ negsuc 0 ∷ pos 40 ∷ [])
-        ≡ Err (fault_at no.ShiftOutOfRange 1) }
-    ensures right_shift_by_a_negative { ints2_of Rsh (pos 5 ∷ pos 5 ∷ pos 5 ∷ []) (pos 0 ∷ negsuc 0 ∷ pos 40 ∷ [])
-        ≡ Err (fault_at no.ShiftOutOfRange 1) }
-    ensures lengths_before_divisors { ints2_of Div (pos 1 ∷ pos 2 ∷ []) (pos 0 ∷ [])
-        ≡ Err (fault no.LengthMismatch) }
-    ensures lengths_before_moduli { ints2_of Mod (pos 1 ∷ []) (pos 0 ∷ pos 0 ∷ [])
-        ≡ Err (fault no.LengthMismatch) }
-    ensures lengths_before_left_shifts { ints2_of Lsh (pos 1 ∷ pos 2 ∷ []) (pos 32 ∷ [])
-        ≡ Err (fault no.LengthMismatch) }
-    ensures lengths_before_right_shifts { ints2_of Rsh (pos 1 ∷ pos 2 ∷ []) (pos 32 ∷ [])
-        ≡ Err (fault no.LengthMismatch) }
-    ensures sums_mismatched { ints2_of Add (pos 1 ∷ pos 2 ∷ []) (pos 1 ∷ [])
-        ≡ Err (fault no.LengthMismatch) }
-    ensures differences_mismatched { ints2_of Sub (pos 1 ∷ []) (pos 1 ∷ pos 2 ∷ [])
-        ≡ Err (fault no.LengthMismatch) }
-    ensures products_mismatched { ints2_of Mul (pos 1 ∷ pos 2 ∷ []) []
-        ≡ Err (fault no.LengthMismatch) }
-    ensures lesser_mismatched { ints2_of Min (pos 1 ∷ pos 2 ∷ []) (pos 1 ∷ [])
-        ≡ Err (fault no.LengthMismatch) }
-    ensures greater_mismatched { ints2_of Max (pos 1 ∷ []) (pos 1 ∷ pos 2 ∷ [])
-        ≡ Err (fault no.LengthMismatch) }
-    ensures common_bits_mismatched { ints2_of And (pos 1 ∷ pos 2 ∷ []) (pos 1 ∷ [])
-        ≡ Err (fault no.LengthMismatch) }
-    ensures bits_of_either_mismatched { ints2_of Ior (pos 1 ∷ []) (pos 1 ∷ pos 2 ∷ [])
-        ≡ Err (fault no.LengthMismatch) }
-    ensures bits_of_one_mismatched { ints2_of Xor [] (pos 1 ∷ []) ≡ Err (fault no.LengthMismatch) }
-    ensures sums_past_the_bottom { ints2_of Add (negsuc 2147483647 ∷ []) (negsuc 0 ∷ [])
-        ≡ Ok (pos 2147483647 ∷ []) }
-    ensures opposite_of_the_least { ints2_of Mul (negsuc 2147483647 ∷ []) (negsuc 0 ∷ [])
-        ≡ Ok (negsuc 2147483647 ∷ []) }
-    ensures quotients_toward_zero { ints2_of Div (negsuc 6 ∷ pos 7 ∷ negsuc 6 ∷ negsuc 0 ∷ pos 7 ∷ [])
-        (pos 2 ∷ negsuc 1 ∷ negsuc 1 ∷ pos 2 ∷ pos 2 ∷ [])
-        ≡ Ok (negsuc 2 ∷ negsuc 2 ∷ pos 3 ∷ pos 0 ∷ pos 3 ∷ []) }
-    ensures remainders_of_either_sign { ints2_of Mod (negsuc 6 ∷ pos 7 ∷ negsuc 6 ∷ negsuc 0 ∷ pos 7 ∷ [])
-        (pos 2 ∷ negsuc 1 ∷ negsuc 1 ∷ pos 2 ∷ pos 2 ∷ [])
-        ≡ Ok (negsuc 0 ∷ pos 1 ∷ negsuc 0 ∷ negsuc 0 ∷ pos 1 ∷ []) }
-    ensures right_shifts_round_down { ints2_of Rsh (negsuc 7 ∷ negsuc 6 ∷ negsuc 0 ∷ negsuc 0 ∷ [])
-        (pos 1 ∷ pos 2 ∷ pos 1 ∷ pos 31 ∷ [])
-        ≡ Ok (negsuc 3 ∷ negsuc 1 ∷ negsuc 0 ∷ negsuc 0 ∷ []) }
-    ensures right_shifts_of_the_ends { ints2_of Rsh (negsuc 2147483647 ∷ negsuc 2147483647 ∷ pos 2147483647 ∷ [])
-        (pos 31 ∷ pos 1 ∷ pos 31 ∷ [])
-        ≡ Ok (negsuc 0 ∷ negsuc 1073741823 ∷ pos 0 ∷ []) }
-    ensures left_shifts_by_no_place { ints2_of Lsh (negsuc 6 ∷ pos 7 ∷ []) (pos 0 ∷ pos 0 ∷ [])
-        ≡ Ok (negsuc 6 ∷ pos 7 ∷ []) }
-    ensures right_shifts_by_no_place { ints2_of Rsh (negsuc 6 ∷ pos 7 ∷ []) (pos 0 ∷ pos 0 ∷ [])
-        ≡ Ok (negsuc 6 ∷ pos 7 ∷ []) }
+    ensures sums { ints2_of Add (ints "3 1 2147483647") (ints "1 -2 1") ≡ Ok (ints "4 -1 -2147483648") }
+    ensures differences { ints2_of Sub (ints "3 -2147483648") (ints "5 1") ≡ Ok (ints "-2 2147483647") }
+    ensures products { ints2_of Mul (ints "65536 -3") (ints "65536 5") ≡ Ok (ints "0 -15") }
+    ensures quotients { ints2_of Div (ints "-7 -2147483648") (ints "2 -1") ≡ Ok (ints "-3 -2147483648") }
+    ensures remainders { ints2_of Mod (ints "-7 -2147483648") (ints "2 -1") ≡ Ok (ints "-1 0") }
+    ensures remainders_with_the_sign_of_the_dividend { ints2_of Mod (ints "7 -7") (ints "-2 -2") ≡ Ok (ints "1 -1") }
+    ensures lesser { ints2_of Min (ints "3 -5") (ints "2 1") ≡ Ok (ints "2 -5") }
+    ensures greater { ints2_of Max (ints "3 -5") (ints "2 1") ≡ Ok (ints "3 1") }
+    ensures left_shifts_drop_high_bits { ints2_of Lsh (ints "1 3 -1") (ints "31 31 1") ≡ Ok (ints "-2147483648 -2147483648 -2") }
+    ensures right_shifts_copy_the_sign { ints2_of Rsh (ints "-7 7") (ints "1 1") ≡ Ok (ints "-4 3") }
+    ensures common_bits { ints2_of And (ints "-4") (ints "6") ≡ Ok (ints "4") }
+    ensures bits_of_either { ints2_of Ior (ints "-4") (ints "6") ≡ Ok (ints "-2") }
+    ensures bits_of_one { ints2_of Xor (ints "-4") (ints "6") ≡ Ok (ints "-6") }
+    ensures first_zero_divisor { ints2_of Div (ints "8 6 4 2") (ints "2 0 0 1") ≡ Err (fault_at no.DivideByZero 1) }
+    ensures first_zero_modulus { ints2_of Mod (ints "8 6 4") (ints "3 5 0") ≡ Err (fault_at no.DivideByZero 2) }
+    ensures left_shift_by_32 { ints2_of Lsh (ints "1 1") (ints "0 32") ≡ Err (fault_at no.ShiftOutOfRange 1) }
+    ensures right_shift_by_32 { ints2_of Rsh (ints "1 1") (ints "31 32") ≡ Err (fault_at no.ShiftOutOfRange 1) }
+    ensures left_shift_by_a_negative { ints2_of Lsh (ints "5 5 5") (ints "0 -1 40") ≡ Err (fault_at no.ShiftOutOfRange 1) }
+    ensures right_shift_by_a_negative { ints2_of Rsh (ints "5 5 5") (ints "0 -1 40") ≡ Err (fault_at no.ShiftOutOfRange 1) }
+    ensures lengths_before_divisors { ints2_of Div (ints "1 2") (ints "0") ≡ Err length_mismatch }
+    ensures lengths_before_moduli { ints2_of Mod (ints "1") (ints "0 0") ≡ Err length_mismatch }
+    ensures lengths_before_left_shifts { ints2_of Lsh (ints "1 2") (ints "32") ≡ Err length_mismatch }
+    ensures lengths_before_right_shifts { ints2_of Rsh (ints "1 2") (ints "32") ≡ Err length_mismatch }
+    ensures sums_mismatched { ints2_of Add (ints "1 2") (ints "1") ≡ Err length_mismatch }
+    ensures differences_mismatched { ints2_of Sub (ints "1") (ints "1 2") ≡ Err length_mismatch }
+    ensures products_mismatched { ints2_of Mul (ints "1 2") [] ≡ Err length_mismatch }
+    ensures lesser_mismatched { ints2_of Min (ints "1 2") (ints "1") ≡ Err length_mismatch }
+    ensures greater_mismatched { ints2_of Max (ints "1") (ints "1 2") ≡ Err length_mismatch }
+    ensures common_bits_mismatched { ints2_of And (ints "1 2") (ints "1") ≡ Err length_mismatch }
+    ensures bits_of_either_mismatched { ints2_of Ior (ints "1") (ints "1 2") ≡ Err length_mismatch }
+    ensures bits_of_one_mismatched { ints2_of Xor [] (ints "1") ≡ Err length_mismatch }
+    ensures sums_past_the_bottom { ints2_of Add (ints "-2147483648") (ints "-1") ≡ Ok (ints "2147483647") }
+    ensures opposite_of_the_least { ints2_of Mul (ints "-2147483648") (ints "-1") ≡ Ok (ints "-2147483648") }
+    ensures quotients_toward_zero { ints2_of Div (ints "-7 7 -7 -1 7") (ints "2 -2 -2 2 2") ≡ Ok (ints "-3 -3 3 0 3") }
+    ensures remainders_of_either_sign { ints2_of Mod (ints "-7 7 -7 -1 7") (ints "2 -2 -2 2 2") ≡ Ok (ints "-1 1 -1 -1 1") }
+    ensures right_shifts_round_down { ints2_of Rsh (ints "-8 -7 -1 -1") (ints "1 2 1 31") ≡ Ok (ints "-4 -2 -1 -1") }
+    ensures right_shifts_of_the_ends { ints2_of Rsh (ints "-2147483648 -2147483648 2147483647") (ints "31 1 31")
+        ≡ Ok (ints "-1 -1073741824 0") }
+    ensures left_shifts_by_no_place { ints2_of Lsh (ints "-7 7") (ints "0 0") ≡ Ok (ints "-7 7") }
+    ensures right_shifts_by_no_place { ints2_of Rsh (ints "-7 7") (ints "0 0") ≡ Ok (ints "-7 7") }
     ensures sums_of_nothing { ints2_of Add [] [] ≡ Ok [] }
     ensures quotients_of_nothing { ints2_of Div [] [] ≡ Ok [] }
 {}
 
 /// An operator on one integer vector: the bits inverted, or a copy.
 pub fn ints1()
-    ensures bits_inverted { ints1_of Not (pos 1 ∷ pos 2 ∷ pos 3 ∷ [])
-        ≡ negsuc 1 ∷ negsuc 2 ∷ negsuc 3 ∷ [] }
-    ensures copied { ints1_of Copy (pos 3 ∷ negsuc 0 ∷ []) ≡ pos 3 ∷ negsuc 0 ∷ [] }
-    ensures bits_of_the_ends_inverted { ints1_of Not (negsuc 0 ∷ pos 0 ∷ negsuc 2147483647 ∷ [])
-        ≡ pos 0 ∷ negsuc 0 ∷ pos 2147483647 ∷ [] }
+    ensures bits_inverted { ints1_of Not (ints "1 2 3") ≡ ints "-2 -3 -4" }
+    ensures copied { ints1_of Copy (ints "3 -1") ≡ ints "3 -1" }
+    ensures bits_of_the_ends_inverted { ints1_of Not (ints "-1 0 -2147483648") ≡ ints "0 -1 2147483647" }
 {}
 
 /// Each comparison of -1, 2 and 3 with 2, one of 5 and 0 with 1, and those of vectors that aren't equally long.
 pub fn compare()
-    ensures greater { compare_of Greater (negsuc 0 ∷ pos 2 ∷ pos 3 ∷ []) (pos 2 ∷ pos 2 ∷ pos 2 ∷ [])
-        ≡ Ok (false ∷ false ∷ true ∷ []) }
-    ensures less { compare_of Less (negsuc 0 ∷ pos 2 ∷ pos 3 ∷ []) (pos 2 ∷ pos 2 ∷ pos 2 ∷ [])
-        ≡ Ok (true ∷ false ∷ false ∷ []) }
-    ensures at_least { compare_of AtLeast (negsuc 0 ∷ pos 2 ∷ pos 3 ∷ []) (pos 2 ∷ pos 2 ∷ pos 2 ∷ [])
-        ≡ Ok (false ∷ true ∷ true ∷ []) }
-    ensures at_most { compare_of AtMost (negsuc 0 ∷ pos 2 ∷ pos 3 ∷ []) (pos 2 ∷ pos 2 ∷ pos 2 ∷ [])
-        ≡ Ok (true ∷ true ∷ false ∷ []) }
-    ensures equal { compare_of Equal (negsuc 0 ∷ pos 2 ∷ pos 3 ∷ []) (pos 2 ∷ pos 2 ∷ pos 2 ∷ [])
-        ≡ Ok (false ∷ true ∷ false ∷ []) }
-    ensures unequal { compare_of Unequal (negsuc 0 ∷ pos 2 ∷ pos 3 ∷ []) (pos 2 ∷ pos 2 ∷ pos 2 ∷ [])
-        ≡ Ok (true ∷ false ∷ true ∷ []) }
-    ensures greater_than_one { compare_of Greater (pos 5 ∷ pos 0 ∷ pos 5 ∷ []) (pos 1 ∷ pos 1 ∷ pos 1 ∷ [])
-        ≡ Ok (true ∷ false ∷ true ∷ []) }
-    ensures greater_mismatched { compare_of Greater (pos 1 ∷ pos 2 ∷ []) (pos 1 ∷ [])
-        ≡ Err (fault no.LengthMismatch) }
-    ensures less_mismatched { compare_of Less (pos 1 ∷ []) (pos 1 ∷ pos 2 ∷ [])
-        ≡ Err (fault no.LengthMismatch) }
-    ensures at_least_mismatched { compare_of AtLeast (pos 1 ∷ pos 2 ∷ []) (pos 1 ∷ [])
-        ≡ Err (fault no.LengthMismatch) }
-    ensures at_most_mismatched { compare_of AtMost (pos 1 ∷ []) (pos 1 ∷ pos 2 ∷ [])
-        ≡ Err (fault no.LengthMismatch) }
-    ensures equal_mismatched { compare_of Equal (pos 1 ∷ pos 2 ∷ []) (pos 1 ∷ [])
-        ≡ Err (fault no.LengthMismatch) }
-    ensures unequal_mismatched { compare_of Unequal (pos 1 ∷ []) (pos 1 ∷ pos 2 ∷ [])
-        ≡ Err (fault no.LengthMismatch) }
-    ensures greater_at_the_ends { compare_of Greater (negsuc 2147483647 ∷ pos 2147483647 ∷ [])
-        (pos 2147483647 ∷ negsuc 2147483647 ∷ [])
-        ≡ Ok (false ∷ true ∷ []) }
-    ensures less_at_the_ends { compare_of Less (negsuc 2147483647 ∷ pos 2147483647 ∷ [])
-        (pos 2147483647 ∷ negsuc 2147483647 ∷ [])
-        ≡ Ok (true ∷ false ∷ []) }
+    ensures greater { compare_of Greater (ints "-1 2 3") (ints "2 2 2") ≡ Ok (bools "F F T") }
+    ensures less { compare_of Less (ints "-1 2 3") (ints "2 2 2") ≡ Ok (bools "T F F") }
+    ensures at_least { compare_of AtLeast (ints "-1 2 3") (ints "2 2 2") ≡ Ok (bools "F T T") }
+    ensures at_most { compare_of AtMost (ints "-1 2 3") (ints "2 2 2") ≡ Ok (bools "T T F") }
+    ensures equal { compare_of Equal (ints "-1 2 3") (ints "2 2 2") ≡ Ok (bools "F T F") }
+    ensures unequal { compare_of Unequal (ints "-1 2 3") (ints "2 2 2") ≡ Ok (bools "T F T") }
+    ensures greater_than_one { compare_of Greater (ints "5 0 5") (ints "1 1 1") ≡ Ok (bools "T F T") }
+    ensures greater_mismatched { compare_of Greater (ints "1 2") (ints "1") ≡ Err length_mismatch }
+    ensures less_mismatched { compare_of Less (ints "1") (ints "1 2") ≡ Err length_mismatch }
+    ensures at_least_mismatched { compare_of AtLeast (ints "1 2") (ints "1") ≡ Err length_mismatch }
+    ensures at_most_mismatched { compare_of AtMost (ints "1") (ints "1 2") ≡ Err length_mismatch }
+    ensures equal_mismatched { compare_of Equal (ints "1 2") (ints "1") ≡ Err length_mismatch }
+    ensures unequal_mismatched { compare_of Unequal (ints "1") (ints "1 2") ≡ Err length_mismatch }
+    ensures greater_at_the_ends { compare_of Greater (ints "-2147483648 2147483647") (ints "2147483647 -2147483648") ≡ Ok (bools "F T") }
+    ensures less_at_the_ends { compare_of Less (ints "-2147483648 2147483647") (ints "2147483647 -2147483648") ≡ Ok (bools "T F") }
 {}
 
 /// An operator on two boolean vectors, which are equally long: whether both are true, either, or only one.
 pub fn bools2()
-    ensures both { bools2_of truth.And (true ∷ false ∷ true ∷ []) (false ∷ true ∷ false ∷ [])
-        ≡ Ok (false ∷ false ∷ false ∷ []) }
-    ensures either { bools2_of truth.Ior (true ∷ true ∷ false ∷ []) (true ∷ false ∷ false ∷ [])
-        ≡ Ok (true ∷ true ∷ false ∷ []) }
-    ensures only_one { bools2_of truth.Xor (true ∷ true ∷ false ∷ []) (true ∷ false ∷ false ∷ [])
-        ≡ Ok (false ∷ true ∷ false ∷ []) }
-    ensures both_mismatched { bools2_of truth.And (true ∷ false ∷ []) (true ∷ [])
-        ≡ Err (fault no.LengthMismatch) }
-    ensures either_mismatched { bools2_of truth.Ior (true ∷ []) (true ∷ false ∷ [])
-        ≡ Err (fault no.LengthMismatch) }
-    ensures only_one_mismatched { bools2_of truth.Xor [] (true ∷ [])
-        ≡ Err (fault no.LengthMismatch) }
+    ensures both { bools2_of truth.And (bools "T F T") (bools "F T F") ≡ Ok (bools "F F F") }
+    ensures either { bools2_of truth.Ior (bools "T T F") (bools "T F F") ≡ Ok (bools "T T F") }
+    ensures only_one { bools2_of truth.Xor (bools "T T F") (bools "T F F") ≡ Ok (bools "F T F") }
+    ensures both_mismatched { bools2_of truth.And (bools "T F") (bools "T") ≡ Err length_mismatch }
+    ensures either_mismatched { bools2_of truth.Ior (bools "T") (bools "T F") ≡ Err length_mismatch }
+    ensures only_one_mismatched { bools2_of truth.Xor [] (bools "T") ≡ Err length_mismatch }
 {}
 
 /// An operator on one boolean vector: the flags inverted, or a copy.
 pub fn bools1()
-    ensures inverted { bools1_of Not (true ∷ false ∷ true ∷ []) ≡ false ∷ true ∷ false ∷ [] }
-    ensures copied { bools1_of Copy (true ∷ false ∷ true ∷ []) ≡ true ∷ false ∷ true ∷ [] }
+    ensures inverted { bools1_of Not (bools "T F T") ≡ bools "F T F" }
+    ensures copied { bools1_of Copy (bools "T F T") ≡ bools "T F T" }
 {}
 
 /// The first vector's element where the flag is true and else the second's, of three vectors that are equally long.
 pub fn choose()
-    ensures integers { choose_of (true ∷ false ∷ true ∷ []) (pos 1 ∷ pos 2 ∷ pos 3 ∷ [])
-        (pos 4 ∷ pos 5 ∷ pos 6 ∷ [])
-        ≡ Ok (pos 1 ∷ pos 5 ∷ pos 3 ∷ []) }
-    ensures booleans { choose_of (true ∷ false ∷ true ∷ false ∷ []) (true ∷ true ∷ false ∷ false ∷ [])
-        (false ∷ false ∷ true ∷ true ∷ [])
-        ≡ Ok (true ∷ false ∷ false ∷ true ∷ []) }
-    ensures first_integers_short { choose_of (true ∷ false ∷ []) (pos 1 ∷ []) (pos 4 ∷ pos 5 ∷ [])
-        ≡ Err (fault no.LengthMismatch) }
-    ensures second_integers_short { choose_of (true ∷ false ∷ []) (pos 1 ∷ pos 2 ∷ []) (pos 4 ∷ [])
-        ≡ Err (fault no.LengthMismatch) }
-    ensures second_booleans_short { choose_of (true ∷ false ∷ []) (true ∷ true ∷ []) (false ∷ [])
-        ≡ Err (fault no.LengthMismatch) }
-    ensures flags_short { choose_of (true ∷ []) (pos 1 ∷ pos 2 ∷ []) (pos 4 ∷ pos 5 ∷ [])
-        ≡ Err (fault no.LengthMismatch) }
+    ensures integers { choose_of (bools "T F T") (ints "1 2 3") (ints "4 5 6") ≡ Ok (ints "1 5 3") }
+    ensures booleans { choose_of (bools "T F T F") (bools "T T F F") (bools "F F T T") ≡ Ok (bools "T F F T") }
+    ensures first_integers_short { choose_of (bools "T F") (ints "1") (ints "4 5") ≡ Err length_mismatch }
+    ensures second_integers_short { choose_of (bools "T F") (ints "1 2") (ints "4") ≡ Err length_mismatch }
+    ensures second_booleans_short { choose_of (bools "T F") (bools "T T") (bools "F") ≡ Err length_mismatch }
+    ensures flags_short { choose_of (bools "T") (ints "1 2") (ints "4 5") ≡ Err length_mismatch }
     ensures nothing { choose_of {X = ℤ} [] [] [] ≡ Ok [] }
 {}
 
 /// True is 1, and false is 0.
 pub fn int_from_bool()
-    ensures integers { ints_from_bools (false ∷ true ∷ false ∷ []) ≡ pos 0 ∷ pos 1 ∷ pos 0 ∷ [] }
+    ensures integers { ints_from_bools (bools "F T F") ≡ ints "0 1 0" }
 {}
 
 /// Each number but 0 is true.
 pub fn bool_from_int()
-    ensures booleans { bools_from_ints (pos 0 ∷ negsuc 2 ∷ pos 0 ∷ []) ≡ false ∷ true ∷ false ∷ [] }
+    ensures booleans { bools_from_ints (ints "0 -3 0") ≡ bools "F T F" }
 {}

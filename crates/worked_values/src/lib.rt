@@ -1,10 +1,11 @@
 //! Worked values of the library's calls: small vectors, and what the definition of each call gives of them.
 //!
 //! There is one function for each family of calls, for the scans and the reduces of integers a second one by segments,
-//! and for the permutes one for each form and one for the places that are wrong; nests have one of their own. It takes
-//! and gives nothing, and its contract is the list of values and faults. They are computed from the definitions alone,
-//! so a definition that is read wrongly is refused here, before any code stands on it.
-#![tactic(auto)]
+//! and for the permutes one for each form and one for the places that are wrong; nests have one of their own, and so has
+//! the form in which vectors are written. It takes and gives nothing, and its contract is the list of values and faults.
+//! They are computed from the definitions alone, so a definition that is read wrongly is refused here, before any code
+//! stands on it.
+#![tactic(auto, unfolding(core::specs::Int::int_wrap))]
 
 pub mod checked_sums;
 pub mod descriptors;
@@ -16,3 +17,4 @@ pub mod packs;
 pub mod permutes;
 pub mod reduces;
 pub mod scans;
+pub mod written;

@@ -1,0 +1,2 @@
+pub mod Segmented
+pub mod Written
