@@ -1,6 +1,7 @@
 -- As many bound names as there may be, and what a line does over them.
 -- Source: this library's script format.
-use Rattle.std.specs.Prelude.{ℕ, zero, suc, ◌+◌, ◌/◌, ◌%◌, pos, true, List, [], ◌∷◌, map, Result}
+use Prim.Native.String.{String}
+use Rattle.std.specs.Prelude.{ℕ, zero, suc, ◌+◌, ◌/◌, ◌%◌, pos, true, List, [], ◌∷◌, codes, map, Result}
 use Rattle.std.specs.List.{range_with_len}
 use Rattle.cvl_base.specs.declared.fault.Fault.{Fault}
 use Rattle.cvl_base.specs.declared.value.Value.TheVariants.{Integers, Boolean}
@@ -25,5 +26,5 @@ abbrev pub full : Entries (Unit {0})
 full = map (λ k. (name_of k, bound_to k)) (range_with_len 0 most_names)
 
 -- what a line does over these names, without inputs
-abbrev pub step_over : Entries (Unit {0}) → List ℕ → Result (Stepped (Unit {0})) Fault
-step_over names line = line_step names [] line
+abbrev pub step_over : Entries (Unit {0}) → String → Result (Stepped (Unit {0})) Fault
+step_over names line = line_step names [] (codes line)

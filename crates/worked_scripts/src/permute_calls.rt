@@ -1,107 +1,58 @@
 //! The arguments of permutes, each in its place.
 
-ghost use Rattle.std.specs.Prelude.{◌≡◌, pos, true, false, [], ◌∷◌};
+ghost use Rattle.std.specs.Prelude.{◌≡◌, [], ◌∷◌};
 ghost use Rattle.cvl_base.specs.declared.families.Cut.TheVariants.{Flat, Segmented};
 ghost use Rattle.cvl_base.specs.declared.families.Element.TheVariants as of;
 ghost use Rattle.cvl_base.specs.declared.families.Form.TheVariants.{Back, Default, Select, Simple};
-ghost use Rattle.cvl_base.specs.declared.fault.FaultNo.TheVariants as no;
 ghost use Rattle.cvl_base.specs.declared.operation.Op.TheVariants as op;
-ghost use Rattle.cvl_base.specs.declared.value.Value.TheVariants.{Booleans, Descriptor, Integers};
-ghost use Rattle.cvl_base.specs.Faults.{fault_at};
-ghost use Rattle.worked_scripts.specs.Outcomes.{value_of};
+ghost use Rattle.worked_scripts.specs.Outcomes.{bools, ints, lengths, value_of};
+ghost use Rattle.worked_values.specs.Written.{repeated};
 
 /// The source, the index and, by segments, the descriptor of both.
 pub fn simple_permute()
-    ensures integers { value_of (op.Permute Simple Flat of.Integer)
-        (Integers (pos 10 ∷ pos 20 ∷ pos 30 ∷ []) ∷ Integers (pos 2 ∷ pos 0 ∷ pos 1 ∷ []) ∷ [])
-        ≡ Ok (Integers (pos 20 ∷ pos 30 ∷ pos 10 ∷ [])) }
-    ensures booleans { value_of (op.Permute Simple Flat of.Boolean)
-        (Booleans (true ∷ false ∷ false ∷ []) ∷ Integers (pos 2 ∷ pos 0 ∷ pos 1 ∷ []) ∷ [])
-        ≡ Ok (Booleans (false ∷ false ∷ true ∷ [])) }
+    ensures integers { value_of (op.Permute Simple Flat of.Integer) (ints "10 20 30" ∷ ints "2 0 1" ∷ []) ≡ Ok (ints "20 30 10") }
+    ensures booleans { value_of (op.Permute Simple Flat of.Boolean) (bools "T F F" ∷ ints "2 0 1" ∷ []) ≡ Ok (bools "F F T") }
     ensures integers_in_segments { value_of (op.Permute Simple Segmented of.Integer)
-        (Integers (pos 1 ∷ pos 2 ∷ pos 3 ∷ pos 4 ∷ pos 5 ∷ []) ∷
-        Integers (pos 1 ∷ pos 0 ∷ pos 2 ∷ pos 0 ∷ pos 1 ∷ []) ∷ Descriptor (2 ∷ 0 ∷ 3 ∷ []) ∷ [])
-        ≡ Ok (Integers (pos 2 ∷ pos 1 ∷ pos 4 ∷ pos 5 ∷ pos 3 ∷ [])) }
+        (ints "1 2 3 4 5" ∷ ints "1 0 2 0 1" ∷ lengths "2 0 3" ∷ []) ≡ Ok (ints "2 1 4 5 3") }
     ensures booleans_in_segments { value_of (op.Permute Simple Segmented of.Boolean)
-        (Booleans (true ∷ false ∷ false ∷ true ∷ false ∷ []) ∷
-        Integers (pos 1 ∷ pos 0 ∷ pos 2 ∷ pos 0 ∷ pos 1 ∷ []) ∷ Descriptor (2 ∷ 0 ∷ 3 ∷ []) ∷ [])
-        ≡ Ok (Booleans (false ∷ true ∷ true ∷ false ∷ false ∷ [])) }
+        (bools "T F F T F" ∷ ints "1 0 2 0 1" ∷ lengths "2 0 3" ∷ []) ≡ Ok (bools "F T T F F") }
 {}
 
 /// The source, the index and, by segments, the descriptor of the source before that of the index.
 pub fn back_permute()
-    ensures integers { value_of (op.Permute Back Flat of.Integer)
-        (Integers (pos 10 ∷ pos 20 ∷ pos 30 ∷ []) ∷
-        Integers (pos 2 ∷ pos 2 ∷ pos 0 ∷ pos 0 ∷ []) ∷ [])
-        ≡ Ok (Integers (pos 30 ∷ pos 30 ∷ pos 10 ∷ pos 10 ∷ [])) }
-    ensures booleans { value_of (op.Permute Back Flat of.Boolean)
-        (Booleans (true ∷ false ∷ false ∷ []) ∷ Integers (pos 2 ∷ pos 0 ∷ pos 0 ∷ pos 1 ∷ []) ∷ [])
-        ≡ Ok (Booleans (false ∷ true ∷ true ∷ false ∷ [])) }
+    ensures integers { value_of (op.Permute Back Flat of.Integer) (ints "10 20 30" ∷ ints "2 2 0 0" ∷ []) ≡ Ok (ints "30 30 10 10") }
+    ensures booleans { value_of (op.Permute Back Flat of.Boolean) (bools "T F F" ∷ ints "2 0 0 1" ∷ []) ≡ Ok (bools "F T T F") }
     ensures integers_in_segments { value_of (op.Permute Back Segmented of.Integer)
-        (Integers (pos 1 ∷ pos 2 ∷ pos 3 ∷ pos 4 ∷ pos 5 ∷ []) ∷
-        Integers (pos 1 ∷ pos 1 ∷ pos 1 ∷ pos 2 ∷ []) ∷ Descriptor (2 ∷ 0 ∷ 3 ∷ []) ∷
-        Descriptor (3 ∷ 0 ∷ 1 ∷ []) ∷ [])
-        ≡ Ok (Integers (pos 2 ∷ pos 2 ∷ pos 2 ∷ pos 5 ∷ [])) }
+        (ints "1 2 3 4 5" ∷ ints "1 1 1 2" ∷ lengths "2 0 3" ∷ lengths "3 0 1" ∷ []) ≡ Ok (ints "2 2 2 5") }
     ensures booleans_in_segments { value_of (op.Permute Back Segmented of.Boolean)
-        (Booleans (true ∷ false ∷ false ∷ true ∷ false ∷ []) ∷
-        Integers (pos 1 ∷ pos 1 ∷ pos 0 ∷ pos 1 ∷ []) ∷ Descriptor (2 ∷ 0 ∷ 3 ∷ []) ∷
-        Descriptor (3 ∷ 0 ∷ 1 ∷ []) ∷ [])
-        ≡ Ok (Booleans (false ∷ false ∷ true ∷ true ∷ [])) }
+        (bools "T F F T F" ∷ ints "1 1 0 1" ∷ lengths "2 0 3" ∷ lengths "3 0 1" ∷ []) ≡ Ok (bools "F F T T") }
     ensures integers_in_segments_of_one_total { value_of (op.Permute Back Segmented of.Integer)
-        (Integers (pos 1 ∷ pos 2 ∷ pos 3 ∷ []) ∷ Integers (pos 0 ∷ pos 0 ∷ pos 1 ∷ []) ∷
-        Descriptor (1 ∷ 2 ∷ []) ∷ Descriptor (2 ∷ 1 ∷ []) ∷ [])
-        ≡ Ok (Integers (pos 1 ∷ pos 1 ∷ pos 3 ∷ [])) }
+        (ints "1 2 3" ∷ ints "0 0 1" ∷ lengths "1 2" ∷ lengths "2 1" ∷ []) ≡ Ok (ints "1 1 3") }
 {}
 
 /// The source, the index, the flags and, by segments, the descriptor of all three.
 pub fn select_permute()
-    ensures integers { value_of (op.Permute Select Flat of.Integer)
-        (Integers (pos 1 ∷ pos 2 ∷ pos 3 ∷ pos 4 ∷ []) ∷
-        Integers (pos 1 ∷ pos 9 ∷ pos 0 ∷ pos 9 ∷ []) ∷
-        Booleans (true ∷ false ∷ true ∷ false ∷ []) ∷ [])
-        ≡ Ok (Integers (pos 3 ∷ pos 1 ∷ [])) }
-    ensures booleans { value_of (op.Permute Select Flat of.Boolean)
-        (Booleans (true ∷ true ∷ false ∷ false ∷ []) ∷
-        Integers (pos 1 ∷ pos 9 ∷ pos 0 ∷ pos 9 ∷ []) ∷
-        Booleans (true ∷ false ∷ true ∷ false ∷ []) ∷ [])
-        ≡ Ok (Booleans (false ∷ true ∷ [])) }
+    ensures integers { value_of (op.Permute Select Flat of.Integer) (ints "1 2 3 4" ∷ ints "1 9 0 9" ∷ bools "T F T F" ∷ [])
+        ≡ Ok (ints "3 1") }
+    ensures booleans { value_of (op.Permute Select Flat of.Boolean) (bools "T T F F" ∷ ints "1 9 0 9" ∷ bools "T F T F" ∷ [])
+        ≡ Ok (bools "F T") }
     ensures integers_in_segments { value_of (op.Permute Select Segmented of.Integer)
-        (Integers (pos 1 ∷ pos 2 ∷ pos 3 ∷ pos 4 ∷ pos 5 ∷ []) ∷
-        Integers (pos 9 ∷ pos 0 ∷ pos 1 ∷ pos 9 ∷ pos 0 ∷ []) ∷
-        Booleans (false ∷ true ∷ true ∷ false ∷ true ∷ []) ∷ Descriptor (2 ∷ 0 ∷ 3 ∷ []) ∷ [])
-        ≡ Ok (Integers (pos 2 ∷ pos 5 ∷ pos 3 ∷ [])) }
+        (ints "1 2 3 4 5" ∷ ints "9 0 1 9 0" ∷ bools "F T T F T" ∷ lengths "2 0 3" ∷ []) ≡ Ok (ints "2 5 3") }
     ensures booleans_in_segments { value_of (op.Permute Select Segmented of.Boolean)
-        (Booleans (true ∷ false ∷ false ∷ true ∷ true ∷ []) ∷
-        Integers (pos 9 ∷ pos 0 ∷ pos 1 ∷ pos 9 ∷ pos 0 ∷ []) ∷
-        Booleans (false ∷ true ∷ true ∷ false ∷ true ∷ []) ∷ Descriptor (2 ∷ 0 ∷ 3 ∷ []) ∷ [])
-        ≡ Ok (Booleans (false ∷ true ∷ false ∷ [])) }
+        (bools "T F F T T" ∷ ints "9 0 1 9 0" ∷ bools "F T T F T" ∷ lengths "2 0 3" ∷ []) ≡ Ok (bools "F T F") }
 {}
 
 /// The source, the index, the defaults and, by segments, the descriptor of the source before that of the defaults.
 pub fn default_permute()
-    ensures integers { value_of (op.Permute Default Flat of.Integer)
-        (Integers (pos 7 ∷ pos 8 ∷ []) ∷ Integers (pos 3 ∷ pos 1 ∷ []) ∷
-        Integers (pos 0 ∷ pos 0 ∷ pos 0 ∷ pos 0 ∷ pos 0 ∷ []) ∷ [])
-        ≡ Ok (Integers (pos 0 ∷ pos 8 ∷ pos 0 ∷ pos 7 ∷ pos 0 ∷ [])) }
-    ensures booleans { value_of (op.Permute Default Flat of.Boolean)
-        (Booleans (true ∷ false ∷ []) ∷ Integers (pos 3 ∷ pos 1 ∷ []) ∷
-        Booleans (false ∷ true ∷ false ∷ false ∷ true ∷ []) ∷ [])
-        ≡ Ok (Booleans (false ∷ false ∷ false ∷ true ∷ true ∷ [])) }
+    ensures integers { value_of (op.Permute Default Flat of.Integer) (ints "7 8" ∷ ints "3 1" ∷ ints "0 0 0 0 0" ∷ [])
+        ≡ Ok (ints "0 8 0 7 0") }
+    ensures booleans { value_of (op.Permute Default Flat of.Boolean) (bools "T F" ∷ ints "3 1" ∷ bools "F T F F T" ∷ [])
+        ≡ Ok (bools "F F F T T") }
     ensures integers_in_segments { value_of (op.Permute Default Segmented of.Integer)
-        (Integers (pos 1 ∷ pos 2 ∷ pos 3 ∷ pos 4 ∷ pos 5 ∷ []) ∷
-        Integers (pos 2 ∷ pos 0 ∷ pos 0 ∷ pos 1 ∷ pos 2 ∷ []) ∷
-        Integers (pos 0 ∷ pos 0 ∷ pos 0 ∷ pos 9 ∷ pos 0 ∷ pos 0 ∷ pos 0 ∷ []) ∷
-        Descriptor (2 ∷ 0 ∷ 3 ∷ []) ∷ Descriptor (3 ∷ 1 ∷ 3 ∷ []) ∷ [])
-        ≡ Ok (Integers (pos 2 ∷ pos 0 ∷ pos 1 ∷ pos 9 ∷ pos 3 ∷ pos 4 ∷ pos 5 ∷ [])) }
+        (ints "1 2 3 4 5" ∷ ints "2 0 0 1 2" ∷ ints "0 0 0 9 0 0 0" ∷ lengths "2 0 3" ∷ lengths "3 1 3" ∷ []) ≡ Ok (ints "2 0 1 9 3 4 5") }
     ensures booleans_in_segments { value_of (op.Permute Default Segmented of.Boolean)
-        (Booleans (true ∷ true ∷ false ∷ true ∷ false ∷ []) ∷
-        Integers (pos 2 ∷ pos 0 ∷ pos 0 ∷ pos 1 ∷ pos 2 ∷ []) ∷
-        Booleans (false ∷ false ∷ false ∷ true ∷ false ∷ false ∷ false ∷ []) ∷
-        Descriptor (2 ∷ 0 ∷ 3 ∷ []) ∷ Descriptor (3 ∷ 1 ∷ 3 ∷ []) ∷ [])
-        ≡ Ok (Booleans (true ∷ false ∷ true ∷ true ∷ false ∷ true ∷ false ∷ [])) }
+        (bools "T T F T F" ∷ ints "2 0 0 1 2" ∷ bools "F F F T F F F" ∷ lengths "2 0 3" ∷ lengths "3 1 3" ∷ [])
+        ≡ Ok (bools "T F T T F T F") }
     ensures integers_in_segments_of_one_total { value_of (op.Permute Default Segmented of.Integer)
-        (Integers (pos 1 ∷ pos 2 ∷ pos 3 ∷ []) ∷ Integers (pos 1 ∷ pos 0 ∷ pos 0 ∷ []) ∷
-        Integers (pos 7 ∷ pos 8 ∷ pos 9 ∷ []) ∷ Descriptor (1 ∷ 2 ∷ []) ∷
-        Descriptor (2 ∷ 1 ∷ []) ∷ [])
-        ≡ Err (fault_at no.IndexRepeated 2) }
+        (ints "1 2 3" ∷ ints "1 0 0" ∷ ints "7 8 9" ∷ lengths "1 2" ∷ lengths "2 1" ∷ []) ≡ Err (repeated 2) }
 {}
