@@ -1,4 +1,4 @@
-use Rattle.std.proofs.Common.{refl}
+use Rattle.std.proofs.Common.{rules}
 use Rattle.std.specs.Fmt.{digits}
 use Rattle.std.specs.Int.{int_wrap}
 use Rattle.cvl_base.specs.Spellings.{op_of, int_binaries, unaries, comparisons, bool_binaries, int_monoids, forms, elements}
@@ -6,10 +6,4 @@ use Rattle.worked_scripts.proofs.fault_order.arguments.Goals as goal
 
 pub returns : goal.returns
 unfolding op_of int_binaries unaries comparisons bool_binaries int_monoids forms elements digits int_wrap
-returns c = record {
-  unknown_name_before_wrong_kind = refl;
-  wrong_kind_before_unknown_name = refl;
-  unknown_name_before_missing_input = refl;
-  wrong_kind_before_missing_input = refl;
-  wrong_kind_before_lengths = refl;
-}
+returns c = search rules

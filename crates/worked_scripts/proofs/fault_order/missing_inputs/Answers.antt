@@ -1,4 +1,4 @@
-use Rattle.std.proofs.Common.{refl}
+use Rattle.std.proofs.Common.{rules}
 use Rattle.std.specs.Fmt.{digits}
 use Rattle.std.specs.Int.{int_wrap}
 use Rattle.cvl_base.specs.Spellings.{op_of, int_binaries, unaries, comparisons, bool_binaries, int_monoids, forms, elements}
@@ -6,8 +6,4 @@ use Rattle.worked_scripts.proofs.fault_order.missing_inputs.Goals as goal
 
 pub returns : goal.returns
 unfolding op_of int_binaries unaries comparisons bool_binaries int_monoids forms elements digits int_wrap
-returns c = record {
-  past_the_last = refl;
-  before_the_first = refl;
-  below_0 = refl;
-}
+returns c = search rules

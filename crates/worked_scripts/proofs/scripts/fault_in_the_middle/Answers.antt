@@ -1,4 +1,4 @@
-use Rattle.std.proofs.Common.{refl}
+use Rattle.std.proofs.Common.{rules}
 use Rattle.std.specs.Fmt.{digits}
 use Rattle.std.specs.Int.{int_wrap}
 use Rattle.cvl_base.specs.Spellings.{op_of, int_binaries, unaries, comparisons, bool_binaries, int_monoids, forms, elements}
@@ -6,8 +6,4 @@ use Rattle.worked_scripts.proofs.scripts.fault_in_the_middle.Goals as goal
 
 pub returns : goal.returns
 unfolding op_of int_binaries unaries comparisons bool_binaries int_monoids forms elements digits int_wrap
-returns c = record {
-  unknown_call = refl;
-  place_of_an_element = refl;
-  first_of_two_faults = refl;
-}
+returns c = search rules
