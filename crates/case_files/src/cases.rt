@@ -116,26 +116,15 @@ fn config_of(tile: &str, workers: &str) -> Option<Config> {
     Config::new(tile.parse().ok()?, workers.parse().ok()?).ok()
 }
 
-/// Adds one length of tiles with each number of workers; `bad` where they name none.
-fn add_tile<'a>(
-    configs: &mut Vec<Config>,
-    tile: &str,
-    workers: &str,
-    bad: Trouble<'a>,
-) -> Result<(), Trouble<'a>> {
-    for workers in workers.split(' ') {
-        configs.push(config_of(tile, workers).ok_or(bad)?)?;
-    }
-    Ok(())
-}
-
 /// Adds the tiles and workers of a heading such as `tile 1 2 workers 3 64`: each length of tiles with each number of
 /// workers.
 fn add_configs<'a>(configs: &mut Vec<Config>, section: &Section<'a>) -> Result<(), Trouble<'a>> {
     let bad = Trouble::Heading(section.heading);
     let (tiles, workers) = section.rest.split_once(" workers ").ok_or(bad)?;
     for tile in tiles.split(' ') {
-        add_tile(configs, tile, workers, bad)?;
+        for workers in workers.split(' ') {
+            configs.push(config_of(tile, workers).ok_or(bad)?)?;
+        }
     }
     Ok(())
 }

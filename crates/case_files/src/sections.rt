@@ -31,25 +31,15 @@ fn section_of<'a>(alloc: Global, heading: &'a [u8]) -> Section<'a> {
     }
 }
 
-/// Adds a line to the sections: as a heading that begins one, or below the last heading.
-fn add_line<'a>(
-    alloc: Global,
-    sections: &mut Vec<Section<'a>>,
-    line: &'a [u8],
-) -> Result<(), NoResources> {
-    if let Some(heading) = line.strip_prefix(MARK) {
-        sections.push(section_of(alloc, heading))?;
-    } else if let Some(section) = sections.last_mut() {
-        section.lines.extend_from_slice(line)?;
-    }
-    Ok(())
-}
-
 /// Cuts a file into its sections. What stands before its first heading is left out.
 pub fn sections_of<'a>(alloc: Global, file: &'a [u8]) -> Result<Vec<Section<'a>>, NoResources> {
     let mut sections = Vec::new(alloc);
     for line in file.split_inclusive(|byte| *byte == b'\n') {
-        add_line(alloc, &mut sections, line)?;
+        if let Some(heading) = line.strip_prefix(MARK) {
+            sections.push(section_of(alloc, heading))?;
+        } else if let Some(section) = sections.last_mut() {
+            section.lines.extend_from_slice(line)?;
+        }
     }
     Ok(sections)
 }

@@ -60,24 +60,35 @@ impl<'a> SingleRun<'a> {
     }
 }
 
-/// The runs of a case on one configuration: one for each of its rows, or one of its own where it has none. Rows that are not UTF-8
-/// are one row without a byte.
-pub fn runs_of<'a>(
+/// Adds the runs of a case on one configuration: one for each of its rows, or one of its own where it has none. Rows that are not
+/// UTF-8 are one row without a byte.
+fn add_runs<'a>(
     alloc: Global,
     case: &'a Case<'a>,
     config: Config,
-) -> Result<Vec<SingleRun<'a>>, NoResources> {
-    let mut runs = Vec::new(alloc);
+    runs: &mut Vec<SingleRun<'a>>,
+) -> Result<(), NoResources> {
     if case.each.is_empty() {
         let mut run = SingleRun::new(alloc, case, config)?;
         run.expect_of_case()?;
-        runs.push(run)?;
-        return Ok(runs);
+        return Ok(runs.push(run)?);
     }
     for row in str::from_utf8(&case.each).unwrap_or("\n").lines() {
         let mut run = SingleRun::new(alloc, case, config)?;
         run.add_row(row)?;
         runs.push(run)?;
+    }
+    Ok(())
+}
+
+/// The runs of a case on each of its configurations. One that names none is run on short tiles, so that short vectors are cut.
+pub fn runs_of<'a>(alloc: Global, case: &'a Case<'a>) -> Result<Vec<SingleRun<'a>>, NoResources> {
+    let mut runs = Vec::new(alloc);
+    if case.configs.is_empty() {
+        add_runs(alloc, case, Config::new(2, 3).unwrap(), &mut runs)?;
+    }
+    for config in &case.configs {
+        add_runs(alloc, case, *config, &mut runs)?;
     }
     Ok(runs)
 }

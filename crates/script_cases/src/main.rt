@@ -13,7 +13,7 @@ mod outcomes;
 use crate::differences::{tell_difference, tell_flaw};
 use crate::outcomes::{comes_out, outcome_of};
 use case_files::{Case, SingleRun, Trouble, cases_of, runs_of};
-use cvl_base::{Config, NoResources};
+use cvl_base::NoResources;
 use refusing_memory::{Refusing, withstands_refusals};
 use std::io::Write;
 use std::process::ExitCode;
@@ -64,7 +64,7 @@ fn run_once<'a, R: AllocGlobal + Threads + Sync, W: Write>(
 ) -> Result<bool, Trouble<'a>> {
     let heap = Refusing::none(rt.alloc());
     let outcome = outcome_of(rt, rt.alloc(), &heap, single)?;
-    if !outcome.is_expected(single) {
+    if outcome.shown != single.shown {
         tell_difference(output, single, &outcome)?;
         return Ok(false);
     }
@@ -74,50 +74,18 @@ fn run_once<'a, R: AllocGlobal + Threads + Sync, W: Write>(
     }
 }
 
-/// Makes the runs of a case on one configuration up to one that differs, and answers whether all came out as expected.
-fn run_on<'a, R: AllocGlobal + Threads + Sync, W: Write>(
-    rt: &R,
-    output: &mut W,
-    case: &Case<'_>,
-    config: Config,
-) -> Result<bool, Trouble<'a>> {
-    for single in runs_of(rt.alloc(), case, config)? {
-        if !run_once(rt, output, &single)? {
-            return Ok(false);
-        }
-    }
-    Ok(true)
-}
-
-/// Runs a case on each of its configurations up to one where it differs, and answers whether all came out as expected. One that
-/// names none is run on short tiles, so that short vectors are cut.
+/// Makes the runs of a case up to one that differs, and answers whether all came out as expected.
 fn run_case<'a, R: AllocGlobal + Threads + Sync, W: Write>(
     rt: &R,
     output: &mut W,
     case: &Case<'_>,
 ) -> Result<bool, Trouble<'a>> {
-    if case.configs.is_empty() {
-        return run_on(rt, output, case, Config::new(2, 3).unwrap());
-    }
-    for config in &case.configs {
-        if !run_on(rt, output, case, *config)? {
+    for single in runs_of(rt.alloc(), case)? {
+        if !run_once(rt, output, &single)? {
             return Ok(false);
         }
     }
     Ok(true)
-}
-
-/// Runs cases, and answers how many came out as expected.
-fn run_cases<'a, R: AllocGlobal + Threads + Sync, W: Write>(
-    rt: &R,
-    output: &mut W,
-    cases: &[Case<'_>],
-) -> Result<usize, Trouble<'a>> {
-    let mut came_out: usize = 0;
-    for case in cases {
-        came_out = came_out.saturating_add(usize::from(run_case(rt, output, case)?));
-    }
-    Ok(came_out)
 }
 
 /// Runs the cases of a file of this name, and tells whether all came out as expected.
@@ -128,7 +96,10 @@ fn run_file<'a, R: Files + AllocGlobal + Threads + Sync, W: Write>(
     file: &'a [u8],
 ) -> Result<bool, Trouble<'a>> {
     let cases = cases_of(rt, folder_of(name), file)?;
-    let came_out = run_cases(rt, output, &cases)?;
+    let mut came_out: usize = 0;
+    for case in &cases {
+        came_out = came_out.saturating_add(usize::from(run_case(rt, output, case)?));
+    }
     writeln!(output, "ok {came_out} cases of {name}")?;
     Ok(came_out == cases.len())
 }

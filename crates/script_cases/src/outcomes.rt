@@ -77,11 +77,6 @@ fn first_lines(bytes: &[u8], lines: usize) -> &[u8] {
 }
 
 impl Outcome {
-    /// Whether it is what is expected of the run.
-    pub fn is_expected(&self, single: &SingleRun<'_>) -> bool {
-        self.shown == single.shown
-    }
-
     /// Whether the text is that of the lines before this one, and a beginning of the text of this one.
     fn ends_in(&self, single: &SingleRun<'_>, line: u32) -> bool {
         let line = line as usize;
@@ -106,6 +101,6 @@ pub fn comes_out<R: Threads + Sync, A: Memory>(
     match outcome.out_of_memory {
         Some(line) if outcome.ends_in(single, line) => Err(NoResources),
         Some(_) => Ok(false),
-        None => Ok(outcome.is_expected(single)),
+        None => Ok(outcome.shown == single.shown),
     }
 }
