@@ -1,20 +1,24 @@
-//! The doubles of numbers, written by several threads, and what may be done with such a vector afterwards; those that are written over
-//! a slice; and a vector that a thread leaves early.
+//! The doubles of numbers, written by several threads, also by two at one moment, and what may be done with such a vector afterwards;
+//! and a vector that a thread leaves early.
 
 ghost use Rattle.std.specs.Prelude.{◌≡◌, ◌+◌, ◌≤◌, [], length, map};
 ghost use Rattle.fresh.specs.Parts.{part};
 ghost use Rattle.fresh.specs.Places.{stretch};
 ghost use Rattle.shared_tests.specs.Doubles.{double};
 
-use cvl_base::{Memory, NoResources};
-use fresh::{Room, Run, Writer, write_in_runs, write_over};
-use sharing::ThreadCount;
+use crate::counter::Counter;
+use cvl_base::{Config, Memory, NoResources};
+use fresh::{Room, Run, Writer, write_in_runs};
+use refusing_memory::Refusing;
+use sharing::{ThreadCount, all_workers};
+use std::test::Fail;
 use std::thread::Threads;
 
-/// Writes the doubles of numbers.
+/// Writes the doubles of numbers, and counts the runs, of which the first one may be held.
 #[derive(Drop)]
 struct Doubles<'a> {
     numbers: &'a [u32],
+    begun: &'a Counter,
 }
 
 impl<'a> Writer<u64> for Doubles<'a> {
@@ -25,6 +29,7 @@ impl<'a> Writer<u64> for Doubles<'a> {
         requires within { run.first + run.room ≤ length (map double self.now.numbers.now) }
         ensures { result ≡ stretch run.block run.first (part (map double self.now.numbers.now) run.first run.room) 0 }
     {
+        self.begun.add();
         run.fill_by(
             self.numbers,
             |x: u32| -> u64
@@ -47,29 +52,17 @@ pub fn are_written<R: Threads + Sync, A: Memory>(
     heap: A,
     threads: ThreadCount,
     length: usize,
+    begun: &Counter,
 ) -> Result<bool, NoResources> {
     let numbers: Vec<u32, A> = (0..length).map(|k| (k % 1_000) as u32).collect(heap)?;
     let numbers = numbers.as_slice();
-    let mut doubles = write_in_runs(rt, heap, threads, &Doubles { numbers }, numbers.len())?;
-    let as_long = doubles.len() == numbers.len() && doubles.capacity() == numbers.len();
+    let writer = Doubles { numbers, begun };
+    let mut doubles = write_in_runs(rt, heap, threads, &writer, numbers.len())?;
+    let as_long = doubles.capacity() == length;
     doubles.push(1)?;
     doubles.shrink_to_fit();
     let copy = doubles.clone()?;
-    Ok(
-        as_long
-            && copy == doubles
-            && copy.len() == numbers.len() + 1
-            && copy.last() == Some(&1)
-            && are_doubles(copy.as_slice(), numbers),
-    )
-}
-
-/// Whether the doubles of five numbers are right that are written over other numbers.
-pub fn are_written_over<A: Memory>(heap: A) -> Result<bool, NoResources> {
-    let numbers = [3, 1, 4, 1, 5];
-    let mut values = vec![in heap; 7; numbers.len()]?;
-    write_over(&mut values, &Doubles { numbers: &numbers });
-    Ok(are_doubles(&values, &numbers))
+    Ok(as_long && copy == doubles && copy.last() == Some(&1) && are_doubles(&copy, numbers))
 }
 
 /// Whether a room for five items, of which a thread that stops early has written two, is a vector of these two: of two runs one is
@@ -81,4 +74,14 @@ pub fn keeps_what_is_written<A: Memory>(heap: A) -> Result<bool, NoResources> {
     front.push(8);
     let items = room.into_vec(front.joined(back));
     Ok(items.as_slice() == [7, 8].as_slice() && items.capacity() == 5)
+}
+
+/// The run that begins first waits until two have begun.
+#[test]
+fn two_runs_at_one_moment(rt: HostRuntime) -> Result<(), Fail> {
+    let heap = Refusing::none(rt.alloc());
+    let threads = all_workers(Config::new(1, 2)?);
+    let begun = Counter::new(2);
+    assert!(rt; are_written(&rt, &heap, threads, 40, &begun)? && !begun.is_overdue());
+    Ok(())
 }

@@ -1,5 +1,6 @@
 //! What threads share, with ample memory and with each of its requests refused in turn.
 
+use crate::counter::Counter;
 use crate::{doubles, lowered_places, pieces, scan_boards, worlds};
 use cvl_base::{Config, Memory, NoResources};
 use refusing_memory::withstands_refusals;
@@ -16,8 +17,6 @@ enum Made {
     List,
     /// The doubles of so many numbers.
     Doubles(usize),
-    /// Doubles over a slice.
-    Over,
     /// What a thread leaves that stops early.
     Early,
 }
@@ -28,15 +27,14 @@ const ALL: &[(Made, &[u32], u64)] = &[
     (Made::LeastBoard, &[1], 3),
     // the sums, the words and the states
     (Made::World, &[1], 3),
-    // three pieces, their list, and the whole
-    (Made::List, &[1, 2, 4, 9], 5),
+    // two pieces, their list, and the whole
+    (Made::List, &[1, 2, 4, 9], 4),
     // no number, one, fewer than threads, more, and so many that threads share them; the vector, and where it is pushed to
     (Made::Doubles(0), &[1, 3, 8], 2),
     (Made::Doubles(1), &[1, 3, 8], 2),
     (Made::Doubles(5), &[1, 3, 8], 2),
     (Made::Doubles(40), &[1, 3, 8], 2),
     (Made::Doubles(262_145), &[8], 2),
-    (Made::Over, &[1], 1),
     (Made::Early, &[1], 1),
 ];
 
@@ -53,8 +51,9 @@ fn is_right<R: Threads + Sync, A: Memory>(
         Made::LeastBoard => lowered_places::answers_by_hand(heap),
         Made::World => worlds::answers_by_hand(heap),
         Made::List => pieces::is_in_order(rt, heap, threads),
-        Made::Doubles(length) => doubles::are_written(rt, heap, threads, *length),
-        Made::Over => doubles::are_written_over(heap),
+        Made::Doubles(length) => {
+            doubles::are_written(rt, heap, threads, *length, &Counter::new(0))
+        }
         Made::Early => doubles::keeps_what_is_written(heap),
     }
 }

@@ -1,6 +1,5 @@
 //! Scan boards: seats whose workers take their steps in turn, two threads of the caller's own, and a worker that stands still.
 
-ghost use Rattle.std.specs.Prelude.{◌≤◌, length};
 ghost use Rattle.boards.specs.Boards.{IsSeatOf};
 
 use crate::counter::Counter;
@@ -18,32 +17,8 @@ fn is_back(back: Back<i32>, sum: i32, looks: u32) -> bool {
     back.before == (false, sum) && back.looks == looks
 }
 
-/// Whether what one worker tells of tile 2, the other one sees, and no prefix is taken back.
-fn sees_what_is_told<A: Memory>(
-    board: &ScanBoard<CountedTiles<'_>, A>,
-    first: &mut ScanSeat<Add>,
-    second: &mut ScanSeat<Add>,
-) -> bool
-    requires first { IsSeatOf board.now first.old }
-    requires second { IsSeatOf board.now second.old }
-    requires tiles { 4 ≤ length board.now.sums }
-    ensures first { IsSeatOf board.now first.new }
-    ensures second { IsSeatOf board.now second.new }
-{
-    let back = board.look_back(first, 2);
-    board.tell_prefix(first, 2, back.before);
-    let told = board.look(first, 2);
-    board.tell_sum(second, 2);
-    let kept = board.look(first, 2);
-    let sum = board.look(second, 0);
-    is_back(back, 4, 2)
-        && told == Status::Prefix(false, 11)
-        && kept == Status::Prefix(false, 11)
-        && sum == Status::Sum(false, 3)
-}
-
-/// Whether each answer of two workers over tiles of 3, 1, 7 and 0 is the one that is worked out by hand. A tile of which something
-/// is told is not added up.
+/// Whether each answer of two workers over tiles of 3, 1, 7 and 0 is the one that is worked out by hand. What one tells of a tile,
+/// the other one sees, and no prefix is taken back. A tile of which something is told is not added up.
 pub fn answers_by_hand<A: Memory>(alloc: A) -> Result<bool, NoResources> {
     let counter = Counter::new(0);
     let tiles = CountedTiles::new(&[3, 1, 7, 0], &counter);
@@ -51,58 +26,40 @@ pub fn answers_by_hand<A: Memory>(alloc: A) -> Result<bool, NoResources> {
     let (Some(mut second), Some(mut first)) = (seats.pop(), seats.pop()) else {
         return Ok(false);
     };
-    let is_seen = sees_what_is_told(&board, &mut first, &mut second);
+    let back = board.look_back(&mut first, 2);
+    board.tell_prefix(&mut first, 2, back.before);
+    let told = board.look(&mut first, 2);
+    board.tell_sum(&mut second, 2);
+    let kept = board.look(&mut first, 2);
+    let sum = board.look(&mut second, 0);
     let before = counter.count();
     let onward = board.look_back(&mut second, 3);
     let again = board.look_back(&mut second, 2);
-    Ok(is_seen && is_back(onward, 11, 1) && is_back(again, 4, 2) && counter.count() == before)
+    let are_seen = told == Status::Prefix(false, 11)
+        && kept == told
+        && sum == Status::Sum(false, 3);
+    let are_backs = is_back(back, 4, 2) && is_back(onward, 11, 1) && is_back(again, 4, 2);
+    Ok(are_seen && are_backs && counter.count() == before)
 }
 
-/// How many tiles there are for threads. Each has its own number.
-const TILES: usize = 1000;
+/// How many tiles there are for threads, of a 1 each.
+const TILES: usize = 1_000;
 
 /// How often a worker claims: for each tile, and 1,000 times and more after it was told that none is left.
-const CLAIMS: u32 = 2001;
+const CLAIMS: u32 = 2_001;
 
-/// The numbers of the tiles.
-fn numbers() -> [i32; 1000] {
-    let mut numbers = [0; TILES];
-    for k in 0..TILES {
-        numbers[k] = k as i32;
-    }
-    numbers
-}
-
-/// Claims a tile, and tells its sum and its prefix; whether the look-back answered what the tiles before join to, or none
-/// where no tile is left.
-fn take_tile<A: Memory>(
-    board: &ScanBoard<CountedTiles<'_>, A>,
-    seat: &mut ScanSeat<Add>,
-) -> Option<bool>
-    requires { IsSeatOf board.now seat.old }
-    ensures { IsSeatOf board.now seat.new }
-{
-    let Claim::Tile(t) = board.claim(seat) else {
-        return None;
-    };
-    board.tell_sum(seat, t);
-    let back = board.look_back(seat, t);
-    board.tell_prefix(seat, t, back.before);
-    let t = i64::from(t);
-    Some(i64::from(back.before.1) == t.wrapping_mul(t.wrapping_sub(1)) / 2)
-}
-
-/// One worker's part. The answer is whether each look-back was right, and no tile came after it was told that none is left.
+/// One worker's part: it claims tiles, and tells the sum and the prefix of each. The answer is whether each look-back was right.
 fn work<A: Memory>(board: &ScanBoard<CountedTiles<'_>, A>, seat: &mut ScanSeat<Add>) -> bool
     requires { IsSeatOf board.now seat.old }
     ensures { IsSeatOf board.now seat.new }
 {
     let mut right = true;
-    let mut given: u32 = 0;
-    for claim in 0..CLAIMS {
-        if let Some(is_right) = take_tile(board, seat) {
-            right &= is_right && given == claim;
-            given = given.wrapping_add(1);
+    for _claim in 0..CLAIMS {
+        if let Claim::Tile(t) = board.claim(seat) {
+            board.tell_sum(seat, t);
+            let back = board.look_back(seat, t);
+            board.tell_prefix(seat, t, back.before);
+            right &= i64::from(back.before.1) == i64::from(t);
         }
     }
     right
@@ -140,8 +97,8 @@ fn by_two_threads<R: Threads + Sync, A: Memory>(
     counter: &Counter,
     stops: bool,
 ) -> Result<(u32, bool), NoResources> {
-    let numbers = numbers();
-    let tiles = CountedTiles::new(numbers.as_slice(), counter);
+    let ones = [1; TILES];
+    let tiles = CountedTiles::new(ones.as_slice(), counter);
     let (board, mut seats) = ScanBoard::new(alloc, tiles, 3)?;
     let (Some(mut third), Some(mut second), Some(mut first)) = (
         seats.pop(),
@@ -161,17 +118,15 @@ fn by_two_threads<R: Threads + Sync, A: Memory>(
     Ok((board.close(seats).given, right))
 }
 
-/// Beside a worker that has stopped and beside one that never claims, twenty times each; and once where a worker stands still
-/// inside a call of the board. That one holds up no other: the other one is given all other tiles, each of which is added up once
-/// for its sum and once for its prefix.
+/// Beside a worker that has stopped, twenty times; and beside one that never claims, where a worker stands still inside a call of
+/// the board. That one holds up no other: the other one is given all other tiles, each of which is added up once for its sum and
+/// once for its prefix.
 #[test]
 fn workers_in_threads(rt: HostRuntime) -> Result<(), Fail> {
     let heap = Refusing::none(rt.alloc());
-    for stops in [true, false] {
-        for _ in 0..20 {
-            let told = by_two_threads(&rt, &heap, &Counter::new(0), stops);
-            assert_eq!(rt; told, Ok((1000, true)));
-        }
+    for _ in 0..20 {
+        let told = by_two_threads(&rt, &heap, &Counter::new(0), true);
+        assert_eq!(rt; told, Ok((1000, true)));
     }
     let counter = Counter::new(1 + 2 * 999);
     let told = by_two_threads(&rt, &heap, &counter, false);
