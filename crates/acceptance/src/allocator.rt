@@ -5,23 +5,19 @@ use refusing_memory::{Flaw, Refusal, Refusing, withstands_refusals};
 use std::alloc::{AllocError, Global};
 use std::{mem, thread};
 
-/// Requests for the numbers from 1 up to another, which is not counted in, of which each is given back at once; their sum.
-fn boxes<A: Memory>(alloc: A, end: u64) -> Result<u64, AllocError> {
-    let mut sum = 0u64;
-    for n in 1..end {
-        let boxed = Box::new(alloc, n)?;
-        sum = sum.wrapping_add(*boxed);
+/// Makes so many requests, of which each is given back at once.
+fn boxes<A: Memory>(alloc: A, requests: u64) -> Result<(), AllocError> {
+    for n in 0..requests {
+        drop(Box::new(alloc, n)?);
     }
-    Ok(sum)
+    Ok(())
 }
 
-/// How many of 1000 requests in a row are refused.
-fn refused_of_1000<A: Memory>(alloc: A) -> usize {
+/// How many of so many requests in a row are refused.
+fn refused_of<A: Memory>(alloc: A, requests: u64) -> usize {
     let mut refused = 0usize;
-    for n in 0..1000u64 {
-        if Box::new(alloc, n).is_err() {
-            refused = refused.saturating_add(1);
-        }
+    for _ in 0..requests {
+        refused = refused.saturating_add(usize::from(boxes(alloc, 1).is_err()));
     }
     refused
 }
@@ -31,19 +27,18 @@ fn counts_of(heap: &Refusing<Global>) -> [u64; 4] {
     [heap.requests(), heap.refused(), heap.frees(), heap.held()]
 }
 
-/// A rule, whether it grants each of two runs of three requests, and what is counted then.
-const RULES: [(Refusal, [bool; 2], [u64; 4]); 3] = [
-    (Refusal::Never, [true, true], [6, 0, 6, 0]),
-    (Refusal::Only(1), [false, true], [5, 1, 4, 0]),
-    (Refusal::From(1), [false, false], [3, 2, 1, 0]),
+/// A rule, how many of six requests it refuses, and what is counted then.
+const RULES: [(Refusal, usize, [u64; 4]); 3] = [
+    (Refusal::Never, 0, [6, 0, 6, 0]),
+    (Refusal::Only(1), 1, [6, 1, 5, 0]),
+    (Refusal::From(1), 5, [6, 5, 1, 0]),
 ];
 
 #[test]
 fn counts_and_refusals(rt: HostRuntime) {
-    for (rule, granted, counts) in RULES {
+    for (rule, refused, counts) in RULES {
         let heap = Refusing::new(rule, rt.alloc());
-        assert!(rt; [boxes(&heap, 4) == Ok(6), boxes(&heap, 4) == Ok(6)] == granted);
-        assert!(rt; heap.rule() == rule && counts_of(&heap) == counts);
+        assert!(rt; refused_of(&heap, 6) == refused && counts_of(&heap) == counts);
     }
     let heap = Refusing::none(rt.alloc());
     let kept = Box::new(&heap, 7u64);
@@ -54,15 +49,19 @@ fn counts_and_refusals(rt: HostRuntime) {
 
 #[test]
 fn counts_across_threads(rt: HostRuntime) {
-    let heap = Refusing::only(500, rt.alloc());
+    let heap = Refusing::new(Refusal::Only(500), rt.alloc());
     let shared = &heap;
-    let (left, right) = thread::join(&rt, || refused_of_1000(shared), || refused_of_1000(shared));
+    let (left, right) = thread::join(
+        &rt,
+        || refused_of(shared, 1_000),
+        || refused_of(shared, 1_000),
+    );
     assert!(rt; left.wrapping_add(right) == 1 && counts_of(shared) == [2000, 1, 1999, 0]);
 }
 
 /// What is run on the allocator.
 enum Work {
-    /// Requests for the numbers from 1 up to this one.
+    /// So many requests.
     Boxes(u64),
     /// Three requests whose refusal is not told.
     Silent,
@@ -70,33 +69,33 @@ enum Work {
     Leaking,
 }
 
-/// The answer of the work.
-fn answer_of<A: Memory>(alloc: A, work: &Work) -> Result<u64, AllocError> {
+/// Whether the work was refused memory.
+fn answer_of<A: Memory>(alloc: A, work: &Work) -> Result<(), AllocError> {
     match work {
-        Work::Boxes(end) => boxes(alloc, *end),
-        Work::Silent => Ok(boxes(alloc, 4).unwrap_or(0)),
+        Work::Boxes(requests) => boxes(alloc, *requests),
+        Work::Silent => Ok(boxes(alloc, 3).unwrap_or(())),
         Work::Leaking => {
             mem::forget(Box::new(alloc, 1u64)?);
-            Ok(6)
+            Ok(())
         }
     }
 }
 
-/// The work, its right answer, and how many requests it makes, or what is wrong with it.
-const WORKS: &[(Work, u64, Result<u64, Flaw>)] = &[
-    (Work::Boxes(4), 6, Ok(3)),
-    (Work::Silent, 6, Err(Flaw::WrongAnswer(0))),
-    (Work::Leaking, 6, Err(Flaw::Leak(1))),
-    (Work::Boxes(u64::MAX), 0, Err(Flaw::NoEnd)),
+/// The work, and how many requests it makes, or what is wrong with it.
+const WORKS: &[(Work, Result<u64, Flaw>)] = &[
+    (Work::Boxes(3), Ok(3)),
+    (Work::Silent, Err(Flaw::WrongAnswer(0))),
+    (Work::Leaking, Err(Flaw::Leak(1))),
+    (Work::Boxes(u64::MAX), Err(Flaw::NoEnd)),
 ];
 
 #[test]
 fn requests_and_flaws(rt: HostRuntime) {
-    for (work, right, found) in WORKS {
+    for (work, found) in WORKS {
         let requests = withstands_refusals(
             rt.alloc(),
             |heap| answer_of(heap, work),
-            Ok(*right),
+            Ok(()),
             Err(AllocError),
         );
         assert!(rt; requests == *found, "{requests:?}");

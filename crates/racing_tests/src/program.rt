@@ -5,7 +5,7 @@ use refusing_memory::Refusing;
 use std::test::Fail;
 use tested_runs::hosts::Failing::Nothing;
 use tested_runs::hosts::Files;
-use tested_runs::programs::{Row, ends_as};
+use tested_runs::programs::ends_as;
 use watching_gate::{Holds, Race, Watch};
 
 const FILES: Files = &[
@@ -13,13 +13,7 @@ const FILES: Files = &[
     ("numbers", "3 1 7 0"),
 ];
 
-const RUN: Row = (
-    Nothing,
-    "cvl --tile 1 --workers 2 script numbers",
-    "b = [0 3 4 11]\n",
-    "",
-    0,
-);
+const LINE: &str = "cvl --tile 1 --workers 2 script numbers";
 
 /// The tiles and the workers of a command line are those of the run: its gate sees four tiles, for which two workers race.
 #[test]
@@ -27,6 +21,7 @@ fn held_in_the_program(rt: HostRuntime) -> Result<(), Fail> {
     let holds = Holds::UntilOthers(Point::Claimed(0));
     let heap = Refusing::none(rt.alloc());
     let gate = Watch::new(rt.alloc(), Race::Scan, 4, 2, holds)?;
-    assert!(rt; ends_as(&rt, &heap, FILES, &RUN, &gate)? && gate.saw_all());
+    let row = (LINE, "b = [0 3 4 11]\n", "", 0);
+    assert!(rt; ends_as(&rt, &heap, FILES, Nothing, &row, &gate)? && gate.saw_all());
     Ok(())
 }

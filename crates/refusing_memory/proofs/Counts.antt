@@ -1,20 +1,9 @@
 -- The two calls that count, `Calls::refuses` and `Calls::free`: what each is handed, and what its caller has of it. Assumes `Logic`.
-use Rattle.std.proofs.Common.{◌≡◌, ℕ, ◌^◌, ◌<◌, Bool, List, [], ◌∷◌, refl, ap, w64}
-use seplogic.Ra.Ura.{Ura}
-use mir.Val.{Val, vbool, vint, vunit, vptr}
-use base.Logic.{SProp, ent, ex, sep, guard, id⊢}
-use base.Fml.{Lft, Share, ftrue, fsep, flft}
-use prog.Memory.{Memory}
-use prog.Routine.{Routine}
-use types.Logic.{Logic, sem}
-use contract.Monad.{Fun}
-use types.Kit.{‵, ◌⊛◌, some, later, show, ◌$◌, ◌∵◌, !, qed, move, keep, use1, split, join, pick, fjoin, feq_i, feq_l, flt_i, check, await, updating, now as at_once, done}
-use denote.RattleType.{RattleType}
+use Rattle.refusing_memory.proofs.Walks.{◌≡◌, ℕ, ◌^◌, ◌<◌, Bool, List, [], ◌∷◌, refl, w64, ap, Ura, Val, vbool, vint, vptr, vunit, SProp, ent, id⊢, ex, sep, guard, Lft, Share, ftrue, flft, fsep}
+use Rattle.refusing_memory.proofs.Walks.{Memory, Routine, Logic, sem, Fun, RattleType, nothing, only, triple_of, Contract, ‵, ◌⊛◌, some, later, pick, ◌$◌, ◌∵◌, !, qed, move, keep, use1, split, join}
+use Rattle.refusing_memory.proofs.Walks.{fjoin, await, done, feq_i, show, feq_l, flt_i, check, updating, bool, unit}
+use types.Kit.{now as at_once}
 use denote.Memory.{hidden_shr}
-use denote.Builtin.{bool, unit}
-use denote.Steps.{nothing, only}
-use denote.Triple.Statement.{Contract}
-use denote.Triple.Spec.{triple_of}
 use Rattle.refusing_memory.specs.contracts.counting.Calls as CA
 use Rattle.refusing_memory.specs.contracts.counting.Calls.refuses as RE
 use Rattle.refusing_memory.specs.contracts.counting.Calls.free as FR

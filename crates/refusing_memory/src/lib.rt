@@ -52,27 +52,6 @@ impl<B: Allocator> Refusing<B> {
         Refusing::new(Refusal::Never, inner)
     }
 
-    /// An allocator over `inner` that refuses request `k` alone. The first request is number 0.
-    pub fn only(k: u64, inner: B) -> Refusing<B>
-        ensures { rule_of result ≡ Refusal.Only k }
-    {
-        Refusing::new(Refusal::Only(k), inner)
-    }
-
-    /// An allocator over `inner` that refuses request `k` and all that follow it. The first request is number 0.
-    pub fn from(k: u64, inner: B) -> Refusing<B>
-        ensures { rule_of result ≡ Refusal.From k }
-    {
-        Refusing::new(Refusal::From(k), inner)
-    }
-
-    /// The rule by which it refuses.
-    pub fn rule(&self) -> Refusal
-        ensures { result ≡ rule_of self.now }
-    {
-        self.calls.refusal
-    }
-
     /// How many requests were made so far, granted or refused.
     pub fn requests(&self) -> u64 {
         self.calls.requests.load(Ordering::SeqCst)

@@ -18,16 +18,6 @@ pub struct TableFiles<'a> {
     files: Files<'a>,
 }
 
-/// The bytes of the file of this name.
-fn file_of<'a>(files: Files<'a>, name: &str) -> Option<&'a str> {
-    for (file, bytes) in files {
-        if *file == name {
-            return Some(*bytes);
-        }
-    }
-    None
-}
-
 impl ReadFiles for TableFiles<'_> {
     ghost use Rattle.std.specs.Prelude.{None};
 
@@ -38,8 +28,12 @@ impl ReadFiles for TableFiles<'_> {
         name: &str,
         room: FileRoom<'_, R, A>,
     ) -> Option<Vec<u8, A>> {
-        let text = file_of(self.files, name)?;
-        room.read_whole(&mut text.as_bytes(), text.len())
+        for (file, text) in self.files {
+            if *file == name {
+                return room.read_whole(&mut text.as_bytes(), text.len());
+            }
+        }
+        None
     }
 }
 

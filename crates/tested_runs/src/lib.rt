@@ -1,5 +1,5 @@
 //! What tests run and compare: the program on a host in memory, scripts at a gate that sees who passes, sessions by their calls,
-//! the recipes, calls that no script makes, and long texts. Each is generic over its memory, so that a test refuses requests of it.
+//! calls that no script makes, and long texts. Each is generic over its memory, so that a test refuses requests of it.
 #![tactic(auto)]
 
 pub mod hosts;
@@ -7,6 +7,5 @@ pub mod kept_texts;
 pub mod memory_of_calls;
 pub mod other_calls;
 pub mod programs;
-pub mod recipe_calls;
 pub mod scripts;
 pub mod sessions;

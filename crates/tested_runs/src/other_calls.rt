@@ -1,10 +1,12 @@
-//! The calls that no script makes as they stand: scans and reduces by the monoid itself, a permute over a room, and a pack that
-//! gives its lengths too.
+//! The calls that no script makes as they stand: scans and reduces by the monoid itself, a permute over a room, a pack that gives
+//! its lengths too, and the recipes.
 
 use cvl_base::monoids::Add;
 use cvl_base::{Config, Memory, Refused};
+use elementwise::int_from_bool;
 use pack_dist::seg_pack;
 use permutes::simple_over;
+use recipes::{line_of_sight, sparse_matvec};
 use scan_ops::{reduce, scan, seg_reduce, seg_scan};
 use segdes::SegDes;
 use std::thread::Threads;
@@ -18,6 +20,8 @@ pub enum Call {
     SegReduce,
     SimpleOver,
     SegPack,
+    Product,
+    Sight,
 }
 
 /// The five numbers.
@@ -43,6 +47,29 @@ fn packed<R: Threads + Sync, A: Memory>(
     Ok(values)
 }
 
+/// The product of a matrix of three rows and a vector.
+fn product<R: Threads + Sync, A: Memory>(
+    rt: &R,
+    heap: A,
+    config: Config,
+) -> Result<Vec<i32, A>, Refused> {
+    let lens = vec![in heap; 2, 0, 2]?;
+    let cols = vec![in heap; 0, 2, 1, 2]?;
+    let vals = vec![in heap; 2, 1, 3, 4]?;
+    let x = vec![in heap; 1, 2, 3]?;
+    sparse_matvec(rt, heap, config, lens, cols, vals, x)
+}
+
+/// Which places of a line of altitudes are visible, as numbers.
+fn sight<R: Threads + Sync, A: Memory>(
+    rt: &R,
+    heap: A,
+    config: Config,
+) -> Result<Vec<i32, A>, Refused> {
+    let visible = line_of_sight(rt, heap, config, vec![in heap; 0, 1, 1, 6, 2]?)?;
+    Ok(int_from_bool(rt, heap, config, &visible)?)
+}
+
 /// What a call gives on five numbers in three segments, by three workers in tiles of one element. A number is told as a vector
 /// of it.
 pub fn answer_of<R: Threads + Sync, A: Memory>(
@@ -59,5 +86,7 @@ pub fn answer_of<R: Threads + Sync, A: Memory>(
         Call::SegReduce => seg_reduce::<R, A, Add>(rt, heap, config, XS, &d),
         Call::SimpleOver => over(heap),
         Call::SegPack => packed(rt, heap, config, &d),
+        Call::Product => product(rt, heap, config),
+        Call::Sight => sight(rt, heap, config),
     }
 }

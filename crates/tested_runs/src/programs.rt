@@ -5,15 +5,15 @@ use cvl_base::{Memory, NoResources};
 use shell::{Gate, program_gated};
 use std::thread::Threads;
 
-/// What fails on the host, a command line, and what comes of it: standard output, standard error and the status.
-pub type Row<'a> = (Failing, &'a str, &'a str, &'a str, u8);
+/// A command line, and what comes of it: standard output, standard error and the status.
+pub type Row<'a> = (&'a str, &'a str, &'a str, u8);
 
 /// What standard error begins with where a command line is refused.
 pub const REFUSED: &str = "error: ";
 
 /// Whether this came of a run: standard output, all of which was sent on where the status is 0, standard error and the status.
 fn came(host: &Host<'_>, status: u8, row: &Row<'_>) -> bool {
-    let (_, _, output, errors, wanted) = row;
+    let (_, output, errors, wanted) = row;
     let (taken, told) = (host.output.taken.as_slice(), host.errors.taken.as_slice());
     let is_told = told == errors.as_bytes()
         || *errors == REFUSED && told.starts_with(REFUSED.as_bytes());
@@ -25,20 +25,21 @@ fn came(host: &Host<'_>, status: u8, row: &Row<'_>) -> bool {
 fn is_starved(host: &Host<'_>, status: u8, row: &Row<'_>) -> bool {
     let told = host.errors.taken.as_slice();
     let is_told = told.starts_with(b"cannot read ") || told.ends_with(b": no resources\n");
-    status == 3 && is_told && row.2.as_bytes().starts_with(&host.output.taken)
+    status == 3 && is_told && row.1.as_bytes().starts_with(&host.output.taken)
 }
 
-/// Whether the program ends as the row says, on this memory and on a host that has its own for what it writes. Its workers pass a
-/// gate.
+/// Whether the program ends as the row says, on this memory and on a host on which this fails, which has its own memory for what
+/// it writes. Its workers pass a gate.
 pub fn ends_as<R: Threads + Sync + AllocGlobal, A: Memory, G: Gate>(
     rt: &R,
     heap: A,
     files: Files<'_>,
+    failing: Failing,
     row: &Row<'_>,
     gate: &G,
 ) -> Result<bool, NoResources> {
-    let mut host = host_with(rt.alloc(), files, row.0);
-    let words: Vec<&str> = row.1.split_whitespace().collect(rt.alloc())?;
+    let mut host = host_with(rt.alloc(), files, failing);
+    let words: Vec<&str> = row.0.split_whitespace().collect(rt.alloc())?;
     let status = program_gated(rt, heap, words.as_slice(), &mut host, gate);
     if came(&host, status, row) {
         Ok(true)

@@ -1,4 +1,4 @@
-//! Sessions by their calls, of which one that was refused memory is made again.
+//! A session by its calls, of which one that was refused memory is made again.
 
 use crate::hosts::inputs_of;
 use call_reader::read_line;
@@ -9,13 +9,12 @@ use std::thread::Threads;
 use vector_handles::{Input, Session, Shown};
 
 /// The texts of the first inputs of a session.
-const INPUTS: &[&str] = &["[[1 2] [] [3]]", "8", "0 2 0 3 0", "5 1 7 7 1"];
+const INPUTS: &[&str] = &["[[1 2] [] [3]]", "0 2 0 3 0", "5 1 7 7 1"];
 
-/// A session on these inputs and a fifth one, which is a vector and no text.
+/// A session on these inputs and a fourth one, which is a vector and no text.
 fn session_on<A: Memory>(heap: A) -> Result<Session<A>, NoResources> {
     let mut inputs = inputs_of(heap, INPUTS)?;
-    let fifth = Ints::from_vec(vec![in heap; 1, 0]?);
-    inputs.push(Input::Vector(fifth))?;
+    inputs.push(Input::Vector(Ints::from_vec(vec![in heap; 1, 0]?)))?;
     Session::new(heap, Config::new(2, 3).unwrap(), inputs)
 }
 
@@ -45,11 +44,12 @@ fn put_line<R: Threads + Sync, A: Memory>(
         shown => shown,
     };
     match shown {
-        Ok(Shown::Nothing) => Ok(()),
-        Ok(Shown::Text(shown)) => Ok(text.extend_from_slice(shown.as_slice())?),
-        Err(Refused::Fault(fault)) => Ok(put_stop(&Stop::Script { line: 0, fault }, text)?),
-        Err(Refused::NoResources) => Err(Refused::NoResources),
+        Ok(Shown::Nothing) => {}
+        Ok(Shown::Text(shown)) => text.extend_from_slice(shown.as_slice())?,
+        Err(Refused::Fault(fault)) => put_stop(&Stop::Script { line: 0, fault }, text)?,
+        Err(Refused::NoResources) => return Err(Refused::NoResources),
     }
+    Ok(())
 }
 
 /// Whether the calls of these lines show this text on memory of which one request may be refused.
@@ -65,7 +65,7 @@ pub fn show<R: Threads + Sync, A: Memory>(
         Err(NoResources) => session_on(heap)?,
     };
     let mut text = Vec::new(alloc);
-    for line in lines.split('\n') {
+    for line in lines.lines() {
         put_line(rt, heap, &mut session, line, &mut text)?;
     }
     Ok(text.as_slice() == right.as_bytes())

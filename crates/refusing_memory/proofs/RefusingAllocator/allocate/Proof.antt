@@ -1,44 +1,16 @@
 -- It counts the request, and refuses it or answers what the inner allocator answers. Assumes `Logic`.
-use Rattle.std.proofs.Common.{◌≡◌, ℕ, ◌+◌, ◌^◌, ◌<◌, Bool, true, false, List, [], ◌∷◌, Ok, Err, refl, w64, Bor}
-use seplogic.Ra.Ura.{Ura}
-use mir.Syntax.{Ty, Args, Fn, a_type, dnil, dcons}
-use mir.Val.{Val, vbool, vint, vptr}
-use mir.MapTy.{inst_fn}
-use base.Logic.{SProp, ent, id⊢}
-use base.Fml.{Lft, Share, ftrue, flft}
-use prog.Memory.{Memory, size, align, capped, up}
-use prog.Routine.{Routine}
-use prog.Wp.{WpFn, Tables}
-use types.Logic.{Logic}
-use contract.BorrowLft.{◌⊑◌, ⊑_trans}
-use contract.Monad.{Fun, fact}
-use contract.Running.{tables, tables_of}
-use sound.WpLaws.{fm_of, WpFn-mono}
+use Rattle.refusing_memory.proofs.Walks.{◌≡◌, ℕ, ◌+◌, ◌^◌, ◌<◌, Bool, true, false, List, [], ◌∷◌, Ok, Err, refl, w64, Bor, Ura, Ty, Fn, Val, vbool, vint, vptr, inst_fn, SProp, ent, id⊢, Lft, Share}
+use Rattle.refusing_memory.proofs.Walks.{ftrue, flft, Memory, size, align, capped, up, Routine, WpFn, Tables, Logic, ◌⊑◌, ⊑_trans, Fun, fact, tables, tables_of, fm_of, WpFn-mono, stop, fld, addr}
+use Rattle.refusing_memory.proofs.Walks.{lit, no_more, and_then, first, branches, skips, exec, returns, returns_within, enter, yes, owns, shr_vals, unhide, uint_vals, uint_Tells, plain, types_at}
+use Rattle.refusing_memory.proofs.Walks.{heard, nothing, Ended, Clauses, triple_of, Triple, entered, cited, Stays, stay_dropped, walk_of, ends_at, walked, Goes-dropped, walk_Meets, ‵, raw, ◌⊛◌, some}
+use Rattle.refusing_memory.proofs.Walks.{later, given, learn, at_ret, pick, ◌$◌, ◌∵◌, !, qed, move, keep, use0, use1, use2, split, join, fsplit, fjoin, suffices, await, done, alloc_all, pass_all}
+use Rattle.refusing_memory.proofs.Walks.{free_all, look_at, get, through, sets, lands_as, env, block_ptr, usize, calls_at, Al, α, seen, args, self}
 use types.Part.{agg}
-use types.Run.{stop, fld, addr, lit, no_more, and_then, first, branches, skips, exec, returns, returns_within, enter}
-use denote.Exit.{yes}
-use denote.RattleType.{owns}
-use denote.Ref.{shr_vals}
-use denote.Opens.{unhide}
-use denote.Param.{bounded, param}
-use denote.Plain.{uint_vals, uint_Tells}
-use denote.Signature.{Slot, plain, types_at}
-use denote.Steps.{heard, nothing}
-use denote.Triple.Clauses.{Ended, Clauses}
-use denote.Triple.Spec.{triple_of}
-use denote.Triple.Statement.{Triple}
-use denote.Triple.Table.{entered, cited}
-use denote.Triple.Walked.{Stays, stay_dropped, walk_of, ends_at, walked, Goes-dropped, walk_Meets}
-use types.Kit.{‵, raw, ◌⊛◌, some, later, given, learn, at_ret, pick, ◌$◌, ◌∵◌, !, qed, move, keep, use0, use1, use2, split, join, fsplit, fjoin, suffices, await, done}
-use types.ByLocal.{alloc_all, pass_all, free_all, look_at, get, through, sets, lands_as, env}
-use denote.RawPtr.{block_ptr}
-use denote.Builtin.{usize, RefOf}
-use denote.Triple.Call.{calls_at}
-use Rattle.std.proofs.alloc.Calls.{Al, α, seen, Answer, answer_val, Answer-typed, Answer-Ok, Answer-err, takes_key, Takes, at_takes, Answered, Takes-goes, Takes-gives, answers}
+use Rattle.std.proofs.alloc.Calls.{Answer, answer_val, Answer-typed, Answer-Ok, Answer-err, takes_key, Takes, at_takes, Answered, Takes-goes, Takes-gives, answers}
 use Rattle.refusing_memory.proofs.Counts.{Refuses, at_refuses, Refuses-goes, Refuses-gives}
+use Rattle.std.proofs.VecSteps.Shapes.{after}
 use Rattle.refusing_memory.proofs.counting.Calls.refuses.Symbol as c_sym
 use Rattle.refusing_memory.proofs.counting.Calls.refuses.Met as c_met
-use Rattle.std.proofs.VecSteps.Shapes.{after}
 use Rattle.refusing_memory.specs.contracts.Refusing as wrapper
 use Rattle.refusing_memory.specs.contracts.RefusingAllocator.allocate as F
 use Rattle.refusing_memory.specs.contracts.RefusingAllocator.allocate.Key as key
@@ -46,20 +18,14 @@ use Rattle.refusing_memory.proofs.RefusingAllocator.allocate.Statement as stated
 use Rattle.refusing_memory.proofs.RefusingAllocator.allocate.Code as code
 
 module _ (Z : Al) where
-  abbrev args : Args
-  args = bounded (a_type ∷ []) (Z.row, tt) (dcons Z.d (dcons Z.drops dnil))
-
   abbrev here : Fn
-  here = inst_fn args code.function
-
-  abbrev self : Slot 2
-  self = RefOf (0 ∷ []) tt (plain (λ _. wrapper.the_row (param 0 Z.row))) (λ _. tt)
+  here = inst_fn (args Z) code.function
 
   abbrev ended : Ended
   ended = F.ended Z.row Z.g Z.d Z.drops
 
   abbrev stayed : Stays ended.signature.params ended.kept
-  stayed = (stay_dropped self yes, (stay_dropped (plain (λ _. usize)) yes, (stay_dropped (plain (λ _. usize)) yes, tt)))
+  stayed = (stay_dropped (self Z) yes, (stay_dropped (plain (λ _. usize)) yes, (stay_dropped (plain (λ _. usize)) yes, tt)))
 
 module _ (Z : Al) {M : Type 1} {𝓤 : Ura M} (𝓛 : Logic 𝓤) (at_mem : Memory → SProp 𝓤) (run : Routine → Fun 𝓤) (𝓣 : Tables 𝓤 𝓛.H) (tk : Triple 𝓤 (𝓣.C (takes_key Z)) (Takes Z 𝓛 at_mem run)) (kn : Triple 𝓤 (𝓣.C c_sym.name) (Refuses 𝓛 at_mem run)) where
   open 𝓛 use {H}
@@ -114,7 +80,6 @@ pub allocate_spec : {M : Type 1} → stated.statement M
 unfolding tables_of
 allocate_spec 𝓤 𝓛 𝓜 𝓡 wired Y L g d d' met _ =
     let Z : Al = record { row = Y; laws = L; g = g; d = d; drops = d' } in
-    let A = 𝓛.A in
     let 𝓣 : Tables 𝓤 𝓛.H = tables_of 𝓤 𝓛.H 𝓜 (tables 𝓤 𝓛.H 𝓜 𝓡 𝓡.env) in
     let c = F.clauses Y g d d' 𝓛 𝓜.mem 𝓡.returns in
     entered 𝓤 𝓛.H (triple_of 𝓛 (F.signature Y) (F.spec Y g d d' 𝓛 𝓜.mem 𝓡.returns)) 𝓣.C 𝓣.Λ (key.name (args Z)) (here Z) (code.unfolded 𝓤 𝓛.H 𝓜 𝓡 wired (Y, tt) d d')

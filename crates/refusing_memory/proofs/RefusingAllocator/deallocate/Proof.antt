@@ -1,43 +1,11 @@
 -- It counts the call, and gives the block back to the inner allocator. Assumes `Logic`.
-use Rattle.std.proofs.Common.{◌≡◌, ℕ, ◌+◌, ◌^◌, ◌<◌, List, [], ◌∷◌, refl, w64, Bor}
-use seplogic.Ra.Ura.{Ura}
-use mir.Syntax.{Ty, Args, Fn, a_type, dnil, dcons}
-use mir.Val.{Val, vint, vptr}
-use mir.MapTy.{inst_fn}
-use base.Logic.{SProp, ent, id⊢}
-use base.Fml.{Lft, Share, ftrue, flft}
-use prog.Memory.{Memory, size, align, capped, up}
-use prog.Routine.{Routine}
-use prog.Wp.{WpFn, Tables}
-use types.Logic.{Logic}
-use contract.BorrowLft.{◌⊑◌, ⊑_trans}
-use contract.Monad.{Fun, fact}
-use contract.Running.{tables, tables_of}
-use sound.WpLaws.{fm_of, WpFn-mono}
-use types.Run.{stop, fld, addr, no_more, and_then, of_opd, returns, enter}
-use denote.Exit.{yes}
-use denote.RattleType.{owns}
-use denote.Ref.{shr_vals}
-use denote.Opens.{unhide}
-use denote.Param.{bounded, param}
-use denote.Plain.{uint_vals, uint_Tells}
-use denote.Signature.{Slot, plain, types_at}
-use denote.Steps.{heard, nothing}
-use denote.Triple.Clauses.{Ended, Clauses}
-use denote.Triple.Spec.{triple_of}
-use denote.Triple.Statement.{Triple}
-use denote.Triple.Table.{entered, cited}
-use denote.Triple.Walked.{Stays, stay_dropped, walk_of, ends_at, walked, Goes-dropped, walk_Meets}
-use mir.Val.{vunit}
-use base.Logic.{never_e}
-use base.Fml.{ffalse, fsep, froom}
-use types.Kit.{Item, ‵, raw, ◌⊛◌, later, given, ◌$◌, ◌∵◌, !, qed, by, move, keep, use1, use2, split, split3, join, learn, fsplit, fjoin, feq_i, suffices, await, done}
-use types.Run.{unit_lit}
-use types.ByLocal.{alloc_all, pass_all, free_all, look_at, get, through, sets, lands_as}
-use denote.RawPtr.{Ptr, block_ptr, null_ptr, ptr_val, rawptr_vals, rawptr_Tells}
-use denote.Builtin.{usize, RawPtr, RefOf}
-use denote.Triple.Call.{calls_at}
-use Rattle.std.proofs.alloc.Calls.{Al, α, seen, token, gives_key, Gives, at_gives, Gives-goes, Gives-Gives}
+use Rattle.refusing_memory.proofs.Walks.{◌≡◌, ℕ, ◌+◌, ◌^◌, ◌<◌, List, [], ◌∷◌, refl, w64, Bor, Ura, Ty, Fn, Val, vint, vptr, vunit, inst_fn, SProp, ent, id⊢, never_e, Lft, Share, ftrue, flft, ffalse}
+use Rattle.refusing_memory.proofs.Walks.{fsep, froom, Memory, size, align, capped, up, Routine, WpFn, Tables, Logic, ◌⊑◌, ⊑_trans, Fun, fact, tables, tables_of, fm_of, WpFn-mono, stop, fld, addr}
+use Rattle.refusing_memory.proofs.Walks.{no_more, and_then, returns, enter, of_opd, unit_lit, yes, owns, shr_vals, unhide, uint_vals, uint_Tells, plain, types_at, heard, nothing, Ended, Clauses}
+use Rattle.refusing_memory.proofs.Walks.{triple_of, Triple, entered, cited, Stays, stay_dropped, walk_of, ends_at, walked, Goes-dropped, walk_Meets, ‵, raw, ◌⊛◌, later, given, learn, ◌$◌, ◌∵◌, ! }
+use Rattle.refusing_memory.proofs.Walks.{qed, move, keep, use1, use2, split, join, fsplit, fjoin, suffices, await, done, Item, by, split3, feq_i, alloc_all, pass_all, free_all, look_at, get, through}
+use Rattle.refusing_memory.proofs.Walks.{sets, lands_as, block_ptr, Ptr, null_ptr, ptr_val, rawptr_vals, rawptr_Tells, usize, RawPtr, calls_at, Al, α, seen, args, self}
+use Rattle.std.proofs.alloc.Calls.{token, gives_key, Gives, at_gives, Gives-goes, Gives-Gives}
 use Rattle.refusing_memory.proofs.Counts.{Frees, at_frees, Frees-goes, Frees-gives}
 use Rattle.refusing_memory.proofs.counting.Calls.free.Symbol as c_sym
 use Rattle.refusing_memory.proofs.counting.Calls.free.Met as c_met
@@ -48,20 +16,14 @@ use Rattle.refusing_memory.proofs.RefusingAllocator.deallocate.Statement as stat
 use Rattle.refusing_memory.proofs.RefusingAllocator.deallocate.Code as code
 
 module _ (Z : Al) where
-  abbrev args : Args
-  args = bounded (a_type ∷ []) (Z.row, tt) (dcons Z.d (dcons Z.drops dnil))
-
   abbrev here : Fn
-  here = inst_fn args code.function
-
-  abbrev self : Slot 2
-  self = RefOf (0 ∷ []) tt (plain (λ _. wrapper.the_row (param 0 Z.row))) (λ _. tt)
+  here = inst_fn (args Z) code.function
 
   abbrev ended : Ended
   ended = F.ended Z.row Z.g Z.d Z.drops
 
   abbrev stayed : Stays ended.signature.params ended.kept
-  stayed = (stay_dropped self yes, (stay_dropped (plain (λ _. RawPtr)) yes, (stay_dropped (plain (λ _. usize)) yes, (stay_dropped (plain (λ _. usize)) yes, tt))))
+  stayed = (stay_dropped (self Z) yes, (stay_dropped (plain (λ _. RawPtr)) yes, (stay_dropped (plain (λ _. usize)) yes, (stay_dropped (plain (λ _. usize)) yes, tt))))
 
 module _ (Z : Al) {M : Type 1} {𝓤 : Ura M} (𝓛 : Logic 𝓤) (at_mem : Memory → SProp 𝓤) (run : Routine → Fun 𝓤) (𝓣 : Tables 𝓤 𝓛.H) (de : Triple 𝓤 (𝓣.C (gives_key Z)) (Gives Z 𝓛 at_mem run)) (kn : Triple 𝓤 (𝓣.C c_sym.name) (Frees 𝓛 at_mem run)) where
   open 𝓛 use {H}
@@ -117,7 +79,6 @@ pub deallocate_spec : {M : Type 1} → stated.statement M
 unfolding tables_of
 deallocate_spec 𝓤 𝓛 𝓜 𝓡 wired Y L g d d' met _ =
     let Z : Al = record { row = Y; laws = L; g = g; d = d; drops = d' } in
-    let A = 𝓛.A in
     let 𝓣 : Tables 𝓤 𝓛.H = tables_of 𝓤 𝓛.H 𝓜 (tables 𝓤 𝓛.H 𝓜 𝓡 𝓡.env) in
     let c = F.clauses Y g d d' 𝓛 𝓜.mem 𝓡.returns in
     entered 𝓤 𝓛.H (triple_of 𝓛 (F.signature Y) (F.spec Y g d d' 𝓛 𝓜.mem 𝓡.returns)) 𝓣.C 𝓣.Λ (key.name (args Z)) (here Z) (code.unfolded 𝓤 𝓛.H 𝓜 𝓡 wired (Y, tt) d d')
