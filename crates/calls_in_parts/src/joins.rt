@@ -1,7 +1,7 @@
 //! What reduces and scans join: the calls on a range of a vector. A carry has 64 bits.
 
-use crate::cuts::{Answer, within};
 use crate::data::{BYTES, NUMBERS};
+use crate::parts::{Answer, within};
 use c_calls::{checked_sums, elements, packs, scans, seg_scans, tiles};
 use cvl_base::{Fault, FaultNo};
 use part_calls::carries::{checked_scan_from, exact_sum};
@@ -14,7 +14,7 @@ pub enum Join {
     Count,
 }
 
-/// Of which call: the plain one, the one after what stands before, or the one of segments with these lengths.
+/// Which scan: the plain one, the one after what stands before, or the one of segments with these lengths.
 #[derive(Clone, Copy)]
 pub enum How<'a> {
     Plain,
@@ -24,9 +24,7 @@ pub enum How<'a> {
 
 /// A sum that fits 32 bits.
 fn fitting(sum: i64) -> Result<i32, Fault> {
-    i32::try_from(sum)
-        .ok()
-        .ok_or(Fault::at(FaultNo::Overflow, 0))
+    i32::try_from(sum).or(Err(Fault::at(FaultNo::Overflow, 0)))
 }
 
 /// A value alone.
@@ -62,35 +60,31 @@ impl Join {
         Ok(i64::from(scans::int_reduce(*op, &both)?))
     }
 
-    /// The reduce of a range.
-    pub fn reduce(&self, alloc: Global, how: How<'_>, from: usize, to: usize) -> Answer {
+    /// The reduce of a range of segments with these lengths. One segment is reduced by the flat call.
+    pub fn reduce(&self, alloc: Global, lengths: &[i32], from: usize, to: usize) -> Answer {
         let a = self.of(from, to);
-        let How::Each(lengths) = how else {
-            return match self {
-                Join::Exact(_) => alone(alloc, i64::from(checked_sums::reduce(a)?)),
-                _ => alone(alloc, self.sum(from, to)?),
-            };
-        };
         let mut out = vec![in alloc; 0; lengths.len()]?;
-        match self {
-            Join::By(op) => seg_scans::int_reduce(*op, a, lengths, &mut out)?,
-            Join::Exact(_) => return checked_sums::reduce_each(alloc, a, lengths),
-            Join::Count => packs::count_each(within(&BYTES, from, to), lengths, &mut out)?,
+        match (self, lengths) {
+            (Join::Exact(_), [_]) => return alone(alloc, i64::from(checked_sums::reduce(a)?)),
+            (_, [_]) => return alone(alloc, self.sum(from, to)?),
+            (Join::By(op), _) => seg_scans::int_reduce(*op, a, lengths, &mut out)?,
+            (Join::Exact(_), _) => return checked_sums::reduce_each(alloc, a, lengths),
+            (Join::Count, _) => packs::count_each(within(&BYTES, from, to), lengths, &mut out)?,
         }
         Ok(out)
     }
 
-    /// The scan of the integers of a range.
+    /// The scan of the integers of a range. One segment is scanned by the flat call.
     pub fn scan(&self, alloc: Global, how: How<'_>, from: usize, to: usize) -> Answer {
         let a = self.of(from, to);
         let mut out = vec![in alloc; 0; a.len()]?;
         match (self, how) {
-            (Join::By(op), How::Plain) => scans::int_scan(*op, a, &mut out)?,
-            (Join::By(op), How::Each(d)) => seg_scans::int_scan(*op, a, d, &mut out)?,
             (Join::By(op), How::After(b)) => tiles::int_scan_from(*op, fitting(b)?, a, &mut out)?,
-            (_, How::Plain) => checked_sums::scan(a, &mut out)?,
-            (_, How::Each(d)) => checked_sums::scan_each(a, d, &mut out)?,
             (_, How::After(before)) => checked_scan_from(&before, a, &mut out)?,
+            (Join::By(op), How::Plain | How::Each([_])) => scans::int_scan(*op, a, &mut out)?,
+            (_, How::Plain | How::Each([_])) => checked_sums::scan(a, &mut out)?,
+            (Join::By(op), How::Each(d)) => seg_scans::int_scan(*op, a, d, &mut out)?,
+            (_, How::Each(d)) => checked_sums::scan_each(a, d, &mut out)?,
         }
         Ok(out)
     }
