@@ -1,14 +1,8 @@
 -- What a back permute gives.
-use Rattle.std.proofs.Common.{◌≡◌, List, length, map, sym, ap, ◌∙◌, arith, ℤ, slice_get, option_map, Some, None, Ok, Option}
-use Rattle.std.specs.Prelude.{◌↔◌}
-use Rattle.std.proofs.lemmas.List.{length-map}
-use Rattle.std.proofs.lemmas.Option.{slice_get-map}
+use Rattle.call_laws.proofs.Cited.{◌≡◌, ◌∙◌, ◌↔◌, List, length, map, sym, ap, arith, ℤ, slice_get, option_map, Some, None, Ok, Option, length-map, slice_get-map, element_at, back_of, element}
 use Rattle.cvl_base.specs.declared.fault.FaultNo.TheVariants.{IndexOutOfRange}
-use Rattle.cvl_base.specs.Extracts.{element_at}
-use Rattle.cvl_base.specs.Permutes.{back_of}
 use Rattle.call_laws.specs.Permuted.{IsBackPermute}
 use Rattle.call_laws.proofs.LeastFaults.{values-meaning}
-use Rattle.cvl_base.proofs.Lists.{element}
 use Rattle.call_laws.proofs.Places.{same_elements}
 
 unmapped : {X : Type 0} (o p : Option X) → Some p ≡ option_map (λ x. Some x) o → o ≡ p

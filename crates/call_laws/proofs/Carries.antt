@@ -1,20 +1,10 @@
 -- Segmented scans and reduces of vectors that are cut inside a segment, or between two.
-use Rattle.std.proofs.Common.{◌≡◌, ℕ, ◌+◌, List, [], ◌∷◌, ◌++◌, length, take, drop, map, refl, sym, ap, ◌∙◌, arith, append_assoc, append-nil, length-append, length-drop, Ok, Err, Result}
-use Rattle.std.specs.Prelude.{sum}
-use Rattle.std.proofs.lemmas.List.{drop-append-le, length-map, map-append, same_from_push, take_all}
-use Rattle.std.proofs.lemmas.List.Sums.{sum_by-append, fold-append}
-use Rattle.std.proofs.Math.Seq.{take-append-add, drop-append-add}
+use Rattle.call_laws.proofs.Cited.{◌≡◌, ◌+◌, ◌∷◌, ◌++◌, ◌∙◌, ◌>>=◌, ℕ, List, [], length, take, drop, map, refl, sym, ap, arith, append_assoc, append-nil, length-append, length-drop, Ok, Err, Result}
+use Rattle.call_laws.proofs.Cited.{sum, drop-append-le, length-map, map-append, same_from_push, take_all, sum_by-append, fold-append, take-append-add, fold_of, scan_of, joined, nest, cut_of}
+use Rattle.call_laws.proofs.Cited.{in_vector, one_each, sum-cons, length-cut, nest-fits, results-ok, length-scan_of, scan_of-append}
+use Rattle.std.proofs.Math.Seq.{drop-append-add}
 use Rattle.cvl_base.specs.declared.fault.Fault.{Fault}
-use Rattle.cvl_base.specs.Folds.{fold_of, scan_of}
-use Rattle.cvl_base.specs.Gives.{◌>>=◌}
-use Rattle.cvl_base.specs.Lists.{joined}
-use Rattle.cvl_base.specs.Nests.{nest, cut_of}
-use Rattle.cvl_base.specs.Segmented.{in_vector, one_each}
 use Rattle.cvl_base.specs.SegmentedCalls.{seg_reduce_of, seg_scan_of}
-use Rattle.cvl_base.proofs.Lists.{sum-cons}
-use Rattle.cvl_base.proofs.Nests.{length-cut, nest-fits}
-use Rattle.cvl_base.proofs.Segmented.{results-ok}
-use Rattle.operators.proofs.FoldLaws.{length-scan_of, scan_of-append}
 use Rattle.call_laws.specs.Carried.{each_after, seg_scan_after, seg_reduce_after}
 use Rattle.call_laws.proofs.Cuts.{nest-meaning}
 use Rattle.call_laws.proofs.Segments.{each-ok}

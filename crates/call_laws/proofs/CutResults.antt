@@ -1,17 +1,9 @@
 -- The results of segmented calls, cut again into the flat results of the segments.
-use Rattle.std.proofs.Common.{◌≡◌, ℕ, Bool, List, [], ◌∷◌, length, map, refl, sym, ap, ◌∙◌, zip, Ok, Result}
-use Rattle.std.specs.Prelude.{◌↔◌}
+use Rattle.call_laws.proofs.Cited.{◌≡◌, ◌∷◌, ◌∙◌, ◌↔◌, ◌>>=◌, ℕ, Bool, List, [], length, map, refl, sym, ap, zip, Ok, Result, map-map, if_as_long, joined, nest, count_of, beside, end_to_end, one_each}
+use Rattle.call_laws.proofs.Cited.{results_from, seg_count_of}
 use Rattle.std.proofs.lemmas.Slice.Zip.{firsts-zip, seconds-zip}
-use mathlib.Core.List.{map-map}
 use Rattle.cvl_base.specs.declared.fault.Fault.{Fault}
 use Rattle.call_laws.specs.CutAgain.{IsCutInto}
-use Rattle.cvl_base.specs.Elementwise.{if_as_long}
-use Rattle.cvl_base.specs.Gives.{◌>>=◌}
-use Rattle.cvl_base.specs.Lists.{joined}
-use Rattle.cvl_base.specs.Nests.{nest}
-use Rattle.cvl_base.specs.Packs.{count_of}
-use Rattle.cvl_base.specs.Segmented.{beside, end_to_end, one_each, results_from}
-use Rattle.cvl_base.specs.SegmentedCalls.{seg_count_of}
 use Rattle.call_laws.proofs.Cuts.{nest-joined, nest-meaning}
 use Rattle.call_laws.proofs.Segments.{counts-of, joined-meaning}
 use Rattle.call_laws.proofs.Sending.{if_as_long-Ok}

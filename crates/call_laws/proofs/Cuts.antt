@@ -1,12 +1,9 @@
 -- A list cut by lengths has those lengths and is the list again, and no other list of lists is so.
-use Rattle.std.proofs.Common.{◌≡◌, ℕ, List, [], ◌∷◌, length, refl, ap, sym, ◌∙◌, subst, arith, inl, inr, length-append}
-use Rattle.std.specs.Prelude.{◌↔◌, Ok, map, sum}
-use Rattle.std.proofs.lemmas.Bool.Decides.{eqb_tells}
+use Rattle.call_laws.proofs.Cited.{◌≡◌, ◌∷◌, ◌∙◌, ◌↔◌, ℕ, List, [], length, refl, ap, sym, subst, arith, inl, inr, length-append, Ok, map, sum, eqb_tells, joined, nest, cut_of, sum-cons, nest-fits}
+use Rattle.call_laws.proofs.Cited.{nest-misfits}
 use Rattle.std.proofs.Math.Seq.{take-append_seam, drop-append_seam}
-use Rattle.cvl_base.specs.Lists.{joined}
-use Rattle.cvl_base.specs.Nests.{IsNest, nest, cut_of}
-use Rattle.cvl_base.proofs.Lists.{sum-cons}
-use Rattle.cvl_base.proofs.Nests.{joined-cut, lengths-cut, nest-fits, nest-misfits}
+use Rattle.cvl_base.specs.Nests.{IsNest}
+use Rattle.cvl_base.proofs.Nests.{joined-cut, lengths-cut}
 
 -- lists that are joined and cut by their lengths are the lists
 cut-joined : {X : Type 0} (lists : List (List X)) → cut_of (map length lists) (joined lists) ≡ lists

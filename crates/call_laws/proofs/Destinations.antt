@@ -1,16 +1,13 @@
 -- The destinations of a permute where no place is bad: no two are the same, and each place of a result that has as many is one.
-use Rattle.std.proofs.Common.{◌≡◌, ℕ, suc, ◌<◌, ◌≤◌, true, false, ◌||◌, List, [], ◌∷◌, length, refl, sym, ap, ◌∙◌, arith, inl, inr, eqb, ℤ, pos, negsuc}
-use Rattle.std.proofs.Common.{slice_get, Some, None, Option}
-use Rattle.std.specs.List.{list_any, IsDistinct, AllByRecursion}
+use Rattle.call_laws.proofs.Cited.{◌≡◌, ◌<◌, ◌≤◌, ◌∷◌, ◌∙◌, ℕ, suc, true, false, List, [], length, refl, sym, ap, arith, inl, inr, ℤ, pos, negsuc, slice_get, Some, None, Option, list_any, false≢true}
+use Rattle.call_laws.proofs.Cited.{false_from_ne_true, ltb-true, or_cases, or_parts, Decides-int_eq, sum_by-cons, slice_get_within, is_place, is_destination, count_destinations}
+use Rattle.std.proofs.Common.{◌||◌, eqb}
+use Rattle.std.specs.List.{IsDistinct, AllByRecursion}
 use Rattle.std.specs.Ordering.{int_eq}
-use Rattle.std.proofs.lemmas.Bool.{cases_order, eqb-true, false≢true, false_from_ne_true, ltb-true, or_cases, or_parts, true_from_ne_false}
-use Rattle.std.proofs.lemmas.Bool.Decides.{same_from_decides, Decides-eqb, Decides-int_eq, Decides-like}
-use Rattle.std.proofs.lemmas.List.Sums.{sum_by-cons}
+use Rattle.std.proofs.lemmas.Bool.{cases_order, eqb-true, true_from_ne_false}
+use Rattle.std.proofs.lemmas.Bool.Decides.{same_from_decides, Decides-eqb, Decides-like}
 use Rattle.std.proofs.lemmas.Map.Keys.{IsDistinct-cons}
 use Rattle.std.proofs.lemmas.Map.Steps.{length-le_from_distinct_below}
-use Rattle.std.proofs.lemmas.Option.{slice_get_within}
-use Rattle.cvl_base.specs.Permutes.{is_place, is_destination}
-use Rattle.permute_walks.specs.Senders.{count_destinations}
 use Rattle.permute_walks.proofs.EachSent.{takes_part}
 use Rattle.call_laws.specs.Permuted.{IsGoodBefore}
 use Rattle.call_laws.proofs.FirstBadPlaces.{destination_there}

@@ -1,15 +1,10 @@
 -- Extracts and replaces, place by place.
-use Rattle.std.proofs.Common.{◌≡◌, ◌≢◌, ℕ, zero, suc, ◌<◌, Bool, true, false, List, [], ◌∷◌, length, refl, sym, ap, ◌∙◌, arith, inl, inr, pos}
-use Rattle.std.proofs.Common.{lt-ltb, nat_lt, if◌then◌else◌, slice_get, slice_set, Some, None, Ok, Option, get_or-set_same, length-set}
-use Rattle.std.specs.Option.{ok_or}
-use Rattle.std.specs.Prelude.{◌↔◌}
-use Rattle.std.proofs.lemmas.Bool.{ltb-true}
-use Rattle.std.proofs.lemmas.Bool.Decides.{eqb_tells}
-use Rattle.std.proofs.lemmas.Option.{slice_get_read, slice_get_within}
+use Rattle.call_laws.proofs.Cited.{◌≡◌, ◌≢◌, ◌<◌, ◌∷◌, ◌∙◌, if◌then◌else◌, ◌↔◌, ℕ, zero, suc, Bool, true, false, List, [], length, refl, sym, ap, arith, inl, inr, pos, lt-ltb, nat_lt, slice_get, Some}
+use Rattle.call_laws.proofs.Cited.{None, Ok, Option, ok_or, ltb-true, eqb_tells, slice_get_within, extract_of, replace_of, fault_at}
+use Rattle.std.proofs.Common.{slice_set, get_or-set_same, length-set}
+use Rattle.std.proofs.lemmas.Option.{slice_get_read}
 use Rattle.cvl_base.specs.declared.fault.Fault.{Fault}
 use Rattle.cvl_base.specs.declared.fault.FaultNo.TheVariants as no
-use Rattle.cvl_base.specs.Extracts.{extract_of, replace_of}
-use Rattle.cvl_base.specs.Faults.{fault_at}
 use Rattle.call_laws.proofs.Places.{same_elements}
 
 -- ---- extract

@@ -1,15 +1,11 @@
 -- The fault of a permute is that of its first bad place.
-use Rattle.std.proofs.Common.{◌≡◌, ℕ, zero, suc, ◌+◌, ◌<◌, Bool, true, false, not, if◌then◌else◌, List, [], ◌∷◌, length, take, refl, sym, ap, ◌∙◌, arith, inl, inr, ℤ, slice_get, Some, None, Option}
-use Rattle.std.specs.List.{list_any}
-use Rattle.std.proofs.lemmas.Bool.{both_ways, false≢true, false_from_ne_true, or_cases}
-use Rattle.std.proofs.lemmas.Bool.Decides.{Decides-int_eq}
+use Rattle.call_laws.proofs.Cited.{◌≡◌, ◌+◌, ◌<◌, if◌then◌else◌, ◌∷◌, ◌∙◌, ℕ, zero, suc, Bool, true, false, not, List, [], length, take, refl, sym, ap, arith, inl, inr, ℤ, slice_get, Some, None}
+use Rattle.call_laws.proofs.Cited.{Option, list_any, both_ways, false≢true, false_from_ne_true, or_cases, Decides-int_eq, get_or_from_slice_get, none-some, same_Some, slice_get-get_or}
+use Rattle.call_laws.proofs.Cited.{slice_get_within, fault_at, first_fault, wrongs, is_place, is_destination, element}
 use Rattle.std.proofs.lemmas.Map.Keys.{any_passes_from_place}
-use Rattle.std.proofs.lemmas.Option.{get_or_from_slice_get, none-some, same_Some, slice_get-get_or, slice_get_within}
 use Rattle.cvl_base.specs.declared.fault.FaultNo.{FaultNo}
 use Rattle.cvl_base.specs.declared.fault.FaultNo.TheVariants.{IndexOutOfRange, IndexRepeated}
-use Rattle.cvl_base.specs.Faults.{fault_at}
-use Rattle.cvl_base.specs.Permutes.{first_fault, wrong_at, wrongs, is_place, is_destination}
-use Rattle.cvl_base.proofs.Lists.{element}
+use Rattle.cvl_base.specs.Permutes.{wrong_at}
 use Rattle.permute_walks.proofs.Sent.{length-wrongs, wrong_here}
 use Rattle.call_laws.specs.Permuted.{IsGoodBefore}
 use Rattle.call_laws.proofs.Places.{slice_get-take, slice_get_in_front}

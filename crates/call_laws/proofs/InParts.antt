@@ -1,12 +1,8 @@
 -- Scans and reduces in parts.
-use Rattle.std.proofs.Common.{◌≡◌, Bool, IsTrue, List, [], ◌∷◌, ◌++◌, map, refl, sym, ap, ◌∙◌}
-use Rattle.std.specs.List.{All, AllPass, fold}
-use Rattle.cvl_base.specs.Folds.{fold_of, scan_of}
-use Rattle.cvl_base.specs.Lists.{joined}
-use Rattle.cvl_base.specs.Monoid.{MonoidLaws}
-use Rattle.operators.proofs.FoldLaws.{fold_from, fold_of_is_item, scan_of-append, scan_of-cons}
-use Rattle.std.proofs.lemmas.List.Elements.{All-head, All-tail}
-use Rattle.std.proofs.lemmas.List.Sums.{fold-append}
+use Rattle.call_laws.proofs.Cited.{◌≡◌, ◌∷◌, ◌++◌, ◌∙◌, Bool, IsTrue, List, [], map, refl, sym, ap, AllPass, fold, fold_of, scan_of, joined, MonoidLaws, fold_from, scan_of-append, All-head, All-tail}
+use Rattle.call_laws.proofs.Cited.{fold-append}
+use Rattle.std.specs.List.{All}
+use Rattle.operators.proofs.FoldLaws.{fold_of_is_item, scan_of-cons}
 use Rattle.call_laws.specs.InParts.{scans_after}
 
 module _ {Item : Type 0} {is_item : Item → Bool} {unit : Item} {join : Item → Item → Item} (laws : MonoidLaws is_item unit join) where

@@ -16,3 +16,4 @@ pub mod Selecting
 pub mod Sending
 pub mod Destinations
 pub mod TwoParts
+pub mod Cited

@@ -1,9 +1,7 @@
 -- A pack is the filter by its flags.
-use Rattle.std.proofs.Common.{◌≡◌, Bool, true, false, cond, List, [], ◌∷◌, ◌++◌, length, map, refl, sym, ap, ◌∙◌, arith, Ok, filter, zip}
-use Rattle.std.proofs.lemmas.List.{map-append}
+use Rattle.call_laws.proofs.Cited.{◌≡◌, ◌∷◌, ◌++◌, ◌∙◌, Bool, true, false, cond, List, [], length, map, refl, sym, ap, arith, Ok, zip, map-append, sum_by-cons, count_of, pack_of}
+use Rattle.std.proofs.Common.{filter}
 use Rattle.std.proofs.lemmas.List.Elements.{filter-append}
-use Rattle.std.proofs.lemmas.List.Sums.{sum_by-cons}
-use Rattle.cvl_base.specs.Packs.{count_of, pack_of}
 use Rattle.call_laws.specs.InParts.{in_two}
 use Rattle.call_laws.proofs.PlaceByPlace.{as_long-two}
 use Rattle.call_laws.proofs.Sending.{if_as_long-Ok}

@@ -1,7 +1,5 @@
 -- Calls place by place on vectors that are cut in two.
-use Rattle.std.proofs.Common.{◌≡◌, ℕ, Bool, List, ◌++◌, length, sym, ap, ◌∙◌, arith, length-append, zip, ℤ, Option, Ok, Result}
-use Rattle.std.proofs.lemmas.List.{map-append}
-use Rattle.std.proofs.lemmas.Slice.Zip.{length-zip}
+use Rattle.call_laws.proofs.Cited.{◌≡◌, ◌++◌, ◌∙◌, ℕ, Bool, List, length, sym, ap, arith, length-append, zip, ℤ, Option, Ok, Result, map-append, length-zip, if_as_long, if_as_long-fits}
 use Rattle.call_table.specs.declared.families.IntBinary.{IntBinary}
 use Rattle.call_table.specs.declared.families.IntBinary.TheVariants.{Div, Mod, Lsh, Rsh}
 use Rattle.call_table.specs.declared.families.Comparison.{Comparison}
@@ -10,8 +8,7 @@ use Rattle.call_table.specs.declared.families.BoolBinary.{BoolBinary}
 use Rattle.call_table.specs.declared.families.BoolBinary.TheVariants as truth
 use Rattle.cvl_base.specs.declared.fault.Fault.{Fault}
 use Rattle.cvl_base.specs.declared.fault.FaultNo.{FaultNo}
-use Rattle.cvl_base.specs.Elementwise.{if_as_long, on_pairs, on_pairs_or, ints2_of, compare_of, bools2_of}
-use Rattle.cvl_base.proofs.Elementwise.{if_as_long-fits}
+use Rattle.cvl_base.specs.Elementwise.{on_pairs, on_pairs_or, ints2_of, compare_of, bools2_of}
 use Rattle.call_laws.specs.InParts.{in_two}
 use Rattle.call_laws.proofs.TwoParts.{values-two, zip-append}
 

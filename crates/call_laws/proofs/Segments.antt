@@ -1,20 +1,9 @@
 -- Segmented calls by their flat calls, and on one segment.
-use Rattle.std.proofs.Common.{◌≡◌, ◌≢◌, ℕ, ◌+◌, Bool, List, [], ◌∷◌, ◌++◌, length, map, refl, sym, ap, ◌∙◌, arith, inl, inr, Ok, Err, Result}
-use Rattle.std.specs.Prelude.{◌↔◌, ◌⊎◌}
-use Rattle.std.proofs.lemmas.Bool.Decides.{eqb_tells}
-use Rattle.std.proofs.lemmas.List.{append-nil, take_all}
+use Rattle.call_laws.proofs.Cited.{◌≡◌, ◌≢◌, ◌+◌, ◌∷◌, ◌++◌, ◌∙◌, ◌↔◌, ◌>>=◌, ℕ, Bool, List, [], length, map, refl, sym, ap, arith, inl, inr, Ok, Err, Result, eqb_tells, append-nil, take_all, fault}
+use Rattle.call_laws.proofs.Cited.{joined, nest, count_of, beside, of_two, of_three, in_vector, moved, results_from, one_each, end_to_end, seg_count_of, sum-cons, nest-fits, nest-misfits, results-ok}
+use Rattle.std.specs.Prelude.{◌⊎◌}
 use Rattle.cvl_base.specs.declared.fault.Fault.{Fault}
 use Rattle.cvl_base.specs.declared.fault.FaultNo.TheVariants as no
-use Rattle.cvl_base.specs.Faults.{fault}
-use Rattle.cvl_base.specs.Gives.{◌>>=◌}
-use Rattle.cvl_base.specs.Lists.{joined}
-use Rattle.cvl_base.specs.Nests.{nest}
-use Rattle.cvl_base.specs.Packs.{count_of}
-use Rattle.cvl_base.specs.Segmented.{beside, of_two, of_three, in_vector, moved, results_from, one_each, end_to_end}
-use Rattle.cvl_base.specs.SegmentedCalls.{seg_count_of}
-use Rattle.cvl_base.proofs.Lists.{sum-cons}
-use Rattle.cvl_base.proofs.Nests.{nest-fits, nest-misfits}
-use Rattle.cvl_base.proofs.Segmented.{results-ok}
 use Rattle.call_laws.proofs.TwoParts.{from_value, moved-stays, results-append}
 
 -- ---- the results and the first fault

@@ -1,14 +1,9 @@
 -- Segmented calls on vectors that are cut between two segments.
-use Rattle.std.proofs.Common.{◌≡◌, ℕ, ◌+◌, ◌≤◌, List, [], ◌∷◌, ◌++◌, length, take, drop, refl, sym, ap, ◌∙◌, arith, length-append, length-drop, drop-drop, Ok, Result}
-use Rattle.std.specs.Prelude.{sum}
-use Rattle.std.proofs.lemmas.List.{drop_at, drop-append-le, take-append-le}
-use Rattle.std.proofs.lemmas.List.Sums.{sum_by-append}
-use Rattle.std.proofs.Math.Seq.{take-append-add}
+use Rattle.call_laws.proofs.Cited.{◌≡◌, ◌+◌, ◌≤◌, ◌∷◌, ◌++◌, ◌∙◌, ℕ, List, [], length, take, drop, refl, sym, ap, arith, length-append, length-drop, Ok, Result, sum, drop-append-le, sum_by-append}
+use Rattle.call_laws.proofs.Cited.{take-append-add, nest, cut_of, at_segment, in_vector, one_each, end_to_end, sum-cons, nest-fits, length-cut}
+use Rattle.std.proofs.Common.{drop-drop}
+use Rattle.std.proofs.lemmas.List.{drop_at, take-append-le}
 use Rattle.cvl_base.specs.declared.fault.Fault.{Fault}
-use Rattle.cvl_base.specs.Nests.{nest, cut_of}
-use Rattle.cvl_base.specs.Segmented.{at_segment, in_vector, one_each, end_to_end}
-use Rattle.cvl_base.proofs.Lists.{sum-cons}
-use Rattle.cvl_base.proofs.Nests.{nest-fits, length-cut}
 use Rattle.call_laws.specs.InParts.{in_two}
 use Rattle.call_laws.proofs.Segments.{flat-again}
 use Rattle.call_laws.proofs.TwoParts.{AreTwo, at_segment-lists, at_segment-two, joined-two, results-two}

@@ -1,14 +1,8 @@
 -- What a select permute gives where no place that takes part is bad.
-use Rattle.std.proofs.Common.{◌≡◌, ℕ, zero, suc, Bool, true, false, List, [], ◌∷◌, length, refl, arith, ℤ, pos, slice_get, Some, None, Ok}
-use Rattle.std.specs.Prelude.{◌↔◌}
-use Rattle.std.proofs.lemmas.Option.{none-some, same_Some}
-use Rattle.cvl_base.specs.Elementwise.{if_as_long}
-use Rattle.cvl_base.specs.Packs.{count_of}
-use Rattle.cvl_base.specs.Permutes.{flagged_destinations, destination_if, select_of, sent_to_all}
+use Rattle.call_laws.proofs.Cited.{◌≡◌, ◌∷◌, ◌↔◌, ℕ, zero, suc, Bool, true, false, List, [], length, refl, arith, ℤ, pos, slice_get, Some, None, Ok, none-some, same_Some, if_as_long, count_of}
+use Rattle.call_laws.proofs.Cited.{flagged_destinations, select_of, sent_to_all, if_as_long-fits, length-flagged_destinations, flagged_take_part}
+use Rattle.cvl_base.specs.Permutes.{destination_if}
 use Rattle.call_laws.specs.Permuted.{IsSelectPermute}
-use Rattle.cvl_base.proofs.Elementwise.{if_as_long-fits}
-use Rattle.cvl_base.proofs.Permutes.{length-flagged_destinations}
-use Rattle.permute_walks.proofs.EachSent.{flagged_take_part}
 use Rattle.call_laws.proofs.Sending.{IsSent, if_as_long-Ok, sent_to_all-meaning}
 use Rattle.call_laws.proofs.Destinations.{inside, once-from_right, right-from_once}
 

@@ -1,24 +1,14 @@
 -- What a permute gives where no place is bad.
-use Rattle.std.proofs.Common.{◌≡◌, ℕ, zero, suc, ◌+◌, ◌<◌, ◌≤◌, true, false, List, [], ◌∷◌, length, map, take, refl, sym, ap, ◌∙◌, subst, arith, inl, inr, ℤ, pos, slice_get, option_map}
-use Rattle.std.proofs.Common.{filter_map, Some, None, Ok, Option, Result}
-use Rattle.std.specs.Prelude.{◌↔◌, unwrap_or}
-use Rattle.std.specs.List.{enumerate_from, list_any, range_with_len}
-use Rattle.std.proofs.lemmas.Option.{none-some, same_Some, slice_get-map, slice_get_within}
-use Rattle.std.proofs.lemmas.Bool.{both_ways, cases_Bool, false_from_ne_true, ltb-true, or_parts}
-use Rattle.std.proofs.lemmas.Bool.Decides.{eqb_tells, Decides-int_eq}
+use Rattle.call_laws.proofs.Cited.{◌≡◌, ◌+◌, ◌<◌, ◌≤◌, ◌∷◌, ◌∙◌, ◌↔◌, ℕ, zero, suc, true, false, List, [], length, map, take, refl, sym, ap, subst, arith, inl, inr, ℤ, pos, slice_get, option_map}
+use Rattle.call_laws.proofs.Cited.{Some, None, Ok, Option, Result, unwrap_or, enumerate_from, list_any, range_with_len, none-some, same_Some, slice_get-map, slice_get_within, both_ways}
+use Rattle.call_laws.proofs.Cited.{false_from_ne_true, ltb-true, or_parts, eqb_tells, Decides-int_eq, length-map, if_as_long, unless, all_destinations, default_of, first_fault, is_destination}
+use Rattle.call_laws.proofs.Cited.{sent_over, sent_to, sent_to_all, simple_of, wrongs, if_as_long-fits, element, length-all_destinations, count_destinations, all_take_part}
+use Rattle.std.proofs.Common.{filter_map}
+use Rattle.std.proofs.lemmas.Bool.{cases_Bool}
 use Rattle.std.proofs.lemmas.Iterator.Adapters.{option_map_id}
-use Rattle.std.proofs.lemmas.List.{length-map}
 use Rattle.std.proofs.lemmas.List.FromFn.{length-enumerate_from}
 use Rattle.cvl_base.specs.declared.fault.Fault.{Fault}
-use Rattle.cvl_base.specs.Elementwise.{if_as_long}
-use Rattle.cvl_base.specs.Gives.{unless}
-use Rattle.cvl_base.specs.Permutes.{all_destinations, default_of, first_fault, is_destination, sent_over, sent_to, sent_to_all, simple_of, wrongs}
 use Rattle.call_laws.specs.Permuted.{AreOnce, AreWithin, IsDefaultPermute, IsGoodBefore, IsSimplePermute}
-use Rattle.cvl_base.proofs.Elementwise.{if_as_long-fits}
-use Rattle.cvl_base.proofs.Lists.{element}
-use Rattle.cvl_base.proofs.Permutes.{length-all_destinations}
-use Rattle.permute_walks.specs.Senders.{count_destinations}
-use Rattle.permute_walks.proofs.EachSent.{all_take_part}
 use Rattle.call_laws.proofs.Places.{same_elements}
 use Rattle.call_laws.proofs.Destinations.{IsRight, each_is_destination, inside, once-from_right, right-from_once}
 use Rattle.call_laws.proofs.FirstBadPlaces.{any-from_there, destination_there, fault-none, fresh_before, good-from_no_fault}

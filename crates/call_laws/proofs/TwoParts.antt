@@ -1,15 +1,10 @@
 -- What two parts give together, and the results on segments and on more segments behind them.
-use Rattle.std.proofs.Common.{◌≡◌, ℕ, ◌+◌, ◌<◌, List, [], ◌∷◌, ◌++◌, length, map, append_assoc, length-append, refl, sym, ap, ◌∙◌, arith, option_map, zip, Option, Some, None, Ok, Err, Result}
-use Rattle.std.specs.Option.{ok_or}
+use Rattle.call_laws.proofs.Cited.{◌≡◌, ◌+◌, ◌<◌, ◌∷◌, ◌++◌, ◌∙◌, ◌>>=◌, ℕ, List, [], length, map, append_assoc, length-append, refl, sym, ap, arith, option_map, zip, Option, Some, None, Ok, Err}
+use Rattle.call_laws.proofs.Cited.{Result, ok_or, length-zip, values_from, fault_at, joined, at_segment, beside, end_to_end, moved, one_each, results_from}
 use Rattle.std.proofs.lemmas.Grind.{flat_map-append}
-use Rattle.std.proofs.lemmas.Slice.Zip.{length-zip}
 use Rattle.cvl_base.specs.declared.fault.Fault.{Fault}
 use Rattle.cvl_base.specs.declared.fault.FaultNo.{FaultNo}
-use Rattle.cvl_base.specs.Elementwise.{values_from}
-use Rattle.cvl_base.specs.Faults.{fault_at}
-use Rattle.cvl_base.specs.Gives.{◌>>=◌, after}
-use Rattle.cvl_base.specs.Lists.{joined}
-use Rattle.cvl_base.specs.Segmented.{at_segment, beside, end_to_end, moved, one_each, results_from}
+use Rattle.cvl_base.specs.Gives.{after}
 use Rattle.cvl_base.proofs.Gives.{after-none}
 use Rattle.cvl_base.proofs.Segmented.{beside-fits}
 use Rattle.call_laws.specs.InParts.{in_two}

@@ -4,3 +4,4 @@ pub mod SegmentTotals
 pub mod TileFronts
 pub mod WholeSums
 pub mod WideSums
+pub mod Cited

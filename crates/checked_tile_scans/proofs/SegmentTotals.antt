@@ -1,25 +1,18 @@
 -- The sum of a range over whole numbers, from what stands before the tile that holds its last element, and its elements in the tile.
 -- Source: what the definitions of Checked and Exact imply.
-use Rattle.std.proofs.Common.{◌≡◌, ◌∙◌, sym, ap, subst, ℕ, ◌+◌, ◌-◌, ◌<◌, ◌≤◌, Bool, true, false, ℤ, pos, ◌+ℤ◌, w64, FitsSigned, to_z, of_z, List, ◌++◌, length, take, drop, get_or, slice_range, arith, take-add, Option, Some, None}
-use Rattle.std.specs.List.{AllPass}
-use Rattle.std.proofs.lemmas.List.{drop-drop, length-drop, length-take}
+use Rattle.checked_tile_scans.proofs.Cited.{◌≡◌, ◌∙◌, ◌+◌, ◌-◌, ◌<◌, ◌≤◌, ◌+ℤ◌, ◌++◌, sym, ap, subst, ℕ, Bool, true, false, ℤ, pos, w64, FitsSigned, to_z, of_z, List, length, take, drop, get_or}
+use Rattle.checked_tile_scans.proofs.Cited.{slice_range, arith, Option, Some, None, AllPass, length-drop, length-take, get_or-map-range_with_len, length-map-range_with_len, total_of, InWords, word-in}
+use Rattle.checked_tile_scans.proofs.Cited.{is_number, most_elements, continued_summed, all_whole, whole_laws, range_of, tile_count, flagged}
+use Rattle.std.proofs.Common.{take-add}
+use Rattle.std.proofs.lemmas.List.{drop-drop}
 use Rattle.std.proofs.lemmas.List.Elements.{All-drop, All-take}
-use Rattle.std.proofs.lemmas.List.FromFn.{get_or-map-range_with_len, length-map-range_with_len}
 use Rattle.std.proofs.lemmas.List.Sums.{sum_by_more}
 use Rattle.operators.proofs.ExactFolds.{total-is_word}
 use Rattle.operators.proofs.FoldLaws.{fold_of-append}
-use Rattle.operators.specs.Exact.{total_of}
-use Rattle.operators.specs.ExactLaws.{InWords, word-in}
-use Rattle.cvl_base.specs.ItemWords.{is_number}
-use Rattle.cvl_base.specs.Limits.{most_elements}
 use Rattle.segdes.specs.Starts.{start_of}
 use Rattle.scan_walks.specs.Ranges.{continued}
-use Rattle.scan_walks.proofs.LastStart.{continued_summed}
 use Rattle.scan_walks.proofs.Segmented.{length-reduces_of}
 use Rattle.scan_walks.proofs.Valued.{segment_total}
-use Rattle.scan_walks.proofs.WholeSums.{all_whole, whole_laws}
-use Rattle.tile_plan.specs.Ranges.{range_of, tile_count}
-use Rattle.tile_scans.specs.TiledSums.{flagged}
 use Rattle.tile_scans.proofs.OpenSegments.{since_start}
 use Rattle.tile_scans.proofs.RangeScans.{continued_slice}
 use Rattle.checked_tile_scans.specs.Checked.{segment_totals, total_since, totals_before}

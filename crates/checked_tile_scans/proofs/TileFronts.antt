@@ -1,26 +1,16 @@
 -- The results of a tile, and the first of them that doesn't fit 32 bits, as a walk over the tile finds it; and the scan that is written
 -- where all results fit.
 -- Source: what the definitions of Checked imply.
-use Rattle.std.proofs.Common.{◌≡◌, ◌∙◌, refl, sym, ap, subst, ℕ, ◌+◌, ◌-◌, ◌<◌, ◌≤◌, Bool, false, IsTrue, ℤ, pos, ◌+ℤ◌, to_z, of_z, w64, FitsSigned, List, length, map, take, drop, get_or, arith, Option, Some, None, Ok, option_map}
-use Rattle.std.specs.Prelude.{if◌then◌else◌}
-use Rattle.std.proofs.lemmas.Bool.{le-ltb, lt-ltb}
-use Rattle.std.proofs.lemmas.Int.{to_z-of_z}
-use Rattle.std.proofs.lemmas.List.{length-drop, length-take}
-use Rattle.std.proofs.lemmas.List.FromFn.{get_or-map-range_with_len, length-map-range_with_len}
-use Rattle.operators.specs.ExactLaws.{exact_laws, word-in}
-use Rattle.cvl_base.specs.CheckedSums.{fitting}
+use Rattle.checked_tile_scans.proofs.Cited.{◌≡◌, ◌∙◌, ◌+◌, ◌-◌, ◌<◌, ◌≤◌, ◌+ℤ◌, if◌then◌else◌, refl, sym, ap, subst, ℕ, Bool, false, ℤ, pos, to_z, of_z, w64, FitsSigned, List, length, map, take, drop}
+use Rattle.checked_tile_scans.proofs.Cited.{get_or, arith, Option, Some, None, Ok, option_map, le-ltb, lt-ltb, to_z-of_z, length-drop, length-take, get_or-map-range_with_len}
+use Rattle.checked_tile_scans.proofs.Cited.{length-map-range_with_len, exact_laws, word-in, fitting, values_from, sum_of, is_number, is_word, fitting_front, range_scan_of, zero_wrapped, range_of}
+use Rattle.checked_tile_scans.proofs.Cited.{tile_count, tile_of, IsTiled}
+use Rattle.std.proofs.Common.{IsTrue}
 use Rattle.cvl_base.specs.declared.fault.FaultNo.TheVariants.{Overflow}
-use Rattle.cvl_base.specs.Elementwise.{values_from}
-use Rattle.cvl_base.specs.Integers.{sum_of}
-use Rattle.cvl_base.specs.ItemWords.{is_number, is_word}
-use Rattle.scan_walks.specs.Fronts.{fitting_front}
-use Rattle.scan_walks.specs.Ranges.{range_scan_of}
-use Rattle.scan_walks.proofs.Fitted.{none_overflows, zero_wrapped}
+use Rattle.scan_walks.proofs.Fitted.{none_overflows}
 use Rattle.scan_walks.proofs.RangeParts.{length-range_scan_of}
-use Rattle.tile_plan.specs.Ranges.{range_of, tile_count}
-use Rattle.tile_scans.specs.TiledSums.{tile_of}
 use Rattle.tile_scans.proofs.RangeScans.{range_scan-drop, range_scan-take}
-use Rattle.tile_scans.proofs.SumsOfTiles.{IsTiled, front_is_item}
+use Rattle.tile_scans.proofs.SumsOfTiles.{front_is_item}
 use Rattle.checked_tile_scans.specs.Checked.{first_outside, slots_of_tiles, tile_outside, total_scan, total_since, totals_before}
 use Rattle.checked_tile_scans.proofs.Outsides.{none_outside}
 use Rattle.checked_tile_scans.proofs.SegmentTotals.{before_there}

@@ -1,27 +1,18 @@
 -- What the tiles of a vector of integers join to: exactly their sum over whole numbers, and, wrapped to 32 bits, their wrapped sum.
 -- Source: what the definitions of Exact and Integers imply.
-use Rattle.std.proofs.Common.{◌≡◌, ◌∙◌, refl, sym, ap, ℕ, ◌+◌, ◌≤◌, Bool, true, false, ℤ, pos, ◌+ℤ◌, w32, List, [], ◌∷◌, ◌++◌, length, map, take, get_or, arith}
-use Rattle.std.specs.List.{AllPass, range_with_len}
-use Rattle.std.proofs.lemmas.Int.{int_wrap-add_left, ints}
-use Rattle.std.proofs.lemmas.List.{length-append, length-take}
+use Rattle.checked_tile_scans.proofs.Cited.{◌≡◌, ◌∙◌, ◌+◌, ◌≤◌, ◌+ℤ◌, ◌∷◌, ◌++◌, refl, sym, ap, ℕ, Bool, true, false, ℤ, pos, w32, List, [], length, map, take, get_or, arith, AllPass, range_with_len}
+use Rattle.checked_tile_scans.proofs.Cited.{ints, length-append, length-take, exact_sum_of, total_of, exact_laws, number_words, sum_of, wrap, is_number, is_word, range_scan_of, zero_wrapped, range_of}
+use Rattle.checked_tile_scans.proofs.Cited.{tile_count, sums_of, befores_of, IsTiled}
+use Rattle.std.proofs.lemmas.Int.{int_wrap-add_left}
 use Rattle.std.proofs.lemmas.List.Elements.{All-append, All-cons, All-head, All-nil, All-tail}
 use Rattle.std.proofs.lemmas.List.Sums.{fold-append}
 use Rattle.std.proofs.lemmas.Simd.{map-map}
 use Rattle.operators.proofs.ExactFolds.{exact_fold_on}
-use Rattle.operators.specs.Exact.{exact_sum_of, total_of}
-use Rattle.operators.specs.ExactLaws.{exact_laws}
-use Rattle.operators.specs.NumberLaws.{number_words, sum_laws}
+use Rattle.operators.specs.NumberLaws.{sum_laws}
 use Rattle.cvl_base.specs.Booleans.{either}
 use Rattle.cvl_base.specs.Folds.{fold_of}
-use Rattle.cvl_base.specs.Integers.{sum_of, wrap}
-use Rattle.cvl_base.specs.ItemWords.{is_number, is_word}
 use Rattle.cvl_base.specs.SegmentMonoid.{is_seg_item, seg_join, seg_unit}
-use Rattle.scan_walks.specs.Ranges.{range_scan_of}
-use Rattle.scan_walks.proofs.Fitted.{zero_wrapped}
-use Rattle.tile_plan.specs.Ranges.{range_of, tile_count}
-use Rattle.tile_scans.specs.TiledSums.{sums_of}
-use Rattle.tile_scans.specs.Written.{befores_of}
-use Rattle.tile_scans.proofs.SumsOfTiles.{IsTiled, befores_are, front_passes}
+use Rattle.tile_scans.proofs.SumsOfTiles.{befores_are, front_passes}
 use Rattle.checked_tile_scans.specs.Checked.{total_since, totals_before}
 
 -- numbers are words

@@ -1,8 +1,6 @@
 -- Sums of two numbers of 54 bits, as a program makes them in 64 bits.
 -- Source: arithmetic.
-use Rattle.std.proofs.Common.{◌≡◌, ℤ, ◌+ℤ◌, to_z, of_z, w64, FitsSigned, arith}
-use Rattle.std.proofs.lemmas.Int.{ints, to_z-of_z}
-use Rattle.operators.specs.ExactLaws.{InWords}
+use Rattle.checked_tile_scans.proofs.Cited.{◌≡◌, ◌+ℤ◌, ℤ, to_z, of_z, w64, FitsSigned, arith, ints, to_z-of_z, InWords}
 
 -- numbers of 54 bits, and their sum, fit 64 bits
 pub fits_wide : (z : ℤ) → InWords z → FitsSigned w64 z

@@ -1,21 +1,16 @@
 -- Blocks of numbers whose sums are seen to fit 32 bits by the least and the greatest of the numbers.
 -- Source: arithmetic.
-use Rattle.std.proofs.Common.{◌≡◌, ◌∙◌, refl, sym, ap, ℕ, suc, zero, ◌+◌, ◌≤◌, true, cond, ℤ, pos, negsuc, ◌+ℤ◌, ◌*ℤ◌, ◌≤ℤ◌, unsigned_abs, w32, w64, FitsSigned, List, [], ◌∷◌, length, map, take, drop, arith}
-use Rattle.std.specs.Prelude.{sum}
+use Rattle.scan_walks.proofs.Cited.{◌≡◌, ◌∙◌, ◌+◌, ◌≤◌, ◌+ℤ◌, ◌*ℤ◌, ◌∷◌, refl, sym, ap, ℕ, true, cond, ℤ, pos, unsigned_abs, w32, w64, List, [], length, map, take, drop, arith, sum, int_wrap-add_left}
+use Rattle.scan_walks.proofs.Cited.{ints, length-drop, length-take, All-drop, All-take, number_words, fold_of, scan_of, greater_of, lesser_of, sum_of, wrap, is_number, sum-cons, scans_of}
+use Rattle.scan_walks.proofs.Cited.{scan_of-cons}
+use Rattle.std.proofs.Common.{suc, zero, negsuc, ◌≤ℤ◌, FitsSigned}
 use Rattle.std.specs.List.{All}
 use Rattle.std.proofs.Math.IntN.{suc_ℤ-*ℤ, zero-*ℤ}
 use Rattle.std.proofs.Math.Nat.{mul-le-mul}
-use Rattle.std.proofs.lemmas.Int.{fits_signed_mul, fold-int_max_bounds, fold-int_min_bounds, int_wrap-add_left, ints, unsigned_abs-mul}
-use Rattle.std.proofs.lemmas.List.{length-drop, length-take}
-use Rattle.std.proofs.lemmas.List.Elements.{All-drop, All-head, All-tail, All-take}
-use Rattle.operators.specs.NumberLaws.{fits-is_number, is_number-fits, number_words}
-use Rattle.cvl_base.specs.Folds.{fold_of, scan_of}
-use Rattle.cvl_base.specs.Integers.{greater_of, lesser_of, sum_of, wrap}
-use Rattle.cvl_base.specs.ItemWords.{is_number}
-use Rattle.cvl_base.proofs.Lists.{sum-cons}
-use Rattle.range_walks.specs.Ranges.{scans_of}
+use Rattle.std.proofs.lemmas.Int.{fits_signed_mul, fold-int_max_bounds, fold-int_min_bounds, unsigned_abs-mul}
+use Rattle.std.proofs.lemmas.List.Elements.{All-head, All-tail}
+use Rattle.operators.specs.NumberLaws.{fits-is_number, is_number-fits}
 use Rattle.scan_walks.specs.Fronts.{fitting_front}
-use Rattle.operators.proofs.FoldLaws.{scan_of-cons}
 use Rattle.scan_walks.proofs.FrontLaws.{scan_past}
 
 -- a step of 32 bits, taken so often, leads at most 2^62 far

@@ -1,26 +1,13 @@
 -- Lists of numbers of which the first ones fit 32 bits, and the checked scans of such results: the fault of the first that doesn't
 -- fit, or the scans that wrap.
 -- Source: what the definitions of CheckedSums, Fronts and Integers imply.
-use Rattle.std.proofs.Common.{◌≡◌, ◌∙◌, refl, sym, ap, ℕ, ◌+◌, ◌<◌, ◌≤◌, Bool, true, false, cond, ℤ, pos, ◌+ℤ◌, w32, List, [], ◌∷◌, ◌++◌, length, map, take, drop, get_or, arith, Some, None, Ok, Err}
-use Rattle.std.specs.Prelude.{if◌then◌else◌, sum}
-use Rattle.std.proofs.lemmas.Int.{int_wrap-add_left}
-use Rattle.std.proofs.lemmas.List.{map-append}
+use Rattle.scan_walks.proofs.Cited.{◌≡◌, ◌∙◌, ◌+◌, ◌<◌, ◌≤◌, ◌+ℤ◌, ◌∷◌, ◌++◌, if◌then◌else◌, ◌>>=◌, refl, sym, ap, ℕ, Bool, true, false, cond, ℤ, pos, w32, List, [], length, map, take, drop, get_or}
+use Rattle.scan_walks.proofs.Cited.{arith, Some, None, Ok, Err, sum, int_wrap-add_left, map-append, length-scan_of, number_words, checked_scan_of, checked_seg_scan_of, fitting, values_from, fault_at}
+use Rattle.scan_walks.proofs.Cited.{scan_of, sum_of, wrap, is_number, scans_of, scan_of-cons, length-scans_of}
 use Rattle.std.proofs.lemmas.List.Folds.{map_fixed}
 use Rattle.std.proofs.lemmas.List.Sums.{prefix_len_passes}
-use Rattle.operators.proofs.FoldLaws.{length-scan_of}
-use Rattle.operators.specs.NumberLaws.{number_words}
-use Rattle.cvl_base.specs.CheckedSums.{checked_scan_of, checked_seg_scan_of, fitting}
 use Rattle.cvl_base.specs.declared.fault.FaultNo.TheVariants.{Overflow}
-use Rattle.cvl_base.specs.Elementwise.{values_from}
-use Rattle.cvl_base.specs.Faults.{fault_at}
-use Rattle.cvl_base.specs.Folds.{scan_of}
-use Rattle.cvl_base.specs.Gives.{◌>>=◌}
-use Rattle.cvl_base.specs.Integers.{sum_of, wrap}
-use Rattle.cvl_base.specs.ItemWords.{is_number}
-use Rattle.range_walks.specs.Ranges.{scans_of}
 use Rattle.scan_walks.specs.Fronts.{fitting_front}
-use Rattle.operators.proofs.FoldLaws.{scan_of-cons}
-use Rattle.range_walks.proofs.Segments.{length-scans_of}
 use Rattle.scan_walks.proofs.Valued.{scans_valued}
 
 fails_at : (b : Bool) (n : ℕ) (z : ℤ) (zs : List ℤ) → cond b (1 + fitting_front zs) 0 < 1 + length zs

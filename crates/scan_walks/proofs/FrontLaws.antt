@@ -1,20 +1,17 @@
 -- How many numbers of a list fit 32 bits, from the first one on: of scans, and of lists one after another.
-use Rattle.std.proofs.Common.{◌≡◌, ◌∙◌, refl, sym, ap, ℕ, ◌+◌, ◌<◌, ◌≤◌, min, Bool, true, false, cond, ℤ, pos, ◌+ℤ◌, List, ◌++◌, length, take, drop, get_or, arith, Some, None}
-use Rattle.std.specs.Prelude.{if◌then◌else◌, sum}
-use Rattle.std.specs.Option.{is_some}
+use Rattle.scan_walks.proofs.Cited.{◌≡◌, ◌∙◌, ◌+◌, ◌<◌, ◌≤◌, ◌+ℤ◌, ◌++◌, if◌then◌else◌, refl, sym, ap, ℕ, Bool, true, false, cond, ℤ, pos, List, length, take, drop, get_or, arith, Some, None, sum}
+use Rattle.scan_walks.proofs.Cited.{is_some, drop_more, drop-drop, length-drop, length-take, fitting, fold_of, scan_of, is_number, scans_of, length-scan_of, scan_of-cons, length-scans_of}
+use Rattle.std.proofs.Common.{min}
 use Rattle.std.proofs.lemmas.Bool.{false_from_ne_true}
-use Rattle.std.proofs.lemmas.List.{drop_more, drop-drop, length-drop, length-take, take-append-drop}
+use Rattle.std.proofs.lemmas.List.{take-append-drop}
 use Rattle.std.proofs.lemmas.List.Folds.{prefix_len-append}
 use Rattle.std.proofs.lemmas.List.Sums.{prefix_len-le-length}
 use Rattle.std.proofs.lemmas.Option.{cond_some, none-some}
-use Rattle.cvl_base.specs.CheckedSums.{fitting}
-use Rattle.cvl_base.specs.Folds.{fold_of, scan_of}
-use Rattle.cvl_base.specs.ItemWords.{is_number}
-use Rattle.range_walks.specs.Ranges.{continued, range_scan_of, scans_of, with_starts}
+use Rattle.range_walks.specs.Ranges.{continued, range_scan_of, with_starts}
 use Rattle.range_walks.proofs.Cut.{parts_scanned}
 use Rattle.scan_walks.specs.Fronts.{fitting_front}
-use Rattle.operators.proofs.FoldLaws.{length-scan_of, scan_of-append, scan_of-cons}
-use Rattle.range_walks.proofs.Segments.{length-scans_of, range_left, scans_parted}
+use Rattle.operators.proofs.FoldLaws.{scan_of-append}
+use Rattle.range_walks.proofs.Segments.{range_left, scans_parted}
 use Rattle.scan_walks.proofs.WholeSums.{all_whole, whole_laws}
 
 some_passed : (z : ℤ) (b : Bool) → is_some (if b then Some z else None) ≡ true → b ≡ true

@@ -1,15 +1,12 @@
 -- A list that is written over from its front on: from the place that is next on it is as before.
 -- Source: what the definitions of take, drop and set imply.
-use Rattle.std.proofs.Common.{◌≡◌, ◌∙◌, ℕ, ◌+◌, ◌<◌, ◌≤◌, List, ◌++◌, drop, get_or, length, map, set, take, refl, sym, ap, arith}
-use Rattle.std.specs.Prelude.{sum}
-use Rattle.std.proofs.lemmas.List.{append_assoc, drop-drop, drop-set-lt, get_or-drop, length-drop, length-take}
+use Rattle.scan_walks.proofs.Cited.{◌≡◌, ◌∙◌, ◌+◌, ◌<◌, ◌≤◌, ◌++◌, ℕ, List, drop, get_or, length, map, take, refl, sym, ap, arith, sum, drop-drop, get_or-drop, length-drop, length-take}
+use Rattle.scan_walks.proofs.Cited.{length-scan_of, scan_of, joined, scans_of}
+use Rattle.std.proofs.Common.{set}
+use Rattle.std.proofs.lemmas.List.{append_assoc, drop-set-lt}
 use Rattle.std.proofs.lemmas.List.Sums.{sum_by-drop_more}
 use Rattle.std.proofs.lemmas.Slice.{drop-put_mid, take-put_mid}
 use borrow.Rule.Slice.PartMut.{put_mid}
-use Rattle.operators.proofs.FoldLaws.{length-scan_of}
-use Rattle.cvl_base.specs.Folds.{scan_of}
-use Rattle.cvl_base.specs.Lists.{joined}
-use Rattle.range_walks.specs.Ranges.{scans_of}
 use Rattle.range_walks.proofs.Segments.{cut_more}
 
 module _ {X : Type 0} (now before : List X) (i : ℕ) (left : drop i now ≡ drop i before) where

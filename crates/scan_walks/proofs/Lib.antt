@@ -12,3 +12,4 @@ pub use Rattle.range_walks.proofs.LastStart
 pub use Rattle.range_walks.proofs.RangeParts
 pub use Rattle.range_walks.proofs.Scanned
 pub use Rattle.range_walks.proofs.Segments
+pub mod Cited

@@ -1,12 +1,9 @@
 -- The arguments of a segment, which starts where those before it end.
-use Rattle.std.proofs.Common.{◌≡◌, ◌∙◌, ℕ, ◌+◌, ◌<◌, ◌≤◌, List, [], length, take, drop, get_or, sym, arith}
-use Rattle.std.specs.Prelude.{sum}
+use Rattle.scan_walks.proofs.Cited.{◌≡◌, ◌∙◌, ◌+◌, ◌<◌, ◌≤◌, ℕ, List, [], length, take, drop, get_or, sym, arith, sum, get_or-drop, length-take, length-drop, sum_by_more, cut_of, cut_at, length-cut}
 use Rattle.std.specs.List.{zip}
-use Rattle.std.proofs.lemmas.List.{get_or_default, get_or-take, get_or-drop, length-take, length-drop}
-use Rattle.std.proofs.lemmas.List.Sums.{sum_by_more, sum_by_more_le}
+use Rattle.std.proofs.lemmas.List.{get_or_default, get_or-take}
+use Rattle.std.proofs.lemmas.List.Sums.{sum_by_more_le}
 use Rattle.std.proofs.lemmas.Slice.Zip.{get_or-zip, length-zip}
-use Rattle.cvl_base.specs.Nests.{cut_of}
-use Rattle.cvl_base.proofs.Nests.{cut_at, length-cut}
 
 -- a list has this element at place s
 pub record StandsAt {X : Type 0} (xs : List X) (s : ℕ) (x : X) : Type 0 where

@@ -1,17 +1,10 @@
 -- The scans and reduces of segments, where the lengths fit the elements and where they don't.
-use Rattle.std.proofs.Common.{◌≡◌, ℕ, List, length, ap, ◌∙◌, Ok, Err}
-use Rattle.std.specs.Prelude.{sum}
-use Rattle.std.proofs.lemmas.List.{length-map}
+use Rattle.scan_walks.proofs.Cited.{◌≡◌, ◌∙◌, ◌>>=◌, ℕ, List, length, ap, Ok, Err, sum, length-map, fold_of, scan_of, joined, cut_of, in_vector, one_each, end_to_end, length-cut, nest-fits, scans_of}
+use Rattle.scan_walks.proofs.Cited.{reduces_of}
 use Rattle.cvl_base.specs.declared.fault.Fault.{Fault}
-use Rattle.cvl_base.specs.Folds.{fold_of, scan_of}
-use Rattle.cvl_base.specs.Gives.{◌>>=◌}
-use Rattle.cvl_base.specs.Lists.{joined}
-use Rattle.cvl_base.specs.Nests.{cut_of, nest}
-use Rattle.cvl_base.specs.Segmented.{in_vector, one_each, end_to_end}
-use Rattle.cvl_base.proofs.Nests.{length-cut, nest-fits}
+use Rattle.cvl_base.specs.Nests.{nest}
 use Rattle.cvl_base.proofs.Segmented.{results-ok}
 use Rattle.cvl_base.specs.SegmentedCalls.{seg_scan_of, seg_reduce_of}
-use Rattle.range_walks.specs.Ranges.{scans_of, reduces_of}
 
 module _ {Item : Type 0} (join : Item → Item → Item) (unit : Item) (xs : List Item) (lengths : List ℕ) where
   pub seg_scan-fits : sum lengths ≡ length xs → seg_scan_of join unit xs lengths ≡ Ok (scans_of join unit lengths xs)

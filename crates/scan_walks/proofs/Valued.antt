@@ -1,27 +1,15 @@
 -- Checked scans and reduces of segments as values of one list of numbers: those that are written where all fit.
 -- Source: what the definitions of CheckedSums and Ranges imply.
-use Rattle.std.proofs.Common.{◌≡◌, ◌∙◌, refl, sym, ap, ℕ, ◌+◌, ◌<◌, ℤ, pos, ◌+ℤ◌, List, [], ◌∷◌, ◌++◌, length, map, take, drop, get_or, arith, Option, Some, None, Result, Ok, Err}
-use Rattle.std.specs.Prelude.{sum}
-use Rattle.std.specs.Option.{ok_or}
-use Rattle.std.proofs.lemmas.List.{drop_more, get_or-map, length-drop, length-map, length-take-le, map-append}
-use Rattle.std.proofs.lemmas.List.Sums.{sum_by_more}
-use Rattle.operators.proofs.FoldLaws.{length-scan_of}
-use Rattle.cvl_base.specs.CheckedSums.{checked_reduce_of, checked_scan_of, checked_seg_reduce_of, checked_seg_scan_of, fitting, totals_of}
-use Rattle.cvl_base.specs.Exact.{total_of}
+use Rattle.scan_walks.proofs.Cited.{◌≡◌, ◌∙◌, ◌+◌, ◌<◌, ◌+ℤ◌, ◌∷◌, ◌++◌, ◌>>=◌, refl, sym, ap, ℕ, ℤ, pos, List, [], length, map, take, drop, get_or, arith, Some, None, Result, Ok, Err, sum, ok_or}
+use Rattle.scan_walks.proofs.Cited.{drop_more, length-drop, length-map, map-append, sum_by_more, length-scan_of, checked_reduce_of, checked_scan_of, checked_seg_reduce_of, checked_seg_scan_of}
+use Rattle.scan_walks.proofs.Cited.{fitting, total_of, values_from, fault_at, after, joined, cut_of, at_segment, end_to_end, in_vector, moved, one_each, results_from, after-none, sum-cons, cut_at}
+use Rattle.scan_walks.proofs.Cited.{length-cut, nest-fits, reduces_of, scans_of, start_of}
+use Rattle.std.proofs.Common.{Option}
+use Rattle.std.proofs.lemmas.List.{get_or-map, length-take-le}
+use Rattle.cvl_base.specs.CheckedSums.{totals_of}
 use Rattle.cvl_base.specs.declared.fault.Fault.{Fault}
 use Rattle.cvl_base.specs.declared.fault.FaultNo.{FaultNo}
 use Rattle.cvl_base.specs.declared.fault.FaultNo.TheVariants.{Overflow}
-use Rattle.cvl_base.specs.Elementwise.{values_from}
-use Rattle.cvl_base.specs.Faults.{fault_at}
-use Rattle.cvl_base.specs.Gives.{◌>>=◌, after}
-use Rattle.cvl_base.specs.Lists.{joined}
-use Rattle.cvl_base.specs.Nests.{cut_of}
-use Rattle.cvl_base.specs.Segmented.{at_segment, end_to_end, in_vector, moved, one_each, results_from}
-use Rattle.cvl_base.proofs.Gives.{after-none}
-use Rattle.cvl_base.proofs.Lists.{sum-cons}
-use Rattle.cvl_base.proofs.Nests.{cut_at, length-cut, nest-fits}
-use Rattle.range_walks.specs.Ranges.{reduces_of, scans_of}
-use Rattle.segdes.specs.Starts.{start_of}
 
 module _ {Y : Type 0} where
   moved-then : (to : ℕ → ℕ) (y : Y) (r : Result (List Y) Fault) → moved to (r >>= λ ys. Ok (y ∷ ys)) ≡ (moved to r >>= λ ys. Ok (y ∷ ys))

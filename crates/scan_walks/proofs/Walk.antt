@@ -1,13 +1,11 @@
 -- A segmented call, segment by segment: the results so far, and after them what the segments left give.
-use Rattle.std.proofs.Common.{◌≡◌, ◌∙◌, ℕ, ◌+◌, ◌≤◌, List, [], ◌∷◌, ◌++◌, length, drop, refl, sym, ap, Result, Ok, Err}
+use Rattle.scan_walks.proofs.Cited.{◌≡◌, ◌∙◌, ◌+◌, ◌≤◌, ◌∷◌, ◌++◌, ◌>>=◌, ℕ, List, [], length, drop, refl, sym, ap, Result, Ok, Err, after, moved, results_from, after-none}
 use Rattle.std.specs.Prelude.{option_map}
 use Rattle.std.specs.List.{flat_map}
 use Rattle.std.proofs.lemmas.List.{drop_all, map-id}
 use Rattle.std.proofs.lemmas.List.Concat.{flat_map_single}
 use Rattle.cvl_base.specs.declared.fault.Fault.{Fault}
-use Rattle.cvl_base.specs.Gives.{◌>>=◌, after}
-use Rattle.cvl_base.specs.Segmented.{moved, results_from}
-use Rattle.cvl_base.proofs.Gives.{after-after, after-none, after-end}
+use Rattle.cvl_base.proofs.Gives.{after-after, after-end}
 use Rattle.cvl_base.proofs.Lists.{uncons}
 use Rattle.scan_walks.proofs.Parts.{StandsAt}
 

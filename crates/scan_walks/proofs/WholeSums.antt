@@ -1,8 +1,6 @@
 -- Sums over whole numbers: addition is a monoid.
 -- Source: arithmetic.
-use Rattle.std.proofs.Common.{refl, true, ℤ, pos, ◌+ℤ◌, List, arith}
-use Rattle.std.specs.List.{AllPass}
-use Rattle.std.proofs.lemmas.Int.{ints}
+use Rattle.scan_walks.proofs.Cited.{◌+ℤ◌, refl, true, ℤ, pos, List, arith, AllPass, ints}
 use Rattle.cvl_base.specs.Monoid.{MonoidLaws}
 
 pub whole_laws : MonoidLaws (λ _. true) (pos 0) ◌+ℤ◌

@@ -1,7 +1,5 @@
-use Rattle.std.proofs.Common.{◌≡◌, ℕ, ◌+◌, ◌*◌, true, List, [], ◌∷◌, length, arith, ℤ, pos, ◌+ℤ◌, ◌≤ℤ◌}
-use Rattle.std.specs.List.{fold, AllPass}
-use Rattle.std.proofs.lemmas.Int.{ints}
-use Rattle.std.proofs.lemmas.List.Elements.{All-head, All-tail}
+use Rattle.call_laws.proofs.Cited.{◌≡◌, ◌+◌, ◌∷◌, ◌+ℤ◌, ℕ, true, List, [], length, arith, ℤ, pos, fold, AllPass, ints, All-head, All-tail}
+use Rattle.std.proofs.Common.{◌*◌, ◌≤ℤ◌}
 use Rattle.cvl_base.specs.ItemWords.{is_number}
 use Rattle.operators.specs.NumberLaws.{fits-is_number}
 use Rattle.call_laws.proofs.checked_sums.carry_fits.Goals as goal

@@ -1,15 +1,8 @@
-use Rattle.std.proofs.Common.{◌≡◌, ℕ, List, [], ◌∷◌, length, map, refl, sym, ◌∙◌, ℤ, pos, ◌+ℤ◌, Ok, Err, Result}
-use mathlib.Core.List.{map-map}
+use Rattle.call_laws.proofs.Cited.{◌≡◌, ◌∷◌, ◌∙◌, ◌+ℤ◌, ◌>>=◌, ℕ, List, [], length, map, refl, sym, ℤ, pos, Ok, Err, Result, map-map, fitting, total_of, fold_of, scan_of, joined, nest, at_segment}
+use Rattle.call_laws.proofs.Cited.{end_to_end, in_vector, one_each, length-scan_of}
 use Rattle.cvl_base.specs.declared.fault.Fault.{Fault}
 use Rattle.cvl_base.specs.declared.fault.FaultNo.TheVariants.{Overflow}
-use Rattle.cvl_base.specs.CheckedSums.{checked_reduce_of, checked_scan_of, fitting, totals_of}
-use Rattle.cvl_base.specs.Exact.{total_of}
-use Rattle.cvl_base.specs.Folds.{fold_of, scan_of}
-use Rattle.cvl_base.specs.Gives.{◌>>=◌}
-use Rattle.cvl_base.specs.Lists.{joined}
-use Rattle.cvl_base.specs.Nests.{nest}
-use Rattle.cvl_base.specs.Segmented.{at_segment, end_to_end, in_vector, one_each}
-use Rattle.operators.proofs.FoldLaws.{length-scan_of}
+use Rattle.cvl_base.specs.CheckedSums.{checked_reduce_of, checked_scan_of, totals_of}
 use Rattle.call_laws.specs.Carried.{each_after}
 use Rattle.call_laws.specs.InParts.{in_two}
 use Rattle.part_calls.specs.Sums.{all_fitting}

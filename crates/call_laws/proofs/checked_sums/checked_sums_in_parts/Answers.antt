@@ -1,12 +1,6 @@
-use Rattle.std.proofs.Common.{◌≡◌, List, [], ◌∷◌, refl, sym, ℤ, pos, ◌+ℤ◌}
-use Rattle.std.specs.List.{fold}
+use Rattle.call_laws.proofs.Cited.{◌≡◌, ◌∷◌, ◌+ℤ◌, List, [], refl, sym, ℤ, pos, fold, fold-append, fitting, total_of, fold_of, scan_of, length-scan_of, scan_of-append}
 use Rattle.std.proofs.Math.IntN.{+ℤ_assoc, +ℤ_idl, +ℤ_idr}
-use Rattle.std.proofs.lemmas.List.Sums.{fold-append}
 use Rattle.cvl_base.specs.declared.fault.FaultNo.TheVariants.{Overflow}
-use Rattle.cvl_base.specs.CheckedSums.{fitting}
-use Rattle.cvl_base.specs.Exact.{total_of}
-use Rattle.cvl_base.specs.Folds.{fold_of, scan_of}
-use Rattle.operators.proofs.FoldLaws.{length-scan_of, scan_of-append}
 use Rattle.call_laws.proofs.TwoParts.{values-two}
 use Rattle.call_laws.proofs.checked_sums.checked_sums_in_parts.Goals as goal
 

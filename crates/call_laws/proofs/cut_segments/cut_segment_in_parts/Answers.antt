@@ -1,6 +1,4 @@
-use Rattle.std.proofs.Common.{◌∷◌, [], sym, ap, ◌∙◌, Ok}
-use Rattle.std.specs.Prelude.{◌+◌, sum}
-use Rattle.cvl_base.specs.Segmented.{in_vector, end_to_end}
+use Rattle.call_laws.proofs.Cited.{◌∷◌, ◌∙◌, ◌+◌, [], sym, ap, Ok, sum, in_vector, end_to_end}
 use Rattle.call_laws.specs.InParts.{in_two}
 use Rattle.call_laws.proofs.Segments.{flat-again}
 use Rattle.call_laws.proofs.SegmentsInTwo.{lists-between, next-to}

@@ -1,17 +1,7 @@
-use Rattle.std.proofs.Common.{◌≡◌, Bool, true, IsTrue, List, [], ◌∷◌, ◌++◌, length, take, drop, map, nat_lt, sym, ap, ◌∙◌, arith, length-append, inl, inr, Ok}
-use Rattle.std.specs.Prelude.{sum}
-use Rattle.std.specs.List.{AllPass}
-use Rattle.std.proofs.lemmas.Bool.{lt-ltb}
-use Rattle.std.proofs.lemmas.Bool.Decides.{eqb_tells}
+use Rattle.call_laws.proofs.Cited.{◌≡◌, ◌∷◌, ◌++◌, ◌∙◌, ◌>>=◌, Bool, true, IsTrue, List, [], length, take, drop, map, nat_lt, sym, ap, arith, length-append, inl, inr, Ok, sum, AllPass, lt-ltb}
+use Rattle.call_laws.proofs.Cited.{eqb_tells, fold_of, MonoidLaws, nest, cut_of, in_vector, length-cut, nest-fits, nest-misfits, fold_from}
 use Rattle.std.proofs.lemmas.List.Elements.{All-take}
-use Rattle.cvl_base.specs.Folds.{fold_of}
-use Rattle.cvl_base.specs.Gives.{◌>>=◌}
-use Rattle.cvl_base.specs.Monoid.{MonoidLaws}
-use Rattle.cvl_base.specs.Nests.{nest, cut_of}
 use Rattle.cvl_base.specs.SegmentMonoid.{seg_join}
-use Rattle.cvl_base.specs.Segmented.{in_vector}
-use Rattle.cvl_base.proofs.Nests.{length-cut, nest-fits, nest-misfits}
-use Rattle.operators.proofs.FoldLaws.{fold_from}
 use Rattle.call_laws.specs.Carried.{each_after}
 use Rattle.call_laws.proofs.Segments.{each-ok}
 use Rattle.call_laws.proofs.cut_segments.know_carries.Goals as goal

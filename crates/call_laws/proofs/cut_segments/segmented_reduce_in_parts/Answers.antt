@@ -1,4 +1,4 @@
-use Rattle.std.proofs.Common.{length, ◌∙◌}
+use Rattle.call_laws.proofs.Cited.{◌∙◌, length}
 use Rattle.call_laws.proofs.Carries.{reduce-plain, reduces-between, reduces-inside}
 use Rattle.call_laws.proofs.TwoParts.{two-parts}
 use Rattle.call_laws.proofs.cut_segments.segmented_reduce_in_parts.Goals as goal

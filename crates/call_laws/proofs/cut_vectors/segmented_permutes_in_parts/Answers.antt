@@ -1,7 +1,4 @@
-use Rattle.std.proofs.Common.{refl, sym}
-use Rattle.cvl_base.specs.Packs.{pack_of}
-use Rattle.cvl_base.specs.Permutes.{back_of, default_of, select_of, simple_of}
-use Rattle.cvl_base.specs.Segmented.{of_three, of_two}
+use Rattle.call_laws.proofs.Cited.{refl, sym, pack_of, back_of, default_of, select_of, simple_of, of_three, of_two}
 use Rattle.call_laws.proofs.SegmentsInTwo.{cut, in_order}
 use Rattle.call_laws.proofs.TwoParts.{both}
 use Rattle.call_laws.proofs.cut_vectors.segmented_permutes_in_parts.Goals as goal

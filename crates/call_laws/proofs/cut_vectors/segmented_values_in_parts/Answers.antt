@@ -1,7 +1,4 @@
-use Rattle.std.proofs.Common.{pos, refl}
-use Rattle.cvl_base.specs.Distributes.{distribute_of, index_of}
-use Rattle.cvl_base.specs.Extracts.{extract_of, replace_of}
-use Rattle.cvl_base.specs.Segmented.{of_three, of_two}
+use Rattle.call_laws.proofs.Cited.{pos, refl, distribute_of, index_of, extract_of, replace_of, of_three, of_two}
 use Rattle.call_laws.proofs.SegmentsInTwo.{by_segment, cut, in_order, values_by_segment}
 use Rattle.call_laws.proofs.TwoParts.{both, listed}
 use Rattle.call_laws.proofs.cut_vectors.segmented_values_in_parts.Goals as goal

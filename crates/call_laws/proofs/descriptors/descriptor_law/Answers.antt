@@ -1,17 +1,15 @@
-use Rattle.std.proofs.Common.{◌≡◌, ℕ, ◌<◌, ◌≤◌, Bool, true, false, ℤ, pos, negsuc, List, length, get_or, map, sum, unsigned_abs, refl, sym, ap, ◌∙◌, arith, Some, None, Ok, Err, Option, Result}
-use Rattle.std.specs.Prelude.{position, cond, nat_lt, option_map}
+use Rattle.call_laws.proofs.Cited.{◌≡◌, ◌<◌, ◌≤◌, ◌∙◌, ℕ, Bool, true, false, ℤ, pos, negsuc, List, length, map, sum, refl, sym, ap, arith, Some, None, Ok, Err, Option, Result, cond, nat_lt}
+use Rattle.call_laws.proofs.Cited.{option_map, false≢true, lt-ltb, le-ltb, ltb-true, ltb-false, get_or_from_slice_get, slice_get-get_or, slice_get_within, fault, fault_at, unless, fault_if}
+use Rattle.call_laws.proofs.Cited.{most_elements}
+use Rattle.std.proofs.Common.{get_or, unsigned_abs}
+use Rattle.std.specs.Prelude.{position}
 use Rattle.std.specs.Int.{is_negative}
 use Rattle.std.specs.List.{position_or_len}
-use Rattle.std.proofs.lemmas.Bool.{false≢true, lt-ltb, le-ltb, ltb-true, ltb-false}
 use Rattle.std.proofs.lemmas.List.Quantifiers.{position-Some}
 use Rattle.std.proofs.lemmas.List.Sums.{fails_before_first, position_or_len_is}
-use Rattle.std.proofs.lemmas.Option.{get_or_from_slice_get, slice_get-get_or, slice_get_within}
 use Rattle.cvl_base.specs.declared.fault.Fault.{Fault}
 use Rattle.cvl_base.specs.declared.fault.FaultNo.TheVariants as no
 use Rattle.cvl_base.specs.Descriptors.{IsFirstNegative, descriptor_of}
-use Rattle.cvl_base.specs.Faults.{fault, fault_at}
-use Rattle.cvl_base.specs.Gives.{unless, fault_if}
-use Rattle.cvl_base.specs.Limits.{most_elements}
 use Rattle.cvl_base.proofs.Descriptors.{abs_pos, natural, not_negative, position-lengths}
 use Rattle.cvl_base.proofs.Lists.{not_found}
 use Rattle.call_laws.proofs.descriptors.descriptor_law.Goals as goal

@@ -1,10 +1,9 @@
-use Rattle.std.proofs.Common.{◌≡◌, ℕ, ℤ, ◌+◌, ◌+ℤ◌, ◌*ℤ◌, map, pos, sym, ap, ◌∙◌, arith, w32, Ok}
-use Rattle.std.specs.List.{range_with_len}
-use Rattle.std.proofs.lemmas.Int.{int_wrap-add_left, ints}
-use Rattle.std.proofs.lemmas.List.{map-append, replicate-append-replicate}
-use Rattle.std.proofs.lemmas.List.FromFn.{fill_by_all, get_or-map-range_with_len, length-map-range_with_len}
-use Rattle.cvl_base.specs.Integers.{wrap}
-use Rattle.cvl_base.proofs.Distributes.{as_length-fits}
+use Rattle.call_laws.proofs.Cited.{◌≡◌, ◌+◌, ◌+ℤ◌, ◌*ℤ◌, ◌∙◌, ℕ, ℤ, map, pos, sym, ap, arith, Ok, range_with_len, ints, map-append, get_or-map-range_with_len, length-map-range_with_len, wrap}
+use Rattle.call_laws.proofs.Cited.{as_length-fits}
+use Rattle.std.proofs.Common.{w32}
+use Rattle.std.proofs.lemmas.Int.{int_wrap-add_left}
+use Rattle.std.proofs.lemmas.List.{replicate-append-replicate}
+use Rattle.std.proofs.lemmas.List.FromFn.{fill_by_all}
 use Rattle.permute_walks.proofs.Listed.{range_both}
 use Rattle.call_laws.proofs.distributes.distribute_in_parts.Goals as goal
 

@@ -1,6 +1,4 @@
-use Rattle.std.proofs.Common.{◌≡◌, ◌++◌, ℤ, Bool, List, length, not, refl, ap, arith, zip, Ok}
-use Rattle.std.proofs.lemmas.List.{map-append}
-use Rattle.std.proofs.lemmas.Slice.Zip.{length-zip}
+use Rattle.call_laws.proofs.Cited.{◌≡◌, ◌++◌, ℤ, Bool, List, length, not, refl, ap, arith, zip, Ok, map-append, length-zip}
 use Rattle.call_table.specs.declared.families.Unary.{Unary}
 use Rattle.call_table.specs.declared.families.Unary.TheVariants.{Not, Copy}
 use Rattle.cvl_base.specs.Conversions.{integer_of, boolean_of}

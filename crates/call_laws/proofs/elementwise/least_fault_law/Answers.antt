@@ -1,7 +1,5 @@
-use Rattle.std.proofs.Common.{◌≡◌, ℕ, ◌+◌, List, [], ◌∷◌, ◌++◌, length, map, ap, arith, Some, None, Err, Option}
+use Rattle.call_laws.proofs.Cited.{◌≡◌, ◌+◌, ◌∷◌, ◌++◌, ℕ, List, [], length, map, ap, arith, Some, None, Err, Option, values_from, fault_at}
 use Rattle.cvl_base.specs.declared.fault.FaultNo.{FaultNo}
-use Rattle.cvl_base.specs.Elementwise.{values_from}
-use Rattle.cvl_base.specs.Faults.{fault_at}
 use Rattle.call_laws.proofs.LeastFaults.{values-meaning}
 use Rattle.call_laws.proofs.elementwise.least_fault_law.Goals as goal
 

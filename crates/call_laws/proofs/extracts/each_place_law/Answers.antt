@@ -1,13 +1,7 @@
-use Rattle.std.proofs.Common.{◌≡◌, ℕ, ◌<◌, List, length, map, replicate, sym, ap, ◌∙◌, arith, ◌+ℤ◌, ◌*ℤ◌, pos, slice_get, Some, Ok, Result}
-use Rattle.std.specs.List.{range_with_len}
-use Rattle.std.specs.Prelude.{◌↔◌}
-use Rattle.std.proofs.lemmas.List.{get_or-replicate, length-replicate}
-use Rattle.std.proofs.lemmas.List.FromFn.{get_or-map-range_with_len, length-map-range_with_len}
-use Rattle.std.proofs.lemmas.Option.{slice_get-get_or}
+use Rattle.call_laws.proofs.Cited.{◌≡◌, ◌<◌, ◌∙◌, ◌+ℤ◌, ◌*ℤ◌, ◌↔◌, ℕ, List, length, map, replicate, sym, ap, arith, pos, slice_get, Some, Ok, Result, range_with_len, length-replicate}
+use Rattle.call_laws.proofs.Cited.{get_or-map-range_with_len, length-map-range_with_len, slice_get-get_or, distribute_of, index_of, wrap, as_length-fits}
+use Rattle.std.proofs.lemmas.List.{get_or-replicate}
 use Rattle.cvl_base.specs.declared.fault.Fault.{Fault}
-use Rattle.cvl_base.specs.Distributes.{distribute_of, index_of}
-use Rattle.cvl_base.specs.Integers.{wrap}
-use Rattle.cvl_base.proofs.Distributes.{as_length-fits}
 use Rattle.call_laws.proofs.Places.{same_elements}
 use Rattle.call_laws.proofs.extracts.each_place_law.Goals as goal
 

@@ -1,5 +1,4 @@
-use Rattle.std.proofs.Common.{length, le-ltb, refl, pos, negsuc, ℤ, List, ◌≡◌, Ok}
-use Rattle.cvl_base.specs.Extracts.{extract_of, replace_of}
+use Rattle.call_laws.proofs.Cited.{◌≡◌, length, le-ltb, refl, pos, negsuc, ℤ, List, Ok, extract_of, replace_of}
 use Rattle.call_laws.proofs.ElementPlaces.{extract-meaning, replace-inside, replace-meaning}
 use Rattle.call_laws.proofs.extracts.replace_law.Goals as goal
 

@@ -1,4 +1,4 @@
-use Rattle.std.proofs.Common.{ap, length, sum, sym, ◌∙◌}
+use Rattle.call_laws.proofs.Cited.{◌∙◌, ap, length, sum, sym}
 use Rattle.call_laws.proofs.Cuts.{nest-meaning, sum-lengths}
 use Rattle.call_laws.proofs.nests.nest_law.Goals as goal
 

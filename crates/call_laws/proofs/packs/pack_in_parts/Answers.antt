@@ -1,9 +1,4 @@
-use Rattle.std.proofs.Common.{◌≡◌, ◌+◌, Bool, cond, [], ◌∷◌, ◌++◌, take, drop, map, sym, ◌∙◌, Ok}
-use Rattle.std.specs.Prelude.{sum}
-use Rattle.std.proofs.lemmas.List.{map-append, same_from_push}
-use Rattle.std.proofs.lemmas.List.Sums.{sum_by-append}
-use Rattle.cvl_base.specs.Nests.{cut_of}
-use Rattle.cvl_base.specs.Packs.{count_of}
+use Rattle.call_laws.proofs.Cited.{◌≡◌, ◌+◌, ◌∷◌, ◌++◌, ◌∙◌, Bool, cond, [], take, drop, map, sym, Ok, sum, map-append, same_from_push, sum_by-append, cut_of, count_of}
 use Rattle.call_laws.proofs.Carries.{nest-first, nest-inside, nest-second}
 use Rattle.call_laws.proofs.Packing.{pack-two}
 use Rattle.call_laws.proofs.Segments.{counts-of}

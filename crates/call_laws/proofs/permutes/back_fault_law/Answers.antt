@@ -1,12 +1,7 @@
-use Rattle.std.proofs.Common.{◌≡◌, ℕ, zero, suc, ◌+◌, true, false, List, [], ◌∷◌, length, map, refl, ap, arith, ℤ, pos, negsuc, slice_get, Some, None, Err}
-use Rattle.std.proofs.lemmas.Bool.{false≢true, ltb-true, ltb-false}
-use Rattle.std.proofs.lemmas.Option.{none-some, same_Some, slice_get_past}
+use Rattle.call_laws.proofs.Cited.{◌≡◌, ◌+◌, ◌∷◌, ℕ, zero, suc, true, false, List, [], length, map, refl, ap, arith, ℤ, pos, negsuc, slice_get, Some, None, Err, false≢true, ltb-true, ltb-false}
+use Rattle.call_laws.proofs.Cited.{none-some, same_Some, values_from, element_at, fault_at, is_place, element}
+use Rattle.std.proofs.lemmas.Option.{slice_get_past}
 use Rattle.cvl_base.specs.declared.fault.FaultNo.TheVariants.{IndexOutOfRange}
-use Rattle.cvl_base.specs.Elementwise.{values_from}
-use Rattle.cvl_base.specs.Extracts.{element_at}
-use Rattle.cvl_base.specs.Faults.{fault_at}
-use Rattle.cvl_base.specs.Permutes.{is_place}
-use Rattle.cvl_base.proofs.Lists.{element}
 use Rattle.call_laws.specs.Permuted.{AreWithin}
 use Rattle.call_laws.proofs.permutes.back_fault_law.Goals as goal
 

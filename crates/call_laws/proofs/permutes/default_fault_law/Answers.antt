@@ -1,6 +1,4 @@
-use Rattle.std.proofs.Common.{length}
-use Rattle.cvl_base.specs.Permutes.{all_destinations}
-use Rattle.cvl_base.proofs.Elementwise.{if_as_long-fits, if_as_long-misfits}
+use Rattle.call_laws.proofs.Cited.{length, all_destinations, if_as_long-fits, if_as_long-misfits}
 use Rattle.call_laws.proofs.FirstBadPlaces.{fault-again, fault-outside}
 use Rattle.call_laws.proofs.Sending.{all_good, destination-here}
 use Rattle.call_laws.proofs.permutes.default_fault_law.Goals as goal

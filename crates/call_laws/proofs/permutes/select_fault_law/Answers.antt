@@ -1,8 +1,4 @@
-use Rattle.std.proofs.Common.{ℕ, ℤ, Bool, List, length, inl, inr}
-use Rattle.std.proofs.lemmas.Bool.Decides.{eqb_tells}
-use Rattle.cvl_base.specs.Packs.{count_of}
-use Rattle.cvl_base.specs.Permutes.{flagged_destinations}
-use Rattle.cvl_base.proofs.Elementwise.{if_as_long-fits, if_as_long-misfits}
+use Rattle.call_laws.proofs.Cited.{ℕ, ℤ, Bool, List, length, inl, inr, eqb_tells, count_of, flagged_destinations, if_as_long-fits, if_as_long-misfits}
 use Rattle.call_laws.specs.Permuted.{AreOnceFlagged, AreWithinFlagged, IsGoodBefore}
 use Rattle.call_laws.proofs.FirstBadPlaces.{fault-again, fault-outside}
 use Rattle.call_laws.proofs.Selecting.{flagged-here, here-flagged}

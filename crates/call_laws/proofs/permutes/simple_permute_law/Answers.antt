@@ -1,8 +1,4 @@
-use Rattle.std.proofs.Common.{◌≡◌, ℕ, ℤ, List, length, pos, negsuc, slice_get, sym, arith, Some}
-use Rattle.std.proofs.lemmas.Bool.{false≢true}
-use Rattle.cvl_base.specs.Extracts.{element_at}
-use Rattle.cvl_base.specs.Permutes.{all_destinations}
-use Rattle.permute_walks.proofs.EachSent.{all_take_part}
+use Rattle.call_laws.proofs.Cited.{◌≡◌, ℕ, ℤ, List, length, pos, negsuc, slice_get, sym, arith, Some, false≢true, element_at, all_destinations, all_take_part}
 use Rattle.call_laws.specs.Permuted.{IsSimplePermute}
 use Rattle.call_laws.proofs.BackPermutes.{back-meaning}
 use Rattle.call_laws.proofs.Destinations.{each_is_destination}

@@ -1,5 +1,5 @@
+use Rattle.call_laws.proofs.Cited.{element_at}
 use Rattle.cvl_base.specs.declared.fault.FaultNo.TheVariants.{IndexOutOfRange}
-use Rattle.cvl_base.specs.Extracts.{element_at}
 use Rattle.call_laws.proofs.TwoParts.{values-two}
 use Rattle.call_laws.proofs.permutes_in_parts.back_permute_in_parts.Goals as goal
 

@@ -1,8 +1,4 @@
-use Rattle.std.proofs.Common.{length, sym, ◌∙◌}
-use Rattle.cvl_base.specs.Permutes.{all_destinations}
-use Rattle.cvl_base.proofs.Elementwise.{if_as_long-fits}
-use Rattle.cvl_base.proofs.Permutes.{length-all_destinations}
-use Rattle.permute_walks.proofs.EachSent.{all_take_part}
+use Rattle.call_laws.proofs.Cited.{◌∙◌, length, sym, all_destinations, if_as_long-fits, length-all_destinations, all_take_part}
 use Rattle.call_laws.proofs.ByRanges.{over-counted, over-written}
 use Rattle.call_laws.proofs.Sending.{if_as_long-Ok}
 use Rattle.call_laws.proofs.permutes_in_parts.default_permute_by_ranges.Goals as goal

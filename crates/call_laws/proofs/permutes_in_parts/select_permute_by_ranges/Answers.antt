@@ -1,9 +1,4 @@
-use Rattle.std.proofs.Common.{length}
-use Rattle.cvl_base.specs.Packs.{count_of}
-use Rattle.cvl_base.specs.Permutes.{flagged_destinations}
-use Rattle.cvl_base.proofs.Elementwise.{if_as_long-fits}
-use Rattle.cvl_base.proofs.Permutes.{length-flagged_destinations}
-use Rattle.permute_walks.proofs.EachSent.{flagged_take_part}
+use Rattle.call_laws.proofs.Cited.{length, count_of, flagged_destinations, if_as_long-fits, length-flagged_destinations, flagged_take_part}
 use Rattle.call_laws.proofs.ByRanges.{all-counted, all-written}
 use Rattle.call_laws.proofs.Sending.{if_as_long-Ok}
 use Rattle.call_laws.proofs.permutes_in_parts.select_permute_by_ranges.Goals as goal

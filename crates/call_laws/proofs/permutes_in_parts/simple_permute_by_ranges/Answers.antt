@@ -1,8 +1,4 @@
-use Rattle.std.proofs.Common.{length}
-use Rattle.cvl_base.specs.Permutes.{all_destinations}
-use Rattle.cvl_base.proofs.Elementwise.{if_as_long-fits}
-use Rattle.cvl_base.proofs.Permutes.{length-all_destinations}
-use Rattle.permute_walks.proofs.EachSent.{all_take_part}
+use Rattle.call_laws.proofs.Cited.{length, all_destinations, if_as_long-fits, length-all_destinations, all_take_part}
 use Rattle.call_laws.proofs.ByRanges.{all-counted, all-written}
 use Rattle.call_laws.proofs.Sending.{if_as_long-Ok}
 use Rattle.call_laws.proofs.permutes_in_parts.simple_permute_by_ranges.Goals as goal

@@ -1,7 +1,5 @@
-use Rattle.std.proofs.Common.{◌≡◌, ◌++◌, ◌∷◌, [], length, take, refl, sym, ap, ◌∙◌, arith, Some, slice_get}
+use Rattle.call_laws.proofs.Cited.{◌≡◌, ◌++◌, ◌∷◌, ◌∙◌, [], length, take, refl, sym, ap, arith, Some, slice_get, same_Some, fold_of, scan_of}
 use Rattle.std.proofs.lemmas.List.{take_at, length_push}
-use Rattle.std.proofs.lemmas.Option.{same_Some}
-use Rattle.cvl_base.specs.Folds.{fold_of, scan_of}
 use Rattle.operators.proofs.FoldLaws.{fold_of_push, slice_get-scan_of}
 use Rattle.call_laws.proofs.scans.know_reduces.Goals as goal
 

@@ -1,6 +1,4 @@
-use Rattle.std.proofs.Common.{[], ◌∷◌, pos}
-use Rattle.cvl_base.specs.Distributes.{distribute_of, index_of}
-use Rattle.cvl_base.specs.Segmented.{of_three, of_two}
+use Rattle.call_laws.proofs.Cited.{◌∷◌, [], pos, distribute_of, index_of, of_three, of_two}
 use Rattle.call_laws.proofs.Segments.{flat-again}
 use Rattle.call_laws.proofs.segmented.one_segment_made.Goals as goal
 

@@ -1,7 +1,4 @@
-use Rattle.std.proofs.Common.{length, refl, ◌∙◌, [], ◌∷◌}
-use Rattle.cvl_base.specs.Packs.{pack_of}
-use Rattle.cvl_base.specs.Permutes.{simple_of, back_of, select_of, default_of}
-use Rattle.cvl_base.proofs.Elementwise.{if_as_long-fits, if_as_long-misfits}
+use Rattle.call_laws.proofs.Cited.{◌∙◌, ◌∷◌, length, refl, [], pack_of, simple_of, back_of, select_of, default_of, if_as_long-fits, if_as_long-misfits}
 use Rattle.call_laws.proofs.Segments.{nest_one, three-again, two-again}
 use Rattle.call_laws.proofs.segmented.one_segment_moved.Goals as goal
 

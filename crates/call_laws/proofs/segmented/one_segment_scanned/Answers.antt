@@ -1,5 +1,4 @@
-use Rattle.std.proofs.Common.{length, [], ◌∷◌, Ok}
-use Rattle.cvl_base.specs.Folds.{scan_of}
+use Rattle.call_laws.proofs.Cited.{◌∷◌, length, [], Ok, scan_of}
 use Rattle.call_laws.proofs.Segments.{flat-again, nest_one}
 use Rattle.call_laws.proofs.segmented.one_segment_scanned.Goals as goal
 

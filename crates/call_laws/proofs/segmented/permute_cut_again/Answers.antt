@@ -1,7 +1,4 @@
-use Rattle.std.proofs.Common.{length, zip, ◌∙◌}
-use Rattle.cvl_base.specs.Packs.{count_of}
-use Rattle.cvl_base.specs.Permutes.{simple_of, back_of, select_of, default_of}
-use Rattle.cvl_base.specs.Segmented.{in_vector, of_two, of_three}
+use Rattle.call_laws.proofs.Cited.{◌∙◌, length, zip, count_of, simple_of, back_of, select_of, default_of, in_vector, of_two, of_three}
 use Rattle.call_laws.proofs.BackPermutes.{back-meaning}
 use Rattle.call_laws.proofs.CutResults.{counts-given, cut-three, cut-two, has-lengths, map-seconds}
 use Rattle.call_laws.proofs.Selecting.{select-meaning}

@@ -1,14 +1,7 @@
-use Rattle.std.proofs.Common.{◌≡◌, ◌+ℤ◌, ◌*ℤ◌, ℕ, ℤ, List, length, map, zip, refl, pos, negsuc, replicate, sym, ap, Bool, true, false, Ok, ◌∙◌}
-use Rattle.std.specs.List.{range_with_len}
-use Rattle.std.proofs.lemmas.List.{length-replicate, map-id}
-use Rattle.std.proofs.lemmas.List.FromFn.{length-map-range_with_len}
+use Rattle.call_laws.proofs.Cited.{◌≡◌, ◌+ℤ◌, ◌*ℤ◌, ◌∙◌, ◌>>=◌, ℕ, ℤ, List, length, map, zip, refl, pos, negsuc, replicate, sym, ap, Bool, true, false, Ok, range_with_len, length-replicate}
+use Rattle.call_laws.proofs.Cited.{length-map-range_with_len, distribute_of, index_of, replace_of, fault_if, wrap, count_of, pack_of, at_segment, in_vector, of_two, of_three}
+use Rattle.std.proofs.lemmas.List.{map-id}
 use Rattle.cvl_base.specs.declared.fault.Fault.{Fault}
-use Rattle.cvl_base.specs.Distributes.{distribute_of, index_of}
-use Rattle.cvl_base.specs.Extracts.{replace_of}
-use Rattle.cvl_base.specs.Gives.{◌>>=◌, fault_if}
-use Rattle.cvl_base.specs.Integers.{wrap}
-use Rattle.cvl_base.specs.Packs.{count_of, pack_of}
-use Rattle.cvl_base.specs.Segmented.{at_segment, in_vector, of_two, of_three}
 use Rattle.call_laws.proofs.CutResults.{counts-given, cut-three, cut-two, has-lengths, map-firsts, map-seconds}
 use Rattle.call_laws.proofs.ElementPlaces.{replace-meaning}
 use Rattle.call_laws.proofs.Packing.{pack-counted}

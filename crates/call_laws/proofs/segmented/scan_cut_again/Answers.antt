@@ -1,8 +1,4 @@
-use Rattle.std.proofs.Common.{◌≡◌, length, map, sym, ◌∙◌, Ok}
-use mathlib.Core.List.{map-map}
-use Rattle.cvl_base.specs.Folds.{scan_of}
-use Rattle.cvl_base.specs.Segmented.{in_vector}
-use Rattle.operators.proofs.FoldLaws.{length-scan_of}
+use Rattle.call_laws.proofs.Cited.{◌≡◌, ◌∙◌, length, map, sym, Ok, map-map, scan_of, in_vector, length-scan_of}
 use Rattle.call_laws.proofs.CutResults.{cut-again, has-lengths}
 use Rattle.call_laws.proofs.segmented.scan_cut_again.Goals as goal
 

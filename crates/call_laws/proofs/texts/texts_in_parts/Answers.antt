@@ -1,8 +1,7 @@
-use Rattle.std.proofs.Common.{◌≡◌, ℕ, ◌+◌, ◌<◌, ◌≤◌, IsTrue, List, [], ◌∷◌, ◌++◌, length, map, refl, sym, ap, ◌∙◌, arith, append_assoc, codes, length-append, if◌then◌else◌}
+use Rattle.call_laws.proofs.Cited.{◌≡◌, ◌+◌, ◌<◌, ◌≤◌, ◌∷◌, ◌++◌, ◌∙◌, if◌then◌else◌, ℕ, IsTrue, List, [], length, map, refl, sym, ap, arith, append_assoc, length-append, map-append, most_elements}
+use Rattle.std.proofs.Common.{codes}
 use Rattle.std.specs.List.{join_with_byte}
-use Rattle.std.proofs.lemmas.List.{map-append}
 use Rattle.cvl_base.specs.declared.fault.FaultNo.TheVariants.{BadInput}
-use Rattle.cvl_base.specs.Limits.{most_elements}
 use Rattle.line_reader.specs.declared.token.ByteClass.TheVariants.{Blank, Part}
 use Rattle.call_reader.specs.Inputs.{input_class, is_white_space}
 use Rattle.call_reader.proofs.PieceWalk.{few_enough}

@@ -1,10 +1,5 @@
-use Rattle.std.proofs.Common.{pos, ◌+ℤ◌, map, ap, subst, ◌∙◌}
-use Rattle.cvl_base.specs.CheckedSums.{fitting}
+use Rattle.checked_tile_scans.proofs.Cited.{◌+ℤ◌, ◌∙◌, pos, map, ap, subst, fitting, values_from, Gives, flagged, continued_range_scan}
 use Rattle.cvl_base.specs.declared.fault.FaultNo.TheVariants.{Overflow}
-use Rattle.cvl_base.specs.Elementwise.{values_from}
-use Rattle.cvl_base.specs.Gives.{Gives}
-use Rattle.tile_scans.specs.TiledSums.{flagged}
-use Rattle.tile_scans.proofs.RangeScans.{continued_range_scan}
 use Rattle.checked_tile_scans.specs.Checked.{total_scan}
 use Rattle.checked_tile_scans.proofs.checked.checked_scan.Goals as goal
 

@@ -1,8 +1,5 @@
-use Rattle.std.proofs.Common.{ℤ, List, map, sym, ap, subst, ◌∙◌}
-use Rattle.cvl_base.specs.CheckedSums.{fitting}
+use Rattle.checked_tile_scans.proofs.Cited.{◌∙◌, ℤ, List, map, sym, ap, subst, fitting, values_from, Gives}
 use Rattle.cvl_base.specs.declared.fault.FaultNo.TheVariants.{Overflow}
-use Rattle.cvl_base.specs.Elementwise.{values_from}
-use Rattle.cvl_base.specs.Gives.{Gives}
 use Rattle.scan_walks.proofs.Valued.{sums_valued}
 use Rattle.checked_tile_scans.specs.Checked.{segment_totals}
 use Rattle.checked_tile_scans.proofs.checked.checked_seg_reduce.Goals as goal

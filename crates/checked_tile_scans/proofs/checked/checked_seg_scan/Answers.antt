@@ -1,12 +1,7 @@
-use Rattle.std.proofs.Common.{pos, map, sym, ap, subst, ◌∙◌}
-use Rattle.cvl_base.specs.CheckedSums.{fitting}
+use Rattle.checked_tile_scans.proofs.Cited.{◌∙◌, pos, map, sym, ap, subst, fitting, values_from, Gives, all_whole, whole_laws, flagged}
 use Rattle.cvl_base.specs.declared.fault.FaultNo.TheVariants.{Overflow}
-use Rattle.cvl_base.specs.Elementwise.{values_from}
-use Rattle.cvl_base.specs.Gives.{Gives}
 use Rattle.scan_walks.proofs.Cut.{segments_scanned}
 use Rattle.scan_walks.proofs.Valued.{scans_valued}
-use Rattle.scan_walks.proofs.WholeSums.{all_whole, whole_laws}
-use Rattle.tile_scans.specs.TiledSums.{flagged}
 use Rattle.checked_tile_scans.specs.Checked.{total_scan}
 use Rattle.checked_tile_scans.proofs.checked.checked_seg_scan.Goals as goal
 

@@ -1,8 +1,4 @@
-use Rattle.std.proofs.Common.{◌∙◌, None, Some, sym}
-use Rattle.std.specs.Option.{option_copied}
-use Rattle.cvl_base.specs.ItemWords.{is_number}
-use Rattle.tile_scans.proofs.Flagged.{tiled}
-use Rattle.tile_scans.specs.TiledSums.{flagged}
+use Rattle.checked_tile_scans.proofs.Cited.{◌∙◌, None, Some, sym, option_copied, is_number, tiled, flagged}
 use Rattle.checked_tile_scans.specs.Checked.{total_scan}
 use Rattle.checked_tile_scans.proofs.Outsides.{first_told}
 use Rattle.checked_tile_scans.proofs.TileFronts.{length-total_scan}

@@ -1,10 +1,4 @@
-use Rattle.std.proofs.Common.{◌∙◌, pos, map, ap, sym, Err, Ok}
-use Rattle.std.specs.Option.{option_copied}
-use Rattle.cvl_base.specs.Integers.{sum_of, wrap}
-use Rattle.cvl_base.specs.ItemWords.{is_number}
-use Rattle.tile_scans.proofs.Flagged.{tiled}
-use Rattle.tile_scans.specs.TiledSums.{flagged, sums_of}
-use Rattle.tile_scans.specs.Written.{befores_of}
+use Rattle.checked_tile_scans.proofs.Cited.{◌∙◌, pos, map, ap, sym, Err, Ok, option_copied, sum_of, wrap, is_number, tiled, flagged, sums_of, befores_of}
 use Rattle.checked_tile_scans.specs.Checked.{total_scan}
 use Rattle.checked_tile_scans.proofs.Outsides.{overflow_meant}
 use Rattle.checked_tile_scans.proofs.TileFronts.{scan_meant}

@@ -1,9 +1,5 @@
-use Rattle.std.proofs.Common.{◌≤◌, length, map, ap, sym, ◌∙◌, arith, Ok, Err}
-use Rattle.std.proofs.lemmas.List.{length-map}
+use Rattle.checked_tile_scans.proofs.Cited.{◌≤◌, ◌∙◌, length, map, ap, sym, arith, Ok, Err, length-map, fitting, wrap, most_elements}
 use Rattle.std.proofs.Math.Facts.{Fits-below}
-use Rattle.cvl_base.specs.CheckedSums.{fitting}
-use Rattle.cvl_base.specs.Integers.{wrap}
-use Rattle.cvl_base.specs.Limits.{most_elements}
 use Rattle.checked_tile_scans.specs.Checked.{segment_totals}
 use Rattle.checked_tile_scans.proofs.FirstWithout.{all_fit, fails_first, found_within}
 use Rattle.checked_tile_scans.proofs.SegmentTotals.{length-segment_totals}

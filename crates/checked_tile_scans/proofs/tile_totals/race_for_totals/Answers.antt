@@ -1,6 +1,4 @@
-use Rattle.std.specs.Option.{option_copied}
-use Rattle.cvl_base.specs.ItemWords.{is_number}
-use Rattle.tile_scans.proofs.Flagged.{tiled}
+use Rattle.checked_tile_scans.proofs.Cited.{option_copied, is_number, tiled}
 use Rattle.checked_tile_scans.proofs.WholeSums.{exact_befores}
 use Rattle.checked_tile_scans.proofs.tile_totals.race_for_totals.Goals as goal
 

@@ -1,6 +1,4 @@
-use Rattle.std.proofs.Common.{arith}
-use Rattle.std.proofs.lemmas.Int.{to_z-of_z}
-use Rattle.std.proofs.lemmas.List.Sums.{fold_more}
+use Rattle.scan_walks.proofs.Cited.{arith, to_z-of_z, fold_more}
 use Rattle.scan_walks.proofs.blocks.look_at.Goals as goal
 
 pub loop-x-preserved : goal.loop-x-preserved

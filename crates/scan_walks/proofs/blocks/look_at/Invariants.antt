@@ -1,6 +1,4 @@
-use Rattle.std.proofs.Common.{◌≡◌, pos, take}
-use Rattle.cvl_base.specs.Folds.{fold_of}
-use Rattle.cvl_base.specs.Integers.{greater_of, lesser_of, sum_of}
+use Rattle.scan_walks.proofs.Cited.{◌≡◌, pos, take, fold_of, greater_of, lesser_of, sum_of}
 use Rattle.scan_walks.proofs.blocks.look_at.Given as goal
 
 abbrev pub invariant-loop-x : goal.invariant-loop-x

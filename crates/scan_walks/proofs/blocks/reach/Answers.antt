@@ -1,5 +1,4 @@
-use Rattle.std.proofs.Common.{◌≡◌, ◌+ℤ◌, ◌*ℤ◌, to_z, of_z, w64, arith}
-use Rattle.std.proofs.lemmas.Int.{to_z-of_z}
+use Rattle.scan_walks.proofs.Cited.{◌≡◌, ◌+ℤ◌, ◌*ℤ◌, to_z, of_z, w64, arith, to_z-of_z}
 use Rattle.scan_walks.proofs.BlockLaws.{reaches}
 use Rattle.scan_walks.proofs.blocks.reach.Goals as goal
 

@@ -1,7 +1,4 @@
-use Rattle.std.proofs.Common.{◌≡◌, ◌∙◌, pos, ◌+ℤ◌, to_z, of_z, w32, w64, get_or, sym, ap, arith}
-use Rattle.std.proofs.lemmas.Int.{to_z-of_z}
-use Rattle.std.proofs.lemmas.List.Sums.{fold_more}
-use Rattle.cvl_base.specs.Folds.{scan_of}
+use Rattle.scan_walks.proofs.Cited.{◌≡◌, ◌∙◌, ◌+ℤ◌, pos, to_z, of_z, w32, w64, get_or, sym, ap, arith, to_z-of_z, fold_more, scan_of}
 use Rattle.scan_walks.specs.Fronts.{fitting_front}
 use Rattle.scan_walks.proofs.FrontLaws.{fitting-is, front_goes_on, front_stops}
 use Rattle.scan_walks.proofs.blocks.sum_one_by_one.Goals as goal

@@ -1,5 +1,4 @@
-use Rattle.std.proofs.Common.{◌≡◌, ◌+◌, ◌+ℤ◌, drop, take}
-use Rattle.cvl_base.specs.Folds.{fold_of, scan_of}
+use Rattle.scan_walks.proofs.Cited.{◌≡◌, ◌+◌, ◌+ℤ◌, drop, take, fold_of, scan_of}
 use Rattle.scan_walks.specs.Fronts.{fitting_front}
 use Rattle.scan_walks.proofs.blocks.sum_one_by_one.Given as goal
 

@@ -1,6 +1,4 @@
-use Rattle.std.proofs.Common.{◌≡◌, ◌∙◌, pos, ◌+ℤ◌, ◌*ℤ◌, to_z, of_z, w32, true, subst, arith}
-use Rattle.std.proofs.lemmas.Int.{to_z-of_z}
-use Rattle.operators.specs.ItemWords.{is_number}
+use Rattle.scan_walks.proofs.Cited.{◌≡◌, ◌∙◌, ◌+ℤ◌, ◌*ℤ◌, pos, to_z, of_z, w32, true, subst, arith, to_z-of_z, is_number}
 use Rattle.scan_walks.proofs.BlockLaws.{block_walked}
 use Rattle.scan_walks.proofs.blocks.sum_within.Goals as goal
 

@@ -1,4 +1,4 @@
-use Rattle.std.proofs.Common.{◌∙◌, Err, ap, sym}
+use Rattle.scan_walks.proofs.Cited.{◌∙◌, Err, ap, sym}
 use Rattle.scan_walks.proofs.Fitted.{scan_fits, scan_overflows}
 use Rattle.scan_walks.proofs.checked.check_scan.Goals as goal
 

@@ -1,6 +1,4 @@
-use Rattle.std.proofs.Common.{◌∙◌, ◌+ℤ◌, ap, Err, pos, sym}
-use Rattle.cvl_base.specs.Integers.{sum_of}
-use Rattle.range_walks.specs.Ranges.{scans_of}
+use Rattle.scan_walks.proofs.Cited.{◌∙◌, ◌+ℤ◌, ap, Err, pos, sym, sum_of, scans_of}
 use Rattle.scan_walks.specs.Fronts.{fitting_front}
 use Rattle.scan_walks.proofs.Fitted.{scans_fit, scans_overflow}
 use Rattle.scan_walks.proofs.Segmented.{seg_scan-fits}

@@ -1,14 +1,6 @@
-use Rattle.std.proofs.Common.{◌≡◌, ◌∙◌, ◌∷◌, [], ◌++◌, to_z, of_z, w32, Err, length, drop, refl, sym, take, ap, arith}
-use Rattle.std.specs.Option.{ok_or}
-use Rattle.std.proofs.lemmas.Int.{to_z-of_z}
-use Rattle.std.proofs.lemmas.List.{drop-drop, length-drop}
-use Rattle.cvl_base.specs.CheckedSums.{checked_reduce_of, fitting}
-use Rattle.cvl_base.specs.Exact.{total_of}
-use Rattle.cvl_base.specs.Faults.{fault_at}
-use Rattle.cvl_base.specs.Segmented.{at_segment, one_each}
+use Rattle.scan_walks.proofs.Cited.{◌≡◌, ◌∙◌, ◌∷◌, ◌++◌, [], to_z, of_z, w32, Err, length, drop, refl, sym, take, ap, arith, ok_or, to_z-of_z, drop-drop, length-drop, checked_reduce_of, fitting}
+use Rattle.scan_walks.proofs.Cited.{total_of, fault_at, at_segment, one_each, length-cut, nest-fits, start_of}
 use Rattle.cvl_base.specs.declared.fault.FaultNo.TheVariants.{Overflow}
-use Rattle.cvl_base.proofs.Nests.{length-cut, nest-fits}
-use Rattle.segdes.specs.Starts.{start_of}
 use Rattle.scan_walks.proofs.Parts.{IsSegment, ends_within, part, starts_more}
 use Rattle.scan_walks.proofs.Walk.{all_done, begins, fails, one_more, singles}
 use Rattle.scan_walks.proofs.checked.checked_seg_reduce_vec.Goals as goal

@@ -1,8 +1,5 @@
-use Rattle.std.proofs.Common.{◌≡◌, drop, length, vec_len, vec_capacity}
-use Rattle.cvl_base.specs.CheckedSums.{checked_reduce_of, checked_seg_reduce_of}
-use Rattle.cvl_base.specs.Nests.{cut_of}
-use Rattle.cvl_base.specs.Segmented.{at_segment}
-use Rattle.segdes.specs.Starts.{start_of}
+use Rattle.scan_walks.proofs.Cited.{◌≡◌, drop, length, checked_reduce_of, checked_seg_reduce_of, cut_of, at_segment, start_of}
+use Rattle.std.proofs.Common.{vec_len, vec_capacity}
 use Rattle.scan_walks.proofs.Walk.{Walked, single}
 use Rattle.scan_walks.proofs.checked.checked_seg_reduce_vec.Given as goal
 

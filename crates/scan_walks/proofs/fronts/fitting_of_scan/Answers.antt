@@ -1,6 +1,4 @@
-use Rattle.std.proofs.Common.{◌≡◌, ◌∙◌, ◌+◌, ◌+ℤ◌, to_z, of_z, w64, length, refl, ap, arith}
-use Rattle.std.proofs.lemmas.Int.{to_z-of_z}
-use Rattle.cvl_base.specs.Folds.{scan_of}
+use Rattle.scan_walks.proofs.Cited.{◌≡◌, ◌∙◌, ◌+◌, ◌+ℤ◌, to_z, of_z, w64, length, refl, ap, arith, to_z-of_z, scan_of}
 use Rattle.scan_walks.specs.Fronts.{fitting_front}
 use Rattle.scan_walks.proofs.FrontLaws.{block_passes, block_stops}
 use Rattle.scan_walks.proofs.fronts.fitting_of_scan.Goals as goal

@@ -1,5 +1,4 @@
-use Rattle.std.proofs.Common.{◌≡◌, ◌+◌, ◌+ℤ◌, length}
-use Rattle.cvl_base.specs.Folds.{scan_of}
+use Rattle.scan_walks.proofs.Cited.{◌≡◌, ◌+◌, ◌+ℤ◌, length, scan_of}
 use Rattle.scan_walks.specs.Fronts.{fitting_front}
 use Rattle.scan_walks.proofs.fronts.fitting_of_scan.Given as goal
 

@@ -1,4 +1,4 @@
-use Rattle.std.proofs.Common.{◌≡◌, ◌∙◌, ◌<◌, [], ◌∷◌, ◌++◌, IsTrue, arith, true, get_or, length, rules, subst, sym}
+use Rattle.scan_walks.proofs.Cited.{◌≡◌, ◌∙◌, ◌<◌, ◌∷◌, ◌++◌, [], IsTrue, arith, true, get_or, length, rules, subst, sym}
 use Rattle.std.proofs.lemmas.List.{take_more_set}
 use Rattle.std.proofs.lemmas.List.Elements.{All-get_or}
 use Rattle.operators.proofs.FoldLaws.{scan_of_more}

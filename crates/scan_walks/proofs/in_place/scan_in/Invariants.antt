@@ -1,5 +1,4 @@
-use Rattle.std.proofs.Common.{◌≡◌, IsTrue, drop, take}
-use Rattle.cvl_base.specs.Folds.{fold_of, scan_of}
+use Rattle.scan_walks.proofs.Cited.{◌≡◌, IsTrue, drop, take, fold_of, scan_of}
 use Rattle.scan_walks.proofs.in_place.scan_in.Given as goal
 
 abbrev pub invariant-loop-place : goal.invariant-loop-place

@@ -1,6 +1,4 @@
-use Rattle.std.proofs.Common.{◌≡◌, ◌+◌, ◌-◌, ◌≤◌, ℕ, true, arith, drop, length, rules, subst, sym, take}
-use Rattle.std.specs.List.{AllPass}
-use Rattle.std.proofs.lemmas.List.Elements.{All-drop, All-take}
+use Rattle.scan_walks.proofs.Cited.{◌≡◌, ◌+◌, ◌-◌, ◌≤◌, ℕ, true, arith, drop, length, rules, subst, sym, take, AllPass, All-drop, All-take}
 use Rattle.scan_walks.proofs.InPlace.{scanning_more, segment_fits}
 use Rattle.scan_walks.proofs.in_place.scans_in.Goals as goal
 

@@ -1,4 +1,4 @@
-use Rattle.std.proofs.Common.{◌∙◌, Ok, ap, sym}
+use Rattle.scan_walks.proofs.Cited.{◌∙◌, Ok, ap, sym}
 use Rattle.scan_walks.proofs.Segmented.{seg_scan-fits}
 use Rattle.scan_walks.proofs.in_place.seg_scan_in.Goals as goal
 

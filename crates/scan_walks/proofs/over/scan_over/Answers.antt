@@ -1,7 +1,4 @@
-use Rattle.std.proofs.Common.{◌≡◌, ◌∙◌, Err, ap, arith, length, sym}
-use Rattle.cvl_base.specs.Folds.{scan_of}
-use Rattle.cvl_base.proofs.Rooms.{differs, told}
-use Rattle.operators.proofs.FoldLaws.{length-scan_of}
+use Rattle.scan_walks.proofs.Cited.{◌≡◌, ◌∙◌, Err, ap, arith, length, sym, scan_of, differs, told, length-scan_of}
 use Rattle.scan_walks.proofs.over.scan_over.Goals as goal
 
 pub returns-in_err-check_agree : goal.returns-in_err-check_agree

@@ -1,8 +1,4 @@
-use Rattle.std.proofs.Common.{◌≡◌, ◌∙◌, Err, Ok, ap, arith, length, map, sym, unsigned_abs}
-use Rattle.std.proofs.lemmas.List.{length-map}
-use Rattle.cvl_base.specs.Rooms.{in_room}
-use Rattle.cvl_base.proofs.Rooms.{differs, fits, told}
-use Rattle.range_walks.specs.Ranges.{reduces_of}
+use Rattle.scan_walks.proofs.Cited.{◌≡◌, ◌∙◌, Err, Ok, ap, arith, length, map, sym, unsigned_abs, length-map, in_room, differs, fits, told, reduces_of}
 use Rattle.scan_walks.proofs.Segmented.{length-reduces_of, seg_reduce-fits}
 use Rattle.scan_walks.proofs.over.seg_reduce_readings_over.Goals as goal
 

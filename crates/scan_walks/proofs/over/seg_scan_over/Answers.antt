@@ -1,8 +1,4 @@
-use Rattle.std.proofs.Common.{◌≡◌, ◌∙◌, Err, Ok, ap, arith, length, map, sym, unsigned_abs}
-use Rattle.cvl_base.specs.Rooms.{in_room}
-use Rattle.cvl_base.proofs.Rooms.{differs, fits, told}
-use Rattle.range_walks.specs.Ranges.{scans_of}
-use Rattle.range_walks.proofs.Segments.{length-scans_of}
+use Rattle.scan_walks.proofs.Cited.{◌≡◌, ◌∙◌, Err, Ok, ap, arith, length, map, sym, unsigned_abs, in_room, differs, fits, told, scans_of, length-scans_of}
 use Rattle.scan_walks.proofs.Segmented.{seg_scan-fits}
 use Rattle.scan_walks.proofs.over.seg_scan_over.Goals as goal
 

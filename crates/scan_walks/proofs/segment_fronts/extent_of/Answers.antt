@@ -1,7 +1,4 @@
-use Rattle.std.proofs.Common.{map, unsigned_abs, arith}
-use Rattle.std.proofs.lemmas.Int.{to_z-of_z}
-use Rattle.std.proofs.lemmas.List.Sums.{fold_more, sum_by_more}
-use Rattle.range_walks.proofs.Segments.{length_fits, segment_read}
+use Rattle.scan_walks.proofs.Cited.{map, unsigned_abs, arith, to_z-of_z, fold_more, sum_by_more, length_fits, segment_read}
 use Rattle.scan_walks.proofs.segment_fronts.extent_of.Goals as goal
 
 pub overflow_cast-total : goal.overflow_cast-total

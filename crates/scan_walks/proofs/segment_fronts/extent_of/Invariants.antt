@@ -1,7 +1,4 @@
-use Rattle.std.proofs.Common.{◌≡◌, pos, take, map, unsigned_abs}
-use Rattle.std.specs.Prelude.{sum}
-use Rattle.cvl_base.specs.Folds.{fold_of}
-use Rattle.cvl_base.specs.Integers.{greater_of}
+use Rattle.scan_walks.proofs.Cited.{◌≡◌, pos, take, map, unsigned_abs, sum, fold_of, greater_of}
 use Rattle.scan_walks.proofs.segment_fronts.extent_of.Given as goal
 
 abbrev pub invariant-loop-length : goal.invariant-loop-length

@@ -1,5 +1,5 @@
-use Rattle.std.proofs.Common.{◌∙◌, ◌+◌, ◌+ℤ◌, pos, map, unsigned_abs, refl, ap, arith}
-use Rattle.range_walks.proofs.Segments.{length_fits, segment_read, one_long, one_scanned, read_at}
+use Rattle.scan_walks.proofs.Cited.{◌∙◌, ◌+◌, ◌+ℤ◌, pos, map, unsigned_abs, refl, ap, arith, length_fits, segment_read}
+use Rattle.range_walks.proofs.Segments.{one_long, one_scanned, read_at}
 use Rattle.scan_walks.specs.Fronts.{fitting_front}
 use Rattle.scan_walks.proofs.FrontLaws.{segments_go_on, segments_stop}
 use Rattle.scan_walks.proofs.segment_fronts.fitting_of_each.Goals as goal

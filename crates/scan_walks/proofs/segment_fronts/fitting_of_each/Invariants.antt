@@ -1,4 +1,4 @@
-use Rattle.std.proofs.Common.{map, unsigned_abs}
+use Rattle.scan_walks.proofs.Cited.{map, unsigned_abs}
 use Rattle.scan_walks.proofs.FrontLaws.{FitSoFar}
 use Rattle.scan_walks.proofs.segment_fronts.fitting_of_each.Given as goal
 

@@ -1,8 +1,4 @@
-use Rattle.std.proofs.Common.{◌≡◌, ◌∙◌, pos, ◌+ℤ◌, ◌*ℤ◌, to_z, of_z, w32, true, map, unsigned_abs, sym, ap, subst, arith}
-use Rattle.std.proofs.lemmas.Int.{to_z-of_z}
-use Rattle.cvl_base.specs.Folds.{fold_of}
-use Rattle.cvl_base.specs.Integers.{greater_of}
-use Rattle.operators.specs.ItemWords.{is_number}
+use Rattle.scan_walks.proofs.Cited.{◌≡◌, ◌∙◌, ◌+ℤ◌, ◌*ℤ◌, pos, to_z, of_z, w32, true, map, unsigned_abs, sym, ap, subst, arith, to_z-of_z, fold_of, greater_of, is_number}
 use Rattle.scan_walks.proofs.BlockLaws.{segments_fit}
 use Rattle.scan_walks.proofs.segment_fronts.fitting_of_group.Goals as goal
 

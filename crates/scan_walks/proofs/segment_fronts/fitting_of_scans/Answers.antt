@@ -1,6 +1,4 @@
-use Rattle.std.proofs.Common.{◌∙◌, ◌-◌, ◌+ℤ◌, pos, map, unsigned_abs, ap, arith}
-use Rattle.std.specs.Prelude.{sum}
-use Rattle.range_walks.specs.Ranges.{scans_of}
+use Rattle.scan_walks.proofs.Cited.{◌∙◌, ◌-◌, ◌+ℤ◌, pos, map, unsigned_abs, ap, arith, sum, scans_of}
 use Rattle.range_walks.proofs.Segments.{range_lengths, range_read}
 use Rattle.scan_walks.specs.Fronts.{fitting_front}
 use Rattle.scan_walks.proofs.FrontLaws.{segments_go_on, segments_stop}

@@ -1,7 +1,6 @@
-use Rattle.std.proofs.Common.{◌-◌, Ok, arith, drop, length, map, sym, ap, ◌∙◌}
-use Rattle.std.proofs.lemmas.List.{length-map, length-take, take_all}
+use Rattle.scan_walks.proofs.Cited.{◌-◌, ◌∙◌, Ok, arith, drop, length, map, sym, ap, length-map, length-take, reduces_of}
+use Rattle.std.proofs.lemmas.List.{take_all}
 use Rattle.fresh.proofs.Written.{all_written}
-use Rattle.range_walks.specs.Ranges.{reduces_of}
 use Rattle.scan_walks.proofs.Segmented.{length-reduces_of, seg_reduce-fits}
 use Rattle.scan_walks.proofs.vectors.seg_reduce_vec.Goals as goal
 

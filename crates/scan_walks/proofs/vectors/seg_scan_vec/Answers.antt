@@ -1,4 +1,4 @@
-use Rattle.std.proofs.Common.{Ok, sym, ap, ◌∙◌}
+use Rattle.scan_walks.proofs.Cited.{◌∙◌, Ok, sym, ap}
 use Rattle.range_walks.proofs.Cut.{whole_scanned}
 use Rattle.scan_walks.proofs.Segmented.{seg_scan-fits}
 use Rattle.scan_walks.proofs.vectors.seg_scan_vec.Goals as goal

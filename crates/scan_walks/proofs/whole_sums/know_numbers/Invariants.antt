@@ -1,5 +1,5 @@
-use Rattle.std.proofs.Common.{◌≡◌, ℕ, ℤ, ◌<◌, true, slice_index_or}
-use Rattle.cvl_base.specs.ItemWords.{is_number}
+use Rattle.scan_walks.proofs.Cited.{◌≡◌, ◌<◌, ℕ, ℤ, true, is_number}
+use Rattle.std.proofs.Common.{slice_index_or}
 use Rattle.scan_walks.proofs.whole_sums.know_numbers.Given as goal
 
 abbrev pub invariant-loop-x : goal.invariant-loop-x

@@ -1,5 +1,4 @@
-use Rattle.std.proofs.Common.{◌≡◌, ◌∙◌, true, false, pos, ◌+ℤ◌, to_z, of_z, w64, sym, ap, arith}
-use Rattle.std.proofs.lemmas.Int.{to_z-of_z}
+use Rattle.scan_walks.proofs.Cited.{◌≡◌, ◌∙◌, ◌+ℤ◌, true, false, pos, to_z, of_z, w64, sym, ap, arith, to_z-of_z}
 use Rattle.range_walks.proofs.LastStart.{last_range_summed, range_summed}
 use Rattle.scan_walks.proofs.WholeSums.{all_whole, whole_laws}
 use Rattle.scan_walks.proofs.whole_sums.total_of_range.Goals as goal

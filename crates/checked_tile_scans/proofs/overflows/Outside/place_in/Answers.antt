@@ -1,8 +1,4 @@
-use Rattle.std.proofs.Common.{◌∙◌, length, ap, arith}
-use Rattle.std.specs.Option.{option_copied}
-use Rattle.cvl_base.specs.ItemWords.{is_number}
-use Rattle.tile_scans.proofs.Flagged.{tiled}
-use Rattle.tile_scans.specs.TiledSums.{flagged}
+use Rattle.checked_tile_scans.proofs.Cited.{◌∙◌, length, ap, arith, option_copied, is_number, tiled, flagged}
 use Rattle.checked_tile_scans.proofs.SegmentTotals.{length-totals_before}
 use Rattle.checked_tile_scans.proofs.TileFronts.{none_there, outside_there, tile_front}
 use Rattle.checked_tile_scans.proofs.overflows.Outside.place_in.Goals as goal

@@ -1,6 +1,4 @@
-use Rattle.std.proofs.Common.{arith, sym, ◌∙◌}
-use Rattle.std.specs.Option.{option_copied}
-use Rattle.tile_scans.specs.TiledSums.{flagged}
+use Rattle.checked_tile_scans.proofs.Cited.{◌∙◌, arith, sym, option_copied, flagged}
 use Rattle.checked_tile_scans.proofs.TileFronts.{length-slots}
 use Rattle.checked_tile_scans.proofs.overflows.OutsideTargets.places.Goals as goal
 

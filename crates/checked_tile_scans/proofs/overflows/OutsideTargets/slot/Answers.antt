@@ -1,6 +1,4 @@
-use Rattle.std.proofs.Common.{arith, ap, sym, ◌∙◌, option_map}
-use Rattle.std.specs.Option.{option_copied}
-use Rattle.tile_scans.specs.TiledSums.{flagged}
+use Rattle.checked_tile_scans.proofs.Cited.{◌∙◌, arith, ap, sym, option_map, option_copied, flagged}
 use Rattle.checked_tile_scans.proofs.TileFronts.{length-slots, slot_there}
 use Rattle.checked_tile_scans.proofs.overflows.OutsideTargets.slot.Goals as goal
 

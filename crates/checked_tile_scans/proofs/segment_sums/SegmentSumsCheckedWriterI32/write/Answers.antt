@@ -1,11 +1,5 @@
-use Rattle.std.proofs.Common.{◌≡◌, ℕ, ◌+◌, ◌-◌, ◌<◌, to_z, of_z, w32, w64, arith, length, map, get_or, pos, ap, sym, ◌∙◌, None}
-use Rattle.std.proofs.lemmas.Int.{to_z-of_z}
-use Rattle.std.proofs.lemmas.List.{get_or-map, length-map}
-use Rattle.cvl_base.specs.CheckedSums.{fitting}
-use Rattle.cvl_base.specs.Integers.{wrap}
-use Rattle.fresh.specs.Found.{first_without}
-use Rattle.fresh.specs.Parts.{part}
-use Rattle.tile_scans.proofs.WrittenParts.{next_is}
+use Rattle.checked_tile_scans.proofs.Cited.{◌≡◌, ◌+◌, ◌-◌, ◌<◌, ◌∙◌, ℕ, to_z, of_z, w32, w64, arith, length, map, get_or, pos, ap, sym, None, to_z-of_z, get_or-map, length-map, fitting, wrap}
+use Rattle.checked_tile_scans.proofs.Cited.{first_without, part, next_is}
 use Rattle.checked_tile_scans.specs.Checked.{segment_totals}
 use Rattle.checked_tile_scans.proofs.FirstWithout.{found_more, one_more_written}
 use Rattle.checked_tile_scans.proofs.SegmentTotals.{length-segment_totals}

@@ -1,9 +1,4 @@
-use Rattle.std.proofs.Common.{◌≡◌, ◌-◌, map}
-use Rattle.cvl_base.specs.CheckedSums.{fitting}
-use Rattle.cvl_base.specs.Integers.{wrap}
-use Rattle.fresh.specs.Found.{first_without}
-use Rattle.fresh.specs.Parts.{part}
-use Rattle.tile_scans.proofs.WrittenParts.{IsWrittenPart}
+use Rattle.checked_tile_scans.proofs.Cited.{◌≡◌, ◌-◌, map, fitting, wrap, first_without, part, IsWrittenPart}
 use Rattle.checked_tile_scans.specs.Checked.{segment_totals}
 use Rattle.checked_tile_scans.proofs.segment_sums.SegmentSumsCheckedWriterI32.write.Given as goal
 

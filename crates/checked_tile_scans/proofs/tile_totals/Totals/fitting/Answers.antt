@@ -1,12 +1,7 @@
-use Rattle.std.proofs.Common.{◌≡◌, ◌∙◌, pos, ◌+ℤ◌, to_z, of_z, w64, slice_range, ap, sym, arith}
-use Rattle.std.specs.Option.{option_copied}
-use Rattle.std.proofs.lemmas.Int.{to_z-of_z}
+use Rattle.checked_tile_scans.proofs.Cited.{◌≡◌, ◌∙◌, ◌+ℤ◌, pos, to_z, of_z, w64, slice_range, ap, sym, arith, option_copied, to_z-of_z, fitting_front, range_scan_of, flagged, cut_range, flat_range}
+use Rattle.checked_tile_scans.proofs.Cited.{continued_range_scan}
 use Rattle.cvl_base.specs.Folds.{scan_of}
-use Rattle.scan_walks.specs.Fronts.{fitting_front}
-use Rattle.scan_walks.specs.Ranges.{range_between, range_scan_of}
-use Rattle.tile_scans.specs.TiledSums.{flagged}
-use Rattle.tile_scans.proofs.Flagged.{cut_range, flat_range}
-use Rattle.tile_scans.proofs.RangeScans.{continued_range_scan}
+use Rattle.scan_walks.specs.Ranges.{range_between}
 use Rattle.checked_tile_scans.proofs.tile_totals.Totals.fitting.Goals as goal
 
 pub returns-in-None : goal.returns-in-None

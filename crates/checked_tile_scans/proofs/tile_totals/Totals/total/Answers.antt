@@ -1,9 +1,4 @@
-use Rattle.std.proofs.Common.{◌≡◌, ◌∙◌, false, pos, ◌+ℤ◌, to_z, of_z, w64, slice_range, ap, sym, arith}
-use Rattle.std.specs.Option.{option_copied}
-use Rattle.std.proofs.lemmas.Int.{to_z-of_z}
-use Rattle.scan_walks.proofs.LastStart.{continued_summed}
-use Rattle.tile_scans.specs.TiledSums.{flagged}
-use Rattle.tile_scans.proofs.Flagged.{cut_range, flat_range}
+use Rattle.checked_tile_scans.proofs.Cited.{◌≡◌, ◌∙◌, ◌+ℤ◌, false, pos, to_z, of_z, w64, slice_range, ap, sym, arith, option_copied, to_z-of_z, continued_summed, flagged, cut_range, flat_range}
 use Rattle.checked_tile_scans.specs.Checked.{total_since}
 use Rattle.checked_tile_scans.proofs.tile_totals.Totals.total.Goals as goal
 

@@ -1,8 +1,5 @@
-use Rattle.std.proofs.Common.{◌∙◌, length, ap, arith}
-use Rattle.std.specs.Option.{option_copied}
+use Rattle.checked_tile_scans.proofs.Cited.{◌∙◌, length, ap, arith, option_copied, is_number, flagged}
 use Rattle.std.proofs.lemmas.List.Sums.{AllPass-from_list_all}
-use Rattle.cvl_base.specs.ItemWords.{is_number}
-use Rattle.tile_scans.specs.TiledSums.{flagged}
 use Rattle.checked_tile_scans.proofs.SegmentTotals.{length-totals_before, parts_summed}
 use Rattle.checked_tile_scans.proofs.tile_totals.Totals.total_between.Goals as goal
 

@@ -1,11 +1,5 @@
-use Rattle.std.proofs.Common.{arith, sym, pos, ◌∙◌}
-use Rattle.std.specs.Option.{option_copied}
-use Rattle.operators.specs.ExactLaws.{exact_laws}
-use Rattle.cvl_base.specs.Exact.{exact_sum_of}
-use Rattle.cvl_base.specs.ItemWords.{is_number}
-use Rattle.tile_scans.proofs.Flagged.{tiled}
-use Rattle.tile_scans.specs.TiledSums.{flagged}
-use Rattle.tile_scans.proofs.SumsOfTiles.{length-sums_of, sums_pass}
+use Rattle.checked_tile_scans.proofs.Cited.{◌∙◌, arith, sym, pos, option_copied, exact_laws, exact_sum_of, is_number, tiled, flagged, length-sums_of}
+use Rattle.tile_scans.proofs.SumsOfTiles.{sums_pass}
 use Rattle.checked_tile_scans.proofs.WholeSums.{worded}
 use Rattle.checked_tile_scans.proofs.tile_totals.TotalsTiles.count.Goals as goal
 

@@ -1,12 +1,6 @@
-use Rattle.std.proofs.Common.{◌-◌, ◌<◌, ◌≤◌, arith, sym, length, pos, drop, ◌∙◌}
-use Rattle.std.specs.Option.{option_copied}
-use Rattle.std.proofs.lemmas.List.{length-drop, length-take}
-use Rattle.cvl_base.specs.Exact.{exact_sum_of}
-use Rattle.cvl_base.specs.ItemWords.{is_number}
-use Rattle.tile_plan.specs.Ranges.{range_of, tile_count}
-use Rattle.tile_scans.proofs.Flagged.{tiled}
-use Rattle.tile_scans.specs.TiledSums.{flagged, tile_of}
-use Rattle.tile_scans.proofs.SumsOfTiles.{length-sums_of, sum_at, tile_passes}
+use Rattle.checked_tile_scans.proofs.Cited.{◌-◌, ◌<◌, ◌≤◌, ◌∙◌, arith, sym, length, pos, drop, option_copied, length-drop, length-take, exact_sum_of, is_number, range_of, tile_count, tiled, flagged}
+use Rattle.checked_tile_scans.proofs.Cited.{tile_of, length-sums_of}
+use Rattle.tile_scans.proofs.SumsOfTiles.{sum_at, tile_passes}
 use Rattle.checked_tile_scans.proofs.WholeSums.{exact_total}
 use Rattle.checked_tile_scans.proofs.tile_totals.TotalsTiles.sum.Goals as goal
 

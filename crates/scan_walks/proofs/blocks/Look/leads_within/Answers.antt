@@ -1,6 +1,4 @@
-use Rattle.std.proofs.Common.{◌≡◌, ◌∙◌, ◌+ℤ◌, ◌*ℤ◌, to_z, of_z, w64, sym, ap, arith}
-use Rattle.std.specs.Option.{is_some}
-use Rattle.std.proofs.lemmas.Int.{to_z-of_z}
+use Rattle.scan_walks.proofs.Cited.{◌≡◌, ◌∙◌, ◌+ℤ◌, ◌*ℤ◌, to_z, of_z, w64, sym, ap, arith, is_some, to_z-of_z}
 use Rattle.scan_walks.proofs.FrontLaws.{some-fits}
 use Rattle.scan_walks.proofs.blocks.Look.leads_within.Goals as goal
 
