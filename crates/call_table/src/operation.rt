@@ -1,7 +1,7 @@
 //! The calls of a script by families, with the operands that each takes and what it gives.
 
 ghost use Rattle.std.specs.Prelude.{◌≡◌};
-ghost use Rattle.call_table.specs.Calls.{operands_of, results_of, is_write, binds_of, takes_of, accepts_of, write_accepts, same_kind, is_vector};
+ghost use Rattle.call_table.specs.Calls.{operands_of, results_of, is_write, binds_of, takes_of, accepts_of, write_accepts, same_kind};
 
 use crate::families::{BoolBinary, Comparison, Cut, Element, Form, IntBinary, IntMonoid, Unary};
 use crate::kind::Kind;
@@ -10,7 +10,7 @@ use crate::table::row_of;
 /// What a line of a script asks for: one call of the library, or `write`.
 ///
 /// Each family's calls take and give the same kinds of values, and are performed by one kernel.
-#[derive(Clone, Copy, Debug, PartialEq, Eq)]
+#[derive(Clone, Copy, PartialEq, Eq)]
 pub enum Op {
     /// `input`: the vector of an input, by its number from 1.
     Input,

@@ -91,6 +91,13 @@ impl fmt::Display for Spelling {
     }
 }
 
+/// A call is shown by its name, for example `add_wuz`.
+impl fmt::Debug for Op {
+    fn fmt<W: fmt::Write>(&self, f: &mut fmt::Formatter<W>) -> fmt::Result {
+        fmt::Display::fmt(&self.spelling(), f)
+    }
+}
+
 /// The calls of families, family by family one for each operator of its enum, and then other calls.
 macro_rules! calls {
     ($($family:ident $parts:tt by $of:ident: $($operator:ident)*),*; $($other:expr),*) => {
