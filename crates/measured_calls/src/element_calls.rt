@@ -19,9 +19,15 @@ pub fn call<R: Threads + Sync>(
     number: u32,
 ) -> Option<Answer> {
     let (rt, alloc, config) = (bench.rt, bench.alloc, bench.config);
-    let (a, b) = (vectors.numbers.as_slice(), vectors.divisors.as_slice());
-    let (f, g) = (vectors.flags.as_slice(), vectors.others.as_slice());
-    let shifts = vectors.shifts.as_slice();
+    let (a, b) = (
+        vectors.numbers.any.as_slice(),
+        vectors.numbers.odd.as_slice(),
+    );
+    let (f, g) = (
+        vectors.flags.some.as_slice(),
+        vectors.flags.others.as_slice(),
+    );
+    let shifts = vectors.numbers.shifts.as_slice();
     if a.len() > MOST_ELEMENTS {
         return None;
     }

@@ -21,7 +21,10 @@ pub fn call<R: Threads + Sync>(
     number: u32,
 ) -> Option<Answer> {
     let (rt, alloc, config) = (bench.rt, bench.alloc, bench.config);
-    let (xs, flags) = (vectors.numbers.as_slice(), vectors.flags.as_slice());
+    let (xs, flags) = (
+        vectors.numbers.any.as_slice(),
+        vectors.flags.some.as_slice(),
+    );
     let (firsts, d) = (vectors.firsts.as_slice(), &vectors.segments);
     if flags.len() > MOST_ELEMENTS {
         return None;

@@ -23,8 +23,11 @@ pub fn call<R: Threads + Sync>(
     number: u32,
 ) -> Option<Answer> {
     let (rt, alloc, config) = (bench.rt, bench.alloc, bench.config);
-    let (xs, is) = (vectors.numbers.as_slice(), vectors.index.as_slice());
-    let (defaults, chosen) = (vectors.divisors.as_slice(), vectors.chosen.as_slice());
+    let (xs, is) = (vectors.numbers.any.as_slice(), vectors.index.as_slice());
+    let (defaults, chosen) = (
+        vectors.numbers.odd.as_slice(),
+        vectors.flags.chosen.as_slice(),
+    );
     let d = &vectors.segments;
     if is.len() > MOST_ELEMENTS {
         return None;

@@ -21,8 +21,8 @@ pub fn call<R: Threads + Sync>(
     number: u32,
 ) -> Option<Answer> {
     let (rt, alloc, config) = (bench.rt, bench.alloc, bench.config);
-    let (a, d) = (vectors.numbers.as_slice(), &vectors.segments);
-    let small = vectors.shifts.as_slice();
+    let (a, d) = (vectors.numbers.any.as_slice(), &vectors.segments);
+    let small = vectors.numbers.shifts.as_slice();
     let add = IntMonoid::Add;
     if small.len() > MOST_ELEMENTS {
         return None;

@@ -116,30 +116,31 @@ fn measure_work<R: Print + Clock + Threads + Sync>(
 
 /// Measures writing numbers, all long or of any length, reading what was written without its brackets, and reading it in lists of
 /// eight.
-pub fn measure<R: Print + Clock + Threads + Sync>(bench: &Bench<'_, R>) -> io::Result<()> {
+fn measure_numbers<R: Print + Clock + Threads + Sync>(
+    bench: &Bench<'_, R>,
+    numbers: &str,
+    are_all_long: bool,
+) -> io::Result<()> {
     let (rt, alloc) = (bench.rt, bench.alloc);
-    for (numbers, are_all_long) in [("long numbers", true), ("numbers of any length", false)] {
-        let Ok(value) = random_value(alloc, are_all_long) else {
-            println!(rt; "writing {numbers}: no memory for the numbers")?;
-            continue;
-        };
-        let mut text = Vec::new(alloc);
-        if put_value(rt, alloc, bench.config, &value, None, &mut text).is_err() {
-            println!(rt; "writing {numbers}: refused")?;
-            continue;
-        }
-        measure_work(bench, &Work::Writing(&value), numbers, text.len())?;
-        if let [_, input @ .., _] = text.as_slice() {
-            measure_work(bench, &Work::Reading(input), numbers, input.len())?;
-        }
-        if let Ok(nest) = nest_of(alloc, &text) {
-            measure_work(
-                bench,
-                &Work::ReadingLists(nest.as_slice()),
-                numbers,
-                nest.len(),
-            )?;
-        }
+    let Ok(value) = random_value(alloc, are_all_long) else {
+        return println!(rt; "writing {numbers}: no memory for the numbers");
+    };
+    let mut text = Vec::new(alloc);
+    if put_value(rt, alloc, bench.config, &value, None, &mut text).is_err() {
+        return println!(rt; "writing {numbers}: refused");
     }
-    Ok(())
+    measure_work(bench, &Work::Writing(&value), numbers, text.len())?;
+    if let [_, input @ .., _] = text.as_slice() {
+        measure_work(bench, &Work::Reading(input), numbers, input.len())?;
+    }
+    match nest_of(alloc, &text) {
+        Ok(nest) => measure_work(bench, &Work::ReadingLists(&nest), numbers, nest.len()),
+        Err(_) => Ok(()),
+    }
+}
+
+/// Measures texts of long numbers and of numbers of any length.
+pub fn measure<R: Print + Clock + Threads + Sync>(bench: &Bench<'_, R>) -> io::Result<()> {
+    measure_numbers(bench, "long numbers", true)?;
+    measure_numbers(bench, "numbers of any length", false)
 }

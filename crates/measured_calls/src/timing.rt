@@ -116,7 +116,7 @@ pub fn measure_cases<R: Print + Clock + Threads + Sync>(
     let Ok(vectors) = vectors_of(bench.alloc, shape) else {
         return Ok(());
     };
-    let (length, segments) = (vectors.numbers.len(), vectors.segments.count());
+    let (length, segments) = (vectors.index.len(), vectors.segments.count());
     let words = shape.words;
     let what = format!(in bench.alloc; "{length} elements, {segments} segments{words}")?;
     for number in first..end {

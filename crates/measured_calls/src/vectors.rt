@@ -37,23 +37,35 @@ impl<'a> Shape<'a> {
     }
 }
 
+/// Random integers.
+#[derive(Drop)]
+pub struct Numbers {
+    /// Any.
+    pub any: Vec<i32>,
+    /// Odd ones, so that each divides.
+    pub odd: Vec<i32>,
+    /// Those from 0 to 31.
+    pub shifts: Vec<i32>,
+}
+
+/// Flags.
+#[derive(Drop)]
+pub struct Flags {
+    /// Random ones, of which as many are true as the shape says.
+    pub some: Vec<bool>,
+    /// Other random ones.
+    pub others: Vec<bool>,
+    /// True where the index is below half of a full segment, so that the places that it names there are packed.
+    pub chosen: Vec<bool>,
+}
+
 /// Vectors of one length, what cuts them into segments, and a number for each segment.
 #[derive(Drop)]
 pub struct Vectors {
-    /// Random integers.
-    pub numbers: Vec<i32>,
-    /// Random integers that are odd, so that each divides.
-    pub divisors: Vec<i32>,
-    /// Random integers from 0 to 31.
-    pub shifts: Vec<i32>,
-    /// Random flags.
-    pub flags: Vec<bool>,
-    /// Other random flags.
-    pub others: Vec<bool>,
+    pub numbers: Numbers,
+    pub flags: Flags,
     /// Each place of a segment once, segment by segment, counted from the segment's start.
     pub index: Vec<i32>,
-    /// True where the index is below half of a full segment, so that the places that it names there are packed.
-    pub chosen: Vec<bool>,
     /// A random integer for each segment.
     pub firsts: Vec<i32>,
     /// The segments.
@@ -121,18 +133,42 @@ fn below(alloc: Global, numbers: &[i32], limit: i32) -> Result<Vec<bool>, AllocE
 }
 
 /// So many random flags, of which about so many of a hundred are true.
-fn flags_of(alloc: Global, seed: i32, n: usize, percent: i32) -> Result<Vec<bool>, AllocError> {
-    let numbers = random_below(alloc, seed, n, 100)?;
+fn random_flags(
+    alloc: Global,
+    seed: i32,
+    length: usize,
+    percent: i32,
+) -> Result<Vec<bool>, AllocError> {
+    let numbers = random_below(alloc, seed, length, 100)?;
     below(alloc, &numbers, percent)
 }
 
 /// So many random integers from 0 to 31.
-fn shifts_of(alloc: Global, n: usize) -> Result<Vec<i32>, AllocError> {
-    let mut numbers = random(alloc, 3, n, 0)?;
+fn shifts_of(alloc: Global, length: usize) -> Result<Vec<i32>, AllocError> {
+    let mut numbers = random(alloc, 3, length, 0)?;
     for number in &mut numbers {
         *number &= 31;
     }
     Ok(numbers)
+}
+
+/// So many integers of each kind.
+fn numbers_of(alloc: Global, length: usize) -> Result<Numbers, AllocError> {
+    Ok(Numbers {
+        any: random(alloc, 1, length, 0)?,
+        odd: random(alloc, 2, length, 1)?,
+        shifts: shifts_of(alloc, length)?,
+    })
+}
+
+/// The flags of a shape, as many as the index has places.
+fn flags_of(alloc: Global, shape: &Shape, index: &[i32]) -> Result<Flags, AllocError> {
+    let half = i32::try_from(shape.segment / 2).unwrap_or(0);
+    Ok(Flags {
+        some: random_flags(alloc, 1, index.len(), shape.percent)?,
+        others: random_flags(alloc, 2, index.len(), 33)?,
+        chosen: below(alloc, index, half)?,
+    })
 }
 
 /// The vectors of a shape.
@@ -142,16 +178,10 @@ pub fn vectors_of(alloc: Global, shape: &Shape) -> Result<Vectors, Refused> {
         return Err(Refused::NoResources);
     }
     let segments = SegDes::from_lengths(alloc, &lengths)?;
-    let length = segments.total();
     let index = index_of(alloc, shape.at_random, &lengths)?;
-    let half = i32::try_from(shape.segment / 2).unwrap_or(0);
     Ok(Vectors {
-        numbers: random(alloc, 1, length, 0)?,
-        divisors: random(alloc, 2, length, 1)?,
-        shifts: shifts_of(alloc, length)?,
-        flags: flags_of(alloc, 1, length, shape.percent)?,
-        others: flags_of(alloc, 2, length, 33)?,
-        chosen: below(alloc, &index, half)?,
+        numbers: numbers_of(alloc, index.len())?,
+        flags: flags_of(alloc, shape, &index)?,
         firsts: random(alloc, 3, segments.count(), 0)?,
         index,
         segments,
