@@ -1,7 +1,6 @@
 //! The inner lists of a nested text, read in pieces of it, each by a thread of its own.
 
-ghost use Rattle.std.specs.Prelude.{◌≡◌, ◌≤◌, ◌++◌, false, true, length, drop, IfOk, IfSome, vec_len};
-ghost use Rattle.cvl_base.specs.Limits.{most_elements};
+ghost use Rattle.std.specs.Prelude.{◌≡◌, ◌≤◌, ◌++◌, false, true, length, drop, IfOk, IfSome};
 ghost use Rattle.line_reader.specs.Tokens.{begins_with_part};
 ghost use Rattle.call_reader.specs.NestedTexts.{marks_of, nested_class};
 ghost use Rattle.call_reader.specs.NestedReads.{AreListsRead, is_no_mark};

@@ -1,18 +1,18 @@
 -- Each call's name reads back as that call.
 use Rattle.std.proofs.Common.{◌≡◌, false, Some, refl}
 use Rattle.call_table.specs.declared.families.IntBinary.TheVariants as int
-use Rattle.call_table.specs.declared.families.Unary.TheVariants.{Not, Copy}
-use Rattle.call_table.specs.declared.families.Comparison.TheVariants.{Greater, Less, AtLeast, AtMost, Equal, Unequal}
+use Rattle.call_table.specs.declared.families.Unary.TheVariants.{Not}
+use Rattle.call_table.specs.declared.families.Comparison.TheVariants.{Greater}
 use Rattle.call_table.specs.declared.families.BoolBinary.TheVariants as bool
 use Rattle.call_table.specs.declared.families.IntMonoid.TheVariants as monoid
-use Rattle.call_table.specs.declared.families.Form.TheVariants.{Simple, Back, Select, Default}
+use Rattle.call_table.specs.declared.families.Form.TheVariants.{Simple}
 use Rattle.call_table.specs.declared.families.Cut.TheVariants.{Flat, Segmented}
 use Rattle.call_table.specs.declared.families.Element.TheVariants.{Integer, Boolean}
 use Rattle.call_table.specs.declared.operation.Op.{Op}
-use Rattle.call_table.specs.declared.operation.Op.TheVariants.{Input, Nested, Ints2, Ints1, Compare, Bools2, Bools1, Choose, IntFromBool}
-use Rattle.call_table.specs.declared.operation.Op.TheVariants.{BoolFromInt, Scan, Reduce, BoolScan, BoolReduce, Permute, Length, Count}
-use Rattle.call_table.specs.declared.operation.Op.TheVariants.{Pack, PackedLengths, Distribute, Index, Extract, Replace}
-use Rattle.call_table.specs.declared.operation.Op.TheVariants.{MakeDescriptor, DescriptorLengths, CheckedScan, CheckedReduce, Write}
+use Rattle.call_table.specs.declared.operation.Op.TheVariants.{Ints2, Ints1, Compare, Bools2, Bools1, Choose}
+use Rattle.call_table.specs.declared.operation.Op.TheVariants.{Scan, Reduce, BoolScan, BoolReduce, Permute, Length, Count}
+use Rattle.call_table.specs.declared.operation.Op.TheVariants.{Pack, Distribute, Index, Extract, Replace}
+use Rattle.call_table.specs.declared.operation.Op.TheVariants.{CheckedScan, CheckedReduce, Write}
 use Rattle.call_table.specs.Calls.{spelling_of, is_write}
 use Rattle.call_table.specs.Spellings.{op_of, int_binaries, unaries, comparisons, bool_binaries, int_monoids, forms, elements}
 

@@ -1,8 +1,8 @@
 //! The command, as clap is told of it.
 
-ghost use Rattle.std.specs.Prelude.{◌≡◌, false, codes, pos, IfOk};
+ghost use Rattle.std.specs.Prelude.{◌≡◌, false, IfOk};
 ghost use Rattle.clap.specs.Words.{app_of, rule_of};
-ghost use Rattle.command_line.specs.Command.{cvl, number_rule, script_rule, inputs_rule, up_to};
+ghost use Rattle.command_line.specs.Command.{cvl, number_rule, script_rule, inputs_rule};
 
 use clap::builder::ValueParser;
 use clap::{Arg, ArgAction, Command};

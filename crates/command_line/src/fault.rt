@@ -4,7 +4,7 @@ ghost use Rattle.command_line.specs.Reads.{IsFaultOf};
 ghost use Rattle.command_line.specs.declared.fault.WordsFault.TheVariants as fault;
 
 use clap::error::ErrorKind;
-use std::alloc::{AllocError, AllocFailed};
+use std::alloc::AllocError;
 use thiserror::Error;
 
 /// Why the words of a command line are not read.

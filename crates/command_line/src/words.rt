@@ -1,6 +1,6 @@
 //! What the words of a command line say.
 
-ghost use Rattle.std.specs.Prelude.{◌≡◌, ℕ, ◌≤◌, Some, IfOk, IfErr, true, codes, unwrap_or, []};
+ghost use Rattle.std.specs.Prelude.{◌≡◌, ◌≤◌, Some, IfOk, IfErr, true, codes, unwrap_or, []};
 ghost use Rattle.clap.specs.Words.{all_of, fault_of, first_of, found_of, rows_of, takes};
 ghost use Rattle.clap.specs.Walk.{texts};
 ghost use Rattle.cvl_base.specs.Limits.{longest_tile, most_workers};

@@ -53,7 +53,7 @@ pub struct Name {
 }
 
 impl Model for Name {
-    ghost use Rattle.std.specs.Prelude.{◌≡◌, ℕ, ◌-◌, ◌≤◌, ◌++◌, List, length, take, drop, replicate, IsTrue};
+    ghost use Rattle.std.specs.Prelude.{◌≡◌, ℕ, ◌-◌, ◌≤◌, List, length, take, IsTrue};
     ghost use Rattle.cvl_base.specs.Limits.{most_word_bytes};
     ghost use Rattle.cvl_base.specs.Words.{is_name};
     ghost use Rattle.cvl_base.specs.NameBytes.{padded};

@@ -3,7 +3,7 @@
 
 ghost use Rattle.std.specs.Prelude.{◌≡◌, ◌≤◌, Ok, length, map};
 ghost use Rattle.std.specs.List.{zip};
-ghost use Rattle.cvl_base.specs.Elementwise.{bools1_of, bools2_of, ints1_of, ints2_of, on_pairs, on_pairs_or};
+ghost use Rattle.cvl_base.specs.Elementwise.{ints1_of, ints2_of, on_pairs, on_pairs_or};
 ghost use Rattle.cvl_base.specs.Limits.{most_elements};
 ghost use Rattle.cvl_base.specs.Rooms.{Overwrites};
 

@@ -1,6 +1,6 @@
 //! The calls over a room of the caller's, by the thread that calls, for code that has no runtime. They ask for no memory.
 
-ghost use Rattle.std.specs.Prelude.{◌≡◌, ◌≤◌, Ok, length, map};
+ghost use Rattle.std.specs.Prelude.{◌≤◌, Ok, length, map};
 ghost use Rattle.cvl_base.specs.Elementwise.{bools_from_ints, compare_of, ints1_of, ints2_of, on_pairs, on_pairs_or};
 ghost use Rattle.cvl_base.specs.Limits.{most_elements};
 ghost use Rattle.cvl_base.specs.Rooms.{Overwrites, in_room};

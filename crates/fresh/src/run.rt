@@ -1,6 +1,5 @@
 //! A run of places of a block, which one thread writes from front to back.
-ghost use Rattle.std.specs.Prelude.{◌≡◌, ℕ, ◌+◌, ◌-◌, ◌<◌, ◌≤◌, ◌⊎◌, List, [], ◌∷◌, ◌++◌, length, map, take, slice_index_or, None, replicate, ◌^◌};
-ghost use Rattle.std.specs.List.{AllZip};
+ghost use Rattle.std.specs.Prelude.{◌≡◌, ◌+◌, ◌-◌, ◌<◌, ◌≤◌, ◌⊎◌, List, [], ◌∷◌, ◌++◌, length, ◌^◌};
 ghost use Rattle.fresh.specs.Places.{stretch, filled, somes, Follows};
 
 use crate::cells::{Base, Cells};

@@ -1,9 +1,9 @@
 -- Sixteen bytes as lanes: how many digits they begin with, and the lanes moved towards the end.
 use Rattle.std.proofs.Common.{◌≡◌, ℕ, zero, suc, ◌+◌, ◌-◌, ◌*◌, ◌^◌, ◌/◌, ◌%◌, ◌<◌, ◌≤◌, Bool, true, not, get_or, Fits, nat_lt, nat_le, List, []}
-use Rattle.std.proofs.Common.{◌∷◌, ◌++◌, length, drop, take, map, replicate, refl, ap, sym, subst, ◌∙◌, arith, cond, w8}
+use Rattle.std.proofs.Common.{◌∷◌, ◌++◌, length, take, map, replicate, refl, ap, sym, subst, ◌∙◌, arith, cond, w8}
 use Rattle.std.proofs.lemmas.Bool.Decides.{nat_tests}
-use Rattle.std.proofs.lemmas.Bool.{agree_below_at, and_parts, ne_eqb}
-use Rattle.std.proofs.lemmas.Simd.{below_from_Fits, chunk-fits, tops_compared, zip2_splat, zip2_splat_left, mask_l-mod, Each1-all, leading_from_mask_l, trailing_mask_l}
+use Rattle.std.proofs.lemmas.Bool.{agree_below_at, and_parts}
+use Rattle.std.proofs.lemmas.Simd.{tops_compared, zip2_splat, zip2_splat_left, mask_l-mod, leading_from_mask_l, trailing_mask_l}
 use Rattle.std.proofs.lemmas.List.{get_or-map, get_or-take, length-map, length-take-le, take-take, take-map}
 use Rattle.std.proofs.lemmas.List.Sums.{prefix_len_is, prefix_len_passes, prefix_len_stops}
 use Rattle.std.proofs.lemmas.Int.Digits.{number_lt, digits_value_is}

@@ -1,9 +1,7 @@
 //! The numbers that tokens write.
 
-ghost use Rattle.std.specs.Prelude.{◌≡◌, ◌<◌, ◌≤◌, ◌^◌, length, take, IfSome, IsTrue, option_map, pos, neg_ℤ, if◌then◌else◌};
-ghost use Rattle.std.specs.List.{list_all, prefix_len};
+ghost use Rattle.std.specs.Prelude.{◌≡◌, ◌<◌, ◌≤◌, ◌^◌, length, take, IfSome, option_map, pos, neg_ℤ, if◌then◌else◌};
 ghost use Rattle.std.specs.Char.{is_ascii_digit};
-ghost use Rattle.std.specs.Str.Parse.{digits_value};
 ghost use Rattle.line_reader.specs.Numbers.{written_number, signed_digits, AreLeading};
 
 use crate::digits::{LANES, decimal, digit_run, moved};

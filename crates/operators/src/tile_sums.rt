@@ -1,8 +1,8 @@
 //! The laws of the sums of tiles, for code that is generic over its monoid.
 
-ghost use Rattle.std.specs.Prelude.{◌≡◌, ℕ, ◌+◌, ◌<◌, ◌≤◌, pos, Bool, true, false, List, [], ◌∷◌, take, map, IsTrue};
+ghost use Rattle.std.specs.Prelude.{◌≡◌, ℕ, pos, Bool, true, false, List, [], ◌∷◌};
 ghost use Rattle.std.specs.List.{AllPass};
-ghost use Rattle.operators.specs.Folds.{fold_of, fronts, scan_of};
+ghost use Rattle.operators.specs.Folds.{fronts, scan_of};
 ghost use Rattle.operators.specs.Integers.{sum_of};
 ghost use Rattle.operators.specs.SegmentMonoid.{is_seg_item, seg_unit, seg_join};
 ghost use Rattle.operators.specs.TileSums.{sum_at, upto, before, between, listed_sums, own_sum, before_tile, upto_tile, between_tiles, worked_tiles, AllTilesPass, SumsLaws};

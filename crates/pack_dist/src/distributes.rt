@@ -1,6 +1,6 @@
 //! Distribute: copies of one value, or of one for each segment.
 
-ghost use Rattle.std.specs.Prelude.{◌≡◌, ℕ, ◌+◌, ◌-◌, ◌≤◌, ◌++◌, IfOk, MatchResult, Ok, Err, length, replicate, sum, vec_len};
+ghost use Rattle.std.specs.Prelude.{◌≡◌, ◌+◌, ◌-◌, ◌≤◌, ◌++◌, IfOk, MatchResult, Ok, Err, length, sum, vec_len};
 ghost use Rattle.cvl_base.specs.Distributes.{distribute_of};
 ghost use Rattle.cvl_base.specs.Gives.{Gives};
 ghost use Rattle.cvl_base.specs.Limits.{most_elements};

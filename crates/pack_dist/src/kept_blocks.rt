@@ -1,6 +1,6 @@
 //! The elements whose flag is true, pushed block by block without a branch on each flag.
 
-ghost use Rattle.std.specs.Prelude.{◌≡◌, ◌-◌, ◌<◌, ◌≤◌, ◌++◌, length};
+ghost use Rattle.std.specs.Prelude.{◌≡◌, ◌-◌, ◌≤◌, ◌++◌, length};
 ghost use Rattle.cvl_base.specs.Packs.{count_of};
 ghost use Rattle.fresh.specs.Places.{stretch};
 ghost use Rattle.pack_dist.specs.Kept.{kept_of};

@@ -1,6 +1,6 @@
 //! The race for the senders: a slot for each place of the result.
 
-ghost use Rattle.std.specs.Prelude.{◌≡◌, ◌≤◌, ℕ, List, length, map, unwrap_or, IfOk, Ok};
+ghost use Rattle.std.specs.Prelude.{◌≡◌, ◌≤◌, length, map, unwrap_or, IfOk, Ok};
 ghost use Rattle.cvl_base.specs.Gives.{Gives, unless};
 ghost use Rattle.cvl_base.specs.Limits.{most_elements};
 ghost use Rattle.cvl_base.specs.Permutes.{first_fault, wrongs};
@@ -14,7 +14,6 @@ use cvl_base::{FaultNo, Memory, NoResources, Refused, place_among};
 use least_races::race_for_leasts;
 use permute_walks::{Destinations, NOBODY};
 use sharing::Pace;
-use std::alloc::Allocator;
 use std::thread::Threads;
 
 /// The places that take part, each in the slot that its index names, if it is one.

@@ -1,6 +1,6 @@
 //! The second walk of a permute: the elements of the senders, which several threads may write.
 
-ghost use Rattle.std.specs.Prelude.{◌≡◌, ◌+◌, ◌<◌, ◌≤◌, [], IfOk, filter_map, length, map, slice_get, unwrap_or, vec_len};
+ghost use Rattle.std.specs.Prelude.{◌≡◌, ◌+◌, ◌<◌, ◌≤◌, [], IfOk, filter_map, length, slice_get, unwrap_or, vec_len};
 ghost use Rattle.std.specs.List.{All};
 ghost use Rattle.fresh.specs.Parts.{part};
 ghost use Rattle.fresh.specs.Places.{stretch};

@@ -3,7 +3,7 @@
 //! loops has no branch on where a place is sent, which a processor guesses wrongly where the indices are in no order. Where they are in
 //! order most blocks have no such place: behind one of these a block is counted first, which takes less time than a list.
 
-ghost use Rattle.std.specs.Prelude.{◌≡◌, ◌+◌, ◌<◌, ◌≤◌, pos, List, false, true, length, replicate, slice_get, slice_index_or, take, Some, None};
+ghost use Rattle.std.specs.Prelude.{◌≡◌, ◌+◌, ◌<◌, ◌≤◌, pos, List, true, length, replicate, slice_get, slice_index_or, take, Some, None};
 ghost use Rattle.cvl_base.specs.Limits.{most_elements};
 ghost use Rattle.cvl_base.specs.Permutes.{destination_if};
 ghost use Rattle.permute_walks.specs.Marks.{mark_words, words_for};

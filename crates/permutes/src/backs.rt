@@ -7,7 +7,7 @@ ghost use Rattle.cvl_base.specs.Permutes.{back_of};
 ghost use Rattle.permute_walks.specs.Indices.{first_outside};
 
 use crew::{Gate, OpenGate};
-use cvl_base::{Config, Memory, Refused, check_agree};
+use cvl_base::{Config, Memory, Refused};
 use fresh::write_in_runs;
 use permute_races::{check_indices_raced, permute_pace};
 use permute_walks::{ElementsAt, check_places};

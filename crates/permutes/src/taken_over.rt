@@ -1,6 +1,6 @@
 //! The second walk of a permute over a room of the caller's, by the thread that calls.
 
-ghost use Rattle.std.specs.Prelude.{◌≡◌, ◌<◌, IfOk, List, filter_map, length, slice_get, vec_len, ℕ};
+ghost use Rattle.std.specs.Prelude.{◌≡◌, ◌<◌, IfOk, filter_map, length, slice_get, vec_len};
 ghost use Rattle.std.specs.List.{All};
 ghost use Rattle.permute_walks.specs.Senders.{written_over};
 ghost use Rattle.permutes.specs.Walks.{IsTakenOver};

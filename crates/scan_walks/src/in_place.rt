@@ -1,6 +1,6 @@
 //! Scans in place, by the thread that calls: each is written over the vector that it scans. They ask for no memory.
 
-ghost use Rattle.std.specs.Prelude.{◌≡◌, ◌≤◌, IsTrue, length, pos, sum};
+ghost use Rattle.std.specs.Prelude.{◌≡◌, ◌≤◌, IsTrue, length, sum};
 ghost use Rattle.std.specs.List.{AllPass};
 ghost use Rattle.cvl_base.specs.CheckedSums.{checked_scan_of, checked_seg_scan_of};
 ghost use Rattle.cvl_base.specs.Folds.{scan_of};

@@ -3,7 +3,7 @@
 
 ghost use Rattle.std.specs.Prelude.{◌≡◌, ◌+ℤ◌, ◌≤◌, length, map, pos, sum, unsigned_abs};
 ghost use Rattle.cvl_base.specs.Descriptors.{AreLengths};
-ghost use Rattle.cvl_base.specs.Folds.{fold_of, scan_of};
+ghost use Rattle.cvl_base.specs.Folds.{fold_of};
 ghost use Rattle.cvl_base.specs.Integers.{greater_of};
 ghost use Rattle.range_walks.specs.Ranges.{scans_of};
 ghost use Rattle.scan_walks.specs.Fronts.{fitting_front};

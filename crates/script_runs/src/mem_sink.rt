@@ -1,7 +1,7 @@
 //! A sink that keeps the text in memory.
 
 use crate::sink::{Sink, SinkFault};
-use cvl_base::{Memory, NoResources};
+use cvl_base::NoResources;
 use std::alloc::Allocator;
 use std::marker::Model;
 

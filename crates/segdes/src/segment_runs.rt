@@ -1,6 +1,6 @@
 //! Vectors whose segments each hold a list of their own, written in runs.
 
-ghost use Rattle.std.specs.Prelude.{◌≡◌, ℕ, ◌+◌, ◌-◌, ◌^◌, ◌<◌, ◌≤◌, ◌++◌, List, [], length, map, slice_index_or, sum};
+ghost use Rattle.std.specs.Prelude.{◌≡◌, ◌+◌, ◌-◌, ◌^◌, ◌<◌, ◌≤◌, ◌++◌, List, [], length, map, slice_index_or, sum};
 ghost use Rattle.std.specs.Option.{MatchOption};
 ghost use Rattle.cvl_base.specs.Lists.{joined};
 ghost use Rattle.fresh.specs.Parts.{part};

@@ -1,5 +1,5 @@
 -- The walks of a simple permute by segments straight into a room: what the marks of each segment tell, and what the room holds.
-use Rattle.std.proofs.Common.{◌≡◌, ◌∙◌, ℕ, zero, suc, ◌+◌, ◌-◌, ◌<◌, ◌≤◌, List, [], ◌∷◌, ◌++◌, length, filter_map, map, sum, take, drop, get_or, refl, sym, ap, arith, ℤ, slice_get, Option, Some, None}
+use Rattle.std.proofs.Common.{◌≡◌, ◌∙◌, ℕ, zero, suc, ◌+◌, ◌-◌, ◌<◌, ◌≤◌, List, [], ◌∷◌, ◌++◌, length, filter_map, sum, take, drop, get_or, refl, sym, ap, arith, ℤ, slice_get, Option, Some, None}
 use Rattle.std.proofs.lemmas.List.{take_all}
 use Rattle.std.proofs.lemmas.List.Elements.{All-weaker}
 use Rattle.std.proofs.lemmas.Option.{none-some}
@@ -10,7 +10,6 @@ use Rattle.cvl_base.specs.declared.fault.FaultNo.{FaultNo}
 use Rattle.cvl_base.specs.Faults.{fault_at}
 use Rattle.cvl_base.specs.Limits.{most_elements}
 use Rattle.cvl_base.specs.Permutes.{all_destinations, first_fault, wrongs}
-use Rattle.cvl_base.proofs.Lists.{sum-cons}
 use Rattle.fresh.specs.Parts.{part, length_part}
 use Rattle.segdes.specs.Starts.{start_of}
 use Rattle.permute_walks.specs.Senders.{senders_of, written_over}

@@ -5,7 +5,7 @@
 ghost use Rattle.std.specs.Prelude.{◌≡◌, ◌+◌, ◌≤◌, List, false, true, length, IfOk, IfSome, None, vec_len};
 ghost use denote.Param.Send.{Frees, IsSend, IsSync};
 ghost use Rattle.fresh.specs.Parts.{part};
-ghost use Rattle.fresh.specs.Places.{stretch, with_items};
+ghost use Rattle.fresh.specs.Places.{with_items};
 ghost use Rattle.cvl_base.specs.Limits.{most_elements};
 ghost use Rattle.cvl_base.specs.Permutes.{first_fault, wrongs};
 ghost use Rattle.segment_sends.specs.Parts.{destinations_in, fault_from, places_in};

@@ -4,7 +4,7 @@ use Rattle.std.proofs.Common.{append_assoc, append-nil, ℤ, pos, negsuc, option
 use Rattle.std.specs.List.{list_any, range_with_len}
 use Rattle.std.specs.Option.{option_or}
 use Rattle.std.specs.Ordering.{int_eq}
-use Rattle.std.proofs.lemmas.Bool.{lt-ltb, le-ltb, false_from_ne_true, or_parts}
+use Rattle.std.proofs.lemmas.Bool.{lt-ltb, le-ltb, or_parts}
 use Rattle.std.proofs.lemmas.Bool.Decides.{eqb_tells, leb_tells, Decides-int_eq}
 use Rattle.std.proofs.lemmas.List.{ext_get_or, length-map, map-append}
 use Rattle.std.proofs.lemmas.List.Folds.{list_any-append}

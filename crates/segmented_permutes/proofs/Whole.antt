@@ -1,5 +1,5 @@
 -- The segmented definitions, told by the parts of all segments.
-use Rattle.std.proofs.Common.{◌≡◌, ◌≢◌, ◌∙◌, not, inl, inr, ℕ, ◌+◌, ◌≤◌, Bool, List, [], ◌∷◌, length, filter_map, sum, take, drop, refl, sym, ap, length-drop, arith, ℤ, slice_get, Result, Ok, Err}
+use Rattle.std.proofs.Common.{◌≡◌, ◌≢◌, ◌∙◌, ℕ, ◌+◌, ◌≤◌, Bool, List, [], ◌∷◌, length, filter_map, sum, take, drop, refl, sym, ap, length-drop, arith, ℤ, slice_get, Result, Ok, Err}
 use Rattle.std.specs.List.{zip}
 use Rattle.std.proofs.lemmas.List.{drop-drop, length-take-le, take-append-drop}
 use Rattle.std.proofs.lemmas.Slice.Zip.{length-zip}
@@ -7,7 +7,7 @@ use Rattle.cvl_base.specs.declared.fault.Fault.{Fault}
 use Rattle.cvl_base.specs.declared.fault.FaultNo.TheVariants.{LengthMismatch}
 use Rattle.cvl_base.specs.Faults.{fault}
 use Rattle.cvl_base.specs.Elementwise.{if_as_long}
-use Rattle.cvl_base.specs.Gives.{◌>>=◌, fault_if, unless}
+use Rattle.cvl_base.specs.Gives.{◌>>=◌, unless}
 use Rattle.cvl_base.specs.Lists.{joined}
 use Rattle.cvl_base.specs.Limits.{most_elements}
 use Rattle.cvl_base.specs.Nests.{cut_of, nest}

@@ -1,12 +1,12 @@
 //! The two walks of a segmented back permute. The first looks at all indices, those of a long segment by several threads, so
 //! that the second, which several threads may make, has an element for each.
 
-ghost use Rattle.std.specs.Prelude.{◌≡◌, ◌+◌, ◌-◌, ◌<◌, ◌≤◌, ◌++◌, [], length, map, slice_index_or, sum, IfOk};
+ghost use Rattle.std.specs.Prelude.{◌≡◌, ◌+◌, ◌-◌, ◌<◌, ◌≤◌, ◌++◌, [], length, map, slice_index_or, sum};
 ghost use Rattle.fresh.specs.Parts.{part};
 ghost use Rattle.fresh.specs.Places.{stretch};
 ghost use Rattle.cvl_base.specs.Limits.{most_elements};
 ghost use Rattle.permute_walks.specs.Senders.{fault_told};
-ghost use Rattle.segmented_permutes.specs.Backs.{IsSegmentedBack, lists_at, outside_from, segments_at};
+ghost use Rattle.segmented_permutes.specs.Backs.{IsSegmentedBack, lists_at, outside_from};
 
 use crate::looks::Look;
 use cvl_base::Fault;

@@ -1,5 +1,5 @@
 -- The walk that sends places to their destinations: what it has found after the first places, and after all.
-use Rattle.std.proofs.Common.{◌≡◌, ◌∙◌, ℕ, zero, suc, ◌+◌, ◌<◌, ◌≤◌, Bool, true, false, not, ◌||◌, if◌then◌else◌, List, [], ◌∷◌, ◌++◌, length, map, take, drop, get_or, min, set, replicate, refl, sym}
+use Rattle.std.proofs.Common.{◌≡◌, ◌∙◌, ℕ, ◌+◌, ◌<◌, ◌≤◌, Bool, true, false, not, ◌||◌, if◌then◌else◌, List, [], ◌∷◌, ◌++◌, length, map, take, drop, get_or, min, set, replicate, refl, sym}
 use Rattle.std.proofs.Common.{ap, arith, inl, inr, eqb, ltb, ℤ, pos, negsuc, unsigned_abs, option_map, Option, Some, None, Result}
 use Rattle.std.specs.List.{zip, list_any, range_with_len}
 use Rattle.std.specs.Ordering.{int_eq}

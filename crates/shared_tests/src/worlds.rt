@@ -1,9 +1,5 @@
 //! The world of workers, by one list of its workers' steps that is worked out by hand.
 
-ghost use Rattle.std.specs.Prelude.{◌≡◌, true};
-ghost use Rattle.cvl_base.specs.ItemWords.{is_number};
-ghost use Rattle.cvl_base.specs.SegmentMonoid.{is_seg_item};
-
 use cvl_base::monoids::Add;
 use cvl_base::{Memory, NoResources};
 use status_word::{Local, Stepped, World};

@@ -1,7 +1,6 @@
 //! What one step of a worker reads and writes.
 
-ghost use Rattle.std.specs.Prelude.{◌≡◌, ℕ, ◌<◌, ◌^◌, max, IsTrue, length, vec_len, slice_index, slice_index_or, slice_set};
-ghost use Rattle.cvl_base.specs.SegmentMonoid.{seg_join, is_seg_item};
+ghost use Rattle.std.specs.Prelude.{◌≡◌, ◌<◌, ◌^◌, max, length, slice_index, slice_set};
 ghost use Rattle.status_word.specs.Codings.{coding};
 ghost use Rattle.cvl_base.specs.TileSums.{own_sum};
 ghost use Rattle.status_word.specs.Reached.{CanAnswer, CanTell};

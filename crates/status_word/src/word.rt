@@ -2,7 +2,7 @@
 
 ghost use Rattle.std.specs.Prelude.{◌≡◌, ◌<◌, ◌^◌, IsTrue};
 ghost use Rattle.cvl_base.specs.ItemWords.{is_word};
-ghost use Rattle.status_word.specs.Words.{FitsWord, bits_of, read_rest, read_word, rest_of, state_place, value_of, word_of};
+ghost use Rattle.status_word.specs.Words.{FitsWord, read_rest, read_word, rest_of, state_place, value_of, word_of};
 
 use crate::status::Status;
 

@@ -1,6 +1,6 @@
 //! The world of workers: words, a claim word and the workers' states, in which one worker takes one step at a time.
 
-ghost use Rattle.std.specs.Prelude.{◌≡◌, ℕ, ◌+◌, ◌<◌, ◌≤◌, IfOk, length, replicate};
+ghost use Rattle.std.specs.Prelude.{◌≡◌, ◌+◌, ◌<◌, ◌≤◌, IfOk, length, replicate};
 ghost use Rattle.std.specs.List.{All, AllPass};
 ghost use Rattle.cvl_base.specs.Limits.{most_elements};
 ghost use Rattle.cvl_base.specs.SegmentMonoid.{is_seg_item};

@@ -1,6 +1,6 @@
 //! The pass over the tiles of a vector, by workers that race for the tiles.
 
-ghost use Rattle.std.specs.Prelude.{◌≡◌, ◌≤◌, IfOk, length};
+ghost use Rattle.std.specs.Prelude.{◌≡◌, IfOk, length};
 ghost use Rattle.boards.specs.Boards.{IsSeatOf};
 ghost use Rattle.tile_scans.specs.Written.{befores_of};
 

@@ -1,11 +1,11 @@
 -- `emptied` takes a row for its places. Assumes `Logic`.
 use Rattle.core.proofs.slots.Slots.into_raw_parts.Met as callee
 use Rattle.fresh.proofs.Walks.{◌≡◌, refl, sym, subst, ◌∙◌, Bool, ℕ, ◌+◌, ◌*◌, ◌<◌, ◌^◌, arith, zero-mul, List, [], ◌∷◌, ◌++◌, length, replicate, length-replicate, Fn, inst_fn, Val}
-use Rattle.fresh.proofs.Walks.{WT, SProp, ent, emp, id⊢, Lft, Share, ftrue, flft, WpFn, ◌⊑◌, fact, tables, tables_of, FmC, WpFn-mono, ‵, raw, ◌⊛◌, given, later, at_ret, ◌$◌, ◌∵◌}
+use Rattle.fresh.proofs.Walks.{WT, SProp, ent, emp, id⊢, Lft, Share, ftrue, flft, WpFn, ◌⊑◌, fact, tables, FmC, ‵, raw, ◌⊛◌, given, later, at_ret, ◌$◌, ◌∵◌}
 use Rattle.fresh.proofs.Walks.{ !, qed, move, keep, drop, use0, use1, use2, split, join, rewrite, fsplit, fjoin, learn, await, flt_i, suffices, done, agg, sub, whole, stop, fld}
 use Rattle.fresh.proofs.Walks.{of_opd, and_then, no_more, first, blocks, exec, returns, enter, alloc_all, pass_all, free_all, look_at, get, get_in, sets, lands_last, is, env, no}
-use Rattle.fresh.proofs.Walks.{layout, owns, Ptr, block_ptr, plain, types_at, heard, nothing, Tuple, calls_at_last, Ended, closing, triple_of, proved_at, framed, Stays, stay_dropped}
-use Rattle.fresh.proofs.Walks.{walk_of, ends_at, Goes-dropped, walk_Meets, None, slots_items, slots_filled, slots_len, slots_counts, tail, says_two, El, R, args, el_x, row_val}
+use Rattle.fresh.proofs.Walks.{layout, owns, Ptr, block_ptr, plain, types_at, heard, nothing, Tuple, calls_at_last, Ended, proved_at, framed, Stays, stay_dropped}
+use Rattle.fresh.proofs.Walks.{walk_of, ends_at, Goes-dropped, None, slots_items, slots_filled, slots_len, slots_counts, tail, says_two, El, R, args, el_x, row_val}
 use Rattle.fresh.proofs.Walks.{Good, word, word-Good}
 use Rattle.fresh.specs.Ownership.{slots}
 use Rattle.fresh.proofs.Memory.{Bs, Cr, Mark, mark, mark_made, word_made, two_val, two_of}

@@ -1,8 +1,6 @@
-use Rattle.std.proofs.Common.{◌≡◌, ◌∙◌, ap, arith, length, refl, replicate, sym, vec_len}
+use Rattle.std.proofs.Common.{arith, refl, replicate, vec_len}
 use Rattle.std.proofs.lemmas.List.{length-replicate}
-use Rattle.permute_walks.specs.Senders.{senders_of, written_over}
 use Rattle.permute_walks.proofs.Sent.{length-senders_of}
-use Rattle.permute_walks.proofs.Taken.{length-over}
 use Rattle.permutes.proofs.Told.{found_gives, sent_written, shorter}
 use Rattle.permutes.proofs.sent.elements_to.Goals as goal
 

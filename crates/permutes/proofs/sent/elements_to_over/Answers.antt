@@ -1,8 +1,6 @@
-use Rattle.std.proofs.Common.{◌≡◌, ℕ, Vec, ap, arith, length, vec_len}
-use Rattle.permute_walks.specs.Senders.{senders_of, written_over}
+use Rattle.std.proofs.Common.{ℕ, Vec, arith, length, vec_len}
+use Rattle.permute_walks.specs.Senders.{senders_of}
 use Rattle.permute_walks.proofs.Sent.{length-senders_of}
-use Rattle.permute_walks.proofs.Taken.{length-over}
-use Rattle.permutes.proofs.Told.{found_gives}
 use Rattle.permutes.proofs.Walked.{length_given}
 use Rattle.permutes.proofs.sent.elements_to_over.Goals as goal
 

@@ -1,4 +1,4 @@
-use Rattle.std.proofs.Common.{◌∙◌, ap, subst, sym, arith, length, Ok}
+use Rattle.std.proofs.Common.{◌∙◌, ap, subst, sym, arith, Ok}
 use Rattle.cvl_base.specs.Gives.{Gives, unless}
 use Rattle.permute_walks.specs.Indices.{first_outside}
 use Rattle.segment_sends.proofs.Through.{destinations-parts, places-parts}

@@ -1,7 +1,6 @@
-use Rattle.std.proofs.Common.{◌∙◌, ap, subst, sym, arith, length}
+use Rattle.std.proofs.Common.{◌∙◌, ap, subst, sym, arith}
 use Rattle.cvl_base.specs.Gives.{Gives}
 use Rattle.cvl_base.specs.Permutes.{all_destinations}
-use Rattle.cvl_base.proofs.Permutes.{length-all_destinations}
 use Rattle.segment_sends.specs.Parts.{parts_of}
 use Rattle.segment_sends.proofs.Through.{destinations-parts, places-parts}
 use Rattle.segmented_permutes.proofs.FlatIndices.{raced_flat, destinations_all}

@@ -1,4 +1,4 @@
-use Rattle.std.proofs.Common.{◌-◌, ◌≤◌, false, arith, length, map, take, refl, ap, ◌∙◌, None}
+use Rattle.std.proofs.Common.{◌≤◌, false, arith, length, map, take, refl, ap, ◌∙◌, None}
 use Rattle.std.proofs.lemmas.List.{length-map, map-id, take_all}
 use Rattle.cvl_base.specs.Folds.{fold_of}
 use Rattle.cvl_base.specs.SegmentMonoid.{seg_join, seg_unit}

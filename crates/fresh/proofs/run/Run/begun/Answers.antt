@@ -1,7 +1,7 @@
-use Rattle.std.proofs.Common.{◌≡◌, ◌-◌, [], ap, ◌∙◌, length, arith}
+use Rattle.std.proofs.Common.{◌≡◌, ◌-◌, [], ◌∙◌, arith}
 use Rattle.std.proofs.lemmas.List.{nil_from_length}
 use Rattle.fresh.specs.Places.{stretch}
-use Rattle.fresh.proofs.Places.{begun, somes_filled}
+use Rattle.fresh.proofs.Places.{begun}
 use Rattle.fresh.proofs.run.Run.begun.Goals as goal
 
 pub invariant_of-result : goal.invariant_of-result

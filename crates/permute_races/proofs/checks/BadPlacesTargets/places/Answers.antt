@@ -1,4 +1,4 @@
-use Rattle.std.proofs.Common.{◌∙◌, ℕ, arith, option_map}
+use Rattle.std.proofs.Common.{ℕ, arith, option_map}
 use Rattle.permute_races.proofs.Raced.{long-shown}
 use Rattle.permute_races.proofs.checks.BadPlacesTargets.places.Goals as goal
 

@@ -1,4 +1,4 @@
-use Rattle.std.proofs.Common.{◌≡◌, ◌<◌, ◌∙◌, ap, sym, None}
+use Rattle.std.proofs.Common.{◌∙◌, ap, sym, None}
 use Rattle.cvl_base.specs.Permutes.{destination_if}
 use Rattle.permute_races.specs.Races.{slot_of}
 use Rattle.permute_races.proofs.Raced.{shown-at}

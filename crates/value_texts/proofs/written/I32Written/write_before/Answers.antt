@@ -2,7 +2,7 @@ use Rattle.std.proofs.Common.{◌≡◌, ℕ, ◌+◌, ◌-◌, ◌^◌, ◌<◌
 use Rattle.std.specs.Int.{from_bool}
 use Rattle.std.proofs.lemmas.Fmt.{length-decimal-le}
 use Rattle.std.specs.Fmt.{decimal}
-use Rattle.value_texts.proofs.DecimalTexts.{digits_at_end, with_sign, from_bool_small, short}
+use Rattle.value_texts.proofs.DecimalTexts.{digits_at_end, with_sign, short}
 use Rattle.value_texts.proofs.written.I32Written.write_before.Goals as goal
 
 pub write_digits-requires : goal.write_digits-requires
