@@ -27,7 +27,8 @@ lists_of_both bytes front back rest last xs ys all lens others both whole ends o
   lengths_are = both_are ∙ ap (λ (l : List ℤ). l ++ others) one.lengths_are ∙ ap (λ (l : List ℤ). map pos (map length one.lists) ++ l) two.lengths_are
       ∙ sym (ap (map pos) (map-append length one.lists two.lists) ∙ map-append pos (map length one.lists) (map length two.lists));
   marks = ap marks_of (sym whole) ∙ marks_of_both front back ends
-      ∙ ap (λ (ms : List Mark). ms ++ marks_of back) (one.marks ∙ ap (λ (ms : List Mark). flat_map list_marks one.lists ++ ms) (none_left (marks_of rest) none) ∙ append-nil (flat_map list_marks one.lists))
+      ∙ ap (λ (ms : List Mark). ms ++ marks_of back) (one.marks ∙ ap (λ (ms : List Mark). flat_map list_marks one.lists ++ ms) (none_left (marks_of rest) none)
+      ∙ append-nil (flat_map list_marks one.lists))
       ∙ ap (λ (ms : List Mark). flat_map list_marks one.lists ++ ms) two.marks
       ∙ sym (append_assoc (flat_map list_marks one.lists) (flat_map list_marks two.lists) (marks_of last))
       ∙ ap (λ (ms : List Mark). ms ++ marks_of last) (sym (flat_map-append list_marks one.lists two.lists));

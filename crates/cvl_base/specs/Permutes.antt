@@ -65,7 +65,8 @@ sent_to source destinations d = option_map (λ p. p.1) (find (λ p. is_destinati
 
 -- what was sent to the places 0 to m - 1
 abbrev pub sent_to_all : {X : Type 0} → List X → List (Option ℤ) → ℕ → Result (List X) Fault
-sent_to_all source destinations m = unless (first_fault 0 (wrongs m destinations)) (Ok (filter_map (sent_to source destinations) (range_with_len 0 m)))
+sent_to_all source destinations m = unless (first_fault 0 (wrongs m destinations))
+    (Ok (filter_map (sent_to source destinations) (range_with_len 0 m)))
 
 -- what was sent to each place, or the default there
 abbrev pub sent_over : {X : Type 0} → List X → List (Option ℤ) → List X → Result (List X) Fault

@@ -29,7 +29,8 @@ parts_typed v b o n e fn = subst (λ (z : Val). T (has_ty (layout (Tuple (RawPtr
 module _ (E : El) {M : Type 1} {𝓤 : Ura M} {𝓛 : Logic 𝓤} {K : Type 0} {Γ : List (Item 𝓤)} {G : Goal 𝓤 𝓛.H} where
   -- the row's two words are learned, and the row stays
   pub row_seen : K → (r : (Row E).Denot) (vs : List Val)
-      → ((b o : ℕ) → slots_ptr r ≡ block_ptr b o → vs ≡ row_val b o (slots_len r) ∷ [] → slots_len r < 2 ^ 64 → slots_len r * Core.sz E < 2 ^ 63 → Seq K 𝓛 (‵ ((Row E).own_val r (row_val b o (slots_len r) ∷ [])) ∷ Γ) G)
+      → ((b o : ℕ) → slots_ptr r ≡ block_ptr b o → vs ≡ row_val b o (slots_len r) ∷ [] → slots_len r < 2 ^ 64 → slots_len r * Core.sz E < 2 ^ 63
+      → Seq K 𝓛 (‵ ((Row E).own_val r (row_val b o (slots_len r) ∷ [])) ∷ Γ) G)
       → Seq K 𝓛 (‵ ((Row E).own_val r vs) ∷ Γ) G
   row_seen t r vs k = row_had E t r vs (λ b o at e fn fit. row_made E t r b o at fn fit $ k b o at e fn fit)
 
@@ -62,11 +63,13 @@ module _ (E : El) {M : Type 1} {𝓤 : Ura M} (𝓛 : Logic 𝓤) (at_mem : Memo
         (H.⇛ (ex 𝓤 (λ (r : (Row E).Denot). guard 𝓤 ((v ≡ row_val b o n) × Made r) (sep 𝓤 (sem 𝓛 ((Row E).own_val r (row_val b o n ∷ []))) (A.lft κ q)))))
     from_gives v =
         qed 𝓛 (raw (From.post at_from v) ∷ []) ∵ updating ! $
-        use1 𝓛 (later (some (λ (r : (Row E).Denot). ((‵ (flft κ q) ⊛ ‵ ftrue) ⊛ ‵ ((Row E).own_val r (v ∷ []))) ⊛ some (λ (ws : Unit {0} × (Unit {0} × Unit {0})). ‵ (fsep ftrue (fsep ftrue ftrue)) ⊛ raw (fact 𝓤 (Made r)))))) (id⊢ 𝓤 _) $ await ! tt $ pick ! (λ r.
+        use1 𝓛 (later (some (λ (r : (Row E).Denot). ((‵ (flft κ q) ⊛ ‵ ftrue) ⊛ ‵ ((Row E).own_val r (v ∷ [])))
+        ⊛ some (λ (ws : Unit {0} × (Unit {0} × Unit {0})). ‵ (fsep ftrue (fsep ftrue ftrue)) ⊛ raw (fact 𝓤 (Made r)))))) (id⊢ 𝓤 _) $ await ! tt $ pick ! (λ r.
         split ! $ move ! (1 ∷ []) $ pick ! (λ ws. split ! $ drop ! $ heard ! (Made r) (λ is. split ! $ split ! $ move ! (2 ∷ []) $ row_seen E ! r (v ∷ []) (λ b' o' at e fn fit.
         let same : row_val b' o' (slots_len r) ≡ row_val b o n = λ i. words_val ((sym at ∙ is.0) i) (is.1 i) in
         rewrite ! 0 (λ (u : Val). ‵ ((Row E).own_val r (u ∷ []))) same refl $ now ! $
-        show ! (λ (d : (Row E).Denot). guard 𝓤 ((v ≡ row_val b o n) × Made d) (sep 𝓤 (sem 𝓛 ((Row E).own_val d (row_val b o n ∷ []))) (A.lft κ q))) r $ check ! (ap only e ∙ same, is) $ keep ! (0 ∷ 1 ∷ []) $ done !))))
+        show ! (λ (d : (Row E).Denot). guard 𝓤 ((v ≡ row_val b o n) × Made d) (sep 𝓤 (sem 𝓛 ((Row E).own_val d (row_val b o n ∷ []))) (A.lft κ q))) r $ check ! (ap only e ∙ same, is) $
+        keep ! (0 ∷ 1 ∷ []) $ done !))))
 
   module _ (κ : Lft) (q : Share) (r : (Row E).Denot) (b o : ℕ) where
     abbrev pub at_into : Into.Ghost

@@ -1,5 +1,6 @@
 -- What contracts see of a run of places and of the room of a vector to be.
-use Rattle.std.specs.Prelude.{◌≡◌, ℕ, ◌+◌, ◌-◌, ◌^◌, ◌<◌, ◌≤◌, List, [], ◌∷◌, ◌++◌, map, length, replicate, slice_index_or, Option, Some, None, refl}
+use Rattle.std.specs.Prelude.{◌≡◌, ℕ, ◌+◌, ◌-◌, ◌^◌, ◌<◌, ◌≤◌, List, [], ◌∷◌, ◌++◌, map, length, replicate, slice_index_or, Option, Some}
+use Rattle.std.specs.Prelude.{None, refl}
 use Rattle.std.specs.Coded.{Coded, code_by, coded×, coded_list, coded_ℕ}
 use denote.RawPtr.{Ptr, coded_ptr}
 use Rattle.fresh.specs.declared.cells.Cells.{Cells}
@@ -20,7 +21,8 @@ pub record Site : Type 0 where
 module _ {X : Type 0} where
   abbrev pub stretch_code : Coded X → Coded (Stretch X)
   stretch_code c = code_by (Ptr × (ℕ × (List X × ℕ))) (coded× coded_ptr (coded× coded_ℕ (coded× (coded_list c) coded_ℕ)))
-      (λ s. (s.block, (s.first, (s.items, s.room)))) (λ p. record { block = p.0; first = p.1.0; items = p.1.1.0; room = p.1.1.1 }) (λ _. refl)
+      (λ s. (s.block, (s.first, (s.items, s.room)))) (λ p. record { block = p.0; first = p.1.0; items = p.1.1.0; room = p.1.1.1 })
+      (λ _. refl)
 
   abbrev pub stretch : Ptr → ℕ → List X → ℕ → Stretch X
   stretch block first items room = record { block = block; first = first; items = items; room = room }

@@ -26,7 +26,8 @@ module _ (targets : List (Option ℕ)) (slots tiles workers : ℕ) where
         let words = set s.words slots (found + 1) in
         let dealt = claim tiles workers found (get_or words slots 0) s.views id p (on_least_hand (λ h. hand_given h found) p) ruled.kept.dealt at refl below share
         (get_or-set_at s.words slots slots (found + 1) 0 refl (omega (arith, ruled.long))) in
-        let kept = hand_keeps targets slots tiles workers found (λ x. get_or s.words x 0) s.views id p ruled.kept at share (get_or words slots 0) (λ x. get_or words x 0) (λ h. hand_given h found) share
+        let kept = hand_keeps targets slots tiles workers found (λ x. get_or s.words x 0) s.views id p ruled.kept at share (get_or words slots 0) (λ x. get_or words x 0)
+        (λ h. hand_given h found) share
         (λ x within. get_or-set_other s.words slots x (found + 1) 0 (λ e. omega arith)) dealt.0 in
         (record { long = omega (arith, length-set {A = ℕ}, ruled.long); kept = kept }, dealt.1);
     ends = λ s id p ruled at past room.
@@ -45,7 +46,8 @@ module _ (targets : List (Option ℕ)) (slots tiles workers : ℕ) where
   lower_allowed same homes id me slot place below target one s ruled home at fits =
       let v = min (get_or s.words slot 0) place in
       let claims = get_or s.words slots 0 in
-      let kept = lower_keeps targets slots tiles workers claims (λ x. get_or s.words x 0) s.views id me.0 ruled.kept at (omega arith) same (λ x. get_or (set s.words slot v) x 0) slot place below target
+      let kept = lower_keeps targets slots tiles workers claims (λ x. get_or s.words x 0) s.views id me.0 ruled.kept at (omega arith) same
+      (λ x. get_or (set s.words slot v) x 0) slot place below target
       (get_or-set_at s.words slot slot v 0 refl (omega (arith, ruled.long))) (λ x within differ. get_or-set_other s.words slot x v 0 differ) in
       let stays : get_or (set s.words slot v) slots 0 ≡ claims = get_or-set_other s.words slot slots v 0 (λ e. omega arith) in (
         place_lowered me.0 slot place,

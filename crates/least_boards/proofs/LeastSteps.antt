@@ -12,7 +12,8 @@ use Rattle.status_word.specs.declared.pass.Hand.{Hand}
 use Rattle.status_word.specs.RuleSteps.{FirstDeals, JoinDeals, SameDeals, SplitDeals}
 use Rattle.least_boards.specs.declared.least_pass.LeastPass.{LeastPass}
 use Rattle.least_boards.specs.declared.least_pass.Low.{Low}
-use Rattle.least_boards.specs.LeastPasses.{first_least_pass, known_in, least_passes_joined, lowered_in, lowest, lowest_of, no_place, on_least_hand, place_lowered, place_seen, seen_in, spent_least_pass, split_least_left, split_least_right}
+use Rattle.least_boards.specs.LeastPasses.{first_least_pass, known_in, least_passes_joined, lowered_in, lowest, lowest_of, no_place, on_least_hand, place_lowered, place_seen, seen_in}
+use Rattle.least_boards.specs.LeastPasses.{spent_least_pass, split_least_left, split_least_right}
 use Rattle.least_boards.specs.LeastRules.{IsLeastFair, IsLeastKept, IsOfSlot, IsPlaced}
 use Rattle.least_boards.proofs.Lowest.{lowest_at, lowest_joined, lowest_most, lowest_push, lowest_same, lowest_set, lows-append}
 use Rattle.status_word.proofs.Places.{element_at, set_else}

@@ -1,5 +1,6 @@
 -- What the boards of a permute are shown, and what follows of what they tell.
-use Rattle.std.proofs.Common.{◌≡◌, ◌∙◌, ℕ, zero, suc, ◌+◌, ◌-◌, ◌<◌, ◌≤◌, Bool, true, false, not, ◌||◌, if◌then◌else◌, List, [], ◌∷◌, length, map, take, get_or, min, refl, sym, ap, arith, inl, inr, eqb, eq-eqb, ltb}
+use Rattle.std.proofs.Common.{◌≡◌, ◌∙◌, ℕ, zero, suc, ◌+◌, ◌-◌, ◌<◌, ◌≤◌, Bool, true, false, not, ◌||◌, if◌then◌else◌, List, [], ◌∷◌, length, map, take, get_or, min, refl, sym, ap, arith, inl, inr}
+use Rattle.std.proofs.Common.{eqb, eq-eqb, ltb}
 use Rattle.std.proofs.Common.{ℤ, pos, negsuc, option_map, unwrap_or, Option, Some, None, Ok, Err, unsigned_abs}
 use Rattle.std.specs.List.{list_any, enumerate_from}
 use Rattle.std.proofs.lemmas.Bool.{lt-ltb, ltb-true}
@@ -158,7 +159,8 @@ first_bad place (Some number ∷ ws) q some =
       ap (λ p. Some (fault_at number p)) same ∙ ap (λ n. option_map (λ no. fault_at no q) (get_or (Some number ∷ ws) n None)) here,
     )
 
-pub none_found : (ws : List (Option FaultNo)) (o : Option ℕ) → length ws ≤ most_elements → o ≡ least_from 0 (bad_slots ws) 0 → o ≡ None → unless {Y = Unit {0}} (first_fault 0 ws) (Ok (tt {0})) ≡ Ok (tt {0})
+pub none_found : (ws : List (Option FaultNo)) (o : Option ℕ) → length ws ≤ most_elements → o ≡ least_from 0 (bad_slots ws) 0 → o ≡ None
+    → unless {Y = Unit {0}} (first_fault 0 ws) (Ok (tt {0})) ≡ Ok (tt {0})
 none_found ws o few least none =
     ap (λ f. unless {Y = Unit {0}} f (Ok (tt {0}))) (none_bad 0 ws (ap (λ ss. least_from 0 ss 0) (sym (shown-all (λ w. option_map (λ number. 0) w) ws few)) ∙ sym least ∙ none))
 
@@ -175,7 +177,8 @@ pub checked_ok : (one other : Option Fault) (senders items : List ℕ) → one �
 checked_ok None other senders items same right are = ap (λ o. unless o (Ok senders)) (sym same) ∙ ap Ok (sym are)
 checked_ok (Some f) other senders items same right are = absurd (cc)
 
-pub checked_err : {V X : Type 0} (view : V → List X) (one other : Option Fault) (senders : List X) (e : Refused) → one ≡ other → Gives {X = Unit {0}} {Y = Unit {0}} (λ u. u) (Err e) (unless one (Ok (tt {0})))
+pub checked_err : {V X : Type 0} (view : V → List X) (one other : Option Fault) (senders : List X) (e : Refused) → one ≡ other
+    → Gives {X = Unit {0}} {Y = Unit {0}} (λ u. u) (Err e) (unless one (Ok (tt {0})))
     → Gives view (Err e) (unless other (Ok senders))
 checked_err view (Some g) other senders (refused.Fault f) same given = let is : g ≡ f = cc in ap (λ o. unless o (Ok senders)) (sym same) ∙ ap Err is
 checked_err view None other senders (refused.Fault f) same given = absurd (cc)
@@ -194,7 +197,8 @@ module _ (senders : List ℕ) (ts : List (Option ℤ)) (k : ℕ) (lt : k < lengt
   pub wrong_outside : takes ≡ true → None ≡ place_among (length senders) i → get_or (wrongs_beside senders ts) k None ≡ Some IndexOutOfRange
   wrong_outside same none = wrong_now true same ∙ out_if (is_place (length senders) i) (unsigned_abs i) _ none
 
-  pub wrong_inside : (d : ℕ) (b : Bool) → takes ≡ true → i ≡ pos d → d < length senders → eqb (get_or senders d 0) k ≡ b → get_or (wrongs_beside senders ts) k None ≡ (if b then None else Some IndexRepeated)
+  pub wrong_inside : (d : ℕ) (b : Bool) → takes ≡ true → i ≡ pos d → d < length senders → eqb (get_or senders d 0) k ≡ b
+      → get_or (wrongs_beside senders ts) k None ≡ (if b then None else Some IndexRepeated)
   wrong_inside d b same named below equal =
       wrong_now true same
       ∙ ap (λ j. wrong_beside senders k (Some j)) named

@@ -1,6 +1,7 @@
 -- What the boards of a permute look for: for each place of the result the least place that is sent there, and then the least bad place.
 -- Source: CVL's permute, d[i[k]] = s[k]; which of two places counts is this library's profile.
-use Rattle.std.specs.Prelude.{ℕ, ◌==◌, ℤ, not, if◌then◌else◌, unsigned_abs, List, length, map, take, slice_index, option_map, Option, Some, None}
+use Rattle.std.specs.Prelude.{ℕ, ◌==◌, ℤ, not, if◌then◌else◌, unsigned_abs, List, length, map, take, slice_index, option_map, Option, Some}
+use Rattle.std.specs.Prelude.{None}
 use Rattle.std.specs.List.{enumerate_from}
 use Rattle.cvl_base.specs.Limits.{most_elements}
 use Rattle.cvl_base.specs.Permutes.{is_place, place_among}

@@ -48,7 +48,8 @@ module _ {X : Type 0} (source : List X) (few : length source ≤ nobody) where
     taken_part m = same_filter (slice_get source) (sender_from place ts) (sent_to (part source place n) ts) each 0 m
 
     -- the elements or defaults of the senders
-    pub over_part : (defaults : List X) → written_over source (senders_of place ts (length defaults)) defaults ≡ map (λ p. unwrap_or (sent_to (part source place n) ts p.0) p.1) (enumerate_from 0 defaults)
+    pub over_part : (defaults : List X) → written_over source (senders_of place ts (length defaults)) defaults
+        ≡ map (λ p. unwrap_or (sent_to (part source place n) ts p.0) p.1) (enumerate_from 0 defaults)
     over_part defaults = same_over (slice_get source) (sender_from place ts) (sent_to (part source place n) ts) each 0 defaults
 
 -- the destinations are of the whole source
@@ -60,7 +61,8 @@ taken_flat source ts m long few =
 pub taken_over_flat : {X : Type 0} (source : List X) (ts : List (Option ℤ)) (defaults : List X) → length source ≡ length ts → length source ≤ nobody
     → written_over source (senders_of 0 ts (length defaults)) defaults ≡ map (λ p. unwrap_or (sent_to source ts p.0) p.1) (enumerate_from 0 defaults)
 taken_over_flat source ts defaults long few =
-    over_part source few 0 (length source) ts (sym long) (omega arith) defaults ∙ ap (λ xs. map (λ p. unwrap_or (sent_to xs ts p.0) p.1) (enumerate_from 0 defaults)) (take_all (length source) source (omega arith))
+    over_part source few 0 (length source) ts (sym long) (omega arith) defaults ∙ ap (λ xs. map (λ p. unwrap_or (sent_to xs ts p.0) p.1) (enumerate_from 0 defaults))
+    (take_all (length source) source (omega arith))
 
 -- ---- how many
 

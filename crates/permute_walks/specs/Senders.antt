@@ -1,6 +1,7 @@
 -- The last senders of a range of a permute's result, and what the elements of senders make of what stood there.
 -- Source: CVL's permute, d[i[k]] = s[k], in which k is the sender of its index.
-use Rattle.std.specs.Prelude.{◌≡◌, ℕ, ◌+◌, ◌==◌, ℤ, pos, negsuc, Bool, false, not, ◌&&◌, nat_le, nat_lt, get_or, take, if◌then◌else◌, List, [], ◌∷◌, count_by, length, map}
+use Rattle.std.specs.Prelude.{◌≡◌, ℕ, ◌+◌, ◌==◌, ℤ, pos, negsuc, Bool, false, not, ◌&&◌, nat_le, nat_lt, get_or, take, if◌then◌else◌, List}
+use Rattle.std.specs.Prelude.{[], ◌∷◌, count_by, length, map}
 use Rattle.std.specs.Prelude.{is_some, slice_get, Option, Some, None, unwrap_or}
 use Rattle.std.specs.List.{filter, range_with_len, zip}
 use Rattle.permute_walks.specs.Marks.{mark_words}
@@ -40,10 +41,12 @@ is_between lowest end (Some (negsuc d)) = false
 
 -- which of so many places from `first` on are sent there
 abbrev pub places_between : List (Option ℤ) → ℕ → ℕ → ℕ → ℕ → List ℕ
-places_between destinations lowest end first many = filter (λ k. is_between lowest end (get_or destinations k None)) (range_with_len first many)
+places_between destinations lowest end first many = filter (λ k. is_between lowest end (get_or destinations k None))
+    (range_with_len first many)
 
 -- What the first k places leave in the range of the result from `lowest` on, over what stood there: the element of the last sender of each
 -- place, and a mark at each that has one.
-pub record IsWrittenTo {X : Type 0} (source : List X) (destinations : List (Option ℤ)) (lowest : ℕ) (before : List X) (k : ℕ) (room : List X) (marks : List ℕ) : Type 0 where
+pub record IsWrittenTo {X : Type 0} (source : List X) (destinations : List (Option ℤ)) (lowest : ℕ) (before : List X) (k : ℕ)
+    (room : List X) (marks : List ℕ) : Type 0 where
   pub written : room ≡ written_over source (last_senders 0 (take k destinations) lowest (length before)) before
   pub marked : marks ≡ mark_words (sent_marks (last_senders 0 (take k destinations) lowest (length before)))

@@ -20,7 +20,8 @@ use Rattle.permutes.proofs.Told.{IsSent, IsSentOver, IsTold}
 
 -- ---- the calls
 
-flat_sent : {X : Type 0} (source : List X) (ts : List (Option ℤ)) (m : ℕ) (meaning : Result (List X) Fault) → meaning ≡ sent_to_all source ts m → length source ≡ length ts → length source ≤ most_elements
+flat_sent : {X : Type 0} (source : List X) (ts : List (Option ℤ)) (m : ℕ) (meaning : Result (List X) Fault) → meaning ≡ sent_to_all source ts m → length source ≡ length ts
+    → length source ≤ most_elements
     → sum_by takes_part ts ≡ m → IsSent source meaning (first_fault 0 (wrongs m ts)) (senders_of 0 ts m) m
 flat_sent source ts m meaning is long few as_many = record {
   is = is ∙ ap (λ xs. unless (first_fault 0 (wrongs m ts)) (Ok xs)) (sym (taken_flat source ts m long (omega arith)));
@@ -32,7 +33,8 @@ flat_sent source ts m meaning is long few as_many = record {
 module _ {X : Type 0} (source : List X) (index : List ℤ) (long : length source ≡ length index) (few : length index ≤ most_elements) where
   pub simple_sent : IsSent source (simple_of source index) (first_fault 0 (wrongs (length index) (all_destinations index))) (senders_of 0 (all_destinations index) (length index)) (length index)
   simple_sent =
-      flat_sent source (all_destinations index) (length index) (simple_of source index) (if_as_long-fits source index _ long) (long ∙ sym (length-all_destinations index)) (omega arith) (all_take_part index)
+      flat_sent source (all_destinations index) (length index) (simple_of source index) (if_as_long-fits source index _ long) (long ∙ sym (length-all_destinations index)) (omega arith)
+      (all_take_part index)
 
   pub select_sent : (flags : List Bool) (places : ℕ) → places ≡ count_of flags → length index ≡ length flags
       → IsSent source (select_of source index flags) (first_fault 0 (wrongs places (flagged_destinations index flags))) (senders_of 0 (flagged_destinations index flags) places) places

@@ -73,7 +73,8 @@ module _ {X : Type 0} {meaning : Result (List X) Fault} {first : Option Fault} {
     mismatch_or answer is = told_or (in_room (length before) meaning) answer (refused.Fault f) before is (differs_in_room, refl)
 
 -- what is taken of the senders that were found
-pub taken_told : {X : Type 0} (taken : List ℕ → List X) (first : Option Fault) (senders : List ℕ) (places : ℕ) → length (taken senders) ≡ places → IsTold (unless first (Ok (taken senders))) first (taken senders) places
+pub taken_told : {X : Type 0} (taken : List ℕ → List X) (first : Option Fault) (senders : List ℕ) (places : ℕ) → length (taken senders) ≡ places
+    → IsTold (unless first (Ok (taken senders))) first (taken senders) places
 taken_told taken first senders places long = record { is = refl; long = λ none. long }
 
 -- ---- the first fault, or else the elements of the senders, all of whom are places of the source

@@ -50,5 +50,6 @@ module _ {M : Type 1} {𝓤 : Ura M} (𝓛 : Logic 𝓤) (at_mem : Memory → SP
   pub Frees-gives : (v : Val) → ent 𝓤 ((Frees 𝓛 at_mem run).post (at_frees 𝓛 at_mem run κ q c x) v) (H.⇛ (guard 𝓤 (v ≡ vunit) (A.lft κ q)))
   Frees-gives v =
       qed 𝓛 (types.Kit.raw ((Frees 𝓛 at_mem run).post (at_frees 𝓛 at_mem run κ q c x) v) ∷ []) ∵ updating ! $
-      use1 𝓛 (later (some (λ (r : Unit {0}). ((‵ (flft κ q) ⊛ ‵ ftrue) ⊛ ‵ (unit.own_val r (v ∷ []))) ⊛ some (λ (ws : Unit {0} × Unit {0}). ‵ (fsep ftrue ftrue) ⊛ ‵ ftrue)))) (id⊢ 𝓤 _) $ await ! tt $ pick ! (λ r.
+      use1 𝓛 (later (some (λ (r : Unit {0}). ((‵ (flft κ q) ⊛ ‵ ftrue) ⊛ ‵ (unit.own_val r (v ∷ []))) ⊛ some (λ (ws : Unit {0} × Unit {0}). ‵ (fsep ftrue ftrue) ⊛ ‵ ftrue)))) (id⊢ 𝓤 _) $ await ! tt $
+      pick ! (λ r.
       split ! $ split ! $ move ! (1 ∷ []) $ feq_l ! (λ e. split ! $ at_once ! $ check ! (ap only e) $ keep ! (0 ∷ []) $ done !))

@@ -83,4 +83,5 @@ module _ (n : ℕ) (lengths : List ℕ) (xs : List ℤ) (total : sum lengths ≡
   scans_overflow lt = scans_valued lengths xs total ∙ one_overflows n (scans_of ◌+ℤ◌ (pos 0) lengths xs) is (omega (arith, lt, length-scans_of ◌+ℤ◌ (pos 0) lengths xs (omega (arith, total))))
 
   pub scans_fit : length xs ≤ n → checked_seg_scan_of xs lengths ≡ Ok (scans_of sum_of (pos 0) lengths xs)
-  scans_fit ge = scans_valued lengths xs total ∙ none_overflows n (scans_of ◌+ℤ◌ (pos 0) lengths xs) is _ (omega (arith, ge, length-scans_of ◌+ℤ◌ (pos 0) lengths xs (omega (arith, total)))) (wrapped_scans lengths xs)
+  scans_fit ge = scans_valued lengths xs total ∙ none_overflows n (scans_of ◌+ℤ◌ (pos 0) lengths xs) is _ (omega (arith, ge, length-scans_of ◌+ℤ◌ (pos 0) lengths xs (omega (arith, total))))
+      (wrapped_scans lengths xs)

@@ -42,7 +42,8 @@ from_before number None h = tt
 from_before number (Some stop) h = omega arith
 
 module _ {A : Type 0} where
-  stops_from_step : (number : ℕ) (step : Result (Stepped A) Fault) (rest : Entries A → Meaning) → ((names : Entries A) → IsFrom (number + 1) (rest names).stop) → IsFrom number (after_line number step rest).stop
+  stops_from_step : (number : ℕ) (step : Result (Stepped A) Fault) (rest : Entries A → Meaning) → ((names : Entries A) → IsFrom (number + 1) (rest names).stop)
+      → IsFrom number (after_line number step rest).stop
   stops_from_step number (Err f) rest h = omega arith
   stops_from_step number (Ok stepped) rest h = from_before number (rest stepped.names).stop (h stepped.names)
 
@@ -65,18 +66,21 @@ text_at m done text others line e texts =
     rw (numbered, place, texts, unwrap_or-slice_get, get_or-append_seam) refl
 
 module _ {A : Type 0} where
-  reaches_step : (number : ℕ) (step : Result (Stepped A) Fault) (rest : Entries A → Meaning) (count : ℕ) → ((names : Entries A) → IsFrom (number + 1) (rest names).stop) → number ≡ count + 1 → number ≤ unwrap_or (option_map (λ s. s.0) (after_line number step rest).stop) (count + length (after_line number step rest).texts)
+  reaches_step : (number : ℕ) (step : Result (Stepped A) Fault) (rest : Entries A → Meaning) (count : ℕ) → ((names : Entries A) → IsFrom (number + 1) (rest names).stop) → number ≡ count + 1
+      → number ≤ unwrap_or (option_map (λ s. s.0) (after_line number step rest).stop) (count + length (after_line number step rest).texts)
   reaches_step number (Err f) rest count later e = omega arith
   reaches_step number (Ok stepped) rest count later e =
       reached_with number (rest stepped.names).stop (count + length (text_of_step stepped ∷ (rest stepped.names).texts))
       (from_before number (rest stepped.names).stop (later stepped.names)) (omega arith)
 
-  reaches : (m : Meaning) (number : ℕ) (step : Result (Stepped A) Fault) (rest : Entries A → Meaning) (before middle : Seen) → ((names : Entries A) → IsFrom (number + 1) (rest names).stop) → IsUnderway m (after_line number step rest) number before middle → Reaches m number
+  reaches : (m : Meaning) (number : ℕ) (step : Result (Stepped A) Fault) (rest : Entries A → Meaning) (before middle : Seen) → ((names : Entries A) → IsFrom (number + 1) (rest names).stop)
+      → IsUnderway m (after_line number step rest) number before middle → Reaches m number
   reaches m number step rest before middle later u =
       rw (u.stop, u.texts, length-append) (reaches_step number step rest (length u.done) later u.counted)
 
   -- the line has run, and its text is in the sink
-  pub went_on : (m : Meaning) (number : ℕ) (names : Entries A) (step : Result (Stepped A) Fault) (rest : Entries A → Meaning) (before middle after : Seen) → IsUnderway m (after_line number step rest) number before middle → LineRuns number step names middle after (Ok tt) → IsUnderway m (rest names) (number + 1) before after
+  pub went_on : (m : Meaning) (number : ℕ) (names : Entries A) (step : Result (Stepped A) Fault) (rest : Entries A → Meaning) (before middle after : Seen)
+      → IsUnderway m (after_line number step rest) number before middle → LineRuns number step names middle after (Ok tt) → IsUnderway m (rest names) (number + 1) before after
   went_on m number names step rest before middle after u ran =
       let ends = ran.ends in
       let text = text_of_step ends.0 in
@@ -92,7 +96,9 @@ module _ {A : Type 0} where
         shown = output_ok _ _ _ (rw e at shown);
       }
 
-  ends_as : (m : Meaning) (number : ℕ) (names : Entries A) (step : Result (Stepped A) Fault) (rest : Entries A → Meaning) (before middle : Seen) (written : List ℕ) (why : Stop) → ((after : Entries A) → IsFrom (number + 1) (rest after).stop) → (u : IsUnderway m (after_line number step rest) number before middle) → LineEndsAs number step names written (Err why) → EndsAs m (concat u.done ++ written) (Err why)
+  ends_as : (m : Meaning) (number : ℕ) (names : Entries A) (step : Result (Stepped A) Fault) (rest : Entries A → Meaning) (before middle : Seen) (written : List ℕ) (why : Stop)
+      → ((after : Entries A) → IsFrom (number + 1) (rest after).stop) → (u : IsUnderway m (after_line number step rest) number before middle) → LineEndsAs number step names written (Err why)
+      → EndsAs m (concat u.done ++ written) (Err why)
   ends_as m number names step rest before middle written (stop.Script line f) later u ends =
       let texts : m.texts ≡ u.done = (rw ends.1 at u.texts) ∙ append-nil u.done in
       (rw ends.0 (rw ends.1 at u.stop), rw (ends.2, append-nil, texts) refl)
@@ -113,7 +119,9 @@ module _ {A : Type 0} where
       }
 
   -- the run ended at the line
-  pub stopped : (m : Meaning) (number : ℕ) (names : Entries A) (step : Result (Stepped A) Fault) (rest : Entries A → Meaning) (before middle after : Seen) (why : Stop) → ((names : Entries A) → IsFrom (number + 1) (rest names).stop) → IsUnderway m (after_line number step rest) number before middle → LineRuns number step names middle after (Err why) → Runs m before after (Err why)
+  pub stopped : (m : Meaning) (number : ℕ) (names : Entries A) (step : Result (Stepped A) Fault) (rest : Entries A → Meaning) (before middle after : Seen) (why : Stop)
+      → ((names : Entries A) → IsFrom (number + 1) (rest names).stop) → IsUnderway m (after_line number step rest) number before middle → LineRuns number step names middle after (Err why)
+      → Runs m before after (Err why)
   stopped m number names step rest before middle after why later u ran =
       record {
         written = concat u.done ++ ran.written;
@@ -122,14 +130,17 @@ module _ {A : Type 0} where
       }
 
   -- the line has run, and the others go on from the names that it leaves
-  pub left_on : (number : ℕ) (names after : Entries A) (inputs : List (Input A)) (line : List ℕ) (others : List (List ℕ)) (before middle : Seen) → LineRuns number (line_step names inputs line) after before middle (Ok tt) → names_left names inputs (line ∷ others) ≡ names_left after inputs others
+  pub left_on : (number : ℕ) (names after : Entries A) (inputs : List (Input A)) (line : List ℕ) (others : List (List ℕ)) (before middle : Seen)
+      → LineRuns number (line_step names inputs line) after before middle (Ok tt) → names_left names inputs (line ∷ others) ≡ names_left after inputs others
   left_on number names after inputs line others before middle ran =
       let ends = ran.ends in
       ap (λ r. names_after_line names r (λ next. names_left next inputs others)) ends.1
       ∙ ap (λ next. names_left next inputs others) (sym ends.2)
 
   -- a line with a fault is the last that runs, and leaves the names as they were
-  pub left_at_stop : (number : ℕ) (names after left : Entries A) (inputs : List (Input A)) (line : List ℕ) (others : List (List ℕ)) (before middle : Seen) (why : Stop) → left ≡ names_left names inputs (line ∷ others) → LineRuns number (line_step names inputs line) after before middle (Err why) → AtFault (Err why) (after ≡ names) → AtEnd (Err why) (after ≡ left)
+  pub left_at_stop : (number : ℕ) (names after left : Entries A) (inputs : List (Input A)) (line : List ℕ) (others : List (List ℕ)) (before middle : Seen) (why : Stop)
+      → left ≡ names_left names inputs (line ∷ others) → LineRuns number (line_step names inputs line) after before middle (Err why) → AtFault (Err why) (after ≡ names)
+      → AtEnd (Err why) (after ≡ left)
   left_at_stop number names after left inputs line others before middle (stop.Script at f) is ran kept =
       let ends = ran.ends in
       kept ∙ sym (is ∙ ap (λ r. names_after_line names r (λ next. names_left next inputs others)) ends.1)
@@ -137,7 +148,8 @@ module _ {A : Type 0} where
   left_at_stop number names after left inputs line others before middle (stop.WriteFailed at) is ran kept = tt
 
   -- the line's read or call is refused
-  pub refused_line : (number : ℕ) (why : Refused) (meaning : Result (Stepped A) Fault) (names : Entries A) (s : Seen) → ((f : Fault) → why ≡ refused.Fault f → meaning ≡ Err f) → LineRuns number meaning names s s (Err (refused_at number why))
+  pub refused_line : (number : ℕ) (why : Refused) (meaning : Result (Stepped A) Fault) (names : Entries A) (s : Seen) → ((f : Fault) → why ≡ refused.Fault f → meaning ≡ Err f)
+      → LineRuns number meaning names s s (Err (refused_at number why))
   refused_line number (refused.Fault f) meaning names s is =
       record { written = []; ends = (refl, is f refl, refl); shown = nothing_answered (Err (stop.Script number f)) s refl }
   refused_line number refused.NoResources meaning names s is =

@@ -1,6 +1,7 @@
 -- What a host shows, and what its calls do with it. A sink is a host that has standard output alone.
 -- Source: this library's program.
-use Rattle.std.specs.Prelude.{◌≡◌, ◌⊎◌, ℕ, ◌+◌, ◌<◌, Bool, true, false, ◌&&◌, ◌||◌, List, [], ◌∷◌, ◌++◌, length, take, Option, Some, None, option_map}
+use Rattle.std.specs.Prelude.{◌≡◌, ◌⊎◌, ℕ, ◌+◌, ◌<◌, Bool, true, false, ◌&&◌, ◌||◌, List, [], ◌∷◌, ◌++◌, length, take, Option, Some, None}
+use Rattle.std.specs.Prelude.{option_map}
 
 -- a file was asked for by its name, and gave these bytes; none where it could not be read
 pub record Read : Type 0 where

@@ -1,7 +1,8 @@
 -- The meaning of a script: the text of each line that has run, and perhaps the line of the first fault with its fault.
 -- It knows neither tiles nor workers.
 -- Source: this library's script format.
-use Rattle.std.specs.Prelude.{ℕ, ◌+◌, ◌==◌, nat_lt, List, [], ◌∷◌, map, length, Option, Some, None, option_map, unwrap_or, Result, Ok, Err, if◌then◌else◌}
+use Rattle.std.specs.Prelude.{ℕ, ◌+◌, ◌==◌, nat_lt, List, [], ◌∷◌, map, length, Option, Some, None, option_map, unwrap_or, Result, Ok, Err}
+use Rattle.std.specs.Prelude.{if◌then◌else◌}
 use Rattle.std.specs.List.{slice_split, concat}
 use Rattle.std.specs.Str.Lines.{strip_carriage_return}
 use Rattle.cvl_base.specs.declared.call.Call.{Call}

@@ -62,7 +62,8 @@ module _ {X : Type 0} (lists : List (List X)) (d : List ℕ) (lengths : d ≡ ma
   next_start s lt = sum_by_more (λ x. x) d s 0 lt
 
   -- so many more items of a segment
-  written-part : (old now next : Stretch X) (s from count : ℕ) → s < length d → from + count ≤ get_or d s 0 → next ≡ stretch now.block now.first (now.items ++ part (get_or lists s []) from count) (now.room - count)
+  written-part : (old now next : Stretch X) (s from count : ℕ) → s < length d → from + count ≤ get_or d s 0
+      → next ≡ stretch now.block now.first (now.items ++ part (get_or lists s []) from count) (now.room - count)
       → (w : Written lists d old s from now) → next ≡ stretch old.block old.first (part (joined lists) old.first (w.count + count)) (old.room - (w.count + count))
   written-part old now next s from count lt within after w =
       let here : start_of d s + from ≡ old.first + w.count = omega (arith, w.at) in

@@ -117,7 +117,8 @@ module _ (lengths : List ℕ) (index : List ℤ) (total : sum lengths ≡ length
           let start = places_ahead lengths lengths index refl s ∙ sym there in
           let place = destinations_ahead lengths lengths index refl s total ∙ sym there in
           let below = All-weaker (λ k. k < first + length ts) (λ k. k < length source) (λ k lt. omega (arith, lt, ts_long, room_within)) (senders_of first ts n)
-          (each_sent first ts n (omega (arith, ts_long, room_within, sourced, few)) (no_fault_at 0 first (wrongs n ts) (segment_right ∙ ap (λ k. first_fault 0 (wrongs k ts)) js_long)) (all_take_part js ∙ js_long)) in
+          (each_sent first ts n (omega (arith, ts_long, room_within, sourced, few)) (no_fault_at 0 first (wrongs n ts) (segment_right ∙ ap (λ k. first_fault 0 (wrongs k ts)) js_long))
+          (all_take_part js ∙ js_long)) in
           (λ i. filter_map (slice_get (ys_are i)) (senders_of 0 ts (js_long i)))
           ∙ taken_flat here ts n (here_long ∙ sym ts_long) (omega (arith, here_long, room_within, sourced, few))
           ∙ sym (taken_part source (omega (arith, sourced, few)) first n ts ts_long room_within n)

@@ -137,7 +137,8 @@ module _ {X : Type 0} {w : Sending X} {begin end : ℕ} {old : Stretch X} (share
       record {
         there = there;
         no_fault = refl;
-        is = (λ i. stretch old.block old.first (share.empty i) (room i)) ∙ ap (λ k. stretch old.block old.first (part whole old.first k) (places_in (take end parts) - places_in (take begin parts))) (sym none);
+        is = (λ i. stretch old.block old.first (share.empty i) (room i)) ∙ ap (λ k. stretch old.block old.first (part whole old.first k) (places_in (take end parts) - places_in (take begin parts)))
+            (sym none);
       }
 
   module _ {s place : ℕ} {run : Stretch X} (from : begin ≤ s) (upto : s ≤ end) (to : IsWalked w begin end s old place run) where
@@ -297,7 +298,8 @@ module _ {X : Type 0} {w : Sending X} {begin end : ℕ} {old : Stretch X} (share
         back_is : rest ≡ stretch old.block (old.first + k) back_items 0
         back_is = in_back.full.2 ∙ (λ i. stretch (ap (λ (r : Stretch X). r.block) back_cut i) (ap (λ (r : Stretch X). r.first) back_cut i) back_items 0)
 
-        pub shares_both : (joined : Stretch X) → joined ≡ stretch written.block written.first (written.items ++ rest.items) (written.room + rest.room) → IsWritten w begin end old joined (front_right && back_right)
+        pub shares_both : (joined : Stretch X) → joined ≡ stretch written.block written.first (written.items ++ rest.items) (written.room + rest.room)
+            → IsWritten w begin end old joined (front_right && back_right)
         shares_both joined are =
             let is : joined ≡ stretch old.block old.first (front_items ++ back_items) 0 =
             are ∙ (λ i. let w = front_is i in let r = back_is i in stretch w.block w.first (w.items ++ r.items) (w.room + r.room)) in

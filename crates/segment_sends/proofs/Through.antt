@@ -77,7 +77,8 @@ module _ {parts : List (ℕ × List (Option ℤ))} {place start s : ℕ} {sender
   pub range_fails : (f : Fault) → Some f ≡ first_fault place (wrongs (length range) ts) → Some f ≡ fault_from 0 parts
   range_fails f bad = sym (first_of_part ∙ ap (λ o. option_or o (fault_from (place + length ts) others)) (sym bad))
 
-  pub range_more : (sent new : List ℕ) (next : ℕ) → None ≡ first_fault place (wrongs (length range) ts) → sent ≡ senders_of place ts (length range) → new ≡ put_mid start (start + m - start) senders sent
+  pub range_more : (sent new : List ℕ) (next : ℕ) → None ≡ first_fault place (wrongs (length range) ts) → sent ≡ senders_of place ts (length range)
+      → new ≡ put_mid start (start + m - start) senders sent
       → place + length ts ≡ next → IsSentThrough parts next (start + m) (s + 1) new
   range_more sent new next right are put onward =
       let k = start + m - start in
@@ -215,7 +216,8 @@ module _ (lengths widths : List ℕ) (index : List ℤ) (count : length lengths 
   destinations_ahead total =
       ap sum (sym (take-map (λ (p : ℕ × List (Option ℤ)). length p.1) s (parts_of lengths widths index)) ∙ ap (take s) (each_long lengths widths index (omega (arith, total)) count))
 
-pub flagged_long : (lengths : List ℕ) (index : List ℤ) (flags : List Bool) → sum lengths ≤ length index → sum lengths ≤ length flags → map (λ p. length p.1) (flagged_parts lengths index flags) ≡ lengths
+pub flagged_long : (lengths : List ℕ) (index : List ℤ) (flags : List Bool) → sum lengths ≤ length index → sum lengths ≤ length flags
+    → map (λ p. length p.1) (flagged_parts lengths index flags) ≡ lengths
 flagged_long [] index flags total flag_total = refl
 flagged_long (n ∷ ns) index flags total flag_total =
     let all = sum-cons n ns in
@@ -236,7 +238,12 @@ start_within lengths s n total = omega (arith, total, sum_by-take-le (λ x. x) l
 pub flagged_width : (lengths : List ℕ) (index : List ℤ) (flags : List Bool) (s : ℕ) → s < length lengths → (get_or (flagged_parts lengths index flags) s (0, [])).0 ≤ get_or lengths s 0
 flagged_width lengths index flags s lt =
     let fs = take (get_or lengths s 0) (drop (sum (take s lengths)) flags) in
-    omega (arith, ap (λ (p : ℕ × List (Option ℤ)). p.0) (flagged_part_at lengths index flags s lt), count_by-le-length (λ (flag : Bool). flag) fs, length-take (get_or lengths s 0) (drop (sum (take s lengths)) flags))
+    omega (
+      arith,
+      ap (λ (p : ℕ × List (Option ℤ)). p.0) (flagged_part_at lengths index flags s lt),
+      count_by-le-length (λ (flag : Bool). flag) fs,
+      length-take (get_or lengths s 0) (drop (sum (take s lengths)) flags),
+    )
 
 -- how many there are in all
 pub ruleset part_counts = (length-parts, places-parts, destinations-parts, length-flagged_parts, places-flagged_parts, destinations-flagged_parts)

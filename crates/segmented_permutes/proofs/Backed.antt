@@ -36,7 +36,8 @@ back_walked lengths s place (m ∷ ms) (n ∷ ns) xs is lefts there count within
 pub seg_back-meaning : {X : Type 0} (source : List X) (index : List ℤ) (widths lengths : List ℕ) → sum widths ≡ length source → sum lengths ≡ length index → length widths ≡ length lengths
     → seg_back_of source index widths lengths ≡ unless (outside_from 0 widths lengths index) (Ok (segments_at widths source lengths index))
 seg_back-meaning source index widths lengths total index_total count =
-    ap (end_to_end (in_vector lengths) (of_two back_of)) (beside-fits (nest widths source) (cut_of widths source) lengths index (nest-fits widths source total) index_total (length-cut widths source ∙ count))
+    ap (end_to_end (in_vector lengths) (of_two back_of)) (beside-fits (nest widths source) (cut_of widths source) lengths index (nest-fits widths source total) index_total
+    (length-cut widths source ∙ count))
     ∙ back_walked lengths 0 0 widths lengths source index refl refl count (omega (arith, total))
 
 -- the first segment's indices are inside, and those of the others

@@ -38,13 +38,15 @@ destinations_all start (n ∷ ns) (m ∷ ms) index within =
     let all = sum-cons n ns in
     let others = parts_of ns ms (drop n index) in
     let long : length (all_destinations (take n index)) ≡ n = length-all_destinations (take n index) ∙ length-take-le n index (omega (arith, all, within)) in
-    (λ i. (map-map (flat_destination start m) (λ j. Some j) (take n index) ∙ sym (map-map (λ j. Some j) (flat_index start m) (take n index))) i ++ destinations_all (start + m) ns ms (drop n index) (omega (arith, all, within, length-drop n index)) i)
+    (λ i. (map-map (flat_destination start m) (λ j. Some j) (take n index) ∙ sym (map-map (λ j. Some j) (flat_index start m) (take n index))) i
+    ++ destinations_all (start + m) ns ms (drop n index) (omega (arith, all, within, length-drop n index)) i)
     ∙ sym (map-append (λ i. Some i) (map (flat_index start m) (take n index)) (flat_indices (start + m) others (drop n index)))
     ∙ ap (λ k. all_destinations (map (flat_index start m) (take k index) ++ flat_indices (start + m) others (drop k index))) (sym long)
 
 -- ---- where the flagged places do
 
-flat_flagged_destinations : (start m : ℕ) (index : List ℤ) (flags : List Bool) → map (flat_destination start m) (flagged_destinations index flags) ≡ flagged_destinations (map (flat_index start m) index) flags
+flat_flagged_destinations : (start m : ℕ) (index : List ℤ) (flags : List Bool) → map (flat_destination start m) (flagged_destinations index flags)
+    ≡ flagged_destinations (map (flat_index start m) index) flags
 flat_flagged_destinations start m [] flags = refl
 flat_flagged_destinations start m (i ∷ index) [] = refl
 flat_flagged_destinations start m (i ∷ index) (true ∷ flags) = ap (λ rest. Some (flat_index start m i) ∷ rest) (flat_flagged_destinations start m index flags)
@@ -107,7 +109,8 @@ outside_flat place start whole (m ∷ ms) (n ∷ ns) index count total within =
     (omega (arith, wide, within)))
     ∙ ap (λ k. option_or (first_outside place m js) (first_outside (place + k) whole others)) (sym (length-map js (outside m) ∙ index_long))
     ∙ sym (first_fault-append place (map (outside m) js) (map (outside whole) others))
-    ∙ ap (λ ws. first_fault place (ws ++ map (outside whole) others)) (sym (map-map (outside whole) (flat_index start m) js ∙ (λ i. map (λ j. outside_one start m whole j (omega (arith, wide, within)) i) js)))
+    ∙ ap (λ ws. first_fault place (ws ++ map (outside whole) others)) (sym (map-map (outside whole) (flat_index start m) js
+    ∙ (λ i. map (λ j. outside_one start m whole j (omega (arith, wide, within)) i) js)))
     ∙ ap (first_fault place) (sym (map-append (outside whole) (map (flat_index start m) js) others))
     ∙ ap (λ k. first_outside place whole (map (flat_index start m) (take k index) ++ flat_indices (start + m) (parts_of ns ms (drop n index)) (drop k index))) (sym long)
 

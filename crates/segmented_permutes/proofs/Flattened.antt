@@ -117,7 +117,8 @@ module _ (whole start m : ℕ) (before : List (Option ℤ)) (within : start + m 
         | inl inside ↦
             let lt : a < m = omega (arith, inside.1) in
             ap (λ b. wrong_at whole all (Some (if b then pos (start + a) else negsuc 0))) (lt-ltb a m lt)
-            ∙ ap (λ b. if not b then Some IndexOutOfRange else if list_any (is_destination (pos (start + a))) all then Some IndexRepeated else None) (lt-ltb (start + a) whole (omega (arith, lt, within)))
+            ∙ ap (λ b. if not b then Some IndexOutOfRange else if list_any (is_destination (pos (start + a))) all then Some IndexRepeated else None)
+            (lt-ltb (start + a) whole (omega (arith, lt, within)))
             ∙ ap (λ b. if b then Some IndexRepeated else None)
             (list_any-append (is_destination (pos (start + a))) before (map (flat_destination start m) done)
             ∙ (λ i. below (start + a) (omega arith) i || any_flat start m a done lt i))

@@ -1,5 +1,6 @@
 -- The calls on the segments of a segmented call, end to end: the first fault at its place in the whole, else what they give.
-use Rattle.std.proofs.Common.{◌≡◌, ◌∙◌, ℕ, ◌+◌, ◌<◌, ◌≤◌, List, [], ◌∷◌, ◌++◌, length, filter_map, sum, take, drop, get_or, refl, sym, ap, length-drop, arith, ℤ, slice_get, option_map, Option, Some, None}
+use Rattle.std.proofs.Common.{◌≡◌, ◌∙◌, ℕ, ◌+◌, ◌<◌, ◌≤◌, List, [], ◌∷◌, ◌++◌, length, filter_map, sum, take, drop, get_or, refl, sym, ap, length-drop, arith, ℤ, slice_get, option_map, Option, Some}
+use Rattle.std.proofs.Common.{None}
 use Rattle.std.proofs.Common.{Result, Ok, Err}
 use Rattle.std.specs.Option.{option_or}
 use Rattle.std.proofs.lemmas.List.{drop_more}
@@ -60,7 +61,8 @@ left_more lengths s n others left =
 
 -- ---- a segment in front of others, told by its part: its elements stand in the source from `place` on
 
-module _ {X : Type 0} (lengths : List ℕ) (source : List X) (few : length source ≤ nobody) (s place n m : ℕ) (ts : List (Option ℤ)) (result : Result (List X) Fault) (rest : Result (List (List X)) Fault)
+module _ {X : Type 0} (lengths : List ℕ) (source : List X) (few : length source ≤ nobody) (s place n m : ℕ) (ts : List (Option ℤ)) (result : Result (List X) Fault)
+    (rest : Result (List (List X)) Fault)
     (parts : List (ℕ × List (Option ℤ))) (there : sum (take s lengths) ≡ place) (long : length ts ≡ n) (within : place + n ≤ length source) where
   whole : (r later : List X) → result ≡ unless (first_fault 0 (wrongs m ts)) (Ok r) → (rest >>= λ lists. Ok (joined lists)) ≡ unless (fault_from (place + n) parts) (Ok later)
       → ((moved (in_vector lengths s) result >>= λ r. rest >>= λ rs. Ok (r ∷ rs)) >>= λ lists. Ok (joined lists)) ≡ unless (fault_from place ((m, ts) ∷ parts)) (Ok (r ++ later))

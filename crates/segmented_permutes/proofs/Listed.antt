@@ -40,8 +40,10 @@ module _ {X : Type 0} where
     pub is : list ≡ elements_at source index
     pub inside : AreInside width index
 
-  list_is : (place : ℕ) (widths : List ℕ) (source : List X) (lengths : List ℕ) (index : List ℤ) (s : ℕ) → length widths ≡ length lengths → None ≡ outside_from place widths lengths index → s < length lengths
-      → IsList (get_or widths s 0) (take (get_or widths s 0) (drop (sum (take s widths)) source)) (take (get_or lengths s 0) (drop (sum (take s lengths)) index)) (get_or (lists_at widths source lengths index) s [])
+  list_is : (place : ℕ) (widths : List ℕ) (source : List X) (lengths : List ℕ) (index : List ℤ) (s : ℕ) → length widths ≡ length lengths → None ≡ outside_from place widths lengths index
+      → s < length lengths
+      → IsList (get_or widths s 0) (take (get_or widths s 0) (drop (sum (take s widths)) source)) (take (get_or lengths s 0) (drop (sum (take s lengths)) index))
+      (get_or (lists_at widths source lengths index) s [])
   list_is place [] source lengths index s count none lt = absurd (omega arith)
   list_is place (m ∷ ms) source [] index s count none lt = absurd (omega arith)
   list_is place (m ∷ ms) source (n ∷ ns) index zero count none lt = record { is = refl; inside = (inside_first place m ms n ns index none).0 }
@@ -106,7 +108,8 @@ module _ {X : Type 0} where
               subst (λ j. AreInside j (take (first + count - first) (drop first index))) (sym (ap length source_is ∙ source_long))
               (subst (AreInside (get_or widths s 0)) ranged (part_inside (get_or widths s 0) js from count all.inside))
 
-          pub part_in_range : elements_at (take (start + m - start) (drop start source)) (take (first + count - first) (drop first index)) ≡ part (get_or (lists_at widths source lengths index) s []) from count
+          pub part_in_range : elements_at (take (start + m - start) (drop start source)) (take (first + count - first) (drop first index))
+              ≡ part (get_or (lists_at widths source lengths index) s []) from count
           part_in_range =
               (λ i. elements_at (source_is i) (sym ranged i))
               ∙ sym (part_at ys js from count (omega (arith, within, list_long, length-segment lengths index fits.total s in_lengths)) (subst (λ j. AreInside j js) (sym source_long) all.inside))

@@ -65,7 +65,8 @@ module _ {X : Type 0} (lengths : List ℕ) (source : List X) (few : length sourc
       let long : length ys ≡ length js = length_part source place n (omega (arith, all, total)) ∙ sym index_long in
       let flag_long : length js ≡ length gs = index_long ∙ sym (length-take-le n fs (omega (arith, all, flag_total))) in
       front_taken lengths source few s place n (count_of gs) (flagged_destinations js gs) (select_of (take n xs) js gs)
-      (results_from (in_vector lengths) (of_three select_of) (s + 1) (zip (zip (cut_of ns (drop n xs)) (cut_of ns (drop n is))) (cut_of ns (drop n fs)))) (flagged_parts ns (drop n is) (drop n fs)) there
+      (results_from (in_vector lengths) (of_three select_of) (s + 1) (zip (zip (cut_of ns (drop n xs)) (cut_of ns (drop n is))) (cut_of ns (drop n fs))))
+      (flagged_parts ns (drop n is) (drop n fs)) there
       (length-flagged_destinations js gs flag_long ∙ index_long) (omega (arith, all, total))
       (ap (λ zs. select_of (take n zs) js gs) at ∙ if_as_long-fits ys js (if_as_long js gs sent) long ∙ if_as_long-fits js gs sent flag_long)
       (select_walked (s + 1) (place + n) ns (drop n xs) (drop n is) (drop n fs) on.0 (omega (arith, on.1, there)) (ap (drop n) at ∙ drop-drop n place source) (omega (arith, all, total))
@@ -127,7 +128,8 @@ module _ {X : Type 0} (source : List X) (index : List ℤ) (lengths : List ℕ) 
   many : length segments ≡ length lengths
   many = omega (arith, length-zip (cut_of lengths source) (cut_of lengths index), length-cut lengths source, length-cut lengths index)
 
-  pub seg_default-differ : (defaults : List X) (widths : List ℕ) → sum widths ≡ length defaults → length lengths ≢ length widths → seg_default_of source index defaults lengths widths ≡ Err (fault LengthMismatch)
+  pub seg_default-differ : (defaults : List X) (widths : List ℕ) → sum widths ≡ length defaults → length lengths ≢ length widths
+      → seg_default_of source index defaults lengths widths ≡ Err (fault LengthMismatch)
   seg_default-differ defaults widths default_total differ =
       ap (end_to_end (in_vector lengths) (of_three default_of))
       (beside-differ (beside (nest lengths source) (nest lengths index)) segments widths defaults nested default_total (λ same. differ (sym many ∙ same)))

@@ -77,7 +77,8 @@ sender_after place d (t ∷ ts) us none =
     ap (λ b. if b then place else sender_from (place + 1) (ts ++ us) d) both.0 ∙ sender_after (place + 1) d ts us both.1 ∙ ap (λ p. sender_from p us d) (omega arith)
 
 -- one more destination, that is d where none was before
-sender-found : (place : ℕ) (ts : List (Option ℤ)) (t : Option ℤ) (d : ℕ) → list_any (is_destination (pos d)) ts ≡ false → is_destination (pos d) t ≡ true → sender_from place (ts ++ t ∷ []) d ≡ place + length ts
+sender-found : (place : ℕ) (ts : List (Option ℤ)) (t : Option ℤ) (d : ℕ) → list_any (is_destination (pos d)) ts ≡ false → is_destination (pos d) t ≡ true
+    → sender_from place (ts ++ t ∷ []) d ≡ place + length ts
 sender-found place ts t d none found = sender_after place d ts (t ∷ []) none ∙ ap (λ b. if b then place + length ts else nobody) found
 
 pub length-senders_of : (place : ℕ) (ts : List (Option ℤ)) (m : ℕ) → length (senders_of place ts m) ≡ m

@@ -93,7 +93,13 @@ module _ {Item : Type 0} {is_item : Item → Bool} (m : Coding Item) (coded : Co
   run_is_item first t sum same = subst (λ s. IsTrue (is_item s.1)) (sym same) ((laws w.sums r.items).middle first t)
 
   can_step : (l : Local Item) → IsRight m w.sums l → CanStepBy is_item m w l (action_of l)
-  can_step Ready right = record { answer = r.few; tell = tt; held = refl; told = cond_both (ltb w.claims (length w.sums)) (Tile w.claims) Done (λ answer. IsTrue (tells_item is_item answer)) (λ _. refl) (λ _. refl) }
+  can_step Ready right = record {
+    answer = r.few;
+    tell = tt;
+    held = refl;
+    told = cond_both (ltb w.claims (length w.sums)) (Tile w.claims) Done (λ answer. IsTrue (tells_item is_item answer))
+        (λ _. refl) (λ _. refl);
+  }
   can_step (Summing t) right = record { answer = right; tell = (right, omega (arith, right, world.as_many_words), sum_is_item t); held = refl; told = sum_is_item t }
   can_step (Looking t at sum) right =
       let tile : at < length w.sums = omega (arith, right.0, right.1) in

@@ -1,6 +1,7 @@
 -- What each tile of a list sums up to, and what stands before a tile and before a place of it.
 use Rattle.std.specs.Prelude.{if◌then◌else◌}
-use Rattle.std.proofs.Common.{◌≡◌, ℕ, zero, suc, ◌+◌, ◌-◌, ◌*◌, ◌<◌, ◌≤◌, min, Bool, false, true, IsTrue, List, [], ◌∷◌, ◌++◌, length, map, take, get_or, slice_range, refl, sym, ap, ◌∙◌, arith, take-add}
+use Rattle.std.proofs.Common.{◌≡◌, ℕ, zero, suc, ◌+◌, ◌-◌, ◌*◌, ◌<◌, ◌≤◌, min, Bool, false, true, IsTrue, List, [], ◌∷◌, ◌++◌, length, map, take, get_or, slice_range, refl, sym, ap, ◌∙◌, arith}
+use Rattle.std.proofs.Common.{take-add}
 use Rattle.std.specs.List.{AllPass, range_with_len}
 use Rattle.std.proofs.lemmas.List.Elements.{All-from_get_or, All-map, All-take, All-drop}
 use Rattle.std.proofs.lemmas.List.FromFn.{fill_by_all, get_or-map-range_with_len, length-map-range_with_len}
@@ -75,7 +76,8 @@ module _ {Item : Type 0} {is_item : Item → Bool} {unit : Item} {join : Item �
   pub sums_pass : AllPass (is_seg_item is_item) (sums_of join unit plan.0 plan.1 ws)
   sums_pass =
       All-map (λ w. is_seg_item is_item w ≡ true) (λ t. fold_of (seg_join join) (seg_unit unit) (tile_of plan.0 plan.1 ws t)) (range_with_len 0 (tile_count plan.0 plan.1))
-      (All-from_get_or (λ t. is_seg_item is_item (fold_of (seg_join join) (seg_unit unit) (tile_of plan.0 plan.1 ws t)) ≡ true) (range_with_len 0 (tile_count plan.0 plan.1)) 0 (λ i below. sum_is_item _))
+      (All-from_get_or (λ t. is_seg_item is_item (fold_of (seg_join join) (seg_unit unit) (tile_of plan.0 plan.1 ws t)) ≡ true) (range_with_len 0 (tile_count plan.0 plan.1)) 0
+      (λ i below. sum_is_item _))
 
   -- what the tiles before tile t join to is what their elements join to
   sums_before : (t : ℕ) → t ≤ tile_count plan.0 plan.1

@@ -17,7 +17,8 @@ module _ {Item : Type 0} where
   told_still t rank old new is x of_x when there = subst (WasTold x of_x when) (sym is) (suc (there.0), omega (arith, there.1), there.2)
 
   -- a worker told the sum of tile t, looked back, and told the tile's prefix
-  module _ (t : ℕ) (old summed back new : ScanSeated Item) (sum : IsTold t 1 old summed) (kept : (x rank when : ℕ) → WasTold x rank when summed.pass → WasTold x rank when back.pass) (prefix : IsTold t 2 back new) where
+  module _ (t : ℕ) (old summed back new : ScanSeated Item) (sum : IsTold t 1 old summed) (kept : (x rank when : ℕ) → WasTold x rank when summed.pass → WasTold x rank when back.pass)
+      (prefix : IsTold t 2 back new) where
     pub told_around : (1 ≤ t → summed.pass.looks < back.pass.looks) → HasToldAround new t
     told_around looked = record {
       summed = old.pass.looks;

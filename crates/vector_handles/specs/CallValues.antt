@@ -1,7 +1,8 @@
 -- The value that each call of the table gives, from its arguments: one line for each family and type of elements; and the
 -- two values of a call that gives two.
 -- Source: CVL's calls, in this library's profile.
-use Rattle.std.specs.Prelude.{◌≡◌, ℕ, ◌-◌, ◌==◌, List, [], ◌∷◌, map, slice_get, Option, None, Result, Ok, Err, IfOk, ℤ, pos, negsuc, if◌then◌else◌}
+use Rattle.std.specs.Prelude.{◌≡◌, ℕ, ◌-◌, ◌==◌, List, [], ◌∷◌, map, slice_get, Option, None, Result, Ok, Err, IfOk, ℤ, pos, negsuc}
+use Rattle.std.specs.Prelude.{if◌then◌else◌}
 use Rattle.std.specs.Option.{ok_or}
 use Rattle.cvl_base.specs.declared.value.Value.{Value}
 use Rattle.cvl_base.specs.declared.value.Value.TheVariants as value
@@ -29,7 +30,8 @@ use Rattle.vector_handles.specs.declared.input.Input.{Input}
 use Rattle.vector_handles.specs.declared.input.Input.TheVariants as input
 use Rattle.bound_names.specs.Arguments.{integers_in, booleans_in, lengths_in, integer_in}
 use Rattle.vector_handles.specs.ElementTypes.{integer, boolean}
-use Rattle.vector_handles.specs.Families.{ArgumentAt, single, vector, choose_value, scan_value, reduce_value, permute_value, length_value, pack_value, distribute_value, extract_value, replace_value}
+use Rattle.vector_handles.specs.Families.{ArgumentAt, single, vector, choose_value, scan_value, reduce_value, permute_value, length_value}
+use Rattle.vector_handles.specs.Families.{pack_value, distribute_value, extract_value, replace_value}
 
 module _ {A : Type 0} where
   -- the input with this number, counted from 1

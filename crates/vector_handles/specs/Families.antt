@@ -15,7 +15,8 @@ use Rattle.cvl_base.specs.Folds.{fold_of, scan_of}
 use Rattle.cvl_base.specs.Gives.{◌>>=◌}
 use Rattle.cvl_base.specs.Packs.{pack_of}
 use Rattle.cvl_base.specs.Permutes.{simple_of, back_of, select_of, default_of}
-use Rattle.cvl_base.specs.SegmentedCalls.{seg_scan_of, seg_reduce_of, seg_simple_of, seg_back_of, seg_select_of, seg_default_of, seg_pack_of, seg_distribute_of, seg_extract_of, seg_replace_of}
+use Rattle.cvl_base.specs.SegmentedCalls.{seg_scan_of, seg_reduce_of, seg_simple_of, seg_back_of, seg_select_of, seg_default_of}
+use Rattle.cvl_base.specs.SegmentedCalls.{seg_pack_of, seg_distribute_of, seg_extract_of, seg_replace_of}
 use Rattle.bound_names.specs.Arguments.{integers_in, booleans_in, lengths_in, integer_in}
 use Rattle.vector_handles.specs.ElementTypes.{ElementType}
 

@@ -26,6 +26,13 @@ returns g c =
     let bytes = c.args.bytes.now in let over = c.args.over.now in let others = c.args.others.now in
     let whole = map (λ p. g.O.Single.value (chosen (g.F.Single.value p.0) p.1)) (zip bytes (zip over others)) in
     let long : length whole ≡ length over =
-    omega (arith, length-map (zip bytes (zip over others)) (λ p. g.O.Single.value (chosen (g.F.Single.value p.0) p.1)), length-zip bytes (zip over others), length-zip over others, c.in_ok-check_agree.ensures, c.in_ok-check_agree-2.ensures) in
+    omega (
+      arith,
+      length-map (zip bytes (zip over others)) (λ p. g.O.Single.value (chosen (g.F.Single.value p.0) p.1)),
+      length-zip bytes (zip over others),
+      length-zip over others,
+      c.in_ok-check_agree.ensures,
+      c.in_ok-check_agree-2.ensures,
+    ) in
     if_as_long-fits bytes over _ (omega (arith, c.in_ok-check_agree.ensures)) ∙ if_as_long-fits bytes others _ (omega (arith, c.in_ok-check_agree-2.ensures))
     ∙ ap Ok (sym (ends whole over c.loop-place.over c.loop-place.place c.loop-place.invariant (omega (arith, long)) (omega (arith, long, c.loop-place-test.false))))

@@ -14,7 +14,14 @@ returns-in_err-check_agree-3 g c =
     let bytes = c.args.bytes.now in let a = c.args.a.now in let b = c.args.b.now in let room = length c.args.out.now in
     let values = map (λ p. g.O.Single.value (chosen (flag_of p.0) p.1)) (zip bytes (zip a b)) in
     let long : length values ≡ length bytes =
-    omega (arith, length-map (zip bytes (zip a b)) (λ p. g.O.Single.value (chosen (flag_of p.0) p.1)), length-zip bytes (zip a b), length-zip a b, c.in_ok-check_agree.ensures, c.in_ok-check_agree-2.ensures) in
+    omega (
+      arith,
+      length-map (zip bytes (zip a b)) (λ p. g.O.Single.value (chosen (flag_of p.0) p.1)),
+      length-zip bytes (zip a b),
+      length-zip a b,
+      c.in_ok-check_agree.ensures,
+      c.in_ok-check_agree-2.ensures,
+    ) in
     told _ c.from_residual-in_err-check_agree-3.result c.in_err-check_agree-3.field-0.0 c.args.out.now c.from_residual-in_err-check_agree-3.ensures.1
     (ap (in_room room) (if_as_long-fits bytes a _ (omega (arith, c.in_ok-check_agree.ensures)) ∙ if_as_long-fits bytes b (Ok values) (omega (arith, c.in_ok-check_agree-2.ensures)))
     ∙ differs room values (λ same. c.in_err-check_agree-3.ensures.1 (omega (arith, long, same))) ∙ ap Err (sym c.in_err-check_agree-3.ensures.0))
@@ -22,4 +29,12 @@ returns-in_err-check_agree-3 g c =
 pub write_over-requires-clause-as_long : goal.write_over-requires-clause-as_long
 write_over-requires-clause-as_long g c =
     let bytes = c.args.bytes.now in let pairs = zip c.args.a.now c.args.b.now in
-    omega (arith, length-map (zip bytes pairs) (λ p. g.O.Single.value (chosen (flag_of p.0) p.1)), length-zip bytes pairs, length-zip c.args.a.now c.args.b.now, c.in_ok-check_agree.ensures, c.in_ok-check_agree-2.ensures, c.in_ok-check_agree-3.ensures)
+    omega (
+      arith,
+      length-map (zip bytes pairs) (λ p. g.O.Single.value (chosen (flag_of p.0) p.1)),
+      length-zip bytes pairs,
+      length-zip c.args.a.now c.args.b.now,
+      c.in_ok-check_agree.ensures,
+      c.in_ok-check_agree-2.ensures,
+      c.in_ok-check_agree-3.ensures,
+    )

@@ -22,7 +22,13 @@ filled_row_spec 𝓤 𝓛 𝓜 𝓡 wired X L =
     let fm : FmC 𝓤 H 𝓛.laws 𝓣.C = λ f. framed 𝓤 H 𝓜 𝓣 f in
     let met = callee.met 𝓤 𝓛 𝓜 𝓡 (code.calls-core::slots::Slots::from_raw_parts 𝓡.env wired) X L in
     let hs : Stays En.signature.params En.kept = (stay_dropped (plain (λ _. Bs E)) no, (stay_dropped (plain (λ _. usize)) yes, (stay_dropped (plain (λ _. Cr E)) no, tt))) in
-    proved_at 𝓛 En hs c 𝓜 𝓡 (Goes-dropped 𝓛 1 (plain (λ _. Bs E)) no (λ κs x f. refl), (Goes-dropped 𝓛 1 (plain (λ _. usize)) yes (λ κs x f. refl), (Goes-blank 𝓛 1 (plain (λ _. Cr E)) no (λ κs x f. tt), tt))) (#self inst) fn (code.unfolded 𝓤 H 𝓜 𝓡 wired (X, tt)) (λ z are.
+    proved_at 𝓛 En hs c 𝓜 𝓡 (
+      Goes-dropped 𝓛 1 (plain (λ _. Bs E)) no (λ κs x f. refl),
+      (
+        Goes-dropped 𝓛 1 (plain (λ _. usize)) yes (λ κs x f. refl),
+        (Goes-blank 𝓛 1 (plain (λ _. Cr E)) no (λ κs x f. tt), tt),
+      ),
+    ) (#self inst) fn (code.unfolded 𝓤 H 𝓜 𝓡 wired (X, tt)) (λ z are.
     let κ : Lft = z.0.0.0 in let q : Share = z.0.1.0 in let base : (Bs E).Denot = z.0.3.0 in let k : ℕ = z.0.3.1.0 in let cells : (Cr E).Denot = z.0.3.1.1.0 in let vss = z.0.4 in
     let Whole : Type 0 = (cells.at ≡ base.ptr) × (cells.from ≡ 0) in
     let Full : Type 0 = (xs : List (el_x E)) × (length xs ≡ k) × (cells.slots ≡ map Some xs) in
@@ -48,8 +54,10 @@ filled_row_spec 𝓤 𝓛 𝓜 𝓡 wired X L =
     use1 𝓛 (later (some (λ (r : (Row E).Denot). given ((v ≡ row_val b o k) × Made E 𝓛 𝓜.mem 𝓡.returns κ q b o k xs fs r) (‵ ((Row E).own_val r (row_val b o k ∷ [])) ⊛ ‵ (flft κ q)))))
     (from_gives E 𝓛 𝓜.mem 𝓡.returns κ q b o k xs fs v) $ await ! tt $ pick ! (λ r. learn ! (λ got. split ! $
     let made = got.1 in
-    let full_row : IsFull r = λ j low high. let near : j < length xs = subst (λ (n : ℕ). j < n) (made.1 ∙ lx) high in ap (λ (gs : List Bool). get_or gs j false) made.3 ∙ get_or-replicate (length xs) j true false near in
+    let full_row : IsFull r = λ j low high. let near : j < length xs = subst (λ (n : ℕ). j < n) (made.1 ∙ lx) high in ap (λ (gs : List Bool). get_or gs j false) made.3
+    ∙ get_or-replicate (length xs) j true false near in
     lands_last ! refl (row_Typed E v b o k got.0 fk) $ exec ! 𝓣.C 𝓣.Λ Ev (tail fn.body) (at_ret Ev Post) $ sets ! (is ! (of_opd ! (get ! refl)) got.0) refl (tt, words) $
     returns ! (look_at ! 0 refl) $ free_all ! refl $
     suffices ! _ (ends_at 𝓛 En hs c z (row_val b o k) r (tt, (tt, (tt, tt))) (tt, (tt, (tt, tt)))) $ says_two ! ((made.0 ∙ sym e, made.1, full_row), full.2 ∙ ap (map Some) (sym made.2)) $
-    nothing ! $ move ! (2 ∷ 0 ∷ []) $ join ! $ nothing ! $ nothing ! $ fjoin ! $ nothing ! $ fjoin ! $ nothing ! $ fjoin ! $ move ! (0 ∷ 2 ∷ []) $ join ! $ move ! (1 ∷ 0 ∷ []) $ join ! $ done !))))))))))))))
+    nothing ! $ move ! (2 ∷ 0 ∷ []) $ join ! $ nothing ! $ nothing ! $ fjoin ! $ nothing ! $ fjoin ! $ nothing ! $ fjoin ! $ move ! (0 ∷ 2 ∷ []) $ join ! $ move ! (1 ∷ 0 ∷ []) $ join ! $
+    done !))))))))))))))

@@ -11,7 +11,11 @@ split_seat-seat-requires g c =
     let done = ap (λ v. v.0.hand.done) c.loop-left.invariant.4 in (
       c.loop-left.invariant.3 ∙ sym (ap (λ b. b.id) c.board.view_is),
       omega (arith, c.board.invariant.1),
-      λ s ruled at. record { long = ruled.long; kept = split_keeps _ _ _ _ _ _ s.views whole.id whole.me.0 ruled.kept at (omega arith) (c.hand_law.ensures.split (λ p. p.hand)) (omega arith) (omega arith) },
+      λ s ruled at. record {
+        long = ruled.long;
+        kept = split_keeps _ _ _ _ _ _ s.views whole.id whole.me.0 ruled.kept at (omega arith) (c.hand_law.ensures.split (λ p. p.hand)) (omega arith)
+            (omega arith);
+      },
     )
 
 pub returns : goal.returns

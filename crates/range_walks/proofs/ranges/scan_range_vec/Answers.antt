@@ -10,7 +10,8 @@ into_vec-requires g c =
     let m = g.M.Monoid in
     let xs = map (λ x. x) c.args.a.now in
     let same = length-map c.args.a.now (λ x. x) in
-    let long = length-range_scan m.join m.unit c.args.d.now xs c.args.from c.args.to c.args.before (c.requires.total ∙ omega (arith, same)) c.requires.in_order (omega (arith, same, c.requires.within)) in
+    let long = length-range_scan m.join m.unit c.args.d.now xs c.args.from c.args.to c.args.before (c.requires.total ∙ omega (arith, same)) c.requires.in_order
+    (omega (arith, same, c.requires.within)) in
     (all_written c.in_ok-room.room c.in_ok-room.run' c.scan_range_into.result _ _ c.in_ok-room.ensures.room c.in_ok-room.ensures.run c.scan_range_into.ensures (omega (arith, long))).0
 
 pub returns : goal.returns
@@ -18,7 +19,8 @@ returns g c =
     let m = g.M.Monoid in
     let xs = map (λ x. x) c.args.a.now in
     let same = length-map c.args.a.now (λ x. x) in
-    let long = length-range_scan m.join m.unit c.args.d.now xs c.args.from c.args.to c.args.before (c.requires.total ∙ omega (arith, same)) c.requires.in_order (omega (arith, same, c.requires.within)) in
+    let long = length-range_scan m.join m.unit c.args.d.now xs c.args.from c.args.to c.args.before (c.requires.total ∙ omega (arith, same)) c.requires.in_order
+    (omega (arith, same, c.requires.within)) in
     let values = c.into_vec.ensures.items
     ∙ (all_written c.in_ok-room.room c.in_ok-room.run' c.scan_range_into.result _ _ c.in_ok-room.ensures.room c.in_ok-room.ensures.run c.scan_range_into.ensures (omega (arith, long))).1 in
     record {

@@ -17,7 +17,8 @@ returns-then-first-next g c =
     let next = c.starts_before-next in
     let long : length (map item a) ≡ length a = length-map a item in
     ap (λ v. (true, v)) (c.sum_from.ensures ∙ ap (λ u. fold_of m.join u (map item (slice_range a start to))) c.unit.ensures ∙ ap (fold_of m.join m.unit) (part_read item (to - start) start a))
-    ∙ sym (last_range_summed c.know_laws.ensures c.args.d.now (map item a) (false, c.args.before) c.args.from to first.result next.result start (omega (arith, c.requires.within, long)) (c.requires.total ∙ sym long)
+    ∙ sym (last_range_summed c.know_laws.ensures c.args.d.now (map item a) (false, c.args.before) c.args.from to first.result next.result start (omega (arith, c.requires.within, long))
+    (c.requires.total ∙ sym long)
     next.ensures.in_count first.ensures.others next.ensures.before next.ensures.others c.if-first-next.true c.start-start.ensures.value (All-map (λ y. m.is_item y ≡ true) item a c.requires.items))
 
 pub returns : goal.returns

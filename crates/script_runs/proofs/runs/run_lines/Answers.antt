@@ -22,7 +22,8 @@ pub returns-in_err-run_line-clause-names : goal.returns-in_err-run_line-clause-n
 returns-in_err-run_line-clause-names g c =
     let p = err_from_is_err_and c.from_residual.result c.from_residual.ensures.1 in
     rw (p.1, p.2)
-    (left_at_stop c.loop-rest.number c.loop-rest.session.names c.run_line.new.session.names _ c.loop-rest.session.inputs c.next_line.result.0.now (lines_left (option_copied c.next_line.result.1)) _ _ _
+    (left_at_stop c.loop-rest.number c.loop-rest.session.names c.run_line.new.session.names _ c.loop-rest.session.inputs c.next_line.result.0.now
+    (lines_left (option_copied c.next_line.result.1)) _ _ _
     (rw (c.in-Some.is, c.next_line.ensures.lines) at c.loop-rest.invariant.names)
     c.in_err-run_line.ensures.runs c.in_err-run_line.ensures.refused)
 

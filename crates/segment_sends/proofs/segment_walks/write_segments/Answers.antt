@@ -53,7 +53,8 @@ overflow_add-first g c =
 pub loop-s-preserved : goal.loop-s-preserved
 loop-s-preserved g c =
     let share = c.requires.share in
-    walked_more share c.loop-s.auto.s (c.loop-s.auto.s-end share.in_order) c.loop-s.invariant c.loop-s-test.true c.part-places.ensures c.split_at_mut-buffer.ensures.front_len c.push_segment-next.result.0
+    walked_more share c.loop-s.auto.s (c.loop-s.auto.s-end share.in_order) c.loop-s.invariant c.loop-s-test.true c.part-places.ensures c.split_at_mut-buffer.ensures.front_len
+    c.push_segment-next.result.0
     (c.push_segment-next.ensures.right c.if-not-right.false) (c.push_segment-next.ensures.pushed c.if-not-right.false) (c.loop-s.first + c.count-first.result)
     (ap (λ k. c.loop-s.first + k) c.count-first.ensures)
 

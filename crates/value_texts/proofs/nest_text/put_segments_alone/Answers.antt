@@ -10,7 +10,8 @@ pub split_at-requires : goal.split_at-requires
 split_at-requires g c = segment_within c.loop-first.invariant c.in-Some.first.now c.in-Some.others.now c.unsigned_abs.result c.in-Some.ensures.cases.0 (search rules)
 
 pub returns-in_err-put_vector_alone-clause-begins : goal.returns-in_err-put_vector_alone-clause-begins
-returns-in_err-put_vector_alone-clause-begins g c = refused_after c.loop-first.invariant c.push.new.self.items c.put_vector_alone.new.text.items c.in_ok-push.ensures.items c.put_vector_alone.ensures.begins
+returns-in_err-put_vector_alone-clause-begins g c = refused_after c.loop-first.invariant c.push.new.self.items c.put_vector_alone.new.text.items c.in_ok-push.ensures.items
+    c.put_vector_alone.ensures.begins
 
 pub loop-first-preserved : goal.loop-first-preserved
 loop-first-preserved g c =

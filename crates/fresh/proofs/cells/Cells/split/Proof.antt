@@ -17,7 +17,8 @@ split_spec 𝓤 𝓛 𝓜 𝓡 wired X L =
     let H = 𝓛.H in let 𝓣 = tables 𝓤 H 𝓜 𝓡 𝓡.env in let E : El = record { row = X; laws = L } in let En : Ended = F.ended X in
     let inst = args E in let fn : Fn = inst_fn inst code.function in let cl = F.clauses X 𝓛 𝓜.mem 𝓡.returns in let s = sz E in
     let hs : Stays En.signature.params En.kept = (stay_dropped (plain (λ _. Cr E)) no, (stay_dropped (plain (λ _. usize)) yes, tt)) in
-    proved_at 𝓛 En hs cl 𝓜 𝓡 (Goes-blank 𝓛 1 (plain (λ _. Cr E)) no (λ κs x f. tt), (Goes-dropped 𝓛 1 (plain (λ _. usize)) yes (λ κs x f. refl), tt)) (#self inst) fn (code.unfolded 𝓤 H 𝓜 𝓡 wired (X, tt)) (λ z are.
+    proved_at 𝓛 En hs cl 𝓜 𝓡 (Goes-blank 𝓛 1 (plain (λ _. Cr E)) no (λ κs x f. tt), (Goes-dropped 𝓛 1 (plain (λ _. usize)) yes (λ κs x f. refl), tt)) (#self inst) fn
+    (code.unfolded 𝓤 H 𝓜 𝓡 wired (X, tt)) (λ z are.
     let κ : Lft = z.0.0.0 in let q : Share = z.0.1.0 in let c : (Cr E).Denot = z.0.3.0 in let k : ℕ = z.0.3.1.0 in let vss = z.0.4 in
     let Asks : Type 0 = k ≤ length c.slots in
     let Post : Val → SProp 𝓤 = (walk_of 𝓛 En hs cl).post z in let Run : List Val → SProp 𝓤 = λ ws. WpFn 𝓤 H 𝓣.C 𝓣.Λ fn ws Post in

@@ -13,6 +13,7 @@ pub returns : goal.returns
 returns c =
     let p = c.args.self.now in
     let run = c.args.run in
-    filled_up run c.push_progression.result (numbers_from p.init p.stride c.first-first.result c.room-count.result) _ c.room-count.result c.push_progression.ensures c.requires.empty c.room-count.ensures
+    filled_up run c.push_progression.result (numbers_from p.init p.stride c.first-first.result c.room-count.result) _ c.room-count.result c.push_progression.ensures c.requires.empty
+    c.room-count.ensures
     ((λ i. numbers_from p.init p.stride (c.first-first.ensures i) (c.room-count.ensures i))
     ∙ sym (progression-part p.init p.stride p.length run.first run.room (omega (arith, c.requires.within, progression-long p.init p.stride p.length))))

@@ -44,7 +44,8 @@ returns g c =
     let few = list_inside c.args.self.now.fits c.args.s c.requires.segment c.args.from c.args.count c.requires.within c.start.result c.start.ensures.value in
     let run = c.args.run in
     let first = c.start.result + c.args.from in
-    let count : length (take (first + c.args.count - first) (drop first index)) ≡ c.args.count = omega (arith, few, length-take (first + c.args.count - first) (drop first index), length-drop first index) in
+    let count : length (take (first + c.args.count - first) (drop first index)) ≡ c.args.count =
+    omega (arith, few, length-take (first + c.args.count - first) (drop first index), length-drop first index) in
     let items = part_in_range c.args.self.now.fits c.args.s c.requires.segment c.args.from c.args.count c.requires.within c.start.result c.start.ensures.value c.start-start.result c.length.result
     c.start-start.ensures.value c.length.ensures in
     c.write_elements_at.ensures ∙ (λ i. stretch run.block run.first (run.items ++ items i) (run.room - count i))

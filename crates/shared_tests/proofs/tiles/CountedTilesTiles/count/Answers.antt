@@ -7,4 +7,5 @@ use Rattle.cvl_base.specs.SegmentMonoid.{is_seg_item}
 use Rattle.shared_tests.proofs.tiles.CountedTilesTiles.count.Goals as goal
 
 pub returns-clause-items : goal.returns-clause-items
-returns-clause-items c = All-map (λ (s : Bool × ℤ). is_seg_item is_number s ≡ true) (λ (x : ℤ). (false, x)) c.args.self.now.numbers.now (AllPass-from_list_all is_number c.args.self.now.numbers.now c.args.self.now.items)
+returns-clause-items c = All-map (λ (s : Bool × ℤ). is_seg_item is_number s ≡ true) (λ (x : ℤ). (false, x)) c.args.self.now.numbers.now
+    (AllPass-from_list_all is_number c.args.self.now.numbers.now c.args.self.now.items)

@@ -28,4 +28,5 @@ pub invariant_of-self : goal.invariant_of-self
 invariant_of-self g c =
     let answer = rw (c.as_slice.ensures.value, c.as_slice-in-Some.ensures.value) at c.answer_to-answer.ensures in
     let words = rw c.as_slice-in-Some-2.ensures.value at c.write_word.ensures in
-    reached_by _ _ c.self.invariant c.args.actor (search rules) c.index.result.now c.in-Some.action c.index.ensures c.in-Some.ensures _ _ _ _ c.claims_after-self-inside.ensures words answer c.next.ensures
+    reached_by _ _ c.self.invariant c.args.actor (search rules) c.index.result.now c.in-Some.action c.index.ensures c.in-Some.ensures _ _ _ _ c.claims_after-self-inside.ensures words answer
+    c.next.ensures

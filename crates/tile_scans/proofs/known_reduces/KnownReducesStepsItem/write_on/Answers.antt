@@ -37,7 +37,8 @@ seg_reduces_into-requires-clause-begun g c =
     let tile : place ≤ c.max.result - 1 = omega (arith, c.tile_at-t.ensures.begun, ap (λ r. r.0) c.range-from.ensures.value) in
     let stands = c.before_place-before.ensures.value
     ∙ ap (λ s. (fold_of (seg_join m.join) (seg_unit m.unit) (take place (flagged s xs))).1) self.cut in
-    λ _. is_open c.know_laws.ensures d xs (All-map (λ y. m.is_item y ≡ true) item v.elements.now (AllPass-from_list_all (λ x. m.is_item (item x)) v.elements.now v.items)) place first c.before_place-before.result
+    λ _. is_open c.know_laws.ensures d xs (All-map (λ y. m.is_item y ≡ true) item v.elements.now (AllPass-from_list_all (λ x. m.is_item (item x)) v.elements.now v.items)) place first
+    c.before_place-before.result
     (omega (arith, c.range-from.ensures.filled, c.range-from.ensures.within, v.whole, length-map v.elements.now item)) lt
     (omega (arith, c.if-start-from.true, c.start-start.ensures.value))
     (omega (arith, tile, c.max.ensures, c.if-start-from.true, c.start-start.ensures.value, c.length.ensures, next)) stands
