@@ -38,8 +38,8 @@ impl Read for Narrow<'_> {
 /// How many bytes the longest file has: two steps of a mebibyte, and some more.
 const LONG: usize = 2_200_000;
 
-/// How many bytes a file has, those of a read, how many are expected, the read that fails and how, and how many bytes of memory are
-/// asked for at most.
+/// How many bytes a file has, those of a read, how many are expected, the read that fails and how, and how many bytes of memory
+/// are asked for at most.
 type Row = (usize, usize, usize, Option<(usize, ErrorKind)>, u64);
 
 const ANY: u64 = u64::MAX;
@@ -48,8 +48,8 @@ const ANY: u64 = u64::MAX;
 const ALL: usize = usize::MAX;
 
 const ROWS: &[Row] = &[
-    // nothing is expected; the most for which no room is made; the fewest for which one is; one fewer than there are; as many; one
-    // more, and many more
+    // nothing is expected; the most for which no room is made; the fewest for which one is; one fewer than there are; as many;
+    // one more, and many more
     (LONG, ALL, 0, None, ANY),
     (LONG, ALL, 1_048_575, None, ANY),
     (LONG, 100_000, 1_048_576, None, ANY),

@@ -1,6 +1,6 @@
-//! Tests that cross crates: of the program on a host in memory that may fail, with its texts, messages and statuses; of files that
-//! are read whole; of each request for memory refused in turn, over the program, sessions, the recipes and what no script calls; of
-//! how much memory calls ask for, and of what takes none; and of the test allocator's counts.
+//! Tests that cross crates: of the program on a host in memory that may fail, with its texts, messages and statuses; of files
+//! that are read whole; of each request for memory refused in turn, over the program, sessions, the recipes and what no script
+//! calls; of how much memory calls ask for, and of what takes none; and of the test allocator's counts.
 //!
 //! Whatever reaches a session or a kernel runs on one type of memory, the test allocator, and the program on one type of host,
 //! since each type has all that it reaches compiled anew. Scripts with their texts and faults are the cases of `script_cases`.

@@ -124,7 +124,8 @@ const ROWS: &[Row] = &[
     ("cvl --version", "", REFUSED, 2),
 ];
 
-/// Hosts that fail where the status tells something else already, or whose standard output takes little a write and does not fail.
+/// Hosts that fail where the status tells something else already, or whose standard output takes little a write and does not
+/// fail.
 const FAILING: &[(Failing, Row)] = &[
     (Flush, ("cvl nofile", "", NO_FILE, 3)),
     (Flush, ("cvl late numbers", GIVEN, LATE, 1)),
@@ -136,7 +137,8 @@ const FAILING: &[(Failing, Row)] = &[
     (Writes(100, 3), (SUMS, SUMMED, "", 0)),
 ];
 
-/// Hosts whose standard output fails, a command line and its text, how many bytes of it are taken at most, and the line that is told.
+/// Hosts whose standard output fails, a command line and its text, how many bytes of it are taken at most, and the line that is
+/// told.
 const STOPPED: &[(Failing, &str, &str, usize, u32)] = &[
     (Flush, "cvl scan numbers", SCANNED, usize::MAX, 0),
     (Flush, "cvl -h", HELP, usize::MAX, 0),

@@ -18,7 +18,8 @@ pub fn simple<T: Copy>(
     index: &[i32],
     out: &mut [T],
 ) -> Result<(), Refused>
-    ensures { OverwritesOr (in_room (length out.old) (in_limit index.now (simple_of source.now index.now))) result out.old out.new }
+    ensures { OverwritesOr (in_room (length out.old) (in_limit index.now (simple_of source.now index.now)))
+        result out.old out.new }
 {
     check_limit(index)?;
     simple_over(alloc, source, index, out)
@@ -32,7 +33,8 @@ pub fn select<T: Copy>(
     flags: &[bool],
     out: &mut [T],
 ) -> Result<(), Refused>
-    ensures { OverwritesOr (in_room (length out.old) (in_limit index.now (select_of source.now index.now flags.now))) result out.old out.new }
+    ensures { OverwritesOr (in_room (length out.old) (in_limit index.now (select_of source.now index.now flags.now)))
+        result out.old out.new }
 {
     check_limit(index)?;
     select_over(alloc, source, index, flags, out)

@@ -1,5 +1,5 @@
-//! Scans in place: the result is written over the vector that the call reads, which is as before where a fault is told. They check
-//! what the same scans over a room check, in the same order; there is no room whose length could differ.
+//! Scans in place: the result is written over the vector that the call reads, which is as before where a fault is told. They
+//! check what the same scans over a room check, in the same order; there is no room whose length could differ.
 
 ghost use Rattle.std.specs.Prelude.{◌≡◌, Ok};
 ghost use Rattle.std.specs.List.{AllPass};
@@ -58,7 +58,8 @@ fn int_scan_after_by(op: IntMonoid, before: &i32, a: &mut [i32])
 
 /// The scan of integers by the operator of a number, after an integer, over the integers.
 pub fn int_scan_from(op: u32, before: i32, a: &mut [i32]) -> Result<(), Fault>
-    ensures { Overwrites (by_operator (int_monoid op) (λ o. in_limit a.old (Ok (int_scan_after o before a.old)))) result a.old a.new }
+    ensures { Overwrites (by_operator (int_monoid op) (λ o. in_limit a.old (Ok (int_scan_after o before a.old))))
+        result a.old a.new }
 {
     let op = int_monoid(op)?;
     check_limit(a)?;
@@ -93,7 +94,8 @@ fn bool_scan_after_by(op: BoolBinary, before: bool, a: &mut [bool])
 
 /// The scan of booleans by the operator of a number, after a boolean, over the booleans.
 pub fn bool_scan_from(op: u32, before: bool, a: &mut [bool]) -> Result<(), Fault>
-    ensures { Overwrites (by_operator (bool_binary op) (λ o. in_limit a.old (Ok (bool_scan_after o before a.old)))) result a.old a.new }
+    ensures { Overwrites (by_operator (bool_binary op) (λ o. in_limit a.old (Ok (bool_scan_after o before a.old))))
+        result a.old a.new }
 {
     let op = bool_binary(op)?;
     check_limit(a)?;

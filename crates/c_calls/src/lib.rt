@@ -1,6 +1,6 @@
-//! What the exports of the static library `cvl_c` share: the checks of whatever a caller may get wrong, the operators that numbers
-//! name, and what a caller is told; and calls on a caller's own memory that are generic over a monoid, or that Rattle makes, too. An
-//! export says its call's contract again, and tells the answer as two numbers.
+//! What the exports of the static library `cvl_c` share: the checks of whatever a caller may get wrong, the operators that
+//! numbers name, and what a caller is told; and calls on a caller's own memory that are generic over a monoid, or that Rattle
+//! makes, too. An export says its call's contract again, and tells the answer as two numbers.
 #![tactic(auto)]
 
 pub mod checked_sums;

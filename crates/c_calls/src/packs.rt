@@ -35,7 +35,8 @@ pub fn pack_each<T: Copy>(
     out: &mut [T],
     count: &mut usize,
 ) -> Result<(), Fault>
-    ensures { OverwritesFront (by_segments lengths.now (seg_pack_of values.now flags.now)) result out.old out.new count.old count.new }
+    ensures { OverwritesFront (by_segments lengths.now (seg_pack_of values.now flags.now))
+        result out.old out.new count.old count.new }
 {
     let d = segments(lengths)?;
     seg_pack_values_over(values, flags, &d, out, count)
@@ -43,7 +44,8 @@ pub fn pack_each<T: Copy>(
 
 /// Writes the number of true flags of each segment.
 pub fn count_each(flags: &[u8], lengths: &[i32], out: &mut [i32]) -> Result<(), Fault>
-    ensures { Overwrites (in_room (length out.old) (by_segments lengths.now (counts_of (flags_of flags.now)))) result out.old out.new }
+    ensures { Overwrites (in_room (length out.old) (by_segments lengths.now (counts_of (flags_of flags.now))))
+        result out.old out.new }
 {
     let d = segments(lengths)?;
     seg_count_over(flags, &d, out)

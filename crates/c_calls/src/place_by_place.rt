@@ -16,7 +16,8 @@ use flag_calls::select_over;
 
 /// The operator on each two integers at the same place.
 pub fn int2(op: u32, a: &[i32], b: &[i32], out: &mut [i32]) -> Result<(), Fault>
-    ensures { Overwrites (in_room (length out.old) (by_operator (int_binary op) (λ o. in_limit a.now (ints2_of o a.now b.now)))) result out.old out.new }
+    ensures { Overwrites (in_room (length out.old) (by_operator (int_binary op) (λ o. in_limit a.now (ints2_of o a.now b.now))))
+        result out.old out.new }
 {
     let op = int_binary(op)?;
     check_limit(a)?;
@@ -25,7 +26,8 @@ pub fn int2(op: u32, a: &[i32], b: &[i32], out: &mut [i32]) -> Result<(), Fault>
 
 /// The comparison of each two integers at the same place.
 pub fn compare(op: u32, a: &[i32], b: &[i32], out: &mut [bool]) -> Result<(), Fault>
-    ensures { Overwrites (in_room (length out.old) (by_operator (comparison op) (λ o. in_limit a.now (compare_of o a.now b.now)))) result out.old out.new }
+    ensures { Overwrites (in_room (length out.old) (by_operator (comparison op) (λ o. in_limit a.now (compare_of o a.now b.now))))
+        result out.old out.new }
 {
     let op = comparison(op)?;
     check_limit(a)?;
@@ -42,7 +44,8 @@ pub fn bool_from_int(a: &[i32], out: &mut [bool]) -> Result<(), Fault>
 
 /// At each place the integer of `a` where the flag is true, else that of `b`.
 pub fn select_int(flags: &[u8], a: &[i32], b: &[i32], out: &mut [i32]) -> Result<(), Fault>
-    ensures { Overwrites (in_room (length out.old) (in_limit flags.now (choose_of (flags_of flags.now) a.now b.now))) result out.old out.new }
+    ensures { Overwrites (in_room (length out.old) (in_limit flags.now (choose_of (flags_of flags.now) a.now b.now)))
+        result out.old out.new }
 {
     check_limit(flags)?;
     select_over(flags, a, b, out)

@@ -39,7 +39,8 @@ fn reduce<M: Monoid>(a: &[M::Item]) -> Result<M::Item, Fault>
 
 /// The scan of integers by the operator of a number.
 pub fn int_scan(op: u32, a: &[i32], out: &mut [i32]) -> Result<(), Fault>
-    ensures { Overwrites (in_room (length out.old) (by_operator (int_monoid op) (λ o. in_limit a.now (Ok (int_scan_of o a.now))))) result out.old out.new }
+    ensures { Overwrites (in_room (length out.old) (by_operator (int_monoid op) (λ o. in_limit a.now (Ok (int_scan_of o a.now)))))
+        result out.old out.new }
 {
     let op = int_monoid(op)?;
     know_numbers(a);
@@ -57,7 +58,8 @@ pub fn int_reduce(op: u32, a: &[i32]) -> Result<i32, Fault>
 
 /// The scan of booleans by the operator of a number.
 pub fn bool_scan(op: u32, a: &[bool], out: &mut [bool]) -> Result<(), Fault>
-    ensures { Overwrites (in_room (length out.old) (by_operator (bool_binary op) (λ o. in_limit a.now (Ok (bool_scan_of o a.now))))) result out.old out.new }
+    ensures { Overwrites (in_room (length out.old)
+        (by_operator (bool_binary op) (λ o. in_limit a.now (Ok (bool_scan_of o a.now))))) result out.old out.new }
 {
     let op = bool_binary(op)?;
     by_bool_monoid!(op, scan(a, out))

@@ -20,7 +20,8 @@ use scan_walks::{know_numbers, seg_reduce_over, seg_scan_over};
 /// For each element those before it in its segment, joined from left to right, and the unit where none is.
 fn scan<M: Monoid>(a: &[M::Item], lengths: &[i32], out: &mut [M::Item]) -> Result<(), Fault>
     requires { AllPass M.is_item a.now }
-    ensures { Overwrites (in_room (length out.old) (by_segments lengths.now (seg_scan_of M.join M.unit a.now))) result out.old out.new }
+    ensures { Overwrites (in_room (length out.old) (by_segments lengths.now (seg_scan_of M.join M.unit a.now)))
+        result out.old out.new }
 {
     let d = segments(lengths)?;
     seg_scan_over::<M>(a, &d, out)
@@ -29,7 +30,8 @@ fn scan<M: Monoid>(a: &[M::Item], lengths: &[i32], out: &mut [M::Item]) -> Resul
 /// The elements of each segment, joined from left to right, and the unit where there are none.
 fn reduce<M: Monoid>(a: &[M::Item], lengths: &[i32], out: &mut [M::Item]) -> Result<(), Fault>
     requires { AllPass M.is_item a.now }
-    ensures { Overwrites (in_room (length out.old) (by_segments lengths.now (seg_reduce_of M.join M.unit a.now))) result out.old out.new }
+    ensures { Overwrites (in_room (length out.old) (by_segments lengths.now (seg_reduce_of M.join M.unit a.now)))
+        result out.old out.new }
 {
     let d = segments(lengths)?;
     seg_reduce_over::<M>(a, &d, out)
@@ -67,7 +69,8 @@ pub fn bool_scan(op: u32, a: &[bool], lengths: &[i32], out: &mut [bool]) -> Resu
 /// The reduce of each segment of flags by the operator of a number.
 pub fn bool_reduce(op: u32, a: &[u8], lengths: &[i32], out: &mut [bool]) -> Result<(), Fault>
     ensures { Overwrites (in_room (length out.old) (by_operator (bool_binary op)
-        (λ o. by_segments lengths.now (seg_reduce_of (bool_join_of o) (bool_unit_of o) (flags_of a.now))))) result out.old out.new }
+        (λ o. by_segments lengths.now (seg_reduce_of (bool_join_of o) (bool_unit_of o) (flags_of a.now)))))
+        result out.old out.new }
 {
     let op = bool_binary(op)?;
     let d = segments(lengths)?;

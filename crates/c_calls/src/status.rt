@@ -121,7 +121,8 @@ pub fn told_in_front<T: Copy>(
 
 /// Tells a caller whether a call wrote over its room.
 pub fn told_over<T>(answer: Result<(), Fault>) -> CvlStatus
-    ensures { (meaning : Result (List T) Fault) (before now : List T) → Overwrites meaning answer before now → Told meaning result before now }
+    ensures { (meaning : Result (List T) Fault) (before now : List T) → Overwrites meaning answer before now
+        → Told meaning result before now }
 {
     match answer {
         Ok(()) => done(),
@@ -131,7 +132,8 @@ pub fn told_over<T>(answer: Result<(), Fault>) -> CvlStatus
 
 /// Tells a caller whether a call that takes memory wrote over its room.
 pub fn told_over_or<T>(answer: Result<(), Refused>) -> CvlStatus
-    ensures { (meaning : Result (List T) Fault) (before now : List T) → OverwritesOr meaning answer before now → ToldOr meaning result before now }
+    ensures { (meaning : Result (List T) Fault) (before now : List T) → OverwritesOr meaning answer before now
+        → ToldOr meaning result before now }
 {
     match answer {
         Ok(()) => done(),

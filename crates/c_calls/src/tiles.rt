@@ -19,13 +19,15 @@ use scan_walks::{know_numbers, scan_over};
 fn scan_after<M: Monoid>(before: &M::Item, a: &[M::Item], out: &mut [M::Item]) -> Result<(), Fault>
     requires before { IsTrue (M.is_item before.now) }
     requires items { AllPass M.is_item a.now }
-    ensures { Overwrites (in_room (length out.old) (in_limit a.now (Ok (scan_of M.join before.now a.now)))) result out.old out.new }
+    ensures { Overwrites (in_room (length out.old) (in_limit a.now (Ok (scan_of M.join before.now a.now))))
+        result out.old out.new }
 {
     check_limit(a)?;
     scan_over::<M>(*before, a, out)
 }
 
-/// The same as [`int_scan_from`]. Its contract names the integer itself, where that of a call by value names the number of its word.
+/// The same as [`int_scan_from`]. Its contract names the integer itself, where that of a call by value names the number of its
+/// word.
 fn int_scan_after_ref(op: u32, before: &i32, a: &[i32], out: &mut [i32]) -> Result<(), Fault>
     ensures { Overwrites (in_room (length out.old)
         (by_operator (int_monoid op) (λ o. in_limit a.now (Ok (int_scan_after o before.now a.now))))) result out.old out.new }

@@ -21,7 +21,8 @@ fn put_in_fronts<X: Copy, Y: Copy>(
 ) -> Result<(), Fault>
     ensures { MatchResult result
         (λ _. at_fronts (first.old, second.old) (xs.now, ys.now) ≡ Ok (first.new, second.new))
-        (λ f. (at_fronts (first.old, second.old) (xs.now, ys.now) ≡ Err f) × (first.new ≡ first.old) × (second.new ≡ second.old)) }
+        (λ f. (at_fronts (first.old, second.old) (xs.now, ys.now) ≡ Err f) × (first.new ≡ first.old)
+        × (second.new ≡ second.old)) }
 {
     if xs.len() > first.len() || ys.len() > second.len() {
         return Err(Fault::new(FaultNo::LengthMismatch));

@@ -7,7 +7,8 @@ ghost use Rattle.std.specs.Option.{ok_or};
 ghost use Rattle.call_laws.specs.Carried.{seg_reduce_after};
 ghost use Rattle.call_laws.specs.CheckedParts.{checked_seg_reduce_after, checked_seg_scan_after};
 ghost use Rattle.call_laws.specs.InParts.{in_two};
-ghost use Rattle.cvl_base.specs.CheckedSums.{checked_reduce_of, checked_scan_of, checked_seg_reduce_of, checked_seg_scan_of, fitting};
+ghost use Rattle.cvl_base.specs.CheckedSums.{checked_reduce_of, checked_scan_of, checked_seg_reduce_of, checked_seg_scan_of};
+ghost use Rattle.cvl_base.specs.CheckedSums.{fitting};
 ghost use Rattle.cvl_base.specs.declared.fault.FaultNo.TheVariants as no;
 ghost use Rattle.cvl_base.specs.Exact.{total_of};
 ghost use Rattle.cvl_base.specs.Faults.{fault_at};
@@ -19,7 +20,8 @@ ghost use Rattle.part_calls.specs.Sums.{all_fitting, checked_scan_after};
 /// adds the parts' sums up and then looks whether the whole fits.
 pub fn checked_sums_in_parts()
     ensures scan { (carry : ℤ) (xs ys : List ℤ) →
-        checked_scan_after carry (xs ++ ys) ≡ in_two (length xs) (checked_scan_after carry xs) (checked_scan_after (fold_of ◌+ℤ◌ carry xs) ys) }
+        checked_scan_after carry (xs ++ ys) ≡ in_two (length xs) (checked_scan_after carry xs)
+        (checked_scan_after (fold_of ◌+ℤ◌ carry xs) ys) }
     ensures scan_call { (xs : List ℤ) → checked_scan_after (pos 0) xs ≡ checked_scan_of xs }
     ensures reduce { (xs ys : List ℤ) →
         checked_reduce_of (xs ++ ys) ≡ ok_or (fitting (total_of xs +ℤ total_of ys)) (fault_at no.Overflow 0) }
@@ -34,19 +36,23 @@ pub fn checked_segments_in_parts()
         seg_reduce_after ◌+ℤ◌ (pos 0) carry xs (lengths ++ m ∷ []) ≡ Ok (closed ++ out ∷ []) →
         checked_seg_scan_after carry (xs ++ ys) (lengths ++ (m + n) ∷ more)
         ≡ in_two (length xs) (checked_seg_scan_after carry xs (lengths ++ m ∷ [])) (checked_seg_scan_after out ys (n ∷ more)) }
-    ensures scan_between { (carry : ℤ) (xs ys : List ℤ) (k : ℕ) (lengths more : List ℕ) → sum (k ∷ lengths) ≡ length xs → sum more ≡ length ys →
+    ensures scan_between { (carry : ℤ) (xs ys : List ℤ) (k : ℕ) (lengths more : List ℕ) → sum (k ∷ lengths) ≡ length xs
+        → sum more ≡ length ys →
         checked_seg_scan_after carry (xs ++ ys) ((k ∷ lengths) ++ more)
         ≡ in_two (length xs) (checked_seg_scan_after carry xs (k ∷ lengths)) (checked_seg_scan_of ys more) }
-    ensures scan_call { (xs : List ℤ) (lengths : List ℕ) → checked_seg_scan_after (pos 0) xs lengths ≡ checked_seg_scan_of xs lengths }
+    ensures scan_call { (xs : List ℤ) (lengths : List ℕ)
+        → checked_seg_scan_after (pos 0) xs lengths ≡ checked_seg_scan_of xs lengths }
     ensures reduce { (carry out : ℤ) (xs ys closed : List ℤ) (lengths more : List ℕ) (m n : ℕ) →
         sum lengths + m ≡ length xs → n + sum more ≡ length ys →
         seg_reduce_after ◌+ℤ◌ (pos 0) carry xs (lengths ++ m ∷ []) ≡ Ok (closed ++ out ∷ []) →
         checked_seg_reduce_after carry (xs ++ ys) (lengths ++ (m + n) ∷ more)
         ≡ in_two (length closed) (all_fitting closed) (checked_seg_reduce_after out ys (n ∷ more)) }
-    ensures reduce_between { (carry : ℤ) (xs ys : List ℤ) (k : ℕ) (lengths more : List ℕ) → sum (k ∷ lengths) ≡ length xs → sum more ≡ length ys →
+    ensures reduce_between { (carry : ℤ) (xs ys : List ℤ) (k : ℕ) (lengths more : List ℕ) → sum (k ∷ lengths) ≡ length xs
+        → sum more ≡ length ys →
         checked_seg_reduce_after carry (xs ++ ys) ((k ∷ lengths) ++ more)
         ≡ in_two (length (k ∷ lengths)) (checked_seg_reduce_after carry xs (k ∷ lengths)) (checked_seg_reduce_of ys more) }
-    ensures reduce_call { (xs : List ℤ) (lengths : List ℕ) → checked_seg_reduce_after (pos 0) xs lengths ≡ checked_seg_reduce_of xs lengths }
+    ensures reduce_call { (xs : List ℤ) (lengths : List ℕ)
+        → checked_seg_reduce_after (pos 0) xs lengths ≡ checked_seg_reduce_of xs lengths }
 {}
 
 /// 64 bits hold what up to 4,294,967,296 numbers of 32 bits add up to.

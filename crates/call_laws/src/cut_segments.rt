@@ -21,7 +21,8 @@ pub fn segmented_in_parts<S, T>()
     ensures values { (call : S → Result T Fault) (first others : List S) (lengths more : List ℕ) → length first ≡ length lengths →
         one_each (in_vector (lengths ++ more)) call (Ok (first ++ others))
         ≡ in_two (sum lengths) (one_each (in_vector lengths) call (Ok first)) (one_each (in_vector more) call (Ok others)) }
-    ensures lists { (call : S → Result (List T) Fault) (first others : List S) (lengths more : List ℕ) → length first ≡ length lengths →
+    ensures lists { (call : S → Result (List T) Fault) (first others : List S) (lengths more : List ℕ)
+        → length first ≡ length lengths →
         end_to_end (in_vector (lengths ++ more)) call (Ok (first ++ others))
         ≡ in_two (sum lengths) (end_to_end (in_vector lengths) call (Ok first)) (end_to_end (in_vector more) call (Ok others)) }
     ensures values_at_segments { (call : S → Result T Fault) (first others : List S) →
@@ -35,18 +36,23 @@ pub fn segmented_in_parts<S, T>()
 /// The same of a segmented call on one vector, as a scan, a reduce or a count, where the first lengths are those of the first
 /// part and the others those of the second.
 pub fn segmented_vector_in_parts<S, T>()
-    ensures values { (call : List S → Result T Fault) (xs ys : List S) (lengths more : List ℕ) → sum lengths ≡ length xs → sum more ≡ length ys →
+    ensures values { (call : List S → Result T Fault) (xs ys : List S) (lengths more : List ℕ) → sum lengths ≡ length xs
+        → sum more ≡ length ys →
         one_each (in_vector (lengths ++ more)) call (nest (lengths ++ more) (xs ++ ys))
-        ≡ in_two (length xs) (one_each (in_vector lengths) call (nest lengths xs)) (one_each (in_vector more) call (nest more ys)) }
-    ensures lists { (call : List S → Result (List T) Fault) (xs ys : List S) (lengths more : List ℕ) → sum lengths ≡ length xs → sum more ≡ length ys →
+        ≡ in_two (length xs) (one_each (in_vector lengths) call (nest lengths xs))
+        (one_each (in_vector more) call (nest more ys)) }
+    ensures lists { (call : List S → Result (List T) Fault) (xs ys : List S) (lengths more : List ℕ) → sum lengths ≡ length xs
+        → sum more ≡ length ys →
         end_to_end (in_vector (lengths ++ more)) call (nest (lengths ++ more) (xs ++ ys))
-        ≡ in_two (length xs) (end_to_end (in_vector lengths) call (nest lengths xs)) (end_to_end (in_vector more) call (nest more ys)) }
+        ≡ in_two (length xs) (end_to_end (in_vector lengths) call (nest lengths xs))
+        (end_to_end (in_vector more) call (nest more ys)) }
 {}
 
 /// A segmented call that gives lists may be cut inside a segment too, where the flat call on it is that on two parts, of which m
 /// places are in the first: so are segmented back permutes, packs, distributes and indexes.
 pub fn cut_segment_in_parts<S, T>()
-    ensures { (call : S → Result (List T) Fault) (first : List S) (whole front back : S) (others : List S) (lengths more : List ℕ) (m n : ℕ) →
+    ensures { (call : S → Result (List T) Fault) (first : List S) (whole front back : S) (others : List S) (lengths more : List ℕ)
+        (m n : ℕ) →
         length first ≡ length lengths → call whole ≡ in_two m (call front) (call back) →
         end_to_end (in_vector (lengths ++ (m + n) ∷ more)) call (Ok (first ++ whole ∷ others))
         ≡ in_two (sum lengths + m) (end_to_end (in_vector (lengths ++ m ∷ [])) call (Ok (first ++ front ∷ [])))
@@ -61,7 +67,8 @@ pub fn segmented_scan_in_parts<M: Monoid>()
         sum lengths + m ≡ length xs → n + sum more ≡ length ys →
         seg_reduce_after M.join M.unit carry xs (lengths ++ m ∷ []) ≡ Ok (closed ++ out ∷ []) →
         seg_scan_after M.join M.unit carry (xs ++ ys) (lengths ++ (m + n) ∷ more)
-        ≡ in_two (length xs) (seg_scan_after M.join M.unit carry xs (lengths ++ m ∷ [])) (seg_scan_after M.join M.unit out ys (n ∷ more)) }
+        ≡ in_two (length xs) (seg_scan_after M.join M.unit carry xs (lengths ++ m ∷ []))
+        (seg_scan_after M.join M.unit out ys (n ∷ more)) }
     ensures between { (carry : M.Item) (xs ys : List M.Item) (k : ℕ) (lengths more : List ℕ) →
         sum (k ∷ lengths) ≡ length xs → sum more ≡ length ys →
         seg_scan_after M.join M.unit carry (xs ++ ys) ((k ∷ lengths) ++ more)
@@ -76,7 +83,8 @@ pub fn segmented_reduce_in_parts<M: Monoid>()
     ensures inside { (carry out : M.Item) (xs ys closed : List M.Item) (lengths more : List ℕ) (m n : ℕ) →
         sum lengths + m ≡ length xs → n + sum more ≡ length ys →
         seg_reduce_after M.join M.unit carry xs (lengths ++ m ∷ []) ≡ Ok (closed ++ out ∷ []) →
-        seg_reduce_after M.join M.unit carry (xs ++ ys) (lengths ++ (m + n) ∷ more) ≡ after closed (seg_reduce_after M.join M.unit out ys (n ∷ more)) }
+        seg_reduce_after M.join M.unit carry (xs ++ ys) (lengths ++ (m + n) ∷ more)
+        ≡ after closed (seg_reduce_after M.join M.unit out ys (n ∷ more)) }
     ensures between { (carry : M.Item) (xs ys : List M.Item) (k : ℕ) (lengths more : List ℕ) →
         sum (k ∷ lengths) ≡ length xs → sum more ≡ length ys →
         seg_reduce_after M.join M.unit carry (xs ++ ys) ((k ∷ lengths) ++ more)

@@ -3,7 +3,8 @@
 
 ghost use Rattle.std.specs.Prelude.{◌≡◌, ℕ, ℤ, Bool, List, ◌++◌, length, sum};
 ghost use Rattle.call_laws.specs.InParts.{in_two};
-ghost use Rattle.cvl_base.specs.SegmentedCalls.{seg_back_of, seg_default_of, seg_distribute_of, seg_extract_of, seg_index_of, seg_pack_of, seg_replace_of, seg_select_of, seg_simple_of};
+ghost use Rattle.cvl_base.specs.SegmentedCalls.{seg_back_of, seg_default_of, seg_distribute_of, seg_extract_of, seg_index_of};
+ghost use Rattle.cvl_base.specs.SegmentedCalls.{seg_pack_of, seg_replace_of, seg_select_of, seg_simple_of};
 
 /// A segmented permute or pack whose vectors are all cut between the same two segments is that of the first segments and that
 /// of the others. The place of a fault of the others is moved by the length of the first part of the index.
@@ -13,10 +14,12 @@ pub fn segmented_permutes_in_parts<T>()
         seg_simple_of (source ++ more) (index ++ others) (lengths ++ later)
         ≡ in_two (sum lengths) (seg_simple_of source index lengths) (seg_simple_of more others later) }
     ensures back { (source more : List T) (index others : List ℤ) (lengths later index_lengths index_later : List ℕ) →
-        sum lengths ≡ length source → sum index_lengths ≡ length index → sum later ≡ length more → sum index_later ≡ length others →
+        sum lengths ≡ length source → sum index_lengths ≡ length index → sum later ≡ length more
+        → sum index_later ≡ length others →
         length lengths ≡ length index_lengths → length later ≡ length index_later →
         seg_back_of (source ++ more) (index ++ others) (lengths ++ later) (index_lengths ++ index_later)
-        ≡ in_two (sum index_lengths) (seg_back_of source index lengths index_lengths) (seg_back_of more others later index_later) }
+        ≡ in_two (sum index_lengths) (seg_back_of source index lengths index_lengths)
+        (seg_back_of more others later index_later) }
     ensures select { (source more : List T) (index others : List ℤ) (lengths later : List ℕ) →
         sum lengths ≡ length source → sum lengths ≡ length index → sum later ≡ length more → sum later ≡ length others →
         (flags more_flags : List Bool) → sum lengths ≡ length flags → sum later ≡ length more_flags →
@@ -27,7 +30,8 @@ pub fn segmented_permutes_in_parts<T>()
         (defaults more_defaults : List T) (default_lengths default_later : List ℕ) →
         sum default_lengths ≡ length defaults → sum default_later ≡ length more_defaults →
         length lengths ≡ length default_lengths → length later ≡ length default_later →
-        seg_default_of (source ++ more) (index ++ others) (defaults ++ more_defaults) (lengths ++ later) (default_lengths ++ default_later)
+        seg_default_of (source ++ more) (index ++ others) (defaults ++ more_defaults) (lengths ++ later)
+        (default_lengths ++ default_later)
         ≡ in_two (sum lengths) (seg_default_of source index defaults lengths default_lengths)
         (seg_default_of more others more_defaults later default_later) }
     ensures pack { (xs more : List T) (flags more_flags : List Bool) (lengths later : List ℕ) →
@@ -39,10 +43,13 @@ pub fn segmented_permutes_in_parts<T>()
 /// The same of segmented calls that take one value or index for each segment, which are cut where the lengths are. The place of
 /// a fault of an extract or a replace is moved by the number of the first segments.
 pub fn segmented_values_in_parts<T>()
-    ensures distribute { (lengths later : List ℕ) (values more : List T) → length values ≡ length lengths → length more ≡ length later →
-        seg_distribute_of (values ++ more) (lengths ++ later) ≡ in_two (sum lengths) (seg_distribute_of values lengths) (seg_distribute_of more later) }
+    ensures distribute { (lengths later : List ℕ) (values more : List T) → length values ≡ length lengths
+        → length more ≡ length later →
+        seg_distribute_of (values ++ more) (lengths ++ later)
+        ≡ in_two (sum lengths) (seg_distribute_of values lengths) (seg_distribute_of more later) }
     ensures index { (lengths later : List ℕ) (inits more strides others : List ℤ) →
-        length inits ≡ length lengths → length strides ≡ length lengths → length more ≡ length later → length others ≡ length later →
+        length inits ≡ length lengths → length strides ≡ length lengths → length more ≡ length later
+        → length others ≡ length later →
         seg_index_of (inits ++ more) (strides ++ others) (lengths ++ later)
         ≡ in_two (sum lengths) (seg_index_of inits strides lengths) (seg_index_of more others later) }
     ensures extract { (lengths later : List ℕ) (xs more : List T) (index others : List ℤ) →

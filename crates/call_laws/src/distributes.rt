@@ -18,7 +18,8 @@ pub fn count_law<T>()
         index_of init stride (pos n) ≡ Ok (map (λ k. wrap (init +ℤ pos k *ℤ stride)) (range_with_len 0 n)) }
     ensures copies_above_limit { (value : T) (n : ℕ) → most_elements < n → distribute_of value (pos n) ≡ Err (fault no.TooLong) }
     ensures copies_negative { (value : T) (n : ℕ) → distribute_of value (negsuc n) ≡ Err (fault no.NegativeLength) }
-    ensures steps_above_limit { (init stride : ℤ) (n : ℕ) → most_elements < n → index_of init stride (pos n) ≡ Err (fault no.TooLong) }
+    ensures steps_above_limit { (init stride : ℤ) (n : ℕ) → most_elements < n
+        → index_of init stride (pos n) ≡ Err (fault no.TooLong) }
     ensures steps_negative { (init stride : ℤ) (n : ℕ) → index_of init stride (negsuc n) ≡ Err (fault no.NegativeLength) }
     ensures above_limit { (n : ℕ) → most_elements < n → as_length (pos n) ≡ Err (fault no.TooLong) }
     ensures negative { (n : ℕ) → as_length (negsuc n) ≡ Err (fault no.NegativeLength) }
@@ -29,5 +30,6 @@ pub fn distribute_in_parts<T>()
     ensures copies { (value : T) (m n : ℕ) → m + n ≤ most_elements →
         distribute_of value (pos (m + n)) ≡ in_two m (distribute_of value (pos m)) (distribute_of value (pos n)) }
     ensures steps { (init stride : ℤ) (m n : ℕ) → m + n ≤ most_elements →
-        index_of init stride (pos (m + n)) ≡ in_two m (index_of init stride (pos m)) (index_of (wrap (init +ℤ pos m *ℤ stride)) stride (pos n)) }
+        index_of init stride (pos (m + n)) ≡ in_two m (index_of init stride (pos m))
+        (index_of (wrap (init +ℤ pos m *ℤ stride)) stride (pos n)) }
 {}

@@ -21,9 +21,11 @@ pub fn extract_law<T>()
 pub fn replace_law<T>()
     ensures meaning { (xs : List T) (k : ℕ) (x : T) (result : List T) →
         (replace_of xs (pos k) x ≡ Ok result)
-        ↔ ((length result ≡ length xs) × (slice_get result k ≡ Some x) × ((j : ℕ) → j ≢ k → slice_get result j ≡ slice_get xs j)) }
+        ↔ ((length result ≡ length xs) × (slice_get result k ≡ Some x)
+        × ((j : ℕ) → j ≢ k → slice_get result j ≡ slice_get xs j)) }
     ensures exists { (xs : List T) (k : ℕ) (x : T) → k < length xs → IsOk (replace_of xs (pos k) x) }
-    ensures past_end { (xs : List T) (k : ℕ) (x : T) → length xs ≤ k → replace_of xs (pos k) x ≡ Err (fault_at no.IndexOutOfRange 0) }
+    ensures past_end { (xs : List T) (k : ℕ) (x : T) → length xs ≤ k
+        → replace_of xs (pos k) x ≡ Err (fault_at no.IndexOutOfRange 0) }
     ensures negative { (xs : List T) (k : ℕ) (x : T) → replace_of xs (negsuc k) x ≡ Err (fault_at no.IndexOutOfRange 0) }
     ensures read_back { (xs : List T) (index : ℤ) (x : T) (result : List T) → replace_of xs index x ≡ Ok result →
         extract_of result index ≡ Ok x }

@@ -9,8 +9,11 @@ ghost use Rattle.cvl_base.specs.Nests.{IsNest, nest};
 /// where the lengths add up to the length of the list; else there is no such list of lists, and the fault is
 /// LengthMismatch.
 pub fn nest_law<T>()
-    ensures meaning { (lengths : List ℕ) (xs : List T) (lists : List (List T)) → (nest lengths xs ≡ Ok lists) ↔ IsNest lengths xs lists }
+    ensures meaning { (lengths : List ℕ) (xs : List T) (lists : List (List T))
+        → (nest lengths xs ≡ Ok lists) ↔ IsNest lengths xs lists }
     ensures exists { (lengths : List ℕ) (xs : List T) → sum lengths ≡ length xs → IsOk (nest lengths xs) }
-    ensures mismatch { (lengths : List ℕ) (xs : List T) → sum lengths ≢ length xs → nest lengths xs ≡ Err (fault no.LengthMismatch) }
-    ensures none { (lengths : List ℕ) (xs : List T) (lists : List (List T)) → sum lengths ≢ length xs → ¬ (IsNest lengths xs lists) }
+    ensures mismatch { (lengths : List ℕ) (xs : List T) → sum lengths ≢ length xs
+        → nest lengths xs ≡ Err (fault no.LengthMismatch) }
+    ensures none { (lengths : List ℕ) (xs : List T) (lists : List (List T)) → sum lengths ≢ length xs
+        → ¬ (IsNest lengths xs lists) }
 {}

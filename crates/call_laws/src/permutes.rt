@@ -4,7 +4,8 @@ ghost use Rattle.std.specs.Prelude.{◌≡◌, ◌≢◌, ◌↔◌, ◌<◌, �
 ghost use Rattle.cvl_base.specs.declared.fault.FaultNo.TheVariants as no;
 ghost use Rattle.cvl_base.specs.Faults.{fault, fault_at};
 ghost use Rattle.cvl_base.specs.Packs.{count_of};
-ghost use Rattle.call_laws.specs.Permuted.{AreOnce, AreOnceFlagged, AreWithin, AreWithinFlagged, IsBackPermute, IsDefaultPermute, IsGoodBefore, IsSelectPermute, IsSimplePermute};
+ghost use Rattle.call_laws.specs.Permuted.{AreOnce, AreOnceFlagged, AreWithin, AreWithinFlagged, IsBackPermute, IsDefaultPermute};
+ghost use Rattle.call_laws.specs.Permuted.{IsGoodBefore, IsSelectPermute, IsSimplePermute};
 ghost use Rattle.cvl_base.specs.Permutes.{back_of, default_of, first_fault, is_place, select_of, simple_of, wrongs};
 
 /// A simple permute gives the one vector in which element k of the source stands at the index of k, and gives it exactly

@@ -28,17 +28,21 @@ pub fn simple_permute_by_ranges<T>()
     ensures written { (source room : List T) (index : List ℤ) → length source ≡ length index → length index ≤ most_elements →
         length room ≡ length index → count_of_range (all_destinations index) 0 (length room) ≡ length index →
         simple_of source index ≡ Ok (room_of_range source (all_destinations index) 0 room) }
-    ensures counted { (source room result : List T) (index : List ℤ) → length source ≡ length index → length index ≤ most_elements →
+    ensures counted { (source room result : List T) (index : List ℤ) → length source ≡ length index
+        → length index ≤ most_elements →
         length room ≡ length index → simple_of source index ≡ Ok result →
         count_of_range (all_destinations index) 0 (length room) ≡ length index }
 {}
 
 /// The same of a select permute, in which as many indices take part as there are true flags.
 pub fn select_permute_by_ranges<T>()
-    ensures written { (source room : List T) (index : List ℤ) (flags : List Bool) → length source ≡ length index → length index ≤ most_elements →
-        length index ≡ length flags → length room ≡ count_of flags → count_of_range (flagged_destinations index flags) 0 (length room) ≡ count_of flags →
+    ensures written { (source room : List T) (index : List ℤ) (flags : List Bool) → length source ≡ length index
+        → length index ≤ most_elements →
+        length index ≡ length flags → length room ≡ count_of flags
+        → count_of_range (flagged_destinations index flags) 0 (length room) ≡ count_of flags →
         select_of source index flags ≡ Ok (room_of_range source (flagged_destinations index flags) 0 room) }
-    ensures counted { (source room result : List T) (index : List ℤ) (flags : List Bool) → length source ≡ length index → length index ≤ most_elements →
+    ensures counted { (source room result : List T) (index : List ℤ) (flags : List Bool) → length source ≡ length index
+        → length index ≤ most_elements →
         length index ≡ length flags → length room ≡ count_of flags → select_of source index flags ≡ Ok result →
         count_of_range (flagged_destinations index flags) 0 (length room) ≡ count_of flags }
 {}
@@ -48,6 +52,8 @@ pub fn default_permute_by_ranges<T>()
     ensures written { (source defaults : List T) (index : List ℤ) → length source ≡ length index → length index ≤ most_elements →
         count_of_range (all_destinations index) 0 (length defaults) ≡ length index →
         default_of source index defaults ≡ Ok (room_of_range source (all_destinations index) 0 defaults) }
-    ensures counted { (source defaults result : List T) (index : List ℤ) → length source ≡ length index → length index ≤ most_elements →
-        default_of source index defaults ≡ Ok result → count_of_range (all_destinations index) 0 (length defaults) ≡ length index }
+    ensures counted { (source defaults result : List T) (index : List ℤ) → length source ≡ length index
+        → length index ≤ most_elements →
+        default_of source index defaults ≡ Ok result
+        → count_of_range (all_destinations index) 0 (length defaults) ≡ length index }
 {}

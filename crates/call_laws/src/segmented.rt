@@ -13,7 +13,9 @@ ghost use Rattle.cvl_base.specs.Nests.{nest};
 ghost use Rattle.cvl_base.specs.Packs.{count_of, pack_of};
 ghost use Rattle.cvl_base.specs.Permutes.{back_of, default_of, select_of, simple_of};
 ghost use Rattle.cvl_base.specs.Segmented.{end_to_end, moved, of_three, of_two, one_each};
-ghost use Rattle.cvl_base.specs.SegmentedCalls.{seg_back_of, seg_count_of, seg_default_of, seg_distribute_of, seg_extract_of, seg_index_of, seg_pack_of, seg_reduce_of, seg_replace_of, seg_scan_of, seg_select_of, seg_simple_of};
+ghost use Rattle.cvl_base.specs.SegmentedCalls.{seg_back_of, seg_count_of, seg_default_of, seg_distribute_of, seg_extract_of};
+ghost use Rattle.cvl_base.specs.SegmentedCalls.{seg_index_of, seg_pack_of, seg_reduce_of, seg_replace_of, seg_scan_of};
+ghost use Rattle.cvl_base.specs.SegmentedCalls.{seg_select_of, seg_simple_of};
 
 use cvl_base::monoid::Monoid;
 
@@ -22,7 +24,8 @@ use cvl_base::monoid::Monoid;
 pub fn segmented_call_law<S, R>()
     ensures results { (place : ℕ → ℕ → ℕ) (call : S → Result R Fault) (segments : List S) (results : List R) →
         (one_each place call (Ok segments) ≡ Ok results) ↔ (map call segments ≡ map (λ r. Ok r) results) }
-    ensures first_fault { (place : ℕ → ℕ → ℕ) (call : S → Result R Fault) (good : List S) (bad : S) (others : List S) (results : List R) (f : Fault) →
+    ensures first_fault { (place : ℕ → ℕ → ℕ) (call : S → Result R Fault) (good : List S) (bad : S) (others : List S)
+        (results : List R) (f : Fault) →
         map call good ≡ map (λ r. Ok r) results → call bad ≡ Err f →
         one_each place call (Ok (good ++ bad ∷ others)) ≡ moved (place (length good)) (Err f) }
 {}
@@ -33,10 +36,12 @@ pub fn segmented_lists_law<S, T>()
     ensures results { (place : ℕ → ℕ → ℕ) (call : S → Result (List T) Fault) (segments : List S) (result : List T) →
         (end_to_end place call (Ok segments) ≡ Ok result)
         ↔ ((lists : List (List T)) × (map call segments ≡ map (λ r. Ok r) lists) × (result ≡ joined lists)) }
-    ensures first_fault { (place : ℕ → ℕ → ℕ) (call : S → Result (List T) Fault) (good : List S) (bad : S) (others : List S) (lists : List (List T)) (f : Fault) →
+    ensures first_fault { (place : ℕ → ℕ → ℕ) (call : S → Result (List T) Fault) (good : List S) (bad : S) (others : List S)
+        (lists : List (List T)) (f : Fault) →
         map call good ≡ map (λ r. Ok r) lists → call bad ≡ Err f →
         end_to_end place call (Ok (good ++ bad ∷ others)) ≡ moved (place (length good)) (Err f) }
-    ensures cut_again { (place : ℕ → ℕ → ℕ) (call : S → Result (List T) Fault) (segments : List S) (lists : List (List T)) (result : List T) →
+    ensures cut_again { (place : ℕ → ℕ → ℕ) (call : S → Result (List T) Fault) (segments : List S) (lists : List (List T))
+        (result : List T) →
         map call segments ≡ map (λ r. Ok r) lists →
         (end_to_end place call (Ok segments) ≡ Ok result) ↔ (nest (map length lists) result ≡ Ok lists) }
 {}
@@ -57,7 +62,8 @@ pub fn result_cut_again<T>()
     ensures replace { (xs values result : List T) (index : List ℤ) (lengths : List ℕ) (lists : List (List T)) →
         nest lengths xs ≡ Ok lists → seg_replace_of xs index values lengths ≡ Ok result →
         IsCutInto (of_three replace_of) (zip (zip lists index) values) lengths result }
-    ensures pack { (xs result : List T) (flags : List Bool) (lengths counts : List ℕ) (lists : List (List T)) (flag_lists : List (List Bool)) →
+    ensures pack { (xs result : List T) (flags : List Bool) (lengths counts : List ℕ) (lists : List (List T))
+        (flag_lists : List (List Bool)) →
         nest lengths xs ≡ Ok lists → nest lengths flags ≡ Ok flag_lists →
         seg_count_of flags lengths ≡ Ok counts → seg_pack_of xs flags lengths ≡ Ok result →
         IsCutInto (of_two pack_of) (zip lists flag_lists) counts result }
@@ -66,20 +72,25 @@ pub fn result_cut_again<T>()
 /// The lengths of the source cut the result of a segmented simple permute into the flat results of the segments; those of
 /// the index that of a back permute; the counts of the flags that of a select; those of the defaults that of a default.
 pub fn permute_cut_again<T>()
-    ensures simple { (source result : List T) (index : List ℤ) (lengths : List ℕ) (sources : List (List T)) (indices : List (List ℤ)) →
+    ensures simple { (source result : List T) (index : List ℤ) (lengths : List ℕ) (sources : List (List T))
+        (indices : List (List ℤ)) →
         nest lengths source ≡ Ok sources → nest lengths index ≡ Ok indices →
         seg_simple_of source index lengths ≡ Ok result →
         IsCutInto (of_two simple_of) (zip sources indices) lengths result }
-    ensures back { (source result : List T) (index : List ℤ) (source_lengths index_lengths : List ℕ) (sources : List (List T)) (indices : List (List ℤ)) →
+    ensures back { (source result : List T) (index : List ℤ) (source_lengths index_lengths : List ℕ) (sources : List (List T))
+        (indices : List (List ℤ)) →
         nest source_lengths source ≡ Ok sources → nest index_lengths index ≡ Ok indices →
         seg_back_of source index source_lengths index_lengths ≡ Ok result →
         IsCutInto (of_two back_of) (zip sources indices) index_lengths result }
-    ensures select { (source result : List T) (index : List ℤ) (flags : List Bool) (lengths counts : List ℕ) (sources : List (List T)) (indices : List (List ℤ)) (flag_lists : List (List Bool)) →
+    ensures select { (source result : List T) (index : List ℤ) (flags : List Bool) (lengths counts : List ℕ)
+        (sources : List (List T)) (indices : List (List ℤ)) (flag_lists : List (List Bool)) →
         nest lengths source ≡ Ok sources → nest lengths index ≡ Ok indices → nest lengths flags ≡ Ok flag_lists →
         seg_count_of flags lengths ≡ Ok counts → seg_select_of source index flags lengths ≡ Ok result →
         IsCutInto (of_three select_of) (zip (zip sources indices) flag_lists) counts result }
-    ensures default_into { (source defaults result : List T) (index : List ℤ) (source_lengths default_lengths : List ℕ) (sources default_lists : List (List T)) (indices : List (List ℤ)) →
-        nest source_lengths source ≡ Ok sources → nest source_lengths index ≡ Ok indices → nest default_lengths defaults ≡ Ok default_lists →
+    ensures default_into { (source defaults result : List T) (index : List ℤ) (source_lengths default_lengths : List ℕ)
+        (sources default_lists : List (List T)) (indices : List (List ℤ)) →
+        nest source_lengths source ≡ Ok sources → nest source_lengths index ≡ Ok indices
+        → nest default_lengths defaults ≡ Ok default_lists →
         seg_default_of source index defaults source_lengths default_lengths ≡ Ok result →
         IsCutInto (of_three default_of) (zip (zip sources indices) default_lists) default_lengths result }
 {}

@@ -1,6 +1,7 @@
 //! Inputs.
 
-ghost use Rattle.std.specs.Prelude.{◌≡◌, ◌<◌, ◌≤◌, ◌+◌, [], ◌∷◌, length, drop, codes, Ok, Err, pos, neg_ℤ, nat_lt, if◌then◌else◌, MatchOption, IfSome, IfOk, vec_len};
+ghost use Rattle.std.specs.Prelude.{◌≡◌, ◌<◌, ◌≤◌, ◌+◌, [], ◌∷◌, length, drop, codes, Ok, Err, pos, neg_ℤ, nat_lt, if◌then◌else◌};
+ghost use Rattle.std.specs.Prelude.{MatchOption, IfSome, IfOk, vec_len};
 ghost use Rattle.cvl_base.specs.declared.fault.FaultNo.TheVariants.{TooLong, BadInput};
 ghost use Rattle.cvl_base.specs.Faults.{fault, fault_at};
 ghost use Rattle.cvl_base.specs.Gives.{Gives};
@@ -52,7 +53,8 @@ fn tokens_begun(bytes: &[u8], first: usize, after_white_space: bool) -> (u8, boo
     requires within { first ≤ length bytes.now }
     requires few { first ≤ PAGE_BYTES }
     ensures few { result.0 ≤ first }
-    ensures tokens { result.0 + length (tokens_by input_class (drop first bytes.now)) + from_bool (goes_on after_white_space bytes.now)
+    ensures tokens { result.0 + length (tokens_by input_class (drop first bytes.now)) + from_bool
+        (goes_on after_white_space bytes.now)
         ≡ length (tokens_by input_class bytes.now) + from_bool (goes_on result.1 (drop first bytes.now)) }
 {
     let mut count: u8 = 0;

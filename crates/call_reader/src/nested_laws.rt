@@ -25,8 +25,10 @@ pub fn worked_nested_texts()
 /// What a nested text is: the grammar gives a vector and lengths exactly of a nested text of these, and a nested text has one
 /// such pair only. It does nothing: its contract says so of the definitions, for every list of bytes.
 pub fn nested_text_laws()
-    ensures read { (bytes : List ℕ) (xs : List ℤ) (lengths : List ℕ) → IsNestedText bytes xs lengths → nested_of bytes ≡ Ok (xs, lengths) }
-    ensures no_other { (bytes : List ℕ) (xs : List ℤ) (lengths : List ℕ) → nested_of bytes ≡ Ok (xs, lengths) → IsNestedText bytes xs lengths }
+    ensures read { (bytes : List ℕ) (xs : List ℤ) (lengths : List ℕ) → IsNestedText bytes xs lengths
+        → nested_of bytes ≡ Ok (xs, lengths) }
+    ensures no_other { (bytes : List ℕ) (xs : List ℤ) (lengths : List ℕ) → nested_of bytes ≡ Ok (xs, lengths)
+        → IsNestedText bytes xs lengths }
     ensures one_pair { (bytes : List ℕ) (xs ys : List ℤ) (lengths others : List ℕ) → IsNestedText bytes xs lengths
         → IsNestedText bytes ys others → (xs ≡ ys) × (lengths ≡ others) }
 {}

@@ -1,7 +1,8 @@
 //! The tokens of a nested text.
 
 ghost use Rattle.std.specs.Prelude.{◌≡◌, ◌<◌, ◌∷◌, length, false, MatchOption, IfSome, count_by};
-ghost use Rattle.call_reader.specs.NestedTexts.{nested_class, mark_of, marks_of, number, opening, closing, is_opening, is_no_bracket, are_too_many};
+ghost use Rattle.call_reader.specs.NestedTexts.{nested_class, mark_of, marks_of, number, opening, closing, is_opening};
+ghost use Rattle.call_reader.specs.NestedTexts.{is_no_bracket, are_too_many};
 ghost use Rattle.call_reader.specs.NestedReads.{is_closing, is_number, is_no_mark, begin_with};
 
 use crate::inputs::is_white_space;

@@ -1,7 +1,8 @@
 //! In what the calls of one family differ: the operator, the form, the cut and the elements, with their letters in names.
 
 ghost use Rattle.std.specs.Prelude.{◌≡◌};
-ghost use Rattle.call_table.specs.Letters.{int_binary_letters, unary_letters, comparison_letters, bool_binary_letters, int_monoid_letters, form_letters, cut_and_element_letters};
+ghost use Rattle.call_table.specs.Letters.{int_binary_letters, unary_letters, comparison_letters, bool_binary_letters};
+ghost use Rattle.call_table.specs.Letters.{int_monoid_letters, form_letters, cut_and_element_letters};
 
 /// The letters of an operator, of each that its enum has.
 macro_rules! letters {

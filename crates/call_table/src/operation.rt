@@ -1,7 +1,8 @@
 //! The calls of a script by families, with the operands that each takes and what it gives.
 
 ghost use Rattle.std.specs.Prelude.{◌≡◌};
-ghost use Rattle.call_table.specs.Calls.{operands_of, results_of, is_write, binds_of, takes_of, accepts_of, write_accepts, same_kind};
+ghost use Rattle.call_table.specs.Calls.{operands_of, results_of, is_write, binds_of, takes_of, accepts_of, write_accepts};
+ghost use Rattle.call_table.specs.Calls.{same_kind};
 
 use crate::families::{BoolBinary, Comparison, Cut, Element, Form, IntBinary, IntMonoid, Unary};
 use crate::kind::Kind;

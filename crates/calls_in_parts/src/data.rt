@@ -19,8 +19,8 @@ pub const SEGMENTS: &[i32] = &[0, 3, 0, 0, 4, 1, 0, 2, 0];
 
 const WHOLE: &[i32] = &[10];
 
-/// Integers of which a sum in the middle and one of a segment don't fit 32 bits; and such that sums before others don't in a segment, and
-/// the sum of all.
+/// Integers of which a sum in the middle and one of a segment don't fit 32 bits; and such that sums before others don't in a
+/// segment, and the sum of all.
 const WIDE: Join = Join::Exact([MOST, -5, -9, -MOST, 3, MOST, MOST, 4, -MOST, -1]);
 
 const LAST_WIDE: Join = Join::Exact([-20, 0, 1, MOST, 5, -9, 2, 4, -7, MOST]);
@@ -30,7 +30,8 @@ const MOST: i32 = i32::MAX;
 /// Divisors of which two are 0.
 const ZEROS: [i32; 10] = [2, -1, 0, 4, 7, 0, 1, 3, 5, 6];
 
-/// Indices: of each place once, with one repeated and with two outside; of twelve places; and of six, for those whose flag is true.
+/// Indices: of each place once, with one repeated and with two outside; of twelve places; and of six, for those whose flag is
+/// true.
 const SHUFFLED: [i32; 10] = [3, 0, 9, 5, 1, 2, 8, 4, 7, 6];
 
 const REPEATED: [i32; 10] = [3, 0, 9, 5, 1, 2, 8, 5, 7, 9];

@@ -1,5 +1,6 @@
-//! Calls in parts, for threads of one's own: each family of calls on a vector that is cut in three at all places, so that there are
-//! parts of every size, empty ones too. What the parts give, joined as `docs/parallel.md` says, is held against the plain call.
+//! Calls in parts, for threads of one's own: each family of calls on a vector that is cut in three at all places, so that there
+//! are parts of every size, empty ones too. What the parts give, joined as `docs/parallel.md` says, is held against the plain
+//! call.
 #![tactic(auto)]
 
 mod calls;

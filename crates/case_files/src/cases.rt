@@ -6,7 +6,8 @@
 //! | Heading | What it says |
 //! |---|---|
 //! | `== case NAME` | a case of this name begins |
-//! | `== tile 1 2 workers 3 64` | it is run in tiles of each of these lengths, by each of these numbers of workers; tiles of 2 elements and 3 workers where there is no such heading |
+//! | `== tile 1 2 workers 3 64` | it is run in tiles of each of these lengths, by each of these numbers of workers; tiles of 2
+//! elements and 3 workers where there is no such heading |
 //! | `== script` | the script |
 //! | `== input` | an input; the first is input 1 |
 //! | `== text` | what the script writes |

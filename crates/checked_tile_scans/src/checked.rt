@@ -1,5 +1,5 @@
-//! Scans and reduces of integer vectors by sums that never wrap, flat and by segments: `Overflow` at the first result that does not
-//! fit 32 bits.
+//! Scans and reduces of integer vectors by sums that never wrap, flat and by segments: `Overflow` at the first result that does
+//! not fit 32 bits.
 //!
 //! Workers race for the tiles of a long vector, whose sums are numbers of 54 bits and so are exact. They race again for the
 //! first result of a scan that does not fit, and only where there is none the results are written, each of 32 bits.

@@ -1,5 +1,5 @@
-//! The sums of segments, each found from the tile that holds the segment's last element. The first sum that does not fit 32 bits is
-//! found while they are written, so that nothing is added up a second time.
+//! The sums of segments, each found from the tile that holds the segment's last element. The first sum that does not fit 32 bits
+//! is found while they are written, so that nothing is added up a second time.
 
 ghost use Rattle.std.specs.Prelude.{◌≡◌, ◌∷◌, ◌≤◌, [], Some, pos, IfOk, length, map, vec_len};
 ghost use Rattle.std.specs.Option.{option_copied};
@@ -56,8 +56,8 @@ pub(crate) fn before_tiles<R: Threads + Sync, A: Memory>(
     race_for_totals(rt, alloc, pace, vector)
 }
 
-/// The sums of the segments, where it is known what stands before each tile. At most so many threads write them. `Overflow` at the
-/// first segment whose sum does not fit 32 bits.
+/// The sums of the segments, where it is known what stands before each tile. At most so many threads write them. `Overflow` at
+/// the first segment whose sum does not fit 32 bits.
 pub(crate) fn sums_known<R: Threads + Sync, A: Memory>(
     rt: &R,
     alloc: A,

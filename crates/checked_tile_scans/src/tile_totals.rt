@@ -43,8 +43,8 @@ impl<'a, A: Allocator> Totals<'a, A> {
     ghost use Rattle.tile_scans.specs.TiledSums.{tile_of};
     ghost use Rattle.checked_tile_scans.specs.Checked.{total_since};
 
-    /// A vector of at most 4,194,304 elements, beside its descriptor if it has one, in tiles of `tile` elements, of which there is
-    /// at least one.
+    /// A vector of at most 4,194,304 elements, beside its descriptor if it has one, in tiles of `tile` elements, of which there
+    /// is at least one.
     pub(crate) fn new(
         elements: &'a [i32],
         segments: Option<&'a SegDes<A>>,

@@ -5,7 +5,8 @@ ghost use Rattle.clap.specs.Words.{all_of, fault_of, first_of, found_of, rows_of
 ghost use Rattle.clap.specs.Walk.{texts};
 ghost use Rattle.cvl_base.specs.Limits.{longest_tile, most_workers};
 ghost use Rattle.command_line.specs.Command.{cvl};
-ghost use Rattle.command_line.specs.Reads.{HoldsAllArguments, ReadsBy, inputs_given, is_left_out, number_given, number_in, script_given};
+ghost use Rattle.command_line.specs.Reads.{HoldsAllArguments, ReadsBy, inputs_given, is_left_out, number_given, number_in};
+ghost use Rattle.command_line.specs.Reads.{script_given};
 ghost use Rattle.command_line.specs.declared.fault.WordsFault.TheVariants as fault;
 
 use crate::fault::WordsFault;

@@ -30,10 +30,10 @@ pub struct Crewed<W: Work, A: Allocator> {
 /// One worker for each seat, numbered from 0 in the order of the seats, claims tiles until it is told that none is left.
 ///
 /// There is one seat or more, at most as many as there are `workers`, all of the work's board, to none of which a tile was given
-/// before. A worker passes `Claimed` before it works at a tile, and `Finished` after it has the tile's items. The seats are halved, and a half is given to a
-/// thread of its own, until each worker has one seat; where no thread can be made both halves are worked off in turn. With
-/// one seat no thread is started. At the end each seat has the fact of each tile that was given to it. Where a worker is out
-/// of memory the others end as usual, and the call answers `NoResources`.
+/// before. A worker passes `Claimed` before it works at a tile, and `Finished` after it has the tile's items. The seats are
+/// halved, and a half is given to a thread of its own, until each worker has one seat; where no thread can be made both halves
+/// are worked off in turn. With one seat no thread is started. At the end each seat has the fact of each tile that was given to
+/// it. Where a worker is out of memory the others end as usual, and the call answers `NoResources`.
 pub fn run_crew<R: Threads + Sync, A: Memory, W: Work, G: Gate>(
     rt: &R,
     alloc: A,

@@ -1,7 +1,8 @@
 //! The memory that a call is given to work in.
 use std::alloc::Allocator;
 
-/// A handle to memory that can be copied and that several threads can use at once: for example `Global`, or a `&` to an allocator.
+/// A handle to memory that can be copied and that several threads can use at once: for example `Global`, or a `&` to an
+/// allocator.
 ///
 /// Whatever takes memory is generic over it, so that a test can hand it an allocator that refuses.
 pub trait Memory: Allocator + Copy + Send + Sync {}

@@ -62,7 +62,8 @@ impl Model for Name {
 
     ghost view = { λ n. take n.len n.bytes };
 
-    ghost invariant = { λ n. (n.len ≤ most_word_bytes) × (n.bytes ≡ padded (take n.len n.bytes)) × (n.len ≡ length (take n.len n.bytes)) × IsTrue (is_name (take n.len n.bytes)) };
+    ghost invariant = { λ n. (n.len ≤ most_word_bytes) × (n.bytes ≡ padded (take n.len n.bytes))
+        × (n.len ≡ length (take n.len n.bytes)) × IsTrue (is_name (take n.len n.bytes)) };
 
     ghost inverse = { λ bytes. record { bytes = padded bytes; len = length bytes } };
 

@@ -44,7 +44,8 @@ pub extern "C" fn cvl_select_permute_int(
     flags: &[bool],
     out: &mut [i32],
 ) -> CvlStatus
-    ensures { ToldOr (in_room (length out.old) (in_limit index.now (select_of source.now index.now flags.now))) result out.old out.new }
+    ensures { ToldOr (in_room (length out.old) (in_limit index.now (select_of source.now index.now flags.now)))
+        result out.old out.new }
 {
     told_over_or::<i32>(select(alloc, source, index, flags, out))
 }
@@ -58,7 +59,8 @@ pub extern "C" fn cvl_select_permute_bool(
     flags: &[bool],
     out: &mut [bool],
 ) -> CvlStatus
-    ensures { ToldOr (in_room (length out.old) (in_limit index.now (select_of source.now index.now flags.now))) result out.old out.new }
+    ensures { ToldOr (in_room (length out.old) (in_limit index.now (select_of source.now index.now flags.now)))
+        result out.old out.new }
 {
     told_over_or::<bool>(select(alloc, source, index, flags, out))
 }

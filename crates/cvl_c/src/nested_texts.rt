@@ -48,7 +48,8 @@ pub extern "C" fn cvl_seg_write_ints(
     out: &mut [u8],
     count: &mut usize,
 ) -> CvlStatus
-    ensures { FrontToldOr (by_segments lengths.now (segments_text signed_decimal a.now)) result out.old out.new count.old count.new }
+    ensures { FrontToldOr (by_segments lengths.now (segments_text signed_decimal a.now))
+        result out.old out.new count.old count.new }
 {
     let d = or_tell!(segments(lengths));
     or_tell!(check_agree(d.total(), a.len()));
@@ -64,7 +65,8 @@ pub extern "C" fn cvl_seg_write_bools(
     out: &mut [u8],
     count: &mut usize,
 ) -> CvlStatus
-    ensures { FrontToldOr (by_segments lengths.now (segments_text boolean_text a.now)) result out.old out.new count.old count.new }
+    ensures { FrontToldOr (by_segments lengths.now (segments_text boolean_text a.now))
+        result out.old out.new count.old count.new }
 {
     let d = or_tell!(segments(lengths));
     or_tell!(check_agree(d.total(), a.len()));

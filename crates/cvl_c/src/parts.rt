@@ -1,5 +1,5 @@
-//! What one part of a call needs where the whole doesn't: sums that go on from what stands before the part, one range of a permute's
-//! result, and one piece of a text.
+//! What one part of a call needs where the whole doesn't: sums that go on from what stands before the part, one range of a
+//! permute's result, and one piece of a text.
 
 ghost use Rattle.std.specs.Prelude.{ℕ, List, Ok, Result, length};
 ghost use Rattle.cvl_base.specs.declared.fault.Fault.{Fault};
@@ -19,7 +19,8 @@ use std::alloc::Global;
 
 /// Tells a caller whether a range of a permute was written, and the number of its places.
 fn told_range<T>(answer: Result<usize, Fault>, written: &mut usize) -> CvlStatus
-    ensures { (meaning : Result (List T × List ℕ × ℕ) Fault) (out now : List T) (marks marked : List ℕ) → WritesRange meaning answer (out, marks) (now, marked)
+    ensures { (meaning : Result (List T × List ℕ × ℕ) Fault) (out now : List T) (marks marked : List ℕ)
+        → WritesRange meaning answer (out, marks) (now, marked)
         → Told meaning result (out, marks, written.old) (now, marked, written.new) }
 {
     match answer {
@@ -42,7 +43,8 @@ pub extern "C" fn cvl_exact_sum(a: &[i32], out: &mut i64) -> CvlStatus
 /// For each integer `before` and those before it, added up, which never wraps.
 #[unsafe(no_mangle)]
 pub extern "C" fn cvl_checked_scan_after(before: i64, a: &[i32], out: &mut [i32]) -> CvlStatus
-    ensures { Told (in_room (length out.old) (few_enough (length a.now) (checked_scan_after before a.now))) result out.old out.new }
+    ensures { Told (in_room (length out.old) (few_enough (length a.now) (checked_scan_after before a.now)))
+        result out.old out.new }
 {
     told_over::<i32>(checked_scan_from(&before, a, out))
 }
@@ -119,7 +121,8 @@ pub extern "C" fn cvl_select_permute_bool_range(
     )
 }
 
-/// The integers of a piece of a text, whose fault stands at its place in the whole, where the pieces before it have so many words.
+/// The integers of a piece of a text, whose fault stands at its place in the whole, where the pieces before it have so many
+/// words.
 #[unsafe(no_mangle)]
 pub extern "C" fn cvl_read_ints_after(
     alloc: Global,

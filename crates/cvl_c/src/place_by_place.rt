@@ -1,7 +1,8 @@
 //! The calls that work place by place, on vectors of at most 4,194,304 elements.
 
 ghost use Rattle.std.specs.Prelude.{Ok, length};
-ghost use Rattle.cvl_base.specs.Elementwise.{bools1_of, bools2_of, bools_from_ints, choose_of, compare_of, ints1_of, ints2_of, ints_from_bools};
+ghost use Rattle.cvl_base.specs.Elementwise.{bools1_of, bools2_of, bools_from_ints, choose_of, compare_of, ints1_of, ints2_of};
+ghost use Rattle.cvl_base.specs.Elementwise.{ints_from_bools};
 ghost use Rattle.c_calls.specs.Calls.{by_operator, in_limit};
 ghost use Rattle.flag_calls.specs.Flags.{as_bytes, flags_of};
 ghost use Rattle.c_calls.specs.Numbers.{bool_binary, comparison, int_binary, unary};
@@ -18,7 +19,8 @@ use flag_calls::{bool1_over, bool2_over, int_from_bool_over, select_flags_over};
 /// The operator on each two integers at the same place: `add_wuz` and its like.
 #[unsafe(no_mangle)]
 pub extern "C" fn cvl_int2(op: u32, a: &[i32], b: &[i32], out: &mut [i32]) -> CvlStatus
-    ensures { Told (in_room (length out.old) (by_operator (int_binary op) (λ o. in_limit a.now (ints2_of o a.now b.now)))) result out.old out.new }
+    ensures { Told (in_room (length out.old) (by_operator (int_binary op) (λ o. in_limit a.now (ints2_of o a.now b.now))))
+        result out.old out.new }
 {
     told_over::<i32>(int2(op, a, b, out))
 }
@@ -26,7 +28,8 @@ pub extern "C" fn cvl_int2(op: u32, a: &[i32], b: &[i32], out: &mut [i32]) -> Cv
 /// The operator on each integer: `not_wuz` and `cpy_wuz`.
 #[unsafe(no_mangle)]
 pub extern "C" fn cvl_int1(op: u32, a: &[i32], out: &mut [i32]) -> CvlStatus
-    ensures { Told (in_room (length out.old) (by_operator (unary op) (λ o. in_limit a.now (Ok (ints1_of o a.now))))) result out.old out.new }
+    ensures { Told (in_room (length out.old) (by_operator (unary op) (λ o. in_limit a.now (Ok (ints1_of o a.now)))))
+        result out.old out.new }
 {
     let op = or_tell!(unary(op));
     or_tell!(check_limit(a));
@@ -36,7 +39,8 @@ pub extern "C" fn cvl_int1(op: u32, a: &[i32], out: &mut [i32]) -> CvlStatus
 /// The comparison of each two integers at the same place: `grt_wuz` and its like.
 #[unsafe(no_mangle)]
 pub extern "C" fn cvl_compare(op: u32, a: &[i32], b: &[i32], out: &mut [bool]) -> CvlStatus
-    ensures { Told (in_room (length out.old) (by_operator (comparison op) (λ o. in_limit a.now (compare_of o a.now b.now)))) result out.old out.new }
+    ensures { Told (in_room (length out.old) (by_operator (comparison op) (λ o. in_limit a.now (compare_of o a.now b.now))))
+        result out.old out.new }
 {
     told_over::<bool>(compare(op, a, b, out))
 }
@@ -83,7 +87,8 @@ pub extern "C" fn cvl_bool_from_int(a: &[i32], out: &mut [bool]) -> CvlStatus
 /// At each place the integer of `a` where the flag is true, else that of `b`: `sel_wuz`.
 #[unsafe(no_mangle)]
 pub extern "C" fn cvl_select_int(flags: &[u8], a: &[i32], b: &[i32], out: &mut [i32]) -> CvlStatus
-    ensures { Told (in_room (length out.old) (in_limit flags.now (choose_of (flags_of flags.now) a.now b.now))) result out.old out.new }
+    ensures { Told (in_room (length out.old) (in_limit flags.now (choose_of (flags_of flags.now) a.now b.now)))
+        result out.old out.new }
 {
     told_over::<i32>(select_int(flags, a, b, out))
 }

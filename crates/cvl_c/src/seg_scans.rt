@@ -62,7 +62,8 @@ pub extern "C" fn cvl_seg_bool_reduce(
     out: &mut [bool],
 ) -> CvlStatus
     ensures { Told (in_room (length out.old) (by_operator (bool_binary op)
-        (λ o. by_segments lengths.now (seg_reduce_of (bool_join_of o) (bool_unit_of o) (flags_of a.now))))) result out.old out.new }
+        (λ o. by_segments lengths.now (seg_reduce_of (bool_join_of o) (bool_unit_of o) (flags_of a.now)))))
+        result out.old out.new }
 {
     told_over::<bool>(bool_reduce(op, a, lengths, out))
 }

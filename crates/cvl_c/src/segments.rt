@@ -22,7 +22,8 @@ pub extern "C" fn cvl_seg_extract_int(
     lengths: &[i32],
     out: &mut [i32],
 ) -> CvlStatus
-    ensures { ToldOr (in_room (length out.old) (by_segments lengths.now (seg_extract_of vector.now index.now))) result out.old out.new }
+    ensures { ToldOr (in_room (length out.old) (by_segments lengths.now (seg_extract_of vector.now index.now)))
+        result out.old out.new }
 {
     let d = or_tell!(segments(lengths));
     told(seg_extract(alloc, vector, index, &d), out)
@@ -37,7 +38,8 @@ pub extern "C" fn cvl_seg_extract_bool(
     lengths: &[i32],
     out: &mut [u8],
 ) -> CvlStatus
-    ensures { ToldOr (in_room (length out.old) (made_flags (by_segments lengths.now (seg_extract_of vector.now index.now)))) result out.old out.new }
+    ensures { ToldOr (in_room (length out.old) (made_flags (by_segments lengths.now (seg_extract_of vector.now index.now))))
+        result out.old out.new }
 {
     told(extract_each_flag(alloc, vector, index, lengths), out)
 }
@@ -52,7 +54,8 @@ pub extern "C" fn cvl_seg_replace_int(
     lengths: &[i32],
     out: &mut [i32],
 ) -> CvlStatus
-    ensures { ToldOr (in_room (length out.old) (by_segments lengths.now (seg_replace_of vector.now index.now values.now))) result out.old out.new }
+    ensures { ToldOr (in_room (length out.old) (by_segments lengths.now (seg_replace_of vector.now index.now values.now)))
+        result out.old out.new }
 {
     let d = or_tell!(segments(lengths));
     told(seg_replace(alloc, vector, index, values, &d), out)
@@ -68,7 +71,8 @@ pub extern "C" fn cvl_seg_replace_bool(
     lengths: &[i32],
     out: &mut [bool],
 ) -> CvlStatus
-    ensures { ToldOr (in_room (length out.old) (by_segments lengths.now (seg_replace_of vector.now index.now values.now))) result out.old out.new }
+    ensures { ToldOr (in_room (length out.old) (by_segments lengths.now (seg_replace_of vector.now index.now values.now)))
+        result out.old out.new }
 {
     let d = or_tell!(segments(lengths));
     told(seg_replace(alloc, vector, index, values, &d), out)
@@ -111,7 +115,8 @@ pub extern "C" fn cvl_seg_index(
     lengths: &[i32],
     out: &mut [i32],
 ) -> CvlStatus
-    ensures { ToldOr (in_room (length out.old) (by_segments lengths.now (seg_index_of inits.now strides.now))) result out.old out.new }
+    ensures { ToldOr (in_room (length out.old) (by_segments lengths.now (seg_index_of inits.now strides.now)))
+        result out.old out.new }
 {
     let d = or_tell!(descriptor(alloc, lengths));
     told_over::<i32>(seg_index_over(inits, strides, &d, out))

@@ -24,14 +24,18 @@ impl<'a, T: Copy> Writer<T> for Chosen<'a, T> {
 
     fn write(&self, run: Run<T>) -> Run<T>
         requires empty { run.items ≡ [] }
-        requires within { run.first + run.room ≤ length (map (λ p. chosen p.0 p.1) (zip self.now.flags.now (zip self.now.first.now self.now.second.now))) }
-        ensures { result ≡ stretch run.block run.first (part (map (λ p. chosen p.0 p.1) (zip self.now.flags.now (zip self.now.first.now self.now.second.now))) run.first run.room) 0 }
+        requires within { run.first + run.room
+            ≤ length (map (λ p. chosen p.0 p.1) (zip self.now.flags.now (zip self.now.first.now self.now.second.now))) }
+        ensures { result ≡ stretch run.block run.first
+            (part (map (λ p. chosen p.0 p.1) (zip self.now.flags.now (zip self.now.first.now self.now.second.now))) run.first
+            run.room) 0 }
     {
         let (flags, xs, ys) = (self.flags, self.first, self.second);
         run.fill(
             move |place: usize| -> T
                 requires { (place < length flags.now) × (place < length xs.now) × (place < length ys.now) }
-                ensures { (z : T) → result ≡ slice_index_or (map (λ p. chosen p.0 p.1) (zip flags.entry.now (zip xs.entry.now ys.entry.now))) place z }
+                ensures { (z : T) → result ≡ slice_index_or
+                    (map (λ p. chosen p.0 p.1) (zip flags.entry.now (zip xs.entry.now ys.entry.now))) place z }
             { choose(flags[place], xs[place], ys[place]) },
         )
     }

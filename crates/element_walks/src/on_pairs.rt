@@ -46,8 +46,10 @@ impl<'a, O: Binary<X, Z>, X: Copy, Z> Writer<Z> for OnPairs<'a, O, X> {
     #[tactic(auto, using(crate::proofs::Places::zipped))]
     fn write(&self, run: Run<Z>) -> Run<Z>
         requires empty { run.items ≡ [] }
-        requires within { run.first + run.room ≤ length (map (λ p. O.value p.0 p.1) (zip self.now.first.now self.now.second.now)) }
-        ensures { result ≡ stretch run.block run.first (part (map (λ p. O.value p.0 p.1) (zip self.now.first.now self.now.second.now)) run.first run.room) 0 }
+        requires within { run.first + run.room
+            ≤ length (map (λ p. O.value p.0 p.1) (zip self.now.first.now self.now.second.now)) }
+        ensures { result ≡ stretch run.block run.first
+            (part (map (λ p. O.value p.0 p.1) (zip self.now.first.now self.now.second.now)) run.first run.room) 0 }
     {
         run.fill_by_both(
             self.first,

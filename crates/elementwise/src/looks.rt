@@ -22,7 +22,8 @@ pub(crate) fn all_have_values<O: PartialBinary>(
 ) -> bool
     requires in_first { to ≤ length first.now }
     requires in_second { to ≤ length second.now }
-    ensures { IsTrue result → (place : ℕ) → from ≤ place → place < to → slice_index_or (slots_without O.value first.now second.now) place None ≡ None }
+    ensures { IsTrue result → (place : ℕ) → from ≤ place → place < to
+        → slice_index_or (slots_without O.value first.now second.now) place None ≡ None }
 {
     let mut clear = true;
     for place in from..to {

@@ -1,5 +1,5 @@
-//! Operators that have no value on some pairs: the least place without one is looked for, by workers that race where the vectors are
-//! long, and then the values are written.
+//! Operators that have no value on some pairs: the least place without one is looked for, by workers that race where the vectors
+//! are long, and then the values are written.
 
 ghost use Rattle.std.specs.Prelude.{◌≡◌, ◌≤◌, IfOk, length, map, vec_len};
 ghost use Rattle.std.specs.List.{zip};

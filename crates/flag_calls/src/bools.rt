@@ -18,7 +18,8 @@ use elementwise::{
 /// long.
 fn pairs_over<O: Binary<bool, bool>>(a: &[u8], b: &[u8], out: &mut [u8]) -> Result<(), Fault>
     requires { length a.now ≤ most_elements }
-    ensures { Overwrites (in_room (length out.old) (as_bytes (on_pairs O.value (flags_of a.now) (flags_of b.now)))) result out.old out.new }
+    ensures { Overwrites (in_room (length out.old) (as_bytes (on_pairs O.value (flags_of a.now) (flags_of b.now))))
+        result out.old out.new }
 {
     on_pairs_over::<OnBytes<O>, u8, u8>(a, b, out)
 }
@@ -48,7 +49,8 @@ fn pairs_in_both<O: Binary<bool, bool>>(a: &mut [u8]) -> Result<(), Fault>
 /// and the room aren't equally long; the room is looked at last.
 pub fn bool2_over(op: BoolBinary, a: &[u8], b: &[u8], out: &mut [u8]) -> Result<(), Fault>
     requires { length a.now ≤ most_elements }
-    ensures { Overwrites (in_room (length out.old) (as_bytes (bools2_of op (flags_of a.now) (flags_of b.now)))) result out.old out.new }
+    ensures { Overwrites (in_room (length out.old) (as_bytes (bools2_of op (flags_of a.now) (flags_of b.now))))
+        result out.old out.new }
 {
     match op {
         BoolBinary::And => pairs_over::<Both>(a, b, out),

@@ -37,14 +37,20 @@ impl<'a, O: Single<T, T>, T: Copy> Writer<T> for ChosenByBytes<'a, O, T> {
 
     fn write(&self, run: Run<T>) -> Run<T>
         requires empty { run.items ≡ [] }
-        requires within { run.first + run.room ≤ length (map (λ p. O.value (chosen (flag_of p.0) p.1)) (zip self.now.bytes.now (zip self.now.first.now self.now.second.now))) }
-        ensures { result ≡ stretch run.block run.first (part (map (λ p. O.value (chosen (flag_of p.0) p.1)) (zip self.now.bytes.now (zip self.now.first.now self.now.second.now))) run.first run.room) 0 }
+        requires within { run.first + run.room
+            ≤ length (map (λ p. O.value (chosen (flag_of p.0) p.1))
+            (zip self.now.bytes.now (zip self.now.first.now self.now.second.now))) }
+        ensures { result ≡ stretch run.block run.first
+            (part (map (λ p. O.value (chosen (flag_of p.0) p.1))
+            (zip self.now.bytes.now (zip self.now.first.now self.now.second.now))) run.first run.room) 0 }
     {
         let (bytes, xs, ys) = (self.bytes, self.first, self.second);
         run.fill(
             move |place: usize| -> T
                 requires { (place < length bytes.now) × (place < length xs.now) × (place < length ys.now) }
-                ensures { (z : T) → result ≡ slice_index_or (map (λ p. O.value (chosen (flag_of p.0) p.1)) (zip bytes.entry.now (zip xs.entry.now ys.entry.now))) place z }
+                ensures { (z : T) → result ≡ slice_index_or
+                    (map (λ p. O.value (chosen (flag_of p.0) p.1)) (zip bytes.entry.now (zip xs.entry.now ys.entry.now))) place
+                    z }
             { O::apply(choose(flag_of(bytes[place]), xs[place], ys[place])) },
         )
     }
@@ -73,7 +79,8 @@ fn choose_over<O: Single<T, T>, T: Copy>(
     Ok(())
 }
 
-/// The choice over one of the two vectors: at each place its own element where the test on the byte holds, else that of the others.
+/// The choice over one of the two vectors: at each place its own element where the test on the byte holds, else that of the
+/// others.
 fn choose_in<F: Single<u8, bool>, O: Single<T, T>, T: Copy>(
     bytes: &[u8],
     over: &mut [T],
@@ -115,7 +122,8 @@ pub fn select_in_second<T: Copy>(flags: &[u8], a: &[T], b: &mut [T]) -> Result<(
 /// The same as [`select_over`], between flags: `sel_wub`.
 pub fn select_flags_over(flags: &[u8], a: &[u8], b: &[u8], out: &mut [u8]) -> Result<(), Fault>
     requires { length flags.now ≤ most_elements }
-    ensures { Overwrites (in_room (length out.old) (as_bytes (choose_of (flags_of flags.now) (flags_of a.now) (flags_of b.now)))) result out.old out.new }
+    ensures { Overwrites (in_room (length out.old) (as_bytes (choose_of (flags_of flags.now) (flags_of a.now) (flags_of b.now))))
+        result out.old out.new }
 {
     choose_over::<OnBytes<Same>, u8>(flags, a, b, out)
 }

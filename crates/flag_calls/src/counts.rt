@@ -98,7 +98,8 @@ pub fn seg_count_over(flags: &[u8], d: &SegLengths, out: &mut [i32]) -> Result<(
     fill_slice(
         out,
         |run: Run<i32>| -> Run<i32>
-            requires { (run.items ≡ []) × (run.room ≡ length lengths.now) × AreLengths lengths.now × (sum (map unsigned_abs lengths.now) ≡ length flags.now) × (length flags.now ≤ most_elements) }
+            requires { (run.items ≡ []) × (run.room ≡ length lengths.now) × AreLengths lengths.now
+                × (sum (map unsigned_abs lengths.now) ≡ length flags.now) × (length flags.now ≤ most_elements) }
             ensures { result ≡ with_items run (map count_in (cut_of (map unsigned_abs lengths.entry.now) flags.entry.now)) }
         { counts_into(run, lengths, flags) },
     );

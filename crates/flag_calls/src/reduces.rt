@@ -23,15 +23,16 @@ pub fn bool_reduce(op: BoolBinary, a: &[u8]) -> bool
     }
 }
 
-/// The flags of each segment joined by the operator, over a room: `and_reb` and its like. `LengthMismatch`, without a place, where
-/// the segments' total is not the number of flags, or the room hasn't one place for each segment.
+/// The flags of each segment joined by the operator, over a room: `and_reb` and its like. `LengthMismatch`, without a place,
+/// where the segments' total is not the number of flags, or the room hasn't one place for each segment.
 pub fn seg_bool_reduce_over(
     op: BoolBinary,
     a: &[u8],
     d: &SegLengths,
     out: &mut [bool],
 ) -> Result<(), Fault>
-    ensures { Overwrites (in_room (length out.old) (seg_reduce_of (bool_join_of op) (bool_unit_of op) (flags_of a.now) d.now)) result out.old out.new }
+    ensures { Overwrites (in_room (length out.old) (seg_reduce_of (bool_join_of op) (bool_unit_of op) (flags_of a.now) d.now))
+        result out.old out.new }
 {
     match op {
         BoolBinary::And => seg_reduce_readings_over::<BoolAnd, u8, TrueByte>(a, d, out),

@@ -13,7 +13,8 @@ use fresh::write_over;
 /// The flags with another one at the place that an index names, counted from 0, over a room: `rep_vub`. IndexOutOfRange, at 0,
 /// where there is no such place; `LengthMismatch`, without a place, where the room isn't as long.
 pub fn replace_over(vector: &[u8], index: i32, value: bool, out: &mut [u8]) -> Result<(), Fault>
-    ensures { Overwrites (in_room (length out.old) (as_bytes (replace_of (flags_of vector.now) index value))) result out.old out.new }
+    ensures { Overwrites (in_room (length out.old) (as_bytes (replace_of (flags_of vector.now) index value)))
+        result out.old out.new }
 {
     let Some(place) = place_among(vector.len(), &index) else {
         return Err(Fault::at(FaultNo::IndexOutOfRange, 0));

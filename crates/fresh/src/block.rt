@@ -38,9 +38,11 @@ struct Parts<T, A: Allocator> {
     alloc: A,
 }
 
-/// Takes the block out of a vector, which is left without one. Its places begin with the vector's items, and the others are empty.
+/// Takes the block out of a vector, which is left without one. Its places begin with the vector's items, and the others are
+/// empty.
 pub(crate) fn take_block<T, A: Allocator>(v: &mut Vec<T, A>) -> (Base<T>, Cells<T>, Deed<T, A>)
-    ensures cells { (result.1.at ≡ result.0.ptr) × (result.1.from ≡ 0) × (result.1.slots ≡ filled v.old.items (vec_capacity v.old - vec_len v.old)) }
+    ensures cells { (result.1.at ≡ result.0.ptr) × (result.1.from ≡ 0)
+        × (result.1.slots ≡ filled v.old.items (vec_capacity v.old - vec_len v.old)) }
     ensures deed { (result.2.at ≡ result.0.ptr) × (result.2.len ≡ vec_capacity v.old) × (result.2.alloc ≡ vec_allocator v.old) }
     ensures left { (vec_capacity v.new ≡ 0) × (vec_allocator v.new ≡ vec_allocator v.old) }
 {
@@ -70,7 +72,8 @@ pub(crate) fn give_block<T, A: Allocator>(
     deed: Deed<T, A>,
 )
     requires none { vec_capacity v.old ≡ 0 }
-    requires block { (cells.at ≡ base.ptr) × (cells.from ≡ 0) × (deed.at ≡ base.ptr) × (deed.len ≡ cap) × (deed.alloc ≡ vec_allocator v.old) }
+    requires block { (cells.at ≡ base.ptr) × (cells.from ≡ 0) × (deed.at ≡ base.ptr) × (deed.len ≡ cap)
+        × (deed.alloc ≡ vec_allocator v.old) }
     requires full { (xs : List T) × (length xs ≡ len) × (len ≤ cap) × (cells.slots ≡ map Some xs ++ replicate (cap - len) None) }
     ensures items { cells.slots ≡ map Some v.new.items ++ replicate (cap - len) None }
     ensures long { (vec_len v.new ≡ len) × (vec_capacity v.new ≡ cap) × (vec_allocator v.new ≡ vec_allocator v.old) }

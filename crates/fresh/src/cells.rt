@@ -1,5 +1,6 @@
 //! The places of a block: each is empty or holds a value, and belongs to one owner.
-ghost use Rattle.std.specs.Prelude.{◌≡◌, ℕ, ◌+◌, ◌-◌, ◌<◌, ◌≤◌, List, Option, Some, None, ◌++◌, length, take, drop, get_or, slice_set};
+ghost use Rattle.std.specs.Prelude.{◌≡◌, ℕ, ◌+◌, ◌-◌, ◌<◌, ◌≤◌, List, Option, Some, None, ◌++◌, length, take, drop, get_or};
+ghost use Rattle.std.specs.Prelude.{slice_set};
 ghost use base.Fml.{ftrue};
 ghost use denote.RawPtr.{Ptr};
 ghost use Rattle.fresh.specs.Ownership.{cells_own};
@@ -39,8 +40,10 @@ unsafe impl<T> Sync for Cells<T> {}
 impl<T> Cells<T> {
     /// Writes the empty place of the number `index`.
     pub(crate) fn write(&mut self, base: Base<T>, index: usize, item: T)
-        requires { (base.ptr ≡ self.old.at) × (self.old.from ≤ index) × (index - self.old.from < length self.old.slots) × (get_or self.old.slots (index - self.old.from) None ≡ None) }
-        ensures { (self.new.at ≡ self.old.at) × (self.new.from ≡ self.old.from) × (self.new.slots ≡ slice_set self.old.slots (index - self.old.from) (Some item)) }
+        requires { (base.ptr ≡ self.old.at) × (self.old.from ≤ index) × (index - self.old.from < length self.old.slots)
+            × (get_or self.old.slots (index - self.old.from) None ≡ None) }
+        ensures { (self.new.at ≡ self.old.at) × (self.new.from ≡ self.old.from)
+            × (self.new.slots ≡ slice_set self.old.slots (index - self.old.from) (Some item)) }
     {
         unsafe { base.ptr.add(index).write(item) }
     }

@@ -9,8 +9,10 @@ use crate::run::Run;
 impl<T> Run<T> {
     /// Writes each empty place by its number in the block: `f(place)`.
     pub fn fill<F: Fn(usize) -> T + Drop>(mut self, f: F) -> Run<T>
-        requires { (place : ℕ) → self.first + length self.items ≤ place → place < self.first + length self.items + self.room → F.pre f place }
-        ensures { (ys : List T) × GoWith (F.post f) (self.first + length self.items) self.room ys × (result ≡ stretch self.block self.first (self.items ++ ys) 0) }
+        requires { (place : ℕ) → self.first + length self.items ≤ place → place < self.first + length self.items + self.room
+            → F.pre f place }
+        ensures { (ys : List T) × GoWith (F.post f) (self.first + length self.items) self.room ys
+            × (result ≡ stretch self.block self.first (self.items ++ ys) 0) }
     {
         let start = self.next_place();
         for place in start..start + self.room() {
@@ -23,8 +25,10 @@ impl<T> Run<T> {
     pub fn fill_from<X: Copy, F: Fn(X) -> T + Drop>(mut self, xs: &[X], f: F) -> Run<T>
         requires callable { F.IsAlwaysCallable f }
         requires as_long { length xs.now ≡ self.room }
-        ensures each { (ys : List T) × AllZip (F.post f) xs.now ys × (result ≡ stretch self.block self.first (self.items ++ ys) 0) }
-        ensures values { (h : X → T) → ((x : X) (y : T) → F.post f x y → y ≡ h x) → result ≡ stretch self.block self.first (self.items ++ map h xs.now) 0 }
+        ensures each { (ys : List T) × AllZip (F.post f) xs.now ys
+            × (result ≡ stretch self.block self.first (self.items ++ ys) 0) }
+        ensures values { (h : X → T) → ((x : X) (y : T) → F.post f x y → y ≡ h x)
+            → result ≡ stretch self.block self.first (self.items ++ map h xs.now) 0 }
     {
         for x in xs {
             self.push(f(*x));
@@ -36,8 +40,11 @@ impl<T> Run<T> {
     pub fn fill_by<X: Copy, F: Fn(X) -> T + Drop>(self, xs: &[X], f: F) -> Run<T>
         requires callable { F.IsAlwaysCallable f }
         requires within { self.first + length self.items + self.room ≤ length xs.now }
-        ensures each { (ys : List T) × AllZip (F.post f) (part xs.now (self.first + length self.items) self.room) ys × (result ≡ stretch self.block self.first (self.items ++ ys) 0) }
-        ensures values { (h : X → T) → ((x : X) (y : T) → F.post f x y → y ≡ h x) → result ≡ stretch self.block self.first (self.items ++ part (map h xs.now) (self.first + length self.items) self.room) 0 }
+        ensures each { (ys : List T) × AllZip (F.post f) (part xs.now (self.first + length self.items) self.room) ys
+            × (result ≡ stretch self.block self.first (self.items ++ ys) 0) }
+        ensures values { (h : X → T) → ((x : X) (y : T) → F.post f x y → y ≡ h x)
+            → result ≡ stretch self.block self.first
+            (self.items ++ part (map h xs.now) (self.first + length self.items) self.room) 0 }
     {
         let (_, xs) = xs.split_at(self.next_place());
         let (xs, _) = xs.split_at(self.room());
@@ -54,7 +61,9 @@ impl<T> Run<T> {
         requires callable { F.IsAlwaysCallable f }
         requires in_first { self.first + length self.items + self.room ≤ length xs.now }
         requires in_second { self.first + length self.items + self.room ≤ length ys.now }
-        ensures { (h : X → Y → T) → ((x : X) (y : Y) (z : T) → F.post f x y z → z ≡ h x y) → result ≡ stretch self.block self.first (self.items ++ part (map (λ p. h p.0 p.1) (zip xs.now ys.now)) (self.first + length self.items) self.room) 0 }
+        ensures { (h : X → Y → T) → ((x : X) (y : Y) (z : T) → F.post f x y z → z ≡ h x y)
+            → result ≡ stretch self.block self.first
+            (self.items ++ part (map (λ p. h p.0 p.1) (zip xs.now ys.now)) (self.first + length self.items) self.room) 0 }
     {
         let (_, xs) = xs.split_at(self.next_place());
         let (xs, _) = xs.split_at(self.room());
@@ -72,7 +81,8 @@ impl<T> Run<T> {
     ) -> Run<T>
         requires callable { F.IsAlwaysCallable f }
         requires as_long { (length xs.now ≡ self.room) × (length ys.now ≡ self.room) }
-        ensures { (zs : List T) × AllZip (λ p. F.post f p.0 p.1) (zip xs.now ys.now) zs × (result ≡ stretch self.block self.first (self.items ++ zs) 0) }
+        ensures { (zs : List T) × AllZip (λ p. F.post f p.0 p.1) (zip xs.now ys.now) zs
+            × (result ≡ stretch self.block self.first (self.items ++ zs) 0) }
     {
         for k in 0..xs.len() {
             self.push(f(xs[k], ys[k]));

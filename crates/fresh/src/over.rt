@@ -16,7 +16,8 @@ use std::marker::PhantomData;
 pub fn fill_slice<T: Copy, F: FnOnce(Run<T>) -> Run<T>>(out: &mut [T], write: F)
     requires fits { length out.old < 2 ^ 63 }
     requires callable { (block : Ptr) → F.pre write (stretch block 0 [] (length out.old)) }
-    requires full { (block : Ptr) (run : Stretch T) → F.post write (stretch block 0 [] (length out.old)) run → IsWhole run block (length out.old) }
+    requires full { (block : Ptr) (run : Stretch T) → F.post write (stretch block 0 [] (length out.old)) run
+        → IsWhole run block (length out.old) }
     ensures { (block : Ptr) × (run : Stretch T) × F.post write (stretch block 0 [] (length out.old)) run × (out.new ≡ run.items) }
 {
     unsafe { with_slots(out, &mut (), write, write_row::<T, F>) }
@@ -45,9 +46,11 @@ fn write_row<T: Copy, F: FnOnce(Run<T>) -> Run<T>>(
 ) -> (Slots<T>, (), ())
     requires fits { slots_len row < 2 ^ 63 }
     requires callable { F.pre write (stretch (slots_ptr row) 0 [] (slots_len row)) }
-    requires full { (run : Stretch T) → F.post write (stretch (slots_ptr row) 0 [] (slots_len row)) run → IsWhole run (slots_ptr row) (slots_len row) }
+    requires full { (run : Stretch T) → F.post write (stretch (slots_ptr row) 0 [] (slots_len row)) run
+        → IsWhole run (slots_ptr row) (slots_len row) }
     ensures same { Refills row result.0 }
-    ensures items { (run : Stretch T) × F.post write (stretch (slots_ptr row) 0 [] (slots_len row)) run × (slots_items result.0 ≡ run.items) }
+    ensures items { (run : Stretch T) × F.post write (stretch (slots_ptr row) 0 [] (slots_len row)) run
+        × (slots_items result.0 ≡ run.items) }
 {
     let len = row.len();
     let (base, cells) = emptied(row);

@@ -105,7 +105,8 @@ impl<'a, T, P: Part<T>> Share<T> for CountedParts<'a, P> {
     ghost use Rattle.std.proofs.Common.{sym};
     ghost use Rattle.fresh.specs.Counted.{counts_of, found_in};
 
-    ghost IsOf = { λ s first room. (s.counts.now ≡ counts_of P.items s.parts.now) × (room ≡ length (flat_map P.items s.parts.now)) };
+    ghost IsOf = { λ s first room. (s.counts.now ≡ counts_of P.items s.parts.now)
+        × (room ≡ length (flat_map P.items s.parts.now)) };
 
     ghost items = { λ s first room. flat_map P.items s.parts.now };
 
@@ -141,7 +142,8 @@ impl<'a, T, P: Part<T>> Share<T> for CountedParts<'a, P> {
     fn write(self, run: Run<T>) -> (Run<T>, Option<usize>)
         requires one { length self.parts.now < 2 }
         requires empty { run.items ≡ [] }
-        requires places { (self.counts.now ≡ counts_of P.items self.parts.now) × (run.room ≡ length (flat_map P.items self.parts.now)) }
+        requires places { (self.counts.now ≡ counts_of P.items self.parts.now)
+            × (run.room ≡ length (flat_map P.items self.parts.now)) }
         ensures run { result.0 ≡ stretch run.block run.first (flat_map P.items self.entry.parts.now) 0 }
         ensures found { result.1 ≡ found_in P.items P.found self.entry.parts.now run.first }
     {

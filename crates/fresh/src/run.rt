@@ -35,7 +35,8 @@ impl<T> Run<T> {
     /// All the places of a block, of which the first ones are written.
     pub(crate) fn begun(base: Base<T>, len: usize, written: usize, cells: Cells<T>) -> Run<T>
         requires place { (cells.at ≡ base.ptr) × (cells.from ≡ 0) × (len < 2 ^ 63) }
-        requires laid { (items : List T) × (length items ≡ written) × (written ≤ len) × (cells.slots ≡ filled items (len - written)) }
+        requires laid { (items : List T) × (length items ≡ written) × (written ≤ len)
+            × (cells.slots ≡ filled items (len - written)) }
         ensures begun { result ≡ stretch base.ptr 0 (somes cells.slots) (len - written) }
         ensures empty { written ≡ 0 → result ≡ stretch base.ptr 0 [] len }
     {
@@ -51,7 +52,8 @@ impl<T> Run<T> {
     /// How many items are written, and the places.
     pub(crate) fn into_cells(self) -> (usize, Cells<T>)
         ensures len { result.0 ≡ length self.items }
-        ensures cells { (result.1.at ≡ self.block) × (result.1.from ≡ self.first) × (result.1.slots ≡ filled self.items self.room) }
+        ensures cells { (result.1.at ≡ self.block) × (result.1.from ≡ self.first)
+            × (result.1.slots ≡ filled self.items self.room) }
     {
         let Run {
             base: _,

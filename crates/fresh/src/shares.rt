@@ -36,8 +36,10 @@ pub trait Share<T>: Sized {
         ensures within { result.1 ≤ room }
         ensures front { IsOf result.0 first result.1 }
         ensures back { IsOf result.2 (first + result.1) (room - result.1) }
-        ensures items { items self first room ≡ items result.0 first result.1 ++ items result.2 (first + result.1) (room - result.1) }
-        ensures found { found self first room ≡ option_or (found result.0 first result.1) (found result.2 (first + result.1) (room - result.1)) };
+        ensures items { items self first room ≡ items result.0 first result.1
+            ++ items result.2 (first + result.1) (room - result.1) }
+        ensures found { found self first room ≡ option_or (found result.0 first result.1)
+            (found result.2 (first + result.1) (room - result.1)) };
 
     /// Writes the one part into an empty run of the share's places, and tells the first place whose item has no value.
     fn write(self, run: Run<T>) -> (Run<T>, Option<usize>)

@@ -3,7 +3,8 @@
 
 ghost use Rattle.std.specs.Prelude.{◌≡◌, ◌≤◌, length};
 ghost use Rattle.cvl_base.specs.Limits.{most_elements, most_workers};
-ghost use Rattle.least_boards.specs.LeastPasses.{first_least_pass, least_passes_joined, on_least_hand, spent_least_pass, split_least_left, split_least_right};
+ghost use Rattle.least_boards.specs.LeastPasses.{first_least_pass, least_passes_joined, on_least_hand, spent_least_pass};
+ghost use Rattle.least_boards.specs.LeastPasses.{split_least_left, split_least_right};
 ghost use Rattle.least_boards.specs.LeastRules.{IsLeastRuled, LeastGives, LowerGives};
 ghost use Rattle.least_boards.specs.ClaimSteps.{ClaimGives};
 

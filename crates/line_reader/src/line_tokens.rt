@@ -2,7 +2,8 @@
 
 ghost use Rattle.std.specs.Prelude.{◌≡◌, ◌<◌, ◌==◌, is_some, length, position, IfSome};
 ghost use Rattle.std.specs.List.{list_all};
-ghost use Rattle.line_reader.specs.Lines.{line_class, line_tokens, before_comment, begins_with_equals, is_arg, is_truth_token, is_number_token};
+ghost use Rattle.line_reader.specs.Lines.{line_class, line_tokens, before_comment, begins_with_equals, is_arg, is_truth_token};
+ghost use Rattle.line_reader.specs.Lines.{is_number_token};
 ghost use Rattle.cvl_base.specs.Words.{is_name};
 
 use crate::token::{ByteClass, Classes, first_token};

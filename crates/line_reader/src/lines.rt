@@ -4,7 +4,8 @@ ghost use Rattle.std.specs.Prelude.{◌≡◌, ◌∷◌, length};
 ghost use Rattle.cvl_base.specs.Gives.{Gives};
 ghost use Rattle.cvl_base.specs.Faults.{fault};
 ghost use Rattle.cvl_base.specs.declared.refused.Refused.TheVariants as refused;
-ghost use Rattle.line_reader.specs.Lines.{line_tokens, call_of, form_of, binding, bound_call, one_result, two_results, write_line, with_op};
+ghost use Rattle.line_reader.specs.Lines.{line_tokens, call_of, form_of, binding, bound_call, one_result, two_results};
+ghost use Rattle.line_reader.specs.Lines.{write_line, with_op};
 
 use crate::args::read_args;
 use crate::line_tokens::{

@@ -3,7 +3,8 @@
 ghost use Rattle.std.specs.Prelude.{◌≡◌, ◌<◌, ◌≤◌, [], length, take, drop, filter, false, not, IsTrue, MatchOption, IfSome};
 ghost use Rattle.std.specs.List.{concat, list_all};
 ghost use Rattle.line_reader.specs.Numbers.{is_empty};
-ghost use Rattle.line_reader.specs.Tokens.{tokens_by, AreTokens, IsFirstToken, is_blank, is_part, begins_with_part, begins_with_blank};
+ghost use Rattle.line_reader.specs.Tokens.{tokens_by, AreTokens, IsFirstToken, is_blank, is_part, begins_with_part};
+ghost use Rattle.line_reader.specs.Tokens.{begins_with_blank};
 
 /// What a byte is to the tokens.
 #[derive(Clone, Copy, Debug, PartialEq, Eq)]

@@ -22,8 +22,8 @@ use std::thread::Threads;
 const LENGTHS: [usize; 3] = [4_194_304, 65_536, 1_000];
 
 /// Measures one subject, and prints a line for each case: texts that are written and read; the calls that work place by place;
-/// scans and reduces, the checked ones too; permutes; packs, counts, distributes and indexes; or the recipe of the sparse product.
-/// Tells whether there is such a subject.
+/// scans and reduces, the checked ones too; permutes; packs, counts, distributes and indexes; or the recipe of the sparse
+/// product. Tells whether there is such a subject.
 pub fn measure<R: Print + Clock + Threads + Sync>(
     rt: &R,
     alloc: Global,

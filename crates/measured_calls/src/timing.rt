@@ -105,8 +105,8 @@ fn measure_case<R: Print + Clock + Threads + Sync>(
     print_time(bench.rt, what, best, last)
 }
 
-/// Measures the cases of a family from one number up to another, which is not counted in, on vectors of a shape, and prints a line
-/// for each.
+/// Measures the cases of a family from one number up to another, which is not counted in, on vectors of a shape, and prints a
+/// line for each.
 pub fn measure_cases<R: Print + Clock + Threads + Sync>(
     bench: &Bench<'_, R>,
     family: &Family,

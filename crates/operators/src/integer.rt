@@ -2,7 +2,9 @@
 
 ghost use Rattle.std.specs.Prelude.{◌≡◌};
 ghost use Rattle.operators.specs.Conversions.{integer_of};
-ghost use Rattle.operators.specs.Integers.{and_of, difference_of, greater_of, ior_of, is_at_least, is_at_most, is_equal, is_greater, is_less, is_unequal, left_shift_of, lesser_of, not_of, product_of, quotient_of, remainder_of, right_shift_of, sum_of, xor_of};
+ghost use Rattle.operators.specs.Integers.{and_of, difference_of, greater_of, ior_of, is_at_least, is_at_most, is_equal};
+ghost use Rattle.operators.specs.Integers.{is_greater, is_less, is_unequal, left_shift_of, lesser_of, not_of, product_of};
+ghost use Rattle.operators.specs.Integers.{quotient_of, remainder_of, right_shift_of, sum_of, xor_of};
 
 /// The sum, wrapped to 32 bits.
 #[inline]

@@ -4,7 +4,8 @@ ghost use Rattle.std.specs.Prelude.{◌≡◌, ◌≢◌, ◌+◌, ◌≤◌, �
 ghost use Rattle.std.specs.List.{AllPass};
 ghost use Rattle.operators.specs.Exact.{IsWordWrapped, exact_sum_of, total_of, wrap_word};
 ghost use Rattle.operators.specs.Folds.{fold_of};
-ghost use Rattle.operators.specs.Integers.{IsDivided, IsFloor, IsWrapped, floor_of, left_shift_of, quotient_of, remainder_of, right_shift_of, wrap};
+ghost use Rattle.operators.specs.Integers.{IsDivided, IsFloor, IsWrapped, floor_of, left_shift_of, quotient_of, remainder_of};
+ghost use Rattle.operators.specs.Integers.{right_shift_of, wrap};
 ghost use Rattle.operators.specs.ItemWords.{is_number, is_word};
 
 /// `wrap` gives, of each whole number, the one number that fits 32 bits and is congruent to it modulo 2^32.
@@ -51,7 +52,8 @@ pub fn word_wrap_law()
 pub fn exact_fold_law()
     ensures total { (xs : List ℤ) → length xs ≤ 4194304 → AllPass is_number xs →
         fold_of exact_sum_of (pos 0) xs ≡ total_of xs }
-    ensures onward { (before xs : List ℤ) → length before + length xs ≤ 4194304 → AllPass is_number before → AllPass is_number xs →
+    ensures onward { (before xs : List ℤ) → length before + length xs ≤ 4194304 → AllPass is_number before
+        → AllPass is_number xs →
         fold exact_sum_of (total_of before) xs ≡ total_of (before ++ xs) }
     ensures item { (xs : List ℤ) → length xs ≤ 4194304 → AllPass is_number xs → IsTrue (is_word (total_of xs)) }
 {}

@@ -5,7 +5,8 @@ ghost use Rattle.std.specs.List.{AllPass};
 ghost use Rattle.operators.specs.Folds.{fronts, scan_of};
 ghost use Rattle.operators.specs.Integers.{sum_of};
 ghost use Rattle.operators.specs.SegmentMonoid.{is_seg_item, seg_unit, seg_join};
-ghost use Rattle.operators.specs.TileSums.{sum_at, upto, before, between, listed_sums, own_sum, before_tile, upto_tile, between_tiles, worked_tiles, AllTilesPass, SumsLaws};
+ghost use Rattle.operators.specs.TileSums.{sum_at, upto, before, between, listed_sums, own_sum, before_tile, upto_tile};
+ghost use Rattle.operators.specs.TileSums.{between_tiles, worked_tiles, AllTilesPass, SumsLaws};
 
 use crate::monoid::Monoid;
 

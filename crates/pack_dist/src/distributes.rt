@@ -85,8 +85,8 @@ pub fn seg_distribute_over<T: Copy, A: Allocator>(
     write_room(&copies, total, out)
 }
 
-/// The copies of the segments' values and how many they are: LengthMismatch, without a place, where there isn't one value for each
-/// segment.
+/// The copies of the segments' values and how many they are: LengthMismatch, without a place, where there isn't one value for
+/// each segment.
 fn segment_copies<'a, T: Copy, A: Allocator>(
     values: &'a [T],
     d: &'a SegDes<A>,
@@ -146,7 +146,9 @@ impl<'a, T: Copy, A: Allocator> Segments for SegmentCopies<'a, T, A> {
         requires segment { s < length (copies_of self.now.values.now self.now.d.now) }
         requires within { from + count ≤ length (slice_index_or (copies_of self.now.values.now self.now.d.now) s []) }
         requires room { count ≤ run.room }
-        ensures { result ≡ stretch run.block run.first (run.items ++ part (slice_index_or (copies_of self.now.values.now self.now.d.now) s []) from count) (run.room - count) }
+        ensures { result ≡ stretch run.block run.first
+            (run.items ++ part (slice_index_or (copies_of self.now.values.now self.now.d.now) s []) from count)
+            (run.room - count) }
     {
         run.push_copies(self.values[s], count)
     }

@@ -92,8 +92,8 @@ pub fn seg_index_over<A: Allocator>(
     write_room(&numbers, total, out)
 }
 
-/// The numbers of the segments and how many they are: LengthMismatch, without a place, where there aren't one init and one stride for
-/// each segment.
+/// The numbers of the segments and how many they are: LengthMismatch, without a place, where there aren't one init and one stride
+/// for each segment.
 fn segment_progressions<'a, A: Allocator>(
     inits: &'a [i32],
     strides: &'a [i32],
@@ -135,7 +135,8 @@ impl Writer<i32> for Progression {
     fn write(&self, run: Run<i32>) -> Run<i32>
         requires empty { run.items ≡ [] }
         requires within { run.first + run.room ≤ length (progression self.now.init self.now.stride self.now.length) }
-        ensures { result ≡ stretch run.block run.first (part (progression self.now.init self.now.stride self.now.length) run.first run.room) 0 }
+        ensures { result ≡ stretch run.block run.first
+            (part (progression self.now.init self.now.stride self.now.length) run.first run.room) 0 }
     {
         let (first, count) = (run.first(), run.room());
         push_progression(run, &self.init, &self.stride, first, count)
@@ -188,7 +189,8 @@ impl<'a, A: Allocator> Segments for SegmentProgressions<'a, A> {
             ≤ length (slice_index_or (progressions_of self.now.inits.now self.now.strides.now self.now.d.now) s []) }
         requires room { count ≤ run.room }
         ensures { result ≡ stretch run.block run.first (run.items
-            ++ part (slice_index_or (progressions_of self.now.inits.now self.now.strides.now self.now.d.now) s []) from count) (run.room - count) }
+            ++ part (slice_index_or (progressions_of self.now.inits.now self.now.strides.now self.now.d.now) s []) from count)
+            (run.room - count) }
     {
         push_progression(run, &self.inits[s], &self.strides[s], from, count)
     }

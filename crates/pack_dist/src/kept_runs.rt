@@ -40,7 +40,8 @@ impl<'a, T: Copy> Writer<T> for Kept<'a, T> {
     fn write(&self, run: Run<T>) -> Run<T>
         requires empty { run.items ≡ [] }
         requires within { run.first + run.room ≤ length (kept_of self.now.values.now self.now.flags.now) }
-        ensures { result ≡ stretch run.block run.first (part (kept_of self.now.values.now self.now.flags.now) run.first run.room) 0 }
+        ensures { result ≡ stretch run.block run.first
+            (part (kept_of self.now.values.now self.now.flags.now) run.first run.room) 0 }
     {
         let first = run.next_place();
         let from = self.standing_before(first);

@@ -70,8 +70,8 @@ pub fn pack_over<T: Copy>(
     kept_over(values, flags, out, count)
 }
 
-/// The elements whose flag is true, of as many as there are flags. Where workers race, a scan of the flags says where each of them
-/// is put, and so where in the flags a run of the result begins. The workers of that scan pass the gate.
+/// The elements whose flag is true, of as many as there are flags. Where workers race, a scan of the flags says where each of
+/// them is put, and so where in the flags a run of the result begins. The workers of that scan pass the gate.
 pub(crate) fn kept<T: Copy + Send + Sync, R: Threads + Sync, A: Memory, G: Gate>(
     rt: &R,
     alloc: A,

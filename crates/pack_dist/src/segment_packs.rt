@@ -34,7 +34,8 @@ pub fn seg_pack_values_gated<T: Copy + Send + Sync, R: Threads + Sync, A: Memory
     Ok(kept(rt, alloc, config, values, flags, gate)?)
 }
 
-/// The same as [`seg_pack_values_gated`], at the front of a room of the caller's, by the thread that calls. It asks for no memory.
+/// The same as [`seg_pack_values_gated`], at the front of a room of the caller's, by the thread that calls. It asks for no
+/// memory.
 ///
 /// The count becomes the number of true flags, also where the room is too short for as many elements: that is LengthMismatch,
 /// without a place, and the room is as before. Else the rest of the room is as before. At any other fault the count is, too.
@@ -52,8 +53,8 @@ pub fn seg_pack_values_over<T: Copy>(
     kept_over(values, flags, out, count)
 }
 
-/// The descriptor of what a segmented pack keeps: `pck_fov`. An empty segment stays, with length 0. Workers pass a gate at each point
-/// of their way through a tile of the flags.
+/// The descriptor of what a segmented pack keeps: `pck_fov`. An empty segment stays, with length 0. Workers pass a gate at each
+/// point of their way through a tile of the flags.
 ///
 /// LengthMismatch, without a place, where the segments' total is not the number of flags. Source: CVL's segmented pack.
 pub fn packed_descriptor_gated<R: Threads + Sync, A: Memory, G: Gate>(

@@ -26,8 +26,8 @@ pub(crate) fn write_vector<T: Copy + Send, R: Threads + Sync, A: Memory, W: Writ
     Ok(write_in_runs(rt, alloc, threads, writer, items)?)
 }
 
-/// Writes the writer's items over a room of the caller's, by the thread that calls: LengthMismatch, without a place, where the room
-/// isn't as long. It asks for no memory.
+/// Writes the writer's items over a room of the caller's, by the thread that calls: LengthMismatch, without a place, where the
+/// room isn't as long. It asks for no memory.
 pub(crate) fn write_room<T: Copy, W: Writer<T>>(
     writer: &W,
     items: usize,

@@ -19,7 +19,8 @@ pub fn exact_sum(a: &[i32]) -> Result<i64, Fault>
     Ok(total(a))
 }
 
-/// For each integer the number before all of them and those before it, added up: `Overflow` at the first sum that doesn't fit 32 bits.
+/// For each integer the number before all of them and those before it, added up: `Overflow` at the first sum that doesn't fit 32
+/// bits.
 pub fn checked_scan_from(before: &i64, a: &[i32], out: &mut [i32]) -> Result<(), Fault>
     ensures { Overwrites (in_room (length out.old) (few_enough (length a.now) (checked_scan_after before.now a.now)))
         result out.old out.new }

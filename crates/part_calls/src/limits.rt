@@ -20,7 +20,8 @@ pub(crate) fn check_few(count: usize) -> Result<(), Fault>
 
 /// Checks that so many places from place `lowest` on are among the first 4,194,304, else TooLong, without a place.
 pub(crate) fn check_end(lowest: usize, count: usize) -> Result<(), Fault>
-    ensures { MatchResult result (λ _. lowest + count ≤ most_elements) (λ f. (f ≡ fault no.TooLong) × (most_elements < lowest + count)) }
+    ensures { MatchResult result (λ _. lowest + count ≤ most_elements)
+        (λ f. (f ≡ fault no.TooLong) × (most_elements < lowest + count)) }
 {
     check_few(lowest)?;
     if count > MOST_ELEMENTS - lowest {

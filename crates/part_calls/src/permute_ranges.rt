@@ -1,13 +1,14 @@
-//! Permutes by ranges of their result, each written by a caller of its own, who reads all indices. Where the counts of all ranges add up
-//! to as many as take part, no place is bad, and the ranges, one after another, are the permute. Else the permute has a fault, which the
-//! plain call tells.
+//! Permutes by ranges of their result, each written by a caller of its own, who reads all indices. Where the counts of all ranges
+//! add up to as many as take part, no place is bad, and the ranges, one after another, are the permute. Else the permute has a
+//! fault, which the plain call tells.
 //!
 //! A default permute's range is that of a simple permute, over a room that holds the defaults.
 
 ghost use Rattle.std.specs.Prelude.{◌≡◌, ◌+◌, ◌≤◌, length};
 ghost use Rattle.cvl_base.specs.Limits.{most_elements};
 ghost use Rattle.permute_walks.specs.Marks.{words_for};
-ghost use Rattle.part_calls.specs.Ranges.{WritesRange, count_of_range, marks_of_range, room_of_range, select_range_of, simple_range_of};
+ghost use Rattle.part_calls.specs.Ranges.{WritesRange, count_of_range, marks_of_range, room_of_range, select_range_of};
+ghost use Rattle.part_calls.specs.Ranges.{simple_range_of};
 
 use crate::limits::{check_end, check_few};
 use cvl_base::{Fault, check_agree};
@@ -36,12 +37,13 @@ fn write_counted<T: Copy, D: Destinations>(
     count_marks(marks)
 }
 
-/// One range of a simple permute, from place `lowest` of the result on: writes each element that goes to a place of it, marks these
-/// places, and tells how many they are. The room has the range's length, and the marks have a bit for each place of it, 32 in a word, the
-/// lowest first; it does not matter what they hold before, and the bits behind the last place become 0.
+/// One range of a simple permute, from place `lowest` of the result on: writes each element that goes to a place of it, marks
+/// these places, and tells how many they are. The room has the range's length, and the marks have a bit for each place of it, 32
+/// in a word, the lowest first; it does not matter what they hold before, and the bits behind the last place become 0.
 ///
-/// TooLong, without a place, where there are more than 4,194,304 indices or the range ends behind as many places; LengthMismatch, without
-/// a place, where source and index differ in length, or there are not just as many words of marks as the room's places take.
+/// TooLong, without a place, where there are more than 4,194,304 indices or the range ends behind as many places; LengthMismatch,
+/// without a place, where source and index differ in length, or there are not just as many words of marks as the room's places
+/// take.
 pub fn simple_range<T: Copy>(
     source: &[T],
     index: &[i32],
@@ -59,8 +61,8 @@ pub fn simple_range<T: Copy>(
     Ok(write_counted(source, &AllDestinations { index }, lowest, out, marks))
 }
 
-/// One range of a select permute, the same way: the elements alone whose flag is true go anywhere. LengthMismatch too where index and
-/// flags differ in length.
+/// One range of a select permute, the same way: the elements alone whose flag is true go anywhere. LengthMismatch too where index
+/// and flags differ in length.
 pub fn select_range<T: Copy>(
     source: &[T],
     index: &[i32],

@@ -23,9 +23,9 @@ fn moved(fault: Fault, before: usize) -> Fault
 
 /// The integers that a piece of a text writes between white space, where the pieces before it have so many words.
 ///
-/// TooLong, without a place, where these are more than 4,194,304, or the piece has more itself; else BadInput at the first word of the
-/// piece that is no integer of 32 bits, counted from the whole text's first word on. That all pieces together have no more words than a
-/// vector may have elements is the caller's to see.
+/// TooLong, without a place, where these are more than 4,194,304, or the piece has more itself; else BadInput at the first word
+/// of the piece that is no integer of 32 bits, counted from the whole text's first word on. That all pieces together have no more
+/// words than a vector may have elements is the caller's to see.
 pub fn read_piece<A: Memory>(alloc: A, before: usize, text: &[u8]) -> Result<Vec<i32, A>, Refused>
     ensures { Gives (λ v. v.items) result (piece_of before text.now) }
 {

@@ -112,7 +112,8 @@ impl<'a, T: Copy> Writer<T> for ElementsOr<'a, T> {
 
     fn write(&self, run: Run<T>) -> Run<T>
         requires empty { run.items ≡ [] }
-        requires within { run.first + run.room ≤ length (written_over self.now.source.now self.now.senders.now self.now.defaults.now) }
+        requires within { run.first + run.room
+            ≤ length (written_over self.now.source.now self.now.senders.now self.now.defaults.now) }
         ensures { result ≡ stretch run.block run.first
             (part (written_over self.now.source.now self.now.senders.now self.now.defaults.now) run.first run.room) 0 }
     {

@@ -20,7 +20,8 @@ pub fn words_for(places: usize) -> usize
 #[tactic(auto, using(crate::proofs::MarkWords::marked_one))]
 pub(crate) fn mark(marks: &mut [u32], place: usize)
     requires within { place / 32 < length marks.old }
-    ensures { (flags : List Bool) → place < length flags → marks.old ≡ mark_words flags → marks.new ≡ mark_words (set flags place true) }
+    ensures { (flags : List Bool) → place < length flags → marks.old ≡ mark_words flags
+        → marks.new ≡ mark_words (set flags place true) }
 {
     marks[place / WORD_BITS] |= 1 << (place % WORD_BITS);
 }

@@ -1,6 +1,6 @@
-//! A permute in one walk by several threads, each of which owns a range of the result and a mark for each place of it, a bit. Each
-//! reads all indices, writes and marks the places of its range to which an index sends, and counts its marks. So no two threads
-//! write one place, no place is waited for, and each thread's writes lie close together.
+//! A permute in one walk by several threads, each of which owns a range of the result and a mark for each place of it, a bit.
+//! Each reads all indices, writes and marks the places of its range to which an index sends, and counts its marks. So no two
+//! threads write one place, no place is waited for, and each thread's writes lie close together.
 
 ghost use Rattle.std.specs.Prelude.{◌≡◌, ◌+◌, ◌≤◌, ℤ, List, Option, length, replicate, IfOk, IfSome, is_none, is_some, vec_len};
 ghost use Rattle.std.specs.Thread.{IsSend, IsSync};
@@ -33,8 +33,8 @@ fn count_destinations<D: Destinations>(destinations: &D) -> usize
 }
 
 /// Writes and marks the places of a range.
-// By this trait, and not as a slice, the elements go to other threads beside the range of the result, whose elements are of the same
-// type.
+// By this trait, and not as a slice, the elements go to other threads beside the range of the result, whose elements are of the
+// same type.
 trait Owner<T> {
     ghost elements: { Self → List T };
 
@@ -44,7 +44,8 @@ trait Owner<T> {
     fn write(&self, lowest: usize, out: &mut [T], marks: &mut [u32]) -> usize
         requires unmarked { marks.old ≡ replicate (words_for (length out.old)) 0 }
         requires within { lowest + length out.old ≤ most_elements }
-        ensures written { out.new ≡ written_over (elements self.now) (last_senders 0 (destinations self.now) lowest (length out.old)) out.old }
+        ensures written { out.new ≡ written_over (elements self.now)
+            (last_senders 0 (destinations self.now) lowest (length out.old)) out.old }
         ensures count { result ≡ count_sent (last_senders 0 (destinations self.now) lowest (length out.old)) };
 }
 
@@ -82,7 +83,8 @@ fn write_ranges<T: Copy + Send, R: Threads + Sync, W: Owner<T> + Sync>(
 ) -> usize
     requires unmarked { marks.old ≡ replicate (words_for (length out.old)) 0 }
     requires within { lowest + length out.old ≤ most_elements }
-    ensures written { out.new ≡ written_over (W.elements owner.now) (last_senders 0 (W.destinations owner.now) lowest (length out.old)) out.old }
+    ensures written { out.new ≡ written_over (W.elements owner.now)
+        (last_senders 0 (W.destinations owner.now) lowest (length out.old)) out.old }
     ensures count { result ≡ count_sent (last_senders 0 (W.destinations owner.now) lowest (length out.old)) }
 {
     if threads.get() < 2 {
@@ -114,23 +116,28 @@ fn write_both<T: Copy + Send, R: Threads + Sync, W: Owner<T> + Sync>(
     high_marks: &mut [u32],
 ) -> usize
     requires some { (1 ≤ fewer) × (1 ≤ others) }
-    requires unmarked { (low_marks.old ≡ replicate (words_for (length low.old)) 0) × (high_marks.old ≡ replicate (words_for (length high.old)) 0) }
+    requires unmarked { (low_marks.old ≡ replicate (words_for (length low.old)) 0)
+        × (high_marks.old ≡ replicate (words_for (length high.old)) 0) }
     requires within { (lowest + length low.old ≤ most_elements) × (middle + length high.old ≤ most_elements) }
-    ensures low { low.new ≡ written_over (W.elements owner.now) (last_senders 0 (W.destinations owner.now) lowest (length low.old)) low.old }
-    ensures high { high.new ≡ written_over (W.elements owner.now) (last_senders 0 (W.destinations owner.now) middle (length high.old)) high.old }
+    ensures low { low.new ≡ written_over (W.elements owner.now)
+        (last_senders 0 (W.destinations owner.now) lowest (length low.old)) low.old }
+    ensures high { high.new ≡ written_over (W.elements owner.now)
+        (last_senders 0 (W.destinations owner.now) middle (length high.old)) high.old }
     ensures count { result ≡ count_sent (last_senders 0 (W.destinations owner.now) lowest (length low.old))
         + count_sent (last_senders 0 (W.destinations owner.now) middle (length high.old)) }
 {
     let mut write_low = || -> usize
         requires { IsSync R.row × IsSend T.row × IsSync W.row × (1 ≤ fewer)
             × (low_marks.now ≡ replicate (words_for (length low.now)) 0) × (lowest + length low.now ≤ most_elements) }
-        ensures { (low.exit.now ≡ written_over (W.elements owner.entry.now) (last_senders 0 (W.destinations owner.entry.now) lowest (length low.entry.now)) low.entry.now)
+        ensures { (low.exit.now ≡ written_over (W.elements owner.entry.now)
+            (last_senders 0 (W.destinations owner.entry.now) lowest (length low.entry.now)) low.entry.now)
             × (result ≡ count_sent (last_senders 0 (W.destinations owner.entry.now) lowest (length low.entry.now))) }
     { write_ranges(rt, owner, fewer, lowest, low, low_marks) };
     let mut write_high = || -> usize
         requires { IsSync R.row × IsSend T.row × IsSync W.row × (1 ≤ others)
             × (high_marks.now ≡ replicate (words_for (length high.now)) 0) × (middle + length high.now ≤ most_elements) }
-        ensures { (high.exit.now ≡ written_over (W.elements owner.entry.now) (last_senders 0 (W.destinations owner.entry.now) middle (length high.entry.now)) high.entry.now)
+        ensures { (high.exit.now ≡ written_over (W.elements owner.entry.now)
+            (last_senders 0 (W.destinations owner.entry.now) middle (length high.entry.now)) high.entry.now)
             × (result ≡ count_sent (last_senders 0 (W.destinations owner.entry.now) middle (length high.entry.now))) }
     { write_ranges(rt, owner, others, middle, high, high_marks) };
     let (in_low, in_high) = join_mut(rt, &mut write_low, &mut write_high);
@@ -162,7 +169,8 @@ where
     ensures written { IfOk result (λ found. IfSome found (λ v.
         v.items ≡ written_over source.now (senders_of 0 (D.destinations destinations.now) places) (W.whole before.now))) }
     ensures as_long { IfOk result (λ found. IfSome found (λ v. vec_len v ≡ places)) }
-    ensures bad { IfOk result (λ found. is_none found ≡ is_some (first_fault 0 (wrongs places (D.destinations destinations.now)))) }
+    ensures bad { IfOk result (λ found. is_none found
+        ≡ is_some (first_fault 0 (wrongs places (D.destinations destinations.now)))) }
 {
     let mut out = write_in_runs(rt, alloc, threads, before, places)?;
     let words = words_for(places);

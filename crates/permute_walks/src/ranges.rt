@@ -1,9 +1,11 @@
-//! The walk of a permute by the owner of one range of the result: it reads all indices, and writes and marks the places of the range
-//! to which one sends. It lists the places of a block of indices that are sent there, and then writes their elements. Each of the two
-//! loops has no branch on where a place is sent, which a processor guesses wrongly where the indices are in no order. Where they are in
-//! order most blocks have no such place: behind one of these a block is counted first, which takes less time than a list.
+//! The walk of a permute by the owner of one range of the result: it reads all indices, and writes and marks the places of the
+//! range to which one sends. It lists the places of a block of indices that are sent there, and then writes their elements. Each
+//! of the two loops has no branch on where a place is sent, which a processor guesses wrongly where the indices are in no order.
+//! Where they are in order most blocks have no such place: behind one of these a block is counted first, which takes less time
+//! than a list.
 
-ghost use Rattle.std.specs.Prelude.{◌≡◌, ◌+◌, ◌<◌, ◌≤◌, pos, List, true, length, replicate, slice_get, slice_index_or, take, Some, None};
+ghost use Rattle.std.specs.Prelude.{◌≡◌, ◌+◌, ◌<◌, ◌≤◌, pos, List, true, length, replicate, slice_get, slice_index_or, take};
+ghost use Rattle.std.specs.Prelude.{Some, None};
 ghost use Rattle.cvl_base.specs.Limits.{most_elements};
 ghost use Rattle.cvl_base.specs.Permutes.{destination_if};
 ghost use Rattle.permute_walks.specs.Marks.{mark_words, words_for};
@@ -25,7 +27,8 @@ fn is_sent_between(index: &i32, takes_part: bool, lowest: u32, places: u32) -> b
     takes_part & (index.cast_unsigned().wrapping_sub(lowest) < places)
 }
 
-/// How many places of a block are sent to one of so many places from `lowest` on. It begins at place `first`, and has so many places.
+/// How many places of a block are sent to one of so many places from `lowest` on. It begins at place `first`, and has so many
+/// places.
 // Vector code takes several at once.
 #[inline(never)]
 fn count_block<D: Destinations>(
@@ -65,7 +68,8 @@ fn list_block<D: Destinations>(
     requires block { first + length list.old ≤ length (D.destinations destinations.now) }
     requires within { lowest + places ≤ most_elements }
     requires in_limit { length (D.destinations destinations.now) ≤ most_elements }
-    ensures listed { take result list.new ≡ places_between (D.destinations destinations.now) lowest (lowest + places) first (length list.old) }
+    ensures listed { take result list.new ≡ places_between (D.destinations destinations.now) lowest (lowest + places) first
+        (length list.old) }
     ensures in_length { result ≤ length list.new }
 {
     if may_be_none && count_block(destinations, first, list.len(), lowest, places) == 0 {
@@ -103,8 +107,8 @@ fn sent_from<T: Copy, D: Destinations>(
     (index.cast_unsigned() as usize - lowest, source[k])
 }
 
-/// `write_range` for the places of one block, which begins at place `first` and has as many places as the list has room for. Tells how
-/// many are sent to the range.
+/// `write_range` for the places of one block, which begins at place `first` and has as many places as the list has room for.
+/// Tells how many are sent to the range.
 #[inline(never)]
 fn write_block<T: Copy, D: Destinations>(
     source: &[T],
@@ -145,8 +149,8 @@ fn write_block<T: Copy, D: Destinations>(
 }
 
 /// Writes the element of each place that takes part at its index, and marks it there, where that is a place of one range of the
-/// result. The range begins at place `lowest`, and no place of it is marked to begin with. Of several elements that are sent to one
-/// place the last stays.
+/// result. The range begins at place `lowest`, and no place of it is marked to begin with. Of several elements that are sent to
+/// one place the last stays.
 pub fn write_range<T: Copy, D: Destinations>(
     source: &[T],
     destinations: &D,
@@ -158,8 +162,10 @@ pub fn write_range<T: Copy, D: Destinations>(
     requires unmarked { marks.old ≡ replicate (words_for (length out.old)) 0 }
     requires within { lowest + length out.old ≤ most_elements }
     requires in_limit { length (D.destinations destinations.now) ≤ most_elements }
-    ensures written { out.new ≡ written_over source.now (last_senders 0 (D.destinations destinations.now) lowest (length out.old)) out.old }
-    ensures marked { marks.new ≡ mark_words (sent_marks (last_senders 0 (D.destinations destinations.now) lowest (length out.old))) }
+    ensures written { out.new ≡ written_over source.now
+        (last_senders 0 (D.destinations destinations.now) lowest (length out.old)) out.old }
+    ensures marked { marks.new ≡ mark_words (sent_marks
+        (last_senders 0 (D.destinations destinations.now) lowest (length out.old))) }
 {
     let mut list = [0; BLOCK];
     let places = destinations.count();

@@ -3,8 +3,8 @@
 //! Most go in two walks. The first walk of a simple, select or default permute finds for each place of the result its
 //! sender, the place whose element goes there; that of a back permute looks at all indices. The second writes the elements,
 //! by several threads where the result is long. A long simple, select or default permute is made in one walk by threads of which
-//! each owns a range of the result, writes the elements that are sent there over what stood there before, and counts the places that
-//! it wrote.
+//! each owns a range of the result, writes the elements that are sent there over what stood there before, and counts the places
+//! that it wrote.
 //!
 //! Each call has a gated form with the same contract for every gate. Workers race for the first walk where short tiles are
 //! asked for.

@@ -1,8 +1,8 @@
 //! The permutes over a room of the caller's, by the thread that calls, for code that has no runtime.
 //!
 //! Each tells the faults of the permute first, and then `LengthMismatch`, without a place, where the room isn't as long as the
-//! result. Only then the room is written. A back permute asks for no memory. A simple permute asks for a byte for each place of its
-//! result, and for the senders only to find its first fault; the others ask for the senders, 4 bytes a place.
+//! result. Only then the room is written. A back permute asks for no memory. A simple permute asks for a byte for each place of
+//! its result, and for the senders only to find its first fault; the others ask for the senders, 4 bytes a place.
 
 ghost use Rattle.std.specs.Prelude.{◌≤◌, length};
 ghost use Rattle.cvl_base.specs.Limits.{most_elements};

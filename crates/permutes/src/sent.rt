@@ -1,4 +1,5 @@
-//! The elements of a permute: of a long result in one walk, which threads share, else in two, of which the first finds the senders.
+//! The elements of a permute: of a long result in one walk, which threads share, else in two, of which the first finds the
+//! senders.
 
 ghost use Rattle.std.specs.Prelude.{◌≡◌, ◌≤◌, IfOk, IfSome, IsTrue, None, Ok, filter_map, length, slice_get, vec_len};
 ghost use Rattle.cvl_base.specs.Gives.{Gives, unless};
@@ -26,8 +27,8 @@ fn is_long(places: usize) -> bool
     places >= LEAST_SHARED && places <= MOST_ELEMENTS
 }
 
-/// For each place of a flat result its sender, for which workers race or one thread walks. Where the one walk of a long result found
-/// that a place is bad, they race if the search for the first one pays for it.
+/// For each place of a flat result its sender, for which workers race or one thread walks. Where the one walk of a long result
+/// found that a place is bad, they race if the search for the first one pays for it.
 fn senders_to<R: Threads + Sync, A: Memory, D: Destinations + Sync, G: Gate>(
     rt: &R,
     alloc: A,
@@ -52,8 +53,8 @@ fn senders_to<R: Threads + Sync, A: Memory, D: Destinations + Sync, G: Gate>(
     }
 }
 
-/// What one walk of a flat result writes over what stands before in it. None where the result is not long, where workers are to race
-/// for the senders, or where a place is bad.
+/// What one walk of a flat result writes over what stands before in it. None where the result is not long, where workers are to
+/// race for the senders, or where a place is bad.
 fn permuted_long<T, R, A, D, W>(
     rt: &R,
     alloc: A,
@@ -72,7 +73,8 @@ where
     requires sourced { length source.now ≡ length (D.destinations destinations.now) }
     requires few { length (D.destinations destinations.now) ≤ most_elements }
     requires whole { places ≡ length (W.whole before.now) }
-    ensures right { IfOk result (λ found. IfSome found (λ _. None ≡ first_fault 0 (wrongs places (D.destinations destinations.now)))) }
+    ensures right { IfOk result (λ found. IfSome found
+        (λ _. None ≡ first_fault 0 (wrongs places (D.destinations destinations.now)))) }
     ensures written { IfOk result (λ found. IfSome found (λ v.
         v.items ≡ written_over source.now (senders_of 0 (D.destinations destinations.now) places) (W.whole before.now))) }
     ensures as_long { IfOk result (λ found. IfSome found (λ v. vec_len v ≡ places)) }

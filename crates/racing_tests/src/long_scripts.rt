@@ -56,8 +56,8 @@ const CALLS: &[Call] = &[
     ),
 ];
 
-/// How many elements there are and the last place, the former as a number, the tile and the workers that are asked for, the tile of
-/// the race, and who is held, at its first tile, until the others have finished all other tiles.
+/// How many elements there are and the last place, the former as a number, the tile and the workers that are asked for, the tile
+/// of the race, and who is held, at its first tile, until the others have finished all other tiles.
 type Length = (&'static str, u32, u32, u32, u32, Holds);
 
 const LENGTHS: &[Length] = &[

@@ -74,10 +74,10 @@ const CALLS: &[(&str, Race, &str)] = &[
     ("pck_fov f d", SCAN, "b = [1 0 2]\n"),
 ];
 
-/// The runs of each call on four elements. Two workers are at work at one moment: each is held at its first tile until both have one,
-/// and the one at tile 0 until the other has finished all others. Of two workers the one that first claims a tile is held until the
-/// other has finished the three other tiles, for each tile in turn. In each cut into tiles, by one worker and by many, the gate sees
-/// each tile.
+/// The runs of each call on four elements. Two workers are at work at one moment: each is held at its first tile until both have
+/// one, and the one at tile 0 until the other has finished all others. Of two workers the one that first claims a tile is held
+/// until the other has finished the three other tiles, for each tile in turn. In each cut into tiles, by one worker and by many,
+/// the gate sees each tile.
 const RUNS: &[Run] = &[
     (2, 2, 2, Holds::FirstTiles(2)),
     (1, 2, 4, Holds::TileZero(Point::Claimed(0))),

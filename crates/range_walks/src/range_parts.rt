@@ -1,4 +1,5 @@
-//! The parts of a range of the places of a segmented vector: what continues the segment before it, and the segments that start in it.
+//! The parts of a range of the places of a segmented vector: what continues the segment before it, and the segments that start in
+//! it.
 
 ghost use Rattle.std.specs.Prelude.{◌≡◌, ◌++◌, ◌≤◌, drop, length, map, slice_range, sum, take, unsigned_abs};
 ghost use Rattle.cvl_base.specs.Descriptors.{AreLengths};

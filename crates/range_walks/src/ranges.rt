@@ -3,7 +3,8 @@
 //! Segments may start in it anywhere, some of them empty, and it may begin or end inside a segment. Each walk goes from
 //! segment to segment, and has a plain loop over the elements of each.
 
-ghost use Rattle.std.specs.Prelude.{◌≡◌, false, ◌+◌, ◌-◌, ◌<◌, ◌≤◌, IsTrue, IfOk, length, map, slice_range, unsigned_abs, sum, vec_len};
+ghost use Rattle.std.specs.Prelude.{◌≡◌, false, ◌+◌, ◌-◌, ◌<◌, ◌≤◌, IsTrue, IfOk, length, map, slice_range, unsigned_abs, sum};
+ghost use Rattle.std.specs.Prelude.{vec_len};
 ghost use Rattle.std.specs.List.{AllPass};
 ghost use Rattle.cvl_base.specs.Descriptors.{AreLengths};
 ghost use Rattle.cvl_base.specs.Folds.{fold_of};

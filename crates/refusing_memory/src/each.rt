@@ -8,7 +8,8 @@ use cvl_base::memory::Memory;
 /// The most runs that [`refuse_each`] makes before it gives up.
 pub const MOST_RUNS: u64 = 10_000;
 
-/// What [`refuse_each`] found wrong. A run is named by its number, counted from 0, which is also that of the request that it refused.
+/// What [`refuse_each`] found wrong. A run is named by its number, counted from 0, which is also that of the request that it
+/// refused.
 #[derive(Clone, Copy, PartialEq, Eq, Debug)]
 pub enum Flaw {
     /// The answer of this run was not allowed.

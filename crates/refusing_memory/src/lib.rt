@@ -25,7 +25,8 @@ use counting::Calls;
 pub use each::{Flaw, MOST_RUNS, refuse_each, withstands_refusals};
 pub use rule::Refusal;
 
-/// An allocator that passes each request on to `inner`, except for those that its rule refuses, and counts them all, and their bytes.
+/// An allocator that passes each request on to `inner`, except for those that its rule refuses, and counts them all, and their
+/// bytes.
 #[derive(Drop)]
 pub struct Refusing<B: Allocator> {
     inner: B,

@@ -51,7 +51,8 @@ fn reach(from: i32, steps: i32, step: i32) -> i64
 }
 
 impl Look {
-    /// Whether so many steps from a number on, each of them the least or each of them the greatest element, lead to one of 32 bits.
+    /// Whether so many steps from a number on, each of them the least or each of them the greatest element, lead to one of 32
+    /// bits.
     pub(crate) fn leads_within(&self, from: i32, steps: i32) -> bool
         ensures { IsTrue result → (is_number (from +ℤ (steps *ℤ self.now.least)) ≡ true)
             × (is_number (from +ℤ (steps *ℤ self.now.greatest)) ≡ true) }

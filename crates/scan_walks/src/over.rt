@@ -62,7 +62,8 @@ pub fn seg_scan_over<M: Monoid>(
     fill_slice(
         out,
         |run: Run<M::Item>| -> Run<M::Item>
-            requires { (run.items ≡ []) × (run.room ≡ length a.now) × AreLengths lengths.now × (length a.now ≡ sum (map unsigned_abs lengths.now)) × AllPass M.is_item a.now }
+            requires { (run.items ≡ []) × (run.room ≡ length a.now) × AreLengths lengths.now
+                × (length a.now ≡ sum (map unsigned_abs lengths.now)) × AllPass M.is_item a.now }
             ensures { result ≡ with_items run (scans_of M.join M.unit (map unsigned_abs lengths.entry.now) a.entry.now) }
         { scans_into::<M, M::Item, Itself>(run, lengths, a) },
     );
@@ -92,7 +93,8 @@ pub fn seg_reduce_readings_over<M: Monoid, X: Copy, E: Reading<X, M::Item>>(
     out: &mut [M::Item],
 ) -> Result<(), Fault>
     requires items { AllPass (λ x. M.is_item (E.item x)) a.now }
-    ensures { Overwrites (in_room (length out.old) (seg_reduce_of M.join M.unit (map E.item a.now) d.now)) result out.old out.new }
+    ensures { Overwrites (in_room (length out.old) (seg_reduce_of M.join M.unit (map E.item a.now) d.now))
+        result out.old out.new }
 {
     know_laws::<M>();
     d.check_total(a)?;
@@ -101,8 +103,10 @@ pub fn seg_reduce_readings_over<M: Monoid, X: Copy, E: Reading<X, M::Item>>(
     fill_slice(
         out,
         |run: Run<M::Item>| -> Run<M::Item>
-            requires { (run.items ≡ []) × (run.room ≡ length lengths.now) × AreLengths lengths.now × (sum (map unsigned_abs lengths.now) ≡ length a.now) × AllPass (λ x. M.is_item (E.item x)) a.now }
-            ensures { result ≡ with_items run (reduces_of M.join M.unit (map unsigned_abs lengths.entry.now) (map E.item a.entry.now)) }
+            requires { (run.items ≡ []) × (run.room ≡ length lengths.now) × AreLengths lengths.now
+                × (sum (map unsigned_abs lengths.now) ≡ length a.now) × AllPass (λ x. M.is_item (E.item x)) a.now }
+            ensures { result ≡ with_items run (reduces_of M.join M.unit (map unsigned_abs lengths.entry.now)
+                (map E.item a.entry.now)) }
         { reduces_into::<M, X, E>(run, lengths, a) },
     );
     Ok(())

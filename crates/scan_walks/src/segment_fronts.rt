@@ -16,9 +16,9 @@ use operators::integer::max;
 /// stay in the nearest cache until each segment is looked at by itself, where it has to be.
 const GROUP: usize = 32;
 
-/// How many of the results of the scans of the segments with these lengths, one after another, fit 32 bits, from the first one on.
-/// Each segment is looked at by itself. The segments have all of the integers, and the last may be cut short by the end of the
-/// integers.
+/// How many of the results of the scans of the segments with these lengths, one after another, fit 32 bits, from the first one
+/// on. Each segment is looked at by itself. The segments have all of the integers, and the last may be cut short by the end of
+/// the integers.
 fn fitting_of_each(lengths: &[i32], xs: &[i32]) -> usize
     requires lengths { AreLengths lengths.now }
     requires covered { length xs.now ≤ sum (map unsigned_abs lengths.now) }

@@ -19,7 +19,8 @@ fn is_below_zero(number: &i32) -> bool
 /// first that is, and their total is at most 4,194,304, else TooLong. The answer is the total.
 pub(crate) fn check_lengths(numbers: &[i32]) -> Result<u32, Fault>
     requires { length numbers.now ≤ most_elements }
-    ensures meaning { MatchResult result (λ _. descriptor_of numbers.now ≡ Ok (map unsigned_abs numbers.now)) (λ f. descriptor_of numbers.now ≡ Err f) }
+    ensures meaning { MatchResult result (λ _. descriptor_of numbers.now ≡ Ok (map unsigned_abs numbers.now))
+        (λ f. descriptor_of numbers.now ≡ Err f) }
     ensures lengths { IfOk result (λ _. AreLengths numbers.now) }
     ensures total { IfOk result (λ total. total ≡ sum (map unsigned_abs numbers.now)) }
 {

@@ -36,7 +36,8 @@ pub trait Segments {
         requires segment { s < length (lists self.now) }
         requires within { from + count ≤ length (slice_index_or (lists self.now) s []) }
         requires room { count ≤ run.room }
-        ensures { result ≡ stretch run.block run.first (run.items ++ part (slice_index_or (lists self.now) s []) from count) (run.room - count) };
+        ensures { result ≡ stretch run.block run.first (run.items ++ part (slice_index_or (lists self.now) s []) from count)
+            (run.room - count) };
 }
 
 /// Writes the lists of segments one after another.

@@ -1,5 +1,5 @@
-//! The two walks of a simple permute by segments straight into a room. The first marks the place that each index names, segment by
-//! segment in the same bytes. The second writes each element to its index.
+//! The two walks of a simple permute by segments straight into a room. The first marks the place that each index names, segment
+//! by segment in the same bytes. The second writes each element to its index.
 
 ghost use Rattle.std.specs.Prelude.{◌≡◌, ◌≤◌, ◌↔◌, filter_map, length, slice_get, slice_index, sum, ℕ, ◌<◌, IfOk, IsTrue, None};
 ghost use Rattle.cvl_base.specs.Limits.{most_elements};
@@ -11,7 +11,8 @@ use permute_walks::{is_permutation_by, scatter_over};
 use segdes::SegDes;
 use std::alloc::Allocator;
 
-/// Whether the indices of each segment are a permutation of its places. There are as many marks as the longest segment has places.
+/// Whether the indices of each segment are a permutation of its places. There are as many marks as the longest segment has
+/// places.
 fn are_permutations_by<A: Allocator>(marks: &mut [bool], index: &[i32], d: &SegDes<A>) -> bool
     requires total { sum d.now ≡ length index.now }
     requires wide { (s : ℕ) → s < length d.now → slice_index d.now s ≤ length marks.old }

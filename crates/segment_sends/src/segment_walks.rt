@@ -1,6 +1,6 @@
-//! A permute by segments in one walk. A buffer holds the senders of one segment at a time, whose elements are pushed as soon as no
-//! place of it is bad. So it stays in the processor's cache, and nothing else is written but the result. Several threads each walk
-//! whole segments, by a buffer of their own.
+//! A permute by segments in one walk. A buffer holds the senders of one segment at a time, whose elements are pushed as soon as
+//! no place of it is bad. So it stays in the processor's cache, and nothing else is written but the result. Several threads each
+//! walk whole segments, by a buffer of their own.
 
 ghost use Rattle.std.specs.Prelude.{◌≡◌, ◌+◌, ◌≤◌, List, false, true, length, IfOk, IfSome, None, vec_len};
 ghost use denote.Param.Send.{Frees, IsSend, IsSync};
@@ -196,7 +196,8 @@ fn write_shared<T: Copy + Send, R: Threads + Sync, A: Memory, S: Sides<T> + Sync
 ) -> (Run<T>, bool)
     requires cut { P.AreCut parts.now }
     requires share { IsShare (sending (S.source sides.now) (P.parts parts.now) (S.before sides.now) widest) begin end run }
-    ensures { IsWritten (sending (S.source sides.now) (P.parts parts.now) (S.before sides.now) widest) begin end run result.0 result.1 }
+    ensures { IsWritten (sending (S.source sides.now) (P.parts parts.now) (S.before sides.now) widest) begin end run result.0
+        result.1 }
 {
     if threads.get() < 2 {
         let source = sides.source();
@@ -231,22 +232,27 @@ fn write_both<T: Copy + Send, R: Threads + Sync, A: Memory, S: Sides<T> + Sync, 
 ) -> ((Run<T>, bool), (Run<T>, bool))
     requires some { (1 ≤ fewer) × (1 ≤ others) }
     requires cut { P.AreCut parts.now }
-    requires front_share { IsShare (sending (S.source sides.now) (P.parts parts.now) (S.before sides.now) widest) begin middle front }
+    requires front_share { IsShare (sending (S.source sides.now) (P.parts parts.now) (S.before sides.now) widest) begin middle
+        front }
     requires back_share { IsShare (sending (S.source sides.now) (P.parts parts.now) (S.before sides.now) widest) middle end back }
-    ensures front { IsWritten (sending (S.source sides.now) (P.parts parts.now) (S.before sides.now) widest) begin middle front result.0.0 result.0.1 }
-    ensures back { IsWritten (sending (S.source sides.now) (P.parts parts.now) (S.before sides.now) widest) middle end back result.1.0 result.1.1 }
+    ensures front { IsWritten (sending (S.source sides.now) (P.parts parts.now) (S.before sides.now) widest) begin middle front
+        result.0.0 result.0.1 }
+    ensures back { IsWritten (sending (S.source sides.now) (P.parts parts.now) (S.before sides.now) widest) middle end back
+        result.1.0 result.1.1 }
 {
     let write_front = move || -> (Run<T>, bool)
         requires { IsSync R.row × IsSend T.row × IsSend A.row × Frees A.Allocator A.dealloc_token × IsSync S.row × IsSync P.row
             × IsSend P.Part.row × IsSend P.A.row × IsSync P.A.row × (1 ≤ fewer) × P.AreCut parts.now
             × IsShare (sending (S.source sides.now) (P.parts parts.now) (S.before sides.now) widest) begin middle front }
-        ensures { IsWritten (sending (S.source sides.entry.now) (P.parts parts.entry.now) (S.before sides.entry.now) widest) begin middle front result.0 result.1 }
+        ensures { IsWritten (sending (S.source sides.entry.now) (P.parts parts.entry.now) (S.before sides.entry.now) widest) begin
+            middle front result.0 result.1 }
     { write_shared(rt, alloc, sides, parts, fewer, begin, middle, widest, front) };
     let write_back = move || -> (Run<T>, bool)
         requires { IsSync R.row × IsSend T.row × IsSend A.row × Frees A.Allocator A.dealloc_token × IsSync S.row × IsSync P.row
             × IsSend P.Part.row × IsSend P.A.row × IsSync P.A.row × (1 ≤ others) × P.AreCut parts.now
             × IsShare (sending (S.source sides.now) (P.parts parts.now) (S.before sides.now) widest) middle end back }
-        ensures { IsWritten (sending (S.source sides.entry.now) (P.parts parts.entry.now) (S.before sides.entry.now) widest) middle end back result.0 result.1 }
+        ensures { IsWritten (sending (S.source sides.entry.now) (P.parts parts.entry.now) (S.before sides.entry.now) widest)
+            middle end back result.0 result.1 }
     { write_shared(rt, alloc, sides, parts, others, middle, end, widest, back) };
     join(rt, write_front, write_back)
 }

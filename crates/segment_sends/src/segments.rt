@@ -1,6 +1,7 @@
 //! The parts of a permute by segments, and its first walk, segment by segment.
 
-ghost use Rattle.std.specs.Prelude.{◌≡◌, ◌<◌, ◌≤◌, ℕ, ℤ, List, [], length, map, OnOk, Option, replicate, slice_index, slice_index_or, take};
+ghost use Rattle.std.specs.Prelude.{◌≡◌, ◌<◌, ◌≤◌, ℕ, ℤ, List, [], length, map, OnOk, Option, replicate, slice_index};
+ghost use Rattle.std.specs.Prelude.{slice_index_or, take};
 ghost use Rattle.cvl_base.specs.Limits.{most_elements};
 ghost use Rattle.segment_sends.specs.Parts.{fault_from, places_in, senders_from, destinations_in};
 ghost use Rattle.segment_sends.specs.Shares.{AreWithin};

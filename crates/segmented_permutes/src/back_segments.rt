@@ -71,19 +71,23 @@ impl<'a, T: Copy, A: Allocator> Segments for SegmentsAt<'a, T, A> {
 
     #[tactic(auto, using(crate::proofs::Listed::lengths_are))]
     fn descriptor(&self) -> &SegDes<A>
-        ensures { result.now ≡ map length (lists_at self.now.source_d.now self.now.source.now self.now.index_d.now self.now.index.now) }
+        ensures { result.now ≡ map length (lists_at self.now.source_d.now self.now.source.now self.now.index_d.now
+            self.now.index.now) }
     {
         self.index_d
     }
 
     fn push_part(&self, run: Run<T>, s: usize, from: usize, count: usize) -> Run<T>
-        requires segment { s < length (lists_at self.now.source_d.now self.now.source.now self.now.index_d.now self.now.index.now) }
+        requires segment { s < length (lists_at self.now.source_d.now self.now.source.now self.now.index_d.now
+            self.now.index.now) }
         requires within { from + count
-            ≤ length (slice_index_or (lists_at self.now.source_d.now self.now.source.now self.now.index_d.now self.now.index.now) s []) }
+            ≤ length (slice_index_or (lists_at self.now.source_d.now self.now.source.now self.now.index_d.now self.now.index.now)
+            s []) }
         requires room { count ≤ run.room }
         ensures { result ≡ stretch run.block run.first
             (run.items ++ part
-            (slice_index_or (lists_at self.now.source_d.now self.now.source.now self.now.index_d.now self.now.index.now) s []) from count)
+            (slice_index_or (lists_at self.now.source_d.now self.now.source.now self.now.index_d.now self.now.index.now) s [])
+            from count)
             (run.room - count) }
     {
         let start = self.source_d.start(s);

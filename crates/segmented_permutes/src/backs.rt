@@ -18,8 +18,8 @@ use segment_sends::AllParts;
 use sharing::threads_writing;
 use std::thread::Threads;
 
-/// `IndexOutOfRange` at the first place whose index is no place of its segment of the source, for which workers race at flat indices,
-/// or one or several threads look.
+/// `IndexOutOfRange` at the first place whose index is no place of its segment of the source, for which workers race at flat
+/// indices, or one or several threads look.
 fn check_segment_indices<R: Threads + Sync, A: Memory, G: Gate>(
     rt: &R,
     alloc: A,

@@ -1,5 +1,5 @@
-//! Flat indices, which count from the start of the whole result and not from that of their segment. The race of a segmented permute
-//! is that of a flat one at them.
+//! Flat indices, which count from the start of the whole result and not from that of their segment. The race of a segmented
+//! permute is that of a flat one at them.
 
 ghost use Rattle.std.specs.Prelude.{◌≡◌, ◌+◌, ◌≤◌, ◌++◌, IfOk, length, map, vec_capacity, vec_len};
 ghost use Rattle.cvl_base.specs.Limits.{most_elements};

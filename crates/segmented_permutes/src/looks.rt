@@ -1,5 +1,5 @@
-//! Who looks at the indices of a back permute of segments before it takes an element: several threads where those of a segment are
-//! many, or the thread that calls.
+//! Who looks at the indices of a back permute of segments before it takes an element: several threads where those of a segment
+//! are many, or the thread that calls.
 
 ghost use Rattle.std.specs.Prelude.{◌≡◌, ◌+◌, ◌≤◌, length};
 ghost use Rattle.cvl_base.specs.Limits.{most_elements};

@@ -1,8 +1,8 @@
 //! The permutes of segments over a room of the caller's, by the thread that calls, for code that has no runtime.
 //!
 //! Each tells the faults of the permute first, and then `LengthMismatch`, without a place, where the room isn't as long as the
-//! result. Only then the room is written. A back permute asks for no memory. A simple permute asks for a byte for each place of its
-//! longest segment, and for the senders only to find its first fault; the others ask for the senders, 4 bytes a place.
+//! result. Only then the room is written. A back permute asks for no memory. A simple permute asks for a byte for each place of
+//! its longest segment, and for the senders only to find its first fault; the others ask for the senders, 4 bytes a place.
 
 ghost use Rattle.std.specs.Prelude.{◌≤◌, length};
 ghost use Rattle.cvl_base.specs.Limits.{most_elements};
@@ -57,7 +57,8 @@ pub fn seg_select_over<T: Copy, A: Memory>(
     out: &mut [T],
 ) -> Result<(), Refused>
     requires in_limit { length index.now ≤ most_elements }
-    ensures { OverwritesOr (in_room (length out.old) (seg_select_of source.now index.now flags.now d.now)) result out.old out.new }
+    ensures { OverwritesOr (in_room (length out.old) (seg_select_of source.now index.now flags.now d.now))
+        result out.old out.new }
 {
     check_total(source, d)?;
     check_total(index, d)?;
@@ -79,7 +80,8 @@ pub fn seg_default_into_over<T: Copy, A: Memory>(
     out: &mut [T],
 ) -> Result<(), Refused>
     requires in_limit { length index.now ≤ most_elements }
-    ensures { OverwritesOr (in_room (length out.old) (seg_default_of source.now index.now defaults.now source_d.now default_d.now))
+    ensures { OverwritesOr (in_room (length out.old)
+        (seg_default_of source.now index.now defaults.now source_d.now default_d.now))
         result out.old out.new }
 {
     check_total(source, source_d)?;
@@ -104,7 +106,8 @@ pub fn seg_back_over<T: Copy, A: Allocator>(
     out: &mut [T],
 ) -> Result<(), Fault>
     requires in_limit { length index.now ≤ most_elements }
-    ensures { Overwrites (in_room (length out.old) (seg_back_of source.now index.now source_d.now index_d.now)) result out.old out.new }
+    ensures { Overwrites (in_room (length out.old) (seg_back_of source.now index.now source_d.now index_d.now))
+        result out.old out.new }
 {
     check_total(source, source_d)?;
     check_total(index, index_d)?;

@@ -16,8 +16,8 @@ use segment_sends::{AllParts, FlaggedParts, Parts, permuted_by_segments, segment
 use sharing::threads_writing;
 use std::thread::Threads;
 
-/// What threads write over what stands before in a result by segments, each in whole segments. None where workers race, one segment
-/// is longer than a thread's share, or a place is bad.
+/// What threads write over what stands before in a result by segments, each in whole segments. None where workers race, one
+/// segment is longer than a thread's share, or a place is bad.
 pub(crate) fn permuted_segments<T, R, A, P>(
     rt: &R,
     alloc: A,

@@ -17,8 +17,8 @@ fn is_back(back: Back<i32>, sum: i32, looks: u32) -> bool {
     back.before == (false, sum) && back.looks == looks
 }
 
-/// Whether each answer of two workers over tiles of 3, 1, 7 and 0 is the one that is worked out by hand. What one tells of a tile,
-/// the other one sees, and no prefix is taken back. A tile of which something is told is not added up.
+/// Whether each answer of two workers over tiles of 3, 1, 7 and 0 is the one that is worked out by hand. What one tells of a
+/// tile, the other one sees, and no prefix is taken back. A tile of which something is told is not added up.
 pub fn answers_by_hand<A: Memory>(alloc: A) -> Result<bool, NoResources> {
     let counter = Counter::new(0);
     let tiles = CountedTiles::new(&[3, 1, 7, 0], &counter);

@@ -1,8 +1,8 @@
 //! Rules of thumb: how many threads share a call, by how many elements it writes, and whether workers race for its tiles.
 //! No result depends on them.
 //!
-//! What forks takes a [`ThreadCount`], or a [`Pace`] of a race. Both are made here alone, of a configuration, and neither has more
-//! threads than the configuration has workers.
+//! What forks takes a [`ThreadCount`], or a [`Pace`] of a race. Both are made here alone, of a configuration, and neither has
+//! more threads than the configuration has workers.
 //!
 //! All thresholds of the library stand here. They were measured on a machine with four processors.
 #![tactic(auto)]

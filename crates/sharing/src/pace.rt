@@ -25,7 +25,8 @@ impl Model for Pace {
 
     ghost view = { λ pace. (pace.tile, pace.workers) };
 
-    ghost invariant = { λ pace. (1 ≤ pace.tile) × (pace.tile ≤ longest_tile) × (1 ≤ pace.workers) × (pace.workers ≤ most_workers) };
+    ghost invariant = { λ pace. (1 ≤ pace.tile) × (pace.tile ≤ longest_tile) × (1 ≤ pace.workers)
+        × (pace.workers ≤ most_workers) };
 
     ghost inverse = { λ v. record { tile = v.0; workers = v.1 } };
 }

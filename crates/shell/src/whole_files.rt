@@ -19,7 +19,8 @@ fn fill<F: Read>(file: &mut F, room: &mut [u8], from: usize) -> Option<(usize, b
     requires { from ≤ length room.old }
     ensures within { IfSome result (λ r. (from ≤ r.0) × (r.0 ≤ length room.new)) }
     ensures bytes { IfSome result (λ r. (before : Option (List ℕ))
-        → Consumes before (F.remaining file.old) (take from room.old) → Consumes before (F.remaining file.new) (take r.0 room.new)) }
+        → Consumes before (F.remaining file.old) (take from room.old)
+        → Consumes before (F.remaining file.new) (take r.0 room.new)) }
     ensures end { IfSome result (λ r. IsTrue r.1 → IsAtEnd (F.remaining file.new)) }
 {
     let mut filled = from;

@@ -1,6 +1,7 @@
 //! Laws of status words, each a function that takes and gives nothing and whose contract is the law.
 
-ghost use Rattle.std.specs.Prelude.{◌≡◌, ℕ, ◌+◌, ◌-◌, ◌*◌, ◌<◌, ◌^◌, ℤ, pos, negsuc, Bool, true, false, Some, None, List, [], ◌∷◌, ◌++◌, length, replicate};
+ghost use Rattle.std.specs.Prelude.{◌≡◌, ℕ, ◌+◌, ◌-◌, ◌*◌, ◌<◌, ◌^◌, ℤ, pos, negsuc, Bool, true, false, Some, None, List, []};
+ghost use Rattle.std.specs.Prelude.{◌∷◌, ◌++◌, length, replicate};
 ghost use Rattle.std.specs.List.{All, AllPass};
 ghost use Rattle.cvl_base.specs.SegmentMonoid.{is_seg_item};
 ghost use Rattle.cvl_base.specs.TileSums.{SumsLaws};
@@ -8,7 +9,8 @@ ghost use Rattle.status_word.specs.declared.status.Status.{Status};
 ghost use Rattle.status_word.specs.declared.status.Status.TheVariants as status;
 ghost use Rattle.status_word.specs.Codings.{CodingLaws, coding};
 ghost use Rattle.status_word.specs.Words.{read_word, word_of, state_of, FitsWord};
-ghost use Rattle.status_word.specs.WorkedWorlds.{AllStopped, empty_steps, empty_world, worked_steps, worked_turns, worked_words, worked_world};
+ghost use Rattle.status_word.specs.WorkedWorlds.{AllStopped, empty_steps, empty_world, worked_steps, worked_turns, worked_words};
+ghost use Rattle.status_word.specs.WorkedWorlds.{worked_world};
 ghost use Rattle.status_word.specs.Worlds.{IsWorldAfter, LowersBy, RunLowers, Scene, left_of, new_scene};
 
 use cvl_base::Packed;

@@ -9,8 +9,10 @@ ghost use Rattle.status_word.specs.declared.pass.Hand.{Hand};
 ghost use Rattle.status_word.specs.declared.pass.Pass.{Pass};
 ghost use Rattle.status_word.specs.Hands.{once_claimed};
 ghost use Rattle.status_word.specs.Passes.{first_pass, passes_joined, known_at, new_pass, split_left, split_right, told_at};
-ghost use Rattle.status_word.specs.RuleSteps.{ClaimDeals, DoneDeals, FewClaims, FirstDeals, JoinDeals, SameDeals, SplitDeals, WholeDeals};
-ghost use Rattle.status_word.specs.RuleSteps.{ClaimKeeps, DoneKeeps, FewClaimed, FirstKeeps, JoinAdds, JoinKeeps, LookKeeps, SplitKeeps, TellKeeps, WholeKnows};
+ghost use Rattle.status_word.specs.RuleSteps.{ClaimDeals, DoneDeals, FewClaims, FirstDeals, JoinDeals, SameDeals, SplitDeals};
+ghost use Rattle.status_word.specs.RuleSteps.{WholeDeals};
+ghost use Rattle.status_word.specs.RuleSteps.{ClaimKeeps, DoneKeeps, FewClaimed, FirstKeeps, JoinAdds, JoinKeeps, LookKeeps};
+ghost use Rattle.status_word.specs.RuleSteps.{SplitKeeps, TellKeeps, WholeKnows};
 ghost use Rattle.status_word.specs.WorkedPasses.{other_pass, worked_pass};
 ghost use Rattle.status_word.specs.WorkedWorlds.{worked_sums};
 

@@ -39,8 +39,8 @@ impl<'a, M: Packed, X: Copy, E: Reading<X, M::Item>, A: Allocator> Tiled<'a, M, 
     ghost use Rattle.scan_walks.specs.Ranges.{range_scan_of};
     ghost use Rattle.tile_scans.specs.TiledSums.{flagged};
 
-    /// A vector of at most 4,194,304 elements, beside its descriptor if it has one, in tiles of `tile` elements, of which there is
-    /// at least one.
+    /// A vector of at most 4,194,304 elements, beside its descriptor if it has one, in tiles of `tile` elements, of which there
+    /// is at least one.
     pub(crate) fn new(
         elements: &'a [X],
         segments: Option<&'a SegDes<A>>,

@@ -121,8 +121,10 @@ impl<'a, T: Written> Part<u8> for SegmentTexts<'a, T> {
 
     fn write(&self, run: Run<u8>) -> (Run<u8>, Option<usize>)
         requires empty { run.items ≡ [] }
-        requires room { run.room ≡ length (spaced (vector_text T.text_of) (cut_of (map unsigned_abs self.now.lengths.now) self.now.xs.now)) }
-        ensures run { result.0 ≡ stretch run.block run.first (spaced (vector_text T.text_of) (cut_of (map unsigned_abs self.now.lengths.now) self.now.xs.now)) 0 }
+        requires room { run.room ≡ length (spaced (vector_text T.text_of)
+            (cut_of (map unsigned_abs self.now.lengths.now) self.now.xs.now)) }
+        ensures run { result.0 ≡ stretch run.block run.first
+            (spaced (vector_text T.text_of) (cut_of (map unsigned_abs self.now.lengths.now) self.now.xs.now)) 0 }
         ensures found { result.1 ≡ None }
     {
         let mut page = [0; PAGE_BYTES];

@@ -19,7 +19,8 @@ pub fn distribute()
 
 /// The init, the stride and then the count, or by segments as many of both and then the descriptor.
 pub fn index()
-    ensures numbers { value_of (op.Index Flat) (Integer (pos 10) ∷ Integer (negsuc 1) ∷ Integer (pos 3) ∷ []) ≡ Ok (ints "10 8 6") }
+    ensures numbers { value_of (op.Index Flat) (Integer (pos 10) ∷ Integer (negsuc 1) ∷ Integer (pos 3) ∷ [])
+        ≡ Ok (ints "10 8 6") }
     ensures numbers_in_segments { value_of (op.Index Segmented) (ints "0 5 10" ∷ ints "1 1 -2" ∷ lengths "2 0 3" ∷ [])
         ≡ Ok (ints "0 1 10 8 6") }
 {}
@@ -30,14 +31,17 @@ pub fn extract()
     ensures boolean { value_of (op.Extract Flat of.Boolean) (bools "T F T" ∷ Integer (pos 1) ∷ []) ≡ Ok (Boolean false) }
     ensures integers_in_segments { value_of (op.Extract Segmented of.Integer) (ints "1 2 3 4 5" ∷ ints "1 2" ∷ lengths "2 3" ∷ [])
         ≡ Ok (ints "2 5") }
-    ensures booleans_in_segments { value_of (op.Extract Segmented of.Boolean) (bools "F T T F F" ∷ ints "1 0" ∷ lengths "2 3" ∷ [])
+    ensures booleans_in_segments { value_of (op.Extract Segmented of.Boolean)
+        (bools "F T T F F" ∷ ints "1 0" ∷ lengths "2 3" ∷ [])
         ≡ Ok (bools "T T") }
 {}
 
 /// The vector, the index and then the value, or by segments one of both for each and then the descriptor.
 pub fn replace()
-    ensures integer { value_of (op.Replace Flat of.Integer) (ints "4 5 6" ∷ Integer (pos 1) ∷ Integer (pos 0) ∷ []) ≡ Ok (ints "4 0 6") }
-    ensures boolean { value_of (op.Replace Flat of.Boolean) (bools "F F F" ∷ Integer (pos 1) ∷ Boolean true ∷ []) ≡ Ok (bools "F T F") }
+    ensures integer { value_of (op.Replace Flat of.Integer) (ints "4 5 6" ∷ Integer (pos 1) ∷ Integer (pos 0) ∷ [])
+        ≡ Ok (ints "4 0 6") }
+    ensures boolean { value_of (op.Replace Flat of.Boolean) (bools "F F F" ∷ Integer (pos 1) ∷ Boolean true ∷ [])
+        ≡ Ok (bools "F T F") }
     ensures integers_in_segments { value_of (op.Replace Segmented of.Integer)
         (ints "6 7 8 9 5" ∷ ints "0 1" ∷ ints "1 0" ∷ lengths "2 3" ∷ []) ≡ Ok (ints "1 7 8 0 5") }
     ensures booleans_in_segments { value_of (op.Replace Segmented of.Boolean)

@@ -21,7 +21,8 @@ pub fn arguments()
     ensures wrong_kind_before_unknown_name { outcome_on "c = add_wuz 1 q" [] ≡ stops 1 no.WrongKind }
     ensures unknown_name_before_missing_input { outcome_on "c = input q" [] ≡ stops 1 no.UnknownName }
     ensures wrong_kind_before_missing_input { outcome_on "c = input T" [] ≡ stops 1 no.WrongKind }
-    ensures wrong_kind_before_lengths { outcome_on "v = input 1\nd = mke_fov v\nc = sel_wuz d v v" ("1" ∷ []) ≡ stops 3 no.WrongKind }
+    ensures wrong_kind_before_lengths { outcome_on "v = input 1\nd = mke_fov v\nc = sel_wuz d v v" ("1" ∷ [])
+        ≡ stops 3 no.WrongKind }
 {}
 
 /// Where 4,096 names are bound a new one is refused after the arguments are checked and before the call is made. Where
@@ -31,7 +32,8 @@ pub fn too_many_names()
     ensures wrong_kind_first { step_over full "c = not_wuz 1" ≡ Err (fault no.WrongKind) }
     ensures before_missing_input { step_over full "c = input 1" ≡ Err (fault no.TooManyNames) }
     ensures before_lengths { step_over full "c = add_wuz n0000 n0001" ≡ Err (fault no.TooManyNames) }
-    ensures lengths_where_one_name_is_free { step_over (take 4095 full) "c = add_wuz n0000 n0001" ≡ Err (fault no.LengthMismatch) }
+    ensures lengths_where_one_name_is_free { step_over (take 4095 full) "c = add_wuz n0000 n0001"
+        ≡ Err (fault no.LengthMismatch) }
     ensures missing_input_of_a_bound_name { step_over full "n7777 = input 1" ≡ Err (fault no.NoSuchInput) }
     ensures lengths_of_a_bound_name { step_over full "n7777 = add_wuz n0000 n0001" ≡ Err (fault no.LengthMismatch) }
 {}

@@ -23,9 +23,11 @@ pub fn count()
 pub fn pack()
     ensures integers { value_of (op.Pack Flat of.Integer) (ints "1 2 3" ∷ bools "F T T" ∷ []) ≡ Ok (ints "2 3") }
     ensures booleans { value_of (op.Pack Flat of.Boolean) (bools "T F T" ∷ bools "F T T" ∷ []) ≡ Ok (bools "F T") }
-    ensures integers_in_segments { value_of (op.Pack Segmented of.Integer) (ints "1 2 3 4 5" ∷ bools "F T T F T" ∷ lengths "2 0 3" ∷ [])
+    ensures integers_in_segments { value_of (op.Pack Segmented of.Integer)
+        (ints "1 2 3 4 5" ∷ bools "F T T F T" ∷ lengths "2 0 3" ∷ [])
         ≡ Ok (ints "2 3 5") }
-    ensures booleans_in_segments { value_of (op.Pack Segmented of.Boolean) (bools "T F T F T" ∷ bools "T F F T T" ∷ lengths "2 0 3" ∷ [])
+    ensures booleans_in_segments { value_of (op.Pack Segmented of.Boolean)
+        (bools "T F T F T" ∷ bools "T F F T T" ∷ lengths "2 0 3" ∷ [])
         ≡ Ok (bools "T F T") }
     ensures packed_lengths { value_of op.PackedLengths (bools "F T T F T" ∷ lengths "2 0 3" ∷ []) ≡ Ok (lengths "1 0 2") }
 {}

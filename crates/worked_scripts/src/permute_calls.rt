@@ -20,7 +20,8 @@ pub fn simple_permute()
 
 /// The source, the index and, by segments, the descriptor of the source before that of the index.
 pub fn back_permute()
-    ensures integers { value_of (op.Permute Back Flat of.Integer) (ints "10 20 30" ∷ ints "2 2 0 0" ∷ []) ≡ Ok (ints "30 30 10 10") }
+    ensures integers { value_of (op.Permute Back Flat of.Integer) (ints "10 20 30" ∷ ints "2 2 0 0" ∷ [])
+        ≡ Ok (ints "30 30 10 10") }
     ensures booleans { value_of (op.Permute Back Flat of.Boolean) (bools "T F F" ∷ ints "2 0 0 1" ∷ []) ≡ Ok (bools "F T T F") }
     ensures integers_in_segments { value_of (op.Permute Back Segmented of.Integer)
         (ints "1 2 3 4 5" ∷ ints "1 1 1 2" ∷ lengths "2 0 3" ∷ lengths "3 0 1" ∷ []) ≡ Ok (ints "2 2 2 5") }
@@ -49,7 +50,8 @@ pub fn default_permute()
     ensures booleans { value_of (op.Permute Default Flat of.Boolean) (bools "T F" ∷ ints "3 1" ∷ bools "F T F F T" ∷ [])
         ≡ Ok (bools "F F F T T") }
     ensures integers_in_segments { value_of (op.Permute Default Segmented of.Integer)
-        (ints "1 2 3 4 5" ∷ ints "2 0 0 1 2" ∷ ints "0 0 0 9 0 0 0" ∷ lengths "2 0 3" ∷ lengths "3 1 3" ∷ []) ≡ Ok (ints "2 0 1 9 3 4 5") }
+        (ints "1 2 3 4 5" ∷ ints "2 0 0 1 2" ∷ ints "0 0 0 9 0 0 0" ∷ lengths "2 0 3" ∷ lengths "3 1 3" ∷ [])
+        ≡ Ok (ints "2 0 1 9 3 4 5") }
     ensures booleans_in_segments { value_of (op.Permute Default Segmented of.Boolean)
         (bools "T T F T F" ∷ ints "2 0 0 1 2" ∷ bools "F F F T F F F" ∷ lengths "2 0 3" ∷ lengths "3 1 3" ∷ [])
         ≡ Ok (bools "T F T T F T F") }

@@ -16,7 +16,8 @@ pub fn elementwise()
     ensures integers_compared { value_of (op.Compare Less) (ints "1 5" ∷ ints "2 4" ∷ []) ≡ Ok (bools "T F") }
     ensures booleans_with_booleans { value_of (op.Bools2 truth.Ior) (bools "T F F" ∷ bools "F T F" ∷ []) ≡ Ok (bools "T T F") }
     ensures booleans_alone { value_of (op.Bools1 Not) (bools "T F" ∷ []) ≡ Ok (bools "F T") }
-    ensures integers_chosen { value_of (op.Choose of.Integer) (bools "T F T" ∷ ints "1 2 3" ∷ ints "4 5 6" ∷ []) ≡ Ok (ints "1 5 3") }
+    ensures integers_chosen { value_of (op.Choose of.Integer) (bools "T F T" ∷ ints "1 2 3" ∷ ints "4 5 6" ∷ [])
+        ≡ Ok (ints "1 5 3") }
     ensures booleans_chosen { value_of (op.Choose of.Boolean) (bools "T F T F" ∷ bools "T T F F" ∷ bools "F F T T" ∷ [])
         ≡ Ok (bools "T F F T") }
     ensures integers_from_booleans { value_of op.IntFromBool (bools "T F" ∷ []) ≡ Ok (ints "1 0") }

@@ -37,7 +37,9 @@ pub fn fault_in_the_middle()
 /// A name may be bound again, to a value of another kind, and keeps its value where the line that would bind it is
 /// faulty.
 pub fn bound_again()
-    ensures another_kind { outcome_on "a = input 1\nwrite a\na = boo_wuz a\nwrite a\n" ("5 0" ∷ []) ≡ writes "a = [5 0]\na = [T F]\n" }
-    ensures descriptor_and_its_lengths { outcome_on "a = input 1\na = mke_fov a\nwrite a\na = len_fos a\nb = add_wuz a a\nwrite b\n"
+    ensures another_kind { outcome_on "a = input 1\nwrite a\na = boo_wuz a\nwrite a\n" ("5 0" ∷ [])
+        ≡ writes "a = [5 0]\na = [T F]\n" }
+    ensures descriptor_and_its_lengths { outcome_on
+        "a = input 1\na = mke_fov a\nwrite a\na = len_fos a\nb = add_wuz a a\nwrite b\n"
         ("2 0" ∷ []) ≡ writes "a = [2 0]\nb = [4 0]\n" }
 {}

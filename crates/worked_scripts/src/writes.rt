@@ -8,9 +8,11 @@ ghost use Rattle.worked_scripts.specs.Outcomes.{outcome_on, stops, writes};
 pub fn written()
     ensures vector_alone { outcome_on "v = input 1\nwrite v\n" ("5 -1" ∷ []) ≡ writes "v = [5 -1]\n" }
     ensures descriptor_alone { outcome_on "l = input 1\nd = mke_fov l\nwrite d\n" ("2 0 1" ∷ []) ≡ writes "d = [2 0 1]\n" }
-    ensures vector_in_segments { outcome_on "l = input 1\nv = input 2\nd = mke_fov l\nwrite v d\n" ("0 2 0 3 0" ∷ "5 1 7 7 1" ∷ [])
+    ensures vector_in_segments { outcome_on "l = input 1\nv = input 2\nd = mke_fov l\nwrite v d\n"
+        ("0 2 0 3 0" ∷ "5 1 7 7 1" ∷ [])
         ≡ writes "v = [[] [5 1] [] [7 7 1] []]\n" }
-    ensures booleans_in_segments { outcome_on "l = input 1\nv = input 2\nd = mke_fov l\nb = boo_wuz v\nwrite b d\n" ("0 2" ∷ "5 0" ∷ [])
+    ensures booleans_in_segments { outcome_on "l = input 1\nv = input 2\nd = mke_fov l\nb = boo_wuz v\nwrite b d\n"
+        ("0 2" ∷ "5 0" ∷ [])
         ≡ writes "b = [[] [T F]]\n" }
     ensures no_segments { outcome_on "l = input 1\nd = mke_fov l\nwrite l d\nwrite d\n" ("" ∷ []) ≡ writes "l = []\nd = []\n" }
 {}

@@ -3,10 +3,12 @@
 ghost use Rattle.std.specs.Prelude.{◌≡◌, ℤ, []};
 ghost use Rattle.cvl_base.specs.declared.families.BoolBinary.TheVariants as truth;
 ghost use Rattle.cvl_base.specs.declared.families.Comparison.TheVariants.{Greater, Less, AtLeast, AtMost, Equal, Unequal};
-ghost use Rattle.cvl_base.specs.declared.families.IntBinary.TheVariants.{Add, Sub, Mul, Div, Mod, Min, Max, Lsh, Rsh, And, Ior, Xor};
+ghost use Rattle.cvl_base.specs.declared.families.IntBinary.TheVariants.{Add, Sub, Mul, Div, Mod, Min, Max, Lsh, Rsh, And, Ior};
+ghost use Rattle.cvl_base.specs.declared.families.IntBinary.TheVariants.{Xor};
 ghost use Rattle.cvl_base.specs.declared.families.Unary.TheVariants.{Not, Copy};
 ghost use Rattle.cvl_base.specs.declared.fault.FaultNo.TheVariants as no;
-ghost use Rattle.cvl_base.specs.Elementwise.{bools1_of, bools2_of, bools_from_ints, choose_of, compare_of, ints1_of, ints2_of, ints_from_bools};
+ghost use Rattle.cvl_base.specs.Elementwise.{bools1_of, bools2_of, bools_from_ints, choose_of, compare_of, ints1_of, ints2_of};
+ghost use Rattle.cvl_base.specs.Elementwise.{ints_from_bools};
 ghost use Rattle.cvl_base.specs.Faults.{fault_at};
 ghost use Rattle.worked_values.specs.Written.{bools, ints, length_mismatch};
 
@@ -80,8 +82,10 @@ pub fn compare()
     ensures at_most_mismatched { compare_of AtMost (ints "1") (ints "1 2") ≡ Err length_mismatch }
     ensures equal_mismatched { compare_of Equal (ints "1 2") (ints "1") ≡ Err length_mismatch }
     ensures unequal_mismatched { compare_of Unequal (ints "1") (ints "1 2") ≡ Err length_mismatch }
-    ensures greater_at_the_ends { compare_of Greater (ints "-2147483648 2147483647") (ints "2147483647 -2147483648") ≡ Ok (bools "F T") }
-    ensures less_at_the_ends { compare_of Less (ints "-2147483648 2147483647") (ints "2147483647 -2147483648") ≡ Ok (bools "T F") }
+    ensures greater_at_the_ends { compare_of Greater (ints "-2147483648 2147483647") (ints "2147483647 -2147483648")
+        ≡ Ok (bools "F T") }
+    ensures less_at_the_ends { compare_of Less (ints "-2147483648 2147483647") (ints "2147483647 -2147483648")
+        ≡ Ok (bools "T F") }
 {}
 
 /// An operator on two boolean vectors, which are equally long: whether both are true, either, or only one.

@@ -19,7 +19,8 @@ pub fn extract()
     ensures empty_segment { seg_extract_of (ints "1 2 3 4 5") (ints "1 0 2") (lengths "2 0 3") ≡ Err (out_of_range 1) }
     ensures empty_segment_first { seg_extract_of (ints "1 2 3 4 5") (ints "0 1 2") (lengths "0 2 3") ≡ Err (out_of_range 0) }
     ensures empty_segment_last { seg_extract_of (ints "1 2 3 4 5") (ints "1 2 0") (lengths "2 3 0") ≡ Err (out_of_range 2) }
-    ensures empty_segment_of_booleans { seg_extract_of (bools "T F F F T") (ints "0 0 2") (lengths "2 0 3") ≡ Err (out_of_range 1) }
+    ensures empty_segment_of_booleans { seg_extract_of (bools "T F F F T") (ints "0 0 2") (lengths "2 0 3")
+        ≡ Err (out_of_range 1) }
     ensures past_the_end_of_a_segment { seg_extract_of (ints "1 2 3 4 5") (ints "1 3") (lengths "2 3") ≡ Err (out_of_range 1) }
     ensures below_a_segment { seg_extract_of (ints "1 2 3 4 5") (ints "-1 9") (lengths "2 3") ≡ Err (out_of_range 0) }
     ensures shorter_than_segments { seg_extract_of (ints "1 2 3 4") (ints "9 9 9") (lengths "2 0 3") ≡ Err length_mismatch }
@@ -44,21 +45,31 @@ pub fn replace()
     ensures booleans_changed_in_segments { seg_replace_of (bools "F F F F F") (ints "1 0") (bools "T T") (lengths "2 3")
         ≡ Ok (bools "F T T F F") }
     ensures no_segments { seg_replace_of {X = ℤ} [] [] [] [] ≡ Ok [] }
-    ensures empty_segment { seg_replace_of (ints "1 2 3 4 5") (ints "1 0 2") (ints "7 8 9") (lengths "2 0 3") ≡ Err (out_of_range 1) }
+    ensures empty_segment { seg_replace_of (ints "1 2 3 4 5") (ints "1 0 2") (ints "7 8 9") (lengths "2 0 3")
+        ≡ Err (out_of_range 1) }
     ensures empty_segment_of_booleans { seg_replace_of (bools "T F F F T") (ints "0 0 2") (bools "F F F") (lengths "2 0 3")
         ≡ Err (out_of_range 1) }
-    ensures past_the_end_of_a_segment { seg_replace_of (ints "1 2 3 4 5") (ints "0 3") (ints "8 9") (lengths "2 3") ≡ Err (out_of_range 1) }
-    ensures below_a_segment { seg_replace_of (ints "1 2 3 4 5") (ints "-1 9") (ints "8 9") (lengths "2 3") ≡ Err (out_of_range 0) }
-    ensures shorter_than_segments { seg_replace_of (ints "1 2 3 4") (ints "9 9 9") (ints "7 8 9") (lengths "2 0 3") ≡ Err length_mismatch }
+    ensures past_the_end_of_a_segment { seg_replace_of (ints "1 2 3 4 5") (ints "0 3") (ints "8 9") (lengths "2 3")
+        ≡ Err (out_of_range 1) }
+    ensures below_a_segment { seg_replace_of (ints "1 2 3 4 5") (ints "-1 9") (ints "8 9") (lengths "2 3")
+        ≡ Err (out_of_range 0) }
+    ensures shorter_than_segments { seg_replace_of (ints "1 2 3 4") (ints "9 9 9") (ints "7 8 9") (lengths "2 0 3")
+        ≡ Err length_mismatch }
     ensures longer_than_segments { seg_replace_of (ints "1 2 3 4 5 6") (ints "9 9 9") (ints "7 8 9") (lengths "2 0 3")
         ≡ Err length_mismatch }
-    ensures one_index_less { seg_replace_of (ints "1 2 3 4 5") (ints "9 9") (ints "7 8 9") (lengths "2 0 3") ≡ Err length_mismatch }
-    ensures one_index_more { seg_replace_of (ints "1 2 3 4 5") (ints "9 9 9 9") (ints "7 8 9") (lengths "2 0 3") ≡ Err length_mismatch }
-    ensures one_value_less { seg_replace_of (ints "1 2 3 4 5") (ints "9 9 9") (ints "7 8") (lengths "2 0 3") ≡ Err length_mismatch }
-    ensures one_value_more { seg_replace_of (ints "1 2 3 4 5") (ints "9 9 9") (ints "7 8 9 9") (lengths "2 0 3") ≡ Err length_mismatch }
-    ensures one_of_both_less { seg_replace_of (ints "1 2 3 4 5") (ints "9 9") (ints "7 8") (lengths "2 0 3") ≡ Err length_mismatch }
+    ensures one_index_less { seg_replace_of (ints "1 2 3 4 5") (ints "9 9") (ints "7 8 9") (lengths "2 0 3")
+        ≡ Err length_mismatch }
+    ensures one_index_more { seg_replace_of (ints "1 2 3 4 5") (ints "9 9 9 9") (ints "7 8 9") (lengths "2 0 3")
+        ≡ Err length_mismatch }
+    ensures one_value_less { seg_replace_of (ints "1 2 3 4 5") (ints "9 9 9") (ints "7 8") (lengths "2 0 3")
+        ≡ Err length_mismatch }
+    ensures one_value_more { seg_replace_of (ints "1 2 3 4 5") (ints "9 9 9") (ints "7 8 9 9") (lengths "2 0 3")
+        ≡ Err length_mismatch }
+    ensures one_of_both_less { seg_replace_of (ints "1 2 3 4 5") (ints "9 9") (ints "7 8") (lengths "2 0 3")
+        ≡ Err length_mismatch }
     ensures of_nothing { replace_of {X = ℤ} [] (pos 0) (pos 9) ≡ Err (out_of_range 0) }
-    ensures one_of_both_more { seg_replace_of (ints "1 2 3 4 5") (ints "9 9 9 9") (ints "7 8 9 9") (lengths "2 0 3") ≡ Err length_mismatch }
+    ensures one_of_both_more { seg_replace_of (ints "1 2 3 4 5") (ints "9 9 9 9") (ints "7 8 9 9") (lengths "2 0 3")
+        ≡ Err length_mismatch }
     ensures no_value_for_an_empty_segment { seg_replace_of {X = ℤ} [] (ints "0") [] (lengths "0") ≡ Err length_mismatch }
     ensures value_for_no_segment { seg_replace_of [] [] (ints "7") [] ≡ Err length_mismatch }
 {}

@@ -28,11 +28,15 @@ pub fn pack()
     ensures one_flag_more { pack_of (ints "1 2") (bools "F T F") ≡ Err length_mismatch }
     ensures integers_kept_in_segments { seg_pack_of (ints "1 2 3 4 5") (bools "F F T F T") (lengths "2 0 3") ≡ Ok (ints "3 5") }
     ensures kept_nested { nest (lengths "0 0 2") (ints "3 5") ≡ Ok ([] ∷ [] ∷ ints "3 5" ∷ []) }
-    ensures booleans_kept_in_segments { seg_pack_of (bools "T F T F T") (bools "T F F T T") (lengths "2 0 3") ≡ Ok (bools "T F T") }
-    ensures values_shorter_than_segments { seg_pack_of (ints "1 2 3 4") (bools "F F T F T") (lengths "2 0 3") ≡ Err length_mismatch }
-    ensures flags_shorter_than_segments { seg_pack_of (ints "1 2 3 4 5") (bools "F F T F") (lengths "2 0 3") ≡ Err length_mismatch }
+    ensures booleans_kept_in_segments { seg_pack_of (bools "T F T F T") (bools "T F F T T") (lengths "2 0 3")
+        ≡ Ok (bools "T F T") }
+    ensures values_shorter_than_segments { seg_pack_of (ints "1 2 3 4") (bools "F F T F T") (lengths "2 0 3")
+        ≡ Err length_mismatch }
+    ensures flags_shorter_than_segments { seg_pack_of (ints "1 2 3 4 5") (bools "F F T F") (lengths "2 0 3")
+        ≡ Err length_mismatch }
     ensures both_shorter_than_segments { seg_pack_of (ints "1 2 3 4") (bools "F F T F") (lengths "2 0 3") ≡ Err length_mismatch }
-    ensures both_longer_than_segments { seg_pack_of (ints "1 2 3 4 5 6") (bools "F F T F T T") (lengths "2 0 3") ≡ Err length_mismatch }
+    ensures both_longer_than_segments { seg_pack_of (ints "1 2 3 4 5 6") (bools "F F T F T T") (lengths "2 0 3")
+        ≡ Err length_mismatch }
     ensures all_kept { pack_of (ints "1 2") (bools "T T") ≡ Ok (ints "1 2") }
     ensures none_kept { pack_of (ints "1 2") (bools "F F") ≡ Ok [] }
     ensures no_segments { seg_pack_of {X = ℤ} [] [] [] ≡ Ok [] }

@@ -17,21 +17,27 @@ pub fn simple_permute()
     ensures both_outside { simple_of (ints "1 2") (ints "5 5") ≡ Err (out_of_range 0) }
     ensures outside_and_again { simple_of (ints "1") (ints "-1") ≡ Err (out_of_range 0) }
     ensures one_index_short { simple_of (ints "1 2") (ints "5") ≡ Err length_mismatch }
-    ensures integers_sent_in_segments { seg_simple_of (ints "1 2 3 4 5") (ints "1 0 2 0 1") (lengths "2 0 3") ≡ Ok (ints "2 1 4 5 3") }
-    ensures booleans_sent_in_segments { seg_simple_of (bools "T F F T F") (ints "1 0 2 0 1") (lengths "2 0 3") ≡ Ok (bools "F T T F F") }
+    ensures integers_sent_in_segments { seg_simple_of (ints "1 2 3 4 5") (ints "1 0 2 0 1") (lengths "2 0 3")
+        ≡ Ok (ints "2 1 4 5 3") }
+    ensures booleans_sent_in_segments { seg_simple_of (bools "T F F T F") (ints "1 0 2 0 1") (lengths "2 0 3")
+        ≡ Ok (bools "F T T F F") }
     ensures outside_the_segment { seg_simple_of (ints "1 2 3 4 5") (ints "1 2 0 0 1") (lengths "2 0 3") ≡ Err (out_of_range 1) }
     ensures again_in_last_segment { seg_simple_of (ints "1 2 3 4 5") (ints "0 1 1 0 1") (lengths "2 0 3") ≡ Err (repeated 4) }
     ensures first_faulty_segment { seg_simple_of (ints "1 2 3 4 5") (ints "0 0 5 0 1") (lengths "2 0 3") ≡ Err (repeated 1) }
-    ensures index_shorter_than_segments { seg_simple_of (ints "1 2 3 4 5") (ints "9 9 9 9") (lengths "2 0 3") ≡ Err length_mismatch }
-    ensures source_shorter_than_segments { seg_simple_of (ints "1 2 3 4") (ints "9 9 9 9 9") (lengths "2 0 3") ≡ Err length_mismatch }
+    ensures index_shorter_than_segments { seg_simple_of (ints "1 2 3 4 5") (ints "9 9 9 9") (lengths "2 0 3")
+        ≡ Err length_mismatch }
+    ensures source_shorter_than_segments { seg_simple_of (ints "1 2 3 4") (ints "9 9 9 9 9") (lengths "2 0 3")
+        ≡ Err length_mismatch }
     ensures both_shorter_than_segments { seg_simple_of (ints "1 2 3 4") (ints "9 9 9 9") (lengths "2 0 3") ≡ Err length_mismatch }
-    ensures both_longer_than_segments { seg_simple_of (ints "1 2 3 4 5 6") (ints "9 9 9 9 9 9") (lengths "2 0 3") ≡ Err length_mismatch }
+    ensures both_longer_than_segments { seg_simple_of (ints "1 2 3 4 5 6") (ints "9 9 9 9 9 9") (lengths "2 0 3")
+        ≡ Err length_mismatch }
     ensures nothing_sent { simple_of {X = ℤ} [] [] ≡ Ok [] }
     ensures again_before_outside { simple_of (ints "1 2 3") (ints "0 0 5") ≡ Err (repeated 1) }
     ensures outside_at_the_first_place { simple_of (ints "1 2 3") (ints "5 0 0") ≡ Err (out_of_range 0) }
     ensures outside_in_the_first_faulty_segment { seg_simple_of (ints "1 2 3 4 5") (ints "0 2 1 0 1") (lengths "2 0 3")
         ≡ Err (out_of_range 1) }
-    ensures again_before_outside_in_a_segment { seg_simple_of (ints "1 2 3 4 5") (ints "0 1 0 0 5") (lengths "2 0 3") ≡ Err (repeated 3) }
+    ensures again_before_outside_in_a_segment { seg_simple_of (ints "1 2 3 4 5") (ints "0 1 0 0 5") (lengths "2 0 3")
+        ≡ Err (repeated 3) }
     ensures outside_before_again_in_a_segment { seg_simple_of (ints "1 2 3 4 5") (ints "0 1 0 5 0") (lengths "2 0 3")
         ≡ Err (out_of_range 3) }
 {}
@@ -49,14 +55,16 @@ pub fn back_permute()
         ≡ Ok (ints "2 2 2 5") }
     ensures booleans_taken_in_segments { seg_back_of (bools "T F F T F") (ints "1 1 0 1") (lengths "2 0 3") (lengths "3 0 1")
         ≡ Ok (bools "F F T T") }
-    ensures from_empty_segment { seg_back_of (ints "1 2 3 4 5") (ints "0 0") (lengths "2 0 3") (lengths "0 1 1") ≡ Err (out_of_range 0) }
+    ensures from_empty_segment { seg_back_of (ints "1 2 3 4 5") (ints "0 0") (lengths "2 0 3") (lengths "0 1 1")
+        ≡ Err (out_of_range 0) }
     ensures past_the_last_segment { seg_back_of (ints "1 2 3 4 5") (ints "1 1 1 3") (lengths "2 0 3") (lengths "3 0 1")
         ≡ Err (out_of_range 3) }
     ensures source_shorter_than_segments { seg_back_of (ints "1 2 3 4") (ints "9 9 9 9") (lengths "2 0 3") (lengths "3 0 1")
         ≡ Err length_mismatch }
     ensures index_shorter_than_segments { seg_back_of (ints "1 2 3 4 5") (ints "9 9 9") (lengths "2 0 3") (lengths "3 0 1")
         ≡ Err length_mismatch }
-    ensures one_segment_of_the_index_more { seg_back_of (ints "1 2") (ints "0 0") (lengths "1 1") (lengths "1 1 0") ≡ Err length_mismatch }
+    ensures one_segment_of_the_index_more { seg_back_of (ints "1 2") (ints "0 0") (lengths "1 1") (lengths "1 1 0")
+        ≡ Err length_mismatch }
     ensures one_segment_of_the_index_less { seg_back_of (ints "1 2 3 4 5") (ints "9 9 9 9") (lengths "2 0 3") (lengths "3 1")
         ≡ Err length_mismatch }
     ensures below_in_a_segment { seg_back_of (ints "1 2 3 4 5") (ints "1 -1 1 2") (lengths "2 0 3") (lengths "3 0 1")
@@ -77,14 +85,17 @@ pub fn select_permute()
     ensures one_index_short { select_of (ints "1 2 3") (ints "9 9") (bools "T F T") ≡ Err length_mismatch }
     ensures one_flag_short { select_of (ints "1 2 3") (ints "9 9 9") (bools "T F") ≡ Err length_mismatch }
     ensures one_element_short { select_of (ints "1 2") (ints "9 9 9") (bools "T F T") ≡ Err length_mismatch }
-    ensures integers_selected_in_segments { seg_select_of (ints "1 2 3 4 5") (ints "9 0 1 9 0") (bools "F T T F T") (lengths "2 0 3")
+    ensures integers_selected_in_segments { seg_select_of (ints "1 2 3 4 5") (ints "9 0 1 9 0") (bools "F T T F T")
+        (lengths "2 0 3")
         ≡ Ok (ints "2 5 3") }
     ensures selected_nested { nest (lengths "1 0 2") (ints "2 5 3") ≡ Ok (ints "2" ∷ [] ∷ ints "5 3" ∷ []) }
-    ensures booleans_selected_in_segments { seg_select_of (bools "T F F T T") (ints "9 0 1 9 0") (bools "F T T F T") (lengths "2 0 3")
+    ensures booleans_selected_in_segments { seg_select_of (bools "T F F T T") (ints "9 0 1 9 0") (bools "F T T F T")
+        (lengths "2 0 3")
         ≡ Ok (bools "F T F") }
     ensures again_in_last_segment { seg_select_of (ints "1 2 3 4 5") (ints "9 0 1 9 1") (bools "F T T F T") (lengths "2 0 3")
         ≡ Err (repeated 4) }
-    ensures beyond_the_selected_of_a_segment { seg_select_of (ints "1 2 3 4 5") (ints "9 0 0 9 2") (bools "F T T F T") (lengths "2 0 3")
+    ensures beyond_the_selected_of_a_segment { seg_select_of (ints "1 2 3 4 5") (ints "9 0 0 9 2") (bools "F T T F T")
+        (lengths "2 0 3")
         ≡ Err (out_of_range 4) }
     ensures source_shorter_than_segments { seg_select_of (ints "1 2 3 4") (ints "9 9 9 9 9") (bools "F T T F T") (lengths "2 0 3")
         ≡ Err length_mismatch }
@@ -92,19 +103,24 @@ pub fn select_permute()
         ≡ Err length_mismatch }
     ensures flags_shorter_than_segments { seg_select_of (ints "1 2 3 4 5") (ints "9 9 9 9 9") (bools "F T T F") (lengths "2 0 3")
         ≡ Err length_mismatch }
-    ensures all_longer_than_segments { seg_select_of (ints "1 2 3 4 5 6") (ints "9 9 9 9 9 9") (bools "F T T F T T") (lengths "2 0 3")
+    ensures all_longer_than_segments { seg_select_of (ints "1 2 3 4 5 6") (ints "9 9 9 9 9 9") (bools "F T T F T T")
+        (lengths "2 0 3")
         ≡ Err length_mismatch }
     ensures below { select_of (ints "1 2") (ints "-1 -1") (bools "F T") ≡ Err (out_of_range 1) }
     ensures both_outside { select_of (ints "1 2 3") (ints "5 9 5") (bools "T F T") ≡ Err (out_of_range 0) }
     ensures again_before_outside { select_of (ints "1 2 3 4") (ints "0 9 0 7") (bools "T F T T") ≡ Err (repeated 2) }
     ensures outside_before_again { select_of (ints "1 2 3 4") (ints "0 9 7 0") (bools "T F T T") ≡ Err (out_of_range 2) }
-    ensures again_in_the_first_faulty_segment { seg_select_of (ints "1 2 3 4 5") (ints "0 0 9 9 9") (bools "T T F F T") (lengths "2 0 3")
+    ensures again_in_the_first_faulty_segment { seg_select_of (ints "1 2 3 4 5") (ints "0 0 9 9 9") (bools "T T F F T")
+        (lengths "2 0 3")
         ≡ Err (repeated 1) }
-    ensures outside_in_the_first_faulty_segment { seg_select_of (ints "1 2 3 4 5") (ints "2 0 0 9 0") (bools "T T T F T") (lengths "2 0 3")
+    ensures outside_in_the_first_faulty_segment { seg_select_of (ints "1 2 3 4 5") (ints "2 0 0 9 0") (bools "T T T F T")
+        (lengths "2 0 3")
         ≡ Err (out_of_range 0) }
-    ensures again_before_outside_in_a_segment { seg_select_of (ints "1 2 3 4 5") (ints "9 0 0 0 7") (bools "F T T T T") (lengths "2 0 3")
+    ensures again_before_outside_in_a_segment { seg_select_of (ints "1 2 3 4 5") (ints "9 0 0 0 7") (bools "F T T T T")
+        (lengths "2 0 3")
         ≡ Err (repeated 3) }
-    ensures outside_before_again_in_a_segment { seg_select_of (ints "1 2 3 4 5") (ints "9 0 0 7 0") (bools "F T T T T") (lengths "2 0 3")
+    ensures outside_before_again_in_a_segment { seg_select_of (ints "1 2 3 4 5") (ints "9 0 0 7 0") (bools "F T T T T")
+        (lengths "2 0 3")
         ≡ Err (out_of_range 3) }
 {}
 
@@ -117,27 +133,37 @@ pub fn default_permute()
     ensures outside_the_defaults { default_of (ints "7 8") (ints "3 5") (ints "0 0 0 0 0") ≡ Err (out_of_range 1) }
     ensures index_again { default_of (ints "7 8") (ints "3 3") (ints "0 0 0 0 0") ≡ Err (repeated 1) }
     ensures one_index_short { default_of (ints "7 8") (ints "9") (ints "0 0 0 0 0") ≡ Err length_mismatch }
-    ensures integers_sent_in_segments { seg_default_of (ints "1 2 3 4 5") (ints "2 0 0 1 2") (ints "0 0 0 9 0 0 0") (lengths "2 0 3")
+    ensures integers_sent_in_segments { seg_default_of (ints "1 2 3 4 5") (ints "2 0 0 1 2") (ints "0 0 0 9 0 0 0")
+        (lengths "2 0 3")
         (lengths "3 1 3") ≡ Ok (ints "2 0 1 9 3 4 5") }
-    ensures booleans_sent_in_segments { seg_default_of (bools "T T F T F") (ints "2 0 0 1 2") (bools "F F F T F F F") (lengths "2 0 3")
+    ensures booleans_sent_in_segments { seg_default_of (bools "T T F T F") (ints "2 0 0 1 2") (bools "F F F T F F F")
+        (lengths "2 0 3")
         (lengths "3 1 3") ≡ Ok (bools "T F T T F T F") }
-    ensures outside_the_last_segment { seg_default_of (ints "1 2 3 4 5") (ints "2 0 0 1 3") (ints "0 0 0 9 0 0 0") (lengths "2 0 3")
+    ensures outside_the_last_segment { seg_default_of (ints "1 2 3 4 5") (ints "2 0 0 1 3") (ints "0 0 0 9 0 0 0")
+        (lengths "2 0 3")
         (lengths "3 1 3") ≡ Err (out_of_range 4) }
     ensures again_in_last_segment { seg_default_of (ints "1 2 3 4 5") (ints "2 0 0 1 0") (ints "0 0 0 9 0 0 0") (lengths "2 0 3")
         (lengths "3 1 3") ≡ Err (repeated 4) }
-    ensures source_shorter_than_segments { seg_default_of (ints "1 2 3 4") (ints "9 9 9 9 9") (ints "0 0 0 9 0 0 0") (lengths "2 0 3")
+    ensures source_shorter_than_segments { seg_default_of (ints "1 2 3 4") (ints "9 9 9 9 9") (ints "0 0 0 9 0 0 0")
+        (lengths "2 0 3")
         (lengths "3 1 3") ≡ Err length_mismatch }
-    ensures index_shorter_than_segments { seg_default_of (ints "1 2 3 4 5") (ints "9 9 9 9") (ints "0 0 0 9 0 0 0") (lengths "2 0 3")
+    ensures index_shorter_than_segments { seg_default_of (ints "1 2 3 4 5") (ints "9 9 9 9") (ints "0 0 0 9 0 0 0")
+        (lengths "2 0 3")
         (lengths "3 1 3") ≡ Err length_mismatch }
-    ensures both_longer_than_segments { seg_default_of (ints "1 2 3 4 5 6") (ints "9 9 9 9 9 9") (ints "0 0 0 9 0 0 0") (lengths "2 0 3")
+    ensures both_longer_than_segments { seg_default_of (ints "1 2 3 4 5 6") (ints "9 9 9 9 9 9") (ints "0 0 0 9 0 0 0")
+        (lengths "2 0 3")
         (lengths "3 1 3") ≡ Err length_mismatch }
-    ensures defaults_shorter_than_segments { seg_default_of (ints "1 2 3 4 5") (ints "9 9 9 9 9") (ints "0 0 0 9 0 0") (lengths "2 0 3")
+    ensures defaults_shorter_than_segments { seg_default_of (ints "1 2 3 4 5") (ints "9 9 9 9 9") (ints "0 0 0 9 0 0")
+        (lengths "2 0 3")
         (lengths "3 1 3") ≡ Err length_mismatch }
-    ensures defaults_longer_than_segments { seg_default_of (ints "1 2 3 4 5") (ints "9 9 9 9 9") (ints "0 0 0 9 0 0 0 0") (lengths "2 0 3")
+    ensures defaults_longer_than_segments { seg_default_of (ints "1 2 3 4 5") (ints "9 9 9 9 9") (ints "0 0 0 9 0 0 0 0")
+        (lengths "2 0 3")
         (lengths "3 1 3") ≡ Err length_mismatch }
-    ensures one_segment_of_the_defaults_more { seg_default_of (ints "1 2 3 4 5") (ints "9 9 9 9 9") (ints "0 0 0 9 0 0 0") (lengths "2 0 3")
+    ensures one_segment_of_the_defaults_more { seg_default_of (ints "1 2 3 4 5") (ints "9 9 9 9 9") (ints "0 0 0 9 0 0 0")
+        (lengths "2 0 3")
         (lengths "3 1 3 0") ≡ Err length_mismatch }
-    ensures one_segment_of_the_defaults_less { seg_default_of (ints "1 2 3 4 5") (ints "9 9 9 9 9") (ints "0 0 0 9 0 0 0") (lengths "2 0 3")
+    ensures one_segment_of_the_defaults_less { seg_default_of (ints "1 2 3 4 5") (ints "9 9 9 9 9") (ints "0 0 0 9 0 0 0")
+        (lengths "2 0 3")
         (lengths "3 4") ≡ Err length_mismatch }
     ensures below { default_of (ints "7") (ints "-1") (ints "0") ≡ Err (out_of_range 0) }
     ensures sent_into_nothing { default_of (ints "7") (ints "0") [] ≡ Err (out_of_range 0) }
@@ -152,7 +178,8 @@ pub fn default_permute()
         (lengths "2 0 3") (lengths "3 1 3") ≡ Err (repeated 3) }
     ensures outside_before_again_in_a_segment { seg_default_of (ints "1 2 3 4 5") (ints "2 0 0 9 0") (ints "0 0 0 9 0 0 0")
         (lengths "2 0 3") (lengths "3 1 3") ≡ Err (out_of_range 3) }
-    ensures into_an_empty_segment_of_the_defaults { seg_default_of (ints "1 2") (ints "0 0") (ints "5") (lengths "1 1") (lengths "0 1")
+    ensures into_an_empty_segment_of_the_defaults { seg_default_of (ints "1 2") (ints "0 0") (ints "5") (lengths "1 1")
+        (lengths "0 1")
         ≡ Err (out_of_range 0) }
     ensures no_segments { seg_default_of {X = ℤ} [] [] [] [] [] ≡ Ok [] }
     ensures one_empty_segment_of_the_defaults_alone { seg_default_of {X = ℤ} [] [] [] [] (lengths "0") ≡ Err length_mismatch }
@@ -161,8 +188,10 @@ pub fn default_permute()
 /// What is wrong with each destination: one outside is outside also where it comes again, and a place that takes no part is
 /// never wrong and takes no destination.
 pub fn bad_places()
-    ensures outside_and_again { wrongs 2 (Some (pos 5) ∷ Some (pos 5) ∷ []) ≡ Some no.IndexOutOfRange ∷ Some no.IndexOutOfRange ∷ [] }
+    ensures outside_and_again { wrongs 2 (Some (pos 5) ∷ Some (pos 5) ∷ [])
+        ≡ Some no.IndexOutOfRange ∷ Some no.IndexOutOfRange ∷ [] }
     ensures outside_and_again_after_a_good_one { wrongs 2 (Some (pos 0) ∷ Some (negsuc 0) ∷ Some (pos 0) ∷ Some (negsuc 0) ∷ [])
         ≡ None ∷ Some no.IndexOutOfRange ∷ Some no.IndexRepeated ∷ Some no.IndexOutOfRange ∷ [] }
-    ensures taking_no_part { wrongs 2 (None ∷ Some (pos 0) ∷ None ∷ Some (pos 0) ∷ []) ≡ None ∷ None ∷ None ∷ Some no.IndexRepeated ∷ [] }
+    ensures taking_no_part { wrongs 2 (None ∷ Some (pos 0) ∷ None ∷ Some (pos 0) ∷ [])
+        ≡ None ∷ None ∷ None ∷ Some no.IndexRepeated ∷ [] }
 {}

@@ -61,7 +61,8 @@ pub fn bool_reduce()
     ensures any_of_nothing { bool_reduce_of truth.Ior [] ≡ false }
     ensures odd_of_nothing { bool_reduce_of truth.Xor [] ≡ false }
     ensures all_in_segments { bool_seg_reduce_of truth.And (bools "T T T F T") (lengths "2 0 3") ≡ Ok (bools "T T F") }
-    ensures all_but_in_the_first_segment { bool_seg_reduce_of truth.And (bools "T F T T T") (lengths "2 0 3") ≡ Ok (bools "F T T") }
+    ensures all_but_in_the_first_segment { bool_seg_reduce_of truth.And (bools "T F T T T") (lengths "2 0 3")
+        ≡ Ok (bools "F T T") }
     ensures any_in_segments { bool_seg_reduce_of truth.Ior (bools "F T F F F") (lengths "2 0 3") ≡ Ok (bools "T F F") }
     ensures odd_in_segments { bool_seg_reduce_of truth.Xor (bools "T T T T T") (lengths "2 0 3") ≡ Ok (bools "F F T") }
     ensures shorter_than_segments { bool_seg_reduce_of truth.Xor (bools "T F T T") (lengths "2 0 3") ≡ Err length_mismatch }

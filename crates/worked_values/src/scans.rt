@@ -37,9 +37,11 @@ pub fn segmented_scan()
     ensures sums_nested { nest (lengths "0 2 0 3 0") (ints "0 5 0 7 14") ≡ Ok ([] ∷ ints "0 5" ∷ [] ∷ ints "0 7 14" ∷ [] ∷ []) }
     ensures sums_of_two_segments { int_seg_scan_of Add (ints "1 2 3 4 5") (lengths "2 3") ≡ Ok (ints "0 1 0 3 7") }
     ensures sums_of_no_segments { int_seg_scan_of Add [] [] ≡ Ok [] }
-    ensures sums_wrapped { int_seg_scan_of Add (ints "2147483647 1 1 5 6") (lengths "3 0 2") ≡ Ok (ints "0 2147483647 -2147483648 0 5") }
+    ensures sums_wrapped { int_seg_scan_of Add (ints "2147483647 1 1 5 6") (lengths "3 0 2")
+        ≡ Ok (ints "0 2147483647 -2147483648 0 5") }
     ensures products { int_seg_scan_of Mul (ints "2 3 4 5 6") (lengths "2 0 3") ≡ Ok (ints "1 2 1 4 20") }
-    ensures products_wrapped { int_seg_scan_of Mul (ints "2147483647 2 3 5 6") (lengths "3 0 2") ≡ Ok (ints "1 2147483647 -2 1 5") }
+    ensures products_wrapped { int_seg_scan_of Mul (ints "2147483647 2 3 5 6") (lengths "3 0 2")
+        ≡ Ok (ints "1 2147483647 -2 1 5") }
     ensures least { int_seg_scan_of Min (ints "4 -1 3 9 2") (lengths "2 0 3") ≡ Ok (ints "2147483647 4 2147483647 3 3") }
     ensures greatest { int_seg_scan_of Max (ints "4 -1 3 9 2") (lengths "2 0 3") ≡ Ok (ints "-2147483648 4 -2147483648 3 9") }
     ensures common_bits { int_seg_scan_of And (ints "6 3 -4 6 12") (lengths "2 0 3") ≡ Ok (ints "-1 6 -1 -4 4") }

@@ -3,7 +3,8 @@
 ghost use Rattle.std.specs.Prelude.{◌≡◌, pos, negsuc};
 ghost use Rattle.operators.specs.Integers.{sum_of, product_of, lesser_of, greater_of, and_of, ior_of, xor_of, wrap};
 ghost use Rattle.operators.specs.ItemWords.{is_number, same_word};
-ghost use Rattle.operators.specs.NumberLaws.{sum_laws, product_laws, lesser_laws, greater_laws, and_laws, ior_laws, xor_laws, number_words};
+ghost use Rattle.operators.specs.NumberLaws.{sum_laws, product_laws, lesser_laws, greater_laws, and_laws, ior_laws, xor_laws};
+ghost use Rattle.operators.specs.NumberLaws.{number_words};
 
 use crate::integer;
 use crate::operator::{Operator, Packable};
