@@ -44,7 +44,7 @@ def terrain(rng):
     return [kind(i) for i in range(count)]
 
 
-# sorts and histograms
+# histograms and branches
 
 def keys_of(rng, most):
     return [rng.randint(0, most) for _ in range(rng.randint(0, 12))]
