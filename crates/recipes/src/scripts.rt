@@ -15,8 +15,8 @@ y = add_rez p d
 write y
 ";
 
-/// For each place of 1 to 256 altitudes of 0 to 32767 whether an observer at place 0 sees it, bound to `v`; beyond, it may be wrong
-/// without a fault.
+/// For each place of 1 to 256 altitudes of 0 to 32767 whether an observer at place 0 sees it, bound to `v`; beyond, it may be
+/// wrong without a fault.
 ///
 /// Its input is the vector of altitudes. For places i from 1 on, `s` is the slope to place i as the floor of 65536 times the rise
 /// divided by i: subtracting `c` makes the floor of the truncated quotient. Within the range these floors are ordered as the
