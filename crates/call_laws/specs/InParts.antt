@@ -1,10 +1,13 @@
 -- Calls on a vector that comes in parts.
 -- Source: Blelloch, Prefix Sums and Their Applications, 1990: processors sum up their parts, scan the sums, and scan their
 -- parts from there.
-use Rattle.std.specs.Prelude.{ℕ, ◌+◌, List, map, zip, Result}
+use Rattle.std.specs.Prelude.{ℕ, ◌+◌, List, ◌++◌, map, sum, zip, nat_lt, Option, None, option_map, Result, Ok, Err}
 use Rattle.cvl_base.specs.declared.fault.Fault.{Fault}
+use Rattle.cvl_base.specs.declared.fault.FaultNo.TheVariants as no
+use Rattle.cvl_base.specs.Faults.{fault}
 use Rattle.cvl_base.specs.Folds.{scan_of}
-use Rattle.cvl_base.specs.Gives.{◌>>=◌, after}
+use Rattle.cvl_base.specs.Gives.{◌>>=◌, after, fault_if, unless}
+use Rattle.cvl_base.specs.Limits.{most_elements}
 use Rattle.cvl_base.specs.Segmented.{moved}
 
 -- each part's scan from what stands before the part on
@@ -15,3 +18,23 @@ scans_after join befores parts = map (λ p. scan_of join p.0 p.1) (zip befores p
 -- second; the fault is that of the first part, else that of the second, at its place in the whole
 abbrev pub in_two : {X : Type 0} → ℕ → Result (List X) Fault → Result (List X) Fault → Result (List X) Fault
 in_two start first second = first >>= λ done. after done (moved (λ place. start + place) second)
+
+-- the fault of an answer, if it has a place
+abbrev pub placed_fault : {X : Type 0} → Result X Fault → Option Fault
+placed_fault (Ok x) = None
+placed_fault (Err f) = option_map (λ _. f) f.place
+
+-- the descriptor of lengths in two parts, where the second starts at a place of the whole. A negative length is at fault, which has a
+-- place, the first part's before the second's; else the total is, which is both parts' totals added, where it is above the limit
+abbrev pub descriptor_in_two : ℕ → Result (List ℕ) Fault → Result (List ℕ) Fault → Result (List ℕ) Fault
+descriptor_in_two start first second =
+    unless (placed_fault first)
+    (unless (placed_fault (moved (λ place. start + place) second))
+    (first >>= λ lengths. second >>= λ more.
+    fault_if (nat_lt most_elements (sum lengths + sum more)) (fault no.TooLong) (Ok (lengths ++ more))))
+
+-- a replace on a copy in two parts: the first part's where it has the index, beside the second part as it was, else the second part's
+-- behind the first as it was
+abbrev pub replaced_in_two : {X : Type 0} → List X → List X → Result (List X) Fault → Result (List X) Fault → Result (List X) Fault
+replaced_in_two xs ys (Ok changed) second = Ok (changed ++ ys)
+replaced_in_two xs ys (Err f) second = after xs second

@@ -1,6 +1,7 @@
-//! The law of making a descriptor, a function that takes and gives nothing and whose contract is the law.
+//! The laws of making a descriptor, each a function that takes and gives nothing and whose contract is the law.
 
-ghost use Rattle.std.specs.Prelude.{◌≡◌, ◌↔◌, ◌<◌, ◌≤◌, ℕ, ℤ, pos, List, length, map, sum};
+ghost use Rattle.std.specs.Prelude.{◌≡◌, ◌↔◌, ◌<◌, ◌≤◌, ℕ, ℤ, pos, List, ◌++◌, length, map, sum};
+ghost use Rattle.call_laws.specs.InParts.{descriptor_in_two};
 ghost use Rattle.cvl_base.specs.declared.fault.FaultNo.TheVariants as no;
 ghost use Rattle.cvl_base.specs.Descriptors.{AreLengths, IsFirstNegative, descriptor_of};
 ghost use Rattle.cvl_base.specs.Faults.{fault, fault_at};
@@ -15,4 +16,12 @@ pub fn descriptor_law()
         (descriptor_of numbers ≡ Err (fault_at no.NegativeLength k)) ↔ IsFirstNegative numbers k }
     ensures too_long { (numbers : List ℤ) → (descriptor_of numbers ≡ Err (fault no.TooLong))
         ↔ ((sizes : List ℕ) × (numbers ≡ map pos sizes) × (most_elements < sum sizes)) }
+{}
+
+/// A descriptor of lengths that are cut in two is the parts' descriptors one after another, and its total theirs added. The fault is the
+/// first part's negative length, else the second's, moved by the number of the first part's lengths; and where no length is negative,
+/// it is the total where that is above 4,194,304, though each part's own may be in the limit.
+pub fn descriptor_in_parts()
+    ensures { (lengths more : List ℤ) →
+        descriptor_of (lengths ++ more) ≡ descriptor_in_two (length lengths) (descriptor_of lengths) (descriptor_of more) }
 {}

@@ -1,6 +1,8 @@
 //! Laws of single elements, place by place, each a function that takes and gives nothing and whose contract is the law.
 
-ghost use Rattle.std.specs.Prelude.{◌≡◌, ◌≢◌, ◌↔◌, ◌≤◌, ◌<◌, ◌+ℤ◌, ◌*ℤ◌, ℕ, ℤ, pos, negsuc, Some, List, length, slice_get, IsOk};
+ghost use Rattle.std.specs.Prelude.{◌≡◌, ◌≢◌, ◌↔◌, ◌≤◌, ◌<◌, ◌+ℤ◌, ◌-ℤ◌, ◌*ℤ◌, ℕ, ℤ, pos, negsuc, Some, List, ◌++◌, length};
+ghost use Rattle.std.specs.Prelude.{slice_get, IsOk};
+ghost use Rattle.call_laws.specs.InParts.{replaced_in_two};
 ghost use Rattle.cvl_base.specs.declared.fault.FaultNo.TheVariants as no;
 ghost use Rattle.cvl_base.specs.Distributes.{distribute_of, index_of};
 ghost use Rattle.cvl_base.specs.Extracts.{extract_of, replace_of};
@@ -29,6 +31,16 @@ pub fn replace_law<T>()
     ensures negative { (xs : List T) (k : ℕ) (x : T) → replace_of xs (negsuc k) x ≡ Err (fault_at no.IndexOutOfRange 0) }
     ensures read_back { (xs : List T) (index : ℤ) (x : T) (result : List T) → replace_of xs index x ≡ Ok result →
         extract_of result index ≡ Ok x }
+{}
+
+/// A replace on a copy that is cut in two is the replace on the part that has the index, beside the other part as it was. In the second
+/// part the index is less by the first part's length. The fault, 10 at 0, comes exactly where neither part has the index.
+pub fn replace_in_parts<T>()
+    ensures copy { (xs ys : List T) (index : ℤ) (x : T) →
+        replace_of (xs ++ ys) index x ≡ replaced_in_two xs ys (replace_of xs index x) (replace_of ys (index -ℤ pos (length xs)) x) }
+    ensures in_neither { (xs ys : List T) (index : ℤ) (x : T) → (replace_of (xs ++ ys) index x ≡ Err (fault_at no.IndexOutOfRange 0))
+        ↔ ((replace_of xs index x ≡ Err (fault_at no.IndexOutOfRange 0))
+        × (replace_of ys (index -ℤ pos (length xs)) x ≡ Err (fault_at no.IndexOutOfRange 0))) }
 {}
 
 /// A distribute gives the one vector, as long as the count, with the value at each place; an index the one with its start

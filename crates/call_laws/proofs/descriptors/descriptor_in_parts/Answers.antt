@@ -1,0 +1,64 @@
+use Rattle.call_laws.proofs.Cited.{◌≡◌, ◌+◌, ◌∷◌, ◌++◌, ◌∙◌, ℕ, Bool, true, false, ℤ, List, [], length, map, sum, refl, ap, arith, Some, None, Ok, Option, Result, cond, nat_lt}
+use Rattle.call_laws.proofs.Cited.{option_map, lt-ltb, ltb-true, map-append, sum_by-append, fault, fault_at, unless, fault_if, most_elements}
+use Rattle.std.proofs.Common.{unsigned_abs}
+use Rattle.std.specs.Prelude.{position}
+use Rattle.std.specs.Int.{is_negative}
+use Rattle.std.specs.List.{position_from}
+use Rattle.std.proofs.lemmas.Iterator.Adapters.{position_from-zero}
+use Rattle.cvl_base.specs.declared.fault.Fault.{Fault}
+use Rattle.cvl_base.specs.declared.fault.FaultNo.TheVariants as no
+use Rattle.call_laws.specs.InParts.{descriptor_in_two}
+use Rattle.call_laws.proofs.descriptors.descriptor_in_parts.Goals as goal
+
+-- ---- where the first negative length stands
+
+abbrev or-else : Option ℕ → Option ℕ → Option ℕ
+or-else (Some k) other = Some k
+or-else None other = other
+
+module _ (test : ℤ → Bool) where
+  from-later : (n i : ℕ) (ys : List ℤ) → position_from test (n + i) ys ≡ option_map (λ k. n + k) (position_from test i ys)
+  from-later n i [] = refl
+  from-later n i (y ∷ ys) = by (test y) (ap (λ m. position_from test m ys) (omega arith) ∙ from-later n (i + 1) ys)
+    where
+      by : (b : Bool) → position_from test (n + i + 1) ys ≡ option_map (λ k. n + k) (position_from test (i + 1) ys)
+          → cond b (Some (n + i)) (position_from test (n + i + 1) ys) ≡ option_map (λ k. n + k) (cond b (Some i) (position_from test (i + 1) ys))
+      by true rest = refl
+      by false rest = rest
+
+  from-two : (i : ℕ) (xs ys : List ℤ) → position_from test i (xs ++ ys) ≡ or-else (position_from test i xs) (position_from test (i + length xs) ys)
+  from-two i [] ys = ap (λ m. position_from test m ys) (omega arith)
+  from-two i (x ∷ xs) ys =
+      by (test x) (from-two (i + 1) xs ys ∙ ap (λ m. or-else (position_from test (i + 1) xs) (position_from test m ys)) (omega arith))
+    where
+      by : (b : Bool) → position_from test (i + 1) (xs ++ ys) ≡ or-else (position_from test (i + 1) xs) (position_from test (i + length (x ∷ xs)) ys)
+          → cond b (Some i) (position_from test (i + 1) (xs ++ ys)) ≡ or-else (cond b (Some i) (position_from test (i + 1) xs)) (position_from test (i + length (x ∷ xs)) ys)
+      by true rest = refl
+      by false rest = rest
+
+  position-two : (xs ys : List ℤ) → position test (xs ++ ys) ≡ or-else (position test xs) (option_map (λ k. length xs + k) (position test ys))
+  position-two xs ys =
+      let at : 0 + length xs ≡ length xs + 0 = omega arith in
+      position_from-zero test (xs ++ ys) ∙ from-two 0 xs ys
+      ∙ rw (at, from-later (length xs) 0 ys, ← position_from-zero test xs, ← position_from-zero test ys)
+
+-- ---- the definition, at the places of negative lengths and whether the totals are above the limit
+
+abbrev make : Option ℕ → Bool → List ℕ → Result (List ℕ) Fault
+make place above sizes = unless (option_map (fault_at no.NegativeLength) place) (fault_if above (fault no.TooLong) (Ok sizes))
+
+two : (start : ℕ) (p q : Option ℕ) (first second : List ℕ) (above also_above : Bool) → nat_lt most_elements (sum first) ≡ above → nat_lt most_elements (sum second) ≡ also_above
+    → make (or-else p (option_map (λ k. start + k) q)) (nat_lt most_elements (sum first + sum second)) (first ++ second)
+    ≡ descriptor_in_two start (make p above first) (make q also_above second)
+two start (Some k) q first second above also_above e f = refl
+two start None (Some k) first second true also_above e f = refl
+two start None (Some k) first second false also_above e f = refl
+two start None None first second true true e f = rw (lt-ltb most_elements (sum first + sum second) (omega (arith, ltb-true most_elements (sum first) e)))
+two start None None first second true false e f = rw (lt-ltb most_elements (sum first + sum second) (omega (arith, ltb-true most_elements (sum first) e)))
+two start None None first second false true e f = rw (lt-ltb most_elements (sum first + sum second) (omega (arith, ltb-true most_elements (sum second) f)))
+two start None None first second false false e f = refl
+
+pub returns : goal.returns
+returns c = λ lengths more.
+    rw (position-two is_negative lengths more, map-append unsigned_abs lengths more, sum_by-append (λ n. n) (map unsigned_abs lengths) (map unsigned_abs more))
+    (two (length lengths) (position is_negative lengths) (position is_negative more) (map unsigned_abs lengths) (map unsigned_abs more) _ _ refl refl)
