@@ -17,6 +17,7 @@ use crate::overflows::scan_or_overflow;
 use crate::segment_sums::{before_tiles, sums_known};
 use crate::summed_tile::summed_tile;
 use crate::tile_totals::{Totals, race_for_totals};
+use crew::{Gate, OpenGate};
 use cvl_base::{Config, Fault, FaultNo, Memory, Refused};
 use scan_walks::{
     checked_scan_vec, checked_seg_reduce_vec, checked_seg_scan_vec, checked_sum, fitting,
@@ -40,11 +41,28 @@ pub fn checked_scan<R: Threads + Sync, A: Memory>(
     ensures values { Gives (λ sums. sums.items) result (checked_scan_of a.now) }
     ensures as_long { IfOk result (λ sums. vec_len sums ≡ length a.now) }
 {
+    checked_scan_gated(rt, alloc, config, a, &OpenGate)
+}
+
+/// The same as [`checked_scan`], by workers that pass a gate. They race on two boards, one after the other: for what stands before
+/// each tile, at which they pass all four points, and for the first tile with a result that does not fit, at which they pass `Claimed`
+/// and `Finished`.
+pub fn checked_scan_gated<R: Threads + Sync, A: Memory, G: Gate>(
+    rt: &R,
+    alloc: A,
+    config: Config,
+    a: &[i32],
+    gate: &G,
+) -> Result<Vec<i32, A>, Refused>
+    requires in_limit { length a.now ≤ most_elements }
+    ensures values { Gives (λ sums. sums.items) result (checked_scan_of a.now) }
+    ensures as_long { IfOk result (λ sums. vec_len sums ≡ length a.now) }
+{
     let Some(pace) = scan_pace(config, a.len()) else {
         return checked_scan_vec(alloc, a);
     };
     let totals = Totals::<A>::new(a, None, pace.tile());
-    scan_or_overflow(rt, alloc, pace, &totals)
+    scan_or_overflow(rt, alloc, pace, &totals, gate)
 }
 
 /// The sum of all elements, which never wraps: `tot_ruz`.
@@ -60,11 +78,25 @@ pub fn checked_reduce<R: Threads + Sync, A: Memory>(
     requires in_limit { length a.now ≤ most_elements }
     ensures { Gives (λ sum. sum) result (checked_reduce_of a.now) }
 {
+    checked_reduce_gated(rt, alloc, config, a, &OpenGate)
+}
+
+/// The same as [`checked_reduce`], by workers that pass a gate at each of the four points of a tile, on one board.
+pub fn checked_reduce_gated<R: Threads + Sync, A: Memory, G: Gate>(
+    rt: &R,
+    alloc: A,
+    config: Config,
+    a: &[i32],
+    gate: &G,
+) -> Result<i32, Refused>
+    requires in_limit { length a.now ≤ most_elements }
+    ensures { Gives (λ sum. sum) result (checked_reduce_of a.now) }
+{
     let Some(pace) = reduce_pace(config, a.len(), size_of_val(a)) else {
         return Ok(checked_sum(a)?);
     };
     let totals = Totals::<A>::new(a, None, pace.tile());
-    let before = race_for_totals(rt, alloc, pace, &totals)?;
+    let before = race_for_totals(rt, alloc, pace, &totals, gate)?;
     let sum = totals.total_between(0, a.len(), &before);
     match fitting(&sum) {
         Some(sum) => Ok(sum),
@@ -87,12 +119,27 @@ pub fn checked_seg_scan<R: Threads + Sync, A: Memory>(
     ensures values { Gives (λ sums. sums.items) result (checked_seg_scan_of a.now d.now) }
     ensures as_long { IfOk result (λ sums. vec_len sums ≡ length a.now) }
 {
+    checked_seg_scan_gated(rt, alloc, config, a, d, &OpenGate)
+}
+
+/// The same as [`checked_seg_scan`], by workers that pass a gate, on the two boards of [`checked_scan_gated`].
+pub fn checked_seg_scan_gated<R: Threads + Sync, A: Memory, G: Gate>(
+    rt: &R,
+    alloc: A,
+    config: Config,
+    a: &[i32],
+    d: &SegDes<A>,
+    gate: &G,
+) -> Result<Vec<i32, A>, Refused>
+    ensures values { Gives (λ sums. sums.items) result (checked_seg_scan_of a.now d.now) }
+    ensures as_long { IfOk result (λ sums. vec_len sums ≡ length a.now) }
+{
     check_total(a, d)?;
     let Some(pace) = scan_pace(config, a.len()) else {
         return checked_seg_scan_vec(alloc, a, d);
     };
     let totals = Totals::new(a, Some(d), pace.tile());
-    scan_or_overflow(rt, alloc, pace, &totals)
+    scan_or_overflow(rt, alloc, pace, &totals, gate)
 }
 
 /// The sum of each segment, which never wraps: `tot_rez`.
@@ -110,12 +157,28 @@ pub fn checked_seg_reduce<R: Threads + Sync, A: Memory>(
     ensures values { Gives (λ sums. sums.items) result (checked_seg_reduce_of a.now d.now) }
     ensures one_each { IfOk result (λ sums. vec_len sums ≡ length d.now) }
 {
+    checked_seg_reduce_gated(rt, alloc, config, a, d, &OpenGate)
+}
+
+/// The same as [`checked_seg_reduce`], by workers that pass a gate at each of the four points of a tile, on one board. Where each
+/// thread has whole segments, which it has in long tiles alone, there is no race, and nobody passes the gate.
+pub fn checked_seg_reduce_gated<R: Threads + Sync, A: Memory, G: Gate>(
+    rt: &R,
+    alloc: A,
+    config: Config,
+    a: &[i32],
+    d: &SegDes<A>,
+    gate: &G,
+) -> Result<Vec<i32, A>, Refused>
+    ensures values { Gives (λ sums. sums.items) result (checked_seg_reduce_of a.now d.now) }
+    ensures one_each { IfOk result (λ sums. vec_len sums ≡ length d.now) }
+{
     check_total(a, d)?;
     let Some(pace) = reduce_pace(config, a.len(), size_of_val(a)) else {
         return checked_seg_reduce_vec(alloc, a, &d.as_lengths());
     };
     let totals = Totals::new(a, Some(d), summed_tile(pace, d));
-    let before = before_tiles(rt, alloc, pace, &totals)?;
+    let before = before_tiles(rt, alloc, pace, &totals, gate)?;
     let threads = pace.threads_writing(a.len().max(d.count()));
     sums_known(rt, alloc, threads, &totals, d, &before)
 }

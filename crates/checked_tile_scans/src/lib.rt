@@ -12,4 +12,7 @@ mod segment_sums;
 mod summed_tile;
 mod tile_totals;
 
-pub use checked::{checked_reduce, checked_scan, checked_seg_reduce, checked_seg_scan};
+pub use checked::{
+    checked_reduce, checked_reduce_gated, checked_scan, checked_scan_gated, checked_seg_reduce,
+    checked_seg_reduce_gated, checked_seg_scan, checked_seg_scan_gated,
+};

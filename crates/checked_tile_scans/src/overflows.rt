@@ -12,7 +12,7 @@ ghost use Rattle.checked_tile_scans.specs.Checked.{first_outside, total_scan, to
 
 use crate::tile_totals::{Totals, race_for_totals};
 use boards::Targets;
-use crew::OpenGate;
+use crew::Gate;
 use cvl_base::monoids::Add;
 use cvl_base::{Fault, FaultNo, Memory, NoResources, Packed, Refused};
 use least_races::race_for_least;
@@ -78,13 +78,15 @@ impl<'a, A: Allocator> Targets for Outside<'a, A> {
 }
 
 /// The place of the first result that does not fit 32 bits, where it is known what stands before each tile. Workers race for
-/// the first tile that has such a result; then one thread walks that tile again.
-fn first_overflow<R: Threads + Sync, A: Memory>(
+/// the first tile that has such a result, and pass the gate at `Claimed` and `Finished` of each tile; then one thread walks that
+/// tile again.
+fn first_overflow<R: Threads + Sync, A: Memory, G: Gate>(
     rt: &R,
     alloc: A,
     pace: Pace,
     vector: &Totals<A>,
     before: &[i64],
+    gate: &G,
 ) -> Result<Option<u32>, NoResources>
     requires { before.now
         ≡ totals_before vector.now.plan (flagged (option_copied vector.now.segments) vector.now.elements.now) }
@@ -92,7 +94,7 @@ fn first_overflow<R: Threads + Sync, A: Memory>(
         ≡ first_outside (total_scan (flagged (option_copied vector.now.segments) vector.now.elements.now))) }
 {
     let outside = Outside { vector, before };
-    match race_for_least(rt, alloc, pace.place_by_place(), &outside, &OpenGate)? {
+    match race_for_least(rt, alloc, pace.place_by_place(), &outside, gate)? {
         Some(t) => Ok(outside.place_in(t)),
         None => Ok(None),
     }
@@ -106,12 +108,14 @@ fn wrapped<A: Allocator>(alloc: A, numbers: &[i64]) -> Result<Vec<i32, A>, NoRes
 }
 
 /// The checked scan of a vector in tiles of the pace's length. It is written once it is known that all results fit 32 bits:
-/// `Overflow` at the first one that does not.
-pub(crate) fn scan_or_overflow<R: Threads + Sync, A: Memory>(
+/// `Overflow` at the first one that does not. The workers pass the gate on two boards, that of the scan and then that of the least
+/// tile.
+pub(crate) fn scan_or_overflow<R: Threads + Sync, A: Memory, G: Gate>(
     rt: &R,
     alloc: A,
     pace: Pace,
     vector: &Totals<A>,
+    gate: &G,
 ) -> Result<Vec<i32, A>, Refused>
     requires { vector.now.plan.1 ≡ pace.0 }
     ensures values { Gives (λ sums. sums.items) result (values_from no.Overflow 0 (map fitting
@@ -119,8 +123,8 @@ pub(crate) fn scan_or_overflow<R: Threads + Sync, A: Memory>(
     ensures as_long { IfOk result (λ sums. vec_len sums ≡ length vector.now.elements.now) }
 {
     let before = {
-        let totals = race_for_totals(rt, alloc, pace, vector)?;
-        if let Some(place) = first_overflow(rt, alloc, pace, vector, &totals)? {
+        let totals = race_for_totals(rt, alloc, pace, vector, gate)?;
+        if let Some(place) = first_overflow(rt, alloc, pace, vector, &totals, gate)? {
             return Err(Refused::Fault(Fault::at(FaultNo::Overflow, place)));
         }
         wrapped(alloc, &totals)?

@@ -11,12 +11,13 @@ ghost use Rattle.tile_scans.specs.TiledSums.{flagged};
 ghost use Rattle.checked_tile_scans.specs.Checked.{segment_totals, totals_before};
 
 use crate::tile_totals::{Totals, race_for_totals};
+use crew::Gate;
 use cvl_base::monoids::Add;
 use cvl_base::{Fault, FaultNo, Memory, NoResources, Packed, Refused};
 use fresh::{CheckedWriter, Run, first_found, write_checked_in_runs};
 use scan_walks::fitting;
 use segdes::SegDes;
-use sharing::{Pace, ThreadCount};
+use sharing::{LONG_TILE, Pace, ThreadCount};
 use std::alloc::Allocator;
 use std::thread::Threads;
 
@@ -40,20 +41,22 @@ fn nothing_before<A: Memory>(alloc: A) -> Result<Vec<i64, A>, NoResources>
     Ok(before)
 }
 
-/// What stands before each tile. Workers race for it; for one tile no thread is started, and no element is read.
-pub(crate) fn before_tiles<R: Threads + Sync, A: Memory>(
+/// What stands before each tile. Workers race for it, and pass the gate; for one long tile no thread is started, no element is read,
+/// and nobody passes the gate.
+pub(crate) fn before_tiles<R: Threads + Sync, A: Memory, G: Gate>(
     rt: &R,
     alloc: A,
     pace: Pace,
     vector: &Totals<A>,
+    gate: &G,
 ) -> Result<Vec<i64, A>, NoResources>
     ensures { IfOk result (λ before. before.items
         ≡ totals_before vector.now.plan (flagged (option_copied vector.now.segments) vector.now.elements.now)) }
 {
-    if vector.plan.count() == 1 {
+    if pace.tile() >= LONG_TILE && vector.plan.count() == 1 {
         return nothing_before(alloc);
     }
-    race_for_totals(rt, alloc, pace, vector)
+    race_for_totals(rt, alloc, pace, vector, gate)
 }
 
 /// The sums of the segments, where it is known what stands before each tile. At most so many threads write them. `Overflow` at

@@ -9,7 +9,7 @@ ghost use Rattle.tile_scans.specs.TiledSums.{elements_of, flagged};
 ghost use Rattle.checked_tile_scans.specs.Checked.{totals_before};
 
 use boards::Tiles;
-use crew::OpenGate;
+use crew::Gate;
 use cvl_base::monoids::Exact;
 use cvl_base::{Memory, NoResources};
 use scan_walks::{fitting_of_range, fitting_of_scan, know_numbers, total, total_of_range};
@@ -137,19 +137,20 @@ impl<'a, A: Allocator> Tiles for Totals<'a, A> {
     }
 }
 
-/// What stands before each tile of a vector. Workers race for the tiles, and tell their sums and their prefixes. It keeps no
-/// memory but the answer's, which takes 8 bytes a tile.
+/// What stands before each tile of a vector. Workers race for the tiles, tell their sums and their prefixes, and pass the gate at
+/// each of the four points of a tile. It keeps no memory but the answer's, which takes 8 bytes a tile.
 ///
 /// Source: Merrill and Garland's decoupled look-back.
-pub(crate) fn race_for_totals<R: Threads + Sync, A: Memory>(
+pub(crate) fn race_for_totals<R: Threads + Sync, A: Memory, G: Gate>(
     rt: &R,
     alloc: A,
     pace: Pace,
     vector: &Totals<A>,
+    gate: &G,
 ) -> Result<Vec<i64, A>, NoResources>
     ensures { IfOk result (λ before. before.items
         ≡ totals_before vector.now.plan (flagged (option_copied vector.now.segments) vector.now.elements.now)) }
 {
-    let before = race_for_befores(rt, alloc, pace, vector, &OpenGate)?;
+    let before = race_for_befores(rt, alloc, pace, vector, gate)?;
     Ok(before)
 }

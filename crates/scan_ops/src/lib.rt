@@ -8,7 +8,10 @@ pub use bools::{
     bool_reduce, bool_reduce_gated, bool_scan, bool_scan_gated, seg_bool_reduce,
     seg_bool_reduce_gated, seg_bool_scan, seg_bool_scan_gated,
 };
-pub use checked_tile_scans::{checked_reduce, checked_scan, checked_seg_reduce, checked_seg_scan};
+pub use checked_tile_scans::{
+    checked_reduce, checked_reduce_gated, checked_scan, checked_scan_gated, checked_seg_reduce,
+    checked_seg_reduce_gated, checked_seg_scan, checked_seg_scan_gated,
+};
 pub use ints::{
     int_reduce, int_reduce_gated, int_scan, int_scan_gated, seg_int_reduce, seg_int_reduce_gated,
     seg_int_scan, seg_int_scan_gated,

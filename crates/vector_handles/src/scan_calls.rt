@@ -10,9 +10,9 @@ use bound_names::Bound;
 use crew::Gate;
 use cvl_base::{BoolBinary, Cut, IntMonoid, Memory, Value};
 use scan_ops::{
-    bool_reduce_gated, bool_scan_gated, checked_reduce, checked_scan, checked_seg_reduce,
-    checked_seg_scan, int_reduce_gated, int_scan_gated, seg_bool_reduce_gated, seg_bool_scan_gated,
-    seg_int_reduce_gated, seg_int_scan_gated,
+    bool_reduce_gated, bool_scan_gated, checked_reduce_gated, checked_scan_gated,
+    checked_seg_reduce_gated, checked_seg_scan_gated, int_reduce_gated, int_scan_gated,
+    seg_bool_reduce_gated, seg_bool_scan_gated, seg_int_reduce_gated, seg_int_scan_gated,
 };
 use std::thread::Threads;
 
@@ -94,23 +94,23 @@ impl<R: Threads + Sync, A: Memory> Asked<'_, R, A> {
     }
 
     /// A scan of an integer vector by sums that don't wrap.
-    pub(crate) fn checked_scan(&self, cut: Cut) -> Answer<A>
+    pub(crate) fn checked_scan<G: Gate>(&self, cut: Cut, gate: &G) -> Answer<A>
         requires kinds { AreTaken (op.CheckedScan cut) self.now.operands }
         ensures { IsTableValue self.now.inputs.now (op.CheckedScan cut) self.now.operands result }
     {
         let (rt, alloc, config) = (self.rt, self.alloc, self.config);
         let a = self.operands.first.integers();
         match cut {
-            Cut::Flat => bound_integers(checked_scan(rt, alloc, config, a)),
+            Cut::Flat => bound_integers(checked_scan_gated(rt, alloc, config, a, gate)),
             Cut::Segmented => {
                 let d = self.operands.second.descriptor();
-                bound_integers(checked_seg_scan(rt, alloc, config, a, d))
+                bound_integers(checked_seg_scan_gated(rt, alloc, config, a, d, gate))
             }
         }
     }
 
     /// The sum of an integer vector that doesn't wrap: one integer, or one for each segment.
-    pub(crate) fn checked_reduce(&self, cut: Cut) -> Answer<A>
+    pub(crate) fn checked_reduce<G: Gate>(&self, cut: Cut, gate: &G) -> Answer<A>
         requires kinds { AreTaken (op.CheckedReduce cut) self.now.operands }
         ensures { IsTableValue self.now.inputs.now (op.CheckedReduce cut) self.now.operands result }
     {
@@ -118,12 +118,12 @@ impl<R: Threads + Sync, A: Memory> Asked<'_, R, A> {
         let a = self.operands.first.integers();
         match cut {
             Cut::Flat => {
-                let sum = checked_reduce(rt, alloc, config, a)?;
+                let sum = checked_reduce_gated(rt, alloc, config, a, gate)?;
                 Ok(Bound::of_value(Value::Integer(sum)))
             }
             Cut::Segmented => {
                 let d = self.operands.second.descriptor();
-                bound_integers(checked_seg_reduce(rt, alloc, config, a, d))
+                bound_integers(checked_seg_reduce_gated(rt, alloc, config, a, d, gate))
             }
         }
     }

@@ -2,7 +2,7 @@ use Rattle.checked_tile_scans.proofs.Cited.{◌∙◌, ℤ, List, map, sym, ap, 
 use Rattle.cvl_base.specs.declared.fault.FaultNo.TheVariants.{Overflow}
 use Rattle.scan_walks.proofs.Valued.{sums_valued}
 use Rattle.checked_tile_scans.specs.Checked.{segment_totals}
-use Rattle.checked_tile_scans.proofs.checked.checked_seg_reduce.Goals as goal
+use Rattle.checked_tile_scans.proofs.checked.checked_seg_reduce_gated.Goals as goal
 
 pub returns-clause-values : goal.returns-clause-values
 returns-clause-values g c =

@@ -3,7 +3,7 @@ use Rattle.cvl_base.specs.declared.fault.FaultNo.TheVariants.{Overflow}
 use Rattle.scan_walks.proofs.Cut.{segments_scanned}
 use Rattle.scan_walks.proofs.Valued.{scans_valued}
 use Rattle.checked_tile_scans.specs.Checked.{total_scan}
-use Rattle.checked_tile_scans.proofs.checked.checked_seg_scan.Goals as goal
+use Rattle.checked_tile_scans.proofs.checked.checked_seg_scan_gated.Goals as goal
 
 pub returns-clause-values : goal.returns-clause-values
 returns-clause-values g c =
