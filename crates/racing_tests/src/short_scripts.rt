@@ -37,7 +37,8 @@ f = boo_wuz a
 t = add_wuz o o
 ";
 
-/// A call on four places, what its workers race for, and what is written of its value, or its fault.
+/// A call on four places, behind the call that makes them where no name has them, what its workers race for, and what is written of
+/// its value, or its fault.
 const CALLS: &[(&str, Race, &str)] = &[
     ("add_suz a", SCAN, "b = [0 3 4 11]\n"),
     ("add_sez a d", SCAN, "b = [0 0 1 8]\n"),
@@ -47,6 +48,30 @@ const CALLS: &[(&str, Race, &str)] = &[
     ("xor_seb f d", SCAN, "b = [F F T F]\n"),
     ("xor_rub f", SCAN, "b = T\n"),
     ("xor_reb f d", SCAN, "b = [T F F]\n"),
+    ("tot_suz a", Race::ScanThenLeast, "b = [0 3 4 11]\n"),
+    ("tot_sez a d", Race::ScanThenLeast, "b = [0 0 1 8]\n"),
+    ("tot_ruz a", SCAN, "b = 11\n"),
+    ("tot_rez a d", SCAN, "b = [3 0 8]\n"),
+    (
+        "dis_vuz 2147483647 4\nb = tot_suz b",
+        Race::ScanThenLeast,
+        "line 16: fault 18 Overflow at 2\n",
+    ),
+    (
+        "dis_vuz 2147483647 4\nb = tot_sez b d",
+        Race::ScanThenLeast,
+        "line 16: fault 18 Overflow at 3\n",
+    ),
+    (
+        "dis_vuz 2147483647 4\nb = tot_ruz b",
+        SCAN,
+        "line 16: fault 18 Overflow at 0\n",
+    ),
+    (
+        "dis_vuz 2147483647 4\nb = tot_rez b d",
+        SCAN,
+        "line 16: fault 18 Overflow at 2\n",
+    ),
     ("div_wuz a o", ONE, "b = [3 1 7 0]\n"),
     ("div_wuz o a", ONE, "line 15: fault 8 DivideByZero at 3\n"),
     ("mod_wuz a t", ONE, "b = [1 1 1 0]\n"),

@@ -15,5 +15,5 @@
 mod points;
 mod watch;
 
-pub use points::{Holds, Race, place_of};
+pub use points::{Board, Holds, Race, place_of};
 pub use watch::Watch;

@@ -11,34 +11,62 @@ pub enum Race {
     Scan,
     /// Least places, on so many boards one after another. At each tile they pass `Claimed` and `Finished`.
     Leasts(u32),
+    /// The tiles of a scan, and then the first of these tiles that has something, on a board of their numbers: a scan that never wraps.
+    ScanThenLeast,
+}
+
+/// One of the boards on which the tiles are given out, one after another.
+#[derive(Clone, Copy)]
+pub struct Board {
+    /// How many boards come before it, and how many points there are at a tile on these.
+    pub boards_before: u64,
+    pub points_before: u64,
+    /// How many points there are at a tile.
+    pub points: u64,
+}
+
+impl Board {
+    /// Which of the points at a tile this is, counted from 0, or none where it isn't one of them.
+    pub fn number(self, point: Point) -> Option<u64> {
+        match (self.points, point) {
+            (4, _) => Some(place_of(point).1),
+            (_, Point::Claimed(_)) => Some(0),
+            (_, Point::Finished(_)) => Some(1),
+            _ => None,
+        }
+    }
 }
 
 impl Race {
-    /// On how many boards the tiles are given out, one after another.
-    pub fn boards(self) -> u32 {
-        match self {
-            Race::Scan => 1,
-            Race::Leasts(boards) => boards,
-        }
-    }
-
-    /// How many points there are at a tile.
-    pub fn points(self) -> u64
-        ensures { 1 ≤ result }
-    {
+    /// How many points there are at a tile, on all boards.
+    pub fn points(self) -> u64 {
         match self {
             Race::Scan => 4,
-            Race::Leasts(_) => 2,
+            Race::Leasts(boards) => u64::from(boards).wrapping_mul(2),
+            Race::ScanThenLeast => 6,
         }
     }
 
-    /// Which of the points at a tile this is, counted from 0, or none where it isn't one of them.
-    pub fn number(self, point: Point) -> Option<u64> {
-        match (self, point) {
-            (Race::Scan, _) => Some(place_of(point).1),
-            (Race::Leasts(_), Point::Claimed(_)) => Some(0),
-            (Race::Leasts(_), Point::Finished(_)) => Some(1),
-            (Race::Leasts(_), _) => None,
+    /// The board that has a tile's next point, where so many of its points were passed.
+    pub fn board(self, passed: u64) -> Board
+        ensures { 1 ≤ result.points }
+    {
+        let scans = match self {
+            Race::Leasts(_) => 0,
+            _ => 1,
+        };
+        if passed < scans * 4 {
+            return Board {
+                boards_before: 0,
+                points_before: 0,
+                points: 4,
+            };
+        }
+        let leasts = (passed - scans * 4) / 2;
+        Board {
+            boards_before: leasts.saturating_add(scans),
+            points_before: leasts.saturating_mul(2).saturating_add(scans * 4),
+            points: 2,
         }
     }
 }

@@ -60,27 +60,32 @@ impl Watch {
     /// Whether this worker may pass this point now, which it is then seen to have passed.
     fn is_in_order(&self, worker: u32, point: Point) -> bool {
         let (tile, _) = place_of(point);
-        let (Some(passed), Some(last), Some(number)) = (
+        let (Some(passed), Some(last)) = (
             self.passed.get(tile as usize),
             self.last.get(worker as usize),
-            self.race.number(point),
         ) else {
             return false;
         };
-        let points = self.race.points();
         let before_here = passed.fetch_add(1, Ordering::SeqCst);
-        let board = before_here / points;
-        let boards_before = board.wrapping_mul(self.passed.len() as u64);
-        let tiles_before = boards_before.wrapping_add(u64::from(tile));
-        let here = tiles_before.wrapping_mul(points).wrapping_add(number);
+        let board = self.race.board(before_here);
+        let Some(number) = board.number(point) else {
+            return false;
+        };
+        let tiles = self.passed.len() as u64;
+        let tiles_before = u64::from(tile).wrapping_mul(board.points);
+        let points_before = tiles.wrapping_mul(board.points_before);
+        let here = points_before
+            .wrapping_add(tiles_before)
+            .wrapping_add(number);
         let before = last.swap(here.wrapping_add(1), Ordering::SeqCst);
         let follows = if number == 0 {
-            before % points == 0 && before <= here
+            before % board.points == 0 && before <= here
         } else {
             before == here
         };
-        let comes_after = self.finished.load(Ordering::SeqCst) >= boards_before;
-        before_here % points == number && follows && comes_after
+        let finished = self.finished.load(Ordering::SeqCst);
+        let comes_after = finished >= tiles.wrapping_mul(board.boards_before);
+        before_here.wrapping_sub(board.points_before) == number && follows && comes_after
     }
 
     /// Counts the tiles that were given and those that are finished.
@@ -134,7 +139,7 @@ impl Watch {
 
     /// Whether every point of every tile was passed on each board, in order, and no worker waited in vain.
     pub fn saw_all(&self) -> bool {
-        let each = u64::from(self.race.boards()).wrapping_mul(self.race.points());
+        let each = self.race.points();
         let mut all = !self.out_of_order.load(Ordering::SeqCst)
             && !self.overdue.load(Ordering::SeqCst);
         for passed in &self.passed {
