@@ -1,16 +1,18 @@
 //! The calls, and how each is made whole and in parts.
 
 use crate::data::{BYTES, DEFAULTS, DIVISORS, FLAGS, NUMBERS, SEGMENTS};
-use crate::joins::{How, Join};
+use crate::joins::{How, Join, alone};
 use crate::parts::{Answer, Part, SoFar, within};
 use crate::segments::Piece;
+use c_calls::descriptors::total;
 use c_calls::flat_permutes::{back, default_into, select, simple};
 use c_calls::packs::{pack, pack_each};
 use c_calls::place_by_place::{bool_from_int, compare, int2, select_int};
 use c_calls::texts::text;
 use call_reader::read_vector_alone;
-use cvl_base::Refused;
-use pack_dist::{distribute_over, index_over};
+use cvl_base::limits::MOST_ELEMENTS;
+use cvl_base::{Fault, Refused};
+use pack_dist::{distribute_over, index_over, replace};
 use part_calls::permute_ranges::{select_range, simple_range};
 use part_calls::text_pieces::read_piece;
 use std::alloc::Global;
@@ -25,6 +27,10 @@ pub enum Call {
     Back([i32; 10]),
     Distributed(i32),
     Index(i32, i32),
+    /// A copy with a value at an index.
+    Replaced(i32, i32),
+    /// How many elements segments of these lengths have.
+    Total([i32; 10]),
     /// Of segments with these lengths.
     Reduce(Join, &'static [i32]),
     Scan(Join, &'static [i32]),
@@ -60,6 +66,27 @@ fn inner_text(alloc: Global, range: &[i32]) -> Answer {
     Ok(numbers)
 }
 
+/// How many elements segments of these lengths have.
+fn total_of(lengths: &[i32]) -> Result<i64, Fault> {
+    Ok(i64::try_from(total(lengths)?).unwrap_or(i64::MAX))
+}
+
+/// Puts a part of the copy behind the others, with the value at the index where the part has it.
+fn put_replaced(
+    alloc: Global,
+    part: Part,
+    index: i32,
+    value: i32,
+    so_far: &mut SoFar,
+) -> Result<(), Refused> {
+    let (copy, from) = (part.of(&NUMBERS), i32::try_from(part.from).unwrap_or(0));
+    let Ok(changed) = replace(alloc, copy, index.saturating_sub(from), value) else {
+        return Ok(so_far.items.extend_from_slice(copy)?);
+    };
+    so_far.sent = so_far.sent.saturating_add(1);
+    Ok(so_far.items.extend_from_slice(&changed)?)
+}
+
 impl Call {
     /// How many places are cut.
     pub fn places(&self) -> usize {
@@ -76,6 +103,8 @@ impl Call {
         let (from, to, is_last) = (0, self.places(), true);
         let (mut out, mut count) = (vec![in alloc; 0; to]?, to);
         match self {
+            Call::Replaced(index, value) => return replace(alloc, &NUMBERS, *index, *value),
+            Call::Total(lengths) => return alone(alloc, total_of(lengths)?),
             Call::Reduce(join, lengths) => return join.reduce(alloc, lengths, from, to),
             Call::Scan(join, lengths) => return join.scan(alloc, How::Each(lengths), from, to),
             Call::Pack => pack_each(&NUMBERS, &FLAGS, SEGMENTS, &mut out, &mut count)?,
@@ -93,6 +122,13 @@ impl Call {
     /// One part, after what those before it gave and told.
     pub fn part(&self, alloc: Global, part: Part, so_far: &mut SoFar) -> Result<(), Refused> {
         match self {
+            Call::Replaced(index, value) => put_replaced(alloc, part, *index, *value, so_far),
+            Call::Total(lengths) => {
+                // a part without a total has a fault or more than the limit, which the plain call tells
+                let more = total_of(part.of(lengths)).unwrap_or(i64::MAX);
+                so_far.sum = so_far.sum.saturating_add(more);
+                Ok(())
+            }
             Call::Reduce(join, lengths) => Piece::of(lengths, part)?.reduce(alloc, join, so_far),
             Call::Scan(join, lengths) => Piece::of(lengths, part)?.scan(alloc, join, so_far),
             Call::Pack => {
@@ -129,10 +165,14 @@ impl Call {
         }
     }
 
-    /// What the parts give together. Where as many places are sent something as indices take part, none of these is bad; else the
-    /// plain call tells the fault.
+    /// What the parts give together. Where as many places are sent something as indices take part, none of these is bad; and where the
+    /// parts' totals are in the limit together, each part has one. Else the plain call tells the fault.
     pub fn joined(&self, alloc: Global, so_far: SoFar) -> Answer {
+        if matches!(self, Call::Total(_)) && so_far.sum <= MOST_ELEMENTS as i64 {
+            return alone(alloc, so_far.sum);
+        }
         let senders = match self {
+            Call::Replaced(..) | Call::Total(_) => 1,
             Call::Select(_) => self.places(),
             Call::Simple(_) | Call::Default(_) => NUMBERS.len(),
             _ => 0,

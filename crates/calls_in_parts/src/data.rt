@@ -17,6 +17,13 @@ pub const DEFAULTS: [i32; 12] = [-1, -2, -3, -4, -5, -6, -7, -8, -9, -10, -11, -
 
 pub const SEGMENTS: &[i32] = &[0, 3, 0, 0, 4, 1, 0, 2, 0];
 
+/// Lengths of which none is negative, two are, and all together are above the limit.
+const LENGTHS: [i32; 10] = [0, 3, 0, 4194290, 4, 1, 0, 2, 0, 4];
+
+const NEGATIVES: [i32; 10] = [0, 3, 4194304, 9, -2, 1, 0, 4194305, -1, 4];
+
+const ABOVE_LIMIT: [i32; 10] = [0, 3, 0, 4194290, 4, 1, 0, 2, 0, 5];
+
 const WHOLE: &[i32] = &[10];
 
 /// Integers of which a sum in the middle and one of a segment don't fit 32 bits; and such that sums before others don't in a
@@ -55,6 +62,11 @@ pub const CALLS: &[(&str, Call)] = &[
     ("bck_puz, a fault", Call::Back(OUTSIDE)),
     ("dis_vuz", Call::Distributed(7)),
     ("ind_luz", Call::Index(2147483647, 5)),
+    ("rep_vuz", Call::Replaced(4, 77)),
+    ("rep_vuz, a fault", Call::Replaced(10, 77)),
+    ("mke_fov", Call::Total(LENGTHS)),
+    ("mke_fov, a fault", Call::Total(NEGATIVES)),
+    ("mke_fov, too long", Call::Total(ABOVE_LIMIT)),
     ("max_ruz", Call::Reduce(Join::By(3), WHOLE)),
     ("add_rez", Call::Reduce(Join::By(0), SEGMENTS)),
     ("cnt_lub", Call::Reduce(Join::Count, WHOLE)),
