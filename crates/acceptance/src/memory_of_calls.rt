@@ -1,7 +1,8 @@
 //! How much memory one call of each family asks for: how many requests it makes, and for how many bytes in all.
 
-use cvl_base::{Config, Refused};
+use cvl_base::{Config, NoResources, Refused};
 use refusing_memory::Refusing;
+use shell::MemSink;
 use std::alloc::Global;
 use std::test::Fail;
 use std::thread::Threads;
@@ -56,6 +57,10 @@ const ROWS: &[Row] = &[
     ("write f", (3, 6_020), (3, 6_020)),
     ("write i d", (6, 9_153), (6, 9_153)),
     ("write d", (3, 140), (3, 140)),
+    ("r = ind_lez n q c", (1, 160_000), (1, 160_000)),
+    // by one worker a text that is doubled until it fits; by four 8 bytes for its beginning, 32 for two parts, 16 for their counts, and
+    // 228,958 for all of it
+    ("write j", (8, 579_784), (4, 229_014)),
     // a count at fault comes before memory
     (
         "r = cnt_lub f; r = len_luz i; r = ext_vuz i 3; \
@@ -90,8 +95,16 @@ fn first_other<R: Threads + Sync>(
     Ok(None)
 }
 
+/// How many bytes a sink asks for that has room for so many.
+fn asked_by_sink(alloc: Global, room: usize) -> Result<u64, NoResources> {
+    let heap = Refusing::none(alloc);
+    let _sink = MemSink::with_room(&heap, room)?;
+    Ok(heap.bytes())
+}
+
 #[test]
 fn memory_of_each_family(rt: HostRuntime) -> Result<(), Fail> {
+    assert!(rt; asked_by_sink(rt.alloc(), 1_000) == Ok(1_000));
     for by_four in [false, true] {
         let other = first_other(&rt, rt.alloc(), by_four);
         assert!(rt; other == Ok(None), "{other:?}");

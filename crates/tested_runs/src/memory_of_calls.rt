@@ -9,7 +9,8 @@ use std::alloc::Global;
 use std::thread::Threads;
 use vector_handles::Session;
 
-/// What is bound before a call: 1,000 integers, numbers to divide by, booleans, and ten segments of 100 with the places in them.
+/// What is bound before a call: 1,000 integers, numbers to divide by, booleans, and ten segments of 100 with the places in them; and
+/// 40,000 integers, and as many places in segments of ten, which are more than a text has that one thread writes.
 const BEFORE: &str = "i = ind_luz 0 1 1000
 t = dis_vuz 2 1000
 m = mod_wuz i t
@@ -23,7 +24,12 @@ b = boo_wuz p
 x = ind_lez o p d
 k = div_wuz x t
 r = cpy_wuz i
-e = mke_fov l";
+e = mke_fov l
+j = ind_luz 0 1 40000
+g = dis_vuz 10 4000
+c = mke_fov g
+n = dis_vuz 0 4000
+q = dis_vuz 1 4000";
 
 /// A session on which the names of the table are bound.
 pub fn session_before<R: Threads + Sync, A: Memory>(
