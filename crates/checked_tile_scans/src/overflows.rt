@@ -108,8 +108,8 @@ fn wrapped<A: Allocator>(alloc: A, numbers: &[i64]) -> Result<Vec<i32, A>, NoRes
 }
 
 /// The checked scan of a vector in tiles of the pace's length. It is written once it is known that all results fit 32 bits:
-/// `Overflow` at the first one that does not. The workers pass the gate on two boards, that of the scan and then that of the least
-/// tile.
+/// `Overflow` at the first one that does not. The workers pass the gate on two boards, that of the scan and then that of the
+/// least tile.
 pub(crate) fn scan_or_overflow<R: Threads + Sync, A: Memory, G: Gate>(
     rt: &R,
     alloc: A,

@@ -41,8 +41,8 @@ fn nothing_before<A: Memory>(alloc: A) -> Result<Vec<i64, A>, NoResources>
     Ok(before)
 }
 
-/// What stands before each tile. Workers race for it, and pass the gate; for one long tile no thread is started, no element is read,
-/// and nobody passes the gate.
+/// What stands before each tile. Workers race for it, and pass the gate; for one long tile no thread is started, no element is
+/// read, and nobody passes the gate.
 pub(crate) fn before_tiles<R: Threads + Sync, A: Memory, G: Gate>(
     rt: &R,
     alloc: A,

@@ -37,8 +37,8 @@ f = boo_wuz a
 t = add_wuz o o
 ";
 
-/// A call on four places, behind the call that makes them where no name has them, what its workers race for, and what is written of
-/// its value, or its fault.
+/// A call on four places, behind the call that makes them where no name has them, what its workers race for, and what is written
+/// of its value, or its fault.
 const CALLS: &[(&str, Race, &str)] = &[
     ("add_suz a", SCAN, "b = [0 3 4 11]\n"),
     ("add_sez a d", SCAN, "b = [0 0 1 8]\n"),

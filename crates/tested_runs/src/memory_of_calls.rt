@@ -9,8 +9,8 @@ use std::alloc::Global;
 use std::thread::Threads;
 use vector_handles::Session;
 
-/// What is bound before a call: 1,000 integers, numbers to divide by, booleans, and ten segments of 100 with the places in them; and
-/// 40,000 integers, and as many places in segments of ten, which are more than a text has that one thread writes.
+/// What is bound before a call: 1,000 integers, numbers to divide by, booleans, and ten segments of 100 with the places in them;
+/// and 40,000 integers, and as many places in segments of ten, which are more than a text has that one thread writes.
 const BEFORE: &str = "i = ind_luz 0 1 1000
 t = dis_vuz 2 1000
 m = mod_wuz i t

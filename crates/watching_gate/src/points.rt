@@ -11,7 +11,8 @@ pub enum Race {
     Scan,
     /// Least places, on so many boards one after another. At each tile they pass `Claimed` and `Finished`.
     Leasts(u32),
-    /// The tiles of a scan, and then the first of these tiles that has something, on a board of their numbers: a scan that never wraps.
+    /// The tiles of a scan, and then the first of these tiles that has something, on a board of their numbers: a scan that
+    /// never wraps.
     ScanThenLeast,
 }
 
