@@ -58,8 +58,8 @@ const ROWS: &[Row] = &[
     ("write i d", (6, 9_153), (6, 9_153)),
     ("write d", (3, 140), (3, 140)),
     ("r = ind_lez n q c", (1, 160_000), (1, 160_000)),
-    // by one worker a text that is doubled until it fits; by four 8 bytes for its beginning, 32 for two parts, 16 for their counts, and
-    // 228,958 for all of it
+    // by one worker a text that is doubled until it fits; by four 8 bytes for its beginning, 32 for two parts, 16 for their
+    // counts, and 228,958 for all of it
     ("write j", (8, 579_784), (4, 229_014)),
     // a count at fault comes before memory
     (

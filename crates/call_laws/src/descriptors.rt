@@ -18,9 +18,9 @@ pub fn descriptor_law()
         ↔ ((sizes : List ℕ) × (numbers ≡ map pos sizes) × (most_elements < sum sizes)) }
 {}
 
-/// A descriptor of lengths that are cut in two is the parts' descriptors one after another, and its total theirs added. The fault is the
-/// first part's negative length, else the second's, moved by the number of the first part's lengths; and where no length is negative,
-/// it is the total where that is above 4,194,304, though each part's own may be in the limit.
+/// A descriptor of lengths that are cut in two is the parts' descriptors one after another, and its total theirs added. The fault
+/// is the first part's negative length, else the second's, moved by the number of the first part's lengths. Where no length is
+/// negative, it is the total where that is above 4,194,304, though each part's own may be in the limit.
 pub fn descriptor_in_parts()
     ensures { (lengths more : List ℤ) →
         descriptor_of (lengths ++ more) ≡ descriptor_in_two (length lengths) (descriptor_of lengths) (descriptor_of more) }

@@ -33,12 +33,14 @@ pub fn replace_law<T>()
         extract_of result index ≡ Ok x }
 {}
 
-/// A replace on a copy that is cut in two is the replace on the part that has the index, beside the other part as it was. In the second
-/// part the index is less by the first part's length. The fault, 10 at 0, comes exactly where neither part has the index.
+/// A replace on a copy that is cut in two is the replace on the part that has the index, beside the other part as it was. In the
+/// second part the index is less by the first part's length. The fault, 10 at 0, comes exactly where neither part has the index.
 pub fn replace_in_parts<T>()
     ensures copy { (xs ys : List T) (index : ℤ) (x : T) →
-        replace_of (xs ++ ys) index x ≡ replaced_in_two xs ys (replace_of xs index x) (replace_of ys (index -ℤ pos (length xs)) x) }
-    ensures in_neither { (xs ys : List T) (index : ℤ) (x : T) → (replace_of (xs ++ ys) index x ≡ Err (fault_at no.IndexOutOfRange 0))
+        replace_of (xs ++ ys) index x
+        ≡ replaced_in_two xs ys (replace_of xs index x) (replace_of ys (index -ℤ pos (length xs)) x) }
+    ensures in_neither { (xs ys : List T) (index : ℤ) (x : T) →
+        (replace_of (xs ++ ys) index x ≡ Err (fault_at no.IndexOutOfRange 0))
         ↔ ((replace_of xs index x ≡ Err (fault_at no.IndexOutOfRange 0))
         × (replace_of ys (index -ℤ pos (length xs)) x ≡ Err (fault_at no.IndexOutOfRange 0))) }
 {}

@@ -165,8 +165,8 @@ impl Call {
         }
     }
 
-    /// What the parts give together. Where as many places are sent something as indices take part, none of these is bad; and where the
-    /// parts' totals are in the limit together, each part has one. Else the plain call tells the fault.
+    /// What the parts give together. Where as many places are sent something as indices take part, none of these is bad; and
+    /// where the parts' totals are in the limit together, each part has one. Else the plain call tells the fault.
     pub fn joined(&self, alloc: Global, so_far: SoFar) -> Answer {
         if matches!(self, Call::Total(_)) && so_far.sum <= MOST_ELEMENTS as i64 {
             return alone(alloc, so_far.sum);

@@ -44,9 +44,9 @@ pub fn checked_scan<R: Threads + Sync, A: Memory>(
     checked_scan_gated(rt, alloc, config, a, &OpenGate)
 }
 
-/// The same as [`checked_scan`], by workers that pass a gate. They race on two boards, one after the other: for what stands before
-/// each tile, at which they pass all four points, and for the first tile with a result that does not fit, at which they pass `Claimed`
-/// and `Finished`.
+/// The same as [`checked_scan`], by workers that pass a gate. They race on two boards, one after the other: for what stands
+/// before each tile, at which they pass all four points, and for the first tile with a result that does not fit, at which they
+/// pass `Claimed` and `Finished`.
 pub fn checked_scan_gated<R: Threads + Sync, A: Memory, G: Gate>(
     rt: &R,
     alloc: A,
