@@ -23,7 +23,7 @@ pub fn race_for_leasts<R: Threads + Sync, A: Memory, T: Targets + Sync, G: Gate>
     ensures { IfOk result (λ leasts. leasts ≡ leasts_of (T.targets targets.now) (T.slot_count targets.now)) }
 {
     let plan = Plan::new(targets.places(), pace.tile());
-    let workers = pace.workers().at_most(plan.count());
+    let workers = pace.workers().at_most(plan.count() as usize);
     let lent = LentTargets { targets };
     let (board, seats) = LeastBoard::new(alloc, lent, plan, workers.get() as u32)?;
     let work = LeastWork {

@@ -1,21 +1,24 @@
-//! Rules of thumb: how many threads share a call, by how many elements it writes, and whether workers race for its tiles.
-//! No result depends on them.
+//! Rules of thumb: how many threads share a call, by how many elements it writes, how much of it the first few of them have, and
+//! whether workers race for its tiles. No result depends on them.
 //!
 //! What forks takes a [`ThreadCount`], or a [`Pace`] of a race. Both are made here alone, of a configuration, and neither has
 //! more threads than the configuration has workers.
 //!
-//! All thresholds of the library stand here. They were measured on a machine with four processors.
+//! All thresholds of the library stand here, and as definitions in `specs/Thresholds.antt`, to which the contracts tie them. They
+//! were measured on a machine with four processors.
 #![tactic(auto)]
 
 mod pace;
+mod shares;
 mod thread_count;
 mod threads;
 
 pub use pace::{Pace, race_pace};
+pub use shares::share_of_first;
 pub use thread_count::ThreadCount;
 pub use threads::{
-    all_workers, threads_among, threads_clearing, threads_reading, threads_writing,
-    threads_writing_text,
+    all_workers, threads_among, threads_clearing, threads_reading, threads_searching,
+    threads_writing, threads_writing_text,
 };
 
 /// From how many elements on a second thread pays where they are written. One thread is done with fewer before another has

@@ -2,6 +2,8 @@
 
 ghost use Rattle.std.specs.Prelude.{◌≡◌, ◌≤◌, IfSome};
 ghost use Rattle.cvl_base.specs.Limits.{longest_tile, most_elements, most_workers};
+ghost use Rattle.sharing.specs.Races.{race_of};
+ghost use Rattle.sharing.specs.Shares.{writing_threads};
 
 use crate::thread_count::ThreadCount;
 use crate::threads::threads_among;
@@ -60,6 +62,7 @@ impl Pace {
 
     /// How many of the workers share the writing of so many elements after the race: one where a second doesn't pay.
     pub fn threads_writing(self, elements: usize) -> ThreadCount
+        ensures exact { result ≡ writing_threads self.1 elements }
         ensures least { 1 ≤ result }
         ensures greatest { result ≤ self.1 }
     {
@@ -72,6 +75,7 @@ impl Pace {
 /// made longer. None where there is no board for the race: a vector of no elements has no tile, and one of more than 4,194,304
 /// may have more tiles than a board. It hangs on the configuration and on the length alone.
 pub fn race_pace(pays: bool, config: Config, elements: usize) -> Option<Pace>
+    ensures exact { result ≡ race_of pays config elements }
     ensures some { IfSome result (λ _. 1 ≤ elements) }
     ensures few { IfSome result (λ _. elements ≤ most_elements) }
     ensures workers { IfSome result (λ pace. pace.1 ≤ config.1) }

@@ -1,6 +1,6 @@
 //! A number of threads that no caller can make up.
 
-ghost use Rattle.std.specs.Prelude.{◌≡◌, ◌+◌, ◌≤◌, max, min};
+ghost use Rattle.std.specs.Prelude.{◌≡◌, ◌+◌, ◌/◌, ◌≤◌, max, min};
 ghost use Rattle.cvl_base.specs.Limits.{most_workers};
 
 use std::marker::Model;
@@ -52,17 +52,19 @@ impl ThreadCount {
     }
 
     /// No more threads than there are things to share, and one where there is none.
-    pub fn at_most(self, things: u32) -> ThreadCount
-        ensures { result ≡ max (min self things) 1 }
+    pub fn at_most(self, things: usize) -> ThreadCount
+        ensures exact { result ≡ max (min self things) 1 }
+        ensures no_more { result ≤ self }
     {
         ThreadCount {
-            threads: self.threads.min(things).max(1),
+            threads: (self.threads as usize).min(things).max(1) as u32,
         }
     }
 
     /// The threads in two, of which the first has no more than the second.
     pub fn halves(self) -> (ThreadCount, ThreadCount)
         requires { 2 ≤ self }
+        ensures fewer { result.0 ≡ self / 2 }
         ensures order { result.0 ≤ result.1 }
         ensures whole { result.0 + result.1 ≡ self }
     {

@@ -2,11 +2,12 @@
 
 ghost use Rattle.std.specs.Prelude.{◌≡◌, ◌<◌, ◌≤◌};
 ghost use Rattle.cvl_base.specs.Limits.{most_elements};
+ghost use Rattle.sharing.specs.Shares.{clearing_threads, reading_threads, searching_threads, share_among, text_threads, writing_threads};
 
 use crate::thread_count::ThreadCount;
 use crate::{
-    LEAST_CLEARED, LEAST_CLEARED_EACH, LEAST_EACH, LEAST_READ, LEAST_READ_EACH, LEAST_SHARED,
-    LEAST_WRITTEN, LEAST_WRITTEN_EACH,
+    LEAST_CLEARED, LEAST_CLEARED_EACH, LEAST_EACH, LEAST_READ, LEAST_READ_EACH, LEAST_SEARCHED,
+    LEAST_SHARED, LEAST_WRITTEN, LEAST_WRITTEN_EACH,
 };
 use cvl_base::Config;
 use cvl_base::limits::MOST_ELEMENTS;
@@ -16,6 +17,7 @@ use cvl_base::limits::MOST_ELEMENTS;
 fn share_of(most: u32, items: usize, least: usize, each: usize) -> u32
     requires most { 1 ≤ most }
     requires each { 1 ≤ each }
+    ensures exact { result ≡ share_among most items least each }
     ensures least { 1 ≤ result }
     ensures greatest { result ≤ most }
 {
@@ -28,6 +30,7 @@ fn share_of(most: u32, items: usize, least: usize, each: usize) -> u32
 /// The same of the configuration's workers.
 fn threads_sharing(config: Config, items: usize, least: usize, each: usize) -> ThreadCount
     requires { 1 ≤ each }
+    ensures exact { result ≡ share_among config.1 items least each }
     ensures least { 1 ≤ result }
     ensures greatest { result ≤ config.1 }
 {
@@ -44,6 +47,7 @@ pub fn all_workers(config: Config) -> ThreadCount
 /// How many threads share the writing of so many elements: at most as many as the configuration has workers, and one where a
 /// second doesn't pay.
 pub fn threads_writing(config: Config, elements: usize) -> ThreadCount
+    ensures exact { result ≡ writing_threads config.1 elements }
     ensures least { 1 ≤ result }
     ensures greatest { result ≤ config.1 }
 {
@@ -54,15 +58,27 @@ pub fn threads_writing(config: Config, elements: usize) -> ThreadCount
 /// which nothing of this library forks.
 pub fn threads_among(most: u32, elements: usize) -> u32
     requires { 1 ≤ most }
+    ensures exact { result ≡ writing_threads most elements }
     ensures least { 1 ≤ result }
     ensures greatest { result ≤ most }
 {
     share_of(most, elements, LEAST_SHARED, LEAST_EACH)
 }
 
+/// How many threads share a search among so many elements, each of which is looked at once: at most as many as the configuration
+/// has workers, and one where a second doesn't pay.
+pub fn threads_searching(config: Config, elements: usize) -> ThreadCount
+    ensures exact { result ≡ searching_threads config.1 elements }
+    ensures least { 1 ≤ result }
+    ensures greatest { result ≤ config.1 }
+{
+    threads_sharing(config, elements, LEAST_SEARCHED, LEAST_EACH)
+}
+
 /// How many threads share the reading of an input of so many bytes: at most as many as the configuration has workers, and one
 /// where a second doesn't pay.
 pub fn threads_reading(config: Config, bytes: usize) -> ThreadCount
+    ensures exact { result ≡ reading_threads config.1 bytes }
     ensures least { 1 ≤ result }
     ensures greatest { result ≤ config.1 }
 {
@@ -72,6 +88,7 @@ pub fn threads_reading(config: Config, bytes: usize) -> ThreadCount
 /// How many threads share the clearing of fresh memory for a file of so many bytes: at most as many as the configuration has
 /// workers, and one where a second doesn't pay.
 pub fn threads_clearing(config: Config, bytes: usize) -> ThreadCount
+    ensures exact { result ≡ clearing_threads config.1 bytes }
     ensures least { 1 ≤ result }
     ensures greatest { result ≤ config.1 }
 {
@@ -81,6 +98,7 @@ pub fn threads_clearing(config: Config, bytes: usize) -> ThreadCount
 /// How many threads share the writing of so many elements' texts: at most as many as the configuration has workers, and one
 /// where a second doesn't pay, or where there are more than 4,194,304.
 pub fn threads_writing_text(config: Config, elements: usize) -> ThreadCount
+    ensures exact { result ≡ text_threads config.1 elements }
     ensures least { 1 ≤ result }
     ensures greatest { result ≤ config.1 }
     ensures few { 1 < result → elements ≤ most_elements }

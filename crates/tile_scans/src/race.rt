@@ -29,7 +29,7 @@ where
     ensures { IfOk result (λ before. before.items ≡ befores_of T.M.join T.M.unit (T.sums tiles.now)) }
 {
     let count = tiles.count();
-    let workers = pace.workers().at_most(count);
+    let workers = pace.workers().at_most(count as usize);
     let (board, seats) = ScanBoard::new(alloc, Lent { tiles }, workers.get() as u32)?;
     let work = TileWork { board, tiles };
     let mut seats = run_crew_for_facts(rt, alloc, workers, &work, seats, gate)?;

@@ -1,2 +1,3 @@
 pub mod Segmented
+pub mod Shared
 pub mod Written

@@ -2,7 +2,8 @@
 //!
 //! There is one function for each family of calls, for the scans and the reduces of integers a second one by segments,
 //! and for the permutes one for each form and one for the places that are wrong; nests have one of their own, and so has
-//! the form in which vectors are written. It takes and gives nothing, and its contract is the list of values and faults.
+//! the form in which vectors are written. How many threads share a call, what each of them has, and which race there is stand
+//! beside them. It takes and gives nothing, and its contract is the list of values and faults.
 //! They are computed from the definitions alone, so a definition that is read wrongly is refused here, before any code
 //! stands on it.
 #![tactic(auto, unfolding(core::specs::Int::int_wrap))]
@@ -15,6 +16,8 @@ pub mod extracts;
 pub mod nests;
 pub mod packs;
 pub mod permutes;
+pub mod races;
 pub mod reduces;
 pub mod scans;
+pub mod shares;
 pub mod written;

@@ -1,0 +1,3 @@
+pub mod Races
+pub mod Shares
+pub mod Thresholds

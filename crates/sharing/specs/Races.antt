@@ -1,0 +1,33 @@
+-- The tile and the workers of a race, or none where one thread walks all elements at once. No result depends on it.
+-- What is asked for is a tile and a number of workers, too.
+-- Source: this library's profile.
+use Rattle.std.specs.Prelude.{ℕ, ◌*◌, ◌/◌, ◌==◌, ◌||◌, Bool, false, max, min, nat_le, nat_lt, if◌then◌else◌, Option, Some, None}
+use Rattle.cvl_base.specs.Limits.{longest_tile, most_elements}
+use Rattle.sharing.specs.Thresholds.{least_raced, least_reduced, least_scanned, least_searched, long_tile, tiles_each}
+
+-- a race of so many workers, of whom there must be two, in tiles that are long, but leave some to each worker
+abbrev pub race_in_long_tiles : ℕ → ℕ → ℕ → Option (ℕ × ℕ)
+race_in_long_tiles tile workers elements =
+    if nat_lt workers 2 then None else Some (max (min (elements / (workers * tiles_each)) longest_tile) tile, workers)
+
+-- what is asked for where its tile is short; else, where a race pays, a race of workers who have enough elements each
+abbrev pub race_of : Bool → ℕ × ℕ → ℕ → Option (ℕ × ℕ)
+race_of pays asked elements =
+    if (elements == 0) || nat_lt most_elements elements then None else
+    (if nat_lt asked.0 long_tile then Some asked else
+    (if pays then race_in_long_tiles asked.0 (min (elements / least_raced) asked.1) elements else None))
+
+-- a scan, a reduce of elements of so many bytes in all, and the search for a fault
+abbrev pub scan_race : ℕ × ℕ → ℕ → Option (ℕ × ℕ)
+scan_race asked elements = race_of (nat_le least_scanned elements) asked elements
+
+abbrev pub reduce_race : ℕ × ℕ → ℕ → ℕ → Option (ℕ × ℕ)
+reduce_race asked elements bytes = race_of (nat_le least_reduced bytes) asked elements
+
+abbrev pub search_race : ℕ × ℕ → ℕ → Option (ℕ × ℕ)
+search_race asked elements = race_of (nat_le least_searched elements) asked elements
+
+-- a permute of so many indices into so many places, which is raced for in short tiles alone
+abbrev pub permute_race : ℕ × ℕ → ℕ → ℕ → Option (ℕ × ℕ)
+permute_race asked indices places =
+    if nat_lt most_elements places || nat_le long_tile asked.0 then None else race_of false asked indices
