@@ -115,6 +115,8 @@ impl<'a, A: Allocator> CheckedWriter<i32> for SegmentSums<'a, A> {
 
     ghost values = { λ sums. map fitting (segment_totals sums.segments.now sums.vector.now.elements.now) };
 
+    ghost IsShare = { λ sums first room few threads places. places ≤ room };
+
     fn write(&self, run: Run<i32>) -> (Run<i32>, Option<usize>)
         requires empty { run.items ≡ [] }
         requires within { run.first + run.room
@@ -136,11 +138,11 @@ impl<'a, A: Allocator> CheckedWriter<i32> for SegmentSums<'a, A> {
     }
 
     /// Segments with about as many elements for each thread.
-    fn share(&self, first: usize, room: usize, fewer: usize, threads: usize) -> usize {
+    fn share(&self, first: usize, room: usize, few: usize, threads: usize) -> usize {
         let from = self.segments.start_or_total(first);
         let to = self.segments.start_or_total(first.saturating_add(room));
         let elements = to.saturating_sub(from) / threads;
-        let place = from.saturating_add(elements.saturating_mul(fewer));
+        let place = from.saturating_add(elements.saturating_mul(few));
         self.segments
             .starts_before(place)
             .saturating_sub(first)

@@ -1,6 +1,6 @@
 //! A vector that several threads write, each a run of it.
 
-ghost use Rattle.std.specs.Prelude.{◌≡◌, ◌+◌, ◌<◌, ◌≤◌, List, [], Option, IfOk, length};
+ghost use Rattle.std.specs.Prelude.{◌≡◌, ℕ, ◌+◌, ◌<◌, ◌≤◌, List, [], Option, IfOk, length};
 ghost use Rattle.fresh.specs.Found.{first_without};
 ghost use Rattle.fresh.specs.Places.{stretch, with_items};
 ghost use Rattle.fresh.specs.Parts.{part};
@@ -8,7 +8,7 @@ ghost use Rattle.fresh.specs.Parts.{part};
 use crate::room::Room;
 use crate::run::Run;
 use crate::shares::{Share, extend_in_parts, write_in_parts};
-use sharing::ThreadCount;
+use sharing::{ThreadCount, share_of_first};
 use std::alloc::{AllocError, Allocator};
 use std::thread::Threads;
 
@@ -24,11 +24,14 @@ pub trait Writer<T> {
 }
 
 /// What writes any run of a vector of which some items may have no value, and finds the first of these. Its meaning is the list
-/// of all items as they are written, whatever is written for those without a value, and the list of the values.
+/// of all items as they are written, whatever is written for those without a value, the list of the values, and of the places from
+/// one on, so many, how many the first few of so many threads write.
 pub trait CheckedWriter<T> {
     ghost whole: { Self → List T };
 
     ghost values: { Self → List (Option T) };
+
+    ghost IsShare: { Self → ℕ → ℕ → ℕ → ℕ → ℕ → Type 0 };
 
     /// Writes all places of an empty run, and tells the first place of them whose item has no value.
     fn write(&self, run: Run<T>) -> (Run<T>, Option<usize>)
@@ -37,28 +40,30 @@ pub trait CheckedWriter<T> {
         ensures run { result.0 ≡ stretch run.block run.first (part (whole self.now) run.first run.room) 0 }
         ensures found { result.1 ≡ first_without run.first (part (values self.now) run.first run.room) };
 
-    /// How many of `room` places from the one at `first` on the first `fewer` of so many threads write, of which there is at
-    /// least one. Each writes as many, if nothing else is said.
-    fn share(&self, _first: usize, room: usize, fewer: usize, threads: usize) -> usize
+    /// How many of `room` places from the one at `first` on the first `few` of so many threads write.
+    fn share(&self, first: usize, room: usize, few: usize, threads: usize) -> usize
         requires some { 1 ≤ threads }
-        ensures { result ≤ room }
-    {
-        (room / threads).saturating_mul(fewer).min(room)
-    }
+        requires no_more { few ≤ threads }
+        requires places { first + room ≤ length (whole self.now) }
+        ensures exact { IsShare self.now first room few threads result }
+        ensures within { result ≤ room };
 }
 
-/// A writer as one that looks for no item without a value.
+/// A writer as one that looks for no item without a value. Each thread writes as many places.
 #[derive(Drop)]
 struct Unchecked<'a, W> {
     writer: &'a W,
 }
 
 impl<'a, T, W: Writer<T>> CheckedWriter<T> for Unchecked<'a, W> {
-    ghost use Rattle.std.specs.Prelude.{[]};
+    ghost use Rattle.std.specs.Prelude.{◌≡◌, []};
+    ghost use Rattle.sharing.specs.Shares.{share_of_first};
 
     ghost whole = { λ w. W.whole w.writer.now };
 
     ghost values = { λ w. [] };
+
+    ghost IsShare = { λ w first room few threads places. places ≡ share_of_first few threads room };
 
     fn write(&self, run: Run<T>) -> (Run<T>, Option<usize>)
         requires empty { run.items ≡ [] }
@@ -68,17 +73,21 @@ impl<'a, T, W: Writer<T>> CheckedWriter<T> for Unchecked<'a, W> {
     {
         (self.writer.write(run), None)
     }
+
+    fn share(&self, _first: usize, room: usize, few: usize, threads: usize) -> usize {
+        share_of_first(few, threads, room)
+    }
 }
 
 /// The places that a writer writes, in as many parts as there are threads.
 #[derive(Drop)]
 struct Places<'a, W> {
     writer: &'a W,
-    threads: usize,
+    threads: ThreadCount,
 }
 
 impl<'a, T, W: CheckedWriter<T>> Share<T> for Places<'a, W> {
-    ghost use Rattle.std.specs.Prelude.{◌+◌, ◌≤◌, length};
+    ghost use Rattle.std.specs.Prelude.{◌+◌, ◌/◌, ◌≤◌, length};
     ghost use Rattle.fresh.specs.Found.{first_without};
     ghost use Rattle.fresh.specs.Parts.{part, length_part};
 
@@ -90,24 +99,26 @@ impl<'a, T, W: CheckedWriter<T>> Share<T> for Places<'a, W> {
 
     ghost parts = { λ s. s.threads };
 
+    ghost IsHalved = { λ s first room places. W.IsShare s.writer.now first room (s.threads / 2) s.threads places };
+
     ghost long = { λ s first room within. length_part (W.whole s.writer.now) first room within };
 
     fn count(&self) -> usize {
-        self.threads
+        self.threads.get()
     }
 
     #[tactic(auto, using(crate::proofs::Halves::parts_both, crate::proofs::FirstWithout::found_in_both))]
     fn halves(self, first: usize, room: usize) -> (Places<'a, W>, usize, Places<'a, W>) {
         let Places { writer, threads } = self;
-        let fewer = threads / 2;
-        let middle = writer.share(first, room, fewer, threads);
+        let (fewer, others) = threads.halves();
+        let middle = writer.share(first, room, fewer.get(), threads.get());
         let low = Places {
             writer,
             threads: fewer,
         };
         let high = Places {
             writer,
-            threads: threads - fewer,
+            threads: others,
         };
         (low, middle, high)
     }
@@ -143,7 +154,7 @@ pub fn write_checked_in_runs<
 {
     let places = Places {
         writer,
-        threads: items.min(threads.get()),
+        threads: threads.at_most(items),
     };
     write_in_parts(rt, alloc, threads, places, items)
 }
@@ -167,7 +178,7 @@ pub fn write_in_runs<T: Send + Drop, R: Threads + Sync, A: Allocator, W: Writer<
     }
     let places = Places {
         writer: &Unchecked { writer },
-        threads: items.min(threads.get()),
+        threads: threads.at_most(items),
     };
     let (written, _) = write_in_parts(rt, alloc, threads, places, items)?;
     Ok(written)
@@ -188,7 +199,7 @@ pub fn extend_in_runs<T: Send + Drop, R: Threads + Sync, W: Writer<T> + Sync>(
 {
     let places = Places {
         writer: &Unchecked { writer },
-        threads: more.min(threads.get()),
+        threads: threads.at_most(more),
     };
     let (run, _) = extend_in_parts(rt, threads, places, run, more);
     run

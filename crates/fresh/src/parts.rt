@@ -100,7 +100,7 @@ pub struct CountedParts<'a, P> {
 }
 
 impl<'a, T, P: Part<T>> Share<T> for CountedParts<'a, P> {
-    ghost use Rattle.std.specs.Prelude.{◌≡◌, length};
+    ghost use Rattle.std.specs.Prelude.{◌≡◌, ◌/◌, length, take};
     ghost use Rattle.std.specs.List.{flat_map};
     ghost use Rattle.std.proofs.Common.{sym};
     ghost use Rattle.fresh.specs.Counted.{counts_of, found_in};
@@ -113,6 +113,8 @@ impl<'a, T, P: Part<T>> Share<T> for CountedParts<'a, P> {
     ghost found = { λ s first room. found_in P.items P.found s.parts.now first };
 
     ghost parts = { λ s. length s.parts.now };
+
+    ghost IsHalved = { λ s first room places. places ≡ length (flat_map P.items (take (length s.parts.now / 2) s.parts.now)) };
 
     ghost long = { λ s first room is. sym is.1 };
 

@@ -1,6 +1,6 @@
 //! A share of the places of a fresh vector, which is halved until there is a part for each thread.
 
-ghost use Rattle.std.specs.Prelude.{◌≡◌, ℕ, ◌+◌, ◌-◌, ◌<◌, ◌≤◌, List, [], ◌++◌, Option, IfOk, length};
+ghost use Rattle.std.specs.Prelude.{◌≡◌, ℕ, ◌+◌, ◌-◌, ◌/◌, ◌<◌, ◌≤◌, List, [], ◌++◌, Option, IfOk, length};
 ghost use Rattle.std.specs.Option.{option_or};
 ghost use Rattle.fresh.specs.Places.{stretch, with_items};
 ghost use denote.Param.Send.{IsSync, IsSend};
@@ -14,7 +14,8 @@ use std::thread::{Threads, join};
 /// What some neighbouring places are written from, in one or more parts.
 ///
 /// Its meaning hangs on the first of its places and on their number: whether it is a share of these places, the items that it
-/// writes there, and the first place of them whose item has no value, if it looks for one. It has at least one part.
+/// writes there, the first place of them whose item has no value, if it looks for one, and how many of them the first half of its
+/// parts has. It has at least one part.
 pub trait Share<T>: Sized {
     ghost IsOf: { Self → ℕ → ℕ → Type 0 };
 
@@ -24,15 +25,19 @@ pub trait Share<T>: Sized {
 
     ghost parts: { Self → ℕ };
 
+    ghost IsHalved: { Self → ℕ → ℕ → ℕ → Type 0 };
+
     /// The number of parts, each of which one thread writes.
     fn count(&self) -> usize
         ensures { result ≡ parts self.now };
 
-    /// The share in two, each with some of the parts, and how many of the places the first has.
+    /// The share in two, each with half of the parts, and how many of the places the first has.
     fn halves(self, first: usize, room: usize) -> (Self, usize, Self)
         requires some { 2 ≤ parts self }
         requires places { IsOf self first room }
         ensures parts { (1 ≤ parts result.0) × (1 ≤ parts result.2) × (parts result.0 + parts result.2 ≡ parts self) }
+        ensures half { parts result.0 ≡ parts self / 2 }
+        ensures halved { IsHalved self first room result.1 }
         ensures within { result.1 ≤ room }
         ensures front { IsOf result.0 first result.1 }
         ensures back { IsOf result.2 (first + result.1) (room - result.1) }

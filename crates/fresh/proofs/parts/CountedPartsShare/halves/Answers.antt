@@ -1,4 +1,5 @@
-use Rattle.std.proofs.Common.{◌/◌, length, arith}
+use Rattle.std.proofs.Common.{◌/◌, ◌∙◌, ap, length, arith}
+use Rattle.std.specs.List.{flat_map}
 use Rattle.fresh.proofs.PartWalk.{front_counted, back_counted, within, found_halves}
 use Rattle.fresh.proofs.parts.CountedPartsShare.halves.Goals as goal
 
@@ -21,3 +22,9 @@ pub returns-clause-found : goal.returns-clause-found
 returns-clause-found g c =
     found_halves g.P.Part.items c.args.self.parts.now (length c.args.self.parts.now / 2) c.requires.places.0 c.requires.places.1 c.split_at.ensures.front c.split_at.ensures.back
     c.split_at-2.ensures.front c.split_at-2.ensures.back c.total.ensures (omega (arith, c.ranges._room.fits)) g.P.Part.found c.args._first
+
+pub returns-clause-halved : goal.returns-clause-halved
+returns-clause-halved g c =
+    (front_counted g.P.Part.items c.args.self.parts.now (length c.args.self.parts.now / 2) c.requires.places.0 c.requires.places.1 c.split_at.ensures.front c.split_at.ensures.back
+    c.split_at-2.ensures.front c.split_at-2.ensures.back c.total.ensures (omega (arith, c.ranges._room.fits))).1
+    ∙ ap (λ parts. length (flat_map g.P.Part.items parts)) c.split_at.ensures.front
