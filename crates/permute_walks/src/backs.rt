@@ -11,7 +11,7 @@ ghost use Rattle.permute_walks.specs.Senders.{fault_told};
 use crate::index_counts::{count_alone, count_outside};
 use cvl_base::{Config, Fault, FaultNo, place_among};
 use fresh::{Run, Writer};
-use sharing::{LEAST_SEARCHED, threads_writing};
+use sharing::threads_searching;
 use std::thread::Threads;
 
 /// From how many indices on they are counted before they are looked at in turn.
@@ -44,8 +44,8 @@ pub fn check_places<R: Threads + Sync>(
     requires { first + length index.now ≤ most_elements }
     ensures { fault_told result ≡ first_outside first places index.now }
 {
-    let threads = threads_writing(config, index.len());
-    if threads.get() < 2 || index.len() < LEAST_SEARCHED {
+    let threads = threads_searching(config, index.len());
+    if threads.get() < 2 {
         return check_places_alone(index, places, first);
     }
     if count_outside(rt, threads, index, places) == 0 {

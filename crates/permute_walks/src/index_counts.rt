@@ -1,11 +1,12 @@
 //! How many indices of a back permute lie outside its source, which several threads may count, each a part of the indices.
 
-ghost use Rattle.std.specs.Prelude.{◌≡◌, ◌≤◌, length};
+ghost use Rattle.std.specs.Prelude.{◌≡◌, ◌+◌, ◌≤◌, length};
 ghost use Rattle.std.specs.Thread.{IsSync};
 ghost use Rattle.cvl_base.specs.Limits.{most_elements};
 ghost use Rattle.permute_walks.specs.Indices.{count_outside};
+ghost use Rattle.sharing.specs.Shares.{share_of_first};
 
-use sharing::ThreadCount;
+use sharing::{ThreadCount, share_of_first};
 use std::thread::{Threads, join_mut};
 
 /// The greatest number of places that an index of 32 bits can name.
@@ -46,13 +47,12 @@ pub(crate) fn count_outside<R: Threads + Sync>(
         return count_alone(index, places);
     }
     let (fewer, others) = threads.halves();
-    let middle = index.len() / threads.get() * fewer.get();
-    let (low, high) = index.split_at(middle);
+    let (low, high) = index.split_at(share_of_first(fewer.get(), threads.get(), index.len()));
     let (in_low, in_high) = count_both(rt, fewer, low, others, high, places);
     in_low + in_high
 }
 
-/// `count_outside` of two parts, each in a thread of its own.
+/// `count_outside` of two parts, each in a thread of its own: the first is that of the first few of the threads.
 #[cycle(parts)]
 fn count_both<R: Threads + Sync>(
     rt: &R,
@@ -63,6 +63,7 @@ fn count_both<R: Threads + Sync>(
     places: usize,
 ) -> (u32, u32)
     requires some { (1 ≤ fewer) × (1 ≤ others) }
+    requires share { length low.now ≡ share_of_first fewer (fewer + others) (length low.now + length high.now) }
     requires in_limit { (length low.now ≤ most_elements) × (length high.now ≤ most_elements) }
     ensures low { result.0 ≡ count_outside places low.now }
     ensures high { result.1 ≡ count_outside places high.now }

@@ -2,19 +2,20 @@
 //! Each reads all indices, writes and marks the places of its range to which an index sends, and counts its marks. So no two
 //! threads write one place, no place is waited for, and each thread's writes lie close together.
 
-ghost use Rattle.std.specs.Prelude.{◌≡◌, ◌+◌, ◌≤◌, ℤ, List, Option, length, replicate, IfOk, IfSome, is_none, is_some, vec_len};
+ghost use Rattle.std.specs.Prelude.{◌≡◌, ◌+◌, ◌*◌, ◌/◌, ◌≤◌, ℤ, List, Option, length, replicate, IfOk, IfSome, is_none, is_some, vec_len};
 ghost use Rattle.std.specs.Thread.{IsSend, IsSync};
 ghost use Rattle.cvl_base.specs.Limits.{most_elements};
 ghost use Rattle.cvl_base.specs.Permutes.{first_fault, wrongs};
 ghost use Rattle.permute_walks.specs.Marks.{words_for};
 ghost use Rattle.permute_walks.specs.Senders.{count_sent, count_destinations, last_senders, senders_of, written_over};
+ghost use Rattle.sharing.specs.Shares.{share_of_first};
 
 use crate::marks::{WORD_BITS, count_marks, words_for};
 use crate::ranges::write_range;
 use cvl_base::{Memory, NoResources};
 use fresh::{Copies, Writer, write_in_runs};
 use sent_places::Destinations;
-use sharing::ThreadCount;
+use sharing::{ThreadCount, share_of_first};
 use std::thread::{Threads, join_mut};
 
 /// How many places take part.
@@ -91,7 +92,7 @@ fn write_ranges<T: Copy + Send, R: Threads + Sync, W: Owner<T> + Sync>(
         return owner.write(lowest, out, marks);
     }
     let (fewer, others) = threads.halves();
-    let words = out.len() / threads.get() * fewer.get() / WORD_BITS;
+    let words = share_of_first(fewer.get(), threads.get(), out.len()) / WORD_BITS;
     let middle = words * WORD_BITS;
     let (low, high) = out.split_at_mut(middle);
     let (low_marks, high_marks) = marks.split_at_mut(words);
@@ -101,7 +102,8 @@ fn write_ranges<T: Copy + Send, R: Threads + Sync, W: Owner<T> + Sync>(
     )
 }
 
-/// `write_ranges` for two ranges, each in a thread of its own: how many places are marked in both.
+/// `write_ranges` for two ranges, each in a thread of its own: how many places are marked in both. The first is that of the first few
+/// of the threads, in whole words of marks.
 #[cycle(ranges)]
 fn write_both<T: Copy + Send, R: Threads + Sync, W: Owner<T> + Sync>(
     rt: &R,
@@ -116,6 +118,7 @@ fn write_both<T: Copy + Send, R: Threads + Sync, W: Owner<T> + Sync>(
     high_marks: &mut [u32],
 ) -> usize
     requires some { (1 ≤ fewer) × (1 ≤ others) }
+    requires share { length low.old ≡ share_of_first fewer (fewer + others) (length low.old + length high.old) / 32 * 32 }
     requires unmarked { (low_marks.old ≡ replicate (words_for (length low.old)) 0)
         × (high_marks.old ≡ replicate (words_for (length high.old)) 0) }
     requires within { (lowest + length low.old ≤ most_elements) × (middle + length high.old ≤ most_elements) }
