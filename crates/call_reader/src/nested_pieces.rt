@@ -1,21 +1,25 @@
 //! The inner lists of a nested text, read in pieces of it, each by a thread of its own.
 
-ghost use Rattle.std.specs.Prelude.{◌≡◌, ◌≤◌, ◌++◌, false, true, length, drop, IfOk, IfSome};
+ghost use Rattle.std.specs.Prelude.{◌≡◌, ◌<◌, ◌≤◌, ◌==◌, ◌++◌, false, not, true, length, drop, slice_index, take, IfOk, IfSome, IsTrue};
+ghost use Rattle.std.specs.List.{list_all};
 ghost use Rattle.line_reader.specs.Tokens.{begins_with_part};
 ghost use Rattle.call_reader.specs.NestedTexts.{marks_of, nested_class};
 ghost use Rattle.call_reader.specs.NestedReads.{AreListsRead, is_no_mark};
+ghost use Rattle.call_reader.specs.Pieces.{IsFrontFor};
 ghost use denote.Param.Send.{IsSync, IsSend, Frees};
 
 use crate::nested_texts::{ReadLists, read_lists};
 use crate::nested_tokens::has_no_token;
 use cvl_base::limits::MOST_ELEMENTS;
 use cvl_base::{Memory, NoResources};
-use sharing::ThreadCount;
+use sharing::{ThreadCount, share_of_first};
 use std::thread::{Threads, join};
 
 /// How many bytes stand before the first `[`.
 fn bytes_before_list(bytes: &[u8]) -> usize
     ensures within { result ≤ length bytes.now }
+    ensures no_list { IsTrue (list_all (λ b. not (b == 91)) (take result bytes.now)) }
+    ensures list { result < length bytes.now → slice_index bytes.now result ≡ 91 }
     ensures between { begins_with_part nested_class (drop result bytes.now) ≡ false }
 {
     for (i, byte) in bytes.iter().enumerate() {
@@ -26,12 +30,16 @@ fn bytes_before_list(bytes: &[u8]) -> usize
     bytes.len()
 }
 
-/// The bytes in two, of which the second begins with the first `[` from a place on, or there is none.
-fn cut_at_list(bytes: &[u8], place: usize) -> (&[u8], &[u8])
-    requires { place ≤ length bytes.now }
+/// The bytes in two, of which the second begins with the first `[` from where the share of the first few threads ends, or there is
+/// none.
+fn cut_at_list(bytes: &[u8], few: ThreadCount, threads: ThreadCount) -> (&[u8], &[u8])
+    requires { few ≤ threads }
     ensures whole { result.0.now ++ result.1.now ≡ bytes.now }
     ensures between { begins_with_part nested_class result.1.now ≡ false }
+    ensures front { IsFrontFor few threads (λ b. not (b == 91)) bytes.now result.0.now }
+    ensures list { 0 < length result.1.now → slice_index result.1.now 0 ≡ 91 }
 {
+    let place = share_of_first(few.get(), threads.get(), bytes.len());
     let (_front, back) = bytes.split_at(place);
     bytes.split_at(place + bytes_before_list(back))
 }
@@ -78,7 +86,7 @@ pub(crate) fn lists_by_several<'a, R: Threads + Sync, A: Memory>(
         return Ok(read_lists(alloc, bytes)?.ok());
     }
     let (fewer, others) = threads.halves();
-    let (front, back) = cut_at_list(bytes, bytes.len() / 2);
+    let (front, back) = cut_at_list(bytes, fewer, threads);
     let read_front = move || -> Result<Option<ReadLists<A>>, NoResources>
         requires { IsSync R.row × IsSend A.row × Frees A.Allocator A.dealloc_token }
         ensures { IfOk result (λ o. IfSome o (λ l. AreListsRead front.entry.now l.rest.now l.numbers.items l.lengths.items)) }

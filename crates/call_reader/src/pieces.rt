@@ -1,15 +1,16 @@
 //! An input cut into pieces at white space, each of which is read by a thread of its own.
 
 ghost use Rattle.std.specs.Prelude.{◌≡◌, ◌≤◌, ◌++◌, [], false, length, map};
-ghost use Rattle.line_reader.specs.Tokens.{begins_with_part};
+ghost use Rattle.line_reader.specs.Tokens.{begins_with_part, is_part};
 ghost use Rattle.call_reader.specs.Inputs.{input_class};
-ghost use Rattle.call_reader.specs.Pieces.{numbers_of, or_zero};
+ghost use Rattle.call_reader.specs.Pieces.{IsFrontFor, numbers_of, or_zero};
 ghost use Rattle.fresh.specs.Found.{first_without};
 ghost use Rattle.fresh.specs.Places.{stretch};
 
 use crate::inputs::{InputBytes, first_number, token_count};
 use fresh::{Part, Run, first_found};
 use line_reader::token::run_length;
+use sharing::share_of_first;
 use value_texts::Cut;
 
 /// A piece of an input, of which no token goes on in another.
@@ -60,21 +61,31 @@ impl<'a> Part<i32> for Piece<'a> {
     }
 }
 
-/// The bytes in two, of which the second begins with white space, or there is none: at the end of the token that stands at
-/// the place, or there where white space does.
-fn cut_near(bytes: &[u8], place: usize) -> (&[u8], &[u8])
-    requires { place ≤ length bytes.now }
+/// The bytes in two, of which the second begins with white space, or there is none: where the share of one of so many threads ends,
+/// or at the end of the token that stands there.
+fn cut_near(bytes: &[u8], threads: usize) -> (&[u8], &[u8])
+    requires { 1 ≤ threads }
     ensures whole { result.0.now ++ result.1.now ≡ bytes.now }
     ensures between { begins_with_part input_class result.1.now ≡ false }
+    ensures front { IsFrontFor 1 threads (λ b. is_part (input_class b)) bytes.now result.0.now }
 {
+    let place = share_of_first(1, threads, bytes.len());
     let (_front, back) = bytes.split_at(place);
     bytes.split_at(place + run_length::<InputBytes>(back))
 }
 
 #[tactic(auto, using(crate::proofs::PieceWalk::items_cut, crate::proofs::PieceWalk::found_cut))]
 impl<'a> Cut<i32> for Piece<'a> {
+    ghost use Rattle.std.specs.Prelude.{◌≡◌, ◌++◌};
+    ghost use Rattle.line_reader.specs.Tokens.{is_part};
+    ghost use Rattle.call_reader.specs.Inputs.{input_class};
+    ghost use Rattle.call_reader.specs.Pieces.{IsFrontFor};
+
+    ghost IsCut = { λ piece parts front others. (front.bytes.now ++ others.bytes.now ≡ piece.bytes.now)
+        × IsFrontFor 1 parts (λ b. is_part (input_class b)) piece.bytes.now front.bytes.now };
+
     fn cut(self, parts: usize) -> (Piece<'a>, Piece<'a>) {
-        let (front, others) = cut_near(self.bytes, self.bytes.len() / parts);
+        let (front, others) = cut_near(self.bytes, parts);
         (Piece { bytes: front }, Piece { bytes: others })
     }
 }

@@ -9,6 +9,7 @@ use crate::part_writes::Cut;
 use crate::vector_text::{PAGE_BYTES, PAGE_ELEMENTS, Page, write_spaced};
 use crate::written::Written;
 use fresh::{Part, Run};
+use sharing::share_of_first;
 use std::alloc::AllocError;
 
 /// How many bytes the texts of the elements have with a space before each.
@@ -85,8 +86,14 @@ impl<'a, T: Written> Part<u8> for ElementTexts<'a, T> {
 }
 
 impl<'a, T: Written> Cut<u8> for ElementTexts<'a, T> {
+    ghost use Rattle.std.specs.Prelude.{◌≡◌, ◌++◌, length};
+    ghost use Rattle.sharing.specs.Shares.{share_of_first};
+
+    ghost IsCut = { λ part parts front others. (front.xs.now ++ others.xs.now ≡ part.xs.now)
+        × (length front.xs.now ≡ share_of_first 1 parts (length part.xs.now)) };
+
     fn cut(self, parts: usize) -> (ElementTexts<'a, T>, ElementTexts<'a, T>) {
-        let (front, others) = self.xs.split_at(self.xs.len() / parts);
+        let (front, others) = self.xs.split_at(share_of_first(1, parts, self.xs.len()));
         (ElementTexts { xs: front }, ElementTexts { xs: others })
     }
 }

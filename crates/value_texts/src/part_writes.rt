@@ -2,7 +2,7 @@
 
 ghost use Rattle.std.specs.Prelude.{◌≡◌, ℕ, ◌+◌, ◌-◌, ◌^◌, ◌<◌, ◌≤◌, ◌++◌, IfOk, MatchOption, OnOk, OnErr, length, vec_len};
 ghost use Rattle.std.specs.List.{flat_map};
-ghost use Rattle.value_texts.specs.Parts.{AreParts};
+ghost use Rattle.value_texts.specs.Parts.{AreCutInTurn, AreParts};
 
 use cvl_base::{Memory, NoResources};
 use fresh::{CountedParts, Part, Room, count_parts, extend_in_parts, write_in_parts};
@@ -12,13 +12,16 @@ use std::thread::Threads;
 /// Room for what ends a text after its parts: brackets and the end of a line.
 const SPARE_BYTES: usize = 64;
 
-/// A part that can be cut in two.
+/// A part that can be cut in two. Its meaning is also where it is cut for the first of so many threads.
 pub trait Cut<T>: Part<T> {
     ghost use Rattle.std.specs.Option.{option_or};
+
+    ghost IsCut: { Self → ℕ → Self → Self → Type 0 };
 
     /// The part in two, of which the first has about as much to write as each of so many equal parts.
     fn cut(self, parts: usize) -> (Self, Self)
         requires { 1 < parts }
+        ensures cut { IsCut self parts result.0 result.1 }
         ensures items { Self.items result.0 ++ Self.items result.1 ≡ Self.items self }
         ensures found { (first : ℕ) → option_or (Self.found result.0 first)
             (Self.found result.1 (first + length (Self.items result.0))) ≡ Self.found self first };
@@ -32,6 +35,7 @@ fn parts_of<T, A: Memory, P: Cut<T>>(
 ) -> Result<Vec<P, A>, NoResources>
     ensures whole { IfOk result (λ parts. AreParts P.items P.found parts.items whole) }
     ensures as_many { IfOk result (λ parts. length parts.items ≡ threads) }
+    ensures shares { IfOk result (λ parts. AreCutInTurn P.IsCut whole parts.items) }
 {
     let mut parts = Vec::with_capacity(alloc, threads.get())?;
     let mut rest = whole;

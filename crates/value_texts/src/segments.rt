@@ -5,6 +5,7 @@ ghost use Rattle.std.specs.List.{join_with_byte};
 ghost use Rattle.cvl_base.specs.Limits.{most_elements};
 ghost use Rattle.cvl_base.specs.Nests.{cut_of};
 ghost use Rattle.fresh.specs.Places.{stretch, with_items};
+ghost use Rattle.value_texts.specs.Parts.{AreFewest};
 ghost use Rattle.value_texts.specs.Texts.{spaced, vector_text};
 
 use crate::elements::{count_spaced, write_into_run};
@@ -12,6 +13,7 @@ use crate::part_writes::Cut;
 use crate::vector_text::{PAGE_BYTES, Page, text_in_page};
 use crate::written::Written;
 use fresh::{Part, Run};
+use sharing::share_of_first;
 use std::alloc::AllocError;
 
 /// How many bytes the text of a vector has.
@@ -139,6 +141,7 @@ fn leading(lengths: &[i32], least: usize) -> (usize, usize)
     requires few { sum (map unsigned_abs lengths.now) ≤ most_elements }
     ensures segments { result.0 ≤ length lengths.now }
     ensures elements { result.1 ≡ sum (map unsigned_abs (take result.0 lengths.now)) }
+    ensures fewest { AreFewest lengths.now least result.0 }
 {
     let mut elements = 0;
     for (segments, length) in lengths.iter().enumerate() {
@@ -152,11 +155,16 @@ fn leading(lengths: &[i32], least: usize) -> (usize, usize)
 
 #[tactic(auto, using(crate::proofs::SegmentWalk::segments_cut))]
 impl<'a, T: Written> Cut<u8> for SegmentTexts<'a, T> {
+    ghost use Rattle.std.specs.Prelude.{◌≡◌, ◌+◌, ◌++◌, length};
+    ghost use Rattle.sharing.specs.Shares.{share_of_first};
+    ghost use Rattle.value_texts.specs.Parts.{AreFewest};
+
+    ghost IsCut = { λ part parts front others. (front.lengths.now ++ others.lengths.now ≡ part.lengths.now)
+        × AreFewest part.lengths.now (share_of_first 1 parts (length part.xs.now + length part.lengths.now)) (length front.lengths.now) };
+
     fn cut(self, parts: usize) -> (SegmentTexts<'a, T>, SegmentTexts<'a, T>) {
-        let (segments, elements) = leading(
-            self.lengths,
-            (self.xs.len() + self.lengths.len()) / parts,
-        );
+        let least = share_of_first(1, parts, self.xs.len() + self.lengths.len());
+        let (segments, elements) = leading(self.lengths, least);
         let (front_lengths, other_lengths) = self.lengths.split_at(segments);
         let (front, others) = self.xs.split_at(elements);
         let first = SegmentTexts {
