@@ -5,12 +5,14 @@ ghost use Rattle.cvl_base.specs.Descriptors.{AreLengths, descriptor_of};
 ghost use Rattle.cvl_base.specs.Gives.{Gives};
 ghost use Rattle.cvl_base.specs.Limits.{most_elements};
 ghost use Rattle.cvl_base.specs.Nests.{nest};
+ghost use Rattle.segdes.specs.Shares.{IsShareEnd};
 ghost use Rattle.segdes.specs.Starts.{start_of};
 
 use crate::check::check_lengths;
 use crate::seg_lengths::SegLengths;
 use crate::starts::starts_and_total;
 use cvl_base::{Fault, Lengths, Memory, NoResources, Refused};
+use sharing::share_of_first;
 use std::alloc::Allocator;
 use std::marker::Model;
 
@@ -123,6 +125,23 @@ impl<A: Allocator> SegDes<A> {
         self.starts
             .as_slice()
             .partition_point(|start| (*start as usize) < place)
+    }
+
+    /// Before which segment the share of the first few of so many threads ends, of the segments from `begin` up to before `end`:
+    /// each thread has about as many places, and no segment is cut.
+    pub fn share_end(&self, begin: usize, end: usize, few: usize, threads: usize) -> usize
+        requires some { 1 ≤ threads }
+        requires no_more { few ≤ threads }
+        requires order { begin ≤ end }
+        requires within { end ≤ length self.now }
+        ensures { IsShareEnd self.now begin end few threads result }
+    {
+        // its contract bounds the starts
+        let _total = self.total();
+        let first = self.start_or_total(begin);
+        let last = self.start_or_total(end);
+        let place = first + share_of_first(few, threads, last.saturating_sub(first));
+        self.starts_before(place).max(begin).min(end)
     }
 
     /// How many elements the segments have in all.

@@ -2,12 +2,13 @@
 //! no place of it is bad. So it stays in the processor's cache, and nothing else is written but the result. Several threads each
 //! walk whole segments, by a buffer of their own.
 
-ghost use Rattle.std.specs.Prelude.{◌≡◌, ◌+◌, ◌≤◌, List, false, true, length, IfOk, IfSome, None, vec_len};
+ghost use Rattle.std.specs.Prelude.{◌≡◌, ◌+◌, ◌≤◌, List, false, true, length, map, IfOk, IfSome, None, vec_len};
 ghost use denote.Param.Send.{Frees, IsSend, IsSync};
 ghost use Rattle.fresh.specs.Parts.{part};
 ghost use Rattle.fresh.specs.Places.{with_items};
 ghost use Rattle.cvl_base.specs.Limits.{most_elements};
 ghost use Rattle.cvl_base.specs.Permutes.{first_fault, wrongs};
+ghost use Rattle.segdes.specs.Shares.{IsShareEnd};
 ghost use Rattle.segment_sends.specs.Parts.{destinations_in, fault_from, places_in};
 ghost use Rattle.segment_sends.specs.Shares.{AreWithin, IsShare, IsWritten, permuted, sending};
 ghost use Rattle.permute_walks.specs.Senders.{senders_of, written_over};
@@ -158,26 +159,23 @@ impl<'a, T> Sides<T> for BothSides<'a, T> {
     }
 }
 
-/// At which segment the share of so many of the threads ends, where each has as many places of the index.
+/// At which segment the share of the first few threads ends, where each has as many places of the index.
 fn middle_of<P: Parts>(
     parts: &P,
     begin: usize,
     end: usize,
-    fewer: ThreadCount,
+    few: ThreadCount,
     threads: ThreadCount,
 ) -> usize
     requires cut { P.AreCut parts.now }
+    requires no_more { few ≤ threads }
     requires order { begin ≤ end }
-    ensures { (begin ≤ result) × (result ≤ end) }
+    requires within { end ≤ length (P.parts parts.now) }
+    ensures { IsShareEnd (map (λ p. length p.1) (P.parts parts.now)) begin end few threads result }
 {
-    let first = destinations_before(parts, begin);
-    let places = destinations_before(parts, end).saturating_sub(first);
-    let share = (places / threads.get()).saturating_mul(fewer.get());
     parts
         .descriptor()
-        .starts_before(first.saturating_add(share))
-        .max(begin)
-        .min(end)
+        .share_end(begin, end, few.get(), threads.get())
 }
 
 /// Writes the places of a share of the segments, which at most so many threads halve; false where a place of theirs is bad, or
@@ -214,7 +212,7 @@ fn write_shared<T: Copy + Send, R: Threads + Sync, A: Memory, S: Sides<T> + Sync
     (front.0.joined(back.0), front.1 & back.1)
 }
 
-/// `write_shared` for two shares, each in a thread of its own.
+/// `write_shared` for two shares, each in a thread of its own: the first ends where that of the first few of the threads does.
 #[cycle(halves)]
 fn write_both<T: Copy + Send, R: Threads + Sync, A: Memory, S: Sides<T> + Sync, P: Parts + Sync>(
     rt: &R,
@@ -232,6 +230,7 @@ fn write_both<T: Copy + Send, R: Threads + Sync, A: Memory, S: Sides<T> + Sync, 
 ) -> ((Run<T>, bool), (Run<T>, bool))
     requires some { (1 ≤ fewer) × (1 ≤ others) }
     requires cut { P.AreCut parts.now }
+    requires middle { IsShareEnd (map (λ p. length p.1) (P.parts parts.now)) begin end fewer (fewer + others) middle }
     requires front_share { IsShare (sending (S.source sides.now) (P.parts parts.now) (S.before sides.now) widest) begin middle
         front }
     requires back_share { IsShare (sending (S.source sides.now) (P.parts parts.now) (S.before sides.now) widest) middle end back }
