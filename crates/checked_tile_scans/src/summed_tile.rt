@@ -1,6 +1,7 @@
 //! How long the tiles are by which segments are summed. No result depends on it.
 
-ghost use Rattle.std.specs.Prelude.{◌≤◌};
+ghost use Rattle.std.specs.Prelude.{◌≡◌, ◌<◌, ◌≤◌};
+ghost use Rattle.sharing.specs.Thresholds.{long_tile};
 
 use segdes::SegDes;
 use sharing::{LONG_TILE, Pace};
@@ -28,7 +29,8 @@ fn is_cut_evenly<A: Allocator>(d: &SegDes<A>, parts: usize) -> bool
 /// With one tile each worker adds up its segments once. The race adds up all elements twice, so that it is no faster than the
 /// worker who has half a part more than an equal one.
 pub(crate) fn summed_tile<A: Allocator>(pace: Pace, d: &SegDes<A>) -> u32
-    ensures { 1 ≤ result }
+    ensures some { 1 ≤ result }
+    ensures short { pace.0 < long_tile → result ≡ pace.0 }
 {
     if pace.tile() < LONG_TILE || !is_cut_evenly(d, pace.workers().get()) {
         return pace.tile();

@@ -1,7 +1,8 @@
 //! Whether workers race for a permute.
 
-ghost use Rattle.std.specs.Prelude.{◌≤◌, IfSome};
+ghost use Rattle.std.specs.Prelude.{◌≡◌, ◌≤◌, IfSome};
 ghost use Rattle.cvl_base.specs.Limits.{most_elements};
+ghost use Rattle.sharing.specs.Races.{permute_race};
 
 use cvl_base::Config;
 use cvl_base::limits::MOST_ELEMENTS;
@@ -11,6 +12,7 @@ use sharing::{LONG_TILE, Pace, race_pace};
 /// them. Workers race where tiles of fewer than 1,024 elements are asked for, but for a result that has more places than a
 /// board has words. It hangs on the configuration and on these lengths alone, and no result depends on it.
 pub fn permute_pace(config: Config, indices: usize, places: usize) -> Option<Pace>
+    ensures exact { result ≡ permute_race config indices places }
     ensures few { IfSome result (λ _. indices ≤ most_elements) }
     ensures few_places { IfSome result (λ _. places ≤ most_elements) }
     ensures workers { IfSome result (λ pace. pace.1 ≤ config.1) }

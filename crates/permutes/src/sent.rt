@@ -1,12 +1,13 @@
 //! The elements of a permute: of a long result in one walk, which threads share, else in two, of which the first finds the
 //! senders.
 
-ghost use Rattle.std.specs.Prelude.{◌≡◌, ◌≤◌, IfOk, IfSome, IsTrue, None, Ok, filter_map, length, slice_get, vec_len};
+ghost use Rattle.std.specs.Prelude.{◌≡◌, ◌≤◌, ◌&&◌, IfOk, IfSome, IsTrue, None, Ok, filter_map, length, nat_le, slice_get, vec_len};
 ghost use Rattle.cvl_base.specs.Gives.{Gives, unless};
 ghost use Rattle.cvl_base.specs.Limits.{most_elements};
 ghost use Rattle.cvl_base.specs.Permutes.{first_fault, wrongs};
 ghost use Rattle.permutes.specs.Walks.{AreAllSent};
 ghost use Rattle.permute_walks.specs.Senders.{senders_of, written_over};
+ghost use Rattle.sharing.specs.Thresholds.{least_shared};
 
 use crate::sent_alone::senders_alone;
 use crate::taken::{elements_found, elements_or_defaults_found};
@@ -22,6 +23,7 @@ use std::thread::Threads;
 
 /// Whether a result has so many places that one walk makes it sooner than two, by whatever number of threads.
 fn is_long(places: usize) -> bool
+    ensures exact { result ≡ (nat_le least_shared places && nat_le places most_elements) }
     ensures in_limit { IsTrue result → places ≤ most_elements }
 {
     places >= LEAST_SHARED && places <= MOST_ELEMENTS

@@ -2,14 +2,16 @@
 //! configuration and on the length alone, so that a gate sees what a call without one does. No result depends on it. The
 //! thresholds and the rule stand in the crate `sharing`.
 
-ghost use Rattle.std.specs.Prelude.{◌≤◌, IfSome};
+ghost use Rattle.std.specs.Prelude.{◌≡◌, ◌≤◌, IfSome};
 ghost use Rattle.cvl_base.specs.Limits.{most_elements};
+ghost use Rattle.sharing.specs.Races.{reduce_race, scan_race};
 
 use cvl_base::Config;
 use sharing::{LEAST_REDUCED, LEAST_SCANNED, Pace, race_pace};
 
 /// The tiles and the workers of the race by which so many elements are scanned, or none where one thread walks them at once.
 pub fn scan_pace(config: Config, elements: usize) -> Option<Pace>
+    ensures exact { result ≡ scan_race config elements }
     ensures some { IfSome result (λ _. 1 ≤ elements) }
     ensures few { IfSome result (λ _. elements ≤ most_elements) }
     ensures workers { IfSome result (λ pace. pace.1 ≤ config.1) }
@@ -20,6 +22,7 @@ pub fn scan_pace(config: Config, elements: usize) -> Option<Pace>
 /// The tiles and the workers of the race by which so many elements, which take so many bytes, are reduced, or none where one
 /// thread walks them at once.
 pub fn reduce_pace(config: Config, elements: usize, bytes: usize) -> Option<Pace>
+    ensures exact { result ≡ reduce_race config elements bytes }
     ensures some { IfSome result (λ _. 1 ≤ elements) }
     ensures few { IfSome result (λ _. elements ≤ most_elements) }
     ensures workers { IfSome result (λ pace. pace.1 ≤ config.1) }
