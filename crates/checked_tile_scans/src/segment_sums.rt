@@ -109,13 +109,15 @@ impl<'a, A: Allocator> CheckedWriter<i32> for SegmentSums<'a, A> {
     ghost use Rattle.fresh.specs.Found.{first_without};
     ghost use Rattle.fresh.specs.Parts.{part};
     ghost use Rattle.fresh.specs.Places.{stretch};
+    ghost use Rattle.segdes.specs.Shares.{IsShareEnd};
     ghost use Rattle.checked_tile_scans.specs.Checked.{segment_totals};
 
     ghost whole = { λ sums. map wrap (segment_totals sums.segments.now sums.vector.now.elements.now) };
 
     ghost values = { λ sums. map fitting (segment_totals sums.segments.now sums.vector.now.elements.now) };
 
-    ghost IsShare = { λ sums first room few threads places. places ≤ room };
+    ghost IsShare = { λ sums first room few threads places.
+        IsShareEnd sums.segments.now first (first + room) few threads (first + places) };
 
     fn write(&self, run: Run<i32>) -> (Run<i32>, Option<usize>)
         requires empty { run.items ≡ [] }
@@ -138,14 +140,10 @@ impl<'a, A: Allocator> CheckedWriter<i32> for SegmentSums<'a, A> {
     }
 
     /// Segments with about as many elements for each thread.
+    #[tactic(auto, using(crate::proofs::SegmentTotals::totals_long))]
     fn share(&self, first: usize, room: usize, few: usize, threads: usize) -> usize {
-        let from = self.segments.start_or_total(first);
-        let to = self.segments.start_or_total(first.saturating_add(room));
-        let elements = to.saturating_sub(from) / threads;
-        let place = from.saturating_add(elements.saturating_mul(few));
-        self.segments
-            .starts_before(place)
-            .saturating_sub(first)
-            .min(room)
+        // its contract bounds the number of segments
+        let _count = self.segments.count();
+        self.segments.share_end(first, first + room, few, threads) - first
     }
 }
