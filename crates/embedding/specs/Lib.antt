@@ -1,1 +1,1 @@
-pub mod Negatives
+pub mod Signs

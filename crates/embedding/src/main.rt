@@ -27,10 +27,10 @@ fn main(rt: HostRuntime) -> io::Result<()> {
         "scan and tiles: {:?}",
         gates::scan_and_tiles(&rt, alloc, config)
     )?;
-    println!(rt;
-        "first negative: {:?}",
-        own_threads::first_negative(&rt, alloc, &[5, 0, 2, -7, 1, -3])
-    )?;
+    if let Ok(numbers) = [-1, 0, 1].repeat(alloc, 1_000) {
+        let first = own_threads::first_of_each_sign(&rt, alloc, &numbers);
+        println!(rt; "first of each sign: {first:?}")?;
+    }
     println!(rt; "refused: {}", memory::is_refused(&rt, alloc, config))?;
     cut_all(&mut rt.stdout(), alloc)
 }

@@ -1,10 +1,10 @@
-//! A board that threads of one's own share: they look for the first negative number of a list.
+//! A board that threads of one's own share: they look for the first number of each sign in a list.
 
-ghost use Rattle.std.specs.Prelude.{◌≡◌, ◌≤◌, length, map};
+ghost use Rattle.std.specs.Prelude.{◌≡◌, ◌<◌, ◌≤◌, Some, length, map};
 ghost use Rattle.boards.specs.LeastBoards.{IsLeastSeatOf};
 ghost use Rattle.cvl_base.specs.Limits.{most_elements};
 ghost use Rattle.tile_plan.specs.Ranges.{tile_count};
-ghost use Rattle.embedding.specs.Negatives.{slot_of};
+ghost use Rattle.embedding.specs.Signs.{slot_of};
 
 use boards::{Claim, LeastBoard, LeastSeat, Targets};
 use cvl_base::{Memory, NoResources};
@@ -12,61 +12,67 @@ use std::alloc::Allocator;
 use std::thread::{Threads, join_mut};
 use tile_plan::Plan;
 
-/// The numbers, of which those below 0 are looked for: they are in slot 0, the only one.
+/// The numbers, each in the slot of its sign: 0 for those below zero, 1 for zero, and 2 for those above.
 #[derive(Drop)]
-struct Negatives<'a> {
+struct Signs<'a> {
     numbers: &'a [i32],
     ghost few: { length numbers.now ≤ most_elements },
 }
 
 /// The slot of a number.
-fn slot_of_number(number: &i32) -> Option<u32>
-    ensures { result ≡ slot_of number.now }
+fn slot_of_number(number: &i32) -> u32
+    ensures value { result ≡ slot_of number.now }
+    ensures within { result < 3 }
 {
-    if *number < 0 { Some(0) } else { None }
+    if *number < 0 {
+        0
+    } else if *number == 0 {
+        1
+    } else {
+        2
+    }
 }
 
-impl Targets for Negatives<'_> {
-    ghost targets = { λ n. map slot_of n.numbers.now };
+impl Targets for Signs<'_> {
+    ghost targets = { λ signs. map (λ x. Some (slot_of x)) signs.numbers.now };
 
-    ghost slot_count = { λ _. 1 };
+    ghost slot_count = { λ _. 3 };
 
     fn places(&self) -> u32 {
         self.numbers.len() as u32
     }
 
     fn slots(&self) -> u32 {
-        1
+        3
     }
 
     fn slot(&self, place: u32) -> Option<u32> {
-        slot_of_number(&self.numbers[place as usize])
+        Some(slot_of_number(&self.numbers[place as usize]))
     }
 }
 
 /// What the threads share: the board, and the tiles into which the numbers are cut.
 #[derive(Drop)]
 struct Shared<'a, 'b, A: Allocator> {
-    board: &'a LeastBoard<Negatives<'b>, A>,
+    board: &'a LeastBoard<Signs<'b>, A>,
     numbers: &'b [i32],
     plan: Plan,
-    ghost targets: { board.now.targets ≡ map slot_of numbers.now },
-    ghost slots: { board.now.slots ≡ 1 },
+    ghost targets: { board.now.targets ≡ map (λ x. Some (slot_of x)) numbers.now },
+    ghost slots: { board.now.slots ≡ 3 },
     ghost tiles: { board.now.tiles ≡ tile_count plan.0 plan.1 },
     ghost places: { plan.0 ≡ length numbers.now },
 }
 
 impl<'a, 'b, A: Memory> Shared<'a, 'b, A> {
-    /// Lowers each place of a tile whose number is below 0.
+    /// Lowers each place of a tile, in the slot of its number.
     fn lower_each(&self, seat: &mut LeastSeat, from: u32, to: u32)
         requires seat { IsLeastSeatOf self.now.board.now seat.old }
         requires within { to ≤ length self.now.numbers.now }
         ensures { IsLeastSeatOf self.now.board.now seat.new }
     {
         for place in from..to {
-            if let Some(slot) = slot_of_number(&self.numbers[place as usize]) {
-                self.board.lower(seat, slot, place);
-            }
+            let slot = slot_of_number(&self.numbers[place as usize]);
+            self.board.lower(seat, slot, place);
         }
     }
 
@@ -108,18 +114,19 @@ impl<'a, 'b, A: Memory> Shared<'a, 'b, A> {
     }
 }
 
-/// The place of the first negative number, which two threads look for in tiles of two numbers.
-pub fn first_negative<R: Threads + Sync, A: Memory>(
+/// The places of the first number below zero, the first zero and the first number above, which two threads look for in tiles of
+/// 16 numbers.
+pub fn first_of_each_sign<R: Threads + Sync, A: Memory>(
     rt: &R,
     alloc: A,
     numbers: &[i32],
-) -> Result<Option<u32>, NoResources>
+) -> Result<[Option<u32>; 3], NoResources>
     requires { length numbers.now ≤ most_elements }
 {
-    let plan = Plan::new(numbers.len() as u32, 2);
-    let (board, mut seats) = LeastBoard::new(alloc, Negatives { numbers }, plan, 2)?;
+    let plan = Plan::new(numbers.len() as u32, 16);
+    let (board, mut seats) = LeastBoard::new(alloc, Signs { numbers }, plan, 2)?;
     let (Some(mut second), Some(mut first)) = (seats.pop(), seats.pop()) else {
-        return Ok(None);
+        return Ok([None; 3]);
     };
     let shared = Shared {
         board: &board,
@@ -130,5 +137,6 @@ pub fn first_negative<R: Threads + Sync, A: Memory>(
     let mut seats = Vec::with_capacity(alloc, 2)?;
     seats.push_reserved(first);
     seats.push_reserved(second);
-    Ok(board.close(seats).get(0))
+    let leasts = board.close(seats);
+    Ok([leasts.get(0), leasts.get(1), leasts.get(2)])
 }
