@@ -1,5 +1,5 @@
-//! Scripts whose workers race in short tiles: each call, by one worker and by many, who are held there or not, and a scan whose
-//! workers are held at each point of each tile.
+//! Scripts whose workers race in short tiles: each call, by one worker and by many, who are held there or not; the least of several
+//! faults, again and again; and the longest vector.
 
 use crew::Point;
 use std::test::Fail;
@@ -20,7 +20,8 @@ const INPUTS: &[&str] = &[
 ];
 
 /// Binds numbers, ones, places in two orders, those of a select, nines, two descriptors, places in segments, those of a select,
-/// flags, of which the last is false, and twos. No call here races.
+/// flags, of which the last is false, and others, of which none is true, twos, and what has no element: a vector, and three
+/// segments. No call here races.
 const BINDINGS: &str = "a = input 1
 o = input 2
 i = input 3
@@ -34,12 +35,20 @@ e = mke_fov l
 p = input 9
 q = input 10
 f = boo_wuz a
+g = les_wuz a a
 t = add_wuz o o
+z = dis_vuz 0 0
+s = dis_vuz 0 3
+s = mke_fov s
 ";
 
-/// A call on four places, behind the call that makes them where no name has them, what its workers race for, and what is written
-/// of its value, or its fault.
-const CALLS: &[(&str, Race, &str)] = &[
+/// A call, behind the call that makes what it takes where no name has it, what its workers race for, and what is written of its
+/// value, or its fault.
+type Call = (&'static str, Race, &'static str);
+
+/// Calls on four places. Of the last ones there is no place to take from, or to send to; their tiles are still those of the
+/// index.
+const CALLS: &[Call] = &[
     ("add_suz a", SCAN, "b = [0 3 4 11]\n"),
     ("add_sez a d", SCAN, "b = [0 0 1 8]\n"),
     ("add_ruz a", SCAN, "b = 11\n"),
@@ -55,37 +64,37 @@ const CALLS: &[(&str, Race, &str)] = &[
     (
         "dis_vuz 2147483647 4\nb = tot_suz b",
         Race::ScanThenLeast,
-        "line 16: fault 18 Overflow at 2\n",
+        "line 20: fault 18 Overflow at 2\n",
     ),
     (
         "dis_vuz 2147483647 4\nb = tot_sez b d",
         Race::ScanThenLeast,
-        "line 16: fault 18 Overflow at 3\n",
+        "line 20: fault 18 Overflow at 3\n",
     ),
     (
         "dis_vuz 2147483647 4\nb = tot_ruz b",
         SCAN,
-        "line 16: fault 18 Overflow at 0\n",
+        "line 20: fault 18 Overflow at 0\n",
     ),
     (
         "dis_vuz 2147483647 4\nb = tot_rez b d",
         SCAN,
-        "line 16: fault 18 Overflow at 2\n",
+        "line 20: fault 18 Overflow at 2\n",
     ),
     ("div_wuz a o", ONE, "b = [3 1 7 0]\n"),
-    ("div_wuz o a", ONE, "line 15: fault 8 DivideByZero at 3\n"),
+    ("div_wuz o a", ONE, "line 19: fault 8 DivideByZero at 3\n"),
     ("mod_wuz a t", ONE, "b = [1 1 1 0]\n"),
     ("lsh_wuz a i", ONE, "b = [24 4 14 0]\n"),
     ("rsh_wuz a i", ONE, "b = [0 0 3 0]\n"),
     ("smp_puz a i", TWO, "b = [0 7 1 3]\n"),
-    ("smp_puz a o", TWO, "line 15: fault 11 IndexRepeated at 1\n"),
+    ("smp_puz a o", TWO, "line 19: fault 11 IndexRepeated at 1\n"),
     ("smp_pez a p d", TWO, "b = [3 7 0 1]\n"),
     ("smp_pub f j", TWO, "b = [F T T T]\n"),
     ("bck_puz a j", ONE, "b = [1 7 0 3]\n"),
     (
         "bck_puz a k",
         ONE,
-        "line 15: fault 10 IndexOutOfRange at 3\n",
+        "line 19: fault 10 IndexOutOfRange at 3\n",
     ),
     ("bck_pez a p d d", ONE, "b = [3 0 1 7]\n"),
     ("sel_puz a k f", TWO, "b = [1 7 3]\n"),
@@ -97,6 +106,23 @@ const CALLS: &[(&str, Race, &str)] = &[
     ("pck_lez a f d", SCAN, "b = [3 1 7]\n"),
     ("pck_lub f f", SCAN, "b = [T T T]\n"),
     ("pck_fov f d", SCAN, "b = [1 0 2]\n"),
+    (
+        "bck_puz z k",
+        ONE,
+        "line 19: fault 10 IndexOutOfRange at 0\n",
+    ),
+    (
+        "bck_pez z p s d",
+        ONE,
+        "line 19: fault 10 IndexOutOfRange at 0\n",
+    ),
+    ("sel_puz a k g", TWO, "b = []\n"),
+    ("sel_pez a q g d", TWO, "b = []\n"),
+    (
+        "def_pez a p z d s",
+        TWO,
+        "line 19: fault 10 IndexOutOfRange at 0\n",
+    ),
 ];
 
 /// The runs of each call on four elements. Two workers are at work at one moment: each is held at its first tile until both have
@@ -120,44 +146,43 @@ const RUNS: &[Run] = &[
     (1023, 64, 1, Holds::Nobody),
 ];
 
+/// Calls on 1,000 places with two faults each.
+const FAULTY: &[Call] = &[
+    (
+        "dis_vuz 7 1000\nx = dis_vuz 1 1000\nx = rep_vuz x 3 0\nx = rep_vuz x 900 0\nb = div_wuz b x",
+        ONE,
+        "line 23: fault 8 DivideByZero at 3\n",
+    ),
+    (
+        "ind_luz 0 1 1000\nb = rep_vuz b 5 2\nb = rep_vuz b 999 1000\nb = smp_puz b b",
+        TWO,
+        "line 22: fault 11 IndexRepeated at 5\n",
+    ),
+];
+
+/// The same comes of a call every time, since each run may race another way.
+const AGAIN: &[Run] = &[(16, 8, 63, Holds::Nobody); 100];
+
+/// A call on the longest vector, for whose tiles workers race too.
+const LONGEST: &[Call] = &[("dis_vuz 1 4194304\nb = add_ruz b", SCAN, "b = 4194304\n")];
+
+const ONCE: &[Run] = &[(1023, 4, 4101, Holds::Nobody)];
+
 #[test]
 fn each_call_held_and_seen(rt: HostRuntime) -> Result<(), Fail> {
-    for (call, race, outcome) in CALLS {
-        let lines = format!(in rt.alloc(); "{BINDINGS}b = {call}\nwrite b\n")?;
-        let script = Script {
-            lines: lines.as_str(),
-            inputs: INPUTS,
-            outcome,
-            race: *race,
-        };
-        for run in RUNS {
-            let right = comes_out(&rt, rt.alloc(), &script, *run)?;
-            assert!(rt; right, "{call} in tiles of {} by {}", run.0, run.1);
-        }
-    }
-    Ok(())
-}
-
-/// The scan of eight numbers.
-const EIGHT: Script = Script {
-    lines: "a = input 1\nb = add_suz a\nwrite b\n",
-    inputs: &["3 1 7 0 4 1 6 3"],
-    outcome: "b = [0 3 4 11 11 15 16 22]\n",
-    race: SCAN,
-};
-
-/// A worker that stands still at any point of any tile holds up no other: the other one finishes all other tiles.
-#[test]
-fn held_at_each_point(rt: HostRuntime) -> Result<(), Fail> {
-    for tile in 0..8 {
-        for point in [
-            Point::Claimed(tile),
-            Point::Summed(tile),
-            Point::Looked(tile),
-        ] {
-            let run = (1, 2, 8, Holds::UntilOthers(point));
-            let right = comes_out(&rt, rt.alloc(), &EIGHT, run)?;
-            assert!(rt; right, "held at {point:?}");
+    for (calls, runs) in [(CALLS, RUNS), (FAULTY, AGAIN), (LONGEST, ONCE)] {
+        for (call, race, outcome) in calls {
+            let lines = format!(in rt.alloc(); "{BINDINGS}b = {call}\nwrite b\n")?;
+            let script = Script {
+                lines: lines.as_str(),
+                inputs: INPUTS,
+                outcome,
+                race: *race,
+            };
+            for run in runs {
+                let right = comes_out(&rt, rt.alloc(), &script, *run)?;
+                assert!(rt; right, "{call} in tiles of {} by {}", run.0, run.1);
+            }
         }
     }
     Ok(())
