@@ -1,1 +1,1 @@
-pub mod Shuffled
+pub mod Crewed

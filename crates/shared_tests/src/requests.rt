@@ -1,7 +1,7 @@
 //! What threads share, with ample memory and with each of its requests refused in turn.
 
 use crate::counter::Counter;
-use crate::{doubles, lowered_places, pieces, scan_boards, worlds};
+use crate::{crews, doubles, lowered_places, scan_boards, worlds};
 use cvl_base::{Config, Memory, NoResources};
 use refusing_memory::withstands_refusals;
 use sharing::all_workers;
@@ -13,8 +13,8 @@ enum Made {
     ScanBoard,
     LeastBoard,
     World,
-    /// A list.
-    List,
+    /// The sums before each of four numbers, by a crew.
+    Sums,
     /// The doubles of so many numbers.
     Doubles(usize),
     /// What a thread leaves that stops early.
@@ -27,8 +27,8 @@ const ALL: &[(Made, &[u32], u64)] = &[
     (Made::LeastBoard, &[1], 3),
     // the sums, the words and the states
     (Made::World, &[1], 3),
-    // two pieces, their list, and the whole
-    (Made::List, &[1, 2, 4, 9], 4),
+    // the board, its seats, four pieces, their list and the whole
+    (Made::Sums, &[1, 2, 4, 9], 9),
     // no number, one, fewer than threads, more, and so many that threads share them; the vector, and where it is pushed to
     (Made::Doubles(0), &[1, 3, 8], 2),
     (Made::Doubles(1), &[1, 3, 8], 2),
@@ -50,7 +50,7 @@ fn is_right<R: Threads + Sync, A: Memory>(
         Made::ScanBoard => scan_boards::answers_by_hand(heap),
         Made::LeastBoard => lowered_places::answers_by_hand(heap),
         Made::World => worlds::answers_by_hand(heap),
-        Made::List => pieces::is_in_order(rt, heap, threads),
+        Made::Sums => crews::are_summed(rt, heap, threads, 4),
         Made::Doubles(length) => {
             doubles::are_written(rt, heap, threads, *length, &Counter::new(0))
         }

@@ -3,11 +3,13 @@
 ghost use Rattle.boards.specs.Boards.{IsSeatOf};
 
 use crate::counter::Counter;
+use crate::crews::are_summed;
 use crate::tiles::CountedTiles;
 use boards::{Back, Claim, ScanBoard, ScanSeat};
 use cvl_base::monoids::Add;
-use cvl_base::{Memory, NoResources};
+use cvl_base::{Config, Memory, NoResources};
 use refusing_memory::Refusing;
+use sharing::all_workers;
 use status_word::Status;
 use std::test::Fail;
 use std::thread::{Threads, join_mut};
@@ -48,21 +50,25 @@ const TILES: usize = 1_000;
 /// How often a worker claims: for each tile, and 1,000 times and more after it was told that none is left.
 const CLAIMS: u32 = 2_001;
 
-/// One worker's part: it claims tiles, and tells the sum and the prefix of each. The answer is whether each look-back was right.
+/// One worker's part: it claims tiles, and tells the sum and the prefix of each. The answer is whether each look-back was right, and
+/// each claim behind one that was told that no tile is left was told so again.
 fn work<A: Memory>(board: &ScanBoard<CountedTiles<'_>, A>, seat: &mut ScanSeat<Add>) -> bool
     requires { IsSeatOf board.now seat.old }
     ensures { IsSeatOf board.now seat.new }
 {
     let mut right = true;
+    let mut done = false;
     for _claim in 0..CLAIMS {
         if let Claim::Tile(t) = board.claim(seat) {
             board.tell_sum(seat, t);
             let back = board.look_back(seat, t);
             board.tell_prefix(seat, t, back.before);
-            right &= i64::from(back.before.1) == i64::from(t);
+            right &= !done && i64::from(back.before.1) == i64::from(t);
+        } else {
+            done = true;
         }
     }
-    right
+    right && done
 }
 
 /// Two workers' parts, each in a thread of its own, and whether both are right.
@@ -120,7 +126,7 @@ fn by_two_threads<R: Threads + Sync, A: Memory>(
 
 /// Beside a worker that has stopped, twenty times; and beside one that never claims, where a worker stands still inside a call of
 /// the board. That one holds up no other: the other one is given all other tiles, each of which is added up once for its sum and
-/// once for its prefix.
+/// once for its prefix. And of a board of no tiles each of 64 seats is told so at once.
 #[test]
 fn workers_in_threads(rt: HostRuntime) -> Result<(), Fail> {
     let heap = Refusing::none(rt.alloc());
@@ -132,5 +138,6 @@ fn workers_in_threads(rt: HostRuntime) -> Result<(), Fail> {
     let told = by_two_threads(&rt, &heap, &counter, false);
     assert_eq!(rt; told, Ok((1000, true)));
     assert!(rt; !counter.is_overdue());
+    assert!(rt; are_summed(&rt, &heap, all_workers(Config::new(1, 64)?), 0)?);
     Ok(())
 }
