@@ -1,6 +1,7 @@
 //! The inner lists of a nested text, read in pieces of it, each by a thread of its own.
 
-ghost use Rattle.std.specs.Prelude.{◌≡◌, ◌<◌, ◌≤◌, ◌==◌, ◌++◌, false, not, true, length, drop, slice_index, take, IfOk, IfSome, IsTrue};
+ghost use Rattle.std.specs.Prelude.{◌≡◌, ◌<◌, ◌≤◌, ◌==◌, ◌++◌, false, not, true, length, drop, slice_index, take, IfOk, IfSome};
+ghost use Rattle.std.specs.Prelude.{IsTrue};
 ghost use Rattle.std.specs.List.{list_all};
 ghost use Rattle.line_reader.specs.Tokens.{begins_with_part};
 ghost use Rattle.call_reader.specs.NestedTexts.{marks_of, nested_class};
@@ -30,8 +31,8 @@ fn bytes_before_list(bytes: &[u8]) -> usize
     bytes.len()
 }
 
-/// The bytes in two, of which the second begins with the first `[` from where the share of the first few threads ends, or there is
-/// none.
+/// The bytes in two, of which the second begins with the first `[` from where the share of the first few threads ends, or there
+/// is none.
 fn cut_at_list(bytes: &[u8], few: ThreadCount, threads: ThreadCount) -> (&[u8], &[u8])
     requires { few ≤ threads }
     ensures whole { result.0.now ++ result.1.now ≡ bytes.now }

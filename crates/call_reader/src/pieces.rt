@@ -61,8 +61,8 @@ impl<'a> Part<i32> for Piece<'a> {
     }
 }
 
-/// The bytes in two, of which the second begins with white space, or there is none: where the share of one of so many threads ends,
-/// or at the end of the token that stands there.
+/// The bytes in two, of which the second begins with white space, or there is none: where the share of one of so many threads
+/// ends, or at the end of the token that stands there.
 fn cut_near(bytes: &[u8], threads: usize) -> (&[u8], &[u8])
     requires { 1 ≤ threads }
     ensures whole { result.0.now ++ result.1.now ≡ bytes.now }

@@ -1,7 +1,8 @@
 -- The sum of a range over whole numbers, from what stands before the tile that holds its last element, and its elements in the tile.
 -- Source: what the definitions of Checked and Exact imply.
 use Rattle.checked_tile_scans.proofs.Cited.{◌≡◌, ◌∙◌, ◌+◌, ◌-◌, ◌<◌, ◌≤◌, ◌+ℤ◌, ◌++◌, sym, ap, subst, ℕ, Bool, true, false, ℤ, pos, w64, FitsSigned, to_z, of_z, List, length, take, drop, get_or}
-use Rattle.checked_tile_scans.proofs.Cited.{slice_range, arith, Option, Some, None, AllPass, length-drop, length-map, length-take, get_or-map-range_with_len, length-map-range_with_len, total_of, InWords, word-in}
+use Rattle.checked_tile_scans.proofs.Cited.{slice_range, arith, Option, Some, None, AllPass, length-drop, length-map, length-take, get_or-map-range_with_len, length-map-range_with_len, total_of}
+use Rattle.checked_tile_scans.proofs.Cited.{InWords, word-in}
 use Rattle.checked_tile_scans.proofs.Cited.{is_number, most_elements, continued_summed, all_whole, whole_laws, range_of, tile_count, flagged}
 use Rattle.std.proofs.Common.{take-add}
 use Rattle.std.proofs.lemmas.List.{drop-drop}

@@ -24,8 +24,8 @@ pub trait Writer<T> {
 }
 
 /// What writes any run of a vector of which some items may have no value, and finds the first of these. Its meaning is the list
-/// of all items as they are written, whatever is written for those without a value, the list of the values, and of the places from
-/// one on, so many, how many the first few of so many threads write.
+/// of all items as they are written, whatever is written for those without a value, the list of the values, and of the places
+/// from one on, so many, how many the first few of so many threads write.
 pub trait CheckedWriter<T> {
     ghost whole: { Self → List T };
 

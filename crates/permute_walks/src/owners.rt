@@ -2,7 +2,8 @@
 //! Each reads all indices, writes and marks the places of its range to which an index sends, and counts its marks. So no two
 //! threads write one place, no place is waited for, and each thread's writes lie close together.
 
-ghost use Rattle.std.specs.Prelude.{◌≡◌, ◌+◌, ◌*◌, ◌/◌, ◌≤◌, ℤ, List, Option, length, replicate, IfOk, IfSome, is_none, is_some, vec_len};
+ghost use Rattle.std.specs.Prelude.{◌≡◌, ◌+◌, ◌*◌, ◌/◌, ◌≤◌, ℤ, List, Option, length, replicate, IfOk, IfSome, is_none, is_some};
+ghost use Rattle.std.specs.Prelude.{vec_len};
 ghost use Rattle.std.specs.Thread.{IsSend, IsSync};
 ghost use Rattle.cvl_base.specs.Limits.{most_elements};
 ghost use Rattle.cvl_base.specs.Permutes.{first_fault, wrongs};
@@ -102,8 +103,8 @@ fn write_ranges<T: Copy + Send, R: Threads + Sync, W: Owner<T> + Sync>(
     )
 }
 
-/// `write_ranges` for two ranges, each in a thread of its own: how many places are marked in both. The first is that of the first few
-/// of the threads, in whole words of marks.
+/// `write_ranges` for two ranges, each in a thread of its own: how many places are marked in both. The first is that of the first
+/// few of the threads, in whole words of marks.
 #[cycle(ranges)]
 fn write_both<T: Copy + Send, R: Threads + Sync, W: Owner<T> + Sync>(
     rt: &R,

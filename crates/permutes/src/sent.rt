@@ -1,7 +1,8 @@
 //! The elements of a permute: of a long result in one walk, which threads share, else in two, of which the first finds the
 //! senders.
 
-ghost use Rattle.std.specs.Prelude.{◌≡◌, ◌≤◌, ◌&&◌, IfOk, IfSome, IsTrue, None, Ok, filter_map, length, nat_le, slice_get, vec_len};
+ghost use Rattle.std.specs.Prelude.{◌≡◌, ◌≤◌, ◌&&◌, IfOk, IfSome, IsTrue, None, Ok, filter_map, length, nat_le, slice_get};
+ghost use Rattle.std.specs.Prelude.{vec_len};
 ghost use Rattle.cvl_base.specs.Gives.{Gives, unless};
 ghost use Rattle.cvl_base.specs.Limits.{most_elements};
 ghost use Rattle.cvl_base.specs.Permutes.{first_fault, wrongs};

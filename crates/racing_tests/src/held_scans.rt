@@ -11,8 +11,8 @@ use watching_gate::{Holds, Race, Watch};
 /// The length of a tile, how many tiles eight numbers have, and who is held of two workers.
 type Row = (u32, u32, Holds);
 
-/// Two workers are at work at one moment: each is held at its first tile until both have one. A worker that stands still at any point
-/// of any tile holds up no other: the other one finishes all other tiles.
+/// Two workers are at work at one moment: each is held at its first tile until both have one. A worker that stands still at any
+/// point of any tile holds up no other: the other one finishes all other tiles.
 const ROWS: [Row; 25] = [
     (4, 2, Holds::FirstTiles(2)),
     (1, 8, Holds::UntilOthers(Point::Claimed(0))),

@@ -1,5 +1,5 @@
-//! Scripts whose workers race in short tiles: each call, by one worker and by many, who are held there or not; the least of several
-//! faults, again and again; and the longest vector.
+//! Scripts whose workers race in short tiles: each call, by one worker and by many, who are held there or not; the least of
+//! several faults, again and again; and the longest vector.
 
 use crew::Point;
 use std::test::Fail;

@@ -50,8 +50,8 @@ const TILES: usize = 1_000;
 /// How often a worker claims: for each tile, and 1,000 times and more after it was told that none is left.
 const CLAIMS: u32 = 2_001;
 
-/// One worker's part: it claims tiles, and tells the sum and the prefix of each. The answer is whether each look-back was right, and
-/// each claim behind one that was told that no tile is left was told so again.
+/// One worker's part: it claims tiles, and tells the sum and the prefix of each. The answer is whether each look-back was right,
+/// and each claim behind one that was told that no tile is left was told so again.
 fn work<A: Memory>(board: &ScanBoard<CountedTiles<'_>, A>, seat: &mut ScanSeat<Add>) -> bool
     requires { IsSeatOf board.now seat.old }
     ensures { IsSeatOf board.now seat.new }

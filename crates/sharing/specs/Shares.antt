@@ -2,7 +2,8 @@
 -- Source: this library's profile.
 use Rattle.std.specs.Prelude.{ℕ, ◌*◌, ◌/◌, max, min, nat_lt, if◌then◌else◌}
 use Rattle.cvl_base.specs.Limits.{most_elements}
-use Rattle.sharing.specs.Thresholds.{least_cleared, least_cleared_each, least_each, least_read, least_read_each, least_searched, least_shared}
+use Rattle.sharing.specs.Thresholds.{least_cleared, least_cleared_each, least_each, least_read, least_read_each, least_searched}
+use Rattle.sharing.specs.Thresholds.{least_shared}
 use Rattle.sharing.specs.Thresholds.{least_written, least_written_each}
 
 -- how many threads share so many items: as many as can have `each` of them, but at most `most`; one where there are fewer than `least`

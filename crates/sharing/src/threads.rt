@@ -2,7 +2,8 @@
 
 ghost use Rattle.std.specs.Prelude.{◌≡◌, ◌<◌, ◌≤◌};
 ghost use Rattle.cvl_base.specs.Limits.{most_elements};
-ghost use Rattle.sharing.specs.Shares.{clearing_threads, reading_threads, searching_threads, share_among, text_threads, writing_threads};
+ghost use Rattle.sharing.specs.Shares.{clearing_threads, reading_threads, searching_threads, share_among, text_threads};
+ghost use Rattle.sharing.specs.Shares.{writing_threads};
 
 use crate::thread_count::ThreadCount;
 use crate::{

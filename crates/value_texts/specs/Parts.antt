@@ -13,7 +13,8 @@ module _ {P : Type 0} (IsCut : P → ℕ → P → P → Type 0) where
   abbrev pub AreCutInTurn : P → List P → Type 0
   AreCutInTurn whole [] = ⊥
   AreCutInTurn whole (last ∷ []) = last ≡ whole
-  AreCutInTurn whole (front ∷ next ∷ parts) = (others : P) × IsCut whole (length parts + 2) front others × AreCutInTurn others (next ∷ parts)
+  AreCutInTurn whole (front ∷ next ∷ parts) = (others : P) × IsCut whole (length parts + 2) front others
+      × AreCutInTurn others (next ∷ parts)
 
 -- the first n segments take at least so much to write, or are all, and one fewer take less: a segment takes its elements and one more
 pub record AreFewest (lengths : List ℤ) (least n : ℕ) : Type 0 where

@@ -160,7 +160,8 @@ impl<'a, T: Written> Cut<u8> for SegmentTexts<'a, T> {
     ghost use Rattle.value_texts.specs.Parts.{AreFewest};
 
     ghost IsCut = { λ part parts front others. (front.lengths.now ++ others.lengths.now ≡ part.lengths.now)
-        × AreFewest part.lengths.now (share_of_first 1 parts (length part.xs.now + length part.lengths.now)) (length front.lengths.now) };
+        × AreFewest part.lengths.now (share_of_first 1 parts (length part.xs.now + length part.lengths.now))
+        (length front.lengths.now) };
 
     fn cut(self, parts: usize) -> (SegmentTexts<'a, T>, SegmentTexts<'a, T>) {
         let least = share_of_first(1, parts, self.xs.len() + self.lengths.len());

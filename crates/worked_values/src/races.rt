@@ -1,10 +1,11 @@
-//! Worked values of races: the tile and the workers of the race for so many elements, by the tile and the workers that are asked for.
+//! Worked values of races: the tile and the workers of the race for so many elements, by the tile and the workers that are asked
+//! for.
 
 ghost use Rattle.std.specs.Prelude.{◌≡◌, None, Some, false, true};
 ghost use Rattle.sharing.specs.Races.{permute_race, race_of, reduce_race, scan_race, search_race};
 
-/// In tiles of 1,024 elements or more there is a race where it pays, for two workers or more who have 131,072 elements each, in tiles
-/// that leave 16 to each of them, but no tile is shorter than is asked for, nor longer than 65,536.
+/// In tiles of 1,024 elements or more there is a race where it pays, for two workers or more who have 131,072 elements each, in
+/// tiles that leave 16 to each of them, but no tile is shorter than is asked for, nor longer than 65,536.
 pub fn long_tiles()
     ensures one_element { scan_race (1024, 4) 1 ≡ None }
     ensures below_two { scan_race (4096, 4) 262143 ≡ None }

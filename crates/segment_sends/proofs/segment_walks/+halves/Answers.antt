@@ -28,5 +28,6 @@ write_shared-write_both-front-requires-clause-back_share g t c κs within =
 pub write_shared-returns : goal.write_shared-returns
 write_shared-returns g t c =
     let cut = c.middle_of-middle.ensures in
-    shares_both c.requires.share cut.in_order cut.within (λ i. c.places_before.ensures i - c.first.ensures i) c.split_at-front.ensures.first c.split_at-front.ensures.second c.write_both-front.ensures.front c.write_both-front.ensures.back
+    shares_both c.requires.share cut.in_order cut.within (λ i. c.places_before.ensures i - c.first.ensures i) c.split_at-front.ensures.first c.split_at-front.ensures.second
+    c.write_both-front.ensures.front c.write_both-front.ensures.back
     c.joined.result c.joined.ensures
