@@ -2,14 +2,11 @@ use Rattle.std.proofs.Common.{◌∙◌, ap, ◌≤◌, arith}
 use Rattle.status_word.specs.Passes.{known_at, told_state}
 use Rattle.status_word.specs.Words.{state_of}
 use Rattle.boards.proofs.Walking.{find_silent}
-use Rattle.boards.proofs.board.ScanBoard.find.Given.{Over}
 use Rattle.boards.proofs.board.ScanBoard.find.Goals as goal
-
--- a silent tile is one of which nothing was known
-silent_known : (g : Over) (c : goal.After-result-1 g) → known_at c.args.at c.args.seat.now.pass ≤ 0
-silent_known g c = omega (arith, ap state_of c.in-Silent.is)
 
 pub returns-in-Silent-clause-step : goal.returns-in-Silent-clause-step
 returns-in-Silent-clause-step g c =
+    -- a silent tile is one of which nothing was known
+    let silent_known : known_at c.args.at c.args.seat.now.pass ≤ 0 = omega (arith, ap state_of c.in-Silent.is) in
     find_silent c.args.at c.args.seat.now.pass c.tell_known_sum.new.seat.pass
-    (ap (λ s. s.pass) c.tell_known_sum.ensures.told ∙ ap (λ s. told_state s.pass c.args.at 1) c.in-Silent.ensures.seen) (silent_known g c)
+    (ap (λ s. s.pass) c.tell_known_sum.ensures.told ∙ ap (λ s. told_state s.pass c.args.at 1) c.in-Silent.ensures.seen) silent_known
