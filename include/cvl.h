@@ -1,55 +1,67 @@
 /*
  * cvl.h: the vector calls of CVL, the C Vector Library, on a caller's own memory.
  *
- * Link with libcvl_c.a, bindings/c/calls.c and the parts in C of the kit that built them; docs/embedding.md shows how. What
- * ./install puts there has all of it in one archive and in one shared object. C99, and usable from C++.
+ * Written by bindings/generate from bindings/table.py; edit that and not this file.
  *
- * Every call answers a CvlStatus: number 0 where all is done, the number of a fault, with its place or -1, 100 where memory
- * ran out, 101 where there is no descriptor, or 102 where arrays overlap. Where all is done the result is in the caller's room,
- * the last array, value or values given. Else the room is as it was. Each array comes as a pointer and a number of elements.
+ * Link with -lcvl, of which ./install makes an archive and a shared object; docs/embedding.md shows how. C99 to C23, and C++.
+ *
+ * Every call answers a CvlStatus: number 0 where all is done, the number of a fault, with its place or -1, 100 where memory ran
+ * out, 101 where there is no descriptor, or 102 where arrays overlap. Where all is done the result is in the caller's room, the
+ * last array, value or values given. Else the room is as it was.
+ *
+ * Arrays come in the order of the call's operands. A number of elements stands right behind the last array that has so many,
+ * and in the functions of families behind each array. The lengths of segments are one argument, a CvlLengths. The room is the
+ * last array, and behind it stand at most its number of elements and what is told. A place and a count that a caller gives are
+ * an int64_t, so that one outside of 32 bits is told as any other that is out of range.
  *
  * A function whose last argument is a count tells how many elements there are. They are at the front of the room, and the rest
  * of the room is as it was. Where the room is too short, it is as it was, the status is 7 LengthMismatch, and the count is how
  * many elements there have to be room for; a first call with room for none asks for that. At any other fault the count is as it
  * was too.
  *
- * A room is whatever a function writes, counts and single values too. A room that shares memory with another argument is told: the
- * status is 102 Overlap, without a place, and nothing is written. That is looked at before all else. One overlap is none, a call
- * in place: a vector that a function reads may be its room, from the first to the last element, where the line "In place" of a
- * call says so, and for each export that has others of its name and `_in`. The answer is the same then, and at a fault the vector
- * is as it was. Arrays that are only read may overlap. An array of 0 elements overlaps nothing, and its pointer may be null.
+ * A room is whatever a function writes, counts and single values too. A room that shares memory with another argument is told:
+ * the status is 102 Overlap, without a place, and nothing is written. One overlap is none, a call in place: a vector that a
+ * function reads may be its room, from the first to the last element, where the line "In place" of a call says so, and in its
+ * family. The answer is the same then, and at a fault the vector is as it was. Arrays that are only read may overlap. An array
+ * of 0 elements overlaps nothing, and its pointer may be null.
  *
- * A boolean is a byte, and any byte but 0 is true, as in C. That is so for each array of booleans that a function reads, its
- * parameters of the type const bool *; an array of another type of bytes may be passed by a cast, since no function reads it as
- * bool. Booleans that are results are 0 and 1. Packs, permutes, scans, texts, and replaces and distributes in segments read booleans
- * where they lie if each is 0 or 1, and else take memory for a copy, one byte an element; without it the status is 100 NoResources,
- * and the room is as it was. All other functions read any bytes where they lie.
+ * A boolean is a byte, and any byte but 0 is true, as in C. That is so for each array of booleans that a function reads, and
+ * for a boolean by value; an array of another type of bytes may be passed by a cast, since no function reads it as bool.
+ * Booleans that are results are 0 and 1. Packs, permutes, scans, texts, and replaces and distributes in segments read booleans
+ * where they lie if each is 0 or 1, and else take memory for a copy, one byte an element. All other functions read any bytes
+ * where they lie.
  *
  * What a caller owes, and what it costs where it isn't so:
+ *
  *   - A pointer leads to as many elements as is said, aligned for their type, which may be read and in a room written. Else the
  *     call may crash, or read or write other memory.
  *   - While a call is at work no other thread writes its arrays, or reads its rooms. Else the results are any, and the call may
  *     crash or write other memory.
  *   - The program has one malloc, realloc and free. Else memory is given back to an allocator that it isn't from.
  *   - The lengths of a descriptor live as long as calls take it. Else the call may crash or read other memory.
- *   - Code of other languages that calls the export of a family, as cvl_int2, gives no room that shares memory with another argument.
- *     Else the results are any, and the call may crash or write other memory. The same is so of a boolean that is neither 0 nor 1 in
- *     an array of a pack, a permute, a scan, a text, or a replace or a distribute in segments: cvl_make_flags makes it one. A call
- *     under its own name, as cvl_add_wuz, tells overlaps to every language, and takes any byte.
- * All else is checked: whatever lengths, indices, operators and rooms are given, a call ends with a status. It runs on the thread
- * that calls. Several threads may call at once.
  *
- * Faults, beside those named at each function:
- *   2 UnknownCall, without a place, where a number is that of no operator of the family, asked first;
- *  13 TooLong, without a place, where the vector that a call goes by has more than 4194304 elements: its first vector, the flags of
- *     a pack, or the index of a permute; asked next, on segments after the lengths. A call on segments other than a permute asks
- *     no vector: there are at most 4194304 lengths, which add up to at most as much, and a longer vector has not as many elements
- *     as they add up to, which is 7;
- *   7 LengthMismatch, without a place, where vectors that belong together are not equally long, and where a room is not as long
- *     as the result, or shorter where a count is told; a room is asked last.
- * Other vectors may be longer than 4194304 elements where they need not be as long as another: the source of a back permute, the
- * defaults of a permute, and the vectors of which one element is taken or replaced.
- * Places count from 0. Where two faults are there, the first in the order of the comment is told.
+ * All else is checked, from C and from every language that calls by name: whatever lengths, indices, operators and rooms are
+ * given, a call ends with a status. It runs on the thread that calls, and several threads may call at once.
+ *
+ * Where several faults are there, the first of these is told; places count from 0:
+ *
+ *   - 102 Overlap; where there is no descriptor, 101 NoDescriptor, before overlaps of other arguments than it;
+ *   - 2 UnknownCall, without a place, where a number is that of no operator of the family;
+ *   - 13 TooLong, without a place, where the vector that a call goes by has more than 4194304 elements: its first vector, the
+ *     flags of a pack, or the index of a permute; on segments after the lengths. A call on segments other than a permute asks
+ *     no vector: there are at most 4194304 lengths, which add up to at most as much, and a longer vector has not as many
+ *     elements as they add up to, which is 7. A vector that is too long is not read;
+ *   - 13, 12 and 13 again by the lengths of segments;
+ *   - 7 LengthMismatch, without a place, where vectors that belong together are not equally long, and then where a room is not
+ *     as long as the result, or shorter where a count is told;
+ *   - 100 NoResources;
+ *   - the faults of elements, in the order of the comment. Of a text that is read a room that is too short comes last.
+ *
+ * Other vectors may be longer than 4194304 elements where they need not be as long as another: the source of a back permute,
+ * the defaults of a permute, and the vectors of which one element is taken or replaced.
+ *
+ * Each call of the table has its name with the prefix cvl_, as cvl_add_wuz. Where CVL_SHORT_NAMES is defined before this header
+ * is included it has the name without it too.
  */
 #ifndef CVL_H
 #define CVL_H
@@ -57,8 +69,6 @@
 #include <stdbool.h>
 #include <stddef.h>
 #include <stdint.h>
-#include <stdlib.h>
-#include <string.h>
 
 #ifdef __cplusplus
 extern "C" {
@@ -86,7 +96,7 @@ extern "C" {
 
 /* What a call answers. */
 typedef struct CvlStatus {
-    uint32_t number; /* 0 where all is done, the number of a fault, or 100 or more, as below */
+    uint32_t number; /* 0 where all is done, the number of a fault, or 100 or more */
     int64_t place;   /* the place of the fault, counted from 0, or -1 */
 } CvlStatus;
 
@@ -111,6 +121,12 @@ enum {
 /* The most elements of a vector, and the greatest total of a descriptor. */
 enum { CVL_MOST_ELEMENTS = 4194304 };
 
+/* The lengths of segments, one for each, empty ones too: CvlLengths rows = {lengths, segments}. */
+typedef struct CvlLengths {
+    const int32_t *lengths;
+    size_t segments; /* how many there are */
+} CvlLengths;
+
 /* The numbers of operators. On two integers: CVL_ADD to CVL_RSH; on two booleans: CVL_AND, CVL_IOR, CVL_XOR. */
 enum {
     CVL_ADD = 0, /* the sum, wrapped to 32 bits */
@@ -125,12 +141,12 @@ enum {
     CVL_MOD = 9, /* the remainder of that quotient, with the dividend's sign */
     CVL_LSH = 10, /* the first, shifted left by the second */
     CVL_RSH = 11, /* the first, shifted right by the second; the sign is copied */
-    CVL_GRT = 12, /* the comparisons: greater, less, at least, at most, equal, unequal */
-    CVL_LES = 13,
-    CVL_GEQ = 14,
-    CVL_LEQ = 15,
-    CVL_EQL = 16,
-    CVL_NEQ = 17,
+    CVL_GRT = 12, /* whether the first is greater */
+    CVL_LES = 13, /* whether it is less */
+    CVL_GEQ = 14, /* whether it is at least the second */
+    CVL_LEQ = 15, /* whether it is at most the second */
+    CVL_EQL = 16, /* whether they are equal */
+    CVL_NEQ = 17, /* whether they are not */
     CVL_NOT = 18, /* on one vector: each bit, or each boolean, inverted */
     CVL_CPY = 19  /* the same again */
 };
@@ -143,24 +159,25 @@ const char *cvl_version(void);
 /* The name of the number of a status, as "DivideByZero"; "Unknown" where it is no such number. */
 const char *cvl_fault_name(uint32_t number);
 
-/* ---- place by place: exports ---- */
+/* ---- place by place: families ---- */
 
 /* The operator on each two integers at the same place. */
-CVL_CHECKED CvlStatus cvl_int2(
-    uint32_t op, const int32_t *a, size_t a_len, const int32_t *b, size_t b_len, int32_t *out, size_t out_len);
+CVL_CHECKED CvlStatus cvl_int2(uint32_t op, const int32_t *a, size_t a_len, const int32_t *b, size_t b_len, int32_t *out,
+    size_t out_len);
+
+/* The operator on each two booleans at the same place. */
+CVL_CHECKED CvlStatus cvl_bool2(uint32_t op, const bool *a, size_t a_len, const bool *b, size_t b_len, bool *out,
+    size_t out_len);
 
 /* The operator, CVL_NOT or CVL_CPY, on each integer. */
 CVL_CHECKED CvlStatus cvl_int1(uint32_t op, const int32_t *a, size_t a_len, int32_t *out, size_t out_len);
 
-/* The comparison of each two integers at the same place, on signed numbers. */
-CVL_CHECKED CvlStatus cvl_compare(
-    uint32_t op, const int32_t *a, size_t a_len, const int32_t *b, size_t b_len, bool *out, size_t out_len);
-
-/* The operator on each two booleans at the same place. */
-CVL_CHECKED CvlStatus cvl_bool2(uint32_t op, const bool *a, size_t a_len, const bool *b, size_t b_len, bool *out, size_t out_len);
-
 /* The operator, CVL_NOT or CVL_CPY, on each boolean. */
 CVL_CHECKED CvlStatus cvl_bool1(uint32_t op, const bool *a, size_t a_len, bool *out, size_t out_len);
+
+/* The comparison of each two integers at the same place, on signed numbers. */
+CVL_CHECKED CvlStatus cvl_compare(uint32_t op, const int32_t *a, size_t a_len, const int32_t *b, size_t b_len, bool *out,
+    size_t out_len);
 
 /* 1 for true and 0 for false. */
 CVL_CHECKED CvlStatus cvl_int_from_bool(const bool *a, size_t a_len, int32_t *out, size_t out_len);
@@ -169,28 +186,28 @@ CVL_CHECKED CvlStatus cvl_int_from_bool(const bool *a, size_t a_len, int32_t *ou
 CVL_CHECKED CvlStatus cvl_bool_from_int(const int32_t *a, size_t a_len, bool *out, size_t out_len);
 
 /* At each place the element of a where the flag is true, else that of b. */
-CVL_CHECKED CvlStatus cvl_select_int(
-    const bool *flags, size_t flags_len, const int32_t *a, size_t a_len, const int32_t *b, size_t b_len, int32_t *out, size_t out_len);
+CVL_CHECKED CvlStatus cvl_select_int(const bool *flags, size_t flags_len, const int32_t *a, size_t a_len, const int32_t *b,
+    size_t b_len, int32_t *out, size_t out_len);
 
 /* At each place the element of a where the flag is true, else that of b. */
-CVL_CHECKED CvlStatus cvl_select_bool(
-    const bool *flags, size_t flags_len, const bool *a, size_t a_len, const bool *b, size_t b_len, bool *out, size_t out_len);
+CVL_CHECKED CvlStatus cvl_select_bool(const bool *flags, size_t flags_len, const bool *a, size_t a_len, const bool *b,
+    size_t b_len, bool *out, size_t out_len);
 
-/* ---- scans and reduces: exports ---- */
+/* ---- scans and reduces: families ---- */
 
 /* For each integer those before it, joined by the operator, of CVL_ADD to CVL_XOR. */
 CVL_CHECKED CvlStatus cvl_int_scan(uint32_t op, const int32_t *a, size_t a_len, int32_t *out, size_t out_len);
 
-/* The integers joined by the operator, of CVL_ADD to CVL_XOR. */
-CVL_CHECKED CvlStatus cvl_int_reduce(uint32_t op, const int32_t *a, size_t a_len, int32_t *out);
-
 /* For each boolean those before it, joined by the operator, of CVL_AND to CVL_XOR. */
 CVL_CHECKED CvlStatus cvl_bool_scan(uint32_t op, const bool *a, size_t a_len, bool *out, size_t out_len);
+
+/* The integers joined by the operator, of CVL_ADD to CVL_XOR. */
+CVL_CHECKED CvlStatus cvl_int_reduce(uint32_t op, const int32_t *a, size_t a_len, int32_t *out);
 
 /* The booleans joined by the operator, of CVL_AND to CVL_XOR. */
 CVL_CHECKED CvlStatus cvl_bool_reduce(uint32_t op, const bool *a, size_t a_len, bool *out);
 
-/* ---- sums that never wrap: exports ---- */
+/* ---- sums that never wrap: families ---- */
 
 /* For each integer the sum of those before it. */
 CVL_CHECKED CvlStatus cvl_checked_scan(const int32_t *a, size_t a_len, int32_t *out, size_t out_len);
@@ -199,218 +216,200 @@ CVL_CHECKED CvlStatus cvl_checked_scan(const int32_t *a, size_t a_len, int32_t *
 CVL_CHECKED CvlStatus cvl_checked_reduce(const int32_t *a, size_t a_len, int32_t *out);
 
 /* For each integer the sum of those before it in its segment. */
-CVL_CHECKED CvlStatus cvl_seg_checked_scan(
-    const int32_t *a, size_t a_len, const int32_t *lengths, size_t segments, int32_t *out, size_t out_len);
+CVL_CHECKED CvlStatus cvl_seg_checked_scan(const int32_t *a, size_t a_len, CvlLengths lengths, int32_t *out, size_t out_len);
 
 /* The sum of each segment. */
-CVL_CHECKED CvlStatus cvl_seg_checked_reduce(
-    const int32_t *a, size_t a_len, const int32_t *lengths, size_t segments, int32_t *out, size_t out_len);
+CVL_CHECKED CvlStatus cvl_seg_checked_reduce(const int32_t *a, size_t a_len, CvlLengths lengths, int32_t *out, size_t out_len);
 
-/* ---- counts, single elements, and vectors of a given length: exports ---- */
+/* ---- counts, single elements, and vectors of a given length: families ---- */
 
 /* The number of true flags. */
 CVL_CHECKED CvlStatus cvl_count(const bool *flags, size_t flags_len, int32_t *out);
 
 /* The element at an index. Vectors of any length. */
-CVL_CHECKED CvlStatus cvl_extract_int(const int32_t *vector, size_t vector_len, int32_t index, int32_t *out);
+CVL_CHECKED CvlStatus cvl_extract_int(const int32_t *vector, size_t vector_len, int64_t index, int32_t *out);
 
 /* The element at an index. Vectors of any length. */
-CVL_CHECKED CvlStatus cvl_extract_bool(const bool *vector, size_t vector_len, int32_t index, bool *out);
+CVL_CHECKED CvlStatus cvl_extract_bool(const bool *vector, size_t vector_len, int64_t index, bool *out);
 
 /* The vector with another element at an index. Vectors of any length. */
-CVL_CHECKED CvlStatus cvl_replace_int(
-    const int32_t *vector, size_t vector_len, int32_t index, int32_t value, int32_t *out, size_t out_len);
+CVL_CHECKED CvlStatus cvl_replace_int(const int32_t *vector, size_t vector_len, int64_t index, int32_t value, int32_t *out,
+    size_t out_len);
 
 /* The vector with another element at an index. Vectors of any length. */
-CVL_CHECKED CvlStatus cvl_replace_bool(
-    const bool *vector, size_t vector_len, int32_t index, bool value, bool *out, size_t out_len);
+CVL_CHECKED CvlStatus cvl_replace_bool(const bool *vector, size_t vector_len, int64_t index, bool value, bool *out,
+    size_t out_len);
 
 /* Copies of a value, count of them. */
-CVL_CHECKED CvlStatus cvl_distribute_int(int32_t value, int32_t count, int32_t *out, size_t out_len);
+CVL_CHECKED CvlStatus cvl_distribute_int(int32_t value, int64_t count, int32_t *out, size_t out_len);
 
 /* Copies of a value, count of them. */
-CVL_CHECKED CvlStatus cvl_distribute_bool(bool value, int32_t count, bool *out, size_t out_len);
+CVL_CHECKED CvlStatus cvl_distribute_bool(bool value, int64_t count, bool *out, size_t out_len);
 
 /* The numbers init + k * stride, each wrapped to 32 bits, count of them. */
-CVL_CHECKED CvlStatus cvl_index(int32_t init, int32_t stride, int32_t count, int32_t *out, size_t out_len);
+CVL_CHECKED CvlStatus cvl_index(int32_t init, int32_t stride, int64_t count, int32_t *out, size_t out_len);
 
-/* ---- segments, which come as their lengths: exports ---- */
+/* ---- segments, which come as their lengths: families ---- */
 
 /* Whether the numbers are lengths of segments, and their total. */
-CVL_CHECKED CvlStatus cvl_make_descriptor(const int32_t *lengths, size_t segments, size_t *total);
+CVL_CHECKED CvlStatus cvl_make_descriptor(CvlLengths lengths, size_t *total);
 
 /* The element of each segment at its index. */
-CVL_CHECKED CvlStatus cvl_seg_extract_int(
-    const int32_t *vector, size_t vector_len, const int32_t *index, size_t index_len, const int32_t *lengths, size_t segments, int32_t *out, size_t out_len);
+CVL_CHECKED CvlStatus cvl_seg_extract_int(const int32_t *vector, size_t vector_len, const int32_t *index, size_t index_len,
+    CvlLengths lengths, int32_t *out, size_t out_len);
 
 /* The element of each segment at its index. */
-CVL_CHECKED CvlStatus cvl_seg_extract_bool(
-    const bool *vector, size_t vector_len, const int32_t *index, size_t index_len, const int32_t *lengths, size_t segments, bool *out, size_t out_len);
+CVL_CHECKED CvlStatus cvl_seg_extract_bool(const bool *vector, size_t vector_len, const int32_t *index, size_t index_len,
+    CvlLengths lengths, bool *out, size_t out_len);
 
 /* The vector with another element in each segment, at its index. */
-CVL_CHECKED CvlStatus cvl_seg_replace_int(
-    const int32_t *vector, size_t vector_len, const int32_t *index, size_t index_len, const int32_t *values, size_t values_len,
-    const int32_t *lengths, size_t segments, int32_t *out, size_t out_len);
+CVL_CHECKED CvlStatus cvl_seg_replace_int(const int32_t *vector, size_t vector_len, const int32_t *index, size_t index_len,
+    const int32_t *values, size_t values_len, CvlLengths lengths, int32_t *out, size_t out_len);
 
 /* The vector with another element in each segment, at its index. */
-CVL_CHECKED CvlStatus cvl_seg_replace_bool(
-    const bool *vector, size_t vector_len, const int32_t *index, size_t index_len, const bool *values, size_t values_len,
-    const int32_t *lengths, size_t segments, bool *out, size_t out_len);
+CVL_CHECKED CvlStatus cvl_seg_replace_bool(const bool *vector, size_t vector_len, const int32_t *index, size_t index_len,
+    const bool *values, size_t values_len, CvlLengths lengths, bool *out, size_t out_len);
 
 /* Copies of the value of each segment, as many as it has places. */
-CVL_CHECKED CvlStatus cvl_seg_distribute_int(
-    const int32_t *values, size_t values_len, const int32_t *lengths, size_t segments, int32_t *out, size_t out_len);
+CVL_CHECKED CvlStatus cvl_seg_distribute_int(const int32_t *values, size_t values_len, CvlLengths lengths, int32_t *out,
+    size_t out_len);
 
 /* Copies of the value of each segment, as many as it has places. */
-CVL_CHECKED CvlStatus cvl_seg_distribute_bool(
-    const bool *values, size_t values_len, const int32_t *lengths, size_t segments, bool *out, size_t out_len);
+CVL_CHECKED CvlStatus cvl_seg_distribute_bool(const bool *values, size_t values_len, CvlLengths lengths, bool *out,
+    size_t out_len);
 
 /* The numbers of each segment from its init on, in steps of its stride. */
-CVL_CHECKED CvlStatus cvl_seg_index(
-    const int32_t *inits, size_t inits_len, const int32_t *strides, size_t strides_len, const int32_t *lengths, size_t segments,
-    int32_t *out, size_t out_len);
+CVL_CHECKED CvlStatus cvl_seg_index(const int32_t *inits, size_t inits_len, const int32_t *strides, size_t strides_len,
+    CvlLengths lengths, int32_t *out, size_t out_len);
 
-/* ---- scans and reduces of segments: exports ---- */
+/* ---- scans and reduces of segments: families ---- */
 
 /* For each integer those before it in its segment, joined by the operator, of CVL_ADD to CVL_XOR. */
-CVL_CHECKED CvlStatus cvl_seg_int_scan(
-    uint32_t op, const int32_t *a, size_t a_len, const int32_t *lengths, size_t segments, int32_t *out, size_t out_len);
-
-/* The integers of each segment joined by the operator, of CVL_ADD to CVL_XOR. */
-CVL_CHECKED CvlStatus cvl_seg_int_reduce(
-    uint32_t op, const int32_t *a, size_t a_len, const int32_t *lengths, size_t segments, int32_t *out, size_t out_len);
+CVL_CHECKED CvlStatus cvl_seg_int_scan(uint32_t op, const int32_t *a, size_t a_len, CvlLengths lengths, int32_t *out,
+    size_t out_len);
 
 /* For each boolean those before it in its segment, joined by the operator, of CVL_AND to CVL_XOR. */
-CVL_CHECKED CvlStatus cvl_seg_bool_scan(
-    uint32_t op, const bool *a, size_t a_len, const int32_t *lengths, size_t segments, bool *out, size_t out_len);
+CVL_CHECKED CvlStatus cvl_seg_bool_scan(uint32_t op, const bool *a, size_t a_len, CvlLengths lengths, bool *out,
+    size_t out_len);
+
+/* The integers of each segment joined by the operator, of CVL_ADD to CVL_XOR. */
+CVL_CHECKED CvlStatus cvl_seg_int_reduce(uint32_t op, const int32_t *a, size_t a_len, CvlLengths lengths, int32_t *out,
+    size_t out_len);
 
 /* The booleans of each segment joined by the operator, of CVL_AND to CVL_XOR. */
-CVL_CHECKED CvlStatus cvl_seg_bool_reduce(
-    uint32_t op, const bool *a, size_t a_len, const int32_t *lengths, size_t segments, bool *out, size_t out_len);
+CVL_CHECKED CvlStatus cvl_seg_bool_reduce(uint32_t op, const bool *a, size_t a_len, CvlLengths lengths, bool *out,
+    size_t out_len);
 
-/* ---- packs and counts of segments: exports ---- */
+/* ---- packs and counts of segments: families ---- */
 
 /* The integers whose flag is true, in order, and how many they are. */
-CVL_CHECKED CvlStatus cvl_pack_int(
-    const int32_t *values, size_t values_len, const bool *flags, size_t flags_len, int32_t *out, size_t out_len, size_t *count);
+CVL_CHECKED CvlStatus cvl_pack_int(const int32_t *values, size_t values_len, const bool *flags, size_t flags_len, int32_t *out,
+    size_t out_len, size_t *count);
 
 /* The booleans whose flag is true, in order, and how many they are. */
-CVL_CHECKED CvlStatus cvl_pack_bool(
-    const bool *values, size_t values_len, const bool *flags, size_t flags_len, bool *out, size_t out_len, size_t *count);
+CVL_CHECKED CvlStatus cvl_pack_bool(const bool *values, size_t values_len, const bool *flags, size_t flags_len, bool *out,
+    size_t out_len, size_t *count);
 
 /* The integers of each segment whose flag is true, in order, one segment after another, and how many they are. */
-CVL_CHECKED CvlStatus cvl_seg_pack_int(
-    const int32_t *values, size_t values_len, const bool *flags, size_t flags_len, const int32_t *lengths, size_t segments,
-    int32_t *out, size_t out_len, size_t *count);
+CVL_CHECKED CvlStatus cvl_seg_pack_int(const int32_t *values, size_t values_len, const bool *flags, size_t flags_len,
+    CvlLengths lengths, int32_t *out, size_t out_len, size_t *count);
 
 /* The booleans of each segment whose flag is true, in order, one segment after another, and how many they are. */
-CVL_CHECKED CvlStatus cvl_seg_pack_bool(
-    const bool *values, size_t values_len, const bool *flags, size_t flags_len, const int32_t *lengths, size_t segments,
-    bool *out, size_t out_len, size_t *count);
+CVL_CHECKED CvlStatus cvl_seg_pack_bool(const bool *values, size_t values_len, const bool *flags, size_t flags_len,
+    CvlLengths lengths, bool *out, size_t out_len, size_t *count);
 
 /* The lengths of the segments of what a pack of segments keeps. */
-CVL_CHECKED CvlStatus cvl_packed_lengths(
-    const bool *flags, size_t flags_len, const int32_t *lengths, size_t segments, int32_t *out, size_t out_len);
+CVL_CHECKED CvlStatus cvl_seg_packed_lengths(const bool *flags, size_t flags_len, CvlLengths lengths, int32_t *out,
+    size_t out_len);
 
 /* The number of true flags of each segment. */
-CVL_CHECKED CvlStatus cvl_seg_count(
-    const bool *flags, size_t flags_len, const int32_t *lengths, size_t segments, int32_t *out, size_t out_len);
-/* ---- permutes: exports ---- */
+CVL_CHECKED CvlStatus cvl_seg_count(const bool *flags, size_t flags_len, CvlLengths lengths, int32_t *out, size_t out_len);
+
+/* ---- permutes: families ---- */
 
 /* Each element of the source at its index. */
-CVL_CHECKED CvlStatus cvl_permute_int(
-    const int32_t *source, size_t source_len, const int32_t *index, size_t index_len, int32_t *out, size_t out_len);
-
-/* Each element of the source at its index. */
-CVL_CHECKED CvlStatus cvl_permute_bool(
-    const bool *source, size_t source_len, const int32_t *index, size_t index_len, bool *out, size_t out_len);
-
-/* Each element of the source whose flag is true at its index. */
-CVL_CHECKED CvlStatus cvl_select_permute_int(
-    const int32_t *source, size_t source_len, const int32_t *index, size_t index_len, const bool *flags, size_t flags_len,
+CVL_CHECKED CvlStatus cvl_permute_int(const int32_t *source, size_t source_len, const int32_t *index, size_t index_len,
     int32_t *out, size_t out_len);
 
+/* Each element of the source at its index. */
+CVL_CHECKED CvlStatus cvl_permute_bool(const bool *source, size_t source_len, const int32_t *index, size_t index_len, bool *out,
+    size_t out_len);
+
 /* Each element of the source whose flag is true at its index. */
-CVL_CHECKED CvlStatus cvl_select_permute_bool(
-    const bool *source, size_t source_len, const int32_t *index, size_t index_len, const bool *flags, size_t flags_len,
-    bool *out, size_t out_len);
+CVL_CHECKED CvlStatus cvl_select_permute_int(const int32_t *source, size_t source_len, const int32_t *index, size_t index_len,
+    const bool *flags, size_t flags_len, int32_t *out, size_t out_len);
+
+/* Each element of the source whose flag is true at its index. */
+CVL_CHECKED CvlStatus cvl_select_permute_bool(const bool *source, size_t source_len, const int32_t *index, size_t index_len,
+    const bool *flags, size_t flags_len, bool *out, size_t out_len);
 
 /* Each element of the source at its index, and at a place to which none goes its default. */
-CVL_CHECKED CvlStatus cvl_default_permute_int(
-    const int32_t *source, size_t source_len, const int32_t *index, size_t index_len,
+CVL_CHECKED CvlStatus cvl_default_permute_int(const int32_t *source, size_t source_len, const int32_t *index, size_t index_len,
     const int32_t *defaults, size_t defaults_len, int32_t *out, size_t out_len);
 
 /* Each element of the source at its index, and at a place to which none goes its default. */
-CVL_CHECKED CvlStatus cvl_default_permute_bool(
-    const bool *source, size_t source_len, const int32_t *index, size_t index_len,
+CVL_CHECKED CvlStatus cvl_default_permute_bool(const bool *source, size_t source_len, const int32_t *index, size_t index_len,
     const bool *defaults, size_t defaults_len, bool *out, size_t out_len);
 
 /* At each place the element of the source at the place's index. */
-CVL_CHECKED CvlStatus cvl_back_permute_int(
-    const int32_t *source, size_t source_len, const int32_t *index, size_t index_len, int32_t *out, size_t out_len);
-
-/* At each place the element of the source at the place's index. */
-CVL_CHECKED CvlStatus cvl_back_permute_bool(
-    const bool *source, size_t source_len, const int32_t *index, size_t index_len, bool *out, size_t out_len);
-
-/* ---- permutes of segments: exports ---- */
-
-/* Each element of the source at its index in its segment. */
-CVL_CHECKED CvlStatus cvl_seg_permute_int(
-    const int32_t *source, size_t source_len, const int32_t *index, size_t index_len,
-    const int32_t *lengths, size_t segments, int32_t *out, size_t out_len);
-
-/* Each element of the source at its index in its segment. */
-CVL_CHECKED CvlStatus cvl_seg_permute_bool(
-    const bool *source, size_t source_len, const int32_t *index, size_t index_len, const int32_t *lengths, size_t segments,
-    bool *out, size_t out_len);
-
-/* Each element of the source whose flag is true at its index in its segment of the result. */
-CVL_CHECKED CvlStatus cvl_seg_select_permute_int(
-    const int32_t *source, size_t source_len, const int32_t *index, size_t index_len, const bool *flags, size_t flags_len,
-    const int32_t *lengths, size_t segments, int32_t *out, size_t out_len);
-
-/* Each element of the source whose flag is true at its index in its segment of the result. */
-CVL_CHECKED CvlStatus cvl_seg_select_permute_bool(
-    const bool *source, size_t source_len, const int32_t *index, size_t index_len, const bool *flags, size_t flags_len,
-    const int32_t *lengths, size_t segments, bool *out, size_t out_len);
-
-/* Each element of the source at its index in its segment of the defaults, and at a place to which none goes its default. */
-CVL_CHECKED CvlStatus cvl_seg_default_permute_int(
-    const int32_t *source, size_t source_len, const int32_t *index, size_t index_len,
-    const int32_t *defaults, size_t defaults_len, const int32_t *lengths, size_t segments,
-    const int32_t *default_lengths, size_t default_segments, int32_t *out, size_t out_len);
-
-/* Each element of the source at its index in its segment of the defaults, and at a place to which none goes its default. */
-CVL_CHECKED CvlStatus cvl_seg_default_permute_bool(
-    const bool *source, size_t source_len, const int32_t *index, size_t index_len,
-    const bool *defaults, size_t defaults_len, const int32_t *lengths, size_t segments,
-    const int32_t *default_lengths, size_t default_segments, bool *out, size_t out_len);
-
-/* At each place the element at the place's index in the same segment of the source. */
-CVL_CHECKED CvlStatus cvl_seg_back_permute_int(
-    const int32_t *source, size_t source_len, const int32_t *index, size_t index_len,
-    const int32_t *lengths, size_t segments, const int32_t *index_lengths, size_t index_segments,
+CVL_CHECKED CvlStatus cvl_back_permute_int(const int32_t *source, size_t source_len, const int32_t *index, size_t index_len,
     int32_t *out, size_t out_len);
 
+/* At each place the element of the source at the place's index. */
+CVL_CHECKED CvlStatus cvl_back_permute_bool(const bool *source, size_t source_len, const int32_t *index, size_t index_len,
+    bool *out, size_t out_len);
+
+/* ---- permutes of segments: families ---- */
+
+/* Each element of the source at its index in its segment. */
+CVL_CHECKED CvlStatus cvl_seg_permute_int(const int32_t *source, size_t source_len, const int32_t *index, size_t index_len,
+    CvlLengths lengths, int32_t *out, size_t out_len);
+
+/* Each element of the source at its index in its segment. */
+CVL_CHECKED CvlStatus cvl_seg_permute_bool(const bool *source, size_t source_len, const int32_t *index, size_t index_len,
+    CvlLengths lengths, bool *out, size_t out_len);
+
+/* Each element of the source whose flag is true at its index in its segment of the result. */
+CVL_CHECKED CvlStatus cvl_seg_select_permute_int(const int32_t *source, size_t source_len, const int32_t *index,
+    size_t index_len, const bool *flags, size_t flags_len, CvlLengths lengths, int32_t *out, size_t out_len);
+
+/* Each element of the source whose flag is true at its index in its segment of the result. */
+CVL_CHECKED CvlStatus cvl_seg_select_permute_bool(const bool *source, size_t source_len, const int32_t *index, size_t index_len,
+    const bool *flags, size_t flags_len, CvlLengths lengths, bool *out, size_t out_len);
+
+/* Each element of the source at its index in its segment of the defaults, and at a place to which none goes its default. */
+CVL_CHECKED CvlStatus cvl_seg_default_permute_int(const int32_t *source, size_t source_len, const int32_t *index,
+    size_t index_len, const int32_t *defaults, size_t defaults_len, CvlLengths lengths, CvlLengths default_lengths,
+    int32_t *out, size_t out_len);
+
+/* Each element of the source at its index in its segment of the defaults, and at a place to which none goes its default. */
+CVL_CHECKED CvlStatus cvl_seg_default_permute_bool(const bool *source, size_t source_len, const int32_t *index,
+    size_t index_len, const bool *defaults, size_t defaults_len, CvlLengths lengths, CvlLengths default_lengths, bool *out,
+    size_t out_len);
+
 /* At each place the element at the place's index in the same segment of the source. */
-CVL_CHECKED CvlStatus cvl_seg_back_permute_bool(
-    const bool *source, size_t source_len, const int32_t *index, size_t index_len, const int32_t *lengths, size_t segments,
-    const int32_t *index_lengths, size_t index_segments, bool *out, size_t out_len);
-/* ---- texts: exports ---- */
+CVL_CHECKED CvlStatus cvl_seg_back_permute_int(const int32_t *source, size_t source_len, const int32_t *index, size_t index_len,
+    CvlLengths lengths, CvlLengths index_lengths, int32_t *out, size_t out_len);
+
+/* At each place the element at the place's index in the same segment of the source. */
+CVL_CHECKED CvlStatus cvl_seg_back_permute_bool(const bool *source, size_t source_len, const int32_t *index, size_t index_len,
+    CvlLengths lengths, CvlLengths index_lengths, bool *out, size_t out_len);
+
+/* ---- texts: families ---- */
 
 /*
  * A text is bytes, with no zero at its end. A caller may not know how long a result is: it stands at the front of its room, and
- * count is its length; the rest of the room is as it was. Where the room is too short it is as it was, the status is
- * 7 LengthMismatch, without a place, and count is the length that is needed, so that a call with a room of no elements asks for
- * it. After any other fault, or without memory, the count too is as it was.
+ * count is its length; the rest of the room is as it was. Where the room is too short it is as it was, the status is 7
+ * LengthMismatch, without a place, and count is the length that is needed, so that a call with a room of no elements asks for
+ * it. After any other fault, or without memory, the count too is as it was. Of a text that is read the room is asked last,
+ * since the text alone says how long the result is.
  */
 
 /*
- * cvl_read_ints: The integers of a text. They stand between white space (space, tab, line feed, carriage return), and each is an
- * optional minus sign and at least one digit, inside 32 bits. A text of white space alone has none.
- * Faults: 13 TooLong, without a place, where there are more than 4194304 words between white space, whatever they are; else
- * 15 BadInput at the first word that is no such integer.
+ * cvl_read_ints: The integers of a text. They stand between white space (space, tab, line feed, carriage return), and each is
+ * an optional minus sign and at least one digit, inside 32 bits. A text of white space alone has none.
+ * Faults: 13 TooLong, without a place, where there are more than 4194304 words between white space, whatever they are; else 15
+ * BadInput at the first word that is no such integer.
  * text = "5 -1\n007 -0": out = 5 -1 7 0, count = 4
  */
 CVL_CHECKED CvlStatus cvl_read_ints(const char *text, size_t text_len, int32_t *out, size_t out_len, size_t *count);
@@ -431,16 +430,15 @@ CVL_CHECKED CvlStatus cvl_write_bools(const bool *a, size_t a_len, char *out, si
 
 /*
  * cvl_seg_read_ints: The integers and the lengths of the lists of a nested text: "[", any number of lists, "]", where a list is
- * "[", integers as in cvl_read_ints, "]". Each of the two results has a room and a count of its own; where one room is too short
- * both are as they were, and both counts are the lengths that are needed.
+ * "[", integers as in cvl_read_ints, "]". Each of the two results has a room and a count of its own; where one room is too
+ * short both are as they were, and both counts are the lengths that are needed.
  * Faults: 13 TooLong, without a place, where there are more than 4194304 words other than brackets or more than 4194305 "[",
  * whatever they are; else 15 BadInput at the first word or bracket that cannot stand where it does, or, where the text ends too
  * early, at the number of its words and brackets.
  * text = "[[1 2] [] [3]]": out = 1 2 3, count = 3, lengths = 2 0 1, segments = 3
  */
-CVL_CHECKED CvlStatus cvl_seg_read_ints(
-    const char *text, size_t text_len, int32_t *out, size_t out_len, size_t *count, int32_t *lengths, size_t lengths_len,
-    size_t *segments);
+CVL_CHECKED CvlStatus cvl_seg_read_ints(const char *text, size_t text_len, int32_t *out, size_t out_len, size_t *count,
+    int32_t *lengths, size_t lengths_len, size_t *segments);
 
 /*
  * cvl_seg_write_ints: The text of a vector of integers that is cut into segments: the texts of the segments, a space between
@@ -449,17 +447,17 @@ CVL_CHECKED CvlStatus cvl_seg_read_ints(
  * lengths do not add up to the vector's.
  * a = 5 1 7, lengths = 0 2 1: out = "[[] [5 1] [7]]", count = 14
  */
-CVL_CHECKED CvlStatus cvl_seg_write_ints(
-    const int32_t *a, size_t a_len, const int32_t *lengths, size_t segments, char *out, size_t out_len, size_t *count);
+CVL_CHECKED CvlStatus cvl_seg_write_ints(const int32_t *a, size_t a_len, CvlLengths lengths, char *out, size_t out_len,
+    size_t *count);
 
 /*
  * cvl_seg_write_bools: The same of booleans, each T or F.
  * a = true false, lengths = 1 1: out = "[[T] [F]]", count = 9
  */
-CVL_CHECKED CvlStatus cvl_seg_write_bools(
-    const bool *a, size_t a_len, const int32_t *lengths, size_t segments, char *out, size_t out_len, size_t *count);
+CVL_CHECKED CvlStatus cvl_seg_write_bools(const bool *a, size_t a_len, CvlLengths lengths, char *out, size_t out_len,
+    size_t *count);
 
-/* ---- scans in parts, by threads of the caller's: exports ---- */
+/* ---- scans in parts, by threads of the caller's: families ---- */
 
 /*
  * Threads of the caller's own scan one vector together in three steps, with a barrier of the caller's between them:
@@ -468,718 +466,23 @@ CVL_CHECKED CvlStatus cvl_seg_write_bools(
  *   2. one thread scans the sums: cvl_int_scan(op, sums, tiles, before, tiles);
  *   3. each thread scans its tiles: cvl_int_scan_after(op, before[t], a + from, to - from, out + from, to - from).
  *
- * Then out is what cvl_int_scan gives of the whole. The tiles may have any lengths, 0 too, and any thread may take any tile
- * of a step. The library starts no thread, and no call waits for another. examples/c/threads.c does this with POSIX threads.
+ * Then out is what cvl_int_scan gives of the whole. The tiles may have any lengths, 0 too, and any thread may take any tile of
+ * a step. No call of this header starts a thread or waits for another. examples/c/threads.c does this with POSIX threads.
  */
 
 /* For each integer `before`, joined by the operator, of CVL_ADD to CVL_XOR, with those in front of it. */
-CVL_CHECKED CvlStatus cvl_int_scan_after(uint32_t op, int32_t before, const int32_t *a, size_t a_len, int32_t *out, size_t out_len);
+CVL_CHECKED CvlStatus cvl_int_scan_after(uint32_t op, int32_t before, const int32_t *a, size_t a_len, int32_t *out,
+    size_t out_len);
 
 /* For each boolean `before`, joined by the operator, of CVL_AND to CVL_XOR, with those in front of it. */
 CVL_CHECKED CvlStatus cvl_bool_scan_after(uint32_t op, bool before, const bool *a, size_t a_len, bool *out, size_t out_len);
 
-/* ---- in place: exports ---- */
-
-/*
- * Each is the function of its name before `_in`, with the result in the place of a vector that it reads, and no room: the status
- * is the same, and at a fault the vector is as it was. Functions below call these where a room is an input.
- */
-CVL_CHECKED CvlStatus cvl_int2_in_first(uint32_t op, int32_t *a, size_t a_len, const int32_t *b, size_t b_len);
-CVL_CHECKED CvlStatus cvl_int2_in_second(uint32_t op, const int32_t *a, size_t a_len, int32_t *b, size_t b_len);
-CVL_CHECKED CvlStatus cvl_int2_in_both(uint32_t op, int32_t *a, size_t a_len);
-CVL_CHECKED CvlStatus cvl_int1_in(uint32_t op, int32_t *a, size_t a_len);
-CVL_CHECKED CvlStatus cvl_int_scan_in(uint32_t op, int32_t *a, size_t a_len);
-CVL_CHECKED CvlStatus cvl_checked_scan_in(int32_t *a, size_t a_len);
-CVL_CHECKED CvlStatus cvl_seg_checked_scan_in(int32_t *a, size_t a_len, const int32_t *lengths, size_t segments);
-CVL_CHECKED CvlStatus cvl_seg_int_scan_in(uint32_t op, int32_t *a, size_t a_len, const int32_t *lengths, size_t segments);
-CVL_CHECKED CvlStatus cvl_int_scan_after_in(uint32_t op, int32_t before, int32_t *a, size_t a_len);
-CVL_CHECKED CvlStatus cvl_bool2_in_first(uint32_t op, bool *a, size_t a_len, const bool *b, size_t b_len);
-CVL_CHECKED CvlStatus cvl_bool2_in_second(uint32_t op, const bool *a, size_t a_len, bool *b, size_t b_len);
-CVL_CHECKED CvlStatus cvl_bool2_in_both(uint32_t op, bool *a, size_t a_len);
-CVL_CHECKED CvlStatus cvl_bool1_in(uint32_t op, bool *a, size_t a_len);
-CVL_CHECKED CvlStatus cvl_select_int_in_first(
-    const bool *flags, size_t flags_len, int32_t *a, size_t a_len, const int32_t *b, size_t b_len);
-CVL_CHECKED CvlStatus cvl_select_int_in_second(
-    const bool *flags, size_t flags_len, const int32_t *a, size_t a_len, int32_t *b, size_t b_len);
-CVL_CHECKED CvlStatus cvl_select_bool_in_first(
-    const bool *flags, size_t flags_len, bool *a, size_t a_len, const bool *b, size_t b_len);
-CVL_CHECKED CvlStatus cvl_select_bool_in_second(
-    const bool *flags, size_t flags_len, const bool *a, size_t a_len, bool *b, size_t b_len);
-CVL_CHECKED CvlStatus cvl_bool_scan_in(uint32_t op, bool *a, size_t a_len);
-CVL_CHECKED CvlStatus cvl_bool_scan_after_in(uint32_t op, bool before, bool *a, size_t a_len);
-CVL_CHECKED CvlStatus cvl_seg_bool_scan_in(uint32_t op, bool *a, size_t a_len, const int32_t *lengths, size_t segments);
-
-/* ---- booleans that are neither 0 nor 1 ---- */
-
-/* Whether each byte is 0 or 1. */
-bool cvl_are_flags(const bool *flags, size_t flags_len);
-
-/* Makes each byte that is not 0 a 1. */
-void cvl_make_flags(bool *flags, size_t flags_len);
-
-/* A status without a place. */
-CVL_CHECKED static inline CvlStatus cvl_without_place(uint32_t number) {
-    CvlStatus status;
-    status.number = number;
-    status.place = -1;
-    return status;
-}
-
-/*
- * Lets `flags` lead to booleans that are each 0 or 1: it stays as it is where they are, and else leads to a copy, which is to be
- * freed. Whether there was memory for that.
- */
-static inline bool cvl_take_flags(const bool **flags, size_t count, bool **copy) {
-    if (cvl_are_flags(*flags, count)) return true;
-    *copy = (bool *)malloc(count);
-    if (*copy == NULL) return false;
-    memcpy(*copy, *flags, count);
-    cvl_make_flags(*copy, count);
-    *flags = *copy;
-    return true;
-}
-
-/* Answers the call of an export that takes no boolean but 0 and 1, in one array or in two. The call names the arrays. */
-#define CVL_WITH_FLAGS(flags, flags_len, call)                                                                                 \
-    do {                                                                                                                       \
-        bool *cvl_copy = NULL;                                                                                                 \
-        const CvlStatus cvl_told =                                                                                             \
-            cvl_take_flags(&(flags), flags_len, &cvl_copy) ? (call) : cvl_without_place(CVL_NO_RESOURCES);                     \
-        free(cvl_copy);                                                                                                        \
-        return cvl_told;                                                                                                       \
-    } while (0)
-#define CVL_WITH_FLAGS_OF_TWO(flags, flags_len, others, others_len, call)                                                      \
-    do {                                                                                                                       \
-        bool *cvl_copies[2] = {NULL, NULL};                                                                                    \
-        const CvlStatus cvl_told =                                                                                             \
-            cvl_take_flags(&(flags), flags_len, &cvl_copies[0]) && cvl_take_flags(&(others), others_len, &cvl_copies[1])       \
-                ? (call)                                                                                                       \
-                : cvl_without_place(CVL_NO_RESOURCES);                                                                         \
-        free(cvl_copies[0]);                                                                                                   \
-        free(cvl_copies[1]);                                                                                                   \
-        return cvl_told;                                                                                                       \
-    } while (0)
-
-/* ---- arrays that overlap ---- */
-
-/*
- * The library can't see that two of its arrays overlap, so the functions here look at the addresses first, and then call the
- * export of their name. A #define puts each in the place of its export, so that a program which names the export calls it.
- */
-
-/* Whether two arrays, with so many elements of these sizes, have memory in common. */
-static inline bool cvl_meet(const void *a, size_t a_len, size_t a_size, const void *b, size_t b_len, size_t b_size) {
-    const uintptr_t from_a = (uintptr_t)a, from_b = (uintptr_t)b;
-    return a_len != 0 && b_len != 0 && ((from_a - from_b) / b_size < b_len || (from_b - from_a) / a_size < a_len);
-}
-#define CVL_MEET(a, a_len, b, b_len) cvl_meet(a, a_len, sizeof *(a), b, b_len, sizeof *(b))
-
-/* What a call answers whose arrays overlap. */
-CVL_CHECKED static inline CvlStatus cvl_overlap(void) {
-    return cvl_without_place(CVL_OVERLAP);
-}
-
-CVL_CHECKED static inline CvlStatus cvl_int2_apart(
-    uint32_t op, const int32_t *a, size_t a_len, const int32_t *b, size_t b_len, int32_t *out, size_t out_len) {
-    const bool first = out == a && out_len == a_len, second = out == b && out_len == b_len;
-    if ((!first && CVL_MEET(out, out_len, a, a_len)) || (!second && CVL_MEET(out, out_len, b, b_len))) return cvl_overlap();
-    if (first && second) return cvl_int2_in_both(op, out, out_len);
-    if (first) return cvl_int2_in_first(op, out, out_len, b, b_len);
-    if (second) return cvl_int2_in_second(op, a, a_len, out, out_len);
-    return cvl_int2(op, a, a_len, b, b_len, out, out_len);
-}
-#define cvl_int2 cvl_int2_apart
-
-CVL_CHECKED static inline CvlStatus cvl_int1_apart(uint32_t op, const int32_t *a, size_t a_len, int32_t *out, size_t out_len) {
-    if (out == a && out_len == a_len) return cvl_int1_in(op, out, out_len);
-    if (CVL_MEET(out, out_len, a, a_len)) return cvl_overlap();
-    return cvl_int1(op, a, a_len, out, out_len);
-}
-#define cvl_int1 cvl_int1_apart
-
-CVL_CHECKED static inline CvlStatus cvl_compare_apart(
-    uint32_t op, const int32_t *a, size_t a_len, const int32_t *b, size_t b_len, bool *out, size_t out_len) {
-    if (CVL_MEET(out, out_len, a, a_len) || CVL_MEET(out, out_len, b, b_len)) return cvl_overlap();
-    return cvl_compare(op, a, a_len, b, b_len, out, out_len);
-}
-#define cvl_compare cvl_compare_apart
-
-CVL_CHECKED static inline CvlStatus cvl_bool2_apart(
-    uint32_t op, const bool *a, size_t a_len, const bool *b, size_t b_len, bool *out, size_t out_len) {
-    const bool first = out == a && out_len == a_len, second = out == b && out_len == b_len;
-    if ((!first && CVL_MEET(out, out_len, a, a_len)) || (!second && CVL_MEET(out, out_len, b, b_len))) return cvl_overlap();
-    if (first && second) return cvl_bool2_in_both(op, out, out_len);
-    if (first) return cvl_bool2_in_first(op, out, out_len, b, b_len);
-    if (second) return cvl_bool2_in_second(op, a, a_len, out, out_len);
-    return cvl_bool2(op, a, a_len, b, b_len, out, out_len);
-}
-#define cvl_bool2 cvl_bool2_apart
-
-CVL_CHECKED static inline CvlStatus cvl_bool1_apart(uint32_t op, const bool *a, size_t a_len, bool *out, size_t out_len) {
-    if (out == a && out_len == a_len) return cvl_bool1_in(op, out, out_len);
-    if (CVL_MEET(out, out_len, a, a_len)) return cvl_overlap();
-    return cvl_bool1(op, a, a_len, out, out_len);
-}
-#define cvl_bool1 cvl_bool1_apart
-
-CVL_CHECKED static inline CvlStatus cvl_int_from_bool_apart(const bool *a, size_t a_len, int32_t *out, size_t out_len) {
-    if (CVL_MEET(out, out_len, a, a_len)) return cvl_overlap();
-    return cvl_int_from_bool(a, a_len, out, out_len);
-}
-#define cvl_int_from_bool cvl_int_from_bool_apart
-
-CVL_CHECKED static inline CvlStatus cvl_bool_from_int_apart(const int32_t *a, size_t a_len, bool *out, size_t out_len) {
-    if (CVL_MEET(out, out_len, a, a_len)) return cvl_overlap();
-    return cvl_bool_from_int(a, a_len, out, out_len);
-}
-#define cvl_bool_from_int cvl_bool_from_int_apart
-
-CVL_CHECKED static inline CvlStatus cvl_select_int_apart(
-    const bool *flags, size_t flags_len, const int32_t *a, size_t a_len, const int32_t *b, size_t b_len, int32_t *out,
-    size_t out_len) {
-    const bool first = out == a && out_len == a_len, second = !first && out == b && out_len == b_len;
-    if (CVL_MEET(out, out_len, flags, flags_len) || (!first && CVL_MEET(out, out_len, a, a_len)) ||
-        (!second && CVL_MEET(out, out_len, b, b_len))) {
-        return cvl_overlap();
-    }
-    if (first) return cvl_select_int_in_first(flags, flags_len, out, out_len, b, b_len);
-    if (second) return cvl_select_int_in_second(flags, flags_len, a, a_len, out, out_len);
-    return cvl_select_int(flags, flags_len, a, a_len, b, b_len, out, out_len);
-}
-#define cvl_select_int cvl_select_int_apart
-
-CVL_CHECKED static inline CvlStatus cvl_select_bool_apart(
-    const bool *flags, size_t flags_len, const bool *a, size_t a_len, const bool *b, size_t b_len, bool *out,
-    size_t out_len) {
-    const bool first = out == a && out_len == a_len, second = !first && out == b && out_len == b_len;
-    if (CVL_MEET(out, out_len, flags, flags_len) || (!first && CVL_MEET(out, out_len, a, a_len)) ||
-        (!second && CVL_MEET(out, out_len, b, b_len))) {
-        return cvl_overlap();
-    }
-    if (first) return cvl_select_bool_in_first(flags, flags_len, out, out_len, b, b_len);
-    if (second) return cvl_select_bool_in_second(flags, flags_len, a, a_len, out, out_len);
-    return cvl_select_bool(flags, flags_len, a, a_len, b, b_len, out, out_len);
-}
-#define cvl_select_bool cvl_select_bool_apart
-
-CVL_CHECKED static inline CvlStatus cvl_int_scan_apart(uint32_t op, const int32_t *a, size_t a_len, int32_t *out, size_t out_len) {
-    if (out == a && out_len == a_len) return cvl_int_scan_in(op, out, out_len);
-    if (CVL_MEET(out, out_len, a, a_len)) return cvl_overlap();
-    return cvl_int_scan(op, a, a_len, out, out_len);
-}
-#define cvl_int_scan cvl_int_scan_apart
-
-CVL_CHECKED static inline CvlStatus cvl_int_reduce_apart(uint32_t op, const int32_t *a, size_t a_len, int32_t *out) {
-    if (CVL_MEET(out, 1, a, a_len)) return cvl_overlap();
-    return cvl_int_reduce(op, a, a_len, out);
-}
-#define cvl_int_reduce cvl_int_reduce_apart
-
-CVL_CHECKED static inline CvlStatus cvl_bool_scan_apart(uint32_t op, const bool *a, size_t a_len, bool *out, size_t out_len) {
-    const bool same = out == a && out_len == a_len;
-    if (same && cvl_are_flags(a, a_len)) return cvl_bool_scan_in(op, out, out_len);
-    if (!same && CVL_MEET(out, out_len, a, a_len)) return cvl_overlap();
-    CVL_WITH_FLAGS(a, a_len, cvl_bool_scan(op, a, a_len, out, out_len));
-}
-#define cvl_bool_scan cvl_bool_scan_apart
-
-CVL_CHECKED static inline CvlStatus cvl_bool_reduce_apart(uint32_t op, const bool *a, size_t a_len, bool *out) {
-    if (CVL_MEET(out, 1, a, a_len)) return cvl_overlap();
-    return cvl_bool_reduce(op, a, a_len, out);
-}
-#define cvl_bool_reduce cvl_bool_reduce_apart
-
-CVL_CHECKED static inline CvlStatus cvl_checked_scan_apart(const int32_t *a, size_t a_len, int32_t *out, size_t out_len) {
-    if (out == a && out_len == a_len) return cvl_checked_scan_in(out, out_len);
-    if (CVL_MEET(out, out_len, a, a_len)) return cvl_overlap();
-    return cvl_checked_scan(a, a_len, out, out_len);
-}
-#define cvl_checked_scan cvl_checked_scan_apart
-
-CVL_CHECKED static inline CvlStatus cvl_checked_reduce_apart(const int32_t *a, size_t a_len, int32_t *out) {
-    if (CVL_MEET(out, 1, a, a_len)) return cvl_overlap();
-    return cvl_checked_reduce(a, a_len, out);
-}
-#define cvl_checked_reduce cvl_checked_reduce_apart
-
-CVL_CHECKED static inline CvlStatus cvl_seg_checked_scan_apart(
-    const int32_t *a, size_t a_len, const int32_t *lengths, size_t segments, int32_t *out, size_t out_len) {
-    if (CVL_MEET(out, out_len, lengths, segments)) return cvl_overlap();
-    if (out == a && out_len == a_len) return cvl_seg_checked_scan_in(out, out_len, lengths, segments);
-    if (CVL_MEET(out, out_len, a, a_len)) return cvl_overlap();
-    return cvl_seg_checked_scan(a, a_len, lengths, segments, out, out_len);
-}
-#define cvl_seg_checked_scan cvl_seg_checked_scan_apart
-
-CVL_CHECKED static inline CvlStatus cvl_seg_checked_reduce_apart(
-    const int32_t *a, size_t a_len, const int32_t *lengths, size_t segments, int32_t *out, size_t out_len) {
-    if (CVL_MEET(out, out_len, a, a_len) || CVL_MEET(out, out_len, lengths, segments)) return cvl_overlap();
-    return cvl_seg_checked_reduce(a, a_len, lengths, segments, out, out_len);
-}
-#define cvl_seg_checked_reduce cvl_seg_checked_reduce_apart
-
-CVL_CHECKED static inline CvlStatus cvl_count_apart(const bool *flags, size_t flags_len, int32_t *out) {
-    if (CVL_MEET(out, 1, flags, flags_len)) return cvl_overlap();
-    return cvl_count(flags, flags_len, out);
-}
-#define cvl_count cvl_count_apart
-
-CVL_CHECKED static inline CvlStatus cvl_extract_int_apart(const int32_t *vector, size_t vector_len, int32_t index, int32_t *out) {
-    if (CVL_MEET(out, 1, vector, vector_len)) return cvl_overlap();
-    return cvl_extract_int(vector, vector_len, index, out);
-}
-#define cvl_extract_int cvl_extract_int_apart
-
-CVL_CHECKED static inline CvlStatus cvl_extract_bool_apart(const bool *vector, size_t vector_len, int32_t index, bool *out) {
-    if (CVL_MEET(out, 1, vector, vector_len)) return cvl_overlap();
-    return cvl_extract_bool(vector, vector_len, index, out);
-}
-#define cvl_extract_bool cvl_extract_bool_apart
-
-CVL_CHECKED static inline CvlStatus cvl_replace_int_apart(
-    const int32_t *vector, size_t vector_len, int32_t index, int32_t value, int32_t *out, size_t out_len) {
-    if (CVL_MEET(out, out_len, vector, vector_len)) return cvl_overlap();
-    return cvl_replace_int(vector, vector_len, index, value, out, out_len);
-}
-#define cvl_replace_int cvl_replace_int_apart
-
-CVL_CHECKED static inline CvlStatus cvl_replace_bool_apart(
-    const bool *vector, size_t vector_len, int32_t index, bool value, bool *out, size_t out_len) {
-    if (CVL_MEET(out, out_len, vector, vector_len)) return cvl_overlap();
-    return cvl_replace_bool(vector, vector_len, index, value, out, out_len);
-}
-#define cvl_replace_bool cvl_replace_bool_apart
-
-CVL_CHECKED static inline CvlStatus cvl_make_descriptor_apart(const int32_t *lengths, size_t segments, size_t *total) {
-    if (CVL_MEET(total, 1, lengths, segments)) return cvl_overlap();
-    return cvl_make_descriptor(lengths, segments, total);
-}
-#define cvl_make_descriptor cvl_make_descriptor_apart
-
-CVL_CHECKED static inline CvlStatus cvl_seg_extract_int_apart(
-    const int32_t *vector, size_t vector_len, const int32_t *index, size_t index_len, const int32_t *lengths, size_t segments,
-    int32_t *out, size_t out_len) {
-    if (CVL_MEET(out, out_len, vector, vector_len) || CVL_MEET(out, out_len, index, index_len) ||
-        CVL_MEET(out, out_len, lengths, segments)) {
-        return cvl_overlap();
-    }
-    return cvl_seg_extract_int(vector, vector_len, index, index_len, lengths, segments, out, out_len);
-}
-#define cvl_seg_extract_int cvl_seg_extract_int_apart
-
-CVL_CHECKED static inline CvlStatus cvl_seg_extract_bool_apart(
-    const bool *vector, size_t vector_len, const int32_t *index, size_t index_len, const int32_t *lengths, size_t segments,
-    bool *out, size_t out_len) {
-    if (CVL_MEET(out, out_len, vector, vector_len) || CVL_MEET(out, out_len, index, index_len) ||
-        CVL_MEET(out, out_len, lengths, segments)) {
-        return cvl_overlap();
-    }
-    return cvl_seg_extract_bool(vector, vector_len, index, index_len, lengths, segments, out, out_len);
-}
-#define cvl_seg_extract_bool cvl_seg_extract_bool_apart
-
-CVL_CHECKED static inline CvlStatus cvl_seg_replace_int_apart(
-    const int32_t *vector, size_t vector_len, const int32_t *index, size_t index_len, const int32_t *values,
-    size_t values_len, const int32_t *lengths, size_t segments, int32_t *out, size_t out_len) {
-    if (CVL_MEET(out, out_len, vector, vector_len) || CVL_MEET(out, out_len, index, index_len) ||
-        CVL_MEET(out, out_len, values, values_len) || CVL_MEET(out, out_len, lengths, segments)) {
-        return cvl_overlap();
-    }
-    return cvl_seg_replace_int(vector, vector_len, index, index_len, values, values_len, lengths, segments, out, out_len);
-}
-#define cvl_seg_replace_int cvl_seg_replace_int_apart
-
-CVL_CHECKED static inline CvlStatus cvl_seg_replace_bool_apart(
-    const bool *vector, size_t vector_len, const int32_t *index, size_t index_len, const bool *values, size_t values_len,
-    const int32_t *lengths, size_t segments, bool *out, size_t out_len) {
-    if (CVL_MEET(out, out_len, vector, vector_len) || CVL_MEET(out, out_len, index, index_len) ||
-        CVL_MEET(out, out_len, values, values_len) || CVL_MEET(out, out_len, lengths, segments)) {
-        return cvl_overlap();
-    }
-    CVL_WITH_FLAGS_OF_TWO(vector, vector_len, values, values_len,
-        cvl_seg_replace_bool(vector, vector_len, index, index_len, values, values_len, lengths, segments, out, out_len));
-}
-#define cvl_seg_replace_bool cvl_seg_replace_bool_apart
-
-CVL_CHECKED static inline CvlStatus cvl_seg_distribute_int_apart(
-    const int32_t *values, size_t values_len, const int32_t *lengths, size_t segments, int32_t *out, size_t out_len) {
-    if (CVL_MEET(out, out_len, values, values_len) || CVL_MEET(out, out_len, lengths, segments)) return cvl_overlap();
-    return cvl_seg_distribute_int(values, values_len, lengths, segments, out, out_len);
-}
-#define cvl_seg_distribute_int cvl_seg_distribute_int_apart
-
-CVL_CHECKED static inline CvlStatus cvl_seg_distribute_bool_apart(
-    const bool *values, size_t values_len, const int32_t *lengths, size_t segments, bool *out, size_t out_len) {
-    if (CVL_MEET(out, out_len, values, values_len) || CVL_MEET(out, out_len, lengths, segments)) return cvl_overlap();
-    CVL_WITH_FLAGS(values, values_len, cvl_seg_distribute_bool(values, values_len, lengths, segments, out, out_len));
-}
-#define cvl_seg_distribute_bool cvl_seg_distribute_bool_apart
-
-CVL_CHECKED static inline CvlStatus cvl_seg_index_apart(
-    const int32_t *inits, size_t inits_len, const int32_t *strides, size_t strides_len, const int32_t *lengths,
-    size_t segments, int32_t *out, size_t out_len) {
-    if (CVL_MEET(out, out_len, inits, inits_len) || CVL_MEET(out, out_len, strides, strides_len) ||
-        CVL_MEET(out, out_len, lengths, segments)) {
-        return cvl_overlap();
-    }
-    return cvl_seg_index(inits, inits_len, strides, strides_len, lengths, segments, out, out_len);
-}
-#define cvl_seg_index cvl_seg_index_apart
-
-CVL_CHECKED static inline CvlStatus cvl_seg_int_scan_apart(
-    uint32_t op, const int32_t *a, size_t a_len, const int32_t *lengths, size_t segments, int32_t *out, size_t out_len) {
-    if (CVL_MEET(out, out_len, lengths, segments)) return cvl_overlap();
-    if (out == a && out_len == a_len) return cvl_seg_int_scan_in(op, out, out_len, lengths, segments);
-    if (CVL_MEET(out, out_len, a, a_len)) return cvl_overlap();
-    return cvl_seg_int_scan(op, a, a_len, lengths, segments, out, out_len);
-}
-#define cvl_seg_int_scan cvl_seg_int_scan_apart
-
-CVL_CHECKED static inline CvlStatus cvl_seg_int_reduce_apart(
-    uint32_t op, const int32_t *a, size_t a_len, const int32_t *lengths, size_t segments, int32_t *out, size_t out_len) {
-    if (CVL_MEET(out, out_len, a, a_len) || CVL_MEET(out, out_len, lengths, segments)) return cvl_overlap();
-    return cvl_seg_int_reduce(op, a, a_len, lengths, segments, out, out_len);
-}
-#define cvl_seg_int_reduce cvl_seg_int_reduce_apart
-
-CVL_CHECKED static inline CvlStatus cvl_seg_bool_scan_apart(
-    uint32_t op, const bool *a, size_t a_len, const int32_t *lengths, size_t segments, bool *out, size_t out_len) {
-    const bool same = out == a && out_len == a_len;
-    if ((!same && CVL_MEET(out, out_len, a, a_len)) || CVL_MEET(out, out_len, lengths, segments)) return cvl_overlap();
-    if (same && cvl_are_flags(a, a_len)) return cvl_seg_bool_scan_in(op, out, out_len, lengths, segments);
-    CVL_WITH_FLAGS(a, a_len, cvl_seg_bool_scan(op, a, a_len, lengths, segments, out, out_len));
-}
-#define cvl_seg_bool_scan cvl_seg_bool_scan_apart
-
-CVL_CHECKED static inline CvlStatus cvl_seg_bool_reduce_apart(
-    uint32_t op, const bool *a, size_t a_len, const int32_t *lengths, size_t segments, bool *out, size_t out_len) {
-    if (CVL_MEET(out, out_len, a, a_len) || CVL_MEET(out, out_len, lengths, segments)) return cvl_overlap();
-    return cvl_seg_bool_reduce(op, a, a_len, lengths, segments, out, out_len);
-}
-#define cvl_seg_bool_reduce cvl_seg_bool_reduce_apart
-
-CVL_CHECKED static inline CvlStatus cvl_pack_int_apart(
-    const int32_t *values, size_t values_len, const bool *flags, size_t flags_len, int32_t *out, size_t out_len,
-    size_t *count) {
-    if (CVL_MEET(out, out_len, values, values_len) || CVL_MEET(out, out_len, flags, flags_len) ||
-        CVL_MEET(out, out_len, count, 1) || CVL_MEET(count, 1, values, values_len) || CVL_MEET(count, 1, flags, flags_len)) {
-        return cvl_overlap();
-    }
-    CVL_WITH_FLAGS(flags, flags_len, cvl_pack_int(values, values_len, flags, flags_len, out, out_len, count));
-}
-#define cvl_pack_int cvl_pack_int_apart
-
-CVL_CHECKED static inline CvlStatus cvl_pack_bool_apart(
-    const bool *values, size_t values_len, const bool *flags, size_t flags_len, bool *out, size_t out_len, size_t *count) {
-    if (CVL_MEET(out, out_len, values, values_len) || CVL_MEET(out, out_len, flags, flags_len) ||
-        CVL_MEET(out, out_len, count, 1) || CVL_MEET(count, 1, values, values_len) || CVL_MEET(count, 1, flags, flags_len)) {
-        return cvl_overlap();
-    }
-    CVL_WITH_FLAGS_OF_TWO(values, values_len, flags, flags_len,
-        cvl_pack_bool(values, values_len, flags, flags_len, out, out_len, count));
-}
-#define cvl_pack_bool cvl_pack_bool_apart
-
-CVL_CHECKED static inline CvlStatus cvl_seg_pack_int_apart(
-    const int32_t *values, size_t values_len, const bool *flags, size_t flags_len, const int32_t *lengths, size_t segments,
-    int32_t *out, size_t out_len, size_t *count) {
-    if (CVL_MEET(out, out_len, values, values_len) || CVL_MEET(out, out_len, flags, flags_len) ||
-        CVL_MEET(out, out_len, lengths, segments) || CVL_MEET(out, out_len, count, 1) ||
-        CVL_MEET(count, 1, values, values_len) || CVL_MEET(count, 1, flags, flags_len) ||
-        CVL_MEET(count, 1, lengths, segments)) {
-        return cvl_overlap();
-    }
-    CVL_WITH_FLAGS(flags, flags_len,
-        cvl_seg_pack_int(values, values_len, flags, flags_len, lengths, segments, out, out_len, count));
-}
-#define cvl_seg_pack_int cvl_seg_pack_int_apart
-
-CVL_CHECKED static inline CvlStatus cvl_seg_pack_bool_apart(
-    const bool *values, size_t values_len, const bool *flags, size_t flags_len, const int32_t *lengths, size_t segments,
-    bool *out, size_t out_len, size_t *count) {
-    if (CVL_MEET(out, out_len, values, values_len) || CVL_MEET(out, out_len, flags, flags_len) ||
-        CVL_MEET(out, out_len, lengths, segments) || CVL_MEET(out, out_len, count, 1) ||
-        CVL_MEET(count, 1, values, values_len) || CVL_MEET(count, 1, flags, flags_len) ||
-        CVL_MEET(count, 1, lengths, segments)) {
-        return cvl_overlap();
-    }
-    CVL_WITH_FLAGS_OF_TWO(values, values_len, flags, flags_len,
-        cvl_seg_pack_bool(values, values_len, flags, flags_len, lengths, segments, out, out_len, count));
-}
-#define cvl_seg_pack_bool cvl_seg_pack_bool_apart
-
-CVL_CHECKED static inline CvlStatus cvl_packed_lengths_apart(
-    const bool *flags, size_t flags_len, const int32_t *lengths, size_t segments, int32_t *out, size_t out_len) {
-    if (CVL_MEET(out, out_len, flags, flags_len) || CVL_MEET(out, out_len, lengths, segments)) return cvl_overlap();
-    return cvl_packed_lengths(flags, flags_len, lengths, segments, out, out_len);
-}
-#define cvl_packed_lengths cvl_packed_lengths_apart
-
-CVL_CHECKED static inline CvlStatus cvl_seg_count_apart(
-    const bool *flags, size_t flags_len, const int32_t *lengths, size_t segments, int32_t *out, size_t out_len) {
-    if (CVL_MEET(out, out_len, flags, flags_len) || CVL_MEET(out, out_len, lengths, segments)) return cvl_overlap();
-    return cvl_seg_count(flags, flags_len, lengths, segments, out, out_len);
-}
-#define cvl_seg_count cvl_seg_count_apart
-
-CVL_CHECKED static inline CvlStatus cvl_permute_int_apart(
-    const int32_t *source, size_t source_len, const int32_t *index, size_t index_len, int32_t *out, size_t out_len) {
-    if (CVL_MEET(out, out_len, source, source_len) || CVL_MEET(out, out_len, index, index_len)) return cvl_overlap();
-    return cvl_permute_int(source, source_len, index, index_len, out, out_len);
-}
-#define cvl_permute_int cvl_permute_int_apart
-
-CVL_CHECKED static inline CvlStatus cvl_permute_bool_apart(
-    const bool *source, size_t source_len, const int32_t *index, size_t index_len, bool *out, size_t out_len) {
-    if (CVL_MEET(out, out_len, source, source_len) || CVL_MEET(out, out_len, index, index_len)) return cvl_overlap();
-    CVL_WITH_FLAGS(source, source_len, cvl_permute_bool(source, source_len, index, index_len, out, out_len));
-}
-#define cvl_permute_bool cvl_permute_bool_apart
-
-CVL_CHECKED static inline CvlStatus cvl_select_permute_int_apart(
-    const int32_t *source, size_t source_len, const int32_t *index, size_t index_len, const bool *flags, size_t flags_len,
-    int32_t *out, size_t out_len) {
-    if (CVL_MEET(out, out_len, source, source_len) || CVL_MEET(out, out_len, index, index_len) ||
-        CVL_MEET(out, out_len, flags, flags_len)) {
-        return cvl_overlap();
-    }
-    CVL_WITH_FLAGS(flags, flags_len,
-        cvl_select_permute_int(source, source_len, index, index_len, flags, flags_len, out, out_len));
-}
-#define cvl_select_permute_int cvl_select_permute_int_apart
-
-CVL_CHECKED static inline CvlStatus cvl_select_permute_bool_apart(
-    const bool *source, size_t source_len, const int32_t *index, size_t index_len, const bool *flags, size_t flags_len,
-    bool *out, size_t out_len) {
-    if (CVL_MEET(out, out_len, source, source_len) || CVL_MEET(out, out_len, index, index_len) ||
-        CVL_MEET(out, out_len, flags, flags_len)) {
-        return cvl_overlap();
-    }
-    CVL_WITH_FLAGS_OF_TWO(source, source_len, flags, flags_len,
-        cvl_select_permute_bool(source, source_len, index, index_len, flags, flags_len, out, out_len));
-}
-#define cvl_select_permute_bool cvl_select_permute_bool_apart
-
-CVL_CHECKED static inline CvlStatus cvl_default_permute_int_apart(
-    const int32_t *source, size_t source_len, const int32_t *index, size_t index_len, const int32_t *defaults,
-    size_t defaults_len, int32_t *out, size_t out_len) {
-    if (CVL_MEET(out, out_len, source, source_len) || CVL_MEET(out, out_len, index, index_len) ||
-        CVL_MEET(out, out_len, defaults, defaults_len)) {
-        return cvl_overlap();
-    }
-    return cvl_default_permute_int(source, source_len, index, index_len, defaults, defaults_len, out, out_len);
-}
-#define cvl_default_permute_int cvl_default_permute_int_apart
-
-CVL_CHECKED static inline CvlStatus cvl_default_permute_bool_apart(
-    const bool *source, size_t source_len, const int32_t *index, size_t index_len, const bool *defaults, size_t defaults_len,
-    bool *out, size_t out_len) {
-    if (CVL_MEET(out, out_len, source, source_len) || CVL_MEET(out, out_len, index, index_len) ||
-        CVL_MEET(out, out_len, defaults, defaults_len)) {
-        return cvl_overlap();
-    }
-    CVL_WITH_FLAGS_OF_TWO(source, source_len, defaults, defaults_len,
-        cvl_default_permute_bool(source, source_len, index, index_len, defaults, defaults_len, out, out_len));
-}
-#define cvl_default_permute_bool cvl_default_permute_bool_apart
-
-CVL_CHECKED static inline CvlStatus cvl_back_permute_int_apart(
-    const int32_t *source, size_t source_len, const int32_t *index, size_t index_len, int32_t *out, size_t out_len) {
-    if (CVL_MEET(out, out_len, source, source_len) || CVL_MEET(out, out_len, index, index_len)) return cvl_overlap();
-    return cvl_back_permute_int(source, source_len, index, index_len, out, out_len);
-}
-#define cvl_back_permute_int cvl_back_permute_int_apart
-
-CVL_CHECKED static inline CvlStatus cvl_back_permute_bool_apart(
-    const bool *source, size_t source_len, const int32_t *index, size_t index_len, bool *out, size_t out_len) {
-    if (CVL_MEET(out, out_len, source, source_len) || CVL_MEET(out, out_len, index, index_len)) return cvl_overlap();
-    CVL_WITH_FLAGS(source, source_len, cvl_back_permute_bool(source, source_len, index, index_len, out, out_len));
-}
-#define cvl_back_permute_bool cvl_back_permute_bool_apart
-
-CVL_CHECKED static inline CvlStatus cvl_seg_permute_int_apart(
-    const int32_t *source, size_t source_len, const int32_t *index, size_t index_len, const int32_t *lengths, size_t segments,
-    int32_t *out, size_t out_len) {
-    if (CVL_MEET(out, out_len, source, source_len) || CVL_MEET(out, out_len, index, index_len) ||
-        CVL_MEET(out, out_len, lengths, segments)) {
-        return cvl_overlap();
-    }
-    return cvl_seg_permute_int(source, source_len, index, index_len, lengths, segments, out, out_len);
-}
-#define cvl_seg_permute_int cvl_seg_permute_int_apart
-
-CVL_CHECKED static inline CvlStatus cvl_seg_permute_bool_apart(
-    const bool *source, size_t source_len, const int32_t *index, size_t index_len, const int32_t *lengths, size_t segments,
-    bool *out, size_t out_len) {
-    if (CVL_MEET(out, out_len, source, source_len) || CVL_MEET(out, out_len, index, index_len) ||
-        CVL_MEET(out, out_len, lengths, segments)) {
-        return cvl_overlap();
-    }
-    CVL_WITH_FLAGS(source, source_len,
-        cvl_seg_permute_bool(source, source_len, index, index_len, lengths, segments, out, out_len));
-}
-#define cvl_seg_permute_bool cvl_seg_permute_bool_apart
-
-CVL_CHECKED static inline CvlStatus cvl_seg_select_permute_int_apart(
-    const int32_t *source, size_t source_len, const int32_t *index, size_t index_len, const bool *flags, size_t flags_len,
-    const int32_t *lengths, size_t segments, int32_t *out, size_t out_len) {
-    if (CVL_MEET(out, out_len, source, source_len) || CVL_MEET(out, out_len, index, index_len) ||
-        CVL_MEET(out, out_len, flags, flags_len) || CVL_MEET(out, out_len, lengths, segments)) {
-        return cvl_overlap();
-    }
-    CVL_WITH_FLAGS(flags, flags_len,
-        cvl_seg_select_permute_int(source, source_len, index, index_len, flags, flags_len, lengths, segments, out, out_len));
-}
-#define cvl_seg_select_permute_int cvl_seg_select_permute_int_apart
-
-CVL_CHECKED static inline CvlStatus cvl_seg_select_permute_bool_apart(
-    const bool *source, size_t source_len, const int32_t *index, size_t index_len, const bool *flags, size_t flags_len,
-    const int32_t *lengths, size_t segments, bool *out, size_t out_len) {
-    if (CVL_MEET(out, out_len, source, source_len) || CVL_MEET(out, out_len, index, index_len) ||
-        CVL_MEET(out, out_len, flags, flags_len) || CVL_MEET(out, out_len, lengths, segments)) {
-        return cvl_overlap();
-    }
-    CVL_WITH_FLAGS_OF_TWO(source, source_len, flags, flags_len,
-        cvl_seg_select_permute_bool(source, source_len, index, index_len, flags, flags_len, lengths, segments, out, out_len));
-}
-#define cvl_seg_select_permute_bool cvl_seg_select_permute_bool_apart
-
-CVL_CHECKED static inline CvlStatus cvl_seg_default_permute_int_apart(
-    const int32_t *source, size_t source_len, const int32_t *index, size_t index_len, const int32_t *defaults,
-    size_t defaults_len, const int32_t *lengths, size_t segments, const int32_t *default_lengths, size_t default_segments,
-    int32_t *out, size_t out_len) {
-    if (CVL_MEET(out, out_len, source, source_len) || CVL_MEET(out, out_len, index, index_len) ||
-        CVL_MEET(out, out_len, defaults, defaults_len) || CVL_MEET(out, out_len, lengths, segments) ||
-        CVL_MEET(out, out_len, default_lengths, default_segments)) {
-        return cvl_overlap();
-    }
-    return cvl_seg_default_permute_int(
-        source, source_len, index, index_len, defaults, defaults_len, lengths, segments, default_lengths, default_segments, out,
-        out_len);
-}
-#define cvl_seg_default_permute_int cvl_seg_default_permute_int_apart
-
-CVL_CHECKED static inline CvlStatus cvl_seg_default_permute_bool_apart(
-    const bool *source, size_t source_len, const int32_t *index, size_t index_len, const bool *defaults, size_t defaults_len,
-    const int32_t *lengths, size_t segments, const int32_t *default_lengths, size_t default_segments, bool *out,
-    size_t out_len) {
-    if (CVL_MEET(out, out_len, source, source_len) || CVL_MEET(out, out_len, index, index_len) ||
-        CVL_MEET(out, out_len, defaults, defaults_len) || CVL_MEET(out, out_len, lengths, segments) ||
-        CVL_MEET(out, out_len, default_lengths, default_segments)) {
-        return cvl_overlap();
-    }
-    CVL_WITH_FLAGS_OF_TWO(source, source_len, defaults, defaults_len,
-        cvl_seg_default_permute_bool(source, source_len, index, index_len, defaults, defaults_len, lengths, segments,
-        default_lengths, default_segments, out, out_len));
-}
-#define cvl_seg_default_permute_bool cvl_seg_default_permute_bool_apart
-
-CVL_CHECKED static inline CvlStatus cvl_seg_back_permute_int_apart(
-    const int32_t *source, size_t source_len, const int32_t *index, size_t index_len, const int32_t *lengths, size_t segments,
-    const int32_t *index_lengths, size_t index_segments, int32_t *out, size_t out_len) {
-    if (CVL_MEET(out, out_len, source, source_len) || CVL_MEET(out, out_len, index, index_len) ||
-        CVL_MEET(out, out_len, lengths, segments) || CVL_MEET(out, out_len, index_lengths, index_segments)) {
-        return cvl_overlap();
-    }
-    return cvl_seg_back_permute_int(
-        source, source_len, index, index_len, lengths, segments, index_lengths, index_segments, out, out_len);
-}
-#define cvl_seg_back_permute_int cvl_seg_back_permute_int_apart
-
-CVL_CHECKED static inline CvlStatus cvl_seg_back_permute_bool_apart(
-    const bool *source, size_t source_len, const int32_t *index, size_t index_len, const int32_t *lengths, size_t segments,
-    const int32_t *index_lengths, size_t index_segments, bool *out, size_t out_len) {
-    if (CVL_MEET(out, out_len, source, source_len) || CVL_MEET(out, out_len, index, index_len) ||
-        CVL_MEET(out, out_len, lengths, segments) || CVL_MEET(out, out_len, index_lengths, index_segments)) {
-        return cvl_overlap();
-    }
-    CVL_WITH_FLAGS(source, source_len,
-        cvl_seg_back_permute_bool(source, source_len, index, index_len, lengths, segments, index_lengths, index_segments, out,
-        out_len));
-}
-#define cvl_seg_back_permute_bool cvl_seg_back_permute_bool_apart
-
-CVL_CHECKED static inline CvlStatus cvl_read_ints_apart(const char *text, size_t text_len, int32_t *out, size_t out_len, size_t *count) {
-    if (CVL_MEET(out, out_len, text, text_len) || CVL_MEET(out, out_len, count, 1) || CVL_MEET(count, 1, text, text_len)) {
-        return cvl_overlap();
-    }
-    return cvl_read_ints(text, text_len, out, out_len, count);
-}
-#define cvl_read_ints cvl_read_ints_apart
-
-CVL_CHECKED static inline CvlStatus cvl_write_ints_apart(const int32_t *a, size_t a_len, char *out, size_t out_len, size_t *count) {
-    if (CVL_MEET(out, out_len, a, a_len) || CVL_MEET(out, out_len, count, 1) || CVL_MEET(count, 1, a, a_len)) {
-        return cvl_overlap();
-    }
-    return cvl_write_ints(a, a_len, out, out_len, count);
-}
-#define cvl_write_ints cvl_write_ints_apart
-
-CVL_CHECKED static inline CvlStatus cvl_write_bools_apart(const bool *a, size_t a_len, char *out, size_t out_len, size_t *count) {
-    if (CVL_MEET(out, out_len, a, a_len) || CVL_MEET(out, out_len, count, 1) || CVL_MEET(count, 1, a, a_len)) {
-        return cvl_overlap();
-    }
-    CVL_WITH_FLAGS(a, a_len, cvl_write_bools(a, a_len, out, out_len, count));
-}
-#define cvl_write_bools cvl_write_bools_apart
-
-CVL_CHECKED static inline CvlStatus cvl_int_scan_after_apart(
-    uint32_t op, int32_t before, const int32_t *a, size_t a_len, int32_t *out, size_t out_len) {
-    if (out == a && out_len == a_len) return cvl_int_scan_after_in(op, before, out, out_len);
-    if (CVL_MEET(out, out_len, a, a_len)) return cvl_overlap();
-    return cvl_int_scan_after(op, before, a, a_len, out, out_len);
-}
-#define cvl_int_scan_after cvl_int_scan_after_apart
-
-CVL_CHECKED static inline CvlStatus cvl_bool_scan_after_apart(
-    uint32_t op, bool before, const bool *a, size_t a_len, bool *out, size_t out_len) {
-    const bool same = out == a && out_len == a_len;
-    if (same && cvl_are_flags(a, a_len)) return cvl_bool_scan_after_in(op, before, out, out_len);
-    if (!same && CVL_MEET(out, out_len, a, a_len)) return cvl_overlap();
-    CVL_WITH_FLAGS(a, a_len, cvl_bool_scan_after(op, before, a, a_len, out, out_len));
-}
-#define cvl_bool_scan_after cvl_bool_scan_after_apart
-
-CVL_CHECKED static inline CvlStatus cvl_seg_read_ints_apart(
-    const char *text, size_t text_len, int32_t *out, size_t out_len, size_t *count, int32_t *lengths, size_t lengths_len,
-    size_t *segments) {
-    if (CVL_MEET(out, out_len, text, text_len) || CVL_MEET(out, out_len, count, 1) ||
-        CVL_MEET(out, out_len, lengths, lengths_len) || CVL_MEET(out, out_len, segments, 1) ||
-        CVL_MEET(count, 1, text, text_len) || CVL_MEET(count, 1, lengths, lengths_len) || CVL_MEET(count, 1, segments, 1) ||
-        CVL_MEET(lengths, lengths_len, text, text_len) || CVL_MEET(lengths, lengths_len, segments, 1) ||
-        CVL_MEET(segments, 1, text, text_len)) {
-        return cvl_overlap();
-    }
-    return cvl_seg_read_ints(text, text_len, out, out_len, count, lengths, lengths_len, segments);
-}
-#define cvl_seg_read_ints cvl_seg_read_ints_apart
-
-CVL_CHECKED static inline CvlStatus cvl_seg_write_ints_apart(
-    const int32_t *a, size_t a_len, const int32_t *lengths, size_t segments, char *out, size_t out_len, size_t *count) {
-    if (CVL_MEET(out, out_len, a, a_len) || CVL_MEET(out, out_len, lengths, segments) || CVL_MEET(out, out_len, count, 1) ||
-        CVL_MEET(count, 1, a, a_len) || CVL_MEET(count, 1, lengths, segments)) {
-        return cvl_overlap();
-    }
-    return cvl_seg_write_ints(a, a_len, lengths, segments, out, out_len, count);
-}
-#define cvl_seg_write_ints cvl_seg_write_ints_apart
-
-CVL_CHECKED static inline CvlStatus cvl_seg_write_bools_apart(
-    const bool *a, size_t a_len, const int32_t *lengths, size_t segments, char *out, size_t out_len, size_t *count) {
-    if (CVL_MEET(out, out_len, a, a_len) || CVL_MEET(out, out_len, lengths, segments) || CVL_MEET(out, out_len, count, 1) ||
-        CVL_MEET(count, 1, a, a_len) || CVL_MEET(count, 1, lengths, segments)) {
-        return cvl_overlap();
-    }
-    CVL_WITH_FLAGS(a, a_len, cvl_seg_write_bools(a, a_len, lengths, segments, out, out_len, count));
-}
-#define cvl_seg_write_bools cvl_seg_write_bools_apart
-
-/* ---- calls in parts: exports, and their arrays that overlap ---- */
+/* ---- calls in parts: families ---- */
 
 /*
  * A caller with threads or machines of its own makes a call in parts, each a range of the vector. Most calls need nothing more
- * than themselves for that, and the functions here are what a part needs where the whole does not. docs/parallel.md tells for each
- * call how it is cut, what its parts tell one another and what gives the whole; cvl_parallel.h does it for threads.
+ * than themselves for that, and the functions here are what a part needs where the whole does not. docs/parallel.md tells for
+ * each call how it is cut, what its parts tell one another and what gives the whole; cvl_parallel.h does it for threads.
  */
 
 /*
@@ -1190,744 +493,554 @@ CVL_CHECKED static inline CvlStatus cvl_seg_write_bools_apart(
 CVL_CHECKED CvlStatus cvl_exact_sum(const int32_t *a, size_t a_len, int64_t *out);
 
 /*
- * cvl_checked_scan_after: For each integer `before` and those in front of it, added up: a part of cvl_checked_scan after the exact sum of
- * the parts in front of it. Where the part does not begin at place 0, neither does the place of a fault.
+ * cvl_checked_scan_after: For each integer `before` and those in front of it, added up: a part of cvl_checked_scan after the
+ * exact sum of the parts in front of it. Where the part does not begin at place 0, neither does the place of a fault.
  * Faults: 13 TooLong; 18 Overflow at the first place whose sum does not fit 32 bits.
  * before = 10, a = 3 1 4: out = 10 13 14
  */
 CVL_CHECKED CvlStatus cvl_checked_scan_after(int64_t before, const int32_t *a, size_t a_len, int32_t *out, size_t out_len);
 
-CVL_CHECKED static inline CvlStatus cvl_exact_sum_apart(const int32_t *a, size_t a_len, int64_t *out) {
-    if (CVL_MEET(out, 1, a, a_len)) return cvl_overlap();
-    return cvl_exact_sum(a, a_len, out);
-}
-#define cvl_exact_sum cvl_exact_sum_apart
-
-CVL_CHECKED static inline CvlStatus cvl_checked_scan_after_apart(
-    int64_t before, const int32_t *a, size_t a_len, int32_t *out, size_t out_len) {
-    if (CVL_MEET(out, out_len, a, a_len)) return cvl_overlap();
-    return cvl_checked_scan_after(before, a, a_len, out, out_len);
-}
-#define cvl_checked_scan_after cvl_checked_scan_after_apart
-
 /*
- * cvl_permute_int_range: One range of the result of smp_puz, its out_len places from place `lowest` on: each element whose index is one
- * of them is written there, the last where there are several, and the place is marked by a bit. marks are (out_len + 31) / 32 words: bit b
- * of word w, of the value 1 << b, is set where place 32 * w + b of the range is written, and the bits behind the last place are not. It
- * does not matter what they hold before; written is how many bits are set. Each part has another range, its own marks, and all of source
- * and index. Where all parts together wrote index_len places, the ranges, one after another, are the permute. Else an index is out of
- * range or repeated: cvl_permute_int tells which. A place that nothing is sent to stays as it was, so that over ranges that hold the
- * defaults before the parts are def_puz.
- * Faults: 13 TooLong, by the index, and where the range ends behind place 4194304; 7 LengthMismatch, where source and index are not
- * equally long, or marks_len is not (out_len + 31) / 32. At a fault all rooms are as they were.
+ * cvl_permute_int_range: One range of the result of smp_puz, its out_len places from place `lowest` on: each element whose
+ * index is one of them is written there, the last where there are several, and the place is marked by a bit. marks are (out_len
+ * + 31) / 32 words: bit b of word w, of the value 1 << b, is set where place 32 * w + b of the range is written, and the bits
+ * behind the last place are not. It does not matter what they hold before; written is how many bits are set. Each part has
+ * another range, its own marks, and all of source and index. Where all parts together wrote index_len places, the ranges, one
+ * after another, are the permute. Else an index is out of range or repeated: cvl_permute_int tells which. A place that nothing
+ * is sent to stays as it was, so that over ranges that hold the defaults before the parts are def_puz.
+ * Faults: 13 TooLong, by the index, and where the range ends behind place 4194304; 7 LengthMismatch, where source and index are
+ * not equally long, or marks_len is not (out_len + 31) / 32. At a fault all rooms are as they were.
  * source = 5 6 7, index = 2 0 1, lowest = 1, out_len = 2: out = 7 5, marks = 3, written = 2
  */
-CVL_CHECKED CvlStatus cvl_permute_int_range(
-    const int32_t *source, size_t source_len, const int32_t *index, size_t index_len, size_t lowest, int32_t *out, size_t out_len,
-    uint32_t *marks, size_t marks_len, size_t *written);
+CVL_CHECKED CvlStatus cvl_permute_int_range(const int32_t *source, size_t source_len, const int32_t *index, size_t index_len,
+    size_t lowest, int32_t *out, size_t out_len, uint32_t *marks, size_t marks_len, size_t *written);
 
 /*
  * cvl_permute_bool_range: The same of booleans: smp_pub, and def_pub over ranges that hold the defaults before, each 0 or 1.
  * source = true false true, index = 2 0 1, lowest = 1, out_len = 2: out = true true, marks = 3, written = 2
  */
-CVL_CHECKED CvlStatus cvl_permute_bool_range(
-    const bool *source, size_t source_len, const int32_t *index, size_t index_len, size_t lowest, bool *out, size_t out_len,
-    uint32_t *marks, size_t marks_len, size_t *written);
-
-/*
- * cvl_select_permute_int_range: One range of the result of sel_puz, the same way: the elements alone go anywhere whose flag is true. Where
- * the result has as many places as there are true flags, and all parts together wrote as many, the ranges are the permute.
- * Faults: those of cvl_permute_int_range; 7 LengthMismatch also where index and flags are not equally long.
- * source = 5 6 7, index = 1 9 0, flags = true false true, lowest = 0, out_len = 1: out = 7, marks = 1, written = 1
- */
-CVL_CHECKED CvlStatus cvl_select_permute_int_range(
-    const int32_t *source, size_t source_len, const int32_t *index, size_t index_len, const bool *flags, size_t flags_len,
-    size_t lowest, int32_t *out, size_t out_len, uint32_t *marks, size_t marks_len, size_t *written);
-
-/*
- * cvl_select_permute_bool_range: The same of booleans: sel_pub.
- * source = true false false, index = 1 9 0, flags = true false true, lowest = 0, out_len = 1: out = false, marks = 1, written = 1
- */
-CVL_CHECKED CvlStatus cvl_select_permute_bool_range(
-    const bool *source, size_t source_len, const int32_t *index, size_t index_len, const bool *flags, size_t flags_len,
+CVL_CHECKED CvlStatus cvl_permute_bool_range(const bool *source, size_t source_len, const int32_t *index, size_t index_len,
     size_t lowest, bool *out, size_t out_len, uint32_t *marks, size_t marks_len, size_t *written);
 
 /*
- * cvl_read_ints_after: The integers of one piece of a text that is cut at white space, as cvl_read_ints reads them. `before` is how many
- * words the pieces before it have, so that a fault's place is that in the whole text.
- * Faults: 13 TooLong, without a place, where `before` is more than 4194304 or the piece itself has more words; else 15 BadInput at the
- * first word of the piece that is no integer. That all pieces together have at most 4194304 words is the caller's to see.
- * before = 3, text = "9 10": out = 9 10, count = 2; text = "9 x": BadInput at 4
+ * cvl_select_permute_int_range: One range of the result of sel_puz, the same way: the elements alone go anywhere whose flag is
+ * true. Where the result has as many places as there are true flags, and all parts together wrote as many, the ranges are the
+ * permute.
+ * Faults: those of cvl_permute_int_range; 7 LengthMismatch also where index and flags are not equally long.
+ * source = 5 6 7, index = 1 9 0, flags = true false true, lowest = 0, out_len = 1: out = 7, marks = 1, written = 1
  */
-CVL_CHECKED CvlStatus cvl_read_ints_after(
-    size_t before, const char *text, size_t text_len, int32_t *out, size_t out_len, size_t *count);
-
-/* Whether an array shares memory with one of a part's three rooms, and whether two of these do. */
-#define CVL_MEETS_RANGE(a, a_len)                                                                                              \
-    (CVL_MEET(out, out_len, a, a_len) || CVL_MEET(marks, marks_len, a, a_len) || CVL_MEET(written, 1, a, a_len))
-#define CVL_ROOMS_MEET()                                                                                                       \
-    (CVL_MEET(out, out_len, marks, marks_len) || CVL_MEET(written, 1, out, out_len) || CVL_MEET(written, 1, marks, marks_len))
-
-CVL_CHECKED static inline CvlStatus cvl_permute_int_range_apart(
-    const int32_t *source, size_t source_len, const int32_t *index, size_t index_len, size_t lowest, int32_t *out, size_t out_len,
-    uint32_t *marks, size_t marks_len, size_t *written) {
-    if (CVL_MEETS_RANGE(source, source_len) || CVL_MEETS_RANGE(index, index_len) || CVL_ROOMS_MEET()) return cvl_overlap();
-    return cvl_permute_int_range(source, source_len, index, index_len, lowest, out, out_len, marks, marks_len, written);
-}
-#define cvl_permute_int_range cvl_permute_int_range_apart
-
-CVL_CHECKED static inline CvlStatus cvl_permute_bool_range_apart(
-    const bool *source, size_t source_len, const int32_t *index, size_t index_len, size_t lowest, bool *out, size_t out_len,
-    uint32_t *marks, size_t marks_len, size_t *written) {
-    if (CVL_MEETS_RANGE(source, source_len) || CVL_MEETS_RANGE(index, index_len) || CVL_ROOMS_MEET()) return cvl_overlap();
-    CVL_WITH_FLAGS(source, source_len,
-        cvl_permute_bool_range(source, source_len, index, index_len, lowest, out, out_len, marks, marks_len, written));
-}
-#define cvl_permute_bool_range cvl_permute_bool_range_apart
-
-CVL_CHECKED static inline CvlStatus cvl_select_permute_int_range_apart(
-    const int32_t *source, size_t source_len, const int32_t *index, size_t index_len, const bool *flags, size_t flags_len,
-    size_t lowest, int32_t *out, size_t out_len, uint32_t *marks, size_t marks_len, size_t *written) {
-    if (CVL_MEETS_RANGE(source, source_len) || CVL_MEETS_RANGE(index, index_len) || CVL_MEETS_RANGE(flags, flags_len) ||
-        CVL_ROOMS_MEET()) {
-        return cvl_overlap();
-    }
-    CVL_WITH_FLAGS(flags, flags_len,
-        cvl_select_permute_int_range(source, source_len, index, index_len, flags, flags_len, lowest, out, out_len, marks, marks_len,
-        written));
-}
-#define cvl_select_permute_int_range cvl_select_permute_int_range_apart
-
-CVL_CHECKED static inline CvlStatus cvl_select_permute_bool_range_apart(
-    const bool *source, size_t source_len, const int32_t *index, size_t index_len, const bool *flags, size_t flags_len,
-    size_t lowest, bool *out, size_t out_len, uint32_t *marks, size_t marks_len, size_t *written) {
-    if (CVL_MEETS_RANGE(source, source_len) || CVL_MEETS_RANGE(index, index_len) || CVL_MEETS_RANGE(flags, flags_len) ||
-        CVL_ROOMS_MEET()) {
-        return cvl_overlap();
-    }
-    CVL_WITH_FLAGS_OF_TWO(source, source_len, flags, flags_len,
-        cvl_select_permute_bool_range(source, source_len, index, index_len, flags, flags_len, lowest, out, out_len, marks,
-        marks_len, written));
-}
-#define cvl_select_permute_bool_range cvl_select_permute_bool_range_apart
-
-CVL_CHECKED static inline CvlStatus cvl_read_ints_after_apart(
-    size_t before, const char *text, size_t text_len, int32_t *out, size_t out_len, size_t *count) {
-    if (CVL_MEET(out, out_len, text, text_len) || CVL_MEET(out, out_len, count, 1) || CVL_MEET(count, 1, text, text_len)) {
-        return cvl_overlap();
-    }
-    return cvl_read_ints_after(before, text, text_len, out, out_len, count);
-}
-#define cvl_read_ints_after cvl_read_ints_after_apart
-
-/* ---- each call of the table, by its name ---- */
+CVL_CHECKED CvlStatus cvl_select_permute_int_range(const int32_t *source, size_t source_len, const int32_t *index,
+    size_t index_len, const bool *flags, size_t flags_len, size_t lowest, int32_t *out, size_t out_len, uint32_t *marks,
+    size_t marks_len, size_t *written);
 
 /*
- * Each call of the table stands below under its own name, as add_wuz. Under the same name with the prefix cvl_ it is a function of
- * the library, with the same arguments, for languages that call by name. Where CVL_NO_SHORT_NAMES is defined before this header is
- * included, the names without the prefix are not defined.
+ * cvl_select_permute_bool_range: The same of booleans: sel_pub.
+ * source = true false false, index = 1 9 0, flags = true false true, lowest = 0, out_len = 1: out = false, marks = 1, written =
+ * 1
  */
-#include "cvl_calls.h"
+CVL_CHECKED CvlStatus cvl_select_permute_bool_range(const bool *source, size_t source_len, const int32_t *index,
+    size_t index_len, const bool *flags, size_t flags_len, size_t lowest, bool *out, size_t out_len, uint32_t *marks,
+    size_t marks_len, size_t *written);
 
-#ifndef CVL_NO_SHORT_NAMES
+/*
+ * cvl_read_ints_after: The integers of one piece of a text that is cut at white space, as cvl_read_ints reads them. `before` is
+ * how many words the pieces before it have, so that a fault's place is that in the whole text.
+ * Faults: 13 TooLong, without a place, where `before` is more than 4194304 or the piece itself has more words; else 15 BadInput
+ * at the first word of the piece that is no integer. That all pieces together have at most 4194304 words is the caller's to
+ * see.
+ * before = 3, text = "9 10": out = 9 10, count = 2
+ */
+CVL_CHECKED CvlStatus cvl_read_ints_after(size_t before, const char *text, size_t text_len, int32_t *out, size_t out_len,
+    size_t *count);
+
+/* ---- booleans that are neither 0 nor 1 ---- */
+
+/* Whether each byte is 0 or 1. */
+bool cvl_are_flags(const bool *flags, size_t flags_len);
+
+/* Makes each byte that is not 0 a 1. */
+void cvl_make_flags(bool *flags, size_t flags_len);
 
 /* ---- place by place: the calls of the table ---- */
 
 /*
- * add_wuz: The wrapped sums. a, b and out have n elements.
+ * cvl_add_wuz: The wrapped sums. a, b and out have n elements.
  * Faults: 13 TooLong.
  * In place: a, b or both may be out.
  * a = 12 -7 2147483647, b = 10 2 1: out = 22 -5 -2147483648
  */
-CVL_CHECKED static inline CvlStatus add_wuz(const int32_t *a, const int32_t *b, int32_t *out, size_t n) {
-    return cvl_int2(CVL_ADD, a, n, b, n, out, n);
-}
+CVL_CHECKED CvlStatus cvl_add_wuz(const int32_t *a, const int32_t *b, int32_t *out, size_t n);
 
 /*
- * mul_wuz: The wrapped products. a, b and out have n elements.
+ * cvl_mul_wuz: The wrapped products. a, b and out have n elements.
  * Faults: 13 TooLong.
  * In place: a, b or both may be out.
  * a = 12 -7 2147483647, b = 10 2 1: out = 120 -14 2147483647
  */
-CVL_CHECKED static inline CvlStatus mul_wuz(const int32_t *a, const int32_t *b, int32_t *out, size_t n) {
-    return cvl_int2(CVL_MUL, a, n, b, n, out, n);
-}
+CVL_CHECKED CvlStatus cvl_mul_wuz(const int32_t *a, const int32_t *b, int32_t *out, size_t n);
 
 /*
- * min_wuz: The lesser of each two. a, b and out have n elements.
+ * cvl_min_wuz: The lesser of each two. a, b and out have n elements.
  * Faults: 13 TooLong.
  * In place: a, b or both may be out.
  * a = 12 -7 2147483647, b = 10 2 1: out = 10 -7 1
  */
-CVL_CHECKED static inline CvlStatus min_wuz(const int32_t *a, const int32_t *b, int32_t *out, size_t n) {
-    return cvl_int2(CVL_MIN, a, n, b, n, out, n);
-}
+CVL_CHECKED CvlStatus cvl_min_wuz(const int32_t *a, const int32_t *b, int32_t *out, size_t n);
 
 /*
- * max_wuz: The greater of each two. a, b and out have n elements.
+ * cvl_max_wuz: The greater of each two. a, b and out have n elements.
  * Faults: 13 TooLong.
  * In place: a, b or both may be out.
  * a = 12 -7 2147483647, b = 10 2 1: out = 12 2 2147483647
  */
-CVL_CHECKED static inline CvlStatus max_wuz(const int32_t *a, const int32_t *b, int32_t *out, size_t n) {
-    return cvl_int2(CVL_MAX, a, n, b, n, out, n);
-}
+CVL_CHECKED CvlStatus cvl_max_wuz(const int32_t *a, const int32_t *b, int32_t *out, size_t n);
 
 /*
- * and_wuz: And, bit by bit. a, b and out have n elements.
+ * cvl_and_wuz: And, bit by bit. a, b and out have n elements.
  * Faults: 13 TooLong.
  * In place: a, b or both may be out.
  * a = 12 -7 2147483647, b = 10 2 1: out = 8 0 1
  */
-CVL_CHECKED static inline CvlStatus and_wuz(const int32_t *a, const int32_t *b, int32_t *out, size_t n) {
-    return cvl_int2(CVL_AND, a, n, b, n, out, n);
-}
+CVL_CHECKED CvlStatus cvl_and_wuz(const int32_t *a, const int32_t *b, int32_t *out, size_t n);
 
 /*
- * ior_wuz: Or, bit by bit. a, b and out have n elements.
+ * cvl_ior_wuz: Or, bit by bit. a, b and out have n elements.
  * Faults: 13 TooLong.
  * In place: a, b or both may be out.
  * a = 12 -7 2147483647, b = 10 2 1: out = 14 -5 2147483647
  */
-CVL_CHECKED static inline CvlStatus ior_wuz(const int32_t *a, const int32_t *b, int32_t *out, size_t n) {
-    return cvl_int2(CVL_IOR, a, n, b, n, out, n);
-}
+CVL_CHECKED CvlStatus cvl_ior_wuz(const int32_t *a, const int32_t *b, int32_t *out, size_t n);
 
 /*
- * xor_wuz: Exclusive or, bit by bit. a, b and out have n elements.
+ * cvl_xor_wuz: Exclusive or, bit by bit. a, b and out have n elements.
  * Faults: 13 TooLong.
  * In place: a, b or both may be out.
  * a = 12 -7 2147483647, b = 10 2 1: out = 6 -5 2147483646
  */
-CVL_CHECKED static inline CvlStatus xor_wuz(const int32_t *a, const int32_t *b, int32_t *out, size_t n) {
-    return cvl_int2(CVL_XOR, a, n, b, n, out, n);
-}
+CVL_CHECKED CvlStatus cvl_xor_wuz(const int32_t *a, const int32_t *b, int32_t *out, size_t n);
 
 /*
- * sub_wuz: The wrapped differences. a, b and out have n elements.
+ * cvl_sub_wuz: The wrapped differences. a, b and out have n elements.
  * Faults: 13 TooLong.
  * In place: a, b or both may be out.
  * a = 12 -7 2147483647, b = 10 2 1: out = 2 -9 2147483646
  */
-CVL_CHECKED static inline CvlStatus sub_wuz(const int32_t *a, const int32_t *b, int32_t *out, size_t n) {
-    return cvl_int2(CVL_SUB, a, n, b, n, out, n);
-}
+CVL_CHECKED CvlStatus cvl_sub_wuz(const int32_t *a, const int32_t *b, int32_t *out, size_t n);
 
 /*
- * div_wuz: The quotients, truncated toward zero; -2147483648 by -1 is -2147483648. a, b and out have n elements.
+ * cvl_div_wuz: The quotients, truncated toward zero; -2147483648 by -1 is -2147483648. a, b and out have n elements.
  * Faults: 13 TooLong; 8 DivideByZero at the first divisor that is 0.
  * In place: a, b or both may be out.
  * a = 7 -7 -2147483648, b = 2 2 -1: out = 3 -3 -2147483648
  */
-CVL_CHECKED static inline CvlStatus div_wuz(const int32_t *a, const int32_t *b, int32_t *out, size_t n) {
-    return cvl_int2(CVL_DIV, a, n, b, n, out, n);
-}
+CVL_CHECKED CvlStatus cvl_div_wuz(const int32_t *a, const int32_t *b, int32_t *out, size_t n);
 
 /*
- * mod_wuz: The remainders of the quotients, with the dividends' signs. a, b and out have n elements.
+ * cvl_mod_wuz: The remainders of the quotients, with the dividends' signs. a, b and out have n elements.
  * Faults: 13 TooLong; 8 DivideByZero at the first divisor that is 0.
  * In place: a, b or both may be out.
  * a = 7 -7 -2147483648, b = 2 2 -1: out = 1 -1 0
  */
-CVL_CHECKED static inline CvlStatus mod_wuz(const int32_t *a, const int32_t *b, int32_t *out, size_t n) {
-    return cvl_int2(CVL_MOD, a, n, b, n, out, n);
-}
+CVL_CHECKED CvlStatus cvl_mod_wuz(const int32_t *a, const int32_t *b, int32_t *out, size_t n);
 
 /*
- * lsh_wuz: The elements of a, shifted left by those of b. a, b and out have n elements.
+ * cvl_lsh_wuz: The elements of a, shifted left by those of b. a, b and out have n elements.
  * Faults: 13 TooLong; 9 ShiftOutOfRange at the first element of b outside 0 to 31.
  * In place: a, b or both may be out.
  * a = 1 -7 3, b = 4 1 31: out = 16 -14 -2147483648
  */
-CVL_CHECKED static inline CvlStatus lsh_wuz(const int32_t *a, const int32_t *b, int32_t *out, size_t n) {
-    return cvl_int2(CVL_LSH, a, n, b, n, out, n);
-}
+CVL_CHECKED CvlStatus cvl_lsh_wuz(const int32_t *a, const int32_t *b, int32_t *out, size_t n);
 
 /*
- * rsh_wuz: The elements of a, shifted right by those of b, with their signs. a, b and out have n elements.
+ * cvl_rsh_wuz: The elements of a, shifted right by those of b, with their signs. a, b and out have n elements.
  * Faults: 13 TooLong; 9 ShiftOutOfRange at the first element of b outside 0 to 31.
  * In place: a, b or both may be out.
  * a = 1 -7 3, b = 4 1 31: out = 0 -4 0
  */
-CVL_CHECKED static inline CvlStatus rsh_wuz(const int32_t *a, const int32_t *b, int32_t *out, size_t n) {
-    return cvl_int2(CVL_RSH, a, n, b, n, out, n);
-}
+CVL_CHECKED CvlStatus cvl_rsh_wuz(const int32_t *a, const int32_t *b, int32_t *out, size_t n);
 
 /*
- * not_wuz: Each bit inverted. a and out have n elements.
+ * cvl_not_wuz: Each bit inverted. a and out have n elements.
  * Faults: 13 TooLong.
  * In place: a may be out.
  * a = 0 5 -1: out = -1 -6 0
  */
-CVL_CHECKED static inline CvlStatus not_wuz(const int32_t *a, int32_t *out, size_t n) {
-    return cvl_int1(CVL_NOT, a, n, out, n);
-}
+CVL_CHECKED CvlStatus cvl_not_wuz(const int32_t *a, int32_t *out, size_t n);
 
 /*
- * not_wub: Each boolean inverted. a and out have n elements.
+ * cvl_not_wub: Each boolean inverted. a and out have n elements.
  * Faults: 13 TooLong.
  * In place: a may be out.
  * a = false true: out = true false
  */
-CVL_CHECKED static inline CvlStatus not_wub(const bool *a, bool *out, size_t n) {
-    return cvl_bool1(CVL_NOT, a, n, out, n);
-}
+CVL_CHECKED CvlStatus cvl_not_wub(const bool *a, bool *out, size_t n);
 
 /*
- * cpy_wuz: Each integer copied. a and out have n elements.
+ * cvl_cpy_wuz: Each integer copied. a and out have n elements.
  * Faults: 13 TooLong.
  * In place: a may be out.
  * a = 3 1: out = 3 1
  */
-CVL_CHECKED static inline CvlStatus cpy_wuz(const int32_t *a, int32_t *out, size_t n) {
-    return cvl_int1(CVL_CPY, a, n, out, n);
-}
+CVL_CHECKED CvlStatus cvl_cpy_wuz(const int32_t *a, int32_t *out, size_t n);
 
 /*
- * cpy_wub: Each boolean copied. a and out have n elements.
+ * cvl_cpy_wub: Each boolean copied. a and out have n elements.
  * Faults: 13 TooLong.
  * In place: a may be out.
  * a = true false: out = true false
  */
-CVL_CHECKED static inline CvlStatus cpy_wub(const bool *a, bool *out, size_t n) {
-    return cvl_bool1(CVL_CPY, a, n, out, n);
-}
+CVL_CHECKED CvlStatus cvl_cpy_wub(const bool *a, bool *out, size_t n);
 
 /*
- * grt_wuz: True where a is greater. a, b and out have n elements.
+ * cvl_grt_wuz: True where a is greater. a, b and out have n elements.
  * Faults: 13 TooLong.
  * In place: no, 102 Overlap.
  * a = 1 2 3, b = 2 2 2: out = false false true
  */
-CVL_CHECKED static inline CvlStatus grt_wuz(const int32_t *a, const int32_t *b, bool *out, size_t n) {
-    return cvl_compare(CVL_GRT, a, n, b, n, out, n);
-}
+CVL_CHECKED CvlStatus cvl_grt_wuz(const int32_t *a, const int32_t *b, bool *CVL_RESTRICT out, size_t n);
 
 /*
- * les_wuz: True where a is less. a, b and out have n elements.
+ * cvl_les_wuz: True where a is less. a, b and out have n elements.
  * Faults: 13 TooLong.
  * In place: no, 102 Overlap.
  * a = 1 2 3, b = 2 2 2: out = true false false
  */
-CVL_CHECKED static inline CvlStatus les_wuz(const int32_t *a, const int32_t *b, bool *out, size_t n) {
-    return cvl_compare(CVL_LES, a, n, b, n, out, n);
-}
+CVL_CHECKED CvlStatus cvl_les_wuz(const int32_t *a, const int32_t *b, bool *CVL_RESTRICT out, size_t n);
 
 /*
- * geq_wuz: True where a is greater, or they are equal. a, b and out have n elements.
+ * cvl_geq_wuz: True where a is greater, or they are equal. a, b and out have n elements.
  * Faults: 13 TooLong.
  * In place: no, 102 Overlap.
  * a = 1 2 3, b = 2 2 2: out = false true true
  */
-CVL_CHECKED static inline CvlStatus geq_wuz(const int32_t *a, const int32_t *b, bool *out, size_t n) {
-    return cvl_compare(CVL_GEQ, a, n, b, n, out, n);
-}
+CVL_CHECKED CvlStatus cvl_geq_wuz(const int32_t *a, const int32_t *b, bool *CVL_RESTRICT out, size_t n);
 
 /*
- * leq_wuz: True where a is less, or they are equal. a, b and out have n elements.
+ * cvl_leq_wuz: True where a is less, or they are equal. a, b and out have n elements.
  * Faults: 13 TooLong.
  * In place: no, 102 Overlap.
  * a = 1 2 3, b = 2 2 2: out = true true false
  */
-CVL_CHECKED static inline CvlStatus leq_wuz(const int32_t *a, const int32_t *b, bool *out, size_t n) {
-    return cvl_compare(CVL_LEQ, a, n, b, n, out, n);
-}
+CVL_CHECKED CvlStatus cvl_leq_wuz(const int32_t *a, const int32_t *b, bool *CVL_RESTRICT out, size_t n);
 
 /*
- * eql_wuz: True where they are equal. a, b and out have n elements.
+ * cvl_eql_wuz: True where they are equal. a, b and out have n elements.
  * Faults: 13 TooLong.
  * In place: no, 102 Overlap.
  * a = 1 2 3, b = 2 2 2: out = false true false
  */
-CVL_CHECKED static inline CvlStatus eql_wuz(const int32_t *a, const int32_t *b, bool *out, size_t n) {
-    return cvl_compare(CVL_EQL, a, n, b, n, out, n);
-}
+CVL_CHECKED CvlStatus cvl_eql_wuz(const int32_t *a, const int32_t *b, bool *CVL_RESTRICT out, size_t n);
 
 /*
- * neq_wuz: True where they are not equal. a, b and out have n elements.
+ * cvl_neq_wuz: True where they are not equal. a, b and out have n elements.
  * Faults: 13 TooLong.
  * In place: no, 102 Overlap.
  * a = 1 2 3, b = 2 2 2: out = true false true
  */
-CVL_CHECKED static inline CvlStatus neq_wuz(const int32_t *a, const int32_t *b, bool *out, size_t n) {
-    return cvl_compare(CVL_NEQ, a, n, b, n, out, n);
-}
+CVL_CHECKED CvlStatus cvl_neq_wuz(const int32_t *a, const int32_t *b, bool *CVL_RESTRICT out, size_t n);
 
 /*
- * and_wub: Whether both are true. a, b and out have n elements.
+ * cvl_and_wub: Whether both are true. a, b and out have n elements.
  * Faults: 13 TooLong.
  * In place: a, b or both may be out.
  * a = true true false false, b = true false true false: out = true false false false
  */
-CVL_CHECKED static inline CvlStatus and_wub(const bool *a, const bool *b, bool *out, size_t n) {
-    return cvl_bool2(CVL_AND, a, n, b, n, out, n);
-}
+CVL_CHECKED CvlStatus cvl_and_wub(const bool *a, const bool *b, bool *out, size_t n);
 
 /*
- * ior_wub: Whether at least one is true. a, b and out have n elements.
+ * cvl_ior_wub: Whether at least one is true. a, b and out have n elements.
  * Faults: 13 TooLong.
  * In place: a, b or both may be out.
  * a = true true false false, b = true false true false: out = true true true false
  */
-CVL_CHECKED static inline CvlStatus ior_wub(const bool *a, const bool *b, bool *out, size_t n) {
-    return cvl_bool2(CVL_IOR, a, n, b, n, out, n);
-}
+CVL_CHECKED CvlStatus cvl_ior_wub(const bool *a, const bool *b, bool *out, size_t n);
 
 /*
- * xor_wub: Whether exactly one is true. a, b and out have n elements.
+ * cvl_xor_wub: Whether exactly one is true. a, b and out have n elements.
  * Faults: 13 TooLong.
  * In place: a, b or both may be out.
  * a = true true false false, b = true false true false: out = false true true false
  */
-CVL_CHECKED static inline CvlStatus xor_wub(const bool *a, const bool *b, bool *out, size_t n) {
-    return cvl_bool2(CVL_XOR, a, n, b, n, out, n);
-}
+CVL_CHECKED CvlStatus cvl_xor_wub(const bool *a, const bool *b, bool *out, size_t n);
 
 /*
- * sel_wuz: The element of a where the flag is true, else that of b. flags, a, b and out have m elements.
+ * cvl_sel_wuz: The element of a where the flag is true, else that of b. flags, a, b and out have n elements.
  * Faults: 13 TooLong.
  * In place: a or b may be out, but not both.
  * flags = true false false, a = 5 0 5, b = 1 1 1: out = 5 1 1
  */
-CVL_CHECKED static inline CvlStatus sel_wuz(const bool *flags, const int32_t *a, const int32_t *b, int32_t *out, size_t m) {
-    return cvl_select_int(flags, m, a, m, b, m, out, m);
-}
+CVL_CHECKED CvlStatus cvl_sel_wuz(const bool *flags, const int32_t *a, const int32_t *b, int32_t *out, size_t n);
 
 /*
- * sel_wub: The element of a where the flag is true, else that of b. flags, a, b and out have m elements.
+ * cvl_sel_wub: The element of a where the flag is true, else that of b. flags, a, b and out have n elements.
  * Faults: 13 TooLong.
  * In place: a or b may be out, but not both.
  * flags = true false, a = true true, b = false false: out = true false
  */
-CVL_CHECKED static inline CvlStatus sel_wub(const bool *flags, const bool *a, const bool *b, bool *out, size_t m) {
-    return cvl_select_bool(flags, m, a, m, b, m, out, m);
-}
+CVL_CHECKED CvlStatus cvl_sel_wub(const bool *flags, const bool *a, const bool *b, bool *out, size_t n);
 
 /*
- * int_wub: 1 for true and 0 for false. a and out have n elements.
+ * cvl_int_wub: 1 for true and 0 for false. a and out have n elements.
  * Faults: 13 TooLong.
  * In place: no, 102 Overlap.
  * a = false true true: out = 0 1 1
  */
-CVL_CHECKED static inline CvlStatus int_wub(const bool *a, int32_t *out, size_t n) {
-    return cvl_int_from_bool(a, n, out, n);
-}
+CVL_CHECKED CvlStatus cvl_int_wub(const bool *a, int32_t *CVL_RESTRICT out, size_t n);
 
 /*
- * boo_wuz: True where the integer is not 0. a and out have n elements.
+ * cvl_boo_wuz: True where the integer is not 0. a and out have n elements.
  * Faults: 13 TooLong.
  * In place: no, 102 Overlap.
  * a = 0 -3 7: out = false true true
  */
-CVL_CHECKED static inline CvlStatus boo_wuz(const int32_t *a, bool *out, size_t n) {
-    return cvl_bool_from_int(a, n, out, n);
-}
+CVL_CHECKED CvlStatus cvl_boo_wuz(const int32_t *a, bool *CVL_RESTRICT out, size_t n);
 
 /* ---- scans and reduces: the calls of the table ---- */
 
 /*
- * add_suz: For each integer those before it, summed, wrapped; 0 at place 0. a and out have n elements.
+ * cvl_add_suz: For each integer those before it, summed, wrapped; 0 at place 0. a and out have n elements.
  * Faults: 13 TooLong.
  * In place: a may be out.
  * a = 3 1 4: out = 0 3 4
  */
-CVL_CHECKED static inline CvlStatus add_suz(const int32_t *a, int32_t *out, size_t n) {
-    return cvl_int_scan(CVL_ADD, a, n, out, n);
-}
+CVL_CHECKED CvlStatus cvl_add_suz(const int32_t *a, int32_t *out, size_t n);
 
 /*
- * add_ruz: The n integers, summed, wrapped; 0 where there are none.
+ * cvl_add_ruz: The n integers, summed, wrapped; 0 where there are none.
  * Faults: 13 TooLong.
  * In place: no, 102 Overlap.
  * a = 3 1 4: *out = 8
  */
-CVL_CHECKED static inline CvlStatus add_ruz(const int32_t *a, size_t n, int32_t *out) {
-    return cvl_int_reduce(CVL_ADD, a, n, out);
-}
+CVL_CHECKED CvlStatus cvl_add_ruz(const int32_t *a, size_t n, int32_t *out) CVL_NONNULL(3);
 
 /*
- * mul_suz: For each integer those before it, multiplied, wrapped; 1 at place 0. a and out have n elements.
+ * cvl_mul_suz: For each integer those before it, multiplied, wrapped; 1 at place 0. a and out have n elements.
  * Faults: 13 TooLong.
  * In place: a may be out.
  * a = 3 1 4: out = 1 3 3
  */
-CVL_CHECKED static inline CvlStatus mul_suz(const int32_t *a, int32_t *out, size_t n) {
-    return cvl_int_scan(CVL_MUL, a, n, out, n);
-}
+CVL_CHECKED CvlStatus cvl_mul_suz(const int32_t *a, int32_t *out, size_t n);
 
 /*
- * mul_ruz: The n integers, multiplied, wrapped; 1 where there are none.
+ * cvl_mul_ruz: The n integers, multiplied, wrapped; 1 where there are none.
  * Faults: 13 TooLong.
  * In place: no, 102 Overlap.
  * a = 3 1 4: *out = 12
  */
-CVL_CHECKED static inline CvlStatus mul_ruz(const int32_t *a, size_t n, int32_t *out) {
-    return cvl_int_reduce(CVL_MUL, a, n, out);
-}
+CVL_CHECKED CvlStatus cvl_mul_ruz(const int32_t *a, size_t n, int32_t *out) CVL_NONNULL(3);
 
 /*
- * min_suz: For each integer those before it, the least of them; 2147483647 at place 0. a and out have n elements.
+ * cvl_min_suz: For each integer those before it, the least of them; 2147483647 at place 0. a and out have n elements.
  * Faults: 13 TooLong.
  * In place: a may be out.
  * a = 3 1 4: out = 2147483647 3 1
  */
-CVL_CHECKED static inline CvlStatus min_suz(const int32_t *a, int32_t *out, size_t n) {
-    return cvl_int_scan(CVL_MIN, a, n, out, n);
-}
+CVL_CHECKED CvlStatus cvl_min_suz(const int32_t *a, int32_t *out, size_t n);
 
 /*
- * min_ruz: The n integers, the least of them; 2147483647 where there are none.
+ * cvl_min_ruz: The n integers, the least of them; 2147483647 where there are none.
  * Faults: 13 TooLong.
  * In place: no, 102 Overlap.
  * a = 3 1 4: *out = 1
  */
-CVL_CHECKED static inline CvlStatus min_ruz(const int32_t *a, size_t n, int32_t *out) {
-    return cvl_int_reduce(CVL_MIN, a, n, out);
-}
+CVL_CHECKED CvlStatus cvl_min_ruz(const int32_t *a, size_t n, int32_t *out) CVL_NONNULL(3);
 
 /*
- * max_suz: For each integer those before it, the greatest of them; -2147483648 at place 0. a and out have n elements.
+ * cvl_max_suz: For each integer those before it, the greatest of them; -2147483648 at place 0. a and out have n elements.
  * Faults: 13 TooLong.
  * In place: a may be out.
  * a = 3 1 4: out = -2147483648 3 3
  */
-CVL_CHECKED static inline CvlStatus max_suz(const int32_t *a, int32_t *out, size_t n) {
-    return cvl_int_scan(CVL_MAX, a, n, out, n);
-}
+CVL_CHECKED CvlStatus cvl_max_suz(const int32_t *a, int32_t *out, size_t n);
 
 /*
- * max_ruz: The n integers, the greatest of them; -2147483648 where there are none.
+ * cvl_max_ruz: The n integers, the greatest of them; -2147483648 where there are none.
  * Faults: 13 TooLong.
  * In place: no, 102 Overlap.
  * a = 3 1 4: *out = 4
  */
-CVL_CHECKED static inline CvlStatus max_ruz(const int32_t *a, size_t n, int32_t *out) {
-    return cvl_int_reduce(CVL_MAX, a, n, out);
-}
+CVL_CHECKED CvlStatus cvl_max_ruz(const int32_t *a, size_t n, int32_t *out) CVL_NONNULL(3);
 
 /*
- * and_suz: For each integer those before it, and, bit by bit; -1 at place 0. a and out have n elements.
+ * cvl_and_suz: For each integer those before it, and, bit by bit; -1 at place 0. a and out have n elements.
  * Faults: 13 TooLong.
  * In place: a may be out.
  * a = 3 1 4: out = -1 3 1
  */
-CVL_CHECKED static inline CvlStatus and_suz(const int32_t *a, int32_t *out, size_t n) {
-    return cvl_int_scan(CVL_AND, a, n, out, n);
-}
+CVL_CHECKED CvlStatus cvl_and_suz(const int32_t *a, int32_t *out, size_t n);
 
 /*
- * and_ruz: The n integers, and, bit by bit; -1 where there are none.
+ * cvl_and_ruz: The n integers, and, bit by bit; -1 where there are none.
  * Faults: 13 TooLong.
  * In place: no, 102 Overlap.
  * a = 3 1 4: *out = 0
  */
-CVL_CHECKED static inline CvlStatus and_ruz(const int32_t *a, size_t n, int32_t *out) {
-    return cvl_int_reduce(CVL_AND, a, n, out);
-}
+CVL_CHECKED CvlStatus cvl_and_ruz(const int32_t *a, size_t n, int32_t *out) CVL_NONNULL(3);
 
 /*
- * ior_suz: For each integer those before it, or, bit by bit; 0 at place 0. a and out have n elements.
+ * cvl_ior_suz: For each integer those before it, or, bit by bit; 0 at place 0. a and out have n elements.
  * Faults: 13 TooLong.
  * In place: a may be out.
  * a = 3 1 4: out = 0 3 3
  */
-CVL_CHECKED static inline CvlStatus ior_suz(const int32_t *a, int32_t *out, size_t n) {
-    return cvl_int_scan(CVL_IOR, a, n, out, n);
-}
+CVL_CHECKED CvlStatus cvl_ior_suz(const int32_t *a, int32_t *out, size_t n);
 
 /*
- * ior_ruz: The n integers, or, bit by bit; 0 where there are none.
+ * cvl_ior_ruz: The n integers, or, bit by bit; 0 where there are none.
  * Faults: 13 TooLong.
  * In place: no, 102 Overlap.
  * a = 3 1 4: *out = 7
  */
-CVL_CHECKED static inline CvlStatus ior_ruz(const int32_t *a, size_t n, int32_t *out) {
-    return cvl_int_reduce(CVL_IOR, a, n, out);
-}
+CVL_CHECKED CvlStatus cvl_ior_ruz(const int32_t *a, size_t n, int32_t *out) CVL_NONNULL(3);
 
 /*
- * xor_suz: For each integer those before it, exclusive or, bit by bit; 0 at place 0. a and out have n elements.
+ * cvl_xor_suz: For each integer those before it, exclusive or, bit by bit; 0 at place 0. a and out have n elements.
  * Faults: 13 TooLong.
  * In place: a may be out.
  * a = 3 1 4: out = 0 3 2
  */
-CVL_CHECKED static inline CvlStatus xor_suz(const int32_t *a, int32_t *out, size_t n) {
-    return cvl_int_scan(CVL_XOR, a, n, out, n);
-}
+CVL_CHECKED CvlStatus cvl_xor_suz(const int32_t *a, int32_t *out, size_t n);
 
 /*
- * xor_ruz: The n integers, exclusive or, bit by bit; 0 where there are none.
+ * cvl_xor_ruz: The n integers, exclusive or, bit by bit; 0 where there are none.
  * Faults: 13 TooLong.
  * In place: no, 102 Overlap.
  * a = 3 1 4: *out = 6
  */
-CVL_CHECKED static inline CvlStatus xor_ruz(const int32_t *a, size_t n, int32_t *out) {
-    return cvl_int_reduce(CVL_XOR, a, n, out);
-}
+CVL_CHECKED CvlStatus cvl_xor_ruz(const int32_t *a, size_t n, int32_t *out) CVL_NONNULL(3);
 
 /*
- * and_sub: For each boolean, of those before it, whether all are true; true at place 0. a and out have n elements.
+ * cvl_and_sub: For each boolean, of those before it, whether all are true; true at place 0. a and out have n elements.
  * Faults: 13 TooLong.
  * In place: a may be out.
  * a = true false true: out = true true false
  */
-CVL_CHECKED static inline CvlStatus and_sub(const bool *a, bool *out, size_t n) {
-    return cvl_bool_scan(CVL_AND, a, n, out, n);
-}
+CVL_CHECKED CvlStatus cvl_and_sub(const bool *a, bool *out, size_t n);
 
 /*
- * and_rub: Of the n booleans, whether all are true; true where there are none.
+ * cvl_and_rub: Of the n booleans, whether all are true; true where there are none.
  * Faults: 13 TooLong.
  * In place: no, 102 Overlap.
  * a = true false true: *out = false
  */
-CVL_CHECKED static inline CvlStatus and_rub(const bool *a, size_t n, bool *out) {
-    return cvl_bool_reduce(CVL_AND, a, n, out);
-}
+CVL_CHECKED CvlStatus cvl_and_rub(const bool *a, size_t n, bool *out) CVL_NONNULL(3);
 
 /*
- * ior_sub: For each boolean, of those before it, whether any is true; false at place 0. a and out have n elements.
+ * cvl_ior_sub: For each boolean, of those before it, whether any is true; false at place 0. a and out have n elements.
  * Faults: 13 TooLong.
  * In place: a may be out.
  * a = true false true: out = false true true
  */
-CVL_CHECKED static inline CvlStatus ior_sub(const bool *a, bool *out, size_t n) {
-    return cvl_bool_scan(CVL_IOR, a, n, out, n);
-}
+CVL_CHECKED CvlStatus cvl_ior_sub(const bool *a, bool *out, size_t n);
 
 /*
- * ior_rub: Of the n booleans, whether any is true; false where there are none.
+ * cvl_ior_rub: Of the n booleans, whether any is true; false where there are none.
  * Faults: 13 TooLong.
  * In place: no, 102 Overlap.
  * a = true false true: *out = true
  */
-CVL_CHECKED static inline CvlStatus ior_rub(const bool *a, size_t n, bool *out) {
-    return cvl_bool_reduce(CVL_IOR, a, n, out);
-}
+CVL_CHECKED CvlStatus cvl_ior_rub(const bool *a, size_t n, bool *out) CVL_NONNULL(3);
 
 /*
- * xor_sub: For each boolean, of those before it, whether an odd number is true; false at place 0. a and out have n elements.
+ * cvl_xor_sub: For each boolean, of those before it, whether an odd number is true; false at place 0. a and out have n
+ * elements.
  * Faults: 13 TooLong.
  * In place: a may be out.
  * a = true false true: out = false true true
  */
-CVL_CHECKED static inline CvlStatus xor_sub(const bool *a, bool *out, size_t n) {
-    return cvl_bool_scan(CVL_XOR, a, n, out, n);
-}
+CVL_CHECKED CvlStatus cvl_xor_sub(const bool *a, bool *out, size_t n);
 
 /*
- * xor_rub: Of the n booleans, whether an odd number is true; false where there are none.
+ * cvl_xor_rub: Of the n booleans, whether an odd number is true; false where there are none.
  * Faults: 13 TooLong.
  * In place: no, 102 Overlap.
  * a = true false true: *out = false
  */
-CVL_CHECKED static inline CvlStatus xor_rub(const bool *a, size_t n, bool *out) {
-    return cvl_bool_reduce(CVL_XOR, a, n, out);
-}
+CVL_CHECKED CvlStatus cvl_xor_rub(const bool *a, size_t n, bool *out) CVL_NONNULL(3);
 
 /* ---- sums that never wrap: the calls of the table ---- */
 
 /*
- * tot_suz: For each integer the sum of those before it. a and out have n elements.
+ * cvl_tot_suz: For each integer the sum of those before it. a and out have n elements.
  * Faults: 13 TooLong; 18 Overflow at the first place whose sum does not fit 32 bits.
  * In place: a may be out.
  * a = 3 1 4: out = 0 3 4
  */
-CVL_CHECKED static inline CvlStatus tot_suz(const int32_t *a, int32_t *out, size_t n) {
-    return cvl_checked_scan(a, n, out, n);
-}
+CVL_CHECKED CvlStatus cvl_tot_suz(const int32_t *a, int32_t *out, size_t n);
 
 /*
- * tot_ruz: The sum of the n integers.
+ * cvl_tot_ruz: The sum of the n integers.
  * Faults: 13 TooLong; 18 Overflow at 0 where it does not fit 32 bits.
  * In place: no, 102 Overlap.
  * a = 3 1 4: *out = 8
  */
-CVL_CHECKED static inline CvlStatus tot_ruz(const int32_t *a, size_t n, int32_t *out) {
-    return cvl_checked_reduce(a, n, out);
-}
+CVL_CHECKED CvlStatus cvl_tot_ruz(const int32_t *a, size_t n, int32_t *out) CVL_NONNULL(3);
 
 /* ---- counts, single elements, and vectors of a given length: the calls of the table ---- */
 
 /*
- * cnt_lub: The number of true flags, of n.
+ * cvl_cnt_lub: The number of true flags, of n.
  * Faults: 13 TooLong.
  * In place: no, 102 Overlap.
  * flags = false true true false true: *out = 3
  */
-CVL_CHECKED static inline CvlStatus cnt_lub(const bool *flags, size_t n, int32_t *out) {
-    return cvl_count(flags, n, out);
-}
+CVL_CHECKED CvlStatus cvl_cnt_lub(const bool *flags, size_t n, int32_t *out) CVL_NONNULL(3);
 
 /*
- * ext_vuz: The element of n at the index.
+ * cvl_ext_vuz: The element of n at the index.
  * Faults: 10 IndexOutOfRange at 0 where the index is below 0, or n or more.
  * In place: no, 102 Overlap.
  * vector = 4 5 6, index = 2: *out = 6
  */
-CVL_CHECKED static inline CvlStatus ext_vuz(const int32_t *vector, size_t n, int32_t index, int32_t *out) {
-    return cvl_extract_int(vector, n, index, out);
-}
+CVL_CHECKED CvlStatus cvl_ext_vuz(const int32_t *vector, size_t n, int64_t index, int32_t *out) CVL_NONNULL(4);
 
 /*
- * ext_vub: The element of n at the index.
+ * cvl_ext_vub: The element of n at the index.
  * Faults: 10 IndexOutOfRange at 0 where the index is below 0, or n or more.
  * In place: no, 102 Overlap.
  * vector = true true false, index = 0: *out = true
  */
-CVL_CHECKED static inline CvlStatus ext_vub(const bool *vector, size_t n, int32_t index, bool *out) {
-    return cvl_extract_bool(vector, n, index, out);
-}
+CVL_CHECKED CvlStatus cvl_ext_vub(const bool *vector, size_t n, int64_t index, bool *out) CVL_NONNULL(4);
 
 /*
- * rep_vuz: The vector with the value at the index. vector and out have n elements.
+ * cvl_rep_vuz: The vector with the value at the index. vector and out have n elements.
  * Faults: 10 IndexOutOfRange at 0 where the index is below 0, or n or more.
  * In place: no, 102 Overlap.
  * vector = 1 2 3, index = 1, value = 9: out = 1 9 3
  */
-CVL_CHECKED static inline CvlStatus rep_vuz(const int32_t *vector, int32_t index, int32_t value, int32_t *out, size_t n) {
-    return cvl_replace_int(vector, n, index, value, out, n);
-}
+CVL_CHECKED CvlStatus cvl_rep_vuz(const int32_t *vector, int64_t index, int32_t value, int32_t *CVL_RESTRICT out, size_t n);
 
 /*
- * rep_vub: The vector with the value at the index. vector and out have n elements.
+ * cvl_rep_vub: The vector with the value at the index. vector and out have n elements.
  * Faults: 10 IndexOutOfRange at 0 where the index is below 0, or n or more.
  * In place: no, 102 Overlap.
  * vector = true true true, index = 2, value = false: out = true true false
  */
-CVL_CHECKED static inline CvlStatus rep_vub(const bool *vector, int32_t index, bool value, bool *out, size_t n) {
-    return cvl_replace_bool(vector, n, index, value, out, n);
-}
+CVL_CHECKED CvlStatus cvl_rep_vub(const bool *vector, int64_t index, bool value, bool *CVL_RESTRICT out, size_t n);
 
 /*
- * dis_vuz: count copies of the value; out has count elements.
+ * cvl_dis_vuz: count copies of the value; out has count elements.
  * Faults: 12 NegativeLength, without a place, where count is below 0; 13 TooLong where it is above 4194304.
  * In place: no, 102 Overlap.
  * value = 7, count = 3: out = 7 7 7
  */
-CVL_CHECKED static inline CvlStatus dis_vuz(int32_t value, int32_t count, int32_t *out) {
-    return cvl_distribute_int(value, count, out, count < 0 ? 0 : (size_t)count);
-}
+CVL_CHECKED CvlStatus cvl_dis_vuz(int32_t value, int64_t count, int32_t *CVL_RESTRICT out);
 
 /*
- * dis_vub: count copies of the value; out has count elements.
+ * cvl_dis_vub: count copies of the value; out has count elements.
  * Faults: 12 NegativeLength, without a place, where count is below 0; 13 TooLong where it is above 4194304.
  * In place: no, 102 Overlap.
  * value = true, count = 2: out = true true
  */
-CVL_CHECKED static inline CvlStatus dis_vub(bool value, int32_t count, bool *out) {
-    return cvl_distribute_bool(value, count, out, count < 0 ? 0 : (size_t)count);
-}
+CVL_CHECKED CvlStatus cvl_dis_vub(bool value, int64_t count, bool *CVL_RESTRICT out);
 
 /*
- * ind_luz: The numbers init + k * stride, wrapped, for k from 0 to count - 1; out has count elements.
+ * cvl_ind_luz: The numbers init + k * stride, wrapped, for k from 0 to count - 1; out has count elements.
  * Faults: 12 NegativeLength, without a place, where count is below 0; 13 TooLong where it is above 4194304.
  * In place: no, 102 Overlap.
  * init = 10, stride = -2, count = 3: out = 10 8 6
  */
-CVL_CHECKED static inline CvlStatus ind_luz(int32_t init, int32_t stride, int32_t count, int32_t *out) {
-    return cvl_index(init, stride, count, out, count < 0 ? 0 : (size_t)count);
-}
+CVL_CHECKED CvlStatus cvl_ind_luz(int32_t init, int32_t stride, int64_t count, int32_t *CVL_RESTRICT out);
 
 /* ---- segments: the calls of the table ---- */
 
@@ -1936,410 +1049,335 @@ CVL_CHECKED static inline CvlStatus ind_luz(int32_t init, int32_t stride, int32_
  * lengths: 13 TooLong, without a place, where there are more than 4194304; 12 NegativeLength at the first that is below 0; 13
  * TooLong, without a place, where they add up to more than 4194304.
  */
+
 /*
- * mke_fov: Whether the numbers are the lengths of segments, and how many elements these have in all.
+ * cvl_mke_fov: Whether the numbers are the lengths of segments, and how many elements these have in all.
  * In place: no, 102 Overlap.
  * lengths = 2 0 3: *total = 5
  */
-CVL_CHECKED static inline CvlStatus mke_fov(const int32_t *lengths, size_t segments, size_t *total) {
-    return cvl_make_descriptor(lengths, segments, total);
-}
+CVL_CHECKED CvlStatus cvl_mke_fov(CvlLengths lengths, size_t *total) CVL_NONNULL(2);
 
 /*
- * tot_sez: For each integer the sum of those before it in its segment. a and out have n elements.
+ * cvl_tot_sez: For each integer the sum of those before it in its segment. a and out have n elements.
  * Faults: 7 LengthMismatch where the lengths do not add up to n; 18 Overflow at the first place whose sum does not fit 32 bits.
  * In place: a may be out.
  * a = 3 1 4 1 5, lengths = 2 0 3: out = 0 3 0 4 5
  */
-CVL_CHECKED static inline CvlStatus tot_sez(const int32_t *a, const int32_t *lengths, size_t segments, int32_t *out, size_t n) {
-    return cvl_seg_checked_scan(a, n, lengths, segments, out, n);
-}
+CVL_CHECKED CvlStatus cvl_tot_sez(const int32_t *a, CvlLengths lengths, int32_t *out, size_t n);
 
 /*
- * tot_rez: The sum of each segment. a has n elements, out one for each segment.
- * Faults: 7 LengthMismatch where the lengths do not add up to n; 18 Overflow at the first segment whose sum does not fit 32 bits.
+ * cvl_tot_rez: The sum of each segment. a has n elements, out one for each segment.
+ * Faults: 7 LengthMismatch where the lengths do not add up to n; 18 Overflow at the first segment whose sum does not fit 32
+ * bits.
  * In place: no, 102 Overlap.
  * a = 3 1 4 1 5, lengths = 2 0 3: out = 4 0 10
  */
-CVL_CHECKED static inline CvlStatus tot_rez(const int32_t *a, size_t n, const int32_t *lengths, size_t segments, int32_t *out) {
-    return cvl_seg_checked_reduce(a, n, lengths, segments, out, segments);
-}
+CVL_CHECKED CvlStatus cvl_tot_rez(const int32_t *a, size_t n, CvlLengths lengths, int32_t *CVL_RESTRICT out);
 
 /*
- * ext_vez: The element of each segment at its index, which counts from the segment's start. The vector has n elements, index
- * and out one for each segment.
+ * cvl_ext_vez: The element of each segment at its index, which counts from the segment's start. The vector has n elements,
+ * index and out one for each segment.
  * Faults: 7 LengthMismatch where the lengths do not add up to n; 10 IndexOutOfRange at the segment.
  * In place: no, 102 Overlap.
  * vector = 1 2 3 4 5, index = 1 2, lengths = 2 3: out = 2 5
  */
-CVL_CHECKED static inline CvlStatus ext_vez(
-    const int32_t *vector, size_t n, const int32_t *index, const int32_t *lengths, size_t segments, int32_t *out) {
-    return cvl_seg_extract_int(vector, n, index, segments, lengths, segments, out, segments);
-}
+CVL_CHECKED CvlStatus cvl_ext_vez(const int32_t *vector, size_t n, const int32_t *index, CvlLengths lengths,
+    int32_t *CVL_RESTRICT out);
 
 /*
- * ext_veb: The element of each segment at its index, which counts from the segment's start. The vector has n elements, index
- * and out one for each segment.
+ * cvl_ext_veb: The element of each segment at its index, which counts from the segment's start. The vector has n elements,
+ * index and out one for each segment.
  * Faults: 7 LengthMismatch where the lengths do not add up to n; 10 IndexOutOfRange at the segment.
  * In place: no, 102 Overlap.
  * vector = true true false, index = 0 1, lengths = 1 2: out = true false
  */
-CVL_CHECKED static inline CvlStatus ext_veb(
-    const bool *vector, size_t n, const int32_t *index, const int32_t *lengths, size_t segments, bool *out) {
-    return cvl_seg_extract_bool(vector, n, index, segments, lengths, segments, out, segments);
-}
+CVL_CHECKED CvlStatus cvl_ext_veb(const bool *vector, size_t n, const int32_t *index, CvlLengths lengths,
+    bool *CVL_RESTRICT out);
 
 /*
- * rep_vez: The vector with the value of each segment at its index, which counts from the segment's start. vector and out have
- * n elements, index and values one for each segment.
+ * cvl_rep_vez: The vector with the value of each segment at its index, which counts from the segment's start. vector and out
+ * have n elements, index and values one for each segment.
  * Faults: 7 LengthMismatch where the lengths do not add up to n; 10 IndexOutOfRange at the segment.
  * In place: no, 102 Overlap.
  * vector = 1 2 3 4 5, index = 0 1, values = 8 9, lengths = 2 3: out = 8 2 3 9 5
  */
-CVL_CHECKED static inline CvlStatus rep_vez(
-    const int32_t *vector, size_t n, const int32_t *index, const int32_t *values, const int32_t *lengths, size_t segments, int32_t *out) {
-    return cvl_seg_replace_int(vector, n, index, segments, values, segments, lengths, segments, out, n);
-}
+CVL_CHECKED CvlStatus cvl_rep_vez(const int32_t *vector, const int32_t *index, const int32_t *values, CvlLengths lengths,
+    int32_t *CVL_RESTRICT out, size_t n);
 
 /*
- * rep_veb: The vector with the value of each segment at its index, which counts from the segment's start. vector and out have
- * n elements, index and values one for each segment.
+ * cvl_rep_veb: The vector with the value of each segment at its index, which counts from the segment's start. vector and out
+ * have n elements, index and values one for each segment.
  * Faults: 7 LengthMismatch where the lengths do not add up to n; 10 IndexOutOfRange at the segment.
  * In place: no, 102 Overlap.
  * vector = true true false, index = 0 1, values = false true, lengths = 1 2: out = false true true
  */
-CVL_CHECKED static inline CvlStatus rep_veb(
-    const bool *vector, size_t n, const int32_t *index, const bool *values, const int32_t *lengths, size_t segments, bool *out) {
-    return cvl_seg_replace_bool(vector, n, index, segments, values, segments, lengths, segments, out, n);
-}
+CVL_CHECKED CvlStatus cvl_rep_veb(const bool *vector, const int32_t *index, const bool *values, CvlLengths lengths,
+    bool *CVL_RESTRICT out, size_t n);
 
 /*
- * dis_vez: Copies of each value, as many as its segment has places. There is one value for each segment; out has n elements,
- * the total of the lengths, else 7 LengthMismatch.
+ * cvl_dis_vez: Copies of each value, as many as its segment has places. There is one value for each segment; out has n
+ * elements, the total of the lengths, else 7 LengthMismatch.
  * In place: no, 102 Overlap.
  * values = 7 8 9, lengths = 2 0 3: out = 7 7 9 9 9
  */
-CVL_CHECKED static inline CvlStatus dis_vez(
-    const int32_t *values, const int32_t *lengths, size_t segments, int32_t *out, size_t n) {
-    return cvl_seg_distribute_int(values, segments, lengths, segments, out, n);
-}
+CVL_CHECKED CvlStatus cvl_dis_vez(const int32_t *values, CvlLengths lengths, int32_t *CVL_RESTRICT out, size_t n);
 
 /*
- * dis_veb: Copies of each value, as many as its segment has places. There is one value for each segment; out has n elements,
- * the total of the lengths, else 7 LengthMismatch.
+ * cvl_dis_veb: Copies of each value, as many as its segment has places. There is one value for each segment; out has n
+ * elements, the total of the lengths, else 7 LengthMismatch.
  * In place: no, 102 Overlap.
  * values = true false, lengths = 1 2: out = true false false
  */
-CVL_CHECKED static inline CvlStatus dis_veb(const bool *values, const int32_t *lengths, size_t segments, bool *out, size_t n) {
-    return cvl_seg_distribute_bool(values, segments, lengths, segments, out, n);
-}
+CVL_CHECKED CvlStatus cvl_dis_veb(const bool *values, CvlLengths lengths, bool *CVL_RESTRICT out, size_t n);
 
 /*
- * ind_lez: The numbers of each segment from its init on, in steps of its stride, wrapped. There are one init and one stride for
- * each segment; out has n elements, the total of the lengths, else 7 LengthMismatch.
+ * cvl_ind_lez: The numbers of each segment from its init on, in steps of its stride, wrapped. There are one init and one stride
+ * for each segment; out has n elements, the total of the lengths, else 7 LengthMismatch.
  * In place: no, 102 Overlap.
  * inits = 0 5 10, strides = 1 1 -2, lengths = 2 0 3: out = 0 1 10 8 6
  */
-CVL_CHECKED static inline CvlStatus ind_lez(
-    const int32_t *inits, const int32_t *strides, const int32_t *lengths, size_t segments, int32_t *out, size_t n) {
-    return cvl_seg_index(inits, segments, strides, segments, lengths, segments, out, n);
-}
+CVL_CHECKED CvlStatus cvl_ind_lez(const int32_t *inits, const int32_t *strides, CvlLengths lengths, int32_t *CVL_RESTRICT out,
+    size_t n);
 
 /* ---- scans and reduces of segments: the calls of the table ---- */
 
 /*
- * add_sez: For each integer those before it in its segment, summed, wrapped; 0 where a segment starts. a and out have n
+ * cvl_add_sez: For each integer those before it in its segment, summed, wrapped; 0 where a segment starts. a and out have n
  * elements.
  * Faults: 7 LengthMismatch where the lengths do not add up to n.
  * In place: a may be out.
  * a = 3 1 4 1 5, lengths = 2 0 3: out = 0 3 0 4 5
  */
-CVL_CHECKED static inline CvlStatus add_sez(const int32_t *a, const int32_t *lengths, size_t segments, int32_t *out, size_t n) {
-    return cvl_seg_int_scan(CVL_ADD, a, n, lengths, segments, out, n);
-}
+CVL_CHECKED CvlStatus cvl_add_sez(const int32_t *a, CvlLengths lengths, int32_t *out, size_t n);
 
 /*
- * add_rez: The integers of each segment, summed, wrapped; 0 where it is empty. a has n elements, out one for each
- * segment.
+ * cvl_add_rez: The integers of each segment, summed, wrapped; 0 where it is empty. a has n elements, out one for each segment.
  * Faults: 7 LengthMismatch where the lengths do not add up to n.
  * In place: no, 102 Overlap.
  * a = 3 1 4 1 5, lengths = 2 0 3: out = 4 0 10
  */
-CVL_CHECKED static inline CvlStatus add_rez(const int32_t *a, size_t n, const int32_t *lengths, size_t segments, int32_t *out) {
-    return cvl_seg_int_reduce(CVL_ADD, a, n, lengths, segments, out, segments);
-}
+CVL_CHECKED CvlStatus cvl_add_rez(const int32_t *a, size_t n, CvlLengths lengths, int32_t *CVL_RESTRICT out);
 
 /*
- * mul_sez: For each integer those before it in its segment, multiplied, wrapped; 1 where a segment starts. a and out have n
+ * cvl_mul_sez: For each integer those before it in its segment, multiplied, wrapped; 1 where a segment starts. a and out have n
  * elements.
  * Faults: 7 LengthMismatch where the lengths do not add up to n.
  * In place: a may be out.
  * a = 3 1 4 1 5, lengths = 2 0 3: out = 1 3 1 4 4
  */
-CVL_CHECKED static inline CvlStatus mul_sez(const int32_t *a, const int32_t *lengths, size_t segments, int32_t *out, size_t n) {
-    return cvl_seg_int_scan(CVL_MUL, a, n, lengths, segments, out, n);
-}
+CVL_CHECKED CvlStatus cvl_mul_sez(const int32_t *a, CvlLengths lengths, int32_t *out, size_t n);
 
 /*
- * mul_rez: The integers of each segment, multiplied, wrapped; 1 where it is empty. a has n elements, out one for each
+ * cvl_mul_rez: The integers of each segment, multiplied, wrapped; 1 where it is empty. a has n elements, out one for each
  * segment.
  * Faults: 7 LengthMismatch where the lengths do not add up to n.
  * In place: no, 102 Overlap.
  * a = 3 1 4 1 5, lengths = 2 0 3: out = 3 1 20
  */
-CVL_CHECKED static inline CvlStatus mul_rez(const int32_t *a, size_t n, const int32_t *lengths, size_t segments, int32_t *out) {
-    return cvl_seg_int_reduce(CVL_MUL, a, n, lengths, segments, out, segments);
-}
+CVL_CHECKED CvlStatus cvl_mul_rez(const int32_t *a, size_t n, CvlLengths lengths, int32_t *CVL_RESTRICT out);
 
 /*
- * min_sez: For each integer those before it in its segment, the least of them; 2147483647 where a segment starts. a and out have n
- * elements.
+ * cvl_min_sez: For each integer those before it in its segment, the least of them; 2147483647 where a segment starts. a and out
+ * have n elements.
  * Faults: 7 LengthMismatch where the lengths do not add up to n.
  * In place: a may be out.
  * a = 3 1 4 1 5, lengths = 2 0 3: out = 2147483647 3 2147483647 4 1
  */
-CVL_CHECKED static inline CvlStatus min_sez(const int32_t *a, const int32_t *lengths, size_t segments, int32_t *out, size_t n) {
-    return cvl_seg_int_scan(CVL_MIN, a, n, lengths, segments, out, n);
-}
+CVL_CHECKED CvlStatus cvl_min_sez(const int32_t *a, CvlLengths lengths, int32_t *out, size_t n);
 
 /*
- * min_rez: The integers of each segment, the least of them; 2147483647 where it is empty. a has n elements, out one for each
- * segment.
+ * cvl_min_rez: The integers of each segment, the least of them; 2147483647 where it is empty. a has n elements, out one for
+ * each segment.
  * Faults: 7 LengthMismatch where the lengths do not add up to n.
  * In place: no, 102 Overlap.
  * a = 3 1 4 1 5, lengths = 2 0 3: out = 1 2147483647 1
  */
-CVL_CHECKED static inline CvlStatus min_rez(const int32_t *a, size_t n, const int32_t *lengths, size_t segments, int32_t *out) {
-    return cvl_seg_int_reduce(CVL_MIN, a, n, lengths, segments, out, segments);
-}
+CVL_CHECKED CvlStatus cvl_min_rez(const int32_t *a, size_t n, CvlLengths lengths, int32_t *CVL_RESTRICT out);
 
 /*
- * max_sez: For each integer those before it in its segment, the greatest of them; -2147483648 where a segment starts. a and out have n
- * elements.
+ * cvl_max_sez: For each integer those before it in its segment, the greatest of them; -2147483648 where a segment starts. a and
+ * out have n elements.
  * Faults: 7 LengthMismatch where the lengths do not add up to n.
  * In place: a may be out.
  * a = 3 1 4 1 5, lengths = 2 0 3: out = -2147483648 3 -2147483648 4 4
  */
-CVL_CHECKED static inline CvlStatus max_sez(const int32_t *a, const int32_t *lengths, size_t segments, int32_t *out, size_t n) {
-    return cvl_seg_int_scan(CVL_MAX, a, n, lengths, segments, out, n);
-}
+CVL_CHECKED CvlStatus cvl_max_sez(const int32_t *a, CvlLengths lengths, int32_t *out, size_t n);
 
 /*
- * max_rez: The integers of each segment, the greatest of them; -2147483648 where it is empty. a has n elements, out one for each
- * segment.
+ * cvl_max_rez: The integers of each segment, the greatest of them; -2147483648 where it is empty. a has n elements, out one for
+ * each segment.
  * Faults: 7 LengthMismatch where the lengths do not add up to n.
  * In place: no, 102 Overlap.
  * a = 3 1 4 1 5, lengths = 2 0 3: out = 3 -2147483648 5
  */
-CVL_CHECKED static inline CvlStatus max_rez(const int32_t *a, size_t n, const int32_t *lengths, size_t segments, int32_t *out) {
-    return cvl_seg_int_reduce(CVL_MAX, a, n, lengths, segments, out, segments);
-}
+CVL_CHECKED CvlStatus cvl_max_rez(const int32_t *a, size_t n, CvlLengths lengths, int32_t *CVL_RESTRICT out);
 
 /*
- * and_sez: For each integer those before it in its segment, and, bit by bit; -1 where a segment starts. a and out have n
+ * cvl_and_sez: For each integer those before it in its segment, and, bit by bit; -1 where a segment starts. a and out have n
  * elements.
  * Faults: 7 LengthMismatch where the lengths do not add up to n.
  * In place: a may be out.
  * a = 3 1 4 1 5, lengths = 2 0 3: out = -1 3 -1 4 0
  */
-CVL_CHECKED static inline CvlStatus and_sez(const int32_t *a, const int32_t *lengths, size_t segments, int32_t *out, size_t n) {
-    return cvl_seg_int_scan(CVL_AND, a, n, lengths, segments, out, n);
-}
+CVL_CHECKED CvlStatus cvl_and_sez(const int32_t *a, CvlLengths lengths, int32_t *out, size_t n);
 
 /*
- * and_rez: The integers of each segment, and, bit by bit; -1 where it is empty. a has n elements, out one for each
- * segment.
+ * cvl_and_rez: The integers of each segment, and, bit by bit; -1 where it is empty. a has n elements, out one for each segment.
  * Faults: 7 LengthMismatch where the lengths do not add up to n.
  * In place: no, 102 Overlap.
  * a = 3 1 4 1 5, lengths = 2 0 3: out = 1 -1 0
  */
-CVL_CHECKED static inline CvlStatus and_rez(const int32_t *a, size_t n, const int32_t *lengths, size_t segments, int32_t *out) {
-    return cvl_seg_int_reduce(CVL_AND, a, n, lengths, segments, out, segments);
-}
+CVL_CHECKED CvlStatus cvl_and_rez(const int32_t *a, size_t n, CvlLengths lengths, int32_t *CVL_RESTRICT out);
 
 /*
- * ior_sez: For each integer those before it in its segment, or, bit by bit; 0 where a segment starts. a and out have n
+ * cvl_ior_sez: For each integer those before it in its segment, or, bit by bit; 0 where a segment starts. a and out have n
  * elements.
  * Faults: 7 LengthMismatch where the lengths do not add up to n.
  * In place: a may be out.
  * a = 3 1 4 1 5, lengths = 2 0 3: out = 0 3 0 4 5
  */
-CVL_CHECKED static inline CvlStatus ior_sez(const int32_t *a, const int32_t *lengths, size_t segments, int32_t *out, size_t n) {
-    return cvl_seg_int_scan(CVL_IOR, a, n, lengths, segments, out, n);
-}
+CVL_CHECKED CvlStatus cvl_ior_sez(const int32_t *a, CvlLengths lengths, int32_t *out, size_t n);
 
 /*
- * ior_rez: The integers of each segment, or, bit by bit; 0 where it is empty. a has n elements, out one for each
- * segment.
+ * cvl_ior_rez: The integers of each segment, or, bit by bit; 0 where it is empty. a has n elements, out one for each segment.
  * Faults: 7 LengthMismatch where the lengths do not add up to n.
  * In place: no, 102 Overlap.
  * a = 3 1 4 1 5, lengths = 2 0 3: out = 3 0 5
  */
-CVL_CHECKED static inline CvlStatus ior_rez(const int32_t *a, size_t n, const int32_t *lengths, size_t segments, int32_t *out) {
-    return cvl_seg_int_reduce(CVL_IOR, a, n, lengths, segments, out, segments);
-}
+CVL_CHECKED CvlStatus cvl_ior_rez(const int32_t *a, size_t n, CvlLengths lengths, int32_t *CVL_RESTRICT out);
 
 /*
- * xor_sez: For each integer those before it in its segment, exclusive or, bit by bit; 0 where a segment starts. a and out have n
- * elements.
+ * cvl_xor_sez: For each integer those before it in its segment, exclusive or, bit by bit; 0 where a segment starts. a and out
+ * have n elements.
  * Faults: 7 LengthMismatch where the lengths do not add up to n.
  * In place: a may be out.
  * a = 3 1 4 1 5, lengths = 2 0 3: out = 0 3 0 4 5
  */
-CVL_CHECKED static inline CvlStatus xor_sez(const int32_t *a, const int32_t *lengths, size_t segments, int32_t *out, size_t n) {
-    return cvl_seg_int_scan(CVL_XOR, a, n, lengths, segments, out, n);
-}
+CVL_CHECKED CvlStatus cvl_xor_sez(const int32_t *a, CvlLengths lengths, int32_t *out, size_t n);
 
 /*
- * xor_rez: The integers of each segment, exclusive or, bit by bit; 0 where it is empty. a has n elements, out one for each
+ * cvl_xor_rez: The integers of each segment, exclusive or, bit by bit; 0 where it is empty. a has n elements, out one for each
  * segment.
  * Faults: 7 LengthMismatch where the lengths do not add up to n.
  * In place: no, 102 Overlap.
  * a = 3 1 4 1 5, lengths = 2 0 3: out = 2 0 0
  */
-CVL_CHECKED static inline CvlStatus xor_rez(const int32_t *a, size_t n, const int32_t *lengths, size_t segments, int32_t *out) {
-    return cvl_seg_int_reduce(CVL_XOR, a, n, lengths, segments, out, segments);
-}
+CVL_CHECKED CvlStatus cvl_xor_rez(const int32_t *a, size_t n, CvlLengths lengths, int32_t *CVL_RESTRICT out);
 
 /*
- * and_seb: For each boolean, of those before it in its segment, whether all are true; true where a segment starts. a and out
- * have n elements.
+ * cvl_and_seb: For each boolean, of those before it in its segment, whether all are true; true where a segment starts. a and
+ * out have n elements.
  * Faults: 7 LengthMismatch where the lengths do not add up to n.
  * In place: a may be out.
  * a = true false true false true, lengths = 2 0 3: out = true true true true false
  */
-CVL_CHECKED static inline CvlStatus and_seb(const bool *a, const int32_t *lengths, size_t segments, bool *out, size_t n) {
-    return cvl_seg_bool_scan(CVL_AND, a, n, lengths, segments, out, n);
-}
+CVL_CHECKED CvlStatus cvl_and_seb(const bool *a, CvlLengths lengths, bool *out, size_t n);
 
 /*
- * and_reb: Of the booleans of each segment, whether all are true; true where it is empty. a has n elements, out one for each
- * segment.
+ * cvl_and_reb: Of the booleans of each segment, whether all are true; true where it is empty. a has n elements, out one for
+ * each segment.
  * Faults: 7 LengthMismatch where the lengths do not add up to n.
  * In place: no, 102 Overlap.
  * a = true false true false true, lengths = 2 0 3: out = false true false
  */
-CVL_CHECKED static inline CvlStatus and_reb(const bool *a, size_t n, const int32_t *lengths, size_t segments, bool *out) {
-    return cvl_seg_bool_reduce(CVL_AND, a, n, lengths, segments, out, segments);
-}
+CVL_CHECKED CvlStatus cvl_and_reb(const bool *a, size_t n, CvlLengths lengths, bool *CVL_RESTRICT out);
 
 /*
- * ior_seb: For each boolean, of those before it in its segment, whether any is true; false where a segment starts. a and out
- * have n elements.
+ * cvl_ior_seb: For each boolean, of those before it in its segment, whether any is true; false where a segment starts. a and
+ * out have n elements.
  * Faults: 7 LengthMismatch where the lengths do not add up to n.
  * In place: a may be out.
  * a = true false true false true, lengths = 2 0 3: out = false true false true true
  */
-CVL_CHECKED static inline CvlStatus ior_seb(const bool *a, const int32_t *lengths, size_t segments, bool *out, size_t n) {
-    return cvl_seg_bool_scan(CVL_IOR, a, n, lengths, segments, out, n);
-}
+CVL_CHECKED CvlStatus cvl_ior_seb(const bool *a, CvlLengths lengths, bool *out, size_t n);
 
 /*
- * ior_reb: Of the booleans of each segment, whether any is true; false where it is empty. a has n elements, out one for each
- * segment.
+ * cvl_ior_reb: Of the booleans of each segment, whether any is true; false where it is empty. a has n elements, out one for
+ * each segment.
  * Faults: 7 LengthMismatch where the lengths do not add up to n.
  * In place: no, 102 Overlap.
  * a = true false true false true, lengths = 2 0 3: out = true false true
  */
-CVL_CHECKED static inline CvlStatus ior_reb(const bool *a, size_t n, const int32_t *lengths, size_t segments, bool *out) {
-    return cvl_seg_bool_reduce(CVL_IOR, a, n, lengths, segments, out, segments);
-}
+CVL_CHECKED CvlStatus cvl_ior_reb(const bool *a, size_t n, CvlLengths lengths, bool *CVL_RESTRICT out);
 
 /*
- * xor_seb: For each boolean, of those before it in its segment, whether an odd number is true; false where a segment starts. a and out
- * have n elements.
+ * cvl_xor_seb: For each boolean, of those before it in its segment, whether an odd number is true; false where a segment
+ * starts. a and out have n elements.
  * Faults: 7 LengthMismatch where the lengths do not add up to n.
  * In place: a may be out.
  * a = true false true false true, lengths = 2 0 3: out = false true false true true
  */
-CVL_CHECKED static inline CvlStatus xor_seb(const bool *a, const int32_t *lengths, size_t segments, bool *out, size_t n) {
-    return cvl_seg_bool_scan(CVL_XOR, a, n, lengths, segments, out, n);
-}
+CVL_CHECKED CvlStatus cvl_xor_seb(const bool *a, CvlLengths lengths, bool *out, size_t n);
 
 /*
- * xor_reb: Of the booleans of each segment, whether an odd number is true; false where it is empty. a has n elements, out one for each
- * segment.
+ * cvl_xor_reb: Of the booleans of each segment, whether an odd number is true; false where it is empty. a has n elements, out
+ * one for each segment.
  * Faults: 7 LengthMismatch where the lengths do not add up to n.
  * In place: no, 102 Overlap.
  * a = true false true false true, lengths = 2 0 3: out = true false false
  */
-CVL_CHECKED static inline CvlStatus xor_reb(const bool *a, size_t n, const int32_t *lengths, size_t segments, bool *out) {
-    return cvl_seg_bool_reduce(CVL_XOR, a, n, lengths, segments, out, segments);
-}
+CVL_CHECKED CvlStatus cvl_xor_reb(const bool *a, size_t n, CvlLengths lengths, bool *CVL_RESTRICT out);
 
 /* ---- packs and counts of segments: the calls of the table ---- */
 
 /*
- * pck_luz: The values whose flag is true, in their order. values and flags have n elements, out has room for so many; room for n
- * is always enough. *count is how many they are, also where there is not room for them.
+ * cvl_pck_luz: The values whose flag is true, in their order. values and flags have n elements. out has room for so many; room
+ * for n is always enough. *count is how many they are, also where there is not room for them.
  * Faults: 13 TooLong; 7 LengthMismatch where there is not room.
  * In place: no, 102 Overlap.
  * values = 1 2 3 4 5, flags = false true true false true: out = 2 3 5, *count = 3
  */
-CVL_CHECKED static inline CvlStatus pck_luz(
-    const int32_t *values, const bool *flags, size_t n, int32_t *out, size_t room, size_t *count) {
-    return cvl_pack_int(values, n, flags, n, out, room, count);
-}
+CVL_CHECKED CvlStatus cvl_pck_luz(const int32_t *values, const bool *flags, size_t n, int32_t *CVL_RESTRICT out, size_t room,
+    size_t *count) CVL_NONNULL(6);
 
 /*
- * pck_lub: The values whose flag is true, in their order. values and flags have n elements, out has room for so many; room for n
- * is always enough. *count is how many they are, also where there is not room for them.
+ * cvl_pck_lub: The values whose flag is true, in their order. values and flags have n elements. out has room for so many; room
+ * for n is always enough. *count is how many they are, also where there is not room for them.
  * Faults: 13 TooLong; 7 LengthMismatch where there is not room.
  * In place: no, 102 Overlap.
  * values = true false true, flags = false true true: out = false true, *count = 2
  */
-CVL_CHECKED static inline CvlStatus pck_lub(const bool *values, const bool *flags, size_t n, bool *out, size_t room, size_t *count) {
-    return cvl_pack_bool(values, n, flags, n, out, room, count);
-}
+CVL_CHECKED CvlStatus cvl_pck_lub(const bool *values, const bool *flags, size_t n, bool *CVL_RESTRICT out, size_t room,
+    size_t *count) CVL_NONNULL(6);
 
 /*
- * pck_lez: The values of each segment whose flag is true, in their order, one segment after another; pck_fov tells the lengths
- * of these segments. values and flags have n elements, out has room for so many; room for n is always enough. *count is how many
- * they are, also where there is not room for them.
+ * cvl_pck_lez: The values of each segment whose flag is true, in their order, one segment after another; pck_fov tells the
+ * lengths of these segments. values and flags have n elements. out has room for so many; room for n is always enough. *count is
+ * how many they are, also where there is not room for them.
  * Faults: 7 LengthMismatch where the lengths do not add up to n, with *count as it was, and where there is not room.
  * In place: no, 102 Overlap.
  * values = 1 2 3 4 5, flags = false true true false true, lengths = 2 0 3: out = 2 3 5, *count = 3
  */
-CVL_CHECKED static inline CvlStatus pck_lez(
-    const int32_t *values, const bool *flags, size_t n, const int32_t *lengths, size_t segments, int32_t *out, size_t room,
-    size_t *count) {
-    return cvl_seg_pack_int(values, n, flags, n, lengths, segments, out, room, count);
-}
+CVL_CHECKED CvlStatus cvl_pck_lez(const int32_t *values, const bool *flags, size_t n, CvlLengths lengths,
+    int32_t *CVL_RESTRICT out, size_t room, size_t *count) CVL_NONNULL(7);
 
 /*
- * pck_leb: The values of each segment whose flag is true, in their order, one segment after another; pck_fov tells the lengths
- * of these segments. values and flags have n elements, out has room for so many; room for n is always enough. *count is how many
- * they are, also where there is not room for them.
+ * cvl_pck_leb: The values of each segment whose flag is true, in their order, one segment after another; pck_fov tells the
+ * lengths of these segments. values and flags have n elements. out has room for so many; room for n is always enough. *count is
+ * how many they are, also where there is not room for them.
  * Faults: 7 LengthMismatch where the lengths do not add up to n, with *count as it was, and where there is not room.
  * In place: no, 102 Overlap.
  * values = true false true, flags = false true true, lengths = 1 2: out = false true, *count = 2
  */
-CVL_CHECKED static inline CvlStatus pck_leb(
-    const bool *values, const bool *flags, size_t n, const int32_t *lengths, size_t segments, bool *out, size_t room,
-    size_t *count) {
-    return cvl_seg_pack_bool(values, n, flags, n, lengths, segments, out, room, count);
-}
+CVL_CHECKED CvlStatus cvl_pck_leb(const bool *values, const bool *flags, size_t n, CvlLengths lengths, bool *CVL_RESTRICT out,
+    size_t room, size_t *count) CVL_NONNULL(7);
 
 /*
- * pck_fov: The lengths of the segments of what a pack keeps, or a select permute, 0 for a segment of which nothing is kept. flags
- * has n elements, out one for each segment.
+ * cvl_pck_fov: The lengths of the segments of what a pack keeps, or a select permute, 0 for a segment of which nothing is kept.
+ * flags has n elements, out one for each segment.
  * Faults: 7 LengthMismatch where the lengths do not add up to n.
  * In place: no, 102 Overlap.
  * flags = false true true false true, lengths = 2 0 3: out = 1 0 2
  */
-CVL_CHECKED static inline CvlStatus pck_fov(const bool *flags, size_t n, const int32_t *lengths, size_t segments, int32_t *out) {
-    return cvl_packed_lengths(flags, n, lengths, segments, out, segments);
-}
+CVL_CHECKED CvlStatus cvl_pck_fov(const bool *flags, size_t n, CvlLengths lengths, int32_t *CVL_RESTRICT out);
 
 /*
- * cnt_leb: The number of true flags of each segment. flags has n elements, out one for each segment.
+ * cvl_cnt_leb: The number of true flags of each segment. flags has n elements, out one for each segment.
  * Faults: 7 LengthMismatch where the lengths do not add up to n.
  * In place: no, 102 Overlap.
  * flags = false false true false true, lengths = 2 0 3: out = 0 0 2
  */
-CVL_CHECKED static inline CvlStatus cnt_leb(const bool *flags, size_t n, const int32_t *lengths, size_t segments, int32_t *out) {
-    return cvl_seg_count(flags, n, lengths, segments, out, segments);
-}
+CVL_CHECKED CvlStatus cvl_cnt_leb(const bool *flags, size_t n, CvlLengths lengths, int32_t *CVL_RESTRICT out);
 
 /* ---- permutes: the calls of the table ---- */
 
@@ -2347,229 +1385,191 @@ CVL_CHECKED static inline CvlStatus cnt_leb(const bool *flags, size_t n, const i
  * In a simple, a select and a default permute the index of a place tells where its element goes, and no two may go to one
  * place. 13 TooLong stands where the index has more than 4194304 elements, and comes first.
  */
+
 /*
- * smp_puz: Each element of the source at its index. source, index and out have n elements.
- * Faults: 13 TooLong; at the first bad index 10 IndexOutOfRange where it is below 0, or n or more, else 11 IndexRepeated
- * where an earlier one is the same.
+ * cvl_smp_puz: Each element of the source at its index. source, index and out have n elements.
+ * Faults: 13 TooLong; at the first bad index 10 IndexOutOfRange where it is below 0, or n or more, else 11 IndexRepeated where
+ * an earlier one is the same.
  * In place: no, 102 Overlap.
  * source = 10 20 30, index = 2 0 1: out = 20 30 10
  */
-CVL_CHECKED static inline CvlStatus smp_puz(const int32_t *source, const int32_t *index, int32_t *out, size_t n) {
-    return cvl_permute_int(source, n, index, n, out, n);
-}
+CVL_CHECKED CvlStatus cvl_smp_puz(const int32_t *source, const int32_t *index, int32_t *CVL_RESTRICT out, size_t n);
 
 /*
- * smp_pub: Each element of the source at its index. source, index and out have n elements.
- * Faults: 13 TooLong; at the first bad index 10 IndexOutOfRange where it is below 0, or n or more, else 11 IndexRepeated
- * where an earlier one is the same.
+ * cvl_smp_pub: Each element of the source at its index. source, index and out have n elements.
+ * Faults: 13 TooLong; at the first bad index 10 IndexOutOfRange where it is below 0, or n or more, else 11 IndexRepeated where
+ * an earlier one is the same.
  * In place: no, 102 Overlap.
  * source = true false false, index = 2 0 1: out = false false true
  */
-CVL_CHECKED static inline CvlStatus smp_pub(const bool *source, const int32_t *index, bool *out, size_t n) {
-    return cvl_permute_bool(source, n, index, n, out, n);
-}
+CVL_CHECKED CvlStatus cvl_smp_pub(const bool *source, const int32_t *index, bool *CVL_RESTRICT out, size_t n);
 
 /*
- * sel_puz: Each element of the source whose flag is true at its index. source, index and flags have n elements; out has m,
+ * cvl_sel_puz: Each element of the source whose flag is true at its index. source, index and flags have n elements; out has m,
  * the number of true flags, else 7 LengthMismatch. An index whose flag is false is not looked at.
- * Faults: 13 TooLong; at the first bad index 10 IndexOutOfRange where it is below 0, or the number of true flags or more,
- * else 11 IndexRepeated where an earlier one is the same.
+ * Faults: 13 TooLong; at the first bad index 10 IndexOutOfRange where it is below 0, or the number of true flags or more, else
+ * 11 IndexRepeated where an earlier one is the same.
  * In place: no, 102 Overlap.
  * source = 1 2 3 4, index = 1 9 0 9, flags = true false true false: out = 3 1
  */
-CVL_CHECKED static inline CvlStatus sel_puz(
-    const int32_t *source, const int32_t *index, const bool *flags, size_t n, int32_t *out, size_t m) {
-    return cvl_select_permute_int(source, n, index, n, flags, n, out, m);
-}
+CVL_CHECKED CvlStatus cvl_sel_puz(const int32_t *source, const int32_t *index, const bool *flags, size_t n,
+    int32_t *CVL_RESTRICT out, size_t m);
 
 /*
- * sel_pub: Each element of the source whose flag is true at its index. source, index and flags have n elements; out has m,
+ * cvl_sel_pub: Each element of the source whose flag is true at its index. source, index and flags have n elements; out has m,
  * the number of true flags, else 7 LengthMismatch. An index whose flag is false is not looked at.
- * Faults: 13 TooLong; at the first bad index 10 IndexOutOfRange where it is below 0, or the number of true flags or more,
- * else 11 IndexRepeated where an earlier one is the same.
+ * Faults: 13 TooLong; at the first bad index 10 IndexOutOfRange where it is below 0, or the number of true flags or more, else
+ * 11 IndexRepeated where an earlier one is the same.
  * In place: no, 102 Overlap.
  * source = true true false true, index = 1 9 0 9, flags = true false true false: out = false true
  */
-CVL_CHECKED static inline CvlStatus sel_pub(
-    const bool *source, const int32_t *index, const bool *flags, size_t n, bool *out, size_t m) {
-    return cvl_select_permute_bool(source, n, index, n, flags, n, out, m);
-}
+CVL_CHECKED CvlStatus cvl_sel_pub(const bool *source, const int32_t *index, const bool *flags, size_t n, bool *CVL_RESTRICT out,
+    size_t m);
 
 /*
- * def_puz: Each element of the source at its index, and at a place to which none goes its default. source and index have n
+ * cvl_def_puz: Each element of the source at its index, and at a place to which none goes its default. source and index have n
  * elements, defaults and out m, which may be any number.
- * Faults: 13 TooLong; at the first bad index 10 IndexOutOfRange where it is below 0, or m or more, else 11 IndexRepeated
- * where an earlier one is the same.
+ * Faults: 13 TooLong; at the first bad index 10 IndexOutOfRange where it is below 0, or m or more, else 11 IndexRepeated where
+ * an earlier one is the same.
  * In place: no, 102 Overlap.
  * source = 7 8, index = 3 1, defaults = 0 0 0 0 0: out = 0 8 0 7 0
  */
-CVL_CHECKED static inline CvlStatus def_puz(
-    const int32_t *source, const int32_t *index, size_t n, const int32_t *defaults, int32_t *out, size_t m) {
-    return cvl_default_permute_int(source, n, index, n, defaults, m, out, m);
-}
+CVL_CHECKED CvlStatus cvl_def_puz(const int32_t *source, const int32_t *index, size_t n, const int32_t *defaults,
+    int32_t *CVL_RESTRICT out, size_t m);
 
 /*
- * def_pub: Each element of the source at its index, and at a place to which none goes its default. source and index have n
+ * cvl_def_pub: Each element of the source at its index, and at a place to which none goes its default. source and index have n
  * elements, defaults and out m, which may be any number.
- * Faults: 13 TooLong; at the first bad index 10 IndexOutOfRange where it is below 0, or m or more, else 11 IndexRepeated
- * where an earlier one is the same.
+ * Faults: 13 TooLong; at the first bad index 10 IndexOutOfRange where it is below 0, or m or more, else 11 IndexRepeated where
+ * an earlier one is the same.
  * In place: no, 102 Overlap.
  * source = true false, index = 3 1, defaults = false true true false: out = false false true true
  */
-CVL_CHECKED static inline CvlStatus def_pub(
-    const bool *source, const int32_t *index, size_t n, const bool *defaults, bool *out, size_t m) {
-    return cvl_default_permute_bool(source, n, index, n, defaults, m, out, m);
-}
+CVL_CHECKED CvlStatus cvl_def_pub(const bool *source, const int32_t *index, size_t n, const bool *defaults,
+    bool *CVL_RESTRICT out, size_t m);
 
 /*
- * bck_puz: At each place the element of the source at the place's index, which may repeat. The source has n elements, which
+ * cvl_bck_puz: At each place the element of the source at the place's index, which may repeat. The source has n elements, which
  * may be any number; index and out have m.
  * Faults: 13 TooLong; 10 IndexOutOfRange at the first index below 0, or n or more.
  * In place: no, 102 Overlap.
  * source = 10 20 30, index = 2 2 0 0: out = 30 30 10 10
  */
-CVL_CHECKED static inline CvlStatus bck_puz(const int32_t *source, size_t n, const int32_t *index, int32_t *out, size_t m) {
-    return cvl_back_permute_int(source, n, index, m, out, m);
-}
+CVL_CHECKED CvlStatus cvl_bck_puz(const int32_t *source, size_t n, const int32_t *index, int32_t *CVL_RESTRICT out, size_t m);
 
 /*
- * bck_pub: At each place the element of the source at the place's index, which may repeat. The source has n elements, which
+ * cvl_bck_pub: At each place the element of the source at the place's index, which may repeat. The source has n elements, which
  * may be any number; index and out have m.
  * Faults: 13 TooLong; 10 IndexOutOfRange at the first index below 0, or n or more.
  * In place: no, 102 Overlap.
  * source = true false false, index = 2 2 0 0: out = false false true true
  */
-CVL_CHECKED static inline CvlStatus bck_pub(const bool *source, size_t n, const int32_t *index, bool *out, size_t m) {
-    return cvl_back_permute_bool(source, n, index, m, out, m);
-}
+CVL_CHECKED CvlStatus cvl_bck_pub(const bool *source, size_t n, const int32_t *index, bool *CVL_RESTRICT out, size_t m);
 
 /* ---- permutes of segments: the calls of the table ---- */
 
 /*
  * The faults by the lengths come first, as at the other calls on segments; where there are two arrays of lengths, those of
- * `lengths` before those of the other. Indices count from the start of their segment.
+ * `lengths` before those of the other. There are as many of the one as of the other, else 7 LengthMismatch. Indices count from
+ * the start of their segment.
  */
+
 /*
- * smp_pez: Each element of the source at its index, which counts from the start of its segment. source, index and out have n
- * elements.
- * Faults: 13 TooLong; 7 LengthMismatch where the lengths do not add up to n; at the first bad index 10 IndexOutOfRange where
- * it is no place of its segment, else 11 IndexRepeated where an earlier one of its segment is the same.
+ * cvl_smp_pez: Each element of the source at its index, which counts from the start of its segment. source, index and out have
+ * n elements.
+ * Faults: 13 TooLong; 7 LengthMismatch where the lengths do not add up to n; at the first bad index 10 IndexOutOfRange where it
+ * is no place of its segment, else 11 IndexRepeated where an earlier one of its segment is the same.
  * In place: no, 102 Overlap.
  * source = 1 2 3 4 5, index = 1 0 2 0 1, lengths = 2 0 3: out = 2 1 4 5 3
  */
-CVL_CHECKED static inline CvlStatus smp_pez(
-    const int32_t *source, const int32_t *index, const int32_t *lengths, size_t segments, int32_t *out, size_t n) {
-    return cvl_seg_permute_int(source, n, index, n, lengths, segments, out, n);
-}
+CVL_CHECKED CvlStatus cvl_smp_pez(const int32_t *source, const int32_t *index, CvlLengths lengths, int32_t *CVL_RESTRICT out,
+    size_t n);
 
 /*
- * smp_peb: Each element of the source at its index, which counts from the start of its segment. source, index and out have n
- * elements.
- * Faults: 13 TooLong; 7 LengthMismatch where the lengths do not add up to n; at the first bad index 10 IndexOutOfRange where
- * it is no place of its segment, else 11 IndexRepeated where an earlier one of its segment is the same.
+ * cvl_smp_peb: Each element of the source at its index, which counts from the start of its segment. source, index and out have
+ * n elements.
+ * Faults: 13 TooLong; 7 LengthMismatch where the lengths do not add up to n; at the first bad index 10 IndexOutOfRange where it
+ * is no place of its segment, else 11 IndexRepeated where an earlier one of its segment is the same.
  * In place: no, 102 Overlap.
  * source = true false false false true, index = 1 0 2 0 1, lengths = 2 0 3: out = false true false true false
  */
-CVL_CHECKED static inline CvlStatus smp_peb(
-    const bool *source, const int32_t *index, const int32_t *lengths, size_t segments, bool *out, size_t n) {
-    return cvl_seg_permute_bool(source, n, index, n, lengths, segments, out, n);
-}
+CVL_CHECKED CvlStatus cvl_smp_peb(const bool *source, const int32_t *index, CvlLengths lengths, bool *CVL_RESTRICT out,
+    size_t n);
 
 /*
- * sel_pez: Each element of the source whose flag is true at its index in its segment of the result, which is as long as the
- * segment has true flags. source, index and flags have n elements; out has m, the number of true flags, else 7
- * LengthMismatch. An index whose flag is false is not looked at.
- * Faults: 13 TooLong; 7 LengthMismatch where the lengths do not add up to n; at the first bad index 10 IndexOutOfRange where
- * it is no place of its segment of the result, else 11 IndexRepeated where an earlier one of its segment is the same.
+ * cvl_sel_pez: Each element of the source whose flag is true at its index in its segment of the result, which is as long as the
+ * segment has true flags. source, index and flags have n elements; out has m, the number of true flags, else 7 LengthMismatch.
+ * An index whose flag is false is not looked at.
+ * Faults: 13 TooLong; 7 LengthMismatch where the lengths do not add up to n; at the first bad index 10 IndexOutOfRange where it
+ * is no place of its segment of the result, else 11 IndexRepeated where an earlier one of its segment is the same.
  * In place: no, 102 Overlap.
  * source = 1 2 3 4 5, index = 9 0 1 9 0, flags = false true true false true, lengths = 2 0 3: out = 2 5 3
  */
-CVL_CHECKED static inline CvlStatus sel_pez(
-    const int32_t *source, const int32_t *index, const bool *flags, size_t n, const int32_t *lengths,
-    size_t segments, int32_t *out, size_t m) {
-    return cvl_seg_select_permute_int(source, n, index, n, flags, n, lengths, segments, out, m);
-}
+CVL_CHECKED CvlStatus cvl_sel_pez(const int32_t *source, const int32_t *index, const bool *flags, size_t n, CvlLengths lengths,
+    int32_t *CVL_RESTRICT out, size_t m);
 
 /*
- * sel_peb: Each element of the source whose flag is true at its index in its segment of the result, which is as long as the
- * segment has true flags. source, index and flags have n elements; out has m, the number of true flags, else 7
- * LengthMismatch. An index whose flag is false is not looked at.
- * Faults: 13 TooLong; 7 LengthMismatch where the lengths do not add up to n; at the first bad index 10 IndexOutOfRange where
- * it is no place of its segment of the result, else 11 IndexRepeated where an earlier one of its segment is the same.
+ * cvl_sel_peb: Each element of the source whose flag is true at its index in its segment of the result, which is as long as the
+ * segment has true flags. source, index and flags have n elements; out has m, the number of true flags, else 7 LengthMismatch.
+ * An index whose flag is false is not looked at.
+ * Faults: 13 TooLong; 7 LengthMismatch where the lengths do not add up to n; at the first bad index 10 IndexOutOfRange where it
+ * is no place of its segment of the result, else 11 IndexRepeated where an earlier one of its segment is the same.
  * In place: no, 102 Overlap.
- * source = true false true true false, index = 9 0 1 9 0, flags = false true true false true, lengths = 2 0 3:
- * out = false false true
+ * source = true false true true false, index = 9 0 1 9 0, flags = false true true false true, lengths = 2 0 3: out = false
+ * false true
  */
-CVL_CHECKED static inline CvlStatus sel_peb(
-    const bool *source, const int32_t *index, const bool *flags, size_t n, const int32_t *lengths,
-    size_t segments, bool *out, size_t m) {
-    return cvl_seg_select_permute_bool(source, n, index, n, flags, n, lengths, segments, out, m);
-}
+CVL_CHECKED CvlStatus cvl_sel_peb(const bool *source, const int32_t *index, const bool *flags, size_t n, CvlLengths lengths,
+    bool *CVL_RESTRICT out, size_t m);
 
 /*
- * def_pez: Each element of the source at its index in the same segment of the defaults, and at a place to which none goes
- * its default. source and index have n elements in segments with the lengths; defaults and out have m, in as many segments
- * with the default lengths.
- * Faults: 13 TooLong; 7 LengthMismatch where the lengths do not add up to n or the default lengths to m; at the first bad
- * index 10 IndexOutOfRange where it is no place of its segment of the defaults, else 11 IndexRepeated where an earlier one
- * of its segment is the same.
+ * cvl_def_pez: Each element of the source at its index in the same segment of the defaults, and at a place to which none goes
+ * its default. source and index have n elements in segments with the lengths; defaults and out have m, in as many segments with
+ * the default lengths.
+ * Faults: 13 TooLong; 7 LengthMismatch where the lengths do not add up to n or the default lengths to m; at the first bad index
+ * 10 IndexOutOfRange where it is no place of its segment of the defaults, else 11 IndexRepeated where an earlier one of its
+ * segment is the same.
  * In place: no, 102 Overlap.
- * source = 1 2 3 4 5, index = 2 0 0 1 2, defaults = 0 0 0 9 0 0 0, lengths = 2 0 3, default_lengths = 3 1 3:
- * out = 2 0 1 9 3 4 5
+ * source = 1 2 3 4 5, index = 2 0 0 1 2, defaults = 0 0 0 9 0 0 0, lengths = 2 0 3, default_lengths = 3 1 3: out = 2 0 1 9 3 4
+ * 5
  */
-CVL_CHECKED static inline CvlStatus def_pez(
-    const int32_t *source, const int32_t *index, size_t n, const int32_t *defaults, const int32_t *lengths,
-    const int32_t *default_lengths, size_t segments, int32_t *out, size_t m) {
-    return cvl_seg_default_permute_int(source, n, index, n, defaults, m, lengths, segments, default_lengths, segments, out, m);
-}
+CVL_CHECKED CvlStatus cvl_def_pez(const int32_t *source, const int32_t *index, size_t n, const int32_t *defaults,
+    CvlLengths lengths, CvlLengths default_lengths, int32_t *CVL_RESTRICT out, size_t m);
 
 /*
- * def_peb: Each element of the source at its index in the same segment of the defaults, and at a place to which none goes
- * its default. source and index have n elements in segments with the lengths; defaults and out have m, in as many segments
- * with the default lengths.
- * Faults: 13 TooLong; 7 LengthMismatch where the lengths do not add up to n or the default lengths to m; at the first bad
- * index 10 IndexOutOfRange where it is no place of its segment of the defaults, else 11 IndexRepeated where an earlier one
- * of its segment is the same.
+ * cvl_def_peb: Each element of the source at its index in the same segment of the defaults, and at a place to which none goes
+ * its default. source and index have n elements in segments with the lengths; defaults and out have m, in as many segments with
+ * the default lengths.
+ * Faults: 13 TooLong; 7 LengthMismatch where the lengths do not add up to n or the default lengths to m; at the first bad index
+ * 10 IndexOutOfRange where it is no place of its segment of the defaults, else 11 IndexRepeated where an earlier one of its
+ * segment is the same.
  * In place: no, 102 Overlap.
- * source = true false, index = 1 0, defaults = false false true true, lengths = 1 1, default_lengths = 2 2:
- * out = false true false true
+ * source = true false, index = 1 0, defaults = false false true true, lengths = 1 1, default_lengths = 2 2: out = false true
+ * false true
  */
-CVL_CHECKED static inline CvlStatus def_peb(
-    const bool *source, const int32_t *index, size_t n, const bool *defaults, const int32_t *lengths,
-    const int32_t *default_lengths, size_t segments, bool *out, size_t m) {
-    return cvl_seg_default_permute_bool(source, n, index, n, defaults, m, lengths, segments, default_lengths, segments, out, m);
-}
+CVL_CHECKED CvlStatus cvl_def_peb(const bool *source, const int32_t *index, size_t n, const bool *defaults, CvlLengths lengths,
+    CvlLengths default_lengths, bool *CVL_RESTRICT out, size_t m);
 
 /*
- * bck_pez: At each place the element at the place's index in the same segment of the source; an index may repeat. The source
- * has n elements in segments with the lengths; index and out have m, in as many segments with the index lengths.
+ * cvl_bck_pez: At each place the element at the place's index in the same segment of the source; an index may repeat. The
+ * source has n elements in segments with the lengths; index and out have m, in as many segments with the index lengths.
  * Faults: 13 TooLong; 7 LengthMismatch where the lengths do not add up to n or the index lengths to m; 10 IndexOutOfRange at
  * the first index that is no place of its segment of the source.
  * In place: no, 102 Overlap.
  * source = 1 2 3 4 5, index = 1 1 1 2, lengths = 2 0 3, index_lengths = 3 0 1: out = 2 2 2 5
  */
-CVL_CHECKED static inline CvlStatus bck_pez(
-    const int32_t *source, size_t n, const int32_t *index, const int32_t *lengths, const int32_t *index_lengths,
-    size_t segments, int32_t *out, size_t m) {
-    return cvl_seg_back_permute_int(source, n, index, m, lengths, segments, index_lengths, segments, out, m);
-}
+CVL_CHECKED CvlStatus cvl_bck_pez(const int32_t *source, size_t n, const int32_t *index, CvlLengths lengths,
+    CvlLengths index_lengths, int32_t *CVL_RESTRICT out, size_t m);
 
 /*
- * bck_peb: At each place the element at the place's index in the same segment of the source; an index may repeat. The source
- * has n elements in segments with the lengths; index and out have m, in as many segments with the index lengths.
+ * cvl_bck_peb: At each place the element at the place's index in the same segment of the source; an index may repeat. The
+ * source has n elements in segments with the lengths; index and out have m, in as many segments with the index lengths.
  * Faults: 13 TooLong; 7 LengthMismatch where the lengths do not add up to n or the index lengths to m; 10 IndexOutOfRange at
  * the first index that is no place of its segment of the source.
  * In place: no, 102 Overlap.
- * source = true false false false true, index = 1 1 1 2, lengths = 2 0 3, index_lengths = 3 0 1:
- * out = false false false true
+ * source = true false false false true, index = 1 1 1 2, lengths = 2 0 3, index_lengths = 3 0 1: out = false false false true
  */
-CVL_CHECKED static inline CvlStatus bck_peb(
-    const bool *source, size_t n, const int32_t *index, const int32_t *lengths, const int32_t *index_lengths,
-    size_t segments, bool *out, size_t m) {
-    return cvl_seg_back_permute_bool(source, n, index, m, lengths, segments, index_lengths, segments, out, m);
-}
-
-#endif
+CVL_CHECKED CvlStatus cvl_bck_peb(const bool *source, size_t n, const int32_t *index, CvlLengths lengths,
+    CvlLengths index_lengths, bool *CVL_RESTRICT out, size_t m);
 
 /* ---- descriptors: the calls on segments that take one ---- */
 
@@ -2578,314 +1578,153 @@ CVL_CHECKED static inline CvlStatus bck_peb(
  * call writes them or the descriptor, and nothing of the library's is held. So it may be constant and copied, any number of
  * threads may use it at once, and there is nothing to let go. It starts as CVL_NO_SEGMENTS, and cvl_segments_new makes it.
  *
- * Each function here is the call on segments of its name, cvl_seg_int_scan for cvl_segments_int_scan, with a descriptor in the
- * place of the lengths: the same results and faults, and in place where that may be. Each looks at the lengths before it writes
- * anything, so that lengths that were changed after the descriptor was made are those of the call, and wrong ones are told by a
- * fault; nobody may write them while a call runs. A room may share memory with neither the lengths nor the descriptor. Without a
- * descriptor, at CVL_NO_SEGMENTS or a null pointer, a call answers 101 (CVL_NO_DESCRIPTOR), and its room is as it was.
+ * Each function here is the family on segments of its name, cvl_seg_int_scan for cvl_segments_int_scan, with a descriptor in
+ * the place of the lengths: the same results and faults, and in place where that may be. Each looks at the lengths before it
+ * writes anything, so that lengths that were changed after the descriptor was made are those of the call, and wrong ones are
+ * told by a fault; nobody may write them while a call runs. A room may share memory with neither the lengths nor the
+ * descriptor. Without a descriptor, at CVL_NO_SEGMENTS or a null pointer, a call answers 101 NoDescriptor, and its room is as
+ * it was.
  */
 typedef struct CvlSegments {
     const int32_t *lengths; /* the caller's, which live as long as the descriptor is used */
-    size_t count;           /* how many segments there are */
+    size_t segments;        /* how many there are */
     bool some;              /* whether there is a descriptor */
 } CvlSegments;
 
-#ifdef __cplusplus
-#define CVL_NO_SEGMENTS CvlSegments()
-#else
-#define CVL_NO_SEGMENTS ((CvlSegments){0})
-#endif
+/* What a descriptor starts as: CvlSegments rows = CVL_NO_SEGMENTS. */
+#define CVL_NO_SEGMENTS {NULL, 0, false}
 
-/* What a call without a descriptor answers. */
-CVL_CHECKED static inline CvlStatus cvl_no_descriptor(void) {
-    return cvl_without_place(CVL_NO_DESCRIPTOR);
-}
-
-/* Whether there is a descriptor. */
-static inline bool cvl_is_made(const CvlSegments *segments) { return segments != NULL && segments->some; }
-
-/* Lets go of a descriptor, of which nothing is left then. The lengths are the caller's. */
-static inline CvlStatus cvl_segments_free(CvlSegments *segments) {
-    CvlStatus status;
-    status.number = CVL_DONE;
-    status.place = -1;
-    segments->lengths = NULL;
-    segments->count = 0;
-    segments->some = false;
-    return status;
-}
+/* Lets go of a descriptor, of which nothing is left then; a null pointer is none. The lengths are the caller's. */
+CvlStatus cvl_segments_free(CvlSegments *segments);
 
 /*
  * Makes the descriptor of segments with these lengths, empty ones too. After a fault of the lengths there is none.
  * Faults: 13 TooLong, without a place, where there are more than 4194304 lengths; 12 NegativeLength at the first that is below
- * 0; 13 TooLong, without a place, where they add up to more than 4194304.
+ * 0; 13 TooLong, without a place, where they add up to more than 4194304; else 101 NoDescriptor where `segments` is null.
  */
-CVL_CHECKED static inline CvlStatus cvl_segments_new(const int32_t *lengths, size_t count, CvlSegments *segments) {
-    size_t total;
-    CvlStatus status;
-    if (CVL_MEET(segments, 1, lengths, count)) return cvl_overlap();
-    status = cvl_make_descriptor(lengths, count, &total);
-    cvl_segments_free(segments);
-    if (status.number == CVL_DONE) {
-        segments->lengths = lengths;
-        segments->count = count;
-        segments->some = true;
-    }
-    return status;
-}
+CVL_CHECKED CvlStatus cvl_segments_new(CvlLengths lengths, CvlSegments *segments);
 
 /* How many elements the segments have in all. */
-CVL_CHECKED static inline CvlStatus cvl_segments_total(const CvlSegments *segments, size_t *total) {
-    if (CVL_MEET(total, 1, segments, 1)) return cvl_overlap();
-    if (!cvl_is_made(segments)) return cvl_no_descriptor();
-    return cvl_make_descriptor(segments->lengths, segments->count, total);
-}
+CVL_CHECKED CvlStatus cvl_segments_total(const CvlSegments *segments, size_t *total);
 
-/* For each integer the sum of those before it in its segment, which never wraps. */
-CVL_CHECKED static inline CvlStatus cvl_segments_checked_scan(
-    const int32_t *a, size_t a_len, const CvlSegments *segments, int32_t *out, size_t out_len) {
-    if (CVL_MEET(out, out_len, segments, 1)) return cvl_overlap();
-    if (!cvl_is_made(segments)) return cvl_no_descriptor();
-    return cvl_seg_checked_scan(a, a_len, segments->lengths, segments->count, out, out_len);
-}
+/* For each integer the sum of those before it in its segment. */
+CVL_CHECKED CvlStatus cvl_segments_checked_scan(const int32_t *a, size_t a_len, const CvlSegments *segments, int32_t *out,
+    size_t out_len);
 
-/* The sum of each segment, which never wraps. */
-CVL_CHECKED static inline CvlStatus cvl_segments_checked_reduce(
-    const int32_t *a, size_t a_len, const CvlSegments *segments, int32_t *out, size_t out_len) {
-    if (CVL_MEET(out, out_len, segments, 1)) return cvl_overlap();
-    if (!cvl_is_made(segments)) return cvl_no_descriptor();
-    return cvl_seg_checked_reduce(a, a_len, segments->lengths, segments->count, out, out_len);
-}
+/* The sum of each segment. */
+CVL_CHECKED CvlStatus cvl_segments_checked_reduce(const int32_t *a, size_t a_len, const CvlSegments *segments, int32_t *out,
+    size_t out_len);
 
-/* For each integer those before it in its segment, joined by the operator, of CVL_ADD to CVL_XOR. */
-CVL_CHECKED static inline CvlStatus cvl_segments_int_scan(
-    uint32_t op, const int32_t *a, size_t a_len, const CvlSegments *segments, int32_t *out, size_t out_len) {
-    if (CVL_MEET(out, out_len, segments, 1)) return cvl_overlap();
-    if (!cvl_is_made(segments)) return cvl_no_descriptor();
-    return cvl_seg_int_scan(op, a, a_len, segments->lengths, segments->count, out, out_len);
-}
+/* The element of each segment at its index. */
+CVL_CHECKED CvlStatus cvl_segments_extract_int(const int32_t *vector, size_t vector_len, const int32_t *index, size_t index_len,
+    const CvlSegments *segments, int32_t *out, size_t out_len);
 
-/* The integers of each segment joined by the operator, of CVL_ADD to CVL_XOR. */
-CVL_CHECKED static inline CvlStatus cvl_segments_int_reduce(
-    uint32_t op, const int32_t *a, size_t a_len, const CvlSegments *segments, int32_t *out, size_t out_len) {
-    if (CVL_MEET(out, out_len, segments, 1)) return cvl_overlap();
-    if (!cvl_is_made(segments)) return cvl_no_descriptor();
-    return cvl_seg_int_reduce(op, a, a_len, segments->lengths, segments->count, out, out_len);
-}
+/* The element of each segment at its index. */
+CVL_CHECKED CvlStatus cvl_segments_extract_bool(const bool *vector, size_t vector_len, const int32_t *index, size_t index_len,
+    const CvlSegments *segments, bool *out, size_t out_len);
 
-/* For each boolean those before it in its segment, joined by the operator, of CVL_AND to CVL_XOR. */
-CVL_CHECKED static inline CvlStatus cvl_segments_bool_scan(
-    uint32_t op, const bool *a, size_t a_len, const CvlSegments *segments, bool *out, size_t out_len) {
-    if (CVL_MEET(out, out_len, segments, 1)) return cvl_overlap();
-    if (!cvl_is_made(segments)) return cvl_no_descriptor();
-    return cvl_seg_bool_scan(op, a, a_len, segments->lengths, segments->count, out, out_len);
-}
+/* The vector with another element in each segment, at its index. */
+CVL_CHECKED CvlStatus cvl_segments_replace_int(const int32_t *vector, size_t vector_len, const int32_t *index, size_t index_len,
+    const int32_t *values, size_t values_len, const CvlSegments *segments, int32_t *out, size_t out_len);
 
-/* The booleans of each segment joined by the operator, of CVL_AND to CVL_XOR. */
-CVL_CHECKED static inline CvlStatus cvl_segments_bool_reduce(
-    uint32_t op, const bool *a, size_t a_len, const CvlSegments *segments, bool *out, size_t out_len) {
-    if (CVL_MEET(out, out_len, segments, 1)) return cvl_overlap();
-    if (!cvl_is_made(segments)) return cvl_no_descriptor();
-    return cvl_seg_bool_reduce(op, a, a_len, segments->lengths, segments->count, out, out_len);
-}
+/* The vector with another element in each segment, at its index. */
+CVL_CHECKED CvlStatus cvl_segments_replace_bool(const bool *vector, size_t vector_len, const int32_t *index, size_t index_len,
+    const bool *values, size_t values_len, const CvlSegments *segments, bool *out, size_t out_len);
 
-/* The integers of each segment whose flag is true, in order, and how many they are. */
-CVL_CHECKED static inline CvlStatus cvl_segments_pack_int(
-    const int32_t *values, size_t values_len, const bool *flags, size_t flags_len, const CvlSegments *segments,
-    int32_t *out, size_t out_len, size_t *count) {
-    if (CVL_MEET(out, out_len, segments, 1) || CVL_MEET(count, 1, segments, 1)) return cvl_overlap();
-    if (!cvl_is_made(segments)) return cvl_no_descriptor();
-    return cvl_seg_pack_int(values, values_len, flags, flags_len, segments->lengths, segments->count, out, out_len, count);
-}
+/* Copies of the value of each segment, as many as it has places. */
+CVL_CHECKED CvlStatus cvl_segments_distribute_int(const int32_t *values, size_t values_len, const CvlSegments *segments,
+    int32_t *out, size_t out_len);
 
-/* The booleans of each segment whose flag is true, in order, and how many they are. */
-CVL_CHECKED static inline CvlStatus cvl_segments_pack_bool(
-    const bool *values, size_t values_len, const bool *flags, size_t flags_len, const CvlSegments *segments, bool *out,
-    size_t out_len, size_t *count) {
-    if (CVL_MEET(out, out_len, segments, 1) || CVL_MEET(count, 1, segments, 1)) return cvl_overlap();
-    if (!cvl_is_made(segments)) return cvl_no_descriptor();
-    return cvl_seg_pack_bool(values, values_len, flags, flags_len, segments->lengths, segments->count, out, out_len, count);
-}
-
-/* The lengths of the segments of what a pack keeps. */
-CVL_CHECKED static inline CvlStatus cvl_segments_packed_lengths(
-    const bool *flags, size_t flags_len, const CvlSegments *segments, int32_t *out, size_t out_len) {
-    if (CVL_MEET(out, out_len, segments, 1)) return cvl_overlap();
-    if (!cvl_is_made(segments)) return cvl_no_descriptor();
-    return cvl_packed_lengths(flags, flags_len, segments->lengths, segments->count, out, out_len);
-}
-
-/* The number of true flags of each segment. */
-CVL_CHECKED static inline CvlStatus cvl_segments_count(
-    const bool *flags, size_t flags_len, const CvlSegments *segments, int32_t *out, size_t out_len) {
-    if (CVL_MEET(out, out_len, segments, 1)) return cvl_overlap();
-    if (!cvl_is_made(segments)) return cvl_no_descriptor();
-    return cvl_seg_count(flags, flags_len, segments->lengths, segments->count, out, out_len);
-}
-
-/* The integer of each segment at its index. */
-CVL_CHECKED static inline CvlStatus cvl_segments_extract_int(
-    const int32_t *vector, size_t vector_len, const int32_t *index, size_t index_len, const CvlSegments *segments,
-    int32_t *out, size_t out_len) {
-    if (CVL_MEET(out, out_len, segments, 1)) return cvl_overlap();
-    if (!cvl_is_made(segments)) return cvl_no_descriptor();
-    return cvl_seg_extract_int(vector, vector_len, index, index_len, segments->lengths, segments->count, out, out_len);
-}
-
-/* The integers with another one in each segment, at its index. */
-CVL_CHECKED static inline CvlStatus cvl_segments_replace_int(
-    const int32_t *vector, size_t vector_len, const int32_t *index, size_t index_len, const int32_t *values,
-    size_t values_len, const CvlSegments *segments, int32_t *out, size_t out_len) {
-    if (CVL_MEET(out, out_len, segments, 1)) return cvl_overlap();
-    if (!cvl_is_made(segments)) return cvl_no_descriptor();
-    return cvl_seg_replace_int(
-        vector, vector_len, index, index_len, values, values_len, segments->lengths, segments->count, out, out_len);
-}
-
-/* Copies of the integer of each segment, as many as it has places. */
-CVL_CHECKED static inline CvlStatus cvl_segments_distribute_int(
-    const int32_t *values, size_t values_len, const CvlSegments *segments, int32_t *out, size_t out_len) {
-    if (CVL_MEET(out, out_len, segments, 1)) return cvl_overlap();
-    if (!cvl_is_made(segments)) return cvl_no_descriptor();
-    return cvl_seg_distribute_int(values, values_len, segments->lengths, segments->count, out, out_len);
-}
-
-/* The boolean of each segment at its index. */
-CVL_CHECKED static inline CvlStatus cvl_segments_extract_bool(
-    const bool *vector, size_t vector_len, const int32_t *index, size_t index_len, const CvlSegments *segments, bool *out,
-    size_t out_len) {
-    if (CVL_MEET(out, out_len, segments, 1)) return cvl_overlap();
-    if (!cvl_is_made(segments)) return cvl_no_descriptor();
-    return cvl_seg_extract_bool(vector, vector_len, index, index_len, segments->lengths, segments->count, out, out_len);
-}
-
-/* The booleans with another one in each segment, at its index. */
-CVL_CHECKED static inline CvlStatus cvl_segments_replace_bool(
-    const bool *vector, size_t vector_len, const int32_t *index, size_t index_len, const bool *values, size_t values_len,
-    const CvlSegments *segments, bool *out, size_t out_len) {
-    if (CVL_MEET(out, out_len, segments, 1)) return cvl_overlap();
-    if (!cvl_is_made(segments)) return cvl_no_descriptor();
-    return cvl_seg_replace_bool(
-        vector, vector_len, index, index_len, values, values_len, segments->lengths, segments->count, out, out_len);
-}
-
-/* Copies of the boolean of each segment, as many as it has places. */
-CVL_CHECKED static inline CvlStatus cvl_segments_distribute_bool(
-    const bool *values, size_t values_len, const CvlSegments *segments, bool *out, size_t out_len) {
-    if (CVL_MEET(out, out_len, segments, 1)) return cvl_overlap();
-    if (!cvl_is_made(segments)) return cvl_no_descriptor();
-    return cvl_seg_distribute_bool(values, values_len, segments->lengths, segments->count, out, out_len);
-}
+/* Copies of the value of each segment, as many as it has places. */
+CVL_CHECKED CvlStatus cvl_segments_distribute_bool(const bool *values, size_t values_len, const CvlSegments *segments,
+    bool *out, size_t out_len);
 
 /* The numbers of each segment from its init on, in steps of its stride. */
-CVL_CHECKED static inline CvlStatus cvl_segments_index(
-    const int32_t *inits, size_t inits_len, const int32_t *strides, size_t strides_len, const CvlSegments *segments,
-    int32_t *out, size_t out_len) {
-    if (CVL_MEET(out, out_len, segments, 1)) return cvl_overlap();
-    if (!cvl_is_made(segments)) return cvl_no_descriptor();
-    return cvl_seg_index(inits, inits_len, strides, strides_len, segments->lengths, segments->count, out, out_len);
-}
+CVL_CHECKED CvlStatus cvl_segments_index(const int32_t *inits, size_t inits_len, const int32_t *strides, size_t strides_len,
+    const CvlSegments *segments, int32_t *out, size_t out_len);
 
-/* Each integer at its index in its segment. */
-CVL_CHECKED static inline CvlStatus cvl_segments_permute_int(
-    const int32_t *source, size_t source_len, const int32_t *index, size_t index_len, const CvlSegments *segments,
-    int32_t *out, size_t out_len) {
-    if (CVL_MEET(out, out_len, segments, 1)) return cvl_overlap();
-    if (!cvl_is_made(segments)) return cvl_no_descriptor();
-    return cvl_seg_permute_int(source, source_len, index, index_len, segments->lengths, segments->count, out, out_len);
-}
+/* For each integer those before it in its segment, joined by the operator, of CVL_ADD to CVL_XOR. */
+CVL_CHECKED CvlStatus cvl_segments_int_scan(uint32_t op, const int32_t *a, size_t a_len, const CvlSegments *segments,
+    int32_t *out, size_t out_len);
 
-/* Each integer whose flag is true at its index in its segment of the result. */
-CVL_CHECKED static inline CvlStatus cvl_segments_select_permute_int(
-    const int32_t *source, size_t source_len, const int32_t *index, size_t index_len, const bool *flags, size_t flags_len,
-    const CvlSegments *segments, int32_t *out, size_t out_len) {
-    if (CVL_MEET(out, out_len, segments, 1)) return cvl_overlap();
-    if (!cvl_is_made(segments)) return cvl_no_descriptor();
-    return cvl_seg_select_permute_int(
-        source, source_len, index, index_len, flags, flags_len, segments->lengths, segments->count, out, out_len);
-}
+/* For each boolean those before it in its segment, joined by the operator, of CVL_AND to CVL_XOR. */
+CVL_CHECKED CvlStatus cvl_segments_bool_scan(uint32_t op, const bool *a, size_t a_len, const CvlSegments *segments, bool *out,
+    size_t out_len);
 
-/* Each boolean at its index in its segment. */
-CVL_CHECKED static inline CvlStatus cvl_segments_permute_bool(
-    const bool *source, size_t source_len, const int32_t *index, size_t index_len, const CvlSegments *segments, bool *out,
-    size_t out_len) {
-    if (CVL_MEET(out, out_len, segments, 1)) return cvl_overlap();
-    if (!cvl_is_made(segments)) return cvl_no_descriptor();
-    return cvl_seg_permute_bool(source, source_len, index, index_len, segments->lengths, segments->count, out, out_len);
-}
+/* The integers of each segment joined by the operator, of CVL_ADD to CVL_XOR. */
+CVL_CHECKED CvlStatus cvl_segments_int_reduce(uint32_t op, const int32_t *a, size_t a_len, const CvlSegments *segments,
+    int32_t *out, size_t out_len);
 
-/* Each boolean whose flag is true at its index in its segment of the result. */
-CVL_CHECKED static inline CvlStatus cvl_segments_select_permute_bool(
-    const bool *source, size_t source_len, const int32_t *index, size_t index_len, const bool *flags, size_t flags_len,
-    const CvlSegments *segments, bool *out, size_t out_len) {
-    if (CVL_MEET(out, out_len, segments, 1)) return cvl_overlap();
-    if (!cvl_is_made(segments)) return cvl_no_descriptor();
-    return cvl_seg_select_permute_bool(
-        source, source_len, index, index_len, flags, flags_len, segments->lengths, segments->count, out, out_len);
-}
+/* The booleans of each segment joined by the operator, of CVL_AND to CVL_XOR. */
+CVL_CHECKED CvlStatus cvl_segments_bool_reduce(uint32_t op, const bool *a, size_t a_len, const CvlSegments *segments, bool *out,
+    size_t out_len);
 
-/* Each integer at its index in its segment of the defaults, and at a place to which none goes its default. */
-CVL_CHECKED static inline CvlStatus cvl_segments_default_permute_int(
-    const int32_t *source, size_t source_len, const int32_t *index, size_t index_len, const int32_t *defaults,
-    size_t defaults_len, const CvlSegments *segments, const CvlSegments *default_segments, int32_t *out, size_t out_len) {
-    if (CVL_MEET(out, out_len, segments, 1) || CVL_MEET(out, out_len, default_segments, 1)) return cvl_overlap();
-    if (!cvl_is_made(segments) || !cvl_is_made(default_segments)) return cvl_no_descriptor();
-    return cvl_seg_default_permute_int(
-        source, source_len, index, index_len, defaults, defaults_len, segments->lengths, segments->count,
-        default_segments->lengths, default_segments->count, out, out_len);
-}
+/* The integers of each segment whose flag is true, in order, one segment after another, and how many they are. */
+CVL_CHECKED CvlStatus cvl_segments_pack_int(const int32_t *values, size_t values_len, const bool *flags, size_t flags_len,
+    const CvlSegments *segments, int32_t *out, size_t out_len, size_t *count);
 
-/* At each place the integer at the place's index in the same segment of the source. */
-CVL_CHECKED static inline CvlStatus cvl_segments_back_permute_int(
-    const int32_t *source, size_t source_len, const int32_t *index, size_t index_len, const CvlSegments *segments,
-    const CvlSegments *index_segments, int32_t *out, size_t out_len) {
-    if (CVL_MEET(out, out_len, segments, 1) || CVL_MEET(out, out_len, index_segments, 1)) return cvl_overlap();
-    if (!cvl_is_made(segments) || !cvl_is_made(index_segments)) return cvl_no_descriptor();
-    return cvl_seg_back_permute_int(
-        source, source_len, index, index_len, segments->lengths, segments->count, index_segments->lengths,
-        index_segments->count, out, out_len);
-}
+/* The booleans of each segment whose flag is true, in order, one segment after another, and how many they are. */
+CVL_CHECKED CvlStatus cvl_segments_pack_bool(const bool *values, size_t values_len, const bool *flags, size_t flags_len,
+    const CvlSegments *segments, bool *out, size_t out_len, size_t *count);
 
-/* Each boolean at its index in its segment of the defaults, and at a place to which none goes its default. */
-CVL_CHECKED static inline CvlStatus cvl_segments_default_permute_bool(
-    const bool *source, size_t source_len, const int32_t *index, size_t index_len, const bool *defaults,
-    size_t defaults_len, const CvlSegments *segments, const CvlSegments *default_segments, bool *out, size_t out_len) {
-    if (CVL_MEET(out, out_len, segments, 1) || CVL_MEET(out, out_len, default_segments, 1)) return cvl_overlap();
-    if (!cvl_is_made(segments) || !cvl_is_made(default_segments)) return cvl_no_descriptor();
-    return cvl_seg_default_permute_bool(
-        source, source_len, index, index_len, defaults, defaults_len, segments->lengths, segments->count,
-        default_segments->lengths, default_segments->count, out, out_len);
-}
+/* The lengths of the segments of what a pack of segments keeps. */
+CVL_CHECKED CvlStatus cvl_segments_packed_lengths(const bool *flags, size_t flags_len, const CvlSegments *segments,
+    int32_t *out, size_t out_len);
 
-/* At each place the boolean at the place's index in the same segment of the source. */
-CVL_CHECKED static inline CvlStatus cvl_segments_back_permute_bool(
-    const bool *source, size_t source_len, const int32_t *index, size_t index_len, const CvlSegments *segments,
-    const CvlSegments *index_segments, bool *out, size_t out_len) {
-    if (CVL_MEET(out, out_len, segments, 1) || CVL_MEET(out, out_len, index_segments, 1)) return cvl_overlap();
-    if (!cvl_is_made(segments) || !cvl_is_made(index_segments)) return cvl_no_descriptor();
-    return cvl_seg_back_permute_bool(
-        source, source_len, index, index_len, segments->lengths, segments->count, index_segments->lengths,
-        index_segments->count, out, out_len);
-}
+/* The number of true flags of each segment. */
+CVL_CHECKED CvlStatus cvl_segments_count(const bool *flags, size_t flags_len, const CvlSegments *segments, int32_t *out,
+    size_t out_len);
 
-/* The text of the integers, cut into segments, in brackets. */
-CVL_CHECKED static inline CvlStatus cvl_segments_write_ints(
-    const int32_t *a, size_t a_len, const CvlSegments *segments, char *out, size_t out_len, size_t *count) {
-    if (CVL_MEET(out, out_len, segments, 1) || CVL_MEET(count, 1, segments, 1)) return cvl_overlap();
-    if (!cvl_is_made(segments)) return cvl_no_descriptor();
-    return cvl_seg_write_ints(a, a_len, segments->lengths, segments->count, out, out_len, count);
-}
+/* Each element of the source at its index in its segment. */
+CVL_CHECKED CvlStatus cvl_segments_permute_int(const int32_t *source, size_t source_len, const int32_t *index, size_t index_len,
+    const CvlSegments *segments, int32_t *out, size_t out_len);
 
-/* The text of the booleans, cut into segments, in brackets. */
-CVL_CHECKED static inline CvlStatus cvl_segments_write_bools(
-    const bool *a, size_t a_len, const CvlSegments *segments, char *out, size_t out_len, size_t *count) {
-    if (CVL_MEET(out, out_len, segments, 1) || CVL_MEET(count, 1, segments, 1)) return cvl_overlap();
-    if (!cvl_is_made(segments)) return cvl_no_descriptor();
-    return cvl_seg_write_bools(a, a_len, segments->lengths, segments->count, out, out_len, count);
-}
+/* Each element of the source at its index in its segment. */
+CVL_CHECKED CvlStatus cvl_segments_permute_bool(const bool *source, size_t source_len, const int32_t *index, size_t index_len,
+    const CvlSegments *segments, bool *out, size_t out_len);
+
+/* Each element of the source whose flag is true at its index in its segment of the result. */
+CVL_CHECKED CvlStatus cvl_segments_select_permute_int(const int32_t *source, size_t source_len, const int32_t *index,
+    size_t index_len, const bool *flags, size_t flags_len, const CvlSegments *segments, int32_t *out, size_t out_len);
+
+/* Each element of the source whose flag is true at its index in its segment of the result. */
+CVL_CHECKED CvlStatus cvl_segments_select_permute_bool(const bool *source, size_t source_len, const int32_t *index,
+    size_t index_len, const bool *flags, size_t flags_len, const CvlSegments *segments, bool *out, size_t out_len);
+
+/* Each element of the source at its index in its segment of the defaults, and at a place to which none goes its default. */
+CVL_CHECKED CvlStatus cvl_segments_default_permute_int(const int32_t *source, size_t source_len, const int32_t *index,
+    size_t index_len, const int32_t *defaults, size_t defaults_len, const CvlSegments *segments,
+    const CvlSegments *default_segments, int32_t *out, size_t out_len);
+
+/* Each element of the source at its index in its segment of the defaults, and at a place to which none goes its default. */
+CVL_CHECKED CvlStatus cvl_segments_default_permute_bool(const bool *source, size_t source_len, const int32_t *index,
+    size_t index_len, const bool *defaults, size_t defaults_len, const CvlSegments *segments,
+    const CvlSegments *default_segments, bool *out, size_t out_len);
+
+/* At each place the element at the place's index in the same segment of the source. */
+CVL_CHECKED CvlStatus cvl_segments_back_permute_int(const int32_t *source, size_t source_len, const int32_t *index,
+    size_t index_len, const CvlSegments *segments, const CvlSegments *index_segments, int32_t *out, size_t out_len);
+
+/* At each place the element at the place's index in the same segment of the source. */
+CVL_CHECKED CvlStatus cvl_segments_back_permute_bool(const bool *source, size_t source_len, const int32_t *index,
+    size_t index_len, const CvlSegments *segments, const CvlSegments *index_segments, bool *out, size_t out_len);
+
+/*
+ * The text of a vector of integers that is cut into segments: the texts of the segments, a space between each two, in brackets.
+ */
+CVL_CHECKED CvlStatus cvl_segments_write_ints(const int32_t *a, size_t a_len, const CvlSegments *segments, char *out,
+    size_t out_len, size_t *count);
+
+/* The same of booleans, each T or F. */
+CVL_CHECKED CvlStatus cvl_segments_write_bools(const bool *a, size_t a_len, const CvlSegments *segments, char *out,
+    size_t out_len, size_t *count);
 
 #ifdef __cplusplus
 }
 #endif
 
+#endif
+
+#ifdef CVL_SHORT_NAMES
+#include "cvl_short_names.h"
 #endif

@@ -2,207 +2,263 @@
 
 import textwrap
 
-from model import NOTE, size_name
+import packages
+import rows
+import table
+from packages import name_of
+
 WIDTH = 98
 
 HEAD = f"""//! Each call of the table, by its name: over slices, with a new vector for its result; under a name that ends
 //! in `_into`, into a room; and under one that ends in `_in`, in the place of an argument, where a call may.
 //!
-//! {NOTE}
+//! {rows.NOTE}
 
 use crate::fault::{{told, Fault}};
-use crate::lengths::{{as_long, places, same, true_flags}};
+use crate::lengths::{{as_long, limit, places, same, true_flags, zeros}};
 use crate::segments::Segments;
 use crate::symbols;
 """
 
-TAKEN = {"ints": "&[i32]", "flags": "&[bool]", "int": "i32", "flag": "bool", "lengths": "&Segments"}
-GIVEN = {"ints": "Vec<i32>", "flags": "Vec<bool>", "int": "i32", "flag": "bool", "segments": "Segments"}
+TAKEN = {"ints": "&[i32]", "flags": "&[bool]", "int": "i32", "flag": "bool"}
+GIVEN = {"ints": "Vec<i32>", "flags": "Vec<bool>", "int": "i32", "flag": "bool"}
 ROOMS = {"ints": "&mut [i32]", "flags": "&mut [bool]"}
-ZEROS = {"ints": "0", "flags": "false", "int": "0", "flag": "false"}
 
 
-def _literal(operand, words):
-    return words[0] if operand.use in ("int", "flag") else f"&[{', '.join(words)}]"
+def _literal(call, operand):
+    words = call.words(operand)
+    return f"&[{', '.join(words)}]" if operand.role in ("reads", "lengths") else words[0]
 
 
-def _example(found):
-    given, gives = found.example()
-    for operand, words in given:
-        if operand.use == "lengths":
-            yield f"let {operand.name} = cvl::Segments::new({_literal(operand, words)})?;"
-    arguments = [f"&{operand.name}" if operand.use == "lengths" else _literal(operand, words) for operand, words in given]
-    shown = f"cvl::{found.name}({', '.join(arguments)})?"
-    if found.result.kind == "segments":
-        yield f"assert_eq!({shown}.lengths(), [{', '.join(gives)}]);"
-    elif found.result.size is None:
-        yield f"assert_eq!({shown}, {gives[0]});"
+def _cuts(call):
+    """The lines of an example that make the segments."""
+    return [f"let {name_of(cut)} = cvl::Segments::new({_literal(call, cut)})?;" for cut in call.cuts]
+
+
+def _shown(call, operand):
+    return f"&{name_of(operand)}" if operand.role == "lengths" else _literal(call, operand)
+
+
+def _example(call):
+    yield from _cuts(call)
+    shown = f"cvl::{call.name}({', '.join(_shown(call, operand) for operand in call.operands)})?"
+    if call.gives_segments:
+        yield f"assert_eq!({shown}.lengths(), [{', '.join(call.given)}]);"
     else:
-        yield f"assert_eq!({shown}, [{', '.join(gives)}]);"
+        yield f"assert_eq!({shown}, [{', '.join(call.given)}]);" if call.fills else f"assert_eq!({shown}, {call.given[0]});"
 
 
-def _comment(found):
-    lines = textwrap.wrap(found.purpose, WIDTH - 4)
-    if found.faults:
-        lines += ["", *textwrap.wrap(f"Faults: {found.faults}", WIDTH - 4)]
-    lines += ["", "```", *_example(found), "# Ok::<(), cvl::Fault>(())", "```"]
+def _comment(call):
+    lines = textwrap.wrap(call.row.sentences, WIDTH - 4)
+    lines += ["", *textwrap.wrap(f"Faults: {call.faults}", WIDTH - 4)] if call.faults else []
+    lines += ["", "```", *_example(call), "# Ok::<(), cvl::Fault>(())", "```"]
     return [f"/// {line}".rstrip() for line in lines]
 
 
-def _taken(found):
-    return [f"{operand.name}: {TAKEN[operand.use]}" for operand in found.operands]
+def _type_taken(operand):
+    if operand.role == "lengths":
+        return "&Segments"
+    return "i64" if operand.role in ("place", "count") else TAKEN[operand.kind]
 
 
-def _count_of(operand):
-    return f"{operand.name}.len()"
+def _taken(call, place=None):
+    """The parameters, of which one may be the room."""
+    return [f"{name_of(o)}: {ROOMS[o.kind] if o == place else _type_taken(o)}" for o in call.operands]
 
 
-def _extent(found):
+def _alike(call, extent):
+    """The lengths that have to be as one another, the arrays' first."""
+    found = [f"{operand.name}.len()" for operand in call.alike(extent)]
+    if extent == "segments":
+        return [*found, *(f"{name_of(cut)}.len()" for cut in call.cuts)]
+    return [*found, *(f"{name_of(cut)}.total()" for cut in call.cuts if cut.extent == extent)]
+
+
+def _checks(call):
+    """The lines that tell a length that is too great, and then those that do not agree."""
+    if call.limited:
+        yield f"limit({call.limited.name}.len())?;"
+    for extent in dict.fromkeys([*call.extents, *(["segments"] if call.cuts else [])]):
+        if len(_alike(call, extent)) > 1:
+            yield f"same(&[{', '.join(_alike(call, extent))}])?;"
+
+
+def _extent(call):
     """How long the result is."""
-    if found.by_flags():
-        return f"true_flags({found.by_flags().name})"
-    if found.by_count():
-        return "places(count)"
-    if found.by_total():
-        return f"{found.cuts[-1].name}.total()"
-    return _count_of(found.alike(found.result.size)[0])
+    by = call.measure()
+    if by:
+        return f"{name_of(by)}.total()" if by.role == "lengths" else f"true_flags({by.name})"
+    return "places(count)?" if call.result.extent == "count" else _alike(call, call.result.extent)[0]
 
 
-def _sizes(found):
-    """The lines that tell each size, where what has to be as long as one another is."""
-    for size in found.sizes():
-        yield f"let {size_name(size)} = same(&[{', '.join(map(_count_of, found.alike(size)))}])?;"
+def _argument(call, argument):
+    operand = argument.operand
+    if argument.size:
+        return "out.len()" if argument.size in ("trues", "total", "room") else f"{call.alike(argument.size)[0].name}.len()"
+    cast = ".cast()" if operand.kind == "flags" else ""
+    return {
+        "reads": f"{operand.name}.as_ptr(){cast}", "room": f"out.as_mut_ptr(){cast}", "single": "&mut out", "told": f"&mut {operand.name}",
+        "lengths": f"{name_of(operand)}.given()",
+    }.get(operand.role, f"{operand.name}.into()" if operand.kind == "flag" else operand.name)
 
 
-def _argument(found, parameter):
-    name = parameter.name
-    if parameter.use == "told":
-        return f"&mut {name}"
-    if parameter.use == "out":
-        return "out.as_mut_ptr().cast()" if found.result.kind == "flags" and parameter.size else (
-            "out.as_mut_ptr()" if parameter.size else "&mut out")
-    if parameter.use == "ints":
-        return f"{name}.as_ptr()"
-    if parameter.use == "flags":
-        return f"{name}.as_ptr().cast()"
-    if parameter.use == "lengths":
-        cut = next(operand for operand in found.operands if operand.in_c == name)
-        return f"{cut.name}.lengths().as_ptr()"
-    if parameter.use == "size":
-        return size_name(name) if found.alike(name) else "out.len()"
-    return f"{name}.into()" if parameter.use == "flag" else name
-
-
-def _called(found):
-    arguments = ", ".join(_argument(found, parameter) for parameter in found.call.parameters)
-    return f"told(unsafe {{ symbols::cvl_{found.name}({arguments}) }})"
+def _called(call, arguments=None):
+    given = ", ".join(arguments or (_argument(call, argument) for argument in call.row.arguments))
+    return f"told(unsafe {{ symbols::cvl_{call.name}({given}) }})"
 
 
 def _function(head, answer, body):
     return [f"pub fn {head} -> Result<{answer}, Fault> {{", *(f"    {line}" for line in body), "}"]
 
 
-def _single(found):
+def _single(call):
     """A call that gives one value."""
-    made = "0u8" if found.result.kind == "flag" else "0"
-    answer = "Ok(out != 0)" if found.result.kind == "flag" else "Ok(out)"
-    body = [*_sizes(found), f"let mut out = {made};", f"{_called(found)}?;", answer]
-    return _function(f"{found.name}({', '.join(_taken(found))})", GIVEN[found.result.kind], body)
+    flag = call.result.kind == "flag"
+    body = [f"let mut out = {'0u8' if flag else '0'};", f"{_called(call)}?;", "Ok(out != 0)" if flag else "Ok(out)"]
+    return _function(f"{call.name}({', '.join(_taken(call))})", GIVEN[call.result.kind], body)
 
 
-def _into(found, kind):
+def _into(call):
     """The call into a room."""
-    body = [*_sizes(found), f"as_long(out, {_extent(found)})?;"]
-    if found.counts:
-        body.append("let mut count = 0;")
-    body.append(_called(found))
-    said = f"/// [`{found.name}`] into a room that is as long as the result; a fault leaves it as it was."
-    return [said, *_function(f"{found.name}_into({', '.join([*_taken(found), f'out: {ROOMS[kind]}'])})", "()", body)]
-
-
-def _several(found):
-    """A call that gives a vector, and the same into a room."""
-    kind = "ints" if found.result.kind == "segments" else found.result.kind
-    names = ", ".join([*(operand.name for operand in found.operands), "&mut out"])
-    answer = "Segments::new(&out)" if found.result.kind == "segments" else "Ok(out)"
-    body = [f"let mut out = vec![{ZEROS[kind]}; {_extent(found)}];", f"{found.name}_into({names})?;", answer]
-    head = f"{found.name}({', '.join(_taken(found))})"
-    return [*_function(head, GIVEN[found.result.kind], body), "", *_into(found, kind)]
-
-
-def _in_place(found):
-    """The operand in whose place there is a function for the call, if there is one."""
-    alike = [operand for operand in found.in_place() if operand.use == found.result.kind]
-    return alike[0] if alike else None
-
-
-def _within(found, place):
-    """The call in the place of an operand."""
-    given, gives = found.example()
-    words = dict((operand.name, values) for operand, values in given)
-    yield f"/// [`{found.name}`] in the place of `{place.name}`; a fault leaves it as it was."
-    yield from ("///", "/// ```")
-    for cut in found.cuts:
-        yield f"/// let {cut.name} = cvl::Segments::new({_literal(cut, words[cut.name])})?;"
-    yield f"/// let mut {place.name} = [{', '.join(words[place.name])}];"
-    shown = {operand.name: f"&{operand.name}" if operand.use == "lengths" else _literal(operand, values) for operand, values in given}
-    shown[place.name] = f"&mut {place.name}"
-    yield f"/// cvl::{found.name}_in({', '.join(shown.values())})?;"
-    yield f"/// assert_eq!({place.name}, [{', '.join(gives)}]);"
-    yield from ("/// # Ok::<(), cvl::Fault>(())", "/// ```")
-    taken = [f"{operand.name}: {ROOMS[operand.use] if operand == place else TAKEN[operand.use]}" for operand in found.operands]
-    arguments = ", ".join("out" if p.name == place.in_c or p.use == "out" else _argument(found, p) for p in found.call.parameters)
-    cast = ".cast()" if place.use == "flags" else ""
-    body = [*_sizes(found), f"let out = {place.name}.as_mut_ptr(){cast};", f"told(unsafe {{ symbols::cvl_{found.name}({arguments}) }})"]
-    yield from _function(f"{found.name}_in({', '.join(taken)})", "()", body)
-
-
-def _call(found):
-    if found.makes_segments:
-        code = _function(f"{found.name}(lengths: &[i32])", "Segments", ["Segments::new(lengths)"])
-    elif found.result.size is None:
-        code = _single(found)
+    body, answer, room = [*_checks(call)], "()", "as long as the result"
+    if call.counts:
+        body += ["let mut count = 0;", f"{_called(call)}?;", "Ok(count)"]
+        answer, room = "usize", "as long as the result or longer, and how many elements that has"
     else:
-        code = _several(found)
-    if _in_place(found):
-        code += ["", *_within(found, _in_place(found))]
-    return "\n".join(["", *_comment(found), *code, ""])
+        body += [] if call.measure() else [f"as_long(out, {_extent(call)})?;"]
+        body.append(_called(call))
+    said = f"/// [`{call.name}`] into a room that is {room}; a fault leaves the room as it was."
+    return [said, *_function(f"{call.name}_into({', '.join([*_taken(call), f'out: {ROOMS[call.result.kind]}'])})", answer, body)]
 
 
-def calls(models):
+def _several(call):
+    """A call that gives a vector, and the same into a room."""
+    names = ", ".join([*map(name_of, call.operands), "&mut out"])
+    filled = f"{call.name}_into({names})?;"
+    body = [*_checks(call), f"let mut out = zeros({_extent(call)})?;"]
+    body += [f"let count = {filled}", "out.truncate(count);"] if call.counts else [filled]
+    body.append("Segments::new(&out)" if call.gives_segments else "Ok(out)")
+    given = "Segments" if call.gives_segments else GIVEN[call.result.kind]
+    return [*_function(f"{call.name}({', '.join(_taken(call))})", given, body), "", *_into(call)]
+
+
+def _within(call, place):
+    """The call in the place of an operand."""
+    yield f"/// [`{call.name}`] in the place of `{place.name}`; a fault leaves it as it was."
+    yield from ("///", "/// ```")
+    yield from (f"/// {line}" for line in _cuts(call))
+    yield f"/// let mut {place.name} = [{', '.join(call.words(place))}];"
+    shown = (f"&mut {place.name}" if operand == place else _shown(call, operand) for operand in call.operands)
+    yield f"/// cvl::{call.name}_in({', '.join(shown)})?;"
+    yield f"/// assert_eq!({place.name}, [{', '.join(call.given)}]);"
+    yield from ("/// # Ok::<(), cvl::Fault>(())", "/// ```")
+    arguments = [
+        "out" if not argument.size and argument.operand in (place, call.result) else _argument(call, argument)
+        for argument in call.row.arguments
+    ]
+    cast = ".cast()" if place.kind == "flags" else ""
+    body = [*_checks(call), f"let out = {place.name}.as_mut_ptr(){cast};", _called(call, arguments)]
+    yield from _function(f"{call.name}_in({', '.join(_taken(call, place))})", "()", body)
+
+
+def _call(call):
+    if call.makes_segments:
+        code = _function(f"{call.name}(lengths: &[i32])", "Segments", ["Segments::new(lengths)"])
+    else:
+        code = _several(call) if call.result.role == "room" else _single(call)
+    if call.in_place:
+        code += ["", *_within(call, call.in_place[0])]
+    return "\n".join(["", *_comment(call), *code, ""])
+
+
+def calls():
     """`bindings/rust/src/calls.rs`."""
-    return HEAD + "".join(map(_call, models))
+    return HEAD + "".join(map(_call, packages.CALLS))
 
 
-def _type(parameter):
-    kinds = {"ints": "*const i32", "lengths": "*const i32", "flags": "*const u8", "told": "*mut usize", "int": "i32", "flag": "u8"}
-    kinds["size"] = "usize"
-    if parameter.use == "out":
-        return "*mut i32" if "int32_t" in parameter.type else "*mut u8"
-    return kinds[parameter.use]
+EXAMPLES_HEAD = f"""//! The example of each call: its result, the same in a room, and in the place of an argument.
+//!
+//! {rows.NOTE}
+
+#![allow(clippy::bool_assert_comparison)]
+"""
 
 
-def symbols(models, most, statuses):
+def _example_test(call):
+    """The lines of a test of the example."""
+    arguments = [_shown(call, operand) for operand in call.operands]
+    given = ", ".join(call.given)
+    yield from _cuts(call)
+    shown = f"cvl::{call.name}({', '.join(arguments)})"
+    if not call.fills:
+        yield f"assert_eq!({shown}?.lengths(), [{given}]);" if call.gives_segments else f"assert_eq!({shown}?, {given});"
+        return
+    yield f"assert_eq!({shown}?, [{given}]);"
+    yield f"let mut room = [{', '.join(['7' if call.result.kind == 'ints' else 'true'] * len(call.given))}];"
+    into = f"cvl::{call.name}_into({', '.join([*arguments, '&mut room'])})?"
+    yield f"assert_eq!({into}, {len(call.given)});" if call.counts else f"{into};"
+    yield f"assert_eq!(room, [{given}]);"
+    for place in call.in_place[:1]:
+        yield f"let mut {place.name} = [{', '.join(call.words(place))}];"
+        arguments[call.operands.index(place)] = f"&mut {place.name}"
+        yield f"cvl::{call.name}_in({', '.join(arguments)})?;"
+        yield f"assert_eq!({place.name}, [{given}]);"
+
+
+def examples():
+    """`bindings/rust/tests/examples/mod.rs`."""
+    lines = [EXAMPLES_HEAD]
+    for call in packages.CALLS:
+        body = [*_example_test(call), "Ok(())"]
+        lines += ["#[test]", f"fn {call.name}() -> Result<(), cvl::Fault> {{", *(f"    {line}" for line in body), "}", ""]
+    return "\n".join(lines)
+
+
+def _type(argument):
+    """The type in Rust of an argument in C: a boolean is a byte, of which the library looks at whether it is 0."""
+    of_one = {"int32_t": "i32", "bool": "u8", "size_t": "usize", "int64_t": "i64", "CvlLengths": "Lengths"}
+    kind = of_one[argument.type.replace("const ", "").strip(" *")]
+    if "*" not in argument.type:
+        return kind
+    return f"*const {kind}" if argument.type.startswith("const ") else f"*mut {kind}"
+
+
+NUMBERS = (
+    ("LENGTH_MISMATCH", "LengthMismatch", "lengths differ which must agree"),
+    ("NEGATIVE_LENGTH", "NegativeLength", "a count is below 0"),
+    ("TOO_LONG", "TooLong", "there are more elements than a vector may have"),
+    ("NO_RESOURCES", "NoResources", "there is no memory"),
+)
+
+
+def symbols():
     """`bindings/rust/src/symbols.rs`."""
-    numbers = {name: number for number, name in statuses.items()}
+    numbers = []
+    for name, said, why in NUMBERS:
+        numbers += [f"/// The number of the fault that {why}.", f"pub(crate) const {name}: u32 = {packages.number_of(said)};", ""]
     lines = [
         "//! The functions of the library, one for each call, and numbers of the header.",
         "//!",
-        f"//! {NOTE}",
+        f"//! {rows.NOTE}",
         "",
         "use crate::fault::Status;",
         "",
         "/// The most elements of a vector, and the greatest total of segments.",
-        f"pub const MOST_ELEMENTS: usize = {most:_};",
+        f"pub const MOST_ELEMENTS: usize = {table.MOST_ELEMENTS:_};",
         "",
-        "/// The number of the fault that lengths differ which must agree.",
-        f"pub(crate) const LENGTH_MISMATCH: u32 = {numbers['LengthMismatch']};",
+        *numbers,
+        "/// Lengths of segments: where they are, and how many.",
+        "#[repr(C)]",
+        "pub struct Lengths {",
+        "    pub lengths: *const i32,",
+        "    pub segments: usize,",
+        "}",
         "",
-        "unsafe extern \"C\" {",
-        "    pub fn cvl_version() -> *const std::ffi::c_char;",
-        "    pub fn cvl_fault_name(number: u32) -> *const std::ffi::c_char;",
+        'extern "C" {',
+        "    pub fn cvl_version() -> *const std::os::raw::c_char;",
+        "    pub fn cvl_fault_name(number: u32) -> *const std::os::raw::c_char;",
     ]
-    for found in models:
-        taken = ", ".join(f"{parameter.name}: {_type(parameter)}" for parameter in found.call.parameters)
-        lines.append(f"    pub fn cvl_{found.name}({taken}) -> Status;")
+    for call in packages.CALLS:
+        taken = ", ".join(f"{argument.name}: {_type(argument)}" for argument in call.row.arguments)
+        lines.append(f"    pub fn cvl_{call.name}({taken}) -> Status;")
     return "\n".join([*lines, "}", ""])

@@ -1,8 +1,8 @@
 //! Finds the library: in the folder that the variable CVL_LIB_DIR names, or by pkg-config. It is linked as an archive, or as
-//! a shared object where the variable CVL_SHARED is set.
+//! a shared object where the variable CVL_SHARED is set, and not to 0.
 
 use std::env;
-use std::process::{Command, exit};
+use std::process::{exit, Command};
 
 /// What pkg-config says of the library's folder.
 fn folder_of_package() -> Option<String> {
@@ -19,17 +19,17 @@ fn main() {
     for name in ["CVL_LIB_DIR", "CVL_SHARED", "PKG_CONFIG", "PKG_CONFIG_PATH"] {
         println!("cargo:rerun-if-env-changed={name}");
     }
-    let Some(folder) = env::var("CVL_LIB_DIR").ok().or_else(folder_of_package) else {
-        eprintln!(
-            "the library cvl was not found: name its folder in CVL_LIB_DIR, or its cvl.pc in PKG_CONFIG_PATH"
-        );
+    let folder = env::var("CVL_LIB_DIR").ok().or_else(folder_of_package).unwrap_or_else(|| {
+        eprintln!("the library cvl was not found: name its folder in CVL_LIB_DIR, or its cvl.pc in PKG_CONFIG_PATH");
         exit(1);
-    };
-    let kind = if env::var_os("CVL_SHARED").is_some() {
-        "dylib"
+    });
+    let shared = env::var("CVL_SHARED").map_or(false, |said| !["", "0"].contains(&said.as_str()));
+    let (kind, file) = if shared {
+        ("dylib", "libcvl.so.1")
     } else {
-        "static"
+        ("static", "libcvl.a")
     };
+    println!("cargo:rerun-if-changed={folder}/{file}");
     println!("cargo:rustc-link-search=native={folder}");
     println!("cargo:rustc-link-lib={kind}=cvl");
 }

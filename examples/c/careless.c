@@ -1,5 +1,5 @@
 /*
- * Calls every function of cvl.h as a careless program would: with each two of its arrays overlapping, whole or by one element
+ * Calls every function of cvl.h and cvl_parallel.h as a careless program would: with each two of its arrays overlapping, whole or by one element
  * at either end; in place; with booleans that are any bytes; with null for arrays without elements; with arrays that end or begin
  * at a page that must not be touched; and without a descriptor. It prints what is not as the header promises, and its status is then 1.
  * `examples/c/run careless` builds and runs it under sanitizers and without. The functions are those of calls.h.
@@ -12,7 +12,7 @@
 #include <string.h>
 #include <sys/mman.h>
 
-enum { FEW = 6, LONGEST = 5000, SHORT_SLOT = 1 << 12, LONG_SLOT = 1 << 16, PAGE = 1 << 14, UNTOUCHED = 77 };
+enum { FEW = 6, LONGEST = 5000, SHORT_SLOT = 1 << 11, LONG_SLOT = 1 << 16, PAGE = 1 << 14, UNTOUCHED = 77 };
 
 static unsigned char arena[(MOST_ARRAYS + 1) * LONG_SLOT], before[sizeof arena], wanted[sizeof arena];
 static size_t slot;
@@ -89,7 +89,7 @@ static void fill(char letter, unsigned char *at, bool any) {
         const CvlSegments made = described();
         memset(at, 0, sizeof made);
         descriptor->lengths = made.lengths;
-        descriptor->count = made.count;
+        descriptor->segments = made.segments;
         descriptor->some = made.some;
         return;
     }
@@ -307,7 +307,7 @@ static void odd_booleans(const Row *row) {
     slot = SHORT_SLOT;
     for (size_t s = 0; s < sizeof sizes / sizeof *sizes; s++) {
         set_size(sizes[s]);
-        for (int byte = 0; byte < 256; byte++) {
+        for (int byte = 0; byte < 256; byte += in_parts(row) ? 51 : 1) {
             for (int way = 0; way < WAYS; way++) compare_bytes(row, way, (unsigned char)byte);
         }
     }
@@ -378,15 +378,16 @@ static void guards(const Row *row) {
 /* There is no descriptor before one is made, after one was let go and after one could not be made. */
 static void descriptors(void) {
     static const int32_t lengths[] = {2, 0, 3}, below[] = {2, -1};
+    const CvlLengths of_three = {lengths, 3}, of_below = {below, 2};
     const Row row = {"a descriptor", "", "", NULL};
     CvlSegments made = CVL_NO_SEGMENTS;
     size_t total = 0;
     if (cvl_segments_total(&made, &total).number != CVL_NO_DESCRIPTOR) fail(&row, "before it is made", "there is one", cvl_segments_free(&made));
-    if (cvl_segments_new(lengths, 3, &made).number != CVL_DONE) fail(&row, "made", "it is not done", cvl_segments_free(&made));
+    if (cvl_segments_new(of_three, &made).number != CVL_DONE) fail(&row, "made", "it is not done", cvl_segments_free(&made));
     if (cvl_segments_total(&made, &total).number != CVL_DONE || total != 5) fail(&row, "made", "another total", cvl_segments_free(&made));
-    if (cvl_segments_new(below, 2, &made).number != CVL_NEGATIVE_LENGTH) fail(&row, "not made", "no fault", cvl_segments_free(&made));
+    if (cvl_segments_new(of_below, &made).number != CVL_NEGATIVE_LENGTH) fail(&row, "not made", "no fault", cvl_segments_free(&made));
     if (cvl_segments_total(&made, &total).number != CVL_NO_DESCRIPTOR) fail(&row, "not made", "there is one", cvl_segments_free(&made));
-    if (cvl_segments_new(lengths, 3, &made).number != CVL_DONE) fail(&row, "made again", "it is not done", cvl_segments_free(&made));
+    if (cvl_segments_new(of_three, &made).number != CVL_DONE) fail(&row, "made again", "it is not done", cvl_segments_free(&made));
     if (cvl_segments_free(&made).number != CVL_DONE) fail(&row, "let go", "it is not done", cvl_segments_free(&made));
     if (cvl_segments_free(&made).number != CVL_DONE) fail(&row, "let go twice", "it is not done", cvl_segments_free(&made));
     if (cvl_segments_total(&made, &total).number != CVL_NO_DESCRIPTOR) fail(&row, "let go", "there is one", cvl_segments_free(&made));
@@ -395,6 +396,7 @@ static void descriptors(void) {
 int main(void) {
     setvbuf(stdout, NULL, _IONBF, 0);
     map_pages();
+    pool = cvl_pool_alone(3);
     for (size_t k = 0; k < ROWS; k++) {
         overlaps(&rows[k]);
         shared_inputs(&rows[k]);

@@ -2,6 +2,7 @@
  * Four threads make calls on one constant descriptor at once, many times, and each result is held against that of one thread.
  * `examples/c/run descriptors` builds and runs it under the thread sanitizer.
  */
+#define CVL_SHORT_NAMES
 #include "cvl.h"
 
 #include <pthread.h>
@@ -57,7 +58,7 @@ int main(void) {
             index_in_segment[elements] = lengths[s] - 1 - k;
         }
     }
-    done(&wanted, cvl_segments_new(lengths, SEGMENTS, &made));
+    done(&wanted, cvl_segments_new((CvlLengths){lengths, SEGMENTS}, &made));
     call_all(&made, &wanted);
     for (int k = 0; k < THREADS; k++) {
         if (pthread_create(&threads[k], NULL, call_often, &found[k]) != 0) abort();

@@ -1,7 +1,7 @@
 /*
- * Calls every function of cvl.h on vectors of 300,000 elements in 1,500 segments, of which some are empty and one is long, with
+ * Calls every function of cvl.h and cvl_parallel.h on vectors of 300,000 elements in 1,500 segments, of which some are empty and one is long, with
  * booleans that are 0 or 1 and with others. No call may have a fault. What it writes is compared with what plain loops make of the
- * same, and the memory that it asks for with what it needs. It prints what differs, and its status is then 1. `examples/c/run long`
+ * same, and the memory that a function of cvl.h asks for with what it needs. It prints what differs, and its status is then 1. `examples/c/run long`
  * builds and runs it under sanitizers. The functions are those of calls.h.
  */
 #include "calls.h"
@@ -347,16 +347,19 @@ static const char *const calls_of_exports[][2] = {
     {"free", "mke_fov"},
 };
 
-/* The call that a function makes, into `call`. */
+/* The call that a function makes, into `call`: a call of the table has three letters, a stroke, and three more. */
 static void name_call(const Row *row, char *call) {
-    const char *name = row->name;
+    char plain[64];
+    const char *name = plain + 4;
     size_t k = 0;
     bool cut_up = false;
-    if (!begins(name, "cvl_")) {
+    strcpy(plain, row->name);
+    if (in_parts(row)) plain[strlen(plain) - 3] = 0;
+    if (strlen(name) == 7 && name[3] == '_') {
         strcpy(call, name);
         return;
     }
-    for (name += 4; begins(name, "seg"); cut_up = true) name = strchr(name, '_') + 1;
+    for (; begins(name, "seg"); cut_up = true) name = strchr(name, '_') + 1;
     while (strcmp(calls_of_exports[k][0], name) != 0) k++;
     strcpy(call, calls_of_exports[k][1]);
     if (cut_up && call[5] == 'u') call[5] = 'e';
@@ -464,7 +467,7 @@ static void check(const Row *row, bool odd) {
     }
     asked = 0;
     const CvlStatus status = row->call(p);
-    const size_t needed = odd || strpbrk(row->arrays, "tuX") != NULL ? asked : memory_of(row, call);
+    const size_t needed = odd || in_parts(row) || strpbrk(row->arrays, "tuX") != NULL ? asked : memory_of(row, call);
     if (status.number != CVL_DONE || status.place != -1) {
         fail(row, "another status", status.number, CVL_DONE);
         return;
@@ -480,6 +483,7 @@ static void check(const Row *row, bool odd) {
 }
 
 int main(void) {
+    pool = cvl_pool_alone(3);
     n = ELEMENTS, segments = SEGMENTS, trues = trues_in(0, ELEMENTS), text_room = TEXT_ROOM;
     for (size_t k = 0; k < ROWS; k++) {
         check(&rows[k], false);

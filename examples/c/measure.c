@@ -2,7 +2,7 @@
  * The time of some calls beside the same loops in C, for 1,000 and for 4,194,304 elements: the best of many rounds, in
  * microseconds. `examples/c/run measure` builds it over the library, by -O3, and runs it on a machine that should be idle.
  */
-#define _POSIX_C_SOURCE 199309L
+#define CVL_SHORT_NAMES
 #include "cvl.h"
 
 #include <stdio.h>
@@ -192,16 +192,16 @@ static void call_xor(size_t n) { must(xor_wub(flags, others, (bool *)out, n)); }
 static void call_replace(size_t n) { must(rep_vub(flags, (int32_t)(n / 2), true, (bool *)out, n)); }
 static void call_count(size_t n) { must(cnt_lub(flags, n, out)); }
 static void call_scan_all(size_t n) { must(and_sub(others, (bool *)out, n)); }
-static void call_segmented_count(size_t n) { must(cnt_leb(flags, n, lengths, segments_of(n), out)); }
-static void call_segmented_all(size_t n) { must(and_reb(others, n, lengths, segments_of(n), (bool *)out)); }
+static void call_segmented_count(size_t n) { must(cnt_leb(flags, n, (CvlLengths){lengths, segments_of(n)}, out)); }
+static void call_segmented_all(size_t n) { must(and_reb(others, n, (CvlLengths){lengths, segments_of(n)}, (bool *)out)); }
 static void call_divide(size_t n) { must(div_wuz(a, b, out, n)); }
 static void call_scan(size_t n) { must(add_suz(a, out, n)); }
 static void call_reduce(size_t n) { must(add_ruz(a, n, out)); }
 static void call_shift(size_t n) { must(lsh_wuz(a, shifts, out, n)); }
 static void call_checked_scan(size_t n) { must(tot_suz(small, out, n)); }
 static void call_checked_reduce(size_t n) { must(tot_ruz(small, n, out)); }
-static void call_segmented_scan(size_t n) { must(add_sez(a, lengths, segments_of(n), out, n)); }
-static void call_segmented_reduce(size_t n) { must(add_rez(a, n, lengths, segments_of(n), out)); }
+static void call_segmented_scan(size_t n) { must(add_sez(a, (CvlLengths){lengths, segments_of(n)}, out, n)); }
+static void call_segmented_reduce(size_t n) { must(add_rez(a, n, (CvlLengths){lengths, segments_of(n)}, out)); }
 static void call_gather(size_t n) { must(bck_puz(a, n, in_order, out, n)); }
 static void call_gather_shuffled(size_t n) { must(bck_puz(a, n, shuffled, out, n)); }
 static void call_scatter(size_t n) { must(smp_puz(a, in_order, out, n)); }

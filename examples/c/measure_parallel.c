@@ -3,15 +3,18 @@
  * before: the best of many rounds, in milliseconds. `examples/c/run measure_parallel` builds it over the library, by -O3, and runs it; the
  * machine should be idle. OMP_NUM_THREADS says how many threads there are.
  */
-#include "cvl_parallel.h"
+#define CVL_SHORT_NAMES
+#include "cvl_openmp.h"
 
 #include <stdio.h>
+#include <stdlib.h>
 
 enum { MOST = CVL_MOST_ELEMENTS, ROUNDS = 25, SEGMENT = 1000, SEGMENTS = MOST / SEGMENT + 1 };
 
 static int32_t a[MOST], b[MOST], small[MOST], in_order[MOST], shuffled[MOST], lengths[SEGMENTS], out[MOST];
 static bool flags[MOST], bools[MOST];
 static size_t kept;
+static const CvlLengths cut = {lengths, SEGMENTS};
 static CvlPool pool;
 
 /* A call and the same call in parts: a row of the table. */
@@ -24,10 +27,10 @@ static CvlPool pool;
     X(reduce, "add_ruz", add_ruz, a, MOST, out)                                                                                \
     X(checked_scan, "tot_suz", tot_suz, small, out, MOST)                                                                      \
     X(checked_reduce, "tot_ruz", tot_ruz, small, MOST, out)                                                                    \
-    X(seg_scan, "add_sez, of 1000", add_sez, a, lengths, SEGMENTS, out, MOST)                                                  \
-    X(seg_reduce, "add_rez, of 1000", add_rez, a, MOST, lengths, SEGMENTS, out)                                                \
+    X(seg_scan, "add_sez, of 1000", add_sez, a, cut, out, MOST)                                                   \
+    X(seg_reduce, "add_rez, of 1000", add_rez, a, MOST, cut, out)                                                 \
     X(pack, "pck_luz, of a half", pck_luz, a, flags, MOST, out, MOST, &kept)                                                   \
-    X(copies, "dis_vez, of 1000", dis_vez, b, lengths, SEGMENTS, out, MOST)                                                    \
+    X(copies, "dis_vez, of 1000", dis_vez, b, cut, out, MOST)                                                     \
     X(gather, "bck_puz, at random", bck_puz, a, MOST, shuffled, out, MOST)                                                     \
     X(scatter, "smp_puz, at random", smp_puz, a, shuffled, out, MOST)                                                          \
     X(scatter_in_order, "smp_puz, in order", smp_puz, a, in_order, out, MOST)

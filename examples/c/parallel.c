@@ -3,9 +3,16 @@
  * compiler has it, on OpenMP's, and holds its status, its place and its rooms against those of the plain call: without faults, with one
  * and with several. It prints what differs, and its status is then 1. `examples/c/run parallel` builds and runs it under sanitizers.
  */
-#include "cvl_posix_pool.h"
+#define CVL_SHORT_NAMES
+#include "cvl_parallel.h"
 
 #include <stdio.h>
+#include <stdlib.h>
+#include <string.h>
+
+#ifdef _OPENMP
+#include "cvl_openmp.h"
+#endif
 
 #ifndef CASES
 #define CASES 60
@@ -35,6 +42,17 @@ typedef struct Room {
 
 static CvlPool pool;
 
+static CvlStatus status_of(uint32_t number, int64_t place) {
+    CvlStatus status;
+    status.number = number;
+    status.place = place;
+    return status;
+}
+
+static bool is_white(char byte) { return byte == ' ' || byte == '\t' || byte == '\n' || byte == '\r'; }
+
+#define BY(lengths, segments) ((CvlLengths){lengths, segments})
+
 /* A row for each call: a name of its own, the function, and its arguments, of which those after the pool are the plain call's. */
 #define INT2(X, op, second)                                                                                                    \
     X(op##_wuz, op##_wuz, in.a, second, r->ints, in.n)                                                                         \
@@ -48,19 +66,19 @@ static CvlPool pool;
     X(op##_sub, op##_sub, in.p, r->bools, in.n)                                                                                \
     X(op##_sub_in, op##_sub, r->bools, r->bools, in.n)                                                                         \
     X(op##_rub, op##_rub, in.p, in.n, &r->flag)                                                                                \
-    X(op##_seb, op##_seb, in.p, in.lengths, in.segments, r->bools, in.n)                                                       \
-    X(op##_seb_in, op##_seb, r->bools, in.lengths, in.segments, r->bools, in.n)                                                \
-    X(op##_reb, op##_reb, in.p, in.n, in.lengths, in.segments, r->bools)
+    X(op##_seb, op##_seb, in.p, BY(in.lengths, in.segments), r->bools, in.n)                                                       \
+    X(op##_seb_in, op##_seb, r->bools, BY(in.lengths, in.segments), r->bools, in.n)                                                \
+    X(op##_reb, op##_reb, in.p, in.n, BY(in.lengths, in.segments), r->bools)
 #define SCANNED(X, op, of)                                                                                                     \
     X(op##_suz, op##_suz, of, r->ints, in.n)                                                                                   \
     X(op##_suz_in, op##_suz, r->ints, r->ints, in.n)                                                                           \
     X(op##_ruz, op##_ruz, of, in.n, &r->one)                                                                                   \
-    X(op##_sez, op##_sez, of, in.lengths, in.segments, r->ints, in.n)                                                          \
-    X(op##_sez_in, op##_sez, r->ints, in.lengths, in.segments, r->ints, in.n)                                                  \
-    X(op##_sez_few, op##_sez, of, in.lengths, in.segments / 2, r->ints, in.n)                                                  \
-    X(op##_sez_bad, op##_sez, of, in.bad_lengths, in.segments, r->ints, in.n)                                                  \
-    X(op##_rez, op##_rez, of, in.n, in.lengths, in.segments, r->ints)                                                          \
-    X(op##_rez_bad, op##_rez, of, in.n, in.bad_lengths, in.segments, r->ints)
+    X(op##_sez, op##_sez, of, BY(in.lengths, in.segments), r->ints, in.n)                                                          \
+    X(op##_sez_in, op##_sez, r->ints, BY(in.lengths, in.segments), r->ints, in.n)                                                  \
+    X(op##_sez_few, op##_sez, of, BY(in.lengths, in.segments / 2), r->ints, in.n)                                                  \
+    X(op##_sez_bad, op##_sez, of, BY(in.bad_lengths, in.segments), r->ints, in.n)                                                  \
+    X(op##_rez, op##_rez, of, in.n, BY(in.lengths, in.segments), r->ints)                                                          \
+    X(op##_rez_bad, op##_rez, of, in.n, BY(in.bad_lengths, in.segments), r->ints)
 #define TABLE(X)                                                                                                               \
     INT2(X, add, in.b) INT2(X, mul, in.b) INT2(X, min, in.b) INT2(X, max, in.b) INT2(X, and, in.b) INT2(X, ior, in.b)          \
     INT2(X, xor, in.b) INT2(X, sub, in.b) INT2(X, div, in.divisors) INT2(X, mod, in.divisors) INT2(X, lsh, in.shifts)          \
@@ -83,25 +101,25 @@ static CvlPool pool;
     X(ext_vub, ext_vub, in.p, in.n, in.place, &r->flag)                                                                        \
     X(rep_vuz, rep_vuz, in.a, in.place, 9, r->ints, in.n)                                                                      \
     X(rep_vub, rep_vub, in.p, in.place, true, r->bools, in.n)                                                                  \
-    X(dis_vuz, dis_vuz, 7, (int32_t)in.n, r->ints)                                                                             \
-    X(dis_vub, dis_vub, true, (int32_t)in.n, r->bools)                                                                         \
-    X(ind_luz, ind_luz, 2000000000, -77777, (int32_t)in.n, r->ints)                                                            \
-    X(mke_fov, mke_fov, in.lengths, in.segments, &r->count)                                                                    \
-    X(mke_fov_bad, mke_fov, in.bad_lengths, in.segments, &r->count)                                                            \
-    X(ext_vez, ext_vez, in.a, in.n, in.seg_places, in.full, in.full_segments, r->ints)                                         \
-    X(ext_veb, ext_veb, in.p, in.n, in.seg_places, in.full, in.full_segments, r->bools)                                        \
-    X(ext_vez_empty, ext_vez, in.a, in.n, in.values, in.lengths, in.segments, r->ints)                                         \
-    X(rep_vez, rep_vez, in.a, in.n, in.seg_places, in.b, in.full, in.full_segments, r->ints)                                   \
-    X(rep_veb, rep_veb, in.p, in.n, in.seg_places, in.q, in.full, in.full_segments, r->bools)                                  \
-    X(dis_vez, dis_vez, in.values, in.lengths, in.segments, r->ints, in.n)                                                     \
-    X(dis_veb, dis_veb, in.seg_flags, in.lengths, in.segments, r->bools, in.n)                                                 \
-    X(ind_lez, ind_lez, in.values, in.strides, in.lengths, in.segments, r->ints, in.n)                                         \
+    X(dis_vuz, dis_vuz, 7, (int64_t)in.n, r->ints)                                                                             \
+    X(dis_vub, dis_vub, true, (int64_t)in.n, r->bools)                                                                         \
+    X(ind_luz, ind_luz, 2000000000, -77777, (int64_t)in.n, r->ints)                                                            \
+    X(mke_fov, mke_fov, BY(in.lengths, in.segments), &r->count)                                                                    \
+    X(mke_fov_bad, mke_fov, BY(in.bad_lengths, in.segments), &r->count)                                                            \
+    X(ext_vez, ext_vez, in.a, in.n, in.seg_places, BY(in.full, in.full_segments), r->ints)                                         \
+    X(ext_veb, ext_veb, in.p, in.n, in.seg_places, BY(in.full, in.full_segments), r->bools)                                        \
+    X(ext_vez_empty, ext_vez, in.a, in.n, in.values, BY(in.lengths, in.segments), r->ints)                                         \
+    X(rep_vez, rep_vez, in.a, in.seg_places, in.b, BY(in.full, in.full_segments), r->ints, in.n)                                   \
+    X(rep_veb, rep_veb, in.p, in.seg_places, in.q, BY(in.full, in.full_segments), r->bools, in.n)                                  \
+    X(dis_vez, dis_vez, in.values, BY(in.lengths, in.segments), r->ints, in.n)                                                     \
+    X(dis_veb, dis_veb, in.seg_flags, BY(in.lengths, in.segments), r->bools, in.n)                                                 \
+    X(ind_lez, ind_lez, in.values, in.strides, BY(in.lengths, in.segments), r->ints, in.n)                                         \
     X(pck_luz, pck_luz, in.a, in.flags, in.n, r->ints, in.room, &r->count)                                                     \
     X(pck_lub, pck_lub, in.p, in.flags, in.n, r->bools, in.room, &r->count)                                                    \
-    X(pck_lez, pck_lez, in.a, in.flags, in.n, in.lengths, in.segments, r->ints, in.room, &r->count)                            \
-    X(pck_leb, pck_leb, in.p, in.flags, in.n, in.lengths, in.segments, r->bools, in.room, &r->count)                           \
-    X(pck_fov, pck_fov, in.flags, in.n, in.lengths, in.segments, r->ints)                                                      \
-    X(cnt_leb, cnt_leb, in.flags, in.n, in.lengths, in.segments, r->ints)                                                      \
+    X(pck_lez, pck_lez, in.a, in.flags, in.n, BY(in.lengths, in.segments), r->ints, in.room, &r->count)                            \
+    X(pck_leb, pck_leb, in.p, in.flags, in.n, BY(in.lengths, in.segments), r->bools, in.room, &r->count)                           \
+    X(pck_fov, pck_fov, in.flags, in.n, BY(in.lengths, in.segments), r->ints)                                                      \
+    X(cnt_leb, cnt_leb, in.flags, in.n, BY(in.lengths, in.segments), r->ints)                                                      \
     X(smp_puz, smp_puz, in.a, in.index, r->ints, in.n)                                                                         \
     X(smp_pub, smp_pub, in.p, in.index, r->bools, in.n)                                                                        \
     X(sel_puz, sel_puz, in.a, in.select_index, in.flags, in.n, r->ints, in.trues)                                              \
@@ -111,14 +129,14 @@ static CvlPool pool;
     X(def_pub, def_pub, in.p, in.default_index, in.n, in.bool_defaults, r->bools, in.m)                                        \
     X(bck_puz, bck_puz, in.a, in.n, in.back_index, r->ints, in.k)                                                              \
     X(bck_pub, bck_pub, in.p, in.n, in.back_index, r->bools, in.k)                                                             \
-    X(smp_pez, smp_pez, in.a, in.seg_index, in.lengths, in.segments, r->ints, in.n)                                            \
-    X(smp_peb, smp_peb, in.p, in.seg_index, in.lengths, in.segments, r->bools, in.n)                                           \
-    X(sel_pez, sel_pez, in.a, in.seg_select_index, in.flags, in.n, in.lengths, in.segments, r->ints, in.trues)                 \
-    X(sel_peb, sel_peb, in.p, in.seg_select_index, in.flags, in.n, in.lengths, in.segments, r->bools, in.trues)                \
-    X(def_pez, def_pez, in.a, in.seg_default_index, in.n, in.defaults, in.lengths, in.wide, in.segments, r->ints, in.m)        \
-    X(def_peb, def_peb, in.p, in.seg_default_index, in.n, in.bool_defaults, in.lengths, in.wide, in.segments, r->bools, in.m)  \
-    X(bck_pez, bck_pez, in.a, in.n, in.seg_back_index, in.lengths, in.back_lengths, in.segments, r->ints, in.k)                \
-    X(bck_peb, bck_peb, in.p, in.n, in.seg_back_index, in.lengths, in.back_lengths, in.segments, r->bools, in.k)
+    X(smp_pez, smp_pez, in.a, in.seg_index, BY(in.lengths, in.segments), r->ints, in.n)                                            \
+    X(smp_peb, smp_peb, in.p, in.seg_index, BY(in.lengths, in.segments), r->bools, in.n)                                           \
+    X(sel_pez, sel_pez, in.a, in.seg_select_index, in.flags, in.n, BY(in.lengths, in.segments), r->ints, in.trues)                 \
+    X(sel_peb, sel_peb, in.p, in.seg_select_index, in.flags, in.n, BY(in.lengths, in.segments), r->bools, in.trues)                \
+    X(def_pez, def_pez, in.a, in.seg_default_index, in.n, in.defaults, BY(in.lengths, in.segments), BY(in.wide, in.segments), r->ints, in.m)        \
+    X(def_peb, def_peb, in.p, in.seg_default_index, in.n, in.bool_defaults, BY(in.lengths, in.segments), BY(in.wide, in.segments), r->bools, in.m)  \
+    X(bck_pez, bck_pez, in.a, in.n, in.seg_back_index, BY(in.lengths, in.segments), BY(in.back_lengths, in.segments), r->ints, in.k)                \
+    X(bck_peb, bck_peb, in.p, in.n, in.seg_back_index, BY(in.lengths, in.segments), BY(in.back_lengths, in.segments), r->bools, in.k)
 
 /* The functions that have no call of the table, and calls that a caller gets wrong: overlaps, lengths that differ, no operator. */
 #define OTHERS(X)                                                                                                              \
@@ -127,8 +145,8 @@ static CvlPool pool;
     X(write_ints, cvl_write_ints, in.a, in.n, r->text, in.text_room, &r->count)                                                \
     X(write_bools, cvl_write_bools, in.p, in.n, r->text, in.text_room, &r->count)                                              \
     X(seg_read_ints, cvl_seg_read_ints, in.nested, in.nested_length, r->ints, in.n, &r->count, r->lengths, in.segments, &r->segments) \
-    X(seg_write_ints, cvl_seg_write_ints, in.a, in.n, in.lengths, in.segments, r->text, in.text_room, &r->count)               \
-    X(seg_write_bools, cvl_seg_write_bools, in.p, in.n, in.lengths, in.segments, r->text, in.text_room, &r->count)             \
+    X(seg_write_ints, cvl_seg_write_ints, in.a, in.n, BY(in.lengths, in.segments), r->text, in.text_room, &r->count)               \
+    X(seg_write_bools, cvl_seg_write_bools, in.p, in.n, BY(in.lengths, in.segments), r->text, in.text_room, &r->count)             \
     X(askew, cvl_int2, CVL_ADD, r->ints, in.n / 2, in.b, in.n / 2, r->ints + in.n / 4, in.n / 2)                               \
     X(askew_scan, cvl_int_scan, CVL_ADD, r->ints, in.n / 2, r->ints + in.n / 4, in.n / 2)                                      \
     X(differ, cvl_int2, CVL_ADD, in.a, in.n, in.b, in.n / 2, r->ints, in.n)                                                    \
@@ -136,9 +154,9 @@ static CvlPool pool;
     X(no_operator, cvl_int2, 99, in.a, in.n, in.b, in.n, r->ints, in.n)                                                        \
     X(no_scan, cvl_int_scan, CVL_SUB, in.a, in.n, r->ints, in.n)                                                               \
     X(no_reduce, cvl_int_reduce, CVL_NOT, in.a, in.n, &r->one)                                                                 \
-    X(no_seg_scan, cvl_seg_int_scan, CVL_DIV, in.a, in.n, in.lengths, in.segments, r->ints, in.n)                              \
-    X(no_seg_reduce, cvl_seg_bool_reduce, CVL_ADD, in.p, in.n, in.lengths, in.segments, r->bools, in.segments)                 \
-    X(few_values, cvl_seg_distribute_int, in.values, in.segments / 2, in.lengths, in.segments, r->ints, in.n)                  \
+    X(no_seg_scan, cvl_seg_int_scan, CVL_DIV, in.a, in.n, BY(in.lengths, in.segments), r->ints, in.n)                              \
+    X(no_seg_reduce, cvl_seg_bool_reduce, CVL_ADD, in.p, in.n, BY(in.lengths, in.segments), r->bools, in.segments)                 \
+    X(few_values, cvl_seg_distribute_int, in.values, in.segments / 2, BY(in.lengths, in.segments), r->ints, in.n)                  \
     X(copies_below_none, cvl_distribute_int, 7, -1, r->ints, in.n)
 
 /* A text that is read in pieces of any lengths, cut at white space, each after the words of those before it. */
@@ -177,17 +195,17 @@ static void *room_for(size_t count, size_t size) {
 
 static CvlStatus read_pieces_on(const CvlPool *pieces, const char *text, size_t text_len, int32_t *out, size_t out_len, size_t *count) {
     int32_t *read = (int32_t *)room_for(text_len, sizeof *read);
-    CvlStatus status = cvl_status(CVL_DONE, -1);
+    CvlStatus status = status_of(CVL_DONE, -1);
     size_t words = 0, more = 0;
     for (size_t from = 0, to = 0; from < text_len && status.number == CVL_DONE; from = to, words += more) {
         to = from + text_len / pieces->parts + 1;
         if (to > text_len) to = text_len;
-        while (to < text_len && !cvl_is_white(text[to])) to++;
+        while (to < text_len && !is_white(text[to])) to++;
         status = cvl_read_ints_after(words, text + from, to - from, read + words, text_len - words, &more);
     }
     if (status.number == CVL_DONE) {
         *count = words;
-        if (words > out_len) status = cvl_status(CVL_LENGTH_MISMATCH, -1);
+        if (words > out_len) status = status_of(CVL_LENGTH_MISMATCH, -1);
         else memcpy(out, read, words * sizeof *read);
     }
     free(read);
@@ -292,7 +310,7 @@ static void make_texts(void) {
         for (size_t blanks = below(k == 0 ? 2 : 4) + (k > 0); blanks > 0; blanks--) in.text[in.text_length++] = " \t\n\r"[below(4)];
         in.text_length += (size_t)sprintf(in.text + in.text_length, "%d", below(9) == 0 ? (int)in.small[k] : (int)in.b[k] % 1000);
     }
-    if (cvl_seg_write_ints(in.a, in.n, in.lengths, in.segments, nested, in.n * 12 + in.segments * 3 + 2, &count).number != CVL_DONE) abort();
+    if (cvl_seg_write_ints(in.a, in.n, BY(in.lengths, in.segments), nested, in.n * 12 + in.segments * 3 + 2, &count).number != CVL_DONE) abort();
     in.nested = nested, in.nested_length = count;
 }
 
@@ -302,16 +320,16 @@ static void make_fault(void) {
     in.divisors[place] = 0;
     in.shifts[place] = below(2) == 0 ? 32 : -1;
     in.small[place] = below(2) == 0 ? INT32_MAX : INT32_MIN;
-    in.index[place] = below(2) == 0 ? in.index[other] : (int32_t)in.n;
+    in.index[place] = below(2) == 0 ? in.index[other] : (int64_t)in.n;
     in.select_index[place] = below(2) == 0 ? in.select_index[other] : -1;
     in.default_index[place] = below(2) == 0 ? in.default_index[other] : (int32_t)in.m;
     in.seg_index[place] = below(2) == 0 ? in.seg_index[other] : -1;
     in.seg_select_index[place] = below(2) == 0 ? in.seg_select_index[other] : INT32_MAX;
     in.seg_default_index[place] = below(2) == 0 ? in.seg_default_index[other] : INT32_MIN;
-    if (in.k > 0) in.back_index[below((uint32_t)in.k)] = below(2) == 0 ? (int32_t)in.n : -1;
-    if (in.k > 0) in.seg_back_index[below((uint32_t)in.k)] = below(2) == 0 ? (int32_t)in.n : -1;
+    if (in.k > 0) in.back_index[below((uint32_t)in.k)] = below(2) == 0 ? (int64_t)in.n : -1;
+    if (in.k > 0) in.seg_back_index[below((uint32_t)in.k)] = below(2) == 0 ? (int64_t)in.n : -1;
     in.seg_places[below((uint32_t)in.full_segments)] = below(2) == 0 ? -1 : INT32_MAX;
-    in.place = below(2) == 0 ? (int32_t)in.n : -1;
+    in.place = below(2) == 0 ? (int64_t)in.n : -1;
     in.text[below((uint32_t)in.text_length)] = "x-9"[below(3)];
 }
 
@@ -382,7 +400,7 @@ static void compare(const Row *row, Room *plain, Room *parts, const int32_t *int
 }
 
 /* Calls every function on the data that there are, each on a pool of its own kind. */
-static void call_all(CvlThreads *threads) {
+static void call_all(CvlThreads *const *threads) {
     const size_t most = longest_room(), text = in.n * 12 + in.segments * 3 + 2;
     int32_t *ints = random_ints(most, 60);
     bool *bools = random_bools(most);
@@ -397,7 +415,7 @@ static void call_all(CvlThreads *threads) {
 #ifdef _OPENMP
         case 1: pool = cvl_pool_openmp(); break;
 #endif
-        default: pool = cvl_pool_posix(&threads[below(MOST_THREADS)]); break;
+        default: pool = cvl_pool_posix(threads[below(MOST_THREADS)]); break;
         }
         pool.parts = 1 + below(MOST_PARTS);
         compare(&rows[k], &rooms[0], &rooms[1], ints, bools);
@@ -406,20 +424,12 @@ static void call_all(CvlThreads *threads) {
     free(ints), free(bools);
 }
 
-/* Whether each call of the table has a row, and its first is under its own name. */
-static bool has_all_rows(void) {
-    size_t count = 0;
-    for (size_t k = 0; k < ROWS; k++) count += strcmp(rows[k].name, rows[k].function) == 0;
-    return count == CVL_CALLS_IN_PARTS;
-}
-
 int main(void) {
     static const size_t lengths[] = {1000, 1000, 1000, 1000, 70000, 70000, 70000, 600000};
     enum { LONG = sizeof lengths / sizeof *lengths };
-    CvlThreads threads[MOST_THREADS];
-    if (!has_all_rows()) printf("a call of the table has no row\n"), failed++;
+    CvlThreads *threads[MOST_THREADS];
     for (size_t k = 0; k < MOST_THREADS; k++) {
-        if (cvl_threads_start(&threads[k], k + 1) != 0) abort();
+        if (cvl_threads_start(k + 1, &threads[k]) != 0) abort();
     }
     for (size_t k = 0; k < CASES; k++) {
         for (int fault_count = 0; fault_count < 4; fault_count += fault_count + 1) {
@@ -428,7 +438,7 @@ int main(void) {
             let_go();
         }
     }
-    for (size_t k = 0; k < MOST_THREADS; k++) cvl_threads_stop(&threads[k]);
+    for (size_t k = 0; k < MOST_THREADS; k++) cvl_threads_stop(threads[k]);
     printf("%d rows, %ld calls in parts, %ld of them with a fault, %ld not as the plain call\n", (int)ROWS, calls, faults, failed);
     return failed == 0 ? EXIT_SUCCESS : EXIT_FAILURE;
 }

@@ -2,6 +2,7 @@
  * The values of x * x - 2 at five places, how many of them are negative, and a quotient that has no value at one place.
  * `examples/c/run` builds it over the library and runs it.
  */
+#define CVL_SHORT_NAMES
 #include "cvl.h"
 
 #include <stdio.h>

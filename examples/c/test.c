@@ -2,6 +2,7 @@
  * Calls every function of cvl.h on worked values, each fault that its comment names, and each call once without memory. It
  * prints what is not as it should be, and its status is then 1. `examples/c/run test` builds and runs it under sanitizers.
  */
+#define CVL_SHORT_NAMES
 #include "cvl.h"
 
 #include <stdio.h>
@@ -203,6 +204,7 @@ static void holds_bools(const char *call, const bool *wanted, size_t count) {
 #define I(...) ((const int32_t[]){__VA_ARGS__})
 #define B(...) ((const bool[]){__VA_ARGS__})
 #define O(...) ((const bool *)(const unsigned char[]){__VA_ARGS__})
+#define S(lengths, segments) ((CvlLengths){lengths, segments})
 
 static void place_by_place(void) {
     const int32_t *a = I(12, -7, 2147483647), *b = I(10, 2, 1);
@@ -433,18 +435,18 @@ static void checked_sums(void) {
     INTS(tot_suz(I(3, 1, 4), ints, 3), 0, 3, 4);
     INTS(tot_ruz(high, 3, ints), 2147483647);
     INTS(tot_ruz(a, 0, ints), 0);
-    INTS(tot_sez(a, lengths, 3, ints, 5), 0, 3, 0, 4, 5);
-    INTS(tot_rez(a, 5, lengths, 3, ints), 4, 0, 10);
+    INTS(tot_sez(a, S(lengths, 3), ints, 5), 0, 3, 0, 4, 5);
+    INTS(tot_rez(a, 5, S(lengths, 3), ints), 4, 0, 10);
     FAULT(tot_suz(high, ints, 3), CVL_OVERFLOW, 2);
     FAULT(tot_ruz(high, 2, ints), CVL_OVERFLOW, 0);
-    FAULT(tot_sez(I(1, 2147483647, 1, 1), I(1, 3), 2, ints, 4), CVL_OVERFLOW, 3);
-    FAULT(tot_rez(I(1, 2147483647, 1, 1), 4, I(1, 3), 2, ints), CVL_OVERFLOW, 1);
-    FAULT(tot_sez(a, lengths, 2, ints, 5), CVL_LENGTH_MISMATCH, -1);
-    FAULT(tot_rez(a, 5, I(5, -1), 2, ints), CVL_NEGATIVE_LENGTH, 1);
+    FAULT(tot_sez(I(1, 2147483647, 1, 1), S(I(1, 3), 2), ints, 4), CVL_OVERFLOW, 3);
+    FAULT(tot_rez(I(1, 2147483647, 1, 1), 4, S(I(1, 3), 2), ints), CVL_OVERFLOW, 1);
+    FAULT(tot_sez(a, S(lengths, 2), ints, 5), CVL_LENGTH_MISMATCH, -1);
+    FAULT(tot_rez(a, 5, S(I(5, -1), 2), ints), CVL_NEGATIVE_LENGTH, 1);
     FAULT(cvl_checked_scan(a, 5, ints, 4), CVL_LENGTH_MISMATCH, -1);
     FAULT(cvl_checked_scan(too_many_ints, many, ints, 4), CVL_TOO_LONG, -1);
     FAULT(cvl_checked_reduce(too_many_ints, many, ints), CVL_TOO_LONG, -1);
-    FAULT(cvl_seg_checked_reduce(a, 5, lengths, 3, ints, 2), CVL_LENGTH_MISMATCH, -1);
+    FAULT(cvl_seg_checked_reduce(a, 5, S(lengths, 3), ints, 2), CVL_LENGTH_MISMATCH, -1);
 }
 
 static void elements(void) {
@@ -479,101 +481,101 @@ static void elements(void) {
 static void descriptors(void) {
     const int32_t *lengths = I(2, 0, 3);
     reset();
-    tells("mke_fov", mke_fov(lengths, 3, &total), CVL_DONE, -1);
+    tells("mke_fov", mke_fov(S(lengths, 3), &total), CVL_DONE, -1);
     if (total != 5) fail("mke_fov", "another total");
-    NO_MEMORY(mke_fov(lengths, 3, &total));
-    FAULT(mke_fov(I(2, -1, -2), 3, &total), CVL_NEGATIVE_LENGTH, 1);
-    FAULT(mke_fov(I(CVL_MOST_ELEMENTS, 1), 2, &total), CVL_TOO_LONG, -1);
-    FAULT(mke_fov(too_many_ints, CVL_MOST_ELEMENTS + 1, &total), CVL_TOO_LONG, -1);
+    NO_MEMORY(mke_fov(S(lengths, 3), &total));
+    FAULT(mke_fov(S(I(2, -1, -2), 3), &total), CVL_NEGATIVE_LENGTH, 1);
+    FAULT(mke_fov(S(I(CVL_MOST_ELEMENTS, 1), 2), &total), CVL_TOO_LONG, -1);
+    FAULT(mke_fov(S(too_many_ints, CVL_MOST_ELEMENTS + 1), &total), CVL_TOO_LONG, -1);
 }
 
 static void segments(void) {
     const int32_t *five = I(1, 2, 3, 4, 5), *lengths = I(2, 0, 3), *full = I(2, 3);
     const bool *flags = B(false, true, true);
-    INTS(ext_vez(five, 5, I(1, 2), full, 2, ints), 2, 5);
-    BOOLS(ext_veb(flags, 3, I(0, 1), I(1, 2), 2, bools), false, true);
-    INTS(rep_vez(five, 5, I(0, 1), I(8, 9), full, 2, ints), 8, 2, 3, 9, 5);
-    BOOLS(rep_veb(flags, 3, I(0, 1), B(true, false), I(1, 2), 2, bools), true, true, false);
-    INTS(dis_vez(I(7, 8, 9), lengths, 3, ints, 5), 7, 7, 9, 9, 9);
-    BOOLS(dis_veb(B(false, true), I(1, 2), 2, bools, 3), false, true, true);
-    INTS(ind_lez(I(0, 5, 10), I(1, 1, -2), lengths, 3, ints, 5), 0, 1, 10, 8, 6);
-    FAULT(ext_vez(five, 4, I(1, 2), full, 2, ints), CVL_LENGTH_MISMATCH, -1);
-    FAULT(ext_vez(five, 5, I(1, 0, 2), lengths, 3, ints), CVL_INDEX_OUT_OF_RANGE, 1);
-    FAULT(ext_veb(flags, 3, I(0, -1), I(1, 2), 2, bools), CVL_INDEX_OUT_OF_RANGE, 1);
-    FAULT(cvl_seg_extract_int(five, 5, I(1, 2), 1, full, 2, ints, 2), CVL_LENGTH_MISMATCH, -1);
-    FAULT(cvl_seg_extract_bool(flags, 3, I(0, 1), 2, I(1, 2), 2, bools, 3), CVL_LENGTH_MISMATCH, -1);
-    FAULT(rep_vez(five, 5, I(2, 0), I(8, 9), full, 2, ints), CVL_INDEX_OUT_OF_RANGE, 0);
-    FAULT(rep_veb(flags, 3, I(0, 1), B(true, false), I(1, -2), 2, bools), CVL_NEGATIVE_LENGTH, 1);
-    FAULT(cvl_seg_replace_int(five, 5, I(0, 1), 2, I(8, 9), 1, full, 2, ints, 5), CVL_LENGTH_MISMATCH, -1);
-    FAULT(cvl_seg_replace_bool(flags, 3, I(0, 1), 2, flags, 2, I(1, 2), 2, bools, 4), CVL_LENGTH_MISMATCH, -1);
-    FAULT(dis_vez(I(7, 8, 9), lengths, 3, ints, 4), CVL_LENGTH_MISMATCH, -1);
-    FAULT(dis_veb(flags, I(1, -1, 0), 3, bools, 2), CVL_NEGATIVE_LENGTH, 1);
-    FAULT(cvl_seg_distribute_int(I(7, 8, 9), 2, lengths, 3, ints, 5), CVL_LENGTH_MISMATCH, -1);
-    FAULT(cvl_seg_distribute_bool(flags, 3, full, 2, bools, 5), CVL_LENGTH_MISMATCH, -1);
-    FAULT(ind_lez(I(0, 5, 10), I(1, 1, -2), I(2, 0, -3), 3, ints, 5), CVL_NEGATIVE_LENGTH, 2);
-    FAULT(cvl_seg_index(I(0, 5), 2, I(1), 1, full, 2, ints, 5), CVL_LENGTH_MISMATCH, -1);
-    FAULT(cvl_seg_index(I(0, 5), 2, I(1, 1), 2, full, 2, ints, 6), CVL_LENGTH_MISMATCH, -1);
+    INTS(ext_vez(five, 5, I(1, 2), S(full, 2), ints), 2, 5);
+    BOOLS(ext_veb(flags, 3, I(0, 1), S(I(1, 2), 2), bools), false, true);
+    INTS(rep_vez(five, I(0, 1), I(8, 9), S(full, 2), ints, 5), 8, 2, 3, 9, 5);
+    BOOLS(rep_veb(flags, I(0, 1), B(true, false), S(I(1, 2), 2), bools, 3), true, true, false);
+    INTS(dis_vez(I(7, 8, 9), S(lengths, 3), ints, 5), 7, 7, 9, 9, 9);
+    BOOLS(dis_veb(B(false, true), S(I(1, 2), 2), bools, 3), false, true, true);
+    INTS(ind_lez(I(0, 5, 10), I(1, 1, -2), S(lengths, 3), ints, 5), 0, 1, 10, 8, 6);
+    FAULT(ext_vez(five, 4, I(1, 2), S(full, 2), ints), CVL_LENGTH_MISMATCH, -1);
+    FAULT(ext_vez(five, 5, I(1, 0, 2), S(lengths, 3), ints), CVL_INDEX_OUT_OF_RANGE, 1);
+    FAULT(ext_veb(flags, 3, I(0, -1), S(I(1, 2), 2), bools), CVL_INDEX_OUT_OF_RANGE, 1);
+    FAULT(cvl_seg_extract_int(five, 5, I(1, 2), 1, S(full, 2), ints, 2), CVL_LENGTH_MISMATCH, -1);
+    FAULT(cvl_seg_extract_bool(flags, 3, I(0, 1), 2, S(I(1, 2), 2), bools, 3), CVL_LENGTH_MISMATCH, -1);
+    FAULT(rep_vez(five, I(2, 0), I(8, 9), S(full, 2), ints, 5), CVL_INDEX_OUT_OF_RANGE, 0);
+    FAULT(rep_veb(flags, I(0, 1), B(true, false), S(I(1, -2), 2), bools, 3), CVL_NEGATIVE_LENGTH, 1);
+    FAULT(cvl_seg_replace_int(five, 5, I(0, 1), 2, I(8, 9), 1, S(full, 2), ints, 5), CVL_LENGTH_MISMATCH, -1);
+    FAULT(cvl_seg_replace_bool(flags, 3, I(0, 1), 2, flags, 2, S(I(1, 2), 2), bools, 4), CVL_LENGTH_MISMATCH, -1);
+    FAULT(dis_vez(I(7, 8, 9), S(lengths, 3), ints, 4), CVL_LENGTH_MISMATCH, -1);
+    FAULT(dis_veb(flags, S(I(1, -1, 0), 3), bools, 2), CVL_NEGATIVE_LENGTH, 1);
+    FAULT(cvl_seg_distribute_int(I(7, 8, 9), 2, S(lengths, 3), ints, 5), CVL_LENGTH_MISMATCH, -1);
+    FAULT(cvl_seg_distribute_bool(flags, 3, S(full, 2), bools, 5), CVL_LENGTH_MISMATCH, -1);
+    FAULT(ind_lez(I(0, 5, 10), I(1, 1, -2), S(I(2, 0, -3), 3), ints, 5), CVL_NEGATIVE_LENGTH, 2);
+    FAULT(cvl_seg_index(I(0, 5), 2, I(1), 1, S(full, 2), ints, 5), CVL_LENGTH_MISMATCH, -1);
+    FAULT(cvl_seg_index(I(0, 5), 2, I(1, 1), 2, S(full, 2), ints, 6), CVL_LENGTH_MISMATCH, -1);
 }
 
 static void segmented_scans(void) {
     const int32_t *a = I(3, 1, 4, 1, 5), *b = I(3, 1, 4, 4, 5), *lengths = I(2, 0, 3);
     const bool *f = B(true, false, true, false, true), *g = B(true, true, true, true, true);
-    INTS(add_sez(a, lengths, 3, ints, 5), 0, 3, 0, 4, 5);
-    INTS(mul_sez(a, lengths, 3, ints, 5), 1, 3, 1, 4, 4);
-    INTS(min_sez(a, lengths, 3, ints, 5), 2147483647, 3, 2147483647, 4, 1);
-    INTS(max_sez(a, lengths, 3, ints, 5), INT32_MIN, 3, INT32_MIN, 4, 4);
-    INTS(and_sez(a, lengths, 3, ints, 5), -1, 3, -1, 4, 0);
-    INTS(ior_sez(b, lengths, 3, ints, 5), 0, 3, 0, 4, 4);
-    INTS(xor_sez(b, lengths, 3, ints, 5), 0, 3, 0, 4, 0);
-    INTS(add_sez(I(2147483647, 1, 1), I(3), 1, ints, 3), 0, 2147483647, INT32_MIN);
-    INTS(add_rez(a, 5, lengths, 3, ints), 4, 0, 10);
-    INTS(mul_rez(a, 5, lengths, 3, ints), 3, 1, 20);
-    INTS(min_rez(a, 5, lengths, 3, ints), 1, 2147483647, 1);
-    INTS(max_rez(a, 5, lengths, 3, ints), 3, INT32_MIN, 5);
-    INTS(and_rez(a, 5, lengths, 3, ints), 1, -1, 0);
-    INTS(ior_rez(a, 5, lengths, 3, ints), 3, 0, 5);
-    INTS(xor_rez(a, 5, lengths, 3, ints), 2, 0, 0);
-    BOOLS(and_seb(f, lengths, 3, bools, 5), true, true, true, true, false);
-    BOOLS(ior_seb(g, lengths, 3, bools, 5), false, true, false, true, true);
-    BOOLS(xor_seb(g, lengths, 3, bools, 5), false, true, false, true, false);
-    BOOLS(and_reb(f, 5, lengths, 3, bools), false, true, false);
-    BOOLS(ior_reb(f, 5, lengths, 3, bools), true, false, true);
-    BOOLS(xor_reb(f, 5, lengths, 3, bools), true, false, false);
-    FAULT(add_sez(a, lengths, 2, ints, 5), CVL_LENGTH_MISMATCH, -1);
-    FAULT(add_rez(a, 4, lengths, 3, ints), CVL_LENGTH_MISMATCH, -1);
-    FAULT(and_seb(f, lengths, 3, bools, 4), CVL_LENGTH_MISMATCH, -1);
-    FAULT(and_reb(f, 0, lengths, 3, bools), CVL_LENGTH_MISMATCH, -1);
+    INTS(add_sez(a, S(lengths, 3), ints, 5), 0, 3, 0, 4, 5);
+    INTS(mul_sez(a, S(lengths, 3), ints, 5), 1, 3, 1, 4, 4);
+    INTS(min_sez(a, S(lengths, 3), ints, 5), 2147483647, 3, 2147483647, 4, 1);
+    INTS(max_sez(a, S(lengths, 3), ints, 5), INT32_MIN, 3, INT32_MIN, 4, 4);
+    INTS(and_sez(a, S(lengths, 3), ints, 5), -1, 3, -1, 4, 0);
+    INTS(ior_sez(b, S(lengths, 3), ints, 5), 0, 3, 0, 4, 4);
+    INTS(xor_sez(b, S(lengths, 3), ints, 5), 0, 3, 0, 4, 0);
+    INTS(add_sez(I(2147483647, 1, 1), S(I(3), 1), ints, 3), 0, 2147483647, INT32_MIN);
+    INTS(add_rez(a, 5, S(lengths, 3), ints), 4, 0, 10);
+    INTS(mul_rez(a, 5, S(lengths, 3), ints), 3, 1, 20);
+    INTS(min_rez(a, 5, S(lengths, 3), ints), 1, 2147483647, 1);
+    INTS(max_rez(a, 5, S(lengths, 3), ints), 3, INT32_MIN, 5);
+    INTS(and_rez(a, 5, S(lengths, 3), ints), 1, -1, 0);
+    INTS(ior_rez(a, 5, S(lengths, 3), ints), 3, 0, 5);
+    INTS(xor_rez(a, 5, S(lengths, 3), ints), 2, 0, 0);
+    BOOLS(and_seb(f, S(lengths, 3), bools, 5), true, true, true, true, false);
+    BOOLS(ior_seb(g, S(lengths, 3), bools, 5), false, true, false, true, true);
+    BOOLS(xor_seb(g, S(lengths, 3), bools, 5), false, true, false, true, false);
+    BOOLS(and_reb(f, 5, S(lengths, 3), bools), false, true, false);
+    BOOLS(ior_reb(f, 5, S(lengths, 3), bools), true, false, true);
+    BOOLS(xor_reb(f, 5, S(lengths, 3), bools), true, false, false);
+    FAULT(add_sez(a, S(lengths, 2), ints, 5), CVL_LENGTH_MISMATCH, -1);
+    FAULT(add_rez(a, 4, S(lengths, 3), ints), CVL_LENGTH_MISMATCH, -1);
+    FAULT(and_seb(f, S(lengths, 3), bools, 4), CVL_LENGTH_MISMATCH, -1);
+    FAULT(and_reb(f, 0, S(lengths, 3), bools), CVL_LENGTH_MISMATCH, -1);
 }
 
 static void segmented_scan_faults(void) {
     const int32_t *a = I(3, 1, 4, 1, 5), *lengths = I(2, 0, 3), *below = I(5, -1, -2), *above = I(CVL_MOST_ELEMENTS, 1);
     const bool *f = B(true, false, true, false, true);
     const size_t many = CVL_MOST_ELEMENTS + 1;
-    FAULT(cvl_seg_int_scan(CVL_SUB, a, 5, below, 3, ints, 5), CVL_UNKNOWN_CALL, -1);
-    FAULT(cvl_seg_int_scan(CVL_ADD, a, 5, too_many_ints, many, ints, 5), CVL_TOO_LONG, -1);
-    FAULT(cvl_seg_int_scan(CVL_ADD, a, 5, below, 3, ints, 4), CVL_NEGATIVE_LENGTH, 1);
-    FAULT(cvl_seg_int_scan(CVL_ADD, a, 5, above, 2, ints, 5), CVL_TOO_LONG, -1);
-    FAULT(cvl_seg_int_scan(CVL_ADD, too_many_ints, many, lengths, 3, ints, 5), CVL_LENGTH_MISMATCH, -1);
-    FAULT(cvl_seg_int_scan(CVL_ADD, a, 5, lengths, 3, ints, 4), CVL_LENGTH_MISMATCH, -1);
-    FAULT(cvl_seg_int_scan(CVL_ADD, a, 5, lengths, 3, ints, 6), CVL_LENGTH_MISMATCH, -1);
-    FAULT(cvl_seg_int_reduce(CVL_RSH, a, 5, below, 3, ints, 3), CVL_UNKNOWN_CALL, -1);
-    FAULT(cvl_seg_int_reduce(CVL_ADD, a, 5, too_many_ints, many, ints, 3), CVL_TOO_LONG, -1);
-    FAULT(cvl_seg_int_reduce(CVL_ADD, a, 5, below, 3, ints, 3), CVL_NEGATIVE_LENGTH, 1);
-    FAULT(cvl_seg_int_reduce(CVL_ADD, a, 5, above, 2, ints, 2), CVL_TOO_LONG, -1);
-    FAULT(cvl_seg_int_reduce(CVL_ADD, a, 5, lengths, 3, ints, 2), CVL_LENGTH_MISMATCH, -1);
-    FAULT(cvl_seg_int_reduce(CVL_ADD, a, 5, lengths, 3, ints, 5), CVL_LENGTH_MISMATCH, -1);
-    FAULT(cvl_seg_bool_scan(CVL_MAX, f, 5, below, 3, bools, 5), CVL_UNKNOWN_CALL, -1);
-    FAULT(cvl_seg_bool_scan(CVL_AND, f, 5, too_many_ints, many, bools, 5), CVL_TOO_LONG, -1);
-    FAULT(cvl_seg_bool_scan(CVL_AND, f, 5, below, 3, bools, 5), CVL_NEGATIVE_LENGTH, 1);
-    FAULT(cvl_seg_bool_scan(CVL_AND, f, 5, above, 2, bools, 5), CVL_TOO_LONG, -1);
-    FAULT(cvl_seg_bool_scan(CVL_AND, f, 5, lengths, 3, bools, 4), CVL_LENGTH_MISMATCH, -1);
-    FAULT(cvl_seg_bool_scan(CVL_AND, f, 5, lengths, 3, bools, 6), CVL_LENGTH_MISMATCH, -1);
-    FAULT(cvl_seg_bool_reduce(CVL_SUB, f, 5, below, 3, bools, 3), CVL_UNKNOWN_CALL, -1);
-    FAULT(cvl_seg_bool_reduce(CVL_AND, f, 5, too_many_ints, many, bools, 3), CVL_TOO_LONG, -1);
-    FAULT(cvl_seg_bool_reduce(CVL_AND, f, 5, below, 3, bools, 3), CVL_NEGATIVE_LENGTH, 1);
-    FAULT(cvl_seg_bool_reduce(CVL_AND, f, 5, above, 2, bools, 2), CVL_TOO_LONG, -1);
-    FAULT(cvl_seg_bool_reduce(CVL_AND, f, 5, lengths, 3, bools, 2), CVL_LENGTH_MISMATCH, -1);
-    FAULT(cvl_seg_bool_reduce(CVL_AND, f, 5, lengths, 3, bools, 4), CVL_LENGTH_MISMATCH, -1);
+    FAULT(cvl_seg_int_scan(CVL_SUB, a, 5, S(below, 3), ints, 5), CVL_UNKNOWN_CALL, -1);
+    FAULT(cvl_seg_int_scan(CVL_ADD, a, 5, S(too_many_ints, many), ints, 5), CVL_TOO_LONG, -1);
+    FAULT(cvl_seg_int_scan(CVL_ADD, a, 5, S(below, 3), ints, 4), CVL_NEGATIVE_LENGTH, 1);
+    FAULT(cvl_seg_int_scan(CVL_ADD, a, 5, S(above, 2), ints, 5), CVL_TOO_LONG, -1);
+    FAULT(cvl_seg_int_scan(CVL_ADD, too_many_ints, many, S(lengths, 3), ints, 5), CVL_LENGTH_MISMATCH, -1);
+    FAULT(cvl_seg_int_scan(CVL_ADD, a, 5, S(lengths, 3), ints, 4), CVL_LENGTH_MISMATCH, -1);
+    FAULT(cvl_seg_int_scan(CVL_ADD, a, 5, S(lengths, 3), ints, 6), CVL_LENGTH_MISMATCH, -1);
+    FAULT(cvl_seg_int_reduce(CVL_RSH, a, 5, S(below, 3), ints, 3), CVL_UNKNOWN_CALL, -1);
+    FAULT(cvl_seg_int_reduce(CVL_ADD, a, 5, S(too_many_ints, many), ints, 3), CVL_TOO_LONG, -1);
+    FAULT(cvl_seg_int_reduce(CVL_ADD, a, 5, S(below, 3), ints, 3), CVL_NEGATIVE_LENGTH, 1);
+    FAULT(cvl_seg_int_reduce(CVL_ADD, a, 5, S(above, 2), ints, 2), CVL_TOO_LONG, -1);
+    FAULT(cvl_seg_int_reduce(CVL_ADD, a, 5, S(lengths, 3), ints, 2), CVL_LENGTH_MISMATCH, -1);
+    FAULT(cvl_seg_int_reduce(CVL_ADD, a, 5, S(lengths, 3), ints, 5), CVL_LENGTH_MISMATCH, -1);
+    FAULT(cvl_seg_bool_scan(CVL_MAX, f, 5, S(below, 3), bools, 5), CVL_UNKNOWN_CALL, -1);
+    FAULT(cvl_seg_bool_scan(CVL_AND, f, 5, S(too_many_ints, many), bools, 5), CVL_TOO_LONG, -1);
+    FAULT(cvl_seg_bool_scan(CVL_AND, f, 5, S(below, 3), bools, 5), CVL_NEGATIVE_LENGTH, 1);
+    FAULT(cvl_seg_bool_scan(CVL_AND, f, 5, S(above, 2), bools, 5), CVL_TOO_LONG, -1);
+    FAULT(cvl_seg_bool_scan(CVL_AND, f, 5, S(lengths, 3), bools, 4), CVL_LENGTH_MISMATCH, -1);
+    FAULT(cvl_seg_bool_scan(CVL_AND, f, 5, S(lengths, 3), bools, 6), CVL_LENGTH_MISMATCH, -1);
+    FAULT(cvl_seg_bool_reduce(CVL_SUB, f, 5, S(below, 3), bools, 3), CVL_UNKNOWN_CALL, -1);
+    FAULT(cvl_seg_bool_reduce(CVL_AND, f, 5, S(too_many_ints, many), bools, 3), CVL_TOO_LONG, -1);
+    FAULT(cvl_seg_bool_reduce(CVL_AND, f, 5, S(below, 3), bools, 3), CVL_NEGATIVE_LENGTH, 1);
+    FAULT(cvl_seg_bool_reduce(CVL_AND, f, 5, S(above, 2), bools, 2), CVL_TOO_LONG, -1);
+    FAULT(cvl_seg_bool_reduce(CVL_AND, f, 5, S(lengths, 3), bools, 2), CVL_LENGTH_MISMATCH, -1);
+    FAULT(cvl_seg_bool_reduce(CVL_AND, f, 5, S(lengths, 3), bools, 4), CVL_LENGTH_MISMATCH, -1);
 }
 
 static void packs(void) {
@@ -584,18 +586,18 @@ static void packs(void) {
     COUNTED_INTS(pck_luz(I(INT32_MIN), B(true), 1, ints, 1, &total), INT32_MIN);
     COUNTED_BOOLS(pck_lub(flags, flags, 5, bools, 3, &total), true, true, true);
     COUNTED_BOOLS(pck_lub(B(true, false, true), B(false, true, true), 3, bools, ROOM, &total), false, true);
-    COUNTED_INTS(pck_lez(values, flags, 5, lengths, 3, ints, 3, &total), 2, 3, 5);
-    COUNTED_INTS(pck_lez(values, flags, 5, lengths, 3, ints, 4, &total), 2, 3, 5);
-    COUNTED_BOOLS(pck_leb(B(true, false, true), B(false, true, true), 3, I(1, 2), 2, bools, 2, &total), false, true);
-    COUNTED_BOOLS(pck_leb(flags, flags, 5, lengths, 3, bools, ROOM, &total), true, true, true);
+    COUNTED_INTS(pck_lez(values, flags, 5, S(lengths, 3), ints, 3, &total), 2, 3, 5);
+    COUNTED_INTS(pck_lez(values, flags, 5, S(lengths, 3), ints, 4, &total), 2, 3, 5);
+    COUNTED_BOOLS(pck_leb(B(true, false, true), B(false, true, true), 3, S(I(1, 2), 2), bools, 2, &total), false, true);
+    COUNTED_BOOLS(pck_leb(flags, flags, 5, S(lengths, 3), bools, ROOM, &total), true, true, true);
     reset();
     counts("pck_luz of no true flag", pck_luz(values, none, 3, ints, 0, &total), CVL_DONE, 0);
     leaves("pck_luz of no true flag", 0, 0);
     reset();
-    counts("pck_leb of no segment", pck_leb(none, none, 0, lengths, 0, bools, 1, &total), CVL_DONE, 0);
+    counts("pck_leb of no segment", pck_leb(none, none, 0, S(lengths, 0), bools, 1, &total), CVL_DONE, 0);
     leaves("pck_leb of no segment", 0, 0);
-    INTS(pck_fov(flags, 5, lengths, 3, ints), 1, 0, 2);
-    INTS(cnt_leb(B(false, false, true, false, true), 5, lengths, 3, ints), 0, 0, 2);
+    INTS(pck_fov(flags, 5, S(lengths, 3), ints), 1, 0, 2);
+    INTS(cnt_leb(B(false, false, true, false, true), 5, S(lengths, 3), ints), 0, 0, 2);
 }
 
 static void pack_faults(void) {
@@ -605,31 +607,31 @@ static void pack_faults(void) {
     TOO_SHORT(pck_luz(values, flags, 5, ints, 2, &total), 3);
     TOO_SHORT(pck_luz(values, flags, 5, ints, 0, &total), 3);
     TOO_SHORT(pck_lub(flags, flags, 5, bools, 2, &total), 3);
-    TOO_SHORT(pck_lez(values, flags, 5, lengths, 3, ints, 0, &total), 3);
-    TOO_SHORT(pck_leb(flags, flags, 5, lengths, 3, bools, 2, &total), 3);
+    TOO_SHORT(pck_lez(values, flags, 5, S(lengths, 3), ints, 0, &total), 3);
+    TOO_SHORT(pck_leb(flags, flags, 5, S(lengths, 3), bools, 2, &total), 3);
     FAULT(cvl_pack_int(values, 5, flags, 4, ints, 0, &total), CVL_LENGTH_MISMATCH, -1);
     FAULT(cvl_pack_int(values, 4, flags, 5, ints, ROOM, &total), CVL_LENGTH_MISMATCH, -1);
     FAULT(cvl_pack_int(values, 5, too_many_bools, many, ints, ROOM, &total), CVL_TOO_LONG, -1);
     FAULT(cvl_pack_int(too_many_ints, many, flags, 5, ints, ROOM, &total), CVL_LENGTH_MISMATCH, -1);
     FAULT(cvl_pack_bool(flags, 5, flags, 4, bools, ROOM, &total), CVL_LENGTH_MISMATCH, -1);
     FAULT(cvl_pack_bool(too_many_bools, many, too_many_bools, many, bools, ROOM, &total), CVL_TOO_LONG, -1);
-    FAULT(cvl_seg_pack_int(values, 4, flags, 5, lengths, 3, ints, ROOM, &total), CVL_LENGTH_MISMATCH, -1);
-    FAULT(cvl_seg_pack_int(values, 5, flags, 4, lengths, 3, ints, ROOM, &total), CVL_LENGTH_MISMATCH, -1);
-    FAULT(cvl_seg_pack_int(values, 4, flags, 4, below, 3, ints, ROOM, &total), CVL_NEGATIVE_LENGTH, 1);
-    FAULT(cvl_seg_pack_int(values, 5, flags, 5, above, 2, ints, ROOM, &total), CVL_TOO_LONG, -1);
-    FAULT(cvl_seg_pack_int(values, 5, flags, 5, too_many_ints, many, ints, ROOM, &total), CVL_TOO_LONG, -1);
-    FAULT(cvl_seg_pack_int(values, 5, flags, 5, lengths, 2, ints, ROOM, &total), CVL_LENGTH_MISMATCH, -1);
-    FAULT(cvl_seg_pack_bool(flags, 5, flags, 5, lengths, 2, bools, ROOM, &total), CVL_LENGTH_MISMATCH, -1);
-    FAULT(cvl_seg_pack_bool(flags, 5, flags, 5, below, 3, bools, ROOM, &total), CVL_NEGATIVE_LENGTH, 1);
-    FAULT(cvl_packed_lengths(flags, 5, lengths, 3, ints, 2), CVL_LENGTH_MISMATCH, -1);
-    FAULT(cvl_packed_lengths(flags, 5, lengths, 3, ints, 4), CVL_LENGTH_MISMATCH, -1);
-    FAULT(cvl_packed_lengths(flags, 4, lengths, 3, ints, 3), CVL_LENGTH_MISMATCH, -1);
-    FAULT(cvl_packed_lengths(flags, 5, below, 3, ints, 3), CVL_NEGATIVE_LENGTH, 1);
-    FAULT(cvl_packed_lengths(flags, 5, above, 2, ints, 2), CVL_TOO_LONG, -1);
-    FAULT(cvl_seg_count(flags, 5, lengths, 3, ints, 5), CVL_LENGTH_MISMATCH, -1);
-    FAULT(cvl_seg_count(flags, 5, lengths, 2, ints, 2), CVL_LENGTH_MISMATCH, -1);
-    FAULT(cvl_seg_count(flags, 5, below, 3, ints, 3), CVL_NEGATIVE_LENGTH, 1);
-    FAULT(cvl_seg_count(flags, 5, too_many_ints, many, ints, 3), CVL_TOO_LONG, -1);
+    FAULT(cvl_seg_pack_int(values, 4, flags, 5, S(lengths, 3), ints, ROOM, &total), CVL_LENGTH_MISMATCH, -1);
+    FAULT(cvl_seg_pack_int(values, 5, flags, 4, S(lengths, 3), ints, ROOM, &total), CVL_LENGTH_MISMATCH, -1);
+    FAULT(cvl_seg_pack_int(values, 4, flags, 4, S(below, 3), ints, ROOM, &total), CVL_NEGATIVE_LENGTH, 1);
+    FAULT(cvl_seg_pack_int(values, 5, flags, 5, S(above, 2), ints, ROOM, &total), CVL_TOO_LONG, -1);
+    FAULT(cvl_seg_pack_int(values, 5, flags, 5, S(too_many_ints, many), ints, ROOM, &total), CVL_TOO_LONG, -1);
+    FAULT(cvl_seg_pack_int(values, 5, flags, 5, S(lengths, 2), ints, ROOM, &total), CVL_LENGTH_MISMATCH, -1);
+    FAULT(cvl_seg_pack_bool(flags, 5, flags, 5, S(lengths, 2), bools, ROOM, &total), CVL_LENGTH_MISMATCH, -1);
+    FAULT(cvl_seg_pack_bool(flags, 5, flags, 5, S(below, 3), bools, ROOM, &total), CVL_NEGATIVE_LENGTH, 1);
+    FAULT(cvl_seg_packed_lengths(flags, 5, S(lengths, 3), ints, 2), CVL_LENGTH_MISMATCH, -1);
+    FAULT(cvl_seg_packed_lengths(flags, 5, S(lengths, 3), ints, 4), CVL_LENGTH_MISMATCH, -1);
+    FAULT(cvl_seg_packed_lengths(flags, 4, S(lengths, 3), ints, 3), CVL_LENGTH_MISMATCH, -1);
+    FAULT(cvl_seg_packed_lengths(flags, 5, S(below, 3), ints, 3), CVL_NEGATIVE_LENGTH, 1);
+    FAULT(cvl_seg_packed_lengths(flags, 5, S(above, 2), ints, 2), CVL_TOO_LONG, -1);
+    FAULT(cvl_seg_count(flags, 5, S(lengths, 3), ints, 5), CVL_LENGTH_MISMATCH, -1);
+    FAULT(cvl_seg_count(flags, 5, S(lengths, 2), ints, 2), CVL_LENGTH_MISMATCH, -1);
+    FAULT(cvl_seg_count(flags, 5, S(below, 3), ints, 3), CVL_NEGATIVE_LENGTH, 1);
+    FAULT(cvl_seg_count(flags, 5, S(too_many_ints, many), ints, 3), CVL_TOO_LONG, -1);
 }
 
 static void permutes(void) {
@@ -694,66 +696,66 @@ static void permutes_of_segments(void) {
     const int32_t *five = I(1, 2, 3, 4, 5), *lengths = I(2, 0, 3), *turn = I(1, 0, 2, 0, 1), *some = I(9, 0, 1, 9, 0);
     const int32_t *to = I(2, 0, 0, 1, 2), *defaults = I(0, 0, 0, 9, 0, 0, 0), *widths = I(3, 1, 3), *from = I(1, 1, 1, 2);
     const bool *flags = B(false, true, true, false, true);
-    INTS(smp_pez(five, turn, lengths, 3, ints, 5), 2, 1, 4, 5, 3);
-    BOOLS(smp_peb(B(true, false, false, false, true), turn, lengths, 3, bools, 5), false, true, false, true, false);
-    INTS(sel_pez(five, some, flags, 5, lengths, 3, ints, 3), 2, 5, 3);
-    BOOLS(sel_peb(B(true, false, true, true, false), some, flags, 5, lengths, 3, bools, 3), false, false, true);
-    INTS(def_pez(five, to, 5, defaults, lengths, widths, 3, ints, 7), 2, 0, 1, 9, 3, 4, 5);
-    BOOLS(def_peb(B(true, false), I(1, 0), 2, B(false, false, true, true), I(1, 1), I(2, 2), 2, bools, 4), false, true, false,
+    INTS(smp_pez(five, turn, S(lengths, 3), ints, 5), 2, 1, 4, 5, 3);
+    BOOLS(smp_peb(B(true, false, false, false, true), turn, S(lengths, 3), bools, 5), false, true, false, true, false);
+    INTS(sel_pez(five, some, flags, 5, S(lengths, 3), ints, 3), 2, 5, 3);
+    BOOLS(sel_peb(B(true, false, true, true, false), some, flags, 5, S(lengths, 3), bools, 3), false, false, true);
+    INTS(def_pez(five, to, 5, defaults, S(lengths, 3), S(widths, 3), ints, 7), 2, 0, 1, 9, 3, 4, 5);
+    BOOLS(def_peb(B(true, false), I(1, 0), 2, B(false, false, true, true), S(I(1, 1), 2), S(I(2, 2), 2), bools, 4), false, true, false,
           true);
-    INTS(bck_pez(five, 5, from, lengths, I(3, 0, 1), 3, ints, 4), 2, 2, 2, 5);
-    BOOLS(bck_peb(B(true, false, false, false, true), 5, from, lengths, I(3, 0, 1), 3, bools, 4), false, false, false, true);
-    FAULT(smp_pez(five, I(1, 2, 2, 0, 1), lengths, 3, ints, 5), CVL_INDEX_OUT_OF_RANGE, 1);
-    FAULT(smp_pez(five, I(1, 0, 2, 2, 3), lengths, 3, ints, 5), CVL_INDEX_REPEATED, 3);
-    FAULT(smp_peb(flags, I(0, 0, 2, 2, 3), lengths, 3, bools, 5), CVL_INDEX_REPEATED, 1);
-    FAULT(smp_peb(flags, I(1, 0, -1, 0, 0), lengths, 3, bools, 5), CVL_INDEX_OUT_OF_RANGE, 2);
-    FAULT(sel_pez(five, I(9, 1, 1, 9, 0), flags, 5, lengths, 3, ints, 3), CVL_INDEX_OUT_OF_RANGE, 1);
-    FAULT(sel_pez(five, I(9, 0, 1, 9, 1), flags, 5, lengths, 3, ints, 3), CVL_INDEX_REPEATED, 4);
-    FAULT(sel_peb(flags, I(9, 0, 1, 9, 2), flags, 5, lengths, 3, bools, 3), CVL_INDEX_OUT_OF_RANGE, 4);
-    FAULT(sel_peb(flags, I(9, 0, 0, 9, 0), flags, 5, lengths, 3, bools, 3), CVL_INDEX_REPEATED, 4);
-    FAULT(def_pez(five, I(2, 3, 0, 1, 2), 5, defaults, lengths, widths, 3, ints, 7), CVL_INDEX_OUT_OF_RANGE, 1);
-    FAULT(def_pez(five, I(2, 0, 0, 1, 0), 5, defaults, lengths, widths, 3, ints, 7), CVL_INDEX_REPEATED, 4);
-    FAULT(def_peb(flags, I(0, 0), 2, flags, I(1, 1), I(1, 0), 2, bools, 1), CVL_INDEX_OUT_OF_RANGE, 1);
-    FAULT(def_peb(flags, I(0, 0), 2, flags, I(2, 0), I(1, 0), 2, bools, 1), CVL_INDEX_REPEATED, 1);
-    FAULT(bck_pez(five, 5, I(1, 2, 0, 0), lengths, I(3, 0, 1), 3, ints, 4), CVL_INDEX_OUT_OF_RANGE, 1);
-    FAULT(bck_peb(flags, 5, I(1, 0, 0, 0), lengths, I(3, 1, 0), 3, bools, 4), CVL_INDEX_OUT_OF_RANGE, 3);
+    INTS(bck_pez(five, 5, from, S(lengths, 3), S(I(3, 0, 1), 3), ints, 4), 2, 2, 2, 5);
+    BOOLS(bck_peb(B(true, false, false, false, true), 5, from, S(lengths, 3), S(I(3, 0, 1), 3), bools, 4), false, false, false, true);
+    FAULT(smp_pez(five, I(1, 2, 2, 0, 1), S(lengths, 3), ints, 5), CVL_INDEX_OUT_OF_RANGE, 1);
+    FAULT(smp_pez(five, I(1, 0, 2, 2, 3), S(lengths, 3), ints, 5), CVL_INDEX_REPEATED, 3);
+    FAULT(smp_peb(flags, I(0, 0, 2, 2, 3), S(lengths, 3), bools, 5), CVL_INDEX_REPEATED, 1);
+    FAULT(smp_peb(flags, I(1, 0, -1, 0, 0), S(lengths, 3), bools, 5), CVL_INDEX_OUT_OF_RANGE, 2);
+    FAULT(sel_pez(five, I(9, 1, 1, 9, 0), flags, 5, S(lengths, 3), ints, 3), CVL_INDEX_OUT_OF_RANGE, 1);
+    FAULT(sel_pez(five, I(9, 0, 1, 9, 1), flags, 5, S(lengths, 3), ints, 3), CVL_INDEX_REPEATED, 4);
+    FAULT(sel_peb(flags, I(9, 0, 1, 9, 2), flags, 5, S(lengths, 3), bools, 3), CVL_INDEX_OUT_OF_RANGE, 4);
+    FAULT(sel_peb(flags, I(9, 0, 0, 9, 0), flags, 5, S(lengths, 3), bools, 3), CVL_INDEX_REPEATED, 4);
+    FAULT(def_pez(five, I(2, 3, 0, 1, 2), 5, defaults, S(lengths, 3), S(widths, 3), ints, 7), CVL_INDEX_OUT_OF_RANGE, 1);
+    FAULT(def_pez(five, I(2, 0, 0, 1, 0), 5, defaults, S(lengths, 3), S(widths, 3), ints, 7), CVL_INDEX_REPEATED, 4);
+    FAULT(def_peb(flags, I(0, 0), 2, flags, S(I(1, 1), 2), S(I(1, 0), 2), bools, 1), CVL_INDEX_OUT_OF_RANGE, 1);
+    FAULT(def_peb(flags, I(0, 0), 2, flags, S(I(2, 0), 2), S(I(1, 0), 2), bools, 1), CVL_INDEX_REPEATED, 1);
+    FAULT(bck_pez(five, 5, I(1, 2, 0, 0), S(lengths, 3), S(I(3, 0, 1), 3), ints, 4), CVL_INDEX_OUT_OF_RANGE, 1);
+    FAULT(bck_peb(flags, 5, I(1, 0, 0, 0), S(lengths, 3), S(I(3, 1, 0), 3), bools, 4), CVL_INDEX_OUT_OF_RANGE, 3);
 }
 
 static void permutes_of_wrong_segments(void) {
     const int32_t *five = I(1, 2, 3, 4, 5), *lengths = I(2, 0, 3), *turn = I(1, 0, 2, 0, 1), *negative = I(2, 4, -1);
     const bool *flags = B(false, true, true, false, true);
     const size_t many = CVL_MOST_ELEMENTS + 1;
-    FAULT(smp_pez(five, turn, negative, 3, ints, 5), CVL_NEGATIVE_LENGTH, 2);
-    FAULT(smp_pez(five, turn, lengths, 2, ints, 5), CVL_LENGTH_MISMATCH, -1);
-    FAULT(smp_peb(flags, turn, I(2, 1, 3), 3, bools, 5), CVL_LENGTH_MISMATCH, -1);
-    FAULT(cvl_seg_permute_int(five, 5, turn, 4, lengths, 3, ints, 5), CVL_LENGTH_MISMATCH, -1);
-    FAULT(cvl_seg_permute_int(five, 5, turn, 5, lengths, 3, ints, 4), CVL_LENGTH_MISMATCH, -1);
-    FAULT(cvl_seg_permute_bool(flags, 5, turn, 5, lengths, 3, bools, 6), CVL_LENGTH_MISMATCH, -1);
-    FAULT(cvl_seg_permute_int(five, 5, too_many_ints, many, lengths, 3, ints, 5), CVL_TOO_LONG, -1);
-    FAULT(cvl_seg_permute_bool(flags, 5, too_many_ints, many, negative, 3, bools, 5), CVL_NEGATIVE_LENGTH, 2);
-    FAULT(cvl_seg_permute_bool(flags, 5, turn, 5, too_many_ints, many, bools, 5), CVL_TOO_LONG, -1);
-    FAULT(sel_pez(five, turn, flags, 5, negative, 3, ints, 3), CVL_NEGATIVE_LENGTH, 2);
-    FAULT(sel_peb(flags, turn, flags, 5, lengths, 2, bools, 3), CVL_LENGTH_MISMATCH, -1);
-    FAULT(cvl_seg_select_permute_int(five, 5, turn, 5, flags, 4, lengths, 3, ints, 3), CVL_LENGTH_MISMATCH, -1);
-    FAULT(cvl_seg_select_permute_int(five, 5, I(9, 0, 1, 9, 0), 5, flags, 5, lengths, 3, ints, 5), CVL_LENGTH_MISMATCH, -1);
-    FAULT(cvl_seg_select_permute_bool(flags, 5, I(9, 0, 1, 9, 0), 5, flags, 5, lengths, 3, bools, 2), CVL_LENGTH_MISMATCH, -1);
-    FAULT(cvl_seg_select_permute_int(five, 5, too_many_ints, many, flags, 5, lengths, 3, ints, 3), CVL_TOO_LONG, -1);
-    FAULT(cvl_seg_select_permute_bool(flags, 5, too_many_ints, many, flags, 5, lengths, 3, bools, 3), CVL_TOO_LONG, -1);
-    FAULT(def_pez(five, turn, 5, five, lengths, negative, 3, ints, 5), CVL_NEGATIVE_LENGTH, 2);
-    FAULT(def_peb(flags, turn, 5, flags, negative, I(-1, 0, 0), 3, bools, 5), CVL_NEGATIVE_LENGTH, 2);
-    FAULT(cvl_seg_default_permute_int(five, 5, turn, 5, five, 5, lengths, 3, I(2, 3), 2, ints, 5), CVL_LENGTH_MISMATCH, -1);
-    FAULT(cvl_seg_default_permute_int(five, 5, turn, 5, five, 4, lengths, 3, lengths, 3, ints, 4), CVL_LENGTH_MISMATCH, -1);
-    FAULT(cvl_seg_default_permute_bool(flags, 5, turn, 5, flags, 5, lengths, 3, lengths, 3, bools, 4), CVL_LENGTH_MISMATCH, -1);
-    FAULT(cvl_seg_default_permute_int(five, 5, too_many_ints, many, five, 5, lengths, 3, lengths, 3, ints, 5), CVL_TOO_LONG, -1);
-    FAULT(cvl_seg_default_permute_bool(flags, 5, too_many_ints, many, flags, 5, lengths, 3, lengths, 3, bools, 5), CVL_TOO_LONG,
+    FAULT(smp_pez(five, turn, S(negative, 3), ints, 5), CVL_NEGATIVE_LENGTH, 2);
+    FAULT(smp_pez(five, turn, S(lengths, 2), ints, 5), CVL_LENGTH_MISMATCH, -1);
+    FAULT(smp_peb(flags, turn, S(I(2, 1, 3), 3), bools, 5), CVL_LENGTH_MISMATCH, -1);
+    FAULT(cvl_seg_permute_int(five, 5, turn, 4, S(lengths, 3), ints, 5), CVL_LENGTH_MISMATCH, -1);
+    FAULT(cvl_seg_permute_int(five, 5, turn, 5, S(lengths, 3), ints, 4), CVL_LENGTH_MISMATCH, -1);
+    FAULT(cvl_seg_permute_bool(flags, 5, turn, 5, S(lengths, 3), bools, 6), CVL_LENGTH_MISMATCH, -1);
+    FAULT(cvl_seg_permute_int(five, 5, too_many_ints, many, S(lengths, 3), ints, 5), CVL_TOO_LONG, -1);
+    FAULT(cvl_seg_permute_bool(flags, 5, too_many_ints, many, S(negative, 3), bools, 5), CVL_NEGATIVE_LENGTH, 2);
+    FAULT(cvl_seg_permute_bool(flags, 5, turn, 5, S(too_many_ints, many), bools, 5), CVL_TOO_LONG, -1);
+    FAULT(sel_pez(five, turn, flags, 5, S(negative, 3), ints, 3), CVL_NEGATIVE_LENGTH, 2);
+    FAULT(sel_peb(flags, turn, flags, 5, S(lengths, 2), bools, 3), CVL_LENGTH_MISMATCH, -1);
+    FAULT(cvl_seg_select_permute_int(five, 5, turn, 5, flags, 4, S(lengths, 3), ints, 3), CVL_LENGTH_MISMATCH, -1);
+    FAULT(cvl_seg_select_permute_int(five, 5, I(9, 0, 1, 9, 0), 5, flags, 5, S(lengths, 3), ints, 5), CVL_LENGTH_MISMATCH, -1);
+    FAULT(cvl_seg_select_permute_bool(flags, 5, I(9, 0, 1, 9, 0), 5, flags, 5, S(lengths, 3), bools, 2), CVL_LENGTH_MISMATCH, -1);
+    FAULT(cvl_seg_select_permute_int(five, 5, too_many_ints, many, flags, 5, S(lengths, 3), ints, 3), CVL_TOO_LONG, -1);
+    FAULT(cvl_seg_select_permute_bool(flags, 5, too_many_ints, many, flags, 5, S(lengths, 3), bools, 3), CVL_TOO_LONG, -1);
+    FAULT(def_pez(five, turn, 5, five, S(lengths, 3), S(negative, 3), ints, 5), CVL_NEGATIVE_LENGTH, 2);
+    FAULT(def_peb(flags, turn, 5, flags, S(negative, 3), S(I(-1, 0, 0), 3), bools, 5), CVL_NEGATIVE_LENGTH, 2);
+    FAULT(cvl_seg_default_permute_int(five, 5, turn, 5, five, 5, S(lengths, 3), S(I(2, 3), 2), ints, 5), CVL_LENGTH_MISMATCH, -1);
+    FAULT(cvl_seg_default_permute_int(five, 5, turn, 5, five, 4, S(lengths, 3), S(lengths, 3), ints, 4), CVL_LENGTH_MISMATCH, -1);
+    FAULT(cvl_seg_default_permute_bool(flags, 5, turn, 5, flags, 5, S(lengths, 3), S(lengths, 3), bools, 4), CVL_LENGTH_MISMATCH, -1);
+    FAULT(cvl_seg_default_permute_int(five, 5, too_many_ints, many, five, 5, S(lengths, 3), S(lengths, 3), ints, 5), CVL_TOO_LONG, -1);
+    FAULT(cvl_seg_default_permute_bool(flags, 5, too_many_ints, many, flags, 5, S(lengths, 3), S(lengths, 3), bools, 5), CVL_TOO_LONG,
           -1);
-    FAULT(bck_pez(five, 5, turn, lengths, negative, 3, ints, 5), CVL_NEGATIVE_LENGTH, 2);
-    FAULT(bck_peb(flags, 5, turn, lengths, I(2, 1, 3), 3, bools, 5), CVL_LENGTH_MISMATCH, -1);
-    FAULT(cvl_seg_back_permute_int(five, 5, turn, 5, lengths, 3, I(2, 3), 2, ints, 5), CVL_LENGTH_MISMATCH, -1);
-    FAULT(cvl_seg_back_permute_int(five, 4, turn, 5, lengths, 3, lengths, 3, ints, 5), CVL_LENGTH_MISMATCH, -1);
-    FAULT(cvl_seg_back_permute_bool(flags, 5, turn, 5, lengths, 3, lengths, 3, bools, 6), CVL_LENGTH_MISMATCH, -1);
-    FAULT(cvl_seg_back_permute_int(five, 5, too_many_ints, many, lengths, 3, lengths, 3, ints, 5), CVL_TOO_LONG, -1);
-    FAULT(cvl_seg_back_permute_bool(flags, 5, too_many_ints, many, lengths, 3, lengths, 3, bools, 5), CVL_TOO_LONG, -1);
+    FAULT(bck_pez(five, 5, turn, S(lengths, 3), S(negative, 3), ints, 5), CVL_NEGATIVE_LENGTH, 2);
+    FAULT(bck_peb(flags, 5, turn, S(lengths, 3), S(I(2, 1, 3), 3), bools, 5), CVL_LENGTH_MISMATCH, -1);
+    FAULT(cvl_seg_back_permute_int(five, 5, turn, 5, S(lengths, 3), S(I(2, 3), 2), ints, 5), CVL_LENGTH_MISMATCH, -1);
+    FAULT(cvl_seg_back_permute_int(five, 4, turn, 5, S(lengths, 3), S(lengths, 3), ints, 5), CVL_LENGTH_MISMATCH, -1);
+    FAULT(cvl_seg_back_permute_bool(flags, 5, turn, 5, S(lengths, 3), S(lengths, 3), bools, 6), CVL_LENGTH_MISMATCH, -1);
+    FAULT(cvl_seg_back_permute_int(five, 5, too_many_ints, many, S(lengths, 3), S(lengths, 3), ints, 5), CVL_TOO_LONG, -1);
+    FAULT(cvl_seg_back_permute_bool(flags, 5, too_many_ints, many, S(lengths, 3), S(lengths, 3), bools, 5), CVL_TOO_LONG, -1);
 }
 
 /* The integers of a text. */
@@ -908,15 +910,18 @@ static void made_descriptors(void) {
     without_a_descriptor(&made);
     without_a_descriptor(NULL);
     FAULT(cvl_segments_free(&made), CVL_DONE, -1);
-    FAULT(cvl_segments_new(lengths, 3, &made), CVL_DONE, -1);
-    FAULT(cvl_segments_new(widths, 3, &wide), CVL_DONE, -1);
-    FAULT(cvl_segments_new(fronts, 2, &narrow[0]), CVL_DONE, -1);
-    FAULT(cvl_segments_new(backs, 2, &narrow[1]), CVL_DONE, -1);
+    FAULT(cvl_segments_free(NULL), CVL_DONE, -1);
+    FAULT(cvl_segments_new(S(lengths, 3), NULL), CVL_NO_DESCRIPTOR, -1);
+    FAULT(cvl_segments_new(S(I(1, -1), 2), NULL), CVL_NEGATIVE_LENGTH, 1);
+    FAULT(cvl_segments_new(S(lengths, 3), &made), CVL_DONE, -1);
+    FAULT(cvl_segments_new(S(widths, 3), &wide), CVL_DONE, -1);
+    FAULT(cvl_segments_new(S(fronts, 2), &narrow[0]), CVL_DONE, -1);
+    FAULT(cvl_segments_new(S(backs, 2), &narrow[1]), CVL_DONE, -1);
     copy = made;
     with_a_descriptor(&made, &wide, narrow);
     with_a_descriptor(&copy, &wide, narrow);
     refusing = 1;
-    FAULT(cvl_segments_new(lengths, 3, &made), CVL_DONE, -1);
+    FAULT(cvl_segments_new(S(lengths, 3), &made), CVL_DONE, -1);
     refusing = 0;
     /* lengths that are changed are those of the call, and wrong ones are told */
     lengths[1] = 1;
@@ -928,15 +933,15 @@ static void made_descriptors(void) {
     FAULT(cvl_segments_permute_int(a, 5, a, 5, &made, ints, 5), CVL_NEGATIVE_LENGTH, 1);
     lengths[1] = CVL_MOST_ELEMENTS;
     FAULT(cvl_segments_count(B(true, true, true, true, true), 5, &made, ints, 3), CVL_TOO_LONG, -1);
-    FAULT(cvl_segments_new(lengths, 3, &made), CVL_TOO_LONG, -1);
+    FAULT(cvl_segments_new(S(lengths, 3), &made), CVL_TOO_LONG, -1);
     without_a_descriptor(&made);
-    FAULT(cvl_segments_new(I(1, -1), 2, &made), CVL_NEGATIVE_LENGTH, 1);
-    FAULT(cvl_segments_new(too_many_ints, CVL_MOST_ELEMENTS + 1, &made), CVL_TOO_LONG, -1);
+    FAULT(cvl_segments_new(S(I(1, -1), 2), &made), CVL_NEGATIVE_LENGTH, 1);
+    FAULT(cvl_segments_new(S(too_many_ints, CVL_MOST_ELEMENTS + 1), &made), CVL_TOO_LONG, -1);
     without_one_of_two(&made, &wide);
     without_one_of_two(&wide, &made);
     without_one_of_two(&wide, NULL);
     without_one_of_two(NULL, &wide);
-    FAULT(cvl_segments_new(a, 0, &made), CVL_DONE, -1);
+    FAULT(cvl_segments_new(S(a, 0), &made), CVL_DONE, -1);
     reset();
     counts("no segments", cvl_segments_total(&made, &total), CVL_DONE, 0);
     FAULT(cvl_segments_free(&made), CVL_DONE, -1);
@@ -1005,20 +1010,20 @@ static void nested_texts(void) {
     memset(many_words, '[', sizeof many_words);
     FAULT(cvl_seg_read_ints(many_words, many + 1, ints, ROOM, &total, lists, ROOM, &list_count), CVL_TOO_LONG, -1);
     FAULT(cvl_seg_read_ints(many_words, many, ints, ROOM, &total, lists, ROOM, &list_count), CVL_BAD_INPUT, 2);
-    TEXT(cvl_seg_write_ints(a, 3, lengths, 3, bytes, TEXT_ROOM, &total), "[[] [5 1] [7]]");
-    TEXT(cvl_seg_write_ints(a, 3, lengths, 3, bytes, 14, &total), "[[] [5 1] [7]]");
-    TEXT(cvl_seg_write_ints(I(INT32_MIN), 1, I(1), 1, bytes, TEXT_ROOM, &total), "[[-2147483648]]");
-    TEXT(cvl_seg_write_ints(a, 0, lengths, 0, bytes, TEXT_ROOM, &total), "[]");
-    TEXT(cvl_seg_write_ints(a, 0, lengths, 0, bytes, 2, &total), "[]");
-    TEXT(cvl_seg_write_ints(a, 0, I(0, 0), 2, bytes, TEXT_ROOM, &total), "[[] []]");
-    TEXT(cvl_seg_write_bools(f, 2, I(1, 1), 2, bytes, TEXT_ROOM, &total), "[[T] [F]]");
-    TOO_SHORT(cvl_seg_write_ints(a, 3, lengths, 3, bytes, 13, &total), 14);
-    TOO_SHORT(cvl_seg_write_bools(f, 2, I(1, 1), 2, bytes, 0, &total), 9);
-    FAULT(cvl_seg_write_ints(a, 3, I(1, 1), 2, bytes, TEXT_ROOM, &total), CVL_LENGTH_MISMATCH, -1);
-    FAULT(cvl_seg_write_ints(a, 3, I(4, -1), 2, bytes, TEXT_ROOM, &total), CVL_NEGATIVE_LENGTH, 1);
-    FAULT(cvl_seg_write_ints(a, 3, too_many_ints, many, bytes, TEXT_ROOM, &total), CVL_TOO_LONG, -1);
-    FAULT(cvl_seg_write_bools(f, 2, I(2, -2), 2, bytes, TEXT_ROOM, &total), CVL_NEGATIVE_LENGTH, 1);
-    FAULT(cvl_seg_write_bools(too_many_bools, many, I(CVL_MOST_ELEMENTS, 1), 2, bytes, TEXT_ROOM, &total), CVL_TOO_LONG, -1);
+    TEXT(cvl_seg_write_ints(a, 3, S(lengths, 3), bytes, TEXT_ROOM, &total), "[[] [5 1] [7]]");
+    TEXT(cvl_seg_write_ints(a, 3, S(lengths, 3), bytes, 14, &total), "[[] [5 1] [7]]");
+    TEXT(cvl_seg_write_ints(I(INT32_MIN), 1, S(I(1), 1), bytes, TEXT_ROOM, &total), "[[-2147483648]]");
+    TEXT(cvl_seg_write_ints(a, 0, S(lengths, 0), bytes, TEXT_ROOM, &total), "[]");
+    TEXT(cvl_seg_write_ints(a, 0, S(lengths, 0), bytes, 2, &total), "[]");
+    TEXT(cvl_seg_write_ints(a, 0, S(I(0, 0), 2), bytes, TEXT_ROOM, &total), "[[] []]");
+    TEXT(cvl_seg_write_bools(f, 2, S(I(1, 1), 2), bytes, TEXT_ROOM, &total), "[[T] [F]]");
+    TOO_SHORT(cvl_seg_write_ints(a, 3, S(lengths, 3), bytes, 13, &total), 14);
+    TOO_SHORT(cvl_seg_write_bools(f, 2, S(I(1, 1), 2), bytes, 0, &total), 9);
+    FAULT(cvl_seg_write_ints(a, 3, S(I(1, 1), 2), bytes, TEXT_ROOM, &total), CVL_LENGTH_MISMATCH, -1);
+    FAULT(cvl_seg_write_ints(a, 3, S(I(4, -1), 2), bytes, TEXT_ROOM, &total), CVL_NEGATIVE_LENGTH, 1);
+    FAULT(cvl_seg_write_ints(a, 3, S(too_many_ints, many), bytes, TEXT_ROOM, &total), CVL_TOO_LONG, -1);
+    FAULT(cvl_seg_write_bools(f, 2, S(I(2, -2), 2), bytes, TEXT_ROOM, &total), CVL_NEGATIVE_LENGTH, 1);
+    FAULT(cvl_seg_write_bools(too_many_bools, many, S(I(CVL_MOST_ELEMENTS, 1), 2), bytes, TEXT_ROOM, &total), CVL_TOO_LONG, -1);
 }
 
 /*
@@ -1119,10 +1124,10 @@ static void long_permutes_of_segments(void) {
             from[start + d[s] - 1 - j] = start + j;
         }
     }
-    LONG_INTS(cvl_seg_permute_int(a, n, index, n, d, segments, int_room, n), n);
-    LONG_BOOLS(cvl_seg_permute_bool(f, n, index, n, d, segments, bool_room, n), n);
-    LONG_INTS(cvl_seg_back_permute_int(a, n, index, n, d, segments, d, segments, int_room, n), n);
-    LONG_BOOLS(cvl_seg_back_permute_bool(f, n, index, n, d, segments, d, segments, bool_room, n), n);
+    LONG_INTS(cvl_seg_permute_int(a, n, index, n, S(d, segments), int_room, n), n);
+    LONG_BOOLS(cvl_seg_permute_bool(f, n, index, n, S(d, segments), bool_room, n), n);
+    LONG_INTS(cvl_seg_back_permute_int(a, n, index, n, S(d, segments), S(d, segments), int_room, n), n);
+    LONG_BOOLS(cvl_seg_back_permute_bool(f, n, index, n, S(d, segments), S(d, segments), bool_room, n), n);
     start = 0;
     for (size_t s = 0; s < segments; start += d[s++]) {
         int32_t first = taken, left;
@@ -1136,8 +1141,8 @@ static void long_permutes_of_segments(void) {
             from[first + left] = start + j;
         }
     }
-    LONG_INTS(cvl_seg_select_permute_int(a, n, index, n, flags, n, d, segments, int_room, taken), (size_t)taken);
-    LONG_BOOLS(cvl_seg_select_permute_bool(f, n, index, n, flags, n, d, segments, bool_room, taken), (size_t)taken);
+    LONG_INTS(cvl_seg_select_permute_int(a, n, index, n, flags, n, S(d, segments), int_room, taken), (size_t)taken);
+    LONG_BOOLS(cvl_seg_select_permute_bool(f, n, index, n, flags, n, S(d, segments), bool_room, taken), (size_t)taken);
     start = 0;
     for (size_t s = 0; s < segments; start += d[s++]) {
         for (int32_t j = 0; j < d[s]; j++) from[start + j] = -1 - (start + j);
@@ -1146,8 +1151,8 @@ static void long_permutes_of_segments(void) {
             from[start + 2 * j + 1] = half++;
         }
     }
-    LONG_INTS(cvl_seg_default_permute_int(a, half, index, half, b, n, e, segments, d, segments, int_room, n), n);
-    LONG_BOOLS(cvl_seg_default_permute_bool(f, half, index, half, g, n, e, segments, d, segments, bool_room, n), n);
+    LONG_INTS(cvl_seg_default_permute_int(a, half, index, half, b, n, S(e, segments), S(d, segments), int_room, n), n);
+    LONG_BOOLS(cvl_seg_default_permute_bool(f, half, index, half, g, n, S(e, segments), S(d, segments), bool_room, n), n);
 }
 
 static void long_calls_of_segments(void) {
@@ -1159,19 +1164,19 @@ static void long_calls_of_segments(void) {
         long_index[s] = d[s] - 1;
         from[s] = start + d[s] - 1;
     }
-    LONG_INTS(cvl_seg_extract_int(a, n, index, segments, d, segments, int_room, segments), segments);
-    LONG_BOOLS(cvl_seg_extract_bool(f, n, index, segments, d, segments, bool_room, segments), segments);
+    LONG_INTS(cvl_seg_extract_int(a, n, index, segments, S(d, segments), int_room, segments), segments);
+    LONG_BOOLS(cvl_seg_extract_bool(f, n, index, segments, S(d, segments), bool_room, segments), segments);
     for (int32_t k = 0; k < MOST; k++) from[k] = k;
     start = 0;
     for (size_t s = 0; s < segments; start += d[s++]) from[start + d[s] - 1] = -1 - (int32_t)s;
-    LONG_INTS(cvl_seg_replace_int(a, n, index, segments, b, segments, d, segments, int_room, n), n);
-    LONG_BOOLS(cvl_seg_replace_bool(f, n, index, segments, g, segments, d, segments, bool_room, n), n);
+    LONG_INTS(cvl_seg_replace_int(a, n, index, segments, b, segments, S(d, segments), int_room, n), n);
+    LONG_BOOLS(cvl_seg_replace_bool(f, n, index, segments, g, segments, S(d, segments), bool_room, n), n);
     start = 0;
     for (size_t s = 0; s < segments; start += d[s++]) {
         for (int32_t j = 0; j < d[s]; j++) from[start + j] = (int32_t)s;
     }
-    LONG_INTS(cvl_seg_distribute_int(a, segments, d, segments, int_room, n), n);
-    LONG_BOOLS(cvl_seg_distribute_bool(f, segments, d, segments, bool_room, n), n);
+    LONG_INTS(cvl_seg_distribute_int(a, segments, S(d, segments), int_room, n), n);
+    LONG_BOOLS(cvl_seg_distribute_bool(f, segments, S(d, segments), bool_room, n), n);
 }
 
 /* The numbers of segments whose inits and strides give 0, -1, -2 and so on, and sums of segments that give these. */
@@ -1184,13 +1189,13 @@ static void long_numbers_of_segments(void) {
         long_index[s] = -start;
         length_room[s] = -1;
     }
-    LONG_INTS(cvl_seg_index(long_index, segments, length_room, segments, d, segments, int_room, n), n);
+    LONG_INTS(cvl_seg_index(long_index, segments, length_room, segments, S(d, segments), int_room, n), n);
     start = 0;
     for (size_t s = 0; s < segments; start += d[s++]) {
         for (int32_t j = 1; j < d[s]; j++) long_index[start + j] = j % 2 == 1 ? 1 : -1;
         long_index[start] = -(int32_t)s - (d[s] % 2 == 0);
     }
-    LONG_INTS(cvl_seg_checked_reduce(long_index, n, d, segments, int_room, segments), segments);
+    LONG_INTS(cvl_seg_checked_reduce(long_index, n, S(d, segments), int_room, segments), segments);
 }
 
 /* Appends the decimal of a number to the long text. */
@@ -1242,14 +1247,14 @@ static void long_texts(void) {
     put_vector(0, 0, MOST);
     LONG_WRITE(cvl_write_bools(long_bools, MOST, text_room, LONG_TEXT, &total));
     put_nest(0);
-    LONG_WRITE(cvl_seg_write_bools(long_bools, MOST, long_lengths, long_segments, text_room, LONG_TEXT, &total));
+    LONG_WRITE(cvl_seg_write_bools(long_bools, MOST, S(long_lengths, long_segments), text_room, LONG_TEXT, &total));
     for (int32_t k = 0; k < MOST; k++) from[k] = k;
     text_length = 0;
     put_vector(1, 0, MOST);
     LONG_WRITE(cvl_write_ints(long_ints, MOST, text_room, LONG_TEXT, &total));
     LONG_INTS(cvl_read_ints(long_text + 1, text_length - 2, int_room, MOST, &total), MOST);
     put_nest(1);
-    LONG_WRITE(cvl_seg_write_ints(long_ints, MOST, long_lengths, long_segments, text_room, LONG_TEXT, &total));
+    LONG_WRITE(cvl_seg_write_ints(long_ints, MOST, S(long_lengths, long_segments), text_room, LONG_TEXT, &total));
     LONG_INTS(cvl_seg_read_ints(long_text, text_length, int_room, MOST, &total, length_room, MOST, &list_count), MOST);
     if (total != MOST || list_count != long_segments) fail("a long nested text", "other counts");
     if (memcmp(length_room, long_lengths, long_segments * sizeof *long_lengths) != 0) fail("a long nested text", "other lengths");
@@ -1281,15 +1286,33 @@ static void odd_booleans(void) {
     BOOLS(xor_rub(O(1, 2, 4), 3, bools), true);
     INTS(cnt_lub(flags, 5, ints), 3);
     BOOLS(ext_vub(O(0, 64), 2, 1, bools), true);
-    BOOLS(ext_veb(O(0, 2, 4), 3, I(0, 1), I(1, 2), 2, bools), false, true);
+    BOOLS(ext_veb(O(0, 2, 4), 3, I(0, 1), S(I(1, 2), 2), bools), false, true);
     BOOLS(rep_vub(O(3, 0, 5, 0, 0), 1, true, bools, 5), true, true, true, false, false);
     BOOLS(rep_vub(O(3, 0, 5), 2, false, bools, 3), true, false, false);
-    BOOLS(ior_reb(flags, 5, lengths, 3, bools), true, false, true);
-    INTS(cnt_leb(flags, 5, lengths, 3, ints), 1, 0, 2);
-    INTS(pck_fov(flags, 5, lengths, 3, ints), 1, 0, 2);
+    BOOLS(ior_reb(flags, 5, S(lengths, 3), bools), true, false, true);
+    INTS(cnt_leb(flags, 5, S(lengths, 3), ints), 1, 0, 2);
+    INTS(pck_fov(flags, 5, S(lengths, 3), ints), 1, 0, 2);
     if (!cvl_are_flags(B(true, false), 2) || !cvl_are_flags(NULL, 0) || cvl_are_flags(O(1, 0, 2), 3)) fail("cvl_are_flags", "another answer");
     cvl_make_flags((bool *)made, 4);
     if (memcmp(made, B(false, true, true, true), 4) != 0) fail("cvl_make_flags", "other booleans");
+}
+
+/* Functions that take a boolean by value, as another language calls them, with a byte. */
+typedef CvlStatus (*Distributes)(unsigned char value, int64_t count, bool *out);
+typedef CvlStatus (*Replaces)(const bool *vector, int64_t index, unsigned char value, bool *out, size_t n);
+typedef CvlStatus (*Scans)(uint32_t op, unsigned char before, const bool *a, size_t a_len, bool *out, size_t out_len);
+typedef void (*Function)(void);
+
+static void odd_booleans_by_value(void) {
+    const Distributes distribute = (Distributes)(Function)cvl_dis_vub;
+    const Replaces replace = (Replaces)(Function)cvl_rep_vub;
+    const Scans scan = (Scans)(Function)cvl_bool_scan_after;
+    for (int value = 1; value < 256; value += value == 1 ? 1 : 126) {
+        BOOLS(distribute((unsigned char)value, 3, bools), true, true, true);
+        BOOLS(replace(B(false, false, false), 1, (unsigned char)value, bools, 3), false, true, false);
+        BOOLS(scan(CVL_AND, (unsigned char)value, B(true, false, true), 3, bools, 3), true, true, false);
+    }
+    BOOLS(distribute(0, 3, bools), false, false, false);
 }
 
 /* Booleans of any bytes, of which a copy is taken. */
@@ -1298,31 +1321,31 @@ static void copied_booleans(void) {
     const int32_t *a = I(1, 2, 3, 4, 5), *lengths = I(2, 0, 3), *back = I(4, 3, 2, 1, 0), *each = I(1, 0, 2, 1, 0);
     BOOLS_OF_COPIES(1, and_sub(O(2, 0, 2), bools, 3), true, true, false);
     BOOLS_OF_COPIES(1, cvl_bool_scan_after(CVL_XOR, true, O(2, 0, 2), 3, bools, 3), true, false, false);
-    BOOLS_OF_COPIES(1, ior_seb(f, lengths, 3, bools, 5), false, false, false, true, true);
-    BOOLS_OF_COPIES(2, rep_veb(values, 5, I(0, 1), O(0, 9), I(2, 3), 2, bools), false, false, true, true, false);
-    BOOLS_OF_COPIES(1, dis_veb(O(0, 9), I(1, 2), 2, bools, 3), false, true, true);
+    BOOLS_OF_COPIES(1, ior_seb(f, S(lengths, 3), bools, 5), false, false, false, true, true);
+    BOOLS_OF_COPIES(2, rep_veb(values, I(0, 1), O(0, 9), S(I(2, 3), 2), bools, 5), false, false, true, true, false);
+    BOOLS_OF_COPIES(1, dis_veb(O(0, 9), S(I(1, 2), 2), bools, 3), false, true, true);
     COUNTED_INTS(pck_luz(a, f, 5, ints, ROOM, &total), 2, 3, 5);
     COPIES(pck_luz(a, f, 5, ints, ROOM, &total), 1);
     COUNTED_BOOLS(pck_lub(values, f, 5, bools, ROOM, &total), false, true, false);
     COPIES(pck_lub(values, f, 5, bools, ROOM, &total), 2);
-    COUNTED_INTS(pck_lez(a, f, 5, lengths, 3, ints, ROOM, &total), 2, 3, 5);
-    COPIES(pck_lez(a, f, 5, lengths, 3, ints, ROOM, &total), 1);
-    COUNTED_BOOLS(pck_leb(values, f, 5, lengths, 3, bools, ROOM, &total), false, true, false);
-    COPIES(pck_leb(values, f, 5, lengths, 3, bools, ROOM, &total), 2);
+    COUNTED_INTS(pck_lez(a, f, 5, S(lengths, 3), ints, ROOM, &total), 2, 3, 5);
+    COPIES(pck_lez(a, f, 5, S(lengths, 3), ints, ROOM, &total), 1);
+    COUNTED_BOOLS(pck_leb(values, f, 5, S(lengths, 3), bools, ROOM, &total), false, true, false);
+    COPIES(pck_leb(values, f, 5, S(lengths, 3), bools, ROOM, &total), 2);
     BOOLS_OF_COPIES(1, smp_pub(values, back, bools, 5), false, false, true, false, true);
     INTS_OF_COPIES(1, sel_puz(a, I(9, 2, 1, 9, 0), f, 5, ints, 3), 5, 3, 2);
     BOOLS_OF_COPIES(2, sel_pub(values, I(9, 2, 1, 9, 0), f, 5, bools, 3), false, true, false);
     BOOLS_OF_COPIES(2, def_pub(O(2, 0), I(3, 1), 2, O(0, 3, 3, 0), bools, 4), false, false, true, true);
     BOOLS_OF_COPIES(1, bck_pub(values, 5, I(2, 1, 0), bools, 3), true, false, true);
-    BOOLS_OF_COPIES(1, smp_peb(values, each, lengths, 3, bools, 5), false, true, false, false, true);
-    INTS_OF_COPIES(1, sel_pez(a, I(9, 0, 1, 9, 0), f, 5, lengths, 3, ints, 3), 2, 5, 3);
-    BOOLS_OF_COPIES(2, sel_peb(values, I(9, 0, 1, 9, 0), f, 5, lengths, 3, bools, 3), false, false, true);
-    BOOLS_OF_COPIES(2, def_peb(O(2, 0), I(1, 0), 2, O(0, 0, 3, 3), I(1, 1), I(2, 2), 2, bools, 4), false, true, false, true);
-    BOOLS_OF_COPIES(1, bck_peb(values, 5, I(1, 0, 0), lengths, I(2, 0, 1), 3, bools, 3), false, true, true);
+    BOOLS_OF_COPIES(1, smp_peb(values, each, S(lengths, 3), bools, 5), false, true, false, false, true);
+    INTS_OF_COPIES(1, sel_pez(a, I(9, 0, 1, 9, 0), f, 5, S(lengths, 3), ints, 3), 2, 5, 3);
+    BOOLS_OF_COPIES(2, sel_peb(values, I(9, 0, 1, 9, 0), f, 5, S(lengths, 3), bools, 3), false, false, true);
+    BOOLS_OF_COPIES(2, def_peb(O(2, 0), I(1, 0), 2, O(0, 0, 3, 3), S(I(1, 1), 2), S(I(2, 2), 2), bools, 4), false, true, false, true);
+    BOOLS_OF_COPIES(1, bck_peb(values, 5, I(1, 0, 0), S(lengths, 3), S(I(2, 0, 1), 3), bools, 3), false, true, true);
     TEXT(cvl_write_bools(O(2, 0), 2, bytes, TEXT_ROOM, &total), "[T F]");
     COPIES(cvl_write_bools(O(2, 0), 2, bytes, TEXT_ROOM, &total), 1);
-    TEXT(cvl_seg_write_bools(O(2, 0), 2, I(1, 1), 2, bytes, TEXT_ROOM, &total), "[[T] [F]]");
-    COPIES(cvl_seg_write_bools(O(2, 0), 2, I(1, 1), 2, bytes, TEXT_ROOM, &total), 1);
+    TEXT(cvl_seg_write_bools(O(2, 0), 2, S(I(1, 1), 2), bytes, TEXT_ROOM, &total), "[[T] [F]]");
+    COPIES(cvl_seg_write_bools(O(2, 0), 2, S(I(1, 1), 2), bytes, TEXT_ROOM, &total), 1);
 }
 
 int main(void) {
@@ -1351,6 +1374,7 @@ int main(void) {
     nested_texts();
     long_rows();
     odd_booleans();
+    odd_booleans_by_value();
     copied_booleans();
     if (failed) return EXIT_FAILURE;
     printf("%d calls as they should be\n", calls);

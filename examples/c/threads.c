@@ -4,6 +4,7 @@
  * each operator and several lengths of tiles. `examples/c/run threads` builds and runs it under sanitizers, and
  * `examples/c/run races` under the thread sanitizer.
  */
+#define CVL_SHORT_NAMES
 #include "cvl.h"
 
 #include <pthread.h>

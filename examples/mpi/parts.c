@@ -124,7 +124,7 @@ static void sums_of(const Segments *s, const int32_t *a, int32_t *sums) {
     while (k < s->count) {
         size_t whole = 0, n = 0;
         while (k + whole < s->count && n + (size_t)s->lengths[k + whole] <= CVL_MOST_ELEMENTS) n += (size_t)s->lengths[k + whole++];
-        if (whole > 0) must(cvl_seg_int_reduce(CVL_ADD, a, n, s->lengths + k, whole, sums + k, whole));
+        if (whole > 0) must(cvl_seg_int_reduce(CVL_ADD, a, n, (CvlLengths){s->lengths + k, whole}, sums + k, whole));
         a += n, k += whole;
         if (k < s->count && (size_t)s->lengths[k] > CVL_MOST_ELEMENTS) {
             uint32_t sum = 0;
@@ -191,7 +191,7 @@ static void product(void) {
         while (row + whole < rows && n + (size_t)lengths[row + whole] <= CVL_MOST_ELEMENTS) n += (size_t)lengths[row + whole++];
         must(cvl_back_permute_int(x, COLUMNS, columns + entry, n, gathered, n));
         must(cvl_int2(CVL_MUL, values + entry, n, gathered, n, gathered, n));
-        must(cvl_seg_int_reduce(CVL_ADD, gathered, n, lengths + row, whole, y + row, whole));
+        must(cvl_seg_int_reduce(CVL_ADD, gathered, n, (CvlLengths){lengths + row, whole}, y + row, whole));
         row += whole, entry += n;
     }
     uint64_t summed = 0;

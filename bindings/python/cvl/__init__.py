@@ -5,9 +5,13 @@
     [0, 3, 4]
 """
 
+from cvl import calls
 from cvl._library import library as _library
+from cvl._symbols import MOST_ELEMENTS
 from cvl.calls import *
 from cvl.fault import Fault
-from cvl.segments import MOST_ELEMENTS, Segments, len_fos, len_lub, len_luz
+from cvl.segments import Segments, len_fos, len_lub, len_luz
 
-__version__ = _library.cvl_version().decode()
+__all__ = ["MOST_ELEMENTS", "Fault", "Segments", "len_fos", "len_lub", "len_luz"]
+__all__ += calls.__all__
+__version__: str = _library.cvl_version().decode()

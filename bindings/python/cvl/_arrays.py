@@ -4,9 +4,7 @@ import ctypes
 import operator
 
 import numpy
-
-from cvl._library import fault
-from cvl._symbols import LENGTH_MISMATCH
+import numpy.ma
 
 INT = numpy.dtype(numpy.int32)
 FLAG = numpy.dtype(bool)
@@ -20,35 +18,42 @@ def at(array):
         return array.__array_interface__["data"][0]
 
 
-def _viewed(given, name, wanted):
+def refuse_mask(given, name):
+    """A mask says that elements are missing, which no call knows."""
+    if isinstance(given, numpy.ma.MaskedArray):
+        raise TypeError(f"{name} has a mask, which no call looks at; write {name}.filled(0) or {name}.compressed()")
+
+
+def viewed(given, name, advice):
     """An array over the memory of what is no array."""
+    refuse_mask(given, name)
     try:
         return numpy.asarray(memoryview(given))
     except TypeError:
-        raise TypeError(f"{name} is no array but a {type(given).__name__}; write numpy.array({name}, dtype={wanted})") from None
+        raise TypeError(f"{name} is no array but a {type(given).__name__}; {advice}") from None
 
 
-def _refuse(array, name, dtype, write):
-    if array.dtype != dtype:
-        raise TypeError(f"{name} has elements of {array.dtype}, and has to have {dtype}; write {write}")
-    if array.ndim != 1:
-        raise TypeError(f"{name} has {array.ndim} dimensions, and has to have one; write {name}.ravel()")
-    if not array.flags.c_contiguous:
-        raise TypeError(f"the elements of {name} do not lie side by side; write numpy.ascontiguousarray({name})")
-    raise TypeError(f"the elements of {name} are not aligned in memory; write {name}.copy()")
-
-
-def _lies_well(array):
+def lies_well(array):
     """Whether the elements lie in one dimension, side by side, and aligned."""
     flags = array.flags
     return array.ndim == 1 and flags.c_contiguous and flags.aligned
 
 
+def _refuse(array, name, dtype, convert):
+    if array.dtype != dtype:
+        raise TypeError(f"{name} has elements of {array.dtype}, and has to have {dtype}; write {convert}")
+    if array.ndim != 1:
+        raise TypeError(f"{name} has {array.ndim} dimensions, and has to have one; write numpy.ravel({name})")
+    if not array.flags.c_contiguous:
+        raise TypeError(f"the elements of {name} do not lie side by side; write numpy.ascontiguousarray({name})")
+    raise TypeError(f"the elements of {name} are not aligned in memory; write {name}.copy()")
+
+
 def int_array(array, name):
     """The array, if it holds int32 in one dimension, side by side and aligned."""
     if type(array) is not numpy.ndarray:
-        array = _viewed(array, name, "numpy.int32")
-    if array.dtype != INT or not _lies_well(array):
+        array = viewed(array, name, f"write numpy.array({name}, dtype=numpy.int32)")
+    if array.dtype != INT or not lies_well(array):
         _refuse(array, name, INT, f"{name}.astype(numpy.int32)")
     return array
 
@@ -56,8 +61,8 @@ def int_array(array, name):
 def flag_array(array, name):
     """The array, if it holds bool in one dimension, side by side."""
     if type(array) is not numpy.ndarray:
-        array = _viewed(array, name, "bool")
-    if array.dtype != FLAG or not _lies_well(array):
+        array = viewed(array, name, f"write numpy.array({name}, dtype=bool)")
+    if array.dtype != FLAG or not lies_well(array):
         _refuse(array, name, FLAG, f"{name} != 0")
     return array
 
@@ -70,40 +75,13 @@ def int_value(value, name):
     return found
 
 
+def wide_value(value):
+    """A place or a count as an integer of 64 bits; one that is beyond is the least or the greatest of these, and so at fault too."""
+    return max(-(2**63), min(operator.index(value), 2**63 - 1))
+
+
 def flag_value(value, name):
     """The value, if it is a boolean."""
     if not isinstance(value, (bool, numpy.bool_)):
         raise TypeError(f"{name} is no boolean but a {type(value).__name__}; write bool({name})")
     return bool(value)
-
-
-def length(*arrays):
-    """How long arrays are that have to be as long as one another: else the fault LengthMismatch."""
-    found = len(arrays[0])
-    for array in arrays:
-        if len(array) != found:
-            raise fault(LENGTH_MISMATCH)
-    return found
-
-
-def _room(out, places, check, dtype):
-    if out is None:
-        return numpy.empty(places, dtype)
-    check(out, "out")
-    if type(out) is not numpy.ndarray:
-        raise TypeError(f"out is no numpy array but a {type(out).__name__}")
-    if not out.flags.writeable:
-        raise ValueError("out may not be written")
-    if len(out) != places:
-        raise fault(LENGTH_MISMATCH)
-    return out
-
-
-def int_room(out, places):
-    """The room for a result of so many integers: the caller's, which is as long, or a new one."""
-    return _room(out, places, int_array, INT)
-
-
-def flag_room(out, places):
-    """The room for a result of so many booleans: the caller's, which is as long, or a new one."""
-    return _room(out, places, flag_array, FLAG)

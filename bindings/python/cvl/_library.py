@@ -3,6 +3,7 @@
 import ctypes
 import os
 import pathlib
+from typing import Any, Optional
 
 from cvl._symbols import NO_RESOURCES, SYMBOLS
 from cvl.fault import Fault
@@ -16,7 +17,23 @@ class Status(ctypes.Structure):
     _fields_ = [("number", ctypes.c_uint32), ("place", ctypes.c_int64)]
 
 
-TYPES = {"p": ctypes.c_void_p, "s": ctypes.c_size_t, "i": ctypes.c_int32, "b": ctypes.c_uint8}
+class Lengths(ctypes.Structure):
+    """Lengths of segments as a call takes them: where they are, and how many. `array` has their memory, and `total` their sum, once
+    it is known that they are lengths."""
+
+    _fields_ = [("lengths", ctypes.c_void_p), ("segments", ctypes.c_size_t)]
+    array: Any = None
+    total: Optional[int] = None
+
+
+TYPES = {
+    "p": ctypes.c_void_p,
+    "s": ctypes.c_size_t,
+    "i": ctypes.c_int32,
+    "w": ctypes.c_int64,
+    "b": ctypes.c_uint8,
+    "l": Lengths,
+}
 
 
 def _path():
@@ -30,11 +47,8 @@ def _path():
     return NAME
 
 
-def _load():
-    try:
-        found = ctypes.CDLL(_path())
-    except OSError as error:
-        raise ImportError(f"{error}; install the library, or name the file {NAME} in the variable CVL_LIBRARY") from None
+def _declare(found):
+    """Says what the functions of the library take and answer."""
     for name, codes in SYMBOLS.items():
         function = getattr(found, name)
         function.argtypes = [TYPES[code] for code in codes]
@@ -42,6 +56,19 @@ def _load():
     found.cvl_version.restype = ctypes.c_char_p
     found.cvl_fault_name.restype = ctypes.c_char_p
     found.cvl_fault_name.argtypes = [ctypes.c_uint32]
+
+
+def _load():
+    path = _path()
+    try:
+        found = ctypes.CDLL(path)
+    except OSError as error:
+        said = f"{error}; install the library, or name the file {NAME} in the variable CVL_LIBRARY"
+        raise ImportError(said, name="cvl", path=path) from None
+    try:
+        _declare(found)
+    except AttributeError as error:
+        raise ImportError(f"{path} is not the library of this package: {error}", name="cvl", path=path) from None
     return found
 
 

@@ -1,14 +1,16 @@
 """Each call of the table, by its name. A vector is a numpy array of int32 or of bool in one dimension, which is not copied;
 segments are a `Segments`, or their lengths as an array of int32. A result is a new array, or stands in `out`.
 
-Written by bindings/generate; edit that and not this file.
+Written by bindings/generate from bindings/table.py; edit that and not this file.
 """
 
 from ctypes import byref, c_int32, c_size_t, c_uint8
 
-from cvl._arrays import at, flag_array, flag_room, flag_value, int_array, int_room, int_value, length
+from cvl._arrays import FLAG, INT, at, flag_array, flag_value, int_array, int_value, wide_value
 from cvl._library import library, tell
-from cvl.segments import Segments, lengths_of, places, total, true_flags
+from cvl._rooms import front, own_room, room_for, total, true_flags
+from cvl._symbols import MOST_ELEMENTS
+from cvl.segments import Segments, lengths_of
 
 __all__ = [
     "add_wuz", "mul_wuz", "min_wuz", "max_wuz", "and_wuz", "ior_wuz", "xor_wuz", "sub_wuz", "div_wuz", "mod_wuz",
@@ -41,10 +43,10 @@ def add_wuz(a, b, *, out=None):
     """
     a = int_array(a, "a")
     b = int_array(b, "b")
-    n = length(a, b)
-    out = int_room(out, n)
-    tell(library.cvl_add_wuz(at(a), at(b), at(out), n))
-    return out
+    n = len(a)
+    room = room_for(out, INT, n, len(b) == n <= MOST_ELEMENTS, "add_wuz", a, b)
+    tell(library.cvl_add_wuz(at(a), at(b), at(room), n))
+    return room if out is None else out
 
 
 def mul_wuz(a, b, *, out=None):
@@ -62,10 +64,10 @@ def mul_wuz(a, b, *, out=None):
     """
     a = int_array(a, "a")
     b = int_array(b, "b")
-    n = length(a, b)
-    out = int_room(out, n)
-    tell(library.cvl_mul_wuz(at(a), at(b), at(out), n))
-    return out
+    n = len(a)
+    room = room_for(out, INT, n, len(b) == n <= MOST_ELEMENTS, "mul_wuz", a, b)
+    tell(library.cvl_mul_wuz(at(a), at(b), at(room), n))
+    return room if out is None else out
 
 
 def min_wuz(a, b, *, out=None):
@@ -83,10 +85,10 @@ def min_wuz(a, b, *, out=None):
     """
     a = int_array(a, "a")
     b = int_array(b, "b")
-    n = length(a, b)
-    out = int_room(out, n)
-    tell(library.cvl_min_wuz(at(a), at(b), at(out), n))
-    return out
+    n = len(a)
+    room = room_for(out, INT, n, len(b) == n <= MOST_ELEMENTS, "min_wuz", a, b)
+    tell(library.cvl_min_wuz(at(a), at(b), at(room), n))
+    return room if out is None else out
 
 
 def max_wuz(a, b, *, out=None):
@@ -104,10 +106,10 @@ def max_wuz(a, b, *, out=None):
     """
     a = int_array(a, "a")
     b = int_array(b, "b")
-    n = length(a, b)
-    out = int_room(out, n)
-    tell(library.cvl_max_wuz(at(a), at(b), at(out), n))
-    return out
+    n = len(a)
+    room = room_for(out, INT, n, len(b) == n <= MOST_ELEMENTS, "max_wuz", a, b)
+    tell(library.cvl_max_wuz(at(a), at(b), at(room), n))
+    return room if out is None else out
 
 
 def and_wuz(a, b, *, out=None):
@@ -125,10 +127,10 @@ def and_wuz(a, b, *, out=None):
     """
     a = int_array(a, "a")
     b = int_array(b, "b")
-    n = length(a, b)
-    out = int_room(out, n)
-    tell(library.cvl_and_wuz(at(a), at(b), at(out), n))
-    return out
+    n = len(a)
+    room = room_for(out, INT, n, len(b) == n <= MOST_ELEMENTS, "and_wuz", a, b)
+    tell(library.cvl_and_wuz(at(a), at(b), at(room), n))
+    return room if out is None else out
 
 
 def ior_wuz(a, b, *, out=None):
@@ -146,10 +148,10 @@ def ior_wuz(a, b, *, out=None):
     """
     a = int_array(a, "a")
     b = int_array(b, "b")
-    n = length(a, b)
-    out = int_room(out, n)
-    tell(library.cvl_ior_wuz(at(a), at(b), at(out), n))
-    return out
+    n = len(a)
+    room = room_for(out, INT, n, len(b) == n <= MOST_ELEMENTS, "ior_wuz", a, b)
+    tell(library.cvl_ior_wuz(at(a), at(b), at(room), n))
+    return room if out is None else out
 
 
 def xor_wuz(a, b, *, out=None):
@@ -167,10 +169,10 @@ def xor_wuz(a, b, *, out=None):
     """
     a = int_array(a, "a")
     b = int_array(b, "b")
-    n = length(a, b)
-    out = int_room(out, n)
-    tell(library.cvl_xor_wuz(at(a), at(b), at(out), n))
-    return out
+    n = len(a)
+    room = room_for(out, INT, n, len(b) == n <= MOST_ELEMENTS, "xor_wuz", a, b)
+    tell(library.cvl_xor_wuz(at(a), at(b), at(room), n))
+    return room if out is None else out
 
 
 def sub_wuz(a, b, *, out=None):
@@ -188,10 +190,10 @@ def sub_wuz(a, b, *, out=None):
     """
     a = int_array(a, "a")
     b = int_array(b, "b")
-    n = length(a, b)
-    out = int_room(out, n)
-    tell(library.cvl_sub_wuz(at(a), at(b), at(out), n))
-    return out
+    n = len(a)
+    room = room_for(out, INT, n, len(b) == n <= MOST_ELEMENTS, "sub_wuz", a, b)
+    tell(library.cvl_sub_wuz(at(a), at(b), at(room), n))
+    return room if out is None else out
 
 
 def div_wuz(a, b, *, out=None):
@@ -209,10 +211,10 @@ def div_wuz(a, b, *, out=None):
     """
     a = int_array(a, "a")
     b = int_array(b, "b")
-    n = length(a, b)
-    out = int_room(out, n)
-    tell(library.cvl_div_wuz(at(a), at(b), at(out), n))
-    return out
+    n = len(a)
+    room = room_for(out, INT, n, len(b) == n <= MOST_ELEMENTS, "div_wuz", a, b)
+    tell(library.cvl_div_wuz(at(a), at(b), at(room), n))
+    return room if out is None else out
 
 
 def mod_wuz(a, b, *, out=None):
@@ -230,10 +232,10 @@ def mod_wuz(a, b, *, out=None):
     """
     a = int_array(a, "a")
     b = int_array(b, "b")
-    n = length(a, b)
-    out = int_room(out, n)
-    tell(library.cvl_mod_wuz(at(a), at(b), at(out), n))
-    return out
+    n = len(a)
+    room = room_for(out, INT, n, len(b) == n <= MOST_ELEMENTS, "mod_wuz", a, b)
+    tell(library.cvl_mod_wuz(at(a), at(b), at(room), n))
+    return room if out is None else out
 
 
 def lsh_wuz(a, b, *, out=None):
@@ -251,10 +253,10 @@ def lsh_wuz(a, b, *, out=None):
     """
     a = int_array(a, "a")
     b = int_array(b, "b")
-    n = length(a, b)
-    out = int_room(out, n)
-    tell(library.cvl_lsh_wuz(at(a), at(b), at(out), n))
-    return out
+    n = len(a)
+    room = room_for(out, INT, n, len(b) == n <= MOST_ELEMENTS, "lsh_wuz", a, b)
+    tell(library.cvl_lsh_wuz(at(a), at(b), at(room), n))
+    return room if out is None else out
 
 
 def rsh_wuz(a, b, *, out=None):
@@ -272,10 +274,10 @@ def rsh_wuz(a, b, *, out=None):
     """
     a = int_array(a, "a")
     b = int_array(b, "b")
-    n = length(a, b)
-    out = int_room(out, n)
-    tell(library.cvl_rsh_wuz(at(a), at(b), at(out), n))
-    return out
+    n = len(a)
+    room = room_for(out, INT, n, len(b) == n <= MOST_ELEMENTS, "rsh_wuz", a, b)
+    tell(library.cvl_rsh_wuz(at(a), at(b), at(room), n))
+    return room if out is None else out
 
 
 def not_wuz(a, *, out=None):
@@ -291,10 +293,10 @@ def not_wuz(a, *, out=None):
     [-1, -6, 0]
     """
     a = int_array(a, "a")
-    n = length(a)
-    out = int_room(out, n)
-    tell(library.cvl_not_wuz(at(a), at(out), n))
-    return out
+    n = len(a)
+    room = room_for(out, INT, n, n <= MOST_ELEMENTS, "not_wuz", a)
+    tell(library.cvl_not_wuz(at(a), at(room), n))
+    return room if out is None else out
 
 
 def not_wub(a, *, out=None):
@@ -310,10 +312,10 @@ def not_wub(a, *, out=None):
     [True, False]
     """
     a = flag_array(a, "a")
-    n = length(a)
-    out = flag_room(out, n)
-    tell(library.cvl_not_wub(at(a), at(out), n))
-    return out
+    n = len(a)
+    room = room_for(out, FLAG, n, n <= MOST_ELEMENTS, "not_wub", a)
+    tell(library.cvl_not_wub(at(a), at(room), n))
+    return room if out is None else out
 
 
 def cpy_wuz(a, *, out=None):
@@ -329,10 +331,10 @@ def cpy_wuz(a, *, out=None):
     [3, 1]
     """
     a = int_array(a, "a")
-    n = length(a)
-    out = int_room(out, n)
-    tell(library.cvl_cpy_wuz(at(a), at(out), n))
-    return out
+    n = len(a)
+    room = room_for(out, INT, n, n <= MOST_ELEMENTS, "cpy_wuz", a)
+    tell(library.cvl_cpy_wuz(at(a), at(room), n))
+    return room if out is None else out
 
 
 def cpy_wub(a, *, out=None):
@@ -348,10 +350,10 @@ def cpy_wub(a, *, out=None):
     [True, False]
     """
     a = flag_array(a, "a")
-    n = length(a)
-    out = flag_room(out, n)
-    tell(library.cvl_cpy_wub(at(a), at(out), n))
-    return out
+    n = len(a)
+    room = room_for(out, FLAG, n, n <= MOST_ELEMENTS, "cpy_wub", a)
+    tell(library.cvl_cpy_wub(at(a), at(room), n))
+    return room if out is None else out
 
 
 def grt_wuz(a, b, *, out=None):
@@ -367,10 +369,10 @@ def grt_wuz(a, b, *, out=None):
     """
     a = int_array(a, "a")
     b = int_array(b, "b")
-    n = length(a, b)
-    out = flag_room(out, n)
-    tell(library.cvl_grt_wuz(at(a), at(b), at(out), n))
-    return out
+    n = len(a)
+    room = room_for(out, FLAG, n, len(b) == n <= MOST_ELEMENTS, "grt_wuz", a, b)
+    tell(library.cvl_grt_wuz(at(a), at(b), at(room), n))
+    return room if out is None else out
 
 
 def les_wuz(a, b, *, out=None):
@@ -386,10 +388,10 @@ def les_wuz(a, b, *, out=None):
     """
     a = int_array(a, "a")
     b = int_array(b, "b")
-    n = length(a, b)
-    out = flag_room(out, n)
-    tell(library.cvl_les_wuz(at(a), at(b), at(out), n))
-    return out
+    n = len(a)
+    room = room_for(out, FLAG, n, len(b) == n <= MOST_ELEMENTS, "les_wuz", a, b)
+    tell(library.cvl_les_wuz(at(a), at(b), at(room), n))
+    return room if out is None else out
 
 
 def geq_wuz(a, b, *, out=None):
@@ -405,10 +407,10 @@ def geq_wuz(a, b, *, out=None):
     """
     a = int_array(a, "a")
     b = int_array(b, "b")
-    n = length(a, b)
-    out = flag_room(out, n)
-    tell(library.cvl_geq_wuz(at(a), at(b), at(out), n))
-    return out
+    n = len(a)
+    room = room_for(out, FLAG, n, len(b) == n <= MOST_ELEMENTS, "geq_wuz", a, b)
+    tell(library.cvl_geq_wuz(at(a), at(b), at(room), n))
+    return room if out is None else out
 
 
 def leq_wuz(a, b, *, out=None):
@@ -424,10 +426,10 @@ def leq_wuz(a, b, *, out=None):
     """
     a = int_array(a, "a")
     b = int_array(b, "b")
-    n = length(a, b)
-    out = flag_room(out, n)
-    tell(library.cvl_leq_wuz(at(a), at(b), at(out), n))
-    return out
+    n = len(a)
+    room = room_for(out, FLAG, n, len(b) == n <= MOST_ELEMENTS, "leq_wuz", a, b)
+    tell(library.cvl_leq_wuz(at(a), at(b), at(room), n))
+    return room if out is None else out
 
 
 def eql_wuz(a, b, *, out=None):
@@ -443,10 +445,10 @@ def eql_wuz(a, b, *, out=None):
     """
     a = int_array(a, "a")
     b = int_array(b, "b")
-    n = length(a, b)
-    out = flag_room(out, n)
-    tell(library.cvl_eql_wuz(at(a), at(b), at(out), n))
-    return out
+    n = len(a)
+    room = room_for(out, FLAG, n, len(b) == n <= MOST_ELEMENTS, "eql_wuz", a, b)
+    tell(library.cvl_eql_wuz(at(a), at(b), at(room), n))
+    return room if out is None else out
 
 
 def neq_wuz(a, b, *, out=None):
@@ -462,10 +464,10 @@ def neq_wuz(a, b, *, out=None):
     """
     a = int_array(a, "a")
     b = int_array(b, "b")
-    n = length(a, b)
-    out = flag_room(out, n)
-    tell(library.cvl_neq_wuz(at(a), at(b), at(out), n))
-    return out
+    n = len(a)
+    room = room_for(out, FLAG, n, len(b) == n <= MOST_ELEMENTS, "neq_wuz", a, b)
+    tell(library.cvl_neq_wuz(at(a), at(b), at(room), n))
+    return room if out is None else out
 
 
 def and_wub(a, b, *, out=None):
@@ -483,10 +485,10 @@ def and_wub(a, b, *, out=None):
     """
     a = flag_array(a, "a")
     b = flag_array(b, "b")
-    n = length(a, b)
-    out = flag_room(out, n)
-    tell(library.cvl_and_wub(at(a), at(b), at(out), n))
-    return out
+    n = len(a)
+    room = room_for(out, FLAG, n, len(b) == n <= MOST_ELEMENTS, "and_wub", a, b)
+    tell(library.cvl_and_wub(at(a), at(b), at(room), n))
+    return room if out is None else out
 
 
 def ior_wub(a, b, *, out=None):
@@ -504,10 +506,10 @@ def ior_wub(a, b, *, out=None):
     """
     a = flag_array(a, "a")
     b = flag_array(b, "b")
-    n = length(a, b)
-    out = flag_room(out, n)
-    tell(library.cvl_ior_wub(at(a), at(b), at(out), n))
-    return out
+    n = len(a)
+    room = room_for(out, FLAG, n, len(b) == n <= MOST_ELEMENTS, "ior_wub", a, b)
+    tell(library.cvl_ior_wub(at(a), at(b), at(room), n))
+    return room if out is None else out
 
 
 def xor_wub(a, b, *, out=None):
@@ -525,14 +527,14 @@ def xor_wub(a, b, *, out=None):
     """
     a = flag_array(a, "a")
     b = flag_array(b, "b")
-    n = length(a, b)
-    out = flag_room(out, n)
-    tell(library.cvl_xor_wub(at(a), at(b), at(out), n))
-    return out
+    n = len(a)
+    room = room_for(out, FLAG, n, len(b) == n <= MOST_ELEMENTS, "xor_wub", a, b)
+    tell(library.cvl_xor_wub(at(a), at(b), at(room), n))
+    return room if out is None else out
 
 
 def sel_wuz(flags, a, b, *, out=None):
-    """The element of a where the flag is true, else that of b. flags, a, b and out have m elements.
+    """The element of a where the flag is true, else that of b. flags, a, b and out have n elements.
 
     Faults: 13 TooLong.
 
@@ -548,14 +550,14 @@ def sel_wuz(flags, a, b, *, out=None):
     flags = flag_array(flags, "flags")
     a = int_array(a, "a")
     b = int_array(b, "b")
-    m = length(flags, a, b)
-    out = int_room(out, m)
-    tell(library.cvl_sel_wuz(at(flags), at(a), at(b), at(out), m))
-    return out
+    n = len(flags)
+    room = room_for(out, INT, n, len(a) == len(b) == n <= MOST_ELEMENTS, "sel_wuz", flags, a, b)
+    tell(library.cvl_sel_wuz(at(flags), at(a), at(b), at(room), n))
+    return room if out is None else out
 
 
 def sel_wub(flags, a, b, *, out=None):
-    """The element of a where the flag is true, else that of b. flags, a, b and out have m elements.
+    """The element of a where the flag is true, else that of b. flags, a, b and out have n elements.
 
     Faults: 13 TooLong.
 
@@ -571,10 +573,10 @@ def sel_wub(flags, a, b, *, out=None):
     flags = flag_array(flags, "flags")
     a = flag_array(a, "a")
     b = flag_array(b, "b")
-    m = length(flags, a, b)
-    out = flag_room(out, m)
-    tell(library.cvl_sel_wub(at(flags), at(a), at(b), at(out), m))
-    return out
+    n = len(flags)
+    room = room_for(out, FLAG, n, len(a) == len(b) == n <= MOST_ELEMENTS, "sel_wub", flags, a, b)
+    tell(library.cvl_sel_wub(at(flags), at(a), at(b), at(room), n))
+    return room if out is None else out
 
 
 def int_wub(a, *, out=None):
@@ -588,10 +590,10 @@ def int_wub(a, *, out=None):
     [0, 1, 1]
     """
     a = flag_array(a, "a")
-    n = length(a)
-    out = int_room(out, n)
-    tell(library.cvl_int_wub(at(a), at(out), n))
-    return out
+    n = len(a)
+    room = room_for(out, INT, n, n <= MOST_ELEMENTS, "int_wub", a)
+    tell(library.cvl_int_wub(at(a), at(room), n))
+    return room if out is None else out
 
 
 def boo_wuz(a, *, out=None):
@@ -605,10 +607,10 @@ def boo_wuz(a, *, out=None):
     [False, True, True]
     """
     a = int_array(a, "a")
-    n = length(a)
-    out = flag_room(out, n)
-    tell(library.cvl_boo_wuz(at(a), at(out), n))
-    return out
+    n = len(a)
+    room = room_for(out, FLAG, n, n <= MOST_ELEMENTS, "boo_wuz", a)
+    tell(library.cvl_boo_wuz(at(a), at(room), n))
+    return room if out is None else out
 
 
 def add_suz(a, *, out=None):
@@ -624,10 +626,10 @@ def add_suz(a, *, out=None):
     [0, 3, 4]
     """
     a = int_array(a, "a")
-    n = length(a)
-    out = int_room(out, n)
-    tell(library.cvl_add_suz(at(a), at(out), n))
-    return out
+    n = len(a)
+    room = room_for(out, INT, n, n <= MOST_ELEMENTS, "add_suz", a)
+    tell(library.cvl_add_suz(at(a), at(room), n))
+    return room if out is None else out
 
 
 def add_ruz(a):
@@ -641,7 +643,7 @@ def add_ruz(a):
     8
     """
     a = int_array(a, "a")
-    n = length(a)
+    n = len(a)
     out = c_int32()
     tell(library.cvl_add_ruz(at(a), n, byref(out)))
     return out.value
@@ -660,10 +662,10 @@ def mul_suz(a, *, out=None):
     [1, 3, 3]
     """
     a = int_array(a, "a")
-    n = length(a)
-    out = int_room(out, n)
-    tell(library.cvl_mul_suz(at(a), at(out), n))
-    return out
+    n = len(a)
+    room = room_for(out, INT, n, n <= MOST_ELEMENTS, "mul_suz", a)
+    tell(library.cvl_mul_suz(at(a), at(room), n))
+    return room if out is None else out
 
 
 def mul_ruz(a):
@@ -677,7 +679,7 @@ def mul_ruz(a):
     12
     """
     a = int_array(a, "a")
-    n = length(a)
+    n = len(a)
     out = c_int32()
     tell(library.cvl_mul_ruz(at(a), n, byref(out)))
     return out.value
@@ -696,10 +698,10 @@ def min_suz(a, *, out=None):
     [2147483647, 3, 1]
     """
     a = int_array(a, "a")
-    n = length(a)
-    out = int_room(out, n)
-    tell(library.cvl_min_suz(at(a), at(out), n))
-    return out
+    n = len(a)
+    room = room_for(out, INT, n, n <= MOST_ELEMENTS, "min_suz", a)
+    tell(library.cvl_min_suz(at(a), at(room), n))
+    return room if out is None else out
 
 
 def min_ruz(a):
@@ -713,7 +715,7 @@ def min_ruz(a):
     1
     """
     a = int_array(a, "a")
-    n = length(a)
+    n = len(a)
     out = c_int32()
     tell(library.cvl_min_ruz(at(a), n, byref(out)))
     return out.value
@@ -732,10 +734,10 @@ def max_suz(a, *, out=None):
     [-2147483648, 3, 3]
     """
     a = int_array(a, "a")
-    n = length(a)
-    out = int_room(out, n)
-    tell(library.cvl_max_suz(at(a), at(out), n))
-    return out
+    n = len(a)
+    room = room_for(out, INT, n, n <= MOST_ELEMENTS, "max_suz", a)
+    tell(library.cvl_max_suz(at(a), at(room), n))
+    return room if out is None else out
 
 
 def max_ruz(a):
@@ -749,7 +751,7 @@ def max_ruz(a):
     4
     """
     a = int_array(a, "a")
-    n = length(a)
+    n = len(a)
     out = c_int32()
     tell(library.cvl_max_ruz(at(a), n, byref(out)))
     return out.value
@@ -768,10 +770,10 @@ def and_suz(a, *, out=None):
     [-1, 3, 1]
     """
     a = int_array(a, "a")
-    n = length(a)
-    out = int_room(out, n)
-    tell(library.cvl_and_suz(at(a), at(out), n))
-    return out
+    n = len(a)
+    room = room_for(out, INT, n, n <= MOST_ELEMENTS, "and_suz", a)
+    tell(library.cvl_and_suz(at(a), at(room), n))
+    return room if out is None else out
 
 
 def and_ruz(a):
@@ -785,7 +787,7 @@ def and_ruz(a):
     0
     """
     a = int_array(a, "a")
-    n = length(a)
+    n = len(a)
     out = c_int32()
     tell(library.cvl_and_ruz(at(a), n, byref(out)))
     return out.value
@@ -804,10 +806,10 @@ def ior_suz(a, *, out=None):
     [0, 3, 3]
     """
     a = int_array(a, "a")
-    n = length(a)
-    out = int_room(out, n)
-    tell(library.cvl_ior_suz(at(a), at(out), n))
-    return out
+    n = len(a)
+    room = room_for(out, INT, n, n <= MOST_ELEMENTS, "ior_suz", a)
+    tell(library.cvl_ior_suz(at(a), at(room), n))
+    return room if out is None else out
 
 
 def ior_ruz(a):
@@ -821,7 +823,7 @@ def ior_ruz(a):
     7
     """
     a = int_array(a, "a")
-    n = length(a)
+    n = len(a)
     out = c_int32()
     tell(library.cvl_ior_ruz(at(a), n, byref(out)))
     return out.value
@@ -840,10 +842,10 @@ def xor_suz(a, *, out=None):
     [0, 3, 2]
     """
     a = int_array(a, "a")
-    n = length(a)
-    out = int_room(out, n)
-    tell(library.cvl_xor_suz(at(a), at(out), n))
-    return out
+    n = len(a)
+    room = room_for(out, INT, n, n <= MOST_ELEMENTS, "xor_suz", a)
+    tell(library.cvl_xor_suz(at(a), at(room), n))
+    return room if out is None else out
 
 
 def xor_ruz(a):
@@ -857,7 +859,7 @@ def xor_ruz(a):
     6
     """
     a = int_array(a, "a")
-    n = length(a)
+    n = len(a)
     out = c_int32()
     tell(library.cvl_xor_ruz(at(a), n, byref(out)))
     return out.value
@@ -876,10 +878,10 @@ def and_sub(a, *, out=None):
     [True, True, False]
     """
     a = flag_array(a, "a")
-    n = length(a)
-    out = flag_room(out, n)
-    tell(library.cvl_and_sub(at(a), at(out), n))
-    return out
+    n = len(a)
+    room = room_for(out, FLAG, n, n <= MOST_ELEMENTS, "and_sub", a)
+    tell(library.cvl_and_sub(at(a), at(room), n))
+    return room if out is None else out
 
 
 def and_rub(a):
@@ -893,7 +895,7 @@ def and_rub(a):
     False
     """
     a = flag_array(a, "a")
-    n = length(a)
+    n = len(a)
     out = c_uint8()
     tell(library.cvl_and_rub(at(a), n, byref(out)))
     return out.value != 0
@@ -912,10 +914,10 @@ def ior_sub(a, *, out=None):
     [False, True, True]
     """
     a = flag_array(a, "a")
-    n = length(a)
-    out = flag_room(out, n)
-    tell(library.cvl_ior_sub(at(a), at(out), n))
-    return out
+    n = len(a)
+    room = room_for(out, FLAG, n, n <= MOST_ELEMENTS, "ior_sub", a)
+    tell(library.cvl_ior_sub(at(a), at(room), n))
+    return room if out is None else out
 
 
 def ior_rub(a):
@@ -929,7 +931,7 @@ def ior_rub(a):
     True
     """
     a = flag_array(a, "a")
-    n = length(a)
+    n = len(a)
     out = c_uint8()
     tell(library.cvl_ior_rub(at(a), n, byref(out)))
     return out.value != 0
@@ -948,10 +950,10 @@ def xor_sub(a, *, out=None):
     [False, True, True]
     """
     a = flag_array(a, "a")
-    n = length(a)
-    out = flag_room(out, n)
-    tell(library.cvl_xor_sub(at(a), at(out), n))
-    return out
+    n = len(a)
+    room = room_for(out, FLAG, n, n <= MOST_ELEMENTS, "xor_sub", a)
+    tell(library.cvl_xor_sub(at(a), at(room), n))
+    return room if out is None else out
 
 
 def xor_rub(a):
@@ -965,7 +967,7 @@ def xor_rub(a):
     False
     """
     a = flag_array(a, "a")
-    n = length(a)
+    n = len(a)
     out = c_uint8()
     tell(library.cvl_xor_rub(at(a), n, byref(out)))
     return out.value != 0
@@ -984,10 +986,10 @@ def tot_suz(a, *, out=None):
     [0, 3, 4]
     """
     a = int_array(a, "a")
-    n = length(a)
-    out = int_room(out, n)
-    tell(library.cvl_tot_suz(at(a), at(out), n))
-    return out
+    n = len(a)
+    room = room_for(out, INT, n, n <= MOST_ELEMENTS, "tot_suz", a)
+    tell(library.cvl_tot_suz(at(a), at(room), n))
+    return room if out is None else out
 
 
 def tot_ruz(a):
@@ -1001,7 +1003,7 @@ def tot_ruz(a):
     8
     """
     a = int_array(a, "a")
-    n = length(a)
+    n = len(a)
     out = c_int32()
     tell(library.cvl_tot_ruz(at(a), n, byref(out)))
     return out.value
@@ -1018,7 +1020,7 @@ def cnt_lub(flags):
     3
     """
     flags = flag_array(flags, "flags")
-    n = length(flags)
+    n = len(flags)
     out = c_int32()
     tell(library.cvl_cnt_lub(at(flags), n, byref(out)))
     return out.value
@@ -1036,8 +1038,8 @@ def ext_vuz(vector, index):
     6
     """
     vector = int_array(vector, "vector")
-    index = int_value(index, "index")
-    n = length(vector)
+    index = wide_value(index)
+    n = len(vector)
     out = c_int32()
     tell(library.cvl_ext_vuz(at(vector), n, index, byref(out)))
     return out.value
@@ -1055,8 +1057,8 @@ def ext_vub(vector, index):
     True
     """
     vector = flag_array(vector, "vector")
-    index = int_value(index, "index")
-    n = length(vector)
+    index = wide_value(index)
+    n = len(vector)
     out = c_uint8()
     tell(library.cvl_ext_vub(at(vector), n, index, byref(out)))
     return out.value != 0
@@ -1075,12 +1077,12 @@ def rep_vuz(vector, index, value, *, out=None):
     [1, 9, 3]
     """
     vector = int_array(vector, "vector")
-    index = int_value(index, "index")
+    index = wide_value(index)
     value = int_value(value, "value")
-    n = length(vector)
-    out = int_room(out, n)
-    tell(library.cvl_rep_vuz(at(vector), index, value, at(out), n))
-    return out
+    n = len(vector)
+    room = room_for(out, INT, n, True, "rep_vuz", vector)
+    tell(library.cvl_rep_vuz(at(vector), index, value, at(room), n))
+    return room if out is None else out
 
 
 def rep_vub(vector, index, value, *, out=None):
@@ -1096,12 +1098,12 @@ def rep_vub(vector, index, value, *, out=None):
     [True, True, False]
     """
     vector = flag_array(vector, "vector")
-    index = int_value(index, "index")
+    index = wide_value(index)
     value = flag_value(value, "value")
-    n = length(vector)
-    out = flag_room(out, n)
-    tell(library.cvl_rep_vub(at(vector), index, value, at(out), n))
-    return out
+    n = len(vector)
+    room = room_for(out, FLAG, n, True, "rep_vub", vector)
+    tell(library.cvl_rep_vub(at(vector), index, value, at(room), n))
+    return room if out is None else out
 
 
 def dis_vuz(value, count, *, out=None):
@@ -1116,10 +1118,10 @@ def dis_vuz(value, count, *, out=None):
     [7, 7, 7]
     """
     value = int_value(value, "value")
-    count = int_value(count, "count")
-    out = int_room(out, places(count))
-    tell(library.cvl_dis_vuz(value, count, at(out)))
-    return out
+    count = wide_value(count)
+    room = room_for(out, INT, count, 0 <= count <= MOST_ELEMENTS, "dis_vuz", count)
+    tell(library.cvl_dis_vuz(value, count, at(room)))
+    return room if out is None else out
 
 
 def dis_vub(value, count, *, out=None):
@@ -1134,14 +1136,15 @@ def dis_vub(value, count, *, out=None):
     [True, True]
     """
     value = flag_value(value, "value")
-    count = int_value(count, "count")
-    out = flag_room(out, places(count))
-    tell(library.cvl_dis_vub(value, count, at(out)))
-    return out
+    count = wide_value(count)
+    room = room_for(out, FLAG, count, 0 <= count <= MOST_ELEMENTS, "dis_vub", count)
+    tell(library.cvl_dis_vub(value, count, at(room)))
+    return room if out is None else out
 
 
 def ind_luz(init, stride, count, *, out=None):
-    """
+    """The numbers init + k * stride, wrapped, for k from 0 to count - 1; out has count elements.
+
     Faults: 12 NegativeLength, without a place, where count is below 0; 13 TooLong where it is above 4194304.
 
     >>> import cvl, numpy
@@ -1153,10 +1156,10 @@ def ind_luz(init, stride, count, *, out=None):
     """
     init = int_value(init, "init")
     stride = int_value(stride, "stride")
-    count = int_value(count, "count")
-    out = int_room(out, places(count))
-    tell(library.cvl_ind_luz(init, stride, count, at(out)))
-    return out
+    count = wide_value(count)
+    room = room_for(out, INT, count, 0 <= count <= MOST_ELEMENTS, "ind_luz", count)
+    tell(library.cvl_ind_luz(init, stride, count, at(room)))
+    return room if out is None else out
 
 
 def mke_fov(lengths):
@@ -1186,11 +1189,10 @@ def tot_sez(a, segments, *, out=None):
     """
     a = int_array(a, "a")
     lengths = lengths_of(segments, "segments")
-    k = length(lengths)
-    n = length(a)
-    out = int_room(out, n)
-    tell(library.cvl_tot_sez(at(a), at(lengths), k, at(out), n))
-    return out
+    n = len(a)
+    room = room_for(out, INT, n, n <= MOST_ELEMENTS, "tot_sez", a, lengths)
+    tell(library.cvl_tot_sez(at(a), lengths, at(room), n))
+    return room if out is None else out
 
 
 def tot_rez(a, segments, *, out=None):
@@ -1207,11 +1209,11 @@ def tot_rez(a, segments, *, out=None):
     """
     a = int_array(a, "a")
     lengths = lengths_of(segments, "segments")
-    n = length(a)
-    k = length(lengths)
-    out = int_room(out, k)
-    tell(library.cvl_tot_rez(at(a), n, at(lengths), k, at(out)))
-    return out
+    n = len(a)
+    k = lengths.segments
+    room = room_for(out, INT, k, n <= MOST_ELEMENTS and k <= MOST_ELEMENTS, "tot_rez", a, lengths)
+    tell(library.cvl_tot_rez(at(a), n, lengths, at(room)))
+    return room if out is None else out
 
 
 def ext_vez(vector, index, segments, *, out=None):
@@ -1230,11 +1232,12 @@ def ext_vez(vector, index, segments, *, out=None):
     vector = int_array(vector, "vector")
     index = int_array(index, "index")
     lengths = lengths_of(segments, "segments")
-    n = length(vector)
-    k = length(index, lengths)
-    out = int_room(out, k)
-    tell(library.cvl_ext_vez(at(vector), n, at(index), at(lengths), k, at(out)))
-    return out
+    n = len(vector)
+    k = lengths.segments
+    fit = n <= MOST_ELEMENTS and len(index) == k <= MOST_ELEMENTS
+    room = room_for(out, INT, k, fit, "ext_vez", vector, index, lengths)
+    tell(library.cvl_ext_vez(at(vector), n, at(index), lengths, at(room)))
+    return room if out is None else out
 
 
 def ext_veb(vector, index, segments, *, out=None):
@@ -1253,11 +1256,12 @@ def ext_veb(vector, index, segments, *, out=None):
     vector = flag_array(vector, "vector")
     index = int_array(index, "index")
     lengths = lengths_of(segments, "segments")
-    n = length(vector)
-    k = length(index, lengths)
-    out = flag_room(out, k)
-    tell(library.cvl_ext_veb(at(vector), n, at(index), at(lengths), k, at(out)))
-    return out
+    n = len(vector)
+    k = lengths.segments
+    fit = n <= MOST_ELEMENTS and len(index) == k <= MOST_ELEMENTS
+    room = room_for(out, FLAG, k, fit, "ext_veb", vector, index, lengths)
+    tell(library.cvl_ext_veb(at(vector), n, at(index), lengths, at(room)))
+    return room if out is None else out
 
 
 def rep_vez(vector, index, values, segments, *, out=None):
@@ -1278,11 +1282,12 @@ def rep_vez(vector, index, values, segments, *, out=None):
     index = int_array(index, "index")
     values = int_array(values, "values")
     lengths = lengths_of(segments, "segments")
-    n = length(vector)
-    k = length(index, values, lengths)
-    out = int_room(out, n)
-    tell(library.cvl_rep_vez(at(vector), n, at(index), at(values), at(lengths), k, at(out)))
-    return out
+    n = len(vector)
+    k = lengths.segments
+    fit = n <= MOST_ELEMENTS and len(index) == len(values) == k <= MOST_ELEMENTS
+    room = room_for(out, INT, n, fit, "rep_vez", vector, index, values, lengths)
+    tell(library.cvl_rep_vez(at(vector), at(index), at(values), lengths, at(room), n))
+    return room if out is None else out
 
 
 def rep_veb(vector, index, values, segments, *, out=None):
@@ -1303,11 +1308,12 @@ def rep_veb(vector, index, values, segments, *, out=None):
     index = int_array(index, "index")
     values = flag_array(values, "values")
     lengths = lengths_of(segments, "segments")
-    n = length(vector)
-    k = length(index, values, lengths)
-    out = flag_room(out, n)
-    tell(library.cvl_rep_veb(at(vector), n, at(index), at(values), at(lengths), k, at(out)))
-    return out
+    n = len(vector)
+    k = lengths.segments
+    fit = n <= MOST_ELEMENTS and len(index) == len(values) == k <= MOST_ELEMENTS
+    room = room_for(out, FLAG, n, fit, "rep_veb", vector, index, values, lengths)
+    tell(library.cvl_rep_veb(at(vector), at(index), at(values), lengths, at(room), n))
+    return room if out is None else out
 
 
 def dis_vez(values, segments, *, out=None):
@@ -1322,10 +1328,10 @@ def dis_vez(values, segments, *, out=None):
     """
     values = int_array(values, "values")
     lengths = lengths_of(segments, "segments")
-    k = length(values, lengths)
-    out = int_room(out, total(segments))
-    tell(library.cvl_dis_vez(at(values), at(lengths), k, at(out), len(out)))
-    return out
+    k = lengths.segments
+    room = own_room(out, INT, total, lengths, len(values) == k <= MOST_ELEMENTS, "dis_vez", values, lengths)
+    tell(library.cvl_dis_vez(at(values), lengths, at(room), len(room)))
+    return room if out is None else out
 
 
 def dis_veb(values, segments, *, out=None):
@@ -1340,10 +1346,10 @@ def dis_veb(values, segments, *, out=None):
     """
     values = flag_array(values, "values")
     lengths = lengths_of(segments, "segments")
-    k = length(values, lengths)
-    out = flag_room(out, total(segments))
-    tell(library.cvl_dis_veb(at(values), at(lengths), k, at(out), len(out)))
-    return out
+    k = lengths.segments
+    room = own_room(out, FLAG, total, lengths, len(values) == k <= MOST_ELEMENTS, "dis_veb", values, lengths)
+    tell(library.cvl_dis_veb(at(values), lengths, at(room), len(room)))
+    return room if out is None else out
 
 
 def ind_lez(inits, strides, segments, *, out=None):
@@ -1360,10 +1366,11 @@ def ind_lez(inits, strides, segments, *, out=None):
     inits = int_array(inits, "inits")
     strides = int_array(strides, "strides")
     lengths = lengths_of(segments, "segments")
-    k = length(inits, strides, lengths)
-    out = int_room(out, total(segments))
-    tell(library.cvl_ind_lez(at(inits), at(strides), at(lengths), k, at(out), len(out)))
-    return out
+    k = lengths.segments
+    fit = len(inits) == len(strides) == k <= MOST_ELEMENTS
+    room = own_room(out, INT, total, lengths, fit, "ind_lez", inits, strides, lengths)
+    tell(library.cvl_ind_lez(at(inits), at(strides), lengths, at(room), len(room)))
+    return room if out is None else out
 
 
 def add_sez(a, segments, *, out=None):
@@ -1382,11 +1389,10 @@ def add_sez(a, segments, *, out=None):
     """
     a = int_array(a, "a")
     lengths = lengths_of(segments, "segments")
-    k = length(lengths)
-    n = length(a)
-    out = int_room(out, n)
-    tell(library.cvl_add_sez(at(a), at(lengths), k, at(out), n))
-    return out
+    n = len(a)
+    room = room_for(out, INT, n, n <= MOST_ELEMENTS, "add_sez", a, lengths)
+    tell(library.cvl_add_sez(at(a), lengths, at(room), n))
+    return room if out is None else out
 
 
 def add_rez(a, segments, *, out=None):
@@ -1402,11 +1408,11 @@ def add_rez(a, segments, *, out=None):
     """
     a = int_array(a, "a")
     lengths = lengths_of(segments, "segments")
-    n = length(a)
-    k = length(lengths)
-    out = int_room(out, k)
-    tell(library.cvl_add_rez(at(a), n, at(lengths), k, at(out)))
-    return out
+    n = len(a)
+    k = lengths.segments
+    room = room_for(out, INT, k, n <= MOST_ELEMENTS and k <= MOST_ELEMENTS, "add_rez", a, lengths)
+    tell(library.cvl_add_rez(at(a), n, lengths, at(room)))
+    return room if out is None else out
 
 
 def mul_sez(a, segments, *, out=None):
@@ -1425,11 +1431,10 @@ def mul_sez(a, segments, *, out=None):
     """
     a = int_array(a, "a")
     lengths = lengths_of(segments, "segments")
-    k = length(lengths)
-    n = length(a)
-    out = int_room(out, n)
-    tell(library.cvl_mul_sez(at(a), at(lengths), k, at(out), n))
-    return out
+    n = len(a)
+    room = room_for(out, INT, n, n <= MOST_ELEMENTS, "mul_sez", a, lengths)
+    tell(library.cvl_mul_sez(at(a), lengths, at(room), n))
+    return room if out is None else out
 
 
 def mul_rez(a, segments, *, out=None):
@@ -1446,11 +1451,11 @@ def mul_rez(a, segments, *, out=None):
     """
     a = int_array(a, "a")
     lengths = lengths_of(segments, "segments")
-    n = length(a)
-    k = length(lengths)
-    out = int_room(out, k)
-    tell(library.cvl_mul_rez(at(a), n, at(lengths), k, at(out)))
-    return out
+    n = len(a)
+    k = lengths.segments
+    room = room_for(out, INT, k, n <= MOST_ELEMENTS and k <= MOST_ELEMENTS, "mul_rez", a, lengths)
+    tell(library.cvl_mul_rez(at(a), n, lengths, at(room)))
+    return room if out is None else out
 
 
 def min_sez(a, segments, *, out=None):
@@ -1469,11 +1474,10 @@ def min_sez(a, segments, *, out=None):
     """
     a = int_array(a, "a")
     lengths = lengths_of(segments, "segments")
-    k = length(lengths)
-    n = length(a)
-    out = int_room(out, n)
-    tell(library.cvl_min_sez(at(a), at(lengths), k, at(out), n))
-    return out
+    n = len(a)
+    room = room_for(out, INT, n, n <= MOST_ELEMENTS, "min_sez", a, lengths)
+    tell(library.cvl_min_sez(at(a), lengths, at(room), n))
+    return room if out is None else out
 
 
 def min_rez(a, segments, *, out=None):
@@ -1490,11 +1494,11 @@ def min_rez(a, segments, *, out=None):
     """
     a = int_array(a, "a")
     lengths = lengths_of(segments, "segments")
-    n = length(a)
-    k = length(lengths)
-    out = int_room(out, k)
-    tell(library.cvl_min_rez(at(a), n, at(lengths), k, at(out)))
-    return out
+    n = len(a)
+    k = lengths.segments
+    room = room_for(out, INT, k, n <= MOST_ELEMENTS and k <= MOST_ELEMENTS, "min_rez", a, lengths)
+    tell(library.cvl_min_rez(at(a), n, lengths, at(room)))
+    return room if out is None else out
 
 
 def max_sez(a, segments, *, out=None):
@@ -1513,11 +1517,10 @@ def max_sez(a, segments, *, out=None):
     """
     a = int_array(a, "a")
     lengths = lengths_of(segments, "segments")
-    k = length(lengths)
-    n = length(a)
-    out = int_room(out, n)
-    tell(library.cvl_max_sez(at(a), at(lengths), k, at(out), n))
-    return out
+    n = len(a)
+    room = room_for(out, INT, n, n <= MOST_ELEMENTS, "max_sez", a, lengths)
+    tell(library.cvl_max_sez(at(a), lengths, at(room), n))
+    return room if out is None else out
 
 
 def max_rez(a, segments, *, out=None):
@@ -1534,11 +1537,11 @@ def max_rez(a, segments, *, out=None):
     """
     a = int_array(a, "a")
     lengths = lengths_of(segments, "segments")
-    n = length(a)
-    k = length(lengths)
-    out = int_room(out, k)
-    tell(library.cvl_max_rez(at(a), n, at(lengths), k, at(out)))
-    return out
+    n = len(a)
+    k = lengths.segments
+    room = room_for(out, INT, k, n <= MOST_ELEMENTS and k <= MOST_ELEMENTS, "max_rez", a, lengths)
+    tell(library.cvl_max_rez(at(a), n, lengths, at(room)))
+    return room if out is None else out
 
 
 def and_sez(a, segments, *, out=None):
@@ -1557,11 +1560,10 @@ def and_sez(a, segments, *, out=None):
     """
     a = int_array(a, "a")
     lengths = lengths_of(segments, "segments")
-    k = length(lengths)
-    n = length(a)
-    out = int_room(out, n)
-    tell(library.cvl_and_sez(at(a), at(lengths), k, at(out), n))
-    return out
+    n = len(a)
+    room = room_for(out, INT, n, n <= MOST_ELEMENTS, "and_sez", a, lengths)
+    tell(library.cvl_and_sez(at(a), lengths, at(room), n))
+    return room if out is None else out
 
 
 def and_rez(a, segments, *, out=None):
@@ -1577,11 +1579,11 @@ def and_rez(a, segments, *, out=None):
     """
     a = int_array(a, "a")
     lengths = lengths_of(segments, "segments")
-    n = length(a)
-    k = length(lengths)
-    out = int_room(out, k)
-    tell(library.cvl_and_rez(at(a), n, at(lengths), k, at(out)))
-    return out
+    n = len(a)
+    k = lengths.segments
+    room = room_for(out, INT, k, n <= MOST_ELEMENTS and k <= MOST_ELEMENTS, "and_rez", a, lengths)
+    tell(library.cvl_and_rez(at(a), n, lengths, at(room)))
+    return room if out is None else out
 
 
 def ior_sez(a, segments, *, out=None):
@@ -1600,11 +1602,10 @@ def ior_sez(a, segments, *, out=None):
     """
     a = int_array(a, "a")
     lengths = lengths_of(segments, "segments")
-    k = length(lengths)
-    n = length(a)
-    out = int_room(out, n)
-    tell(library.cvl_ior_sez(at(a), at(lengths), k, at(out), n))
-    return out
+    n = len(a)
+    room = room_for(out, INT, n, n <= MOST_ELEMENTS, "ior_sez", a, lengths)
+    tell(library.cvl_ior_sez(at(a), lengths, at(room), n))
+    return room if out is None else out
 
 
 def ior_rez(a, segments, *, out=None):
@@ -1620,11 +1621,11 @@ def ior_rez(a, segments, *, out=None):
     """
     a = int_array(a, "a")
     lengths = lengths_of(segments, "segments")
-    n = length(a)
-    k = length(lengths)
-    out = int_room(out, k)
-    tell(library.cvl_ior_rez(at(a), n, at(lengths), k, at(out)))
-    return out
+    n = len(a)
+    k = lengths.segments
+    room = room_for(out, INT, k, n <= MOST_ELEMENTS and k <= MOST_ELEMENTS, "ior_rez", a, lengths)
+    tell(library.cvl_ior_rez(at(a), n, lengths, at(room)))
+    return room if out is None else out
 
 
 def xor_sez(a, segments, *, out=None):
@@ -1643,11 +1644,10 @@ def xor_sez(a, segments, *, out=None):
     """
     a = int_array(a, "a")
     lengths = lengths_of(segments, "segments")
-    k = length(lengths)
-    n = length(a)
-    out = int_room(out, n)
-    tell(library.cvl_xor_sez(at(a), at(lengths), k, at(out), n))
-    return out
+    n = len(a)
+    room = room_for(out, INT, n, n <= MOST_ELEMENTS, "xor_sez", a, lengths)
+    tell(library.cvl_xor_sez(at(a), lengths, at(room), n))
+    return room if out is None else out
 
 
 def xor_rez(a, segments, *, out=None):
@@ -1664,11 +1664,11 @@ def xor_rez(a, segments, *, out=None):
     """
     a = int_array(a, "a")
     lengths = lengths_of(segments, "segments")
-    n = length(a)
-    k = length(lengths)
-    out = int_room(out, k)
-    tell(library.cvl_xor_rez(at(a), n, at(lengths), k, at(out)))
-    return out
+    n = len(a)
+    k = lengths.segments
+    room = room_for(out, INT, k, n <= MOST_ELEMENTS and k <= MOST_ELEMENTS, "xor_rez", a, lengths)
+    tell(library.cvl_xor_rez(at(a), n, lengths, at(room)))
+    return room if out is None else out
 
 
 def and_seb(a, segments, *, out=None):
@@ -1687,11 +1687,10 @@ def and_seb(a, segments, *, out=None):
     """
     a = flag_array(a, "a")
     lengths = lengths_of(segments, "segments")
-    k = length(lengths)
-    n = length(a)
-    out = flag_room(out, n)
-    tell(library.cvl_and_seb(at(a), at(lengths), k, at(out), n))
-    return out
+    n = len(a)
+    room = room_for(out, FLAG, n, n <= MOST_ELEMENTS, "and_seb", a, lengths)
+    tell(library.cvl_and_seb(at(a), lengths, at(room), n))
+    return room if out is None else out
 
 
 def and_reb(a, segments, *, out=None):
@@ -1708,11 +1707,11 @@ def and_reb(a, segments, *, out=None):
     """
     a = flag_array(a, "a")
     lengths = lengths_of(segments, "segments")
-    n = length(a)
-    k = length(lengths)
-    out = flag_room(out, k)
-    tell(library.cvl_and_reb(at(a), n, at(lengths), k, at(out)))
-    return out
+    n = len(a)
+    k = lengths.segments
+    room = room_for(out, FLAG, k, n <= MOST_ELEMENTS and k <= MOST_ELEMENTS, "and_reb", a, lengths)
+    tell(library.cvl_and_reb(at(a), n, lengths, at(room)))
+    return room if out is None else out
 
 
 def ior_seb(a, segments, *, out=None):
@@ -1731,11 +1730,10 @@ def ior_seb(a, segments, *, out=None):
     """
     a = flag_array(a, "a")
     lengths = lengths_of(segments, "segments")
-    k = length(lengths)
-    n = length(a)
-    out = flag_room(out, n)
-    tell(library.cvl_ior_seb(at(a), at(lengths), k, at(out), n))
-    return out
+    n = len(a)
+    room = room_for(out, FLAG, n, n <= MOST_ELEMENTS, "ior_seb", a, lengths)
+    tell(library.cvl_ior_seb(at(a), lengths, at(room), n))
+    return room if out is None else out
 
 
 def ior_reb(a, segments, *, out=None):
@@ -1752,11 +1750,11 @@ def ior_reb(a, segments, *, out=None):
     """
     a = flag_array(a, "a")
     lengths = lengths_of(segments, "segments")
-    n = length(a)
-    k = length(lengths)
-    out = flag_room(out, k)
-    tell(library.cvl_ior_reb(at(a), n, at(lengths), k, at(out)))
-    return out
+    n = len(a)
+    k = lengths.segments
+    room = room_for(out, FLAG, k, n <= MOST_ELEMENTS and k <= MOST_ELEMENTS, "ior_reb", a, lengths)
+    tell(library.cvl_ior_reb(at(a), n, lengths, at(room)))
+    return room if out is None else out
 
 
 def xor_seb(a, segments, *, out=None):
@@ -1775,11 +1773,10 @@ def xor_seb(a, segments, *, out=None):
     """
     a = flag_array(a, "a")
     lengths = lengths_of(segments, "segments")
-    k = length(lengths)
-    n = length(a)
-    out = flag_room(out, n)
-    tell(library.cvl_xor_seb(at(a), at(lengths), k, at(out), n))
-    return out
+    n = len(a)
+    room = room_for(out, FLAG, n, n <= MOST_ELEMENTS, "xor_seb", a, lengths)
+    tell(library.cvl_xor_seb(at(a), lengths, at(room), n))
+    return room if out is None else out
 
 
 def xor_reb(a, segments, *, out=None):
@@ -1796,17 +1793,18 @@ def xor_reb(a, segments, *, out=None):
     """
     a = flag_array(a, "a")
     lengths = lengths_of(segments, "segments")
-    n = length(a)
-    k = length(lengths)
-    out = flag_room(out, k)
-    tell(library.cvl_xor_reb(at(a), n, at(lengths), k, at(out)))
-    return out
+    n = len(a)
+    k = lengths.segments
+    room = room_for(out, FLAG, k, n <= MOST_ELEMENTS and k <= MOST_ELEMENTS, "xor_reb", a, lengths)
+    tell(library.cvl_xor_reb(at(a), n, lengths, at(room)))
+    return room if out is None else out
 
 
 def pck_luz(values, flags, *, out=None):
-    """The values whose flag is true, in their order.
+    """The values whose flag is true, in their order. values and flags have n elements. out may be longer than the
+    result, which stands at its front.
 
-    Faults: 13 TooLong.
+    Faults: 13 TooLong; 7 LengthMismatch where there is not room.
 
     >>> import cvl, numpy
     >>> values = numpy.array([1, 2, 3, 4, 5], dtype=numpy.int32)
@@ -1816,17 +1814,18 @@ def pck_luz(values, flags, *, out=None):
     """
     values = int_array(values, "values")
     flags = flag_array(flags, "flags")
-    n = length(values, flags)
-    out = int_room(out, true_flags(flags))
+    n = len(values)
+    room = own_room(out, INT, true_flags, flags, len(flags) == n <= MOST_ELEMENTS, "pck_luz", values, flags)
     count = c_size_t()
-    tell(library.cvl_pck_luz(at(values), at(flags), n, at(out), len(out), byref(count)))
-    return out
+    tell(library.cvl_pck_luz(at(values), at(flags), n, at(room), len(room), byref(count)))
+    return front(room, count.value)
 
 
 def pck_lub(values, flags, *, out=None):
-    """The values whose flag is true, in their order.
+    """The values whose flag is true, in their order. values and flags have n elements. out may be longer than the
+    result, which stands at its front.
 
-    Faults: 13 TooLong.
+    Faults: 13 TooLong; 7 LengthMismatch where there is not room.
 
     >>> import cvl, numpy
     >>> values = numpy.array([True, False, True], dtype=bool)
@@ -1836,18 +1835,19 @@ def pck_lub(values, flags, *, out=None):
     """
     values = flag_array(values, "values")
     flags = flag_array(flags, "flags")
-    n = length(values, flags)
-    out = flag_room(out, true_flags(flags))
+    n = len(values)
+    room = own_room(out, FLAG, true_flags, flags, len(flags) == n <= MOST_ELEMENTS, "pck_lub", values, flags)
     count = c_size_t()
-    tell(library.cvl_pck_lub(at(values), at(flags), n, at(out), len(out), byref(count)))
-    return out
+    tell(library.cvl_pck_lub(at(values), at(flags), n, at(room), len(room), byref(count)))
+    return front(room, count.value)
 
 
 def pck_lez(values, flags, segments, *, out=None):
     """The values of each segment whose flag is true, in their order, one segment after another; pck_fov tells the
-    lengths of these segments.
+    lengths of these segments. values and flags have n elements. out may be longer than the result, which stands at
+    its front.
 
-    Faults: 7 LengthMismatch where the lengths do not add up to n.
+    Faults: 7 LengthMismatch where the lengths do not add up to n, with *count as it was, and where there is not room.
 
     >>> import cvl, numpy
     >>> values = numpy.array([1, 2, 3, 4, 5], dtype=numpy.int32)
@@ -1859,19 +1859,19 @@ def pck_lez(values, flags, segments, *, out=None):
     values = int_array(values, "values")
     flags = flag_array(flags, "flags")
     lengths = lengths_of(segments, "segments")
-    n = length(values, flags)
-    k = length(lengths)
-    out = int_room(out, true_flags(flags))
+    n = len(values)
+    room = own_room(out, INT, true_flags, flags, len(flags) == n <= MOST_ELEMENTS, "pck_lez", values, flags, lengths)
     count = c_size_t()
-    tell(library.cvl_pck_lez(at(values), at(flags), n, at(lengths), k, at(out), len(out), byref(count)))
-    return out
+    tell(library.cvl_pck_lez(at(values), at(flags), n, lengths, at(room), len(room), byref(count)))
+    return front(room, count.value)
 
 
 def pck_leb(values, flags, segments, *, out=None):
     """The values of each segment whose flag is true, in their order, one segment after another; pck_fov tells the
-    lengths of these segments.
+    lengths of these segments. values and flags have n elements. out may be longer than the result, which stands at
+    its front.
 
-    Faults: 7 LengthMismatch where the lengths do not add up to n.
+    Faults: 7 LengthMismatch where the lengths do not add up to n, with *count as it was, and where there is not room.
 
     >>> import cvl, numpy
     >>> values = numpy.array([True, False, True], dtype=bool)
@@ -1883,12 +1883,11 @@ def pck_leb(values, flags, segments, *, out=None):
     values = flag_array(values, "values")
     flags = flag_array(flags, "flags")
     lengths = lengths_of(segments, "segments")
-    n = length(values, flags)
-    k = length(lengths)
-    out = flag_room(out, true_flags(flags))
+    n = len(values)
+    room = own_room(out, FLAG, true_flags, flags, len(flags) == n <= MOST_ELEMENTS, "pck_leb", values, flags, lengths)
     count = c_size_t()
-    tell(library.cvl_pck_leb(at(values), at(flags), n, at(lengths), k, at(out), len(out), byref(count)))
-    return out
+    tell(library.cvl_pck_leb(at(values), at(flags), n, lengths, at(room), len(room), byref(count)))
+    return front(room, count.value)
 
 
 def pck_fov(flags, segments):
@@ -1905,11 +1904,11 @@ def pck_fov(flags, segments):
     """
     flags = flag_array(flags, "flags")
     lengths = lengths_of(segments, "segments")
-    n = length(flags)
-    k = length(lengths)
-    out = int_room(None, k)
-    tell(library.cvl_pck_fov(at(flags), n, at(lengths), k, at(out)))
-    return Segments(out)
+    n = len(flags)
+    k = lengths.segments
+    room = room_for(None, INT, k, n <= MOST_ELEMENTS and k <= MOST_ELEMENTS, "pck_fov", flags, lengths)
+    tell(library.cvl_pck_fov(at(flags), n, lengths, at(room)))
+    return Segments(room)
 
 
 def cnt_leb(flags, segments, *, out=None):
@@ -1925,11 +1924,11 @@ def cnt_leb(flags, segments, *, out=None):
     """
     flags = flag_array(flags, "flags")
     lengths = lengths_of(segments, "segments")
-    n = length(flags)
-    k = length(lengths)
-    out = int_room(out, k)
-    tell(library.cvl_cnt_leb(at(flags), n, at(lengths), k, at(out)))
-    return out
+    n = len(flags)
+    k = lengths.segments
+    room = room_for(out, INT, k, n <= MOST_ELEMENTS and k <= MOST_ELEMENTS, "cnt_leb", flags, lengths)
+    tell(library.cvl_cnt_leb(at(flags), n, lengths, at(room)))
+    return room if out is None else out
 
 
 def smp_puz(source, index, *, out=None):
@@ -1946,10 +1945,10 @@ def smp_puz(source, index, *, out=None):
     """
     source = int_array(source, "source")
     index = int_array(index, "index")
-    n = length(source, index)
-    out = int_room(out, n)
-    tell(library.cvl_smp_puz(at(source), at(index), at(out), n))
-    return out
+    n = len(source)
+    room = room_for(out, INT, n, len(index) == n <= MOST_ELEMENTS, "smp_puz", source, index)
+    tell(library.cvl_smp_puz(at(source), at(index), at(room), n))
+    return room if out is None else out
 
 
 def smp_pub(source, index, *, out=None):
@@ -1966,10 +1965,10 @@ def smp_pub(source, index, *, out=None):
     """
     source = flag_array(source, "source")
     index = int_array(index, "index")
-    n = length(source, index)
-    out = flag_room(out, n)
-    tell(library.cvl_smp_pub(at(source), at(index), at(out), n))
-    return out
+    n = len(source)
+    room = room_for(out, FLAG, n, len(index) == n <= MOST_ELEMENTS, "smp_pub", source, index)
+    tell(library.cvl_smp_pub(at(source), at(index), at(room), n))
+    return room if out is None else out
 
 
 def sel_puz(source, index, flags, *, out=None):
@@ -1989,10 +1988,11 @@ def sel_puz(source, index, flags, *, out=None):
     source = int_array(source, "source")
     index = int_array(index, "index")
     flags = flag_array(flags, "flags")
-    n = length(source, index, flags)
-    out = int_room(out, true_flags(flags))
-    tell(library.cvl_sel_puz(at(source), at(index), at(flags), n, at(out), len(out)))
-    return out
+    n = len(source)
+    fit = len(index) == len(flags) == n <= MOST_ELEMENTS
+    room = own_room(out, INT, true_flags, flags, fit, "sel_puz", source, index, flags)
+    tell(library.cvl_sel_puz(at(source), at(index), at(flags), n, at(room), len(room)))
+    return room if out is None else out
 
 
 def sel_pub(source, index, flags, *, out=None):
@@ -2012,10 +2012,11 @@ def sel_pub(source, index, flags, *, out=None):
     source = flag_array(source, "source")
     index = int_array(index, "index")
     flags = flag_array(flags, "flags")
-    n = length(source, index, flags)
-    out = flag_room(out, true_flags(flags))
-    tell(library.cvl_sel_pub(at(source), at(index), at(flags), n, at(out), len(out)))
-    return out
+    n = len(source)
+    fit = len(index) == len(flags) == n <= MOST_ELEMENTS
+    room = own_room(out, FLAG, true_flags, flags, fit, "sel_pub", source, index, flags)
+    tell(library.cvl_sel_pub(at(source), at(index), at(flags), n, at(room), len(room)))
+    return room if out is None else out
 
 
 def def_puz(source, index, defaults, *, out=None):
@@ -2035,11 +2036,11 @@ def def_puz(source, index, defaults, *, out=None):
     source = int_array(source, "source")
     index = int_array(index, "index")
     defaults = int_array(defaults, "defaults")
-    n = length(source, index)
-    m = length(defaults)
-    out = int_room(out, m)
-    tell(library.cvl_def_puz(at(source), at(index), n, at(defaults), at(out), m))
-    return out
+    n = len(source)
+    m = len(defaults)
+    room = room_for(out, INT, m, len(index) == n <= MOST_ELEMENTS, "def_puz", source, index, defaults)
+    tell(library.cvl_def_puz(at(source), at(index), n, at(defaults), at(room), m))
+    return room if out is None else out
 
 
 def def_pub(source, index, defaults, *, out=None):
@@ -2059,11 +2060,11 @@ def def_pub(source, index, defaults, *, out=None):
     source = flag_array(source, "source")
     index = int_array(index, "index")
     defaults = flag_array(defaults, "defaults")
-    n = length(source, index)
-    m = length(defaults)
-    out = flag_room(out, m)
-    tell(library.cvl_def_pub(at(source), at(index), n, at(defaults), at(out), m))
-    return out
+    n = len(source)
+    m = len(defaults)
+    room = room_for(out, FLAG, m, len(index) == n <= MOST_ELEMENTS, "def_pub", source, index, defaults)
+    tell(library.cvl_def_pub(at(source), at(index), n, at(defaults), at(room), m))
+    return room if out is None else out
 
 
 def bck_puz(source, index, *, out=None):
@@ -2080,11 +2081,11 @@ def bck_puz(source, index, *, out=None):
     """
     source = int_array(source, "source")
     index = int_array(index, "index")
-    n = length(source)
-    m = length(index)
-    out = int_room(out, m)
-    tell(library.cvl_bck_puz(at(source), n, at(index), at(out), m))
-    return out
+    n = len(source)
+    m = len(index)
+    room = room_for(out, INT, m, m <= MOST_ELEMENTS, "bck_puz", source, index)
+    tell(library.cvl_bck_puz(at(source), n, at(index), at(room), m))
+    return room if out is None else out
 
 
 def bck_pub(source, index, *, out=None):
@@ -2101,11 +2102,11 @@ def bck_pub(source, index, *, out=None):
     """
     source = flag_array(source, "source")
     index = int_array(index, "index")
-    n = length(source)
-    m = length(index)
-    out = flag_room(out, m)
-    tell(library.cvl_bck_pub(at(source), n, at(index), at(out), m))
-    return out
+    n = len(source)
+    m = len(index)
+    room = room_for(out, FLAG, m, m <= MOST_ELEMENTS, "bck_pub", source, index)
+    tell(library.cvl_bck_pub(at(source), n, at(index), at(room), m))
+    return room if out is None else out
 
 
 def smp_pez(source, index, segments, *, out=None):
@@ -2126,11 +2127,10 @@ def smp_pez(source, index, segments, *, out=None):
     source = int_array(source, "source")
     index = int_array(index, "index")
     lengths = lengths_of(segments, "segments")
-    k = length(lengths)
-    n = length(source, index)
-    out = int_room(out, n)
-    tell(library.cvl_smp_pez(at(source), at(index), at(lengths), k, at(out), n))
-    return out
+    n = len(source)
+    room = room_for(out, INT, n, len(index) == n <= MOST_ELEMENTS, "smp_pez", source, index, lengths)
+    tell(library.cvl_smp_pez(at(source), at(index), lengths, at(room), n))
+    return room if out is None else out
 
 
 def smp_peb(source, index, segments, *, out=None):
@@ -2151,11 +2151,10 @@ def smp_peb(source, index, segments, *, out=None):
     source = flag_array(source, "source")
     index = int_array(index, "index")
     lengths = lengths_of(segments, "segments")
-    k = length(lengths)
-    n = length(source, index)
-    out = flag_room(out, n)
-    tell(library.cvl_smp_peb(at(source), at(index), at(lengths), k, at(out), n))
-    return out
+    n = len(source)
+    room = room_for(out, FLAG, n, len(index) == n <= MOST_ELEMENTS, "smp_peb", source, index, lengths)
+    tell(library.cvl_smp_peb(at(source), at(index), lengths, at(room), n))
+    return room if out is None else out
 
 
 def sel_pez(source, index, flags, segments, *, out=None):
@@ -2179,11 +2178,11 @@ def sel_pez(source, index, flags, segments, *, out=None):
     index = int_array(index, "index")
     flags = flag_array(flags, "flags")
     lengths = lengths_of(segments, "segments")
-    n = length(source, index, flags)
-    k = length(lengths)
-    out = int_room(out, true_flags(flags))
-    tell(library.cvl_sel_pez(at(source), at(index), at(flags), n, at(lengths), k, at(out), len(out)))
-    return out
+    n = len(source)
+    fit = len(index) == len(flags) == n <= MOST_ELEMENTS
+    room = own_room(out, INT, true_flags, flags, fit, "sel_pez", source, index, flags, lengths)
+    tell(library.cvl_sel_pez(at(source), at(index), at(flags), n, lengths, at(room), len(room)))
+    return room if out is None else out
 
 
 def sel_peb(source, index, flags, segments, *, out=None):
@@ -2207,11 +2206,11 @@ def sel_peb(source, index, flags, segments, *, out=None):
     index = int_array(index, "index")
     flags = flag_array(flags, "flags")
     lengths = lengths_of(segments, "segments")
-    n = length(source, index, flags)
-    k = length(lengths)
-    out = flag_room(out, true_flags(flags))
-    tell(library.cvl_sel_peb(at(source), at(index), at(flags), n, at(lengths), k, at(out), len(out)))
-    return out
+    n = len(source)
+    fit = len(index) == len(flags) == n <= MOST_ELEMENTS
+    room = own_room(out, FLAG, true_flags, flags, fit, "sel_peb", source, index, flags, lengths)
+    tell(library.cvl_sel_peb(at(source), at(index), at(flags), n, lengths, at(room), len(room)))
+    return room if out is None else out
 
 
 def def_pez(source, index, defaults, segments, default_segments, *, out=None):
@@ -2237,12 +2236,12 @@ def def_pez(source, index, defaults, segments, default_segments, *, out=None):
     defaults = int_array(defaults, "defaults")
     lengths = lengths_of(segments, "segments")
     default_lengths = lengths_of(default_segments, "default_segments")
-    n = length(source, index)
-    k = length(lengths, default_lengths)
-    m = length(defaults)
-    out = int_room(out, m)
-    tell(library.cvl_def_pez(at(source), at(index), n, at(defaults), at(lengths), at(default_lengths), k, at(out), m))
-    return out
+    n = len(source)
+    m = len(defaults)
+    fit = len(index) == n <= MOST_ELEMENTS and m <= MOST_ELEMENTS
+    room = room_for(out, INT, m, fit, "def_pez", source, index, defaults, lengths, default_lengths)
+    tell(library.cvl_def_pez(at(source), at(index), n, at(defaults), lengths, default_lengths, at(room), m))
+    return room if out is None else out
 
 
 def def_peb(source, index, defaults, segments, default_segments, *, out=None):
@@ -2268,12 +2267,12 @@ def def_peb(source, index, defaults, segments, default_segments, *, out=None):
     defaults = flag_array(defaults, "defaults")
     lengths = lengths_of(segments, "segments")
     default_lengths = lengths_of(default_segments, "default_segments")
-    n = length(source, index)
-    k = length(lengths, default_lengths)
-    m = length(defaults)
-    out = flag_room(out, m)
-    tell(library.cvl_def_peb(at(source), at(index), n, at(defaults), at(lengths), at(default_lengths), k, at(out), m))
-    return out
+    n = len(source)
+    m = len(defaults)
+    fit = len(index) == n <= MOST_ELEMENTS and m <= MOST_ELEMENTS
+    room = room_for(out, FLAG, m, fit, "def_peb", source, index, defaults, lengths, default_lengths)
+    tell(library.cvl_def_peb(at(source), at(index), n, at(defaults), lengths, default_lengths, at(room), m))
+    return room if out is None else out
 
 
 def bck_pez(source, index, segments, index_segments, *, out=None):
@@ -2295,12 +2294,12 @@ def bck_pez(source, index, segments, index_segments, *, out=None):
     index = int_array(index, "index")
     lengths = lengths_of(segments, "segments")
     index_lengths = lengths_of(index_segments, "index_segments")
-    n = length(source)
-    k = length(lengths, index_lengths)
-    m = length(index)
-    out = int_room(out, m)
-    tell(library.cvl_bck_pez(at(source), n, at(index), at(lengths), at(index_lengths), k, at(out), m))
-    return out
+    n = len(source)
+    m = len(index)
+    fit = n <= MOST_ELEMENTS and m <= MOST_ELEMENTS
+    room = room_for(out, INT, m, fit, "bck_pez", source, index, lengths, index_lengths)
+    tell(library.cvl_bck_pez(at(source), n, at(index), lengths, index_lengths, at(room), m))
+    return room if out is None else out
 
 
 def bck_peb(source, index, segments, index_segments, *, out=None):
@@ -2322,9 +2321,9 @@ def bck_peb(source, index, segments, index_segments, *, out=None):
     index = int_array(index, "index")
     lengths = lengths_of(segments, "segments")
     index_lengths = lengths_of(index_segments, "index_segments")
-    n = length(source)
-    k = length(lengths, index_lengths)
-    m = length(index)
-    out = flag_room(out, m)
-    tell(library.cvl_bck_peb(at(source), n, at(index), at(lengths), at(index_lengths), k, at(out), m))
-    return out
+    n = len(source)
+    m = len(index)
+    fit = n <= MOST_ELEMENTS and m <= MOST_ELEMENTS
+    room = room_for(out, FLAG, m, fit, "bck_peb", source, index, lengths, index_lengths)
+    tell(library.cvl_bck_peb(at(source), n, at(index), lengths, index_lengths, at(room), m))
+    return room if out is None else out

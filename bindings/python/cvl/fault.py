@@ -1,5 +1,7 @@
 """Faults of calls."""
 
+from typing import Optional
+
 
 class Fault(Exception):
     """A call has no value. `number` and `name` say why, and `place` where, counted from 0, or is None.
@@ -14,12 +16,12 @@ class Fault(Exception):
     8 DivideByZero 1
     """
 
-    def __init__(self, number, name, place=None):
+    def __init__(self, number: int, name: str, place: Optional[int] = None) -> None:
         super().__init__(number, name, place)
         self.number = number
         self.name = name
         self.place = place
 
-    def __str__(self):
+    def __str__(self) -> str:
         said = f"fault {self.number} {self.name}"
         return said if self.place is None else f"{said} at {self.place}"

@@ -1,10 +1,10 @@
 //! Each call of the table, by its name: over slices, with a new vector for its result; under a name that ends
 //! in `_into`, into a room; and under one that ends in `_in`, in the place of an argument, where a call may.
 //!
-//! Written by bindings/generate; edit that and not this file.
+//! Written by bindings/generate from bindings/table.py; edit that and not this file.
 
 use crate::fault::{told, Fault};
-use crate::lengths::{as_long, places, same, true_flags};
+use crate::lengths::{as_long, limit, places, same, true_flags, zeros};
 use crate::segments::Segments;
 use crate::symbols;
 
@@ -17,16 +17,19 @@ use crate::symbols;
 /// # Ok::<(), cvl::Fault>(())
 /// ```
 pub fn add_wuz(a: &[i32], b: &[i32]) -> Result<Vec<i32>, Fault> {
-    let mut out = vec![0; a.len()];
+    limit(a.len())?;
+    same(&[a.len(), b.len()])?;
+    let mut out = zeros(a.len())?;
     add_wuz_into(a, b, &mut out)?;
     Ok(out)
 }
 
-/// [`add_wuz`] into a room that is as long as the result; a fault leaves it as it was.
+/// [`add_wuz`] into a room that is as long as the result; a fault leaves the room as it was.
 pub fn add_wuz_into(a: &[i32], b: &[i32], out: &mut [i32]) -> Result<(), Fault> {
-    let n = same(&[a.len(), b.len()])?;
+    limit(a.len())?;
+    same(&[a.len(), b.len()])?;
     as_long(out, a.len())?;
-    told(unsafe { symbols::cvl_add_wuz(a.as_ptr(), b.as_ptr(), out.as_mut_ptr(), n) })
+    told(unsafe { symbols::cvl_add_wuz(a.as_ptr(), b.as_ptr(), out.as_mut_ptr(), a.len()) })
 }
 
 /// [`add_wuz`] in the place of `a`; a fault leaves it as it was.
@@ -38,9 +41,10 @@ pub fn add_wuz_into(a: &[i32], b: &[i32], out: &mut [i32]) -> Result<(), Fault> 
 /// # Ok::<(), cvl::Fault>(())
 /// ```
 pub fn add_wuz_in(a: &mut [i32], b: &[i32]) -> Result<(), Fault> {
-    let n = same(&[a.len(), b.len()])?;
+    limit(a.len())?;
+    same(&[a.len(), b.len()])?;
     let out = a.as_mut_ptr();
-    told(unsafe { symbols::cvl_add_wuz(out, b.as_ptr(), out, n) })
+    told(unsafe { symbols::cvl_add_wuz(out, b.as_ptr(), out, a.len()) })
 }
 
 /// The wrapped products. a, b and out have n elements.
@@ -52,16 +56,19 @@ pub fn add_wuz_in(a: &mut [i32], b: &[i32]) -> Result<(), Fault> {
 /// # Ok::<(), cvl::Fault>(())
 /// ```
 pub fn mul_wuz(a: &[i32], b: &[i32]) -> Result<Vec<i32>, Fault> {
-    let mut out = vec![0; a.len()];
+    limit(a.len())?;
+    same(&[a.len(), b.len()])?;
+    let mut out = zeros(a.len())?;
     mul_wuz_into(a, b, &mut out)?;
     Ok(out)
 }
 
-/// [`mul_wuz`] into a room that is as long as the result; a fault leaves it as it was.
+/// [`mul_wuz`] into a room that is as long as the result; a fault leaves the room as it was.
 pub fn mul_wuz_into(a: &[i32], b: &[i32], out: &mut [i32]) -> Result<(), Fault> {
-    let n = same(&[a.len(), b.len()])?;
+    limit(a.len())?;
+    same(&[a.len(), b.len()])?;
     as_long(out, a.len())?;
-    told(unsafe { symbols::cvl_mul_wuz(a.as_ptr(), b.as_ptr(), out.as_mut_ptr(), n) })
+    told(unsafe { symbols::cvl_mul_wuz(a.as_ptr(), b.as_ptr(), out.as_mut_ptr(), a.len()) })
 }
 
 /// [`mul_wuz`] in the place of `a`; a fault leaves it as it was.
@@ -73,9 +80,10 @@ pub fn mul_wuz_into(a: &[i32], b: &[i32], out: &mut [i32]) -> Result<(), Fault> 
 /// # Ok::<(), cvl::Fault>(())
 /// ```
 pub fn mul_wuz_in(a: &mut [i32], b: &[i32]) -> Result<(), Fault> {
-    let n = same(&[a.len(), b.len()])?;
+    limit(a.len())?;
+    same(&[a.len(), b.len()])?;
     let out = a.as_mut_ptr();
-    told(unsafe { symbols::cvl_mul_wuz(out, b.as_ptr(), out, n) })
+    told(unsafe { symbols::cvl_mul_wuz(out, b.as_ptr(), out, a.len()) })
 }
 
 /// The lesser of each two. a, b and out have n elements.
@@ -87,16 +95,19 @@ pub fn mul_wuz_in(a: &mut [i32], b: &[i32]) -> Result<(), Fault> {
 /// # Ok::<(), cvl::Fault>(())
 /// ```
 pub fn min_wuz(a: &[i32], b: &[i32]) -> Result<Vec<i32>, Fault> {
-    let mut out = vec![0; a.len()];
+    limit(a.len())?;
+    same(&[a.len(), b.len()])?;
+    let mut out = zeros(a.len())?;
     min_wuz_into(a, b, &mut out)?;
     Ok(out)
 }
 
-/// [`min_wuz`] into a room that is as long as the result; a fault leaves it as it was.
+/// [`min_wuz`] into a room that is as long as the result; a fault leaves the room as it was.
 pub fn min_wuz_into(a: &[i32], b: &[i32], out: &mut [i32]) -> Result<(), Fault> {
-    let n = same(&[a.len(), b.len()])?;
+    limit(a.len())?;
+    same(&[a.len(), b.len()])?;
     as_long(out, a.len())?;
-    told(unsafe { symbols::cvl_min_wuz(a.as_ptr(), b.as_ptr(), out.as_mut_ptr(), n) })
+    told(unsafe { symbols::cvl_min_wuz(a.as_ptr(), b.as_ptr(), out.as_mut_ptr(), a.len()) })
 }
 
 /// [`min_wuz`] in the place of `a`; a fault leaves it as it was.
@@ -108,9 +119,10 @@ pub fn min_wuz_into(a: &[i32], b: &[i32], out: &mut [i32]) -> Result<(), Fault> 
 /// # Ok::<(), cvl::Fault>(())
 /// ```
 pub fn min_wuz_in(a: &mut [i32], b: &[i32]) -> Result<(), Fault> {
-    let n = same(&[a.len(), b.len()])?;
+    limit(a.len())?;
+    same(&[a.len(), b.len()])?;
     let out = a.as_mut_ptr();
-    told(unsafe { symbols::cvl_min_wuz(out, b.as_ptr(), out, n) })
+    told(unsafe { symbols::cvl_min_wuz(out, b.as_ptr(), out, a.len()) })
 }
 
 /// The greater of each two. a, b and out have n elements.
@@ -122,16 +134,19 @@ pub fn min_wuz_in(a: &mut [i32], b: &[i32]) -> Result<(), Fault> {
 /// # Ok::<(), cvl::Fault>(())
 /// ```
 pub fn max_wuz(a: &[i32], b: &[i32]) -> Result<Vec<i32>, Fault> {
-    let mut out = vec![0; a.len()];
+    limit(a.len())?;
+    same(&[a.len(), b.len()])?;
+    let mut out = zeros(a.len())?;
     max_wuz_into(a, b, &mut out)?;
     Ok(out)
 }
 
-/// [`max_wuz`] into a room that is as long as the result; a fault leaves it as it was.
+/// [`max_wuz`] into a room that is as long as the result; a fault leaves the room as it was.
 pub fn max_wuz_into(a: &[i32], b: &[i32], out: &mut [i32]) -> Result<(), Fault> {
-    let n = same(&[a.len(), b.len()])?;
+    limit(a.len())?;
+    same(&[a.len(), b.len()])?;
     as_long(out, a.len())?;
-    told(unsafe { symbols::cvl_max_wuz(a.as_ptr(), b.as_ptr(), out.as_mut_ptr(), n) })
+    told(unsafe { symbols::cvl_max_wuz(a.as_ptr(), b.as_ptr(), out.as_mut_ptr(), a.len()) })
 }
 
 /// [`max_wuz`] in the place of `a`; a fault leaves it as it was.
@@ -143,9 +158,10 @@ pub fn max_wuz_into(a: &[i32], b: &[i32], out: &mut [i32]) -> Result<(), Fault> 
 /// # Ok::<(), cvl::Fault>(())
 /// ```
 pub fn max_wuz_in(a: &mut [i32], b: &[i32]) -> Result<(), Fault> {
-    let n = same(&[a.len(), b.len()])?;
+    limit(a.len())?;
+    same(&[a.len(), b.len()])?;
     let out = a.as_mut_ptr();
-    told(unsafe { symbols::cvl_max_wuz(out, b.as_ptr(), out, n) })
+    told(unsafe { symbols::cvl_max_wuz(out, b.as_ptr(), out, a.len()) })
 }
 
 /// And, bit by bit. a, b and out have n elements.
@@ -157,16 +173,19 @@ pub fn max_wuz_in(a: &mut [i32], b: &[i32]) -> Result<(), Fault> {
 /// # Ok::<(), cvl::Fault>(())
 /// ```
 pub fn and_wuz(a: &[i32], b: &[i32]) -> Result<Vec<i32>, Fault> {
-    let mut out = vec![0; a.len()];
+    limit(a.len())?;
+    same(&[a.len(), b.len()])?;
+    let mut out = zeros(a.len())?;
     and_wuz_into(a, b, &mut out)?;
     Ok(out)
 }
 
-/// [`and_wuz`] into a room that is as long as the result; a fault leaves it as it was.
+/// [`and_wuz`] into a room that is as long as the result; a fault leaves the room as it was.
 pub fn and_wuz_into(a: &[i32], b: &[i32], out: &mut [i32]) -> Result<(), Fault> {
-    let n = same(&[a.len(), b.len()])?;
+    limit(a.len())?;
+    same(&[a.len(), b.len()])?;
     as_long(out, a.len())?;
-    told(unsafe { symbols::cvl_and_wuz(a.as_ptr(), b.as_ptr(), out.as_mut_ptr(), n) })
+    told(unsafe { symbols::cvl_and_wuz(a.as_ptr(), b.as_ptr(), out.as_mut_ptr(), a.len()) })
 }
 
 /// [`and_wuz`] in the place of `a`; a fault leaves it as it was.
@@ -178,9 +197,10 @@ pub fn and_wuz_into(a: &[i32], b: &[i32], out: &mut [i32]) -> Result<(), Fault> 
 /// # Ok::<(), cvl::Fault>(())
 /// ```
 pub fn and_wuz_in(a: &mut [i32], b: &[i32]) -> Result<(), Fault> {
-    let n = same(&[a.len(), b.len()])?;
+    limit(a.len())?;
+    same(&[a.len(), b.len()])?;
     let out = a.as_mut_ptr();
-    told(unsafe { symbols::cvl_and_wuz(out, b.as_ptr(), out, n) })
+    told(unsafe { symbols::cvl_and_wuz(out, b.as_ptr(), out, a.len()) })
 }
 
 /// Or, bit by bit. a, b and out have n elements.
@@ -192,16 +212,19 @@ pub fn and_wuz_in(a: &mut [i32], b: &[i32]) -> Result<(), Fault> {
 /// # Ok::<(), cvl::Fault>(())
 /// ```
 pub fn ior_wuz(a: &[i32], b: &[i32]) -> Result<Vec<i32>, Fault> {
-    let mut out = vec![0; a.len()];
+    limit(a.len())?;
+    same(&[a.len(), b.len()])?;
+    let mut out = zeros(a.len())?;
     ior_wuz_into(a, b, &mut out)?;
     Ok(out)
 }
 
-/// [`ior_wuz`] into a room that is as long as the result; a fault leaves it as it was.
+/// [`ior_wuz`] into a room that is as long as the result; a fault leaves the room as it was.
 pub fn ior_wuz_into(a: &[i32], b: &[i32], out: &mut [i32]) -> Result<(), Fault> {
-    let n = same(&[a.len(), b.len()])?;
+    limit(a.len())?;
+    same(&[a.len(), b.len()])?;
     as_long(out, a.len())?;
-    told(unsafe { symbols::cvl_ior_wuz(a.as_ptr(), b.as_ptr(), out.as_mut_ptr(), n) })
+    told(unsafe { symbols::cvl_ior_wuz(a.as_ptr(), b.as_ptr(), out.as_mut_ptr(), a.len()) })
 }
 
 /// [`ior_wuz`] in the place of `a`; a fault leaves it as it was.
@@ -213,9 +236,10 @@ pub fn ior_wuz_into(a: &[i32], b: &[i32], out: &mut [i32]) -> Result<(), Fault> 
 /// # Ok::<(), cvl::Fault>(())
 /// ```
 pub fn ior_wuz_in(a: &mut [i32], b: &[i32]) -> Result<(), Fault> {
-    let n = same(&[a.len(), b.len()])?;
+    limit(a.len())?;
+    same(&[a.len(), b.len()])?;
     let out = a.as_mut_ptr();
-    told(unsafe { symbols::cvl_ior_wuz(out, b.as_ptr(), out, n) })
+    told(unsafe { symbols::cvl_ior_wuz(out, b.as_ptr(), out, a.len()) })
 }
 
 /// Exclusive or, bit by bit. a, b and out have n elements.
@@ -227,16 +251,19 @@ pub fn ior_wuz_in(a: &mut [i32], b: &[i32]) -> Result<(), Fault> {
 /// # Ok::<(), cvl::Fault>(())
 /// ```
 pub fn xor_wuz(a: &[i32], b: &[i32]) -> Result<Vec<i32>, Fault> {
-    let mut out = vec![0; a.len()];
+    limit(a.len())?;
+    same(&[a.len(), b.len()])?;
+    let mut out = zeros(a.len())?;
     xor_wuz_into(a, b, &mut out)?;
     Ok(out)
 }
 
-/// [`xor_wuz`] into a room that is as long as the result; a fault leaves it as it was.
+/// [`xor_wuz`] into a room that is as long as the result; a fault leaves the room as it was.
 pub fn xor_wuz_into(a: &[i32], b: &[i32], out: &mut [i32]) -> Result<(), Fault> {
-    let n = same(&[a.len(), b.len()])?;
+    limit(a.len())?;
+    same(&[a.len(), b.len()])?;
     as_long(out, a.len())?;
-    told(unsafe { symbols::cvl_xor_wuz(a.as_ptr(), b.as_ptr(), out.as_mut_ptr(), n) })
+    told(unsafe { symbols::cvl_xor_wuz(a.as_ptr(), b.as_ptr(), out.as_mut_ptr(), a.len()) })
 }
 
 /// [`xor_wuz`] in the place of `a`; a fault leaves it as it was.
@@ -248,9 +275,10 @@ pub fn xor_wuz_into(a: &[i32], b: &[i32], out: &mut [i32]) -> Result<(), Fault> 
 /// # Ok::<(), cvl::Fault>(())
 /// ```
 pub fn xor_wuz_in(a: &mut [i32], b: &[i32]) -> Result<(), Fault> {
-    let n = same(&[a.len(), b.len()])?;
+    limit(a.len())?;
+    same(&[a.len(), b.len()])?;
     let out = a.as_mut_ptr();
-    told(unsafe { symbols::cvl_xor_wuz(out, b.as_ptr(), out, n) })
+    told(unsafe { symbols::cvl_xor_wuz(out, b.as_ptr(), out, a.len()) })
 }
 
 /// The wrapped differences. a, b and out have n elements.
@@ -262,16 +290,19 @@ pub fn xor_wuz_in(a: &mut [i32], b: &[i32]) -> Result<(), Fault> {
 /// # Ok::<(), cvl::Fault>(())
 /// ```
 pub fn sub_wuz(a: &[i32], b: &[i32]) -> Result<Vec<i32>, Fault> {
-    let mut out = vec![0; a.len()];
+    limit(a.len())?;
+    same(&[a.len(), b.len()])?;
+    let mut out = zeros(a.len())?;
     sub_wuz_into(a, b, &mut out)?;
     Ok(out)
 }
 
-/// [`sub_wuz`] into a room that is as long as the result; a fault leaves it as it was.
+/// [`sub_wuz`] into a room that is as long as the result; a fault leaves the room as it was.
 pub fn sub_wuz_into(a: &[i32], b: &[i32], out: &mut [i32]) -> Result<(), Fault> {
-    let n = same(&[a.len(), b.len()])?;
+    limit(a.len())?;
+    same(&[a.len(), b.len()])?;
     as_long(out, a.len())?;
-    told(unsafe { symbols::cvl_sub_wuz(a.as_ptr(), b.as_ptr(), out.as_mut_ptr(), n) })
+    told(unsafe { symbols::cvl_sub_wuz(a.as_ptr(), b.as_ptr(), out.as_mut_ptr(), a.len()) })
 }
 
 /// [`sub_wuz`] in the place of `a`; a fault leaves it as it was.
@@ -283,9 +314,10 @@ pub fn sub_wuz_into(a: &[i32], b: &[i32], out: &mut [i32]) -> Result<(), Fault> 
 /// # Ok::<(), cvl::Fault>(())
 /// ```
 pub fn sub_wuz_in(a: &mut [i32], b: &[i32]) -> Result<(), Fault> {
-    let n = same(&[a.len(), b.len()])?;
+    limit(a.len())?;
+    same(&[a.len(), b.len()])?;
     let out = a.as_mut_ptr();
-    told(unsafe { symbols::cvl_sub_wuz(out, b.as_ptr(), out, n) })
+    told(unsafe { symbols::cvl_sub_wuz(out, b.as_ptr(), out, a.len()) })
 }
 
 /// The quotients, truncated toward zero; -2147483648 by -1 is -2147483648. a, b and out have n
@@ -298,16 +330,19 @@ pub fn sub_wuz_in(a: &mut [i32], b: &[i32]) -> Result<(), Fault> {
 /// # Ok::<(), cvl::Fault>(())
 /// ```
 pub fn div_wuz(a: &[i32], b: &[i32]) -> Result<Vec<i32>, Fault> {
-    let mut out = vec![0; a.len()];
+    limit(a.len())?;
+    same(&[a.len(), b.len()])?;
+    let mut out = zeros(a.len())?;
     div_wuz_into(a, b, &mut out)?;
     Ok(out)
 }
 
-/// [`div_wuz`] into a room that is as long as the result; a fault leaves it as it was.
+/// [`div_wuz`] into a room that is as long as the result; a fault leaves the room as it was.
 pub fn div_wuz_into(a: &[i32], b: &[i32], out: &mut [i32]) -> Result<(), Fault> {
-    let n = same(&[a.len(), b.len()])?;
+    limit(a.len())?;
+    same(&[a.len(), b.len()])?;
     as_long(out, a.len())?;
-    told(unsafe { symbols::cvl_div_wuz(a.as_ptr(), b.as_ptr(), out.as_mut_ptr(), n) })
+    told(unsafe { symbols::cvl_div_wuz(a.as_ptr(), b.as_ptr(), out.as_mut_ptr(), a.len()) })
 }
 
 /// [`div_wuz`] in the place of `a`; a fault leaves it as it was.
@@ -319,9 +354,10 @@ pub fn div_wuz_into(a: &[i32], b: &[i32], out: &mut [i32]) -> Result<(), Fault> 
 /// # Ok::<(), cvl::Fault>(())
 /// ```
 pub fn div_wuz_in(a: &mut [i32], b: &[i32]) -> Result<(), Fault> {
-    let n = same(&[a.len(), b.len()])?;
+    limit(a.len())?;
+    same(&[a.len(), b.len()])?;
     let out = a.as_mut_ptr();
-    told(unsafe { symbols::cvl_div_wuz(out, b.as_ptr(), out, n) })
+    told(unsafe { symbols::cvl_div_wuz(out, b.as_ptr(), out, a.len()) })
 }
 
 /// The remainders of the quotients, with the dividends' signs. a, b and out have n elements.
@@ -333,16 +369,19 @@ pub fn div_wuz_in(a: &mut [i32], b: &[i32]) -> Result<(), Fault> {
 /// # Ok::<(), cvl::Fault>(())
 /// ```
 pub fn mod_wuz(a: &[i32], b: &[i32]) -> Result<Vec<i32>, Fault> {
-    let mut out = vec![0; a.len()];
+    limit(a.len())?;
+    same(&[a.len(), b.len()])?;
+    let mut out = zeros(a.len())?;
     mod_wuz_into(a, b, &mut out)?;
     Ok(out)
 }
 
-/// [`mod_wuz`] into a room that is as long as the result; a fault leaves it as it was.
+/// [`mod_wuz`] into a room that is as long as the result; a fault leaves the room as it was.
 pub fn mod_wuz_into(a: &[i32], b: &[i32], out: &mut [i32]) -> Result<(), Fault> {
-    let n = same(&[a.len(), b.len()])?;
+    limit(a.len())?;
+    same(&[a.len(), b.len()])?;
     as_long(out, a.len())?;
-    told(unsafe { symbols::cvl_mod_wuz(a.as_ptr(), b.as_ptr(), out.as_mut_ptr(), n) })
+    told(unsafe { symbols::cvl_mod_wuz(a.as_ptr(), b.as_ptr(), out.as_mut_ptr(), a.len()) })
 }
 
 /// [`mod_wuz`] in the place of `a`; a fault leaves it as it was.
@@ -354,9 +393,10 @@ pub fn mod_wuz_into(a: &[i32], b: &[i32], out: &mut [i32]) -> Result<(), Fault> 
 /// # Ok::<(), cvl::Fault>(())
 /// ```
 pub fn mod_wuz_in(a: &mut [i32], b: &[i32]) -> Result<(), Fault> {
-    let n = same(&[a.len(), b.len()])?;
+    limit(a.len())?;
+    same(&[a.len(), b.len()])?;
     let out = a.as_mut_ptr();
-    told(unsafe { symbols::cvl_mod_wuz(out, b.as_ptr(), out, n) })
+    told(unsafe { symbols::cvl_mod_wuz(out, b.as_ptr(), out, a.len()) })
 }
 
 /// The elements of a, shifted left by those of b. a, b and out have n elements.
@@ -368,16 +408,19 @@ pub fn mod_wuz_in(a: &mut [i32], b: &[i32]) -> Result<(), Fault> {
 /// # Ok::<(), cvl::Fault>(())
 /// ```
 pub fn lsh_wuz(a: &[i32], b: &[i32]) -> Result<Vec<i32>, Fault> {
-    let mut out = vec![0; a.len()];
+    limit(a.len())?;
+    same(&[a.len(), b.len()])?;
+    let mut out = zeros(a.len())?;
     lsh_wuz_into(a, b, &mut out)?;
     Ok(out)
 }
 
-/// [`lsh_wuz`] into a room that is as long as the result; a fault leaves it as it was.
+/// [`lsh_wuz`] into a room that is as long as the result; a fault leaves the room as it was.
 pub fn lsh_wuz_into(a: &[i32], b: &[i32], out: &mut [i32]) -> Result<(), Fault> {
-    let n = same(&[a.len(), b.len()])?;
+    limit(a.len())?;
+    same(&[a.len(), b.len()])?;
     as_long(out, a.len())?;
-    told(unsafe { symbols::cvl_lsh_wuz(a.as_ptr(), b.as_ptr(), out.as_mut_ptr(), n) })
+    told(unsafe { symbols::cvl_lsh_wuz(a.as_ptr(), b.as_ptr(), out.as_mut_ptr(), a.len()) })
 }
 
 /// [`lsh_wuz`] in the place of `a`; a fault leaves it as it was.
@@ -389,9 +432,10 @@ pub fn lsh_wuz_into(a: &[i32], b: &[i32], out: &mut [i32]) -> Result<(), Fault> 
 /// # Ok::<(), cvl::Fault>(())
 /// ```
 pub fn lsh_wuz_in(a: &mut [i32], b: &[i32]) -> Result<(), Fault> {
-    let n = same(&[a.len(), b.len()])?;
+    limit(a.len())?;
+    same(&[a.len(), b.len()])?;
     let out = a.as_mut_ptr();
-    told(unsafe { symbols::cvl_lsh_wuz(out, b.as_ptr(), out, n) })
+    told(unsafe { symbols::cvl_lsh_wuz(out, b.as_ptr(), out, a.len()) })
 }
 
 /// The elements of a, shifted right by those of b, with their signs. a, b and out have n
@@ -404,16 +448,19 @@ pub fn lsh_wuz_in(a: &mut [i32], b: &[i32]) -> Result<(), Fault> {
 /// # Ok::<(), cvl::Fault>(())
 /// ```
 pub fn rsh_wuz(a: &[i32], b: &[i32]) -> Result<Vec<i32>, Fault> {
-    let mut out = vec![0; a.len()];
+    limit(a.len())?;
+    same(&[a.len(), b.len()])?;
+    let mut out = zeros(a.len())?;
     rsh_wuz_into(a, b, &mut out)?;
     Ok(out)
 }
 
-/// [`rsh_wuz`] into a room that is as long as the result; a fault leaves it as it was.
+/// [`rsh_wuz`] into a room that is as long as the result; a fault leaves the room as it was.
 pub fn rsh_wuz_into(a: &[i32], b: &[i32], out: &mut [i32]) -> Result<(), Fault> {
-    let n = same(&[a.len(), b.len()])?;
+    limit(a.len())?;
+    same(&[a.len(), b.len()])?;
     as_long(out, a.len())?;
-    told(unsafe { symbols::cvl_rsh_wuz(a.as_ptr(), b.as_ptr(), out.as_mut_ptr(), n) })
+    told(unsafe { symbols::cvl_rsh_wuz(a.as_ptr(), b.as_ptr(), out.as_mut_ptr(), a.len()) })
 }
 
 /// [`rsh_wuz`] in the place of `a`; a fault leaves it as it was.
@@ -425,9 +472,10 @@ pub fn rsh_wuz_into(a: &[i32], b: &[i32], out: &mut [i32]) -> Result<(), Fault> 
 /// # Ok::<(), cvl::Fault>(())
 /// ```
 pub fn rsh_wuz_in(a: &mut [i32], b: &[i32]) -> Result<(), Fault> {
-    let n = same(&[a.len(), b.len()])?;
+    limit(a.len())?;
+    same(&[a.len(), b.len()])?;
     let out = a.as_mut_ptr();
-    told(unsafe { symbols::cvl_rsh_wuz(out, b.as_ptr(), out, n) })
+    told(unsafe { symbols::cvl_rsh_wuz(out, b.as_ptr(), out, a.len()) })
 }
 
 /// Each bit inverted. a and out have n elements.
@@ -439,16 +487,17 @@ pub fn rsh_wuz_in(a: &mut [i32], b: &[i32]) -> Result<(), Fault> {
 /// # Ok::<(), cvl::Fault>(())
 /// ```
 pub fn not_wuz(a: &[i32]) -> Result<Vec<i32>, Fault> {
-    let mut out = vec![0; a.len()];
+    limit(a.len())?;
+    let mut out = zeros(a.len())?;
     not_wuz_into(a, &mut out)?;
     Ok(out)
 }
 
-/// [`not_wuz`] into a room that is as long as the result; a fault leaves it as it was.
+/// [`not_wuz`] into a room that is as long as the result; a fault leaves the room as it was.
 pub fn not_wuz_into(a: &[i32], out: &mut [i32]) -> Result<(), Fault> {
-    let n = same(&[a.len()])?;
+    limit(a.len())?;
     as_long(out, a.len())?;
-    told(unsafe { symbols::cvl_not_wuz(a.as_ptr(), out.as_mut_ptr(), n) })
+    told(unsafe { symbols::cvl_not_wuz(a.as_ptr(), out.as_mut_ptr(), a.len()) })
 }
 
 /// [`not_wuz`] in the place of `a`; a fault leaves it as it was.
@@ -460,9 +509,9 @@ pub fn not_wuz_into(a: &[i32], out: &mut [i32]) -> Result<(), Fault> {
 /// # Ok::<(), cvl::Fault>(())
 /// ```
 pub fn not_wuz_in(a: &mut [i32]) -> Result<(), Fault> {
-    let n = same(&[a.len()])?;
+    limit(a.len())?;
     let out = a.as_mut_ptr();
-    told(unsafe { symbols::cvl_not_wuz(out, out, n) })
+    told(unsafe { symbols::cvl_not_wuz(out, out, a.len()) })
 }
 
 /// Each boolean inverted. a and out have n elements.
@@ -474,16 +523,17 @@ pub fn not_wuz_in(a: &mut [i32]) -> Result<(), Fault> {
 /// # Ok::<(), cvl::Fault>(())
 /// ```
 pub fn not_wub(a: &[bool]) -> Result<Vec<bool>, Fault> {
-    let mut out = vec![false; a.len()];
+    limit(a.len())?;
+    let mut out = zeros(a.len())?;
     not_wub_into(a, &mut out)?;
     Ok(out)
 }
 
-/// [`not_wub`] into a room that is as long as the result; a fault leaves it as it was.
+/// [`not_wub`] into a room that is as long as the result; a fault leaves the room as it was.
 pub fn not_wub_into(a: &[bool], out: &mut [bool]) -> Result<(), Fault> {
-    let n = same(&[a.len()])?;
+    limit(a.len())?;
     as_long(out, a.len())?;
-    told(unsafe { symbols::cvl_not_wub(a.as_ptr().cast(), out.as_mut_ptr().cast(), n) })
+    told(unsafe { symbols::cvl_not_wub(a.as_ptr().cast(), out.as_mut_ptr().cast(), a.len()) })
 }
 
 /// [`not_wub`] in the place of `a`; a fault leaves it as it was.
@@ -495,9 +545,9 @@ pub fn not_wub_into(a: &[bool], out: &mut [bool]) -> Result<(), Fault> {
 /// # Ok::<(), cvl::Fault>(())
 /// ```
 pub fn not_wub_in(a: &mut [bool]) -> Result<(), Fault> {
-    let n = same(&[a.len()])?;
+    limit(a.len())?;
     let out = a.as_mut_ptr().cast();
-    told(unsafe { symbols::cvl_not_wub(out, out, n) })
+    told(unsafe { symbols::cvl_not_wub(out, out, a.len()) })
 }
 
 /// Each integer copied. a and out have n elements.
@@ -509,16 +559,17 @@ pub fn not_wub_in(a: &mut [bool]) -> Result<(), Fault> {
 /// # Ok::<(), cvl::Fault>(())
 /// ```
 pub fn cpy_wuz(a: &[i32]) -> Result<Vec<i32>, Fault> {
-    let mut out = vec![0; a.len()];
+    limit(a.len())?;
+    let mut out = zeros(a.len())?;
     cpy_wuz_into(a, &mut out)?;
     Ok(out)
 }
 
-/// [`cpy_wuz`] into a room that is as long as the result; a fault leaves it as it was.
+/// [`cpy_wuz`] into a room that is as long as the result; a fault leaves the room as it was.
 pub fn cpy_wuz_into(a: &[i32], out: &mut [i32]) -> Result<(), Fault> {
-    let n = same(&[a.len()])?;
+    limit(a.len())?;
     as_long(out, a.len())?;
-    told(unsafe { symbols::cvl_cpy_wuz(a.as_ptr(), out.as_mut_ptr(), n) })
+    told(unsafe { symbols::cvl_cpy_wuz(a.as_ptr(), out.as_mut_ptr(), a.len()) })
 }
 
 /// [`cpy_wuz`] in the place of `a`; a fault leaves it as it was.
@@ -530,9 +581,9 @@ pub fn cpy_wuz_into(a: &[i32], out: &mut [i32]) -> Result<(), Fault> {
 /// # Ok::<(), cvl::Fault>(())
 /// ```
 pub fn cpy_wuz_in(a: &mut [i32]) -> Result<(), Fault> {
-    let n = same(&[a.len()])?;
+    limit(a.len())?;
     let out = a.as_mut_ptr();
-    told(unsafe { symbols::cvl_cpy_wuz(out, out, n) })
+    told(unsafe { symbols::cvl_cpy_wuz(out, out, a.len()) })
 }
 
 /// Each boolean copied. a and out have n elements.
@@ -544,16 +595,17 @@ pub fn cpy_wuz_in(a: &mut [i32]) -> Result<(), Fault> {
 /// # Ok::<(), cvl::Fault>(())
 /// ```
 pub fn cpy_wub(a: &[bool]) -> Result<Vec<bool>, Fault> {
-    let mut out = vec![false; a.len()];
+    limit(a.len())?;
+    let mut out = zeros(a.len())?;
     cpy_wub_into(a, &mut out)?;
     Ok(out)
 }
 
-/// [`cpy_wub`] into a room that is as long as the result; a fault leaves it as it was.
+/// [`cpy_wub`] into a room that is as long as the result; a fault leaves the room as it was.
 pub fn cpy_wub_into(a: &[bool], out: &mut [bool]) -> Result<(), Fault> {
-    let n = same(&[a.len()])?;
+    limit(a.len())?;
     as_long(out, a.len())?;
-    told(unsafe { symbols::cvl_cpy_wub(a.as_ptr().cast(), out.as_mut_ptr().cast(), n) })
+    told(unsafe { symbols::cvl_cpy_wub(a.as_ptr().cast(), out.as_mut_ptr().cast(), a.len()) })
 }
 
 /// [`cpy_wub`] in the place of `a`; a fault leaves it as it was.
@@ -565,9 +617,9 @@ pub fn cpy_wub_into(a: &[bool], out: &mut [bool]) -> Result<(), Fault> {
 /// # Ok::<(), cvl::Fault>(())
 /// ```
 pub fn cpy_wub_in(a: &mut [bool]) -> Result<(), Fault> {
-    let n = same(&[a.len()])?;
+    limit(a.len())?;
     let out = a.as_mut_ptr().cast();
-    told(unsafe { symbols::cvl_cpy_wub(out, out, n) })
+    told(unsafe { symbols::cvl_cpy_wub(out, out, a.len()) })
 }
 
 /// True where a is greater. a, b and out have n elements.
@@ -579,16 +631,19 @@ pub fn cpy_wub_in(a: &mut [bool]) -> Result<(), Fault> {
 /// # Ok::<(), cvl::Fault>(())
 /// ```
 pub fn grt_wuz(a: &[i32], b: &[i32]) -> Result<Vec<bool>, Fault> {
-    let mut out = vec![false; a.len()];
+    limit(a.len())?;
+    same(&[a.len(), b.len()])?;
+    let mut out = zeros(a.len())?;
     grt_wuz_into(a, b, &mut out)?;
     Ok(out)
 }
 
-/// [`grt_wuz`] into a room that is as long as the result; a fault leaves it as it was.
+/// [`grt_wuz`] into a room that is as long as the result; a fault leaves the room as it was.
 pub fn grt_wuz_into(a: &[i32], b: &[i32], out: &mut [bool]) -> Result<(), Fault> {
-    let n = same(&[a.len(), b.len()])?;
+    limit(a.len())?;
+    same(&[a.len(), b.len()])?;
     as_long(out, a.len())?;
-    told(unsafe { symbols::cvl_grt_wuz(a.as_ptr(), b.as_ptr(), out.as_mut_ptr().cast(), n) })
+    told(unsafe { symbols::cvl_grt_wuz(a.as_ptr(), b.as_ptr(), out.as_mut_ptr().cast(), a.len()) })
 }
 
 /// True where a is less. a, b and out have n elements.
@@ -600,16 +655,19 @@ pub fn grt_wuz_into(a: &[i32], b: &[i32], out: &mut [bool]) -> Result<(), Fault>
 /// # Ok::<(), cvl::Fault>(())
 /// ```
 pub fn les_wuz(a: &[i32], b: &[i32]) -> Result<Vec<bool>, Fault> {
-    let mut out = vec![false; a.len()];
+    limit(a.len())?;
+    same(&[a.len(), b.len()])?;
+    let mut out = zeros(a.len())?;
     les_wuz_into(a, b, &mut out)?;
     Ok(out)
 }
 
-/// [`les_wuz`] into a room that is as long as the result; a fault leaves it as it was.
+/// [`les_wuz`] into a room that is as long as the result; a fault leaves the room as it was.
 pub fn les_wuz_into(a: &[i32], b: &[i32], out: &mut [bool]) -> Result<(), Fault> {
-    let n = same(&[a.len(), b.len()])?;
+    limit(a.len())?;
+    same(&[a.len(), b.len()])?;
     as_long(out, a.len())?;
-    told(unsafe { symbols::cvl_les_wuz(a.as_ptr(), b.as_ptr(), out.as_mut_ptr().cast(), n) })
+    told(unsafe { symbols::cvl_les_wuz(a.as_ptr(), b.as_ptr(), out.as_mut_ptr().cast(), a.len()) })
 }
 
 /// True where a is greater, or they are equal. a, b and out have n elements.
@@ -621,16 +679,19 @@ pub fn les_wuz_into(a: &[i32], b: &[i32], out: &mut [bool]) -> Result<(), Fault>
 /// # Ok::<(), cvl::Fault>(())
 /// ```
 pub fn geq_wuz(a: &[i32], b: &[i32]) -> Result<Vec<bool>, Fault> {
-    let mut out = vec![false; a.len()];
+    limit(a.len())?;
+    same(&[a.len(), b.len()])?;
+    let mut out = zeros(a.len())?;
     geq_wuz_into(a, b, &mut out)?;
     Ok(out)
 }
 
-/// [`geq_wuz`] into a room that is as long as the result; a fault leaves it as it was.
+/// [`geq_wuz`] into a room that is as long as the result; a fault leaves the room as it was.
 pub fn geq_wuz_into(a: &[i32], b: &[i32], out: &mut [bool]) -> Result<(), Fault> {
-    let n = same(&[a.len(), b.len()])?;
+    limit(a.len())?;
+    same(&[a.len(), b.len()])?;
     as_long(out, a.len())?;
-    told(unsafe { symbols::cvl_geq_wuz(a.as_ptr(), b.as_ptr(), out.as_mut_ptr().cast(), n) })
+    told(unsafe { symbols::cvl_geq_wuz(a.as_ptr(), b.as_ptr(), out.as_mut_ptr().cast(), a.len()) })
 }
 
 /// True where a is less, or they are equal. a, b and out have n elements.
@@ -642,16 +703,19 @@ pub fn geq_wuz_into(a: &[i32], b: &[i32], out: &mut [bool]) -> Result<(), Fault>
 /// # Ok::<(), cvl::Fault>(())
 /// ```
 pub fn leq_wuz(a: &[i32], b: &[i32]) -> Result<Vec<bool>, Fault> {
-    let mut out = vec![false; a.len()];
+    limit(a.len())?;
+    same(&[a.len(), b.len()])?;
+    let mut out = zeros(a.len())?;
     leq_wuz_into(a, b, &mut out)?;
     Ok(out)
 }
 
-/// [`leq_wuz`] into a room that is as long as the result; a fault leaves it as it was.
+/// [`leq_wuz`] into a room that is as long as the result; a fault leaves the room as it was.
 pub fn leq_wuz_into(a: &[i32], b: &[i32], out: &mut [bool]) -> Result<(), Fault> {
-    let n = same(&[a.len(), b.len()])?;
+    limit(a.len())?;
+    same(&[a.len(), b.len()])?;
     as_long(out, a.len())?;
-    told(unsafe { symbols::cvl_leq_wuz(a.as_ptr(), b.as_ptr(), out.as_mut_ptr().cast(), n) })
+    told(unsafe { symbols::cvl_leq_wuz(a.as_ptr(), b.as_ptr(), out.as_mut_ptr().cast(), a.len()) })
 }
 
 /// True where they are equal. a, b and out have n elements.
@@ -663,16 +727,19 @@ pub fn leq_wuz_into(a: &[i32], b: &[i32], out: &mut [bool]) -> Result<(), Fault>
 /// # Ok::<(), cvl::Fault>(())
 /// ```
 pub fn eql_wuz(a: &[i32], b: &[i32]) -> Result<Vec<bool>, Fault> {
-    let mut out = vec![false; a.len()];
+    limit(a.len())?;
+    same(&[a.len(), b.len()])?;
+    let mut out = zeros(a.len())?;
     eql_wuz_into(a, b, &mut out)?;
     Ok(out)
 }
 
-/// [`eql_wuz`] into a room that is as long as the result; a fault leaves it as it was.
+/// [`eql_wuz`] into a room that is as long as the result; a fault leaves the room as it was.
 pub fn eql_wuz_into(a: &[i32], b: &[i32], out: &mut [bool]) -> Result<(), Fault> {
-    let n = same(&[a.len(), b.len()])?;
+    limit(a.len())?;
+    same(&[a.len(), b.len()])?;
     as_long(out, a.len())?;
-    told(unsafe { symbols::cvl_eql_wuz(a.as_ptr(), b.as_ptr(), out.as_mut_ptr().cast(), n) })
+    told(unsafe { symbols::cvl_eql_wuz(a.as_ptr(), b.as_ptr(), out.as_mut_ptr().cast(), a.len()) })
 }
 
 /// True where they are not equal. a, b and out have n elements.
@@ -684,16 +751,19 @@ pub fn eql_wuz_into(a: &[i32], b: &[i32], out: &mut [bool]) -> Result<(), Fault>
 /// # Ok::<(), cvl::Fault>(())
 /// ```
 pub fn neq_wuz(a: &[i32], b: &[i32]) -> Result<Vec<bool>, Fault> {
-    let mut out = vec![false; a.len()];
+    limit(a.len())?;
+    same(&[a.len(), b.len()])?;
+    let mut out = zeros(a.len())?;
     neq_wuz_into(a, b, &mut out)?;
     Ok(out)
 }
 
-/// [`neq_wuz`] into a room that is as long as the result; a fault leaves it as it was.
+/// [`neq_wuz`] into a room that is as long as the result; a fault leaves the room as it was.
 pub fn neq_wuz_into(a: &[i32], b: &[i32], out: &mut [bool]) -> Result<(), Fault> {
-    let n = same(&[a.len(), b.len()])?;
+    limit(a.len())?;
+    same(&[a.len(), b.len()])?;
     as_long(out, a.len())?;
-    told(unsafe { symbols::cvl_neq_wuz(a.as_ptr(), b.as_ptr(), out.as_mut_ptr().cast(), n) })
+    told(unsafe { symbols::cvl_neq_wuz(a.as_ptr(), b.as_ptr(), out.as_mut_ptr().cast(), a.len()) })
 }
 
 /// Whether both are true. a, b and out have n elements.
@@ -705,16 +775,19 @@ pub fn neq_wuz_into(a: &[i32], b: &[i32], out: &mut [bool]) -> Result<(), Fault>
 /// # Ok::<(), cvl::Fault>(())
 /// ```
 pub fn and_wub(a: &[bool], b: &[bool]) -> Result<Vec<bool>, Fault> {
-    let mut out = vec![false; a.len()];
+    limit(a.len())?;
+    same(&[a.len(), b.len()])?;
+    let mut out = zeros(a.len())?;
     and_wub_into(a, b, &mut out)?;
     Ok(out)
 }
 
-/// [`and_wub`] into a room that is as long as the result; a fault leaves it as it was.
+/// [`and_wub`] into a room that is as long as the result; a fault leaves the room as it was.
 pub fn and_wub_into(a: &[bool], b: &[bool], out: &mut [bool]) -> Result<(), Fault> {
-    let n = same(&[a.len(), b.len()])?;
+    limit(a.len())?;
+    same(&[a.len(), b.len()])?;
     as_long(out, a.len())?;
-    told(unsafe { symbols::cvl_and_wub(a.as_ptr().cast(), b.as_ptr().cast(), out.as_mut_ptr().cast(), n) })
+    told(unsafe { symbols::cvl_and_wub(a.as_ptr().cast(), b.as_ptr().cast(), out.as_mut_ptr().cast(), a.len()) })
 }
 
 /// [`and_wub`] in the place of `a`; a fault leaves it as it was.
@@ -726,9 +799,10 @@ pub fn and_wub_into(a: &[bool], b: &[bool], out: &mut [bool]) -> Result<(), Faul
 /// # Ok::<(), cvl::Fault>(())
 /// ```
 pub fn and_wub_in(a: &mut [bool], b: &[bool]) -> Result<(), Fault> {
-    let n = same(&[a.len(), b.len()])?;
+    limit(a.len())?;
+    same(&[a.len(), b.len()])?;
     let out = a.as_mut_ptr().cast();
-    told(unsafe { symbols::cvl_and_wub(out, b.as_ptr().cast(), out, n) })
+    told(unsafe { symbols::cvl_and_wub(out, b.as_ptr().cast(), out, a.len()) })
 }
 
 /// Whether at least one is true. a, b and out have n elements.
@@ -740,16 +814,19 @@ pub fn and_wub_in(a: &mut [bool], b: &[bool]) -> Result<(), Fault> {
 /// # Ok::<(), cvl::Fault>(())
 /// ```
 pub fn ior_wub(a: &[bool], b: &[bool]) -> Result<Vec<bool>, Fault> {
-    let mut out = vec![false; a.len()];
+    limit(a.len())?;
+    same(&[a.len(), b.len()])?;
+    let mut out = zeros(a.len())?;
     ior_wub_into(a, b, &mut out)?;
     Ok(out)
 }
 
-/// [`ior_wub`] into a room that is as long as the result; a fault leaves it as it was.
+/// [`ior_wub`] into a room that is as long as the result; a fault leaves the room as it was.
 pub fn ior_wub_into(a: &[bool], b: &[bool], out: &mut [bool]) -> Result<(), Fault> {
-    let n = same(&[a.len(), b.len()])?;
+    limit(a.len())?;
+    same(&[a.len(), b.len()])?;
     as_long(out, a.len())?;
-    told(unsafe { symbols::cvl_ior_wub(a.as_ptr().cast(), b.as_ptr().cast(), out.as_mut_ptr().cast(), n) })
+    told(unsafe { symbols::cvl_ior_wub(a.as_ptr().cast(), b.as_ptr().cast(), out.as_mut_ptr().cast(), a.len()) })
 }
 
 /// [`ior_wub`] in the place of `a`; a fault leaves it as it was.
@@ -761,9 +838,10 @@ pub fn ior_wub_into(a: &[bool], b: &[bool], out: &mut [bool]) -> Result<(), Faul
 /// # Ok::<(), cvl::Fault>(())
 /// ```
 pub fn ior_wub_in(a: &mut [bool], b: &[bool]) -> Result<(), Fault> {
-    let n = same(&[a.len(), b.len()])?;
+    limit(a.len())?;
+    same(&[a.len(), b.len()])?;
     let out = a.as_mut_ptr().cast();
-    told(unsafe { symbols::cvl_ior_wub(out, b.as_ptr().cast(), out, n) })
+    told(unsafe { symbols::cvl_ior_wub(out, b.as_ptr().cast(), out, a.len()) })
 }
 
 /// Whether exactly one is true. a, b and out have n elements.
@@ -775,16 +853,19 @@ pub fn ior_wub_in(a: &mut [bool], b: &[bool]) -> Result<(), Fault> {
 /// # Ok::<(), cvl::Fault>(())
 /// ```
 pub fn xor_wub(a: &[bool], b: &[bool]) -> Result<Vec<bool>, Fault> {
-    let mut out = vec![false; a.len()];
+    limit(a.len())?;
+    same(&[a.len(), b.len()])?;
+    let mut out = zeros(a.len())?;
     xor_wub_into(a, b, &mut out)?;
     Ok(out)
 }
 
-/// [`xor_wub`] into a room that is as long as the result; a fault leaves it as it was.
+/// [`xor_wub`] into a room that is as long as the result; a fault leaves the room as it was.
 pub fn xor_wub_into(a: &[bool], b: &[bool], out: &mut [bool]) -> Result<(), Fault> {
-    let n = same(&[a.len(), b.len()])?;
+    limit(a.len())?;
+    same(&[a.len(), b.len()])?;
     as_long(out, a.len())?;
-    told(unsafe { symbols::cvl_xor_wub(a.as_ptr().cast(), b.as_ptr().cast(), out.as_mut_ptr().cast(), n) })
+    told(unsafe { symbols::cvl_xor_wub(a.as_ptr().cast(), b.as_ptr().cast(), out.as_mut_ptr().cast(), a.len()) })
 }
 
 /// [`xor_wub`] in the place of `a`; a fault leaves it as it was.
@@ -796,12 +877,13 @@ pub fn xor_wub_into(a: &[bool], b: &[bool], out: &mut [bool]) -> Result<(), Faul
 /// # Ok::<(), cvl::Fault>(())
 /// ```
 pub fn xor_wub_in(a: &mut [bool], b: &[bool]) -> Result<(), Fault> {
-    let n = same(&[a.len(), b.len()])?;
+    limit(a.len())?;
+    same(&[a.len(), b.len()])?;
     let out = a.as_mut_ptr().cast();
-    told(unsafe { symbols::cvl_xor_wub(out, b.as_ptr().cast(), out, n) })
+    told(unsafe { symbols::cvl_xor_wub(out, b.as_ptr().cast(), out, a.len()) })
 }
 
-/// The element of a where the flag is true, else that of b. flags, a, b and out have m elements.
+/// The element of a where the flag is true, else that of b. flags, a, b and out have n elements.
 ///
 /// Faults: 13 TooLong.
 ///
@@ -810,16 +892,19 @@ pub fn xor_wub_in(a: &mut [bool], b: &[bool]) -> Result<(), Fault> {
 /// # Ok::<(), cvl::Fault>(())
 /// ```
 pub fn sel_wuz(flags: &[bool], a: &[i32], b: &[i32]) -> Result<Vec<i32>, Fault> {
-    let mut out = vec![0; flags.len()];
+    limit(flags.len())?;
+    same(&[flags.len(), a.len(), b.len()])?;
+    let mut out = zeros(flags.len())?;
     sel_wuz_into(flags, a, b, &mut out)?;
     Ok(out)
 }
 
-/// [`sel_wuz`] into a room that is as long as the result; a fault leaves it as it was.
+/// [`sel_wuz`] into a room that is as long as the result; a fault leaves the room as it was.
 pub fn sel_wuz_into(flags: &[bool], a: &[i32], b: &[i32], out: &mut [i32]) -> Result<(), Fault> {
-    let m = same(&[flags.len(), a.len(), b.len()])?;
+    limit(flags.len())?;
+    same(&[flags.len(), a.len(), b.len()])?;
     as_long(out, flags.len())?;
-    told(unsafe { symbols::cvl_sel_wuz(flags.as_ptr().cast(), a.as_ptr(), b.as_ptr(), out.as_mut_ptr(), m) })
+    told(unsafe { symbols::cvl_sel_wuz(flags.as_ptr().cast(), a.as_ptr(), b.as_ptr(), out.as_mut_ptr(), flags.len()) })
 }
 
 /// [`sel_wuz`] in the place of `a`; a fault leaves it as it was.
@@ -831,12 +916,13 @@ pub fn sel_wuz_into(flags: &[bool], a: &[i32], b: &[i32], out: &mut [i32]) -> Re
 /// # Ok::<(), cvl::Fault>(())
 /// ```
 pub fn sel_wuz_in(flags: &[bool], a: &mut [i32], b: &[i32]) -> Result<(), Fault> {
-    let m = same(&[flags.len(), a.len(), b.len()])?;
+    limit(flags.len())?;
+    same(&[flags.len(), a.len(), b.len()])?;
     let out = a.as_mut_ptr();
-    told(unsafe { symbols::cvl_sel_wuz(flags.as_ptr().cast(), out, b.as_ptr(), out, m) })
+    told(unsafe { symbols::cvl_sel_wuz(flags.as_ptr().cast(), out, b.as_ptr(), out, flags.len()) })
 }
 
-/// The element of a where the flag is true, else that of b. flags, a, b and out have m elements.
+/// The element of a where the flag is true, else that of b. flags, a, b and out have n elements.
 ///
 /// Faults: 13 TooLong.
 ///
@@ -845,16 +931,19 @@ pub fn sel_wuz_in(flags: &[bool], a: &mut [i32], b: &[i32]) -> Result<(), Fault>
 /// # Ok::<(), cvl::Fault>(())
 /// ```
 pub fn sel_wub(flags: &[bool], a: &[bool], b: &[bool]) -> Result<Vec<bool>, Fault> {
-    let mut out = vec![false; flags.len()];
+    limit(flags.len())?;
+    same(&[flags.len(), a.len(), b.len()])?;
+    let mut out = zeros(flags.len())?;
     sel_wub_into(flags, a, b, &mut out)?;
     Ok(out)
 }
 
-/// [`sel_wub`] into a room that is as long as the result; a fault leaves it as it was.
+/// [`sel_wub`] into a room that is as long as the result; a fault leaves the room as it was.
 pub fn sel_wub_into(flags: &[bool], a: &[bool], b: &[bool], out: &mut [bool]) -> Result<(), Fault> {
-    let m = same(&[flags.len(), a.len(), b.len()])?;
+    limit(flags.len())?;
+    same(&[flags.len(), a.len(), b.len()])?;
     as_long(out, flags.len())?;
-    told(unsafe { symbols::cvl_sel_wub(flags.as_ptr().cast(), a.as_ptr().cast(), b.as_ptr().cast(), out.as_mut_ptr().cast(), m) })
+    told(unsafe { symbols::cvl_sel_wub(flags.as_ptr().cast(), a.as_ptr().cast(), b.as_ptr().cast(), out.as_mut_ptr().cast(), flags.len()) })
 }
 
 /// [`sel_wub`] in the place of `a`; a fault leaves it as it was.
@@ -866,9 +955,10 @@ pub fn sel_wub_into(flags: &[bool], a: &[bool], b: &[bool], out: &mut [bool]) ->
 /// # Ok::<(), cvl::Fault>(())
 /// ```
 pub fn sel_wub_in(flags: &[bool], a: &mut [bool], b: &[bool]) -> Result<(), Fault> {
-    let m = same(&[flags.len(), a.len(), b.len()])?;
+    limit(flags.len())?;
+    same(&[flags.len(), a.len(), b.len()])?;
     let out = a.as_mut_ptr().cast();
-    told(unsafe { symbols::cvl_sel_wub(flags.as_ptr().cast(), out, b.as_ptr().cast(), out, m) })
+    told(unsafe { symbols::cvl_sel_wub(flags.as_ptr().cast(), out, b.as_ptr().cast(), out, flags.len()) })
 }
 
 /// 1 for true and 0 for false. a and out have n elements.
@@ -880,16 +970,17 @@ pub fn sel_wub_in(flags: &[bool], a: &mut [bool], b: &[bool]) -> Result<(), Faul
 /// # Ok::<(), cvl::Fault>(())
 /// ```
 pub fn int_wub(a: &[bool]) -> Result<Vec<i32>, Fault> {
-    let mut out = vec![0; a.len()];
+    limit(a.len())?;
+    let mut out = zeros(a.len())?;
     int_wub_into(a, &mut out)?;
     Ok(out)
 }
 
-/// [`int_wub`] into a room that is as long as the result; a fault leaves it as it was.
+/// [`int_wub`] into a room that is as long as the result; a fault leaves the room as it was.
 pub fn int_wub_into(a: &[bool], out: &mut [i32]) -> Result<(), Fault> {
-    let n = same(&[a.len()])?;
+    limit(a.len())?;
     as_long(out, a.len())?;
-    told(unsafe { symbols::cvl_int_wub(a.as_ptr().cast(), out.as_mut_ptr(), n) })
+    told(unsafe { symbols::cvl_int_wub(a.as_ptr().cast(), out.as_mut_ptr(), a.len()) })
 }
 
 /// True where the integer is not 0. a and out have n elements.
@@ -901,16 +992,17 @@ pub fn int_wub_into(a: &[bool], out: &mut [i32]) -> Result<(), Fault> {
 /// # Ok::<(), cvl::Fault>(())
 /// ```
 pub fn boo_wuz(a: &[i32]) -> Result<Vec<bool>, Fault> {
-    let mut out = vec![false; a.len()];
+    limit(a.len())?;
+    let mut out = zeros(a.len())?;
     boo_wuz_into(a, &mut out)?;
     Ok(out)
 }
 
-/// [`boo_wuz`] into a room that is as long as the result; a fault leaves it as it was.
+/// [`boo_wuz`] into a room that is as long as the result; a fault leaves the room as it was.
 pub fn boo_wuz_into(a: &[i32], out: &mut [bool]) -> Result<(), Fault> {
-    let n = same(&[a.len()])?;
+    limit(a.len())?;
     as_long(out, a.len())?;
-    told(unsafe { symbols::cvl_boo_wuz(a.as_ptr(), out.as_mut_ptr().cast(), n) })
+    told(unsafe { symbols::cvl_boo_wuz(a.as_ptr(), out.as_mut_ptr().cast(), a.len()) })
 }
 
 /// For each integer those before it, summed, wrapped; 0 at place 0. a and out have n elements.
@@ -922,16 +1014,17 @@ pub fn boo_wuz_into(a: &[i32], out: &mut [bool]) -> Result<(), Fault> {
 /// # Ok::<(), cvl::Fault>(())
 /// ```
 pub fn add_suz(a: &[i32]) -> Result<Vec<i32>, Fault> {
-    let mut out = vec![0; a.len()];
+    limit(a.len())?;
+    let mut out = zeros(a.len())?;
     add_suz_into(a, &mut out)?;
     Ok(out)
 }
 
-/// [`add_suz`] into a room that is as long as the result; a fault leaves it as it was.
+/// [`add_suz`] into a room that is as long as the result; a fault leaves the room as it was.
 pub fn add_suz_into(a: &[i32], out: &mut [i32]) -> Result<(), Fault> {
-    let n = same(&[a.len()])?;
+    limit(a.len())?;
     as_long(out, a.len())?;
-    told(unsafe { symbols::cvl_add_suz(a.as_ptr(), out.as_mut_ptr(), n) })
+    told(unsafe { symbols::cvl_add_suz(a.as_ptr(), out.as_mut_ptr(), a.len()) })
 }
 
 /// [`add_suz`] in the place of `a`; a fault leaves it as it was.
@@ -943,9 +1036,9 @@ pub fn add_suz_into(a: &[i32], out: &mut [i32]) -> Result<(), Fault> {
 /// # Ok::<(), cvl::Fault>(())
 /// ```
 pub fn add_suz_in(a: &mut [i32]) -> Result<(), Fault> {
-    let n = same(&[a.len()])?;
+    limit(a.len())?;
     let out = a.as_mut_ptr();
-    told(unsafe { symbols::cvl_add_suz(out, out, n) })
+    told(unsafe { symbols::cvl_add_suz(out, out, a.len()) })
 }
 
 /// The n integers, summed, wrapped; 0 where there are none.
@@ -957,9 +1050,8 @@ pub fn add_suz_in(a: &mut [i32]) -> Result<(), Fault> {
 /// # Ok::<(), cvl::Fault>(())
 /// ```
 pub fn add_ruz(a: &[i32]) -> Result<i32, Fault> {
-    let n = same(&[a.len()])?;
     let mut out = 0;
-    told(unsafe { symbols::cvl_add_ruz(a.as_ptr(), n, &mut out) })?;
+    told(unsafe { symbols::cvl_add_ruz(a.as_ptr(), a.len(), &mut out) })?;
     Ok(out)
 }
 
@@ -973,16 +1065,17 @@ pub fn add_ruz(a: &[i32]) -> Result<i32, Fault> {
 /// # Ok::<(), cvl::Fault>(())
 /// ```
 pub fn mul_suz(a: &[i32]) -> Result<Vec<i32>, Fault> {
-    let mut out = vec![0; a.len()];
+    limit(a.len())?;
+    let mut out = zeros(a.len())?;
     mul_suz_into(a, &mut out)?;
     Ok(out)
 }
 
-/// [`mul_suz`] into a room that is as long as the result; a fault leaves it as it was.
+/// [`mul_suz`] into a room that is as long as the result; a fault leaves the room as it was.
 pub fn mul_suz_into(a: &[i32], out: &mut [i32]) -> Result<(), Fault> {
-    let n = same(&[a.len()])?;
+    limit(a.len())?;
     as_long(out, a.len())?;
-    told(unsafe { symbols::cvl_mul_suz(a.as_ptr(), out.as_mut_ptr(), n) })
+    told(unsafe { symbols::cvl_mul_suz(a.as_ptr(), out.as_mut_ptr(), a.len()) })
 }
 
 /// [`mul_suz`] in the place of `a`; a fault leaves it as it was.
@@ -994,9 +1087,9 @@ pub fn mul_suz_into(a: &[i32], out: &mut [i32]) -> Result<(), Fault> {
 /// # Ok::<(), cvl::Fault>(())
 /// ```
 pub fn mul_suz_in(a: &mut [i32]) -> Result<(), Fault> {
-    let n = same(&[a.len()])?;
+    limit(a.len())?;
     let out = a.as_mut_ptr();
-    told(unsafe { symbols::cvl_mul_suz(out, out, n) })
+    told(unsafe { symbols::cvl_mul_suz(out, out, a.len()) })
 }
 
 /// The n integers, multiplied, wrapped; 1 where there are none.
@@ -1008,9 +1101,8 @@ pub fn mul_suz_in(a: &mut [i32]) -> Result<(), Fault> {
 /// # Ok::<(), cvl::Fault>(())
 /// ```
 pub fn mul_ruz(a: &[i32]) -> Result<i32, Fault> {
-    let n = same(&[a.len()])?;
     let mut out = 0;
-    told(unsafe { symbols::cvl_mul_ruz(a.as_ptr(), n, &mut out) })?;
+    told(unsafe { symbols::cvl_mul_ruz(a.as_ptr(), a.len(), &mut out) })?;
     Ok(out)
 }
 
@@ -1024,16 +1116,17 @@ pub fn mul_ruz(a: &[i32]) -> Result<i32, Fault> {
 /// # Ok::<(), cvl::Fault>(())
 /// ```
 pub fn min_suz(a: &[i32]) -> Result<Vec<i32>, Fault> {
-    let mut out = vec![0; a.len()];
+    limit(a.len())?;
+    let mut out = zeros(a.len())?;
     min_suz_into(a, &mut out)?;
     Ok(out)
 }
 
-/// [`min_suz`] into a room that is as long as the result; a fault leaves it as it was.
+/// [`min_suz`] into a room that is as long as the result; a fault leaves the room as it was.
 pub fn min_suz_into(a: &[i32], out: &mut [i32]) -> Result<(), Fault> {
-    let n = same(&[a.len()])?;
+    limit(a.len())?;
     as_long(out, a.len())?;
-    told(unsafe { symbols::cvl_min_suz(a.as_ptr(), out.as_mut_ptr(), n) })
+    told(unsafe { symbols::cvl_min_suz(a.as_ptr(), out.as_mut_ptr(), a.len()) })
 }
 
 /// [`min_suz`] in the place of `a`; a fault leaves it as it was.
@@ -1045,9 +1138,9 @@ pub fn min_suz_into(a: &[i32], out: &mut [i32]) -> Result<(), Fault> {
 /// # Ok::<(), cvl::Fault>(())
 /// ```
 pub fn min_suz_in(a: &mut [i32]) -> Result<(), Fault> {
-    let n = same(&[a.len()])?;
+    limit(a.len())?;
     let out = a.as_mut_ptr();
-    told(unsafe { symbols::cvl_min_suz(out, out, n) })
+    told(unsafe { symbols::cvl_min_suz(out, out, a.len()) })
 }
 
 /// The n integers, the least of them; 2147483647 where there are none.
@@ -1059,9 +1152,8 @@ pub fn min_suz_in(a: &mut [i32]) -> Result<(), Fault> {
 /// # Ok::<(), cvl::Fault>(())
 /// ```
 pub fn min_ruz(a: &[i32]) -> Result<i32, Fault> {
-    let n = same(&[a.len()])?;
     let mut out = 0;
-    told(unsafe { symbols::cvl_min_ruz(a.as_ptr(), n, &mut out) })?;
+    told(unsafe { symbols::cvl_min_ruz(a.as_ptr(), a.len(), &mut out) })?;
     Ok(out)
 }
 
@@ -1075,16 +1167,17 @@ pub fn min_ruz(a: &[i32]) -> Result<i32, Fault> {
 /// # Ok::<(), cvl::Fault>(())
 /// ```
 pub fn max_suz(a: &[i32]) -> Result<Vec<i32>, Fault> {
-    let mut out = vec![0; a.len()];
+    limit(a.len())?;
+    let mut out = zeros(a.len())?;
     max_suz_into(a, &mut out)?;
     Ok(out)
 }
 
-/// [`max_suz`] into a room that is as long as the result; a fault leaves it as it was.
+/// [`max_suz`] into a room that is as long as the result; a fault leaves the room as it was.
 pub fn max_suz_into(a: &[i32], out: &mut [i32]) -> Result<(), Fault> {
-    let n = same(&[a.len()])?;
+    limit(a.len())?;
     as_long(out, a.len())?;
-    told(unsafe { symbols::cvl_max_suz(a.as_ptr(), out.as_mut_ptr(), n) })
+    told(unsafe { symbols::cvl_max_suz(a.as_ptr(), out.as_mut_ptr(), a.len()) })
 }
 
 /// [`max_suz`] in the place of `a`; a fault leaves it as it was.
@@ -1096,9 +1189,9 @@ pub fn max_suz_into(a: &[i32], out: &mut [i32]) -> Result<(), Fault> {
 /// # Ok::<(), cvl::Fault>(())
 /// ```
 pub fn max_suz_in(a: &mut [i32]) -> Result<(), Fault> {
-    let n = same(&[a.len()])?;
+    limit(a.len())?;
     let out = a.as_mut_ptr();
-    told(unsafe { symbols::cvl_max_suz(out, out, n) })
+    told(unsafe { symbols::cvl_max_suz(out, out, a.len()) })
 }
 
 /// The n integers, the greatest of them; -2147483648 where there are none.
@@ -1110,9 +1203,8 @@ pub fn max_suz_in(a: &mut [i32]) -> Result<(), Fault> {
 /// # Ok::<(), cvl::Fault>(())
 /// ```
 pub fn max_ruz(a: &[i32]) -> Result<i32, Fault> {
-    let n = same(&[a.len()])?;
     let mut out = 0;
-    told(unsafe { symbols::cvl_max_ruz(a.as_ptr(), n, &mut out) })?;
+    told(unsafe { symbols::cvl_max_ruz(a.as_ptr(), a.len(), &mut out) })?;
     Ok(out)
 }
 
@@ -1125,16 +1217,17 @@ pub fn max_ruz(a: &[i32]) -> Result<i32, Fault> {
 /// # Ok::<(), cvl::Fault>(())
 /// ```
 pub fn and_suz(a: &[i32]) -> Result<Vec<i32>, Fault> {
-    let mut out = vec![0; a.len()];
+    limit(a.len())?;
+    let mut out = zeros(a.len())?;
     and_suz_into(a, &mut out)?;
     Ok(out)
 }
 
-/// [`and_suz`] into a room that is as long as the result; a fault leaves it as it was.
+/// [`and_suz`] into a room that is as long as the result; a fault leaves the room as it was.
 pub fn and_suz_into(a: &[i32], out: &mut [i32]) -> Result<(), Fault> {
-    let n = same(&[a.len()])?;
+    limit(a.len())?;
     as_long(out, a.len())?;
-    told(unsafe { symbols::cvl_and_suz(a.as_ptr(), out.as_mut_ptr(), n) })
+    told(unsafe { symbols::cvl_and_suz(a.as_ptr(), out.as_mut_ptr(), a.len()) })
 }
 
 /// [`and_suz`] in the place of `a`; a fault leaves it as it was.
@@ -1146,9 +1239,9 @@ pub fn and_suz_into(a: &[i32], out: &mut [i32]) -> Result<(), Fault> {
 /// # Ok::<(), cvl::Fault>(())
 /// ```
 pub fn and_suz_in(a: &mut [i32]) -> Result<(), Fault> {
-    let n = same(&[a.len()])?;
+    limit(a.len())?;
     let out = a.as_mut_ptr();
-    told(unsafe { symbols::cvl_and_suz(out, out, n) })
+    told(unsafe { symbols::cvl_and_suz(out, out, a.len()) })
 }
 
 /// The n integers, and, bit by bit; -1 where there are none.
@@ -1160,9 +1253,8 @@ pub fn and_suz_in(a: &mut [i32]) -> Result<(), Fault> {
 /// # Ok::<(), cvl::Fault>(())
 /// ```
 pub fn and_ruz(a: &[i32]) -> Result<i32, Fault> {
-    let n = same(&[a.len()])?;
     let mut out = 0;
-    told(unsafe { symbols::cvl_and_ruz(a.as_ptr(), n, &mut out) })?;
+    told(unsafe { symbols::cvl_and_ruz(a.as_ptr(), a.len(), &mut out) })?;
     Ok(out)
 }
 
@@ -1175,16 +1267,17 @@ pub fn and_ruz(a: &[i32]) -> Result<i32, Fault> {
 /// # Ok::<(), cvl::Fault>(())
 /// ```
 pub fn ior_suz(a: &[i32]) -> Result<Vec<i32>, Fault> {
-    let mut out = vec![0; a.len()];
+    limit(a.len())?;
+    let mut out = zeros(a.len())?;
     ior_suz_into(a, &mut out)?;
     Ok(out)
 }
 
-/// [`ior_suz`] into a room that is as long as the result; a fault leaves it as it was.
+/// [`ior_suz`] into a room that is as long as the result; a fault leaves the room as it was.
 pub fn ior_suz_into(a: &[i32], out: &mut [i32]) -> Result<(), Fault> {
-    let n = same(&[a.len()])?;
+    limit(a.len())?;
     as_long(out, a.len())?;
-    told(unsafe { symbols::cvl_ior_suz(a.as_ptr(), out.as_mut_ptr(), n) })
+    told(unsafe { symbols::cvl_ior_suz(a.as_ptr(), out.as_mut_ptr(), a.len()) })
 }
 
 /// [`ior_suz`] in the place of `a`; a fault leaves it as it was.
@@ -1196,9 +1289,9 @@ pub fn ior_suz_into(a: &[i32], out: &mut [i32]) -> Result<(), Fault> {
 /// # Ok::<(), cvl::Fault>(())
 /// ```
 pub fn ior_suz_in(a: &mut [i32]) -> Result<(), Fault> {
-    let n = same(&[a.len()])?;
+    limit(a.len())?;
     let out = a.as_mut_ptr();
-    told(unsafe { symbols::cvl_ior_suz(out, out, n) })
+    told(unsafe { symbols::cvl_ior_suz(out, out, a.len()) })
 }
 
 /// The n integers, or, bit by bit; 0 where there are none.
@@ -1210,9 +1303,8 @@ pub fn ior_suz_in(a: &mut [i32]) -> Result<(), Fault> {
 /// # Ok::<(), cvl::Fault>(())
 /// ```
 pub fn ior_ruz(a: &[i32]) -> Result<i32, Fault> {
-    let n = same(&[a.len()])?;
     let mut out = 0;
-    told(unsafe { symbols::cvl_ior_ruz(a.as_ptr(), n, &mut out) })?;
+    told(unsafe { symbols::cvl_ior_ruz(a.as_ptr(), a.len(), &mut out) })?;
     Ok(out)
 }
 
@@ -1226,16 +1318,17 @@ pub fn ior_ruz(a: &[i32]) -> Result<i32, Fault> {
 /// # Ok::<(), cvl::Fault>(())
 /// ```
 pub fn xor_suz(a: &[i32]) -> Result<Vec<i32>, Fault> {
-    let mut out = vec![0; a.len()];
+    limit(a.len())?;
+    let mut out = zeros(a.len())?;
     xor_suz_into(a, &mut out)?;
     Ok(out)
 }
 
-/// [`xor_suz`] into a room that is as long as the result; a fault leaves it as it was.
+/// [`xor_suz`] into a room that is as long as the result; a fault leaves the room as it was.
 pub fn xor_suz_into(a: &[i32], out: &mut [i32]) -> Result<(), Fault> {
-    let n = same(&[a.len()])?;
+    limit(a.len())?;
     as_long(out, a.len())?;
-    told(unsafe { symbols::cvl_xor_suz(a.as_ptr(), out.as_mut_ptr(), n) })
+    told(unsafe { symbols::cvl_xor_suz(a.as_ptr(), out.as_mut_ptr(), a.len()) })
 }
 
 /// [`xor_suz`] in the place of `a`; a fault leaves it as it was.
@@ -1247,9 +1340,9 @@ pub fn xor_suz_into(a: &[i32], out: &mut [i32]) -> Result<(), Fault> {
 /// # Ok::<(), cvl::Fault>(())
 /// ```
 pub fn xor_suz_in(a: &mut [i32]) -> Result<(), Fault> {
-    let n = same(&[a.len()])?;
+    limit(a.len())?;
     let out = a.as_mut_ptr();
-    told(unsafe { symbols::cvl_xor_suz(out, out, n) })
+    told(unsafe { symbols::cvl_xor_suz(out, out, a.len()) })
 }
 
 /// The n integers, exclusive or, bit by bit; 0 where there are none.
@@ -1261,9 +1354,8 @@ pub fn xor_suz_in(a: &mut [i32]) -> Result<(), Fault> {
 /// # Ok::<(), cvl::Fault>(())
 /// ```
 pub fn xor_ruz(a: &[i32]) -> Result<i32, Fault> {
-    let n = same(&[a.len()])?;
     let mut out = 0;
-    told(unsafe { symbols::cvl_xor_ruz(a.as_ptr(), n, &mut out) })?;
+    told(unsafe { symbols::cvl_xor_ruz(a.as_ptr(), a.len(), &mut out) })?;
     Ok(out)
 }
 
@@ -1277,16 +1369,17 @@ pub fn xor_ruz(a: &[i32]) -> Result<i32, Fault> {
 /// # Ok::<(), cvl::Fault>(())
 /// ```
 pub fn and_sub(a: &[bool]) -> Result<Vec<bool>, Fault> {
-    let mut out = vec![false; a.len()];
+    limit(a.len())?;
+    let mut out = zeros(a.len())?;
     and_sub_into(a, &mut out)?;
     Ok(out)
 }
 
-/// [`and_sub`] into a room that is as long as the result; a fault leaves it as it was.
+/// [`and_sub`] into a room that is as long as the result; a fault leaves the room as it was.
 pub fn and_sub_into(a: &[bool], out: &mut [bool]) -> Result<(), Fault> {
-    let n = same(&[a.len()])?;
+    limit(a.len())?;
     as_long(out, a.len())?;
-    told(unsafe { symbols::cvl_and_sub(a.as_ptr().cast(), out.as_mut_ptr().cast(), n) })
+    told(unsafe { symbols::cvl_and_sub(a.as_ptr().cast(), out.as_mut_ptr().cast(), a.len()) })
 }
 
 /// [`and_sub`] in the place of `a`; a fault leaves it as it was.
@@ -1298,9 +1391,9 @@ pub fn and_sub_into(a: &[bool], out: &mut [bool]) -> Result<(), Fault> {
 /// # Ok::<(), cvl::Fault>(())
 /// ```
 pub fn and_sub_in(a: &mut [bool]) -> Result<(), Fault> {
-    let n = same(&[a.len()])?;
+    limit(a.len())?;
     let out = a.as_mut_ptr().cast();
-    told(unsafe { symbols::cvl_and_sub(out, out, n) })
+    told(unsafe { symbols::cvl_and_sub(out, out, a.len()) })
 }
 
 /// Of the n booleans, whether all are true; true where there are none.
@@ -1312,9 +1405,8 @@ pub fn and_sub_in(a: &mut [bool]) -> Result<(), Fault> {
 /// # Ok::<(), cvl::Fault>(())
 /// ```
 pub fn and_rub(a: &[bool]) -> Result<bool, Fault> {
-    let n = same(&[a.len()])?;
     let mut out = 0u8;
-    told(unsafe { symbols::cvl_and_rub(a.as_ptr().cast(), n, &mut out) })?;
+    told(unsafe { symbols::cvl_and_rub(a.as_ptr().cast(), a.len(), &mut out) })?;
     Ok(out != 0)
 }
 
@@ -1328,16 +1420,17 @@ pub fn and_rub(a: &[bool]) -> Result<bool, Fault> {
 /// # Ok::<(), cvl::Fault>(())
 /// ```
 pub fn ior_sub(a: &[bool]) -> Result<Vec<bool>, Fault> {
-    let mut out = vec![false; a.len()];
+    limit(a.len())?;
+    let mut out = zeros(a.len())?;
     ior_sub_into(a, &mut out)?;
     Ok(out)
 }
 
-/// [`ior_sub`] into a room that is as long as the result; a fault leaves it as it was.
+/// [`ior_sub`] into a room that is as long as the result; a fault leaves the room as it was.
 pub fn ior_sub_into(a: &[bool], out: &mut [bool]) -> Result<(), Fault> {
-    let n = same(&[a.len()])?;
+    limit(a.len())?;
     as_long(out, a.len())?;
-    told(unsafe { symbols::cvl_ior_sub(a.as_ptr().cast(), out.as_mut_ptr().cast(), n) })
+    told(unsafe { symbols::cvl_ior_sub(a.as_ptr().cast(), out.as_mut_ptr().cast(), a.len()) })
 }
 
 /// [`ior_sub`] in the place of `a`; a fault leaves it as it was.
@@ -1349,9 +1442,9 @@ pub fn ior_sub_into(a: &[bool], out: &mut [bool]) -> Result<(), Fault> {
 /// # Ok::<(), cvl::Fault>(())
 /// ```
 pub fn ior_sub_in(a: &mut [bool]) -> Result<(), Fault> {
-    let n = same(&[a.len()])?;
+    limit(a.len())?;
     let out = a.as_mut_ptr().cast();
-    told(unsafe { symbols::cvl_ior_sub(out, out, n) })
+    told(unsafe { symbols::cvl_ior_sub(out, out, a.len()) })
 }
 
 /// Of the n booleans, whether any is true; false where there are none.
@@ -1363,9 +1456,8 @@ pub fn ior_sub_in(a: &mut [bool]) -> Result<(), Fault> {
 /// # Ok::<(), cvl::Fault>(())
 /// ```
 pub fn ior_rub(a: &[bool]) -> Result<bool, Fault> {
-    let n = same(&[a.len()])?;
     let mut out = 0u8;
-    told(unsafe { symbols::cvl_ior_rub(a.as_ptr().cast(), n, &mut out) })?;
+    told(unsafe { symbols::cvl_ior_rub(a.as_ptr().cast(), a.len(), &mut out) })?;
     Ok(out != 0)
 }
 
@@ -1379,16 +1471,17 @@ pub fn ior_rub(a: &[bool]) -> Result<bool, Fault> {
 /// # Ok::<(), cvl::Fault>(())
 /// ```
 pub fn xor_sub(a: &[bool]) -> Result<Vec<bool>, Fault> {
-    let mut out = vec![false; a.len()];
+    limit(a.len())?;
+    let mut out = zeros(a.len())?;
     xor_sub_into(a, &mut out)?;
     Ok(out)
 }
 
-/// [`xor_sub`] into a room that is as long as the result; a fault leaves it as it was.
+/// [`xor_sub`] into a room that is as long as the result; a fault leaves the room as it was.
 pub fn xor_sub_into(a: &[bool], out: &mut [bool]) -> Result<(), Fault> {
-    let n = same(&[a.len()])?;
+    limit(a.len())?;
     as_long(out, a.len())?;
-    told(unsafe { symbols::cvl_xor_sub(a.as_ptr().cast(), out.as_mut_ptr().cast(), n) })
+    told(unsafe { symbols::cvl_xor_sub(a.as_ptr().cast(), out.as_mut_ptr().cast(), a.len()) })
 }
 
 /// [`xor_sub`] in the place of `a`; a fault leaves it as it was.
@@ -1400,9 +1493,9 @@ pub fn xor_sub_into(a: &[bool], out: &mut [bool]) -> Result<(), Fault> {
 /// # Ok::<(), cvl::Fault>(())
 /// ```
 pub fn xor_sub_in(a: &mut [bool]) -> Result<(), Fault> {
-    let n = same(&[a.len()])?;
+    limit(a.len())?;
     let out = a.as_mut_ptr().cast();
-    told(unsafe { symbols::cvl_xor_sub(out, out, n) })
+    told(unsafe { symbols::cvl_xor_sub(out, out, a.len()) })
 }
 
 /// Of the n booleans, whether an odd number is true; false where there are none.
@@ -1414,9 +1507,8 @@ pub fn xor_sub_in(a: &mut [bool]) -> Result<(), Fault> {
 /// # Ok::<(), cvl::Fault>(())
 /// ```
 pub fn xor_rub(a: &[bool]) -> Result<bool, Fault> {
-    let n = same(&[a.len()])?;
     let mut out = 0u8;
-    told(unsafe { symbols::cvl_xor_rub(a.as_ptr().cast(), n, &mut out) })?;
+    told(unsafe { symbols::cvl_xor_rub(a.as_ptr().cast(), a.len(), &mut out) })?;
     Ok(out != 0)
 }
 
@@ -1429,16 +1521,17 @@ pub fn xor_rub(a: &[bool]) -> Result<bool, Fault> {
 /// # Ok::<(), cvl::Fault>(())
 /// ```
 pub fn tot_suz(a: &[i32]) -> Result<Vec<i32>, Fault> {
-    let mut out = vec![0; a.len()];
+    limit(a.len())?;
+    let mut out = zeros(a.len())?;
     tot_suz_into(a, &mut out)?;
     Ok(out)
 }
 
-/// [`tot_suz`] into a room that is as long as the result; a fault leaves it as it was.
+/// [`tot_suz`] into a room that is as long as the result; a fault leaves the room as it was.
 pub fn tot_suz_into(a: &[i32], out: &mut [i32]) -> Result<(), Fault> {
-    let n = same(&[a.len()])?;
+    limit(a.len())?;
     as_long(out, a.len())?;
-    told(unsafe { symbols::cvl_tot_suz(a.as_ptr(), out.as_mut_ptr(), n) })
+    told(unsafe { symbols::cvl_tot_suz(a.as_ptr(), out.as_mut_ptr(), a.len()) })
 }
 
 /// [`tot_suz`] in the place of `a`; a fault leaves it as it was.
@@ -1450,9 +1543,9 @@ pub fn tot_suz_into(a: &[i32], out: &mut [i32]) -> Result<(), Fault> {
 /// # Ok::<(), cvl::Fault>(())
 /// ```
 pub fn tot_suz_in(a: &mut [i32]) -> Result<(), Fault> {
-    let n = same(&[a.len()])?;
+    limit(a.len())?;
     let out = a.as_mut_ptr();
-    told(unsafe { symbols::cvl_tot_suz(out, out, n) })
+    told(unsafe { symbols::cvl_tot_suz(out, out, a.len()) })
 }
 
 /// The sum of the n integers.
@@ -1464,9 +1557,8 @@ pub fn tot_suz_in(a: &mut [i32]) -> Result<(), Fault> {
 /// # Ok::<(), cvl::Fault>(())
 /// ```
 pub fn tot_ruz(a: &[i32]) -> Result<i32, Fault> {
-    let n = same(&[a.len()])?;
     let mut out = 0;
-    told(unsafe { symbols::cvl_tot_ruz(a.as_ptr(), n, &mut out) })?;
+    told(unsafe { symbols::cvl_tot_ruz(a.as_ptr(), a.len(), &mut out) })?;
     Ok(out)
 }
 
@@ -1479,9 +1571,8 @@ pub fn tot_ruz(a: &[i32]) -> Result<i32, Fault> {
 /// # Ok::<(), cvl::Fault>(())
 /// ```
 pub fn cnt_lub(flags: &[bool]) -> Result<i32, Fault> {
-    let n = same(&[flags.len()])?;
     let mut out = 0;
-    told(unsafe { symbols::cvl_cnt_lub(flags.as_ptr().cast(), n, &mut out) })?;
+    told(unsafe { symbols::cvl_cnt_lub(flags.as_ptr().cast(), flags.len(), &mut out) })?;
     Ok(out)
 }
 
@@ -1493,10 +1584,9 @@ pub fn cnt_lub(flags: &[bool]) -> Result<i32, Fault> {
 /// assert_eq!(cvl::ext_vuz(&[4, 5, 6], 2)?, 6);
 /// # Ok::<(), cvl::Fault>(())
 /// ```
-pub fn ext_vuz(vector: &[i32], index: i32) -> Result<i32, Fault> {
-    let n = same(&[vector.len()])?;
+pub fn ext_vuz(vector: &[i32], index: i64) -> Result<i32, Fault> {
     let mut out = 0;
-    told(unsafe { symbols::cvl_ext_vuz(vector.as_ptr(), n, index, &mut out) })?;
+    told(unsafe { symbols::cvl_ext_vuz(vector.as_ptr(), vector.len(), index, &mut out) })?;
     Ok(out)
 }
 
@@ -1508,10 +1598,9 @@ pub fn ext_vuz(vector: &[i32], index: i32) -> Result<i32, Fault> {
 /// assert_eq!(cvl::ext_vub(&[true, true, false], 0)?, true);
 /// # Ok::<(), cvl::Fault>(())
 /// ```
-pub fn ext_vub(vector: &[bool], index: i32) -> Result<bool, Fault> {
-    let n = same(&[vector.len()])?;
+pub fn ext_vub(vector: &[bool], index: i64) -> Result<bool, Fault> {
     let mut out = 0u8;
-    told(unsafe { symbols::cvl_ext_vub(vector.as_ptr().cast(), n, index, &mut out) })?;
+    told(unsafe { symbols::cvl_ext_vub(vector.as_ptr().cast(), vector.len(), index, &mut out) })?;
     Ok(out != 0)
 }
 
@@ -1523,17 +1612,16 @@ pub fn ext_vub(vector: &[bool], index: i32) -> Result<bool, Fault> {
 /// assert_eq!(cvl::rep_vuz(&[1, 2, 3], 1, 9)?, [1, 9, 3]);
 /// # Ok::<(), cvl::Fault>(())
 /// ```
-pub fn rep_vuz(vector: &[i32], index: i32, value: i32) -> Result<Vec<i32>, Fault> {
-    let mut out = vec![0; vector.len()];
+pub fn rep_vuz(vector: &[i32], index: i64, value: i32) -> Result<Vec<i32>, Fault> {
+    let mut out = zeros(vector.len())?;
     rep_vuz_into(vector, index, value, &mut out)?;
     Ok(out)
 }
 
-/// [`rep_vuz`] into a room that is as long as the result; a fault leaves it as it was.
-pub fn rep_vuz_into(vector: &[i32], index: i32, value: i32, out: &mut [i32]) -> Result<(), Fault> {
-    let n = same(&[vector.len()])?;
+/// [`rep_vuz`] into a room that is as long as the result; a fault leaves the room as it was.
+pub fn rep_vuz_into(vector: &[i32], index: i64, value: i32, out: &mut [i32]) -> Result<(), Fault> {
     as_long(out, vector.len())?;
-    told(unsafe { symbols::cvl_rep_vuz(vector.as_ptr(), index, value, out.as_mut_ptr(), n) })
+    told(unsafe { symbols::cvl_rep_vuz(vector.as_ptr(), index, value, out.as_mut_ptr(), vector.len()) })
 }
 
 /// The vector with the value at the index. vector and out have n elements.
@@ -1544,17 +1632,16 @@ pub fn rep_vuz_into(vector: &[i32], index: i32, value: i32, out: &mut [i32]) -> 
 /// assert_eq!(cvl::rep_vub(&[true, true, true], 2, false)?, [true, true, false]);
 /// # Ok::<(), cvl::Fault>(())
 /// ```
-pub fn rep_vub(vector: &[bool], index: i32, value: bool) -> Result<Vec<bool>, Fault> {
-    let mut out = vec![false; vector.len()];
+pub fn rep_vub(vector: &[bool], index: i64, value: bool) -> Result<Vec<bool>, Fault> {
+    let mut out = zeros(vector.len())?;
     rep_vub_into(vector, index, value, &mut out)?;
     Ok(out)
 }
 
-/// [`rep_vub`] into a room that is as long as the result; a fault leaves it as it was.
-pub fn rep_vub_into(vector: &[bool], index: i32, value: bool, out: &mut [bool]) -> Result<(), Fault> {
-    let n = same(&[vector.len()])?;
+/// [`rep_vub`] into a room that is as long as the result; a fault leaves the room as it was.
+pub fn rep_vub_into(vector: &[bool], index: i64, value: bool, out: &mut [bool]) -> Result<(), Fault> {
     as_long(out, vector.len())?;
-    told(unsafe { symbols::cvl_rep_vub(vector.as_ptr().cast(), index, value.into(), out.as_mut_ptr().cast(), n) })
+    told(unsafe { symbols::cvl_rep_vub(vector.as_ptr().cast(), index, value.into(), out.as_mut_ptr().cast(), vector.len()) })
 }
 
 /// count copies of the value; out has count elements.
@@ -1566,15 +1653,15 @@ pub fn rep_vub_into(vector: &[bool], index: i32, value: bool, out: &mut [bool]) 
 /// assert_eq!(cvl::dis_vuz(7, 3)?, [7, 7, 7]);
 /// # Ok::<(), cvl::Fault>(())
 /// ```
-pub fn dis_vuz(value: i32, count: i32) -> Result<Vec<i32>, Fault> {
-    let mut out = vec![0; places(count)];
+pub fn dis_vuz(value: i32, count: i64) -> Result<Vec<i32>, Fault> {
+    let mut out = zeros(places(count)?)?;
     dis_vuz_into(value, count, &mut out)?;
     Ok(out)
 }
 
-/// [`dis_vuz`] into a room that is as long as the result; a fault leaves it as it was.
-pub fn dis_vuz_into(value: i32, count: i32, out: &mut [i32]) -> Result<(), Fault> {
-    as_long(out, places(count))?;
+/// [`dis_vuz`] into a room that is as long as the result; a fault leaves the room as it was.
+pub fn dis_vuz_into(value: i32, count: i64, out: &mut [i32]) -> Result<(), Fault> {
+    as_long(out, places(count)?)?;
     told(unsafe { symbols::cvl_dis_vuz(value, count, out.as_mut_ptr()) })
 }
 
@@ -1587,18 +1674,19 @@ pub fn dis_vuz_into(value: i32, count: i32, out: &mut [i32]) -> Result<(), Fault
 /// assert_eq!(cvl::dis_vub(true, 2)?, [true, true]);
 /// # Ok::<(), cvl::Fault>(())
 /// ```
-pub fn dis_vub(value: bool, count: i32) -> Result<Vec<bool>, Fault> {
-    let mut out = vec![false; places(count)];
+pub fn dis_vub(value: bool, count: i64) -> Result<Vec<bool>, Fault> {
+    let mut out = zeros(places(count)?)?;
     dis_vub_into(value, count, &mut out)?;
     Ok(out)
 }
 
-/// [`dis_vub`] into a room that is as long as the result; a fault leaves it as it was.
-pub fn dis_vub_into(value: bool, count: i32, out: &mut [bool]) -> Result<(), Fault> {
-    as_long(out, places(count))?;
+/// [`dis_vub`] into a room that is as long as the result; a fault leaves the room as it was.
+pub fn dis_vub_into(value: bool, count: i64, out: &mut [bool]) -> Result<(), Fault> {
+    as_long(out, places(count)?)?;
     told(unsafe { symbols::cvl_dis_vub(value.into(), count, out.as_mut_ptr().cast()) })
 }
 
+/// The numbers init + k * stride, wrapped, for k from 0 to count - 1; out has count elements.
 ///
 /// Faults: 12 NegativeLength, without a place, where count is below 0; 13 TooLong where it is
 /// above 4194304.
@@ -1607,15 +1695,15 @@ pub fn dis_vub_into(value: bool, count: i32, out: &mut [bool]) -> Result<(), Fau
 /// assert_eq!(cvl::ind_luz(10, -2, 3)?, [10, 8, 6]);
 /// # Ok::<(), cvl::Fault>(())
 /// ```
-pub fn ind_luz(init: i32, stride: i32, count: i32) -> Result<Vec<i32>, Fault> {
-    let mut out = vec![0; places(count)];
+pub fn ind_luz(init: i32, stride: i32, count: i64) -> Result<Vec<i32>, Fault> {
+    let mut out = zeros(places(count)?)?;
     ind_luz_into(init, stride, count, &mut out)?;
     Ok(out)
 }
 
-/// [`ind_luz`] into a room that is as long as the result; a fault leaves it as it was.
-pub fn ind_luz_into(init: i32, stride: i32, count: i32, out: &mut [i32]) -> Result<(), Fault> {
-    as_long(out, places(count))?;
+/// [`ind_luz`] into a room that is as long as the result; a fault leaves the room as it was.
+pub fn ind_luz_into(init: i32, stride: i32, count: i64, out: &mut [i32]) -> Result<(), Fault> {
+    as_long(out, places(count)?)?;
     told(unsafe { symbols::cvl_ind_luz(init, stride, count, out.as_mut_ptr()) })
 }
 
@@ -1640,17 +1728,17 @@ pub fn mke_fov(lengths: &[i32]) -> Result<Segments, Fault> {
 /// # Ok::<(), cvl::Fault>(())
 /// ```
 pub fn tot_sez(a: &[i32], segments: &Segments) -> Result<Vec<i32>, Fault> {
-    let mut out = vec![0; a.len()];
+    same(&[a.len(), segments.total()])?;
+    let mut out = zeros(a.len())?;
     tot_sez_into(a, segments, &mut out)?;
     Ok(out)
 }
 
-/// [`tot_sez`] into a room that is as long as the result; a fault leaves it as it was.
+/// [`tot_sez`] into a room that is as long as the result; a fault leaves the room as it was.
 pub fn tot_sez_into(a: &[i32], segments: &Segments, out: &mut [i32]) -> Result<(), Fault> {
-    let k = same(&[segments.len()])?;
-    let n = same(&[a.len()])?;
+    same(&[a.len(), segments.total()])?;
     as_long(out, a.len())?;
-    told(unsafe { symbols::cvl_tot_sez(a.as_ptr(), segments.lengths().as_ptr(), k, out.as_mut_ptr(), n) })
+    told(unsafe { symbols::cvl_tot_sez(a.as_ptr(), segments.given(), out.as_mut_ptr(), a.len()) })
 }
 
 /// [`tot_sez`] in the place of `a`; a fault leaves it as it was.
@@ -1663,10 +1751,9 @@ pub fn tot_sez_into(a: &[i32], segments: &Segments, out: &mut [i32]) -> Result<(
 /// # Ok::<(), cvl::Fault>(())
 /// ```
 pub fn tot_sez_in(a: &mut [i32], segments: &Segments) -> Result<(), Fault> {
-    let k = same(&[segments.len()])?;
-    let n = same(&[a.len()])?;
+    same(&[a.len(), segments.total()])?;
     let out = a.as_mut_ptr();
-    told(unsafe { symbols::cvl_tot_sez(out, segments.lengths().as_ptr(), k, out, n) })
+    told(unsafe { symbols::cvl_tot_sez(out, segments.given(), out, a.len()) })
 }
 
 /// The sum of each segment. a has n elements, out one for each segment.
@@ -1680,17 +1767,17 @@ pub fn tot_sez_in(a: &mut [i32], segments: &Segments) -> Result<(), Fault> {
 /// # Ok::<(), cvl::Fault>(())
 /// ```
 pub fn tot_rez(a: &[i32], segments: &Segments) -> Result<Vec<i32>, Fault> {
-    let mut out = vec![0; segments.len()];
+    same(&[a.len(), segments.total()])?;
+    let mut out = zeros(segments.len())?;
     tot_rez_into(a, segments, &mut out)?;
     Ok(out)
 }
 
-/// [`tot_rez`] into a room that is as long as the result; a fault leaves it as it was.
+/// [`tot_rez`] into a room that is as long as the result; a fault leaves the room as it was.
 pub fn tot_rez_into(a: &[i32], segments: &Segments, out: &mut [i32]) -> Result<(), Fault> {
-    let n = same(&[a.len()])?;
-    let k = same(&[segments.len()])?;
+    same(&[a.len(), segments.total()])?;
     as_long(out, segments.len())?;
-    told(unsafe { symbols::cvl_tot_rez(a.as_ptr(), n, segments.lengths().as_ptr(), k, out.as_mut_ptr()) })
+    told(unsafe { symbols::cvl_tot_rez(a.as_ptr(), a.len(), segments.given(), out.as_mut_ptr()) })
 }
 
 /// The element of each segment at its index, which counts from the segment's start. The vector
@@ -1705,17 +1792,19 @@ pub fn tot_rez_into(a: &[i32], segments: &Segments, out: &mut [i32]) -> Result<(
 /// # Ok::<(), cvl::Fault>(())
 /// ```
 pub fn ext_vez(vector: &[i32], index: &[i32], segments: &Segments) -> Result<Vec<i32>, Fault> {
-    let mut out = vec![0; index.len()];
+    same(&[vector.len(), segments.total()])?;
+    same(&[index.len(), segments.len()])?;
+    let mut out = zeros(index.len())?;
     ext_vez_into(vector, index, segments, &mut out)?;
     Ok(out)
 }
 
-/// [`ext_vez`] into a room that is as long as the result; a fault leaves it as it was.
+/// [`ext_vez`] into a room that is as long as the result; a fault leaves the room as it was.
 pub fn ext_vez_into(vector: &[i32], index: &[i32], segments: &Segments, out: &mut [i32]) -> Result<(), Fault> {
-    let n = same(&[vector.len()])?;
-    let k = same(&[index.len(), segments.len()])?;
+    same(&[vector.len(), segments.total()])?;
+    same(&[index.len(), segments.len()])?;
     as_long(out, index.len())?;
-    told(unsafe { symbols::cvl_ext_vez(vector.as_ptr(), n, index.as_ptr(), segments.lengths().as_ptr(), k, out.as_mut_ptr()) })
+    told(unsafe { symbols::cvl_ext_vez(vector.as_ptr(), vector.len(), index.as_ptr(), segments.given(), out.as_mut_ptr()) })
 }
 
 /// The element of each segment at its index, which counts from the segment's start. The vector
@@ -1730,17 +1819,19 @@ pub fn ext_vez_into(vector: &[i32], index: &[i32], segments: &Segments, out: &mu
 /// # Ok::<(), cvl::Fault>(())
 /// ```
 pub fn ext_veb(vector: &[bool], index: &[i32], segments: &Segments) -> Result<Vec<bool>, Fault> {
-    let mut out = vec![false; index.len()];
+    same(&[vector.len(), segments.total()])?;
+    same(&[index.len(), segments.len()])?;
+    let mut out = zeros(index.len())?;
     ext_veb_into(vector, index, segments, &mut out)?;
     Ok(out)
 }
 
-/// [`ext_veb`] into a room that is as long as the result; a fault leaves it as it was.
+/// [`ext_veb`] into a room that is as long as the result; a fault leaves the room as it was.
 pub fn ext_veb_into(vector: &[bool], index: &[i32], segments: &Segments, out: &mut [bool]) -> Result<(), Fault> {
-    let n = same(&[vector.len()])?;
-    let k = same(&[index.len(), segments.len()])?;
+    same(&[vector.len(), segments.total()])?;
+    same(&[index.len(), segments.len()])?;
     as_long(out, index.len())?;
-    told(unsafe { symbols::cvl_ext_veb(vector.as_ptr().cast(), n, index.as_ptr(), segments.lengths().as_ptr(), k, out.as_mut_ptr().cast()) })
+    told(unsafe { symbols::cvl_ext_veb(vector.as_ptr().cast(), vector.len(), index.as_ptr(), segments.given(), out.as_mut_ptr().cast()) })
 }
 
 /// The vector with the value of each segment at its index, which counts from the segment's start.
@@ -1755,17 +1846,19 @@ pub fn ext_veb_into(vector: &[bool], index: &[i32], segments: &Segments, out: &m
 /// # Ok::<(), cvl::Fault>(())
 /// ```
 pub fn rep_vez(vector: &[i32], index: &[i32], values: &[i32], segments: &Segments) -> Result<Vec<i32>, Fault> {
-    let mut out = vec![0; vector.len()];
+    same(&[vector.len(), segments.total()])?;
+    same(&[index.len(), values.len(), segments.len()])?;
+    let mut out = zeros(vector.len())?;
     rep_vez_into(vector, index, values, segments, &mut out)?;
     Ok(out)
 }
 
-/// [`rep_vez`] into a room that is as long as the result; a fault leaves it as it was.
+/// [`rep_vez`] into a room that is as long as the result; a fault leaves the room as it was.
 pub fn rep_vez_into(vector: &[i32], index: &[i32], values: &[i32], segments: &Segments, out: &mut [i32]) -> Result<(), Fault> {
-    let n = same(&[vector.len()])?;
-    let k = same(&[index.len(), values.len(), segments.len()])?;
+    same(&[vector.len(), segments.total()])?;
+    same(&[index.len(), values.len(), segments.len()])?;
     as_long(out, vector.len())?;
-    told(unsafe { symbols::cvl_rep_vez(vector.as_ptr(), n, index.as_ptr(), values.as_ptr(), segments.lengths().as_ptr(), k, out.as_mut_ptr()) })
+    told(unsafe { symbols::cvl_rep_vez(vector.as_ptr(), index.as_ptr(), values.as_ptr(), segments.given(), out.as_mut_ptr(), vector.len()) })
 }
 
 /// The vector with the value of each segment at its index, which counts from the segment's start.
@@ -1780,17 +1873,19 @@ pub fn rep_vez_into(vector: &[i32], index: &[i32], values: &[i32], segments: &Se
 /// # Ok::<(), cvl::Fault>(())
 /// ```
 pub fn rep_veb(vector: &[bool], index: &[i32], values: &[bool], segments: &Segments) -> Result<Vec<bool>, Fault> {
-    let mut out = vec![false; vector.len()];
+    same(&[vector.len(), segments.total()])?;
+    same(&[index.len(), values.len(), segments.len()])?;
+    let mut out = zeros(vector.len())?;
     rep_veb_into(vector, index, values, segments, &mut out)?;
     Ok(out)
 }
 
-/// [`rep_veb`] into a room that is as long as the result; a fault leaves it as it was.
+/// [`rep_veb`] into a room that is as long as the result; a fault leaves the room as it was.
 pub fn rep_veb_into(vector: &[bool], index: &[i32], values: &[bool], segments: &Segments, out: &mut [bool]) -> Result<(), Fault> {
-    let n = same(&[vector.len()])?;
-    let k = same(&[index.len(), values.len(), segments.len()])?;
+    same(&[vector.len(), segments.total()])?;
+    same(&[index.len(), values.len(), segments.len()])?;
     as_long(out, vector.len())?;
-    told(unsafe { symbols::cvl_rep_veb(vector.as_ptr().cast(), n, index.as_ptr(), values.as_ptr().cast(), segments.lengths().as_ptr(), k, out.as_mut_ptr().cast()) })
+    told(unsafe { symbols::cvl_rep_veb(vector.as_ptr().cast(), index.as_ptr(), values.as_ptr().cast(), segments.given(), out.as_mut_ptr().cast(), vector.len()) })
 }
 
 /// Copies of each value, as many as its segment has places. There is one value for each segment;
@@ -1802,16 +1897,16 @@ pub fn rep_veb_into(vector: &[bool], index: &[i32], values: &[bool], segments: &
 /// # Ok::<(), cvl::Fault>(())
 /// ```
 pub fn dis_vez(values: &[i32], segments: &Segments) -> Result<Vec<i32>, Fault> {
-    let mut out = vec![0; segments.total()];
+    same(&[values.len(), segments.len()])?;
+    let mut out = zeros(segments.total())?;
     dis_vez_into(values, segments, &mut out)?;
     Ok(out)
 }
 
-/// [`dis_vez`] into a room that is as long as the result; a fault leaves it as it was.
+/// [`dis_vez`] into a room that is as long as the result; a fault leaves the room as it was.
 pub fn dis_vez_into(values: &[i32], segments: &Segments, out: &mut [i32]) -> Result<(), Fault> {
-    let k = same(&[values.len(), segments.len()])?;
-    as_long(out, segments.total())?;
-    told(unsafe { symbols::cvl_dis_vez(values.as_ptr(), segments.lengths().as_ptr(), k, out.as_mut_ptr(), out.len()) })
+    same(&[values.len(), segments.len()])?;
+    told(unsafe { symbols::cvl_dis_vez(values.as_ptr(), segments.given(), out.as_mut_ptr(), out.len()) })
 }
 
 /// Copies of each value, as many as its segment has places. There is one value for each segment;
@@ -1823,16 +1918,16 @@ pub fn dis_vez_into(values: &[i32], segments: &Segments, out: &mut [i32]) -> Res
 /// # Ok::<(), cvl::Fault>(())
 /// ```
 pub fn dis_veb(values: &[bool], segments: &Segments) -> Result<Vec<bool>, Fault> {
-    let mut out = vec![false; segments.total()];
+    same(&[values.len(), segments.len()])?;
+    let mut out = zeros(segments.total())?;
     dis_veb_into(values, segments, &mut out)?;
     Ok(out)
 }
 
-/// [`dis_veb`] into a room that is as long as the result; a fault leaves it as it was.
+/// [`dis_veb`] into a room that is as long as the result; a fault leaves the room as it was.
 pub fn dis_veb_into(values: &[bool], segments: &Segments, out: &mut [bool]) -> Result<(), Fault> {
-    let k = same(&[values.len(), segments.len()])?;
-    as_long(out, segments.total())?;
-    told(unsafe { symbols::cvl_dis_veb(values.as_ptr().cast(), segments.lengths().as_ptr(), k, out.as_mut_ptr().cast(), out.len()) })
+    same(&[values.len(), segments.len()])?;
+    told(unsafe { symbols::cvl_dis_veb(values.as_ptr().cast(), segments.given(), out.as_mut_ptr().cast(), out.len()) })
 }
 
 /// The numbers of each segment from its init on, in steps of its stride, wrapped. There are one
@@ -1845,16 +1940,16 @@ pub fn dis_veb_into(values: &[bool], segments: &Segments, out: &mut [bool]) -> R
 /// # Ok::<(), cvl::Fault>(())
 /// ```
 pub fn ind_lez(inits: &[i32], strides: &[i32], segments: &Segments) -> Result<Vec<i32>, Fault> {
-    let mut out = vec![0; segments.total()];
+    same(&[inits.len(), strides.len(), segments.len()])?;
+    let mut out = zeros(segments.total())?;
     ind_lez_into(inits, strides, segments, &mut out)?;
     Ok(out)
 }
 
-/// [`ind_lez`] into a room that is as long as the result; a fault leaves it as it was.
+/// [`ind_lez`] into a room that is as long as the result; a fault leaves the room as it was.
 pub fn ind_lez_into(inits: &[i32], strides: &[i32], segments: &Segments, out: &mut [i32]) -> Result<(), Fault> {
-    let k = same(&[inits.len(), strides.len(), segments.len()])?;
-    as_long(out, segments.total())?;
-    told(unsafe { symbols::cvl_ind_lez(inits.as_ptr(), strides.as_ptr(), segments.lengths().as_ptr(), k, out.as_mut_ptr(), out.len()) })
+    same(&[inits.len(), strides.len(), segments.len()])?;
+    told(unsafe { symbols::cvl_ind_lez(inits.as_ptr(), strides.as_ptr(), segments.given(), out.as_mut_ptr(), out.len()) })
 }
 
 /// For each integer those before it in its segment, summed, wrapped; 0 where a segment starts. a
@@ -1868,17 +1963,17 @@ pub fn ind_lez_into(inits: &[i32], strides: &[i32], segments: &Segments, out: &m
 /// # Ok::<(), cvl::Fault>(())
 /// ```
 pub fn add_sez(a: &[i32], segments: &Segments) -> Result<Vec<i32>, Fault> {
-    let mut out = vec![0; a.len()];
+    same(&[a.len(), segments.total()])?;
+    let mut out = zeros(a.len())?;
     add_sez_into(a, segments, &mut out)?;
     Ok(out)
 }
 
-/// [`add_sez`] into a room that is as long as the result; a fault leaves it as it was.
+/// [`add_sez`] into a room that is as long as the result; a fault leaves the room as it was.
 pub fn add_sez_into(a: &[i32], segments: &Segments, out: &mut [i32]) -> Result<(), Fault> {
-    let k = same(&[segments.len()])?;
-    let n = same(&[a.len()])?;
+    same(&[a.len(), segments.total()])?;
     as_long(out, a.len())?;
-    told(unsafe { symbols::cvl_add_sez(a.as_ptr(), segments.lengths().as_ptr(), k, out.as_mut_ptr(), n) })
+    told(unsafe { symbols::cvl_add_sez(a.as_ptr(), segments.given(), out.as_mut_ptr(), a.len()) })
 }
 
 /// [`add_sez`] in the place of `a`; a fault leaves it as it was.
@@ -1891,10 +1986,9 @@ pub fn add_sez_into(a: &[i32], segments: &Segments, out: &mut [i32]) -> Result<(
 /// # Ok::<(), cvl::Fault>(())
 /// ```
 pub fn add_sez_in(a: &mut [i32], segments: &Segments) -> Result<(), Fault> {
-    let k = same(&[segments.len()])?;
-    let n = same(&[a.len()])?;
+    same(&[a.len(), segments.total()])?;
     let out = a.as_mut_ptr();
-    told(unsafe { symbols::cvl_add_sez(out, segments.lengths().as_ptr(), k, out, n) })
+    told(unsafe { symbols::cvl_add_sez(out, segments.given(), out, a.len()) })
 }
 
 /// The integers of each segment, summed, wrapped; 0 where it is empty. a has n elements, out one
@@ -1908,17 +2002,17 @@ pub fn add_sez_in(a: &mut [i32], segments: &Segments) -> Result<(), Fault> {
 /// # Ok::<(), cvl::Fault>(())
 /// ```
 pub fn add_rez(a: &[i32], segments: &Segments) -> Result<Vec<i32>, Fault> {
-    let mut out = vec![0; segments.len()];
+    same(&[a.len(), segments.total()])?;
+    let mut out = zeros(segments.len())?;
     add_rez_into(a, segments, &mut out)?;
     Ok(out)
 }
 
-/// [`add_rez`] into a room that is as long as the result; a fault leaves it as it was.
+/// [`add_rez`] into a room that is as long as the result; a fault leaves the room as it was.
 pub fn add_rez_into(a: &[i32], segments: &Segments, out: &mut [i32]) -> Result<(), Fault> {
-    let n = same(&[a.len()])?;
-    let k = same(&[segments.len()])?;
+    same(&[a.len(), segments.total()])?;
     as_long(out, segments.len())?;
-    told(unsafe { symbols::cvl_add_rez(a.as_ptr(), n, segments.lengths().as_ptr(), k, out.as_mut_ptr()) })
+    told(unsafe { symbols::cvl_add_rez(a.as_ptr(), a.len(), segments.given(), out.as_mut_ptr()) })
 }
 
 /// For each integer those before it in its segment, multiplied, wrapped; 1 where a segment
@@ -1932,17 +2026,17 @@ pub fn add_rez_into(a: &[i32], segments: &Segments, out: &mut [i32]) -> Result<(
 /// # Ok::<(), cvl::Fault>(())
 /// ```
 pub fn mul_sez(a: &[i32], segments: &Segments) -> Result<Vec<i32>, Fault> {
-    let mut out = vec![0; a.len()];
+    same(&[a.len(), segments.total()])?;
+    let mut out = zeros(a.len())?;
     mul_sez_into(a, segments, &mut out)?;
     Ok(out)
 }
 
-/// [`mul_sez`] into a room that is as long as the result; a fault leaves it as it was.
+/// [`mul_sez`] into a room that is as long as the result; a fault leaves the room as it was.
 pub fn mul_sez_into(a: &[i32], segments: &Segments, out: &mut [i32]) -> Result<(), Fault> {
-    let k = same(&[segments.len()])?;
-    let n = same(&[a.len()])?;
+    same(&[a.len(), segments.total()])?;
     as_long(out, a.len())?;
-    told(unsafe { symbols::cvl_mul_sez(a.as_ptr(), segments.lengths().as_ptr(), k, out.as_mut_ptr(), n) })
+    told(unsafe { symbols::cvl_mul_sez(a.as_ptr(), segments.given(), out.as_mut_ptr(), a.len()) })
 }
 
 /// [`mul_sez`] in the place of `a`; a fault leaves it as it was.
@@ -1955,10 +2049,9 @@ pub fn mul_sez_into(a: &[i32], segments: &Segments, out: &mut [i32]) -> Result<(
 /// # Ok::<(), cvl::Fault>(())
 /// ```
 pub fn mul_sez_in(a: &mut [i32], segments: &Segments) -> Result<(), Fault> {
-    let k = same(&[segments.len()])?;
-    let n = same(&[a.len()])?;
+    same(&[a.len(), segments.total()])?;
     let out = a.as_mut_ptr();
-    told(unsafe { symbols::cvl_mul_sez(out, segments.lengths().as_ptr(), k, out, n) })
+    told(unsafe { symbols::cvl_mul_sez(out, segments.given(), out, a.len()) })
 }
 
 /// The integers of each segment, multiplied, wrapped; 1 where it is empty. a has n elements, out
@@ -1972,17 +2065,17 @@ pub fn mul_sez_in(a: &mut [i32], segments: &Segments) -> Result<(), Fault> {
 /// # Ok::<(), cvl::Fault>(())
 /// ```
 pub fn mul_rez(a: &[i32], segments: &Segments) -> Result<Vec<i32>, Fault> {
-    let mut out = vec![0; segments.len()];
+    same(&[a.len(), segments.total()])?;
+    let mut out = zeros(segments.len())?;
     mul_rez_into(a, segments, &mut out)?;
     Ok(out)
 }
 
-/// [`mul_rez`] into a room that is as long as the result; a fault leaves it as it was.
+/// [`mul_rez`] into a room that is as long as the result; a fault leaves the room as it was.
 pub fn mul_rez_into(a: &[i32], segments: &Segments, out: &mut [i32]) -> Result<(), Fault> {
-    let n = same(&[a.len()])?;
-    let k = same(&[segments.len()])?;
+    same(&[a.len(), segments.total()])?;
     as_long(out, segments.len())?;
-    told(unsafe { symbols::cvl_mul_rez(a.as_ptr(), n, segments.lengths().as_ptr(), k, out.as_mut_ptr()) })
+    told(unsafe { symbols::cvl_mul_rez(a.as_ptr(), a.len(), segments.given(), out.as_mut_ptr()) })
 }
 
 /// For each integer those before it in its segment, the least of them; 2147483647 where a segment
@@ -1996,17 +2089,17 @@ pub fn mul_rez_into(a: &[i32], segments: &Segments, out: &mut [i32]) -> Result<(
 /// # Ok::<(), cvl::Fault>(())
 /// ```
 pub fn min_sez(a: &[i32], segments: &Segments) -> Result<Vec<i32>, Fault> {
-    let mut out = vec![0; a.len()];
+    same(&[a.len(), segments.total()])?;
+    let mut out = zeros(a.len())?;
     min_sez_into(a, segments, &mut out)?;
     Ok(out)
 }
 
-/// [`min_sez`] into a room that is as long as the result; a fault leaves it as it was.
+/// [`min_sez`] into a room that is as long as the result; a fault leaves the room as it was.
 pub fn min_sez_into(a: &[i32], segments: &Segments, out: &mut [i32]) -> Result<(), Fault> {
-    let k = same(&[segments.len()])?;
-    let n = same(&[a.len()])?;
+    same(&[a.len(), segments.total()])?;
     as_long(out, a.len())?;
-    told(unsafe { symbols::cvl_min_sez(a.as_ptr(), segments.lengths().as_ptr(), k, out.as_mut_ptr(), n) })
+    told(unsafe { symbols::cvl_min_sez(a.as_ptr(), segments.given(), out.as_mut_ptr(), a.len()) })
 }
 
 /// [`min_sez`] in the place of `a`; a fault leaves it as it was.
@@ -2019,10 +2112,9 @@ pub fn min_sez_into(a: &[i32], segments: &Segments, out: &mut [i32]) -> Result<(
 /// # Ok::<(), cvl::Fault>(())
 /// ```
 pub fn min_sez_in(a: &mut [i32], segments: &Segments) -> Result<(), Fault> {
-    let k = same(&[segments.len()])?;
-    let n = same(&[a.len()])?;
+    same(&[a.len(), segments.total()])?;
     let out = a.as_mut_ptr();
-    told(unsafe { symbols::cvl_min_sez(out, segments.lengths().as_ptr(), k, out, n) })
+    told(unsafe { symbols::cvl_min_sez(out, segments.given(), out, a.len()) })
 }
 
 /// The integers of each segment, the least of them; 2147483647 where it is empty. a has n
@@ -2036,17 +2128,17 @@ pub fn min_sez_in(a: &mut [i32], segments: &Segments) -> Result<(), Fault> {
 /// # Ok::<(), cvl::Fault>(())
 /// ```
 pub fn min_rez(a: &[i32], segments: &Segments) -> Result<Vec<i32>, Fault> {
-    let mut out = vec![0; segments.len()];
+    same(&[a.len(), segments.total()])?;
+    let mut out = zeros(segments.len())?;
     min_rez_into(a, segments, &mut out)?;
     Ok(out)
 }
 
-/// [`min_rez`] into a room that is as long as the result; a fault leaves it as it was.
+/// [`min_rez`] into a room that is as long as the result; a fault leaves the room as it was.
 pub fn min_rez_into(a: &[i32], segments: &Segments, out: &mut [i32]) -> Result<(), Fault> {
-    let n = same(&[a.len()])?;
-    let k = same(&[segments.len()])?;
+    same(&[a.len(), segments.total()])?;
     as_long(out, segments.len())?;
-    told(unsafe { symbols::cvl_min_rez(a.as_ptr(), n, segments.lengths().as_ptr(), k, out.as_mut_ptr()) })
+    told(unsafe { symbols::cvl_min_rez(a.as_ptr(), a.len(), segments.given(), out.as_mut_ptr()) })
 }
 
 /// For each integer those before it in its segment, the greatest of them; -2147483648 where a
@@ -2060,17 +2152,17 @@ pub fn min_rez_into(a: &[i32], segments: &Segments, out: &mut [i32]) -> Result<(
 /// # Ok::<(), cvl::Fault>(())
 /// ```
 pub fn max_sez(a: &[i32], segments: &Segments) -> Result<Vec<i32>, Fault> {
-    let mut out = vec![0; a.len()];
+    same(&[a.len(), segments.total()])?;
+    let mut out = zeros(a.len())?;
     max_sez_into(a, segments, &mut out)?;
     Ok(out)
 }
 
-/// [`max_sez`] into a room that is as long as the result; a fault leaves it as it was.
+/// [`max_sez`] into a room that is as long as the result; a fault leaves the room as it was.
 pub fn max_sez_into(a: &[i32], segments: &Segments, out: &mut [i32]) -> Result<(), Fault> {
-    let k = same(&[segments.len()])?;
-    let n = same(&[a.len()])?;
+    same(&[a.len(), segments.total()])?;
     as_long(out, a.len())?;
-    told(unsafe { symbols::cvl_max_sez(a.as_ptr(), segments.lengths().as_ptr(), k, out.as_mut_ptr(), n) })
+    told(unsafe { symbols::cvl_max_sez(a.as_ptr(), segments.given(), out.as_mut_ptr(), a.len()) })
 }
 
 /// [`max_sez`] in the place of `a`; a fault leaves it as it was.
@@ -2083,10 +2175,9 @@ pub fn max_sez_into(a: &[i32], segments: &Segments, out: &mut [i32]) -> Result<(
 /// # Ok::<(), cvl::Fault>(())
 /// ```
 pub fn max_sez_in(a: &mut [i32], segments: &Segments) -> Result<(), Fault> {
-    let k = same(&[segments.len()])?;
-    let n = same(&[a.len()])?;
+    same(&[a.len(), segments.total()])?;
     let out = a.as_mut_ptr();
-    told(unsafe { symbols::cvl_max_sez(out, segments.lengths().as_ptr(), k, out, n) })
+    told(unsafe { symbols::cvl_max_sez(out, segments.given(), out, a.len()) })
 }
 
 /// The integers of each segment, the greatest of them; -2147483648 where it is empty. a has n
@@ -2100,17 +2191,17 @@ pub fn max_sez_in(a: &mut [i32], segments: &Segments) -> Result<(), Fault> {
 /// # Ok::<(), cvl::Fault>(())
 /// ```
 pub fn max_rez(a: &[i32], segments: &Segments) -> Result<Vec<i32>, Fault> {
-    let mut out = vec![0; segments.len()];
+    same(&[a.len(), segments.total()])?;
+    let mut out = zeros(segments.len())?;
     max_rez_into(a, segments, &mut out)?;
     Ok(out)
 }
 
-/// [`max_rez`] into a room that is as long as the result; a fault leaves it as it was.
+/// [`max_rez`] into a room that is as long as the result; a fault leaves the room as it was.
 pub fn max_rez_into(a: &[i32], segments: &Segments, out: &mut [i32]) -> Result<(), Fault> {
-    let n = same(&[a.len()])?;
-    let k = same(&[segments.len()])?;
+    same(&[a.len(), segments.total()])?;
     as_long(out, segments.len())?;
-    told(unsafe { symbols::cvl_max_rez(a.as_ptr(), n, segments.lengths().as_ptr(), k, out.as_mut_ptr()) })
+    told(unsafe { symbols::cvl_max_rez(a.as_ptr(), a.len(), segments.given(), out.as_mut_ptr()) })
 }
 
 /// For each integer those before it in its segment, and, bit by bit; -1 where a segment starts. a
@@ -2124,17 +2215,17 @@ pub fn max_rez_into(a: &[i32], segments: &Segments, out: &mut [i32]) -> Result<(
 /// # Ok::<(), cvl::Fault>(())
 /// ```
 pub fn and_sez(a: &[i32], segments: &Segments) -> Result<Vec<i32>, Fault> {
-    let mut out = vec![0; a.len()];
+    same(&[a.len(), segments.total()])?;
+    let mut out = zeros(a.len())?;
     and_sez_into(a, segments, &mut out)?;
     Ok(out)
 }
 
-/// [`and_sez`] into a room that is as long as the result; a fault leaves it as it was.
+/// [`and_sez`] into a room that is as long as the result; a fault leaves the room as it was.
 pub fn and_sez_into(a: &[i32], segments: &Segments, out: &mut [i32]) -> Result<(), Fault> {
-    let k = same(&[segments.len()])?;
-    let n = same(&[a.len()])?;
+    same(&[a.len(), segments.total()])?;
     as_long(out, a.len())?;
-    told(unsafe { symbols::cvl_and_sez(a.as_ptr(), segments.lengths().as_ptr(), k, out.as_mut_ptr(), n) })
+    told(unsafe { symbols::cvl_and_sez(a.as_ptr(), segments.given(), out.as_mut_ptr(), a.len()) })
 }
 
 /// [`and_sez`] in the place of `a`; a fault leaves it as it was.
@@ -2147,10 +2238,9 @@ pub fn and_sez_into(a: &[i32], segments: &Segments, out: &mut [i32]) -> Result<(
 /// # Ok::<(), cvl::Fault>(())
 /// ```
 pub fn and_sez_in(a: &mut [i32], segments: &Segments) -> Result<(), Fault> {
-    let k = same(&[segments.len()])?;
-    let n = same(&[a.len()])?;
+    same(&[a.len(), segments.total()])?;
     let out = a.as_mut_ptr();
-    told(unsafe { symbols::cvl_and_sez(out, segments.lengths().as_ptr(), k, out, n) })
+    told(unsafe { symbols::cvl_and_sez(out, segments.given(), out, a.len()) })
 }
 
 /// The integers of each segment, and, bit by bit; -1 where it is empty. a has n elements, out one
@@ -2164,17 +2254,17 @@ pub fn and_sez_in(a: &mut [i32], segments: &Segments) -> Result<(), Fault> {
 /// # Ok::<(), cvl::Fault>(())
 /// ```
 pub fn and_rez(a: &[i32], segments: &Segments) -> Result<Vec<i32>, Fault> {
-    let mut out = vec![0; segments.len()];
+    same(&[a.len(), segments.total()])?;
+    let mut out = zeros(segments.len())?;
     and_rez_into(a, segments, &mut out)?;
     Ok(out)
 }
 
-/// [`and_rez`] into a room that is as long as the result; a fault leaves it as it was.
+/// [`and_rez`] into a room that is as long as the result; a fault leaves the room as it was.
 pub fn and_rez_into(a: &[i32], segments: &Segments, out: &mut [i32]) -> Result<(), Fault> {
-    let n = same(&[a.len()])?;
-    let k = same(&[segments.len()])?;
+    same(&[a.len(), segments.total()])?;
     as_long(out, segments.len())?;
-    told(unsafe { symbols::cvl_and_rez(a.as_ptr(), n, segments.lengths().as_ptr(), k, out.as_mut_ptr()) })
+    told(unsafe { symbols::cvl_and_rez(a.as_ptr(), a.len(), segments.given(), out.as_mut_ptr()) })
 }
 
 /// For each integer those before it in its segment, or, bit by bit; 0 where a segment starts. a
@@ -2188,17 +2278,17 @@ pub fn and_rez_into(a: &[i32], segments: &Segments, out: &mut [i32]) -> Result<(
 /// # Ok::<(), cvl::Fault>(())
 /// ```
 pub fn ior_sez(a: &[i32], segments: &Segments) -> Result<Vec<i32>, Fault> {
-    let mut out = vec![0; a.len()];
+    same(&[a.len(), segments.total()])?;
+    let mut out = zeros(a.len())?;
     ior_sez_into(a, segments, &mut out)?;
     Ok(out)
 }
 
-/// [`ior_sez`] into a room that is as long as the result; a fault leaves it as it was.
+/// [`ior_sez`] into a room that is as long as the result; a fault leaves the room as it was.
 pub fn ior_sez_into(a: &[i32], segments: &Segments, out: &mut [i32]) -> Result<(), Fault> {
-    let k = same(&[segments.len()])?;
-    let n = same(&[a.len()])?;
+    same(&[a.len(), segments.total()])?;
     as_long(out, a.len())?;
-    told(unsafe { symbols::cvl_ior_sez(a.as_ptr(), segments.lengths().as_ptr(), k, out.as_mut_ptr(), n) })
+    told(unsafe { symbols::cvl_ior_sez(a.as_ptr(), segments.given(), out.as_mut_ptr(), a.len()) })
 }
 
 /// [`ior_sez`] in the place of `a`; a fault leaves it as it was.
@@ -2211,10 +2301,9 @@ pub fn ior_sez_into(a: &[i32], segments: &Segments, out: &mut [i32]) -> Result<(
 /// # Ok::<(), cvl::Fault>(())
 /// ```
 pub fn ior_sez_in(a: &mut [i32], segments: &Segments) -> Result<(), Fault> {
-    let k = same(&[segments.len()])?;
-    let n = same(&[a.len()])?;
+    same(&[a.len(), segments.total()])?;
     let out = a.as_mut_ptr();
-    told(unsafe { symbols::cvl_ior_sez(out, segments.lengths().as_ptr(), k, out, n) })
+    told(unsafe { symbols::cvl_ior_sez(out, segments.given(), out, a.len()) })
 }
 
 /// The integers of each segment, or, bit by bit; 0 where it is empty. a has n elements, out one
@@ -2228,17 +2317,17 @@ pub fn ior_sez_in(a: &mut [i32], segments: &Segments) -> Result<(), Fault> {
 /// # Ok::<(), cvl::Fault>(())
 /// ```
 pub fn ior_rez(a: &[i32], segments: &Segments) -> Result<Vec<i32>, Fault> {
-    let mut out = vec![0; segments.len()];
+    same(&[a.len(), segments.total()])?;
+    let mut out = zeros(segments.len())?;
     ior_rez_into(a, segments, &mut out)?;
     Ok(out)
 }
 
-/// [`ior_rez`] into a room that is as long as the result; a fault leaves it as it was.
+/// [`ior_rez`] into a room that is as long as the result; a fault leaves the room as it was.
 pub fn ior_rez_into(a: &[i32], segments: &Segments, out: &mut [i32]) -> Result<(), Fault> {
-    let n = same(&[a.len()])?;
-    let k = same(&[segments.len()])?;
+    same(&[a.len(), segments.total()])?;
     as_long(out, segments.len())?;
-    told(unsafe { symbols::cvl_ior_rez(a.as_ptr(), n, segments.lengths().as_ptr(), k, out.as_mut_ptr()) })
+    told(unsafe { symbols::cvl_ior_rez(a.as_ptr(), a.len(), segments.given(), out.as_mut_ptr()) })
 }
 
 /// For each integer those before it in its segment, exclusive or, bit by bit; 0 where a segment
@@ -2252,17 +2341,17 @@ pub fn ior_rez_into(a: &[i32], segments: &Segments, out: &mut [i32]) -> Result<(
 /// # Ok::<(), cvl::Fault>(())
 /// ```
 pub fn xor_sez(a: &[i32], segments: &Segments) -> Result<Vec<i32>, Fault> {
-    let mut out = vec![0; a.len()];
+    same(&[a.len(), segments.total()])?;
+    let mut out = zeros(a.len())?;
     xor_sez_into(a, segments, &mut out)?;
     Ok(out)
 }
 
-/// [`xor_sez`] into a room that is as long as the result; a fault leaves it as it was.
+/// [`xor_sez`] into a room that is as long as the result; a fault leaves the room as it was.
 pub fn xor_sez_into(a: &[i32], segments: &Segments, out: &mut [i32]) -> Result<(), Fault> {
-    let k = same(&[segments.len()])?;
-    let n = same(&[a.len()])?;
+    same(&[a.len(), segments.total()])?;
     as_long(out, a.len())?;
-    told(unsafe { symbols::cvl_xor_sez(a.as_ptr(), segments.lengths().as_ptr(), k, out.as_mut_ptr(), n) })
+    told(unsafe { symbols::cvl_xor_sez(a.as_ptr(), segments.given(), out.as_mut_ptr(), a.len()) })
 }
 
 /// [`xor_sez`] in the place of `a`; a fault leaves it as it was.
@@ -2275,10 +2364,9 @@ pub fn xor_sez_into(a: &[i32], segments: &Segments, out: &mut [i32]) -> Result<(
 /// # Ok::<(), cvl::Fault>(())
 /// ```
 pub fn xor_sez_in(a: &mut [i32], segments: &Segments) -> Result<(), Fault> {
-    let k = same(&[segments.len()])?;
-    let n = same(&[a.len()])?;
+    same(&[a.len(), segments.total()])?;
     let out = a.as_mut_ptr();
-    told(unsafe { symbols::cvl_xor_sez(out, segments.lengths().as_ptr(), k, out, n) })
+    told(unsafe { symbols::cvl_xor_sez(out, segments.given(), out, a.len()) })
 }
 
 /// The integers of each segment, exclusive or, bit by bit; 0 where it is empty. a has n elements,
@@ -2292,17 +2380,17 @@ pub fn xor_sez_in(a: &mut [i32], segments: &Segments) -> Result<(), Fault> {
 /// # Ok::<(), cvl::Fault>(())
 /// ```
 pub fn xor_rez(a: &[i32], segments: &Segments) -> Result<Vec<i32>, Fault> {
-    let mut out = vec![0; segments.len()];
+    same(&[a.len(), segments.total()])?;
+    let mut out = zeros(segments.len())?;
     xor_rez_into(a, segments, &mut out)?;
     Ok(out)
 }
 
-/// [`xor_rez`] into a room that is as long as the result; a fault leaves it as it was.
+/// [`xor_rez`] into a room that is as long as the result; a fault leaves the room as it was.
 pub fn xor_rez_into(a: &[i32], segments: &Segments, out: &mut [i32]) -> Result<(), Fault> {
-    let n = same(&[a.len()])?;
-    let k = same(&[segments.len()])?;
+    same(&[a.len(), segments.total()])?;
     as_long(out, segments.len())?;
-    told(unsafe { symbols::cvl_xor_rez(a.as_ptr(), n, segments.lengths().as_ptr(), k, out.as_mut_ptr()) })
+    told(unsafe { symbols::cvl_xor_rez(a.as_ptr(), a.len(), segments.given(), out.as_mut_ptr()) })
 }
 
 /// For each boolean, of those before it in its segment, whether all are true; true where a
@@ -2316,17 +2404,17 @@ pub fn xor_rez_into(a: &[i32], segments: &Segments, out: &mut [i32]) -> Result<(
 /// # Ok::<(), cvl::Fault>(())
 /// ```
 pub fn and_seb(a: &[bool], segments: &Segments) -> Result<Vec<bool>, Fault> {
-    let mut out = vec![false; a.len()];
+    same(&[a.len(), segments.total()])?;
+    let mut out = zeros(a.len())?;
     and_seb_into(a, segments, &mut out)?;
     Ok(out)
 }
 
-/// [`and_seb`] into a room that is as long as the result; a fault leaves it as it was.
+/// [`and_seb`] into a room that is as long as the result; a fault leaves the room as it was.
 pub fn and_seb_into(a: &[bool], segments: &Segments, out: &mut [bool]) -> Result<(), Fault> {
-    let k = same(&[segments.len()])?;
-    let n = same(&[a.len()])?;
+    same(&[a.len(), segments.total()])?;
     as_long(out, a.len())?;
-    told(unsafe { symbols::cvl_and_seb(a.as_ptr().cast(), segments.lengths().as_ptr(), k, out.as_mut_ptr().cast(), n) })
+    told(unsafe { symbols::cvl_and_seb(a.as_ptr().cast(), segments.given(), out.as_mut_ptr().cast(), a.len()) })
 }
 
 /// [`and_seb`] in the place of `a`; a fault leaves it as it was.
@@ -2339,10 +2427,9 @@ pub fn and_seb_into(a: &[bool], segments: &Segments, out: &mut [bool]) -> Result
 /// # Ok::<(), cvl::Fault>(())
 /// ```
 pub fn and_seb_in(a: &mut [bool], segments: &Segments) -> Result<(), Fault> {
-    let k = same(&[segments.len()])?;
-    let n = same(&[a.len()])?;
+    same(&[a.len(), segments.total()])?;
     let out = a.as_mut_ptr().cast();
-    told(unsafe { symbols::cvl_and_seb(out, segments.lengths().as_ptr(), k, out, n) })
+    told(unsafe { symbols::cvl_and_seb(out, segments.given(), out, a.len()) })
 }
 
 /// Of the booleans of each segment, whether all are true; true where it is empty. a has n
@@ -2356,17 +2443,17 @@ pub fn and_seb_in(a: &mut [bool], segments: &Segments) -> Result<(), Fault> {
 /// # Ok::<(), cvl::Fault>(())
 /// ```
 pub fn and_reb(a: &[bool], segments: &Segments) -> Result<Vec<bool>, Fault> {
-    let mut out = vec![false; segments.len()];
+    same(&[a.len(), segments.total()])?;
+    let mut out = zeros(segments.len())?;
     and_reb_into(a, segments, &mut out)?;
     Ok(out)
 }
 
-/// [`and_reb`] into a room that is as long as the result; a fault leaves it as it was.
+/// [`and_reb`] into a room that is as long as the result; a fault leaves the room as it was.
 pub fn and_reb_into(a: &[bool], segments: &Segments, out: &mut [bool]) -> Result<(), Fault> {
-    let n = same(&[a.len()])?;
-    let k = same(&[segments.len()])?;
+    same(&[a.len(), segments.total()])?;
     as_long(out, segments.len())?;
-    told(unsafe { symbols::cvl_and_reb(a.as_ptr().cast(), n, segments.lengths().as_ptr(), k, out.as_mut_ptr().cast()) })
+    told(unsafe { symbols::cvl_and_reb(a.as_ptr().cast(), a.len(), segments.given(), out.as_mut_ptr().cast()) })
 }
 
 /// For each boolean, of those before it in its segment, whether any is true; false where a
@@ -2380,17 +2467,17 @@ pub fn and_reb_into(a: &[bool], segments: &Segments, out: &mut [bool]) -> Result
 /// # Ok::<(), cvl::Fault>(())
 /// ```
 pub fn ior_seb(a: &[bool], segments: &Segments) -> Result<Vec<bool>, Fault> {
-    let mut out = vec![false; a.len()];
+    same(&[a.len(), segments.total()])?;
+    let mut out = zeros(a.len())?;
     ior_seb_into(a, segments, &mut out)?;
     Ok(out)
 }
 
-/// [`ior_seb`] into a room that is as long as the result; a fault leaves it as it was.
+/// [`ior_seb`] into a room that is as long as the result; a fault leaves the room as it was.
 pub fn ior_seb_into(a: &[bool], segments: &Segments, out: &mut [bool]) -> Result<(), Fault> {
-    let k = same(&[segments.len()])?;
-    let n = same(&[a.len()])?;
+    same(&[a.len(), segments.total()])?;
     as_long(out, a.len())?;
-    told(unsafe { symbols::cvl_ior_seb(a.as_ptr().cast(), segments.lengths().as_ptr(), k, out.as_mut_ptr().cast(), n) })
+    told(unsafe { symbols::cvl_ior_seb(a.as_ptr().cast(), segments.given(), out.as_mut_ptr().cast(), a.len()) })
 }
 
 /// [`ior_seb`] in the place of `a`; a fault leaves it as it was.
@@ -2403,10 +2490,9 @@ pub fn ior_seb_into(a: &[bool], segments: &Segments, out: &mut [bool]) -> Result
 /// # Ok::<(), cvl::Fault>(())
 /// ```
 pub fn ior_seb_in(a: &mut [bool], segments: &Segments) -> Result<(), Fault> {
-    let k = same(&[segments.len()])?;
-    let n = same(&[a.len()])?;
+    same(&[a.len(), segments.total()])?;
     let out = a.as_mut_ptr().cast();
-    told(unsafe { symbols::cvl_ior_seb(out, segments.lengths().as_ptr(), k, out, n) })
+    told(unsafe { symbols::cvl_ior_seb(out, segments.given(), out, a.len()) })
 }
 
 /// Of the booleans of each segment, whether any is true; false where it is empty. a has n
@@ -2420,17 +2506,17 @@ pub fn ior_seb_in(a: &mut [bool], segments: &Segments) -> Result<(), Fault> {
 /// # Ok::<(), cvl::Fault>(())
 /// ```
 pub fn ior_reb(a: &[bool], segments: &Segments) -> Result<Vec<bool>, Fault> {
-    let mut out = vec![false; segments.len()];
+    same(&[a.len(), segments.total()])?;
+    let mut out = zeros(segments.len())?;
     ior_reb_into(a, segments, &mut out)?;
     Ok(out)
 }
 
-/// [`ior_reb`] into a room that is as long as the result; a fault leaves it as it was.
+/// [`ior_reb`] into a room that is as long as the result; a fault leaves the room as it was.
 pub fn ior_reb_into(a: &[bool], segments: &Segments, out: &mut [bool]) -> Result<(), Fault> {
-    let n = same(&[a.len()])?;
-    let k = same(&[segments.len()])?;
+    same(&[a.len(), segments.total()])?;
     as_long(out, segments.len())?;
-    told(unsafe { symbols::cvl_ior_reb(a.as_ptr().cast(), n, segments.lengths().as_ptr(), k, out.as_mut_ptr().cast()) })
+    told(unsafe { symbols::cvl_ior_reb(a.as_ptr().cast(), a.len(), segments.given(), out.as_mut_ptr().cast()) })
 }
 
 /// For each boolean, of those before it in its segment, whether an odd number is true; false
@@ -2444,17 +2530,17 @@ pub fn ior_reb_into(a: &[bool], segments: &Segments, out: &mut [bool]) -> Result
 /// # Ok::<(), cvl::Fault>(())
 /// ```
 pub fn xor_seb(a: &[bool], segments: &Segments) -> Result<Vec<bool>, Fault> {
-    let mut out = vec![false; a.len()];
+    same(&[a.len(), segments.total()])?;
+    let mut out = zeros(a.len())?;
     xor_seb_into(a, segments, &mut out)?;
     Ok(out)
 }
 
-/// [`xor_seb`] into a room that is as long as the result; a fault leaves it as it was.
+/// [`xor_seb`] into a room that is as long as the result; a fault leaves the room as it was.
 pub fn xor_seb_into(a: &[bool], segments: &Segments, out: &mut [bool]) -> Result<(), Fault> {
-    let k = same(&[segments.len()])?;
-    let n = same(&[a.len()])?;
+    same(&[a.len(), segments.total()])?;
     as_long(out, a.len())?;
-    told(unsafe { symbols::cvl_xor_seb(a.as_ptr().cast(), segments.lengths().as_ptr(), k, out.as_mut_ptr().cast(), n) })
+    told(unsafe { symbols::cvl_xor_seb(a.as_ptr().cast(), segments.given(), out.as_mut_ptr().cast(), a.len()) })
 }
 
 /// [`xor_seb`] in the place of `a`; a fault leaves it as it was.
@@ -2467,10 +2553,9 @@ pub fn xor_seb_into(a: &[bool], segments: &Segments, out: &mut [bool]) -> Result
 /// # Ok::<(), cvl::Fault>(())
 /// ```
 pub fn xor_seb_in(a: &mut [bool], segments: &Segments) -> Result<(), Fault> {
-    let k = same(&[segments.len()])?;
-    let n = same(&[a.len()])?;
+    same(&[a.len(), segments.total()])?;
     let out = a.as_mut_ptr().cast();
-    told(unsafe { symbols::cvl_xor_seb(out, segments.lengths().as_ptr(), k, out, n) })
+    told(unsafe { symbols::cvl_xor_seb(out, segments.given(), out, a.len()) })
 }
 
 /// Of the booleans of each segment, whether an odd number is true; false where it is empty. a has
@@ -2484,67 +2569,76 @@ pub fn xor_seb_in(a: &mut [bool], segments: &Segments) -> Result<(), Fault> {
 /// # Ok::<(), cvl::Fault>(())
 /// ```
 pub fn xor_reb(a: &[bool], segments: &Segments) -> Result<Vec<bool>, Fault> {
-    let mut out = vec![false; segments.len()];
+    same(&[a.len(), segments.total()])?;
+    let mut out = zeros(segments.len())?;
     xor_reb_into(a, segments, &mut out)?;
     Ok(out)
 }
 
-/// [`xor_reb`] into a room that is as long as the result; a fault leaves it as it was.
+/// [`xor_reb`] into a room that is as long as the result; a fault leaves the room as it was.
 pub fn xor_reb_into(a: &[bool], segments: &Segments, out: &mut [bool]) -> Result<(), Fault> {
-    let n = same(&[a.len()])?;
-    let k = same(&[segments.len()])?;
+    same(&[a.len(), segments.total()])?;
     as_long(out, segments.len())?;
-    told(unsafe { symbols::cvl_xor_reb(a.as_ptr().cast(), n, segments.lengths().as_ptr(), k, out.as_mut_ptr().cast()) })
+    told(unsafe { symbols::cvl_xor_reb(a.as_ptr().cast(), a.len(), segments.given(), out.as_mut_ptr().cast()) })
 }
 
-/// The values whose flag is true, in their order.
+/// The values whose flag is true, in their order. values and flags have n elements.
 ///
-/// Faults: 13 TooLong.
+/// Faults: 13 TooLong; 7 LengthMismatch where there is not room.
 ///
 /// ```
 /// assert_eq!(cvl::pck_luz(&[1, 2, 3, 4, 5], &[false, true, true, false, true])?, [2, 3, 5]);
 /// # Ok::<(), cvl::Fault>(())
 /// ```
 pub fn pck_luz(values: &[i32], flags: &[bool]) -> Result<Vec<i32>, Fault> {
-    let mut out = vec![0; true_flags(flags)];
-    pck_luz_into(values, flags, &mut out)?;
+    limit(flags.len())?;
+    same(&[values.len(), flags.len()])?;
+    let mut out = zeros(true_flags(flags))?;
+    let count = pck_luz_into(values, flags, &mut out)?;
+    out.truncate(count);
     Ok(out)
 }
 
-/// [`pck_luz`] into a room that is as long as the result; a fault leaves it as it was.
-pub fn pck_luz_into(values: &[i32], flags: &[bool], out: &mut [i32]) -> Result<(), Fault> {
-    let n = same(&[values.len(), flags.len()])?;
-    as_long(out, true_flags(flags))?;
+/// [`pck_luz`] into a room that is as long as the result or longer, and how many elements that has; a fault leaves the room as it was.
+pub fn pck_luz_into(values: &[i32], flags: &[bool], out: &mut [i32]) -> Result<usize, Fault> {
+    limit(flags.len())?;
+    same(&[values.len(), flags.len()])?;
     let mut count = 0;
-    told(unsafe { symbols::cvl_pck_luz(values.as_ptr(), flags.as_ptr().cast(), n, out.as_mut_ptr(), out.len(), &mut count) })
+    told(unsafe { symbols::cvl_pck_luz(values.as_ptr(), flags.as_ptr().cast(), values.len(), out.as_mut_ptr(), out.len(), &mut count) })?;
+    Ok(count)
 }
 
-/// The values whose flag is true, in their order.
+/// The values whose flag is true, in their order. values and flags have n elements.
 ///
-/// Faults: 13 TooLong.
+/// Faults: 13 TooLong; 7 LengthMismatch where there is not room.
 ///
 /// ```
 /// assert_eq!(cvl::pck_lub(&[true, false, true], &[false, true, true])?, [false, true]);
 /// # Ok::<(), cvl::Fault>(())
 /// ```
 pub fn pck_lub(values: &[bool], flags: &[bool]) -> Result<Vec<bool>, Fault> {
-    let mut out = vec![false; true_flags(flags)];
-    pck_lub_into(values, flags, &mut out)?;
+    limit(flags.len())?;
+    same(&[values.len(), flags.len()])?;
+    let mut out = zeros(true_flags(flags))?;
+    let count = pck_lub_into(values, flags, &mut out)?;
+    out.truncate(count);
     Ok(out)
 }
 
-/// [`pck_lub`] into a room that is as long as the result; a fault leaves it as it was.
-pub fn pck_lub_into(values: &[bool], flags: &[bool], out: &mut [bool]) -> Result<(), Fault> {
-    let n = same(&[values.len(), flags.len()])?;
-    as_long(out, true_flags(flags))?;
+/// [`pck_lub`] into a room that is as long as the result or longer, and how many elements that has; a fault leaves the room as it was.
+pub fn pck_lub_into(values: &[bool], flags: &[bool], out: &mut [bool]) -> Result<usize, Fault> {
+    limit(flags.len())?;
+    same(&[values.len(), flags.len()])?;
     let mut count = 0;
-    told(unsafe { symbols::cvl_pck_lub(values.as_ptr().cast(), flags.as_ptr().cast(), n, out.as_mut_ptr().cast(), out.len(), &mut count) })
+    told(unsafe { symbols::cvl_pck_lub(values.as_ptr().cast(), flags.as_ptr().cast(), values.len(), out.as_mut_ptr().cast(), out.len(), &mut count) })?;
+    Ok(count)
 }
 
 /// The values of each segment whose flag is true, in their order, one segment after another;
-/// pck_fov tells the lengths of these segments.
+/// pck_fov tells the lengths of these segments. values and flags have n elements.
 ///
-/// Faults: 7 LengthMismatch where the lengths do not add up to n.
+/// Faults: 7 LengthMismatch where the lengths do not add up to n, with *count as it was, and
+/// where there is not room.
 ///
 /// ```
 /// let segments = cvl::Segments::new(&[2, 0, 3])?;
@@ -2552,24 +2646,26 @@ pub fn pck_lub_into(values: &[bool], flags: &[bool], out: &mut [bool]) -> Result
 /// # Ok::<(), cvl::Fault>(())
 /// ```
 pub fn pck_lez(values: &[i32], flags: &[bool], segments: &Segments) -> Result<Vec<i32>, Fault> {
-    let mut out = vec![0; true_flags(flags)];
-    pck_lez_into(values, flags, segments, &mut out)?;
+    same(&[values.len(), flags.len(), segments.total()])?;
+    let mut out = zeros(true_flags(flags))?;
+    let count = pck_lez_into(values, flags, segments, &mut out)?;
+    out.truncate(count);
     Ok(out)
 }
 
-/// [`pck_lez`] into a room that is as long as the result; a fault leaves it as it was.
-pub fn pck_lez_into(values: &[i32], flags: &[bool], segments: &Segments, out: &mut [i32]) -> Result<(), Fault> {
-    let n = same(&[values.len(), flags.len()])?;
-    let k = same(&[segments.len()])?;
-    as_long(out, true_flags(flags))?;
+/// [`pck_lez`] into a room that is as long as the result or longer, and how many elements that has; a fault leaves the room as it was.
+pub fn pck_lez_into(values: &[i32], flags: &[bool], segments: &Segments, out: &mut [i32]) -> Result<usize, Fault> {
+    same(&[values.len(), flags.len(), segments.total()])?;
     let mut count = 0;
-    told(unsafe { symbols::cvl_pck_lez(values.as_ptr(), flags.as_ptr().cast(), n, segments.lengths().as_ptr(), k, out.as_mut_ptr(), out.len(), &mut count) })
+    told(unsafe { symbols::cvl_pck_lez(values.as_ptr(), flags.as_ptr().cast(), values.len(), segments.given(), out.as_mut_ptr(), out.len(), &mut count) })?;
+    Ok(count)
 }
 
 /// The values of each segment whose flag is true, in their order, one segment after another;
-/// pck_fov tells the lengths of these segments.
+/// pck_fov tells the lengths of these segments. values and flags have n elements.
 ///
-/// Faults: 7 LengthMismatch where the lengths do not add up to n.
+/// Faults: 7 LengthMismatch where the lengths do not add up to n, with *count as it was, and
+/// where there is not room.
 ///
 /// ```
 /// let segments = cvl::Segments::new(&[1, 2])?;
@@ -2577,18 +2673,19 @@ pub fn pck_lez_into(values: &[i32], flags: &[bool], segments: &Segments, out: &m
 /// # Ok::<(), cvl::Fault>(())
 /// ```
 pub fn pck_leb(values: &[bool], flags: &[bool], segments: &Segments) -> Result<Vec<bool>, Fault> {
-    let mut out = vec![false; true_flags(flags)];
-    pck_leb_into(values, flags, segments, &mut out)?;
+    same(&[values.len(), flags.len(), segments.total()])?;
+    let mut out = zeros(true_flags(flags))?;
+    let count = pck_leb_into(values, flags, segments, &mut out)?;
+    out.truncate(count);
     Ok(out)
 }
 
-/// [`pck_leb`] into a room that is as long as the result; a fault leaves it as it was.
-pub fn pck_leb_into(values: &[bool], flags: &[bool], segments: &Segments, out: &mut [bool]) -> Result<(), Fault> {
-    let n = same(&[values.len(), flags.len()])?;
-    let k = same(&[segments.len()])?;
-    as_long(out, true_flags(flags))?;
+/// [`pck_leb`] into a room that is as long as the result or longer, and how many elements that has; a fault leaves the room as it was.
+pub fn pck_leb_into(values: &[bool], flags: &[bool], segments: &Segments, out: &mut [bool]) -> Result<usize, Fault> {
+    same(&[values.len(), flags.len(), segments.total()])?;
     let mut count = 0;
-    told(unsafe { symbols::cvl_pck_leb(values.as_ptr().cast(), flags.as_ptr().cast(), n, segments.lengths().as_ptr(), k, out.as_mut_ptr().cast(), out.len(), &mut count) })
+    told(unsafe { symbols::cvl_pck_leb(values.as_ptr().cast(), flags.as_ptr().cast(), values.len(), segments.given(), out.as_mut_ptr().cast(), out.len(), &mut count) })?;
+    Ok(count)
 }
 
 /// The lengths of the segments of what a pack keeps, or a select permute, 0 for a segment of
@@ -2602,17 +2699,17 @@ pub fn pck_leb_into(values: &[bool], flags: &[bool], segments: &Segments, out: &
 /// # Ok::<(), cvl::Fault>(())
 /// ```
 pub fn pck_fov(flags: &[bool], segments: &Segments) -> Result<Segments, Fault> {
-    let mut out = vec![0; segments.len()];
+    same(&[flags.len(), segments.total()])?;
+    let mut out = zeros(segments.len())?;
     pck_fov_into(flags, segments, &mut out)?;
     Segments::new(&out)
 }
 
-/// [`pck_fov`] into a room that is as long as the result; a fault leaves it as it was.
+/// [`pck_fov`] into a room that is as long as the result; a fault leaves the room as it was.
 pub fn pck_fov_into(flags: &[bool], segments: &Segments, out: &mut [i32]) -> Result<(), Fault> {
-    let n = same(&[flags.len()])?;
-    let k = same(&[segments.len()])?;
+    same(&[flags.len(), segments.total()])?;
     as_long(out, segments.len())?;
-    told(unsafe { symbols::cvl_pck_fov(flags.as_ptr().cast(), n, segments.lengths().as_ptr(), k, out.as_mut_ptr()) })
+    told(unsafe { symbols::cvl_pck_fov(flags.as_ptr().cast(), flags.len(), segments.given(), out.as_mut_ptr()) })
 }
 
 /// The number of true flags of each segment. flags has n elements, out one for each segment.
@@ -2625,17 +2722,17 @@ pub fn pck_fov_into(flags: &[bool], segments: &Segments, out: &mut [i32]) -> Res
 /// # Ok::<(), cvl::Fault>(())
 /// ```
 pub fn cnt_leb(flags: &[bool], segments: &Segments) -> Result<Vec<i32>, Fault> {
-    let mut out = vec![0; segments.len()];
+    same(&[flags.len(), segments.total()])?;
+    let mut out = zeros(segments.len())?;
     cnt_leb_into(flags, segments, &mut out)?;
     Ok(out)
 }
 
-/// [`cnt_leb`] into a room that is as long as the result; a fault leaves it as it was.
+/// [`cnt_leb`] into a room that is as long as the result; a fault leaves the room as it was.
 pub fn cnt_leb_into(flags: &[bool], segments: &Segments, out: &mut [i32]) -> Result<(), Fault> {
-    let n = same(&[flags.len()])?;
-    let k = same(&[segments.len()])?;
+    same(&[flags.len(), segments.total()])?;
     as_long(out, segments.len())?;
-    told(unsafe { symbols::cvl_cnt_leb(flags.as_ptr().cast(), n, segments.lengths().as_ptr(), k, out.as_mut_ptr()) })
+    told(unsafe { symbols::cvl_cnt_leb(flags.as_ptr().cast(), flags.len(), segments.given(), out.as_mut_ptr()) })
 }
 
 /// Each element of the source at its index. source, index and out have n elements.
@@ -2648,16 +2745,19 @@ pub fn cnt_leb_into(flags: &[bool], segments: &Segments, out: &mut [i32]) -> Res
 /// # Ok::<(), cvl::Fault>(())
 /// ```
 pub fn smp_puz(source: &[i32], index: &[i32]) -> Result<Vec<i32>, Fault> {
-    let mut out = vec![0; source.len()];
+    limit(index.len())?;
+    same(&[source.len(), index.len()])?;
+    let mut out = zeros(source.len())?;
     smp_puz_into(source, index, &mut out)?;
     Ok(out)
 }
 
-/// [`smp_puz`] into a room that is as long as the result; a fault leaves it as it was.
+/// [`smp_puz`] into a room that is as long as the result; a fault leaves the room as it was.
 pub fn smp_puz_into(source: &[i32], index: &[i32], out: &mut [i32]) -> Result<(), Fault> {
-    let n = same(&[source.len(), index.len()])?;
+    limit(index.len())?;
+    same(&[source.len(), index.len()])?;
     as_long(out, source.len())?;
-    told(unsafe { symbols::cvl_smp_puz(source.as_ptr(), index.as_ptr(), out.as_mut_ptr(), n) })
+    told(unsafe { symbols::cvl_smp_puz(source.as_ptr(), index.as_ptr(), out.as_mut_ptr(), source.len()) })
 }
 
 /// Each element of the source at its index. source, index and out have n elements.
@@ -2670,16 +2770,19 @@ pub fn smp_puz_into(source: &[i32], index: &[i32], out: &mut [i32]) -> Result<()
 /// # Ok::<(), cvl::Fault>(())
 /// ```
 pub fn smp_pub(source: &[bool], index: &[i32]) -> Result<Vec<bool>, Fault> {
-    let mut out = vec![false; source.len()];
+    limit(index.len())?;
+    same(&[source.len(), index.len()])?;
+    let mut out = zeros(source.len())?;
     smp_pub_into(source, index, &mut out)?;
     Ok(out)
 }
 
-/// [`smp_pub`] into a room that is as long as the result; a fault leaves it as it was.
+/// [`smp_pub`] into a room that is as long as the result; a fault leaves the room as it was.
 pub fn smp_pub_into(source: &[bool], index: &[i32], out: &mut [bool]) -> Result<(), Fault> {
-    let n = same(&[source.len(), index.len()])?;
+    limit(index.len())?;
+    same(&[source.len(), index.len()])?;
     as_long(out, source.len())?;
-    told(unsafe { symbols::cvl_smp_pub(source.as_ptr().cast(), index.as_ptr(), out.as_mut_ptr().cast(), n) })
+    told(unsafe { symbols::cvl_smp_pub(source.as_ptr().cast(), index.as_ptr(), out.as_mut_ptr().cast(), source.len()) })
 }
 
 /// Each element of the source whose flag is true at its index. source, index and flags have n
@@ -2694,16 +2797,18 @@ pub fn smp_pub_into(source: &[bool], index: &[i32], out: &mut [bool]) -> Result<
 /// # Ok::<(), cvl::Fault>(())
 /// ```
 pub fn sel_puz(source: &[i32], index: &[i32], flags: &[bool]) -> Result<Vec<i32>, Fault> {
-    let mut out = vec![0; true_flags(flags)];
+    limit(index.len())?;
+    same(&[source.len(), index.len(), flags.len()])?;
+    let mut out = zeros(true_flags(flags))?;
     sel_puz_into(source, index, flags, &mut out)?;
     Ok(out)
 }
 
-/// [`sel_puz`] into a room that is as long as the result; a fault leaves it as it was.
+/// [`sel_puz`] into a room that is as long as the result; a fault leaves the room as it was.
 pub fn sel_puz_into(source: &[i32], index: &[i32], flags: &[bool], out: &mut [i32]) -> Result<(), Fault> {
-    let n = same(&[source.len(), index.len(), flags.len()])?;
-    as_long(out, true_flags(flags))?;
-    told(unsafe { symbols::cvl_sel_puz(source.as_ptr(), index.as_ptr(), flags.as_ptr().cast(), n, out.as_mut_ptr(), out.len()) })
+    limit(index.len())?;
+    same(&[source.len(), index.len(), flags.len()])?;
+    told(unsafe { symbols::cvl_sel_puz(source.as_ptr(), index.as_ptr(), flags.as_ptr().cast(), source.len(), out.as_mut_ptr(), out.len()) })
 }
 
 /// Each element of the source whose flag is true at its index. source, index and flags have n
@@ -2718,16 +2823,18 @@ pub fn sel_puz_into(source: &[i32], index: &[i32], flags: &[bool], out: &mut [i3
 /// # Ok::<(), cvl::Fault>(())
 /// ```
 pub fn sel_pub(source: &[bool], index: &[i32], flags: &[bool]) -> Result<Vec<bool>, Fault> {
-    let mut out = vec![false; true_flags(flags)];
+    limit(index.len())?;
+    same(&[source.len(), index.len(), flags.len()])?;
+    let mut out = zeros(true_flags(flags))?;
     sel_pub_into(source, index, flags, &mut out)?;
     Ok(out)
 }
 
-/// [`sel_pub`] into a room that is as long as the result; a fault leaves it as it was.
+/// [`sel_pub`] into a room that is as long as the result; a fault leaves the room as it was.
 pub fn sel_pub_into(source: &[bool], index: &[i32], flags: &[bool], out: &mut [bool]) -> Result<(), Fault> {
-    let n = same(&[source.len(), index.len(), flags.len()])?;
-    as_long(out, true_flags(flags))?;
-    told(unsafe { symbols::cvl_sel_pub(source.as_ptr().cast(), index.as_ptr(), flags.as_ptr().cast(), n, out.as_mut_ptr().cast(), out.len()) })
+    limit(index.len())?;
+    same(&[source.len(), index.len(), flags.len()])?;
+    told(unsafe { symbols::cvl_sel_pub(source.as_ptr().cast(), index.as_ptr(), flags.as_ptr().cast(), source.len(), out.as_mut_ptr().cast(), out.len()) })
 }
 
 /// Each element of the source at its index, and at a place to which none goes its default. source
@@ -2741,17 +2848,19 @@ pub fn sel_pub_into(source: &[bool], index: &[i32], flags: &[bool], out: &mut [b
 /// # Ok::<(), cvl::Fault>(())
 /// ```
 pub fn def_puz(source: &[i32], index: &[i32], defaults: &[i32]) -> Result<Vec<i32>, Fault> {
-    let mut out = vec![0; defaults.len()];
+    limit(index.len())?;
+    same(&[source.len(), index.len()])?;
+    let mut out = zeros(defaults.len())?;
     def_puz_into(source, index, defaults, &mut out)?;
     Ok(out)
 }
 
-/// [`def_puz`] into a room that is as long as the result; a fault leaves it as it was.
+/// [`def_puz`] into a room that is as long as the result; a fault leaves the room as it was.
 pub fn def_puz_into(source: &[i32], index: &[i32], defaults: &[i32], out: &mut [i32]) -> Result<(), Fault> {
-    let n = same(&[source.len(), index.len()])?;
-    let m = same(&[defaults.len()])?;
+    limit(index.len())?;
+    same(&[source.len(), index.len()])?;
     as_long(out, defaults.len())?;
-    told(unsafe { symbols::cvl_def_puz(source.as_ptr(), index.as_ptr(), n, defaults.as_ptr(), out.as_mut_ptr(), m) })
+    told(unsafe { symbols::cvl_def_puz(source.as_ptr(), index.as_ptr(), source.len(), defaults.as_ptr(), out.as_mut_ptr(), defaults.len()) })
 }
 
 /// Each element of the source at its index, and at a place to which none goes its default. source
@@ -2765,17 +2874,19 @@ pub fn def_puz_into(source: &[i32], index: &[i32], defaults: &[i32], out: &mut [
 /// # Ok::<(), cvl::Fault>(())
 /// ```
 pub fn def_pub(source: &[bool], index: &[i32], defaults: &[bool]) -> Result<Vec<bool>, Fault> {
-    let mut out = vec![false; defaults.len()];
+    limit(index.len())?;
+    same(&[source.len(), index.len()])?;
+    let mut out = zeros(defaults.len())?;
     def_pub_into(source, index, defaults, &mut out)?;
     Ok(out)
 }
 
-/// [`def_pub`] into a room that is as long as the result; a fault leaves it as it was.
+/// [`def_pub`] into a room that is as long as the result; a fault leaves the room as it was.
 pub fn def_pub_into(source: &[bool], index: &[i32], defaults: &[bool], out: &mut [bool]) -> Result<(), Fault> {
-    let n = same(&[source.len(), index.len()])?;
-    let m = same(&[defaults.len()])?;
+    limit(index.len())?;
+    same(&[source.len(), index.len()])?;
     as_long(out, defaults.len())?;
-    told(unsafe { symbols::cvl_def_pub(source.as_ptr().cast(), index.as_ptr(), n, defaults.as_ptr().cast(), out.as_mut_ptr().cast(), m) })
+    told(unsafe { symbols::cvl_def_pub(source.as_ptr().cast(), index.as_ptr(), source.len(), defaults.as_ptr().cast(), out.as_mut_ptr().cast(), defaults.len()) })
 }
 
 /// At each place the element of the source at the place's index, which may repeat. The source has
@@ -2788,17 +2899,17 @@ pub fn def_pub_into(source: &[bool], index: &[i32], defaults: &[bool], out: &mut
 /// # Ok::<(), cvl::Fault>(())
 /// ```
 pub fn bck_puz(source: &[i32], index: &[i32]) -> Result<Vec<i32>, Fault> {
-    let mut out = vec![0; index.len()];
+    limit(index.len())?;
+    let mut out = zeros(index.len())?;
     bck_puz_into(source, index, &mut out)?;
     Ok(out)
 }
 
-/// [`bck_puz`] into a room that is as long as the result; a fault leaves it as it was.
+/// [`bck_puz`] into a room that is as long as the result; a fault leaves the room as it was.
 pub fn bck_puz_into(source: &[i32], index: &[i32], out: &mut [i32]) -> Result<(), Fault> {
-    let n = same(&[source.len()])?;
-    let m = same(&[index.len()])?;
+    limit(index.len())?;
     as_long(out, index.len())?;
-    told(unsafe { symbols::cvl_bck_puz(source.as_ptr(), n, index.as_ptr(), out.as_mut_ptr(), m) })
+    told(unsafe { symbols::cvl_bck_puz(source.as_ptr(), source.len(), index.as_ptr(), out.as_mut_ptr(), index.len()) })
 }
 
 /// At each place the element of the source at the place's index, which may repeat. The source has
@@ -2811,17 +2922,17 @@ pub fn bck_puz_into(source: &[i32], index: &[i32], out: &mut [i32]) -> Result<()
 /// # Ok::<(), cvl::Fault>(())
 /// ```
 pub fn bck_pub(source: &[bool], index: &[i32]) -> Result<Vec<bool>, Fault> {
-    let mut out = vec![false; index.len()];
+    limit(index.len())?;
+    let mut out = zeros(index.len())?;
     bck_pub_into(source, index, &mut out)?;
     Ok(out)
 }
 
-/// [`bck_pub`] into a room that is as long as the result; a fault leaves it as it was.
+/// [`bck_pub`] into a room that is as long as the result; a fault leaves the room as it was.
 pub fn bck_pub_into(source: &[bool], index: &[i32], out: &mut [bool]) -> Result<(), Fault> {
-    let n = same(&[source.len()])?;
-    let m = same(&[index.len()])?;
+    limit(index.len())?;
     as_long(out, index.len())?;
-    told(unsafe { symbols::cvl_bck_pub(source.as_ptr().cast(), n, index.as_ptr(), out.as_mut_ptr().cast(), m) })
+    told(unsafe { symbols::cvl_bck_pub(source.as_ptr().cast(), source.len(), index.as_ptr(), out.as_mut_ptr().cast(), index.len()) })
 }
 
 /// Each element of the source at its index, which counts from the start of its segment. source,
@@ -2837,17 +2948,19 @@ pub fn bck_pub_into(source: &[bool], index: &[i32], out: &mut [bool]) -> Result<
 /// # Ok::<(), cvl::Fault>(())
 /// ```
 pub fn smp_pez(source: &[i32], index: &[i32], segments: &Segments) -> Result<Vec<i32>, Fault> {
-    let mut out = vec![0; source.len()];
+    limit(index.len())?;
+    same(&[source.len(), index.len(), segments.total()])?;
+    let mut out = zeros(source.len())?;
     smp_pez_into(source, index, segments, &mut out)?;
     Ok(out)
 }
 
-/// [`smp_pez`] into a room that is as long as the result; a fault leaves it as it was.
+/// [`smp_pez`] into a room that is as long as the result; a fault leaves the room as it was.
 pub fn smp_pez_into(source: &[i32], index: &[i32], segments: &Segments, out: &mut [i32]) -> Result<(), Fault> {
-    let k = same(&[segments.len()])?;
-    let n = same(&[source.len(), index.len()])?;
+    limit(index.len())?;
+    same(&[source.len(), index.len(), segments.total()])?;
     as_long(out, source.len())?;
-    told(unsafe { symbols::cvl_smp_pez(source.as_ptr(), index.as_ptr(), segments.lengths().as_ptr(), k, out.as_mut_ptr(), n) })
+    told(unsafe { symbols::cvl_smp_pez(source.as_ptr(), index.as_ptr(), segments.given(), out.as_mut_ptr(), source.len()) })
 }
 
 /// Each element of the source at its index, which counts from the start of its segment. source,
@@ -2863,17 +2976,19 @@ pub fn smp_pez_into(source: &[i32], index: &[i32], segments: &Segments, out: &mu
 /// # Ok::<(), cvl::Fault>(())
 /// ```
 pub fn smp_peb(source: &[bool], index: &[i32], segments: &Segments) -> Result<Vec<bool>, Fault> {
-    let mut out = vec![false; source.len()];
+    limit(index.len())?;
+    same(&[source.len(), index.len(), segments.total()])?;
+    let mut out = zeros(source.len())?;
     smp_peb_into(source, index, segments, &mut out)?;
     Ok(out)
 }
 
-/// [`smp_peb`] into a room that is as long as the result; a fault leaves it as it was.
+/// [`smp_peb`] into a room that is as long as the result; a fault leaves the room as it was.
 pub fn smp_peb_into(source: &[bool], index: &[i32], segments: &Segments, out: &mut [bool]) -> Result<(), Fault> {
-    let k = same(&[segments.len()])?;
-    let n = same(&[source.len(), index.len()])?;
+    limit(index.len())?;
+    same(&[source.len(), index.len(), segments.total()])?;
     as_long(out, source.len())?;
-    told(unsafe { symbols::cvl_smp_peb(source.as_ptr().cast(), index.as_ptr(), segments.lengths().as_ptr(), k, out.as_mut_ptr().cast(), n) })
+    told(unsafe { symbols::cvl_smp_peb(source.as_ptr().cast(), index.as_ptr(), segments.given(), out.as_mut_ptr().cast(), source.len()) })
 }
 
 /// Each element of the source whose flag is true at its index in its segment of the result, which
@@ -2891,17 +3006,18 @@ pub fn smp_peb_into(source: &[bool], index: &[i32], segments: &Segments, out: &m
 /// # Ok::<(), cvl::Fault>(())
 /// ```
 pub fn sel_pez(source: &[i32], index: &[i32], flags: &[bool], segments: &Segments) -> Result<Vec<i32>, Fault> {
-    let mut out = vec![0; true_flags(flags)];
+    limit(index.len())?;
+    same(&[source.len(), index.len(), flags.len(), segments.total()])?;
+    let mut out = zeros(true_flags(flags))?;
     sel_pez_into(source, index, flags, segments, &mut out)?;
     Ok(out)
 }
 
-/// [`sel_pez`] into a room that is as long as the result; a fault leaves it as it was.
+/// [`sel_pez`] into a room that is as long as the result; a fault leaves the room as it was.
 pub fn sel_pez_into(source: &[i32], index: &[i32], flags: &[bool], segments: &Segments, out: &mut [i32]) -> Result<(), Fault> {
-    let n = same(&[source.len(), index.len(), flags.len()])?;
-    let k = same(&[segments.len()])?;
-    as_long(out, true_flags(flags))?;
-    told(unsafe { symbols::cvl_sel_pez(source.as_ptr(), index.as_ptr(), flags.as_ptr().cast(), n, segments.lengths().as_ptr(), k, out.as_mut_ptr(), out.len()) })
+    limit(index.len())?;
+    same(&[source.len(), index.len(), flags.len(), segments.total()])?;
+    told(unsafe { symbols::cvl_sel_pez(source.as_ptr(), index.as_ptr(), flags.as_ptr().cast(), source.len(), segments.given(), out.as_mut_ptr(), out.len()) })
 }
 
 /// Each element of the source whose flag is true at its index in its segment of the result, which
@@ -2919,17 +3035,18 @@ pub fn sel_pez_into(source: &[i32], index: &[i32], flags: &[bool], segments: &Se
 /// # Ok::<(), cvl::Fault>(())
 /// ```
 pub fn sel_peb(source: &[bool], index: &[i32], flags: &[bool], segments: &Segments) -> Result<Vec<bool>, Fault> {
-    let mut out = vec![false; true_flags(flags)];
+    limit(index.len())?;
+    same(&[source.len(), index.len(), flags.len(), segments.total()])?;
+    let mut out = zeros(true_flags(flags))?;
     sel_peb_into(source, index, flags, segments, &mut out)?;
     Ok(out)
 }
 
-/// [`sel_peb`] into a room that is as long as the result; a fault leaves it as it was.
+/// [`sel_peb`] into a room that is as long as the result; a fault leaves the room as it was.
 pub fn sel_peb_into(source: &[bool], index: &[i32], flags: &[bool], segments: &Segments, out: &mut [bool]) -> Result<(), Fault> {
-    let n = same(&[source.len(), index.len(), flags.len()])?;
-    let k = same(&[segments.len()])?;
-    as_long(out, true_flags(flags))?;
-    told(unsafe { symbols::cvl_sel_peb(source.as_ptr().cast(), index.as_ptr(), flags.as_ptr().cast(), n, segments.lengths().as_ptr(), k, out.as_mut_ptr().cast(), out.len()) })
+    limit(index.len())?;
+    same(&[source.len(), index.len(), flags.len(), segments.total()])?;
+    told(unsafe { symbols::cvl_sel_peb(source.as_ptr().cast(), index.as_ptr(), flags.as_ptr().cast(), source.len(), segments.given(), out.as_mut_ptr().cast(), out.len()) })
 }
 
 /// Each element of the source at its index in the same segment of the defaults, and at a place to
@@ -2947,18 +3064,23 @@ pub fn sel_peb_into(source: &[bool], index: &[i32], flags: &[bool], segments: &S
 /// # Ok::<(), cvl::Fault>(())
 /// ```
 pub fn def_pez(source: &[i32], index: &[i32], defaults: &[i32], segments: &Segments, default_segments: &Segments) -> Result<Vec<i32>, Fault> {
-    let mut out = vec![0; defaults.len()];
+    limit(index.len())?;
+    same(&[source.len(), index.len(), segments.total()])?;
+    same(&[defaults.len(), default_segments.total()])?;
+    same(&[segments.len(), default_segments.len()])?;
+    let mut out = zeros(defaults.len())?;
     def_pez_into(source, index, defaults, segments, default_segments, &mut out)?;
     Ok(out)
 }
 
-/// [`def_pez`] into a room that is as long as the result; a fault leaves it as it was.
+/// [`def_pez`] into a room that is as long as the result; a fault leaves the room as it was.
 pub fn def_pez_into(source: &[i32], index: &[i32], defaults: &[i32], segments: &Segments, default_segments: &Segments, out: &mut [i32]) -> Result<(), Fault> {
-    let n = same(&[source.len(), index.len()])?;
-    let k = same(&[segments.len(), default_segments.len()])?;
-    let m = same(&[defaults.len()])?;
+    limit(index.len())?;
+    same(&[source.len(), index.len(), segments.total()])?;
+    same(&[defaults.len(), default_segments.total()])?;
+    same(&[segments.len(), default_segments.len()])?;
     as_long(out, defaults.len())?;
-    told(unsafe { symbols::cvl_def_pez(source.as_ptr(), index.as_ptr(), n, defaults.as_ptr(), segments.lengths().as_ptr(), default_segments.lengths().as_ptr(), k, out.as_mut_ptr(), m) })
+    told(unsafe { symbols::cvl_def_pez(source.as_ptr(), index.as_ptr(), source.len(), defaults.as_ptr(), segments.given(), default_segments.given(), out.as_mut_ptr(), defaults.len()) })
 }
 
 /// Each element of the source at its index in the same segment of the defaults, and at a place to
@@ -2976,18 +3098,23 @@ pub fn def_pez_into(source: &[i32], index: &[i32], defaults: &[i32], segments: &
 /// # Ok::<(), cvl::Fault>(())
 /// ```
 pub fn def_peb(source: &[bool], index: &[i32], defaults: &[bool], segments: &Segments, default_segments: &Segments) -> Result<Vec<bool>, Fault> {
-    let mut out = vec![false; defaults.len()];
+    limit(index.len())?;
+    same(&[source.len(), index.len(), segments.total()])?;
+    same(&[defaults.len(), default_segments.total()])?;
+    same(&[segments.len(), default_segments.len()])?;
+    let mut out = zeros(defaults.len())?;
     def_peb_into(source, index, defaults, segments, default_segments, &mut out)?;
     Ok(out)
 }
 
-/// [`def_peb`] into a room that is as long as the result; a fault leaves it as it was.
+/// [`def_peb`] into a room that is as long as the result; a fault leaves the room as it was.
 pub fn def_peb_into(source: &[bool], index: &[i32], defaults: &[bool], segments: &Segments, default_segments: &Segments, out: &mut [bool]) -> Result<(), Fault> {
-    let n = same(&[source.len(), index.len()])?;
-    let k = same(&[segments.len(), default_segments.len()])?;
-    let m = same(&[defaults.len()])?;
+    limit(index.len())?;
+    same(&[source.len(), index.len(), segments.total()])?;
+    same(&[defaults.len(), default_segments.total()])?;
+    same(&[segments.len(), default_segments.len()])?;
     as_long(out, defaults.len())?;
-    told(unsafe { symbols::cvl_def_peb(source.as_ptr().cast(), index.as_ptr(), n, defaults.as_ptr().cast(), segments.lengths().as_ptr(), default_segments.lengths().as_ptr(), k, out.as_mut_ptr().cast(), m) })
+    told(unsafe { symbols::cvl_def_peb(source.as_ptr().cast(), index.as_ptr(), source.len(), defaults.as_ptr().cast(), segments.given(), default_segments.given(), out.as_mut_ptr().cast(), defaults.len()) })
 }
 
 /// At each place the element at the place's index in the same segment of the source; an index may
@@ -3004,18 +3131,23 @@ pub fn def_peb_into(source: &[bool], index: &[i32], defaults: &[bool], segments:
 /// # Ok::<(), cvl::Fault>(())
 /// ```
 pub fn bck_pez(source: &[i32], index: &[i32], segments: &Segments, index_segments: &Segments) -> Result<Vec<i32>, Fault> {
-    let mut out = vec![0; index.len()];
+    limit(index.len())?;
+    same(&[source.len(), segments.total()])?;
+    same(&[index.len(), index_segments.total()])?;
+    same(&[segments.len(), index_segments.len()])?;
+    let mut out = zeros(index.len())?;
     bck_pez_into(source, index, segments, index_segments, &mut out)?;
     Ok(out)
 }
 
-/// [`bck_pez`] into a room that is as long as the result; a fault leaves it as it was.
+/// [`bck_pez`] into a room that is as long as the result; a fault leaves the room as it was.
 pub fn bck_pez_into(source: &[i32], index: &[i32], segments: &Segments, index_segments: &Segments, out: &mut [i32]) -> Result<(), Fault> {
-    let n = same(&[source.len()])?;
-    let k = same(&[segments.len(), index_segments.len()])?;
-    let m = same(&[index.len()])?;
+    limit(index.len())?;
+    same(&[source.len(), segments.total()])?;
+    same(&[index.len(), index_segments.total()])?;
+    same(&[segments.len(), index_segments.len()])?;
     as_long(out, index.len())?;
-    told(unsafe { symbols::cvl_bck_pez(source.as_ptr(), n, index.as_ptr(), segments.lengths().as_ptr(), index_segments.lengths().as_ptr(), k, out.as_mut_ptr(), m) })
+    told(unsafe { symbols::cvl_bck_pez(source.as_ptr(), source.len(), index.as_ptr(), segments.given(), index_segments.given(), out.as_mut_ptr(), index.len()) })
 }
 
 /// At each place the element at the place's index in the same segment of the source; an index may
@@ -3032,16 +3164,21 @@ pub fn bck_pez_into(source: &[i32], index: &[i32], segments: &Segments, index_se
 /// # Ok::<(), cvl::Fault>(())
 /// ```
 pub fn bck_peb(source: &[bool], index: &[i32], segments: &Segments, index_segments: &Segments) -> Result<Vec<bool>, Fault> {
-    let mut out = vec![false; index.len()];
+    limit(index.len())?;
+    same(&[source.len(), segments.total()])?;
+    same(&[index.len(), index_segments.total()])?;
+    same(&[segments.len(), index_segments.len()])?;
+    let mut out = zeros(index.len())?;
     bck_peb_into(source, index, segments, index_segments, &mut out)?;
     Ok(out)
 }
 
-/// [`bck_peb`] into a room that is as long as the result; a fault leaves it as it was.
+/// [`bck_peb`] into a room that is as long as the result; a fault leaves the room as it was.
 pub fn bck_peb_into(source: &[bool], index: &[i32], segments: &Segments, index_segments: &Segments, out: &mut [bool]) -> Result<(), Fault> {
-    let n = same(&[source.len()])?;
-    let k = same(&[segments.len(), index_segments.len()])?;
-    let m = same(&[index.len()])?;
+    limit(index.len())?;
+    same(&[source.len(), segments.total()])?;
+    same(&[index.len(), index_segments.total()])?;
+    same(&[segments.len(), index_segments.len()])?;
     as_long(out, index.len())?;
-    told(unsafe { symbols::cvl_bck_peb(source.as_ptr().cast(), n, index.as_ptr(), segments.lengths().as_ptr(), index_segments.lengths().as_ptr(), k, out.as_mut_ptr().cast(), m) })
+    told(unsafe { symbols::cvl_bck_peb(source.as_ptr().cast(), source.len(), index.as_ptr(), segments.given(), index_segments.given(), out.as_mut_ptr().cast(), index.len()) })
 }

@@ -45,8 +45,27 @@ impl Fault {
 
     /// Lengths that must agree differ.
     pub(crate) fn length_mismatch() -> Fault {
+        Fault::of(symbols::LENGTH_MISMATCH)
+    }
+
+    /// A count is below 0.
+    pub(crate) fn negative_length() -> Fault {
+        Fault::of(symbols::NEGATIVE_LENGTH)
+    }
+
+    /// More elements than a vector may have.
+    pub(crate) fn too_long() -> Fault {
+        Fault::of(symbols::TOO_LONG)
+    }
+
+    /// There is no memory.
+    pub(crate) fn no_resources() -> Fault {
+        Fault::of(symbols::NO_RESOURCES)
+    }
+
+    fn of(number: u32) -> Fault {
         Fault {
-            number: symbols::LENGTH_MISMATCH,
+            number,
             place: None,
         }
     }

@@ -20,7 +20,7 @@ mod symbols;
 
 pub use calls::*;
 pub use fault::Fault;
-pub use segments::{Segments, len_fos, len_lub, len_luz};
+pub use segments::{len_fos, len_lub, len_luz, Segments};
 pub use symbols::MOST_ELEMENTS;
 
 /// The version of the library.

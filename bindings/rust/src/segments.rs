@@ -1,7 +1,8 @@
 //! Segments: how a vector is cut.
 
-use crate::fault::{Fault, told};
-use crate::symbols;
+use crate::fault::{told, Fault};
+use crate::lengths::{copied, limit};
+use crate::symbols::{self, Lengths};
 
 /// Segments of a vector, one after another, made once from their lengths and then used by any calls and threads.
 ///
@@ -21,12 +22,12 @@ impl Segments {
     /// Segments of these lengths.
     ///
     /// Faults: 13 TooLong where there are more than 4194304; 12 NegativeLength at the first that is below 0; 13 TooLong where
-    /// they add up to more than 4194304.
+    /// they add up to more than 4194304. 100 where there is no memory for a copy of them.
     pub fn new(lengths: &[i32]) -> Result<Segments, Fault> {
         let mut total = 0;
-        told(unsafe { symbols::cvl_mke_fov(lengths.as_ptr(), lengths.len(), &mut total) })?;
+        told(unsafe { symbols::cvl_mke_fov(given(lengths), &mut total) })?;
         Ok(Segments {
-            lengths: lengths.to_vec(),
+            lengths: copied(lengths.iter().copied())?,
             total,
         })
     }
@@ -38,11 +39,12 @@ impl Segments {
         if offsets.first() != Some(&0) {
             return Err(Fault::length_mismatch());
         }
-        let lengths: Vec<i32> = offsets
-            .windows(2)
-            .map(|pair| pair[1].saturating_sub(pair[0]))
-            .collect();
-        Segments::new(&lengths)
+        limit(offsets.len() - 1)?;
+        Segments::new(&copied(
+            offsets
+                .windows(2)
+                .map(|pair| pair[1].saturating_sub(pair[0])),
+        )?)
     }
 
     /// The length of each segment.
@@ -63,6 +65,19 @@ impl Segments {
     /// How many elements the segments have in all.
     pub fn total(&self) -> usize {
         self.total
+    }
+
+    /// The lengths as the library takes them, which are there as long as the segments are.
+    pub(crate) fn given(&self) -> Lengths {
+        given(&self.lengths)
+    }
+}
+
+/// Lengths as the library takes them, which are there as long as the slice is.
+fn given(lengths: &[i32]) -> Lengths {
+    Lengths {
+        lengths: lengths.as_ptr(),
+        segments: lengths.len(),
     }
 }
 

@@ -1,6 +1,11 @@
-//! What stands in no example of a single call: faults and rooms, empty vectors, threads that share segments.
+//! The examples of the calls, and what stands in none: faults and rooms, empty vectors, threads that share segments.
+
+#[rustfmt::skip]
+mod examples;
 
 use cvl::{Fault, Segments};
+
+const MOST: i64 = 4_194_304;
 
 fn told(fault: Fault) -> (u32, Option<u64>) {
     (fault.number(), fault.place())
@@ -50,10 +55,109 @@ fn a_fault_has_its_place_and_leaves_the_room() {
 }
 
 #[test]
-fn counts_that_may_not_be() {
-    for (count, number) in [(-1, 12), (4_194_305, 13), (i32::MAX, 13), (i32::MIN, 12)] {
-        assert_eq!(told(cvl::dis_vuz(1, count).unwrap_err()), (number, None));
-        assert_eq!(told(cvl::ind_luz(1, 1, count).unwrap_err()), (number, None));
+fn place_0_of_a_fault_is_told_and_shown() {
+    let fault = cvl::div_wuz(&[1, 2], &[0, 0]).unwrap_err();
+    assert_eq!(told(fault), (8, Some(0)));
+    assert_eq!(fault.to_string(), "fault 8 DivideByZero at 0");
+    let fault = cvl::add_wuz(&[1], &[]).unwrap_err();
+    assert_eq!(fault.to_string(), "fault 7 LengthMismatch");
+}
+
+#[test]
+fn counts_and_places_that_may_not_be() {
+    let wide = 1_i64 << 32;
+    let counts = [
+        (-1, 12),
+        (MOST + 1, 13),
+        (wide + 3, 13),
+        (3 - wide, 12),
+        (i64::MAX, 13),
+        (i64::MIN, 12),
+    ];
+    for (count, number) in counts {
+        for fault in [
+            cvl::dis_vuz(1, count).unwrap_err(),
+            cvl::dis_vub(true, count).unwrap_err(),
+            cvl::ind_luz(1, 1, count).unwrap_err(),
+            cvl::dis_vuz_into(1, count, &mut [7; 3]).unwrap_err(),
+        ] {
+            assert_eq!(told(fault), (number, None));
+        }
+    }
+    for index in [-1, 2, wide, wide + 1, -wide, i64::MAX, i64::MIN] {
+        for fault in [
+            cvl::ext_vuz(&[1, 2], index).unwrap_err(),
+            cvl::ext_vub(&[true, true], index).unwrap_err(),
+            cvl::rep_vuz(&[1, 2], index, 3).unwrap_err(),
+            cvl::rep_vub(&[true, true], index, true).unwrap_err(),
+        ] {
+            assert_eq!(told(fault), (10, Some(0)));
+        }
+    }
+}
+
+#[test]
+fn a_pack_takes_a_longer_room_and_tells_how_many() {
+    let rows = Segments::new(&[1, 2]).unwrap();
+    let (values, kept) = ([1, 2, 3], [true, false, true]);
+    for places in 0..5 {
+        let mut room = vec![7; places];
+        let mut of_rows = room.clone();
+        let found = cvl::pck_luz_into(&values, &kept, &mut room);
+        assert_eq!(
+            cvl::pck_lez_into(&values, &kept, &rows, &mut of_rows),
+            found
+        );
+        assert_eq!(of_rows, room);
+        if places < 2 {
+            assert_eq!(told(found.unwrap_err()), (7, None));
+            assert_eq!(room, vec![7; places]);
+        } else {
+            assert_eq!(found, Ok(2));
+            assert_eq!(room[..2], [1, 3]);
+            assert_eq!(room[2..], vec![7; places - 2]);
+        }
+    }
+}
+
+#[test]
+fn a_result_may_be_as_long_as_a_vector_and_no_longer() {
+    let most = vec![1; cvl::MOST_ELEMENTS];
+    let kept = vec![true; cvl::MOST_ELEMENTS];
+    let one = Segments::new(&[MOST as i32]).unwrap();
+    for found in [
+        cvl::cpy_wuz(&most).unwrap(),
+        cvl::dis_vuz(1, MOST).unwrap(),
+        cvl::dis_vez(&[1], &one).unwrap(),
+        cvl::pck_luz(&most, &kept).unwrap(),
+        cvl::rep_vuz(&most, 0, 1).unwrap(),
+    ] {
+        assert!(found == most);
+    }
+    let more = vec![1; cvl::MOST_ELEMENTS + 1];
+    let kept = vec![true; cvl::MOST_ELEMENTS + 1];
+    for fault in [
+        cvl::cpy_wuz(&more).unwrap_err(),
+        cvl::add_wuz(&more, &[1]).unwrap_err(),
+        cvl::add_wuz_into(&more, &[1], &mut [7]).unwrap_err(),
+        cvl::pck_luz(&more, &kept).unwrap_err(),
+        cvl::add_ruz(&more).unwrap_err(),
+    ] {
+        assert_eq!(told(fault), (13, None));
+    }
+}
+
+#[test]
+fn a_wrong_room_is_told_before_faults_of_elements() {
+    let rows = Segments::new(&[1, 1]).unwrap();
+    for fault in [
+        cvl::div_wuz_into(&[1, 2], &[0, 0], &mut [7]).unwrap_err(),
+        cvl::smp_puz_into(&[1, 2], &[9, 9], &mut [7]).unwrap_err(),
+        cvl::sel_puz_into(&[1, 2], &[9, 9], &[true, true], &mut [7]).unwrap_err(),
+        cvl::rep_vuz_into(&[1, 2], 9, 1, &mut [7]).unwrap_err(),
+        cvl::ext_vez_into(&[1, 2], &[9, 9], &rows, &mut [7]).unwrap_err(),
+    ] {
+        assert_eq!(told(fault), (7, None));
     }
 }
 

@@ -1,11 +1,10 @@
-/* The calls by their names with the prefix alone, the version, and the name of a fault. bindings/tests/installed runs it. */
-#define CVL_NO_SHORT_NAMES
+/* The calls by their names, the version, and the name of a fault. bindings/tests/installed runs it. */
 #include <cvl.h>
 
 #include <stdio.h>
 #include <string.h>
 
-/* A name of the program's own, which the short names would take. */
+/* A name of the program's own, which the short names would take where they are asked for. */
 static int add_wuz(void) { return 1; }
 
 int main(void) {

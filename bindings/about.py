@@ -1,0 +1,114 @@
+"""What stands in `include/cvl.h` and on its page beside the rows of the table: what all calls share, types, and the functions that
+have no row."""
+
+ABOUT = (
+    "cvl.h: the vector calls of CVL, the C Vector Library, on a caller's own memory.",
+    "Link with -lcvl, of which ./install makes an archive and a shared object; docs/embedding.md shows how. C99 to C23, and C++.",
+    "Every call answers a CvlStatus: number 0 where all is done, the number of a fault, with its place or -1, 100 where memory ran out, 101 where "
+    "there is no descriptor, or 102 where arrays overlap. Where all is done the result is in the caller's room, the last array, value or values "
+    "given. Else the room is as it was.",
+    "Arrays come in the order of the call's operands. A number of elements stands right behind the last array that has so many, and in the functions "
+    "of families behind each array. The lengths of segments are one argument, a CvlLengths. The room is the last array, and behind it stand at most "
+    "its number of elements and what is told. A place and a count that a caller gives are an int64_t, so that one outside of 32 bits is told as any "
+    "other that is out of range.",
+    "A function whose last argument is a count tells how many elements there are. They are at the front of the room, and the rest of the room is as "
+    "it was. Where the room is too short, it is as it was, the status is 7 LengthMismatch, and the count is how many elements there have to be room "
+    "for; a first call with room for none asks for that. At any other fault the count is as it was too.",
+    "A room is whatever a function writes, counts and single values too. A room that shares memory with another argument is told: the status is 102 "
+    'Overlap, without a place, and nothing is written. One overlap is none, a call in place: a vector that a function reads may be its room, from '
+    'the first to the last element, where the line "In place" of a call says so, and in its family. The answer is the same then, and at a fault the '
+    "vector is as it was. Arrays that are only read may overlap. An array of 0 elements overlaps nothing, and its pointer may be null.",
+    "A boolean is a byte, and any byte but 0 is true, as in C. That is so for each array of booleans that a function reads, and for a boolean by value; "
+    "an array of another type of bytes may be passed by a cast, since no function reads it as bool. Booleans that are results are 0 and 1. Packs, "
+    "permutes, scans, texts, and replaces and distributes in segments read booleans where they lie if each is 0 or 1, and else take memory for a "
+    "copy, one byte an element. All other functions read any bytes where they lie.",
+    "What a caller owes, and what it costs where it isn't so:",
+    "  - A pointer leads to as many elements as is said, aligned for their type, which may be read and in a room written. Else the call may crash, or "
+    "read or write other memory.",
+    "  - While a call is at work no other thread writes its arrays, or reads its rooms. Else the results are any, and the call may crash or write "
+    "other memory.",
+    "  - The program has one malloc, realloc and free. Else memory is given back to an allocator that it isn't from.",
+    "  - The lengths of a descriptor live as long as calls take it. Else the call may crash or read other memory.",
+    "All else is checked, from C and from every language that calls by name: whatever lengths, indices, operators and rooms are given, a call ends "
+    "with a status. It runs on the thread that calls, and several threads may call at once.",
+    "Where several faults are there, the first of these is told; places count from 0:",
+    "  - 102 Overlap; where there is no descriptor, 101 NoDescriptor, before overlaps of other arguments than it;",
+    "  - 2 UnknownCall, without a place, where a number is that of no operator of the family;",
+    "  - 13 TooLong, without a place, where the vector that a call goes by has more than 4194304 elements: its first vector, the flags of a pack, or "
+    "the index of a permute; on segments after the lengths. A call on segments other than a permute asks no vector: there are at most 4194304 "
+    "lengths, which add up to at most as much, and a longer vector has not as many elements as they add up to, which is 7. A vector that is too "
+    "long is not read;",
+    "  - 13, 12 and 13 again by the lengths of segments;",
+    "  - 7 LengthMismatch, without a place, where vectors that belong together are not equally long, and then where a room is not as long as the "
+    "result, or shorter where a count is told;",
+    "  - 100 NoResources;",
+    "  - the faults of elements, in the order of the comment. Of a text that is read a room that is too short comes last.",
+    "Other vectors may be longer than 4194304 elements where they need not be as long as another: the source of a back permute, the defaults of a "
+    "permute, and the vectors of which one element is taken or replaced.",
+    "Each call of the table has its name with the prefix cvl_, as cvl_add_wuz. Where CVL_SHORT_NAMES is defined before this header is included it has "
+    "the name without it too.",
+)
+
+STATUS_TYPE = """/* What a call answers. */
+typedef struct CvlStatus {
+    uint32_t number; /* 0 where all is done, the number of a fault, or 100 or more */
+    int64_t place;   /* the place of the fault, counted from 0, or -1 */
+} CvlStatus;"""
+
+LENGTHS_TYPE = """/* The lengths of segments, one for each, empty ones too: CvlLengths rows = {lengths, segments}. */
+typedef struct CvlLengths {
+    const int32_t *lengths;
+    size_t segments; /* how many there are */
+} CvlLengths;"""
+
+SEGMENTS_TYPE = """typedef struct CvlSegments {
+    const int32_t *lengths; /* the caller's, which live as long as the descriptor is used */
+    size_t segments;        /* how many there are */
+    bool some;              /* whether there is a descriptor */
+} CvlSegments;
+
+/* What a descriptor starts as: CvlSegments rows = CVL_NO_SEGMENTS. */
+#define CVL_NO_SEGMENTS {NULL, 0, false}"""
+
+# Functions without a row: the section, the paragraphs of each comment, and the declaration.
+OF_VERSIONS = (
+    ("cvl_version", ("The version of the library, as CVL_VERSION has that of the header.",), "const char *cvl_version(void);"),
+    (
+        "cvl_fault_name", ('The name of the number of a status, as "DivideByZero"; "Unknown" where it is no such number.',),
+        "const char *cvl_fault_name(uint32_t number);",
+    ),
+)
+OF_FLAGS = (
+    ("cvl_are_flags", ("Whether each byte is 0 or 1.",), "bool cvl_are_flags(const bool *flags, size_t flags_len);"),
+    ("cvl_make_flags", ("Makes each byte that is not 0 a 1.",), "void cvl_make_flags(bool *flags, size_t flags_len);"),
+)
+
+DESCRIPTORS = (
+    "A descriptor names the lengths of segments and how many there are. It is plain memory: the lengths stay where they are, no call writes them or "
+    "the descriptor, and nothing of the library's is held. So it may be constant and copied, any number of threads may use it at once, and there is "
+    "nothing to let go. It starts as CVL_NO_SEGMENTS, and cvl_segments_new makes it.",
+    "Each function here is the family on segments of its name, cvl_seg_int_scan for cvl_segments_int_scan, with a descriptor in the place of the "
+    "lengths: the same results and faults, and in place where that may be. Each looks at the lengths before it writes anything, so that lengths that "
+    "were changed after the descriptor was made are those of the call, and wrong ones are told by a fault; nobody may write them while a call runs. A "
+    "room may share memory with neither the lengths nor the descriptor. Without a descriptor, at CVL_NO_SEGMENTS or a null pointer, a call answers "
+    "101 NoDescriptor, and its room is as it was.",
+)
+OF_DESCRIPTORS = (
+    (
+        "cvl_segments_free", ("Lets go of a descriptor, of which nothing is left then; a null pointer is none. The lengths are the caller's.",),
+        "CvlStatus cvl_segments_free(CvlSegments *segments);",
+    ),
+    (
+        "cvl_segments_new",
+        (
+            "Makes the descriptor of segments with these lengths, empty ones too. After a fault of the lengths there is none.",
+            "Faults: 13 TooLong, without a place, where there are more than 4194304 lengths; 12 NegativeLength at the first that is below 0; 13 TooLong, "
+            "without a place, where they add up to more than 4194304; else 101 NoDescriptor where `segments` is null.",
+        ),
+        "CVL_CHECKED CvlStatus cvl_segments_new(CvlLengths lengths, CvlSegments *segments);",
+    ),
+    (
+        "cvl_segments_total", ("How many elements the segments have in all.",),
+        "CVL_CHECKED CvlStatus cvl_segments_total(const CvlSegments *segments, size_t *total);",
+    ),
+)

@@ -1,0 +1,84 @@
+/* What is asked of a call before memory is, where that takes a walk: lengths, flags, and the lengths of texts. */
+#include "families.h"
+
+/* The fault of lengths that are none of segments, and what they add up to. */
+static CvlStatus lengths_told(const CvlLengths *lengths, size_t *total) {
+    return cvl_proved_make_descriptor(lengths->lengths, lengths->segments, total);
+}
+
+/* How many bytes a list of so many elements has beside theirs: brackets, and a space between each two. */
+static size_t around(size_t count) { return 2 + (count == 0 ? 0 : count - 1); }
+
+static size_t digits(int32_t number) {
+    size_t count = number < 0 ? 2 : 1;
+    for (int32_t left = number / 10; left != 0; left /= 10) count++;
+    return count;
+}
+
+/* How long the text is that is asked for. */
+static size_t text_length(const CvlAsked *asked) {
+    const CvlLengths *lengths = asked->lengths[0];
+    size_t length = asked->bools == NULL ? 0 : asked->written;
+    for (size_t k = 0; asked->ints != NULL && k < asked->written; k++) length += digits(asked->ints[k]);
+    if (lengths == NULL) return length + around(asked->written);
+    for (size_t k = 0; k < lengths->segments; k++) length += around((size_t)lengths->lengths[k]);
+    return length + around(lengths->segments);
+}
+
+/* The fault of a room whose length hangs on elements. */
+static CvlStatus room_told(const CvlAsked *asked) {
+    int32_t trues = 0;
+    size_t needed = asked->room;
+    if (asked->by_flags) {
+        const CvlStatus counted = cvl_proved_count(asked->flags, asked->flags_len, &trues);
+        if (counted.number != CVL_DONE) return counted;
+        needed = (size_t)trues;
+    } else if (asked->count != NULL) {
+        needed = text_length(asked);
+    }
+    if (asked->count == NULL) return needed == asked->room ? cvl_done() : cvl_status(CVL_LENGTH_MISMATCH, -1);
+    if (needed <= asked->room) return cvl_done();
+    *asked->count = needed;
+    return cvl_status(CVL_LENGTH_MISMATCH, -1);
+}
+
+CvlStatus cvl_asked(const CvlAsked *asked) {
+    bool agree = asked->agree;
+    if (!asked->known) return cvl_status(CVL_UNKNOWN_CALL, -1);
+    for (size_t k = 0; k < 2 && asked->lengths[k] != NULL; k++) {
+        size_t total = 0;
+        const CvlStatus told = lengths_told(asked->lengths[k], &total);
+        if (told.number != CVL_DONE) return told;
+        if (total != asked->totals[k]) agree = 0;
+    }
+    if (asked->limited > CVL_MOST_ELEMENTS) return cvl_status(CVL_TOO_LONG, -1);
+    return agree ? room_told(asked) : cvl_status(CVL_LENGTH_MISMATCH, -1);
+}
+
+bool cvl_many_words(const char *text, size_t text_len, bool nested) {
+    size_t words = 0, lists = 0;
+    bool inside = 0;
+    for (size_t k = 0; k < text_len; k++) {
+        const char byte = text[k];
+        const bool bracket = nested && (byte == '[' || byte == ']');
+        const bool white = byte == ' ' || byte == '\t' || byte == '\n' || byte == '\r';
+        if (!bracket && !white && !inside) words++;
+        if (nested && byte == '[') lists++;
+        inside = !bracket && !white;
+    }
+    return words > CVL_MOST_ELEMENTS || lists > (size_t)CVL_MOST_ELEMENTS + 1;
+}
+
+bool cvl_copy_flags(const bool **flags, size_t count, bool **copy) {
+    if (cvl_proved_are_flags(*flags, count)) return 1;
+    *copy = malloc(count);
+    if (*copy == NULL) return 0;
+    memcpy(*copy, *flags, count);
+    cvl_proved_make_flags(*copy, count);
+    *flags = *copy;
+    return 1;
+}
+
+bool cvl_are_flags(const bool *flags, size_t flags_len) { return cvl_proved_are_flags(flags, flags_len); }
+
+void cvl_make_flags(bool *flags, size_t flags_len) { cvl_proved_make_flags(flags, flags_len); }

@@ -1,0 +1,216 @@
+/* A call is cut into parts, and its steps are run. */
+#include "parts.h"
+#include "pools.h"
+
+#include <stdatomic.h>
+
+/* The number of a part's status before it is run. */
+enum { NOT_RUN = 0x7fffffff };
+
+/* A step of a call in parts: what each part does, whether it has begun, and what it told. */
+typedef struct Step {
+    CvlWork *work;
+    CvlStepPart part;
+    atomic_bool begun[CVL_MOST_PARTS];
+    CvlStatus told[CVL_MOST_PARTS];
+} Step;
+
+/* A part is run once, however often the pool runs it. */
+static void run_part(void *step, size_t part) {
+    Step *s = step;
+    if (part >= s->work->parts || atomic_exchange(&s->begun[part], 1)) return;
+    s->told[part] = s->part(s->work, part);
+}
+
+static bool is_done(const CvlPool *pool, CvlWork *w, CvlStepPart part, bool writes) {
+    Step step;
+    bool done = 1;
+    step.work = w, step.part = part;
+    for (size_t k = 0; k < w->parts; k++) {
+        atomic_init(&step.begun[k], 0);
+        step.told[k] = cvl_status(NOT_RUN, -1);
+    }
+    pool->run(pool->state, run_part, &step, w->parts);
+    for (size_t k = 0; k < w->parts; k++) {
+        if (step.told[k].number == NOT_RUN && writes) run_part(&step, k);
+        if (step.told[k].number == NOT_RUN) w->left_out = 1;
+        if (step.told[k].number != CVL_DONE) done = 0;
+    }
+    return done;
+}
+
+bool cvl_reads(const CvlPool *pool, CvlWork *w, CvlStepPart part) { return is_done(pool, w, part, 0); }
+
+bool cvl_writes(const CvlPool *pool, CvlWork *w, CvlStepPart part) { return is_done(pool, w, part, 1); }
+
+static CvlStatus nothing_part(CvlWork *w, size_t k) {
+    (void)w, (void)k;
+    return cvl_done();
+}
+
+/* Whether a pool runs each part, as far as one step without work tells; those of the library do. */
+static bool runs_all(const CvlPool *pool, CvlWork *w) {
+    return pool->run == cvl_run_alone || pool->run == cvl_run_posix || cvl_reads(pool, w, nothing_part);
+}
+
+static size_t parts_of(const CvlPool *pool, size_t n, size_t each) {
+    const size_t parts = pool->parts < CVL_MOST_PARTS ? pool->parts : CVL_MOST_PARTS;
+    return n / each < parts ? n / each : parts;
+}
+
+static bool cut_evenly(const CvlPool *pool, CvlWork *w, size_t n, size_t least, size_t each) {
+    const size_t parts = pool == NULL || n > CVL_MOST_ELEMENTS || n < least ? 0 : parts_of(pool, n, each);
+    if (parts < 2) return 0;
+    memset(w, 0, sizeof *w);
+    w->parts = parts;
+    for (size_t k = 0; k <= parts; k++) w->from[k] = n * k / parts;
+    return 1;
+}
+
+bool cvl_cut_by(const CvlPool *pool, CvlWork *w, size_t n, size_t least, size_t each) {
+    return cut_evenly(pool, w, n, least, each) && runs_all(pool, w);
+}
+
+bool cvl_cut(const CvlPool *pool, CvlWork *w, size_t n) { return cvl_cut_by(pool, w, n, CVL_LEAST_SHARED, CVL_LEAST_EACH); }
+
+static bool is_white(char byte) { return byte == ' ' || byte == '\t' || byte == '\n' || byte == '\r'; }
+
+bool cvl_cut_text(const CvlPool *pool, CvlWork *w, const char *text, size_t n) {
+    const size_t parts = pool == NULL || n < CVL_LEAST_READ ? 0 : parts_of(pool, n, CVL_LEAST_READ_EACH);
+    if (parts < 2) return 0;
+    memset(w, 0, sizeof *w);
+    w->parts = parts;
+    for (size_t k = 1; k <= parts; k++) {
+        size_t to = k == parts ? n : n / parts * k;
+        if (to < w->from[k - 1]) to = w->from[k - 1];
+        while (to < n && !is_white(text[to])) to++;
+        w->from[k] = to;
+    }
+    return runs_all(pool, w);
+}
+
+/* ---- segments: the elements are cut, and each part finds the segments that start in it ---- */
+
+/* The lengths, cut into parts of their own, and how many elements each part of them has. */
+static CvlStatus lengths_part(CvlWork *w, size_t k) {
+    const size_t from = w->segments * k / w->parts, to = w->segments * (k + 1) / w->parts;
+    return cvl_proved_make_descriptor(w->lengths + from, to - from, &w->counts[k]);
+}
+
+/* Finds the first segment that starts in the part or after it. The walk begins at the last part of the lengths that starts before. */
+static CvlStatus start_part(CvlWork *w, size_t k) {
+    size_t j = w->parts - 1;
+    if (k == 0) return cvl_done();
+    while (j > 0 && w->other[j] >= w->from[k]) j--;
+    size_t segment = w->segments * j / w->parts, start = w->other[j];
+    while (segment < w->segments && start < w->from[k]) start += (size_t)w->lengths[segment++];
+    w->first[k] = segment, w->start[k] = start;
+    return cvl_done();
+}
+
+/* An empty segment that stands at a cut starts in the part behind it, and one behind the last element in the last part. */
+bool cvl_cut_segments_by(const CvlPool *pool, CvlWork *w, size_t n, CvlLengths lengths, size_t least, size_t each) {
+    if (lengths.segments > CVL_MOST_ELEMENTS || !cut_evenly(pool, w, n, least, each)) return 0;
+    w->lengths = lengths.lengths, w->segments = lengths.segments;
+    if (!cvl_reads(pool, w, lengths_part)) return 0;
+    for (size_t k = 0; k < w->parts; k++) w->other[k + 1] = w->other[k] + w->counts[k];
+    if (w->other[w->parts] != n) return 0;
+    w->first[w->parts] = lengths.segments, w->start[w->parts] = n;
+    return cvl_reads(pool, w, start_part);
+}
+
+bool cvl_cut_segments(const CvlPool *pool, CvlWork *w, size_t n, CvlLengths lengths) {
+    return cvl_cut_segments_by(pool, w, n, lengths, CVL_LEAST_SHARED, CVL_LEAST_EACH);
+}
+
+CvlPiece cvl_piece(const CvlWork *w, size_t k) {
+    CvlPiece p;
+    p.from = w->from[k], p.to = w->from[k + 1], p.first = w->first[k];
+    p.head = w->start[k] < p.to ? w->start[k] : p.to;
+    p.starts = w->first[k + 1] > p.first;
+    p.cut = p.starts && w->start[k + 1] > p.to;
+    p.count = w->first[k + 1] - p.first - p.cut;
+    p.tail = p.cut ? w->start[k + 1] - (size_t)w->lengths[w->first[k + 1] - 1] : p.to;
+    return p;
+}
+
+bool cvl_in_lengths(const CvlPool *pool, CvlWork *w) {
+    size_t sum = 0;
+    if (!cvl_reads(pool, w, lengths_part)) return 0;
+    for (size_t k = 0; k < w->parts; k++) sum += w->counts[k];
+    if (sum > CVL_MOST_ELEMENTS) return 0;
+    *w->count = sum;
+    w->told = cvl_done();
+    return 1;
+}
+
+/* ---- flags that are neither 0 nor 1: looked at in parts, and copied at once ---- */
+
+/* A part's share of an array: from one place to another. */
+static size_t share(const CvlWork *w, size_t len, size_t k) {
+    return len / w->parts * k + (k < len % w->parts ? k : len % w->parts);
+}
+
+static bool share_is_flags(const CvlWork *w, const void *flags, size_t len, size_t k) {
+    const size_t from = share(w, len, k);
+    return cvl_proved_are_flags(CVL_BOOLS(flags, from), share(w, len, k + 1) - from);
+}
+
+static CvlStatus flags_part(CvlWork *w, size_t k) {
+    const bool all = (!w->a_is_flags || share_is_flags(w, w->a, w->a_len, k)) && (!w->b_is_flags || share_is_flags(w, w->b, w->b_len, k)) &&
+        (!w->flags_are_flags || share_is_flags(w, w->flags, w->flags_len, k));
+    return all ? cvl_done() : cvl_status(CVL_NO_RESOURCES, -1);
+}
+
+static bool *copy_share(const CvlWork *w, const void *flags, size_t len, bool *copy, size_t k) {
+    const size_t from = share(w, len, k), n = share(w, len, k + 1) - from;
+    if (n > 0) memcpy(copy + from, CVL_BOOLS(flags, from), n);
+    cvl_proved_make_flags(copy + from, n);
+    return copy + len;
+}
+
+static CvlStatus copies_part(CvlWork *w, size_t k) {
+    bool *copy = w->copies;
+    if (w->a_is_flags) copy = copy_share(w, w->a, w->a_len, copy, k);
+    if (w->b_is_flags) copy = copy_share(w, w->b, w->b_len, copy, k);
+    if (w->flags_are_flags) copy_share(w, w->flags, w->flags_len, copy, k);
+    return cvl_done();
+}
+
+bool cvl_make_all(const CvlPool *pool, CvlWork *w) {
+    const size_t a_len = w->a_is_flags ? w->a_len : 0, b_len = w->b_is_flags ? w->b_len : 0;
+    if (!w->a_is_flags && !w->b_is_flags && !w->flags_are_flags) return 1;
+    if (cvl_reads(pool, w, flags_part)) return 1;
+    if (w->left_out) return 0;
+    w->copies = malloc(a_len + b_len + (w->flags_are_flags ? w->flags_len : 0));
+    if (w->copies == NULL || !cvl_writes(pool, w, copies_part)) return 0;
+    if (w->a_is_flags) w->a = w->copies;
+    if (w->b_is_flags) w->b = w->copies + a_len;
+    if (w->flags_are_flags) w->flags = w->copies + a_len + b_len;
+    return 1;
+}
+
+/* ---- memory ---- */
+
+bool cvl_keep(CvlWork *w, size_t bytes) {
+    w->kept = malloc(bytes == 0 ? 1 : bytes);
+    return w->kept != NULL;
+}
+
+static CvlStatus kept_part(CvlWork *w, size_t k) {
+    const size_t from = w->rooms[k] * w->size, bytes = w->rooms[k + 1] * w->size - from;
+    if (bytes > 0) memcpy(w->kept + from, (const char *)w->out + from, bytes);
+    return w->part(w, k);
+}
+
+bool cvl_writes_kept(const CvlPool *pool, CvlWork *w, CvlStepPart part) {
+    w->part = part;
+    if (cvl_writes(pool, w, kept_part)) return 1;
+    if (w->out_len > 0) memcpy(w->out, w->kept, w->out_len * w->size);
+    return 0;
+}
+
+void cvl_let_go(CvlWork *w) {
+    free(w->kept);
+    free(w->copies);
+}

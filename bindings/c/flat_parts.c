@@ -1,0 +1,143 @@
+/* Calls in parts on whole vectors: each part is a range of places, and what the parts tell is joined. */
+#include "parts.h"
+
+bool cvl_in_places(const CvlPool *pool, CvlWork *w) {
+    if (!cvl_make_all(pool, w) || (w->look != NULL && !cvl_reads(pool, w, w->look))) return 0;
+    w->told = cvl_done();
+    return cvl_writes(pool, w, w->part);
+}
+
+static CvlStatus copy_part(CvlWork *w, size_t k) {
+    const size_t from = w->from[k], n = w->from[k + 1] - from;
+    if (w->of_bools) return cvl_proved_bool1(CVL_CPY, CVL_BOOLS(w->a, from), n, CVL_BOOL_ROOM(w->out, from), n);
+    return cvl_proved_int1(CVL_CPY, CVL_INTS(w->a, from), n, CVL_INT_ROOM(w->out, from), n);
+}
+
+/* The parts are copied, and then the one element is written. */
+bool cvl_in_replace(const CvlPool *pool, CvlWork *w) {
+    w->told = cvl_done();
+    if (!cvl_writes(pool, w, copy_part)) return 0;
+    if (w->of_bools) *CVL_BOOL_ROOM(w->out, w->place) = w->value != 0;
+    else *CVL_INT_ROOM(w->out, w->place) = w->value;
+    return 1;
+}
+
+/* ---- reduces and scans: each part's reduce is told, and what stands before it is theirs, joined ---- */
+
+CvlStatus cvl_reduce_of(const CvlWork *w, size_t from, size_t to, CvlItem *sum) {
+    if (w->of_bools) return cvl_proved_bool_reduce(w->op, CVL_BOOLS(w->a, from), to - from, &sum->flag);
+    return cvl_proved_int_reduce(w->op, CVL_INTS(w->a, from), to - from, &sum->number);
+}
+
+CvlStatus cvl_join_of(const CvlWork *w, CvlItem first, CvlItem second, CvlItem *joined) {
+    const bool flags[2] = {first.flag, second.flag};
+    const int32_t numbers[2] = {first.number, second.number};
+    if (w->of_bools) return cvl_proved_bool_reduce(w->op, flags, 2, &joined->flag);
+    return cvl_proved_int_reduce(w->op, numbers, 2, &joined->number);
+}
+
+CvlStatus cvl_scan_range(const CvlWork *w, CvlItem before, size_t from, size_t to) {
+    const size_t n = to - from;
+    if (w->of_bools) return cvl_bool_scan_after_placed(w->op, before.flag, CVL_BOOLS(w->a, from), n, CVL_BOOL_ROOM(w->out, from), n);
+    return cvl_int_scan_after_placed(w->op, before.number, CVL_INTS(w->a, from), n, CVL_INT_ROOM(w->out, from), n);
+}
+
+static CvlStatus reduce_part(CvlWork *w, size_t k) { return cvl_reduce_of(w, w->from[k], w->from[k + 1], &w->sums[k]); }
+
+static CvlStatus scan_part(CvlWork *w, size_t k) { return cvl_scan_range(w, w->before[k], w->from[k], w->from[k + 1]); }
+
+/* What stands before each part, from the parts' reduces; and the reduce of all of them. */
+static bool join_parts(const CvlPool *pool, CvlWork *w, CvlItem *sum) {
+    bool done = cvl_reads(pool, w, reduce_part) && cvl_reduce_of(w, 0, 0, sum).number == CVL_DONE;
+    for (size_t k = 0; k < w->parts && done; k++) {
+        w->before[k] = *sum;
+        done = cvl_join_of(w, w->before[k], w->sums[k], sum).number == CVL_DONE;
+    }
+    return done;
+}
+
+bool cvl_in_reduce(const CvlPool *pool, CvlWork *w) {
+    CvlItem sum;
+    if (!join_parts(pool, w, &sum)) return 0;
+    if (w->of_bools) *CVL_BOOL_ROOM(w->out, 0) = sum.flag;
+    else *CVL_INT_ROOM(w->out, 0) = sum.number;
+    w->told = cvl_done();
+    return 1;
+}
+
+bool cvl_in_scan(const CvlPool *pool, CvlWork *w) {
+    CvlItem sum;
+    if (!cvl_make_all(pool, w) || !join_parts(pool, w, &sum)) return 0;
+    w->told = cvl_done();
+    return cvl_writes(pool, w, scan_part);
+}
+
+/* ---- sums that never wrap: each part's exact sum is told, all parts are looked at, and then the scan that wraps is the same ---- */
+
+static CvlStatus total_part(CvlWork *w, size_t k) {
+    const size_t from = w->from[k];
+    return cvl_proved_exact_sum(CVL_INTS(w->a, from), w->from[k + 1] - from, &w->totals[k]);
+}
+
+bool cvl_in_checked_reduce(const CvlPool *pool, CvlWork *w) {
+    int64_t sum = 0;
+    if (!cvl_reads(pool, w, total_part)) return 0;
+    for (size_t k = 0; k < w->parts; k++) sum += w->totals[k];
+    if (!cvl_fits(sum)) return 0;
+    *CVL_INT_ROOM(w->out, 0) = (int32_t)sum;
+    w->told = cvl_done();
+    return 1;
+}
+
+static CvlStatus checked_look(CvlWork *w, size_t k) {
+    const size_t from = w->from[k];
+    return cvl_looked(cvl_proved_checked_scan_after(w->reached[k], CVL_INTS(w->a, from), w->from[k + 1] - from, NULL, 0));
+}
+
+bool cvl_in_checked_scan(const CvlPool *pool, CvlWork *w) {
+    w->op = CVL_ADD, w->told = cvl_done();
+    if (!cvl_reads(pool, w, total_part)) return 0;
+    for (size_t k = 0; k + 1 < w->parts; k++) w->reached[k + 1] = w->reached[k] + w->totals[k];
+    if (!cvl_reads(pool, w, checked_look)) return 0;
+    for (size_t k = 0; k < w->parts; k++) w->before[k].number = cvl_fits(w->reached[k]) ? (int32_t)w->reached[k] : 0;
+    return cvl_writes(pool, w, scan_part);
+}
+
+/* ---- counts and packs: the parts' counts tell where each part's elements go ---- */
+
+static CvlStatus count_part(CvlWork *w, size_t k) {
+    return cvl_proved_count(w->flags + w->from[k], w->from[k + 1] - w->from[k], &w->sums[k].number);
+}
+
+/* How many flags are true before each part, and in all. */
+static bool count_parts(const CvlPool *pool, CvlWork *w) {
+    if (!cvl_reads(pool, w, count_part)) return 0;
+    for (size_t k = 0; k < w->parts; k++) w->other[k + 1] = w->other[k] + (size_t)w->sums[k].number;
+    return 1;
+}
+
+bool cvl_in_count(const CvlPool *pool, CvlWork *w) {
+    if (!count_parts(pool, w)) return 0;
+    *CVL_INT_ROOM(w->out, 0) = (int32_t)w->other[w->parts];
+    w->told = cvl_done();
+    return 1;
+}
+
+static CvlStatus pack_part(CvlWork *w, size_t k) {
+    const size_t from = w->from[k], n = w->from[k + 1] - from, to = w->other[k], kept = w->other[k + 1] - to;
+    if (w->of_bools) {
+        return cvl_proved_pack_bool(CVL_BOOLS(w->a, from), n, w->flags + from, n, CVL_BOOL_ROOM(w->out, to), kept, &w->counts[k]);
+    }
+    return cvl_proved_pack_int(CVL_INTS(w->a, from), n, w->flags + from, n, CVL_INT_ROOM(w->out, to), kept, &w->counts[k]);
+}
+
+/* A pack of segments keeps what a pack of the whole keeps, once the lengths are those of the vector. */
+bool cvl_in_pack(const CvlPool *pool, CvlWork *w) {
+    w->other[0] = 0;
+    if (!count_parts(pool, w)) return 0;
+    const size_t count = w->other[w->parts];
+    w->told = count > w->out_len ? cvl_status(CVL_LENGTH_MISMATCH, -1) : cvl_done();
+    if (count <= w->out_len && (!cvl_make_all(pool, w) || !cvl_writes(pool, w, pack_part))) return 0;
+    *w->count = count;
+    return 1;
+}

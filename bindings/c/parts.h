@@ -1,0 +1,178 @@
+/*
+ * parts.h: a call in parts, as its steps see it. A function in parts looks at what its plain function looks at, cuts the vector, asks
+ * for all memory that it needs itself, and runs steps by the pool. Where any of this doesn't do, the rooms are as they were,
+ * and the plain function answers.
+ */
+#ifndef CVL_PARTS_H
+#define CVL_PARTS_H
+
+#include "families.h"
+
+/* From how many elements on a call is cut, and how many each part has at least. A build for tests has others. */
+#ifndef CVL_LEAST_SHARED
+#define CVL_LEAST_SHARED 262144
+#endif
+#ifndef CVL_LEAST_EACH
+#define CVL_LEAST_EACH 131072
+#endif
+
+/* The same for the bytes of a text that is read, and for the elements whose text is written. */
+#ifndef CVL_LEAST_READ
+#define CVL_LEAST_READ 131072
+#endif
+#ifndef CVL_LEAST_READ_EACH
+#define CVL_LEAST_READ_EACH 32768
+#endif
+#ifndef CVL_LEAST_WRITTEN
+#define CVL_LEAST_WRITTEN 32768
+#endif
+#ifndef CVL_LEAST_WRITTEN_EACH
+#define CVL_LEAST_WRITTEN_EACH 16384
+#endif
+
+typedef union CvlItem {
+    int32_t number;
+    bool flag;
+} CvlItem;
+
+typedef struct CvlWork CvlWork;
+typedef CvlStatus (*CvlStepPart)(CvlWork *work, size_t part);
+
+/* What says how long a part is in a second vector. */
+typedef enum CvlOther { CVL_BY_NOTHING, CVL_BY_FLAGS, CVL_BY_LENGTHS } CvlOther;
+
+/* A call in parts. Each step writes the fields of its own part, and reads what earlier steps wrote. */
+struct CvlWork {
+    size_t parts;
+    size_t from[CVL_MOST_PARTS + 1];  /* the first element of each part, and how many elements there are */
+    size_t first[CVL_MOST_PARTS + 1]; /* the first segment that starts in each part, and how many segments there are */
+    size_t start[CVL_MOST_PARTS + 1]; /* where that segment starts */
+    size_t other[CVL_MOST_PARTS + 1]; /* where it starts in a second vector, or where a part's result stands */
+    CvlItem sums[CVL_MOST_PARTS];     /* what each part joins to, or, of one with segments, its last, cut segment */
+    CvlItem heads[CVL_MOST_PARTS];    /* what those elements of each part join to that belong to a segment of an earlier part */
+    CvlItem before[CVL_MOST_PARTS];   /* what stands before each part */
+    int64_t totals[CVL_MOST_PARTS];   /* the same as sums that never wrap */
+    int64_t head_totals[CVL_MOST_PARTS];
+    int64_t reached[CVL_MOST_PARTS];
+    size_t counts[CVL_MOST_PARTS]; /* how many elements each part gives */
+    CvlStatus told;                /* what the call answers, where its parts are done */
+    bool left_out;                 /* whether the pool left a part out */
+    char *kept;                    /* what stood in the room before, where it may have to be put back, or the parts' texts */
+    bool *copies;                  /* copies of flags that are neither 0 nor 1 */
+    /* the arguments, of which each call has some */
+    uint32_t op;
+    bool of_bools;
+    size_t size; /* of an element of the room, in bytes */
+    const void *a, *b;
+    const bool *flags;
+    size_t a_len, b_len, flags_len;
+    bool a_is_flags, b_is_flags, flags_are_flags; /* which are to be 0 and 1 */
+    const int32_t *index, *lengths, *other_lengths;
+    size_t segments, other_len;
+    CvlOther other_by;
+    int32_t value, stride;
+    size_t place;
+    void *out;
+    size_t out_len;
+    size_t *count;
+    const size_t *rooms; /* the first place of each part in the room */
+    CvlStepPart look, part;
+};
+
+#define CVL_TEXT(array, place) ((const char *)(array) + (place))
+#define CVL_BYTES(array, place) ((const bool *)(array) + (place))
+#define CVL_INTS(array, place) ((const int32_t *)(array) + (place))
+#define CVL_BOOLS(array, place) ((const bool *)(array) + (place))
+#define CVL_INT_ROOM(array, place) ((int32_t *)(array) + (place))
+#define CVL_BOOL_ROOM(array, place) ((bool *)(array) + (place))
+
+/* The number at a place, wrapped: where a part starts. */
+static inline int32_t cvl_number_at(int32_t init, int32_t stride, size_t place) {
+    return (int32_t)((uint32_t)init + (uint32_t)place * (uint32_t)stride);
+}
+
+/* ---- cutting, and the steps: cut.c ---- */
+
+/* Cuts n elements into as many parts as the pool has, and answers whether they are more than one. */
+CVL_HIDDEN bool cvl_cut(const CvlPool *pool, CvlWork *w, size_t n);
+CVL_HIDDEN bool cvl_cut_by(const CvlPool *pool, CvlWork *w, size_t n, size_t least, size_t each);
+
+/* The same of elements in segments, where the lengths are those of n elements. */
+CVL_HIDDEN bool cvl_cut_segments(const CvlPool *pool, CvlWork *w, size_t n, CvlLengths lengths);
+CVL_HIDDEN bool cvl_cut_segments_by(const CvlPool *pool, CvlWork *w, size_t n, CvlLengths lengths, size_t least, size_t each);
+
+/*
+ * Runs a step in all parts, and answers whether all are done. A part that the pool leaves out of a step that only reads ends the call;
+ * one of a step that writes is run by the thread that calls, so that no room is half written.
+ */
+CVL_HIDDEN bool cvl_reads(const CvlPool *pool, CvlWork *w, CvlStepPart part);
+CVL_HIDDEN bool cvl_writes(const CvlPool *pool, CvlWork *w, CvlStepPart part);
+
+/*
+ * A call with no room looks for the faults of its elements and writes nothing: an export asks a room last, so that 7 LengthMismatch says
+ * that there is no other fault.
+ */
+static inline CvlStatus cvl_looked(CvlStatus status) { return status.number == CVL_LENGTH_MISMATCH ? cvl_done() : status; }
+
+/* The first of three statuses that isn't done. */
+static inline CvlStatus cvl_first_of(CvlStatus first, CvlStatus second, CvlStatus third) {
+    if (first.number != CVL_DONE) return first;
+    return second.number != CVL_DONE ? second : third;
+}
+
+/* Copies the flags that are to be 0 and 1 and are not, all at once, and answers whether there was memory for that. */
+CVL_HIDDEN bool cvl_make_all(const CvlPool *pool, CvlWork *w);
+
+/* Takes memory for so many bytes, and answers whether there is some. */
+CVL_HIDDEN bool cvl_keep(CvlWork *w, size_t bytes);
+
+/* Runs a step that may be refused, whose parts keep what stood in their ranges of the room; it is put back where one isn't done. */
+CVL_HIDDEN bool cvl_writes_kept(const CvlPool *pool, CvlWork *w, CvlStepPart part);
+
+/* Lets go of the memory of a call. */
+CVL_HIDDEN void cvl_let_go(CvlWork *w);
+
+/* The elements of a part: the end of a segment of an earlier part, whole segments, and the beginning of a segment that is cut. */
+typedef struct CvlPiece {
+    size_t from, head, tail, to; /* the end of the earlier segment stands before `head`, the beginning of the cut one from `tail` on */
+    size_t first, count;         /* the whole segments */
+    bool starts, cut;            /* whether a segment starts in the part, and whether its last one is cut */
+} CvlPiece;
+
+CVL_HIDDEN CvlPiece cvl_piece(const CvlWork *w, size_t k);
+
+/* ---- each way to cut a call: whether its parts are done, and then w->told is the answer ---- */
+
+/* Each part is a range of places; the faults of elements are looked at in all parts before one is written. */
+CVL_HIDDEN bool cvl_in_places(const CvlPool *pool, CvlWork *w);
+CVL_HIDDEN bool cvl_in_replace(const CvlPool *pool, CvlWork *w);
+CVL_HIDDEN bool cvl_in_reduce(const CvlPool *pool, CvlWork *w);
+CVL_HIDDEN bool cvl_in_scan(const CvlPool *pool, CvlWork *w);
+CVL_HIDDEN bool cvl_in_checked_reduce(const CvlPool *pool, CvlWork *w);
+CVL_HIDDEN bool cvl_in_checked_scan(const CvlPool *pool, CvlWork *w);
+CVL_HIDDEN bool cvl_in_count(const CvlPool *pool, CvlWork *w);
+CVL_HIDDEN bool cvl_in_pack(const CvlPool *pool, CvlWork *w);
+CVL_HIDDEN bool cvl_in_lengths(const CvlPool *pool, CvlWork *w);
+CVL_HIDDEN bool cvl_in_ranges(const CvlPool *pool, CvlWork *w);
+CVL_HIDDEN bool cvl_in_segments(const CvlPool *pool, CvlWork *w);
+CVL_HIDDEN bool cvl_in_seg_scan(const CvlPool *pool, CvlWork *w);
+CVL_HIDDEN bool cvl_in_seg_reduce(const CvlPool *pool, CvlWork *w);
+CVL_HIDDEN bool cvl_in_seg_checked_scan(const CvlPool *pool, CvlWork *w);
+CVL_HIDDEN bool cvl_in_seg_checked_reduce(const CvlPool *pool, CvlWork *w);
+CVL_HIDDEN bool cvl_in_seg_count(const CvlPool *pool, CvlWork *w);
+CVL_HIDDEN bool cvl_in_seg_copies(const CvlPool *pool, CvlWork *w);
+CVL_HIDDEN bool cvl_in_seg_numbers(const CvlPool *pool, CvlWork *w);
+CVL_HIDDEN bool cvl_in_write(const CvlPool *pool, CvlWork *w);
+CVL_HIDDEN bool cvl_in_read(const CvlPool *pool, CvlWork *w);
+
+/* Cuts a text at white space. */
+CVL_HIDDEN bool cvl_cut_text(const CvlPool *pool, CvlWork *w, const char *text, size_t n);
+
+/* What one element, or a part's elements, join to: for reduces and scans of segments too. */
+CVL_HIDDEN CvlStatus cvl_reduce_of(const CvlWork *w, size_t from, size_t to, CvlItem *sum);
+CVL_HIDDEN CvlStatus cvl_join_of(const CvlWork *w, CvlItem first, CvlItem second, CvlItem *joined);
+CVL_HIDDEN CvlStatus cvl_scan_range(const CvlWork *w, CvlItem before, size_t from, size_t to);
+
+static inline bool cvl_fits(int64_t sum) { return sum >= INT32_MIN && sum <= INT32_MAX; }
+
+#endif

@@ -1,0 +1,219 @@
+/* Calls in parts on segments: cut at places, where pieces of a cut segment are joined, or between segments. */
+#include "parts.h"
+
+/* ---- scans: what stands before a part is the join since the last start, and the parts before tell it ---- */
+
+/* What the elements of the part since the last start in it join to, or all of them where none starts. */
+static CvlStatus since_part(CvlWork *w, size_t k) {
+    const CvlPiece p = cvl_piece(w, k);
+    return cvl_reduce_of(w, p.starts ? p.tail : p.from, p.to, &w->sums[k]);
+}
+
+static CvlStatus scan_of(const CvlWork *w, CvlPiece p) {
+    const CvlLengths lengths = {w->lengths + p.first, p.count};
+    const size_t n = p.tail - p.head;
+    if (w->of_bools) return cvl_seg_bool_scan_placed(w->op, CVL_BOOLS(w->a, p.head), n, lengths, CVL_BOOL_ROOM(w->out, p.head), n);
+    return cvl_seg_int_scan_placed(w->op, CVL_INTS(w->a, p.head), n, lengths, CVL_INT_ROOM(w->out, p.head), n);
+}
+
+static CvlStatus scan_part(CvlWork *w, size_t k) {
+    const CvlPiece p = cvl_piece(w, k);
+    CvlItem unit;
+    const CvlStatus status = cvl_reduce_of(w, 0, 0, &unit);
+    if (status.number != CVL_DONE) return status;
+    return cvl_first_of(cvl_scan_range(w, w->before[k], p.from, p.head), scan_of(w, p), cvl_scan_range(w, unit, p.tail, p.to));
+}
+
+bool cvl_in_seg_scan(const CvlPool *pool, CvlWork *w) {
+    bool done = cvl_make_all(pool, w) && cvl_reads(pool, w, since_part);
+    for (size_t k = 0; k + 1 < w->parts && done; k++) {
+        if (cvl_piece(w, k).starts) w->before[k + 1] = w->sums[k];
+        else done = cvl_join_of(w, w->before[k], w->sums[k], &w->before[k + 1]).number == CVL_DONE;
+    }
+    w->told = cvl_done();
+    return done && cvl_writes(pool, w, scan_part);
+}
+
+/* ---- reduces: each part writes those of its whole segments, and then those that are cut are joined ---- */
+
+static CvlStatus reduce_whole(const CvlWork *w, CvlPiece p) {
+    const int32_t *lengths = w->lengths + p.first;
+    const size_t n = p.tail - p.head;
+    if (w->of_bools) {
+        return cvl_proved_seg_bool_reduce(w->op, CVL_BOOLS(w->a, p.head), n, lengths, p.count, CVL_BOOL_ROOM(w->out, p.first), p.count);
+    }
+    return cvl_proved_seg_int_reduce(w->op, CVL_INTS(w->a, p.head), n, lengths, p.count, CVL_INT_ROOM(w->out, p.first), p.count);
+}
+
+static CvlStatus reduce_part(CvlWork *w, size_t k) {
+    const CvlPiece p = cvl_piece(w, k);
+    return cvl_first_of(
+        cvl_reduce_of(w, p.from, p.head, &w->heads[k]), reduce_whole(w, p), cvl_reduce_of(w, p.tail, p.to, &w->sums[k]));
+}
+
+bool cvl_in_seg_reduce(const CvlPool *pool, CvlWork *w) {
+    CvlItem so_far = {0};
+    bool done = cvl_writes(pool, w, reduce_part);
+    for (size_t k = 0; k < w->parts && done; k++) {
+        const CvlPiece p = cvl_piece(w, k);
+        if (p.head > p.from) {
+            const CvlItem before = so_far;
+            done = cvl_join_of(w, before, w->heads[k], &so_far).number == CVL_DONE;
+            if (w->of_bools) *CVL_BOOL_ROOM(w->out, p.first - 1) = so_far.flag;
+            else *CVL_INT_ROOM(w->out, p.first - 1) = so_far.number;
+        }
+        if (p.cut) so_far = w->sums[k];
+    }
+    w->told = cvl_done();
+    return done;
+}
+
+static CvlStatus count_part(CvlWork *w, size_t k) {
+    const CvlPiece p = cvl_piece(w, k);
+    return cvl_first_of(
+        cvl_proved_count(w->flags + p.from, p.head - p.from, &w->heads[k].number),
+        cvl_proved_seg_count(
+            w->flags + p.head, p.tail - p.head, w->lengths + p.first, p.count, CVL_INT_ROOM(w->out, p.first), p.count),
+        cvl_proved_count(w->flags + p.tail, p.to - p.tail, &w->sums[k].number));
+}
+
+/* The counts of a segment that is cut are added. */
+bool cvl_in_seg_count(const CvlPool *pool, CvlWork *w) {
+    int32_t so_far = 0;
+    const bool done = cvl_writes(pool, w, count_part);
+    for (size_t k = 0; k < w->parts && done; k++) {
+        const CvlPiece p = cvl_piece(w, k);
+        if (p.head > p.from) *CVL_INT_ROOM(w->out, p.first - 1) = so_far += w->heads[k].number;
+        if (p.cut) so_far = w->sums[k].number;
+    }
+    w->told = cvl_done();
+    return done;
+}
+
+/* ---- sums that never wrap ---- */
+
+/* The same as since_part. */
+static CvlStatus total_part(CvlWork *w, size_t k) {
+    const CvlPiece p = cvl_piece(w, k);
+    const size_t from = p.starts ? p.tail : p.from;
+    return cvl_proved_exact_sum(CVL_INTS(w->a, from), p.to - from, &w->totals[k]);
+}
+
+static CvlStatus checked_look(CvlWork *w, size_t k) {
+    const CvlPiece p = cvl_piece(w, k);
+    const int32_t *a = w->a, *lengths = w->lengths + p.first;
+    return cvl_first_of(
+        cvl_looked(cvl_proved_checked_scan_after(w->reached[k], a + p.from, p.head - p.from, NULL, 0)),
+        cvl_looked(cvl_proved_seg_checked_scan(a + p.head, p.tail - p.head, lengths, p.count, NULL, 0)),
+        cvl_looked(cvl_proved_checked_scan(a + p.tail, p.to - p.tail, NULL, 0)));
+}
+
+bool cvl_in_seg_checked_scan(const CvlPool *pool, CvlWork *w) {
+    w->op = CVL_ADD;
+    if (!cvl_reads(pool, w, total_part)) return 0;
+    for (size_t k = 0; k + 1 < w->parts; k++) w->reached[k + 1] = w->totals[k] + (cvl_piece(w, k).starts ? 0 : w->reached[k]);
+    return cvl_reads(pool, w, checked_look) && cvl_in_seg_scan(pool, w);
+}
+
+/* The sums of the part's whole segments are looked at, and those of its pieces of others are told. */
+static CvlStatus checked_sums_look(CvlWork *w, size_t k) {
+    const CvlPiece p = cvl_piece(w, k);
+    const int32_t *a = w->a, *lengths = w->lengths + p.first;
+    return cvl_first_of(
+        cvl_proved_exact_sum(a + p.from, p.head - p.from, &w->head_totals[k]),
+        cvl_proved_exact_sum(a + p.tail, p.to - p.tail, &w->totals[k]),
+        cvl_looked(cvl_proved_seg_checked_reduce(a + p.head, p.tail - p.head, lengths, p.count, NULL, 0)));
+}
+
+bool cvl_in_seg_checked_reduce(const CvlPool *pool, CvlWork *w) {
+    int64_t so_far = 0;
+    w->op = CVL_ADD;
+    if (!cvl_reads(pool, w, checked_sums_look)) return 0;
+    for (size_t k = 0; k < w->parts; k++) {
+        const CvlPiece p = cvl_piece(w, k);
+        if (p.head > p.from) so_far += w->head_totals[k];
+        if (p.head > p.from && w->start[k] <= p.to && !cvl_fits(so_far)) return 0;
+        if (p.cut) so_far = w->totals[k];
+    }
+    return cvl_in_seg_reduce(pool, w);
+}
+
+/* ---- copies of a value, and numbers by a stride ---- */
+
+/* Copies of the value of one segment, at some of its places. */
+static CvlStatus copies(const CvlWork *w, size_t segment, size_t from, size_t to) {
+    const size_t n = to - from;
+    if (n == 0) return cvl_done();
+    if (w->of_bools) return cvl_proved_distribute_bool(*CVL_BOOLS(w->a, segment) != 0, (int32_t)n, CVL_BOOL_ROOM(w->out, from), n);
+    return cvl_proved_distribute_int(*CVL_INTS(w->a, segment), (int32_t)n, CVL_INT_ROOM(w->out, from), n);
+}
+
+static CvlStatus whole_copies(const CvlWork *w, CvlPiece p) {
+    const size_t n = p.tail - p.head;
+    const int32_t *lengths = w->lengths + p.first;
+    if (w->of_bools) {
+        return cvl_proved_seg_distribute_bool(CVL_BOOLS(w->a, p.first), p.count, lengths, p.count, CVL_BOOL_ROOM(w->out, p.head), n);
+    }
+    return cvl_proved_seg_distribute_int(CVL_INTS(w->a, p.first), p.count, lengths, p.count, CVL_INT_ROOM(w->out, p.head), n);
+}
+
+static CvlStatus copies_part(CvlWork *w, size_t k) {
+    const CvlPiece p = cvl_piece(w, k);
+    return cvl_first_of(copies(w, p.first - 1, p.from, p.head), whole_copies(w, p), copies(w, w->first[k + 1] - 1, p.tail, p.to));
+}
+
+bool cvl_in_seg_copies(const CvlPool *pool, CvlWork *w) {
+    w->rooms = w->from, w->told = cvl_done();
+    return cvl_make_all(pool, w) && cvl_keep(w, w->out_len * w->size) && cvl_writes_kept(pool, w, copies_part);
+}
+
+/* The numbers of one segment, from its place `done` on. */
+static CvlStatus numbers(const CvlWork *w, size_t segment, size_t done, size_t from, size_t to) {
+    const size_t n = to - from;
+    if (n == 0) return cvl_done();
+    const int32_t stride = *CVL_INTS(w->b, segment), init = cvl_number_at(*CVL_INTS(w->a, segment), stride, done);
+    return cvl_proved_index(init, stride, (int32_t)n, CVL_INT_ROOM(w->out, from), n);
+}
+
+static CvlStatus numbers_part(CvlWork *w, size_t k) {
+    const CvlPiece p = cvl_piece(w, k);
+    const size_t n = p.tail - p.head, done = p.head > p.from ? p.from - (w->start[k] - (size_t)w->lengths[p.first - 1]) : 0;
+    return cvl_first_of(
+        numbers(w, p.first - 1, done, p.from, p.head),
+        cvl_proved_seg_index(
+            CVL_INTS(w->a, p.first), p.count, CVL_INTS(w->b, p.first), p.count, w->lengths + p.first, p.count,
+            CVL_INT_ROOM(w->out, p.head), n),
+        numbers(w, w->first[k + 1] - 1, 0, p.tail, p.to));
+}
+
+bool cvl_in_seg_numbers(const CvlPool *pool, CvlWork *w) {
+    w->rooms = w->from, w->told = cvl_done();
+    return cvl_keep(w, w->out_len * w->size) && cvl_writes_kept(pool, w, numbers_part);
+}
+
+/* ---- cut between segments ---- */
+
+static CvlStatus flags_of_part(CvlWork *w, size_t k) {
+    int32_t trues = 0;
+    const CvlStatus status = cvl_proved_count(w->flags + w->start[k], w->start[k + 1] - w->start[k], &trues);
+    w->counts[k] = (size_t)trues;
+    return status;
+}
+
+static CvlStatus lengths_of_part(CvlWork *w, size_t k) {
+    return cvl_proved_make_descriptor(w->other_lengths + w->first[k], w->first[k + 1] - w->first[k], &w->counts[k]);
+}
+
+/* Where each part's segments stand in a second vector, whose length is known. */
+static bool cut_other(const CvlPool *pool, CvlWork *w) {
+    if (w->other_by == CVL_BY_NOTHING) return 1;
+    if (!cvl_reads(pool, w, w->other_by == CVL_BY_FLAGS ? flags_of_part : lengths_of_part)) return 0;
+    w->other[0] = 0;
+    for (size_t k = 0; k < w->parts; k++) w->other[k + 1] = w->other[k] + w->counts[k];
+    return w->other[w->parts] == w->other_len && w->other_len <= CVL_MOST_ELEMENTS;
+}
+
+bool cvl_in_segments(const CvlPool *pool, CvlWork *w) {
+    w->told = cvl_done();
+    return cut_other(pool, w) && cvl_make_all(pool, w) && cvl_keep(w, w->out_len * w->size) && cvl_writes_kept(pool, w, w->part);
+}

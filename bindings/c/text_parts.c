@@ -1,0 +1,78 @@
+/* Texts in parts: each part has a text, or integers, of its own, and then they are put one after another. */
+#include "parts.h"
+
+/*
+ * Where a part's text begins in the memory for all of them, which are as long as they can be: an element has 12 bytes with its sign and a
+ * space, or 2, a segment 3 more, and a text 2 brackets.
+ */
+static size_t text_place(const CvlWork *w, size_t k) {
+    const size_t each = w->of_bools ? 2 : 12;
+    return w->lengths == NULL ? w->from[k] * each + 2 * k : w->start[k] * each + w->first[k] * 3 + 2 * k;
+}
+
+static bool *text_room(const CvlWork *w, size_t place) { return (bool *)w->kept + place; }
+
+static CvlStatus write_part(CvlWork *w, size_t k) {
+    const size_t from = w->from[k], n = w->from[k + 1] - from, place = text_place(w, k), room = text_place(w, k + 1) - place;
+    if (w->of_bools) return cvl_proved_write_bools(CVL_BOOLS(w->a, from), n, text_room(w, place), room, &w->counts[k]);
+    return cvl_proved_write_ints(CVL_INTS(w->a, from), n, text_room(w, place), room, &w->counts[k]);
+}
+
+/* A part in which no segment starts has no text. */
+static CvlStatus seg_write_part(CvlWork *w, size_t k) {
+    const size_t start = w->start[k], n = w->start[k + 1] - start, first = w->first[k], count = w->first[k + 1] - first;
+    const size_t place = text_place(w, k), room = text_place(w, k + 1) - place;
+    const int32_t *lengths = w->lengths + first;
+    if (count == 0) return cvl_done();
+    if (w->of_bools) return cvl_proved_seg_write_bools(CVL_BOOLS(w->a, start), n, lengths, count, text_room(w, place), room, &w->counts[k]);
+    return cvl_proved_seg_write_ints(CVL_INTS(w->a, start), n, lengths, count, text_room(w, place), room, &w->counts[k]);
+}
+
+/* Puts the text of a part where it stands: without its last bracket, and with a space for its first but where it is the first of all. */
+static CvlStatus put_text_part(CvlWork *w, size_t k) {
+    char *out = (char *)w->out + w->other[k];
+    if (w->counts[k] == 0) return cvl_done();
+    memcpy(out, w->kept + text_place(w, k), w->counts[k] - 1);
+    if (w->other[k] > 0) *out = ' ';
+    return cvl_done();
+}
+
+bool cvl_in_write(const CvlPool *pool, CvlWork *w) {
+    if (!cvl_make_all(pool, w) || !cvl_keep(w, text_place(w, w->parts))) return 0;
+    memset(w->counts, 0, sizeof w->counts);
+    if (!cvl_writes(pool, w, w->lengths == NULL ? write_part : seg_write_part)) return 0;
+    w->other[0] = 0;
+    for (size_t k = 0; k < w->parts; k++) w->other[k + 1] = w->other[k] + (w->counts[k] == 0 ? 0 : w->counts[k] - 1);
+    const size_t length = w->other[w->parts] + 1;
+    w->told = length > w->out_len ? cvl_status(CVL_LENGTH_MISMATCH, -1) : cvl_done();
+    if (length <= w->out_len) {
+        if (!cvl_writes(pool, w, put_text_part)) return 0;
+        ((char *)w->out)[length - 1] = ']';
+    }
+    *w->count = length;
+    return 1;
+}
+
+/* A part of a text has at most one integer for each two bytes; its integers are read to a room of its own. */
+static CvlStatus read_part(CvlWork *w, size_t k) {
+    const size_t from = w->from[k], n = w->from[k + 1] - from;
+    return cvl_proved_read_ints(CVL_BYTES(w->a, from), n, (int32_t *)(void *)w->kept + (from + k) / 2, (n + 1) / 2, &w->counts[k]);
+}
+
+static CvlStatus put_read_part(CvlWork *w, size_t k) {
+    const int32_t *read = (const int32_t *)(const void *)w->kept + (w->from[k] + k) / 2;
+    if (w->counts[k] > 0) memcpy(CVL_INT_ROOM(w->out, w->other[k]), read, w->counts[k] * sizeof *read);
+    return cvl_done();
+}
+
+/* Where a part has a fault, or there are too many integers, the whole text is read again, and tells it. */
+bool cvl_in_read(const CvlPool *pool, CvlWork *w) {
+    if (!cvl_keep(w, (w->a_len + w->parts + 1) / 2 * sizeof(int32_t)) || !cvl_writes(pool, w, read_part)) return 0;
+    for (size_t k = 0; k < w->parts; k++) w->other[k + 1] = w->other[k] + w->counts[k];
+    const size_t count = w->other[w->parts];
+    if (count > CVL_MOST_ELEMENTS) return 0;
+    w->told = count > w->out_len ? cvl_status(CVL_LENGTH_MISMATCH, -1) : cvl_done();
+    if (count <= w->out_len && !cvl_writes(pool, w, put_read_part)) return 0;
+    *w->count = count;
+    return 1;
+}

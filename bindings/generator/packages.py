@@ -1,0 +1,109 @@
+"""The calls as Python and Rust have them: what are lengths in C are segments, no number of elements is given, and there is one result."""
+
+import rows
+import table
+
+# The families whose result is segments: the lengths that they tell or write.
+OF_SEGMENTS = ("make_descriptor", "seg_packed_lengths")
+
+
+def name_of(operand):
+    """The name of an operand, where what are `lengths` in C, and what else ends so, are segments."""
+    return operand.name.replace("lengths", "segments") if operand.role == "lengths" else operand.name
+
+
+class Call:
+    """A call of the table."""
+
+    def __init__(self, row):
+        self.row, self.name, self.family = row, row.name, row.family
+        self.makes_segments = row.family.name == OF_SEGMENTS[0]
+        self.gives_segments = row.family.name in OF_SEGMENTS
+        # what segments are made of are integers still
+        self.operands = [operand._replace(role="reads") for operand in row.takes] if self.makes_segments else row.takes
+        self.cuts = [operand for operand in self.operands if operand.role == "lengths"]
+        self.result = row.result
+
+    @property
+    def fills(self):
+        """Whether it writes several elements, which a caller may have room for."""
+        return self.result is not None and self.result.role == "room" and not self.gives_segments
+
+    @property
+    def counts(self):
+        """Whether it tells how many elements it gives, in a room that may be longer."""
+        return self.result is not None and any(operand.role == "told" for operand in self.row.operands)
+
+    @property
+    def purpose(self):
+        """What it does, and how long its arrays are."""
+        kept = " out may be longer than the result, which stands at its front." if self.counts else ""
+        return self.row.sentences + kept
+
+    @property
+    def measured(self):
+        """The operands by which is told why a call is not made: its arrays, its lengths and its count."""
+        return [operand for operand in self.operands if operand.role in ("reads", "lengths", "count")]
+
+    def alike(self, extent):
+        """The arrays that have so many elements."""
+        return [operand for operand in self.operands if operand.role == "reads" and operand.extent == extent]
+
+    @property
+    def extents(self):
+        """What the arrays are as long as, each once, in their order."""
+        return list(dict.fromkeys(operand.extent for operand in self.operands if operand.role == "reads"))
+
+    def is_bounded(self, extent):
+        """Whether there may be at most 4,194,304, since the call has that limit or lengths add up to as many."""
+        return extent in ("segments", self.family.limit) or any(operand.extent == extent for operand in self.cuts)
+
+    @property
+    def in_place(self):
+        """The operands that may be the room, alone."""
+        alone = [names[0] for names in self.family.in_place if len(names) == 1]
+        return [operand for operand in self.operands if operand.name in alone]
+
+    @property
+    def limited(self):
+        """The array that may have at most 4,194,304 elements, or nothing."""
+        return rows.limited(self.family)
+
+    def measure(self):
+        """The operand that says how long a room is whose length the library is told: flags or lengths; nothing for another room."""
+        if self.result.extent == "total":
+            return self.cuts[-1]
+        flags = [operand for operand in self.operands if operand.name == "flags"]
+        return flags[0] if self.result.extent in ("trues", "room") else None
+
+    def words(self, operand):
+        """The words of an operand in the example."""
+        return self.row.example[operand.name].split()
+
+    @property
+    def given(self):
+        """The words of the result in the example."""
+        return self.row.example["lengths" if self.makes_segments else "out"].split()
+
+    @property
+    def faults(self):
+        return rows.fault_text(self.row)
+
+    @property
+    def in_place_words(self):
+        return rows.in_place_words(self.family)
+
+
+CALLS = [Call(row) for row in rows.CALLS]
+
+
+def number_of(name):
+    """The number that a status has by its name."""
+    return next(number for number, said in table.STATUSES if said == name)
+
+
+def differences(calls):
+    """The calls that give segments in the proved table of calls alone, or here alone."""
+    for call in CALLS:
+        if call.gives_segments != (calls.get(call.name, ([], []))[1] == ["Descriptor"]):
+            yield f"{call.name} gives segments in the table of calls, or among the packages' calls, and not in both"

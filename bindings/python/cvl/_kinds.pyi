@@ -1,0 +1,12 @@
+# The kinds of what calls take and give, which annotations alone name.
+
+from array import array
+from typing import Union
+
+import numpy
+from numpy.typing import NDArray
+
+IntArray = NDArray[numpy.int32]
+FlagArray = NDArray[numpy.bool_]
+Ints = Union[IntArray, array[int], memoryview]
+Flags = Union[FlagArray, memoryview]

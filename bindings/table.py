@@ -1,0 +1,1132 @@
+"""Each call for other languages, said once: what C, Python and Rust have of the library is written from these rows by
+`bindings/generate`, which holds them against the proved table of calls and against the exports of `crates/cvl_c` with their types.
+
+A family is one export, for one kind of elements; a call is a family with its operator, under a name of the table of calls. A call has
+the operands of its family, in the order of a script.
+"""
+
+from collections import namedtuple
+
+# What a call takes, or where it writes.
+#
+#   role    "reads", an array; "lengths", those of segments; "value", "place" or "count", one number; "room", an array that is written;
+#           "single", one value that is written; "told", a number that is told beside the room
+#   kind    of an array: "ints", "flags", "text", "marks"; of one value: "int", "flag", "sum" (64 bits) or "size"
+#   extent  how many elements an array has, and what lengths add up to: "n", "m"; "segments", one for each segment; "count", the operand;
+#           "trues", how many flags are true; "total", what the lengths add up to; "room", what the caller says
+#   copied  whether flags that are neither 0 nor 1 are copied, since the export takes no others
+Operand = namedtuple("Operand", "name role kind extent copied")
+
+# A fault: its numbers, and what is said of it. One of the room is C's alone.
+Fault = namedtuple("Fault", "numbers said of_room")
+
+# An operator: its name, its number, what it does, and its fault.
+Operator = namedtuple("Operator", "name number sentence fault")
+
+# An export.
+#
+#   exported   its name in crates/cvl_c, without cvl_
+#   operators  the names of those that it takes
+#   limit      the extent that may be at most 4,194,304, beside that of lengths
+#   in_place   which operands may be the room, each a tuple: alone, or together
+#   faults     beside that of the operator and those of lengths, in their order
+#   asks       whether the export asks for memory
+#   cut        how it is cut into parts, a name of CUTS, and the extent that is cut; or nothing
+#   sentence   what it does; `shape` how long its arrays are; `told` what C alone is told
+#   example    where no call has one
+Family = namedtuple(
+    "Family", "name exported section operators operands limit in_place faults asks cut sentence shape told example"
+)
+
+# A call of the table: its family, its operator if the family has some, what it does, and its example, where each operand and the
+# room have their words.
+Call = namedtuple("Call", "name section family operator sentence example")
+
+# How the calls of a family are cut, and what a page says of it.
+CUTS = {
+    "places": "cut at places",
+    "reduce": "cut at places; the parts' reduces are joined",
+    "scan": "cut at places; each part goes on from the reduces before it",
+    "checked_reduce": "cut at places; the parts' exact sums are added",
+    "checked_scan": "cut at places; each part goes on from the exact sums before it",
+    "count": "cut at places; the parts' counts are added",
+    "pack": "cut at places; each part's elements go behind those of the parts before",
+    "seg_pack": "cut at places; each part's elements go behind those of the parts before",
+    "whole": "not cut",
+    "ranges": "the result is cut; each part reads all indices",
+    "replace": "the copy is cut at places",
+    "lengths": "the lengths are cut; the parts' totals are added",
+    "seg_scan": "cut inside segments; each part goes on from what stands before it in its segment",
+    "seg_checked_scan": "cut inside segments; each part goes on from what stands before it in its segment",
+    "seg_reduce": "cut inside segments; the pieces of a cut segment are joined",
+    "seg_checked_reduce": "cut inside segments; the pieces of a cut segment are joined",
+    "seg_count": "cut inside segments; the pieces of a cut segment are joined",
+    "seg_copies": "cut inside segments",
+    "seg_numbers": "cut inside segments",
+    "segments": "cut between segments",
+    "write": "cut at places; the parts' texts are put one after another",
+    "seg_write": "cut between segments; the parts' texts are put one after another",
+    "read": "cut at white space",
+}
+
+# The faults that calls share.
+TOO_LONG = Fault((13,), "13 TooLong", False)
+SUM_OF_N = Fault((7,), "7 LengthMismatch where the lengths do not add up to n", False)
+NO_ROOM = Fault((7,), "7 LengthMismatch where there is not room", True)
+SUM_OR_NO_ROOM = Fault((7,), "7 LengthMismatch where the lengths do not add up to n, with *count as it was, and where there is not room", True)
+BAD_PLACE = Fault((10,), "10 IndexOutOfRange at 0 where the index is below 0, or n or more", False)
+BAD_PLACES = Fault((10,), "10 IndexOutOfRange at the segment", False)
+BAD_COUNT = (
+    Fault((12,), "12 NegativeLength, without a place, where count is below 0", False),
+    Fault((13,), "13 TooLong where it is above 4194304", False),
+)
+
+# Operators on two integers, two booleans, one element, and the comparisons.
+OPERATORS = (
+    Operator("ADD", 0, "the sum, wrapped to 32 bits", None),
+    Operator("MUL", 1, "the product, wrapped to 32 bits", None),
+    Operator("MIN", 2, "the lesser", None),
+    Operator("MAX", 3, "the greater", None),
+    Operator("AND", 4, "and, bit by bit", None),
+    Operator("IOR", 5, "or, bit by bit", None),
+    Operator("XOR", 6, "exclusive or, bit by bit", None),
+    Operator("SUB", 7, "the difference, wrapped to 32 bits", None),
+    Operator("DIV", 8, "the quotient, truncated toward zero", Fault((8,), "8 DivideByZero at the first divisor that is 0", False)),
+    Operator("MOD", 9, "the remainder of that quotient, with the dividend's sign", Fault((8,), "8 DivideByZero at the first divisor that is 0", False)),
+    Operator("LSH", 10, "the first, shifted left by the second", Fault((9,), "9 ShiftOutOfRange at the first element of b outside 0 to 31", False)),
+    Operator("RSH", 11, "the first, shifted right by the second; the sign is copied", Fault((9,), "9 ShiftOutOfRange at the first element of b outside 0 to 31", False)),
+    Operator("GRT", 12, "whether the first is greater", None),
+    Operator("LES", 13, "whether it is less", None),
+    Operator("GEQ", 14, "whether it is at least the second", None),
+    Operator("LEQ", 15, "whether it is at most the second", None),
+    Operator("EQL", 16, "whether they are equal", None),
+    Operator("NEQ", 17, "whether they are not", None),
+    Operator("NOT", 18, "on one vector: each bit, or each boolean, inverted", None),
+    Operator("CPY", 19, "the same again", None),
+)
+MONOIDS = ("ADD", "MUL", "MIN", "MAX", "AND", "IOR", "XOR")
+BINARY = MONOIDS + ("SUB", "DIV", "MOD", "LSH", "RSH")
+OF_FLAGS = ("AND", "IOR", "XOR")
+COMPARISONS = ("GRT", "LES", "GEQ", "LEQ", "EQL", "NEQ")
+UNARY = ("NOT", "CPY")
+
+# The numbers of a status, with their names.
+STATUSES = (
+    (0, "Done"),
+    (2, "UnknownCall"),
+    (7, "LengthMismatch"),
+    (8, "DivideByZero"),
+    (9, "ShiftOutOfRange"),
+    (10, "IndexOutOfRange"),
+    (11, "IndexRepeated"),
+    (12, "NegativeLength"),
+    (13, "TooLong"),
+    (15, "BadInput"),
+    (18, "Overflow"),
+    (100, "NoResources"),
+    (101, "NoDescriptor"),
+    (102, "Overlap"),
+)
+
+MOST_ELEMENTS = 4194304
+VERSION = "1.0.0"
+
+
+# What stands before the functions of a section: of families, and of calls.
+OF_FAMILIES = {
+    "texts": (
+        "A text is bytes, with no zero at its end. A caller may not know how long a result is: it stands at the front of its room, and count is its "
+        "length; the rest of the room is as it was. Where the room is too short it is as it was, the status is 7 LengthMismatch, without a place, and "
+        "count is the length that is needed, so that a call with a room of no elements asks for it. After any other fault, or without memory, the "
+        "count too is as it was. Of a text that is read the room is asked last, since the text alone says how long the result is.",
+    ),
+    "scans in parts, by threads of the caller's": (
+        "Threads of the caller's own scan one vector together in three steps, with a barrier of the caller's between them:",
+        "  1. each thread reduces its tiles: cvl_int_reduce(op, a + from, to - from, &sums[t]), for tile t from place `from` to `to`;",
+        "  2. one thread scans the sums: cvl_int_scan(op, sums, tiles, before, tiles);",
+        "  3. each thread scans its tiles: cvl_int_scan_after(op, before[t], a + from, to - from, out + from, to - from).",
+        "Then out is what cvl_int_scan gives of the whole. The tiles may have any lengths, 0 too, and any thread may take any tile of a step. No "
+        "call of this header starts a thread or waits for another. examples/c/threads.c does this with POSIX threads.",
+    ),
+    "calls in parts": (
+        "A caller with threads or machines of its own makes a call in parts, each a range of the vector. Most calls need nothing more than "
+        "themselves for that, and the functions here are what a part needs where the whole does not. docs/parallel.md tells for each call how it is "
+        "cut, what its parts tell one another and what gives the whole; cvl_parallel.h does it for threads.",
+    ),
+}
+OF_CALLS = {
+    "segments": (
+        "Segments come as their lengths, one for each segment, empty ones too. Each call on segments has these faults first, by the lengths: 13 "
+        "TooLong, without a place, where there are more than 4194304; 12 NegativeLength at the first that is below 0; 13 TooLong, without a place, "
+        "where they add up to more than 4194304.",
+    ),
+    "permutes": (
+        "In a simple, a select and a default permute the index of a place tells where its element goes, and no two may go to one place. 13 TooLong "
+        "stands where the index has more than 4194304 elements, and comes first.",
+    ),
+    "permutes of segments": (
+        "The faults by the lengths come first, as at the other calls on segments; where there are two arrays of lengths, those of `lengths` before "
+        "those of the other. There are as many of the one as of the other, else 7 LengthMismatch. Indices count from the start of their segment.",
+    ),
+}
+
+
+def ints(name, extent="n"):
+    return Operand(name, "reads", "ints", extent, False)
+
+
+def flags(name, extent="n"):
+    """Flags that the export takes as any bytes."""
+    return Operand(name, "reads", "flags", extent, False)
+
+
+def copied(name, extent="n"):
+    """Flags that are copied where a byte is neither 0 nor 1."""
+    return Operand(name, "reads", "flags", extent, True)
+
+
+def text(name, extent="n"):
+    return Operand(name, "reads", "text", extent, False)
+
+
+def lengths(name="lengths", extent="n"):
+    return Operand(name, "lengths", "ints", extent, False)
+
+
+def value(name, kind="int"):
+    return Operand(name, "value", kind, None, False)
+
+
+def place(name="index"):
+    return Operand(name, "place", "int", None, False)
+
+
+def count(name="count"):
+    return Operand(name, "count", "int", None, False)
+
+
+def room(kind, extent="n", name="out"):
+    return Operand(name, "room", kind, extent, False)
+
+
+def single(kind, name="out"):
+    return Operand(name, "single", kind, None, False)
+
+
+def told(name="count"):
+    return Operand(name, "told", "size", None, False)
+
+
+def family(
+    name, section, operands, sentence, operators=(), limit="n", in_place=(), faults=(TOO_LONG,), asks=False, cut=None, shape="", told="", example=None,
+    exported=None,
+):
+    return Family(name, exported or name, section, operators, operands, limit, in_place, faults, asks, cut, sentence, shape, told, example)
+
+
+def twins(names, section, operands_of, sentence, **said):
+    """A family of integers and one of booleans, whose operands are those of a function of "ints" or "flags"."""
+
+    def of(kind, found):
+        return found(kind) if callable(found) else found
+
+    return tuple(
+        family(name, section, operands_of(kind), of(kind, sentence), **{word: of(kind, found) for word, found in said.items()})
+        for name, kind in zip(names, ("ints", "flags"))
+    )
+
+
+def items(kind, name, extent="n"):
+    """Elements that are read; flags of them are copied."""
+    return ints(name, extent) if kind == "ints" else copied(name, extent)
+
+
+def any_items(kind, name, extent="n"):
+    """Elements that are read, where flags may be any bytes."""
+    return ints(name, extent) if kind == "ints" else flags(name, extent)
+
+
+def one(kind):
+    return {"ints": "int", "flags": "flag"}[kind]
+
+
+def word(kind):
+    return {"ints": "integer", "flags": "boolean"}[kind]
+
+
+SHAPE_ONE = "a and out have n elements."
+SHAPE_TWO = "a, b and out have n elements."
+PACKED = "out has room for so many; room for n is always enough. *count is how many they are, also where there is not room for them."
+BAD_INDEX = Fault(
+    (10, 11), "at the first bad index 10 IndexOutOfRange where it is below 0, or n or more, else 11 IndexRepeated where an earlier one is the same", False)
+BAD_SELECTED = Fault(
+    (10, 11),
+    "at the first bad index 10 IndexOutOfRange where it is below 0, or the number of true flags or more, else 11 IndexRepeated where an "
+    "earlier one is the same",
+    False,
+)
+BAD_DEFAULTED = Fault(
+    (10, 11), "at the first bad index 10 IndexOutOfRange where it is below 0, or m or more, else 11 IndexRepeated where an earlier one is the same", False)
+BAD_BACK = Fault((10,), "10 IndexOutOfRange at the first index below 0, or n or more", False)
+REPEATED = "else 11 IndexRepeated where an earlier one of its segment is the same"
+BAD_IN_SEGMENT = Fault((10, 11), f"at the first bad index 10 IndexOutOfRange where it is no place of its segment, {REPEATED}", False)
+BAD_IN_RESULT = Fault((10, 11), f"at the first bad index 10 IndexOutOfRange where it is no place of its segment of the result, {REPEATED}", False)
+BAD_IN_DEFAULTS = Fault((10, 11), f"at the first bad index 10 IndexOutOfRange where it is no place of its segment of the defaults, {REPEATED}", False)
+BAD_IN_SOURCE = Fault((10,), "10 IndexOutOfRange at the first index that is no place of its segment of the source", False)
+SUMS_OF_DEFAULTS = Fault((7,), "7 LengthMismatch where the lengths do not add up to n or the default lengths to m", False)
+SUMS_OF_INDEX = Fault((7,), "7 LengthMismatch where the lengths do not add up to n or the index lengths to m", False)
+OVERFLOW_AT_PLACE = Fault((18,), "18 Overflow at the first place whose sum does not fit 32 bits", False)
+OVERFLOW_AT_0 = Fault((18,), "18 Overflow at 0 where it does not fit 32 bits", False)
+OVERFLOW_AT_SEGMENT = Fault((18,), "18 Overflow at the first segment whose sum does not fit 32 bits", False)
+RANGE_FAULTS = (
+    Fault((13,), "13 TooLong, by the index, and where the range ends behind place 4194304", False),
+    Fault((7,), "7 LengthMismatch, where source and index are not equally long, or marks_len is not (out_len + 31) / 32. At a fault all rooms are as they were", False),
+)
+
+FAMILIES = (
+    # ---- place by place ----
+    *twins(
+        ("int2", "bool2"), "place by place", lambda kind: (any_items(kind, "a"), any_items(kind, "b"), room(kind)),
+        lambda kind: f"The operator on each two {word(kind)}s at the same place.",
+        operators=lambda kind: BINARY if kind == "ints" else OF_FLAGS, in_place=(("a",), ("b",), ("a", "b")), cut=("places", "n"), shape=SHAPE_TWO,
+    ),
+    *twins(
+        ("int1", "bool1"), "place by place", lambda kind: (any_items(kind, "a"), room(kind)),
+        lambda kind: f"The operator, CVL_NOT or CVL_CPY, on each {word(kind)}.", operators=UNARY, in_place=(("a",),), cut=("places", "n"), shape=SHAPE_ONE,
+    ),
+    family(
+        "compare", "place by place", (ints("a"), ints("b"), room("flags")), "The comparison of each two integers at the same place, on signed numbers.",
+        operators=COMPARISONS, cut=("places", "n"), shape=SHAPE_TWO,
+    ),
+    family("int_from_bool", "place by place", (flags("a"), room("ints")), "1 for true and 0 for false.", cut=("places", "n"), shape=SHAPE_ONE),
+    family("bool_from_int", "place by place", (ints("a"), room("flags")), "False for 0 and true for all else.", cut=("places", "n"), shape=SHAPE_ONE),
+    *twins(
+        ("select_int", "select_bool"), "place by place",
+        lambda kind: (flags("flags"), any_items(kind, "a"), any_items(kind, "b"), room(kind)),
+        "At each place the element of a where the flag is true, else that of b.", in_place=(("a",), ("b",)), cut=("places", "n"),
+        shape="flags, a, b and out have n elements.",
+    ),
+    # ---- scans and reduces ----
+    *twins(
+        ("int_scan", "bool_scan"), "scans and reduces", lambda kind: (items(kind, "a"), room(kind)),
+        lambda kind: f"For each {word(kind)} those before it, joined by the operator, of CVL_{'ADD' if kind == 'ints' else 'AND'} to CVL_XOR.",
+        operators=lambda kind: MONOIDS if kind == "ints" else OF_FLAGS, in_place=(("a",),), cut=("scan", "n"), shape=SHAPE_ONE,
+    ),
+    *twins(
+        ("int_reduce", "bool_reduce"), "scans and reduces", lambda kind: (any_items(kind, "a"), single(one(kind))),
+        lambda kind: f"The {word(kind)}s joined by the operator, of CVL_{'ADD' if kind == 'ints' else 'AND'} to CVL_XOR.",
+        operators=lambda kind: MONOIDS if kind == "ints" else OF_FLAGS, cut=("reduce", "n"),
+    ),
+    # ---- sums that never wrap ----
+    family(
+        "checked_scan", "sums that never wrap", (ints("a"), room("ints")), "For each integer the sum of those before it.",
+        in_place=(("a",),), faults=(TOO_LONG, OVERFLOW_AT_PLACE), cut=("checked_scan", "n"), shape=SHAPE_ONE,
+    ),
+    family(
+        "checked_reduce", "sums that never wrap", (ints("a"), single("int")), "The sum of the integers.",
+        faults=(TOO_LONG, OVERFLOW_AT_0), cut=("checked_reduce", "n"),
+    ),
+    family(
+        "seg_checked_scan", "sums that never wrap", (ints("a"), lengths(), room("ints")), "For each integer the sum of those before it in its segment.",
+        limit=None, in_place=(("a",),), faults=(SUM_OF_N, OVERFLOW_AT_PLACE), cut=("seg_checked_scan", "n"), shape=SHAPE_ONE,
+    ),
+    family(
+        "seg_checked_reduce", "sums that never wrap", (ints("a"), lengths(), room("ints", "segments")), "The sum of each segment.",
+        limit=None, faults=(SUM_OF_N, OVERFLOW_AT_SEGMENT), asks=True, cut=("seg_checked_reduce", "n"), shape="a has n elements, out one for each segment.",
+    ),
+    # ---- counts, single elements, and vectors of a given length ----
+    family(
+        "count", "counts, single elements, and vectors of a given length", (flags("flags"), single("int")), "The number of true flags.", cut=("count", "n"),
+    ),
+    *twins(
+        ("extract_int", "extract_bool"), "counts, single elements, and vectors of a given length",
+        lambda kind: (any_items(kind, "vector"), place(), single(one(kind))), "The element at an index. Vectors of any length.",
+        limit=None, faults=(BAD_PLACE,), cut=("whole", None),
+    ),
+    *twins(
+        ("replace_int", "replace_bool"), "counts, single elements, and vectors of a given length",
+        lambda kind: (any_items(kind, "vector"), place(), value("value", one(kind)), room(kind)),
+        "The vector with another element at an index. Vectors of any length.",
+        limit=None, faults=(BAD_PLACE,), asks=lambda kind: kind == "ints", cut=("replace", "n"), shape="vector and out have n elements.",
+    ),
+    *twins(
+        ("distribute_int", "distribute_bool"), "counts, single elements, and vectors of a given length",
+        lambda kind: (value("value", one(kind)), count(), room(kind, "count")), "Copies of a value, count of them.",
+        limit=None, faults=BAD_COUNT, cut=("places", "count"),
+    ),
+    family(
+        "index", "counts, single elements, and vectors of a given length", (value("init"), value("stride"), count(), room("ints", "count")),
+        "The numbers init + k * stride, each wrapped to 32 bits, count of them.", limit=None, faults=BAD_COUNT, cut=("places", "count"),
+    ),
+    # ---- segments, which come as their lengths ----
+    family(
+        "make_descriptor", "segments, which come as their lengths", (lengths(extent="total"), told("total")),
+        "Whether the numbers are lengths of segments, and their total.", limit=None, faults=(), cut=("lengths", "segments"),
+    ),
+    *twins(
+        ("seg_extract_int", "seg_extract_bool"), "segments, which come as their lengths",
+        lambda kind: (any_items(kind, "vector"), ints("index", "segments"), lengths(), room(kind, "segments")), "The element of each segment at its index.",
+        limit=None, faults=(SUM_OF_N, BAD_PLACES), asks=True, cut=("segments", "n"),
+        shape="The vector has n elements, index and out one for each segment.",
+    ),
+    *twins(
+        ("seg_replace_int", "seg_replace_bool"), "segments, which come as their lengths",
+        lambda kind: (items(kind, "vector"), ints("index", "segments"), items(kind, "values", "segments"), lengths(), room(kind)),
+        "The vector with another element in each segment, at its index.",
+        limit=None, faults=(SUM_OF_N, BAD_PLACES), asks=True, cut=("segments", "n"),
+        shape="vector and out have n elements, index and values one for each segment.",
+    ),
+    *twins(
+        ("seg_distribute_int", "seg_distribute_bool"), "segments, which come as their lengths",
+        lambda kind: (items(kind, "values", "segments"), lengths(extent="total"), room(kind, "total")),
+        "Copies of the value of each segment, as many as it has places.", limit=None, faults=(), asks=True, cut=("seg_copies", "total"),
+        shape="There is one value for each segment; out has n elements, the total of the lengths, else 7 LengthMismatch.",
+    ),
+    family(
+        "seg_index", "segments, which come as their lengths",
+        (ints("inits", "segments"), ints("strides", "segments"), lengths(extent="total"), room("ints", "total")),
+        "The numbers of each segment from its init on, in steps of its stride.", limit=None, faults=(), asks=True, cut=("seg_numbers", "total"),
+        shape="There are one init and one stride for each segment; out has n elements, the total of the lengths, else 7 LengthMismatch.",
+    ),
+    # ---- scans and reduces of segments ----
+    *twins(
+        ("seg_int_scan", "seg_bool_scan"), "scans and reduces of segments", lambda kind: (items(kind, "a"), lengths(), room(kind)),
+        lambda kind: f"For each {word(kind)} those before it in its segment, joined by the operator, of CVL_{'ADD' if kind == 'ints' else 'AND'} to CVL_XOR.",
+        operators=lambda kind: MONOIDS if kind == "ints" else OF_FLAGS, limit=None, in_place=(("a",),), faults=(SUM_OF_N,), cut=("seg_scan", "n"),
+        shape=SHAPE_ONE,
+    ),
+    *twins(
+        ("seg_int_reduce", "seg_bool_reduce"), "scans and reduces of segments", lambda kind: (any_items(kind, "a"), lengths(), room(kind, "segments")),
+        lambda kind: f"The {word(kind)}s of each segment joined by the operator, of CVL_{'ADD' if kind == 'ints' else 'AND'} to CVL_XOR.",
+        operators=lambda kind: MONOIDS if kind == "ints" else OF_FLAGS, limit=None, faults=(SUM_OF_N,), cut=("seg_reduce", "n"),
+        shape="a has n elements, out one for each segment.",
+    ),
+    # ---- packs and counts of segments ----
+    *twins(
+        ("pack_int", "pack_bool"), "packs and counts of segments",
+        lambda kind: (items(kind, "values"), copied("flags"), room(kind, "room"), told()),
+        lambda kind: f"The {word(kind)}s whose flag is true, in order, and how many they are.",
+        faults=(TOO_LONG, NO_ROOM), cut=("pack", "n"), shape="values and flags have n elements.", told=PACKED,
+    ),
+    *twins(
+        ("seg_pack_int", "seg_pack_bool"), "packs and counts of segments",
+        lambda kind: (items(kind, "values"), copied("flags"), lengths(), room(kind, "room"), told()),
+        lambda kind: f"The {word(kind)}s of each segment whose flag is true, in order, one segment after another, and how many they are.",
+        limit=None, faults=(SUM_OR_NO_ROOM,), cut=("seg_pack", "n"), shape="values and flags have n elements.", told=PACKED,
+    ),
+    family(
+        "seg_packed_lengths", "packs and counts of segments", (flags("flags"), lengths(), room("ints", "segments")),
+        "The lengths of the segments of what a pack of segments keeps.", limit=None, faults=(SUM_OF_N,), cut=("seg_count", "n"),
+        shape="flags has n elements, out one for each segment.", exported="packed_lengths",
+    ),
+    family(
+        "seg_count", "packs and counts of segments", (flags("flags"), lengths(), room("ints", "segments")), "The number of true flags of each segment.",
+        limit=None, faults=(SUM_OF_N,), cut=("seg_count", "n"), shape="flags has n elements, out one for each segment.",
+    ),
+    # ---- permutes ----
+    *twins(
+        ("permute_int", "permute_bool"), "permutes", lambda kind: (items(kind, "source"), ints("index"), room(kind)),
+        "Each element of the source at its index.", faults=(TOO_LONG, BAD_INDEX), asks=True, cut=("ranges", "n"),
+        shape="source, index and out have n elements.",
+    ),
+    *twins(
+        ("select_permute_int", "select_permute_bool"), "permutes",
+        lambda kind: (items(kind, "source"), ints("index"), copied("flags"), room(kind, "trues")),
+        "Each element of the source whose flag is true at its index.", faults=(TOO_LONG, BAD_SELECTED), asks=True, cut=("ranges", "trues"),
+        shape="source, index and flags have n elements; out has m, the number of true flags, else 7 LengthMismatch. An index whose flag is "
+        "false is not looked at.",
+    ),
+    *twins(
+        ("default_permute_int", "default_permute_bool"), "permutes",
+        lambda kind: (items(kind, "source"), ints("index"), items(kind, "defaults", "m"), room(kind, "m")),
+        "Each element of the source at its index, and at a place to which none goes its default.", faults=(TOO_LONG, BAD_DEFAULTED), asks=True,
+        cut=("ranges", "m"), shape="source and index have n elements, defaults and out m, which may be any number.",
+    ),
+    *twins(
+        ("back_permute_int", "back_permute_bool"), "permutes", lambda kind: (items(kind, "source"), ints("index", "m"), room(kind, "m")),
+        "At each place the element of the source at the place's index.", limit="m", faults=(TOO_LONG, BAD_BACK), cut=("places", "m"),
+        shape="The source has n elements, which may be any number; index and out have m.",
+    ),
+    # ---- permutes of segments ----
+    *twins(
+        ("seg_permute_int", "seg_permute_bool"), "permutes of segments", lambda kind: (items(kind, "source"), ints("index"), lengths(), room(kind)),
+        "Each element of the source at its index in its segment.", faults=(TOO_LONG, SUM_OF_N, BAD_IN_SEGMENT), asks=True, cut=("segments", "n"),
+        shape="source, index and out have n elements.",
+    ),
+    *twins(
+        ("seg_select_permute_int", "seg_select_permute_bool"), "permutes of segments",
+        lambda kind: (items(kind, "source"), ints("index"), copied("flags"), lengths(), room(kind, "trues")),
+        "Each element of the source whose flag is true at its index in its segment of the result.", faults=(TOO_LONG, SUM_OF_N, BAD_IN_RESULT),
+        asks=True, cut=("segments", "n"),
+        shape="source, index and flags have n elements; out has m, the number of true flags, else 7 LengthMismatch. An index whose flag is "
+        "false is not looked at.",
+    ),
+    *twins(
+        ("seg_default_permute_int", "seg_default_permute_bool"), "permutes of segments",
+        lambda kind: (items(kind, "source"), ints("index"), items(kind, "defaults", "m"), lengths(), lengths("default_lengths", "m"), room(kind, "m")),
+        "Each element of the source at its index in its segment of the defaults, and at a place to which none goes its default.",
+        faults=(TOO_LONG, SUMS_OF_DEFAULTS, BAD_IN_DEFAULTS), asks=True, cut=("segments", "n"),
+        shape="source and index have n elements in segments with the lengths; defaults and out have m, in as many segments with the default lengths.",
+    ),
+    *twins(
+        ("seg_back_permute_int", "seg_back_permute_bool"), "permutes of segments",
+        lambda kind: (items(kind, "source"), ints("index", "m"), lengths(), lengths("index_lengths", "m"), room(kind, "m")),
+        "At each place the element at the place's index in the same segment of the source.",
+        limit="m", faults=(TOO_LONG, SUMS_OF_INDEX, BAD_IN_SOURCE), asks=True, cut=("segments", "m"),
+        shape="The source has n elements in segments with the lengths; index and out have m, in as many segments with the index lengths.",
+    ),
+    # ---- texts ----
+    family(
+        "read_ints", "texts", (text("text"), room("ints", "room"), told()),
+        "The integers of a text. They stand between white space (space, tab, line feed, carriage return), and each is an optional minus sign "
+        "and at least one digit, inside 32 bits. A text of white space alone has none.",
+        limit=None,
+        faults=(
+            Fault((13,), "13 TooLong, without a place, where there are more than 4194304 words between white space, whatever they are", False),
+            Fault((15,), "else 15 BadInput at the first word that is no such integer", False),
+        ),
+        asks=True, cut=("read", "n"), example={"text": '"5 -1\\n007 -0"', "out": "5 -1 7 0", "count": "4"},
+    ),
+    family(
+        "write_ints", "texts", (ints("a"), room("text", "room"), told()),
+        "The text of a vector of integers: in decimal, a space between each two, in brackets.",
+        asks=True, cut=("write", "n"), example={"a": "0 -3 4", "out": '"[0 -3 4]"', "count": "8"},
+    ),
+    family(
+        "write_bools", "texts", (copied("a"), room("text", "room"), told()),
+        "The text of a vector of booleans: each T or F, a space between each two, in brackets.",
+        asks=True, cut=("write", "n"), example={"a": "true false", "out": '"[T F]"', "count": "5"},
+    ),
+    family(
+        "seg_read_ints", "texts", (text("text"), room("ints", "room"), told(), room("ints", "lengths_room", "lengths"), told("segments")),
+        'The integers and the lengths of the lists of a nested text: "[", any number of lists, "]", where a list is "[", integers as in '
+        'cvl_read_ints, "]". Each of the two results has a room and a count of its own; where one room is too short both are as they were, and '
+        "both counts are the lengths that are needed.",
+        limit=None,
+        faults=(
+            Fault(
+                (13,), '13 TooLong, without a place, where there are more than 4194304 words other than brackets or more than 4194305 "[", whatever they are',
+                False),
+            Fault(
+                (15,), "else 15 BadInput at the first word or bracket that cannot stand where it does, or, where the text ends too early, at the number of "
+                "its words and brackets", False),
+        ),
+        asks=True, cut=("whole", None),
+        example={"text": '"[[1 2] [] [3]]"', "out": "1 2 3", "count": "3", "lengths": "2 0 1", "segments": "3"},
+    ),
+    family(
+        "seg_write_ints", "texts", (ints("a"), lengths(), room("text", "room"), told()),
+        "The text of a vector of integers that is cut into segments: the texts of the segments, a space between each two, in brackets.",
+        limit=None, faults=(
+            Fault((13, 12), "by the lengths those of each call on segments, 13 TooLong, 12 NegativeLength, 13 TooLong", False),
+            Fault((7,), "7 LengthMismatch where the lengths do not add up to the vector's", False),
+        ),
+        asks=True, cut=("seg_write", "n"), example={"a": "5 1 7", "lengths": "0 2 1", "out": '"[[] [5 1] [7]]"', "count": "14"},
+    ),
+    family(
+        "seg_write_bools", "texts", (copied("a"), lengths(), room("text", "room"), told()), "The same of booleans, each T or F.",
+        limit=None, faults=(), asks=True, cut=("seg_write", "n"), example={"a": "true false", "lengths": "1 1", "out": '"[[T] [F]]"', "count": "9"},
+    ),
+    # ---- scans in parts ----
+    *twins(
+        ("int_scan_after", "bool_scan_after"), "scans in parts, by threads of the caller's",
+        lambda kind: (value("before", one(kind)), items(kind, "a"), room(kind)),
+        lambda kind: f"For each {word(kind)} `before`, joined by the operator, of CVL_{'ADD' if kind == 'ints' else 'AND'} to CVL_XOR, with those in front of it.",
+        operators=lambda kind: MONOIDS if kind == "ints" else OF_FLAGS, in_place=(("a",),), shape=SHAPE_ONE,
+    ),
+    # ---- calls in parts ----
+    family(
+        "exact_sum", "calls in parts", (ints("a"), single("sum")),
+        "The sum of the integers in 64 bits, where it always fits: what a part of a checked sum tells to the next.",
+        example={"a": "2147483647 1", "out": "2147483648"},
+    ),
+    family(
+        "checked_scan_after", "calls in parts", (value("before", "sum"), ints("a"), room("ints")),
+        "For each integer `before` and those in front of it, added up: a part of cvl_checked_scan after the exact sum of the parts in front of it. "
+        "Where the part does not begin at place 0, neither does the place of a fault.",
+        faults=(TOO_LONG, OVERFLOW_AT_PLACE), example={"before": "10", "a": "3 1 4", "out": "10 13 14"},
+    ),
+    family(
+        "permute_int_range", "calls in parts",
+        (ints("source"), ints("index"), value("lowest", "size"), room("ints", "range"), room("marks", "marks", "marks"), told("written")),
+        "One range of the result of smp_puz, its out_len places from place `lowest` on: each element whose index is one of them is written there, the last "
+        "where there are several, and the place is marked by a bit. marks are (out_len + 31) / 32 words: bit b of word w, of the value 1 << b, is set where "
+        "place 32 * w + b of the range is written, and the bits behind the last place are not. It does not matter what they hold before; written is how many "
+        "bits are set. Each part has another range, its own marks, and all of source and index. Where all parts together wrote index_len places, the ranges, "
+        "one after another, are the permute. Else an index is out of range or repeated: cvl_permute_int tells which. A place that nothing is sent to stays as "
+        "it was, so that over ranges that hold the defaults before the parts are def_puz.",
+        faults=RANGE_FAULTS, example={"source": "5 6 7", "index": "2 0 1", "lowest": "1", "out_len": "2", "out": "7 5", "marks": "3", "written": "2"},
+    ),
+    family(
+        "permute_bool_range", "calls in parts",
+        (copied("source"), ints("index"), value("lowest", "size"), room("flags", "range"), room("marks", "marks", "marks"), told("written")),
+        "The same of booleans: smp_pub, and def_pub over ranges that hold the defaults before, each 0 or 1.",
+        faults=(),
+        example={"source": "true false true", "index": "2 0 1", "lowest": "1", "out_len": "2", "out": "true true", "marks": "3", "written": "2"},
+    ),
+    family(
+        "select_permute_int_range", "calls in parts",
+        (
+            ints("source"), ints("index"), copied("flags"), value("lowest", "size"), room("ints", "range"), room("marks", "marks", "marks"),
+            told("written"),
+        ),
+        "One range of the result of sel_puz, the same way: the elements alone go anywhere whose flag is true. Where the result has as many places as there "
+        "are true flags, and all parts together wrote as many, the ranges are the permute.",
+        faults=(Fault((13, 7), "those of cvl_permute_int_range; 7 LengthMismatch also where index and flags are not equally long", False),),
+        example={
+            "source": "5 6 7", "index": "1 9 0", "flags": "true false true", "lowest": "0", "out_len": "1", "out": "7", "marks": "1", "written": "1",
+        },
+    ),
+    family(
+        "select_permute_bool_range", "calls in parts",
+        (
+            copied("source"), ints("index"), copied("flags"), value("lowest", "size"), room("flags", "range"), room("marks", "marks", "marks"),
+            told("written"),
+        ),
+        "The same of booleans: sel_pub.", faults=(),
+        example={
+            "source": "true false false", "index": "1 9 0", "flags": "true false true", "lowest": "0", "out_len": "1", "out": "false", "marks": "1",
+            "written": "1",
+        },
+    ),
+    family(
+        "read_ints_after", "calls in parts", (value("before", "size"), text("text"), room("ints", "room"), told()),
+        "The integers of one piece of a text that is cut at white space, as cvl_read_ints reads them. `before` is how many words the pieces before it have, so "
+        "that a fault's place is that in the whole text.",
+        limit=None,
+        faults=(
+            Fault((13,), "13 TooLong, without a place, where `before` is more than 4194304 or the piece itself has more words", False),
+            Fault(
+                (15,), "else 15 BadInput at the first word of the piece that is no integer. That all pieces together have at most 4194304 words is the caller's "
+                "to see", False),
+        ),
+        asks=True, example={"before": "3", "text": '"9 10"', "out": "9 10", "count": "2"},
+    ),
+)
+
+CALLS = (
+    # ---- place by place ----
+    Call(
+        "add_wuz", "place by place", "int2", "ADD",
+        "The wrapped sums.",
+        {"a": "12 -7 2147483647", "b": "10 2 1", "out": "22 -5 -2147483648"},
+    ),
+    Call(
+        "mul_wuz", "place by place", "int2", "MUL",
+        "The wrapped products.",
+        {"a": "12 -7 2147483647", "b": "10 2 1", "out": "120 -14 2147483647"},
+    ),
+    Call("min_wuz", "place by place", "int2", "MIN", "The lesser of each two.", {"a": "12 -7 2147483647", "b": "10 2 1", "out": "10 -7 1"}),
+    Call(
+        "max_wuz", "place by place", "int2", "MAX",
+        "The greater of each two.",
+        {"a": "12 -7 2147483647", "b": "10 2 1", "out": "12 2 2147483647"},
+    ),
+    Call("and_wuz", "place by place", "int2", "AND", "And, bit by bit.", {"a": "12 -7 2147483647", "b": "10 2 1", "out": "8 0 1"}),
+    Call(
+        "ior_wuz", "place by place", "int2", "IOR",
+        "Or, bit by bit.",
+        {"a": "12 -7 2147483647", "b": "10 2 1", "out": "14 -5 2147483647"},
+    ),
+    Call(
+        "xor_wuz", "place by place", "int2", "XOR",
+        "Exclusive or, bit by bit.",
+        {"a": "12 -7 2147483647", "b": "10 2 1", "out": "6 -5 2147483646"},
+    ),
+    Call(
+        "sub_wuz", "place by place", "int2", "SUB",
+        "The wrapped differences.",
+        {"a": "12 -7 2147483647", "b": "10 2 1", "out": "2 -9 2147483646"},
+    ),
+    Call(
+        "div_wuz", "place by place", "int2", "DIV",
+        "The quotients, truncated toward zero; -2147483648 by -1 is -2147483648.",
+        {"a": "7 -7 -2147483648", "b": "2 2 -1", "out": "3 -3 -2147483648"},
+    ),
+    Call(
+        "mod_wuz", "place by place", "int2", "MOD",
+        "The remainders of the quotients, with the dividends' signs.",
+        {"a": "7 -7 -2147483648", "b": "2 2 -1", "out": "1 -1 0"},
+    ),
+    Call(
+        "lsh_wuz", "place by place", "int2", "LSH",
+        "The elements of a, shifted left by those of b.",
+        {"a": "1 -7 3", "b": "4 1 31", "out": "16 -14 -2147483648"},
+    ),
+    Call(
+        "rsh_wuz", "place by place", "int2", "RSH",
+        "The elements of a, shifted right by those of b, with their signs.",
+        {"a": "1 -7 3", "b": "4 1 31", "out": "0 -4 0"},
+    ),
+    Call("not_wuz", "place by place", "int1", "NOT", "Each bit inverted.", {"a": "0 5 -1", "out": "-1 -6 0"}),
+    Call("not_wub", "place by place", "bool1", "NOT", "Each boolean inverted.", {"a": "false true", "out": "true false"}),
+    Call("cpy_wuz", "place by place", "int1", "CPY", "Each integer copied.", {"a": "3 1", "out": "3 1"}),
+    Call("cpy_wub", "place by place", "bool1", "CPY", "Each boolean copied.", {"a": "true false", "out": "true false"}),
+    Call(
+        "grt_wuz", "place by place", "compare", "GRT",
+        "True where a is greater.",
+        {"a": "1 2 3", "b": "2 2 2", "out": "false false true"},
+    ),
+    Call("les_wuz", "place by place", "compare", "LES", "True where a is less.", {"a": "1 2 3", "b": "2 2 2", "out": "true false false"}),
+    Call(
+        "geq_wuz", "place by place", "compare", "GEQ",
+        "True where a is greater, or they are equal.",
+        {"a": "1 2 3", "b": "2 2 2", "out": "false true true"},
+    ),
+    Call(
+        "leq_wuz", "place by place", "compare", "LEQ",
+        "True where a is less, or they are equal.",
+        {"a": "1 2 3", "b": "2 2 2", "out": "true true false"},
+    ),
+    Call(
+        "eql_wuz", "place by place", "compare", "EQL",
+        "True where they are equal.",
+        {"a": "1 2 3", "b": "2 2 2", "out": "false true false"},
+    ),
+    Call(
+        "neq_wuz", "place by place", "compare", "NEQ",
+        "True where they are not equal.",
+        {"a": "1 2 3", "b": "2 2 2", "out": "true false true"},
+    ),
+    Call(
+        "and_wub", "place by place", "bool2", "AND",
+        "Whether both are true.",
+        {"a": "true true false false", "b": "true false true false", "out": "true false false false"},
+    ),
+    Call(
+        "ior_wub", "place by place", "bool2", "IOR",
+        "Whether at least one is true.",
+        {"a": "true true false false", "b": "true false true false", "out": "true true true false"},
+    ),
+    Call(
+        "xor_wub", "place by place", "bool2", "XOR",
+        "Whether exactly one is true.",
+        {"a": "true true false false", "b": "true false true false", "out": "false true true false"},
+    ),
+    Call(
+        "sel_wuz", "place by place", "select_int", None,
+        "The element of a where the flag is true, else that of b.",
+        {"flags": "true false false", "a": "5 0 5", "b": "1 1 1", "out": "5 1 1"},
+    ),
+    Call(
+        "sel_wub", "place by place", "select_bool", None,
+        "The element of a where the flag is true, else that of b.",
+        {"flags": "true false", "a": "true true", "b": "false false", "out": "true false"},
+    ),
+    Call("int_wub", "place by place", "int_from_bool", None, "1 for true and 0 for false.", {"a": "false true true", "out": "0 1 1"}),
+    Call("boo_wuz", "place by place", "bool_from_int", None, "True where the integer is not 0.", {"a": "0 -3 7", "out": "false true true"}),
+    # ---- scans and reduces ----
+    Call(
+        "add_suz", "scans and reduces", "int_scan", "ADD",
+        "For each integer those before it, summed, wrapped; 0 at place 0.",
+        {"a": "3 1 4", "out": "0 3 4"},
+    ),
+    Call(
+        "add_ruz", "scans and reduces", "int_reduce", "ADD",
+        "The n integers, summed, wrapped; 0 where there are none.",
+        {"a": "3 1 4", "out": "8"},
+    ),
+    Call(
+        "mul_suz", "scans and reduces", "int_scan", "MUL",
+        "For each integer those before it, multiplied, wrapped; 1 at place 0.",
+        {"a": "3 1 4", "out": "1 3 3"},
+    ),
+    Call(
+        "mul_ruz", "scans and reduces", "int_reduce", "MUL",
+        "The n integers, multiplied, wrapped; 1 where there are none.",
+        {"a": "3 1 4", "out": "12"},
+    ),
+    Call(
+        "min_suz", "scans and reduces", "int_scan", "MIN",
+        "For each integer those before it, the least of them; 2147483647 at place 0.",
+        {"a": "3 1 4", "out": "2147483647 3 1"},
+    ),
+    Call(
+        "min_ruz", "scans and reduces", "int_reduce", "MIN",
+        "The n integers, the least of them; 2147483647 where there are none.",
+        {"a": "3 1 4", "out": "1"},
+    ),
+    Call(
+        "max_suz", "scans and reduces", "int_scan", "MAX",
+        "For each integer those before it, the greatest of them; -2147483648 at place 0.",
+        {"a": "3 1 4", "out": "-2147483648 3 3"},
+    ),
+    Call(
+        "max_ruz", "scans and reduces", "int_reduce", "MAX",
+        "The n integers, the greatest of them; -2147483648 where there are none.",
+        {"a": "3 1 4", "out": "4"},
+    ),
+    Call(
+        "and_suz", "scans and reduces", "int_scan", "AND",
+        "For each integer those before it, and, bit by bit; -1 at place 0.",
+        {"a": "3 1 4", "out": "-1 3 1"},
+    ),
+    Call(
+        "and_ruz", "scans and reduces", "int_reduce", "AND",
+        "The n integers, and, bit by bit; -1 where there are none.",
+        {"a": "3 1 4", "out": "0"},
+    ),
+    Call(
+        "ior_suz", "scans and reduces", "int_scan", "IOR",
+        "For each integer those before it, or, bit by bit; 0 at place 0.",
+        {"a": "3 1 4", "out": "0 3 3"},
+    ),
+    Call(
+        "ior_ruz", "scans and reduces", "int_reduce", "IOR",
+        "The n integers, or, bit by bit; 0 where there are none.",
+        {"a": "3 1 4", "out": "7"},
+    ),
+    Call(
+        "xor_suz", "scans and reduces", "int_scan", "XOR",
+        "For each integer those before it, exclusive or, bit by bit; 0 at place 0.",
+        {"a": "3 1 4", "out": "0 3 2"},
+    ),
+    Call(
+        "xor_ruz", "scans and reduces", "int_reduce", "XOR",
+        "The n integers, exclusive or, bit by bit; 0 where there are none.",
+        {"a": "3 1 4", "out": "6"},
+    ),
+    Call(
+        "and_sub", "scans and reduces", "bool_scan", "AND",
+        "For each boolean, of those before it, whether all are true; true at place 0.",
+        {"a": "true false true", "out": "true true false"},
+    ),
+    Call(
+        "and_rub", "scans and reduces", "bool_reduce", "AND",
+        "Of the n booleans, whether all are true; true where there are none.",
+        {"a": "true false true", "out": "false"},
+    ),
+    Call(
+        "ior_sub", "scans and reduces", "bool_scan", "IOR",
+        "For each boolean, of those before it, whether any is true; false at place 0.",
+        {"a": "true false true", "out": "false true true"},
+    ),
+    Call(
+        "ior_rub", "scans and reduces", "bool_reduce", "IOR",
+        "Of the n booleans, whether any is true; false where there are none.",
+        {"a": "true false true", "out": "true"},
+    ),
+    Call(
+        "xor_sub", "scans and reduces", "bool_scan", "XOR",
+        "For each boolean, of those before it, whether an odd number is true; false at place 0.",
+        {"a": "true false true", "out": "false true true"},
+    ),
+    Call(
+        "xor_rub", "scans and reduces", "bool_reduce", "XOR",
+        "Of the n booleans, whether an odd number is true; false where there are none.",
+        {"a": "true false true", "out": "false"},
+    ),
+    # ---- sums that never wrap ----
+    Call(
+        "tot_suz", "sums that never wrap", "checked_scan", None,
+        "For each integer the sum of those before it.",
+        {"a": "3 1 4", "out": "0 3 4"},
+    ),
+    Call("tot_ruz", "sums that never wrap", "checked_reduce", None, "The sum of the n integers.", {"a": "3 1 4", "out": "8"}),
+    # ---- counts, single elements, and vectors of a given length ----
+    Call(
+        "cnt_lub", "counts, single elements, and vectors of a given length", "count", None,
+        "The number of true flags, of n.",
+        {"flags": "false true true false true", "out": "3"},
+    ),
+    Call(
+        "ext_vuz", "counts, single elements, and vectors of a given length", "extract_int", None,
+        "The element of n at the index.",
+        {"vector": "4 5 6", "index": "2", "out": "6"},
+    ),
+    Call(
+        "ext_vub", "counts, single elements, and vectors of a given length", "extract_bool", None,
+        "The element of n at the index.",
+        {"vector": "true true false", "index": "0", "out": "true"},
+    ),
+    Call(
+        "rep_vuz", "counts, single elements, and vectors of a given length", "replace_int", None,
+        "The vector with the value at the index.",
+        {"vector": "1 2 3", "index": "1", "value": "9", "out": "1 9 3"},
+    ),
+    Call(
+        "rep_vub", "counts, single elements, and vectors of a given length", "replace_bool", None,
+        "The vector with the value at the index.",
+        {"vector": "true true true", "index": "2", "value": "false", "out": "true true false"},
+    ),
+    Call(
+        "dis_vuz", "counts, single elements, and vectors of a given length", "distribute_int", None,
+        "count copies of the value; out has count elements.",
+        {"value": "7", "count": "3", "out": "7 7 7"},
+    ),
+    Call(
+        "dis_vub", "counts, single elements, and vectors of a given length", "distribute_bool", None,
+        "count copies of the value; out has count elements.",
+        {"value": "true", "count": "2", "out": "true true"},
+    ),
+    Call(
+        "ind_luz", "counts, single elements, and vectors of a given length", "index", None,
+        "The numbers init + k * stride, wrapped, for k from 0 to count - 1; out has count elements.",
+        {"init": "10", "stride": "-2", "count": "3", "out": "10 8 6"},
+    ),
+    # ---- segments ----
+    Call(
+        "mke_fov", "segments", "make_descriptor", None,
+        "Whether the numbers are the lengths of segments, and how many elements these have in all.",
+        {"lengths": "2 0 3", "total": "5"},
+    ),
+    Call(
+        "tot_sez", "segments", "seg_checked_scan", None,
+        "For each integer the sum of those before it in its segment.",
+        {"a": "3 1 4 1 5", "lengths": "2 0 3", "out": "0 3 0 4 5"},
+    ),
+    Call(
+        "tot_rez", "segments", "seg_checked_reduce", None,
+        "The sum of each segment.",
+        {"a": "3 1 4 1 5", "lengths": "2 0 3", "out": "4 0 10"},
+    ),
+    Call(
+        "ext_vez", "segments", "seg_extract_int", None,
+        "The element of each segment at its index, which counts from the segment's start.",
+        {"vector": "1 2 3 4 5", "index": "1 2", "lengths": "2 3", "out": "2 5"},
+    ),
+    Call(
+        "ext_veb", "segments", "seg_extract_bool", None,
+        "The element of each segment at its index, which counts from the segment's start.",
+        {"vector": "true true false", "index": "0 1", "lengths": "1 2", "out": "true false"},
+    ),
+    Call(
+        "rep_vez", "segments", "seg_replace_int", None,
+        "The vector with the value of each segment at its index, which counts from the segment's start.",
+        {"vector": "1 2 3 4 5", "index": "0 1", "values": "8 9", "lengths": "2 3", "out": "8 2 3 9 5"},
+    ),
+    Call(
+        "rep_veb", "segments", "seg_replace_bool", None,
+        "The vector with the value of each segment at its index, which counts from the segment's start.",
+        {"vector": "true true false", "index": "0 1", "values": "false true", "lengths": "1 2", "out": "false true true"},
+    ),
+    Call(
+        "dis_vez", "segments", "seg_distribute_int", None,
+        "Copies of each value, as many as its segment has places.",
+        {"values": "7 8 9", "lengths": "2 0 3", "out": "7 7 9 9 9"},
+    ),
+    Call(
+        "dis_veb", "segments", "seg_distribute_bool", None,
+        "Copies of each value, as many as its segment has places.",
+        {"values": "true false", "lengths": "1 2", "out": "true false false"},
+    ),
+    Call(
+        "ind_lez", "segments", "seg_index", None,
+        "The numbers of each segment from its init on, in steps of its stride, wrapped.",
+        {"inits": "0 5 10", "strides": "1 1 -2", "lengths": "2 0 3", "out": "0 1 10 8 6"},
+    ),
+    # ---- scans and reduces of segments ----
+    Call(
+        "add_sez", "scans and reduces of segments", "seg_int_scan", "ADD",
+        "For each integer those before it in its segment, summed, wrapped; 0 where a segment starts.",
+        {"a": "3 1 4 1 5", "lengths": "2 0 3", "out": "0 3 0 4 5"},
+    ),
+    Call(
+        "add_rez", "scans and reduces of segments", "seg_int_reduce", "ADD",
+        "The integers of each segment, summed, wrapped; 0 where it is empty.",
+        {"a": "3 1 4 1 5", "lengths": "2 0 3", "out": "4 0 10"},
+    ),
+    Call(
+        "mul_sez", "scans and reduces of segments", "seg_int_scan", "MUL",
+        "For each integer those before it in its segment, multiplied, wrapped; 1 where a segment starts.",
+        {"a": "3 1 4 1 5", "lengths": "2 0 3", "out": "1 3 1 4 4"},
+    ),
+    Call(
+        "mul_rez", "scans and reduces of segments", "seg_int_reduce", "MUL",
+        "The integers of each segment, multiplied, wrapped; 1 where it is empty.",
+        {"a": "3 1 4 1 5", "lengths": "2 0 3", "out": "3 1 20"},
+    ),
+    Call(
+        "min_sez", "scans and reduces of segments", "seg_int_scan", "MIN",
+        "For each integer those before it in its segment, the least of them; 2147483647 where a segment starts.",
+        {"a": "3 1 4 1 5", "lengths": "2 0 3", "out": "2147483647 3 2147483647 4 1"},
+    ),
+    Call(
+        "min_rez", "scans and reduces of segments", "seg_int_reduce", "MIN",
+        "The integers of each segment, the least of them; 2147483647 where it is empty.",
+        {"a": "3 1 4 1 5", "lengths": "2 0 3", "out": "1 2147483647 1"},
+    ),
+    Call(
+        "max_sez", "scans and reduces of segments", "seg_int_scan", "MAX",
+        "For each integer those before it in its segment, the greatest of them; -2147483648 where a segment starts.",
+        {"a": "3 1 4 1 5", "lengths": "2 0 3", "out": "-2147483648 3 -2147483648 4 4"},
+    ),
+    Call(
+        "max_rez", "scans and reduces of segments", "seg_int_reduce", "MAX",
+        "The integers of each segment, the greatest of them; -2147483648 where it is empty.",
+        {"a": "3 1 4 1 5", "lengths": "2 0 3", "out": "3 -2147483648 5"},
+    ),
+    Call(
+        "and_sez", "scans and reduces of segments", "seg_int_scan", "AND",
+        "For each integer those before it in its segment, and, bit by bit; -1 where a segment starts.",
+        {"a": "3 1 4 1 5", "lengths": "2 0 3", "out": "-1 3 -1 4 0"},
+    ),
+    Call(
+        "and_rez", "scans and reduces of segments", "seg_int_reduce", "AND",
+        "The integers of each segment, and, bit by bit; -1 where it is empty.",
+        {"a": "3 1 4 1 5", "lengths": "2 0 3", "out": "1 -1 0"},
+    ),
+    Call(
+        "ior_sez", "scans and reduces of segments", "seg_int_scan", "IOR",
+        "For each integer those before it in its segment, or, bit by bit; 0 where a segment starts.",
+        {"a": "3 1 4 1 5", "lengths": "2 0 3", "out": "0 3 0 4 5"},
+    ),
+    Call(
+        "ior_rez", "scans and reduces of segments", "seg_int_reduce", "IOR",
+        "The integers of each segment, or, bit by bit; 0 where it is empty.",
+        {"a": "3 1 4 1 5", "lengths": "2 0 3", "out": "3 0 5"},
+    ),
+    Call(
+        "xor_sez", "scans and reduces of segments", "seg_int_scan", "XOR",
+        "For each integer those before it in its segment, exclusive or, bit by bit; 0 where a segment starts.",
+        {"a": "3 1 4 1 5", "lengths": "2 0 3", "out": "0 3 0 4 5"},
+    ),
+    Call(
+        "xor_rez", "scans and reduces of segments", "seg_int_reduce", "XOR",
+        "The integers of each segment, exclusive or, bit by bit; 0 where it is empty.",
+        {"a": "3 1 4 1 5", "lengths": "2 0 3", "out": "2 0 0"},
+    ),
+    Call(
+        "and_seb", "scans and reduces of segments", "seg_bool_scan", "AND",
+        "For each boolean, of those before it in its segment, whether all are true; true where a segment starts.",
+        {"a": "true false true false true", "lengths": "2 0 3", "out": "true true true true false"},
+    ),
+    Call(
+        "and_reb", "scans and reduces of segments", "seg_bool_reduce", "AND",
+        "Of the booleans of each segment, whether all are true; true where it is empty.",
+        {"a": "true false true false true", "lengths": "2 0 3", "out": "false true false"},
+    ),
+    Call(
+        "ior_seb", "scans and reduces of segments", "seg_bool_scan", "IOR",
+        "For each boolean, of those before it in its segment, whether any is true; false where a segment starts.",
+        {"a": "true false true false true", "lengths": "2 0 3", "out": "false true false true true"},
+    ),
+    Call(
+        "ior_reb", "scans and reduces of segments", "seg_bool_reduce", "IOR",
+        "Of the booleans of each segment, whether any is true; false where it is empty.",
+        {"a": "true false true false true", "lengths": "2 0 3", "out": "true false true"},
+    ),
+    Call(
+        "xor_seb", "scans and reduces of segments", "seg_bool_scan", "XOR",
+        "For each boolean, of those before it in its segment, whether an odd number is true; false where a segment starts.",
+        {"a": "true false true false true", "lengths": "2 0 3", "out": "false true false true true"},
+    ),
+    Call(
+        "xor_reb", "scans and reduces of segments", "seg_bool_reduce", "XOR",
+        "Of the booleans of each segment, whether an odd number is true; false where it is empty.",
+        {"a": "true false true false true", "lengths": "2 0 3", "out": "true false false"},
+    ),
+    # ---- packs and counts of segments ----
+    Call(
+        "pck_luz", "packs and counts of segments", "pack_int", None,
+        "The values whose flag is true, in their order.",
+        {"values": "1 2 3 4 5", "flags": "false true true false true", "out": "2 3 5", "count": "3"},
+    ),
+    Call(
+        "pck_lub", "packs and counts of segments", "pack_bool", None,
+        "The values whose flag is true, in their order.",
+        {"values": "true false true", "flags": "false true true", "out": "false true", "count": "2"},
+    ),
+    Call(
+        "pck_lez", "packs and counts of segments", "seg_pack_int", None,
+        "The values of each segment whose flag is true, in their order, one segment after another; pck_fov tells the lengths of these segments.",
+        {"values": "1 2 3 4 5", "flags": "false true true false true", "lengths": "2 0 3", "out": "2 3 5", "count": "3"},
+    ),
+    Call(
+        "pck_leb", "packs and counts of segments", "seg_pack_bool", None,
+        "The values of each segment whose flag is true, in their order, one segment after another; pck_fov tells the lengths of these segments.",
+        {"values": "true false true", "flags": "false true true", "lengths": "1 2", "out": "false true", "count": "2"},
+    ),
+    Call(
+        "pck_fov", "packs and counts of segments", "seg_packed_lengths", None,
+        "The lengths of the segments of what a pack keeps, or a select permute, 0 for a segment of which nothing is kept.",
+        {"flags": "false true true false true", "lengths": "2 0 3", "out": "1 0 2"},
+    ),
+    Call(
+        "cnt_leb", "packs and counts of segments", "seg_count", None,
+        "The number of true flags of each segment.",
+        {"flags": "false false true false true", "lengths": "2 0 3", "out": "0 0 2"},
+    ),
+    # ---- permutes ----
+    Call(
+        "smp_puz", "permutes", "permute_int", None,
+        "Each element of the source at its index.",
+        {"source": "10 20 30", "index": "2 0 1", "out": "20 30 10"},
+    ),
+    Call(
+        "smp_pub", "permutes", "permute_bool", None,
+        "Each element of the source at its index.",
+        {"source": "true false false", "index": "2 0 1", "out": "false false true"},
+    ),
+    Call(
+        "sel_puz", "permutes", "select_permute_int", None,
+        "Each element of the source whose flag is true at its index.",
+        {"source": "1 2 3 4", "index": "1 9 0 9", "flags": "true false true false", "out": "3 1"},
+    ),
+    Call(
+        "sel_pub", "permutes", "select_permute_bool", None,
+        "Each element of the source whose flag is true at its index.",
+        {"source": "true true false true", "index": "1 9 0 9", "flags": "true false true false", "out": "false true"},
+    ),
+    Call(
+        "def_puz", "permutes", "default_permute_int", None,
+        "Each element of the source at its index, and at a place to which none goes its default.",
+        {"source": "7 8", "index": "3 1", "defaults": "0 0 0 0 0", "out": "0 8 0 7 0"},
+    ),
+    Call(
+        "def_pub", "permutes", "default_permute_bool", None,
+        "Each element of the source at its index, and at a place to which none goes its default.",
+        {"source": "true false", "index": "3 1", "defaults": "false true true false", "out": "false false true true"},
+    ),
+    Call(
+        "bck_puz", "permutes", "back_permute_int", None,
+        "At each place the element of the source at the place's index, which may repeat.",
+        {"source": "10 20 30", "index": "2 2 0 0", "out": "30 30 10 10"},
+    ),
+    Call(
+        "bck_pub", "permutes", "back_permute_bool", None,
+        "At each place the element of the source at the place's index, which may repeat.",
+        {"source": "true false false", "index": "2 2 0 0", "out": "false false true true"},
+    ),
+    # ---- permutes of segments ----
+    Call(
+        "smp_pez", "permutes of segments", "seg_permute_int", None,
+        "Each element of the source at its index, which counts from the start of its segment.",
+        {"source": "1 2 3 4 5", "index": "1 0 2 0 1", "lengths": "2 0 3", "out": "2 1 4 5 3"},
+    ),
+    Call(
+        "smp_peb", "permutes of segments", "seg_permute_bool", None,
+        "Each element of the source at its index, which counts from the start of its segment.",
+        {"source": "true false false false true", "index": "1 0 2 0 1", "lengths": "2 0 3", "out": "false true false true false"},
+    ),
+    Call(
+        "sel_pez", "permutes of segments", "seg_select_permute_int", None,
+        "Each element of the source whose flag is true at its index in its segment of the result, which is as long as the segment has true flags.",
+        {"source": "1 2 3 4 5", "index": "9 0 1 9 0", "flags": "false true true false true", "lengths": "2 0 3", "out": "2 5 3"},
+    ),
+    Call(
+        "sel_peb", "permutes of segments", "seg_select_permute_bool", None,
+        "Each element of the source whose flag is true at its index in its segment of the result, which is as long as the segment has true flags.",
+        {"source": "true false true true false", "index": "9 0 1 9 0", "flags": "false true true false true", "lengths": "2 0 3", "out": "false false true"},
+    ),
+    Call(
+        "def_pez", "permutes of segments", "seg_default_permute_int", None,
+        "Each element of the source at its index in the same segment of the defaults, and at a place to which none goes its default.",
+        {"source": "1 2 3 4 5", "index": "2 0 0 1 2", "defaults": "0 0 0 9 0 0 0", "lengths": "2 0 3", "default_lengths": "3 1 3", "out": "2 0 1 9 3 4 5"},
+    ),
+    Call(
+        "def_peb", "permutes of segments", "seg_default_permute_bool", None,
+        "Each element of the source at its index in the same segment of the defaults, and at a place to which none goes its default.",
+        {"source": "true false", "index": "1 0", "defaults": "false false true true", "lengths": "1 1", "default_lengths": "2 2", "out": "false true false true"},
+    ),
+    Call(
+        "bck_pez", "permutes of segments", "seg_back_permute_int", None,
+        "At each place the element at the place's index in the same segment of the source; an index may repeat.",
+        {"source": "1 2 3 4 5", "index": "1 1 1 2", "lengths": "2 0 3", "index_lengths": "3 0 1", "out": "2 2 2 5"},
+    ),
+    Call(
+        "bck_peb", "permutes of segments", "seg_back_permute_bool", None,
+        "At each place the element at the place's index in the same segment of the source; an index may repeat.",
+        {"source": "true false false false true", "index": "1 1 1 2", "lengths": "2 0 3", "index_lengths": "3 0 1", "out": "false false false true"},
+    ),
+)

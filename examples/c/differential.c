@@ -1,0 +1,406 @@
+/*
+ * Holds each function of cvl.h and cvl_parallel.h against the plain reading of reading.h, on arguments at random: its status, its place, its
+ * counts and every byte of the memory around. Booleans are any bytes; rooms are inputs, or overlap them; lengths differ; places
+ * and counts are outside of 32 bits; vectors are too long, where they must not be read; each request for memory is refused in turn; vectors
+ * of a few elements are cut into 1 to 9 parts, by one thread or by several, and by pools that leave parts out or run them twice.
+ * `examples/c/run differential [CASES [PART OF A NAME]]` builds and runs it under sanitizers. It prints what differs, and its status is
+ * then 1.
+ */
+#define _DEFAULT_SOURCE
+#include "reading.h"
+
+#include <stdio.h>
+#include <sys/mman.h>
+
+enum { SLOT = 1 << 11, MEMORY = (MOST_OPERANDS + 1) * SLOT, FAR_BYTES = 4 * (CVL_MOST_ELEMENTS + 1) + (1 << 14), THREADS = 3 };
+
+static unsigned char memory[MEMORY], wanted[MEMORY], before[MEMORY];
+static unsigned char *far_memory[MOST_OPERANDS];
+static CvlThreads *threads;
+static CvlPool pool;
+static long calls, refused, faults, failed;
+
+/* ---- memory that is refused ---- */
+
+static long requests, refuse_at = -1;
+
+/* The linker puts this in the place of malloc (--wrap). */
+void *__real_malloc(size_t size);
+void *__wrap_malloc(size_t size);
+void *__wrap_malloc(size_t size) { return requests++ == refuse_at ? NULL : __real_malloc(size); }
+
+/* ---- pools ---- */
+
+static size_t runs, skipped;
+
+static void run_backwards(void *state, CvlPart part, void *work, size_t parts) {
+    (void)state;
+    for (size_t k = parts; k > 0; k--) part(work, k - 1);
+}
+
+/* Leaves out one part: in each step, in the first, or in later ones alone. */
+static void run_with_gap(void *state, CvlPart part, void *work, size_t parts) {
+    const char *which = (const char *)state;
+    const bool gap = *which == 'a' || (*which == 'f') == (runs == 0);
+    const size_t left_out = parts - 1 - runs % parts;
+    runs++;
+    for (size_t k = 0; k < parts; k++) {
+        if (!gap || k != left_out) part(work, k);
+        else skipped += *which != 'l';
+    }
+}
+
+static void run_twice(void *state, CvlPart part, void *work, size_t parts) {
+    run_backwards(state, part, work, parts);
+    run_backwards(state, part, work, parts);
+    part(work, parts);
+}
+
+/* ---- the rows ---- */
+
+static CvlLengths lengths_of(const Given *g, size_t k) {
+    CvlLengths lengths;
+    lengths.lengths = (const int32_t *)g->at[k];
+    lengths.segments = g->len[k];
+    return lengths;
+}
+
+#define ROW(name, model, operands, in_place, least, most, limited, is_call, arguments)                                         \
+    static CvlStatus call_##name(const Given *g) { return name arguments; }
+#include "reading_rows.h"
+#undef ROW
+#define ROW(name, model, operands, in_place, least, most, limited, is_call, arguments)                                         \
+    {#name, model, operands, in_place, least, most, limited, is_call, call_##name},
+static const Row rows[] = {
+#include "reading_rows.h"
+};
+#undef ROW
+enum { ROWS = sizeof rows / sizeof *rows };
+
+static bool in_parts(const Row *row) { return strcmp(row->name + strlen(row->name) - 3, "_on") == 0; }
+
+/* ---- arguments at random ---- */
+
+static uint64_t state = 1;
+
+static size_t below(size_t limit) {
+    state = state * 6364136223846793005u + 1442695040888963407u;
+    return limit == 0 ? 0 : (size_t)((state >> 33) % limit);
+}
+
+static bool chance(size_t of) { return below(of) == 0; }
+
+static int32_t any_int(void) {
+    static const int32_t odd[] = {INT32_MIN, INT32_MAX, -1, 0, 1, 31, 32};
+    return chance(4) ? odd[below(7)] : chance(2) ? (int32_t)below(19) - 9 : (int32_t)(below(1u << 31) * 2 + below(2) - (1u << 31));
+}
+
+static void fill_bytes(void) {
+    for (size_t k = 0; k < MEMORY; k += sizeof state) {
+        below(1);
+        memcpy(memory + k, &state, sizeof state);
+    }
+}
+
+/* Lengths of so many segments that add up to a total. */
+static void fill_lengths(int32_t *lengths, size_t segments, size_t total) {
+    for (size_t s = 0; s < segments; s++) lengths[s] = 0;
+    while (segments > 0 && total > 0) {
+        const size_t s = below(segments), more = chance(3) ? total : 1 + below(total);
+        lengths[s] += (int32_t)more;
+        total -= more;
+    }
+    if (segments > 0 && chance(10)) lengths[below(segments)] += (int32_t)below(3) - 1;
+    if (segments > 0 && chance(20)) lengths[below(segments)] = chance(2) ? -1 - (int32_t)below(9) : CVL_MOST_ELEMENTS;
+}
+
+/* What an index may be in a segment of a result with so many places: each once, or any. */
+static void fill_index(int32_t *index, size_t count, size_t places, bool once) {
+    for (size_t k = 0; k < count; k++) index[k] = once && places > 0 ? (int32_t)(k % places) : (int32_t)below(places);
+    for (size_t k = count; once && k > 1; k--) {
+        const size_t other = below(k);
+        const int32_t moved = index[k - 1];
+        index[k - 1] = index[other];
+        index[other] = moved;
+    }
+}
+
+static bool has_negative(const Given *g, const Row *row) {
+    for (size_t k = 0; k < count_of(row); k++) {
+        for (size_t s = 0; role_of(row, k) == 'l' && s < g->len[k]; s++) {
+            const int32_t length = ((const int32_t *)g->at[k])[s];
+            if (length < 0 || length > MOST_PLACES / 4) return true;
+        }
+    }
+    return false;
+}
+
+/* The indices of a permute, or of elements in segments, without a fault; then sometimes with one. */
+static void fill_indices(const Row *row, Given *g, size_t n, size_t m) {
+    const bool back = row->model == BACK_PERMUTE || row->model == SEG_BACK_PERMUTE;
+    const bool selects = row->model == SELECT_PERMUTE || row->model == SEG_SELECT_PERMUTE || row->model == SELECT_PERMUTE_RANGE;
+    const bool others = row->model == DEFAULT_PERMUTE || row->model == SEG_DEFAULT_PERMUTE;
+    const bool single = row->model == SEG_EXTRACT || row->model == SEG_REPLACE;
+    int32_t *index = (int32_t *)g->at[1], some[MOST_PLACES];
+    const size_t many = g->len[1];
+    if (has_negative(g, row)) return;
+    const Cuts first = cuts_of(row, g, 0, n), second = cuts_of(row, g, 1, back ? many : m);
+    for (size_t s = 0; s < first.count && s < second.count; s++) {
+        const Cuts *by = back ? &second : &first;
+        const size_t start = by->start[s], length = by->start[s + 1] - start;
+        const size_t trues = selects ? trues_of(row, g, 2, start, start + length) : length;
+        const size_t places = back ? first.start[s + 1] - first.start[s] : others ? second.start[s + 1] - second.start[s] : trues;
+        if (single) index[s] = (int32_t)below(length);
+        if (single || start + length > MOST_PLACES) continue;
+        fill_index(some, trues, places, !back);
+        for (size_t k = 0, j = 0; k < length; k++) index[start + k] = selects && !get(row, g, 2, start + k) ? -7 : some[j++];
+    }
+    if (many > 0 && chance(3)) index[below(many)] = chance(2) ? index[below(many)] : chance(2) ? -1 - (int32_t)below(2) : chance(2) ? INT32_MAX : (int32_t)m;
+}
+
+static void fill_text(const Row *row, char *text, size_t length) {
+    static const char *const words[] = {"5", "-1", "007", "-0", "2147483647", "-2147483648", "12", "3"};
+    static const char *const bad[] = {"x", "+1", "2147483648", "-", "--1", "]", "[", "1-"};
+    const bool nested = row->model == SEG_READ, spoiled = chance(3);
+    size_t at = 0, depth = 0;
+    memset(text, ' ', length);
+    if (nested && length >= 2) text[at++] = '[', depth = 1;
+    while (at + 14 < length && !chance(30)) {
+        const char *word = spoiled && chance(8) ? bad[below(8)] : words[below(8)];
+        if (nested && depth == 1 && !(spoiled && chance(9))) word = "[", depth = 2;
+        else if (nested && depth == 2 && chance(3)) word = "]", depth = 1;
+        memcpy(text + at, word, strlen(word));
+        at += strlen(word);
+        if (!nested || chance(2) || (word[0] != '[' && word[0] != ']')) text[at++] = " \t\n\r"[below(4)];
+    }
+    for (; nested && depth > 0 && at < length && !(spoiled && chance(4)); depth--) text[at++] = ']';
+}
+
+static void fill(const Row *row, Given *g, size_t k, size_t n, size_t m) {
+    int32_t *ints = (int32_t *)g->at[k];
+    unsigned char *bytes = (unsigned char *)g->at[k];
+    const bool small = chance(2), plain = chance(2);
+    if (role_of(row, k) == 'l') fill_lengths(ints, g->len[k], strchr("na", extent_of(row, k)) != NULL ? n : m);
+    if (role_of(row, k) != 'r') return;
+    for (size_t j = 0; j < g->len[k] && kind_of(row, k) == 'i'; j++) ints[j] = small ? (int32_t)below(19) - 9 : any_int();
+    for (size_t j = 0; j < g->len[k] && kind_of(row, k) == 'f'; j++) bytes[j] = chance(2) ? 0 : plain || chance(2) ? 1 : (unsigned char)below(256);
+    if (kind_of(row, k) == 't') fill_text(row, (char *)g->at[k], g->len[k]);
+    if (row->model == PAIRS && k == 1 && g->op >= CVL_DIV && kind_of(row, k) == 'i') {
+        for (size_t j = 0; j < g->len[k]; j++) ints[j] = g->op >= CVL_LSH ? (int32_t)below(32) : ints[j] == 0 ? 7 : ints[j];
+        if (g->len[k] > 0 && chance(3)) ints[below(g->len[k])] = g->op >= CVL_LSH ? (chance(2) ? 32 : -1) : 0;
+    }
+}
+
+/* How many elements an array of an extent has. */
+static size_t long_as(char extent, size_t n, size_t m, size_t segments, int64_t count, size_t room) {
+    switch (extent) {
+    case 'n': case 'a': return n;
+    case 'm': return m;
+    case 's': return segments;
+    case 'c': return count < 0 || count > MOST_PLACES ? 0 : (size_t)count;
+    default: return room;
+    }
+}
+
+static void fill_numbers(const Row *row, Given *g, size_t n) {
+    static const int64_t far[] = {-1, (int64_t)1 << 32, ((int64_t)1 << 32) + 1, INT64_MIN, INT64_MAX, CVL_MOST_ELEMENTS + 1, (int64_t)1 << 31};
+    for (size_t k = 0; k < count_of(row); k++) {
+        const char role = role_of(row, k), kind = kind_of(row, k);
+        if (role == 'v') g->number[k] = kind == 'f' ? (int64_t)below(2) : kind == 'q' ? any_int() * (chance(3) ? (int64_t)5 : 1) : kind == 'z' ? (int64_t)below(n + 2) : any_int();
+        if (role == 'v' && kind == 'z' && chance(20)) g->number[k] = chance(2) ? INT64_MAX : CVL_MOST_ELEMENTS + (int64_t)below(2);
+        if (role == 'p') g->number[k] = chance(4) ? (chance(2) ? (int64_t)n : far[below(7)]) : (int64_t)below(n);
+        if (role == 'c') g->number[k] = chance(6) ? far[below(7)] : (int64_t)n;
+    }
+}
+
+/* A room on an input, from the first to the last element, or somewhere over it. */
+static void move_rooms(const Row *row, Given *g) {
+    const size_t room = operand(row, "R", 0), count = count_of(row);
+    if (row->in_place[0] != 0 && chance(3)) {
+        for (const char *may = row->in_place; *may != 0; may++) {
+            if (*may != '/' && (chance(2) || may == row->in_place)) g->at[*may - '0'] = g->at[room];
+        }
+    }
+    for (size_t k = 0; k < count && chance(6); k++) {
+        const size_t other = below(count);
+        if (!is_written(row, k) || other == k || g->at[other] == NULL) continue;
+        g->at[k] = (unsigned char *)g->at[other] + (below(9) - 4) * size_of(kind_of(row, k) == 'q' ? 'z' : kind_of(row, k));
+        if (size_of(kind_of(row, k)) == sizeof(size_t)) g->at[k] = memory + ((unsigned char *)g->at[k] - memory) / 8 * 8;
+    }
+}
+
+static void make(const Row *row, Given *g) {
+    const size_t n = chance(9) ? below(MOST_PLACES / 4) : below(14), m = chance(3) ? below(14) : n + below(5);
+    const size_t segments = chance(9) ? 0 : 1 + below(5), count = count_of(row), marks = operand(row, "R", 'm');
+    memset(g, 0, sizeof *g);
+    fill_bytes();
+    g->op = chance(30) && !row->is_call ? (uint32_t)below(24) : row->least < 0 ? 0 : (uint32_t)row->least + (uint32_t)below((size_t)(row->most - row->least + 1));
+    fill_numbers(row, g, n);
+    const int64_t times = operand(row, "c", 0) < count ? g->number[operand(row, "c", 0)] : 0;
+    for (size_t k = 0; k < count; k++) {
+        const bool text = kind_of(row, k) == 't';
+        const size_t room = chance(3) ? below(n + 2) : text ? 40 + 14 * n : n + below(3);
+        g->len[k] = role_of(row, k) == 'l' ? segments : text && role_of(row, k) == 'r' ? below(160) : long_as(extent_of(row, k), n, m, segments, times, room);
+        g->at[k] = memory + k * SLOT + SLOT / 4 + 8 * below(16);
+        if (!row->is_call && is_array(row, k) && chance(25)) g->len[k] += below(2) == 0 && g->len[k] > 0 ? (size_t)-1 : 1;
+    }
+    if (marks < count) g->len[marks] = (g->len[marks - 1] + 31) / 32 + (chance(20) ? 1 : 0);
+    for (size_t k = 0; k < count; k++) fill(row, g, k, n, m);
+    for (size_t k = 0; k < count; k++) {
+        if (extent_of(row, k) == 't') g->len[k] = trues_of(row, g, 2, 0, g->len[2]) + (chance(12) ? 1 : 0);
+    }
+    if (row->model >= PERMUTE && row->model <= SEG_BACK_PERMUTE) fill_indices(row, g, n, m);
+    if (row->model == SEG_EXTRACT || row->model == SEG_REPLACE || row->model == PERMUTE_RANGE || row->model == SELECT_PERMUTE_RANGE) fill_indices(row, g, n, n);
+    move_rooms(row, g);
+    for (size_t k = 0; k < count; k++) {
+        if (is_array(row, k) && g->len[k] == 0 && chance(3)) g->at[k] = NULL;
+    }
+}
+
+/* ---- a call, and what it has to be ---- */
+
+static void fail(const Row *row, const char *what, CvlStatus status, CvlStatus expected) {
+    if (failed++ >= 40) return;
+    printf("%s, %s: %u at %lld, and %u at %lld by the reading%s\n", row->name, what, (unsigned)status.number, (long long)status.place,
+           (unsigned)expected.number, (long long)expected.place, memcmp(memory, wanted, MEMORY) == 0 ? "" : "; other memory");
+}
+
+static CvlStatus call(const Row *row, const Given *g, long refusing) {
+    requests = 0;
+    refuse_at = refusing;
+    const CvlStatus status = row->call(g);
+    refuse_at = -1;
+    calls++;
+    return status;
+}
+
+static bool is_as(CvlStatus status, CvlStatus expected) {
+    return status.number == expected.number && status.place == expected.place && memcmp(memory, wanted, MEMORY) == 0;
+}
+
+static bool is_refused(CvlStatus status) {
+    return status.number == CVL_NO_RESOURCES && status.place == -1 && memcmp(memory, before, MEMORY) == 0;
+}
+
+/* Whether a fault may stand behind want of memory: one of elements, or of a text that is read. */
+static bool may_be_behind(const Row *row, CvlStatus expected) {
+    const bool reads = row->model == READ || row->model == READ_AFTER || row->model == SEG_READ;
+    return expected.number == CVL_DONE || (expected.number >= CVL_DIVIDE_BY_ZERO && expected.number <= CVL_INDEX_REPEATED) ||
+        expected.number == CVL_OVERFLOW || expected.number == CVL_BAD_INPUT || (reads && expected.number == CVL_LENGTH_MISMATCH);
+}
+
+static void choose_pool(void) {
+    pool = cvl_pool_alone(1);
+    if (chance(3)) pool.run = run_backwards;
+    if (chance(4)) pool = cvl_pool_posix(threads);
+    pool.parts = 1 + below(9);
+}
+
+static void refuse_each(const Row *row, const Given *g, CvlStatus expected) {
+    pool = cvl_pool_alone(pool.parts);
+    memcpy(memory, before, MEMORY);
+    call(row, g, -1);
+    const long all = requests;
+    for (long j = 0; j < all; j++) {
+        memcpy(memory, before, MEMORY);
+        const CvlStatus status = call(row, g, j);
+        refused++;
+        if (!is_as(status, expected) && !(is_refused(status) && may_be_behind(row, expected))) fail(row, "without memory", status, expected);
+    }
+}
+
+static void by_other_pools(const Row *row, const Given *g, CvlStatus expected) {
+    static char all[] = "all", first[] = "first", later[] = "later";
+    char *const which[] = {all, first, later};
+    const size_t parts = pool.parts;
+    for (size_t k = 0; k < 4; k++) {
+        pool.parts = parts, pool.run = k < 3 ? run_with_gap : run_twice, pool.state = k < 3 ? which[k] : NULL;
+        memcpy(memory, before, MEMORY);
+        runs = skipped = 0;
+        const CvlStatus status = call(row, g, -1);
+        const bool may = which[k % 3] == later && k < 3 && is_refused(status);
+        if (skipped > 0 ? !is_refused(status) : !is_as(status, expected) && !may) fail(row, k < 3 ? which[k] : "parts run twice", status, expected);
+    }
+}
+
+static void try_one(const Row *row) {
+    Given g;
+    make(row, &g);
+    choose_pool();
+    memcpy(before, memory, MEMORY);
+    const CvlStatus expected = reading(row, &g), status = call(row, &g, -1);
+    faults += expected.number != CVL_DONE;
+    if (!is_as(status, expected)) fail(row, "at random", status, expected);
+    refuse_each(row, &g, expected);
+    if (in_parts(row)) by_other_pools(row, &g, expected);
+}
+
+/* ---- vectors that are too long: nothing of them is read, and no memory is asked for ---- */
+
+static void is_too_long(const Row *row, const Given *g, const char *what) {
+    memcpy(before, memory, MEMORY);
+    const CvlStatus expected = reading(row, g), status = call(row, g, -1);
+    if (!is_as(status, expected) || expected.number != CVL_TOO_LONG) fail(row, what, status, expected);
+    if (requests > 0) fail(row, "memory for what is too long", status, expected);
+}
+
+static void make_without_fault(const Row *row, Given *g) {
+    CvlStatus expected;
+    do {
+        make(row, g);
+        memcpy(before, memory, MEMORY);
+        expected = reading(row, g);
+    } while (expected.number != CVL_DONE && expected.number < CVL_DIVIDE_BY_ZERO);
+}
+
+static void too_long(const Row *row) {
+    Given g;
+    const size_t count = count_of(row), lengths = operand(row, "l", 0);
+    choose_pool();
+    if (row->limited >= 0) {
+        do make_without_fault(row, &g);
+        while (reading(row, &g).number != CVL_DONE);
+        for (size_t k = 0; k < count; k++) {
+            if (!is_array(row, k) || role_of(row, k) == 'l' || extent_of(row, k) != extent_of(row, (size_t)row->limited)) continue;
+            g.at[k] = far_memory[k], g.len[k] = CVL_MOST_ELEMENTS + 1;
+        }
+        is_too_long(row, &g, "too long");
+    }
+    if (lengths < count) {
+        do make_without_fault(row, &g);
+        while (reading(row, &g).number != CVL_DONE);
+        for (size_t k = 0; k < count; k++) {
+            if (extent_of(row, k) == 's' && role_of(row, k) == 'r') g.at[k] = far_memory[k], g.len[k] = CVL_MOST_ELEMENTS + 1;
+        }
+        g.at[lengths] = far_memory[lengths], g.len[lengths] = CVL_MOST_ELEMENTS + 1;
+        if (role_of(row, count - 1) == 'R' && extent_of(row, count - 1) == 's') g.at[count - 1] = far_memory[count - 1], g.len[count - 1] = CVL_MOST_ELEMENTS + 1;
+        is_too_long(row, &g, "too many lengths");
+    }
+    if (row->in_place[0] == '0' && strchr(row->in_place, '/') == NULL && lengths == count) {
+        make_without_fault(row, &g);
+        for (size_t k = 0; k < count; k++) g.at[k] = far_memory[0], g.len[k] = SIZE_MAX;
+        if (row->least >= 0) g.op = (uint32_t)row->least;
+        is_too_long(row, &g, "as long as can be");
+    }
+}
+
+int main(int words, char **word) {
+    const long cases = words > 1 ? atol(word[1]) : 150;
+    const char *part_of_name = words > 2 ? word[2] : "";
+    memory_at = memory, written_at = wanted, memory_size = MEMORY;
+    setvbuf(stdout, NULL, _IONBF, 0);
+    for (size_t k = 0; k < MOST_OPERANDS; k++) {
+        far_memory[k] = (unsigned char *)mmap(NULL, FAR_BYTES, PROT_NONE, MAP_PRIVATE | MAP_ANONYMOUS | MAP_NORESERVE, -1, 0);
+        if (far_memory[k] == MAP_FAILED) abort();
+    }
+    if (cvl_threads_start(THREADS, &threads) != 0) abort();
+    for (size_t k = 0; k < ROWS; k++) {
+        if (strstr(rows[k].name, part_of_name) == NULL) continue;
+        for (long c = 0; c < cases; c++) try_one(&rows[k]);
+        for (int c = 0; c < 4; c++) too_long(&rows[k]);
+    }
+    cvl_threads_stop(threads);
+    printf("%d functions, %ld calls, %ld of them with memory refused, %ld arguments with a fault, %ld not as the reading\n", (int)ROWS, calls, refused,
+           faults, failed);
+    return failed == 0 ? EXIT_SUCCESS : EXIT_FAILURE;
+}
