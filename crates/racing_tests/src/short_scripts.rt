@@ -2,7 +2,10 @@
 //! several faults, again and again; and the longest vector.
 
 use crew::Point;
+use cvl_base::NoResources;
+use std::alloc::Global;
 use std::test::Fail;
+use std::thread::Threads;
 use tested_runs::scripts::{ONE, Run, SCAN, Script, TWO, comes_out};
 use watching_gate::{Holds, Race};
 
@@ -168,22 +171,38 @@ const LONGEST: &[Call] = &[("dis_vuz 1 4194304\nb = add_ruz b", SCAN, "b = 41943
 
 const ONCE: &[Run] = &[(1023, 4, 4101, Holds::Nobody)];
 
-#[test]
-fn each_call_held_and_seen(rt: HostRuntime) -> Result<(), Fail> {
-    for (calls, runs) in [(CALLS, RUNS), (FAULTY, AGAIN), (LONGEST, ONCE)] {
-        for (call, race, outcome) in calls {
-            let lines = format!(in rt.alloc(); "{BINDINGS}b = {call}\nwrite b\n")?;
-            let script = Script {
-                lines: lines.as_str(),
-                inputs: INPUTS,
-                outcome,
-                race: *race,
-            };
-            for run in runs {
-                let right = comes_out(&rt, rt.alloc(), &script, *run)?;
-                assert!(rt; right, "{call} in tiles of {} by {}", run.0, run.1);
+/// The first of the calls that does not come out in one of the runs, if one does not, with the tile and the workers of the run.
+fn first_wrong<R: Threads + Sync>(
+    rt: &R,
+    alloc: Global,
+    calls: &[Call],
+    runs: &[Run],
+) -> Result<Option<(&'static str, u32, u32)>, NoResources> {
+    for (call, race, outcome) in calls {
+        let lines = format!(in alloc; "{BINDINGS}b = {call}\nwrite b\n")?;
+        let script = Script {
+            lines: lines.as_str(),
+            inputs: INPUTS,
+            outcome,
+            race: *race,
+        };
+        for run in runs {
+            if !comes_out(rt, alloc, &script, *run)? {
+                return Ok(Some((*call, run.0, run.1)));
             }
         }
     }
+    Ok(None)
+}
+
+#[test]
+fn each_call_held_and_seen(rt: HostRuntime) -> Result<(), Fail> {
+    let held = first_wrong(&rt, rt.alloc(), CALLS, RUNS)?;
+    let faulty = first_wrong(&rt, rt.alloc(), FAULTY, AGAIN)?;
+    let longest = first_wrong(&rt, rt.alloc(), LONGEST, ONCE)?;
+    assert!(rt;
+        held.is_none() && faulty.is_none() && longest.is_none(),
+        "{held:?} {faulty:?} {longest:?}"
+    );
     Ok(())
 }
