@@ -30,7 +30,8 @@ ABOUT = (
     "  - The program has one malloc, realloc and free. Else memory is given back to an allocator that it isn't from.",
     "  - The lengths of a descriptor live as long as calls take it. Else the call may crash or read other memory.",
     "All else is checked, from C and from every language that calls by name: whatever lengths, indices, operators and rooms are given, a call ends "
-    "with a status. It runs on the thread that calls, and several threads may call at once.",
+    "with a status. It runs on the thread that calls, and a long one on threads of the library too, where the program asked for some; several threads "
+    "may call at once.",
     "Where several faults are there, the first of these is told; places count from 0:",
     "  - 102 Overlap; where there is no descriptor, 101 NoDescriptor, before overlaps of other arguments than it;",
     "  - 2 UnknownCall, without a place, where a number is that of no operator of the family;",
@@ -70,12 +71,46 @@ SEGMENTS_TYPE = """typedef struct CvlSegments {
 /* What a descriptor starts as: CvlSegments rows = CVL_NO_SEGMENTS. */
 #define CVL_NO_SEGMENTS {NULL, 0, false}"""
 
-# Functions without a row: the section, the paragraphs of each comment, and the declaration.
+# Functions without a row: the name, the paragraphs of the comment, and the declaration.
 OF_VERSIONS = (
     ("cvl_version", ("The version of the library, as CVL_VERSION has that of the header.",), "const char *cvl_version(void);"),
     (
         "cvl_fault_name", ('The name of the number of a status, as "DivideByZero"; "Unknown" where it is no such number.',),
         "const char *cvl_fault_name(uint32_t number);",
+    ),
+)
+
+THREADS = (
+    "At the start there is one thread, the one that calls. Where cvl_set_threads or the variable CVL_NUM_THREADS says that there are more, for the whole "
+    "process, a long call runs on them: from 262144 elements on, where it reads a text from 131072 bytes on, and where it writes one from 32768 elements "
+    "on. A shorter call runs on the thread that calls, and so does a call that reads one element, reads a nested text, or scans after a carry. What a call "
+    "answers and writes is the same by any number of threads. By several it may take memory for a copy of its room; where there is none, it runs on the "
+    "thread that calls.",
+    "One call at a time has the threads. Another one meanwhile runs on the thread that calls it, so that no call waits for another, and none waits for "
+    "cvl_set_threads. A call in parts on a pool of the caller's, of cvl_parallel.h, takes the threads of that pool alone.",
+    "Between calls the threads sleep. They block all signals, so that handlers run on the program's own threads; a handler calls nothing of the library. "
+    "The child of a fork has none of the threads, and may set a number of its own, also where the fork came in the middle of a call by another thread. "
+    "At exit nothing is owed: the threads end with the process. Before the library is unloaded, by dlclose, cvl_set_threads(1) ends them, since they would "
+    "go on in memory that is gone.",
+)
+OF_THREADS = (
+    (
+        "cvl_set_threads",
+        (
+            "Says how many threads there are for long calls, 1 to 64, with the one that calls. The answer is 0; EINVAL where it is no such number; or the "
+            "number of an error of POSIX, as EAGAIN, where a thread can't be started; after either there are as many as before. It waits for the call that "
+            "has the threads. Several threads may say a number at once.",
+        ),
+        "int cvl_set_threads(size_t threads);",
+    ),
+    (
+        "cvl_threads",
+        (
+            "How many threads there are: what cvl_set_threads said last, before that what CVL_NUM_THREADS says, a number from 1 to 64 in digits alone, and "
+            "else 1. The variable is read once, by the first call that asks, which is this one or a long call; where so many can't be started, there is one. "
+            "In the child of a fork there is one until it says another number; where nobody had asked before the fork, it begins as any program does.",
+        ),
+        "size_t cvl_threads(void);",
     ),
 )
 OF_FLAGS = (

@@ -145,8 +145,8 @@ OF_FAMILIES = {
         "  1. each thread reduces its tiles: cvl_int_reduce(op, a + from, to - from, &sums[t]), for tile t from place `from` to `to`;",
         "  2. one thread scans the sums: cvl_int_scan(op, sums, tiles, before, tiles);",
         "  3. each thread scans its tiles: cvl_int_scan_after(op, before[t], a + from, to - from, out + from, to - from).",
-        "Then out is what cvl_int_scan gives of the whole. The tiles may have any lengths, 0 too, and any thread may take any tile of a step. No "
-        "call of this header starts a thread or waits for another. examples/c/threads.c does this with POSIX threads.",
+        "Then out is what cvl_int_scan gives of the whole. The tiles may have any lengths, 0 too, and any thread may take any tile of a step. "
+        "examples/c/threads.c does this with POSIX threads.",
     ),
     "calls in parts": (
         "A caller with threads or machines of its own makes a call in parts, each a range of the vector. Most calls need nothing more than "

@@ -41,7 +41,8 @@
  *   - The lengths of a descriptor live as long as calls take it. Else the call may crash or read other memory.
  *
  * All else is checked, from C and from every language that calls by name: whatever lengths, indices, operators and rooms are
- * given, a call ends with a status. It runs on the thread that calls, and several threads may call at once.
+ * given, a call ends with a status. It runs on the thread that calls, and a long one on threads of the library too, where the
+ * program asked for some; several threads may call at once.
  *
  * Where several faults are there, the first of these is told; places count from 0:
  *
@@ -158,6 +159,39 @@ const char *cvl_version(void);
 
 /* The name of the number of a status, as "DivideByZero"; "Unknown" where it is no such number. */
 const char *cvl_fault_name(uint32_t number);
+
+/* ---- threads ---- */
+
+/*
+ * At the start there is one thread, the one that calls. Where cvl_set_threads or the variable CVL_NUM_THREADS says that there
+ * are more, for the whole process, a long call runs on them: from 262144 elements on, where it reads a text from 131072 bytes
+ * on, and where it writes one from 32768 elements on. A shorter call runs on the thread that calls, and so does a call that
+ * reads one element, reads a nested text, or scans after a carry. What a call answers and writes is the same by any number of
+ * threads. By several it may take memory for a copy of its room; where there is none, it runs on the thread that calls.
+ *
+ * One call at a time has the threads. Another one meanwhile runs on the thread that calls it, so that no call waits for
+ * another, and none waits for cvl_set_threads. A call in parts on a pool of the caller's, of cvl_parallel.h, takes the threads
+ * of that pool alone.
+ *
+ * Between calls the threads sleep. They block all signals, so that handlers run on the program's own threads; a handler calls
+ * nothing of the library. The child of a fork has none of the threads, and may set a number of its own, also where the fork
+ * came in the middle of a call by another thread. At exit nothing is owed: the threads end with the process. Before the library
+ * is unloaded, by dlclose, cvl_set_threads(1) ends them, since they would go on in memory that is gone.
+ */
+/*
+ * Says how many threads there are for long calls, 1 to 64, with the one that calls. The answer is 0; EINVAL where it is no such
+ * number; or the number of an error of POSIX, as EAGAIN, where a thread can't be started; after either there are as many as
+ * before. It waits for the call that has the threads. Several threads may say a number at once.
+ */
+int cvl_set_threads(size_t threads);
+
+/*
+ * How many threads there are: what cvl_set_threads said last, before that what CVL_NUM_THREADS says, a number from 1 to 64 in
+ * digits alone, and else 1. The variable is read once, by the first call that asks, which is this one or a long call; where so
+ * many can't be started, there is one. In the child of a fork there is one until it says another number; where nobody had asked
+ * before the fork, it begins as any program does.
+ */
+size_t cvl_threads(void);
 
 /* ---- place by place: families ---- */
 
@@ -467,7 +501,7 @@ CVL_CHECKED CvlStatus cvl_seg_write_bools(const bool *a, size_t a_len, CvlLength
  *   3. each thread scans its tiles: cvl_int_scan_after(op, before[t], a + from, to - from, out + from, to - from).
  *
  * Then out is what cvl_int_scan gives of the whole. The tiles may have any lengths, 0 too, and any thread may take any tile of
- * a step. No call of this header starts a thread or waits for another. examples/c/threads.c does this with POSIX threads.
+ * a step. examples/c/threads.c does this with POSIX threads.
  */
 
 /* For each integer `before`, joined by the operator, of CVL_ADD to CVL_XOR, with those in front of it. */

@@ -1,10 +1,12 @@
 /*
- * The functions of cvl.h: each family, which looks at what its export cannot see and then calls it; each call of the table by
- * its family; the families on segments with a descriptor in the place of lengths; and the names of faults.
+ * The functions of cvl.h: each family, which looks at what its export cannot see and then calls it, and which takes the threads
+ * of the process where it is long; each call of the table by its family; the families on segments with a descriptor in the
+ * place of lengths; and the names of faults.
  * Written by bindings/generate from bindings/table.py; edit that and not this file.
  */
 #include "families.h"
 #include "segments.h"
+#include "threads.h"
 
 const char *cvl_fault_name(uint32_t number) {
     switch (number) {
@@ -35,57 +37,111 @@ static CvlStatus int2_asked(uint32_t op, size_t a_len, size_t b_len, size_t out_
     return cvl_asked(&asked);
 }
 
-CvlStatus cvl_int2(uint32_t op, const int32_t *a, size_t a_len, const int32_t *b, size_t b_len, int32_t *out, size_t out_len) {
+CvlStatus cvl_int2_alone(uint32_t op, const int32_t *a, size_t a_len, const int32_t *b, size_t b_len, int32_t *out,
+    size_t out_len) {
     if (cvl_int2_meets(a, a_len, b, b_len, out, out_len)) return cvl_overlap();
     if (!cvl_int2_agrees(op, a_len, b_len, out_len)) return int2_asked(op, a_len, b_len, out_len);
     return cvl_int2_placed(op, a, a_len, b, b_len, out, out_len);
 }
 
-CvlStatus cvl_bool2(uint32_t op, const bool *a, size_t a_len, const bool *b, size_t b_len, bool *out, size_t out_len) {
+CvlStatus cvl_int2(uint32_t op, const int32_t *a, size_t a_len, const int32_t *b, size_t b_len, int32_t *out, size_t out_len) {
+    if (a_len < CVL_LEAST_SHARED) return cvl_int2_alone(op, a, a_len, b, b_len, out, out_len);
+    return cvl_int2_shared(op, a, a_len, b, b_len, out, out_len);
+}
+
+CvlStatus cvl_bool2_alone(uint32_t op, const bool *a, size_t a_len, const bool *b, size_t b_len, bool *out, size_t out_len) {
     if (cvl_bool2_meets(a, a_len, b, b_len, out, out_len)) return cvl_overlap();
     return cvl_bool2_placed(op, a, a_len, b, b_len, out, out_len);
 }
 
-CvlStatus cvl_int1(uint32_t op, const int32_t *a, size_t a_len, int32_t *out, size_t out_len) {
+CvlStatus cvl_bool2(uint32_t op, const bool *a, size_t a_len, const bool *b, size_t b_len, bool *out, size_t out_len) {
+    if (a_len < CVL_LEAST_SHARED) return cvl_bool2_alone(op, a, a_len, b, b_len, out, out_len);
+    return cvl_bool2_shared(op, a, a_len, b, b_len, out, out_len);
+}
+
+CvlStatus cvl_int1_alone(uint32_t op, const int32_t *a, size_t a_len, int32_t *out, size_t out_len) {
     if (cvl_int1_meets(a, a_len, out, out_len)) return cvl_overlap();
     return cvl_int1_placed(op, a, a_len, out, out_len);
 }
 
-CvlStatus cvl_bool1(uint32_t op, const bool *a, size_t a_len, bool *out, size_t out_len) {
+CvlStatus cvl_int1(uint32_t op, const int32_t *a, size_t a_len, int32_t *out, size_t out_len) {
+    if (a_len < CVL_LEAST_SHARED) return cvl_int1_alone(op, a, a_len, out, out_len);
+    return cvl_int1_shared(op, a, a_len, out, out_len);
+}
+
+CvlStatus cvl_bool1_alone(uint32_t op, const bool *a, size_t a_len, bool *out, size_t out_len) {
     if (cvl_bool1_meets(a, a_len, out, out_len)) return cvl_overlap();
     return cvl_bool1_placed(op, a, a_len, out, out_len);
 }
 
-CvlStatus cvl_compare(uint32_t op, const int32_t *a, size_t a_len, const int32_t *b, size_t b_len, bool *out, size_t out_len) {
+CvlStatus cvl_bool1(uint32_t op, const bool *a, size_t a_len, bool *out, size_t out_len) {
+    if (a_len < CVL_LEAST_SHARED) return cvl_bool1_alone(op, a, a_len, out, out_len);
+    return cvl_bool1_shared(op, a, a_len, out, out_len);
+}
+
+CvlStatus cvl_compare_alone(uint32_t op, const int32_t *a, size_t a_len, const int32_t *b, size_t b_len, bool *out,
+    size_t out_len) {
     if (cvl_compare_meets(a, a_len, b, b_len, out, out_len)) return cvl_overlap();
     return cvl_proved_compare(op, a, a_len, b, b_len, out, out_len);
 }
 
-CvlStatus cvl_int_from_bool(const bool *a, size_t a_len, int32_t *out, size_t out_len) {
+CvlStatus cvl_compare(uint32_t op, const int32_t *a, size_t a_len, const int32_t *b, size_t b_len, bool *out, size_t out_len) {
+    if (a_len < CVL_LEAST_SHARED) return cvl_compare_alone(op, a, a_len, b, b_len, out, out_len);
+    return cvl_compare_shared(op, a, a_len, b, b_len, out, out_len);
+}
+
+CvlStatus cvl_int_from_bool_alone(const bool *a, size_t a_len, int32_t *out, size_t out_len) {
     if (cvl_int_from_bool_meets(a, a_len, out, out_len)) return cvl_overlap();
     return cvl_proved_int_from_bool(a, a_len, out, out_len);
 }
 
-CvlStatus cvl_bool_from_int(const int32_t *a, size_t a_len, bool *out, size_t out_len) {
+CvlStatus cvl_int_from_bool(const bool *a, size_t a_len, int32_t *out, size_t out_len) {
+    if (a_len < CVL_LEAST_SHARED) return cvl_int_from_bool_alone(a, a_len, out, out_len);
+    return cvl_int_from_bool_shared(a, a_len, out, out_len);
+}
+
+CvlStatus cvl_bool_from_int_alone(const int32_t *a, size_t a_len, bool *out, size_t out_len) {
     if (cvl_bool_from_int_meets(a, a_len, out, out_len)) return cvl_overlap();
     return cvl_proved_bool_from_int(a, a_len, out, out_len);
 }
 
-CvlStatus cvl_select_int(const bool *flags, size_t flags_len, const int32_t *a, size_t a_len, const int32_t *b, size_t b_len,
-    int32_t *out, size_t out_len) {
+CvlStatus cvl_bool_from_int(const int32_t *a, size_t a_len, bool *out, size_t out_len) {
+    if (a_len < CVL_LEAST_SHARED) return cvl_bool_from_int_alone(a, a_len, out, out_len);
+    return cvl_bool_from_int_shared(a, a_len, out, out_len);
+}
+
+CvlStatus cvl_select_int_alone(const bool *flags, size_t flags_len, const int32_t *a, size_t a_len, const int32_t *b,
+    size_t b_len, int32_t *out, size_t out_len) {
     if (cvl_select_int_meets(flags, flags_len, a, a_len, b, b_len, out, out_len)) return cvl_overlap();
     return cvl_select_int_placed(flags, flags_len, a, a_len, b, b_len, out, out_len);
 }
 
-CvlStatus cvl_select_bool(const bool *flags, size_t flags_len, const bool *a, size_t a_len, const bool *b, size_t b_len,
+CvlStatus cvl_select_int(const bool *flags, size_t flags_len, const int32_t *a, size_t a_len, const int32_t *b, size_t b_len,
+    int32_t *out, size_t out_len) {
+    if (flags_len < CVL_LEAST_SHARED) return cvl_select_int_alone(flags, flags_len, a, a_len, b, b_len, out, out_len);
+    return cvl_select_int_shared(flags, flags_len, a, a_len, b, b_len, out, out_len);
+}
+
+CvlStatus cvl_select_bool_alone(const bool *flags, size_t flags_len, const bool *a, size_t a_len, const bool *b, size_t b_len,
     bool *out, size_t out_len) {
     if (cvl_select_bool_meets(flags, flags_len, a, a_len, b, b_len, out, out_len)) return cvl_overlap();
     return cvl_select_bool_placed(flags, flags_len, a, a_len, b, b_len, out, out_len);
 }
 
-CvlStatus cvl_int_scan(uint32_t op, const int32_t *a, size_t a_len, int32_t *out, size_t out_len) {
+CvlStatus cvl_select_bool(const bool *flags, size_t flags_len, const bool *a, size_t a_len, const bool *b, size_t b_len,
+    bool *out, size_t out_len) {
+    if (flags_len < CVL_LEAST_SHARED) return cvl_select_bool_alone(flags, flags_len, a, a_len, b, b_len, out, out_len);
+    return cvl_select_bool_shared(flags, flags_len, a, a_len, b, b_len, out, out_len);
+}
+
+CvlStatus cvl_int_scan_alone(uint32_t op, const int32_t *a, size_t a_len, int32_t *out, size_t out_len) {
     if (cvl_int_scan_meets(a, a_len, out, out_len)) return cvl_overlap();
     return cvl_int_scan_placed(op, a, a_len, out, out_len);
+}
+
+CvlStatus cvl_int_scan(uint32_t op, const int32_t *a, size_t a_len, int32_t *out, size_t out_len) {
+    if (a_len < CVL_LEAST_SHARED) return cvl_int_scan_alone(op, a, a_len, out, out_len);
+    return cvl_int_scan_shared(op, a, a_len, out, out_len);
 }
 
 static CvlStatus bool_scan_asked(uint32_t op, size_t a_len, size_t out_len) {
@@ -107,21 +163,36 @@ static CvlStatus bool_scan_copied(uint32_t op, const bool *a, size_t a_len, bool
     return status;
 }
 
-CvlStatus cvl_bool_scan(uint32_t op, const bool *a, size_t a_len, bool *out, size_t out_len) {
+CvlStatus cvl_bool_scan_alone(uint32_t op, const bool *a, size_t a_len, bool *out, size_t out_len) {
     if (cvl_bool_scan_meets(a, a_len, out, out_len)) return cvl_overlap();
     if (!cvl_bool_scan_agrees(op, a_len, out_len)) return bool_scan_asked(op, a_len, out_len);
     if (!cvl_proved_are_flags(a, a_len)) return bool_scan_copied(op, a, a_len, out, out_len);
     return cvl_bool_scan_placed(op, a, a_len, out, out_len);
 }
 
-CvlStatus cvl_int_reduce(uint32_t op, const int32_t *a, size_t a_len, int32_t *out) {
+CvlStatus cvl_bool_scan(uint32_t op, const bool *a, size_t a_len, bool *out, size_t out_len) {
+    if (a_len < CVL_LEAST_SHARED) return cvl_bool_scan_alone(op, a, a_len, out, out_len);
+    return cvl_bool_scan_shared(op, a, a_len, out, out_len);
+}
+
+CvlStatus cvl_int_reduce_alone(uint32_t op, const int32_t *a, size_t a_len, int32_t *out) {
     if (cvl_int_reduce_meets(a, a_len, out)) return cvl_overlap();
     return cvl_proved_int_reduce(op, a, a_len, out);
 }
 
-CvlStatus cvl_bool_reduce(uint32_t op, const bool *a, size_t a_len, bool *out) {
+CvlStatus cvl_int_reduce(uint32_t op, const int32_t *a, size_t a_len, int32_t *out) {
+    if (a_len < CVL_LEAST_SHARED) return cvl_int_reduce_alone(op, a, a_len, out);
+    return cvl_int_reduce_shared(op, a, a_len, out);
+}
+
+CvlStatus cvl_bool_reduce_alone(uint32_t op, const bool *a, size_t a_len, bool *out) {
     if (cvl_bool_reduce_meets(a, a_len, out)) return cvl_overlap();
     return cvl_proved_bool_reduce(op, a, a_len, out);
+}
+
+CvlStatus cvl_bool_reduce(uint32_t op, const bool *a, size_t a_len, bool *out) {
+    if (a_len < CVL_LEAST_SHARED) return cvl_bool_reduce_alone(op, a, a_len, out);
+    return cvl_bool_reduce_shared(op, a, a_len, out);
 }
 
 static CvlStatus checked_scan_asked(size_t a_len, size_t out_len) {
@@ -133,15 +204,25 @@ static CvlStatus checked_scan_asked(size_t a_len, size_t out_len) {
     return cvl_asked(&asked);
 }
 
-CvlStatus cvl_checked_scan(const int32_t *a, size_t a_len, int32_t *out, size_t out_len) {
+CvlStatus cvl_checked_scan_alone(const int32_t *a, size_t a_len, int32_t *out, size_t out_len) {
     if (cvl_checked_scan_meets(a, a_len, out, out_len)) return cvl_overlap();
     if (!cvl_checked_scan_agrees(a_len, out_len)) return checked_scan_asked(a_len, out_len);
     return cvl_checked_scan_placed(a, a_len, out, out_len);
 }
 
-CvlStatus cvl_checked_reduce(const int32_t *a, size_t a_len, int32_t *out) {
+CvlStatus cvl_checked_scan(const int32_t *a, size_t a_len, int32_t *out, size_t out_len) {
+    if (a_len < CVL_LEAST_SHARED) return cvl_checked_scan_alone(a, a_len, out, out_len);
+    return cvl_checked_scan_shared(a, a_len, out, out_len);
+}
+
+CvlStatus cvl_checked_reduce_alone(const int32_t *a, size_t a_len, int32_t *out) {
     if (cvl_checked_reduce_meets(a, a_len, out)) return cvl_overlap();
     return cvl_proved_checked_reduce(a, a_len, out);
+}
+
+CvlStatus cvl_checked_reduce(const int32_t *a, size_t a_len, int32_t *out) {
+    if (a_len < CVL_LEAST_SHARED) return cvl_checked_reduce_alone(a, a_len, out);
+    return cvl_checked_reduce_shared(a, a_len, out);
 }
 
 static CvlStatus seg_checked_scan_asked(size_t a_len, CvlLengths lengths, size_t out_len) {
@@ -153,10 +234,15 @@ static CvlStatus seg_checked_scan_asked(size_t a_len, CvlLengths lengths, size_t
     return cvl_asked(&asked);
 }
 
-CvlStatus cvl_seg_checked_scan(const int32_t *a, size_t a_len, CvlLengths lengths, int32_t *out, size_t out_len) {
+CvlStatus cvl_seg_checked_scan_alone(const int32_t *a, size_t a_len, CvlLengths lengths, int32_t *out, size_t out_len) {
     if (cvl_seg_checked_scan_meets(a, a_len, lengths, out, out_len)) return cvl_overlap();
     if (!cvl_seg_checked_scan_agrees(a_len, lengths, out_len)) return seg_checked_scan_asked(a_len, lengths, out_len);
     return cvl_seg_checked_scan_placed(a, a_len, lengths, out, out_len);
+}
+
+CvlStatus cvl_seg_checked_scan(const int32_t *a, size_t a_len, CvlLengths lengths, int32_t *out, size_t out_len) {
+    if (a_len < CVL_LEAST_SHARED) return cvl_seg_checked_scan_alone(a, a_len, lengths, out, out_len);
+    return cvl_seg_checked_scan_shared(a, a_len, lengths, out, out_len);
 }
 
 static CvlStatus seg_checked_reduce_asked(size_t a_len, CvlLengths lengths, size_t out_len) {
@@ -168,7 +254,7 @@ static CvlStatus seg_checked_reduce_asked(size_t a_len, CvlLengths lengths, size
     return cvl_asked(&asked);
 }
 
-CvlStatus cvl_seg_checked_reduce(const int32_t *a, size_t a_len, CvlLengths lengths, int32_t *out, size_t out_len) {
+CvlStatus cvl_seg_checked_reduce_alone(const int32_t *a, size_t a_len, CvlLengths lengths, int32_t *out, size_t out_len) {
     if (cvl_seg_checked_reduce_meets(a, a_len, lengths, out, out_len)) return cvl_overlap();
     if (!cvl_seg_checked_reduce_agrees(a_len, lengths, out_len)) return seg_checked_reduce_asked(a_len, lengths, out_len);
     const CvlStatus status = cvl_proved_seg_checked_reduce(a, a_len, lengths.lengths, lengths.segments, out, out_len);
@@ -177,9 +263,19 @@ CvlStatus cvl_seg_checked_reduce(const int32_t *a, size_t a_len, CvlLengths leng
     return before.number == CVL_DONE ? status : before;
 }
 
-CvlStatus cvl_count(const bool *flags, size_t flags_len, int32_t *out) {
+CvlStatus cvl_seg_checked_reduce(const int32_t *a, size_t a_len, CvlLengths lengths, int32_t *out, size_t out_len) {
+    if (a_len < CVL_LEAST_SHARED) return cvl_seg_checked_reduce_alone(a, a_len, lengths, out, out_len);
+    return cvl_seg_checked_reduce_shared(a, a_len, lengths, out, out_len);
+}
+
+CvlStatus cvl_count_alone(const bool *flags, size_t flags_len, int32_t *out) {
     if (cvl_count_meets(flags, flags_len, out)) return cvl_overlap();
     return cvl_proved_count(flags, flags_len, out);
+}
+
+CvlStatus cvl_count(const bool *flags, size_t flags_len, int32_t *out) {
+    if (flags_len < CVL_LEAST_SHARED) return cvl_count_alone(flags, flags_len, out);
+    return cvl_count_shared(flags, flags_len, out);
 }
 
 CvlStatus cvl_extract_int(const int32_t *vector, size_t vector_len, int64_t index, int32_t *out) {
@@ -200,7 +296,7 @@ static CvlStatus replace_int_asked(size_t vector_len, size_t out_len) {
     return cvl_asked(&asked);
 }
 
-CvlStatus cvl_replace_int(const int32_t *vector, size_t vector_len, int64_t index, int32_t value, int32_t *out,
+CvlStatus cvl_replace_int_alone(const int32_t *vector, size_t vector_len, int64_t index, int32_t value, int32_t *out,
     size_t out_len) {
     if (cvl_replace_int_meets(vector, vector_len, out, out_len)) return cvl_overlap();
     if (!cvl_replace_int_agrees(vector_len, out_len)) return replace_int_asked(vector_len, out_len);
@@ -208,6 +304,12 @@ CvlStatus cvl_replace_int(const int32_t *vector, size_t vector_len, int64_t inde
     if (!cvl_is_late(status)) return status;
     const CvlStatus before = replace_int_asked(vector_len, out_len);
     return before.number == CVL_DONE ? status : before;
+}
+
+CvlStatus cvl_replace_int(const int32_t *vector, size_t vector_len, int64_t index, int32_t value, int32_t *out,
+    size_t out_len) {
+    if (vector_len < CVL_LEAST_SHARED) return cvl_replace_int_alone(vector, vector_len, index, value, out, out_len);
+    return cvl_replace_int_shared(vector, vector_len, index, value, out, out_len);
 }
 
 static CvlStatus replace_bool_asked(size_t vector_len, size_t out_len) {
@@ -218,33 +320,58 @@ static CvlStatus replace_bool_asked(size_t vector_len, size_t out_len) {
     return cvl_asked(&asked);
 }
 
-CvlStatus cvl_replace_bool(const bool *vector, size_t vector_len, int64_t index, bool value, bool *out, size_t out_len) {
+CvlStatus cvl_replace_bool_alone(const bool *vector, size_t vector_len, int64_t index, bool value, bool *out, size_t out_len) {
     if (cvl_replace_bool_meets(vector, vector_len, out, out_len)) return cvl_overlap();
     if (!cvl_replace_bool_agrees(vector_len, out_len)) return replace_bool_asked(vector_len, out_len);
     return cvl_proved_replace_bool(vector, vector_len, cvl_place_of(index), value != 0, out, out_len);
 }
 
-CvlStatus cvl_distribute_int(int32_t value, int64_t count, int32_t *out, size_t out_len) {
+CvlStatus cvl_replace_bool(const bool *vector, size_t vector_len, int64_t index, bool value, bool *out, size_t out_len) {
+    if (vector_len < CVL_LEAST_SHARED) return cvl_replace_bool_alone(vector, vector_len, index, value, out, out_len);
+    return cvl_replace_bool_shared(vector, vector_len, index, value, out, out_len);
+}
+
+CvlStatus cvl_distribute_int_alone(int32_t value, int64_t count, int32_t *out, size_t out_len) {
     if (count < 0) return cvl_status(CVL_NEGATIVE_LENGTH, -1);
     if (count > CVL_MOST_ELEMENTS) return cvl_status(CVL_TOO_LONG, -1);
     return cvl_proved_distribute_int(value, (int32_t)count, out, out_len);
 }
 
-CvlStatus cvl_distribute_bool(bool value, int64_t count, bool *out, size_t out_len) {
+CvlStatus cvl_distribute_int(int32_t value, int64_t count, int32_t *out, size_t out_len) {
+    if (out_len < CVL_LEAST_SHARED) return cvl_distribute_int_alone(value, count, out, out_len);
+    return cvl_distribute_int_shared(value, count, out, out_len);
+}
+
+CvlStatus cvl_distribute_bool_alone(bool value, int64_t count, bool *out, size_t out_len) {
     if (count < 0) return cvl_status(CVL_NEGATIVE_LENGTH, -1);
     if (count > CVL_MOST_ELEMENTS) return cvl_status(CVL_TOO_LONG, -1);
     return cvl_proved_distribute_bool(value != 0, (int32_t)count, out, out_len);
 }
 
-CvlStatus cvl_index(int32_t init, int32_t stride, int64_t count, int32_t *out, size_t out_len) {
+CvlStatus cvl_distribute_bool(bool value, int64_t count, bool *out, size_t out_len) {
+    if (out_len < CVL_LEAST_SHARED) return cvl_distribute_bool_alone(value, count, out, out_len);
+    return cvl_distribute_bool_shared(value, count, out, out_len);
+}
+
+CvlStatus cvl_index_alone(int32_t init, int32_t stride, int64_t count, int32_t *out, size_t out_len) {
     if (count < 0) return cvl_status(CVL_NEGATIVE_LENGTH, -1);
     if (count > CVL_MOST_ELEMENTS) return cvl_status(CVL_TOO_LONG, -1);
     return cvl_proved_index(init, stride, (int32_t)count, out, out_len);
 }
 
-CvlStatus cvl_make_descriptor(CvlLengths lengths, size_t *total) {
+CvlStatus cvl_index(int32_t init, int32_t stride, int64_t count, int32_t *out, size_t out_len) {
+    if (out_len < CVL_LEAST_SHARED) return cvl_index_alone(init, stride, count, out, out_len);
+    return cvl_index_shared(init, stride, count, out, out_len);
+}
+
+CvlStatus cvl_make_descriptor_alone(CvlLengths lengths, size_t *total) {
     if (cvl_make_descriptor_meets(lengths, total)) return cvl_overlap();
     return cvl_proved_make_descriptor(lengths.lengths, lengths.segments, total);
+}
+
+CvlStatus cvl_make_descriptor(CvlLengths lengths, size_t *total) {
+    if (lengths.segments < CVL_LEAST_SHARED) return cvl_make_descriptor_alone(lengths, total);
+    return cvl_make_descriptor_shared(lengths, total);
 }
 
 static CvlStatus seg_extract_int_asked(size_t vector_len, size_t index_len, CvlLengths lengths, size_t out_len) {
@@ -256,7 +383,7 @@ static CvlStatus seg_extract_int_asked(size_t vector_len, size_t index_len, CvlL
     return cvl_asked(&asked);
 }
 
-CvlStatus cvl_seg_extract_int(const int32_t *vector, size_t vector_len, const int32_t *index, size_t index_len,
+CvlStatus cvl_seg_extract_int_alone(const int32_t *vector, size_t vector_len, const int32_t *index, size_t index_len,
     CvlLengths lengths, int32_t *out, size_t out_len) {
     if (cvl_seg_extract_int_meets(vector, vector_len, index, index_len, lengths, out, out_len)) return cvl_overlap();
     if (!cvl_seg_extract_int_agrees(vector_len, index_len, lengths, out_len)) {
@@ -269,6 +396,14 @@ CvlStatus cvl_seg_extract_int(const int32_t *vector, size_t vector_len, const in
     return before.number == CVL_DONE ? status : before;
 }
 
+CvlStatus cvl_seg_extract_int(const int32_t *vector, size_t vector_len, const int32_t *index, size_t index_len,
+    CvlLengths lengths, int32_t *out, size_t out_len) {
+    if (vector_len < CVL_LEAST_SHARED) {
+        return cvl_seg_extract_int_alone(vector, vector_len, index, index_len, lengths, out, out_len);
+    }
+    return cvl_seg_extract_int_shared(vector, vector_len, index, index_len, lengths, out, out_len);
+}
+
 static CvlStatus seg_extract_bool_asked(size_t vector_len, size_t index_len, CvlLengths lengths, size_t out_len) {
     CvlAsked asked;
     memset(&asked, 0, sizeof asked);
@@ -278,7 +413,7 @@ static CvlStatus seg_extract_bool_asked(size_t vector_len, size_t index_len, Cvl
     return cvl_asked(&asked);
 }
 
-CvlStatus cvl_seg_extract_bool(const bool *vector, size_t vector_len, const int32_t *index, size_t index_len,
+CvlStatus cvl_seg_extract_bool_alone(const bool *vector, size_t vector_len, const int32_t *index, size_t index_len,
     CvlLengths lengths, bool *out, size_t out_len) {
     if (cvl_seg_extract_bool_meets(vector, vector_len, index, index_len, lengths, out, out_len)) return cvl_overlap();
     if (!cvl_seg_extract_bool_agrees(vector_len, index_len, lengths, out_len)) {
@@ -291,6 +426,14 @@ CvlStatus cvl_seg_extract_bool(const bool *vector, size_t vector_len, const int3
     return before.number == CVL_DONE ? status : before;
 }
 
+CvlStatus cvl_seg_extract_bool(const bool *vector, size_t vector_len, const int32_t *index, size_t index_len,
+    CvlLengths lengths, bool *out, size_t out_len) {
+    if (vector_len < CVL_LEAST_SHARED) {
+        return cvl_seg_extract_bool_alone(vector, vector_len, index, index_len, lengths, out, out_len);
+    }
+    return cvl_seg_extract_bool_shared(vector, vector_len, index, index_len, lengths, out, out_len);
+}
+
 static CvlStatus seg_replace_int_asked(size_t vector_len, size_t index_len, size_t values_len, CvlLengths lengths,
     size_t out_len) {
     CvlAsked asked;
@@ -301,7 +444,7 @@ static CvlStatus seg_replace_int_asked(size_t vector_len, size_t index_len, size
     return cvl_asked(&asked);
 }
 
-CvlStatus cvl_seg_replace_int(const int32_t *vector, size_t vector_len, const int32_t *index, size_t index_len,
+CvlStatus cvl_seg_replace_int_alone(const int32_t *vector, size_t vector_len, const int32_t *index, size_t index_len,
     const int32_t *values, size_t values_len, CvlLengths lengths, int32_t *out, size_t out_len) {
     if (cvl_seg_replace_int_meets(vector, vector_len, index, index_len, values, values_len, lengths, out, out_len)) {
         return cvl_overlap();
@@ -314,6 +457,14 @@ CvlStatus cvl_seg_replace_int(const int32_t *vector, size_t vector_len, const in
     if (!cvl_is_late(status)) return status;
     const CvlStatus before = seg_replace_int_asked(vector_len, index_len, values_len, lengths, out_len);
     return before.number == CVL_DONE ? status : before;
+}
+
+CvlStatus cvl_seg_replace_int(const int32_t *vector, size_t vector_len, const int32_t *index, size_t index_len,
+    const int32_t *values, size_t values_len, CvlLengths lengths, int32_t *out, size_t out_len) {
+    if (vector_len < CVL_LEAST_SHARED) {
+        return cvl_seg_replace_int_alone(vector, vector_len, index, index_len, values, values_len, lengths, out, out_len);
+    }
+    return cvl_seg_replace_int_shared(vector, vector_len, index, index_len, values, values_len, lengths, out, out_len);
 }
 
 static CvlStatus seg_replace_bool_asked(size_t vector_len, size_t index_len, size_t values_len, CvlLengths lengths,
@@ -339,7 +490,7 @@ static CvlStatus seg_replace_bool_copied(const bool *vector, size_t vector_len, 
     return status;
 }
 
-CvlStatus cvl_seg_replace_bool(const bool *vector, size_t vector_len, const int32_t *index, size_t index_len,
+CvlStatus cvl_seg_replace_bool_alone(const bool *vector, size_t vector_len, const int32_t *index, size_t index_len,
     const bool *values, size_t values_len, CvlLengths lengths, bool *out, size_t out_len) {
     if (cvl_seg_replace_bool_meets(vector, vector_len, index, index_len, values, values_len, lengths, out, out_len)) {
         return cvl_overlap();
@@ -357,6 +508,14 @@ CvlStatus cvl_seg_replace_bool(const bool *vector, size_t vector_len, const int3
     return before.number == CVL_DONE ? status : before;
 }
 
+CvlStatus cvl_seg_replace_bool(const bool *vector, size_t vector_len, const int32_t *index, size_t index_len,
+    const bool *values, size_t values_len, CvlLengths lengths, bool *out, size_t out_len) {
+    if (vector_len < CVL_LEAST_SHARED) {
+        return cvl_seg_replace_bool_alone(vector, vector_len, index, index_len, values, values_len, lengths, out, out_len);
+    }
+    return cvl_seg_replace_bool_shared(vector, vector_len, index, index_len, values, values_len, lengths, out, out_len);
+}
+
 static CvlStatus seg_distribute_int_asked(size_t values_len, CvlLengths lengths, size_t out_len) {
     CvlAsked asked;
     memset(&asked, 0, sizeof asked);
@@ -366,7 +525,8 @@ static CvlStatus seg_distribute_int_asked(size_t values_len, CvlLengths lengths,
     return cvl_asked(&asked);
 }
 
-CvlStatus cvl_seg_distribute_int(const int32_t *values, size_t values_len, CvlLengths lengths, int32_t *out, size_t out_len) {
+CvlStatus cvl_seg_distribute_int_alone(const int32_t *values, size_t values_len, CvlLengths lengths, int32_t *out,
+    size_t out_len) {
     if (cvl_seg_distribute_int_meets(values, values_len, lengths, out, out_len)) return cvl_overlap();
     if (!cvl_seg_distribute_int_agrees(values_len, lengths, out_len)) {
         return seg_distribute_int_asked(values_len, lengths, out_len);
@@ -375,6 +535,11 @@ CvlStatus cvl_seg_distribute_int(const int32_t *values, size_t values_len, CvlLe
     if (!cvl_is_late(status)) return status;
     const CvlStatus before = seg_distribute_int_asked(values_len, lengths, out_len);
     return before.number == CVL_DONE ? status : before;
+}
+
+CvlStatus cvl_seg_distribute_int(const int32_t *values, size_t values_len, CvlLengths lengths, int32_t *out, size_t out_len) {
+    if (out_len < CVL_LEAST_SHARED) return cvl_seg_distribute_int_alone(values, values_len, lengths, out, out_len);
+    return cvl_seg_distribute_int_shared(values, values_len, lengths, out, out_len);
 }
 
 static CvlStatus seg_distribute_bool_asked(size_t values_len, CvlLengths lengths, size_t out_len) {
@@ -397,7 +562,7 @@ static CvlStatus seg_distribute_bool_copied(const bool *values, size_t values_le
     return status;
 }
 
-CvlStatus cvl_seg_distribute_bool(const bool *values, size_t values_len, CvlLengths lengths, bool *out, size_t out_len) {
+CvlStatus cvl_seg_distribute_bool_alone(const bool *values, size_t values_len, CvlLengths lengths, bool *out, size_t out_len) {
     if (cvl_seg_distribute_bool_meets(values, values_len, lengths, out, out_len)) return cvl_overlap();
     if (!cvl_seg_distribute_bool_agrees(values_len, lengths, out_len)) {
         return seg_distribute_bool_asked(values_len, lengths, out_len);
@@ -409,6 +574,11 @@ CvlStatus cvl_seg_distribute_bool(const bool *values, size_t values_len, CvlLeng
     return before.number == CVL_DONE ? status : before;
 }
 
+CvlStatus cvl_seg_distribute_bool(const bool *values, size_t values_len, CvlLengths lengths, bool *out, size_t out_len) {
+    if (out_len < CVL_LEAST_SHARED) return cvl_seg_distribute_bool_alone(values, values_len, lengths, out, out_len);
+    return cvl_seg_distribute_bool_shared(values, values_len, lengths, out, out_len);
+}
+
 static CvlStatus seg_index_asked(size_t inits_len, size_t strides_len, CvlLengths lengths, size_t out_len) {
     CvlAsked asked;
     memset(&asked, 0, sizeof asked);
@@ -418,8 +588,8 @@ static CvlStatus seg_index_asked(size_t inits_len, size_t strides_len, CvlLength
     return cvl_asked(&asked);
 }
 
-CvlStatus cvl_seg_index(const int32_t *inits, size_t inits_len, const int32_t *strides, size_t strides_len, CvlLengths lengths,
-    int32_t *out, size_t out_len) {
+CvlStatus cvl_seg_index_alone(const int32_t *inits, size_t inits_len, const int32_t *strides, size_t strides_len,
+    CvlLengths lengths, int32_t *out, size_t out_len) {
     if (cvl_seg_index_meets(inits, inits_len, strides, strides_len, lengths, out, out_len)) return cvl_overlap();
     if (!cvl_seg_index_agrees(inits_len, strides_len, lengths, out_len)) {
         return seg_index_asked(inits_len, strides_len, lengths, out_len);
@@ -431,9 +601,21 @@ CvlStatus cvl_seg_index(const int32_t *inits, size_t inits_len, const int32_t *s
     return before.number == CVL_DONE ? status : before;
 }
 
-CvlStatus cvl_seg_int_scan(uint32_t op, const int32_t *a, size_t a_len, CvlLengths lengths, int32_t *out, size_t out_len) {
+CvlStatus cvl_seg_index(const int32_t *inits, size_t inits_len, const int32_t *strides, size_t strides_len, CvlLengths lengths,
+    int32_t *out, size_t out_len) {
+    if (out_len < CVL_LEAST_SHARED) return cvl_seg_index_alone(inits, inits_len, strides, strides_len, lengths, out, out_len);
+    return cvl_seg_index_shared(inits, inits_len, strides, strides_len, lengths, out, out_len);
+}
+
+CvlStatus cvl_seg_int_scan_alone(uint32_t op, const int32_t *a, size_t a_len, CvlLengths lengths, int32_t *out,
+    size_t out_len) {
     if (cvl_seg_int_scan_meets(a, a_len, lengths, out, out_len)) return cvl_overlap();
     return cvl_seg_int_scan_placed(op, a, a_len, lengths, out, out_len);
+}
+
+CvlStatus cvl_seg_int_scan(uint32_t op, const int32_t *a, size_t a_len, CvlLengths lengths, int32_t *out, size_t out_len) {
+    if (a_len < CVL_LEAST_SHARED) return cvl_seg_int_scan_alone(op, a, a_len, lengths, out, out_len);
+    return cvl_seg_int_scan_shared(op, a, a_len, lengths, out, out_len);
 }
 
 static CvlStatus seg_bool_scan_asked(uint32_t op, size_t a_len, CvlLengths lengths, size_t out_len) {
@@ -455,21 +637,37 @@ static CvlStatus seg_bool_scan_copied(uint32_t op, const bool *a, size_t a_len, 
     return status;
 }
 
-CvlStatus cvl_seg_bool_scan(uint32_t op, const bool *a, size_t a_len, CvlLengths lengths, bool *out, size_t out_len) {
+CvlStatus cvl_seg_bool_scan_alone(uint32_t op, const bool *a, size_t a_len, CvlLengths lengths, bool *out, size_t out_len) {
     if (cvl_seg_bool_scan_meets(a, a_len, lengths, out, out_len)) return cvl_overlap();
     if (!cvl_seg_bool_scan_agrees(op, a_len, lengths, out_len)) return seg_bool_scan_asked(op, a_len, lengths, out_len);
     if (!cvl_proved_are_flags(a, a_len)) return seg_bool_scan_copied(op, a, a_len, lengths, out, out_len);
     return cvl_seg_bool_scan_placed(op, a, a_len, lengths, out, out_len);
 }
 
-CvlStatus cvl_seg_int_reduce(uint32_t op, const int32_t *a, size_t a_len, CvlLengths lengths, int32_t *out, size_t out_len) {
+CvlStatus cvl_seg_bool_scan(uint32_t op, const bool *a, size_t a_len, CvlLengths lengths, bool *out, size_t out_len) {
+    if (a_len < CVL_LEAST_SHARED) return cvl_seg_bool_scan_alone(op, a, a_len, lengths, out, out_len);
+    return cvl_seg_bool_scan_shared(op, a, a_len, lengths, out, out_len);
+}
+
+CvlStatus cvl_seg_int_reduce_alone(uint32_t op, const int32_t *a, size_t a_len, CvlLengths lengths, int32_t *out,
+    size_t out_len) {
     if (cvl_seg_int_reduce_meets(a, a_len, lengths, out, out_len)) return cvl_overlap();
     return cvl_proved_seg_int_reduce(op, a, a_len, lengths.lengths, lengths.segments, out, out_len);
 }
 
-CvlStatus cvl_seg_bool_reduce(uint32_t op, const bool *a, size_t a_len, CvlLengths lengths, bool *out, size_t out_len) {
+CvlStatus cvl_seg_int_reduce(uint32_t op, const int32_t *a, size_t a_len, CvlLengths lengths, int32_t *out, size_t out_len) {
+    if (a_len < CVL_LEAST_SHARED) return cvl_seg_int_reduce_alone(op, a, a_len, lengths, out, out_len);
+    return cvl_seg_int_reduce_shared(op, a, a_len, lengths, out, out_len);
+}
+
+CvlStatus cvl_seg_bool_reduce_alone(uint32_t op, const bool *a, size_t a_len, CvlLengths lengths, bool *out, size_t out_len) {
     if (cvl_seg_bool_reduce_meets(a, a_len, lengths, out, out_len)) return cvl_overlap();
     return cvl_proved_seg_bool_reduce(op, a, a_len, lengths.lengths, lengths.segments, out, out_len);
+}
+
+CvlStatus cvl_seg_bool_reduce(uint32_t op, const bool *a, size_t a_len, CvlLengths lengths, bool *out, size_t out_len) {
+    if (a_len < CVL_LEAST_SHARED) return cvl_seg_bool_reduce_alone(op, a, a_len, lengths, out, out_len);
+    return cvl_seg_bool_reduce_shared(op, a, a_len, lengths, out, out_len);
 }
 
 static CvlStatus pack_int_asked(size_t values_len, const bool *flags, size_t flags_len, size_t out_len, size_t *count) {
@@ -495,7 +693,7 @@ static CvlStatus pack_int_copied(const int32_t *values, size_t values_len, const
     return status;
 }
 
-CvlStatus cvl_pack_int(const int32_t *values, size_t values_len, const bool *flags, size_t flags_len, int32_t *out,
+CvlStatus cvl_pack_int_alone(const int32_t *values, size_t values_len, const bool *flags, size_t flags_len, int32_t *out,
     size_t out_len, size_t *count) {
     if (cvl_pack_int_meets(values, values_len, flags, flags_len, out, out_len, count)) return cvl_overlap();
     if (!cvl_pack_int_agrees(values_len, flags_len)) return pack_int_asked(values_len, flags, flags_len, out_len, count);
@@ -503,6 +701,12 @@ CvlStatus cvl_pack_int(const int32_t *values, size_t values_len, const bool *fla
         return pack_int_copied(values, values_len, flags, flags_len, out, out_len, count);
     }
     return cvl_proved_pack_int(values, values_len, flags, flags_len, out, out_len, count);
+}
+
+CvlStatus cvl_pack_int(const int32_t *values, size_t values_len, const bool *flags, size_t flags_len, int32_t *out,
+    size_t out_len, size_t *count) {
+    if (values_len < CVL_LEAST_SHARED) return cvl_pack_int_alone(values, values_len, flags, flags_len, out, out_len, count);
+    return cvl_pack_int_shared(values, values_len, flags, flags_len, out, out_len, count);
 }
 
 static CvlStatus pack_bool_asked(size_t values_len, const bool *flags, size_t flags_len, size_t out_len, size_t *count) {
@@ -529,14 +733,20 @@ static CvlStatus pack_bool_copied(const bool *values, size_t values_len, const b
     return status;
 }
 
-CvlStatus cvl_pack_bool(const bool *values, size_t values_len, const bool *flags, size_t flags_len, bool *out, size_t out_len,
-    size_t *count) {
+CvlStatus cvl_pack_bool_alone(const bool *values, size_t values_len, const bool *flags, size_t flags_len, bool *out,
+    size_t out_len, size_t *count) {
     if (cvl_pack_bool_meets(values, values_len, flags, flags_len, out, out_len, count)) return cvl_overlap();
     if (!cvl_pack_bool_agrees(values_len, flags_len)) return pack_bool_asked(values_len, flags, flags_len, out_len, count);
     if (!cvl_proved_are_flags(values, values_len) || !cvl_proved_are_flags(flags, flags_len)) {
         return pack_bool_copied(values, values_len, flags, flags_len, out, out_len, count);
     }
     return cvl_proved_pack_bool(values, values_len, flags, flags_len, out, out_len, count);
+}
+
+CvlStatus cvl_pack_bool(const bool *values, size_t values_len, const bool *flags, size_t flags_len, bool *out, size_t out_len,
+    size_t *count) {
+    if (values_len < CVL_LEAST_SHARED) return cvl_pack_bool_alone(values, values_len, flags, flags_len, out, out_len, count);
+    return cvl_pack_bool_shared(values, values_len, flags, flags_len, out, out_len, count);
 }
 
 static CvlStatus seg_pack_int_asked(size_t values_len, const bool *flags, size_t flags_len, CvlLengths lengths, size_t out_len,
@@ -563,8 +773,8 @@ static CvlStatus seg_pack_int_copied(const int32_t *values, size_t values_len, c
     return status;
 }
 
-CvlStatus cvl_seg_pack_int(const int32_t *values, size_t values_len, const bool *flags, size_t flags_len, CvlLengths lengths,
-    int32_t *out, size_t out_len, size_t *count) {
+CvlStatus cvl_seg_pack_int_alone(const int32_t *values, size_t values_len, const bool *flags, size_t flags_len,
+    CvlLengths lengths, int32_t *out, size_t out_len, size_t *count) {
     if (cvl_seg_pack_int_meets(values, values_len, flags, flags_len, lengths, out, out_len, count)) return cvl_overlap();
     if (!cvl_seg_pack_int_agrees(values_len, flags_len, lengths)) {
         return seg_pack_int_asked(values_len, flags, flags_len, lengths, out_len, count);
@@ -573,6 +783,14 @@ CvlStatus cvl_seg_pack_int(const int32_t *values, size_t values_len, const bool 
         return seg_pack_int_copied(values, values_len, flags, flags_len, lengths, out, out_len, count);
     }
     return cvl_proved_seg_pack_int(values, values_len, flags, flags_len, lengths.lengths, lengths.segments, out, out_len, count);
+}
+
+CvlStatus cvl_seg_pack_int(const int32_t *values, size_t values_len, const bool *flags, size_t flags_len, CvlLengths lengths,
+    int32_t *out, size_t out_len, size_t *count) {
+    if (values_len < CVL_LEAST_SHARED) {
+        return cvl_seg_pack_int_alone(values, values_len, flags, flags_len, lengths, out, out_len, count);
+    }
+    return cvl_seg_pack_int_shared(values, values_len, flags, flags_len, lengths, out, out_len, count);
 }
 
 static CvlStatus seg_pack_bool_asked(size_t values_len, const bool *flags, size_t flags_len, CvlLengths lengths, size_t out_len,
@@ -601,8 +819,8 @@ static CvlStatus seg_pack_bool_copied(const bool *values, size_t values_len, con
     return status;
 }
 
-CvlStatus cvl_seg_pack_bool(const bool *values, size_t values_len, const bool *flags, size_t flags_len, CvlLengths lengths,
-    bool *out, size_t out_len, size_t *count) {
+CvlStatus cvl_seg_pack_bool_alone(const bool *values, size_t values_len, const bool *flags, size_t flags_len,
+    CvlLengths lengths, bool *out, size_t out_len, size_t *count) {
     if (cvl_seg_pack_bool_meets(values, values_len, flags, flags_len, lengths, out, out_len, count)) return cvl_overlap();
     if (!cvl_seg_pack_bool_agrees(values_len, flags_len, lengths)) {
         return seg_pack_bool_asked(values_len, flags, flags_len, lengths, out_len, count);
@@ -613,14 +831,32 @@ CvlStatus cvl_seg_pack_bool(const bool *values, size_t values_len, const bool *f
     return cvl_proved_seg_pack_bool(values, values_len, flags, flags_len, lengths.lengths, lengths.segments, out, out_len, count);
 }
 
-CvlStatus cvl_seg_packed_lengths(const bool *flags, size_t flags_len, CvlLengths lengths, int32_t *out, size_t out_len) {
+CvlStatus cvl_seg_pack_bool(const bool *values, size_t values_len, const bool *flags, size_t flags_len, CvlLengths lengths,
+    bool *out, size_t out_len, size_t *count) {
+    if (values_len < CVL_LEAST_SHARED) {
+        return cvl_seg_pack_bool_alone(values, values_len, flags, flags_len, lengths, out, out_len, count);
+    }
+    return cvl_seg_pack_bool_shared(values, values_len, flags, flags_len, lengths, out, out_len, count);
+}
+
+CvlStatus cvl_seg_packed_lengths_alone(const bool *flags, size_t flags_len, CvlLengths lengths, int32_t *out, size_t out_len) {
     if (cvl_seg_packed_lengths_meets(flags, flags_len, lengths, out, out_len)) return cvl_overlap();
     return cvl_proved_packed_lengths(flags, flags_len, lengths.lengths, lengths.segments, out, out_len);
 }
 
-CvlStatus cvl_seg_count(const bool *flags, size_t flags_len, CvlLengths lengths, int32_t *out, size_t out_len) {
+CvlStatus cvl_seg_packed_lengths(const bool *flags, size_t flags_len, CvlLengths lengths, int32_t *out, size_t out_len) {
+    if (flags_len < CVL_LEAST_SHARED) return cvl_seg_packed_lengths_alone(flags, flags_len, lengths, out, out_len);
+    return cvl_seg_packed_lengths_shared(flags, flags_len, lengths, out, out_len);
+}
+
+CvlStatus cvl_seg_count_alone(const bool *flags, size_t flags_len, CvlLengths lengths, int32_t *out, size_t out_len) {
     if (cvl_seg_count_meets(flags, flags_len, lengths, out, out_len)) return cvl_overlap();
     return cvl_proved_seg_count(flags, flags_len, lengths.lengths, lengths.segments, out, out_len);
+}
+
+CvlStatus cvl_seg_count(const bool *flags, size_t flags_len, CvlLengths lengths, int32_t *out, size_t out_len) {
+    if (flags_len < CVL_LEAST_SHARED) return cvl_seg_count_alone(flags, flags_len, lengths, out, out_len);
+    return cvl_seg_count_shared(flags, flags_len, lengths, out, out_len);
 }
 
 static CvlStatus permute_int_asked(size_t source_len, size_t index_len, size_t out_len) {
@@ -632,7 +868,7 @@ static CvlStatus permute_int_asked(size_t source_len, size_t index_len, size_t o
     return cvl_asked(&asked);
 }
 
-CvlStatus cvl_permute_int(const int32_t *source, size_t source_len, const int32_t *index, size_t index_len, int32_t *out,
+CvlStatus cvl_permute_int_alone(const int32_t *source, size_t source_len, const int32_t *index, size_t index_len, int32_t *out,
     size_t out_len) {
     if (cvl_permute_int_meets(source, source_len, index, index_len, out, out_len)) return cvl_overlap();
     if (!cvl_permute_int_agrees(source_len, index_len, out_len)) return permute_int_asked(source_len, index_len, out_len);
@@ -640,6 +876,12 @@ CvlStatus cvl_permute_int(const int32_t *source, size_t source_len, const int32_
     if (!cvl_is_late(status)) return status;
     const CvlStatus before = permute_int_asked(source_len, index_len, out_len);
     return before.number == CVL_DONE ? status : before;
+}
+
+CvlStatus cvl_permute_int(const int32_t *source, size_t source_len, const int32_t *index, size_t index_len, int32_t *out,
+    size_t out_len) {
+    if (source_len < CVL_LEAST_SHARED) return cvl_permute_int_alone(source, source_len, index, index_len, out, out_len);
+    return cvl_permute_int_shared(source, source_len, index, index_len, out, out_len);
 }
 
 static CvlStatus permute_bool_asked(size_t source_len, size_t index_len, size_t out_len) {
@@ -662,7 +904,7 @@ static CvlStatus permute_bool_copied(const bool *source, size_t source_len, cons
     return status;
 }
 
-CvlStatus cvl_permute_bool(const bool *source, size_t source_len, const int32_t *index, size_t index_len, bool *out,
+CvlStatus cvl_permute_bool_alone(const bool *source, size_t source_len, const int32_t *index, size_t index_len, bool *out,
     size_t out_len) {
     if (cvl_permute_bool_meets(source, source_len, index, index_len, out, out_len)) return cvl_overlap();
     if (!cvl_permute_bool_agrees(source_len, index_len, out_len)) return permute_bool_asked(source_len, index_len, out_len);
@@ -673,6 +915,12 @@ CvlStatus cvl_permute_bool(const bool *source, size_t source_len, const int32_t 
     if (!cvl_is_late(status)) return status;
     const CvlStatus before = permute_bool_asked(source_len, index_len, out_len);
     return before.number == CVL_DONE ? status : before;
+}
+
+CvlStatus cvl_permute_bool(const bool *source, size_t source_len, const int32_t *index, size_t index_len, bool *out,
+    size_t out_len) {
+    if (source_len < CVL_LEAST_SHARED) return cvl_permute_bool_alone(source, source_len, index, index_len, out, out_len);
+    return cvl_permute_bool_shared(source, source_len, index, index_len, out, out_len);
 }
 
 static CvlStatus select_permute_int_asked(size_t source_len, size_t index_len, const bool *flags, size_t flags_len,
@@ -698,7 +946,7 @@ static CvlStatus select_permute_int_copied(const int32_t *source, size_t source_
     return status;
 }
 
-CvlStatus cvl_select_permute_int(const int32_t *source, size_t source_len, const int32_t *index, size_t index_len,
+CvlStatus cvl_select_permute_int_alone(const int32_t *source, size_t source_len, const int32_t *index, size_t index_len,
     const bool *flags, size_t flags_len, int32_t *out, size_t out_len) {
     if (cvl_select_permute_int_meets(source, source_len, index, index_len, flags, flags_len, out, out_len)) {
         return cvl_overlap();
@@ -713,6 +961,14 @@ CvlStatus cvl_select_permute_int(const int32_t *source, size_t source_len, const
     if (!cvl_is_late(status)) return status;
     const CvlStatus before = select_permute_int_asked(source_len, index_len, flags, flags_len, out_len);
     return before.number == CVL_DONE ? status : before;
+}
+
+CvlStatus cvl_select_permute_int(const int32_t *source, size_t source_len, const int32_t *index, size_t index_len,
+    const bool *flags, size_t flags_len, int32_t *out, size_t out_len) {
+    if (out_len < CVL_LEAST_SHARED) {
+        return cvl_select_permute_int_alone(source, source_len, index, index_len, flags, flags_len, out, out_len);
+    }
+    return cvl_select_permute_int_shared(source, source_len, index, index_len, flags, flags_len, out, out_len);
 }
 
 static CvlStatus select_permute_bool_asked(size_t source_len, size_t index_len, const bool *flags, size_t flags_len,
@@ -740,7 +996,7 @@ static CvlStatus select_permute_bool_copied(const bool *source, size_t source_le
     return status;
 }
 
-CvlStatus cvl_select_permute_bool(const bool *source, size_t source_len, const int32_t *index, size_t index_len,
+CvlStatus cvl_select_permute_bool_alone(const bool *source, size_t source_len, const int32_t *index, size_t index_len,
     const bool *flags, size_t flags_len, bool *out, size_t out_len) {
     if (cvl_select_permute_bool_meets(source, source_len, index, index_len, flags, flags_len, out, out_len)) {
         return cvl_overlap();
@@ -757,6 +1013,14 @@ CvlStatus cvl_select_permute_bool(const bool *source, size_t source_len, const i
     return before.number == CVL_DONE ? status : before;
 }
 
+CvlStatus cvl_select_permute_bool(const bool *source, size_t source_len, const int32_t *index, size_t index_len,
+    const bool *flags, size_t flags_len, bool *out, size_t out_len) {
+    if (out_len < CVL_LEAST_SHARED) {
+        return cvl_select_permute_bool_alone(source, source_len, index, index_len, flags, flags_len, out, out_len);
+    }
+    return cvl_select_permute_bool_shared(source, source_len, index, index_len, flags, flags_len, out, out_len);
+}
+
 static CvlStatus default_permute_int_asked(size_t source_len, size_t index_len, size_t defaults_len, size_t out_len) {
     CvlAsked asked;
     memset(&asked, 0, sizeof asked);
@@ -766,7 +1030,7 @@ static CvlStatus default_permute_int_asked(size_t source_len, size_t index_len, 
     return cvl_asked(&asked);
 }
 
-CvlStatus cvl_default_permute_int(const int32_t *source, size_t source_len, const int32_t *index, size_t index_len,
+CvlStatus cvl_default_permute_int_alone(const int32_t *source, size_t source_len, const int32_t *index, size_t index_len,
     const int32_t *defaults, size_t defaults_len, int32_t *out, size_t out_len) {
     if (cvl_default_permute_int_meets(source, source_len, index, index_len, defaults, defaults_len, out, out_len)) {
         return cvl_overlap();
@@ -779,6 +1043,14 @@ CvlStatus cvl_default_permute_int(const int32_t *source, size_t source_len, cons
     if (!cvl_is_late(status)) return status;
     const CvlStatus before = default_permute_int_asked(source_len, index_len, defaults_len, out_len);
     return before.number == CVL_DONE ? status : before;
+}
+
+CvlStatus cvl_default_permute_int(const int32_t *source, size_t source_len, const int32_t *index, size_t index_len,
+    const int32_t *defaults, size_t defaults_len, int32_t *out, size_t out_len) {
+    if (defaults_len < CVL_LEAST_SHARED) {
+        return cvl_default_permute_int_alone(source, source_len, index, index_len, defaults, defaults_len, out, out_len);
+    }
+    return cvl_default_permute_int_shared(source, source_len, index, index_len, defaults, defaults_len, out, out_len);
 }
 
 static CvlStatus default_permute_bool_asked(size_t source_len, size_t index_len, size_t defaults_len, size_t out_len) {
@@ -803,7 +1075,7 @@ static CvlStatus default_permute_bool_copied(const bool *source, size_t source_l
     return status;
 }
 
-CvlStatus cvl_default_permute_bool(const bool *source, size_t source_len, const int32_t *index, size_t index_len,
+CvlStatus cvl_default_permute_bool_alone(const bool *source, size_t source_len, const int32_t *index, size_t index_len,
     const bool *defaults, size_t defaults_len, bool *out, size_t out_len) {
     if (cvl_default_permute_bool_meets(source, source_len, index, index_len, defaults, defaults_len, out, out_len)) {
         return cvl_overlap();
@@ -821,6 +1093,14 @@ CvlStatus cvl_default_permute_bool(const bool *source, size_t source_len, const 
     return before.number == CVL_DONE ? status : before;
 }
 
+CvlStatus cvl_default_permute_bool(const bool *source, size_t source_len, const int32_t *index, size_t index_len,
+    const bool *defaults, size_t defaults_len, bool *out, size_t out_len) {
+    if (defaults_len < CVL_LEAST_SHARED) {
+        return cvl_default_permute_bool_alone(source, source_len, index, index_len, defaults, defaults_len, out, out_len);
+    }
+    return cvl_default_permute_bool_shared(source, source_len, index, index_len, defaults, defaults_len, out, out_len);
+}
+
 static CvlStatus back_permute_int_asked(size_t index_len, size_t out_len) {
     CvlAsked asked;
     memset(&asked, 0, sizeof asked);
@@ -830,11 +1110,17 @@ static CvlStatus back_permute_int_asked(size_t index_len, size_t out_len) {
     return cvl_asked(&asked);
 }
 
-CvlStatus cvl_back_permute_int(const int32_t *source, size_t source_len, const int32_t *index, size_t index_len, int32_t *out,
-    size_t out_len) {
+CvlStatus cvl_back_permute_int_alone(const int32_t *source, size_t source_len, const int32_t *index, size_t index_len,
+    int32_t *out, size_t out_len) {
     if (cvl_back_permute_int_meets(source, source_len, index, index_len, out, out_len)) return cvl_overlap();
     if (!cvl_back_permute_int_agrees(index_len, out_len)) return back_permute_int_asked(index_len, out_len);
     return cvl_proved_back_permute_int(source, source_len, index, index_len, out, out_len);
+}
+
+CvlStatus cvl_back_permute_int(const int32_t *source, size_t source_len, const int32_t *index, size_t index_len, int32_t *out,
+    size_t out_len) {
+    if (index_len < CVL_LEAST_SHARED) return cvl_back_permute_int_alone(source, source_len, index, index_len, out, out_len);
+    return cvl_back_permute_int_shared(source, source_len, index, index_len, out, out_len);
 }
 
 static CvlStatus back_permute_bool_asked(size_t index_len, size_t out_len) {
@@ -857,7 +1143,7 @@ static CvlStatus back_permute_bool_copied(const bool *source, size_t source_len,
     return status;
 }
 
-CvlStatus cvl_back_permute_bool(const bool *source, size_t source_len, const int32_t *index, size_t index_len, bool *out,
+CvlStatus cvl_back_permute_bool_alone(const bool *source, size_t source_len, const int32_t *index, size_t index_len, bool *out,
     size_t out_len) {
     if (cvl_back_permute_bool_meets(source, source_len, index, index_len, out, out_len)) return cvl_overlap();
     if (!cvl_back_permute_bool_agrees(index_len, out_len)) return back_permute_bool_asked(index_len, out_len);
@@ -865,6 +1151,12 @@ CvlStatus cvl_back_permute_bool(const bool *source, size_t source_len, const int
         return back_permute_bool_copied(source, source_len, index, index_len, out, out_len);
     }
     return cvl_proved_back_permute_bool(source, source_len, index, index_len, out, out_len);
+}
+
+CvlStatus cvl_back_permute_bool(const bool *source, size_t source_len, const int32_t *index, size_t index_len, bool *out,
+    size_t out_len) {
+    if (index_len < CVL_LEAST_SHARED) return cvl_back_permute_bool_alone(source, source_len, index, index_len, out, out_len);
+    return cvl_back_permute_bool_shared(source, source_len, index, index_len, out, out_len);
 }
 
 static CvlStatus seg_permute_int_asked(size_t source_len, size_t index_len, CvlLengths lengths, size_t out_len) {
@@ -877,7 +1169,7 @@ static CvlStatus seg_permute_int_asked(size_t source_len, size_t index_len, CvlL
     return cvl_asked(&asked);
 }
 
-CvlStatus cvl_seg_permute_int(const int32_t *source, size_t source_len, const int32_t *index, size_t index_len,
+CvlStatus cvl_seg_permute_int_alone(const int32_t *source, size_t source_len, const int32_t *index, size_t index_len,
     CvlLengths lengths, int32_t *out, size_t out_len) {
     if (cvl_seg_permute_int_meets(source, source_len, index, index_len, lengths, out, out_len)) return cvl_overlap();
     if (!cvl_seg_permute_int_agrees(source_len, index_len, lengths, out_len)) {
@@ -888,6 +1180,14 @@ CvlStatus cvl_seg_permute_int(const int32_t *source, size_t source_len, const in
     if (!cvl_is_late(status)) return status;
     const CvlStatus before = seg_permute_int_asked(source_len, index_len, lengths, out_len);
     return before.number == CVL_DONE ? status : before;
+}
+
+CvlStatus cvl_seg_permute_int(const int32_t *source, size_t source_len, const int32_t *index, size_t index_len,
+    CvlLengths lengths, int32_t *out, size_t out_len) {
+    if (source_len < CVL_LEAST_SHARED) {
+        return cvl_seg_permute_int_alone(source, source_len, index, index_len, lengths, out, out_len);
+    }
+    return cvl_seg_permute_int_shared(source, source_len, index, index_len, lengths, out, out_len);
 }
 
 static CvlStatus seg_permute_bool_asked(size_t source_len, size_t index_len, CvlLengths lengths, size_t out_len) {
@@ -911,7 +1211,7 @@ static CvlStatus seg_permute_bool_copied(const bool *source, size_t source_len, 
     return status;
 }
 
-CvlStatus cvl_seg_permute_bool(const bool *source, size_t source_len, const int32_t *index, size_t index_len,
+CvlStatus cvl_seg_permute_bool_alone(const bool *source, size_t source_len, const int32_t *index, size_t index_len,
     CvlLengths lengths, bool *out, size_t out_len) {
     if (cvl_seg_permute_bool_meets(source, source_len, index, index_len, lengths, out, out_len)) return cvl_overlap();
     if (!cvl_seg_permute_bool_agrees(source_len, index_len, lengths, out_len)) {
@@ -925,6 +1225,14 @@ CvlStatus cvl_seg_permute_bool(const bool *source, size_t source_len, const int3
     if (!cvl_is_late(status)) return status;
     const CvlStatus before = seg_permute_bool_asked(source_len, index_len, lengths, out_len);
     return before.number == CVL_DONE ? status : before;
+}
+
+CvlStatus cvl_seg_permute_bool(const bool *source, size_t source_len, const int32_t *index, size_t index_len,
+    CvlLengths lengths, bool *out, size_t out_len) {
+    if (source_len < CVL_LEAST_SHARED) {
+        return cvl_seg_permute_bool_alone(source, source_len, index, index_len, lengths, out, out_len);
+    }
+    return cvl_seg_permute_bool_shared(source, source_len, index, index_len, lengths, out, out_len);
 }
 
 static CvlStatus seg_select_permute_int_asked(size_t source_len, size_t index_len, const bool *flags, size_t flags_len,
@@ -951,7 +1259,7 @@ static CvlStatus seg_select_permute_int_copied(const int32_t *source, size_t sou
     return status;
 }
 
-CvlStatus cvl_seg_select_permute_int(const int32_t *source, size_t source_len, const int32_t *index, size_t index_len,
+CvlStatus cvl_seg_select_permute_int_alone(const int32_t *source, size_t source_len, const int32_t *index, size_t index_len,
     const bool *flags, size_t flags_len, CvlLengths lengths, int32_t *out, size_t out_len) {
     if (cvl_seg_select_permute_int_meets(source, source_len, index, index_len, flags, flags_len, lengths, out, out_len)) {
         return cvl_overlap();
@@ -967,6 +1275,14 @@ CvlStatus cvl_seg_select_permute_int(const int32_t *source, size_t source_len, c
     if (!cvl_is_late(status)) return status;
     const CvlStatus before = seg_select_permute_int_asked(source_len, index_len, flags, flags_len, lengths, out_len);
     return before.number == CVL_DONE ? status : before;
+}
+
+CvlStatus cvl_seg_select_permute_int(const int32_t *source, size_t source_len, const int32_t *index, size_t index_len,
+    const bool *flags, size_t flags_len, CvlLengths lengths, int32_t *out, size_t out_len) {
+    if (source_len < CVL_LEAST_SHARED) {
+        return cvl_seg_select_permute_int_alone(source, source_len, index, index_len, flags, flags_len, lengths, out, out_len);
+    }
+    return cvl_seg_select_permute_int_shared(source, source_len, index, index_len, flags, flags_len, lengths, out, out_len);
 }
 
 static CvlStatus seg_select_permute_bool_asked(size_t source_len, size_t index_len, const bool *flags, size_t flags_len,
@@ -995,7 +1311,7 @@ static CvlStatus seg_select_permute_bool_copied(const bool *source, size_t sourc
     return status;
 }
 
-CvlStatus cvl_seg_select_permute_bool(const bool *source, size_t source_len, const int32_t *index, size_t index_len,
+CvlStatus cvl_seg_select_permute_bool_alone(const bool *source, size_t source_len, const int32_t *index, size_t index_len,
     const bool *flags, size_t flags_len, CvlLengths lengths, bool *out, size_t out_len) {
     if (cvl_seg_select_permute_bool_meets(source, source_len, index, index_len, flags, flags_len, lengths, out, out_len)) {
         return cvl_overlap();
@@ -1013,6 +1329,14 @@ CvlStatus cvl_seg_select_permute_bool(const bool *source, size_t source_len, con
     return before.number == CVL_DONE ? status : before;
 }
 
+CvlStatus cvl_seg_select_permute_bool(const bool *source, size_t source_len, const int32_t *index, size_t index_len,
+    const bool *flags, size_t flags_len, CvlLengths lengths, bool *out, size_t out_len) {
+    if (source_len < CVL_LEAST_SHARED) {
+        return cvl_seg_select_permute_bool_alone(source, source_len, index, index_len, flags, flags_len, lengths, out, out_len);
+    }
+    return cvl_seg_select_permute_bool_shared(source, source_len, index, index_len, flags, flags_len, lengths, out, out_len);
+}
+
 static CvlStatus seg_default_permute_int_asked(size_t source_len, size_t index_len, size_t defaults_len, CvlLengths lengths,
     CvlLengths default_lengths, size_t out_len) {
     CvlAsked asked;
@@ -1025,7 +1349,7 @@ static CvlStatus seg_default_permute_int_asked(size_t source_len, size_t index_l
     return cvl_asked(&asked);
 }
 
-CvlStatus cvl_seg_default_permute_int(const int32_t *source, size_t source_len, const int32_t *index, size_t index_len,
+CvlStatus cvl_seg_default_permute_int_alone(const int32_t *source, size_t source_len, const int32_t *index, size_t index_len,
     const int32_t *defaults, size_t defaults_len, CvlLengths lengths, CvlLengths default_lengths, int32_t *out,
     size_t out_len) {
     if (cvl_seg_default_permute_int_meets(source, source_len, index, index_len, defaults, defaults_len, lengths, default_lengths,
@@ -1040,6 +1364,17 @@ CvlStatus cvl_seg_default_permute_int(const int32_t *source, size_t source_len, 
     if (!cvl_is_late(status)) return status;
     const CvlStatus before = seg_default_permute_int_asked(source_len, index_len, defaults_len, lengths, default_lengths, out_len);
     return before.number == CVL_DONE ? status : before;
+}
+
+CvlStatus cvl_seg_default_permute_int(const int32_t *source, size_t source_len, const int32_t *index, size_t index_len,
+    const int32_t *defaults, size_t defaults_len, CvlLengths lengths, CvlLengths default_lengths, int32_t *out,
+    size_t out_len) {
+    if (source_len < CVL_LEAST_SHARED) {
+        return cvl_seg_default_permute_int_alone(source, source_len, index, index_len, defaults, defaults_len, lengths, default_lengths,
+            out, out_len);
+    }
+    return cvl_seg_default_permute_int_shared(source, source_len, index, index_len, defaults, defaults_len, lengths,
+        default_lengths, out, out_len);
 }
 
 static CvlStatus seg_default_permute_bool_asked(size_t source_len, size_t index_len, size_t defaults_len, CvlLengths lengths,
@@ -1068,7 +1403,7 @@ static CvlStatus seg_default_permute_bool_copied(const bool *source, size_t sour
     return status;
 }
 
-CvlStatus cvl_seg_default_permute_bool(const bool *source, size_t source_len, const int32_t *index, size_t index_len,
+CvlStatus cvl_seg_default_permute_bool_alone(const bool *source, size_t source_len, const int32_t *index, size_t index_len,
     const bool *defaults, size_t defaults_len, CvlLengths lengths, CvlLengths default_lengths, bool *out, size_t out_len) {
     if (cvl_seg_default_permute_bool_meets(source, source_len, index, index_len, defaults, defaults_len, lengths, default_lengths,
         out, out_len)) {
@@ -1088,6 +1423,16 @@ CvlStatus cvl_seg_default_permute_bool(const bool *source, size_t source_len, co
     return before.number == CVL_DONE ? status : before;
 }
 
+CvlStatus cvl_seg_default_permute_bool(const bool *source, size_t source_len, const int32_t *index, size_t index_len,
+    const bool *defaults, size_t defaults_len, CvlLengths lengths, CvlLengths default_lengths, bool *out, size_t out_len) {
+    if (source_len < CVL_LEAST_SHARED) {
+        return cvl_seg_default_permute_bool_alone(source, source_len, index, index_len, defaults, defaults_len, lengths,
+            default_lengths, out, out_len);
+    }
+    return cvl_seg_default_permute_bool_shared(source, source_len, index, index_len, defaults, defaults_len, lengths,
+        default_lengths, out, out_len);
+}
+
 static CvlStatus seg_back_permute_int_asked(size_t source_len, size_t index_len, CvlLengths lengths, CvlLengths index_lengths,
     size_t out_len) {
     CvlAsked asked;
@@ -1100,7 +1445,7 @@ static CvlStatus seg_back_permute_int_asked(size_t source_len, size_t index_len,
     return cvl_asked(&asked);
 }
 
-CvlStatus cvl_seg_back_permute_int(const int32_t *source, size_t source_len, const int32_t *index, size_t index_len,
+CvlStatus cvl_seg_back_permute_int_alone(const int32_t *source, size_t source_len, const int32_t *index, size_t index_len,
     CvlLengths lengths, CvlLengths index_lengths, int32_t *out, size_t out_len) {
     if (cvl_seg_back_permute_int_meets(source, source_len, index, index_len, lengths, index_lengths, out, out_len)) {
         return cvl_overlap();
@@ -1113,6 +1458,14 @@ CvlStatus cvl_seg_back_permute_int(const int32_t *source, size_t source_len, con
     if (!cvl_is_late(status)) return status;
     const CvlStatus before = seg_back_permute_int_asked(source_len, index_len, lengths, index_lengths, out_len);
     return before.number == CVL_DONE ? status : before;
+}
+
+CvlStatus cvl_seg_back_permute_int(const int32_t *source, size_t source_len, const int32_t *index, size_t index_len,
+    CvlLengths lengths, CvlLengths index_lengths, int32_t *out, size_t out_len) {
+    if (index_len < CVL_LEAST_SHARED) {
+        return cvl_seg_back_permute_int_alone(source, source_len, index, index_len, lengths, index_lengths, out, out_len);
+    }
+    return cvl_seg_back_permute_int_shared(source, source_len, index, index_len, lengths, index_lengths, out, out_len);
 }
 
 static CvlStatus seg_back_permute_bool_asked(size_t source_len, size_t index_len, CvlLengths lengths, CvlLengths index_lengths,
@@ -1139,7 +1492,7 @@ static CvlStatus seg_back_permute_bool_copied(const bool *source, size_t source_
     return status;
 }
 
-CvlStatus cvl_seg_back_permute_bool(const bool *source, size_t source_len, const int32_t *index, size_t index_len,
+CvlStatus cvl_seg_back_permute_bool_alone(const bool *source, size_t source_len, const int32_t *index, size_t index_len,
     CvlLengths lengths, CvlLengths index_lengths, bool *out, size_t out_len) {
     if (cvl_seg_back_permute_bool_meets(source, source_len, index, index_len, lengths, index_lengths, out, out_len)) {
         return cvl_overlap();
@@ -1157,11 +1510,24 @@ CvlStatus cvl_seg_back_permute_bool(const bool *source, size_t source_len, const
     return before.number == CVL_DONE ? status : before;
 }
 
-CvlStatus cvl_read_ints(const char *text, size_t text_len, int32_t *out, size_t out_len, size_t *count) {
+CvlStatus cvl_seg_back_permute_bool(const bool *source, size_t source_len, const int32_t *index, size_t index_len,
+    CvlLengths lengths, CvlLengths index_lengths, bool *out, size_t out_len) {
+    if (index_len < CVL_LEAST_SHARED) {
+        return cvl_seg_back_permute_bool_alone(source, source_len, index, index_len, lengths, index_lengths, out, out_len);
+    }
+    return cvl_seg_back_permute_bool_shared(source, source_len, index, index_len, lengths, index_lengths, out, out_len);
+}
+
+CvlStatus cvl_read_ints_alone(const char *text, size_t text_len, int32_t *out, size_t out_len, size_t *count) {
     if (cvl_read_ints_meets(text, text_len, out, out_len, count)) return cvl_overlap();
     const CvlStatus status = cvl_proved_read_ints((const bool *)text, text_len, out, out_len, count);
     if (status.number == CVL_NO_RESOURCES && (cvl_many_words(text, text_len, 0))) return cvl_status(CVL_TOO_LONG, -1);
     return status;
+}
+
+CvlStatus cvl_read_ints(const char *text, size_t text_len, int32_t *out, size_t out_len, size_t *count) {
+    if (text_len < CVL_LEAST_READ) return cvl_read_ints_alone(text, text_len, out, out_len, count);
+    return cvl_read_ints_shared(text, text_len, out, out_len, count);
 }
 
 static CvlStatus write_ints_asked(const int32_t *a, size_t a_len, size_t out_len, size_t *count) {
@@ -1176,13 +1542,18 @@ static CvlStatus write_ints_asked(const int32_t *a, size_t a_len, size_t out_len
     return cvl_asked(&asked);
 }
 
-CvlStatus cvl_write_ints(const int32_t *a, size_t a_len, char *out, size_t out_len, size_t *count) {
+CvlStatus cvl_write_ints_alone(const int32_t *a, size_t a_len, char *out, size_t out_len, size_t *count) {
     if (cvl_write_ints_meets(a, a_len, out, out_len, count)) return cvl_overlap();
     if (!cvl_write_ints_agrees(a_len)) return write_ints_asked(a, a_len, out_len, count);
     const CvlStatus status = cvl_proved_write_ints(a, a_len, (bool *)out, out_len, count);
     if (!cvl_is_late(status)) return status;
     const CvlStatus before = write_ints_asked(a, a_len, out_len, count);
     return before.number == CVL_DONE ? status : before;
+}
+
+CvlStatus cvl_write_ints(const int32_t *a, size_t a_len, char *out, size_t out_len, size_t *count) {
+    if (a_len < CVL_LEAST_WRITTEN) return cvl_write_ints_alone(a, a_len, out, out_len, count);
+    return cvl_write_ints_shared(a, a_len, out, out_len, count);
 }
 
 static CvlStatus write_bools_asked(const bool *a, size_t a_len, size_t out_len, size_t *count) {
@@ -1207,7 +1578,7 @@ static CvlStatus write_bools_copied(const bool *a, size_t a_len, char *out, size
     return status;
 }
 
-CvlStatus cvl_write_bools(const bool *a, size_t a_len, char *out, size_t out_len, size_t *count) {
+CvlStatus cvl_write_bools_alone(const bool *a, size_t a_len, char *out, size_t out_len, size_t *count) {
     if (cvl_write_bools_meets(a, a_len, out, out_len, count)) return cvl_overlap();
     if (!cvl_write_bools_agrees(a_len)) return write_bools_asked(a, a_len, out_len, count);
     if (!cvl_proved_are_flags(a, a_len)) return write_bools_copied(a, a_len, out, out_len, count);
@@ -1215,6 +1586,11 @@ CvlStatus cvl_write_bools(const bool *a, size_t a_len, char *out, size_t out_len
     if (!cvl_is_late(status)) return status;
     const CvlStatus before = write_bools_asked(a, a_len, out_len, count);
     return before.number == CVL_DONE ? status : before;
+}
+
+CvlStatus cvl_write_bools(const bool *a, size_t a_len, char *out, size_t out_len, size_t *count) {
+    if (a_len < CVL_LEAST_WRITTEN) return cvl_write_bools_alone(a, a_len, out, out_len, count);
+    return cvl_write_bools_shared(a, a_len, out, out_len, count);
 }
 
 CvlStatus cvl_seg_read_ints(const char *text, size_t text_len, int32_t *out, size_t out_len, size_t *count, int32_t *lengths,
@@ -1238,13 +1614,19 @@ static CvlStatus seg_write_ints_asked(const int32_t *a, size_t a_len, CvlLengths
     return cvl_asked(&asked);
 }
 
-CvlStatus cvl_seg_write_ints(const int32_t *a, size_t a_len, CvlLengths lengths, char *out, size_t out_len, size_t *count) {
+CvlStatus cvl_seg_write_ints_alone(const int32_t *a, size_t a_len, CvlLengths lengths, char *out, size_t out_len,
+    size_t *count) {
     if (cvl_seg_write_ints_meets(a, a_len, lengths, out, out_len, count)) return cvl_overlap();
     if (!cvl_seg_write_ints_agrees(a_len, lengths)) return seg_write_ints_asked(a, a_len, lengths, out_len, count);
     const CvlStatus status = cvl_proved_seg_write_ints(a, a_len, lengths.lengths, lengths.segments, (bool *)out, out_len, count);
     if (!cvl_is_late(status)) return status;
     const CvlStatus before = seg_write_ints_asked(a, a_len, lengths, out_len, count);
     return before.number == CVL_DONE ? status : before;
+}
+
+CvlStatus cvl_seg_write_ints(const int32_t *a, size_t a_len, CvlLengths lengths, char *out, size_t out_len, size_t *count) {
+    if (a_len < CVL_LEAST_WRITTEN) return cvl_seg_write_ints_alone(a, a_len, lengths, out, out_len, count);
+    return cvl_seg_write_ints_shared(a, a_len, lengths, out, out_len, count);
 }
 
 static CvlStatus seg_write_bools_asked(const bool *a, size_t a_len, CvlLengths lengths, size_t out_len, size_t *count) {
@@ -1270,7 +1652,7 @@ static CvlStatus seg_write_bools_copied(const bool *a, size_t a_len, CvlLengths 
     return status;
 }
 
-CvlStatus cvl_seg_write_bools(const bool *a, size_t a_len, CvlLengths lengths, char *out, size_t out_len, size_t *count) {
+CvlStatus cvl_seg_write_bools_alone(const bool *a, size_t a_len, CvlLengths lengths, char *out, size_t out_len, size_t *count) {
     if (cvl_seg_write_bools_meets(a, a_len, lengths, out, out_len, count)) return cvl_overlap();
     if (!cvl_seg_write_bools_agrees(a_len, lengths)) return seg_write_bools_asked(a, a_len, lengths, out_len, count);
     if (!cvl_proved_are_flags(a, a_len)) return seg_write_bools_copied(a, a_len, lengths, out, out_len, count);
@@ -1278,6 +1660,11 @@ CvlStatus cvl_seg_write_bools(const bool *a, size_t a_len, CvlLengths lengths, c
     if (!cvl_is_late(status)) return status;
     const CvlStatus before = seg_write_bools_asked(a, a_len, lengths, out_len, count);
     return before.number == CVL_DONE ? status : before;
+}
+
+CvlStatus cvl_seg_write_bools(const bool *a, size_t a_len, CvlLengths lengths, char *out, size_t out_len, size_t *count) {
+    if (a_len < CVL_LEAST_WRITTEN) return cvl_seg_write_bools_alone(a, a_len, lengths, out, out_len, count);
+    return cvl_seg_write_bools_shared(a, a_len, lengths, out, out_len, count);
 }
 
 CvlStatus cvl_int_scan_after(uint32_t op, int32_t before, const int32_t *a, size_t a_len, int32_t *out, size_t out_len) {

@@ -1,6 +1,7 @@
 /*
- * families.h: the proved exports under their names beneath, and of each family: whether arrays meet that may not; whether all
- * agrees that can be compared at once, so that what is told first is no fault of these; and the export, or the one in place.
+ * families.h: the proved exports under their names beneath; each family that is cut, by the thread that calls and by those of
+ * the process; and of each family: whether arrays meet that may not; whether all agrees that can be compared at once, so that
+ * what is told first is no fault of these; and the export, or the one in place.
  * Written by bindings/generate from bindings/table.py; edit that and not this file.
  */
 #ifndef CVL_FAMILIES_H
@@ -172,6 +173,222 @@ CVL_HIDDEN CvlStatus cvl_proved_select_permute_int_range(const int32_t *source, 
     size_t marks_len, size_t *written);
 CVL_HIDDEN CvlStatus cvl_proved_write_bools(const bool *a, size_t a_len, bool *out, size_t out_len, size_t *count);
 CVL_HIDDEN CvlStatus cvl_proved_write_ints(const int32_t *a, size_t a_len, bool *out, size_t out_len, size_t *count);
+
+CVL_HIDDEN CvlStatus cvl_int2_alone(uint32_t op, const int32_t *a, size_t a_len, const int32_t *b, size_t b_len, int32_t *out,
+    size_t out_len);
+CVL_HIDDEN CvlStatus cvl_int2_shared(uint32_t op, const int32_t *a, size_t a_len, const int32_t *b, size_t b_len, int32_t *out,
+    size_t out_len);
+CVL_HIDDEN CvlStatus cvl_bool2_alone(uint32_t op, const bool *a, size_t a_len, const bool *b, size_t b_len, bool *out,
+    size_t out_len);
+CVL_HIDDEN CvlStatus cvl_bool2_shared(uint32_t op, const bool *a, size_t a_len, const bool *b, size_t b_len, bool *out,
+    size_t out_len);
+CVL_HIDDEN CvlStatus cvl_int1_alone(uint32_t op, const int32_t *a, size_t a_len, int32_t *out, size_t out_len);
+CVL_HIDDEN CvlStatus cvl_int1_shared(uint32_t op, const int32_t *a, size_t a_len, int32_t *out, size_t out_len);
+CVL_HIDDEN CvlStatus cvl_bool1_alone(uint32_t op, const bool *a, size_t a_len, bool *out, size_t out_len);
+CVL_HIDDEN CvlStatus cvl_bool1_shared(uint32_t op, const bool *a, size_t a_len, bool *out, size_t out_len);
+CVL_HIDDEN CvlStatus cvl_compare_alone(uint32_t op, const int32_t *a, size_t a_len, const int32_t *b, size_t b_len, bool *out,
+    size_t out_len);
+CVL_HIDDEN CvlStatus cvl_compare_shared(uint32_t op, const int32_t *a, size_t a_len, const int32_t *b, size_t b_len, bool *out,
+    size_t out_len);
+CVL_HIDDEN CvlStatus cvl_int_from_bool_alone(const bool *a, size_t a_len, int32_t *out, size_t out_len);
+CVL_HIDDEN CvlStatus cvl_int_from_bool_shared(const bool *a, size_t a_len, int32_t *out, size_t out_len);
+CVL_HIDDEN CvlStatus cvl_bool_from_int_alone(const int32_t *a, size_t a_len, bool *out, size_t out_len);
+CVL_HIDDEN CvlStatus cvl_bool_from_int_shared(const int32_t *a, size_t a_len, bool *out, size_t out_len);
+CVL_HIDDEN CvlStatus cvl_select_int_alone(const bool *flags, size_t flags_len, const int32_t *a, size_t a_len, const int32_t *b,
+    size_t b_len, int32_t *out, size_t out_len);
+CVL_HIDDEN CvlStatus cvl_select_int_shared(const bool *flags, size_t flags_len, const int32_t *a, size_t a_len,
+    const int32_t *b, size_t b_len, int32_t *out, size_t out_len);
+CVL_HIDDEN CvlStatus cvl_select_bool_alone(const bool *flags, size_t flags_len, const bool *a, size_t a_len, const bool *b,
+    size_t b_len, bool *out, size_t out_len);
+CVL_HIDDEN CvlStatus cvl_select_bool_shared(const bool *flags, size_t flags_len, const bool *a, size_t a_len, const bool *b,
+    size_t b_len, bool *out, size_t out_len);
+CVL_HIDDEN CvlStatus cvl_int_scan_alone(uint32_t op, const int32_t *a, size_t a_len, int32_t *out, size_t out_len);
+CVL_HIDDEN CvlStatus cvl_int_scan_shared(uint32_t op, const int32_t *a, size_t a_len, int32_t *out, size_t out_len);
+CVL_HIDDEN CvlStatus cvl_bool_scan_alone(uint32_t op, const bool *a, size_t a_len, bool *out, size_t out_len);
+CVL_HIDDEN CvlStatus cvl_bool_scan_shared(uint32_t op, const bool *a, size_t a_len, bool *out, size_t out_len);
+CVL_HIDDEN CvlStatus cvl_int_reduce_alone(uint32_t op, const int32_t *a, size_t a_len, int32_t *out);
+CVL_HIDDEN CvlStatus cvl_int_reduce_shared(uint32_t op, const int32_t *a, size_t a_len, int32_t *out);
+CVL_HIDDEN CvlStatus cvl_bool_reduce_alone(uint32_t op, const bool *a, size_t a_len, bool *out);
+CVL_HIDDEN CvlStatus cvl_bool_reduce_shared(uint32_t op, const bool *a, size_t a_len, bool *out);
+CVL_HIDDEN CvlStatus cvl_checked_scan_alone(const int32_t *a, size_t a_len, int32_t *out, size_t out_len);
+CVL_HIDDEN CvlStatus cvl_checked_scan_shared(const int32_t *a, size_t a_len, int32_t *out, size_t out_len);
+CVL_HIDDEN CvlStatus cvl_checked_reduce_alone(const int32_t *a, size_t a_len, int32_t *out);
+CVL_HIDDEN CvlStatus cvl_checked_reduce_shared(const int32_t *a, size_t a_len, int32_t *out);
+CVL_HIDDEN CvlStatus cvl_seg_checked_scan_alone(const int32_t *a, size_t a_len, CvlLengths lengths, int32_t *out,
+    size_t out_len);
+CVL_HIDDEN CvlStatus cvl_seg_checked_scan_shared(const int32_t *a, size_t a_len, CvlLengths lengths, int32_t *out,
+    size_t out_len);
+CVL_HIDDEN CvlStatus cvl_seg_checked_reduce_alone(const int32_t *a, size_t a_len, CvlLengths lengths, int32_t *out,
+    size_t out_len);
+CVL_HIDDEN CvlStatus cvl_seg_checked_reduce_shared(const int32_t *a, size_t a_len, CvlLengths lengths, int32_t *out,
+    size_t out_len);
+CVL_HIDDEN CvlStatus cvl_count_alone(const bool *flags, size_t flags_len, int32_t *out);
+CVL_HIDDEN CvlStatus cvl_count_shared(const bool *flags, size_t flags_len, int32_t *out);
+CVL_HIDDEN CvlStatus cvl_replace_int_alone(const int32_t *vector, size_t vector_len, int64_t index, int32_t value, int32_t *out,
+    size_t out_len);
+CVL_HIDDEN CvlStatus cvl_replace_int_shared(const int32_t *vector, size_t vector_len, int64_t index, int32_t value,
+    int32_t *out, size_t out_len);
+CVL_HIDDEN CvlStatus cvl_replace_bool_alone(const bool *vector, size_t vector_len, int64_t index, bool value, bool *out,
+    size_t out_len);
+CVL_HIDDEN CvlStatus cvl_replace_bool_shared(const bool *vector, size_t vector_len, int64_t index, bool value, bool *out,
+    size_t out_len);
+CVL_HIDDEN CvlStatus cvl_distribute_int_alone(int32_t value, int64_t count, int32_t *out, size_t out_len);
+CVL_HIDDEN CvlStatus cvl_distribute_int_shared(int32_t value, int64_t count, int32_t *out, size_t out_len);
+CVL_HIDDEN CvlStatus cvl_distribute_bool_alone(bool value, int64_t count, bool *out, size_t out_len);
+CVL_HIDDEN CvlStatus cvl_distribute_bool_shared(bool value, int64_t count, bool *out, size_t out_len);
+CVL_HIDDEN CvlStatus cvl_index_alone(int32_t init, int32_t stride, int64_t count, int32_t *out, size_t out_len);
+CVL_HIDDEN CvlStatus cvl_index_shared(int32_t init, int32_t stride, int64_t count, int32_t *out, size_t out_len);
+CVL_HIDDEN CvlStatus cvl_make_descriptor_alone(CvlLengths lengths, size_t *total);
+CVL_HIDDEN CvlStatus cvl_make_descriptor_shared(CvlLengths lengths, size_t *total);
+CVL_HIDDEN CvlStatus cvl_seg_extract_int_alone(const int32_t *vector, size_t vector_len, const int32_t *index, size_t index_len,
+    CvlLengths lengths, int32_t *out, size_t out_len);
+CVL_HIDDEN CvlStatus cvl_seg_extract_int_shared(const int32_t *vector, size_t vector_len, const int32_t *index,
+    size_t index_len, CvlLengths lengths, int32_t *out, size_t out_len);
+CVL_HIDDEN CvlStatus cvl_seg_extract_bool_alone(const bool *vector, size_t vector_len, const int32_t *index, size_t index_len,
+    CvlLengths lengths, bool *out, size_t out_len);
+CVL_HIDDEN CvlStatus cvl_seg_extract_bool_shared(const bool *vector, size_t vector_len, const int32_t *index, size_t index_len,
+    CvlLengths lengths, bool *out, size_t out_len);
+CVL_HIDDEN CvlStatus cvl_seg_replace_int_alone(const int32_t *vector, size_t vector_len, const int32_t *index, size_t index_len,
+    const int32_t *values, size_t values_len, CvlLengths lengths, int32_t *out, size_t out_len);
+CVL_HIDDEN CvlStatus cvl_seg_replace_int_shared(const int32_t *vector, size_t vector_len, const int32_t *index,
+    size_t index_len, const int32_t *values, size_t values_len, CvlLengths lengths, int32_t *out, size_t out_len);
+CVL_HIDDEN CvlStatus cvl_seg_replace_bool_alone(const bool *vector, size_t vector_len, const int32_t *index, size_t index_len,
+    const bool *values, size_t values_len, CvlLengths lengths, bool *out, size_t out_len);
+CVL_HIDDEN CvlStatus cvl_seg_replace_bool_shared(const bool *vector, size_t vector_len, const int32_t *index, size_t index_len,
+    const bool *values, size_t values_len, CvlLengths lengths, bool *out, size_t out_len);
+CVL_HIDDEN CvlStatus cvl_seg_distribute_int_alone(const int32_t *values, size_t values_len, CvlLengths lengths, int32_t *out,
+    size_t out_len);
+CVL_HIDDEN CvlStatus cvl_seg_distribute_int_shared(const int32_t *values, size_t values_len, CvlLengths lengths, int32_t *out,
+    size_t out_len);
+CVL_HIDDEN CvlStatus cvl_seg_distribute_bool_alone(const bool *values, size_t values_len, CvlLengths lengths, bool *out,
+    size_t out_len);
+CVL_HIDDEN CvlStatus cvl_seg_distribute_bool_shared(const bool *values, size_t values_len, CvlLengths lengths, bool *out,
+    size_t out_len);
+CVL_HIDDEN CvlStatus cvl_seg_index_alone(const int32_t *inits, size_t inits_len, const int32_t *strides, size_t strides_len,
+    CvlLengths lengths, int32_t *out, size_t out_len);
+CVL_HIDDEN CvlStatus cvl_seg_index_shared(const int32_t *inits, size_t inits_len, const int32_t *strides, size_t strides_len,
+    CvlLengths lengths, int32_t *out, size_t out_len);
+CVL_HIDDEN CvlStatus cvl_seg_int_scan_alone(uint32_t op, const int32_t *a, size_t a_len, CvlLengths lengths, int32_t *out,
+    size_t out_len);
+CVL_HIDDEN CvlStatus cvl_seg_int_scan_shared(uint32_t op, const int32_t *a, size_t a_len, CvlLengths lengths, int32_t *out,
+    size_t out_len);
+CVL_HIDDEN CvlStatus cvl_seg_bool_scan_alone(uint32_t op, const bool *a, size_t a_len, CvlLengths lengths, bool *out,
+    size_t out_len);
+CVL_HIDDEN CvlStatus cvl_seg_bool_scan_shared(uint32_t op, const bool *a, size_t a_len, CvlLengths lengths, bool *out,
+    size_t out_len);
+CVL_HIDDEN CvlStatus cvl_seg_int_reduce_alone(uint32_t op, const int32_t *a, size_t a_len, CvlLengths lengths, int32_t *out,
+    size_t out_len);
+CVL_HIDDEN CvlStatus cvl_seg_int_reduce_shared(uint32_t op, const int32_t *a, size_t a_len, CvlLengths lengths, int32_t *out,
+    size_t out_len);
+CVL_HIDDEN CvlStatus cvl_seg_bool_reduce_alone(uint32_t op, const bool *a, size_t a_len, CvlLengths lengths, bool *out,
+    size_t out_len);
+CVL_HIDDEN CvlStatus cvl_seg_bool_reduce_shared(uint32_t op, const bool *a, size_t a_len, CvlLengths lengths, bool *out,
+    size_t out_len);
+CVL_HIDDEN CvlStatus cvl_pack_int_alone(const int32_t *values, size_t values_len, const bool *flags, size_t flags_len,
+    int32_t *out, size_t out_len, size_t *count);
+CVL_HIDDEN CvlStatus cvl_pack_int_shared(const int32_t *values, size_t values_len, const bool *flags, size_t flags_len,
+    int32_t *out, size_t out_len, size_t *count);
+CVL_HIDDEN CvlStatus cvl_pack_bool_alone(const bool *values, size_t values_len, const bool *flags, size_t flags_len, bool *out,
+    size_t out_len, size_t *count);
+CVL_HIDDEN CvlStatus cvl_pack_bool_shared(const bool *values, size_t values_len, const bool *flags, size_t flags_len, bool *out,
+    size_t out_len, size_t *count);
+CVL_HIDDEN CvlStatus cvl_seg_pack_int_alone(const int32_t *values, size_t values_len, const bool *flags, size_t flags_len,
+    CvlLengths lengths, int32_t *out, size_t out_len, size_t *count);
+CVL_HIDDEN CvlStatus cvl_seg_pack_int_shared(const int32_t *values, size_t values_len, const bool *flags, size_t flags_len,
+    CvlLengths lengths, int32_t *out, size_t out_len, size_t *count);
+CVL_HIDDEN CvlStatus cvl_seg_pack_bool_alone(const bool *values, size_t values_len, const bool *flags, size_t flags_len,
+    CvlLengths lengths, bool *out, size_t out_len, size_t *count);
+CVL_HIDDEN CvlStatus cvl_seg_pack_bool_shared(const bool *values, size_t values_len, const bool *flags, size_t flags_len,
+    CvlLengths lengths, bool *out, size_t out_len, size_t *count);
+CVL_HIDDEN CvlStatus cvl_seg_packed_lengths_alone(const bool *flags, size_t flags_len, CvlLengths lengths, int32_t *out,
+    size_t out_len);
+CVL_HIDDEN CvlStatus cvl_seg_packed_lengths_shared(const bool *flags, size_t flags_len, CvlLengths lengths, int32_t *out,
+    size_t out_len);
+CVL_HIDDEN CvlStatus cvl_seg_count_alone(const bool *flags, size_t flags_len, CvlLengths lengths, int32_t *out, size_t out_len);
+CVL_HIDDEN CvlStatus cvl_seg_count_shared(const bool *flags, size_t flags_len, CvlLengths lengths, int32_t *out,
+    size_t out_len);
+CVL_HIDDEN CvlStatus cvl_permute_int_alone(const int32_t *source, size_t source_len, const int32_t *index, size_t index_len,
+    int32_t *out, size_t out_len);
+CVL_HIDDEN CvlStatus cvl_permute_int_shared(const int32_t *source, size_t source_len, const int32_t *index, size_t index_len,
+    int32_t *out, size_t out_len);
+CVL_HIDDEN CvlStatus cvl_permute_bool_alone(const bool *source, size_t source_len, const int32_t *index, size_t index_len,
+    bool *out, size_t out_len);
+CVL_HIDDEN CvlStatus cvl_permute_bool_shared(const bool *source, size_t source_len, const int32_t *index, size_t index_len,
+    bool *out, size_t out_len);
+CVL_HIDDEN CvlStatus cvl_select_permute_int_alone(const int32_t *source, size_t source_len, const int32_t *index,
+    size_t index_len, const bool *flags, size_t flags_len, int32_t *out, size_t out_len);
+CVL_HIDDEN CvlStatus cvl_select_permute_int_shared(const int32_t *source, size_t source_len, const int32_t *index,
+    size_t index_len, const bool *flags, size_t flags_len, int32_t *out, size_t out_len);
+CVL_HIDDEN CvlStatus cvl_select_permute_bool_alone(const bool *source, size_t source_len, const int32_t *index,
+    size_t index_len, const bool *flags, size_t flags_len, bool *out, size_t out_len);
+CVL_HIDDEN CvlStatus cvl_select_permute_bool_shared(const bool *source, size_t source_len, const int32_t *index,
+    size_t index_len, const bool *flags, size_t flags_len, bool *out, size_t out_len);
+CVL_HIDDEN CvlStatus cvl_default_permute_int_alone(const int32_t *source, size_t source_len, const int32_t *index,
+    size_t index_len, const int32_t *defaults, size_t defaults_len, int32_t *out, size_t out_len);
+CVL_HIDDEN CvlStatus cvl_default_permute_int_shared(const int32_t *source, size_t source_len, const int32_t *index,
+    size_t index_len, const int32_t *defaults, size_t defaults_len, int32_t *out, size_t out_len);
+CVL_HIDDEN CvlStatus cvl_default_permute_bool_alone(const bool *source, size_t source_len, const int32_t *index,
+    size_t index_len, const bool *defaults, size_t defaults_len, bool *out, size_t out_len);
+CVL_HIDDEN CvlStatus cvl_default_permute_bool_shared(const bool *source, size_t source_len, const int32_t *index,
+    size_t index_len, const bool *defaults, size_t defaults_len, bool *out, size_t out_len);
+CVL_HIDDEN CvlStatus cvl_back_permute_int_alone(const int32_t *source, size_t source_len, const int32_t *index,
+    size_t index_len, int32_t *out, size_t out_len);
+CVL_HIDDEN CvlStatus cvl_back_permute_int_shared(const int32_t *source, size_t source_len, const int32_t *index,
+    size_t index_len, int32_t *out, size_t out_len);
+CVL_HIDDEN CvlStatus cvl_back_permute_bool_alone(const bool *source, size_t source_len, const int32_t *index, size_t index_len,
+    bool *out, size_t out_len);
+CVL_HIDDEN CvlStatus cvl_back_permute_bool_shared(const bool *source, size_t source_len, const int32_t *index, size_t index_len,
+    bool *out, size_t out_len);
+CVL_HIDDEN CvlStatus cvl_seg_permute_int_alone(const int32_t *source, size_t source_len, const int32_t *index, size_t index_len,
+    CvlLengths lengths, int32_t *out, size_t out_len);
+CVL_HIDDEN CvlStatus cvl_seg_permute_int_shared(const int32_t *source, size_t source_len, const int32_t *index,
+    size_t index_len, CvlLengths lengths, int32_t *out, size_t out_len);
+CVL_HIDDEN CvlStatus cvl_seg_permute_bool_alone(const bool *source, size_t source_len, const int32_t *index, size_t index_len,
+    CvlLengths lengths, bool *out, size_t out_len);
+CVL_HIDDEN CvlStatus cvl_seg_permute_bool_shared(const bool *source, size_t source_len, const int32_t *index, size_t index_len,
+    CvlLengths lengths, bool *out, size_t out_len);
+CVL_HIDDEN CvlStatus cvl_seg_select_permute_int_alone(const int32_t *source, size_t source_len, const int32_t *index,
+    size_t index_len, const bool *flags, size_t flags_len, CvlLengths lengths, int32_t *out, size_t out_len);
+CVL_HIDDEN CvlStatus cvl_seg_select_permute_int_shared(const int32_t *source, size_t source_len, const int32_t *index,
+    size_t index_len, const bool *flags, size_t flags_len, CvlLengths lengths, int32_t *out, size_t out_len);
+CVL_HIDDEN CvlStatus cvl_seg_select_permute_bool_alone(const bool *source, size_t source_len, const int32_t *index,
+    size_t index_len, const bool *flags, size_t flags_len, CvlLengths lengths, bool *out, size_t out_len);
+CVL_HIDDEN CvlStatus cvl_seg_select_permute_bool_shared(const bool *source, size_t source_len, const int32_t *index,
+    size_t index_len, const bool *flags, size_t flags_len, CvlLengths lengths, bool *out, size_t out_len);
+CVL_HIDDEN CvlStatus cvl_seg_default_permute_int_alone(const int32_t *source, size_t source_len, const int32_t *index,
+    size_t index_len, const int32_t *defaults, size_t defaults_len, CvlLengths lengths, CvlLengths default_lengths,
+    int32_t *out, size_t out_len);
+CVL_HIDDEN CvlStatus cvl_seg_default_permute_int_shared(const int32_t *source, size_t source_len, const int32_t *index,
+    size_t index_len, const int32_t *defaults, size_t defaults_len, CvlLengths lengths, CvlLengths default_lengths,
+    int32_t *out, size_t out_len);
+CVL_HIDDEN CvlStatus cvl_seg_default_permute_bool_alone(const bool *source, size_t source_len, const int32_t *index,
+    size_t index_len, const bool *defaults, size_t defaults_len, CvlLengths lengths, CvlLengths default_lengths, bool *out,
+    size_t out_len);
+CVL_HIDDEN CvlStatus cvl_seg_default_permute_bool_shared(const bool *source, size_t source_len, const int32_t *index,
+    size_t index_len, const bool *defaults, size_t defaults_len, CvlLengths lengths, CvlLengths default_lengths, bool *out,
+    size_t out_len);
+CVL_HIDDEN CvlStatus cvl_seg_back_permute_int_alone(const int32_t *source, size_t source_len, const int32_t *index,
+    size_t index_len, CvlLengths lengths, CvlLengths index_lengths, int32_t *out, size_t out_len);
+CVL_HIDDEN CvlStatus cvl_seg_back_permute_int_shared(const int32_t *source, size_t source_len, const int32_t *index,
+    size_t index_len, CvlLengths lengths, CvlLengths index_lengths, int32_t *out, size_t out_len);
+CVL_HIDDEN CvlStatus cvl_seg_back_permute_bool_alone(const bool *source, size_t source_len, const int32_t *index,
+    size_t index_len, CvlLengths lengths, CvlLengths index_lengths, bool *out, size_t out_len);
+CVL_HIDDEN CvlStatus cvl_seg_back_permute_bool_shared(const bool *source, size_t source_len, const int32_t *index,
+    size_t index_len, CvlLengths lengths, CvlLengths index_lengths, bool *out, size_t out_len);
+CVL_HIDDEN CvlStatus cvl_read_ints_alone(const char *text, size_t text_len, int32_t *out, size_t out_len, size_t *count);
+CVL_HIDDEN CvlStatus cvl_read_ints_shared(const char *text, size_t text_len, int32_t *out, size_t out_len, size_t *count);
+CVL_HIDDEN CvlStatus cvl_write_ints_alone(const int32_t *a, size_t a_len, char *out, size_t out_len, size_t *count);
+CVL_HIDDEN CvlStatus cvl_write_ints_shared(const int32_t *a, size_t a_len, char *out, size_t out_len, size_t *count);
+CVL_HIDDEN CvlStatus cvl_write_bools_alone(const bool *a, size_t a_len, char *out, size_t out_len, size_t *count);
+CVL_HIDDEN CvlStatus cvl_write_bools_shared(const bool *a, size_t a_len, char *out, size_t out_len, size_t *count);
+CVL_HIDDEN CvlStatus cvl_seg_write_ints_alone(const int32_t *a, size_t a_len, CvlLengths lengths, char *out, size_t out_len,
+    size_t *count);
+CVL_HIDDEN CvlStatus cvl_seg_write_ints_shared(const int32_t *a, size_t a_len, CvlLengths lengths, char *out, size_t out_len,
+    size_t *count);
+CVL_HIDDEN CvlStatus cvl_seg_write_bools_alone(const bool *a, size_t a_len, CvlLengths lengths, char *out, size_t out_len,
+    size_t *count);
+CVL_HIDDEN CvlStatus cvl_seg_write_bools_shared(const bool *a, size_t a_len, CvlLengths lengths, char *out, size_t out_len,
+    size_t *count);
 
 static inline bool cvl_int2_meets(const int32_t *a, size_t a_len, const int32_t *b, size_t b_len, int32_t *out,
     size_t out_len) {

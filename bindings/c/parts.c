@@ -1,5 +1,6 @@
 /*
- * The functions of cvl_parallel.h: each family in parts, and each call of the table by its family.
+ * The functions of cvl_parallel.h: each family in parts, and by the threads of the process, and each call of the table by its
+ * family.
  * Written by bindings/generate from bindings/table.py; edit that and not this file.
  */
 #include "parts.h"
@@ -30,7 +31,14 @@ CvlStatus cvl_int2_on(const CvlPool *pool, uint32_t op, const int32_t *a, size_t
         cvl_let_go(&w);
         if (done) return w.told;
     }
-    return w.left_out ? cvl_status(CVL_NO_RESOURCES, -1) : cvl_int2(op, a, a_len, b, b_len, out, out_len);
+    return w.left_out ? cvl_status(CVL_NO_RESOURCES, -1) : cvl_int2_alone(op, a, a_len, b, b_len, out, out_len);
+}
+
+CvlStatus cvl_int2_shared(uint32_t op, const int32_t *a, size_t a_len, const int32_t *b, size_t b_len, int32_t *out,
+    size_t out_len) {
+    const CvlPool *const pool = cvl_take_threads();
+    if (pool == NULL) return cvl_int2_alone(op, a, a_len, b, b_len, out, out_len);
+    return cvl_give_threads(cvl_int2_on(pool, op, a, a_len, b, b_len, out, out_len));
 }
 
 static CvlStatus bool2_part(CvlWork *w, size_t k) {
@@ -54,7 +62,13 @@ CvlStatus cvl_bool2_on(const CvlPool *pool, uint32_t op, const bool *a, size_t a
         cvl_let_go(&w);
         if (done) return w.told;
     }
-    return w.left_out ? cvl_status(CVL_NO_RESOURCES, -1) : cvl_bool2(op, a, a_len, b, b_len, out, out_len);
+    return w.left_out ? cvl_status(CVL_NO_RESOURCES, -1) : cvl_bool2_alone(op, a, a_len, b, b_len, out, out_len);
+}
+
+CvlStatus cvl_bool2_shared(uint32_t op, const bool *a, size_t a_len, const bool *b, size_t b_len, bool *out, size_t out_len) {
+    const CvlPool *const pool = cvl_take_threads();
+    if (pool == NULL) return cvl_bool2_alone(op, a, a_len, b, b_len, out, out_len);
+    return cvl_give_threads(cvl_bool2_on(pool, op, a, a_len, b, b_len, out, out_len));
 }
 
 static CvlStatus int1_part(CvlWork *w, size_t k) {
@@ -75,7 +89,13 @@ CvlStatus cvl_int1_on(const CvlPool *pool, uint32_t op, const int32_t *a, size_t
         cvl_let_go(&w);
         if (done) return w.told;
     }
-    return w.left_out ? cvl_status(CVL_NO_RESOURCES, -1) : cvl_int1(op, a, a_len, out, out_len);
+    return w.left_out ? cvl_status(CVL_NO_RESOURCES, -1) : cvl_int1_alone(op, a, a_len, out, out_len);
+}
+
+CvlStatus cvl_int1_shared(uint32_t op, const int32_t *a, size_t a_len, int32_t *out, size_t out_len) {
+    const CvlPool *const pool = cvl_take_threads();
+    if (pool == NULL) return cvl_int1_alone(op, a, a_len, out, out_len);
+    return cvl_give_threads(cvl_int1_on(pool, op, a, a_len, out, out_len));
 }
 
 static CvlStatus bool1_part(CvlWork *w, size_t k) {
@@ -97,7 +117,13 @@ CvlStatus cvl_bool1_on(const CvlPool *pool, uint32_t op, const bool *a, size_t a
         cvl_let_go(&w);
         if (done) return w.told;
     }
-    return w.left_out ? cvl_status(CVL_NO_RESOURCES, -1) : cvl_bool1(op, a, a_len, out, out_len);
+    return w.left_out ? cvl_status(CVL_NO_RESOURCES, -1) : cvl_bool1_alone(op, a, a_len, out, out_len);
+}
+
+CvlStatus cvl_bool1_shared(uint32_t op, const bool *a, size_t a_len, bool *out, size_t out_len) {
+    const CvlPool *const pool = cvl_take_threads();
+    if (pool == NULL) return cvl_bool1_alone(op, a, a_len, out, out_len);
+    return cvl_give_threads(cvl_bool1_on(pool, op, a, a_len, out, out_len));
 }
 
 static CvlStatus compare_part(CvlWork *w, size_t k) {
@@ -120,7 +146,14 @@ CvlStatus cvl_compare_on(const CvlPool *pool, uint32_t op, const int32_t *a, siz
         cvl_let_go(&w);
         if (done) return w.told;
     }
-    return w.left_out ? cvl_status(CVL_NO_RESOURCES, -1) : cvl_compare(op, a, a_len, b, b_len, out, out_len);
+    return w.left_out ? cvl_status(CVL_NO_RESOURCES, -1) : cvl_compare_alone(op, a, a_len, b, b_len, out, out_len);
+}
+
+CvlStatus cvl_compare_shared(uint32_t op, const int32_t *a, size_t a_len, const int32_t *b, size_t b_len, bool *out,
+    size_t out_len) {
+    const CvlPool *const pool = cvl_take_threads();
+    if (pool == NULL) return cvl_compare_alone(op, a, a_len, b, b_len, out, out_len);
+    return cvl_give_threads(cvl_compare_on(pool, op, a, a_len, b, b_len, out, out_len));
 }
 
 static CvlStatus int_from_bool_part(CvlWork *w, size_t k) {
@@ -141,7 +174,13 @@ CvlStatus cvl_int_from_bool_on(const CvlPool *pool, const bool *a, size_t a_len,
         cvl_let_go(&w);
         if (done) return w.told;
     }
-    return w.left_out ? cvl_status(CVL_NO_RESOURCES, -1) : cvl_int_from_bool(a, a_len, out, out_len);
+    return w.left_out ? cvl_status(CVL_NO_RESOURCES, -1) : cvl_int_from_bool_alone(a, a_len, out, out_len);
+}
+
+CvlStatus cvl_int_from_bool_shared(const bool *a, size_t a_len, int32_t *out, size_t out_len) {
+    const CvlPool *const pool = cvl_take_threads();
+    if (pool == NULL) return cvl_int_from_bool_alone(a, a_len, out, out_len);
+    return cvl_give_threads(cvl_int_from_bool_on(pool, a, a_len, out, out_len));
 }
 
 static CvlStatus bool_from_int_part(CvlWork *w, size_t k) {
@@ -161,7 +200,13 @@ CvlStatus cvl_bool_from_int_on(const CvlPool *pool, const int32_t *a, size_t a_l
         cvl_let_go(&w);
         if (done) return w.told;
     }
-    return w.left_out ? cvl_status(CVL_NO_RESOURCES, -1) : cvl_bool_from_int(a, a_len, out, out_len);
+    return w.left_out ? cvl_status(CVL_NO_RESOURCES, -1) : cvl_bool_from_int_alone(a, a_len, out, out_len);
+}
+
+CvlStatus cvl_bool_from_int_shared(const int32_t *a, size_t a_len, bool *out, size_t out_len) {
+    const CvlPool *const pool = cvl_take_threads();
+    if (pool == NULL) return cvl_bool_from_int_alone(a, a_len, out, out_len);
+    return cvl_give_threads(cvl_bool_from_int_on(pool, a, a_len, out, out_len));
 }
 
 static CvlStatus select_int_part(CvlWork *w, size_t k) {
@@ -186,7 +231,14 @@ CvlStatus cvl_select_int_on(const CvlPool *pool, const bool *flags, size_t flags
         cvl_let_go(&w);
         if (done) return w.told;
     }
-    return w.left_out ? cvl_status(CVL_NO_RESOURCES, -1) : cvl_select_int(flags, flags_len, a, a_len, b, b_len, out, out_len);
+    return w.left_out ? cvl_status(CVL_NO_RESOURCES, -1) : cvl_select_int_alone(flags, flags_len, a, a_len, b, b_len, out, out_len);
+}
+
+CvlStatus cvl_select_int_shared(const bool *flags, size_t flags_len, const int32_t *a, size_t a_len, const int32_t *b,
+    size_t b_len, int32_t *out, size_t out_len) {
+    const CvlPool *const pool = cvl_take_threads();
+    if (pool == NULL) return cvl_select_int_alone(flags, flags_len, a, a_len, b, b_len, out, out_len);
+    return cvl_give_threads(cvl_select_int_on(pool, flags, flags_len, a, a_len, b, b_len, out, out_len));
 }
 
 static CvlStatus select_bool_part(CvlWork *w, size_t k) {
@@ -212,7 +264,15 @@ CvlStatus cvl_select_bool_on(const CvlPool *pool, const bool *flags, size_t flag
         cvl_let_go(&w);
         if (done) return w.told;
     }
-    return w.left_out ? cvl_status(CVL_NO_RESOURCES, -1) : cvl_select_bool(flags, flags_len, a, a_len, b, b_len, out, out_len);
+    return w.left_out ? cvl_status(CVL_NO_RESOURCES, -1) : cvl_select_bool_alone(flags, flags_len, a, a_len, b, b_len, out,
+        out_len);
+}
+
+CvlStatus cvl_select_bool_shared(const bool *flags, size_t flags_len, const bool *a, size_t a_len, const bool *b, size_t b_len,
+    bool *out, size_t out_len) {
+    const CvlPool *const pool = cvl_take_threads();
+    if (pool == NULL) return cvl_select_bool_alone(flags, flags_len, a, a_len, b, b_len, out, out_len);
+    return cvl_give_threads(cvl_select_bool_on(pool, flags, flags_len, a, a_len, b, b_len, out, out_len));
 }
 
 CvlStatus cvl_int_scan_on(const CvlPool *pool, uint32_t op, const int32_t *a, size_t a_len, int32_t *out, size_t out_len) {
@@ -227,7 +287,13 @@ CvlStatus cvl_int_scan_on(const CvlPool *pool, uint32_t op, const int32_t *a, si
         cvl_let_go(&w);
         if (done) return w.told;
     }
-    return w.left_out ? cvl_status(CVL_NO_RESOURCES, -1) : cvl_int_scan(op, a, a_len, out, out_len);
+    return w.left_out ? cvl_status(CVL_NO_RESOURCES, -1) : cvl_int_scan_alone(op, a, a_len, out, out_len);
+}
+
+CvlStatus cvl_int_scan_shared(uint32_t op, const int32_t *a, size_t a_len, int32_t *out, size_t out_len) {
+    const CvlPool *const pool = cvl_take_threads();
+    if (pool == NULL) return cvl_int_scan_alone(op, a, a_len, out, out_len);
+    return cvl_give_threads(cvl_int_scan_on(pool, op, a, a_len, out, out_len));
 }
 
 CvlStatus cvl_bool_scan_on(const CvlPool *pool, uint32_t op, const bool *a, size_t a_len, bool *out, size_t out_len) {
@@ -244,7 +310,13 @@ CvlStatus cvl_bool_scan_on(const CvlPool *pool, uint32_t op, const bool *a, size
         cvl_let_go(&w);
         if (done) return w.told;
     }
-    return w.left_out ? cvl_status(CVL_NO_RESOURCES, -1) : cvl_bool_scan(op, a, a_len, out, out_len);
+    return w.left_out ? cvl_status(CVL_NO_RESOURCES, -1) : cvl_bool_scan_alone(op, a, a_len, out, out_len);
+}
+
+CvlStatus cvl_bool_scan_shared(uint32_t op, const bool *a, size_t a_len, bool *out, size_t out_len) {
+    const CvlPool *const pool = cvl_take_threads();
+    if (pool == NULL) return cvl_bool_scan_alone(op, a, a_len, out, out_len);
+    return cvl_give_threads(cvl_bool_scan_on(pool, op, a, a_len, out, out_len));
 }
 
 CvlStatus cvl_int_reduce_on(const CvlPool *pool, uint32_t op, const int32_t *a, size_t a_len, int32_t *out) {
@@ -259,7 +331,13 @@ CvlStatus cvl_int_reduce_on(const CvlPool *pool, uint32_t op, const int32_t *a, 
         cvl_let_go(&w);
         if (done) return w.told;
     }
-    return w.left_out ? cvl_status(CVL_NO_RESOURCES, -1) : cvl_int_reduce(op, a, a_len, out);
+    return w.left_out ? cvl_status(CVL_NO_RESOURCES, -1) : cvl_int_reduce_alone(op, a, a_len, out);
+}
+
+CvlStatus cvl_int_reduce_shared(uint32_t op, const int32_t *a, size_t a_len, int32_t *out) {
+    const CvlPool *const pool = cvl_take_threads();
+    if (pool == NULL) return cvl_int_reduce_alone(op, a, a_len, out);
+    return cvl_give_threads(cvl_int_reduce_on(pool, op, a, a_len, out));
 }
 
 CvlStatus cvl_bool_reduce_on(const CvlPool *pool, uint32_t op, const bool *a, size_t a_len, bool *out) {
@@ -275,7 +353,13 @@ CvlStatus cvl_bool_reduce_on(const CvlPool *pool, uint32_t op, const bool *a, si
         cvl_let_go(&w);
         if (done) return w.told;
     }
-    return w.left_out ? cvl_status(CVL_NO_RESOURCES, -1) : cvl_bool_reduce(op, a, a_len, out);
+    return w.left_out ? cvl_status(CVL_NO_RESOURCES, -1) : cvl_bool_reduce_alone(op, a, a_len, out);
+}
+
+CvlStatus cvl_bool_reduce_shared(uint32_t op, const bool *a, size_t a_len, bool *out) {
+    const CvlPool *const pool = cvl_take_threads();
+    if (pool == NULL) return cvl_bool_reduce_alone(op, a, a_len, out);
+    return cvl_give_threads(cvl_bool_reduce_on(pool, op, a, a_len, out));
 }
 
 CvlStatus cvl_checked_scan_on(const CvlPool *pool, const int32_t *a, size_t a_len, int32_t *out, size_t out_len) {
@@ -289,7 +373,13 @@ CvlStatus cvl_checked_scan_on(const CvlPool *pool, const int32_t *a, size_t a_le
         cvl_let_go(&w);
         if (done) return w.told;
     }
-    return w.left_out ? cvl_status(CVL_NO_RESOURCES, -1) : cvl_checked_scan(a, a_len, out, out_len);
+    return w.left_out ? cvl_status(CVL_NO_RESOURCES, -1) : cvl_checked_scan_alone(a, a_len, out, out_len);
+}
+
+CvlStatus cvl_checked_scan_shared(const int32_t *a, size_t a_len, int32_t *out, size_t out_len) {
+    const CvlPool *const pool = cvl_take_threads();
+    if (pool == NULL) return cvl_checked_scan_alone(a, a_len, out, out_len);
+    return cvl_give_threads(cvl_checked_scan_on(pool, a, a_len, out, out_len));
 }
 
 CvlStatus cvl_checked_reduce_on(const CvlPool *pool, const int32_t *a, size_t a_len, int32_t *out) {
@@ -303,7 +393,13 @@ CvlStatus cvl_checked_reduce_on(const CvlPool *pool, const int32_t *a, size_t a_
         cvl_let_go(&w);
         if (done) return w.told;
     }
-    return w.left_out ? cvl_status(CVL_NO_RESOURCES, -1) : cvl_checked_reduce(a, a_len, out);
+    return w.left_out ? cvl_status(CVL_NO_RESOURCES, -1) : cvl_checked_reduce_alone(a, a_len, out);
+}
+
+CvlStatus cvl_checked_reduce_shared(const int32_t *a, size_t a_len, int32_t *out) {
+    const CvlPool *const pool = cvl_take_threads();
+    if (pool == NULL) return cvl_checked_reduce_alone(a, a_len, out);
+    return cvl_give_threads(cvl_checked_reduce_on(pool, a, a_len, out));
 }
 
 CvlStatus cvl_seg_checked_scan_on(const CvlPool *pool, const int32_t *a, size_t a_len, CvlLengths lengths, int32_t *out,
@@ -319,7 +415,13 @@ CvlStatus cvl_seg_checked_scan_on(const CvlPool *pool, const int32_t *a, size_t 
         cvl_let_go(&w);
         if (done) return w.told;
     }
-    return w.left_out ? cvl_status(CVL_NO_RESOURCES, -1) : cvl_seg_checked_scan(a, a_len, lengths, out, out_len);
+    return w.left_out ? cvl_status(CVL_NO_RESOURCES, -1) : cvl_seg_checked_scan_alone(a, a_len, lengths, out, out_len);
+}
+
+CvlStatus cvl_seg_checked_scan_shared(const int32_t *a, size_t a_len, CvlLengths lengths, int32_t *out, size_t out_len) {
+    const CvlPool *const pool = cvl_take_threads();
+    if (pool == NULL) return cvl_seg_checked_scan_alone(a, a_len, lengths, out, out_len);
+    return cvl_give_threads(cvl_seg_checked_scan_on(pool, a, a_len, lengths, out, out_len));
 }
 
 CvlStatus cvl_seg_checked_reduce_on(const CvlPool *pool, const int32_t *a, size_t a_len, CvlLengths lengths, int32_t *out,
@@ -335,7 +437,13 @@ CvlStatus cvl_seg_checked_reduce_on(const CvlPool *pool, const int32_t *a, size_
         cvl_let_go(&w);
         if (done) return w.told;
     }
-    return w.left_out ? cvl_status(CVL_NO_RESOURCES, -1) : cvl_seg_checked_reduce(a, a_len, lengths, out, out_len);
+    return w.left_out ? cvl_status(CVL_NO_RESOURCES, -1) : cvl_seg_checked_reduce_alone(a, a_len, lengths, out, out_len);
+}
+
+CvlStatus cvl_seg_checked_reduce_shared(const int32_t *a, size_t a_len, CvlLengths lengths, int32_t *out, size_t out_len) {
+    const CvlPool *const pool = cvl_take_threads();
+    if (pool == NULL) return cvl_seg_checked_reduce_alone(a, a_len, lengths, out, out_len);
+    return cvl_give_threads(cvl_seg_checked_reduce_on(pool, a, a_len, lengths, out, out_len));
 }
 
 CvlStatus cvl_count_on(const CvlPool *pool, const bool *flags, size_t flags_len, int32_t *out) {
@@ -349,7 +457,13 @@ CvlStatus cvl_count_on(const CvlPool *pool, const bool *flags, size_t flags_len,
         cvl_let_go(&w);
         if (done) return w.told;
     }
-    return w.left_out ? cvl_status(CVL_NO_RESOURCES, -1) : cvl_count(flags, flags_len, out);
+    return w.left_out ? cvl_status(CVL_NO_RESOURCES, -1) : cvl_count_alone(flags, flags_len, out);
+}
+
+CvlStatus cvl_count_shared(const bool *flags, size_t flags_len, int32_t *out) {
+    const CvlPool *const pool = cvl_take_threads();
+    if (pool == NULL) return cvl_count_alone(flags, flags_len, out);
+    return cvl_give_threads(cvl_count_on(pool, flags, flags_len, out));
 }
 
 CvlStatus cvl_extract_int_on(const CvlPool *pool, const int32_t *vector, size_t vector_len, int64_t index, int32_t *out) {
@@ -377,7 +491,14 @@ CvlStatus cvl_replace_int_on(const CvlPool *pool, const int32_t *vector, size_t 
         cvl_let_go(&w);
         if (done) return w.told;
     }
-    return w.left_out ? cvl_status(CVL_NO_RESOURCES, -1) : cvl_replace_int(vector, vector_len, index, value, out, out_len);
+    return w.left_out ? cvl_status(CVL_NO_RESOURCES, -1) : cvl_replace_int_alone(vector, vector_len, index, value, out, out_len);
+}
+
+CvlStatus cvl_replace_int_shared(const int32_t *vector, size_t vector_len, int64_t index, int32_t value, int32_t *out,
+    size_t out_len) {
+    const CvlPool *const pool = cvl_take_threads();
+    if (pool == NULL) return cvl_replace_int_alone(vector, vector_len, index, value, out, out_len);
+    return cvl_give_threads(cvl_replace_int_on(pool, vector, vector_len, index, value, out, out_len));
 }
 
 CvlStatus cvl_replace_bool_on(const CvlPool *pool, const bool *vector, size_t vector_len, int64_t index, bool value, bool *out,
@@ -396,7 +517,13 @@ CvlStatus cvl_replace_bool_on(const CvlPool *pool, const bool *vector, size_t ve
         cvl_let_go(&w);
         if (done) return w.told;
     }
-    return w.left_out ? cvl_status(CVL_NO_RESOURCES, -1) : cvl_replace_bool(vector, vector_len, index, value, out, out_len);
+    return w.left_out ? cvl_status(CVL_NO_RESOURCES, -1) : cvl_replace_bool_alone(vector, vector_len, index, value, out, out_len);
+}
+
+CvlStatus cvl_replace_bool_shared(const bool *vector, size_t vector_len, int64_t index, bool value, bool *out, size_t out_len) {
+    const CvlPool *const pool = cvl_take_threads();
+    if (pool == NULL) return cvl_replace_bool_alone(vector, vector_len, index, value, out, out_len);
+    return cvl_give_threads(cvl_replace_bool_on(pool, vector, vector_len, index, value, out, out_len));
 }
 
 static CvlStatus distribute_int_part(CvlWork *w, size_t k) {
@@ -416,7 +543,13 @@ CvlStatus cvl_distribute_int_on(const CvlPool *pool, int32_t value, int64_t coun
         cvl_let_go(&w);
         if (done) return w.told;
     }
-    return w.left_out ? cvl_status(CVL_NO_RESOURCES, -1) : cvl_distribute_int(value, count, out, out_len);
+    return w.left_out ? cvl_status(CVL_NO_RESOURCES, -1) : cvl_distribute_int_alone(value, count, out, out_len);
+}
+
+CvlStatus cvl_distribute_int_shared(int32_t value, int64_t count, int32_t *out, size_t out_len) {
+    const CvlPool *const pool = cvl_take_threads();
+    if (pool == NULL) return cvl_distribute_int_alone(value, count, out, out_len);
+    return cvl_give_threads(cvl_distribute_int_on(pool, value, count, out, out_len));
 }
 
 static CvlStatus distribute_bool_part(CvlWork *w, size_t k) {
@@ -437,7 +570,13 @@ CvlStatus cvl_distribute_bool_on(const CvlPool *pool, bool value, int64_t count,
         cvl_let_go(&w);
         if (done) return w.told;
     }
-    return w.left_out ? cvl_status(CVL_NO_RESOURCES, -1) : cvl_distribute_bool(value, count, out, out_len);
+    return w.left_out ? cvl_status(CVL_NO_RESOURCES, -1) : cvl_distribute_bool_alone(value, count, out, out_len);
+}
+
+CvlStatus cvl_distribute_bool_shared(bool value, int64_t count, bool *out, size_t out_len) {
+    const CvlPool *const pool = cvl_take_threads();
+    if (pool == NULL) return cvl_distribute_bool_alone(value, count, out, out_len);
+    return cvl_give_threads(cvl_distribute_bool_on(pool, value, count, out, out_len));
 }
 
 static CvlStatus index_part(CvlWork *w, size_t k) {
@@ -458,7 +597,13 @@ CvlStatus cvl_index_on(const CvlPool *pool, int32_t init, int32_t stride, int64_
         cvl_let_go(&w);
         if (done) return w.told;
     }
-    return w.left_out ? cvl_status(CVL_NO_RESOURCES, -1) : cvl_index(init, stride, count, out, out_len);
+    return w.left_out ? cvl_status(CVL_NO_RESOURCES, -1) : cvl_index_alone(init, stride, count, out, out_len);
+}
+
+CvlStatus cvl_index_shared(int32_t init, int32_t stride, int64_t count, int32_t *out, size_t out_len) {
+    const CvlPool *const pool = cvl_take_threads();
+    if (pool == NULL) return cvl_index_alone(init, stride, count, out, out_len);
+    return cvl_give_threads(cvl_index_on(pool, init, stride, count, out, out_len));
 }
 
 CvlStatus cvl_make_descriptor_on(const CvlPool *pool, CvlLengths lengths, size_t *total) {
@@ -472,7 +617,13 @@ CvlStatus cvl_make_descriptor_on(const CvlPool *pool, CvlLengths lengths, size_t
         cvl_let_go(&w);
         if (done) return w.told;
     }
-    return w.left_out ? cvl_status(CVL_NO_RESOURCES, -1) : cvl_make_descriptor(lengths, total);
+    return w.left_out ? cvl_status(CVL_NO_RESOURCES, -1) : cvl_make_descriptor_alone(lengths, total);
+}
+
+CvlStatus cvl_make_descriptor_shared(CvlLengths lengths, size_t *total) {
+    const CvlPool *const pool = cvl_take_threads();
+    if (pool == NULL) return cvl_make_descriptor_alone(lengths, total);
+    return cvl_give_threads(cvl_make_descriptor_on(pool, lengths, total));
 }
 
 static CvlStatus seg_extract_int_part(CvlWork *w, size_t k) {
@@ -497,8 +648,15 @@ CvlStatus cvl_seg_extract_int_on(const CvlPool *pool, const int32_t *vector, siz
         cvl_let_go(&w);
         if (done) return w.told;
     }
-    return w.left_out ? cvl_status(CVL_NO_RESOURCES, -1) : cvl_seg_extract_int(vector, vector_len, index, index_len, lengths, out,
-        out_len);
+    return w.left_out ? cvl_status(CVL_NO_RESOURCES, -1) : cvl_seg_extract_int_alone(vector, vector_len, index, index_len, lengths,
+        out, out_len);
+}
+
+CvlStatus cvl_seg_extract_int_shared(const int32_t *vector, size_t vector_len, const int32_t *index, size_t index_len,
+    CvlLengths lengths, int32_t *out, size_t out_len) {
+    const CvlPool *const pool = cvl_take_threads();
+    if (pool == NULL) return cvl_seg_extract_int_alone(vector, vector_len, index, index_len, lengths, out, out_len);
+    return cvl_give_threads(cvl_seg_extract_int_on(pool, vector, vector_len, index, index_len, lengths, out, out_len));
 }
 
 static CvlStatus seg_extract_bool_part(CvlWork *w, size_t k) {
@@ -524,8 +682,15 @@ CvlStatus cvl_seg_extract_bool_on(const CvlPool *pool, const bool *vector, size_
         cvl_let_go(&w);
         if (done) return w.told;
     }
-    return w.left_out ? cvl_status(CVL_NO_RESOURCES, -1) : cvl_seg_extract_bool(vector, vector_len, index, index_len, lengths, out,
-        out_len);
+    return w.left_out ? cvl_status(CVL_NO_RESOURCES, -1) : cvl_seg_extract_bool_alone(vector, vector_len, index, index_len, lengths,
+        out, out_len);
+}
+
+CvlStatus cvl_seg_extract_bool_shared(const bool *vector, size_t vector_len, const int32_t *index, size_t index_len,
+    CvlLengths lengths, bool *out, size_t out_len) {
+    const CvlPool *const pool = cvl_take_threads();
+    if (pool == NULL) return cvl_seg_extract_bool_alone(vector, vector_len, index, index_len, lengths, out, out_len);
+    return cvl_give_threads(cvl_seg_extract_bool_on(pool, vector, vector_len, index, index_len, lengths, out, out_len));
 }
 
 static CvlStatus seg_replace_int_part(CvlWork *w, size_t k) {
@@ -551,8 +716,18 @@ CvlStatus cvl_seg_replace_int_on(const CvlPool *pool, const int32_t *vector, siz
         cvl_let_go(&w);
         if (done) return w.told;
     }
-    return w.left_out ? cvl_status(CVL_NO_RESOURCES, -1) : cvl_seg_replace_int(vector, vector_len, index, index_len, values,
+    return w.left_out ? cvl_status(CVL_NO_RESOURCES, -1) : cvl_seg_replace_int_alone(vector, vector_len, index, index_len, values,
         values_len, lengths, out, out_len);
+}
+
+CvlStatus cvl_seg_replace_int_shared(const int32_t *vector, size_t vector_len, const int32_t *index, size_t index_len,
+    const int32_t *values, size_t values_len, CvlLengths lengths, int32_t *out, size_t out_len) {
+    const CvlPool *const pool = cvl_take_threads();
+    if (pool == NULL) {
+        return cvl_seg_replace_int_alone(vector, vector_len, index, index_len, values, values_len, lengths, out, out_len);
+    }
+    return cvl_give_threads(cvl_seg_replace_int_on(pool, vector, vector_len, index, index_len, values, values_len, lengths, out,
+        out_len));
 }
 
 static CvlStatus seg_replace_bool_part(CvlWork *w, size_t k) {
@@ -581,8 +756,18 @@ CvlStatus cvl_seg_replace_bool_on(const CvlPool *pool, const bool *vector, size_
         cvl_let_go(&w);
         if (done) return w.told;
     }
-    return w.left_out ? cvl_status(CVL_NO_RESOURCES, -1) : cvl_seg_replace_bool(vector, vector_len, index, index_len, values,
+    return w.left_out ? cvl_status(CVL_NO_RESOURCES, -1) : cvl_seg_replace_bool_alone(vector, vector_len, index, index_len, values,
         values_len, lengths, out, out_len);
+}
+
+CvlStatus cvl_seg_replace_bool_shared(const bool *vector, size_t vector_len, const int32_t *index, size_t index_len,
+    const bool *values, size_t values_len, CvlLengths lengths, bool *out, size_t out_len) {
+    const CvlPool *const pool = cvl_take_threads();
+    if (pool == NULL) {
+        return cvl_seg_replace_bool_alone(vector, vector_len, index, index_len, values, values_len, lengths, out, out_len);
+    }
+    return cvl_give_threads(cvl_seg_replace_bool_on(pool, vector, vector_len, index, index_len, values, values_len, lengths, out,
+        out_len));
 }
 
 CvlStatus cvl_seg_distribute_int_on(const CvlPool *pool, const int32_t *values, size_t values_len, CvlLengths lengths,
@@ -598,7 +783,14 @@ CvlStatus cvl_seg_distribute_int_on(const CvlPool *pool, const int32_t *values, 
         cvl_let_go(&w);
         if (done) return w.told;
     }
-    return w.left_out ? cvl_status(CVL_NO_RESOURCES, -1) : cvl_seg_distribute_int(values, values_len, lengths, out, out_len);
+    return w.left_out ? cvl_status(CVL_NO_RESOURCES, -1) : cvl_seg_distribute_int_alone(values, values_len, lengths, out, out_len);
+}
+
+CvlStatus cvl_seg_distribute_int_shared(const int32_t *values, size_t values_len, CvlLengths lengths, int32_t *out,
+    size_t out_len) {
+    const CvlPool *const pool = cvl_take_threads();
+    if (pool == NULL) return cvl_seg_distribute_int_alone(values, values_len, lengths, out, out_len);
+    return cvl_give_threads(cvl_seg_distribute_int_on(pool, values, values_len, lengths, out, out_len));
 }
 
 CvlStatus cvl_seg_distribute_bool_on(const CvlPool *pool, const bool *values, size_t values_len, CvlLengths lengths, bool *out,
@@ -616,7 +808,13 @@ CvlStatus cvl_seg_distribute_bool_on(const CvlPool *pool, const bool *values, si
         cvl_let_go(&w);
         if (done) return w.told;
     }
-    return w.left_out ? cvl_status(CVL_NO_RESOURCES, -1) : cvl_seg_distribute_bool(values, values_len, lengths, out, out_len);
+    return w.left_out ? cvl_status(CVL_NO_RESOURCES, -1) : cvl_seg_distribute_bool_alone(values, values_len, lengths, out, out_len);
+}
+
+CvlStatus cvl_seg_distribute_bool_shared(const bool *values, size_t values_len, CvlLengths lengths, bool *out, size_t out_len) {
+    const CvlPool *const pool = cvl_take_threads();
+    if (pool == NULL) return cvl_seg_distribute_bool_alone(values, values_len, lengths, out, out_len);
+    return cvl_give_threads(cvl_seg_distribute_bool_on(pool, values, values_len, lengths, out, out_len));
 }
 
 CvlStatus cvl_seg_index_on(const CvlPool *pool, const int32_t *inits, size_t inits_len, const int32_t *strides,
@@ -633,8 +831,15 @@ CvlStatus cvl_seg_index_on(const CvlPool *pool, const int32_t *inits, size_t ini
         cvl_let_go(&w);
         if (done) return w.told;
     }
-    return w.left_out ? cvl_status(CVL_NO_RESOURCES, -1) : cvl_seg_index(inits, inits_len, strides, strides_len, lengths, out,
+    return w.left_out ? cvl_status(CVL_NO_RESOURCES, -1) : cvl_seg_index_alone(inits, inits_len, strides, strides_len, lengths, out,
         out_len);
+}
+
+CvlStatus cvl_seg_index_shared(const int32_t *inits, size_t inits_len, const int32_t *strides, size_t strides_len,
+    CvlLengths lengths, int32_t *out, size_t out_len) {
+    const CvlPool *const pool = cvl_take_threads();
+    if (pool == NULL) return cvl_seg_index_alone(inits, inits_len, strides, strides_len, lengths, out, out_len);
+    return cvl_give_threads(cvl_seg_index_on(pool, inits, inits_len, strides, strides_len, lengths, out, out_len));
 }
 
 CvlStatus cvl_seg_int_scan_on(const CvlPool *pool, uint32_t op, const int32_t *a, size_t a_len, CvlLengths lengths,
@@ -651,7 +856,14 @@ CvlStatus cvl_seg_int_scan_on(const CvlPool *pool, uint32_t op, const int32_t *a
         cvl_let_go(&w);
         if (done) return w.told;
     }
-    return w.left_out ? cvl_status(CVL_NO_RESOURCES, -1) : cvl_seg_int_scan(op, a, a_len, lengths, out, out_len);
+    return w.left_out ? cvl_status(CVL_NO_RESOURCES, -1) : cvl_seg_int_scan_alone(op, a, a_len, lengths, out, out_len);
+}
+
+CvlStatus cvl_seg_int_scan_shared(uint32_t op, const int32_t *a, size_t a_len, CvlLengths lengths, int32_t *out,
+    size_t out_len) {
+    const CvlPool *const pool = cvl_take_threads();
+    if (pool == NULL) return cvl_seg_int_scan_alone(op, a, a_len, lengths, out, out_len);
+    return cvl_give_threads(cvl_seg_int_scan_on(pool, op, a, a_len, lengths, out, out_len));
 }
 
 CvlStatus cvl_seg_bool_scan_on(const CvlPool *pool, uint32_t op, const bool *a, size_t a_len, CvlLengths lengths, bool *out,
@@ -670,7 +882,13 @@ CvlStatus cvl_seg_bool_scan_on(const CvlPool *pool, uint32_t op, const bool *a, 
         cvl_let_go(&w);
         if (done) return w.told;
     }
-    return w.left_out ? cvl_status(CVL_NO_RESOURCES, -1) : cvl_seg_bool_scan(op, a, a_len, lengths, out, out_len);
+    return w.left_out ? cvl_status(CVL_NO_RESOURCES, -1) : cvl_seg_bool_scan_alone(op, a, a_len, lengths, out, out_len);
+}
+
+CvlStatus cvl_seg_bool_scan_shared(uint32_t op, const bool *a, size_t a_len, CvlLengths lengths, bool *out, size_t out_len) {
+    const CvlPool *const pool = cvl_take_threads();
+    if (pool == NULL) return cvl_seg_bool_scan_alone(op, a, a_len, lengths, out, out_len);
+    return cvl_give_threads(cvl_seg_bool_scan_on(pool, op, a, a_len, lengths, out, out_len));
 }
 
 CvlStatus cvl_seg_int_reduce_on(const CvlPool *pool, uint32_t op, const int32_t *a, size_t a_len, CvlLengths lengths,
@@ -687,7 +905,14 @@ CvlStatus cvl_seg_int_reduce_on(const CvlPool *pool, uint32_t op, const int32_t 
         cvl_let_go(&w);
         if (done) return w.told;
     }
-    return w.left_out ? cvl_status(CVL_NO_RESOURCES, -1) : cvl_seg_int_reduce(op, a, a_len, lengths, out, out_len);
+    return w.left_out ? cvl_status(CVL_NO_RESOURCES, -1) : cvl_seg_int_reduce_alone(op, a, a_len, lengths, out, out_len);
+}
+
+CvlStatus cvl_seg_int_reduce_shared(uint32_t op, const int32_t *a, size_t a_len, CvlLengths lengths, int32_t *out,
+    size_t out_len) {
+    const CvlPool *const pool = cvl_take_threads();
+    if (pool == NULL) return cvl_seg_int_reduce_alone(op, a, a_len, lengths, out, out_len);
+    return cvl_give_threads(cvl_seg_int_reduce_on(pool, op, a, a_len, lengths, out, out_len));
 }
 
 CvlStatus cvl_seg_bool_reduce_on(const CvlPool *pool, uint32_t op, const bool *a, size_t a_len, CvlLengths lengths, bool *out,
@@ -705,7 +930,13 @@ CvlStatus cvl_seg_bool_reduce_on(const CvlPool *pool, uint32_t op, const bool *a
         cvl_let_go(&w);
         if (done) return w.told;
     }
-    return w.left_out ? cvl_status(CVL_NO_RESOURCES, -1) : cvl_seg_bool_reduce(op, a, a_len, lengths, out, out_len);
+    return w.left_out ? cvl_status(CVL_NO_RESOURCES, -1) : cvl_seg_bool_reduce_alone(op, a, a_len, lengths, out, out_len);
+}
+
+CvlStatus cvl_seg_bool_reduce_shared(uint32_t op, const bool *a, size_t a_len, CvlLengths lengths, bool *out, size_t out_len) {
+    const CvlPool *const pool = cvl_take_threads();
+    if (pool == NULL) return cvl_seg_bool_reduce_alone(op, a, a_len, lengths, out, out_len);
+    return cvl_give_threads(cvl_seg_bool_reduce_on(pool, op, a, a_len, lengths, out, out_len));
 }
 
 CvlStatus cvl_pack_int_on(const CvlPool *pool, const int32_t *values, size_t values_len, const bool *flags, size_t flags_len,
@@ -724,7 +955,15 @@ CvlStatus cvl_pack_int_on(const CvlPool *pool, const int32_t *values, size_t val
         cvl_let_go(&w);
         if (done) return w.told;
     }
-    return w.left_out ? cvl_status(CVL_NO_RESOURCES, -1) : cvl_pack_int(values, values_len, flags, flags_len, out, out_len, count);
+    return w.left_out ? cvl_status(CVL_NO_RESOURCES, -1) : cvl_pack_int_alone(values, values_len, flags, flags_len, out, out_len,
+        count);
+}
+
+CvlStatus cvl_pack_int_shared(const int32_t *values, size_t values_len, const bool *flags, size_t flags_len, int32_t *out,
+    size_t out_len, size_t *count) {
+    const CvlPool *const pool = cvl_take_threads();
+    if (pool == NULL) return cvl_pack_int_alone(values, values_len, flags, flags_len, out, out_len, count);
+    return cvl_give_threads(cvl_pack_int_on(pool, values, values_len, flags, flags_len, out, out_len, count));
 }
 
 CvlStatus cvl_pack_bool_on(const CvlPool *pool, const bool *values, size_t values_len, const bool *flags, size_t flags_len,
@@ -745,7 +984,15 @@ CvlStatus cvl_pack_bool_on(const CvlPool *pool, const bool *values, size_t value
         cvl_let_go(&w);
         if (done) return w.told;
     }
-    return w.left_out ? cvl_status(CVL_NO_RESOURCES, -1) : cvl_pack_bool(values, values_len, flags, flags_len, out, out_len, count);
+    return w.left_out ? cvl_status(CVL_NO_RESOURCES, -1) : cvl_pack_bool_alone(values, values_len, flags, flags_len, out, out_len,
+        count);
+}
+
+CvlStatus cvl_pack_bool_shared(const bool *values, size_t values_len, const bool *flags, size_t flags_len, bool *out,
+    size_t out_len, size_t *count) {
+    const CvlPool *const pool = cvl_take_threads();
+    if (pool == NULL) return cvl_pack_bool_alone(values, values_len, flags, flags_len, out, out_len, count);
+    return cvl_give_threads(cvl_pack_bool_on(pool, values, values_len, flags, flags_len, out, out_len, count));
 }
 
 CvlStatus cvl_seg_pack_int_on(const CvlPool *pool, const int32_t *values, size_t values_len, const bool *flags,
@@ -764,8 +1011,15 @@ CvlStatus cvl_seg_pack_int_on(const CvlPool *pool, const int32_t *values, size_t
         cvl_let_go(&w);
         if (done) return w.told;
     }
-    return w.left_out ? cvl_status(CVL_NO_RESOURCES, -1) : cvl_seg_pack_int(values, values_len, flags, flags_len, lengths, out,
-        out_len, count);
+    return w.left_out ? cvl_status(CVL_NO_RESOURCES, -1) : cvl_seg_pack_int_alone(values, values_len, flags, flags_len, lengths,
+        out, out_len, count);
+}
+
+CvlStatus cvl_seg_pack_int_shared(const int32_t *values, size_t values_len, const bool *flags, size_t flags_len,
+    CvlLengths lengths, int32_t *out, size_t out_len, size_t *count) {
+    const CvlPool *const pool = cvl_take_threads();
+    if (pool == NULL) return cvl_seg_pack_int_alone(values, values_len, flags, flags_len, lengths, out, out_len, count);
+    return cvl_give_threads(cvl_seg_pack_int_on(pool, values, values_len, flags, flags_len, lengths, out, out_len, count));
 }
 
 CvlStatus cvl_seg_pack_bool_on(const CvlPool *pool, const bool *values, size_t values_len, const bool *flags, size_t flags_len,
@@ -786,8 +1040,15 @@ CvlStatus cvl_seg_pack_bool_on(const CvlPool *pool, const bool *values, size_t v
         cvl_let_go(&w);
         if (done) return w.told;
     }
-    return w.left_out ? cvl_status(CVL_NO_RESOURCES, -1) : cvl_seg_pack_bool(values, values_len, flags, flags_len, lengths, out,
-        out_len, count);
+    return w.left_out ? cvl_status(CVL_NO_RESOURCES, -1) : cvl_seg_pack_bool_alone(values, values_len, flags, flags_len, lengths,
+        out, out_len, count);
+}
+
+CvlStatus cvl_seg_pack_bool_shared(const bool *values, size_t values_len, const bool *flags, size_t flags_len,
+    CvlLengths lengths, bool *out, size_t out_len, size_t *count) {
+    const CvlPool *const pool = cvl_take_threads();
+    if (pool == NULL) return cvl_seg_pack_bool_alone(values, values_len, flags, flags_len, lengths, out, out_len, count);
+    return cvl_give_threads(cvl_seg_pack_bool_on(pool, values, values_len, flags, flags_len, lengths, out, out_len, count));
 }
 
 CvlStatus cvl_seg_packed_lengths_on(const CvlPool *pool, const bool *flags, size_t flags_len, CvlLengths lengths, int32_t *out,
@@ -803,7 +1064,13 @@ CvlStatus cvl_seg_packed_lengths_on(const CvlPool *pool, const bool *flags, size
         cvl_let_go(&w);
         if (done) return w.told;
     }
-    return w.left_out ? cvl_status(CVL_NO_RESOURCES, -1) : cvl_seg_packed_lengths(flags, flags_len, lengths, out, out_len);
+    return w.left_out ? cvl_status(CVL_NO_RESOURCES, -1) : cvl_seg_packed_lengths_alone(flags, flags_len, lengths, out, out_len);
+}
+
+CvlStatus cvl_seg_packed_lengths_shared(const bool *flags, size_t flags_len, CvlLengths lengths, int32_t *out, size_t out_len) {
+    const CvlPool *const pool = cvl_take_threads();
+    if (pool == NULL) return cvl_seg_packed_lengths_alone(flags, flags_len, lengths, out, out_len);
+    return cvl_give_threads(cvl_seg_packed_lengths_on(pool, flags, flags_len, lengths, out, out_len));
 }
 
 CvlStatus cvl_seg_count_on(const CvlPool *pool, const bool *flags, size_t flags_len, CvlLengths lengths, int32_t *out,
@@ -819,7 +1086,13 @@ CvlStatus cvl_seg_count_on(const CvlPool *pool, const bool *flags, size_t flags_
         cvl_let_go(&w);
         if (done) return w.told;
     }
-    return w.left_out ? cvl_status(CVL_NO_RESOURCES, -1) : cvl_seg_count(flags, flags_len, lengths, out, out_len);
+    return w.left_out ? cvl_status(CVL_NO_RESOURCES, -1) : cvl_seg_count_alone(flags, flags_len, lengths, out, out_len);
+}
+
+CvlStatus cvl_seg_count_shared(const bool *flags, size_t flags_len, CvlLengths lengths, int32_t *out, size_t out_len) {
+    const CvlPool *const pool = cvl_take_threads();
+    if (pool == NULL) return cvl_seg_count_alone(flags, flags_len, lengths, out, out_len);
+    return cvl_give_threads(cvl_seg_count_on(pool, flags, flags_len, lengths, out, out_len));
 }
 
 CvlStatus cvl_permute_int_on(const CvlPool *pool, const int32_t *source, size_t source_len, const int32_t *index,
@@ -836,7 +1109,15 @@ CvlStatus cvl_permute_int_on(const CvlPool *pool, const int32_t *source, size_t 
         cvl_let_go(&w);
         if (done) return w.told;
     }
-    return w.left_out ? cvl_status(CVL_NO_RESOURCES, -1) : cvl_permute_int(source, source_len, index, index_len, out, out_len);
+    return w.left_out ? cvl_status(CVL_NO_RESOURCES, -1) : cvl_permute_int_alone(source, source_len, index, index_len, out,
+        out_len);
+}
+
+CvlStatus cvl_permute_int_shared(const int32_t *source, size_t source_len, const int32_t *index, size_t index_len, int32_t *out,
+    size_t out_len) {
+    const CvlPool *const pool = cvl_take_threads();
+    if (pool == NULL) return cvl_permute_int_alone(source, source_len, index, index_len, out, out_len);
+    return cvl_give_threads(cvl_permute_int_on(pool, source, source_len, index, index_len, out, out_len));
 }
 
 CvlStatus cvl_permute_bool_on(const CvlPool *pool, const bool *source, size_t source_len, const int32_t *index,
@@ -854,7 +1135,15 @@ CvlStatus cvl_permute_bool_on(const CvlPool *pool, const bool *source, size_t so
         cvl_let_go(&w);
         if (done) return w.told;
     }
-    return w.left_out ? cvl_status(CVL_NO_RESOURCES, -1) : cvl_permute_bool(source, source_len, index, index_len, out, out_len);
+    return w.left_out ? cvl_status(CVL_NO_RESOURCES, -1) : cvl_permute_bool_alone(source, source_len, index, index_len, out,
+        out_len);
+}
+
+CvlStatus cvl_permute_bool_shared(const bool *source, size_t source_len, const int32_t *index, size_t index_len, bool *out,
+    size_t out_len) {
+    const CvlPool *const pool = cvl_take_threads();
+    if (pool == NULL) return cvl_permute_bool_alone(source, source_len, index, index_len, out, out_len);
+    return cvl_give_threads(cvl_permute_bool_on(pool, source, source_len, index, index_len, out, out_len));
 }
 
 CvlStatus cvl_select_permute_int_on(const CvlPool *pool, const int32_t *source, size_t source_len, const int32_t *index,
@@ -873,8 +1162,15 @@ CvlStatus cvl_select_permute_int_on(const CvlPool *pool, const int32_t *source, 
         cvl_let_go(&w);
         if (done) return w.told;
     }
-    return w.left_out ? cvl_status(CVL_NO_RESOURCES, -1) : cvl_select_permute_int(source, source_len, index, index_len, flags,
+    return w.left_out ? cvl_status(CVL_NO_RESOURCES, -1) : cvl_select_permute_int_alone(source, source_len, index, index_len, flags,
         flags_len, out, out_len);
+}
+
+CvlStatus cvl_select_permute_int_shared(const int32_t *source, size_t source_len, const int32_t *index, size_t index_len,
+    const bool *flags, size_t flags_len, int32_t *out, size_t out_len) {
+    const CvlPool *const pool = cvl_take_threads();
+    if (pool == NULL) return cvl_select_permute_int_alone(source, source_len, index, index_len, flags, flags_len, out, out_len);
+    return cvl_give_threads(cvl_select_permute_int_on(pool, source, source_len, index, index_len, flags, flags_len, out, out_len));
 }
 
 CvlStatus cvl_select_permute_bool_on(const CvlPool *pool, const bool *source, size_t source_len, const int32_t *index,
@@ -894,8 +1190,17 @@ CvlStatus cvl_select_permute_bool_on(const CvlPool *pool, const bool *source, si
         cvl_let_go(&w);
         if (done) return w.told;
     }
-    return w.left_out ? cvl_status(CVL_NO_RESOURCES, -1) : cvl_select_permute_bool(source, source_len, index, index_len, flags,
-        flags_len, out, out_len);
+    return w.left_out ? cvl_status(CVL_NO_RESOURCES, -1) : cvl_select_permute_bool_alone(source, source_len, index, index_len,
+        flags, flags_len, out, out_len);
+}
+
+CvlStatus cvl_select_permute_bool_shared(const bool *source, size_t source_len, const int32_t *index, size_t index_len,
+    const bool *flags, size_t flags_len, bool *out, size_t out_len) {
+    const CvlPool *const pool = cvl_take_threads();
+    if (pool == NULL) {
+        return cvl_select_permute_bool_alone(source, source_len, index, index_len, flags, flags_len, out, out_len);
+    }
+    return cvl_give_threads(cvl_select_permute_bool_on(pool, source, source_len, index, index_len, flags, flags_len, out, out_len));
 }
 
 CvlStatus cvl_default_permute_int_on(const CvlPool *pool, const int32_t *source, size_t source_len, const int32_t *index,
@@ -913,8 +1218,18 @@ CvlStatus cvl_default_permute_int_on(const CvlPool *pool, const int32_t *source,
         cvl_let_go(&w);
         if (done) return w.told;
     }
-    return w.left_out ? cvl_status(CVL_NO_RESOURCES, -1) : cvl_default_permute_int(source, source_len, index, index_len, defaults,
-        defaults_len, out, out_len);
+    return w.left_out ? cvl_status(CVL_NO_RESOURCES, -1) : cvl_default_permute_int_alone(source, source_len, index, index_len,
+        defaults, defaults_len, out, out_len);
+}
+
+CvlStatus cvl_default_permute_int_shared(const int32_t *source, size_t source_len, const int32_t *index, size_t index_len,
+    const int32_t *defaults, size_t defaults_len, int32_t *out, size_t out_len) {
+    const CvlPool *const pool = cvl_take_threads();
+    if (pool == NULL) {
+        return cvl_default_permute_int_alone(source, source_len, index, index_len, defaults, defaults_len, out, out_len);
+    }
+    return cvl_give_threads(cvl_default_permute_int_on(pool, source, source_len, index, index_len, defaults, defaults_len, out,
+        out_len));
 }
 
 CvlStatus cvl_default_permute_bool_on(const CvlPool *pool, const bool *source, size_t source_len, const int32_t *index,
@@ -933,8 +1248,18 @@ CvlStatus cvl_default_permute_bool_on(const CvlPool *pool, const bool *source, s
         cvl_let_go(&w);
         if (done) return w.told;
     }
-    return w.left_out ? cvl_status(CVL_NO_RESOURCES, -1) : cvl_default_permute_bool(source, source_len, index, index_len, defaults,
-        defaults_len, out, out_len);
+    return w.left_out ? cvl_status(CVL_NO_RESOURCES, -1) : cvl_default_permute_bool_alone(source, source_len, index, index_len,
+        defaults, defaults_len, out, out_len);
+}
+
+CvlStatus cvl_default_permute_bool_shared(const bool *source, size_t source_len, const int32_t *index, size_t index_len,
+    const bool *defaults, size_t defaults_len, bool *out, size_t out_len) {
+    const CvlPool *const pool = cvl_take_threads();
+    if (pool == NULL) {
+        return cvl_default_permute_bool_alone(source, source_len, index, index_len, defaults, defaults_len, out, out_len);
+    }
+    return cvl_give_threads(cvl_default_permute_bool_on(pool, source, source_len, index, index_len, defaults, defaults_len, out,
+        out_len));
 }
 
 static CvlStatus back_permute_int_part(CvlWork *w, size_t k) {
@@ -963,7 +1288,15 @@ CvlStatus cvl_back_permute_int_on(const CvlPool *pool, const int32_t *source, si
         cvl_let_go(&w);
         if (done) return w.told;
     }
-    return w.left_out ? cvl_status(CVL_NO_RESOURCES, -1) : cvl_back_permute_int(source, source_len, index, index_len, out, out_len);
+    return w.left_out ? cvl_status(CVL_NO_RESOURCES, -1) : cvl_back_permute_int_alone(source, source_len, index, index_len, out,
+        out_len);
+}
+
+CvlStatus cvl_back_permute_int_shared(const int32_t *source, size_t source_len, const int32_t *index, size_t index_len,
+    int32_t *out, size_t out_len) {
+    const CvlPool *const pool = cvl_take_threads();
+    if (pool == NULL) return cvl_back_permute_int_alone(source, source_len, index, index_len, out, out_len);
+    return cvl_give_threads(cvl_back_permute_int_on(pool, source, source_len, index, index_len, out, out_len));
 }
 
 static CvlStatus back_permute_bool_part(CvlWork *w, size_t k) {
@@ -994,8 +1327,15 @@ CvlStatus cvl_back_permute_bool_on(const CvlPool *pool, const bool *source, size
         cvl_let_go(&w);
         if (done) return w.told;
     }
-    return w.left_out ? cvl_status(CVL_NO_RESOURCES, -1) : cvl_back_permute_bool(source, source_len, index, index_len, out,
+    return w.left_out ? cvl_status(CVL_NO_RESOURCES, -1) : cvl_back_permute_bool_alone(source, source_len, index, index_len, out,
         out_len);
+}
+
+CvlStatus cvl_back_permute_bool_shared(const bool *source, size_t source_len, const int32_t *index, size_t index_len, bool *out,
+    size_t out_len) {
+    const CvlPool *const pool = cvl_take_threads();
+    if (pool == NULL) return cvl_back_permute_bool_alone(source, source_len, index, index_len, out, out_len);
+    return cvl_give_threads(cvl_back_permute_bool_on(pool, source, source_len, index, index_len, out, out_len));
 }
 
 static CvlStatus seg_permute_int_part(CvlWork *w, size_t k) {
@@ -1020,8 +1360,15 @@ CvlStatus cvl_seg_permute_int_on(const CvlPool *pool, const int32_t *source, siz
         cvl_let_go(&w);
         if (done) return w.told;
     }
-    return w.left_out ? cvl_status(CVL_NO_RESOURCES, -1) : cvl_seg_permute_int(source, source_len, index, index_len, lengths, out,
-        out_len);
+    return w.left_out ? cvl_status(CVL_NO_RESOURCES, -1) : cvl_seg_permute_int_alone(source, source_len, index, index_len, lengths,
+        out, out_len);
+}
+
+CvlStatus cvl_seg_permute_int_shared(const int32_t *source, size_t source_len, const int32_t *index, size_t index_len,
+    CvlLengths lengths, int32_t *out, size_t out_len) {
+    const CvlPool *const pool = cvl_take_threads();
+    if (pool == NULL) return cvl_seg_permute_int_alone(source, source_len, index, index_len, lengths, out, out_len);
+    return cvl_give_threads(cvl_seg_permute_int_on(pool, source, source_len, index, index_len, lengths, out, out_len));
 }
 
 static CvlStatus seg_permute_bool_part(CvlWork *w, size_t k) {
@@ -1048,8 +1395,15 @@ CvlStatus cvl_seg_permute_bool_on(const CvlPool *pool, const bool *source, size_
         cvl_let_go(&w);
         if (done) return w.told;
     }
-    return w.left_out ? cvl_status(CVL_NO_RESOURCES, -1) : cvl_seg_permute_bool(source, source_len, index, index_len, lengths, out,
-        out_len);
+    return w.left_out ? cvl_status(CVL_NO_RESOURCES, -1) : cvl_seg_permute_bool_alone(source, source_len, index, index_len, lengths,
+        out, out_len);
+}
+
+CvlStatus cvl_seg_permute_bool_shared(const bool *source, size_t source_len, const int32_t *index, size_t index_len,
+    CvlLengths lengths, bool *out, size_t out_len) {
+    const CvlPool *const pool = cvl_take_threads();
+    if (pool == NULL) return cvl_seg_permute_bool_alone(source, source_len, index, index_len, lengths, out, out_len);
+    return cvl_give_threads(cvl_seg_permute_bool_on(pool, source, source_len, index, index_len, lengths, out, out_len));
 }
 
 static CvlStatus seg_select_permute_int_part(CvlWork *w, size_t k) {
@@ -1078,8 +1432,18 @@ CvlStatus cvl_seg_select_permute_int_on(const CvlPool *pool, const int32_t *sour
         cvl_let_go(&w);
         if (done) return w.told;
     }
-    return w.left_out ? cvl_status(CVL_NO_RESOURCES, -1) : cvl_seg_select_permute_int(source, source_len, index, index_len, flags,
-        flags_len, lengths, out, out_len);
+    return w.left_out ? cvl_status(CVL_NO_RESOURCES, -1) : cvl_seg_select_permute_int_alone(source, source_len, index, index_len,
+        flags, flags_len, lengths, out, out_len);
+}
+
+CvlStatus cvl_seg_select_permute_int_shared(const int32_t *source, size_t source_len, const int32_t *index, size_t index_len,
+    const bool *flags, size_t flags_len, CvlLengths lengths, int32_t *out, size_t out_len) {
+    const CvlPool *const pool = cvl_take_threads();
+    if (pool == NULL) {
+        return cvl_seg_select_permute_int_alone(source, source_len, index, index_len, flags, flags_len, lengths, out, out_len);
+    }
+    return cvl_give_threads(cvl_seg_select_permute_int_on(pool, source, source_len, index, index_len, flags, flags_len, lengths,
+        out, out_len));
 }
 
 static CvlStatus seg_select_permute_bool_part(CvlWork *w, size_t k) {
@@ -1110,8 +1474,18 @@ CvlStatus cvl_seg_select_permute_bool_on(const CvlPool *pool, const bool *source
         cvl_let_go(&w);
         if (done) return w.told;
     }
-    return w.left_out ? cvl_status(CVL_NO_RESOURCES, -1) : cvl_seg_select_permute_bool(source, source_len, index, index_len, flags,
-        flags_len, lengths, out, out_len);
+    return w.left_out ? cvl_status(CVL_NO_RESOURCES, -1) : cvl_seg_select_permute_bool_alone(source, source_len, index, index_len,
+        flags, flags_len, lengths, out, out_len);
+}
+
+CvlStatus cvl_seg_select_permute_bool_shared(const bool *source, size_t source_len, const int32_t *index, size_t index_len,
+    const bool *flags, size_t flags_len, CvlLengths lengths, bool *out, size_t out_len) {
+    const CvlPool *const pool = cvl_take_threads();
+    if (pool == NULL) {
+        return cvl_seg_select_permute_bool_alone(source, source_len, index, index_len, flags, flags_len, lengths, out, out_len);
+    }
+    return cvl_give_threads(cvl_seg_select_permute_bool_on(pool, source, source_len, index, index_len, flags, flags_len, lengths,
+        out, out_len));
 }
 
 static CvlStatus seg_default_permute_int_part(CvlWork *w, size_t k) {
@@ -1141,8 +1515,20 @@ CvlStatus cvl_seg_default_permute_int_on(const CvlPool *pool, const int32_t *sou
         cvl_let_go(&w);
         if (done) return w.told;
     }
-    return w.left_out ? cvl_status(CVL_NO_RESOURCES, -1) : cvl_seg_default_permute_int(source, source_len, index, index_len,
+    return w.left_out ? cvl_status(CVL_NO_RESOURCES, -1) : cvl_seg_default_permute_int_alone(source, source_len, index, index_len,
         defaults, defaults_len, lengths, default_lengths, out, out_len);
+}
+
+CvlStatus cvl_seg_default_permute_int_shared(const int32_t *source, size_t source_len, const int32_t *index, size_t index_len,
+    const int32_t *defaults, size_t defaults_len, CvlLengths lengths, CvlLengths default_lengths, int32_t *out,
+    size_t out_len) {
+    const CvlPool *const pool = cvl_take_threads();
+    if (pool == NULL) {
+        return cvl_seg_default_permute_int_alone(source, source_len, index, index_len, defaults, defaults_len, lengths, default_lengths,
+            out, out_len);
+    }
+    return cvl_give_threads(cvl_seg_default_permute_int_on(pool, source, source_len, index, index_len, defaults, defaults_len,
+        lengths, default_lengths, out, out_len));
 }
 
 static CvlStatus seg_default_permute_bool_part(CvlWork *w, size_t k) {
@@ -1175,8 +1561,19 @@ CvlStatus cvl_seg_default_permute_bool_on(const CvlPool *pool, const bool *sourc
         cvl_let_go(&w);
         if (done) return w.told;
     }
-    return w.left_out ? cvl_status(CVL_NO_RESOURCES, -1) : cvl_seg_default_permute_bool(source, source_len, index, index_len,
+    return w.left_out ? cvl_status(CVL_NO_RESOURCES, -1) : cvl_seg_default_permute_bool_alone(source, source_len, index, index_len,
         defaults, defaults_len, lengths, default_lengths, out, out_len);
+}
+
+CvlStatus cvl_seg_default_permute_bool_shared(const bool *source, size_t source_len, const int32_t *index, size_t index_len,
+    const bool *defaults, size_t defaults_len, CvlLengths lengths, CvlLengths default_lengths, bool *out, size_t out_len) {
+    const CvlPool *const pool = cvl_take_threads();
+    if (pool == NULL) {
+        return cvl_seg_default_permute_bool_alone(source, source_len, index, index_len, defaults, defaults_len, lengths,
+            default_lengths, out, out_len);
+    }
+    return cvl_give_threads(cvl_seg_default_permute_bool_on(pool, source, source_len, index, index_len, defaults, defaults_len,
+        lengths, default_lengths, out, out_len));
 }
 
 static CvlStatus seg_back_permute_int_part(CvlWork *w, size_t k) {
@@ -1203,8 +1600,18 @@ CvlStatus cvl_seg_back_permute_int_on(const CvlPool *pool, const int32_t *source
         cvl_let_go(&w);
         if (done) return w.told;
     }
-    return w.left_out ? cvl_status(CVL_NO_RESOURCES, -1) : cvl_seg_back_permute_int(source, source_len, index, index_len, lengths,
-        index_lengths, out, out_len);
+    return w.left_out ? cvl_status(CVL_NO_RESOURCES, -1) : cvl_seg_back_permute_int_alone(source, source_len, index, index_len,
+        lengths, index_lengths, out, out_len);
+}
+
+CvlStatus cvl_seg_back_permute_int_shared(const int32_t *source, size_t source_len, const int32_t *index, size_t index_len,
+    CvlLengths lengths, CvlLengths index_lengths, int32_t *out, size_t out_len) {
+    const CvlPool *const pool = cvl_take_threads();
+    if (pool == NULL) {
+        return cvl_seg_back_permute_int_alone(source, source_len, index, index_len, lengths, index_lengths, out, out_len);
+    }
+    return cvl_give_threads(cvl_seg_back_permute_int_on(pool, source, source_len, index, index_len, lengths, index_lengths, out,
+        out_len));
 }
 
 static CvlStatus seg_back_permute_bool_part(CvlWork *w, size_t k) {
@@ -1233,8 +1640,18 @@ CvlStatus cvl_seg_back_permute_bool_on(const CvlPool *pool, const bool *source, 
         cvl_let_go(&w);
         if (done) return w.told;
     }
-    return w.left_out ? cvl_status(CVL_NO_RESOURCES, -1) : cvl_seg_back_permute_bool(source, source_len, index, index_len, lengths,
-        index_lengths, out, out_len);
+    return w.left_out ? cvl_status(CVL_NO_RESOURCES, -1) : cvl_seg_back_permute_bool_alone(source, source_len, index, index_len,
+        lengths, index_lengths, out, out_len);
+}
+
+CvlStatus cvl_seg_back_permute_bool_shared(const bool *source, size_t source_len, const int32_t *index, size_t index_len,
+    CvlLengths lengths, CvlLengths index_lengths, bool *out, size_t out_len) {
+    const CvlPool *const pool = cvl_take_threads();
+    if (pool == NULL) {
+        return cvl_seg_back_permute_bool_alone(source, source_len, index, index_len, lengths, index_lengths, out, out_len);
+    }
+    return cvl_give_threads(cvl_seg_back_permute_bool_on(pool, source, source_len, index, index_len, lengths, index_lengths, out,
+        out_len));
 }
 
 CvlStatus cvl_read_ints_on(const CvlPool *pool, const char *text, size_t text_len, int32_t *out, size_t out_len,
@@ -1250,7 +1667,13 @@ CvlStatus cvl_read_ints_on(const CvlPool *pool, const char *text, size_t text_le
         cvl_let_go(&w);
         if (done) return w.told;
     }
-    return w.left_out ? cvl_status(CVL_NO_RESOURCES, -1) : cvl_read_ints(text, text_len, out, out_len, count);
+    return w.left_out ? cvl_status(CVL_NO_RESOURCES, -1) : cvl_read_ints_alone(text, text_len, out, out_len, count);
+}
+
+CvlStatus cvl_read_ints_shared(const char *text, size_t text_len, int32_t *out, size_t out_len, size_t *count) {
+    const CvlPool *const pool = cvl_take_threads();
+    if (pool == NULL) return cvl_read_ints_alone(text, text_len, out, out_len, count);
+    return cvl_give_threads(cvl_read_ints_on(pool, text, text_len, out, out_len, count));
 }
 
 CvlStatus cvl_write_ints_on(const CvlPool *pool, const int32_t *a, size_t a_len, char *out, size_t out_len, size_t *count) {
@@ -1265,7 +1688,13 @@ CvlStatus cvl_write_ints_on(const CvlPool *pool, const int32_t *a, size_t a_len,
         cvl_let_go(&w);
         if (done) return w.told;
     }
-    return w.left_out ? cvl_status(CVL_NO_RESOURCES, -1) : cvl_write_ints(a, a_len, out, out_len, count);
+    return w.left_out ? cvl_status(CVL_NO_RESOURCES, -1) : cvl_write_ints_alone(a, a_len, out, out_len, count);
+}
+
+CvlStatus cvl_write_ints_shared(const int32_t *a, size_t a_len, char *out, size_t out_len, size_t *count) {
+    const CvlPool *const pool = cvl_take_threads();
+    if (pool == NULL) return cvl_write_ints_alone(a, a_len, out, out_len, count);
+    return cvl_give_threads(cvl_write_ints_on(pool, a, a_len, out, out_len, count));
 }
 
 CvlStatus cvl_write_bools_on(const CvlPool *pool, const bool *a, size_t a_len, char *out, size_t out_len, size_t *count) {
@@ -1282,7 +1711,13 @@ CvlStatus cvl_write_bools_on(const CvlPool *pool, const bool *a, size_t a_len, c
         cvl_let_go(&w);
         if (done) return w.told;
     }
-    return w.left_out ? cvl_status(CVL_NO_RESOURCES, -1) : cvl_write_bools(a, a_len, out, out_len, count);
+    return w.left_out ? cvl_status(CVL_NO_RESOURCES, -1) : cvl_write_bools_alone(a, a_len, out, out_len, count);
+}
+
+CvlStatus cvl_write_bools_shared(const bool *a, size_t a_len, char *out, size_t out_len, size_t *count) {
+    const CvlPool *const pool = cvl_take_threads();
+    if (pool == NULL) return cvl_write_bools_alone(a, a_len, out, out_len, count);
+    return cvl_give_threads(cvl_write_bools_on(pool, a, a_len, out, out_len, count));
 }
 
 CvlStatus cvl_seg_read_ints_on(const CvlPool *pool, const char *text, size_t text_len, int32_t *out, size_t out_len,
@@ -1304,7 +1739,14 @@ CvlStatus cvl_seg_write_ints_on(const CvlPool *pool, const int32_t *a, size_t a_
         cvl_let_go(&w);
         if (done) return w.told;
     }
-    return w.left_out ? cvl_status(CVL_NO_RESOURCES, -1) : cvl_seg_write_ints(a, a_len, lengths, out, out_len, count);
+    return w.left_out ? cvl_status(CVL_NO_RESOURCES, -1) : cvl_seg_write_ints_alone(a, a_len, lengths, out, out_len, count);
+}
+
+CvlStatus cvl_seg_write_ints_shared(const int32_t *a, size_t a_len, CvlLengths lengths, char *out, size_t out_len,
+    size_t *count) {
+    const CvlPool *const pool = cvl_take_threads();
+    if (pool == NULL) return cvl_seg_write_ints_alone(a, a_len, lengths, out, out_len, count);
+    return cvl_give_threads(cvl_seg_write_ints_on(pool, a, a_len, lengths, out, out_len, count));
 }
 
 CvlStatus cvl_seg_write_bools_on(const CvlPool *pool, const bool *a, size_t a_len, CvlLengths lengths, char *out,
@@ -1323,7 +1765,14 @@ CvlStatus cvl_seg_write_bools_on(const CvlPool *pool, const bool *a, size_t a_le
         cvl_let_go(&w);
         if (done) return w.told;
     }
-    return w.left_out ? cvl_status(CVL_NO_RESOURCES, -1) : cvl_seg_write_bools(a, a_len, lengths, out, out_len, count);
+    return w.left_out ? cvl_status(CVL_NO_RESOURCES, -1) : cvl_seg_write_bools_alone(a, a_len, lengths, out, out_len, count);
+}
+
+CvlStatus cvl_seg_write_bools_shared(const bool *a, size_t a_len, CvlLengths lengths, char *out, size_t out_len,
+    size_t *count) {
+    const CvlPool *const pool = cvl_take_threads();
+    if (pool == NULL) return cvl_seg_write_bools_alone(a, a_len, lengths, out, out_len, count);
+    return cvl_give_threads(cvl_seg_write_bools_on(pool, a, a_len, lengths, out, out_len, count));
 }
 
 CvlStatus cvl_add_wuz_on(const CvlPool *pool, const int32_t *a, const int32_t *b, int32_t *out, size_t n) {

@@ -7,28 +7,7 @@
 #define CVL_PARTS_H
 
 #include "families.h"
-
-/* From how many elements on a call is cut, and how many each part has at least. A build for tests has others. */
-#ifndef CVL_LEAST_SHARED
-#define CVL_LEAST_SHARED 262144
-#endif
-#ifndef CVL_LEAST_EACH
-#define CVL_LEAST_EACH 131072
-#endif
-
-/* The same for the bytes of a text that is read, and for the elements whose text is written. */
-#ifndef CVL_LEAST_READ
-#define CVL_LEAST_READ 131072
-#endif
-#ifndef CVL_LEAST_READ_EACH
-#define CVL_LEAST_READ_EACH 32768
-#endif
-#ifndef CVL_LEAST_WRITTEN
-#define CVL_LEAST_WRITTEN 32768
-#endif
-#ifndef CVL_LEAST_WRITTEN_EACH
-#define CVL_LEAST_WRITTEN_EACH 16384
-#endif
+#include "threads.h"
 
 typedef union CvlItem {
     int32_t number;

@@ -53,13 +53,18 @@ static void *wait_for_parts(void *threads) {
     return NULL;
 }
 
-/* The threads are those of one process, and serve one call at a time: any other runs alone. */
+/*
+ * The threads are those of one process, and serve one call at a time: any other runs alone. No call is cancelled while it waits, since the
+ * threads would be taken for ever.
+ */
 void cvl_run_posix(void *state, CvlPart part, void *work, size_t parts) {
     CvlThreads *t = state;
+    int cancels;
     if (t == NULL || t->process != getpid() || pthread_mutex_trylock(&t->calls) != 0) {
         cvl_run_alone(NULL, part, work, parts);
         return;
     }
+    pthread_setcancelstate(PTHREAD_CANCEL_DISABLE, &cancels);
     pthread_mutex_lock(&t->lock);
     t->part = part, t->work = work, t->parts = parts, t->taken = 0, t->done = 0;
     pthread_cond_broadcast(&t->begun);
@@ -68,6 +73,7 @@ void cvl_run_posix(void *state, CvlPart part, void *work, size_t parts) {
     t->parts = 0, t->taken = 0, t->done = 0;
     pthread_mutex_unlock(&t->lock);
     pthread_mutex_unlock(&t->calls);
+    pthread_setcancelstate(cancels, &cancels);
 }
 
 CvlPool cvl_pool_posix(CvlThreads *threads) {

@@ -179,6 +179,8 @@ def header(template):
             "lengths_type": about.LENGTHS_TYPE,
             "segments_type": about.SEGMENTS_TYPE,
             "of_versions": declared(about.OF_VERSIONS),
+            "threads": comment(*spaced(about.THREADS)),
+            "of_threads": declared(about.OF_THREADS),
             "of_flags": declared(about.OF_FLAGS),
             "descriptors": comment(*spaced(about.DESCRIPTORS)),
             "of_descriptors": declared(about.OF_DESCRIPTORS),
@@ -375,6 +377,36 @@ class Family:
         return call
 
     @property
+    def is_cut(self):
+        """Whether the family is made in parts where it is long."""
+        return self.family.cut is not None and self.family.cut[0] != "whole"
+
+    @property
+    def alone(self):
+        """The function by one thread, which a family that is cut has beneath."""
+        return f"cvl_{self.name}_alone" if self.is_cut else f"cvl_{self.name}"
+
+    @property
+    def shared(self):
+        """The function by the threads of the process, where they are free."""
+        return f"cvl_{self.name}_shared"
+
+    @property
+    def cut_length(self):
+        """How many elements, lengths or bytes are cut."""
+        cut, extent = self.family.cut
+        if cut == "lengths":
+            return "lengths.segments"
+        if cut == "read":
+            return "text_len"
+        return f"{next(o for o in self.family.operands if rows.is_array(o) and o.extent == extent).name}_len"
+
+    @property
+    def least(self):
+        """The name of the least number that is cut."""
+        return {"read": "CVL_LEAST_READ", "write": "CVL_LEAST_WRITTEN", "seg_write": "CVL_LEAST_WRITTEN"}.get(self.family.cut[0], "CVL_LEAST_SHARED")
+
+    @property
     def copied(self):
         return [operand for operand in self.family.operands if operand.copied]
 
@@ -396,13 +428,18 @@ class Family:
 
 def families_header(exports):
     """`bindings/c/families.h`."""
+    families = [Family(row) for row in rows.FAMILIES.values()]
     declared = [proved_declaration(name, found) for name, found in sorted(exports.items())]
-    helpers = ["\n\n".join(Family(row).helpers) for row in rows.FAMILIES.values()]
+    beneath = [
+        wrapped(f"CVL_HIDDEN CvlStatus {name}({parameters(found.arguments)});") for found in families if found.is_cut for name in (found.alone, found.shared)
+    ]
+    helpers = ["\n\n".join(found.helpers) for found in families]
     return "\n".join(
         [
             comment(
-                "families.h: the proved exports under their names beneath, and of each family: whether arrays meet that may not; whether all agrees "
-                "that can be compared at once, so that what is told first is no fault of these; and the export, or the one in place.",
+                "families.h: the proved exports under their names beneath; each family that is cut, by the thread that calls and by those of the "
+                "process; and of each family: whether arrays meet that may not; whether all agrees that can be compared at once, so that what is told "
+                "first is no fault of these; and the export, or the one in place.",
                 rows.NOTE,
             ),
             "#ifndef CVL_FAMILIES_H",
@@ -411,6 +448,8 @@ def families_header(exports):
             '#include "internal.h"',
             "",
             *declared,
+            "",
+            *beneath,
             "",
             "\n\n".join(filter(None, helpers)),
             "",
@@ -457,6 +496,14 @@ def copied_body(found, asked):
     return "\n".join(statement(line) for line in [*lines, "return status;"])
 
 
+def by_length(found):
+    """The function of a family that is cut: a short call is made by the thread that calls, without another look."""
+    words = given(found.arguments)
+    head = wrapped(f"CvlStatus cvl_{found.name}({parameters(found.arguments)}){kept(' {')}")
+    short = guarded(f"{found.cut_length} < {found.least}", f"{found.alone}({words})")
+    return "\n".join([head, short, statement(f"return {found.shared}({words});"), "}"])
+
+
 def checked(row):
     """The checked function of a family, with what it calls on its slow ways."""
     found = Family(row)
@@ -489,8 +536,8 @@ def checked(row):
         call = None
     if call:
         lines.append(statement(f"return {call};"))
-    head = wrapped(f"CvlStatus cvl_{row.name}({parameters(found.arguments)}){kept(' {')}")
-    return "\n\n".join([*texts, "\n".join([head, *lines, "}"])])
+    head = wrapped(f"CvlStatus {found.alone}({parameters(found.arguments)}){kept(' {')}")
+    return "\n\n".join([*texts, "\n".join([head, *lines, "}"]), *([by_length(found)] if found.is_cut else [])])
 
 
 def family_argument(row, argument):
@@ -534,11 +581,12 @@ def checked_file():
     return "\n\n".join(
         [
             comment(
-                "The functions of cvl.h: each family, which looks at what its export cannot see and then calls it; each call of the table by its "
-                "family; the families on segments with a descriptor in the place of lengths; and the names of faults.",
+                "The functions of cvl.h: each family, which looks at what its export cannot see and then calls it, and which takes the threads of the "
+                "process where it is long; each call of the table by its family; the families on segments with a descriptor in the place of "
+                "lengths; and the names of faults.",
                 rows.NOTE,
             )
-            + '\n#include "families.h"\n#include "segments.h"',
+            + '\n#include "families.h"\n#include "segments.h"\n#include "threads.h"',
             "\n".join(
                 ["const char *cvl_fault_name(uint32_t number) {", "    switch (number) {", *names, '    default: return "Unknown";', "    }", "}"]
             ),
@@ -551,7 +599,7 @@ def checked_file():
 
 def public():
     """`bindings/c/public`: each name of the headers, one a line."""
-    named = [name for functions in (about.OF_VERSIONS, about.OF_FLAGS, about.OF_DESCRIPTORS) for name, _, _ in functions]
+    named = [name for functions in (about.OF_VERSIONS, about.OF_THREADS, about.OF_FLAGS, about.OF_DESCRIPTORS) for name, _, _ in functions]
     named += ["cvl_pool_alone", "cvl_pool_posix", "cvl_threads_start", "cvl_threads_stop"]
     named += [f"cvl_{row.name}" for row in [*rows.FAMILIES.values(), *rows.CALLS]]
     named += [f"cvl_{row.name}_on" for row in [*rows.FAMILIES.values(), *rows.CALLS] if row.family.cut is not None]

@@ -94,6 +94,7 @@ def parts():
     yield "What all calls share", [], shown(about.ABOUT[2:])
     yield "Types and numbers", [], constants()
     yield "The version, and the names of faults", [name for name, _, _ in about.OF_VERSIONS], of_functions(about.OF_VERSIONS)
+    yield "Threads", [name for name, _, _ in about.OF_THREADS], "\n\n".join([shown(about.THREADS), of_functions(about.OF_THREADS)])
     yield from grouped(list(rows.FAMILIES.values()), "families", table.OF_FAMILIES)
     yield "Booleans that are neither 0 nor 1", [name for name, _, _ in about.OF_FLAGS], of_functions(about.OF_FLAGS)
     yield from grouped(rows.CALLS, "the calls of the table", table.OF_CALLS)

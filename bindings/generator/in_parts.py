@@ -119,17 +119,14 @@ def cutting(found):
     """The condition that cuts the vector."""
     family = found.family
     cut, extent = family.cut
-    if cut == "lengths":
-        return "cvl_cut(pool, &w, lengths.segments)"
     if cut == "read":
         return "cvl_cut_text(pool, &w, text, text_len)"
-    array = next(o for o in family.operands if rows.is_array(o) and o.extent == extent)
-    lengths = [operand for operand in family.operands if operand.role == "lengths" and operand.extent == extent]
-    least = ", CVL_LEAST_WRITTEN, CVL_LEAST_WRITTEN_EACH" if cut in ("write", "seg_write") else ""
+    lengths = [operand for operand in family.operands if operand.role == "lengths" and operand.extent == extent and cut != "lengths"]
+    least = f", {found.least}, {found.least}_EACH" if cut in ("write", "seg_write") else ""
     by = "_by" if least else ""
     if lengths:
-        return f"cvl_cut_segments{by}(pool, &w, {array.name}_len, {lengths[0].name}{least})"
-    return f"cvl_cut{by}(pool, &w, {array.name}_len{least})"
+        return f"cvl_cut_segments{by}(pool, &w, {found.cut_length}, {lengths[0].name}{least})"
+    return f"cvl_cut{by}(pool, &w, {found.cut_length}{least})"
 
 
 # The function that runs the parts, where it has not the name of the cut.
@@ -141,7 +138,7 @@ def in_parts(row):
     found = in_c.Family(row)
     family = found.family
     cut = family.cut[0]
-    plain = f"cvl_{row.name}({given(found.arguments)})"
+    plain = f"{found.alone}({given(found.arguments)})"
     head = wrapped(f"CvlStatus cvl_{row.name}_on({POOL}, {parameters(found.arguments)}){kept(' {')}")
     if cut == "whole":
         return "\n".join([head, "    (void)pool;", statement(f"return {plain};"), "}"])
@@ -163,7 +160,19 @@ def in_parts(row):
     body += ["    w.left_out = 0;", statement(f"if ({'may && ' if tests else ''}{cutting(found)}){kept(' {')}")]
     body += [*(statement(line, 2) for line in lines), "    }"]
     body.append(statement(f"return w.left_out ? cvl_status(CVL_NO_RESOURCES, -1) : {plain};"))
-    return "\n\n".join([*texts, "\n".join([*body, "}"])])
+    return "\n\n".join([*texts, "\n".join([*body, "}"]), shared(found)])
+
+
+def shared(found):
+    """A family by the threads of the process, where nobody has them."""
+    words = given(found.arguments)
+    head = wrapped(f"CvlStatus {found.shared}({parameters(found.arguments)}){kept(' {')}")
+    lines = [
+        "    const CvlPool *const pool = cvl_take_threads();",
+        in_c.guarded("pool == NULL", f"{found.alone}({words})"),
+        statement(f"return cvl_give_threads(cvl_{found.name}_on(pool, {words}));"),
+    ]
+    return "\n".join([head, *lines, "}"])
 
 
 def called(row):
@@ -178,7 +187,8 @@ def families():
 
 def parts_file():
     """`bindings/c/parts.c`."""
-    head = in_c.comment("The functions of cvl_parallel.h: each family in parts, and each call of the table by its family.", rows.NOTE)
+    head = in_c.comment(
+        "The functions of cvl_parallel.h: each family in parts, and by the threads of the process, and each call of the table by its family.", rows.NOTE)
     blocks = [*(in_parts(row) for row in families()), *(called(row) for row in rows.CALLS)]
     return "\n\n".join([f'{head}\n#include "parts.h"', *blocks]) + "\n"
 

@@ -2,13 +2,15 @@
  * Holds each function of cvl.h and cvl_parallel.h against the plain reading of reading.h, on arguments at random: its status, its place, its
  * counts and every byte of the memory around. Booleans are any bytes; rooms are inputs, or overlap them; lengths differ; places
  * and counts are outside of 32 bits; vectors are too long, where they must not be read; each request for memory is refused in turn; vectors
- * of a few elements are cut into 1 to 9 parts, by one thread or by several, and by pools that leave parts out or run them twice.
+ * of a few elements are cut into 1 to 9 parts, by one thread or by several, and by pools that leave parts out or run them twice; and the
+ * functions that are not in parts run once more by the threads of the process.
  * `examples/c/run differential [CASES [PART OF A NAME]]` builds and runs it under sanitizers. It prints what differs, and its status is
  * then 1.
  */
 #define _DEFAULT_SOURCE
 #include "reading.h"
 
+#include <stdatomic.h>
 #include <stdio.h>
 #include <sys/mman.h>
 
@@ -22,7 +24,8 @@ static long calls, refused, faults, failed;
 
 /* ---- memory that is refused ---- */
 
-static long requests, refuse_at = -1;
+static atomic_long requests;
+static long refuse_at = -1;
 
 /* The linker puts this in the place of malloc (--wrap). */
 void *__real_malloc(size_t size);
@@ -394,10 +397,13 @@ int main(int words, char **word) {
         if (far_memory[k] == MAP_FAILED) abort();
     }
     if (cvl_threads_start(THREADS, &threads) != 0) abort();
-    for (size_t k = 0; k < ROWS; k++) {
-        if (strstr(rows[k].name, part_of_name) == NULL) continue;
-        for (long c = 0; c < cases; c++) try_one(&rows[k]);
-        for (int c = 0; c < 4; c++) too_long(&rows[k]);
+    for (size_t k = 0; k < 2 * ROWS; k++) {
+        const Row *row = &rows[k % ROWS];
+        const bool by_threads = k >= ROWS;
+        if (strstr(row->name, part_of_name) == NULL || (by_threads && in_parts(row))) continue;
+        if (cvl_set_threads(by_threads ? THREADS : 1) != 0) abort();
+        for (long c = 0; c < (by_threads ? cases / 3 : cases); c++) try_one(row);
+        for (int c = 0; c < 4; c++) too_long(row);
     }
     cvl_threads_stop(threads);
     printf("%d functions, %ld calls, %ld of them with memory refused, %ld arguments with a fault, %ld not as the reading\n", (int)ROWS, calls, refused,
