@@ -1,8 +1,9 @@
 /*
  * Tries the pools of cvl_parallel.h: how many parts they have; that the threads of a pool take no signal; a call within a part, and two calls
- * at once, on one pool; a child of a fork, which calls and stops; and threads that start, use and stop pools of their own at once. Each
- * result is held against the plain call. It prints what is not as it should be, and its status is then 1. `examples/c/run pools`
- * builds and runs it, also under the thread sanitizer.
+ * at once, on one pool; a child of a fork, which calls and stops, also where a thread held the pool's lock at the fork; a thread that
+ * is cancelled in its call; and threads that start, use and stop pools of their own at once. Each result is held against the plain call.
+ * It prints what is not as it should be, and its status is then 1. `examples/c/run pools` builds and runs it, also under the thread
+ * sanitizer.
  */
 #define _DEFAULT_SOURCE
 #include "cvl_parallel.h"
@@ -21,6 +22,10 @@ enum { MOST = 600, CALLERS = 4, ROUNDS = 60, PARTS = 4 };
 static int32_t a[MOST], wanted[MOST];
 static CvlThreads *threads;
 static int failed;
+
+/* The thread sanitizer waits for a second at the end of each process that has threads, unless it is told not to. */
+const char *__tsan_default_options(void);
+const char *__tsan_default_options(void) { return "atexit_sleep_ms=0"; }
 
 static void check(const char *what, bool is_so) {
     if (!is_so) {
@@ -192,7 +197,63 @@ static void children(void) {
     check("a fork changed a call", right);
 }
 
+/* ---- a fork while a thread of the pool has its lock ---- */
+
+static atomic_bool hold_waits, waits_are_held;
+
+/* The linker puts this in the place of pthread_cond_wait (--wrap): a thread that would wait keeps the lock while waits are held. */
+int __real_pthread_cond_wait(pthread_cond_t *condition, pthread_mutex_t *lock);
+int __wrap_pthread_cond_wait(pthread_cond_t *condition, pthread_mutex_t *lock);
+int __wrap_pthread_cond_wait(pthread_cond_t *condition, pthread_mutex_t *lock) {
+    while (atomic_load(&hold_waits)) {
+        atomic_store(&waits_are_held, true);
+        usleep(200);
+    }
+    return __real_pthread_cond_wait(condition, lock);
+}
+
+/* A child calls, and doesn't wait for the lock, which nobody there gives back. There are no other threads of a pool. */
+static void fork_with_lock_held(void) {
+    atomic_store(&hold_waits, true);
+    if (cvl_threads_start(PARTS, &threads) != 0) abort();
+    for (int k = 0; k < 25000 && !atomic_load(&waits_are_held); k++) usleep(200);
+    check("no thread of a pool waits", atomic_load(&waits_are_held));
+    in_a_child();
+    atomic_store(&hold_waits, false);
+    cvl_threads_stop(threads);
+}
+
+/* ---- a thread that is cancelled in its call ends the call first ---- */
+
+static atomic_bool is_calling, may_end;
+
+static void *call_and_end(void *found) {
+    const CvlPool pool = cvl_pool_posix(threads);
+    bool right = true;
+    atomic_store(&is_calling, true);
+    while (!atomic_load(&may_end)) right = right && scans_by(&pool);
+    *(bool *)found = right;
+    return NULL;
+}
+
+static void cancelled(void) {
+    pthread_t caller;
+    for (int k = 0; k < ROUNDS; k++) {
+        bool right = false;
+        atomic_store(&may_end, false);
+        atomic_store(&is_calling, false);
+        if (pthread_create(&caller, NULL, call_and_end, &right) != 0) abort();
+        while (!atomic_load(&is_calling)) usleep(100);
+        pthread_cancel(caller);
+        usleep(500);
+        atomic_store(&may_end, true);
+        pthread_join(caller, NULL);
+        check("a call is cancelled in its middle", right);
+    }
+}
+
 int main(void) {
+    alarm(120);
     for (int32_t k = 0; k < MOST; k++) a[k] = k * 2654435 % 1000 - 500;
     if (cvl_add_suz(a, wanted, MOST).number != CVL_DONE || cvl_threads_start(PARTS, &threads) != 0) abort();
     parts_of_pools();
@@ -201,9 +262,11 @@ int main(void) {
     at_once("calls at once on one pool are others", call_often);
     at_once("threads that start and stop pools at once", start_and_stop);
     children();
+    cancelled();
     const CvlPool pool = cvl_pool_posix(threads);
     check("after all that the pool calls otherwise", scans_by(&pool));
     cvl_threads_stop(threads);
+    fork_with_lock_held();
     if (!failed) printf("the pools are as they should be\n");
     return failed ? EXIT_FAILURE : EXIT_SUCCESS;
 }

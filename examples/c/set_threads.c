@@ -445,7 +445,7 @@ static void forks(void) {
 }
 
 int main(void) {
-    alarm(300);
+    alarm(120);
     unsetenv("CVL_NUM_THREADS");
     starts_left = -1;
     for (uint32_t k = 0; k < LONG; k++) a[k] = (int32_t)(k * 2654435u % 1000) - 500;
