@@ -159,12 +159,16 @@ static void numbers(void) {
 }
 
 static void refused(void) {
+    pthread_t caller;
+    bool right = false;
     check("threads can't be started", cvl_set_threads(3) == 0);
     for (int left = 0; left < THREADS; left++) {
         starts_left = left;
         check("a thread that is not started is no error", cvl_set_threads(THREADS + 1) == EAGAIN);
         starts_left = -1;
         check("after an error there are other threads than before", cvl_threads() == 3 && scans_by_threads());
+        begin_held(&caller, &right);
+        end_held(caller, &right);
     }
 }
 
@@ -446,6 +450,7 @@ static void forks(void) {
 
 int main(void) {
     alarm(120);
+    setvbuf(stdout, NULL, _IONBF, 0);
     unsetenv("CVL_NUM_THREADS");
     starts_left = -1;
     for (uint32_t k = 0; k < LONG; k++) a[k] = (int32_t)(k * 2654435u % 1000) - 500;
