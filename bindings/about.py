@@ -1,6 +1,8 @@
 """What stands in `include/cvl.h` and on its page beside the rows of the table: what all calls share, types, and the functions that
 have no row."""
 
+from table import MOST_ELEMENTS, MOST_OF_TEXT
+
 ABOUT = (
     "cvl.h: the vector calls of CVL, the C Vector Library, on a caller's own memory.",
     "Link with -lcvl, of which ./install makes an archive and a shared object; docs/embedding.md shows how. C99 to C23, and C++.",
@@ -35,8 +37,8 @@ ABOUT = (
     "Where several faults are there, the first of these is told; places count from 0:",
     "  - 102 Overlap; where there is no descriptor, 101 NoDescriptor, before overlaps of other arguments than it;",
     "  - 2 UnknownCall, without a place, where a number is that of no operator of the family;",
-    "  - 13 TooLong, without a place, where the vector that a call goes by has more than 4194304 elements: its first vector, the flags of a pack, or "
-    "the index of a permute; on segments after the lengths. A call on segments other than a permute asks no vector: there are at most 4194304 "
+    f"  - 13 TooLong, without a place, where the vector that a call goes by has more than {MOST_ELEMENTS} elements: its first vector, the flags of a pack, "
+    f"or the index of a permute; on segments after the lengths. A call on segments other than a permute asks no vector: there are at most {MOST_ELEMENTS} "
     "lengths, which add up to at most as much, and a longer vector has not as many elements as they add up to, which is 7. A vector that is too "
     "long is not read;",
     "  - 13, 12 and 13 again by the lengths of segments;",
@@ -44,7 +46,7 @@ ABOUT = (
     "result, or shorter where a count is told;",
     "  - 100 NoResources;",
     "  - the faults of elements, in the order of the comment. Of a text that is read a room that is too short comes last.",
-    "Other vectors may be longer than 4194304 elements where they need not be as long as another: the source of a back permute, the defaults of a "
+    f"Other vectors may be longer than {MOST_ELEMENTS} elements where they need not be as long as another: the source of a back permute, the defaults of a "
     "permute, and the vectors of which one element is taken or replaced.",
     "Each call of the table has its name with the prefix cvl_, as cvl_add_wuz. Where CVL_SHORT_NAMES is defined before this header is included it has "
     "the name without it too.",
@@ -137,8 +139,8 @@ OF_DESCRIPTORS = (
         "cvl_segments_new",
         (
             "Makes the descriptor of segments with these lengths, empty ones too. After a fault of the lengths there is none.",
-            "Faults: 13 TooLong, without a place, where there are more than 4194304 lengths; 12 NegativeLength at the first that is below 0; 13 TooLong, "
-            "without a place, where they add up to more than 4194304; else 101 NoDescriptor where `segments` is null.",
+            f"Faults: 13 TooLong, without a place, where there are more than {MOST_ELEMENTS} lengths; 12 NegativeLength at the first that is below 0; 13 "
+            f"TooLong, without a place, where they add up to more than {MOST_ELEMENTS}; else 101 NoDescriptor where `segments` is null.",
         ),
         "CVL_CHECKED CvlStatus cvl_segments_new(CvlLengths lengths, CvlSegments *segments);",
     ),

@@ -27,7 +27,7 @@ Operator = namedtuple("Operator", "name number sentence fault")
 #
 #   exported   its name in crates/cvl_c, without cvl_
 #   operators  the names of those that it takes
-#   limit      the extent that may be at most 4,194,304, beside that of lengths
+#   limit      the extent that has a limit, beside that of lengths: MOST_ELEMENTS, or MOST_OF_TEXT where a text is read or written
 #   in_place   which operands may be the room, each a tuple: alone, or together
 #   faults     beside that of the operator and those of lengths, in their order
 #   asks       whether the export asks for memory
@@ -69,6 +69,10 @@ CUTS = {
     "read": "cut at white space",
 }
 
+# The most elements of a vector; and of one whose text is read or written at once.
+MOST_ELEMENTS = 4194304
+MOST_OF_TEXT = 4194304
+
 # The faults that calls share.
 TOO_LONG = Fault((13,), "13 TooLong", False)
 SUM_OF_N = Fault((7,), "7 LengthMismatch where the lengths do not add up to n", False)
@@ -78,7 +82,7 @@ BAD_PLACE = Fault((10,), "10 IndexOutOfRange at 0 where the index is below 0, or
 BAD_PLACES = Fault((10,), "10 IndexOutOfRange at the segment", False)
 BAD_COUNT = (
     Fault((12,), "12 NegativeLength, without a place, where count is below 0", False),
-    Fault((13,), "13 TooLong where it is above 4194304", False),
+    Fault((13,), f"13 TooLong where it is above {MOST_ELEMENTS}", False),
 )
 
 # Operators on two integers, two booleans, one element, and the comparisons.
@@ -128,7 +132,6 @@ STATUSES = (
     (102, "Overlap"),
 )
 
-MOST_ELEMENTS = 4194304
 VERSION = "1.0.0"
 
 
@@ -157,12 +160,12 @@ OF_FAMILIES = {
 OF_CALLS = {
     "segments": (
         "Segments come as their lengths, one for each segment, empty ones too. Each call on segments has these faults first, by the lengths: 13 "
-        "TooLong, without a place, where there are more than 4194304; 12 NegativeLength at the first that is below 0; 13 TooLong, without a place, "
-        "where they add up to more than 4194304.",
+        f"TooLong, without a place, where there are more than {MOST_ELEMENTS}; 12 NegativeLength at the first that is below 0; 13 TooLong, without a "
+        f"place, where they add up to more than {MOST_ELEMENTS}.",
     ),
     "permutes": (
         "In a simple, a select and a default permute the index of a place tells where its element goes, and no two may go to one place. 13 TooLong "
-        "stands where the index has more than 4194304 elements, and comes first.",
+        f"stands where the index has more than {MOST_ELEMENTS} elements, and comes first.",
     ),
     "permutes of segments": (
         "The faults by the lengths come first, as at the other calls on segments; where there are two arrays of lengths, those of `lengths` before "
@@ -279,7 +282,7 @@ OVERFLOW_AT_PLACE = Fault((18,), "18 Overflow at the first place whose sum does 
 OVERFLOW_AT_0 = Fault((18,), "18 Overflow at 0 where it does not fit 32 bits", False)
 OVERFLOW_AT_SEGMENT = Fault((18,), "18 Overflow at the first segment whose sum does not fit 32 bits", False)
 RANGE_FAULTS = (
-    Fault((13,), "13 TooLong, by the index, and where the range ends behind place 4194304", False),
+    Fault((13,), f"13 TooLong, by the index, and where the range ends behind place {MOST_ELEMENTS}", False),
     Fault((7,), "7 LengthMismatch, where source and index are not equally long, or marks_len is not (out_len + 31) / 32. At a fault all rooms are as they were", False),
 )
 
@@ -482,7 +485,7 @@ FAMILIES = (
         "and at least one digit, inside 32 bits. A text of white space alone has none.",
         limit=None,
         faults=(
-            Fault((13,), "13 TooLong, without a place, where there are more than 4194304 words between white space, whatever they are", False),
+            Fault((13,), f"13 TooLong, without a place, where there are more than {MOST_OF_TEXT} words between white space, whatever they are", False),
             Fault((15,), "else 15 BadInput at the first word that is no such integer", False),
         ),
         asks=True, cut=("read", "n"), example={"text": '"5 -1\\n007 -0"', "out": "5 -1 7 0", "count": "4"},
@@ -505,8 +508,11 @@ FAMILIES = (
         limit=None,
         faults=(
             Fault(
-                (13,), '13 TooLong, without a place, where there are more than 4194304 words other than brackets or more than 4194305 "[", whatever they are',
-                False),
+                (13,),
+                f"13 TooLong, without a place, where there are more than {MOST_OF_TEXT} words other than brackets or more than {MOST_OF_TEXT + 1} "
+                '"[", whatever they are',
+                False,
+            ),
             Fault(
                 (15,), "else 15 BadInput at the first word or bracket that cannot stand where it does, or, where the text ends too early, at the number of "
                 "its words and brackets", False),
@@ -595,10 +601,10 @@ FAMILIES = (
         "that a fault's place is that in the whole text.",
         limit=None,
         faults=(
-            Fault((13,), "13 TooLong, without a place, where `before` is more than 4194304 or the piece itself has more words", False),
+            Fault((13,), f"13 TooLong, without a place, where `before` is more than {MOST_ELEMENTS}, or the piece itself has more than {MOST_OF_TEXT} words", False),
             Fault(
-                (15,), "else 15 BadInput at the first word of the piece that is no integer. That all pieces together have at most 4194304 words is the caller's "
-                "to see", False),
+                (15,), "else 15 BadInput at the first word of the piece that is no integer. That all pieces together have at most "
+                f"{MOST_ELEMENTS} words is the caller's to see", False),
         ),
         asks=True, example={"before": "3", "text": '"9 10"', "out": "9 10", "count": "2"},
     ),

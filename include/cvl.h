@@ -119,8 +119,8 @@ enum {
     CVL_OVERLAP = 102
 };
 
-/* The most elements of a vector, and the greatest total of a descriptor. */
-enum { CVL_MOST_ELEMENTS = 4194304 };
+/* The most elements of a vector, and the greatest total of a descriptor; and of a vector whose text is read or written at once. */
+enum { CVL_MOST_ELEMENTS = 4194304, CVL_MOST_OF_TEXT = 4194304 };
 
 /* The lengths of segments, one for each, empty ones too: CvlLengths rows = {lengths, segments}. */
 typedef struct CvlLengths {
@@ -579,9 +579,9 @@ CVL_CHECKED CvlStatus cvl_select_permute_bool_range(const bool *source, size_t s
 /*
  * cvl_read_ints_after: The integers of one piece of a text that is cut at white space, as cvl_read_ints reads them. `before` is
  * how many words the pieces before it have, so that a fault's place is that in the whole text.
- * Faults: 13 TooLong, without a place, where `before` is more than 4194304 or the piece itself has more words; else 15 BadInput
- * at the first word of the piece that is no integer. That all pieces together have at most 4194304 words is the caller's to
- * see.
+ * Faults: 13 TooLong, without a place, where `before` is more than 4194304, or the piece itself has more than 4194304 words;
+ * else 15 BadInput at the first word of the piece that is no integer. That all pieces together have at most 4194304 words is
+ * the caller's to see.
  * before = 3, text = "9 10": out = 9 10, count = 2
  */
 CVL_CHECKED CvlStatus cvl_read_ints_after(size_t before, const char *text, size_t text_len, int32_t *out, size_t out_len,

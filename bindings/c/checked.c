@@ -33,6 +33,7 @@ static CvlStatus int2_asked(uint32_t op, size_t a_len, size_t b_len, size_t out_
     memset(&asked, 0, sizeof asked);
     asked.known = op <= CVL_RSH;
     asked.agree = cvl_int2_agrees(op, a_len, b_len, out_len);
+    asked.most = CVL_MOST_ELEMENTS;
     asked.limited = a_len;
     return cvl_asked(&asked);
 }
@@ -149,6 +150,7 @@ static CvlStatus bool_scan_asked(uint32_t op, size_t a_len, size_t out_len) {
     memset(&asked, 0, sizeof asked);
     asked.known = op >= CVL_AND && op <= CVL_XOR;
     asked.agree = cvl_bool_scan_agrees(op, a_len, out_len);
+    asked.most = CVL_MOST_ELEMENTS;
     asked.limited = a_len;
     return cvl_asked(&asked);
 }
@@ -200,6 +202,7 @@ static CvlStatus checked_scan_asked(size_t a_len, size_t out_len) {
     memset(&asked, 0, sizeof asked);
     asked.known = 1;
     asked.agree = cvl_checked_scan_agrees(a_len, out_len);
+    asked.most = CVL_MOST_ELEMENTS;
     asked.limited = a_len;
     return cvl_asked(&asked);
 }
@@ -230,6 +233,7 @@ static CvlStatus seg_checked_scan_asked(size_t a_len, CvlLengths lengths, size_t
     memset(&asked, 0, sizeof asked);
     asked.known = 1;
     asked.agree = cvl_seg_checked_scan_agrees(a_len, lengths, out_len);
+    asked.most = CVL_MOST_ELEMENTS;
     asked.lengths[0] = &lengths, asked.totals[0] = a_len;
     return cvl_asked(&asked);
 }
@@ -250,6 +254,7 @@ static CvlStatus seg_checked_reduce_asked(size_t a_len, CvlLengths lengths, size
     memset(&asked, 0, sizeof asked);
     asked.known = 1;
     asked.agree = cvl_seg_checked_reduce_agrees(a_len, lengths, out_len);
+    asked.most = CVL_MOST_ELEMENTS;
     asked.lengths[0] = &lengths, asked.totals[0] = a_len;
     return cvl_asked(&asked);
 }
@@ -293,6 +298,7 @@ static CvlStatus replace_int_asked(size_t vector_len, size_t out_len) {
     memset(&asked, 0, sizeof asked);
     asked.known = 1;
     asked.agree = cvl_replace_int_agrees(vector_len, out_len);
+    asked.most = CVL_MOST_ELEMENTS;
     return cvl_asked(&asked);
 }
 
@@ -317,6 +323,7 @@ static CvlStatus replace_bool_asked(size_t vector_len, size_t out_len) {
     memset(&asked, 0, sizeof asked);
     asked.known = 1;
     asked.agree = cvl_replace_bool_agrees(vector_len, out_len);
+    asked.most = CVL_MOST_ELEMENTS;
     return cvl_asked(&asked);
 }
 
@@ -379,6 +386,7 @@ static CvlStatus seg_extract_int_asked(size_t vector_len, size_t index_len, CvlL
     memset(&asked, 0, sizeof asked);
     asked.known = 1;
     asked.agree = cvl_seg_extract_int_agrees(vector_len, index_len, lengths, out_len);
+    asked.most = CVL_MOST_ELEMENTS;
     asked.lengths[0] = &lengths, asked.totals[0] = vector_len;
     return cvl_asked(&asked);
 }
@@ -409,6 +417,7 @@ static CvlStatus seg_extract_bool_asked(size_t vector_len, size_t index_len, Cvl
     memset(&asked, 0, sizeof asked);
     asked.known = 1;
     asked.agree = cvl_seg_extract_bool_agrees(vector_len, index_len, lengths, out_len);
+    asked.most = CVL_MOST_ELEMENTS;
     asked.lengths[0] = &lengths, asked.totals[0] = vector_len;
     return cvl_asked(&asked);
 }
@@ -440,6 +449,7 @@ static CvlStatus seg_replace_int_asked(size_t vector_len, size_t index_len, size
     memset(&asked, 0, sizeof asked);
     asked.known = 1;
     asked.agree = cvl_seg_replace_int_agrees(vector_len, index_len, values_len, lengths, out_len);
+    asked.most = CVL_MOST_ELEMENTS;
     asked.lengths[0] = &lengths, asked.totals[0] = vector_len;
     return cvl_asked(&asked);
 }
@@ -473,6 +483,7 @@ static CvlStatus seg_replace_bool_asked(size_t vector_len, size_t index_len, siz
     memset(&asked, 0, sizeof asked);
     asked.known = 1;
     asked.agree = cvl_seg_replace_bool_agrees(vector_len, index_len, values_len, lengths, out_len);
+    asked.most = CVL_MOST_ELEMENTS;
     asked.lengths[0] = &lengths, asked.totals[0] = vector_len;
     return cvl_asked(&asked);
 }
@@ -521,6 +532,7 @@ static CvlStatus seg_distribute_int_asked(size_t values_len, CvlLengths lengths,
     memset(&asked, 0, sizeof asked);
     asked.known = 1;
     asked.agree = cvl_seg_distribute_int_agrees(values_len, lengths, out_len);
+    asked.most = CVL_MOST_ELEMENTS;
     asked.lengths[0] = &lengths, asked.totals[0] = out_len;
     return cvl_asked(&asked);
 }
@@ -547,6 +559,7 @@ static CvlStatus seg_distribute_bool_asked(size_t values_len, CvlLengths lengths
     memset(&asked, 0, sizeof asked);
     asked.known = 1;
     asked.agree = cvl_seg_distribute_bool_agrees(values_len, lengths, out_len);
+    asked.most = CVL_MOST_ELEMENTS;
     asked.lengths[0] = &lengths, asked.totals[0] = out_len;
     return cvl_asked(&asked);
 }
@@ -584,6 +597,7 @@ static CvlStatus seg_index_asked(size_t inits_len, size_t strides_len, CvlLength
     memset(&asked, 0, sizeof asked);
     asked.known = 1;
     asked.agree = cvl_seg_index_agrees(inits_len, strides_len, lengths, out_len);
+    asked.most = CVL_MOST_ELEMENTS;
     asked.lengths[0] = &lengths, asked.totals[0] = out_len;
     return cvl_asked(&asked);
 }
@@ -623,6 +637,7 @@ static CvlStatus seg_bool_scan_asked(uint32_t op, size_t a_len, CvlLengths lengt
     memset(&asked, 0, sizeof asked);
     asked.known = op >= CVL_AND && op <= CVL_XOR;
     asked.agree = cvl_seg_bool_scan_agrees(op, a_len, lengths, out_len);
+    asked.most = CVL_MOST_ELEMENTS;
     asked.lengths[0] = &lengths, asked.totals[0] = a_len;
     return cvl_asked(&asked);
 }
@@ -675,6 +690,7 @@ static CvlStatus pack_int_asked(size_t values_len, const bool *flags, size_t fla
     memset(&asked, 0, sizeof asked);
     asked.known = 1;
     asked.agree = cvl_pack_int_agrees(values_len, flags_len);
+    asked.most = CVL_MOST_ELEMENTS;
     asked.limited = flags_len;
     asked.room = out_len;
     asked.by_flags = 1, asked.flags = flags, asked.flags_len = flags_len;
@@ -714,6 +730,7 @@ static CvlStatus pack_bool_asked(size_t values_len, const bool *flags, size_t fl
     memset(&asked, 0, sizeof asked);
     asked.known = 1;
     asked.agree = cvl_pack_bool_agrees(values_len, flags_len);
+    asked.most = CVL_MOST_ELEMENTS;
     asked.limited = flags_len;
     asked.room = out_len;
     asked.by_flags = 1, asked.flags = flags, asked.flags_len = flags_len;
@@ -755,6 +772,7 @@ static CvlStatus seg_pack_int_asked(size_t values_len, const bool *flags, size_t
     memset(&asked, 0, sizeof asked);
     asked.known = 1;
     asked.agree = cvl_seg_pack_int_agrees(values_len, flags_len, lengths);
+    asked.most = CVL_MOST_ELEMENTS;
     asked.lengths[0] = &lengths, asked.totals[0] = values_len;
     asked.room = out_len;
     asked.by_flags = 1, asked.flags = flags, asked.flags_len = flags_len;
@@ -799,6 +817,7 @@ static CvlStatus seg_pack_bool_asked(size_t values_len, const bool *flags, size_
     memset(&asked, 0, sizeof asked);
     asked.known = 1;
     asked.agree = cvl_seg_pack_bool_agrees(values_len, flags_len, lengths);
+    asked.most = CVL_MOST_ELEMENTS;
     asked.lengths[0] = &lengths, asked.totals[0] = values_len;
     asked.room = out_len;
     asked.by_flags = 1, asked.flags = flags, asked.flags_len = flags_len;
@@ -864,6 +883,7 @@ static CvlStatus permute_int_asked(size_t source_len, size_t index_len, size_t o
     memset(&asked, 0, sizeof asked);
     asked.known = 1;
     asked.agree = cvl_permute_int_agrees(source_len, index_len, out_len);
+    asked.most = CVL_MOST_ELEMENTS;
     asked.limited = index_len;
     return cvl_asked(&asked);
 }
@@ -889,6 +909,7 @@ static CvlStatus permute_bool_asked(size_t source_len, size_t index_len, size_t 
     memset(&asked, 0, sizeof asked);
     asked.known = 1;
     asked.agree = cvl_permute_bool_agrees(source_len, index_len, out_len);
+    asked.most = CVL_MOST_ELEMENTS;
     asked.limited = index_len;
     return cvl_asked(&asked);
 }
@@ -929,6 +950,7 @@ static CvlStatus select_permute_int_asked(size_t source_len, size_t index_len, c
     memset(&asked, 0, sizeof asked);
     asked.known = 1;
     asked.agree = cvl_select_permute_int_agrees(source_len, index_len, flags_len);
+    asked.most = CVL_MOST_ELEMENTS;
     asked.limited = index_len;
     asked.room = out_len;
     asked.by_flags = 1, asked.flags = flags, asked.flags_len = flags_len;
@@ -977,6 +999,7 @@ static CvlStatus select_permute_bool_asked(size_t source_len, size_t index_len, 
     memset(&asked, 0, sizeof asked);
     asked.known = 1;
     asked.agree = cvl_select_permute_bool_agrees(source_len, index_len, flags_len);
+    asked.most = CVL_MOST_ELEMENTS;
     asked.limited = index_len;
     asked.room = out_len;
     asked.by_flags = 1, asked.flags = flags, asked.flags_len = flags_len;
@@ -1026,6 +1049,7 @@ static CvlStatus default_permute_int_asked(size_t source_len, size_t index_len, 
     memset(&asked, 0, sizeof asked);
     asked.known = 1;
     asked.agree = cvl_default_permute_int_agrees(source_len, index_len, defaults_len, out_len);
+    asked.most = CVL_MOST_ELEMENTS;
     asked.limited = index_len;
     return cvl_asked(&asked);
 }
@@ -1058,6 +1082,7 @@ static CvlStatus default_permute_bool_asked(size_t source_len, size_t index_len,
     memset(&asked, 0, sizeof asked);
     asked.known = 1;
     asked.agree = cvl_default_permute_bool_agrees(source_len, index_len, defaults_len, out_len);
+    asked.most = CVL_MOST_ELEMENTS;
     asked.limited = index_len;
     return cvl_asked(&asked);
 }
@@ -1106,6 +1131,7 @@ static CvlStatus back_permute_int_asked(size_t index_len, size_t out_len) {
     memset(&asked, 0, sizeof asked);
     asked.known = 1;
     asked.agree = cvl_back_permute_int_agrees(index_len, out_len);
+    asked.most = CVL_MOST_ELEMENTS;
     asked.limited = index_len;
     return cvl_asked(&asked);
 }
@@ -1128,6 +1154,7 @@ static CvlStatus back_permute_bool_asked(size_t index_len, size_t out_len) {
     memset(&asked, 0, sizeof asked);
     asked.known = 1;
     asked.agree = cvl_back_permute_bool_agrees(index_len, out_len);
+    asked.most = CVL_MOST_ELEMENTS;
     asked.limited = index_len;
     return cvl_asked(&asked);
 }
@@ -1164,6 +1191,7 @@ static CvlStatus seg_permute_int_asked(size_t source_len, size_t index_len, CvlL
     memset(&asked, 0, sizeof asked);
     asked.known = 1;
     asked.agree = cvl_seg_permute_int_agrees(source_len, index_len, lengths, out_len);
+    asked.most = CVL_MOST_ELEMENTS;
     asked.limited = index_len;
     asked.lengths[0] = &lengths, asked.totals[0] = source_len;
     return cvl_asked(&asked);
@@ -1195,6 +1223,7 @@ static CvlStatus seg_permute_bool_asked(size_t source_len, size_t index_len, Cvl
     memset(&asked, 0, sizeof asked);
     asked.known = 1;
     asked.agree = cvl_seg_permute_bool_agrees(source_len, index_len, lengths, out_len);
+    asked.most = CVL_MOST_ELEMENTS;
     asked.limited = index_len;
     asked.lengths[0] = &lengths, asked.totals[0] = source_len;
     return cvl_asked(&asked);
@@ -1241,6 +1270,7 @@ static CvlStatus seg_select_permute_int_asked(size_t source_len, size_t index_le
     memset(&asked, 0, sizeof asked);
     asked.known = 1;
     asked.agree = cvl_seg_select_permute_int_agrees(source_len, index_len, flags_len, lengths);
+    asked.most = CVL_MOST_ELEMENTS;
     asked.limited = index_len;
     asked.lengths[0] = &lengths, asked.totals[0] = source_len;
     asked.room = out_len;
@@ -1291,6 +1321,7 @@ static CvlStatus seg_select_permute_bool_asked(size_t source_len, size_t index_l
     memset(&asked, 0, sizeof asked);
     asked.known = 1;
     asked.agree = cvl_seg_select_permute_bool_agrees(source_len, index_len, flags_len, lengths);
+    asked.most = CVL_MOST_ELEMENTS;
     asked.limited = index_len;
     asked.lengths[0] = &lengths, asked.totals[0] = source_len;
     asked.room = out_len;
@@ -1343,6 +1374,7 @@ static CvlStatus seg_default_permute_int_asked(size_t source_len, size_t index_l
     memset(&asked, 0, sizeof asked);
     asked.known = 1;
     asked.agree = cvl_seg_default_permute_int_agrees(source_len, index_len, defaults_len, lengths, default_lengths, out_len);
+    asked.most = CVL_MOST_ELEMENTS;
     asked.limited = index_len;
     asked.lengths[0] = &lengths, asked.totals[0] = source_len;
     asked.lengths[1] = &default_lengths, asked.totals[1] = defaults_len;
@@ -1383,6 +1415,7 @@ static CvlStatus seg_default_permute_bool_asked(size_t source_len, size_t index_
     memset(&asked, 0, sizeof asked);
     asked.known = 1;
     asked.agree = cvl_seg_default_permute_bool_agrees(source_len, index_len, defaults_len, lengths, default_lengths, out_len);
+    asked.most = CVL_MOST_ELEMENTS;
     asked.limited = index_len;
     asked.lengths[0] = &lengths, asked.totals[0] = source_len;
     asked.lengths[1] = &default_lengths, asked.totals[1] = defaults_len;
@@ -1439,6 +1472,7 @@ static CvlStatus seg_back_permute_int_asked(size_t source_len, size_t index_len,
     memset(&asked, 0, sizeof asked);
     asked.known = 1;
     asked.agree = cvl_seg_back_permute_int_agrees(source_len, index_len, lengths, index_lengths, out_len);
+    asked.most = CVL_MOST_ELEMENTS;
     asked.limited = index_len;
     asked.lengths[0] = &lengths, asked.totals[0] = source_len;
     asked.lengths[1] = &index_lengths, asked.totals[1] = index_len;
@@ -1474,6 +1508,7 @@ static CvlStatus seg_back_permute_bool_asked(size_t source_len, size_t index_len
     memset(&asked, 0, sizeof asked);
     asked.known = 1;
     asked.agree = cvl_seg_back_permute_bool_agrees(source_len, index_len, lengths, index_lengths, out_len);
+    asked.most = CVL_MOST_ELEMENTS;
     asked.limited = index_len;
     asked.lengths[0] = &lengths, asked.totals[0] = source_len;
     asked.lengths[1] = &index_lengths, asked.totals[1] = index_len;
@@ -1535,6 +1570,7 @@ static CvlStatus write_ints_asked(const int32_t *a, size_t a_len, size_t out_len
     memset(&asked, 0, sizeof asked);
     asked.known = 1;
     asked.agree = cvl_write_ints_agrees(a_len);
+    asked.most = CVL_MOST_OF_TEXT;
     asked.limited = a_len;
     asked.room = out_len;
     asked.ints = a, asked.written = a_len;
@@ -1561,6 +1597,7 @@ static CvlStatus write_bools_asked(const bool *a, size_t a_len, size_t out_len, 
     memset(&asked, 0, sizeof asked);
     asked.known = 1;
     asked.agree = cvl_write_bools_agrees(a_len);
+    asked.most = CVL_MOST_OF_TEXT;
     asked.limited = a_len;
     asked.room = out_len;
     asked.bools = a, asked.written = a_len;
@@ -1607,6 +1644,7 @@ static CvlStatus seg_write_ints_asked(const int32_t *a, size_t a_len, CvlLengths
     memset(&asked, 0, sizeof asked);
     asked.known = 1;
     asked.agree = cvl_seg_write_ints_agrees(a_len, lengths);
+    asked.most = CVL_MOST_OF_TEXT;
     asked.lengths[0] = &lengths, asked.totals[0] = a_len;
     asked.room = out_len;
     asked.ints = a, asked.written = a_len;
@@ -1634,6 +1672,7 @@ static CvlStatus seg_write_bools_asked(const bool *a, size_t a_len, CvlLengths l
     memset(&asked, 0, sizeof asked);
     asked.known = 1;
     asked.agree = cvl_seg_write_bools_agrees(a_len, lengths);
+    asked.most = CVL_MOST_OF_TEXT;
     asked.lengths[0] = &lengths, asked.totals[0] = a_len;
     asked.room = out_len;
     asked.bools = a, asked.written = a_len;
@@ -1677,6 +1716,7 @@ static CvlStatus bool_scan_after_asked(uint32_t op, size_t a_len, size_t out_len
     memset(&asked, 0, sizeof asked);
     asked.known = op >= CVL_AND && op <= CVL_XOR;
     asked.agree = cvl_bool_scan_after_agrees(op, a_len, out_len);
+    asked.most = CVL_MOST_ELEMENTS;
     asked.limited = a_len;
     return cvl_asked(&asked);
 }
@@ -1708,6 +1748,7 @@ static CvlStatus checked_scan_after_asked(size_t a_len, size_t out_len) {
     memset(&asked, 0, sizeof asked);
     asked.known = 1;
     asked.agree = cvl_checked_scan_after_agrees(a_len, out_len);
+    asked.most = CVL_MOST_ELEMENTS;
     asked.limited = a_len;
     return cvl_asked(&asked);
 }
@@ -1732,6 +1773,7 @@ static CvlStatus permute_bool_range_asked(size_t source_len, size_t index_len, s
     memset(&asked, 0, sizeof asked);
     asked.known = 1;
     asked.agree = cvl_permute_bool_range_agrees(source_len, index_len, lowest, out_len, marks_len);
+    asked.most = CVL_MOST_ELEMENTS;
     asked.limited = index_len > CVL_MOST_ELEMENTS || lowest > CVL_MOST_ELEMENTS || out_len > CVL_MOST_ELEMENTS - lowest ? SIZE_MAX :
         0;
     return cvl_asked(&asked);
@@ -1768,6 +1810,7 @@ static CvlStatus select_permute_int_range_asked(size_t source_len, size_t index_
     memset(&asked, 0, sizeof asked);
     asked.known = 1;
     asked.agree = cvl_select_permute_int_range_agrees(source_len, index_len, flags_len, lowest, out_len, marks_len);
+    asked.most = CVL_MOST_ELEMENTS;
     asked.limited = index_len > CVL_MOST_ELEMENTS || lowest > CVL_MOST_ELEMENTS || out_len > CVL_MOST_ELEMENTS - lowest ? SIZE_MAX :
         0;
     return cvl_asked(&asked);
@@ -1809,6 +1852,7 @@ static CvlStatus select_permute_bool_range_asked(size_t source_len, size_t index
     memset(&asked, 0, sizeof asked);
     asked.known = 1;
     asked.agree = cvl_select_permute_bool_range_agrees(source_len, index_len, flags_len, lowest, out_len, marks_len);
+    asked.most = CVL_MOST_ELEMENTS;
     asked.limited = index_len > CVL_MOST_ELEMENTS || lowest > CVL_MOST_ELEMENTS || out_len > CVL_MOST_ELEMENTS - lowest ? SIZE_MAX :
         0;
     return cvl_asked(&asked);

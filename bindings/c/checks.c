@@ -2,8 +2,10 @@
 #include "families.h"
 
 /* The fault of lengths that are none of segments, and what they add up to. */
-static CvlStatus lengths_told(const CvlLengths *lengths, size_t *total) {
-    return cvl_proved_make_descriptor(lengths->lengths, lengths->segments, total);
+static CvlStatus lengths_told(const CvlLengths *lengths, size_t most, size_t *total) {
+    if (lengths->segments > most) return cvl_status(CVL_TOO_LONG, -1);
+    const CvlStatus told = cvl_proved_make_descriptor(lengths->lengths, lengths->segments, total);
+    return told.number == CVL_DONE && *total > most ? cvl_status(CVL_TOO_LONG, -1) : told;
 }
 
 /* How many bytes a list of so many elements has beside theirs: brackets, and a space between each two. */
@@ -47,11 +49,11 @@ CvlStatus cvl_asked(const CvlAsked *asked) {
     if (!asked->known) return cvl_status(CVL_UNKNOWN_CALL, -1);
     for (size_t k = 0; k < 2 && asked->lengths[k] != NULL; k++) {
         size_t total = 0;
-        const CvlStatus told = lengths_told(asked->lengths[k], &total);
+        const CvlStatus told = lengths_told(asked->lengths[k], asked->most, &total);
         if (told.number != CVL_DONE) return told;
         if (total != asked->totals[k]) agree = 0;
     }
-    if (asked->limited > CVL_MOST_ELEMENTS) return cvl_status(CVL_TOO_LONG, -1);
+    if (asked->limited > asked->most) return cvl_status(CVL_TOO_LONG, -1);
     return agree ? room_told(asked) : cvl_status(CVL_LENGTH_MISMATCH, -1);
 }
 
@@ -66,7 +68,7 @@ bool cvl_many_words(const char *text, size_t text_len, bool nested) {
         if (nested && byte == '[') lists++;
         inside = !bracket && !white;
     }
-    return words > CVL_MOST_ELEMENTS || lists > (size_t)CVL_MOST_ELEMENTS + 1;
+    return words > CVL_MOST_OF_TEXT || lists > (size_t)CVL_MOST_OF_TEXT + 1;
 }
 
 bool cvl_copy_flags(const bool **flags, size_t count, bool **copy) {

@@ -1012,7 +1012,7 @@ static inline bool cvl_write_ints_meets(const int32_t *a, size_t a_len, char *ou
 }
 
 static inline bool cvl_write_ints_agrees(size_t a_len) {
-    return a_len <= CVL_MOST_ELEMENTS;
+    return a_len <= CVL_MOST_OF_TEXT;
 }
 
 static inline bool cvl_write_bools_meets(const bool *a, size_t a_len, char *out, size_t out_len, size_t *count) {
@@ -1020,7 +1020,7 @@ static inline bool cvl_write_bools_meets(const bool *a, size_t a_len, char *out,
 }
 
 static inline bool cvl_write_bools_agrees(size_t a_len) {
-    return a_len <= CVL_MOST_ELEMENTS;
+    return a_len <= CVL_MOST_OF_TEXT;
 }
 
 static inline bool cvl_seg_read_ints_meets(const char *text, size_t text_len, int32_t *out, size_t out_len, size_t *count,
@@ -1038,7 +1038,7 @@ static inline bool cvl_seg_write_ints_meets(const int32_t *a, size_t a_len, CvlL
 }
 
 static inline bool cvl_seg_write_ints_agrees(size_t a_len, CvlLengths lengths) {
-    return lengths.segments <= CVL_MOST_ELEMENTS && a_len <= CVL_MOST_ELEMENTS;
+    return lengths.segments <= CVL_MOST_OF_TEXT && a_len <= CVL_MOST_OF_TEXT;
 }
 
 static inline bool cvl_seg_write_bools_meets(const bool *a, size_t a_len, CvlLengths lengths, char *out, size_t out_len,
@@ -1048,7 +1048,7 @@ static inline bool cvl_seg_write_bools_meets(const bool *a, size_t a_len, CvlLen
 }
 
 static inline bool cvl_seg_write_bools_agrees(size_t a_len, CvlLengths lengths) {
-    return lengths.segments <= CVL_MOST_ELEMENTS && a_len <= CVL_MOST_ELEMENTS;
+    return lengths.segments <= CVL_MOST_OF_TEXT && a_len <= CVL_MOST_OF_TEXT;
 }
 
 static inline bool cvl_int_scan_after_meets(const int32_t *a, size_t a_len, int32_t *out, size_t out_len) {

@@ -56,6 +56,7 @@ static inline size_t cvl_room_of(int64_t count) { return count < 0 ? 0 : (size_t
 typedef struct CvlAsked {
     bool known;     /* whether the operator is one of the family */
     bool agree;     /* whether arrays are as long as they have to be, as far as that can be compared */
+    size_t most;    /* the most elements of a vector, and the most that lengths add up to */
     size_t limited; /* how many elements the vector has that may be too long */
     const CvlLengths *lengths[2];
     size_t totals[2]; /* what the lengths have to add up to */

@@ -70,7 +70,7 @@ bool cvl_in_read(const CvlPool *pool, CvlWork *w) {
     if (!cvl_keep(w, (w->a_len + w->parts + 1) / 2 * sizeof(int32_t)) || !cvl_writes(pool, w, read_part)) return 0;
     for (size_t k = 0; k < w->parts; k++) w->other[k + 1] = w->other[k] + w->counts[k];
     const size_t count = w->other[w->parts];
-    if (count > CVL_MOST_ELEMENTS) return 0;
+    if (count > CVL_MOST_OF_TEXT) return 0;
     w->told = count > w->out_len ? cvl_status(CVL_LENGTH_MISMATCH, -1) : cvl_done();
     if (count <= w->out_len && !cvl_writes(pool, w, put_read_part)) return 0;
     *w->count = count;

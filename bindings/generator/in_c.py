@@ -185,7 +185,7 @@ def header(template):
             "descriptors": comment(*spaced(about.DESCRIPTORS)),
             "of_descriptors": declared(about.OF_DESCRIPTORS),
             "statuses": statuses(),
-            "most": f"enum {{ CVL_MOST_ELEMENTS = {table.MOST_ELEMENTS} }};",
+            "most": f"enum {{ CVL_MOST_ELEMENTS = {table.MOST_ELEMENTS}, CVL_MOST_OF_TEXT = {table.MOST_OF_TEXT} }};",
             "operators": operators(),
             "families": sections(rows.FAMILIES.values(), "families", table.OF_FAMILIES),
             "calls": sections(rows.CALLS, "the calls of the table", table.OF_CALLS),
@@ -276,16 +276,21 @@ def name_of(number):
     return next(found.name for found in table.OPERATORS if found.number == number)
 
 
+def most(family):
+    """The name of the most elements of a vector of the family."""
+    return "CVL_MOST_OF_TEXT" if any(operand.kind == "text" for operand in family.operands) else "CVL_MOST_ELEMENTS"
+
+
 def agrees(family):
     """Whether the operator is known, no vector too long, and all as long as can be compared at once, as an expression; or nothing."""
     found = [known(family)] if family.operators else []
     limit = rows.limited(family)
     if limit is not None:
-        found.append(f"{limit.name}_len <= CVL_MOST_ELEMENTS")
+        found.append(f"{limit.name}_len <= {most(family)}")
     first = {}
     lengths = [operand for operand in family.operands if operand.role == "lengths"]
     for k, operand in enumerate(lengths):
-        found.append(f"{operand.name}.segments <= CVL_MOST_ELEMENTS" if k == 0 else f"{operand.name}.segments == {lengths[0].name}.segments")
+        found.append(f"{operand.name}.segments <= {most(family)}" if k == 0 else f"{operand.name}.segments == {lengths[0].name}.segments")
     if lengths:
         first["segments"] = f"{lengths[0].name}.segments"
     for operand in (o for o in family.operands if rows.is_array(o) and o.extent in ("n", "m", "segments", "total")):
@@ -294,7 +299,7 @@ def agrees(family):
         else:
             first[operand.extent] = f"{operand.name}_len"
             if any(o.extent == operand.extent for o in lengths):
-                found.append(f"{operand.name}_len <= CVL_MOST_ELEMENTS")
+                found.append(f"{operand.name}_len <= {most(family)}")
     if any(operand.extent == "count" for operand in family.operands):
         found.append("count >= 0 && count <= CVL_MOST_ELEMENTS && (size_t)count == out_len")
     if any(operand.extent == "range" for operand in family.operands):
@@ -466,6 +471,7 @@ def asked_body(found):
     """Fills in what is asked of a family before memory is."""
     family = found.family
     lines = ["CvlAsked asked;", "memset(&asked, 0, sizeof asked);", f"asked.known = {known(family) or '1'};", f"asked.agree = {found.agrees};"]
+    lines.append(f"asked.most = {most(family)};")
     limit = rows.limited(family)
     if any(operand.extent == "range" for operand in family.operands):
         lines.append("asked.limited = index_len > CVL_MOST_ELEMENTS || lowest > CVL_MOST_ELEMENTS || out_len > CVL_MOST_ELEMENTS - lowest ? SIZE_MAX : 0;")

@@ -14,7 +14,10 @@
 #include <stdio.h>
 #include <sys/mman.h>
 
-enum { SLOT = 1 << 11, MEMORY = (MOST_OPERANDS + 1) * SLOT, FAR_BYTES = 4 * (CVL_MOST_ELEMENTS + 1) + (1 << 14), THREADS = 3 };
+enum { SLOT = 1 << 11, MEMORY = (MOST_OPERANDS + 1) * SLOT, THREADS = 3 };
+
+/* As many bytes as the longest vector of integers has, and some more, which nobody may touch. */
+static const size_t far_bytes = ((size_t)CVL_MOST_ELEMENTS + 1) * 4 + (1 << 14);
 
 static unsigned char memory[MEMORY], wanted[MEMORY], before[MEMORY];
 static unsigned char *far_memory[MOST_OPERANDS];
@@ -114,7 +117,7 @@ static void fill_lengths(int32_t *lengths, size_t segments, size_t total) {
         total -= more;
     }
     if (segments > 0 && chance(10)) lengths[below(segments)] += (int32_t)below(3) - 1;
-    if (segments > 0 && chance(20)) lengths[below(segments)] = chance(2) ? -1 - (int32_t)below(9) : CVL_MOST_ELEMENTS;
+    if (segments > 0 && chance(20)) lengths[below(segments)] = chance(2) ? -1 - (int32_t)below(9) : chance(2) ? CVL_MOST_OF_TEXT : CVL_MOST_ELEMENTS;
 }
 
 /* What an index may be in a segment of a result with so many places: each once, or any. */
@@ -206,7 +209,7 @@ static size_t long_as(char extent, size_t n, size_t m, size_t segments, int64_t 
 }
 
 static void fill_numbers(const Row *row, Given *g, size_t n) {
-    static const int64_t far[] = {-1, (int64_t)1 << 32, ((int64_t)1 << 32) + 1, INT64_MIN, INT64_MAX, CVL_MOST_ELEMENTS + 1, (int64_t)1 << 31};
+    static const int64_t far[] = {-1, (int64_t)1 << 32, ((int64_t)1 << 32) + 1, INT64_MIN, INT64_MAX, (int64_t)CVL_MOST_ELEMENTS + 1, (int64_t)1 << 31};
     for (size_t k = 0; k < count_of(row); k++) {
         const char role = role_of(row, k), kind = kind_of(row, k);
         if (role == 'v') g->number[k] = kind == 'f' ? (int64_t)below(2) : kind == 'q' ? any_int() * (chance(3) ? (int64_t)5 : 1) : kind == 'z' ? (int64_t)below(n + 2) : any_int();
@@ -365,7 +368,7 @@ static void too_long(const Row *row) {
         while (reading(row, &g).number != CVL_DONE);
         for (size_t k = 0; k < count; k++) {
             if (!is_array(row, k) || role_of(row, k) == 'l' || extent_of(row, k) != extent_of(row, (size_t)row->limited)) continue;
-            g.at[k] = far_memory[k], g.len[k] = CVL_MOST_ELEMENTS + 1;
+            g.at[k] = far_memory[k], g.len[k] = most_of(row) + 1;
         }
         is_too_long(row, &g, "too long");
     }
@@ -373,10 +376,10 @@ static void too_long(const Row *row) {
         do make_without_fault(row, &g);
         while (reading(row, &g).number != CVL_DONE);
         for (size_t k = 0; k < count; k++) {
-            if (extent_of(row, k) == 's' && role_of(row, k) == 'r') g.at[k] = far_memory[k], g.len[k] = CVL_MOST_ELEMENTS + 1;
+            if (extent_of(row, k) == 's' && role_of(row, k) == 'r') g.at[k] = far_memory[k], g.len[k] = most_of(row) + 1;
         }
-        g.at[lengths] = far_memory[lengths], g.len[lengths] = CVL_MOST_ELEMENTS + 1;
-        if (role_of(row, count - 1) == 'R' && extent_of(row, count - 1) == 's') g.at[count - 1] = far_memory[count - 1], g.len[count - 1] = CVL_MOST_ELEMENTS + 1;
+        g.at[lengths] = far_memory[lengths], g.len[lengths] = most_of(row) + 1;
+        if (role_of(row, count - 1) == 'R' && extent_of(row, count - 1) == 's') g.at[count - 1] = far_memory[count - 1], g.len[count - 1] = most_of(row) + 1;
         is_too_long(row, &g, "too many lengths");
     }
     if (row->in_place[0] == '0' && strchr(row->in_place, '/') == NULL && lengths == count) {
@@ -393,7 +396,7 @@ int main(int words, char **word) {
     memory_at = memory, written_at = wanted, memory_size = MEMORY;
     setvbuf(stdout, NULL, _IONBF, 0);
     for (size_t k = 0; k < MOST_OPERANDS; k++) {
-        far_memory[k] = (unsigned char *)mmap(NULL, FAR_BYTES, PROT_NONE, MAP_PRIVATE | MAP_ANONYMOUS | MAP_NORESERVE, -1, 0);
+        far_memory[k] = (unsigned char *)mmap(NULL, far_bytes, PROT_NONE, MAP_PRIVATE | MAP_ANONYMOUS | MAP_NORESERVE, -1, 0);
         if (far_memory[k] == MAP_FAILED) abort();
     }
     if (cvl_threads_start(THREADS, &threads) != 0) abort();

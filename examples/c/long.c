@@ -2,22 +2,11 @@
  * Calls every function of cvl.h and cvl_parallel.h on vectors of 300,000 elements in 1,500 segments, of which some are empty and one is long, with
  * booleans that are 0 or 1 and with others. No call may have a fault. What it writes is compared with what plain loops make of the
  * same, and the memory that a function of cvl.h asks for with what it needs. It prints what differs, and its status is then 1. `examples/c/run long`
- * builds and runs it under sanitizers. The functions are those of calls.h.
+ * builds and runs it under sanitizers. The functions are those of calls.h, and the loops those of plain.h.
  */
-#include "calls.h"
+#include "plain.h"
 
-#include <stdio.h>
-
-enum { ELEMENTS = 300000, SEGMENTS = 1500, TEXT_ROOM = 3 * ELEMENTS, UNTOUCHED = 77 };
-
-static int32_t lengths[SEGMENTS];
-static size_t starts[SEGMENTS + 1], longest;
-static int failed;
-
-static void fail(const Row *row, const char *why, long long got, long long right) {
-    printf("%s: %s: %lld and not %lld\n", row->name, why, got, right);
-    failed = 1;
-}
+enum { ELEMENTS = 300000, SEGMENTS = 1500 };
 
 /* ---- memory: the linker puts these in the place of malloc and realloc (--wrap) */
 
@@ -38,339 +27,12 @@ void *__wrap_realloc(void *block, size_t size) {
     return __real_realloc(block, size);
 }
 
-/* ---- what the arrays of a call hold, as numbers: a boolean as 0 or 1 */
-
-typedef int32_t Numbers[ELEMENTS];
-
-static Numbers held[MOST_ARRAYS], wanted;
-
-/* Segments with a long one among short ones, every fifth of which is empty, or has one element. */
-static void cut(bool is_filled) {
-    const size_t long_one = SEGMENTS / 2 + 1;
-    longest = ELEMENTS;
-    for (size_t s = 0; s < SEGMENTS; s++) {
-        lengths[s] = s == long_one ? 0 : s % 5 == 0 ? is_filled : (int32_t)(s * 37 % 200 + 1);
-        longest -= (size_t)lengths[s];
-    }
-    lengths[long_one] = (int32_t)longest;
-    for (size_t s = 0; s < SEGMENTS; s++) starts[s + 1] = starts[s] + (size_t)lengths[s];
-}
-
-/* The groups by which a call goes: its segments, or the whole vector. */
-static size_t groups(bool cut_up) { return cut_up ? SEGMENTS : 1; }
-
-static size_t from(bool cut_up, size_t g) { return cut_up ? starts[g] : 0; }
-
-static size_t to(bool cut_up, size_t g) { return cut_up ? starts[g + 1] : ELEMENTS; }
-
-static bool flag_at(size_t k) { return k % 3 != 1; }
-
-static size_t trues_in(size_t start, size_t end) {
-    size_t count = 0;
-    for (size_t k = start; k < end; k++) count += flag_at(k);
-    return count;
-}
-
-/* Another place below so many for each place below them: 7919 is a prime number that divides none of these. */
-static int32_t shuffled(size_t place, size_t places) { return (int32_t)((place * 7919 + 3) % places); }
-
-/* Indices that send each place of the groups to one of the same group, or each with a true flag to one of as many. */
-static void hold_indices(int32_t *numbers, bool cut_up, bool by_flags) {
-    for (size_t g = 0; g < groups(cut_up); g++) {
-        const size_t start = from(cut_up, g), end = to(cut_up, g);
-        const size_t places = by_flags ? trues_in(start, end) : end - start;
-        size_t sent = 0;
-        for (size_t k = start; k < end; k++) numbers[k] = by_flags && !flag_at(k) ? -1 : shuffled(sent++, places);
-    }
-}
-
-/* Holds array j. The last flags of a call say which elements take part; those before it are elements. */
-static void hold(const Row *row, size_t j) {
-    const char letter = row->arrays[j];
-    const bool takes_part = strchr(row->arrays + j + 1, 'f') == NULL;
-    const size_t count = array_of(letter).count < ELEMENTS ? array_of(letter).count : ELEMENTS;
-    for (size_t k = 0; k < count; k++) {
-        switch (letter) {
-        case 'f': held[j][k] = takes_part ? flag_at(k) : k % 5 < 2; break;
-        case 'g': held[j][k] = k % 4 < 3; break;
-        case 'l': held[j][k] = lengths[k]; break;
-        case 'e': held[j][k] = (int32_t)(k % (size_t)lengths[k]); break;
-        default: held[j][k] = (int32_t)((k * 7907 + j) % 31 + 1); /* none divides by 0, shifts too far or adds up to too much */
-        }
-    }
-    if (strchr("xyzw", letter) != NULL) hold_indices(held[j], letter == 'y' || letter == 'w', letter == 'z' || letter == 'w');
-}
-
-/* ---- texts */
-
-static char text[TEXT_ROOM + 1];
-
-/* The text of a vector, or of the segments of one. */
-static size_t write_text(const int32_t *numbers, bool are_flags, bool cut_up) {
-    size_t length = 0;
-    if (cut_up) text[length++] = '[';
-    for (size_t g = 0; g < groups(cut_up); g++) {
-        if (g > 0) text[length++] = ' ';
-        text[length++] = '[';
-        for (size_t k = from(cut_up, g); k < to(cut_up, g); k++) {
-            if (k > from(cut_up, g)) text[length++] = ' ';
-            if (are_flags) {
-                text[length++] = numbers[k] ? 'T' : 'F';
-            } else {
-                length += (size_t)sprintf(text + length, "%d", (int)numbers[k]);
-            }
-        }
-        text[length++] = ']';
-    }
-    if (cut_up) text[length++] = ']';
-    return length;
-}
-
-/* ---- the calls, as plain loops: each answers how many elements there are */
-
-static bool begins(const char *name, const char *with) { return strncmp(name, with, strlen(with)) == 0; }
-
-static const char *const operators[] = {"add", "mul", "min", "max", "and", "ior", "xor", "sub", "div", "mod", "lsh", "rsh",
-                                        "grt", "les", "geq", "leq", "eql", "neq", "not", "cpy", "tot", "int", "boo"};
-
-enum { TOT = CVL_CPY + 1, INT, BOO };
-
-static uint32_t operator_of(const char *call) {
-    uint32_t op = 0;
-    while (!begins(call, operators[op])) op++;
-    return op;
-}
-
-static int32_t joined(uint32_t op, int32_t a, int32_t b) {
-    switch (op) {
-    case TOT:
-    case CVL_ADD: return (int32_t)((uint32_t)a + (uint32_t)b);
-    case CVL_MUL: return (int32_t)((uint32_t)a * (uint32_t)b);
-    case CVL_MIN: return a < b ? a : b;
-    case CVL_MAX: return a > b ? a : b;
-    case CVL_AND: return a & b;
-    case CVL_IOR: return a | b;
-    case CVL_XOR: return a ^ b;
-    case CVL_SUB: return (int32_t)((uint32_t)a - (uint32_t)b);
-    case CVL_DIV: return a / b;
-    case CVL_MOD: return a % b;
-    case CVL_LSH: return (int32_t)((uint32_t)a << b);
-    case CVL_RSH: return a >> b;
-    case CVL_GRT: return a > b;
-    case CVL_LES: return a < b;
-    case CVL_GEQ: return a >= b;
-    case CVL_LEQ: return a <= b;
-    case CVL_EQL: return a == b;
-    default: return a != b;
-    }
-}
-
-/* What an operator joins nothing to. */
-static int32_t unit_of(uint32_t op, bool is_bool) {
-    switch (op) {
-    case CVL_MUL: return 1;
-    case CVL_MIN: return INT32_MAX;
-    case CVL_MAX: return INT32_MIN;
-    case CVL_AND: return is_bool ? 1 : -1;
-    default: return 0;
-    }
-}
-
-static bool is_bool(const char *call) { return call[6] == 'b'; }
-
-static bool by_segments(const char *call) { return call[5] != 'u'; }
-
-static size_t place_by_place(const char *call) {
-    const uint32_t op = operator_of(call);
-    for (size_t k = 0; k < ELEMENTS; k++) {
-        const int32_t a = held[0][k];
-        switch (op) {
-        case CVL_NOT: wanted[k] = is_bool(call) ? !a : ~a; break;
-        case CVL_CPY:
-        case INT: wanted[k] = a; break;
-        case BOO: wanted[k] = a != 0; break;
-        default: wanted[k] = joined(op, a, held[1][k]);
-        }
-    }
-    return ELEMENTS;
-}
-
-static size_t chosen(const char *call) {
-    (void)call;
-    for (size_t k = 0; k < ELEMENTS; k++) wanted[k] = held[0][k] ? held[1][k] : held[2][k];
-    return ELEMENTS;
-}
-
-/* What a scan begins with in the place of its unit, where there is such a number. */
-static const int32_t *stands_before;
-
-static size_t scan(const char *call) {
-    const uint32_t op = operator_of(call);
-    for (size_t g = 0; g < groups(by_segments(call)); g++) {
-        int32_t sum = stands_before != NULL ? *stands_before : unit_of(op, is_bool(call));
-        for (size_t k = from(by_segments(call), g); k < to(by_segments(call), g); k++) {
-            wanted[k] = sum;
-            sum = joined(op, sum, held[0][k]);
-        }
-    }
-    return ELEMENTS;
-}
-
-static size_t reduce(const char *call) {
-    const uint32_t op = operator_of(call);
-    for (size_t g = 0; g < groups(by_segments(call)); g++) {
-        wanted[g] = unit_of(op, is_bool(call));
-        for (size_t k = from(by_segments(call), g); k < to(by_segments(call), g); k++) {
-            wanted[g] = joined(op, wanted[g], held[0][k]);
-        }
-    }
-    return groups(by_segments(call));
-}
-
-static size_t count_trues(const char *call) {
-    for (size_t g = 0; g < groups(by_segments(call)); g++) {
-        wanted[g] = (int32_t)trues_in(from(by_segments(call), g), to(by_segments(call), g));
-    }
-    return groups(by_segments(call));
-}
-
-/* The number of array j for a group; a flat call is handed one number. */
-static int32_t given(const char *call, size_t j, size_t g, int32_t flat) { return by_segments(call) ? held[j][g] : flat; }
-
-static int32_t value_of(const char *call, size_t j, size_t g) { return given(call, j, g, is_bool(call) ? 1 : 9); }
-
-static size_t place_of(const char *call, size_t g) { return from(by_segments(call), g) + (size_t)given(call, 1, g, 0); }
-
-static size_t extract(const char *call) {
-    for (size_t g = 0; g < groups(by_segments(call)); g++) wanted[g] = held[0][place_of(call, g)];
-    return groups(by_segments(call));
-}
-
-static size_t replace(const char *call) {
-    memcpy(wanted, held[0], sizeof wanted);
-    for (size_t g = 0; g < groups(by_segments(call)); g++) wanted[place_of(call, g)] = value_of(call, 2, g);
-    return ELEMENTS;
-}
-
-static size_t distribute(const char *call) {
-    for (size_t g = 0; g < groups(by_segments(call)); g++) {
-        for (size_t k = from(by_segments(call), g); k < to(by_segments(call), g); k++) wanted[k] = value_of(call, 0, g);
-    }
-    return ELEMENTS;
-}
-
-static size_t number(const char *call) {
-    for (size_t g = 0; g < groups(by_segments(call)); g++) {
-        int32_t next = given(call, 0, g, 5);
-        for (size_t k = from(by_segments(call), g); k < to(by_segments(call), g); k++) {
-            wanted[k] = next;
-            next += given(call, 1, g, 3);
-        }
-    }
-    return ELEMENTS;
-}
-
-static size_t pack(const char *call) {
-    size_t kept = 0;
-    (void)call;
-    for (size_t k = 0; k < ELEMENTS; k++) {
-        if (held[1][k]) wanted[kept++] = held[0][k];
-    }
-    return kept;
-}
-
-static size_t send(const char *call) {
-    for (size_t g = 0; g < groups(by_segments(call)); g++) {
-        const size_t start = from(by_segments(call), g);
-        for (size_t k = start; k < to(by_segments(call), g); k++) wanted[start + (size_t)held[1][k]] = held[0][k];
-    }
-    return ELEMENTS;
-}
-
-/* Each group of the result has a place for each true flag. */
-static size_t send_flagged(const char *call) {
-    size_t start = 0;
-    for (size_t g = 0; g < groups(by_segments(call)); g++) {
-        for (size_t k = from(by_segments(call), g); k < to(by_segments(call), g); k++) {
-            if (held[2][k]) wanted[start + (size_t)held[1][k]] = held[0][k];
-        }
-        start += trues_in(from(by_segments(call), g), to(by_segments(call), g));
-    }
-    return start;
-}
-
-static size_t gather(const char *call) {
-    for (size_t g = 0; g < groups(by_segments(call)); g++) {
-        const size_t start = from(by_segments(call), g);
-        for (size_t k = start; k < to(by_segments(call), g); k++) wanted[k] = held[0][start + (size_t)held[1][k]];
-    }
-    return ELEMENTS;
-}
-
-static size_t total(const char *call) {
-    (void)call;
-    return ELEMENTS;
-}
-
-/* By how a call's name begins, and by its fifth letter where several begin so. */
-static const struct Reading {
-    const char *begins, *fifth;
-    size_t (*read)(const char *call);
-} readings[] = {
-    {"sel", "w", chosen}, {"sel", "p", send_flagged}, {"smp", "p", send}, {"def", "p", send}, {"bck", "p", gather}, {"pck", "l", pack},
-    {"pck", "f", count_trues}, {"cnt", "l", count_trues}, {"ext", "v", extract}, {"rep", "v", replace}, {"dis", "v", distribute},
-    {"ind", "l", number}, {"mke", "f", total}, {"", "w", place_by_place}, {"", "s", scan}, {"", "r", reduce},
-};
-
-static size_t read_plainly(const char *call) {
-    const struct Reading *reading = readings;
-    while (!begins(call, reading->begins) || call[4] != reading->fifth[0]) reading++;
-    return reading->read(call);
-}
-
-/* The calls that exports make; of one by segments the sister of this one. */
-static const char *const calls_of_exports[][2] = {
-    {"int2", "sub_wuz"}, {"int1", "not_wuz"}, {"compare", "les_wuz"}, {"bool2", "xor_wub"}, {"bool1", "not_wub"},
-    {"int_from_bool", "int_wub"}, {"bool_from_int", "boo_wuz"}, {"select_int", "sel_wuz"}, {"select_bool", "sel_wub"},
-    {"int_scan", "add_suz"}, {"int_reduce", "add_ruz"}, {"bool_scan", "xor_sub"}, {"bool_reduce", "xor_rub"},
-    {"checked_scan", "tot_suz"}, {"checked_reduce", "tot_ruz"}, {"count", "cnt_lub"}, {"extract_int", "ext_vuz"},
-    {"extract_bool", "ext_vub"}, {"replace_int", "rep_vuz"}, {"replace_bool", "rep_vub"},
-    {"distribute_int", "dis_vuz"}, {"distribute_bool", "dis_vub"}, {"index", "ind_luz"},
-    {"make_descriptor", "mke_fov"}, {"total", "mke_fov"}, {"pack_int", "pck_luz"}, {"pack_bool", "pck_lub"},
-    {"packed_lengths", "pck_fov"}, {"permute_int", "smp_puz"}, {"permute_bool", "smp_pub"},
-    {"select_permute_int", "sel_puz"}, {"select_permute_bool", "sel_pub"}, {"default_permute_int", "def_puz"},
-    {"default_permute_bool", "def_pub"}, {"back_permute_int", "bck_puz"}, {"back_permute_bool", "bck_pub"},
-    {"permute_int_range", "smp_puz"}, {"permute_bool_range", "smp_pub"}, {"select_permute_int_range", "sel_puz"},
-    {"select_permute_bool_range", "sel_pub"}, {"int_scan_after", "add_suz"}, {"bool_scan_after", "xor_sub"},
-    {"checked_scan_after", "tot_suz"}, {"exact_sum", "tot_ruz"}, {"read_ints", "cpy_wuz"},
-    {"read_ints_after", "cpy_wuz"}, {"write_ints", "cpy_wuz"}, {"write_bools", "cpy_wub"}, {"new", "mke_fov"},
-    {"free", "mke_fov"},
-};
-
-/* The call that a function makes, into `call`: a call of the table has three letters, a stroke, and three more. */
-static void name_call(const Row *row, char *call) {
-    char plain[64];
-    const char *name = plain + 4;
-    size_t k = 0;
-    bool cut_up = false;
-    strcpy(plain, row->name);
-    if (in_parts(row)) plain[strlen(plain) - 3] = 0;
-    if (strlen(name) == 7 && name[3] == '_') {
-        strcpy(call, name);
-        return;
-    }
-    for (; begins(name, "seg"); cut_up = true) name = strchr(name, '_') + 1;
-    while (strcmp(calls_of_exports[k][0], name) != 0) k++;
-    strcpy(call, calls_of_exports[k][1]);
-    if (cut_up && call[5] == 'u') call[5] = 'e';
-}
-
 /* The starts and the lengths of the segments of each descriptor of a call, which permutes, distributes and indexes make. */
 static size_t descriptors_of(const Row *row, const char *call) {
     size_t count = 0;
     if (!by_segments(call) || (call[4] != 'p' && !begins(call, "dis") && !begins(call, "ind"))) return 0;
     for (const char *letter = row->arrays; *letter != 0; letter++) count += *letter == 'l' || *letter == 'd';
-    return count * SEGMENTS * 2 * sizeof(int32_t);
+    return count * segments * 2 * sizeof(int32_t);
 }
 
 /* How many bytes of memory a call asks for that has no text: its descriptors, and a mark or a sender for each place of a permute, or a
@@ -378,93 +40,22 @@ static size_t descriptors_of(const Row *row, const char *call) {
 static size_t memory_of(const Row *row, const char *call) {
     const size_t item = is_bool(call) ? 1 : sizeof(int32_t), descriptors = descriptors_of(row, call);
     if (strstr(row->name, "_range") != NULL) return 0; /* a part of a permute has the caller's marks */
-    if (begins(call, "smp")) return descriptors + (by_segments(call) ? longest : ELEMENTS);
+    if (begins(call, "smp")) return descriptors + (by_segments(call) ? longest : n);
     if (begins(call, "sel_p")) return descriptors + sizeof(uint32_t) * trues;
-    if (begins(call, "def")) return descriptors + sizeof(uint32_t) * ELEMENTS;
-    if (begins(call, "rep")) return begins(call, "rep_vub") ? 0 : item * ELEMENTS;
-    if (begins(call, "ext_ve") || begins(call, "tot_re")) return item * SEGMENTS;
+    if (begins(call, "def")) return descriptors + sizeof(uint32_t) * n;
+    if (begins(call, "rep")) return begins(call, "rep_vub") ? 0 : item * n;
+    if (begins(call, "ext_ve") || begins(call, "tot_re")) return item * segments;
     return descriptors;
 }
 
 /* ---- each call */
-
-static unsigned char memory[MOST_ARRAYS][ELEMENTS * sizeof(int32_t)];
-
-/* Puts what array j holds where the call finds it. True flags are 1, or any byte but 0. */
-static void put(const Row *row, size_t j, bool odd) {
-    const char letter = row->arrays[j];
-    const Array array = array_of(letter);
-    const CvlSegments descriptor = {lengths, SEGMENTS, true};
-    if (array.is_room) {
-        memset(memory[j], letter == 'h' ? 0 : UNTOUCHED, sizeof memory[j]);
-    } else if (letter == 'd') {
-        memcpy(memory[j], &descriptor, sizeof descriptor);
-    } else if (letter == 't' || letter == 'u') {
-        memcpy(memory[j], letter == 't' ? text + 1 : text, text_length);
-    } else if (array.size == 1) {
-        for (size_t k = 0; k < array.count; k++) memory[j][k] = (unsigned char)(!held[j][k] ? 0 : odd ? k % 255 + 1 : 1);
-    } else {
-        memcpy(memory[j], held[j], array.count * sizeof(int32_t));
-    }
-}
-
-/* What a function tells as a count: the elements or the bytes of the room before it; of a nested text the lists, too. */
-static size_t count_of(const Row *row, size_t j, size_t made, size_t written) {
-    switch (row->arrays[j - 1]) {
-    case 'X': return written;
-    case 'S': return SEGMENTS;
-    default: return made;
-    }
-}
-
-/* The number that an element of a room has to have: of a text its byte, of a word of marks all bits. */
-static int32_t right_at(char letter, bool are_lengths, size_t k) {
-    switch (letter) {
-    case 'K':
-    case 'L': return -1;
-    case 'X': return text[k];
-    case 'S': return are_lengths ? lengths[k] : wanted[k];
-    default: return wanted[k];
-    }
-}
-
-/* Room j holds what is wanted, at its front, and is as it was behind that. */
-static void check_room(const Row *row, size_t j, size_t made, size_t written) {
-    const char letter = row->arrays[j];
-    const Array array = array_of(letter);
-    const bool are_lengths = letter == 'S' && row->arrays[0] == 'u';
-    const unsigned char *at = memory[j];
-    size_t elements = are_lengths ? SEGMENTS : letter == 'X' ? written : made;
-    if (strchr("KLqc", letter) != NULL) elements = array.count;
-    if (letter == 'c') wanted[0] = (int32_t)count_of(row, j, made, written);
-    for (size_t k = 0; k < elements; k++, at += array.size) {
-        int32_t found = *at;
-        if (array.size > 1) memcpy(&found, at, sizeof found);
-        if (found != right_at(letter, are_lengths, k)) {
-            fail(row, "another element", found, right_at(letter, are_lengths, k));
-            return;
-        }
-    }
-    for (const unsigned char *end = memory[j] + bytes_of(letter); at < end; at++) {
-        if (*at != UNTOUCHED) {
-            fail(row, "another byte behind the elements", *at, UNTOUCHED);
-            return;
-        }
-    }
-}
 
 /* Makes the call, where true flags are 1, or any byte but 0. Booleans that are not 0 and 1 may be copied, and texts grow. */
 static void check(const Row *row, bool odd) {
     char call[8];
     void *p[MOST_ARRAYS];
     name_call(row, call);
-    cut(strchr(row->arrays, 'e') != NULL);
-    for (size_t j = 0; j < arrays_of(row); j++) hold(row, j);
-    if (strpbrk(row->arrays, "tu") != NULL) text_length = write_text(held[0], false, by_segments(call)) - (by_segments(call) ? 0 : 2);
-    for (size_t j = 0; j < arrays_of(row); j++) {
-        put(row, j, odd);
-        p[j] = memory[j];
-    }
+    prepare(row, call, odd, p);
     asked = 0;
     const CvlStatus status = row->call(p);
     const size_t needed = odd || in_parts(row) || strpbrk(row->arrays, "tuX") != NULL ? asked : memory_of(row, call);
@@ -473,18 +64,13 @@ static void check(const Row *row, bool odd) {
         return;
     }
     if (asked != needed) fail(row, "other bytes of memory", (long long)asked, (long long)needed);
-    const int32_t before = is_bool(call) ? 1 : 5;
-    stands_before = strstr(row->name, "_scan_after") != NULL ? &before : NULL;
-    const size_t made = read_plainly(call);
-    const size_t written = strchr(row->arrays, 'X') == NULL ? 0 : write_text(wanted, is_bool(call), by_segments(call));
-    for (size_t j = 0; j < arrays_of(row); j++) {
-        if (array_of(row->arrays[j]).is_room && row->arrays[j] != 'h') check_room(row, j, made, written);
-    }
+    compare(row, call);
 }
 
 int main(void) {
     pool = cvl_pool_alone(3);
-    n = ELEMENTS, segments = SEGMENTS, trues = trues_in(0, ELEMENTS), text_room = TEXT_ROOM;
+    n = ELEMENTS, segments = SEGMENTS, trues = trues_in(0, n), text_room = 3 * n;
+    make_arrays(n, segments);
     for (size_t k = 0; k < ROWS; k++) {
         check(&rows[k], false);
         if (strpbrk(rows[k].arrays, "fg") != NULL) check(&rows[k], true);

@@ -10,7 +10,7 @@
 #include <string.h>
 #include <time.h>
 
-enum { MOST = CVL_MOST_ELEMENTS, SHORT = 1000, SHORT_ROUNDS = 20000, LONG_ROUNDS = 40, SEGMENT = 1000, SEGMENTS = MOST / SEGMENT + 1 };
+enum { MOST = 4194304, SHORT = 1000, SHORT_ROUNDS = 20000, LONG_ROUNDS = 40, SEGMENT = 1000, SEGMENTS = MOST / SEGMENT + 1 };
 
 /* `small` has elements whose sums fit, `shifts` numbers from 0 to 31, and `shuffled` each index once, at random for its length. */
 static int32_t a[MOST], b[MOST], small[MOST], shifts[MOST], in_order[MOST], shuffled[MOST], lengths[SEGMENTS], out[MOST];

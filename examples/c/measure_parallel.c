@@ -9,7 +9,7 @@
 #include <stdio.h>
 #include <stdlib.h>
 
-enum { MOST = CVL_MOST_ELEMENTS, ROUNDS = 25, SEGMENT = 1000, SEGMENTS = MOST / SEGMENT + 1 };
+enum { MOST = 4194304, ROUNDS = 25, SEGMENT = 1000, SEGMENTS = MOST / SEGMENT + 1 };
 
 static int32_t a[MOST], b[MOST], small[MOST], in_order[MOST], shuffled[MOST], lengths[SEGMENTS], out[MOST];
 static bool flags[MOST], bools[MOST];

@@ -2,12 +2,14 @@
  * Calls every function of cvl.h on worked values, each fault that its comment names, and each call once without memory. It
  * prints what is not as it should be, and its status is then 1. `examples/c/run test` builds and runs it under sanitizers.
  */
+#define _DEFAULT_SOURCE
 #define CVL_SHORT_NAMES
 #include "cvl.h"
 
 #include <stdio.h>
 #include <stdlib.h>
 #include <string.h>
+#include <sys/mman.h>
 
 enum { ROOM = 8, TEXT_ROOM = 32, UNTOUCHED = 77 };
 
@@ -17,8 +19,10 @@ static size_t total;
 static char bytes[TEXT_ROOM];
 static int32_t lists[ROOM];
 static size_t list_count;
-static int32_t too_many_ints[CVL_MOST_ELEMENTS + 1];
-static bool too_many_bools[CVL_MOST_ELEMENTS + 1];
+
+/* More elements than a vector has, which are 0 where one of them is read, and take no memory. */
+static int32_t *too_many_ints;
+static bool *too_many_bools;
 
 static int failed;
 static int calls;
@@ -250,7 +254,7 @@ static void place_by_place(void) {
 static void place_by_place_faults(void) {
     const int32_t *a = I(1, 2, 3);
     const bool *f = B(true, true, false);
-    const size_t many = CVL_MOST_ELEMENTS + 1;
+    const size_t many = (size_t)CVL_MOST_ELEMENTS + 1;
     FAULT(cvl_int2(CVL_GRT, a, 3, a, 3, ints, 3), CVL_UNKNOWN_CALL, -1);
     FAULT(cvl_int2(CVL_ADD, a, 3, a, 2, ints, 3), CVL_LENGTH_MISMATCH, -1);
     FAULT(cvl_int2(CVL_ADD, a, 3, a, 3, ints, 4), CVL_LENGTH_MISMATCH, -1);
@@ -283,7 +287,7 @@ static void place_by_place_faults(void) {
 static void scans(void) {
     const int32_t *a = I(3, 1, 4);
     const bool *f = B(true, false, true);
-    const size_t many = CVL_MOST_ELEMENTS + 1;
+    const size_t many = (size_t)CVL_MOST_ELEMENTS + 1;
     INTS(add_suz(a, ints, 3), 0, 3, 4);
     INTS(mul_suz(a, ints, 3), 1, 3, 3);
     INTS(min_suz(a, ints, 3), 2147483647, 3, 1);
@@ -321,7 +325,7 @@ static void scans(void) {
 static void scans_in_parts(void) {
     const int32_t *a = I(3, 1, 4);
     const bool *f = B(true, false, true);
-    const size_t many = CVL_MOST_ELEMENTS + 1;
+    const size_t many = (size_t)CVL_MOST_ELEMENTS + 1;
     INTS(cvl_int_scan_after(CVL_ADD, 10, a, 3, ints, 3), 10, 13, 14);
     INTS(cvl_int_scan_after(CVL_ADD, 2147483647, a, 3, ints, 3), 2147483647, -2147483646, -2147483645);
     INTS(cvl_int_scan_after(CVL_MUL, 2, a, 3, ints, 3), 2, 6, 6);
@@ -347,7 +351,7 @@ static void scans_in_parts(void) {
 
 static void parts_of_calls(void) {
     const int32_t *a = I(3, 1, 4);
-    const size_t many = CVL_MOST_ELEMENTS + 1;
+    const size_t many = (size_t)CVL_MOST_ELEMENTS + 1;
     int64_t sum = UNTOUCHED;
     tells("cvl_exact_sum", cvl_exact_sum(too_many_ints, many, &sum), CVL_TOO_LONG, -1);
     if (sum != UNTOUCHED) fail("cvl_exact_sum", "the sum was written");
@@ -394,7 +398,7 @@ static void ranges_of_permutes(void) {
     marked("cvl_permute_int_range", 1, 1);
     INTS(cvl_permute_int_range(source, 3, I(-1, 3, INT32_MIN), 3, 1, ints, 2, marks, 1, &total), UNTOUCHED, UNTOUCHED);
     marked("cvl_permute_int_range", 0, 0);
-    INTS(cvl_permute_int_range(source, 3, I(4194303, 0, -1), 3, most - 1, ints, 1, marks, 1, &total), 5);
+    INTS(cvl_permute_int_range(source, 3, I(CVL_MOST_ELEMENTS - 1, 0, -1), 3, most - 1, ints, 1, marks, 1, &total), 5);
     marked("cvl_permute_int_range", 1, 1);
     COUNTED_BOOLS(cvl_permute_bool_range(p, 3, index, 3, 0, bools, 3, marks, 1, &total), false, true, true);
     BOOLS(cvl_permute_bool_range(p, 3, twice, 3, 0, bools, 3, marks, 1, &total), true, true, true);
@@ -431,7 +435,7 @@ static void pieces_of_texts(void) {
 
 static void checked_sums(void) {
     const int32_t *a = I(3, 1, 4, 1, 5), *lengths = I(2, 0, 3), *high = I(2147483647, 1, -1);
-    const size_t many = CVL_MOST_ELEMENTS + 1;
+    const size_t many = (size_t)CVL_MOST_ELEMENTS + 1;
     INTS(tot_suz(I(3, 1, 4), ints, 3), 0, 3, 4);
     INTS(tot_ruz(high, 3, ints), 2147483647);
     INTS(tot_ruz(a, 0, ints), 0);
@@ -461,16 +465,16 @@ static void elements(void) {
     BOOLS(dis_vub(false, 2, bools), false, false);
     INTS(ind_luz(10, -2, 3, ints), 10, 8, 6);
     INTS(ind_luz(2147483647, 1, 2, ints), 2147483647, INT32_MIN);
-    FAULT(cnt_lub(too_many_bools, CVL_MOST_ELEMENTS + 1, ints), CVL_TOO_LONG, -1);
+    FAULT(cnt_lub(too_many_bools, (size_t)CVL_MOST_ELEMENTS + 1, ints), CVL_TOO_LONG, -1);
     FAULT(ext_vuz(I(4, 5, 6), 3, 3, ints), CVL_INDEX_OUT_OF_RANGE, 0);
     FAULT(ext_vuz(I(4, 5, 6), 3, -1, ints), CVL_INDEX_OUT_OF_RANGE, 0);
     FAULT(ext_vub(f, 0, 0, bools), CVL_INDEX_OUT_OF_RANGE, 0);
     FAULT(rep_vuz(I(1, 2, 3), 3, 9, ints, 3), CVL_INDEX_OUT_OF_RANGE, 0);
     FAULT(rep_vub(f, -1, false, bools, 3), CVL_INDEX_OUT_OF_RANGE, 0);
     FAULT(dis_vuz(7, -1, ints), CVL_NEGATIVE_LENGTH, -1);
-    FAULT(dis_vub(false, CVL_MOST_ELEMENTS + 1, bools), CVL_TOO_LONG, -1);
+    FAULT(dis_vub(false, (int64_t)CVL_MOST_ELEMENTS + 1, bools), CVL_TOO_LONG, -1);
     FAULT(ind_luz(0, 1, INT32_MIN, ints), CVL_NEGATIVE_LENGTH, -1);
-    FAULT(ind_luz(0, 1, CVL_MOST_ELEMENTS + 1, ints), CVL_TOO_LONG, -1);
+    FAULT(ind_luz(0, 1, (int64_t)CVL_MOST_ELEMENTS + 1, ints), CVL_TOO_LONG, -1);
     FAULT(cvl_replace_int(I(1, 2, 3), 3, 1, 9, ints, 4), CVL_LENGTH_MISMATCH, -1);
     FAULT(cvl_replace_bool(f, 3, 1, false, bools, 2), CVL_LENGTH_MISMATCH, -1);
     FAULT(cvl_distribute_int(7, 3, ints, 2), CVL_LENGTH_MISMATCH, -1);
@@ -486,7 +490,7 @@ static void descriptors(void) {
     NO_MEMORY(mke_fov(S(lengths, 3), &total));
     FAULT(mke_fov(S(I(2, -1, -2), 3), &total), CVL_NEGATIVE_LENGTH, 1);
     FAULT(mke_fov(S(I(CVL_MOST_ELEMENTS, 1), 2), &total), CVL_TOO_LONG, -1);
-    FAULT(mke_fov(S(too_many_ints, CVL_MOST_ELEMENTS + 1), &total), CVL_TOO_LONG, -1);
+    FAULT(mke_fov(S(too_many_ints, (size_t)CVL_MOST_ELEMENTS + 1), &total), CVL_TOO_LONG, -1);
 }
 
 static void segments(void) {
@@ -550,7 +554,7 @@ static void segmented_scans(void) {
 static void segmented_scan_faults(void) {
     const int32_t *a = I(3, 1, 4, 1, 5), *lengths = I(2, 0, 3), *below = I(5, -1, -2), *above = I(CVL_MOST_ELEMENTS, 1);
     const bool *f = B(true, false, true, false, true);
-    const size_t many = CVL_MOST_ELEMENTS + 1;
+    const size_t many = (size_t)CVL_MOST_ELEMENTS + 1;
     FAULT(cvl_seg_int_scan(CVL_SUB, a, 5, S(below, 3), ints, 5), CVL_UNKNOWN_CALL, -1);
     FAULT(cvl_seg_int_scan(CVL_ADD, a, 5, S(too_many_ints, many), ints, 5), CVL_TOO_LONG, -1);
     FAULT(cvl_seg_int_scan(CVL_ADD, a, 5, S(below, 3), ints, 4), CVL_NEGATIVE_LENGTH, 1);
@@ -603,7 +607,7 @@ static void packs(void) {
 static void pack_faults(void) {
     const int32_t *values = I(1, 2, 3, 4, 5), *lengths = I(2, 0, 3), *below = I(5, -1, -2), *above = I(CVL_MOST_ELEMENTS, 1);
     const bool *flags = B(false, true, true, false, true);
-    const size_t many = CVL_MOST_ELEMENTS + 1;
+    const size_t many = (size_t)CVL_MOST_ELEMENTS + 1;
     TOO_SHORT(pck_luz(values, flags, 5, ints, 2, &total), 3);
     TOO_SHORT(pck_luz(values, flags, 5, ints, 0, &total), 3);
     TOO_SHORT(pck_lub(flags, flags, 5, bools, 2, &total), 3);
@@ -666,7 +670,7 @@ static void permutes(void) {
 static void permutes_of_wrong_lengths(void) {
     const int32_t *three = I(10, 20, 30), *turn = I(2, 0, 1);
     const bool *f = B(true, true, false);
-    const size_t many = CVL_MOST_ELEMENTS + 1;
+    const size_t many = (size_t)CVL_MOST_ELEMENTS + 1;
     FAULT(cvl_permute_int(three, 3, turn, 2, ints, 2), CVL_LENGTH_MISMATCH, -1);
     FAULT(cvl_permute_int(three, 3, turn, 3, ints, 4), CVL_LENGTH_MISMATCH, -1);
     FAULT(cvl_permute_bool(f, 2, turn, 3, bools, 3), CVL_LENGTH_MISMATCH, -1);
@@ -724,7 +728,7 @@ static void permutes_of_segments(void) {
 static void permutes_of_wrong_segments(void) {
     const int32_t *five = I(1, 2, 3, 4, 5), *lengths = I(2, 0, 3), *turn = I(1, 0, 2, 0, 1), *negative = I(2, 4, -1);
     const bool *flags = B(false, true, true, false, true);
-    const size_t many = CVL_MOST_ELEMENTS + 1;
+    const size_t many = (size_t)CVL_MOST_ELEMENTS + 1;
     FAULT(smp_pez(five, turn, S(negative, 3), ints, 5), CVL_NEGATIVE_LENGTH, 2);
     FAULT(smp_pez(five, turn, S(lengths, 2), ints, 5), CVL_LENGTH_MISMATCH, -1);
     FAULT(smp_peb(flags, turn, S(I(2, 1, 3), 3), bools, 5), CVL_LENGTH_MISMATCH, -1);
@@ -761,12 +765,12 @@ static void permutes_of_wrong_segments(void) {
 /* The integers of a text. */
 static CvlStatus read_ints(const char *text, size_t room) { return cvl_read_ints(text, strlen(text), ints, room, &total); }
 
-static char many_words[2 * (CVL_MOST_ELEMENTS + 1)];
+static char many_words[2 * (CVL_MOST_OF_TEXT + 1)];
 
 static void texts(void) {
     const int32_t *a = I(0, -3, 4);
     const bool *f = B(true, false);
-    const size_t most = CVL_MOST_ELEMENTS, many = CVL_MOST_ELEMENTS + 1;
+    const size_t most = CVL_MOST_OF_TEXT, many = CVL_MOST_OF_TEXT + 1;
     FRONT_INTS(read_ints("5 -1\n007 -0", ROOM), 5, -1, 7, 0);
     FRONT_INTS(read_ints("\t-2147483648\r\n2147483647 ", 2), INT32_MIN, 2147483647);
     FRONT_INTS(cvl_read_ints("12345", 3, ints, ROOM, &total), 123);
@@ -782,7 +786,7 @@ static void texts(void) {
     for (size_t k = 0; k < most; k++) many_words[2 * k] = '7';
     TOO_SHORT(cvl_read_ints(many_words, 2 * most, ints, ROOM, &total), most);
     many_words[2 * most - 1] = 'x';
-    FAULT(cvl_read_ints(many_words, 2 * most, ints, ROOM, &total), CVL_BAD_INPUT, CVL_MOST_ELEMENTS - 1);
+    FAULT(cvl_read_ints(many_words, 2 * most, ints, ROOM, &total), CVL_BAD_INPUT, CVL_MOST_OF_TEXT - 1);
     many_words[2 * most] = '7';
     many_words[2 * most - 1] = ' ';
     many_words[0] = 'x';
@@ -936,7 +940,7 @@ static void made_descriptors(void) {
     FAULT(cvl_segments_new(S(lengths, 3), &made), CVL_TOO_LONG, -1);
     without_a_descriptor(&made);
     FAULT(cvl_segments_new(S(I(1, -1), 2), &made), CVL_NEGATIVE_LENGTH, 1);
-    FAULT(cvl_segments_new(S(too_many_ints, CVL_MOST_ELEMENTS + 1), &made), CVL_TOO_LONG, -1);
+    FAULT(cvl_segments_new(S(too_many_ints, (size_t)CVL_MOST_ELEMENTS + 1), &made), CVL_TOO_LONG, -1);
     without_one_of_two(&made, &wide);
     without_one_of_two(&wide, &made);
     without_one_of_two(&wide, NULL);
@@ -991,7 +995,7 @@ static void nest_fault(const char *text, int64_t place) {
 static void nested_texts(void) {
     const int32_t *a = I(5, 1, 7), *lengths = I(0, 2, 1);
     const bool *f = B(true, false);
-    const size_t many = CVL_MOST_ELEMENTS + 1;
+    const size_t many = (size_t)CVL_MOST_OF_TEXT + 1;
     reads_nest("[[1 2] [] [3]]", I(1, 2, 3), 3, I(2, 0, 1), 3);
     reads_nest("[[5][1]]", I(5, 1), 2, I(1, 1), 2);
     reads_nest(" [[-2147483648\n2147483647]\t] ", I(INT32_MIN, 2147483647), 2, I(2), 1);
@@ -1023,14 +1027,14 @@ static void nested_texts(void) {
     FAULT(cvl_seg_write_ints(a, 3, S(I(4, -1), 2), bytes, TEXT_ROOM, &total), CVL_NEGATIVE_LENGTH, 1);
     FAULT(cvl_seg_write_ints(a, 3, S(too_many_ints, many), bytes, TEXT_ROOM, &total), CVL_TOO_LONG, -1);
     FAULT(cvl_seg_write_bools(f, 2, S(I(2, -2), 2), bytes, TEXT_ROOM, &total), CVL_NEGATIVE_LENGTH, 1);
-    FAULT(cvl_seg_write_bools(too_many_bools, many, S(I(CVL_MOST_ELEMENTS, 1), 2), bytes, TEXT_ROOM, &total), CVL_TOO_LONG, -1);
+    FAULT(cvl_seg_write_bools(too_many_bools, many, S(I(CVL_MOST_OF_TEXT, 1), 2), bytes, TEXT_ROOM, &total), CVL_TOO_LONG, -1);
 }
 
 /*
- * Each call that takes memory once more, at the greatest length, and over a million segments, beyond each length at which its
+ * Each call that takes memory once more, on 4,194,304 elements, the most of a text, and over a million segments, beyond each length at which its
  * body changes its way. A row says for each place of the result where its element stands; the call is read against that.
  */
-enum { MOST = CVL_MOST_ELEMENTS, LONG_SEGMENT = 5000, SHORTER_SEGMENT = 40, LONG_TEXT = 16 * MOST };
+enum { MOST = CVL_MOST_OF_TEXT, LONG_SEGMENT = 5000, SHORTER_SEGMENT = 40, LONG_TEXT = 16 * MOST };
 
 static int32_t long_ints[MOST], other_ints[MOST], int_room[MOST];
 static bool long_bools[MOST], other_bools[MOST], bool_room[MOST], taking_part[MOST];
@@ -1349,6 +1353,10 @@ static void copied_booleans(void) {
 }
 
 int main(void) {
+    const size_t far_bytes = ((size_t)CVL_MOST_ELEMENTS + 1) * sizeof *too_many_ints;
+    too_many_ints = (int32_t *)mmap(NULL, far_bytes, PROT_READ, MAP_PRIVATE | MAP_ANONYMOUS | MAP_NORESERVE, -1, 0);
+    if (too_many_ints == MAP_FAILED) abort();
+    too_many_bools = (bool *)too_many_ints;
     place_by_place();
     place_by_place_faults();
     scans();
