@@ -1900,211 +1900,263 @@ CvlStatus cvl_read_ints_after(size_t before, const char *text, size_t text_len, 
 }
 
 CvlStatus cvl_add_wuz(const int32_t *a, const int32_t *b, int32_t *out, size_t n) {
-    return cvl_int2(CVL_ADD, a, n, b, n, out, n);
+    if (n < CVL_LEAST_SHARED) return cvl_int2_alone(CVL_ADD, a, n, b, n, out, n);
+    return cvl_int2_shared(CVL_ADD, a, n, b, n, out, n);
 }
 
 CvlStatus cvl_mul_wuz(const int32_t *a, const int32_t *b, int32_t *out, size_t n) {
-    return cvl_int2(CVL_MUL, a, n, b, n, out, n);
+    if (n < CVL_LEAST_SHARED) return cvl_int2_alone(CVL_MUL, a, n, b, n, out, n);
+    return cvl_int2_shared(CVL_MUL, a, n, b, n, out, n);
 }
 
 CvlStatus cvl_min_wuz(const int32_t *a, const int32_t *b, int32_t *out, size_t n) {
-    return cvl_int2(CVL_MIN, a, n, b, n, out, n);
+    if (n < CVL_LEAST_SHARED) return cvl_int2_alone(CVL_MIN, a, n, b, n, out, n);
+    return cvl_int2_shared(CVL_MIN, a, n, b, n, out, n);
 }
 
 CvlStatus cvl_max_wuz(const int32_t *a, const int32_t *b, int32_t *out, size_t n) {
-    return cvl_int2(CVL_MAX, a, n, b, n, out, n);
+    if (n < CVL_LEAST_SHARED) return cvl_int2_alone(CVL_MAX, a, n, b, n, out, n);
+    return cvl_int2_shared(CVL_MAX, a, n, b, n, out, n);
 }
 
 CvlStatus cvl_and_wuz(const int32_t *a, const int32_t *b, int32_t *out, size_t n) {
-    return cvl_int2(CVL_AND, a, n, b, n, out, n);
+    if (n < CVL_LEAST_SHARED) return cvl_int2_alone(CVL_AND, a, n, b, n, out, n);
+    return cvl_int2_shared(CVL_AND, a, n, b, n, out, n);
 }
 
 CvlStatus cvl_ior_wuz(const int32_t *a, const int32_t *b, int32_t *out, size_t n) {
-    return cvl_int2(CVL_IOR, a, n, b, n, out, n);
+    if (n < CVL_LEAST_SHARED) return cvl_int2_alone(CVL_IOR, a, n, b, n, out, n);
+    return cvl_int2_shared(CVL_IOR, a, n, b, n, out, n);
 }
 
 CvlStatus cvl_xor_wuz(const int32_t *a, const int32_t *b, int32_t *out, size_t n) {
-    return cvl_int2(CVL_XOR, a, n, b, n, out, n);
+    if (n < CVL_LEAST_SHARED) return cvl_int2_alone(CVL_XOR, a, n, b, n, out, n);
+    return cvl_int2_shared(CVL_XOR, a, n, b, n, out, n);
 }
 
 CvlStatus cvl_sub_wuz(const int32_t *a, const int32_t *b, int32_t *out, size_t n) {
-    return cvl_int2(CVL_SUB, a, n, b, n, out, n);
+    if (n < CVL_LEAST_SHARED) return cvl_int2_alone(CVL_SUB, a, n, b, n, out, n);
+    return cvl_int2_shared(CVL_SUB, a, n, b, n, out, n);
 }
 
 CvlStatus cvl_div_wuz(const int32_t *a, const int32_t *b, int32_t *out, size_t n) {
-    return cvl_int2(CVL_DIV, a, n, b, n, out, n);
+    if (n < CVL_LEAST_SHARED) return cvl_int2_alone(CVL_DIV, a, n, b, n, out, n);
+    return cvl_int2_shared(CVL_DIV, a, n, b, n, out, n);
 }
 
 CvlStatus cvl_mod_wuz(const int32_t *a, const int32_t *b, int32_t *out, size_t n) {
-    return cvl_int2(CVL_MOD, a, n, b, n, out, n);
+    if (n < CVL_LEAST_SHARED) return cvl_int2_alone(CVL_MOD, a, n, b, n, out, n);
+    return cvl_int2_shared(CVL_MOD, a, n, b, n, out, n);
 }
 
 CvlStatus cvl_lsh_wuz(const int32_t *a, const int32_t *b, int32_t *out, size_t n) {
-    return cvl_int2(CVL_LSH, a, n, b, n, out, n);
+    if (n < CVL_LEAST_SHARED) return cvl_int2_alone(CVL_LSH, a, n, b, n, out, n);
+    return cvl_int2_shared(CVL_LSH, a, n, b, n, out, n);
 }
 
 CvlStatus cvl_rsh_wuz(const int32_t *a, const int32_t *b, int32_t *out, size_t n) {
-    return cvl_int2(CVL_RSH, a, n, b, n, out, n);
+    if (n < CVL_LEAST_SHARED) return cvl_int2_alone(CVL_RSH, a, n, b, n, out, n);
+    return cvl_int2_shared(CVL_RSH, a, n, b, n, out, n);
 }
 
 CvlStatus cvl_not_wuz(const int32_t *a, int32_t *out, size_t n) {
-    return cvl_int1(CVL_NOT, a, n, out, n);
+    if (n < CVL_LEAST_SHARED) return cvl_int1_alone(CVL_NOT, a, n, out, n);
+    return cvl_int1_shared(CVL_NOT, a, n, out, n);
 }
 
 CvlStatus cvl_not_wub(const bool *a, bool *out, size_t n) {
-    return cvl_bool1(CVL_NOT, a, n, out, n);
+    if (n < CVL_LEAST_SHARED) return cvl_bool1_alone(CVL_NOT, a, n, out, n);
+    return cvl_bool1_shared(CVL_NOT, a, n, out, n);
 }
 
 CvlStatus cvl_cpy_wuz(const int32_t *a, int32_t *out, size_t n) {
-    return cvl_int1(CVL_CPY, a, n, out, n);
+    if (n < CVL_LEAST_SHARED) return cvl_int1_alone(CVL_CPY, a, n, out, n);
+    return cvl_int1_shared(CVL_CPY, a, n, out, n);
 }
 
 CvlStatus cvl_cpy_wub(const bool *a, bool *out, size_t n) {
-    return cvl_bool1(CVL_CPY, a, n, out, n);
+    if (n < CVL_LEAST_SHARED) return cvl_bool1_alone(CVL_CPY, a, n, out, n);
+    return cvl_bool1_shared(CVL_CPY, a, n, out, n);
 }
 
 CvlStatus cvl_grt_wuz(const int32_t *a, const int32_t *b, bool *out, size_t n) {
-    return cvl_compare(CVL_GRT, a, n, b, n, out, n);
+    if (n < CVL_LEAST_SHARED) return cvl_compare_alone(CVL_GRT, a, n, b, n, out, n);
+    return cvl_compare_shared(CVL_GRT, a, n, b, n, out, n);
 }
 
 CvlStatus cvl_les_wuz(const int32_t *a, const int32_t *b, bool *out, size_t n) {
-    return cvl_compare(CVL_LES, a, n, b, n, out, n);
+    if (n < CVL_LEAST_SHARED) return cvl_compare_alone(CVL_LES, a, n, b, n, out, n);
+    return cvl_compare_shared(CVL_LES, a, n, b, n, out, n);
 }
 
 CvlStatus cvl_geq_wuz(const int32_t *a, const int32_t *b, bool *out, size_t n) {
-    return cvl_compare(CVL_GEQ, a, n, b, n, out, n);
+    if (n < CVL_LEAST_SHARED) return cvl_compare_alone(CVL_GEQ, a, n, b, n, out, n);
+    return cvl_compare_shared(CVL_GEQ, a, n, b, n, out, n);
 }
 
 CvlStatus cvl_leq_wuz(const int32_t *a, const int32_t *b, bool *out, size_t n) {
-    return cvl_compare(CVL_LEQ, a, n, b, n, out, n);
+    if (n < CVL_LEAST_SHARED) return cvl_compare_alone(CVL_LEQ, a, n, b, n, out, n);
+    return cvl_compare_shared(CVL_LEQ, a, n, b, n, out, n);
 }
 
 CvlStatus cvl_eql_wuz(const int32_t *a, const int32_t *b, bool *out, size_t n) {
-    return cvl_compare(CVL_EQL, a, n, b, n, out, n);
+    if (n < CVL_LEAST_SHARED) return cvl_compare_alone(CVL_EQL, a, n, b, n, out, n);
+    return cvl_compare_shared(CVL_EQL, a, n, b, n, out, n);
 }
 
 CvlStatus cvl_neq_wuz(const int32_t *a, const int32_t *b, bool *out, size_t n) {
-    return cvl_compare(CVL_NEQ, a, n, b, n, out, n);
+    if (n < CVL_LEAST_SHARED) return cvl_compare_alone(CVL_NEQ, a, n, b, n, out, n);
+    return cvl_compare_shared(CVL_NEQ, a, n, b, n, out, n);
 }
 
 CvlStatus cvl_and_wub(const bool *a, const bool *b, bool *out, size_t n) {
-    return cvl_bool2(CVL_AND, a, n, b, n, out, n);
+    if (n < CVL_LEAST_SHARED) return cvl_bool2_alone(CVL_AND, a, n, b, n, out, n);
+    return cvl_bool2_shared(CVL_AND, a, n, b, n, out, n);
 }
 
 CvlStatus cvl_ior_wub(const bool *a, const bool *b, bool *out, size_t n) {
-    return cvl_bool2(CVL_IOR, a, n, b, n, out, n);
+    if (n < CVL_LEAST_SHARED) return cvl_bool2_alone(CVL_IOR, a, n, b, n, out, n);
+    return cvl_bool2_shared(CVL_IOR, a, n, b, n, out, n);
 }
 
 CvlStatus cvl_xor_wub(const bool *a, const bool *b, bool *out, size_t n) {
-    return cvl_bool2(CVL_XOR, a, n, b, n, out, n);
+    if (n < CVL_LEAST_SHARED) return cvl_bool2_alone(CVL_XOR, a, n, b, n, out, n);
+    return cvl_bool2_shared(CVL_XOR, a, n, b, n, out, n);
 }
 
 CvlStatus cvl_sel_wuz(const bool *flags, const int32_t *a, const int32_t *b, int32_t *out, size_t n) {
-    return cvl_select_int(flags, n, a, n, b, n, out, n);
+    if (n < CVL_LEAST_SHARED) return cvl_select_int_alone(flags, n, a, n, b, n, out, n);
+    return cvl_select_int_shared(flags, n, a, n, b, n, out, n);
 }
 
 CvlStatus cvl_sel_wub(const bool *flags, const bool *a, const bool *b, bool *out, size_t n) {
-    return cvl_select_bool(flags, n, a, n, b, n, out, n);
+    if (n < CVL_LEAST_SHARED) return cvl_select_bool_alone(flags, n, a, n, b, n, out, n);
+    return cvl_select_bool_shared(flags, n, a, n, b, n, out, n);
 }
 
 CvlStatus cvl_int_wub(const bool *a, int32_t *out, size_t n) {
-    return cvl_int_from_bool(a, n, out, n);
+    if (n < CVL_LEAST_SHARED) return cvl_int_from_bool_alone(a, n, out, n);
+    return cvl_int_from_bool_shared(a, n, out, n);
 }
 
 CvlStatus cvl_boo_wuz(const int32_t *a, bool *out, size_t n) {
-    return cvl_bool_from_int(a, n, out, n);
+    if (n < CVL_LEAST_SHARED) return cvl_bool_from_int_alone(a, n, out, n);
+    return cvl_bool_from_int_shared(a, n, out, n);
 }
 
 CvlStatus cvl_add_suz(const int32_t *a, int32_t *out, size_t n) {
-    return cvl_int_scan(CVL_ADD, a, n, out, n);
+    if (n < CVL_LEAST_SHARED) return cvl_int_scan_alone(CVL_ADD, a, n, out, n);
+    return cvl_int_scan_shared(CVL_ADD, a, n, out, n);
 }
 
 CvlStatus cvl_add_ruz(const int32_t *a, size_t n, int32_t *out) {
-    return cvl_int_reduce(CVL_ADD, a, n, out);
+    if (n < CVL_LEAST_SHARED) return cvl_int_reduce_alone(CVL_ADD, a, n, out);
+    return cvl_int_reduce_shared(CVL_ADD, a, n, out);
 }
 
 CvlStatus cvl_mul_suz(const int32_t *a, int32_t *out, size_t n) {
-    return cvl_int_scan(CVL_MUL, a, n, out, n);
+    if (n < CVL_LEAST_SHARED) return cvl_int_scan_alone(CVL_MUL, a, n, out, n);
+    return cvl_int_scan_shared(CVL_MUL, a, n, out, n);
 }
 
 CvlStatus cvl_mul_ruz(const int32_t *a, size_t n, int32_t *out) {
-    return cvl_int_reduce(CVL_MUL, a, n, out);
+    if (n < CVL_LEAST_SHARED) return cvl_int_reduce_alone(CVL_MUL, a, n, out);
+    return cvl_int_reduce_shared(CVL_MUL, a, n, out);
 }
 
 CvlStatus cvl_min_suz(const int32_t *a, int32_t *out, size_t n) {
-    return cvl_int_scan(CVL_MIN, a, n, out, n);
+    if (n < CVL_LEAST_SHARED) return cvl_int_scan_alone(CVL_MIN, a, n, out, n);
+    return cvl_int_scan_shared(CVL_MIN, a, n, out, n);
 }
 
 CvlStatus cvl_min_ruz(const int32_t *a, size_t n, int32_t *out) {
-    return cvl_int_reduce(CVL_MIN, a, n, out);
+    if (n < CVL_LEAST_SHARED) return cvl_int_reduce_alone(CVL_MIN, a, n, out);
+    return cvl_int_reduce_shared(CVL_MIN, a, n, out);
 }
 
 CvlStatus cvl_max_suz(const int32_t *a, int32_t *out, size_t n) {
-    return cvl_int_scan(CVL_MAX, a, n, out, n);
+    if (n < CVL_LEAST_SHARED) return cvl_int_scan_alone(CVL_MAX, a, n, out, n);
+    return cvl_int_scan_shared(CVL_MAX, a, n, out, n);
 }
 
 CvlStatus cvl_max_ruz(const int32_t *a, size_t n, int32_t *out) {
-    return cvl_int_reduce(CVL_MAX, a, n, out);
+    if (n < CVL_LEAST_SHARED) return cvl_int_reduce_alone(CVL_MAX, a, n, out);
+    return cvl_int_reduce_shared(CVL_MAX, a, n, out);
 }
 
 CvlStatus cvl_and_suz(const int32_t *a, int32_t *out, size_t n) {
-    return cvl_int_scan(CVL_AND, a, n, out, n);
+    if (n < CVL_LEAST_SHARED) return cvl_int_scan_alone(CVL_AND, a, n, out, n);
+    return cvl_int_scan_shared(CVL_AND, a, n, out, n);
 }
 
 CvlStatus cvl_and_ruz(const int32_t *a, size_t n, int32_t *out) {
-    return cvl_int_reduce(CVL_AND, a, n, out);
+    if (n < CVL_LEAST_SHARED) return cvl_int_reduce_alone(CVL_AND, a, n, out);
+    return cvl_int_reduce_shared(CVL_AND, a, n, out);
 }
 
 CvlStatus cvl_ior_suz(const int32_t *a, int32_t *out, size_t n) {
-    return cvl_int_scan(CVL_IOR, a, n, out, n);
+    if (n < CVL_LEAST_SHARED) return cvl_int_scan_alone(CVL_IOR, a, n, out, n);
+    return cvl_int_scan_shared(CVL_IOR, a, n, out, n);
 }
 
 CvlStatus cvl_ior_ruz(const int32_t *a, size_t n, int32_t *out) {
-    return cvl_int_reduce(CVL_IOR, a, n, out);
+    if (n < CVL_LEAST_SHARED) return cvl_int_reduce_alone(CVL_IOR, a, n, out);
+    return cvl_int_reduce_shared(CVL_IOR, a, n, out);
 }
 
 CvlStatus cvl_xor_suz(const int32_t *a, int32_t *out, size_t n) {
-    return cvl_int_scan(CVL_XOR, a, n, out, n);
+    if (n < CVL_LEAST_SHARED) return cvl_int_scan_alone(CVL_XOR, a, n, out, n);
+    return cvl_int_scan_shared(CVL_XOR, a, n, out, n);
 }
 
 CvlStatus cvl_xor_ruz(const int32_t *a, size_t n, int32_t *out) {
-    return cvl_int_reduce(CVL_XOR, a, n, out);
+    if (n < CVL_LEAST_SHARED) return cvl_int_reduce_alone(CVL_XOR, a, n, out);
+    return cvl_int_reduce_shared(CVL_XOR, a, n, out);
 }
 
 CvlStatus cvl_and_sub(const bool *a, bool *out, size_t n) {
-    return cvl_bool_scan(CVL_AND, a, n, out, n);
+    if (n < CVL_LEAST_SHARED) return cvl_bool_scan_alone(CVL_AND, a, n, out, n);
+    return cvl_bool_scan_shared(CVL_AND, a, n, out, n);
 }
 
 CvlStatus cvl_and_rub(const bool *a, size_t n, bool *out) {
-    return cvl_bool_reduce(CVL_AND, a, n, out);
+    if (n < CVL_LEAST_SHARED) return cvl_bool_reduce_alone(CVL_AND, a, n, out);
+    return cvl_bool_reduce_shared(CVL_AND, a, n, out);
 }
 
 CvlStatus cvl_ior_sub(const bool *a, bool *out, size_t n) {
-    return cvl_bool_scan(CVL_IOR, a, n, out, n);
+    if (n < CVL_LEAST_SHARED) return cvl_bool_scan_alone(CVL_IOR, a, n, out, n);
+    return cvl_bool_scan_shared(CVL_IOR, a, n, out, n);
 }
 
 CvlStatus cvl_ior_rub(const bool *a, size_t n, bool *out) {
-    return cvl_bool_reduce(CVL_IOR, a, n, out);
+    if (n < CVL_LEAST_SHARED) return cvl_bool_reduce_alone(CVL_IOR, a, n, out);
+    return cvl_bool_reduce_shared(CVL_IOR, a, n, out);
 }
 
 CvlStatus cvl_xor_sub(const bool *a, bool *out, size_t n) {
-    return cvl_bool_scan(CVL_XOR, a, n, out, n);
+    if (n < CVL_LEAST_SHARED) return cvl_bool_scan_alone(CVL_XOR, a, n, out, n);
+    return cvl_bool_scan_shared(CVL_XOR, a, n, out, n);
 }
 
 CvlStatus cvl_xor_rub(const bool *a, size_t n, bool *out) {
-    return cvl_bool_reduce(CVL_XOR, a, n, out);
+    if (n < CVL_LEAST_SHARED) return cvl_bool_reduce_alone(CVL_XOR, a, n, out);
+    return cvl_bool_reduce_shared(CVL_XOR, a, n, out);
 }
 
 CvlStatus cvl_tot_suz(const int32_t *a, int32_t *out, size_t n) {
-    return cvl_checked_scan(a, n, out, n);
+    if (n < CVL_LEAST_SHARED) return cvl_checked_scan_alone(a, n, out, n);
+    return cvl_checked_scan_shared(a, n, out, n);
 }
 
 CvlStatus cvl_tot_ruz(const int32_t *a, size_t n, int32_t *out) {
-    return cvl_checked_reduce(a, n, out);
+    if (n < CVL_LEAST_SHARED) return cvl_checked_reduce_alone(a, n, out);
+    return cvl_checked_reduce_shared(a, n, out);
 }
 
 CvlStatus cvl_cnt_lub(const bool *flags, size_t n, int32_t *out) {
-    return cvl_count(flags, n, out);
+    if (n < CVL_LEAST_SHARED) return cvl_count_alone(flags, n, out);
+    return cvl_count_shared(flags, n, out);
 }
 
 CvlStatus cvl_ext_vuz(const int32_t *vector, size_t n, int64_t index, int32_t *out) {
@@ -2116,240 +2168,309 @@ CvlStatus cvl_ext_vub(const bool *vector, size_t n, int64_t index, bool *out) {
 }
 
 CvlStatus cvl_rep_vuz(const int32_t *vector, int64_t index, int32_t value, int32_t *out, size_t n) {
-    return cvl_replace_int(vector, n, index, value, out, n);
+    if (n < CVL_LEAST_SHARED) return cvl_replace_int_alone(vector, n, index, value, out, n);
+    return cvl_replace_int_shared(vector, n, index, value, out, n);
 }
 
 CvlStatus cvl_rep_vub(const bool *vector, int64_t index, bool value, bool *out, size_t n) {
-    return cvl_replace_bool(vector, n, index, value, out, n);
+    if (n < CVL_LEAST_SHARED) return cvl_replace_bool_alone(vector, n, index, value, out, n);
+    return cvl_replace_bool_shared(vector, n, index, value, out, n);
 }
 
 CvlStatus cvl_dis_vuz(int32_t value, int64_t count, int32_t *out) {
-    return cvl_distribute_int(value, count, out, cvl_room_of(count));
+    if (cvl_room_of(count) < CVL_LEAST_SHARED) return cvl_distribute_int_alone(value, count, out, cvl_room_of(count));
+    return cvl_distribute_int_shared(value, count, out, cvl_room_of(count));
 }
 
 CvlStatus cvl_dis_vub(bool value, int64_t count, bool *out) {
-    return cvl_distribute_bool(value, count, out, cvl_room_of(count));
+    if (cvl_room_of(count) < CVL_LEAST_SHARED) return cvl_distribute_bool_alone(value, count, out, cvl_room_of(count));
+    return cvl_distribute_bool_shared(value, count, out, cvl_room_of(count));
 }
 
 CvlStatus cvl_ind_luz(int32_t init, int32_t stride, int64_t count, int32_t *out) {
-    return cvl_index(init, stride, count, out, cvl_room_of(count));
+    if (cvl_room_of(count) < CVL_LEAST_SHARED) return cvl_index_alone(init, stride, count, out, cvl_room_of(count));
+    return cvl_index_shared(init, stride, count, out, cvl_room_of(count));
 }
 
 CvlStatus cvl_mke_fov(CvlLengths lengths, size_t *total) {
-    return cvl_make_descriptor(lengths, total);
+    if (lengths.segments < CVL_LEAST_SHARED) return cvl_make_descriptor_alone(lengths, total);
+    return cvl_make_descriptor_shared(lengths, total);
 }
 
 CvlStatus cvl_tot_sez(const int32_t *a, CvlLengths lengths, int32_t *out, size_t n) {
-    return cvl_seg_checked_scan(a, n, lengths, out, n);
+    if (n < CVL_LEAST_SHARED) return cvl_seg_checked_scan_alone(a, n, lengths, out, n);
+    return cvl_seg_checked_scan_shared(a, n, lengths, out, n);
 }
 
 CvlStatus cvl_tot_rez(const int32_t *a, size_t n, CvlLengths lengths, int32_t *out) {
-    return cvl_seg_checked_reduce(a, n, lengths, out, lengths.segments);
+    if (n < CVL_LEAST_SHARED) return cvl_seg_checked_reduce_alone(a, n, lengths, out, lengths.segments);
+    return cvl_seg_checked_reduce_shared(a, n, lengths, out, lengths.segments);
 }
 
 CvlStatus cvl_ext_vez(const int32_t *vector, size_t n, const int32_t *index, CvlLengths lengths, int32_t *out) {
-    return cvl_seg_extract_int(vector, n, index, lengths.segments, lengths, out, lengths.segments);
+    if (n < CVL_LEAST_SHARED) {
+        return cvl_seg_extract_int_alone(vector, n, index, lengths.segments, lengths, out, lengths.segments);
+    }
+    return cvl_seg_extract_int_shared(vector, n, index, lengths.segments, lengths, out, lengths.segments);
 }
 
 CvlStatus cvl_ext_veb(const bool *vector, size_t n, const int32_t *index, CvlLengths lengths, bool *out) {
-    return cvl_seg_extract_bool(vector, n, index, lengths.segments, lengths, out, lengths.segments);
+    if (n < CVL_LEAST_SHARED) {
+        return cvl_seg_extract_bool_alone(vector, n, index, lengths.segments, lengths, out, lengths.segments);
+    }
+    return cvl_seg_extract_bool_shared(vector, n, index, lengths.segments, lengths, out, lengths.segments);
 }
 
 CvlStatus cvl_rep_vez(const int32_t *vector, const int32_t *index, const int32_t *values, CvlLengths lengths, int32_t *out,
     size_t n) {
-    return cvl_seg_replace_int(vector, n, index, lengths.segments, values, lengths.segments, lengths, out, n);
+    if (n < CVL_LEAST_SHARED) {
+        return cvl_seg_replace_int_alone(vector, n, index, lengths.segments, values, lengths.segments, lengths, out, n);
+    }
+    return cvl_seg_replace_int_shared(vector, n, index, lengths.segments, values, lengths.segments, lengths, out, n);
 }
 
 CvlStatus cvl_rep_veb(const bool *vector, const int32_t *index, const bool *values, CvlLengths lengths, bool *out, size_t n) {
-    return cvl_seg_replace_bool(vector, n, index, lengths.segments, values, lengths.segments, lengths, out, n);
+    if (n < CVL_LEAST_SHARED) {
+        return cvl_seg_replace_bool_alone(vector, n, index, lengths.segments, values, lengths.segments, lengths, out, n);
+    }
+    return cvl_seg_replace_bool_shared(vector, n, index, lengths.segments, values, lengths.segments, lengths, out, n);
 }
 
 CvlStatus cvl_dis_vez(const int32_t *values, CvlLengths lengths, int32_t *out, size_t n) {
-    return cvl_seg_distribute_int(values, lengths.segments, lengths, out, n);
+    if (n < CVL_LEAST_SHARED) return cvl_seg_distribute_int_alone(values, lengths.segments, lengths, out, n);
+    return cvl_seg_distribute_int_shared(values, lengths.segments, lengths, out, n);
 }
 
 CvlStatus cvl_dis_veb(const bool *values, CvlLengths lengths, bool *out, size_t n) {
-    return cvl_seg_distribute_bool(values, lengths.segments, lengths, out, n);
+    if (n < CVL_LEAST_SHARED) return cvl_seg_distribute_bool_alone(values, lengths.segments, lengths, out, n);
+    return cvl_seg_distribute_bool_shared(values, lengths.segments, lengths, out, n);
 }
 
 CvlStatus cvl_ind_lez(const int32_t *inits, const int32_t *strides, CvlLengths lengths, int32_t *out, size_t n) {
-    return cvl_seg_index(inits, lengths.segments, strides, lengths.segments, lengths, out, n);
+    if (n < CVL_LEAST_SHARED) return cvl_seg_index_alone(inits, lengths.segments, strides, lengths.segments, lengths, out, n);
+    return cvl_seg_index_shared(inits, lengths.segments, strides, lengths.segments, lengths, out, n);
 }
 
 CvlStatus cvl_add_sez(const int32_t *a, CvlLengths lengths, int32_t *out, size_t n) {
-    return cvl_seg_int_scan(CVL_ADD, a, n, lengths, out, n);
+    if (n < CVL_LEAST_SHARED) return cvl_seg_int_scan_alone(CVL_ADD, a, n, lengths, out, n);
+    return cvl_seg_int_scan_shared(CVL_ADD, a, n, lengths, out, n);
 }
 
 CvlStatus cvl_add_rez(const int32_t *a, size_t n, CvlLengths lengths, int32_t *out) {
-    return cvl_seg_int_reduce(CVL_ADD, a, n, lengths, out, lengths.segments);
+    if (n < CVL_LEAST_SHARED) return cvl_seg_int_reduce_alone(CVL_ADD, a, n, lengths, out, lengths.segments);
+    return cvl_seg_int_reduce_shared(CVL_ADD, a, n, lengths, out, lengths.segments);
 }
 
 CvlStatus cvl_mul_sez(const int32_t *a, CvlLengths lengths, int32_t *out, size_t n) {
-    return cvl_seg_int_scan(CVL_MUL, a, n, lengths, out, n);
+    if (n < CVL_LEAST_SHARED) return cvl_seg_int_scan_alone(CVL_MUL, a, n, lengths, out, n);
+    return cvl_seg_int_scan_shared(CVL_MUL, a, n, lengths, out, n);
 }
 
 CvlStatus cvl_mul_rez(const int32_t *a, size_t n, CvlLengths lengths, int32_t *out) {
-    return cvl_seg_int_reduce(CVL_MUL, a, n, lengths, out, lengths.segments);
+    if (n < CVL_LEAST_SHARED) return cvl_seg_int_reduce_alone(CVL_MUL, a, n, lengths, out, lengths.segments);
+    return cvl_seg_int_reduce_shared(CVL_MUL, a, n, lengths, out, lengths.segments);
 }
 
 CvlStatus cvl_min_sez(const int32_t *a, CvlLengths lengths, int32_t *out, size_t n) {
-    return cvl_seg_int_scan(CVL_MIN, a, n, lengths, out, n);
+    if (n < CVL_LEAST_SHARED) return cvl_seg_int_scan_alone(CVL_MIN, a, n, lengths, out, n);
+    return cvl_seg_int_scan_shared(CVL_MIN, a, n, lengths, out, n);
 }
 
 CvlStatus cvl_min_rez(const int32_t *a, size_t n, CvlLengths lengths, int32_t *out) {
-    return cvl_seg_int_reduce(CVL_MIN, a, n, lengths, out, lengths.segments);
+    if (n < CVL_LEAST_SHARED) return cvl_seg_int_reduce_alone(CVL_MIN, a, n, lengths, out, lengths.segments);
+    return cvl_seg_int_reduce_shared(CVL_MIN, a, n, lengths, out, lengths.segments);
 }
 
 CvlStatus cvl_max_sez(const int32_t *a, CvlLengths lengths, int32_t *out, size_t n) {
-    return cvl_seg_int_scan(CVL_MAX, a, n, lengths, out, n);
+    if (n < CVL_LEAST_SHARED) return cvl_seg_int_scan_alone(CVL_MAX, a, n, lengths, out, n);
+    return cvl_seg_int_scan_shared(CVL_MAX, a, n, lengths, out, n);
 }
 
 CvlStatus cvl_max_rez(const int32_t *a, size_t n, CvlLengths lengths, int32_t *out) {
-    return cvl_seg_int_reduce(CVL_MAX, a, n, lengths, out, lengths.segments);
+    if (n < CVL_LEAST_SHARED) return cvl_seg_int_reduce_alone(CVL_MAX, a, n, lengths, out, lengths.segments);
+    return cvl_seg_int_reduce_shared(CVL_MAX, a, n, lengths, out, lengths.segments);
 }
 
 CvlStatus cvl_and_sez(const int32_t *a, CvlLengths lengths, int32_t *out, size_t n) {
-    return cvl_seg_int_scan(CVL_AND, a, n, lengths, out, n);
+    if (n < CVL_LEAST_SHARED) return cvl_seg_int_scan_alone(CVL_AND, a, n, lengths, out, n);
+    return cvl_seg_int_scan_shared(CVL_AND, a, n, lengths, out, n);
 }
 
 CvlStatus cvl_and_rez(const int32_t *a, size_t n, CvlLengths lengths, int32_t *out) {
-    return cvl_seg_int_reduce(CVL_AND, a, n, lengths, out, lengths.segments);
+    if (n < CVL_LEAST_SHARED) return cvl_seg_int_reduce_alone(CVL_AND, a, n, lengths, out, lengths.segments);
+    return cvl_seg_int_reduce_shared(CVL_AND, a, n, lengths, out, lengths.segments);
 }
 
 CvlStatus cvl_ior_sez(const int32_t *a, CvlLengths lengths, int32_t *out, size_t n) {
-    return cvl_seg_int_scan(CVL_IOR, a, n, lengths, out, n);
+    if (n < CVL_LEAST_SHARED) return cvl_seg_int_scan_alone(CVL_IOR, a, n, lengths, out, n);
+    return cvl_seg_int_scan_shared(CVL_IOR, a, n, lengths, out, n);
 }
 
 CvlStatus cvl_ior_rez(const int32_t *a, size_t n, CvlLengths lengths, int32_t *out) {
-    return cvl_seg_int_reduce(CVL_IOR, a, n, lengths, out, lengths.segments);
+    if (n < CVL_LEAST_SHARED) return cvl_seg_int_reduce_alone(CVL_IOR, a, n, lengths, out, lengths.segments);
+    return cvl_seg_int_reduce_shared(CVL_IOR, a, n, lengths, out, lengths.segments);
 }
 
 CvlStatus cvl_xor_sez(const int32_t *a, CvlLengths lengths, int32_t *out, size_t n) {
-    return cvl_seg_int_scan(CVL_XOR, a, n, lengths, out, n);
+    if (n < CVL_LEAST_SHARED) return cvl_seg_int_scan_alone(CVL_XOR, a, n, lengths, out, n);
+    return cvl_seg_int_scan_shared(CVL_XOR, a, n, lengths, out, n);
 }
 
 CvlStatus cvl_xor_rez(const int32_t *a, size_t n, CvlLengths lengths, int32_t *out) {
-    return cvl_seg_int_reduce(CVL_XOR, a, n, lengths, out, lengths.segments);
+    if (n < CVL_LEAST_SHARED) return cvl_seg_int_reduce_alone(CVL_XOR, a, n, lengths, out, lengths.segments);
+    return cvl_seg_int_reduce_shared(CVL_XOR, a, n, lengths, out, lengths.segments);
 }
 
 CvlStatus cvl_and_seb(const bool *a, CvlLengths lengths, bool *out, size_t n) {
-    return cvl_seg_bool_scan(CVL_AND, a, n, lengths, out, n);
+    if (n < CVL_LEAST_SHARED) return cvl_seg_bool_scan_alone(CVL_AND, a, n, lengths, out, n);
+    return cvl_seg_bool_scan_shared(CVL_AND, a, n, lengths, out, n);
 }
 
 CvlStatus cvl_and_reb(const bool *a, size_t n, CvlLengths lengths, bool *out) {
-    return cvl_seg_bool_reduce(CVL_AND, a, n, lengths, out, lengths.segments);
+    if (n < CVL_LEAST_SHARED) return cvl_seg_bool_reduce_alone(CVL_AND, a, n, lengths, out, lengths.segments);
+    return cvl_seg_bool_reduce_shared(CVL_AND, a, n, lengths, out, lengths.segments);
 }
 
 CvlStatus cvl_ior_seb(const bool *a, CvlLengths lengths, bool *out, size_t n) {
-    return cvl_seg_bool_scan(CVL_IOR, a, n, lengths, out, n);
+    if (n < CVL_LEAST_SHARED) return cvl_seg_bool_scan_alone(CVL_IOR, a, n, lengths, out, n);
+    return cvl_seg_bool_scan_shared(CVL_IOR, a, n, lengths, out, n);
 }
 
 CvlStatus cvl_ior_reb(const bool *a, size_t n, CvlLengths lengths, bool *out) {
-    return cvl_seg_bool_reduce(CVL_IOR, a, n, lengths, out, lengths.segments);
+    if (n < CVL_LEAST_SHARED) return cvl_seg_bool_reduce_alone(CVL_IOR, a, n, lengths, out, lengths.segments);
+    return cvl_seg_bool_reduce_shared(CVL_IOR, a, n, lengths, out, lengths.segments);
 }
 
 CvlStatus cvl_xor_seb(const bool *a, CvlLengths lengths, bool *out, size_t n) {
-    return cvl_seg_bool_scan(CVL_XOR, a, n, lengths, out, n);
+    if (n < CVL_LEAST_SHARED) return cvl_seg_bool_scan_alone(CVL_XOR, a, n, lengths, out, n);
+    return cvl_seg_bool_scan_shared(CVL_XOR, a, n, lengths, out, n);
 }
 
 CvlStatus cvl_xor_reb(const bool *a, size_t n, CvlLengths lengths, bool *out) {
-    return cvl_seg_bool_reduce(CVL_XOR, a, n, lengths, out, lengths.segments);
+    if (n < CVL_LEAST_SHARED) return cvl_seg_bool_reduce_alone(CVL_XOR, a, n, lengths, out, lengths.segments);
+    return cvl_seg_bool_reduce_shared(CVL_XOR, a, n, lengths, out, lengths.segments);
 }
 
 CvlStatus cvl_pck_luz(const int32_t *values, const bool *flags, size_t n, int32_t *out, size_t room, size_t *count) {
-    return cvl_pack_int(values, n, flags, n, out, room, count);
+    if (n < CVL_LEAST_SHARED) return cvl_pack_int_alone(values, n, flags, n, out, room, count);
+    return cvl_pack_int_shared(values, n, flags, n, out, room, count);
 }
 
 CvlStatus cvl_pck_lub(const bool *values, const bool *flags, size_t n, bool *out, size_t room, size_t *count) {
-    return cvl_pack_bool(values, n, flags, n, out, room, count);
+    if (n < CVL_LEAST_SHARED) return cvl_pack_bool_alone(values, n, flags, n, out, room, count);
+    return cvl_pack_bool_shared(values, n, flags, n, out, room, count);
 }
 
 CvlStatus cvl_pck_lez(const int32_t *values, const bool *flags, size_t n, CvlLengths lengths, int32_t *out, size_t room,
     size_t *count) {
-    return cvl_seg_pack_int(values, n, flags, n, lengths, out, room, count);
+    if (n < CVL_LEAST_SHARED) return cvl_seg_pack_int_alone(values, n, flags, n, lengths, out, room, count);
+    return cvl_seg_pack_int_shared(values, n, flags, n, lengths, out, room, count);
 }
 
 CvlStatus cvl_pck_leb(const bool *values, const bool *flags, size_t n, CvlLengths lengths, bool *out, size_t room,
     size_t *count) {
-    return cvl_seg_pack_bool(values, n, flags, n, lengths, out, room, count);
+    if (n < CVL_LEAST_SHARED) return cvl_seg_pack_bool_alone(values, n, flags, n, lengths, out, room, count);
+    return cvl_seg_pack_bool_shared(values, n, flags, n, lengths, out, room, count);
 }
 
 CvlStatus cvl_pck_fov(const bool *flags, size_t n, CvlLengths lengths, int32_t *out) {
-    return cvl_seg_packed_lengths(flags, n, lengths, out, lengths.segments);
+    if (n < CVL_LEAST_SHARED) return cvl_seg_packed_lengths_alone(flags, n, lengths, out, lengths.segments);
+    return cvl_seg_packed_lengths_shared(flags, n, lengths, out, lengths.segments);
 }
 
 CvlStatus cvl_cnt_leb(const bool *flags, size_t n, CvlLengths lengths, int32_t *out) {
-    return cvl_seg_count(flags, n, lengths, out, lengths.segments);
+    if (n < CVL_LEAST_SHARED) return cvl_seg_count_alone(flags, n, lengths, out, lengths.segments);
+    return cvl_seg_count_shared(flags, n, lengths, out, lengths.segments);
 }
 
 CvlStatus cvl_smp_puz(const int32_t *source, const int32_t *index, int32_t *out, size_t n) {
-    return cvl_permute_int(source, n, index, n, out, n);
+    if (n < CVL_LEAST_SHARED) return cvl_permute_int_alone(source, n, index, n, out, n);
+    return cvl_permute_int_shared(source, n, index, n, out, n);
 }
 
 CvlStatus cvl_smp_pub(const bool *source, const int32_t *index, bool *out, size_t n) {
-    return cvl_permute_bool(source, n, index, n, out, n);
+    if (n < CVL_LEAST_SHARED) return cvl_permute_bool_alone(source, n, index, n, out, n);
+    return cvl_permute_bool_shared(source, n, index, n, out, n);
 }
 
 CvlStatus cvl_sel_puz(const int32_t *source, const int32_t *index, const bool *flags, size_t n, int32_t *out, size_t m) {
-    return cvl_select_permute_int(source, n, index, n, flags, n, out, m);
+    if (m < CVL_LEAST_SHARED) return cvl_select_permute_int_alone(source, n, index, n, flags, n, out, m);
+    return cvl_select_permute_int_shared(source, n, index, n, flags, n, out, m);
 }
 
 CvlStatus cvl_sel_pub(const bool *source, const int32_t *index, const bool *flags, size_t n, bool *out, size_t m) {
-    return cvl_select_permute_bool(source, n, index, n, flags, n, out, m);
+    if (m < CVL_LEAST_SHARED) return cvl_select_permute_bool_alone(source, n, index, n, flags, n, out, m);
+    return cvl_select_permute_bool_shared(source, n, index, n, flags, n, out, m);
 }
 
 CvlStatus cvl_def_puz(const int32_t *source, const int32_t *index, size_t n, const int32_t *defaults, int32_t *out, size_t m) {
-    return cvl_default_permute_int(source, n, index, n, defaults, m, out, m);
+    if (m < CVL_LEAST_SHARED) return cvl_default_permute_int_alone(source, n, index, n, defaults, m, out, m);
+    return cvl_default_permute_int_shared(source, n, index, n, defaults, m, out, m);
 }
 
 CvlStatus cvl_def_pub(const bool *source, const int32_t *index, size_t n, const bool *defaults, bool *out, size_t m) {
-    return cvl_default_permute_bool(source, n, index, n, defaults, m, out, m);
+    if (m < CVL_LEAST_SHARED) return cvl_default_permute_bool_alone(source, n, index, n, defaults, m, out, m);
+    return cvl_default_permute_bool_shared(source, n, index, n, defaults, m, out, m);
 }
 
 CvlStatus cvl_bck_puz(const int32_t *source, size_t n, const int32_t *index, int32_t *out, size_t m) {
-    return cvl_back_permute_int(source, n, index, m, out, m);
+    if (m < CVL_LEAST_SHARED) return cvl_back_permute_int_alone(source, n, index, m, out, m);
+    return cvl_back_permute_int_shared(source, n, index, m, out, m);
 }
 
 CvlStatus cvl_bck_pub(const bool *source, size_t n, const int32_t *index, bool *out, size_t m) {
-    return cvl_back_permute_bool(source, n, index, m, out, m);
+    if (m < CVL_LEAST_SHARED) return cvl_back_permute_bool_alone(source, n, index, m, out, m);
+    return cvl_back_permute_bool_shared(source, n, index, m, out, m);
 }
 
 CvlStatus cvl_smp_pez(const int32_t *source, const int32_t *index, CvlLengths lengths, int32_t *out, size_t n) {
-    return cvl_seg_permute_int(source, n, index, n, lengths, out, n);
+    if (n < CVL_LEAST_SHARED) return cvl_seg_permute_int_alone(source, n, index, n, lengths, out, n);
+    return cvl_seg_permute_int_shared(source, n, index, n, lengths, out, n);
 }
 
 CvlStatus cvl_smp_peb(const bool *source, const int32_t *index, CvlLengths lengths, bool *out, size_t n) {
-    return cvl_seg_permute_bool(source, n, index, n, lengths, out, n);
+    if (n < CVL_LEAST_SHARED) return cvl_seg_permute_bool_alone(source, n, index, n, lengths, out, n);
+    return cvl_seg_permute_bool_shared(source, n, index, n, lengths, out, n);
 }
 
 CvlStatus cvl_sel_pez(const int32_t *source, const int32_t *index, const bool *flags, size_t n, CvlLengths lengths,
     int32_t *out, size_t m) {
-    return cvl_seg_select_permute_int(source, n, index, n, flags, n, lengths, out, m);
+    if (n < CVL_LEAST_SHARED) return cvl_seg_select_permute_int_alone(source, n, index, n, flags, n, lengths, out, m);
+    return cvl_seg_select_permute_int_shared(source, n, index, n, flags, n, lengths, out, m);
 }
 
 CvlStatus cvl_sel_peb(const bool *source, const int32_t *index, const bool *flags, size_t n, CvlLengths lengths, bool *out,
     size_t m) {
-    return cvl_seg_select_permute_bool(source, n, index, n, flags, n, lengths, out, m);
+    if (n < CVL_LEAST_SHARED) return cvl_seg_select_permute_bool_alone(source, n, index, n, flags, n, lengths, out, m);
+    return cvl_seg_select_permute_bool_shared(source, n, index, n, flags, n, lengths, out, m);
 }
 
 CvlStatus cvl_def_pez(const int32_t *source, const int32_t *index, size_t n, const int32_t *defaults, CvlLengths lengths,
     CvlLengths default_lengths, int32_t *out, size_t m) {
-    return cvl_seg_default_permute_int(source, n, index, n, defaults, m, lengths, default_lengths, out, m);
+    if (n < CVL_LEAST_SHARED) {
+        return cvl_seg_default_permute_int_alone(source, n, index, n, defaults, m, lengths, default_lengths, out, m);
+    }
+    return cvl_seg_default_permute_int_shared(source, n, index, n, defaults, m, lengths, default_lengths, out, m);
 }
 
 CvlStatus cvl_def_peb(const bool *source, const int32_t *index, size_t n, const bool *defaults, CvlLengths lengths,
     CvlLengths default_lengths, bool *out, size_t m) {
-    return cvl_seg_default_permute_bool(source, n, index, n, defaults, m, lengths, default_lengths, out, m);
+    if (n < CVL_LEAST_SHARED) {
+        return cvl_seg_default_permute_bool_alone(source, n, index, n, defaults, m, lengths, default_lengths, out, m);
+    }
+    return cvl_seg_default_permute_bool_shared(source, n, index, n, defaults, m, lengths, default_lengths, out, m);
 }
 
 CvlStatus cvl_bck_pez(const int32_t *source, size_t n, const int32_t *index, CvlLengths lengths, CvlLengths index_lengths,
     int32_t *out, size_t m) {
-    return cvl_seg_back_permute_int(source, n, index, m, lengths, index_lengths, out, m);
+    if (m < CVL_LEAST_SHARED) return cvl_seg_back_permute_int_alone(source, n, index, m, lengths, index_lengths, out, m);
+    return cvl_seg_back_permute_int_shared(source, n, index, m, lengths, index_lengths, out, m);
 }
 
 CvlStatus cvl_bck_peb(const bool *source, size_t n, const int32_t *index, CvlLengths lengths, CvlLengths index_lengths,
     bool *out, size_t m) {
-    return cvl_seg_back_permute_bool(source, n, index, m, lengths, index_lengths, out, m);
+    if (m < CVL_LEAST_SHARED) return cvl_seg_back_permute_bool_alone(source, n, index, m, lengths, index_lengths, out, m);
+    return cvl_seg_back_permute_bool_shared(source, n, index, m, lengths, index_lengths, out, m);
 }
 
 CvlStatus cvl_segments_checked_scan(const int32_t *a, size_t a_len, const CvlSegments *segments, int32_t *out, size_t out_len) {

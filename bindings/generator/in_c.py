@@ -502,12 +502,17 @@ def copied_body(found, asked):
     return "\n".join(statement(line) for line in [*lines, "return status;"])
 
 
-def by_length(found):
-    """The function of a family that is cut: a short call is made by the thread that calls, without another look."""
-    words = given(found.arguments)
+def by_length(found, words, length):
+    """The lines that make a call of a family by its length: a short one by the thread that calls, without another look."""
+    if not found.is_cut:
+        return [statement(f"return {found.alone}({words});")]
+    return [guarded(f"{length} < {found.least}", f"{found.alone}({words})"), statement(f"return {found.shared}({words});")]
+
+
+def by_any_length(found):
+    """The function of a family that is cut."""
     head = wrapped(f"CvlStatus cvl_{found.name}({parameters(found.arguments)}){kept(' {')}")
-    short = guarded(f"{found.cut_length} < {found.least}", f"{found.alone}({words})")
-    return "\n".join([head, short, statement(f"return {found.shared}({words});"), "}"])
+    return "\n".join([head, *by_length(found, given(found.arguments), found.cut_length), "}"])
 
 
 def checked(row):
@@ -543,7 +548,7 @@ def checked(row):
     if call:
         lines.append(statement(f"return {call};"))
     head = wrapped(f"CvlStatus {found.alone}({parameters(found.arguments)}){kept(' {')}")
-    return "\n\n".join([*texts, "\n".join([head, *lines, "}"]), *([by_length(found)] if found.is_cut else [])])
+    return "\n\n".join([*texts, "\n".join([head, *lines, "}"]), *([by_any_length(found)] if found.is_cut else [])])
 
 
 def family_argument(row, argument):
@@ -559,10 +564,13 @@ def family_argument(row, argument):
 
 
 def called(row):
-    """A call of the table, by its family."""
-    words = ", ".join(kept(family_argument(row, argument)) for argument in rows._of_family(row.family))
+    """A call of the table, by its family, of which it picks the function by the length at once."""
+    found = Family(rows.FAMILIES[row.family.name])
+    given_for = {argument.name: family_argument(row, argument) for argument in found.arguments}
+    words = ", ".join(kept(word) for word in given_for.values())
     head = wrapped(f"CvlStatus cvl_{row.name}({parameters(row.arguments)}){kept(' {')}")
-    return f"{head}\n{statement(f'return cvl_{row.family.name}({words});')}\n}}"
+    length = given_for.get(found.cut_length, found.cut_length) if found.is_cut else None
+    return "\n".join([head, *by_length(found, words, length), "}"])
 
 
 def segments_function(row):
