@@ -53,17 +53,41 @@ static bool runs_all(const CvlPool *pool, CvlWork *w) {
     return pool->run == cvl_run_alone || pool->run == cvl_run_posix || cvl_reads(pool, w, nothing_part);
 }
 
+/*@ requires \valid_read(pool) && each > 0;
+    assigns \nothing;
+    ensures \result <= CVL_MOST_PARTS && \result * each <= n; */
 static size_t parts_of(const CvlPool *pool, size_t n, size_t each) {
     const size_t parts = pool->parts < CVL_MOST_PARTS ? pool->parts : CVL_MOST_PARTS;
     return n / each < parts ? n / each : parts;
 }
 
+/* A call of so many parts, of which nothing else is known. */
+/*@ requires \valid(w);
+    assigns *w;
+    ensures w->parts == parts && \forall integer k; 0 <= k <= CVL_MOST_PARTS ==> w->from[k] == 0; */
+static void begin(CvlWork *w, size_t parts) {
+    memset(w, 0, sizeof *w);
+    w->parts = parts;
+}
+
+/* Where a part of n elements begins, in even parts. */
+/*@ requires k <= parts <= CVL_MOST_PARTS && 0 < parts && n <= CVL_MOST_ELEMENTS;
+    assigns \nothing;
+    ensures \result == even_place(n, parts, k) <= n; */
+static size_t even(size_t n, size_t parts, size_t k) { return n * k / parts; }
+
+/*@ requires \valid(w) && (pool == \null || \valid_read(pool)) && \separated(pool, w) && each > 0;
+    assigns *w;
+    ensures \result ==> 2 <= w->parts <= CVL_MOST_PARTS && is_cut(&w->from[0], w->parts, n);
+    ensures \result ==> \forall integer k; 0 <= k < w->parts ==> w->from[k + 1] - w->from[k] >= each; */
 static bool cut_evenly(const CvlPool *pool, CvlWork *w, size_t n, size_t least, size_t each) {
     const size_t parts = pool == NULL || n > CVL_MOST_ELEMENTS || n < least ? 0 : parts_of(pool, n, each);
     if (parts < 2) return 0;
-    memset(w, 0, sizeof *w);
-    w->parts = parts;
-    for (size_t k = 0; k <= parts; k++) w->from[k] = n * k / parts;
+    begin(w, parts);
+    /*@ loop invariant 0 <= k <= parts + 1 && \forall integer j; 0 <= j < k ==> w->from[j] == even_place(n, parts, j);
+        loop assigns k, w->from[0 .. parts];
+        loop variant parts - k; */
+    for (size_t k = 0; k <= parts; k++) w->from[k] = even(n, parts, k);
     return 1;
 }
 
@@ -73,36 +97,92 @@ bool cvl_cut_by(const CvlPool *pool, CvlWork *w, size_t n, size_t least, size_t 
 
 bool cvl_cut(const CvlPool *pool, CvlWork *w, size_t n) { return cvl_cut_by(pool, w, n, CVL_LEAST_SHARED, CVL_LEAST_EACH); }
 
+/*@ assigns \nothing;
+    ensures \result <==> is_white_byte(byte); */
 static bool is_white(char byte) { return byte == ' ' || byte == '\t' || byte == '\n' || byte == '\r'; }
 
-bool cvl_cut_text(const CvlPool *pool, CvlWork *w, const char *text, size_t n) {
+/* The first white space at a place of a text or after it, or the text's end. */
+/*@ requires place <= n && \valid_read(text + (0 .. n - 1));
+    assigns \nothing;
+    ensures place <= \result <= n && (\result < n ==> is_white_byte(text[\result])); */
+static size_t white_from(const char *text, size_t n, size_t place) {
+    /*@ loop invariant \at(place, Pre) <= place <= n;
+        loop assigns place;
+        loop variant n - place; */
+    while (place < n && !is_white(text[place])) place++;
+    return place;
+}
+
+/*@ requires \valid(w) && (pool == \null || \valid_read(pool)) && \separated(pool, w) && \valid_read(text + (0 .. n - 1));
+    requires \separated(text + (0 .. n - 1), w);
+    assigns *w;
+    ensures \result ==> 2 <= w->parts <= CVL_MOST_PARTS && is_cut(&w->from[0], w->parts, n);
+    ensures \result ==> \forall integer k; 0 < k < w->parts ==> w->from[k] == n || is_white_byte(text[w->from[k]]); */
+static bool cut_at_white(const CvlPool *pool, CvlWork *w, const char *text, size_t n) {
     const size_t parts = pool == NULL || n < CVL_LEAST_READ ? 0 : parts_of(pool, n, CVL_LEAST_READ_EACH);
     if (parts < 2) return 0;
-    memset(w, 0, sizeof *w);
-    w->parts = parts;
+    begin(w, parts);
+    /*@ loop invariant 1 <= k <= parts + 1 && w->from[0] == 0 && w->from[k - 1] <= n && (k > parts ==> w->from[parts] == n);
+        loop invariant \forall integer i, j; 0 <= i <= j < k ==> w->from[i] <= w->from[j];
+        loop invariant \forall integer j; 0 < j < k ==> w->from[j] == n || is_white_byte(text[w->from[j]]);
+        loop assigns k, w->from[1 .. parts];
+        loop variant parts - k; */
     for (size_t k = 1; k <= parts; k++) {
-        size_t to = k == parts ? n : n / parts * k;
-        if (to < w->from[k - 1]) to = w->from[k - 1];
-        while (to < n && !is_white(text[to])) to++;
-        w->from[k] = to;
+        const size_t to = k == parts ? n : n / parts * k;
+        w->from[k] = white_from(text, n, to < w->from[k - 1] ? w->from[k - 1] : to);
     }
-    return runs_all(pool, w);
+    return 1;
+}
+
+bool cvl_cut_text(const CvlPool *pool, CvlWork *w, const char *text, size_t n) {
+    return cut_at_white(pool, w, text, n) && runs_all(pool, w);
 }
 
 /* ---- segments: the elements are cut, and each part finds the segments that start in it ---- */
 
+/* Elements that are cut, with the lengths of segments that have them all; and where the first segment that starts in each part is known. */
+/*@ predicate has_segments{L}(CvlWork *w) =
+      0 < w->parts <= CVL_MOST_PARTS && w->from[w->parts] <= CVL_MOST_ELEMENTS && is_cut(&w->from[0], w->parts, w->from[w->parts]) &&
+      w->segments <= CVL_MOST_ELEMENTS && is_segments(w->lengths, w->segments, w->from[w->parts]) &&
+      \valid_read(w->lengths + (0 .. w->segments - 1)) && \separated(w->lengths + (0 .. w->segments - 1), w);
+
+    predicate knows_first{L}(CvlWork *w, integer k) =
+      is_first(w->lengths, w->segments, w->from[k], w->first[k]) && w->start[k] == start_of(w->lengths, w->first[k]);
+
+    predicate knows_starts{L}(CvlWork *w) =
+      w->first[0] == 0 && w->first[w->parts] == w->segments && w->start[w->parts] == w->from[w->parts] &&
+      (\forall integer k; 0 <= k <= w->parts ==> 0 <= w->first[k] <= w->segments) &&
+      (\forall integer k; 0 <= k <= w->parts ==> w->from[k] <= w->start[k] == start_of(w->lengths, w->first[k])) &&
+      (\forall integer k, s; 0 <= k < w->parts && 0 <= s < w->first[k] ==> start_of(w->lengths, s) < w->from[k]); */
+
 /* The lengths, cut into parts of their own, and how many elements each part of them has. */
+/*@ requires \valid(w) && k < w->parts <= CVL_MOST_PARTS && w->segments <= CVL_MOST_ELEMENTS;
+    requires \valid_read(w->lengths + (0 .. w->segments - 1)) && \separated(w->lengths + (0 .. w->segments - 1), w);
+    assigns w->counts[k];
+    ensures \let from = even_place(w->segments, w->parts, k); \let to = even_place(w->segments, w->parts, k + 1);
+      \result.number == CVL_DONE ==> w->counts[k] == start_of(w->lengths + from, to - from); */
 static CvlStatus lengths_part(CvlWork *w, size_t k) {
-    const size_t from = w->segments * k / w->parts, to = w->segments * (k + 1) / w->parts;
+    const size_t from = even(w->segments, w->parts, k), to = even(w->segments, w->parts, k + 1);
     return cvl_proved_make_descriptor(w->lengths + from, to - from, &w->counts[k]);
 }
 
 /* Finds the first segment that starts in the part or after it. The walk begins at the last part of the lengths that starts before. */
+/*@ requires \valid(w) && has_segments(w) && k < w->parts;
+    requires \forall integer j; 0 <= j <= w->parts ==> w->other[j] == start_of(w->lengths, even_place(w->segments, w->parts, j));
+    assigns w->first[k], w->start[k];
+    ensures k > 0 ==> knows_first(w, k); */
 static CvlStatus start_part(CvlWork *w, size_t k) {
     size_t j = w->parts - 1;
     if (k == 0) return cvl_done();
+    /*@ loop invariant 0 <= j < w->parts;
+        loop assigns j;
+        loop variant j; */
     while (j > 0 && w->other[j] >= w->from[k]) j--;
-    size_t segment = w->segments * j / w->parts, start = w->other[j];
+    size_t segment = even(w->segments, w->parts, j), start = w->other[j];
+    /*@ loop invariant 0 <= segment <= w->segments && start == start_of(w->lengths, segment);
+        loop invariant \forall integer s; 0 <= s < segment ==> start_of(w->lengths, s) < w->from[k];
+        loop assigns segment, start;
+        loop variant w->segments - segment; */
     while (segment < w->segments && start < w->from[k]) start += (size_t)w->lengths[segment++];
     w->first[k] = segment, w->start[k] = start;
     return cvl_done();
@@ -123,8 +203,18 @@ bool cvl_cut_segments(const CvlPool *pool, CvlWork *w, size_t n, CvlLengths leng
     return cvl_cut_segments_by(pool, w, n, lengths, CVL_LEAST_SHARED, CVL_LEAST_EACH);
 }
 
+/*@ requires \valid_read(w) && has_segments(w) && knows_starts(w) && k < w->parts;
+    assigns \nothing;
+    ensures \result.from == w->from[k] <= \result.head <= \result.tail <= \result.to == w->from[k + 1];
+    ensures \result.first == w->first[k] && \result.first + \result.count + (\result.cut ? 1 : 0) == w->first[k + 1];
+    ensures \result.starts ? start_of(w->lengths, \result.first) == \result.head : \result.head == \result.to;
+    ensures \result.cut ==> start_of(w->lengths, \result.first + \result.count) == \result.tail;
+    ensures \result.starts && !\result.cut ==> start_of(w->lengths, \result.first + \result.count) == \result.tail == \result.to;
+    ensures \result.cut <==> \result.starts && w->start[k + 1] > \result.to; */
 CvlPiece cvl_piece(const CvlWork *w, size_t k) {
     CvlPiece p;
+    /*@ assert w->from[k] <= w->start[k] && w->from[k + 1] <= w->start[k + 1]; */
+    /*@ assert w->first[k] <= w->first[k + 1] <= w->segments; */
     p.from = w->from[k], p.to = w->from[k + 1], p.first = w->first[k];
     p.head = w->start[k] < p.to ? w->start[k] : p.to;
     p.starts = w->first[k + 1] > p.first;
@@ -147,6 +237,9 @@ bool cvl_in_lengths(const CvlPool *pool, CvlWork *w) {
 /* ---- flags that are neither 0 nor 1: looked at in parts, and copied at once ---- */
 
 /* A part's share of an array: from one place to another. */
+/*@ requires \valid_read(w) && 0 < w->parts && k <= w->parts;
+    assigns \nothing;
+    ensures \result == share_place(len, w->parts, k) <= len; */
 static size_t share(const CvlWork *w, size_t len, size_t k) {
     return len / w->parts * k + (k < len % w->parts ? k : len % w->parts);
 }

@@ -27,6 +27,8 @@
 #define CVL_HIDDEN
 #endif
 
+/*@ assigns \nothing;
+    ensures \result.number == number && \result.place == place; */
 static inline CvlStatus cvl_status(uint32_t number, int64_t place) {
     CvlStatus status;
     status.number = number;
@@ -34,11 +36,21 @@ static inline CvlStatus cvl_status(uint32_t number, int64_t place) {
     return status;
 }
 
+/*@ assigns \nothing;
+    ensures \result.number == CVL_DONE; */
 static inline CvlStatus cvl_done(void) { return cvl_status(CVL_DONE, -1); }
 
+/*@ assigns \nothing;
+    ensures \result.number == CVL_OVERLAP; */
 static inline CvlStatus cvl_overlap(void) { return cvl_status(CVL_OVERLAP, -1); }
 
 /* Whether two arrays, with so many elements of these sizes, have memory in common. No sum of an address and a size is built. */
+/*@ requires a_size > 0 && b_size > 0;
+    assigns \nothing;
+    ensures a_len == 0 || b_len == 0 ==> !\result;
+    behavior both_end:
+      assumes (uintptr_t)a + a_len * a_size <= UINTPTR_MAX + 1 && (uintptr_t)b + b_len * b_size <= UINTPTR_MAX + 1;
+      ensures \result <==> in_common((uintptr_t)a, a_len * a_size, (uintptr_t)b, b_len * b_size); */
 static inline bool cvl_meet(const void *a, size_t a_len, size_t a_size, const void *b, size_t b_len, size_t b_size) {
     const uintptr_t from_a = (uintptr_t)a, from_b = (uintptr_t)b;
     return a_len != 0 && b_len != 0 && ((from_a - from_b) / b_size < b_len || (from_b - from_a) / a_size < a_len);
@@ -49,7 +61,11 @@ static inline bool cvl_meet(const void *a, size_t a_len, size_t a_size, const vo
 #define CVL_ASKEW(a, a_len, b, b_len) (!((const void *)(a) == (const void *)(b) && (a_len) == (b_len)) && CVL_MEET(a, a_len, b, b_len))
 
 /* A place or a count of 32 bits, where it is one: else a place that no vector has, and a count that is none. */
+/*@ assigns \nothing;
+    ensures 0 <= place <= INT32_MAX ? \result == place : \result == -1; */
 static inline int32_t cvl_place_of(int64_t place) { return place < 0 || place > INT32_MAX ? -1 : (int32_t)place; }
+/*@ assigns \nothing;
+    ensures \result == (0 <= count ? count : 0); */
 static inline size_t cvl_room_of(int64_t count) { return count < 0 ? 0 : (size_t)count; }
 
 /* What is asked of a call before memory is. */

@@ -1,0 +1,74 @@
+/*
+ * words.h: what the contracts in bindings/c speak of, and laws of arithmetic that the provers are helped by. Read before each file
+ * that is analysed, and by no compiler of the library.
+ */
+#ifndef CVL_ANALYSIS_WORDS_H
+#define CVL_ANALYSIS_WORDS_H
+
+#include <stddef.h>
+#include <stdint.h>
+
+/* C11's atomic booleans, as one thread at a time sees them. */
+#define __FC_STDATOMIC
+typedef unsigned char atomic_bool;
+#define atomic_init(at, value) (*(at) = (value))
+static inline unsigned char atomic_exchange(unsigned char *at, unsigned char value) {
+    const unsigned char was = *at;
+    *at = value;
+    return was;
+}
+
+/* Unsigned numbers of 64 bits wrap. The tool leaves this out of what it tells its provers. */
+/*@ axiomatic Wrapping { axiom wrapped_below: \forall integer x; -SIZE_MAX - 1 <= x < 0 ==> (uint64_t)x == x + SIZE_MAX + 1; } */
+
+/* ---- memory ---- */
+
+/* Whether m bytes from a on and n bytes from b on have one in common. */
+/*@ predicate in_common(integer a, integer m, integer b, integer n) = \exists integer p; a <= p < a + m && b <= p < b + n;
+
+    lemma in_common_is: \forall integer a, m, b, n; in_common(a, m, b, n) <==> (m > 0 && n > 0 && a < b + n && b < a + m);
+    lemma quotient_below: \forall integer x, s, n; x >= 0 && s > 0 && n >= 0 ==> (x / s < n <==> x < n * s);
+    lemma product_of_some: \forall integer n, s; n >= 0 && s > 0 ==> (n * s > 0 <==> n > 0); */
+
+/* ---- parts ---- */
+
+/* Parts of n elements: they begin at 0 and end at n, and each begins where the one before it ends, which is not before its beginning. */
+/*@ predicate is_cut{L}(size_t *from, integer parts, integer n) =
+      from[0] == 0 && from[parts] == n && \forall integer j, k; 0 <= j <= k <= parts ==> from[j] <= from[k]; */
+
+/* Where part k of n elements begins, in even parts. */
+/*@ logic integer even_place(integer n, integer parts, integer k) = n * k / parts;
+
+    lemma whole_below: \forall integer n, p, k; n >= 0 && p > 0 && 0 <= k <= p ==> 0 <= n / p * k <= n;
+    lemma even_ascends: \forall integer n, p, j, k; n >= 0 && p > 0 && 0 <= j <= k ==> even_place(n, p, j) <= even_place(n, p, k);
+    lemma even_begins: \forall integer n, p; n >= 0 && p > 0 ==> even_place(n, p, 0) == 0;
+    lemma even_ends: \forall integer n, p; n >= 0 && p > 0 ==> even_place(n, p, p) == n;
+    lemma even_each: \forall integer n, p, k, each; n >= 0 && p > 0 && k >= 0 && 0 <= p * each <= n ==>
+      even_place(n, p, k + 1) - even_place(n, p, k) >= each; */
+
+/* The same where the first parts have one element more. */
+/*@ logic integer share_place(integer n, integer parts, integer k) = n / parts * k + (k < n % parts ? k : n % parts);
+
+    lemma share_ascends: \forall integer n, p, j, k; n >= 0 && p > 0 && 0 <= j <= k <= p ==> share_place(n, p, j) <= share_place(n, p, k);
+    lemma share_begins: \forall integer n, p; n >= 0 && p > 0 ==> share_place(n, p, 0) == 0;
+    lemma share_ends: \forall integer n, p; n >= 0 && p > 0 ==> share_place(n, p, p) == n; */
+
+/* ---- segments ---- */
+
+/* What the first so many lengths add up to: where the segment after them starts. */
+/*@ logic integer start_of{L}(int32_t *lengths, integer count) = count <= 0 ? 0 : start_of(lengths, count - 1) + lengths[count - 1]; */
+
+/* Segments of n elements: no length is negative, so that their starts ascend, and they add up to n. */
+/*@ predicate is_segments{L}(int32_t *lengths, integer segments, integer n) =
+      0 <= segments && start_of(lengths, segments) == n && (\forall integer s; 0 <= s < segments ==> 0 <= lengths[s] <= n) &&
+      (\forall integer s, t; 0 <= s <= t <= segments ==> 0 <= start_of(lengths, s) <= start_of(lengths, t)); */
+
+/* The first segment that starts at a place or after it: their number where there is none. */
+/*@ predicate is_first{L}(int32_t *lengths, integer segments, integer place, integer first) =
+      0 <= first <= segments && start_of(lengths, first) >= place && \forall integer s; 0 <= s < first ==> start_of(lengths, s) < place; */
+
+/* ---- texts ---- */
+
+/*@ predicate is_white_byte(integer byte) = byte == ' ' || byte == '\t' || byte == '\n' || byte == '\r'; */
+
+#endif
