@@ -9,19 +9,27 @@ use Rattle.cvl_base.specs.Faults.{fault, fault_at}
 use Rattle.cvl_base.specs.Gives.{unless, fault_if}
 use Rattle.cvl_base.specs.Limits.{most_elements}
 
--- the numbers are the lengths of a descriptor: none is negative, and their number and their total are in the limit
-pub record AreLengths (numbers : List ℤ) : Type 0 where
+-- the numbers are the lengths of segments: none is negative, and their number and their total are at most `most`
+pub record AreLengthsWithin (most : ℕ) (numbers : List ℤ) : Type 0 where
   pub none_negative : numbers ≡ map pos (map unsigned_abs numbers)
-  pub few : length numbers ≤ most_elements
-  pub in_limit : sum (map unsigned_abs numbers) ≤ most_elements
+  pub few : length numbers ≤ most
+  pub in_limit : sum (map unsigned_abs numbers) ≤ most
 
--- making a descriptor (CVL's make-descriptor, with this library's limit): a fault at the first negative number, else
--- a fault where the total is above the limit, else the lengths
-abbrev pub descriptor_of : List ℤ → Result (List ℕ) Fault
-descriptor_of numbers =
+-- the numbers are the lengths of a descriptor
+abbrev pub AreLengths : List ℤ → Type 0
+AreLengths = AreLengthsWithin most_elements
+
+-- making a descriptor (CVL's make-descriptor, with a limit): a fault at the first negative number, else a fault where
+-- the total is above the limit, else the lengths
+abbrev pub descriptor_within : ℕ → List ℤ → Result (List ℕ) Fault
+descriptor_within most numbers =
     unless (option_map (fault_at no.NegativeLength) (position is_negative numbers))
-    (fault_if (nat_lt most_elements (sum (map unsigned_abs numbers))) (fault no.TooLong)
+    (fault_if (nat_lt most (sum (map unsigned_abs numbers))) (fault no.TooLong)
     (Ok (map unsigned_abs numbers)))
+
+-- making a descriptor with the limit of scripts and sessions
+abbrev pub descriptor_of : List ℤ → Result (List ℕ) Fault
+descriptor_of = descriptor_within most_elements
 
 -- the first negative number stands at place k: before it there are lengths alone
 pub record IsFirstNegative (numbers : List ℤ) (k : ℕ) : Type 0 where

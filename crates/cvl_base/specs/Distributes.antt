@@ -9,15 +9,26 @@ use Rattle.cvl_base.specs.Gives.{◌>>=◌, fault_if}
 use Rattle.operators.specs.Integers.{wrap}
 use Rattle.cvl_base.specs.Limits.{most_elements}
 
--- the length that a single count asks for
-abbrev pub as_length : ℤ → Result ℕ Fault
-as_length (pos n) = fault_if (nat_lt most_elements n) (fault no.TooLong) (Ok n)
-as_length (negsuc n) = Err (fault no.NegativeLength)
+-- the length that a single count asks for, where it is at most `most`
+abbrev pub length_within : ℕ → ℤ → Result ℕ Fault
+length_within most (pos n) = fault_if (nat_lt most n) (fault no.TooLong) (Ok n)
+length_within most (negsuc n) = Err (fault no.NegativeLength)
 
 -- copies of one value
-abbrev pub distribute_of : {X : Type 0} → X → ℤ → Result (List X) Fault
-distribute_of value count = as_length count >>= λ n. Ok (replicate n value)
+abbrev pub distribute_within : {X : Type 0} → ℕ → X → ℤ → Result (List X) Fault
+distribute_within most value count = length_within most count >>= λ n. Ok (replicate n value)
 
 -- init + k * stride at place k
+abbrev pub index_within : ℕ → ℤ → ℤ → ℤ → Result (List ℤ) Fault
+index_within most init stride count =
+    length_within most count >>= λ n. Ok (map (λ k. wrap (init +ℤ pos k *ℤ stride)) (range_with_len 0 n))
+
+-- the same with the limit of scripts and sessions
+abbrev pub as_length : ℤ → Result ℕ Fault
+as_length = length_within most_elements
+
+abbrev pub distribute_of : {X : Type 0} → X → ℤ → Result (List X) Fault
+distribute_of = distribute_within most_elements
+
 abbrev pub index_of : ℤ → ℤ → ℤ → Result (List ℤ) Fault
-index_of init stride count = as_length count >>= λ n. Ok (map (λ k. wrap (init +ℤ pos k *ℤ stride)) (range_with_len 0 n))
+index_of = index_within most_elements

@@ -2,9 +2,14 @@
 -- Source: this library's profile.
 use Rattle.std.specs.Prelude.{ℕ}
 
--- the most elements of a vector, and the greatest total of a descriptor: 2^22
+-- the most elements of a vector in a script or a session, and the greatest total of its descriptor: 2^22
 abbrev pub most_elements : ℕ
 most_elements = 4194304
+
+-- the most places that an index of 32 bits names: 2^31 - 1. A vector of a caller in another language has as many elements at most,
+-- and segments add up to as many at most.
+abbrev pub most_places : ℕ
+most_places = 2147483647
 
 -- the most names bound
 abbrev pub most_names : ℕ

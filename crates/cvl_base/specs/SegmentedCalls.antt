@@ -2,8 +2,9 @@
 -- Source: CVL's segmented operations.
 use Rattle.std.specs.Prelude.{ℕ, ℤ, pos, Bool, List, Result, Ok}
 use Rattle.cvl_base.specs.declared.fault.Fault.{Fault}
-use Rattle.cvl_base.specs.Distributes.{distribute_of, index_of}
+use Rattle.cvl_base.specs.Distributes.{distribute_within, index_within}
 use Rattle.cvl_base.specs.Extracts.{extract_of, replace_of}
+use Rattle.cvl_base.specs.Limits.{most_elements}
 use Rattle.operators.specs.Folds.{fold_of, scan_of}
 use Rattle.cvl_base.specs.Nests.{nest}
 use Rattle.cvl_base.specs.Packs.{count_of, pack_of}
@@ -48,14 +49,21 @@ seg_pack_of xs flags lengths = end_to_end (in_vector lengths) (of_two pack_of) (
 
 -- ---- distribute and index: the count of a segment is its length
 
+abbrev pub seg_distribute_within : {X : Type 0} → ℕ → List X → List ℕ → Result (List X) Fault
+seg_distribute_within most values lengths =
+    end_to_end (in_vector lengths) (of_two (λ value n. distribute_within most value (pos n))) (beside (Ok values) (Ok lengths))
+
+abbrev pub seg_index_within : ℕ → List ℤ → List ℤ → List ℕ → Result (List ℤ) Fault
+seg_index_within most inits strides lengths =
+    end_to_end (in_vector lengths) (of_three (λ init stride n. index_within most init stride (pos n)))
+    (beside (beside (Ok inits) (Ok strides)) (Ok lengths))
+
+-- the same with the limit of scripts and sessions
 abbrev pub seg_distribute_of : {X : Type 0} → List X → List ℕ → Result (List X) Fault
-seg_distribute_of values lengths =
-    end_to_end (in_vector lengths) (of_two (λ value n. distribute_of value (pos n))) (beside (Ok values) (Ok lengths))
+seg_distribute_of = seg_distribute_within most_elements
 
 abbrev pub seg_index_of : List ℤ → List ℤ → List ℕ → Result (List ℤ) Fault
-seg_index_of inits strides lengths =
-    end_to_end (in_vector lengths) (of_three (λ init stride n. index_of init stride (pos n)))
-    (beside (beside (Ok inits) (Ok strides)) (Ok lengths))
+seg_index_of = seg_index_within most_elements
 
 -- ---- extract and replace: one index for each segment, and a fault stands at the segment
 

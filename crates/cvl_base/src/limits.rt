@@ -1,7 +1,11 @@
 //! The limits of the library, which faults and types speak of.
 
-/// The most elements that a vector has, and the greatest total of a descriptor.
+/// The most elements that a vector of a script or a session has, and the greatest total of its descriptor.
 pub const MOST_ELEMENTS: usize = 4_194_304;
+
+/// The most elements that a vector of a caller in another language has, and the greatest total of its segments: the places that an
+/// index of 32 bits names.
+pub const MOST_PLACES: usize = 2_147_483_647;
 
 /// The most names that are bound at one time.
 pub const MOST_NAMES: usize = 4_096;
