@@ -11,7 +11,7 @@ use Rattle.segdes.specs.Starts.{AreStarts, Spans, start_of}
 pub start_of_mono : (ns : List ℕ) (i j : ℕ) → i ≤ j → start_of ns i ≤ start_of ns j
 start_of_mono ns i j le = subst (λ (xs : List ℕ). sum xs ≤ sum (take j ns)) (take-take i j ns le) (sum_by-take-le (λ x. x) (take j ns) i)
 
-at_start : (ns starts : List ℕ) (s d : ℕ) → AreStarts ns starts → s < length starts → get_or starts s d ≡ start_of ns s
+pub at_start : (ns starts : List ℕ) (s d : ℕ) → AreStarts ns starts → s < length starts → get_or starts s d ≡ start_of ns s
 at_start ns starts s d are lt = omega (arith, get_or_default_zero starts s d lt, are.sums s (omega (arith, are.one_each)))
 
 pub starts_rise : (ns starts : List ℕ) → AreStarts ns starts → IsNonDecreasingBy (λ n. n) starts

@@ -4,9 +4,9 @@ use Rattle.std.specs.Prelude.{sum, unsigned_abs}
 use Rattle.std.specs.Int.{Width, IsNonNegative}
 use Rattle.std.proofs.lemmas.Int.{to_z-of_z, fits_signed_from_abs}
 use Rattle.std.proofs.lemmas.List.{get_or-map, length-map, get_or_append_left}
-use Rattle.std.proofs.lemmas.List.Sums.{sum_by_more, sum_by_more_le}
+use Rattle.std.proofs.lemmas.List.Sums.{sum_by-take-le, sum_by_more, sum_by_more_le}
 use Rattle.std.proofs.Math.Seq.{take-length, get_or-append_seam}
-use Rattle.cvl_base.specs.Limits.{most_elements}
+use Rattle.cvl_base.specs.Limits.{most_places}
 use Rattle.segdes.specs.Starts.{IsKept}
 
 within : (row : List ℤ) (s : ℕ) (ns : List ℕ) → row ≡ map pos ns → s < length row → s < length ns
@@ -16,7 +16,7 @@ pub in_row : (row : List ℤ) (s : ℕ) (ns : List ℕ) → row ≡ map pos ns �
 in_row row s ns is lt = omega (arith, ap length is, length-map ns pos)
 
 -- the length at s as it is read, a signed number of 32 bits
-pub length_at : (row : List ℤ) (s : ℕ) (ns : List ℕ) → row ≡ map pos ns → sum ns ≤ most_elements → s < length row
+pub length_at : (row : List ℤ) (s : ℕ) (ns : List ℕ) → row ≡ map pos ns → sum ns ≤ most_places → s < length row
     → to_z w32 (of_z w32 (get_or row s (pos 0))) ≡ pos (get_or ns s 0)
 length_at row s ns is small lt =
     let in_list : s < length ns = within row s ns is lt in
@@ -25,19 +25,23 @@ length_at row s ns is small lt =
     ∙ to_z-of_z w32 (pos (get_or ns s 0)) (fits_signed_from_abs w32 (pos (get_or ns s 0)) (omega (arith, sum_by_more_le (λ x. x) ns s 0 in_list)))
 
 -- so it fits where it is cast to
-pub cast_fits : (w : Width) (row : List ℤ) (s : ℕ) (ns : List ℕ) → row ≡ map pos ns → sum ns ≤ most_elements → s < length row → ((n : ℕ) → n ≤ most_elements → Fits w n)
+pub cast_fits : (w : Width) (row : List ℤ) (s : ℕ) (ns : List ℕ) → row ≡ map pos ns → sum ns ≤ most_places → s < length row → ((n : ℕ) → n ≤ most_places → Fits w n)
     → IsNonNegative (to_z w32 (of_z w32 (get_or row s (pos 0)))) × Fits w (unsigned_abs (to_z w32 (of_z w32 (get_or row s (pos 0)))))
 cast_fits w row s ns is small lt wide =
     let within_total = sum_by_more_le (λ x. x) ns s 0 (within row s ns is lt) in
     let fits : Fits w (get_or ns s 0) = wide (get_or ns s 0) (omega arith) in
     subst (λ (z : ℤ). IsNonNegative z × Fits w (unsigned_abs z)) (sym (length_at row s ns is small lt)) (tt, fits)
 
+-- a segment lies within the total
+pub segment_within : (ns : List ℕ) (s : ℕ) → s < length ns → sum (take s ns) + get_or ns s 0 ≤ sum ns
+segment_within ns s lt = omega (arith, sum_by_more (λ x. x) ns s 0 lt, sum_by-take-le (λ x. x) ns (s + 1))
+
 pub record AreStartsTo (i : ℕ) (lengths starts : List ℕ) (end : ℕ) : Type 0 where
   pub sums : (s : ℕ) → s < i → get_or starts s 0 ≡ sum (take s lengths)
   pub is_end : end ≡ sum (take i lengths)
 
 -- one more segment
-pub starts_more : (row : List ℤ) (i : ℕ) (ns starts more : List ℕ) (end len : ℕ) → row ≡ map pos ns → sum ns ≤ most_elements → i < length row
+pub starts_more : (row : List ℤ) (i : ℕ) (ns starts more : List ℕ) (end len : ℕ) → row ≡ map pos ns → sum ns ≤ most_places → i < length row
     → length starts ≡ i → more ≡ starts ++ end ∷ [] → len ≡ get_or ns i 0 → AreStartsTo i ns starts end → AreStartsTo (i + 1) ns more (end + len)
 starts_more row i ns starts more end len is small lt count grown length_is to = record {
   sums = below_more (λ s. get_or more s 0 ≡ sum (take s ns)) i
@@ -47,7 +51,7 @@ starts_more row i ns starts more end len is small lt count grown length_is to = 
 }
 
 -- all segments
-pub starts_all : (row : List ℤ) (i : ℕ) (ns starts : List ℕ) (end : ℕ) → row ≡ map pos ns → sum ns ≤ most_elements
+pub starts_all : (row : List ℤ) (i : ℕ) (ns starts : List ℕ) (end : ℕ) → row ≡ map pos ns → sum ns ≤ most_places
     → length starts ≡ i → i ≤ length row → length row ≤ i → AreStartsTo i ns starts end → IsKept ns starts end
 starts_all row i ns starts end is small count le ge to =
     let all : i ≡ length ns = omega (arith, ap length is, length-map ns pos) in

@@ -1,7 +1,7 @@
 -- Where the segments of a descriptor start in the vector beside it.
 -- Source: CVL's segmented vectors, whose segments lie one after another.
 use Rattle.std.specs.Prelude.{◌≡◌, ℕ, ◌+◌, ◌<◌, ◌≤◌, List, length, take, sum, slice_index, EachIndex}
-use Rattle.cvl_base.specs.Limits.{most_elements}
+use Rattle.cvl_base.specs.Limits.{most_places}
 
 -- segment s starts after the segments before it
 abbrev pub start_of : List ℕ → ℕ → ℕ
@@ -16,7 +16,7 @@ pub record AreStarts (lengths starts : List ℕ) : Type 0 where
 pub record IsKept (lengths starts : List ℕ) (total : ℕ) : Type 0 where
   pub starts_are : AreStarts lengths starts
   pub total_is : total ≡ sum lengths
-  pub in_limit : total ≤ most_elements
+  pub in_limit : total ≤ most_places
 
 -- the places from `first` up to the one before `past` begin behind the first `from` elements of segment `begin`, and `last` is the
 -- last segment that starts before their end

@@ -2,10 +2,9 @@
 
 ghost use Rattle.std.specs.Prelude.{◌≡◌, ◌≤◌, length, map, sum, unsigned_abs, IfOk, MatchResult};
 ghost use Rattle.std.specs.Int.{is_negative};
-ghost use Rattle.cvl_base.specs.Descriptors.{AreLengths, descriptor_of};
-ghost use Rattle.cvl_base.specs.Limits.{most_elements};
+ghost use Rattle.cvl_base.specs.Descriptors.{AreLengthsWithin, descriptor_within};
+ghost use Rattle.cvl_base.specs.Limits.{most_places};
 
-use cvl_base::limits::MOST_ELEMENTS;
 use cvl_base::{Fault, FaultNo};
 
 /// Whether a number is negative.
@@ -16,15 +15,16 @@ fn is_below_zero(number: &i32) -> bool
 }
 
 /// Checks in one pass that the numbers are the lengths of a descriptor: none is negative, else NegativeLength at the
-/// first that is, and their total is at most 4,194,304, else TooLong. The answer is the total.
-pub(crate) fn check_lengths(numbers: &[i32]) -> Result<u32, Fault>
-    requires { length numbers.now ≤ most_elements }
-    ensures meaning { MatchResult result (λ _. descriptor_of numbers.now ≡ Ok (map unsigned_abs numbers.now))
-        (λ f. descriptor_of numbers.now ≡ Err f) }
-    ensures lengths { IfOk result (λ _. AreLengths numbers.now) }
+/// first that is, and their total is at most `most`, else TooLong. The answer is the total.
+pub(crate) fn check_lengths(numbers: &[i32], most: usize) -> Result<u32, Fault>
+    requires limit { most ≤ most_places }
+    requires few { length numbers.now ≤ most }
+    ensures meaning { MatchResult result (λ _. descriptor_within most numbers.now ≡ Ok (map unsigned_abs numbers.now))
+        (λ f. descriptor_within most numbers.now ≡ Err f) }
+    ensures lengths { IfOk result (λ _. AreLengthsWithin most numbers.now) }
     ensures total { IfOk result (λ total. total ≡ sum (map unsigned_abs numbers.now)) }
 {
-    // The total of at most 2^22 numbers below 2^31 fits 64 bits, so the limit is tested once, after the loop.
+    // The total of fewer than 2^31 numbers below 2^31 fits 64 bits, so the limit is tested once, after the loop.
     let mut total: u64 = 0;
     for (place, number) in numbers.iter().enumerate() {
         if is_below_zero(number) {
@@ -32,7 +32,7 @@ pub(crate) fn check_lengths(numbers: &[i32]) -> Result<u32, Fault>
         }
         total += *number as u64;
     }
-    if total > MOST_ELEMENTS as u64 {
+    if total > most as u64 {
         return Err(Fault::new(FaultNo::TooLong));
     }
     Ok(total as u32)

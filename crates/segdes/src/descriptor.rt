@@ -1,9 +1,9 @@
 //! Descriptors.
 
-ghost use Rattle.std.specs.Prelude.{◌≡◌, ℕ, ◌+◌, ◌<◌, ◌≤◌, pos, length, map, sum, slice_index, Err, IfOk, MatchResult};
-ghost use Rattle.cvl_base.specs.Descriptors.{AreLengths, descriptor_of};
+ghost use Rattle.std.specs.Prelude.{◌≡◌, ℕ, ◌+◌, ◌<◌, ◌≤◌, pos, length, map, sum, slice_index, unsigned_abs, vec_len, Err, IfOk, MatchResult};
+ghost use Rattle.cvl_base.specs.Descriptors.{AreLengthsWithin, descriptor_of, descriptor_within};
 ghost use Rattle.cvl_base.specs.Gives.{Gives};
-ghost use Rattle.cvl_base.specs.Limits.{most_elements};
+ghost use Rattle.cvl_base.specs.Limits.{most_elements, most_places};
 ghost use Rattle.cvl_base.specs.Nests.{nest};
 ghost use Rattle.segdes.specs.Shares.{IsShareEnd};
 ghost use Rattle.segdes.specs.Starts.{start_of};
@@ -11,47 +11,71 @@ ghost use Rattle.segdes.specs.Starts.{start_of};
 use crate::check::check_lengths;
 use crate::seg_lengths::SegLengths;
 use crate::starts::starts_and_total;
+use cvl_base::limits::{MOST_ELEMENTS, MOST_PLACES};
 use cvl_base::{Fault, Lengths, Memory, NoResources, Refused};
 use sharing::share_of_first;
 use std::alloc::Allocator;
 use std::marker::Model;
 
-/// The descriptor of a segmented vector, seen as the list of its segments' lengths: at most 4,194,304 segments with
-/// at most 4,194,304 elements in all.
+/// The descriptor of a segmented vector, seen as the list of its segments' lengths: at most
+/// 2,147,483,647 segments with at most 2,147,483,647 elements in all.
 ///
 /// It keeps the start of each segment and the total, so that each question is answered in constant time and without
 /// memory. Segments and elements are counted by `usize`, since they index slices.
 #[derive(Drop)]
 #[derive_where(Debug; A)]
 pub struct SegDes<A: Allocator> {
-    lengths: Lengths<A>,
+    lengths: Vec<i32, A>,
     starts: Vec<u32, A>,
     total: u32,
 }
 
 impl<A: Allocator> Model for SegDes<A> {
-    ghost use Rattle.std.specs.Prelude.{ℕ, List};
+    ghost use Rattle.std.specs.Prelude.{ℕ, List, map, unsigned_abs};
+    ghost use Rattle.cvl_base.specs.Descriptors.{AreLengthsWithin};
+    ghost use Rattle.cvl_base.specs.Limits.{most_places};
     ghost use Rattle.segdes.specs.Starts.{IsKept};
 
     ghost Value = { List ℕ };
 
-    ghost view = { λ d. d.lengths };
+    ghost view = { λ d. map unsigned_abs d.lengths.items };
 
-    ghost invariant = { λ d. IsKept d.lengths d.starts.items d.total };
+    ghost invariant = { λ d. AreLengthsWithin most_places d.lengths.items
+        × IsKept (map unsigned_abs d.lengths.items) d.starts.items d.total };
 }
 
 impl<A: Memory> SegDes<A> {
     /// The descriptor of segments with these lengths (CVL's make-descriptor): NegativeLength at the first length that
-    /// is negative; TooLong, without a place, where none is and the total is above 4,194,304.
+    /// is negative; TooLong, without a place, where none is and the total is above 4,194,304, as scripts and sessions have it.
     ///
-    /// The lengths are at most 4,194,304 themselves, as the elements of every vector are.
+    /// The lengths are at most 4,194,304 themselves, as the elements of their vectors are.
     pub fn from_lengths(alloc: A, lengths: &[i32]) -> Result<SegDes<A>, Refused>
         requires { length lengths.now ≤ most_elements }
-        ensures { Gives (λ d. d) result (descriptor_of lengths.now) }
+        ensures values { Gives (λ d. d) result (descriptor_of lengths.now) }
+        ensures few { IfOk result (λ d. length d ≤ most_elements) }
+        ensures in_limit { IfOk result (λ d. sum d ≤ most_elements) }
     {
-        check_lengths(lengths)?;
-        let lengths = Lengths::from_vec(Vec::from_slice(alloc, lengths)?);
-        Ok(SegDes::new(alloc, lengths)?)
+        SegDes::from_lengths_within(alloc, lengths, MOST_ELEMENTS)
+    }
+
+    /// The same for a caller of another language, whose segments have up to 2,147,483,647 elements in all.
+    pub fn from_long_lengths(alloc: A, lengths: &[i32]) -> Result<SegDes<A>, Refused>
+        requires { length lengths.now ≤ most_places }
+        ensures { Gives (λ d. d) result (descriptor_within most_places lengths.now) }
+    {
+        SegDes::from_lengths_within(alloc, lengths, MOST_PLACES)
+    }
+
+    /// The descriptor of segments with these lengths, which have at most `most` elements in all.
+    fn from_lengths_within(alloc: A, lengths: &[i32], most: usize) -> Result<SegDes<A>, Refused>
+        requires limit { most ≤ most_places }
+        requires few { length lengths.now ≤ most }
+        ensures values { Gives (λ d. d) result (descriptor_within most lengths.now) }
+        ensures few { IfOk result (λ d. length d ≤ most) }
+        ensures in_limit { IfOk result (λ d. sum d ≤ most) }
+    {
+        check_lengths(lengths, most)?;
+        Ok(SegDes::keeping(alloc, Vec::from_slice(alloc, lengths)?)?)
     }
 
     /// The descriptor of segments with the lengths of a descriptor value, which are copied.
@@ -65,9 +89,18 @@ impl<A: Memory> SegDes<A> {
 }
 
 impl<A: Allocator> SegDes<A> {
-    /// The descriptor of segments with these lengths, which it keeps.
+    /// The descriptor of segments with the lengths of a descriptor value, which it keeps.
+    #[tactic(auto, using(cvl_base::proofs::Descriptors::abs_pos))]
     pub fn new(alloc: A, lengths: Lengths<A>) -> Result<SegDes<A>, NoResources>
         ensures { IfOk result (λ d. d ≡ lengths) }
+    {
+        SegDes::keeping(alloc, lengths.into_vec())
+    }
+
+    /// The descriptor of segments with these lengths, which it keeps.
+    fn keeping(alloc: A, lengths: Vec<i32, A>) -> Result<SegDes<A>, NoResources>
+        requires { AreLengthsWithin most_places lengths.items }
+        ensures { IfOk result (λ d. d ≡ map unsigned_abs lengths.items) }
     {
         let (starts, total) = starts_and_total(alloc, &lengths)?;
         Ok(SegDes {
@@ -80,9 +113,9 @@ impl<A: Allocator> SegDes<A> {
     /// How many segments there are, empty ones included.
     pub fn count(&self) -> usize
         ensures value { result ≡ length self.now }
-        ensures in_limit { result ≤ most_elements }
+        ensures in_limit { result ≤ most_places }
     {
-        self.lengths.as_slice().len()
+        self.lengths.len()
     }
 
     /// How many elements segment `s` has, which is below `count`.
@@ -91,7 +124,7 @@ impl<A: Allocator> SegDes<A> {
         requires { s < length self.now }
         ensures { result ≡ slice_index self.now s }
     {
-        self.lengths.as_slice()[s] as usize
+        self.lengths()[s] as usize
     }
 
     /// Where segment `s`, which is below `count`, starts: the sum of the lengths before it. All of the segment lies
@@ -147,7 +180,7 @@ impl<A: Allocator> SegDes<A> {
     /// How many elements the segments have in all.
     pub fn total(&self) -> usize
         ensures value { result ≡ sum self.now }
-        ensures in_limit { result ≤ most_elements }
+        ensures in_limit { result ≤ most_places }
     {
         self.total as usize
     }
@@ -163,14 +196,17 @@ impl<A: Allocator> SegDes<A> {
     /// The lengths of the segments.
     pub fn lengths(&self) -> &[i32]
         ensures value { result.now ≡ map pos self.now }
-        ensures lengths { AreLengths result.now }
+        ensures lengths { AreLengthsWithin most_places result.now }
+        ensures total { sum self.now ≤ most_places }
     {
         self.lengths.as_slice()
     }
 
-    /// A copy of the lengths of the segments as a descriptor value.
+    /// A copy of the lengths of the segments as a descriptor value, where they are in its limit.
     #[tactic(auto, using(cvl_base::proofs::Descriptors::abs_pos))]
     pub fn to_lengths(&self, alloc: A) -> Result<Lengths<A>, NoResources>
+        requires few { length self.now ≤ most_elements }
+        requires in_limit { sum self.now ≤ most_elements }
         ensures { IfOk result (λ lengths. lengths ≡ self.now) }
     {
         let lengths = Vec::from_slice(alloc, self.lengths())?;
@@ -182,7 +218,7 @@ impl<A: Allocator> SegDes<A> {
 pub fn check_total<T, A: Allocator>(a: &[T], d: &SegDes<A>) -> Result<(), Fault>
     ensures agrees { MatchResult result (λ _. sum d.now ≡ length a.now)
         (λ f. nest d.now a.now ≡ Err f) }
-    ensures in_limit { IfOk result (λ _. length a.now ≤ most_elements) }
+    ensures in_limit { IfOk result (λ _. length a.now ≤ most_places) }
 {
     d.as_lengths().check_total(a)
 }

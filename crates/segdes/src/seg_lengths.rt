@@ -1,11 +1,12 @@
 //! Descriptors that are no more than lengths, which lie elsewhere.
 
 ghost use Rattle.std.specs.Prelude.{◌≡◌, ◌<◌, ◌≤◌, IfOk, MatchResult, Err, length, map, pos, slice_index, sum, unsigned_abs, Ok};
-ghost use Rattle.cvl_base.specs.Descriptors.{AreLengths, descriptor_of};
-ghost use Rattle.cvl_base.specs.Limits.{most_elements};
+ghost use Rattle.cvl_base.specs.Descriptors.{AreLengthsWithin, descriptor_within};
+ghost use Rattle.cvl_base.specs.Limits.{most_places};
 ghost use Rattle.cvl_base.specs.Nests.{nest};
 
 use crate::check::check_lengths;
+use cvl_base::limits::MOST_PLACES;
 use cvl_base::{Fault, check_agree};
 use std::marker::Model;
 
@@ -20,31 +21,32 @@ pub struct SegLengths<'a> {
 
 impl<'a> Model for SegLengths<'a> {
     ghost use Rattle.std.specs.Prelude.{◌≡◌, ℕ, List, map, sum, unsigned_abs};
-    ghost use Rattle.cvl_base.specs.Descriptors.{AreLengths};
+    ghost use Rattle.cvl_base.specs.Descriptors.{AreLengthsWithin};
+    ghost use Rattle.cvl_base.specs.Limits.{most_places};
 
     ghost Value = { List ℕ };
 
     ghost view = { λ d. map unsigned_abs d.lengths.now };
 
-    ghost invariant = { λ d. AreLengths d.lengths.now × (d.total ≡ sum (map unsigned_abs d.lengths.now)) };
+    ghost invariant = { λ d. AreLengthsWithin most_places d.lengths.now × (d.total ≡ sum (map unsigned_abs d.lengths.now)) };
 }
 
 impl<'a> SegLengths<'a> {
     /// The descriptor of segments with these lengths, which are checked in one pass: NegativeLength at the first length that
-    /// is negative; TooLong, without a place, where none is and the total is above 4,194,304.
+    /// is negative; TooLong, without a place, where none is and the total is above 2,147,483,647.
     ///
-    /// The lengths are at most 4,194,304 themselves.
+    /// The lengths are at most 2,147,483,647 themselves.
     pub fn of(lengths: &'a [i32]) -> Result<SegLengths<'a>, Fault>
-        requires { length lengths.now ≤ most_elements }
-        ensures { MatchResult result (λ d. descriptor_of lengths.now ≡ Ok d) (λ f. descriptor_of lengths.now ≡ Err f) }
+        requires { length lengths.now ≤ most_places }
+        ensures { MatchResult result (λ d. descriptor_within most_places lengths.now ≡ Ok d) (λ f. descriptor_within most_places lengths.now ≡ Err f) }
     {
-        let total = check_lengths(lengths)?;
+        let total = check_lengths(lengths, MOST_PLACES)?;
         Ok(SegLengths { lengths, total })
     }
 
     /// The descriptor of segments with these lengths, which were checked before, and their total.
     pub(crate) fn kept(lengths: &'a [i32], total: u32) -> SegLengths<'a>
-        requires lengths { AreLengths lengths.now }
+        requires lengths { AreLengthsWithin most_places lengths.now }
         requires total { total ≡ sum (map unsigned_abs lengths.now) }
         ensures { result ≡ map unsigned_abs lengths.now }
     {
@@ -54,7 +56,7 @@ impl<'a> SegLengths<'a> {
     /// How many segments there are, empty ones included.
     pub fn count(&self) -> usize
         ensures value { result ≡ length self.now }
-        ensures in_limit { result ≤ most_elements }
+        ensures in_limit { result ≤ most_places }
     {
         self.lengths.len()
     }
@@ -71,7 +73,7 @@ impl<'a> SegLengths<'a> {
     /// How many elements the segments have in all.
     pub fn total(&self) -> usize
         ensures value { result ≡ sum self.now }
-        ensures in_limit { result ≤ most_elements }
+        ensures in_limit { result ≤ most_places }
     {
         self.total as usize
     }
@@ -80,8 +82,8 @@ impl<'a> SegLengths<'a> {
     pub fn lengths(&self) -> &[i32]
         ensures value { result.now ≡ map pos self.now }
         ensures read { map unsigned_abs result.now ≡ self.now }
-        ensures lengths { AreLengths result.now }
-        ensures total { sum self.now ≤ most_elements }
+        ensures lengths { AreLengthsWithin most_places result.now }
+        ensures total { sum self.now ≤ most_places }
     {
         self.lengths
     }
@@ -90,7 +92,7 @@ impl<'a> SegLengths<'a> {
     pub fn check_total<T>(&self, a: &[T]) -> Result<(), Fault>
         ensures agrees { MatchResult result (λ _. sum self.now ≡ length a.now)
             (λ f. nest self.now a.now ≡ Err f) }
-        ensures in_limit { IfOk result (λ _. length a.now ≤ most_elements) }
+        ensures in_limit { IfOk result (λ _. length a.now ≤ most_places) }
     {
         check_agree(self.total(), a.len())
     }

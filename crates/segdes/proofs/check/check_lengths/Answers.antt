@@ -6,14 +6,14 @@ use Rattle.segdes.proofs.check.check_lengths.Goals as goal
 pub returns-then-is_below_zero-clause-meaning : goal.returns-then-is_below_zero-clause-meaning
 returns-then-is_below_zero-clause-meaning c =
     let below : is_negative (get_or c.args.numbers.now c.loop-place.place (pos 0)) ≡ true = cc in
-    let e = negative_at _ _ _ c.loop-place.invariant c.loop-place-test.true below in
+    let e = negative_at c.args.most _ _ _ c.loop-place.invariant c.loop-place-test.true below in
     cc
 
-pub returns-then-total-clause-meaning : goal.returns-then-total-clause-meaning
-returns-then-total-clause-meaning c = let e = too_long _ _ _ c.loop-place.invariant (omega arith) (omega arith) c.if-total.true in cc
+pub returns-then-total-most-clause-meaning : goal.returns-then-total-most-clause-meaning
+returns-then-total-most-clause-meaning c = let e = too_long _ _ _ c.loop-place.invariant (omega arith) (omega arith) c.args.most c.if-total-most.true in cc
 
 pub returns-clause-meaning : goal.returns-clause-meaning
-returns-clause-meaning c = in_limit _ _ _ c.loop-place.invariant (omega arith) (omega arith) (omega arith)
+returns-clause-meaning c = in_limit _ _ _ c.loop-place.invariant (omega arith) (omega arith) c.args.most (omega arith)
 
 pub returns-clause-lengths : goal.returns-clause-lengths
-returns-clause-lengths c = are-lengths _ _ _ c.loop-place.invariant (omega arith) (omega arith) (omega arith) c.requires
+returns-clause-lengths c = are-lengths _ _ _ c.loop-place.invariant (omega arith) (omega arith) c.args.most (omega arith) c.requires.few

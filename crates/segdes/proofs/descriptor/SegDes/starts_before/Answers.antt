@@ -1,4 +1,4 @@
-use Rattle.std.proofs.Common.{ℕ, List, sym, subst, ltb, arith, rules}
+use Rattle.std.proofs.Common.{ℕ, List, map, unsigned_abs, sym, subst, ltb, arith, rules}
 use Rattle.std.proofs.lemmas.List.Sorted.{IsPartitionPoint-from_clause, IsPartitionedBy-ltb}
 use Rattle.segdes.specs.Starts.{AreStarts}
 use Rattle.segdes.proofs.Searched.{starts_rise, before_found, after_found}
@@ -8,7 +8,7 @@ pub returns : goal.returns
 returns g c =
     let starts = c.as_slice.result.now in
     let place = c.args.place in
-    let kept = subst (λ (xs : List ℕ). AreStarts c.self.inside.lengths xs) (sym c.as_slice.ensures.value) c.self.invariant.starts_are in
+    let kept = subst (λ (xs : List ℕ). AreStarts (map unsigned_abs c.self.inside.lengths.items) xs) (sym c.as_slice.ensures.value) c.self.invariant.1.starts_are in
     let are = subst (λ (ns : List ℕ). AreStarts ns starts) c.self.view_is kept in
     let parted = IsPartitionedBy-ltb (λ n. n) starts place (starts_rise _ starts are) in
     let point = IsPartitionPoint-from_clause (λ n. ltb n place) starts _ c.partition_point.ensures.partitioned parted (λ a r q k. search rules) in
