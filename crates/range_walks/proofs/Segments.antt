@@ -6,8 +6,8 @@ use Rattle.std.proofs.lemmas.List.{length-map, length-take, drop-take, take-take
 use Rattle.std.proofs.lemmas.Grind.{flat_map-append}
 use Rattle.std.proofs.lemmas.List.Sums.{sum_by-append, sum_by-take-drop}
 use Rattle.std.specs.Int.{IsNonNegative}
-use Rattle.cvl_base.specs.Descriptors.{AreLengths}
-use Rattle.cvl_base.specs.Limits.{most_elements}
+use Rattle.cvl_base.specs.Descriptors.{AreLengthsWithin}
+use Rattle.cvl_base.specs.Limits.{most_places}
 use Rattle.cvl_base.specs.Folds.{scan_of}
 use Rattle.cvl_base.specs.Lists.{joined}
 use Rattle.cvl_base.specs.Nests.{cut_of}
@@ -85,8 +85,8 @@ one_long lengths s n lt is = omega (arith, is, ap (λ ls. sum (take 1 ls)) (drop
 abbrev pub read_at : List ℤ → ℕ → ℕ
 read_at row s = unsigned_abs (to_z w32 (of_z w32 (get_or row s (pos 0))))
 
-module _ (row : List ℤ) (lengths : List ℕ) (is : row ≡ map pos lengths) (are : AreLengths row) where
-  small : sum lengths ≤ most_elements
+module _ (row : List ℤ) (lengths : List ℕ) (is : row ≡ map pos lengths) (are : AreLengthsWithin most_places row) where
+  small : sum lengths ≤ most_places
   small = let kept : map unsigned_abs row ≡ lengths = ap (map unsigned_abs) is ∙ abs_pos lengths in omega (arith, are.in_limit, ap sum kept)
 
   -- it is the length of segment s
@@ -106,7 +106,7 @@ range_of row lengths k m is = ap (λ ns. take m (drop k ns)) is ∙ sym (part_re
 pub range_read : (row : List ℤ) (lengths : List ℕ) (k m : ℕ) → row ≡ map pos lengths → map unsigned_abs (take m (drop k row)) ≡ take m (drop k lengths)
 range_read row lengths k m is = ap (map unsigned_abs) (range_of row lengths k m is) ∙ abs_pos (take m (drop k lengths))
 
-pub range_lengths : (row : List ℤ) (lengths : List ℕ) (k m : ℕ) → row ≡ map pos lengths → AreLengths row → AreLengths (take m (drop k row))
+pub range_lengths : (row : List ℤ) (lengths : List ℕ) (k m : ℕ) → row ≡ map pos lengths → AreLengthsWithin most_places row → AreLengthsWithin most_places (take m (drop k row))
 range_lengths row lengths k m is are =
     let read = range_read row lengths k m is in
     record {

@@ -2,7 +2,8 @@
 //! it.
 
 ghost use Rattle.std.specs.Prelude.{◌≡◌, ◌++◌, ◌≤◌, drop, length, map, slice_range, sum, take, unsigned_abs};
-ghost use Rattle.cvl_base.specs.Descriptors.{AreLengths};
+ghost use Rattle.cvl_base.specs.Descriptors.{AreLengthsWithin};
+ghost use Rattle.cvl_base.specs.Limits.{most_places};
 ghost use Rattle.range_walks.specs.Ranges.{continued, range_between, with_starts};
 
 use segdes::SegDes;
@@ -25,7 +26,7 @@ pub fn parts_of_range<'a, X, A: Allocator>(
     requires within { to ≤ length a.now }
     ensures front { result.0.now ≡ take (length result.0.now) (slice_range a.now from to) }
     ensures others { result.2.now ≡ drop (length result.0.now) (slice_range a.now from to) }
-    ensures lengths { AreLengths result.1.now }
+    ensures lengths { AreLengthsWithin most_places result.1.now }
     ensures covered { length result.2.now ≤ sum (map unsigned_abs result.1.now) }
     ensures starts { range_between d.now a.now from to
         ≡ continued result.0.now ++ with_starts (map unsigned_abs result.1.now) result.2.now }

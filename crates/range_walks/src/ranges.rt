@@ -6,7 +6,8 @@
 ghost use Rattle.std.specs.Prelude.{◌≡◌, false, ◌+◌, ◌-◌, ◌<◌, ◌≤◌, IsTrue, IfOk, length, map, slice_range, unsigned_abs, sum};
 ghost use Rattle.std.specs.Prelude.{vec_len};
 ghost use Rattle.std.specs.List.{AllPass};
-ghost use Rattle.cvl_base.specs.Descriptors.{AreLengths};
+ghost use Rattle.cvl_base.specs.Descriptors.{AreLengthsWithin};
+ghost use Rattle.cvl_base.specs.Limits.{most_places};
 ghost use Rattle.cvl_base.specs.Folds.{fold_of};
 ghost use Rattle.cvl_base.specs.SegmentMonoid.{seg_join};
 ghost use Rattle.range_walks.specs.Ranges.{IsOpenAt, reduces_of, range_between, range_scan_of, scans_of};
@@ -34,7 +35,7 @@ pub fn scans_into<M: Monoid, X: Copy, E: Reading<X, M::Item>>(
     lengths: &[i32],
     xs: &[X],
 ) -> Run<M::Item>
-    requires lengths { AreLengths lengths.now }
+    requires lengths { AreLengthsWithin most_places lengths.now }
     requires covered { length xs.now ≤ sum (map unsigned_abs lengths.now) }
     requires room { length xs.now ≤ run.room }
     requires items { AllPass (λ x. M.is_item (E.item x)) xs.now }
@@ -62,7 +63,7 @@ pub fn reduces_into<M: Monoid, X: Copy, E: Reading<X, M::Item>>(
     lengths: &[i32],
     xs: &[X],
 ) -> Run<M::Item>
-    requires lengths { AreLengths lengths.now }
+    requires lengths { AreLengthsWithin most_places lengths.now }
     requires covered { sum (map unsigned_abs lengths.now) ≤ length xs.now }
     requires room { length lengths.now ≤ run.room }
     requires items { AllPass (λ x. M.is_item (E.item x)) xs.now }

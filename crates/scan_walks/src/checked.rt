@@ -10,7 +10,7 @@ ghost use Rattle.cvl_base.specs.Exact.{total_of};
 ghost use Rattle.cvl_base.specs.Folds.{scan_of};
 ghost use Rattle.cvl_base.specs.Gives.{Gives};
 ghost use Rattle.cvl_base.specs.Integers.{sum_of};
-ghost use Rattle.cvl_base.specs.Limits.{most_elements};
+ghost use Rattle.cvl_base.specs.Limits.{most_places};
 ghost use Rattle.cvl_base.specs.Rooms.{Overwrites, in_room};
 ghost use Rattle.cvl_base.specs.SegmentedCalls.{seg_scan_of};
 
@@ -28,7 +28,7 @@ use std::alloc::Allocator;
 /// Looks whether all results of the checked scan fit 32 bits, so that they are those of the scan that wraps: `Overflow` at the
 /// first one that does not.
 pub(crate) fn check_scan(a: &[i32]) -> Result<(), Fault>
-    requires in_limit { length a.now ≤ most_elements }
+    requires in_limit { length a.now ≤ most_places }
     ensures { MatchResult result (λ _. checked_scan_of a.now ≡ Ok (scan_of sum_of (pos 0) a.now))
         (λ f. checked_scan_of a.now ≡ Err f) }
 {
@@ -55,9 +55,9 @@ pub(crate) fn check_seg_scan(a: &[i32], d: &SegLengths) -> Result<(), Fault>
 
 /// For each integer the sum of those before it, which never wraps: `Overflow` at the first sum that does not fit 32 bits.
 ///
-/// The result is as long as the vector, which has at most 4,194,304 elements. Source: Blelloch's prescan.
+/// The result is as long as the vector, which has at most 2,147,483,647 elements. Source: Blelloch's prescan.
 pub fn checked_scan_vec<A: Allocator>(alloc: A, a: &[i32]) -> Result<Vec<i32, A>, Refused>
-    requires in_limit { length a.now ≤ most_elements }
+    requires in_limit { length a.now ≤ most_places }
     ensures values { Gives (λ sums. sums.items) result (checked_scan_of a.now) }
     ensures as_long { IfOk result (λ sums. vec_len sums ≡ length a.now) }
 {
@@ -70,9 +70,9 @@ pub fn checked_scan_vec<A: Allocator>(alloc: A, a: &[i32]) -> Result<Vec<i32, A>
 /// Writes over a room for each integer the sum of those before it, which never wraps: `Overflow` at the first sum that does
 /// not fit 32 bits; else LengthMismatch, without a place, where the room isn't as long as the vector.
 ///
-/// The vector has at most 4,194,304 elements. Source: Blelloch's prescan.
+/// The vector has at most 2,147,483,647 elements. Source: Blelloch's prescan.
 pub fn checked_scan_over(a: &[i32], out: &mut [i32]) -> Result<(), Fault>
-    requires in_limit { length a.now ≤ most_elements }
+    requires in_limit { length a.now ≤ most_places }
     ensures { Overwrites (in_room (length out.old) (checked_scan_of a.now)) result out.old out.new }
 {
     check_scan(a)?;
@@ -110,9 +110,9 @@ pub fn checked_seg_scan_over(a: &[i32], d: &SegLengths, out: &mut [i32]) -> Resu
     seg_scan_over::<Add>(a, d, out)
 }
 
-/// The sum of at most 4,194,304 integers, if it fits 32 bits.
+/// The sum of at most 2,147,483,647 integers, if it fits 32 bits.
 fn fitting_total(xs: &[i32]) -> Option<i32>
-    requires in_limit { length xs.now ≤ most_elements }
+    requires in_limit { length xs.now ≤ most_places }
     ensures { result ≡ fitting (total_of xs.now) }
 {
     fitting(&total(xs))
@@ -120,9 +120,9 @@ fn fitting_total(xs: &[i32]) -> Option<i32>
 
 /// The sum of the integers, which never wraps: `Overflow` at 0 where it does not fit 32 bits. It takes no memory.
 ///
-/// The vector has at most 4,194,304 elements. Source: CVL's reduces.
+/// The vector has at most 2,147,483,647 elements. Source: CVL's reduces.
 pub fn checked_sum(a: &[i32]) -> Result<i32, Fault>
-    requires in_limit { length a.now ≤ most_elements }
+    requires in_limit { length a.now ≤ most_places }
     ensures { result ≡ checked_reduce_of a.now }
 {
     match fitting_total(a) {

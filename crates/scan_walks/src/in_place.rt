@@ -4,7 +4,7 @@ ghost use Rattle.std.specs.Prelude.{◌≡◌, ◌≤◌, IsTrue, length, sum};
 ghost use Rattle.std.specs.List.{AllPass};
 ghost use Rattle.cvl_base.specs.CheckedSums.{checked_scan_of, checked_seg_scan_of};
 ghost use Rattle.cvl_base.specs.Folds.{scan_of};
-ghost use Rattle.cvl_base.specs.Limits.{most_elements};
+ghost use Rattle.cvl_base.specs.Limits.{most_places};
 ghost use Rattle.cvl_base.specs.Rooms.{Overwrites};
 ghost use Rattle.cvl_base.specs.SegmentedCalls.{seg_scan_of};
 ghost use Rattle.range_walks.specs.Ranges.{scans_of};
@@ -67,9 +67,9 @@ pub fn seg_scan_in<M: Monoid>(a: &mut [M::Item], d: &SegLengths) -> Result<(), F
 /// Writes over the vector for each integer the sum of those before it, which never wraps: `Overflow` at the first sum that does
 /// not fit 32 bits, and the vector is then as before.
 ///
-/// The vector has at most 4,194,304 elements. Source: Blelloch's prescan.
+/// The vector has at most 2,147,483,647 elements. Source: Blelloch's prescan.
 pub fn checked_scan_in(a: &mut [i32]) -> Result<(), Fault>
-    requires in_limit { length a.old ≤ most_elements }
+    requires in_limit { length a.old ≤ most_places }
     ensures { Overwrites (checked_scan_of a.old) result a.old a.new }
 {
     check_scan(a)?;

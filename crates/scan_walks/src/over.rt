@@ -2,9 +2,9 @@
 
 ghost use Rattle.std.specs.Prelude.{◌≡◌, ◌≤◌, IsTrue, Ok, [], length, map, sum, unsigned_abs};
 ghost use Rattle.std.specs.List.{AllPass};
-ghost use Rattle.cvl_base.specs.Descriptors.{AreLengths};
+ghost use Rattle.cvl_base.specs.Descriptors.{AreLengthsWithin};
 ghost use Rattle.cvl_base.specs.Folds.{scan_of};
-ghost use Rattle.cvl_base.specs.Limits.{most_elements};
+ghost use Rattle.cvl_base.specs.Limits.{most_places};
 ghost use Rattle.cvl_base.specs.Rooms.{Overwrites, in_room};
 ghost use Rattle.cvl_base.specs.SegmentedCalls.{seg_reduce_of, seg_scan_of};
 ghost use Rattle.fresh.specs.Places.{with_items};
@@ -27,7 +27,7 @@ pub fn scan_over<M: Monoid>(
 ) -> Result<(), Fault>
     requires before { IsTrue (M.is_item before) }
     requires items { AllPass M.is_item a.now }
-    requires in_limit { length a.now ≤ most_elements }
+    requires in_limit { length a.now ≤ most_places }
     ensures { Overwrites (in_room (length out.old) (Ok (scan_of M.join before a.now))) result out.old out.new }
 {
     know_laws::<M>();
@@ -62,7 +62,7 @@ pub fn seg_scan_over<M: Monoid>(
     fill_slice(
         out,
         |run: Run<M::Item>| -> Run<M::Item>
-            requires { (run.items ≡ []) × (run.room ≡ length a.now) × AreLengths lengths.now
+            requires { (run.items ≡ []) × (run.room ≡ length a.now) × AreLengthsWithin most_places lengths.now
                 × (length a.now ≡ sum (map unsigned_abs lengths.now)) × AllPass M.is_item a.now }
             ensures { result ≡ with_items run (scans_of M.join M.unit (map unsigned_abs lengths.entry.now) a.entry.now) }
         { scans_into::<M, M::Item, Itself>(run, lengths, a) },
@@ -103,7 +103,7 @@ pub fn seg_reduce_readings_over<M: Monoid, X: Copy, E: Reading<X, M::Item>>(
     fill_slice(
         out,
         |run: Run<M::Item>| -> Run<M::Item>
-            requires { (run.items ≡ []) × (run.room ≡ length lengths.now) × AreLengths lengths.now
+            requires { (run.items ≡ []) × (run.room ≡ length lengths.now) × AreLengthsWithin most_places lengths.now
                 × (sum (map unsigned_abs lengths.now) ≡ length a.now) × AllPass (λ x. M.is_item (E.item x)) a.now }
             ensures { result ≡ with_items run (reduces_of M.join M.unit (map unsigned_abs lengths.entry.now)
                 (map E.item a.entry.now)) }

@@ -2,7 +2,8 @@
 //! they are short.
 
 ghost use Rattle.std.specs.Prelude.{◌≡◌, ◌+ℤ◌, ◌≤◌, length, map, pos, sum, unsigned_abs};
-ghost use Rattle.cvl_base.specs.Descriptors.{AreLengths};
+ghost use Rattle.cvl_base.specs.Descriptors.{AreLengthsWithin};
+ghost use Rattle.cvl_base.specs.Limits.{most_places};
 ghost use Rattle.cvl_base.specs.Folds.{fold_of};
 ghost use Rattle.cvl_base.specs.Integers.{greater_of};
 ghost use Rattle.range_walks.specs.Ranges.{scans_of};
@@ -20,7 +21,7 @@ const GROUP: usize = 32;
 /// on. Each segment is looked at by itself. The segments have all of the integers, and the last may be cut short by the end of
 /// the integers.
 fn fitting_of_each(lengths: &[i32], xs: &[i32]) -> usize
-    requires lengths { AreLengths lengths.now }
+    requires lengths { AreLengthsWithin most_places lengths.now }
     requires covered { length xs.now ≤ sum (map unsigned_abs lengths.now) }
     ensures front { result ≡ fitting_front (scans_of ◌+ℤ◌ (pos 0) (map unsigned_abs lengths.now) xs.now) }
     ensures within { result ≤ length xs.now }
@@ -42,7 +43,7 @@ fn fitting_of_each(lengths: &[i32], xs: &[i32]) -> usize
 /// What the segments with these lengths have together, and the greatest of the lengths.
 // the loop has no way out before its end, so that the compiler takes several lengths at a time
 fn extent_of(lengths: &[i32]) -> (usize, i32)
-    requires { AreLengths lengths.now }
+    requires { AreLengthsWithin most_places lengths.now }
     ensures total { result.0 ≡ sum (map unsigned_abs lengths.now) }
     ensures longest { result.1 ≡ fold_of greater_of (pos 0) lengths.now }
 {
@@ -56,7 +57,7 @@ fn extent_of(lengths: &[i32]) -> (usize, i32)
 
 /// The same as [`fitting_of_each`], most often by one look at all of the integers, where the longest segment has so many.
 fn fitting_of_group(lengths: &[i32], longest: i32, xs: &[i32]) -> usize
-    requires lengths { AreLengths lengths.now }
+    requires lengths { AreLengthsWithin most_places lengths.now }
     requires longest { longest ≡ fold_of greater_of (pos 0) lengths.now }
     requires covered { length xs.now ≤ sum (map unsigned_abs lengths.now) }
     ensures front { result ≡ fitting_front (scans_of ◌+ℤ◌ (pos 0) (map unsigned_abs lengths.now) xs.now) }
@@ -70,7 +71,7 @@ fn fitting_of_group(lengths: &[i32], longest: i32, xs: &[i32]) -> usize
 
 /// The same as [`fitting_of_each`], group by group.
 pub(crate) fn fitting_of_scans(lengths: &[i32], xs: &[i32]) -> usize
-    requires lengths { AreLengths lengths.now }
+    requires lengths { AreLengthsWithin most_places lengths.now }
     requires covered { length xs.now ≤ sum (map unsigned_abs lengths.now) }
     ensures front { result ≡ fitting_front (scans_of ◌+ℤ◌ (pos 0) (map unsigned_abs lengths.now) xs.now) }
     ensures within { result ≤ length xs.now }

@@ -1,4 +1,4 @@
-//! Sums over whole numbers, which never wrap: those of few integers fit 54 bits.
+//! Sums over whole numbers, which never wrap: those of as many integers as a vector has fit 63 bits.
 
 ghost use Rattle.std.specs.Prelude.{◌≡◌, ◌+ℤ◌, ◌≤◌, length, pos, sum, true};
 ghost use Rattle.std.specs.List.{AllPass};
@@ -6,7 +6,7 @@ ghost use Rattle.cvl_base.specs.CheckedSums.{fitting};
 ghost use Rattle.cvl_base.specs.Exact.{total_of};
 ghost use Rattle.cvl_base.specs.Folds.{fold_of};
 ghost use Rattle.cvl_base.specs.ItemWords.{is_number};
-ghost use Rattle.cvl_base.specs.Limits.{most_elements};
+ghost use Rattle.cvl_base.specs.Limits.{most_places};
 ghost use Rattle.cvl_base.specs.SegmentMonoid.{seg_join, seg_unit};
 ghost use Rattle.range_walks.specs.Ranges.{range_between};
 
@@ -27,9 +27,9 @@ pub(crate) fn plus(a: &i32, b: &i32) -> i64
     i64::from(*a) + i64::from(*b)
 }
 
-/// The sum of at most 4,194,304 integers. It fits 54 bits, so that it is exact.
+/// The sum of at most 2,147,483,647 integers. It fits 63 bits, so that it is exact.
 pub fn total(xs: &[i32]) -> i64
-    requires in_limit { length xs.now ≤ most_elements }
+    requires in_limit { length xs.now ≤ most_places }
     ensures { result ≡ total_of xs.now }
 {
     let mut sum: i64 = 0;
@@ -47,7 +47,7 @@ pub fn total_of_range<A: Allocator>(a: &[i32], d: &SegDes<A>, from: usize, to: u
     requires total { sum d.now ≡ length a.now }
     requires in_order { from ≤ to }
     requires within { to ≤ length a.now }
-    requires in_limit { length a.now ≤ most_elements }
+    requires in_limit { length a.now ≤ most_places }
     ensures { result ≡ fold_of (seg_join ◌+ℤ◌) (seg_unit (pos 0)) (range_between d.now a.now from to) }
 {
     let first = d.starts_before(from);
