@@ -4,7 +4,7 @@
 ghost use Rattle.std.specs.Prelude.{◌≡◌, ◌≤◌, Ok, length, map};
 ghost use Rattle.std.specs.List.{zip};
 ghost use Rattle.cvl_base.specs.Elementwise.{ints1_of, ints2_of, on_pairs, on_pairs_or};
-ghost use Rattle.cvl_base.specs.Limits.{most_elements};
+ghost use Rattle.cvl_base.specs.Limits.{most_places};
 ghost use Rattle.cvl_base.specs.Rooms.{Overwrites};
 
 use crate::by_operator::by_int_binary;
@@ -62,7 +62,7 @@ pub fn on_pairs_in_both<O: Binary<X, X>, X: Copy>(a: &mut [X]) -> Result<(), Fau
 /// Writes the operator's values on the pairs of elements over the first vector, or tells its fault at the least place without a
 /// value; `LengthMismatch` where one vector is longer.
 fn on_pairs_or_in_first<O: PartialBinary>(a: &mut [i32], b: &[i32]) -> Result<(), Fault>
-    requires { length a.old ≤ most_elements }
+    requires { length a.old ≤ most_places }
     ensures { Overwrites (on_pairs_or O.fault O.value a.old b.now) result a.old a.new }
 {
     check_values::<O>(a, b)?;
@@ -71,7 +71,7 @@ fn on_pairs_or_in_first<O: PartialBinary>(a: &mut [i32], b: &[i32]) -> Result<()
 
 /// The same over the second vector.
 fn on_pairs_or_in_second<O: PartialBinary>(a: &[i32], b: &mut [i32]) -> Result<(), Fault>
-    requires { length a.now ≤ most_elements }
+    requires { length a.now ≤ most_places }
     ensures { Overwrites (on_pairs_or O.fault O.value a.now b.old) result b.old b.new }
 {
     check_values::<O>(a, b)?;
@@ -80,7 +80,7 @@ fn on_pairs_or_in_second<O: PartialBinary>(a: &[i32], b: &mut [i32]) -> Result<(
 
 /// The same of a vector and itself.
 fn on_pairs_or_in_both<O: PartialBinary>(a: &mut [i32]) -> Result<(), Fault>
-    requires { length a.old ≤ most_elements }
+    requires { length a.old ≤ most_places }
     ensures { Overwrites (on_pairs_or O.fault O.value a.old a.old) result a.old a.new }
 {
     check_values::<O>(a, a)?;
@@ -89,7 +89,7 @@ fn on_pairs_or_in_both<O: PartialBinary>(a: &mut [i32]) -> Result<(), Fault>
 
 /// The same as [`int2`](crate::int2), over the first vector.
 pub fn int2_in_first(op: IntBinary, a: &mut [i32], b: &[i32]) -> Result<(), Fault>
-    requires { length a.old ≤ most_elements }
+    requires { length a.old ≤ most_places }
     ensures { Overwrites (ints2_of op a.old b.now) result a.old a.new }
 {
     by_int_binary!(
@@ -101,7 +101,7 @@ pub fn int2_in_first(op: IntBinary, a: &mut [i32], b: &[i32]) -> Result<(), Faul
 
 /// The same as [`int2`](crate::int2), over the second vector.
 pub fn int2_in_second(op: IntBinary, a: &[i32], b: &mut [i32]) -> Result<(), Fault>
-    requires { length a.now ≤ most_elements }
+    requires { length a.now ≤ most_places }
     ensures { Overwrites (ints2_of op a.now b.old) result b.old b.new }
 {
     by_int_binary!(
@@ -113,7 +113,7 @@ pub fn int2_in_second(op: IntBinary, a: &[i32], b: &mut [i32]) -> Result<(), Fau
 
 /// The same as [`int2`](crate::int2) of a vector and itself, over the vector.
 pub fn int2_in_both(op: IntBinary, a: &mut [i32]) -> Result<(), Fault>
-    requires { length a.old ≤ most_elements }
+    requires { length a.old ≤ most_places }
     ensures { Overwrites (ints2_of op a.old a.old) result a.old a.new }
 {
     by_int_binary!(op, on_pairs_in_both::<i32>(a), on_pairs_or_in_both::<>(a))

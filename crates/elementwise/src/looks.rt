@@ -3,7 +3,7 @@
 ghost use Rattle.std.specs.Prelude.{◌≡◌, ℕ, ◌<◌, ◌≤◌, pos, Err, IsTrue, MatchResult, None, length, slice_index_or};
 ghost use Rattle.std.specs.Option.{unwrap_or};
 ghost use Rattle.cvl_base.specs.Elementwise.{on_pairs, on_pairs_or};
-ghost use Rattle.cvl_base.specs.Limits.{most_elements};
+ghost use Rattle.cvl_base.specs.Limits.{most_places};
 ghost use Rattle.elementwise.specs.Valueless.{least_without, slots_without};
 
 use cvl_base::{Fault, check_agree};
@@ -35,7 +35,7 @@ pub(crate) fn all_have_values<O: PartialBinary>(
 /// The least place without a value from place `from` on, of two vectors that are equally long.
 fn first_from<O: PartialBinary>(a: &[i32], b: &[i32], from: usize) -> Option<u32>
     requires as_long { length a.now ≡ length b.now }
-    requires in_limit { length a.now ≤ most_elements }
+    requires in_limit { length a.now ≤ most_places }
     requires within { from ≤ length a.now }
     ensures { result ≡ least_without O.value a.now b.now from }
 {
@@ -50,7 +50,7 @@ fn first_from<O: PartialBinary>(a: &[i32], b: &[i32], from: usize) -> Option<u32
 /// The least place without a value, of two vectors that are equally long.
 pub(crate) fn first_without<O: PartialBinary>(a: &[i32], b: &[i32]) -> Option<u32>
     requires as_long { length a.now ≡ length b.now }
-    requires in_limit { length a.now ≤ most_elements }
+    requires in_limit { length a.now ≤ most_places }
     ensures { result ≡ least_without O.value a.now b.now 0 }
 {
     let mut start = 0;
@@ -67,7 +67,7 @@ pub(crate) fn first_without<O: PartialBinary>(a: &[i32], b: &[i32]) -> Option<u3
 /// Checks that the operator has a value on all pairs of elements, else its fault at the least place without one; `LengthMismatch`
 /// where one vector is longer.
 pub(crate) fn check_values<O: PartialBinary>(a: &[i32], b: &[i32]) -> Result<(), Fault>
-    requires { length a.now ≤ most_elements }
+    requires { length a.now ≤ most_places }
     ensures { MatchResult result
         (λ _. on_pairs_or O.fault O.value a.now b.now ≡ on_pairs (λ x y. unwrap_or (O.value x y) (pos 0)) a.now b.now)
         (λ f. on_pairs_or O.fault O.value a.now b.now ≡ Err f) }

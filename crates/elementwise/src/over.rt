@@ -2,7 +2,7 @@
 
 ghost use Rattle.std.specs.Prelude.{◌≤◌, Ok, length, map};
 ghost use Rattle.cvl_base.specs.Elementwise.{bools_from_ints, compare_of, ints1_of, ints2_of, on_pairs, on_pairs_or};
-ghost use Rattle.cvl_base.specs.Limits.{most_elements};
+ghost use Rattle.cvl_base.specs.Limits.{most_places};
 ghost use Rattle.cvl_base.specs.Rooms.{Overwrites, in_room};
 
 use crate::by_operator::by_int_binary;
@@ -20,7 +20,7 @@ pub fn on_pairs_over<O: Binary<X, Z>, X: Copy, Z: Copy>(
     b: &[X],
     out: &mut [Z],
 ) -> Result<(), Fault>
-    requires { length a.now ≤ most_elements }
+    requires { length a.now ≤ most_places }
     ensures { Overwrites (in_room (length out.old) (on_pairs O.value a.now b.now)) result out.old out.new }
 {
     check_agree(a.len(), b.len())?;
@@ -32,7 +32,7 @@ pub fn on_pairs_over<O: Binary<X, Z>, X: Copy, Z: Copy>(
 /// Writes the operator's values on the pairs of elements, or tells its fault at the least place without a value;
 /// `LengthMismatch` where one vector is longer, and where all pairs have values, where the room isn't as long.
 fn on_pairs_or_over<O: PartialBinary>(a: &[i32], b: &[i32], out: &mut [i32]) -> Result<(), Fault>
-    requires { length a.now ≤ most_elements }
+    requires { length a.now ≤ most_places }
     ensures { Overwrites (in_room (length out.old) (on_pairs_or O.fault O.value a.now b.now)) result out.old out.new }
 {
     check_values::<O>(a, b)?;
@@ -41,7 +41,7 @@ fn on_pairs_or_over<O: PartialBinary>(a: &[i32], b: &[i32], out: &mut [i32]) -> 
 
 /// Writes the operator's values on the elements, or tells `LengthMismatch` where the room isn't as long.
 pub fn on_each_over<O: Single<X, Z>, X: Copy, Z: Copy>(a: &[X], out: &mut [Z]) -> Result<(), Fault>
-    requires { length a.now ≤ most_elements }
+    requires { length a.now ≤ most_places }
     ensures { Overwrites (in_room (length out.old) (Ok (map O.value a.now))) result out.old out.new }
 {
     check_agree(a.len(), out.len())?;
@@ -51,7 +51,7 @@ pub fn on_each_over<O: Single<X, Z>, X: Copy, Z: Copy>(a: &[X], out: &mut [Z]) -
 
 /// Copies the elements, or tells `LengthMismatch` where the room isn't as long.
 fn copy_over<X: Copy>(a: &[X], out: &mut [X]) -> Result<(), Fault>
-    requires { length a.now ≤ most_elements }
+    requires { length a.now ≤ most_places }
     ensures { Overwrites (in_room (length out.old) (Ok a.now)) result out.old out.new }
 {
     check_agree(a.len(), out.len())?;
@@ -61,7 +61,7 @@ fn copy_over<X: Copy>(a: &[X], out: &mut [X]) -> Result<(), Fault>
 
 /// The same as [`int2`](crate::int2), over a room, whose length is checked last.
 pub fn int2_over(op: IntBinary, a: &[i32], b: &[i32], out: &mut [i32]) -> Result<(), Fault>
-    requires { length a.now ≤ most_elements }
+    requires { length a.now ≤ most_places }
     ensures { Overwrites (in_room (length out.old) (ints2_of op a.now b.now)) result out.old out.new }
 {
     by_int_binary!(
@@ -73,7 +73,7 @@ pub fn int2_over(op: IntBinary, a: &[i32], b: &[i32], out: &mut [i32]) -> Result
 
 /// The same as [`int1`](crate::int1), over a room.
 pub fn int1_over(op: Unary, a: &[i32], out: &mut [i32]) -> Result<(), Fault>
-    requires { length a.now ≤ most_elements }
+    requires { length a.now ≤ most_places }
     ensures { Overwrites (in_room (length out.old) (Ok (ints1_of op a.now))) result out.old out.new }
 {
     match op {
@@ -84,7 +84,7 @@ pub fn int1_over(op: Unary, a: &[i32], out: &mut [i32]) -> Result<(), Fault>
 
 /// The same as [`compare`](crate::compare), over a room.
 pub fn compare_over(op: Comparison, a: &[i32], b: &[i32], out: &mut [bool]) -> Result<(), Fault>
-    requires { length a.now ≤ most_elements }
+    requires { length a.now ≤ most_places }
     ensures { Overwrites (in_room (length out.old) (compare_of op a.now b.now)) result out.old out.new }
 {
     match op {
@@ -99,7 +99,7 @@ pub fn compare_over(op: Comparison, a: &[i32], b: &[i32], out: &mut [bool]) -> R
 
 /// The same as [`bool_from_int`](crate::bool_from_int), over a room.
 pub fn bool_from_int_over(a: &[i32], out: &mut [bool]) -> Result<(), Fault>
-    requires { length a.now ≤ most_elements }
+    requires { length a.now ≤ most_places }
     ensures { Overwrites (in_room (length out.old) (Ok (bools_from_ints a.now))) result out.old out.new }
 {
     on_each_over::<BoolOfInt, i32, bool>(a, out)
