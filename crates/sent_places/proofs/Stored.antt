@@ -12,7 +12,7 @@ use Rattle.std.proofs.lemmas.Option.{none-some}
 use Rattle.cvl_base.specs.declared.fault.FaultNo.{FaultNo}
 use Rattle.cvl_base.specs.declared.fault.FaultNo.TheVariants.{IndexOutOfRange}
 use Rattle.cvl_base.specs.Faults.{fault_at}
-use Rattle.cvl_base.specs.Limits.{most_elements}
+use Rattle.cvl_base.specs.Limits.{most_places}
 use Rattle.cvl_base.specs.Permutes.{first_fault, is_place, wrongs}
 use Rattle.sent_places.specs.Senders.{IsStored, count_sent, nobody, wrong_with}
 use Rattle.sent_places.proofs.Sent.{IsSentTo, sent_none, sent_more, skip_more, sent_all, found_here, length-wrongs, right_tests}
@@ -102,8 +102,8 @@ module _ (place : ℕ) (ts : List (Option ℤ)) (m k sent : ℕ) (senders : List
     apart = λ right. omega (arith, ap count_sent same, to.apart right, same_count);
   }
 
--- an index that is below the most elements when its sign is not looked at is not negative
-pub index_is : (i : ℤ) (d : ℕ) → FitsSigned w32 i → d ≡ of_z w32 (to_z w32 (of_z w32 i)) → d < most_elements → i ≡ pos d
+-- an index that is below the most places when its sign is not looked at is not negative
+pub index_is : (i : ℤ) (d : ℕ) → FitsSigned w32 i → d ≡ of_z w32 (to_z w32 (of_z w32 i)) → d < most_places → i ≡ pos d
 index_is (pos a) d fits cast below = ap (λ n. pos n) (sym (cast ∙ ap (of_z w32) (to_z-of_z w32 (pos a) fits)))
 index_is (negsuc a) d fits cast below = let same : d ≡ of_z w32 (negsuc a) = cast ∙ ap (of_z w32) (to_z-of_z w32 (negsuc a) fits) in absurd (omega (arith, ints))
 

@@ -3,7 +3,7 @@
 
 ghost use Rattle.std.specs.Prelude.{◌≡◌, ◌+◌, ◌≤◌, unsigned_abs, length, OnOk, option_map, replicate, slice_set};
 ghost use Rattle.cvl_base.specs.Faults.{fault_at};
-ghost use Rattle.cvl_base.specs.Limits.{most_elements};
+ghost use Rattle.cvl_base.specs.Limits.{most_places};
 ghost use Rattle.cvl_base.specs.Permutes.{first_fault, wrongs};
 ghost use Rattle.sent_places.specs.Senders.{nobody, senders_of, fault_told, wrong_with};
 
@@ -45,7 +45,7 @@ fn send_each<T: Destinations>(
     destinations: &T,
 ) -> Result<(), Fault>
     requires fresh { senders.old ≡ replicate (length senders.old) nobody }
-    requires in_limit { first + length (T.destinations destinations.now) ≤ most_elements }
+    requires in_limit { first + length (T.destinations destinations.now) ≤ most_places }
     ensures fault { fault_told result
         ≡ first_fault first (wrongs (length senders.old) (T.destinations destinations.now)) }
     ensures sent { OnOk result
@@ -69,7 +69,7 @@ pub fn send_places<T: Destinations>(
     destinations: &T,
 ) -> Result<(), Fault>
     requires fresh { senders.old ≡ replicate (length senders.old) nobody }
-    requires in_limit { first + length (T.destinations destinations.now) ≤ most_elements }
+    requires in_limit { first + length (T.destinations destinations.now) ≤ most_places }
     ensures fault { fault_told result
         ≡ first_fault first (wrongs (length senders.old) (T.destinations destinations.now)) }
     ensures sent { OnOk result

@@ -3,12 +3,12 @@
 //! was repeated.
 
 ghost use Rattle.std.specs.Prelude.{◌≡◌, ◌+◌, ◌≤◌, length, replicate, IfSome};
-ghost use Rattle.cvl_base.specs.Limits.{most_elements};
+ghost use Rattle.cvl_base.specs.Limits.{most_places};
 ghost use Rattle.sent_places.specs.Senders.{IsStored, count_sent, nobody};
 
 use crate::destinations::Destinations;
 use crate::sends::NOBODY;
-use cvl_base::limits::MOST_ELEMENTS;
+use cvl_base::limits::MOST_PLACES;
 
 /// Stores each place of a segment that takes part at its index, and tells how many they are; none where an index is no place
 /// of the result, or lies beyond the longest vector, and then the senders are of no use.
@@ -23,12 +23,12 @@ pub(crate) fn store_each<T: Destinations>(
     destinations: &T,
 ) -> Option<usize>
     requires fresh { senders.old ≡ replicate (length senders.old) nobody }
-    requires in_limit { first + length (T.destinations destinations.now) ≤ most_elements }
+    requires in_limit { first + length (T.destinations destinations.now) ≤ most_places }
     ensures stored { IfSome result (λ sent.
         IsStored first (T.destinations destinations.now) sent (length senders.old) senders.new) }
     ensures in_length { IfSome result (λ sent. sent ≤ length (T.destinations destinations.now)) }
 {
-    let places = senders.len().min(MOST_ELEMENTS);
+    let places = senders.len().min(MOST_PLACES);
     let mut destination = 0;
     let mut sender = NOBODY;
     let mut sent = 0;
@@ -53,7 +53,7 @@ pub(crate) fn store_each<T: Destinations>(
 // In 32 bits twice as many are counted at once.
 #[inline(never)]
 pub(crate) fn count_senders(senders: &[u32]) -> u32
-    requires few { count_sent senders.now ≤ most_elements }
+    requires few { count_sent senders.now ≤ most_places }
     ensures value { result ≡ count_sent senders.now }
 {
     let mut count = 0;
